@@ -1,0 +1,12 @@
+pub mod Updates
+pub mod Reach
+pub mod Match
+pub mod Keeps
+pub mod Sure
+pub mod Moments
+pub mod Places
+pub mod Names
+pub mod Cuts
+pub mod Equal
+pub mod Forms
+pub mod Covers

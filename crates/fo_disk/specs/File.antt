@@ -1,0 +1,7 @@
+-- What is known of a disk in a file.
+use Rattle.std.specs.Prelude.{ℕ, Option, Some, None}
+
+-- the number of blocks, and 0 until it is found
+abbrev pub found : Option ℕ → ℕ
+found None = 0
+found (Some blocks) = blocks

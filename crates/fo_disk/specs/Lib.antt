@@ -1,0 +1,5 @@
+pub mod Disk
+pub mod File
+pub mod Memory
+pub mod MemoryLaws
+pub mod Sure

@@ -1,0 +1,5 @@
+pub mod Field
+pub mod Format
+pub mod Part
+pub mod Place
+pub mod Record

@@ -1,0 +1,34 @@
+//! The formats of the main device and of the arena, read and written.
+#![tactic(auto)]
+
+mod arena;
+mod blocks;
+mod entries;
+mod labels;
+mod parts;
+mod places;
+mod pointers;
+mod record;
+mod records;
+mod roots;
+mod types;
+
+pub use arena::{read_arena_head, read_arena_line, write_arena_head, write_arena_line};
+pub use blocks::{read_header, read_super, write_header, write_super};
+pub use entries::{is_entry, least_depth, read_entry, write_entry};
+pub use fo_base::Bytes as Text;
+pub use labels::{read_label, write_label};
+pub use parts::u16_at;
+pub use places::{
+    BLOCK, arena_places, first_data, label_blocks, label_place, line_place, stored_block,
+};
+pub use pointers::{read_pointer, write_pointer};
+pub use record::{Record, RecordError, RootBlock};
+pub use records::{is_record, read_record, record_len, write_record};
+pub use roots::{is_root, read_root, write_root};
+pub use types::{
+    ArenaHead, ArenaLine, Bad, Entry, Header, Kind, Label, Pointer, Score, State, Super,
+};
+
+#[cfg(test)]
+mod tests;

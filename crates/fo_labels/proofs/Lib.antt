@@ -1,0 +1,4 @@
+pub mod Leaves
+pub mod RegionLaws
+pub mod Trees
+pub mod Usable

@@ -1,0 +1,5 @@
+pub mod Floor
+pub mod Indexed
+pub mod Mins
+pub mod Minima
+pub mod Region

@@ -1,0 +1,185 @@
+//! The labels of the data blocks.
+ghost use Rattle.std.specs.Prelude.{◌≡◌, ◌+◌, ◌-◌, ◌^◌, ◌<◌, ◌≤◌, length, count_by, slice_set, replicate, ◌↔◌, IfOk, IfSome, IsNone, MatchOption, if◌then◌else◌};
+ghost use Rattle.fo_image.specs.declared.types.State.TheVariants.{Live};
+ghost use Rattle.fo_image.specs.Format.{LabelHolds};
+ghost use Rattle.fo_labels.specs.Floor.{floor};
+ghost use Rattle.fo_labels.specs.Region.{IsDataBlock, IsUsableBlock, free_label, live_label, closed_label, label_of, relabeled, is_usable, least_usable, usable_count};
+
+use crate::index::Minima;
+use fo_base::Memory;
+use fo_image::{Kind, Label, State};
+use std::alloc::Global;
+use std::marker::Model;
+
+const FREE: Label = Label {
+    state: State::Free,
+    kind: Kind::Data(0),
+    tag: 0,
+    epoch: 0,
+    closing: 0,
+};
+
+/// The labels of the data blocks, those from the first data block on. A block is usable where its label is free, or
+/// closed at an epoch that is at most the settled low epoch, or closed in the epoch in which it was given out: then no
+/// snapshot that is kept holds it (the Fossil paper).
+#[derive(Drop)]
+pub struct Labels {
+    first: u32,
+    labels: Vec<Label>,
+    floors: Minima,
+    low: u32,
+    usable: u32,
+}
+
+impl Model for Labels {
+    ghost use Rattle.fo_labels.specs.Region.{Region};
+
+    ghost Value = { Region };
+
+    ghost use Rattle.fo_labels.specs.Indexed.{IsIndexed};
+
+    ghost view = { λ a. record { first = a.first; labels = a.labels.items } };
+
+    ghost invariant = { IsIndexed };
+}
+
+impl Labels {
+    /// The labels of the blocks from address `first` to `count - 1`, all of them free.
+    pub fn new(alloc: Global, count: u32, first: u32) -> Result<Labels, Memory>
+        ensures { IfOk result (λ r. r ≡ record { first = first; labels = replicate (count - first) free_label }) }
+    {
+        let len = count.saturating_sub(first);
+        let labels = vec![in alloc; FREE; len as usize]?;
+        let floors = Minima::new(alloc, len)?;
+        Ok(Labels {
+            first,
+            labels,
+            floors,
+            low: 0,
+            usable: len,
+        })
+    }
+
+    /// Gives out the usable block of the least address, and None exactly where no block is usable. Its label is live
+    /// from then on, with this kind, tag and epoch.
+    pub fn alloc(&mut self, kind: Kind, tag: u32, epoch: u32, settled_low: u32) -> Option<u32>
+        requires { LabelHolds (live_label kind tag epoch) }
+        ensures least { result ≡ least_usable settled_low self.old }
+        ensures none { IsNone result ↔ (usable_count settled_low self.old ≡ 0) }
+        ensures some { IfSome result (IsUsableBlock settled_low self.old) }
+        ensures labels { MatchOption result (self.new ≡ self.old)
+            (λ at. self.new ≡ relabeled self.old at (live_label kind tag epoch)) }
+    {
+        let first = self.first;
+        let Some(place) = self.floors.first_within(settled_low) else {
+            return None;
+        };
+        let label = Label {
+            state: State::Live,
+            kind,
+            tag,
+            epoch,
+            closing: u32::MAX,
+        };
+        self.put(place, label);
+        Some(first + place as u32)
+    }
+
+    /// Closes a live block at an epoch.
+    pub fn close(&mut self, at: u32, epoch: u32)
+        requires block { IsDataBlock self.old at }
+        requires live { (label_of self.old at).state ≡ Live }
+        requires made { (label_of self.old at).epoch ≤ epoch }
+        ensures { self.new ≡ relabeled self.old at (closed_label (label_of self.old at) epoch) }
+    {
+        let place = (at - self.first) as usize;
+        let mut label = self.labels[place];
+        label.state = State::Closed;
+        label.closing = epoch;
+        self.put(place, label);
+    }
+
+    /// Gives a block the label that was read from the device.
+    pub fn restore(&mut self, at: u32, label: Label)
+        requires { IsDataBlock self.old at }
+        ensures { self.new ≡ relabeled self.old at label }
+    {
+        let place = (at - self.first) as usize;
+        self.put(place, label);
+    }
+
+    /// How many blocks are usable. This is at once the answer for the settled low epoch that `follow` was told last,
+    /// or 0 at first; for another epoch the labels are counted.
+    pub fn usable(&self, settled_low: u32) -> u32
+        ensures { result ≡ usable_count settled_low self.now }
+    {
+        if settled_low == self.low {
+            return self.usable;
+        }
+        count_usable(&self.labels, settled_low)
+    }
+
+    /// Keeps the number of usable blocks for this settled low epoch from now on. The labels are counted once.
+    pub fn follow(&mut self, settled_low: u32)
+        ensures { self.new ≡ self.old }
+    {
+        self.usable = count_usable(&self.labels, settled_low);
+        self.low = settled_low;
+    }
+
+    /// The label of a data block.
+    pub fn label(&self, at: u32) -> Label
+        requires { IsDataBlock self.now at }
+        ensures { result ≡ label_of self.now at }
+    {
+        self.labels[(at - self.first) as usize]
+    }
+
+    // The label at a place of the list, which starts at the first data block.
+    fn put(&mut self, place: usize, label: Label)
+        requires { place < length self.old.labels }
+        ensures { self.new ≡ record { first = self.old.first; labels = slice_set self.old.labels place label } }
+    {
+        let was = one_if_usable(&self.labels[place], self.low);
+        let is = one_if_usable(&label, self.low);
+        self.usable = self.usable - was + is;
+        self.floors.set(place, floor(&label));
+        self.labels[place] = label;
+    }
+}
+
+// Whether a block with this label is usable.
+fn is_usable(label: &Label, low: u32) -> bool
+    ensures { result ≡ is_usable low label.now }
+{
+    match label.state {
+        State::Free => true,
+        State::Live => false,
+        State::Closed => label.closing == label.epoch || label.closing <= low,
+    }
+}
+
+fn one_if_usable(label: &Label, low: u32) -> u32
+    ensures { result ≡ (if is_usable low label.now then 1 else 0) }
+{
+    if is_usable(label, low) { 1 } else { 0 }
+}
+
+// The least settled low epoch from which on a block with this label is usable, and 2^32 for a live one.
+fn floor(label: &Label) -> u64
+    ensures { result ≡ floor label.now }
+{
+    match label.state {
+        State::Free => 0,
+        State::Live => 1 << 32,
+        State::Closed if label.closing == label.epoch => 0,
+        State::Closed => u64::from(label.closing),
+    }
+}
+
+fn count_usable(labels: &[Label], low: u32) -> u32
+    requires { length labels.now < 2 ^ 32 }
+    ensures { result ≡ count_by (is_usable low) labels.now }
+{
+    labels.iter().filter(|label| is_usable(label, low)).count() as u32
+}

@@ -1,0 +1,58 @@
+//! Clocks.
+ghost use Rattle.std.specs.Prelude.{◌≡◌, Some, None};
+
+use crate::traits::Clock;
+use std::time::{self, SystemTime, UNIX_EPOCH};
+
+/// A clock that stands still.
+#[derive(Clone, Copy, Debug)]
+pub struct SetClock {
+    seconds: u32,
+}
+
+impl SetClock {
+    /// A clock that always says that it is so many seconds since 1970-01-01 UTC.
+    pub fn new(now: u32) -> SetClock
+        ensures { result.seconds ≡ now }
+    {
+        SetClock { seconds: now }
+    }
+}
+
+impl Clock for SetClock {
+    ghost told = { λ clock. Some clock.seconds };
+
+    fn now(&self) -> u32 {
+        self.seconds
+    }
+}
+
+/// The system's clock. It says 0 where that can't be read, and the last second that it can say from
+/// then on (in 2106).
+#[derive(Drop)]
+pub struct SystemClock<R> {
+    rt: R,
+}
+
+impl<R: time::Clock> SystemClock<R> {
+    /// The clock that is read through this runtime.
+    pub fn new(rt: R) -> SystemClock<R>
+        ensures { result.rt ≡ rt }
+    {
+        SystemClock { rt }
+    }
+}
+
+impl<R: time::Clock> Clock for SystemClock<R> {
+    ghost told = { λ clock. None };
+
+    fn now(&self) -> u32 {
+        let Ok(time) = SystemTime::now(&self.rt) else {
+            return 0;
+        };
+        let Ok(since) = time.duration_since(UNIX_EPOCH) else {
+            return 0;
+        };
+        u32::try_from(since.as_secs()).unwrap_or(u32::MAX)
+    }
+}

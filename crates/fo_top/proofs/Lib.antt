@@ -1,0 +1,9 @@
+pub mod Buffer
+pub mod Talking
+pub mod Entries
+pub mod Errors
+pub mod Serving
+pub mod Worlds
+pub mod Records
+pub mod Front
+pub mod Going

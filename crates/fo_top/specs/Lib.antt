@@ -1,0 +1,7 @@
+pub mod Conversation
+pub mod Ending
+pub mod Filling
+pub mod Answering
+pub mod Fids
+pub mod Session
+pub mod Words

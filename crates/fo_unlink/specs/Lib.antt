@@ -1,0 +1,5 @@
+pub mod Closing
+pub mod Kept
+pub mod Pending
+pub mod Slots
+pub mod Steps

@@ -1,0 +1,42 @@
+//! Fossil, an archival file server over 9P2000.
+#![tactic(auto)]
+
+use fo_links::{ReadSource, SystemClock, WriteSink};
+use fo_top::{Done, Why, run};
+use std::env;
+use std::io::{self, ErrorKind};
+use std::process::ExitCode;
+
+/// The words behind the program's name.
+fn words(rt: &HostRuntime) -> io::Result<Vec<String>> {
+    let mut args = env::args(rt)?;
+    let _program = args.next();
+    Ok(args.collect(rt.alloc())?)
+}
+
+/// How the run ended.
+fn answer(rt: &HostRuntime) -> Why {
+    let words = match words(rt) {
+        Ok(words) => words,
+        Err(e) if e.kind() == ErrorKind::OutOfMemory => return Why::Memory,
+        Err(_) => return Why::Usage,
+    };
+    let input = ReadSource::new(rt.stdin());
+    let out = WriteSink::new(rt.stdout());
+    let Done { why, .. } = run(
+        rt.alloc(),
+        words.as_slice(),
+        input,
+        out,
+        SystemClock::new(rt),
+    );
+    why
+}
+
+fn main(rt: HostRuntime) -> ExitCode {
+    let why = answer(&rt);
+    if why != Why::Ended {
+        let _ = eprintln!(&rt; "fossil: {why}");
+    }
+    ExitCode::from(why.status())
+}

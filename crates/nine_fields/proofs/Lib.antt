@@ -1,0 +1,4 @@
+pub mod Bytes
+pub mod Taking
+pub mod Listing
+pub mod Each

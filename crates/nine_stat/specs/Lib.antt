@@ -1,0 +1,3 @@
+pub mod Stat
+pub mod Cut
+pub mod Writing

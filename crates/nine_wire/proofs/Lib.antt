@@ -1,0 +1,5 @@
+pub mod Tables
+pub mod Laws
+pub mod Framing
+pub mod Texts
+pub mod Sizes

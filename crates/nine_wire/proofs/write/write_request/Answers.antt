@@ -1,0 +1,22 @@
+use Rattle.std.proofs.Common.{◌≡◌, ◌++◌, ◌+◌, ◌<◌, ◌^◌, length, arith, ap}
+use Rattle.nine_wire.specs.Message.{request_message, body}
+use Rattle.nine_wire.proofs.Sizes.{request_size, body_whole, spelled_whole}
+use Rattle.nine_wire.proofs.write.write_request.Goals as goal
+
+pub put_message-requires : goal.put_message-requires
+put_message-requires c =
+    let whole = body_whole (request_message c.args.request.now) c.as_slice.result.now c.put_request.new.head.items c.new-head.result.items c.in_ok-tail.tail.now c.as_slice.ensures.value c.new-head.ensures.items c.in_ok-tail.ensures.written in
+    omega (arith, ap length whole, request_size c.args.request.now c.requires c.in_ok-tail.ensures.fits)
+
+pub returns-clause-ok : goal.returns-clause-ok
+returns-clause-ok c =
+    let whole = body_whole (request_message c.args.request.now) c.as_slice.result.now c.put_request.new.head.items c.new-head.result.items c.in_ok-tail.tail.now c.as_slice.ensures.value c.new-head.ensures.items c.in_ok-tail.ensures.written in
+    spelled_whole (request_message c.args.request.now) c.args.out.now.items c.put_message.new.out.items (c.as_slice.result.now ++ c.in_ok-tail.tail.now) c.request_kind.result c.args.tag whole c.request_kind.ensures c.in_ok-put_message.ensures.ok
+
+pub returns-clause-fits : goal.returns-clause-fits
+returns-clause-fits c = record {
+  tag_fits = omega (arith, c.ranges.tag.fits);
+  kind_fits = omega (arith, c.request_kind.ensures, c.request_kind.type_inv);
+  fields_fit = c.in_ok-tail.ensures.fits;
+  size_fits = request_size c.args.request.now c.requires c.in_ok-tail.ensures.fits;
+}
