@@ -1,0 +1,3 @@
+mod Edits
+pub mod Leaves
+pub mod Lists
