@@ -1,5 +1,5 @@
 -- What a call that reads or writes a format answers.
-use Rattle.std.proofs.Common.{◌≡◌, ℕ, List, length, refl, sym, ap, subst, ◌∙◌, Result, Ok, Err}
+use Rattle.std.proofs.Common.{◌≡◌, ℕ, List, length, refl, sym, ap, subst, ◌∙◌, Ok, Err}
 use Rattle.std.specs.List.{AllByRecursion}
 use Rattle.fo_image.specs.Field.{Field, FieldFits, spelling, padded, Spells, Reads}
 

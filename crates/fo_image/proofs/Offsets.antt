@@ -1,5 +1,5 @@
 -- What stands where, in the bytes of each format.
-use Rattle.std.proofs.Common.{◌≡◌, ℕ, ◌+◌, ◌%◌, ◌<◌, ◌^◌, List, ◌++◌, length, get_or, take, drop, refl, sym, subst, ◌∙◌, ap, arith}
+use Rattle.std.proofs.Common.{◌≡◌, ℕ, ◌%◌, ◌<◌, ◌^◌, List, ◌++◌, length, get_or, take, drop, sym, subst, ◌∙◌, ap, arith}
 use Rattle.std.proofs.lemmas.Nat.{from_be_bytes-to_be_bytes_2, from_be_bytes-to_be_bytes_4, from_be_bytes-to_be_bytes_8}
 use Rattle.std.proofs.lemmas.List.{take_at, drop_at, drop-drop, get_or-drop, append_assoc}
 use Rattle.std.specs.Int.{w16, from_be_bytes}

@@ -1,11 +1,11 @@
 -- Pieces written one after the other, as a root block is.
-use Rattle.std.proofs.Common.{◌≡◌, ℕ, ◌+◌, ◌-◌, ◌≤◌, List, [], ◌++◌, length, take, drop, refl, sym, ap, ◌∙◌, append_assoc, arith}
+use Rattle.std.proofs.Common.{◌≡◌, ℕ, ◌+◌, ◌-◌, ◌≤◌, List, [], ◌++◌, length, take, drop, sym, ap, ◌∙◌, append_assoc, arith}
 use Rattle.std.specs.Prelude.{replicate}
 use Rattle.std.specs.List.{AllByRecursion}
 use Rattle.std.proofs.lemmas.List.{append-nil, length-append, length-take, length-drop, length-replicate, take_at, drop_at, drop_all}
 use borrow.Rule.Slice.PartMut.{put_mid}
 use Rattle.fo_image.specs.declared.record.RootBlock.{RootBlock}
-use Rattle.fo_image.specs.Field.{FieldFits, zeros, padded, spelling, Spells}
+use Rattle.fo_image.specs.Field.{FieldFits, zeros, spelling, Spells}
 use Rattle.fo_image.specs.Format.{entry_fields, EntryHolds}
 use Rattle.fo_image.specs.Record.{RecordHolds, record_len, record_fields, RootHolds, root_head, root_fields}
 use Rattle.fo_image.proofs.PointerLemmas.{padded_whole}

@@ -1,5 +1,5 @@
 -- What stands where, in the bytes of a record and of a root block.
-use Rattle.std.proofs.Common.{◌≡◌, ℕ, ◌+◌, ◌-◌, ◌<◌, ◌≤◌, ◌^◌, List, [], ◌∷◌, ◌++◌, length, take, drop, refl, sym, ap, subst, ◌∙◌, append_assoc, arith}
+use Rattle.std.proofs.Common.{◌≡◌, ℕ, ◌-◌, ◌≤◌, List, [], ◌∷◌, ◌++◌, length, take, drop, sym, ap, subst, ◌∙◌, append_assoc, arith}
 use Rattle.std.specs.Int.{w16, from_be_bytes}
 use Rattle.std.specs.List.{AllByRecursion}
 use Rattle.std.proofs.lemmas.List.{append-nil, length-append, take_at, drop_at, drop-drop}
@@ -8,7 +8,7 @@ use Rattle.std.proofs.lemmas.Nat.{from_be_bytes-to_be_bytes_2, from_be_bytes-to_
 use Rattle.fo_image.specs.declared.types.Entry.{Entry}
 use Rattle.fo_image.specs.declared.record.Record.{Record}
 use Rattle.fo_image.specs.declared.record.RootBlock.{RootBlock}
-use Rattle.fo_image.specs.Field.{Two, Four, Field, Text, FieldFits, number_at, zeros, padded, spelled, spelling, Spells}
+use Rattle.fo_image.specs.Field.{Two, Four, Field, Text, FieldFits, number_at, zeros, spelled, spelling, Spells}
 use Rattle.fo_image.specs.Format.{pointer_bytes, entry_fields, EntryHolds}
 use Rattle.fo_image.specs.Record.{RecordHolds, record_len, record_fields, RootHolds, root_head, root_fields}
 use Rattle.fo_image.proofs.PointerLemmas.{padded_whole}

@@ -1,5 +1,5 @@
 -- The fields that formats are made of, and how each is spelled: numbers have their high byte first.
-use Rattle.std.specs.Prelude.{◌≡◌, ℕ, ◌-◌, ◌^◌, ◌<◌, List, ◌∷◌, [], ◌++◌, length, take, drop, replicate, Result, IfOk, IfErr, Ok}
+use Rattle.std.specs.Prelude.{◌≡◌, ℕ, ◌-◌, ◌^◌, ◌<◌, List, ◌++◌, length, take, drop, replicate, Result, IfOk, IfErr, Ok}
 use Rattle.std.specs.Int.{Width, w8, w16, w32, w64, to_be_bytes, from_be_bytes, byte_len}
 use Rattle.std.specs.List.{flat_map, AllByRecursion}
 

@@ -3,3 +3,4 @@ pub mod Format
 pub mod Part
 pub mod Place
 pub mod Record
+pub mod Usable

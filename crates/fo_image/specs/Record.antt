@@ -6,7 +6,7 @@ use Rattle.fo_image.specs.declared.record.Record.{Record}
 use Rattle.fo_image.specs.declared.record.RootBlock.{RootBlock}
 use Rattle.fo_image.specs.declared.record.RecordError.{RecordError}
 use Rattle.fo_image.specs.declared.record.RecordError.TheVariants as why
-use Rattle.fo_image.specs.Field.{One, Two, Four, Field, Number, Fixed, Text, spelling, Spells}
+use Rattle.fo_image.specs.Field.{Two, Four, Field, Number, Fixed, Text, Spells}
 use Rattle.fo_image.specs.Format.{EntryHolds, entry_fields}
 
 -- UTF-8 without NUL, of one byte up to so many

@@ -6,6 +6,7 @@ ghost use Rattle.fo_image.specs.declared.types.Kind.{Kind};
 ghost use Rattle.fo_image.specs.declared.types.Label.{Label};
 ghost use Rattle.fo_image.specs.Field.{FieldFits, Reads, spelling};
 ghost use Rattle.fo_image.specs.Part.{parts_bytes};
+ghost use Rattle.fo_image.specs.Usable.{is_usable};
 ghost use Rattle.fo_image.specs.Format.{state_code, kind_code, KindHolds, IsEpoch, LabelHolds, SpellsLabel, label_fields};
 
 use crate::parts::{Part, is_spelled, u32_at, write_parts};
@@ -134,5 +135,17 @@ pub fn read_label(bytes: &[u8]) -> Result<Label, Bad>
         Ok(label)
     } else {
         Err(Bad::Label)
+    }
+}
+
+/// Whether a block with this label may be given out where `low` is the least low epoch that is kept: it is free, or was closed in
+/// the epoch in which it was given out, or at an epoch up to `low`.
+pub fn is_usable(label: &Label, low: u32) -> bool
+    ensures { result ≡ is_usable low label.now }
+{
+    match label.state {
+        State::Free => true,
+        State::Live => false,
+        State::Closed => label.closing == label.epoch || label.closing <= low,
     }
 }

@@ -17,7 +17,7 @@ pub use arena::{read_arena_head, read_arena_line, write_arena_head, write_arena_
 pub use blocks::{read_header, read_super, write_header, write_super};
 pub use entries::{is_entry, least_depth, read_entry, write_entry};
 pub use fo_base::Bytes as Text;
-pub use labels::{read_label, write_label};
+pub use labels::{is_usable, read_label, write_label};
 pub use parts::u16_at;
 pub use places::{
     BLOCK, arena_places, first_data, label_blocks, label_place, line_place, stored_block,

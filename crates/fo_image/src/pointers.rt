@@ -1,5 +1,5 @@
 //! Pointers, of 20 bytes.
-ghost use Rattle.std.specs.Prelude.{◌≡◌, ℕ, ◌↔◌, length, IsTrue};
+ghost use Rattle.std.specs.Prelude.{◌≡◌, ◌↔◌, length, IsTrue};
 ghost use Rattle.fo_image.specs.declared.types.Pointer.{Pointer};
 ghost use Rattle.fo_image.specs.Format.{pointer_bytes, IsScore, PointerHolds, SpellsPointer};
 

@@ -1,5 +1,5 @@
 //! Records, whose length is part of them.
-ghost use Rattle.std.specs.Prelude.{◌≡◌, ◌≢◌, ℕ, ◌+◌, ◌^◌, ◌<◌, ◌≤◌, ◌++◌, ◌↔◌, List, length, IsTrue, Some, IfOk, IfSome, IsSomeAnd};
+ghost use Rattle.std.specs.Prelude.{◌≡◌, ℕ, ◌+◌, ◌^◌, ◌<◌, ◌≤◌, ◌++◌, ◌↔◌, List, length, IsTrue, Some, IfOk, IfSome, IsSomeAnd};
 ghost use Rattle.std.specs.List.{AllByRecursion};
 ghost use Rattle.fo_image.specs.declared.record.Record.{Record};
 ghost use Rattle.fo_image.specs.Field.{FieldFits, Text as TextField, spelled, spelling};
@@ -20,25 +20,25 @@ fn is_text_within(limit: usize, bytes: &[u8]) -> bool
 }
 
 /// Whether the record has a spelling.
-pub fn is_record(record: &Record) -> bool
-    ensures { IsTrue result ↔ RecordHolds record.now }
+pub fn is_record(v: &Record) -> bool
+    ensures { IsTrue result ↔ RecordHolds v.now }
 {
-    is_text_within(255, record.name.as_slice())
-        && is_text_within(64, record.uid.as_slice())
-        && is_text_within(64, record.gid.as_slice())
-        && is_text_within(64, record.muid.as_slice())
+    is_text_within(255, v.name.as_slice())
+        && is_text_within(64, v.uid.as_slice())
+        && is_text_within(64, v.gid.as_slice())
+        && is_text_within(64, v.muid.as_slice())
 }
 
 /// How many bytes the whole record takes, at most 481.
-pub fn record_len(record: &Record) -> usize
-    requires { RecordHolds record.now }
-    ensures is { result ≡ record_len record.now }
+pub fn record_len(v: &Record) -> usize
+    requires { RecordHolds v.now }
+    ensures is { result ≡ record_len v.now }
     ensures most { result ≤ 481 }
 {
-    34 + record.name.as_slice().len()
-        + record.uid.as_slice().len()
-        + record.gid.as_slice().len()
-        + record.muid.as_slice().len()
+    34 + v.name.as_slice().len()
+        + v.uid.as_slice().len()
+        + v.gid.as_slice().len()
+        + v.muid.as_slice().len()
 }
 
 fn len_of(text: &Text) -> u8
@@ -55,28 +55,28 @@ fn four(n: u32) -> Part<'static>
     Part::Four(n)
 }
 
-fn parts_of(record: &Record) -> [Part<'_>; 16]
-    requires { RecordHolds record.now }
-    ensures spelled { parts_bytes result ≡ spelling (record_fields record.now) }
-    ensures fit { AllByRecursion FieldFits (record_fields record.now) }
+fn parts_of(v: &Record) -> [Part<'_>; 16]
+    requires { RecordHolds v.now }
+    ensures spelled { parts_bytes result ≡ spelling (record_fields v.now) }
+    ensures fit { AllByRecursion FieldFits (record_fields v.now) }
 {
     [
-        Part::Two(record_len(record) as u16),
-        four(record.number),
-        four(record.slot),
-        four(record.generation),
-        four(record.vers),
-        four(record.mode),
-        four(record.atime),
-        four(record.mtime),
-        Part::One(len_of(&record.name)),
-        Part::Bytes(record.name.as_slice()),
-        Part::One(len_of(&record.uid)),
-        Part::Bytes(record.uid.as_slice()),
-        Part::One(len_of(&record.gid)),
-        Part::Bytes(record.gid.as_slice()),
-        Part::One(len_of(&record.muid)),
-        Part::Bytes(record.muid.as_slice()),
+        Part::Two(record_len(v) as u16),
+        four(v.number),
+        four(v.slot),
+        four(v.generation),
+        four(v.vers),
+        four(v.mode),
+        four(v.atime),
+        four(v.mtime),
+        Part::One(len_of(&v.name)),
+        Part::Bytes(v.name.as_slice()),
+        Part::One(len_of(&v.uid)),
+        Part::Bytes(v.uid.as_slice()),
+        Part::One(len_of(&v.gid)),
+        Part::Bytes(v.gid.as_slice()),
+        Part::One(len_of(&v.muid)),
+        Part::Bytes(v.muid.as_slice()),
     ]
 }
 
@@ -155,16 +155,16 @@ pub fn record_of(alloc: Global, bytes: &[u8]) -> Result<Option<Record>, AllocErr
 }
 
 /// Whether the bytes spell the record.
-fn is_record_at(record: &Record, bytes: &[u8]) -> bool
-    ensures { IsTrue result ↔ SpellsRecord record.now bytes.now }
+fn is_record_at(v: &Record, bytes: &[u8]) -> bool
+    ensures { IsTrue result ↔ SpellsRecord v.now bytes.now }
 {
-    if !is_record(record) {
+    if !is_record(v) {
         return false;
     }
-    if bytes.len() != record_len(record) {
+    if bytes.len() != record_len(v) {
         return false;
     }
-    is_spelled(&parts_of(record), bytes)
+    is_spelled(&parts_of(v), bytes)
 }
 
 /// The record that the bytes spell, or `Bad::Entry` where they spell none.

@@ -1,5 +1,5 @@
 //! Root blocks, of 8192 bytes.
-ghost use Rattle.std.specs.Prelude.{◌≡◌, ◌↔◌, ℕ, length, Some, IsTrue, IfOk};
+ghost use Rattle.std.specs.Prelude.{◌≡◌, ◌↔◌, length, Some, IsTrue, IfOk};
 ghost use Rattle.std.specs.List.{AllByRecursion};
 ghost use Rattle.fo_image.specs.declared.record.RootBlock.{RootBlock};
 ghost use Rattle.fo_image.specs.Field.{FieldFits, spelling};

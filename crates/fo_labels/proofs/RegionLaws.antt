@@ -3,7 +3,8 @@ use Rattle.std.proofs.Common.{◌≡◌, ◌≢◌, ℕ, ◌+◌, ◌-◌, cond,
 use Rattle.std.proofs.lemmas.List.{get_or-set_same, get_or-set_other, length-set}
 use Rattle.std.proofs.lemmas.List.Sums.{sum_by-set}
 use Rattle.fo_image.specs.declared.types.Label.{Label}
-use Rattle.fo_labels.specs.Region.{Region, IsDataBlock, relabeled, label_of, is_usable, usable_count, free_label}
+use Rattle.fo_image.specs.Usable.{is_usable, free_label}
+use Rattle.fo_labels.specs.Region.{Region, IsDataBlock, relabeled, label_of, usable_count}
 
 pub block-relabeled : (r : Region) (at other : ℕ) (l : Label) → IsDataBlock r other → IsDataBlock (relabeled r at l) other
 block-relabeled r at other l b = record {

@@ -12,7 +12,8 @@ use Rattle.fo_image.specs.declared.types.State.{State}
 use Rattle.fo_image.specs.declared.types.State.TheVariants.{Free, Live, Closed}
 use Rattle.fo_image.specs.declared.types.Label.{Label}
 use Rattle.fo_labels.specs.Floor.{floor, floor_in}
-use Rattle.fo_labels.specs.Region.{Region, IsUsableBlock, is_usable, is_usable_in, least_usable, usable_count, free_label}
+use Rattle.fo_image.specs.Usable.{is_usable, is_usable_in, free_label}
+use Rattle.fo_labels.specs.Region.{Region, IsUsableBlock, least_usable, usable_count}
 
 above_epochs : (low : ℕ) → low < 2 ^ 32 → leb (2 ^ 32) low ≡ false
 above_epochs low small = grind (arith, nat_tests)

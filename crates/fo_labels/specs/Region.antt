@@ -1,13 +1,11 @@
 -- The labels of the data blocks, and which of these blocks may be given out (the labels and epochs of the Fossil paper,
 -- "Fossil, an Archival File Server").
-use Rattle.std.specs.Prelude.{◌≡◌, ℕ, ◌+◌, ◌-◌, ◌^◌, ◌<◌, ◌≤◌, ◌==◌, ◌||◌, Bool, true, false, List, length, Option, nat_le, slice_index_or, slice_set, count_by}
+use Rattle.std.specs.Prelude.{◌≡◌, ℕ, ◌+◌, ◌-◌, ◌<◌, ◌≤◌, true, List, length, Option, slice_index_or, slice_set, count_by}
 use Rattle.std.specs.List.{position}
 use Rattle.std.specs.Option.{option_map}
-use Rattle.fo_image.specs.declared.types.State.{State}
-use Rattle.fo_image.specs.declared.types.State.TheVariants.{Free, Live, Closed}
-use Rattle.fo_image.specs.declared.types.Kind.{Kind}
-use Rattle.fo_image.specs.declared.types.Kind.TheVariants.{Data}
+use Rattle.fo_image.specs.declared.types.State.TheVariants.{Closed}
 use Rattle.fo_image.specs.declared.types.Label.{Label}
+use Rattle.fo_image.specs.Usable.{free_label, is_usable}
 
 -- the address of the first data block, and the labels of the data blocks in order
 pub record Region : Type 0 where
@@ -19,13 +17,6 @@ pub record IsDataBlock (r : Region) (at : ℕ) : Type 0 where
   pub to : at < r.first + length r.labels
 
 -- ---- labels
-
-abbrev pub free_label : Label
-free_label = record { state = Free; kind = Data 0; tag = 0; epoch = 0; closing = 0 }
-
--- the label of a block that is given out
-abbrev pub live_label : Kind → ℕ → ℕ → Label
-live_label kind tag epoch = record { state = Live; kind = kind; tag = tag; epoch = epoch; closing = 2 ^ 32 - 1 }
 
 abbrev pub closed_label : Label → ℕ → Label
 closed_label l epoch = record l { state = Closed; closing = epoch }
@@ -39,16 +30,6 @@ abbrev pub relabeled : Region → ℕ → Label → Region
 relabeled r at l = record { first = r.first; labels = slice_set r.labels (at - r.first) l }
 
 -- ---- blocks that may be given out
-
--- A free block may be given out, and a closed one that no snapshot from the settled low epoch on holds: it was closed in
--- the epoch in which it was given out, or at an epoch that is not above the settled low one.
-abbrev pub is_usable_in : State → ℕ → Label → Bool
-is_usable_in Free low l = true
-is_usable_in Live low l = false
-is_usable_in Closed low l = (l.closing == l.epoch) || nat_le l.closing low
-
-abbrev pub is_usable : ℕ → Label → Bool
-is_usable low l = is_usable_in l.state low l
 
 pub record IsUsableBlock (low : ℕ) (r : Region) (at : ℕ) : Type 0 where
   pub block : IsDataBlock r at

@@ -3,11 +3,12 @@ ghost use Rattle.std.specs.Prelude.{◌≡◌, ◌+◌, ◌-◌, ◌^◌, ◌<�
 ghost use Rattle.fo_image.specs.declared.types.State.TheVariants.{Live};
 ghost use Rattle.fo_image.specs.Format.{LabelHolds};
 ghost use Rattle.fo_labels.specs.Floor.{floor};
-ghost use Rattle.fo_labels.specs.Region.{IsDataBlock, IsUsableBlock, free_label, live_label, closed_label, label_of, relabeled, is_usable, least_usable, usable_count};
+ghost use Rattle.fo_image.specs.Usable.{free_label, live_label, is_usable};
+ghost use Rattle.fo_labels.specs.Region.{IsDataBlock, IsUsableBlock, closed_label, label_of, relabeled, least_usable, usable_count};
 
 use crate::index::Minima;
 use fo_base::Memory;
-use fo_image::{Kind, Label, State};
+use fo_image::{Kind, Label, State, is_usable};
 use std::alloc::Global;
 use std::marker::Model;
 
@@ -145,17 +146,6 @@ impl Labels {
         self.usable = self.usable - was + is;
         self.floors.set(place, floor(&label));
         self.labels[place] = label;
-    }
-}
-
-// Whether a block with this label is usable.
-fn is_usable(label: &Label, low: u32) -> bool
-    ensures { result ≡ is_usable low label.now }
-{
-    match label.state {
-        State::Free => true,
-        State::Live => false,
-        State::Closed => label.closing == label.epoch || label.closing <= low,
     }
 }
 

@@ -1,10 +1,2 @@
-pub mod Names
-pub mod Tree
-pub mod Falls
-pub mod Date
-pub mod Dated
-pub mod World
-pub mod Texts
-pub mod Step
-pub mod Answers
+pub mod Found
 pub mod Kept

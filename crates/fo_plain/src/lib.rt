@@ -1,24 +1,20 @@
-//! Plain trees of files: what every file answer of the whole file system means, and a plain program beside it.
+//! Worlds of files, kept as plain trees: a plain program that answers every call as the file step says.
+//!
+//! `PlainFiles` stands for the whole file system where no device does. The dates and the dated names are computed in the plainest way.
+//! The types are those of `fo_world`, and go by this crate's name too.
 #![tactic(auto)]
 
-mod bytes;
-mod error;
-mod files;
-mod place;
+mod date;
+mod dated;
 mod plain;
-mod text;
-mod trail;
-mod tree;
+mod reached;
+mod taken;
 
-pub use bytes::Plain;
-pub use error::FileError;
-pub use files::FileOps;
-pub use fo_base::Bytes as Name;
-pub use place::{Change, Info, Place, View};
+pub use fo_world::{
+    Archive, Body, Change, FileError, FileOps, Info, Name, Names, Node, Place, Plain, ShortText,
+    Snap, Trail, Tree, View, World,
+};
 pub use plain::PlainFiles;
-pub use text::ShortText;
-pub use trail::Trail;
-pub use tree::{Body, Names, Node, Tree};
 
 #[cfg(test)]
 mod tests;

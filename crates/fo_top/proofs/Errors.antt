@@ -9,9 +9,9 @@ use Rattle.std.proofs.lemmas.Fmt.{IsAscii-decimal, decimal_by_steps}
 use Rattle.std.proofs.lemmas.List.Folds.{list_any-append}
 use Rattle.std.proofs.lemmas.Str.{IsUtf8-append, IsUtf8-from_ascii, IsUtf8-from_is_utf8, is_utf8-from_IsUtf8}
 use Rattle.fo_base.specs.Text.{has_zero, IsText}
-use Rattle.fo_plain.specs.declared.error.FileError.{FileError}
-use Rattle.fo_plain.specs.declared.error.FileError.TheVariants as error
-use Rattle.fo_plain.specs.Texts.{error_text}
+use Rattle.fo_world.specs.declared.error.FileError.{FileError}
+use Rattle.fo_world.specs.declared.error.FileError.TheVariants as error
+use Rattle.fo_world.specs.Texts.{error_text}
 
 digit_is_none : (n : ℕ) → has_zero ((48 + n) ∷ []) ≡ false
 digit_is_none n = grind (arith, nat_tests)

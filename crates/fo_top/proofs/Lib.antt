@@ -1,9 +1,7 @@
-pub mod Buffer
-pub mod Talking
-pub mod Entries
+pub mod Causes
 pub mod Errors
 pub mod Serving
 pub mod Worlds
 pub mod Records
-pub mod Front
-pub mod Going
+pub mod Fewer
+pub mod Runs

@@ -7,7 +7,7 @@ use Rattle.nine_wire.specs.declared.message.Reply.TheVariants as reply
 use Rattle.nine_wire.specs.Message.{ReplyFits}
 use Rattle.nine_stat.specs.declared.stat.Stat.{Stat}
 use Rattle.nine_stat.specs.Stat.{spelling, stat_fields, IsRecord}
-use Rattle.fo_plain.specs.declared.place.Info.{Info}
+use Rattle.fo_world.specs.declared.place.Info.{Info}
 use Rattle.fo_top.specs.Session as nine
 use Rattle.fo_top.specs.Session.{InfoFits}
 

@@ -13,14 +13,14 @@ use Rattle.nine_wire.specs.declared.message.Reply.{Reply}
 use Rattle.nine_wire.specs.declared.message.Reply.TheVariants as reply
 use Rattle.nine_wire.specs.Message.{reply_message, ReplyFits}
 use Rattle.nine_wire.proofs.Laws.{spelling-len}
-use Rattle.fo_plain.specs.declared.error.FileError.{FileError}
-use Rattle.fo_plain.specs.declared.error.FileError.TheVariants as error
-use Rattle.fo_plain.specs.declared.place.Info.{Info}
-use Rattle.fo_plain.specs.declared.place.Place.{Place}
-use Rattle.fo_plain.specs.declared.tree.Node.{Node}
-use Rattle.fo_plain.specs.Step as step
-use Rattle.fo_plain.specs.World.{World}
-use Rattle.fo_top.specs.Conversation.{largest, agreed_size}
+use Rattle.fo_world.specs.declared.error.FileError.{FileError}
+use Rattle.fo_world.specs.declared.error.FileError.TheVariants as error
+use Rattle.fo_world.specs.declared.place.Info.{Info}
+use Rattle.fo_world.specs.declared.place.Place.{Place}
+use Rattle.fo_world.specs.declared.tree.Node.{Node}
+use Rattle.fo_world.specs.Step as step
+use Rattle.fo_world.specs.World.{World}
+use Rattle.fo_talk.specs.Conversation.{largest, agreed_size}
 use Rattle.fo_top.specs.declared.fid.Fid.{Fid}
 use Rattle.fo_top.specs.Fids.{Fids}
 use Rattle.fo_top.specs.Session as nine

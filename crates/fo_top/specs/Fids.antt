@@ -1,6 +1,6 @@
 -- What a session keeps.
 use Rattle.std.specs.Prelude.{ℕ, List, [], Option, None}
-use Rattle.fo_plain.specs.World.{World}
+use Rattle.fo_world.specs.World.{World}
 use Rattle.fo_plain.specs.Kept.{empty_world}
 use Rattle.fo_top.specs.declared.fid.Fid.{Fid}
 

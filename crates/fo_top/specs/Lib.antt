@@ -1,7 +1,5 @@
-pub mod Conversation
 pub mod Ending
-pub mod Filling
-pub mod Answering
 pub mod Fids
 pub mod Session
+pub mod Tools
 pub mod Words

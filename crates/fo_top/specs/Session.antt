@@ -1,5 +1,6 @@
 -- What a session replies to a request, and what it and the world are then (section 5 of the Plan 9 manual).
 use Rattle.std.specs.Prelude.{◌≡◌, ◌⊎◌, ⊤, ℕ, ◌/◌, ◌^◌, ◌≤◌, List, [], ◌∷◌, ◌++◌, length, take, position, unwrap_or, min, Bool, true, false, not, ◌||◌, ◌==◌, nat_lt, nat_le, Option, Some, None, is_some, Result, Ok, Err, MatchResult, if◌then◌else◌, codes}
+use Rattle.std.specs.List.{fold}
 use Rattle.std.specs.Str.{bytes_eq}
 use Rattle.fo_base.specs.Text.{IsText}
 use Rattle.nine_fields.specs.declared.qid.Qid.{Qid}
@@ -10,15 +11,15 @@ use Rattle.nine_wire.specs.declared.message.Reply.TheVariants as reply
 use Rattle.nine_wire.specs.Message.{reply_message, spelling, ReplyFits}
 use Rattle.nine_stat.specs.declared.stat.Stat.{Stat}
 use Rattle.nine_stat.specs.Stat as stats
-use Rattle.fo_plain.specs.declared.place.Info.{Info}
-use Rattle.fo_plain.specs.declared.place.Place.{Place}
-use Rattle.fo_plain.specs.declared.place.View.TheVariants.{Active}
-use Rattle.fo_plain.specs.declared.error.FileError.{FileError}
-use Rattle.fo_plain.specs.Answers.{MayFail}
-use Rattle.fo_plain.specs.Texts.{error_text}
-use Rattle.fo_plain.specs.World.{World, Faults}
-use Rattle.fo_plain.specs.Step as step
-use Rattle.fo_top.specs.Conversation.{Event, Asked, Outcome, Replied, largest, version_text, agreed_size}
+use Rattle.fo_world.specs.declared.place.Info.{Info}
+use Rattle.fo_world.specs.declared.place.Place.{Place}
+use Rattle.fo_world.specs.declared.place.View.TheVariants.{Active}
+use Rattle.fo_world.specs.declared.error.FileError.{FileError}
+use Rattle.fo_world.specs.Answers.{MayFail}
+use Rattle.fo_world.specs.Texts.{error_text}
+use Rattle.fo_world.specs.World.{World, Faults}
+use Rattle.fo_world.specs.Step as step
+use Rattle.fo_talk.specs.Conversation.{Event, Asked, Drop, Outcome, Replied, LetGo, largest, version_text, agreed_size}
 use Rattle.fo_top.specs.declared.fid.Fid.{Fid}
 use Rattle.fo_top.specs.Fids.{Fids, System}
 
@@ -61,6 +62,14 @@ in_use k fids = (k == nofid) || is_some (fid_of k fids)
 abbrev pub without : ℕ → List Fid → List Fid
 without k [] = []
 without k (f ∷ fs) = if f.number == k then fs else f ∷ without k fs
+
+abbrev pub lesser : Option ℕ → Fid → Option ℕ
+lesser None f = Some f.number
+lesser (Some k) f = Some (min f.number k)
+
+-- the least number of a fid
+abbrev pub least : List Fid → Option ℕ
+least fids = fold lesser None fids
 
 -- ---- what is told of files
 
@@ -182,6 +191,11 @@ failed (request.Version msize text) s = record { msize = s.msize; fids = [] }
 failed (request.Clunk fid) s = record { msize = s.msize; fids = without fid s.fids }
 failed _ s = s
 
+-- the least fid goes, where there is one; with none the version is forgotten
+abbrev pub dropped : Fids → Option ℕ → Bool × Fids
+dropped s None = (false, record { msize = None; fids = s.fids })
+dropped s (Some k) = (true, record { msize = s.msize; fids = without k s.fids })
+
 -- what is replied to an attempt
 abbrev pub reply_of : Result Reply FileError → Reply
 reply_of (Ok r) = r
@@ -213,3 +227,7 @@ MayRefuse before after honest room e = (granted : Bool) × MayFail before after 
 abbrev pub system_goes : System → Event → Outcome → Faults → Faults → System → Type 0
 system_goes z (Asked now tag q) (Replied tag' r) before after z' =
     (tag' ≡ tag) × Serves (turned true z.session z.world q) (MayRefuse before after (Unit {0}) None) q z.session z.world r z'.session z'.world
+system_goes z (Drop now) (LetGo more r) before after z' =
+    ((more, z'.session) ≡ dropped z.session (least z.session.fids)) × (r ≡ None) × (z'.world ≡ z.world)
+system_goes z (Asked now tag q) (LetGo more r) before after z' = ⊥
+system_goes z (Drop now) (Replied tag r) before after z' = ⊥

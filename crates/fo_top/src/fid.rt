@@ -45,6 +45,20 @@ pub fn in_use(fids: &[Fid], number: u32) -> bool
     number == NOFID || fid_of(fids, number).is_some()
 }
 
+/// The least number of a fid.
+pub fn least(fids: &[Fid]) -> Option<u32>
+    ensures { result ≡ nine.least fids.now }
+{
+    let mut best = None;
+    for fid in fids {
+        best = match best {
+            None => Some(fid.number),
+            Some(number) => Some(fid.number.min(number)),
+        };
+    }
+    best
+}
+
 /// Takes the fid with a number out.
 pub fn remove_fid(fids: &mut Vec<Fid>, number: u32)
     ensures { fids.new.items ≡ nine.without number fids.old.items }

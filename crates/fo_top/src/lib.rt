@@ -1,16 +1,15 @@
-//! The top call: one connection over files, message by message.
+//! The top call: the commands of the program.
 #![tactic(auto)]
 
+mod command;
 mod fid;
-mod inbox;
-mod machine;
 mod replies;
-mod service;
 mod session;
 mod system;
 mod top;
 mod why;
 
+pub use command::Command;
 pub use top::{Done, run};
 pub use why::Why;
 

@@ -3,8 +3,8 @@ ghost use Rattle.std.specs.Prelude.{◌≡◌, ◌≤◌, ◌<◌, ◌==◌, fal
 ghost use Rattle.fo_base.specs.Text.{has_zero};
 ghost use Rattle.nine_wire.specs.Message.{ReplyFits};
 ghost use Rattle.nine_wire.specs.declared.message.Reply.TheVariants as reply;
-ghost use Rattle.fo_plain.specs.declared.error.FileError.TheVariants as failure;
-ghost use Rattle.fo_plain.specs.Texts.{error_text};
+ghost use Rattle.fo_world.specs.declared.error.FileError.TheVariants as failure;
+ghost use Rattle.fo_world.specs.Texts.{error_text};
 ghost use Rattle.fo_top.specs.Session as nine;
 ghost use Rattle.fo_top.specs.Session.{InfoFits};
 

@@ -1,8 +1,7 @@
 //! What a session replies.
-ghost use Rattle.std.specs.Prelude.{◌≡◌, ◌≤◌, [], IsTrue, MatchResult};
+ghost use Rattle.std.specs.Prelude.{◌≡◌, ◌<◌, ◌≤◌, [], IsTrue, MatchResult, length, true};
 
-use crate::fid::{Fid, NOFID, in_use, known, remove_fid};
-use crate::inbox::LARGEST;
+use crate::fid::{Fid, NOFID, in_use, known, least, remove_fid};
 use crate::replies::{
     answer_text, error, is_active, is_known, is_unbuilt, qid_of, record_of, reply_to,
 };
@@ -17,6 +16,9 @@ const MOST_FIDS: usize = 4096;
 
 /// The least message size that is agreed to.
 const LEAST: u32 = 256;
+
+/// The largest message size that is agreed to.
+const LARGEST: u32 = 65560;
 
 /// A session: the message size, where a version is agreed to, and its fids.
 #[derive(Drop)]
@@ -36,9 +38,9 @@ impl Model for Session {
 
 impl Session {
     ghost use Rattle.nine_wire.specs.Message.{ReplyFits};
-    ghost use Rattle.fo_plain.specs.World.{World};
-    ghost use Rattle.fo_plain.specs.declared.error.FileError.TheVariants as failure;
-    ghost use Rattle.fo_top.specs.Conversation.{agreed_size, largest};
+    ghost use Rattle.fo_world.specs.World.{World};
+    ghost use Rattle.fo_world.specs.declared.error.FileError.TheVariants as failure;
+    ghost use Rattle.fo_talk.specs.Conversation.{agreed_size, largest};
     ghost use Rattle.fo_top.specs.Fids.{no_fids};
     ghost use Rattle.fo_top.specs.Session as nine;
     ghost use Rattle.fo_top.specs.Session.{Serves, Attempts, MayRefuse, NamesFit};
@@ -77,6 +79,19 @@ impl Session {
             Request::Stat { fid } => reply_to(self.stat(files, fid)),
             _ => error("not built yet"),
         }
+    }
+
+    /// Lets the least fid go, and says whether there was one; with no fid the version is forgotten.
+    pub fn drop_one(&mut self) -> bool
+        ensures gone { (result, self.new) ≡ nine.dropped self.old (nine.least self.old.fids) }
+        ensures fewer { result ≡ true → length self.new.fids < length self.old.fids }
+    {
+        let Some(number) = least(self.fids.as_slice()) else {
+            self.msize = None;
+            return false;
+        };
+        remove_fid(&mut self.fids, number);
+        true
     }
 
     // All fids go, whatever the answer.

@@ -1,11 +1,11 @@
 //! A session over plain files, as a system that answers messages.
 ghost use Rattle.std.specs.Prelude.{◌≡◌, IfOk};
-ghost use Rattle.fo_plain.specs.World.{Faults};
+ghost use Rattle.fo_world.specs.World.{Faults};
 
-use crate::machine::Machine;
 use crate::session::Session;
 use fo_base::Memory;
 use fo_plain::PlainFiles;
+use fo_talk::Machine;
 use nine_wire::{Reply, Request};
 use std::alloc::Global;
 use std::marker::Model;
@@ -19,7 +19,7 @@ pub struct System {
 
 impl Model for System {
     ghost use Rattle.std.specs.Prelude.{true};
-    ghost use Rattle.fo_plain.specs.Names.{names_code};
+    ghost use Rattle.fo_world.specs.Names.{names_code};
     ghost use Rattle.fo_plain.specs.Kept.{kept};
     ghost use Rattle.std.specs.Coded.{codes};
     ghost use Rattle.fo_top.specs.Fids as fids;
@@ -51,13 +51,20 @@ impl System {
 }
 
 impl Machine for System {
+    ghost use Rattle.std.specs.Prelude.{length};
     ghost use Rattle.fo_top.specs.Session.{system_goes};
 
     ghost faults = { λ _. record { main = 0; arena = 0 } };
+
+    ghost fids = { λ s. length s.session.fids };
 
     ghost goes = { system_goes };
 
     fn answer(&mut self, _now: u32, _tag: u16, request: Request) -> Reply {
         self.session.answer(&mut self.files, request)
+    }
+
+    fn drop_one(&mut self, _now: u32) -> (bool, Option<Reply>) {
+        (self.session.drop_one(), None)
     }
 }

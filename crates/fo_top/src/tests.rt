@@ -1,7 +1,8 @@
-//! Whole runs over sources and sinks in memory.
+//! Whole runs over sources, sinks and devices in memory.
 ghost use Rattle.std.specs.Prelude.{◌<◌};
 
-use crate::{Why, run};
+use crate::{Done, Why, run};
+use fo_disk::MemDisk;
 use fo_links::{MemSink, MemSource, SetClock};
 use std::alloc::{AllocError, Global};
 use std::process::Abort;
@@ -60,6 +61,11 @@ fn words(alloc: Global, list: &[&str]) -> Result<Vec<String>, AllocError> {
     Ok(words)
 }
 
+// A device of zero blocks that never fails.
+fn disk(alloc: Global, blocks: u32) -> Result<MemDisk, Fail> {
+    Ok(MemDisk::new(alloc, blocks, Vec::new(alloc))?)
+}
+
 // Runs `9p` over these bytes, which come at most `step` at a time.
 fn says(
     rt: &impl Abort,
@@ -74,9 +80,19 @@ fn says(
     let words = words(alloc, &["9p", "main", "arena"])?;
     let input = MemSource::new(bytes(alloc, input)?, step, Vec::new(alloc));
     let out = MemSink::new(Vec::new(alloc));
-    let done = run(alloc, words.as_slice(), input, out, SetClock::new(7));
+    let (main, arena) = (disk(alloc, 64)?, disk(alloc, 16)?);
+    let done = run(
+        alloc,
+        words.as_slice(),
+        input,
+        out,
+        SetClock::new(7),
+        main,
+        arena,
+    );
     assert_eq!(rt; done.why, why);
     assert_eq!(rt; done.out.bytes(), bytes(alloc, output)?.as_slice());
+    assert_eq!(rt; (done.main.calls(), done.arena.calls()), (0, 0));
     Ok(())
 }
 
@@ -92,16 +108,85 @@ fn faulty(
     let words = words(alloc, &["9p", "main", "arena"])?;
     let input = MemSource::new(bytes(alloc, "V T S")?, 30, reads.to_vec(alloc)?);
     let out = MemSink::new(writes.to_vec(alloc)?);
-    let done = run(alloc, words.as_slice(), input, out, SetClock::new(7));
+    let (main, arena) = (disk(alloc, 64)?, disk(alloc, 16)?);
+    let done = run(
+        alloc,
+        words.as_slice(),
+        input,
+        out,
+        SetClock::new(7),
+        main,
+        arena,
+    );
     assert_eq!(rt; done.why, why);
     let all = bytes(alloc, "RV RT RS")?;
     assert_eq!(rt; Some(done.out.bytes()), all.get(..said));
     Ok(())
 }
 
+// Runs a tool over these devices: how it ended, what it printed, and the devices.
+fn tool(
+    rt: &impl Abort,
+    alloc: Global,
+    name: &str,
+    devices: (MemDisk, MemDisk),
+    why: Why,
+    line: &str,
+) -> Result<(MemDisk, MemDisk), Fail> {
+    let words = words(alloc, &[name, "main", "arena"])?;
+    let input = MemSource::new(bytes(alloc, "V")?, 9, Vec::new(alloc));
+    let (main, arena) = devices;
+    let out = MemSink::new(Vec::new(alloc));
+    let done = run(
+        alloc,
+        words.as_slice(),
+        input,
+        out,
+        SetClock::new(7),
+        main,
+        arena,
+    );
+    let Done {
+        why: ended,
+        out,
+        main,
+        arena,
+        ..
+    } = done;
+    assert_eq!(rt; ended, why);
+    assert_eq!(rt; out.bytes(), line.as_bytes());
+    Ok((main, arena))
+}
+
 #[test]
 fn ample(rt: HostRuntime) -> Result<(), Fail> {
-    says(&rt, rt.alloc(), "V T S", 1, "RV RT RS", Why::Ended)
+    let alloc = rt.alloc();
+    says(&rt, alloc, "V T S", 1, "RV RT RS", Why::Ended)?;
+    let formatted = "formatted 64 blocks 61 data\n";
+    let sound = "sound 64 blocks 1 used 0 leaked 0 snapshots\n";
+    let devices = (disk(alloc, 64)?, disk(alloc, 16)?);
+    let devices = tool(&rt, alloc, "flfmt", devices, Why::Ended, formatted)?;
+    tool(&rt, alloc, "flchk", devices, Why::Ended, sound)?;
+    Ok(())
+}
+
+#[test]
+fn tools(rt: HostRuntime) -> Result<(), Fail> {
+    let alloc = rt.alloc();
+    let fresh = (disk(alloc, 64)?, disk(alloc, 16)?);
+    tool(&rt, alloc, "flchk", fresh, Why::NotFossil, "")?;
+    let small = (disk(alloc, 63)?, disk(alloc, 16)?);
+    tool(&rt, alloc, "flfmt", small, Why::Size, "")?;
+    let failing = MemDisk::new(alloc, 64, vec![in alloc; 1u64]?)?;
+    tool(
+        &rt,
+        alloc,
+        "flfmt",
+        (failing, disk(alloc, 16)?),
+        Why::MainRead,
+        "",
+    )?;
+    Ok(())
 }
 
 #[test]
@@ -196,11 +281,22 @@ fn usage(rt: HostRuntime) -> Result<(), Fail> {
         ["9p", "", "arena"].as_slice(),
         ["9P", "main", "arena"].as_slice(),
         ["9p", "main", "arena", "more"].as_slice(),
+        ["flfmt", "main"].as_slice(),
+        ["flchk", "", "arena"].as_slice(),
     ] {
         let words = words(alloc, list)?;
         let input = MemSource::new(bytes(alloc, "V T S")?, 9, Vec::new(alloc));
         let out = MemSink::new(Vec::new(alloc));
-        let done = run(alloc, words.as_slice(), input, out, SetClock::new(7));
+        let (main, arena) = (disk(alloc, 64)?, disk(alloc, 16)?);
+        let done = run(
+            alloc,
+            words.as_slice(),
+            input,
+            out,
+            SetClock::new(7),
+            main,
+            arena,
+        );
         assert_eq!(rt; done.why, Why::Usage);
         assert_eq!(rt; done.status, 1);
         assert_eq!(rt; done.out.bytes(), b"".as_slice());
@@ -213,10 +309,23 @@ fn statuses_and_texts(rt: HostRuntime) -> Result<(), Fail> {
     for (why, status, text) in [
         (Why::Ended, 0, "ended"),
         (Why::Usage, 1, "usage: fossil command main arena [options]"),
+        (Why::NotFossil, 2, "not a fossil image"),
+        (
+            Why::Unsound { rule: 2, block: 3 },
+            3,
+            "unsound S2 at block 3",
+        ),
+        (Why::MainRead, 4, "read fault on main"),
+        (Why::MainWrite, 5, "write fault on main"),
+        (Why::ArenaRead, 6, "read fault on arena"),
+        (Why::ArenaWrite, 7, "write fault on arena"),
         (Why::Input, 8, "read fault on input"),
         (Why::Output, 9, "write fault on output"),
+        (Why::Size, 10, "size of a device out of range"),
         (Why::Memory, 11, "no memory"),
         (Why::BadInput(19), 13, "bad input at byte 19"),
+        (Why::NotArena, 14, "not an arena"),
+        (Why::NotBuilt, 16, "image not built yet"),
     ] {
         let said = format!(in rt.alloc(); "{why}")?;
         assert_eq!(rt; said.as_str(), text);

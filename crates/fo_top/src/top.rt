@@ -1,99 +1,138 @@
 //! The top call.
-ghost use Rattle.std.specs.Prelude.{◌≡◌, ◌≢◌, ◌≤◌, ◌↔◌, true, false, map, IfSome};
+ghost use Rattle.std.specs.Prelude.{◌≡◌, ◌≢◌, ◌≤◌, ◌↔◌, map, IfSome, Some, None};
 ghost use Rattle.std.specs.String.{string_bytes};
-ghost use Rattle.fo_base.specs.Cause.{Rose};
-ghost use Rattle.fo_top.specs.Conversation.{largest};
-ghost use Rattle.fo_top.specs.Ending.{Ends, status_of};
+ghost use Rattle.fo_talk.specs.Conversation.{largest};
+ghost use Rattle.fo_top.specs.Ending.{Runs, status_of};
 ghost use Rattle.fo_top.specs.Fids.{empty_system};
 ghost use Rattle.fo_top.specs.Session.{system_goes};
-ghost use Rattle.fo_top.specs.Words.{is_command};
+ghost use Rattle.fo_top.specs.Tools.{device, FormatRun, CheckRun, HasCauses};
+ghost use Rattle.fo_top.specs.Words.{command_of};
 
-use crate::service::serve;
+use crate::command::{Command, command_of};
 use crate::system::System;
 use crate::why::Why;
+use fo_disk::Disk;
 use fo_links::{Clock, Sink, Source};
+use fo_talk::serve;
+use fo_tools::{flchk, flfmt};
 use std::alloc::Global;
 
-/// What a run gives back: the status that the program ends with, how the run ended, and the source
-/// and the sink that it was handed.
+/// What a run gives back: the status that the program ends with, how the run ended, and the source, the sink and the devices
+/// that it was handed.
 #[derive(Drop)]
-pub struct Done<S, K> {
+pub struct Done<S, K, D, A> {
     pub status: u8,
     pub why: Why,
     pub input: S,
     pub out: K,
+    pub main: D,
+    pub arena: A,
 }
 
-/// Whether the words are those of a command.
-fn is_command(words: &[String]) -> bool
-    ensures { result ≡ is_command (map string_bytes words.now) }
-{
-    match words {
-        [command, main, arena] => {
-            command.as_bytes() == b"9p".as_slice() && !main.is_empty() && !arena.is_empty()
-        }
-        _ => false,
-    }
-}
-
-/// Answers the messages of one connection over an empty world of files, where the words are `9p` and
-/// two file names.
+/// Answers the messages of one connection over an empty world of files.
 fn answer_all<S: Source, K: Sink, C: Clock>(
     alloc: Global,
     input: &mut S,
     out: &mut K,
     clock: &C,
 ) -> Why
-    ensures talk { IfSome (S.left input.old) (λ bytes. Ends system_goes (C.told clock.now)
+    ensures talk { IfSome (S.left input.old) (λ bytes. Runs system_goes (C.told clock.now)
         (record { limit = largest; state = empty_system; faults = record { main = 0; arena = 0 } })
         bytes (S.left input.new) (K.held out.old) (K.held out.new) result) }
-    ensures input { result ≡ Why.Input → Rose (S.faults input.old) (S.faults input.new) }
-    ensures output { result ≡ Why.Output → Rose (K.faults out.old) (K.faults out.new) }
+    ensures causes { HasCauses (S.faults input.old) (S.faults input.new) (K.faults out.old) (K.faults out.new) 0 0 0 0 result }
     ensures served { result ≢ Why.Usage }
-    ensures input_later { S.faults input.old ≤ S.faults input.new }
-    ensures output_later { K.faults out.old ≤ K.faults out.new }
 {
     match System::new(alloc) {
-        Ok(mut system) => serve(alloc, input, out, clock, &mut system),
+        Ok(mut system) => Why::from(serve(alloc, input, out, clock, &mut system)),
         Err(_) => Why::Memory,
     }
 }
 
-/// Runs the program: `9p` and two file names answer one connection, messages in and replies out
-/// (section 5 of the Plan 9 manual), over an empty world of files.
-pub fn run<S: Source, K: Sink, C: Clock + Drop>(
+/// Formats both devices.
+fn format_all<D: Disk, A: Disk, K: Sink, C: Clock>(
+    alloc: Global,
+    main: &mut D,
+    arena: &mut A,
+    out: &mut K,
+    clock: &C,
+) -> Why
+    ensures formats { FormatRun (C.told clock.now) (D.size main.new)
+        (device (D.holds main.old) (D.moments main.old) (D.unsure main.old)) (device (D.holds main.new) (D.moments main.new) (D.unsure main.new))
+        (device (A.holds arena.old) (A.moments arena.old) (A.unsure arena.old)) (device (A.holds arena.new) (A.moments arena.new) (A.unsure arena.new))
+        (K.held out.old) (K.held out.new) result }
+    ensures causes { HasCauses 0 0 (K.faults out.old) (K.faults out.new) (D.faults main.old) (D.faults main.new) (A.faults arena.old) (A.faults arena.new) result }
+    ensures served { result ≢ Why.Usage }
+{
+    Why::from(flfmt(alloc, main, arena, out, clock.now()))
+}
+
+/// Checks both devices.
+fn check_all<D: Disk, A: Disk, K: Sink>(
+    alloc: Global,
+    main: &mut D,
+    arena: &mut A,
+    out: &mut K,
+) -> Why
+    ensures checks { CheckRun
+        (device (D.holds main.old) (D.moments main.old) (D.unsure main.old)) (device (D.holds main.new) (D.moments main.new) (D.unsure main.new))
+        (device (A.holds arena.old) (A.moments arena.old) (A.unsure arena.old)) (device (A.holds arena.new) (A.moments arena.new) (A.unsure arena.new))
+        (K.held out.old) (K.held out.new) result }
+    ensures causes { HasCauses 0 0 (K.faults out.old) (K.faults out.new) (D.faults main.old) (D.faults main.new) (A.faults arena.old) (A.faults arena.new) result }
+    ensures served { result ≢ Why.Usage }
+{
+    Why::from(flchk(alloc, main, arena, out))
+}
+
+/// Runs the program over two devices (fossil(4) of the Plan 9 manual). `9p` answers one connection, messages in and replies out
+/// (section 5 of the manual), over an empty world of files, and opens no device; `flfmt` formats both devices and `flchk` checks
+/// them, and each prints a line.
+pub fn run<S: Source, K: Sink, C: Clock + Drop, D: Disk, A: Disk>(
     alloc: Global,
     words: &[String],
     mut input: S,
     mut out: K,
     clock: C,
-) -> Done<S, K>
+    mut main: D,
+    mut arena: A,
+) -> Done<S, K, D, A>
     ensures status { result.status ≡ status_of result.why }
 
     // Other words read and write nothing.
-    ensures usage { (result.why ≡ Why.Usage) ↔ (is_command (map string_bytes words.now) ≡ false) }
-    ensures untouched { result.why ≡ Why.Usage → (result.input ≡ input) × (result.out ≡ out) }
+    ensures usage { (result.why ≡ Why.Usage) ↔ (command_of (map string_bytes words.now) ≡ None) }
+    ensures untouched { result.why ≡ Why.Usage → (result.input ≡ input) × (result.out ≡ out) × (result.main ≡ main) × (result.arena ≡ arena) }
 
-    // What was said to a source that tells its bytes, by how the run ended.
-    ensures talk { is_command (map string_bytes words.now) ≡ true → IfSome (S.left input) (λ bytes. Ends system_goes (C.told clock)
+    // `9p`: what was said to a source that tells its bytes, by how the run ended. No device is opened.
+    ensures talk { command_of (map string_bytes words.now) ≡ Some Command.Serve → IfSome (S.left input) (λ bytes. Runs system_goes (C.told clock)
         (record { limit = largest; state = empty_system; faults = record { main = 0; arena = 0 } })
         bytes (S.left result.input) (K.held out) (K.held result.out) result.why) }
+    ensures serves { command_of (map string_bytes words.now) ≡ Some Command.Serve → (result.main ≡ main) × (result.arena ≡ arena) }
+
+    // `flfmt` and `flchk`: what is printed and what the devices hold, by how the run ended. No input is read.
+    ensures formats { command_of (map string_bytes words.now) ≡ Some Command.Format → FormatRun (C.told clock) (D.size result.main)
+        (device (D.holds main) (D.moments main) (D.unsure main)) (device (D.holds result.main) (D.moments result.main) (D.unsure result.main))
+        (device (A.holds arena) (A.moments arena) (A.unsure arena)) (device (A.holds result.arena) (A.moments result.arena) (A.unsure result.arena))
+        (K.held out) (K.held result.out) result.why }
+    ensures checks { command_of (map string_bytes words.now) ≡ Some Command.Check → CheckRun
+        (device (D.holds main) (D.moments main) (D.unsure main)) (device (D.holds result.main) (D.moments result.main) (D.unsure result.main))
+        (device (A.holds arena) (A.moments arena) (A.unsure arena)) (device (A.holds result.arena) (A.moments result.arena) (A.unsure result.arena))
+        (K.held out) (K.held result.out) result.why }
+    ensures unread { command_of (map string_bytes words.now) ≢ Some Command.Serve → result.input ≡ input }
 
     // A fault is the end only where that count rose in this call.
-    ensures input { result.why ≡ Why.Input → Rose (S.faults input) (S.faults result.input) }
-    ensures output { result.why ≡ Why.Output → Rose (K.faults out) (K.faults result.out) }
-    ensures input_later { S.faults input ≤ S.faults result.input }
-    ensures output_later { K.faults out ≤ K.faults result.out }
+    ensures causes { HasCauses (S.faults input) (S.faults result.input) (K.faults out) (K.faults result.out) (D.faults main) (D.faults result.main) (A.faults arena) (A.faults result.arena) result.why }
 {
-    let why = if is_command(words) {
-        answer_all(alloc, &mut input, &mut out, &clock)
-    } else {
-        Why::Usage
+    let why = match command_of(words) {
+        None => Why::Usage,
+        Some(Command::Serve) => answer_all(alloc, &mut input, &mut out, &clock),
+        Some(Command::Format) => format_all(alloc, &mut main, &mut arena, &mut out, &clock),
+        Some(Command::Check) => check_all(alloc, &mut main, &mut arena, &mut out),
     };
     Done {
         status: why.status(),
         why,
         input,
         out,
+        main,
+        arena,
     }
 }

@@ -1,29 +1,95 @@
 //! How a run ends.
 ghost use Rattle.std.specs.Prelude.{◌≡◌};
 
+use fo_talk::LinkEnd;
+use fo_tools::ToolEnd;
 use thiserror::Error;
 
 /// How a run ended, with the text that standard error gets of it.
 #[derive(Clone, Copy, Debug, PartialEq, Eq, Error)]
 pub enum Why {
-    /// The input was read to its end.
+    /// The input was read to its end, or the tool did its work and printed its line.
     #[error("ended")]
     Ended,
     /// The words are not of the program's grammar.
     #[error("usage: fossil command main arena [options]")]
     Usage,
+    /// The main device has no header or no super block.
+    #[error("not a fossil image")]
+    NotFossil,
+    /// The lowest rule that is broken, and a block at which it is broken.
+    #[error("unsound S{rule} at block {block}")]
+    Unsound { rule: u8, block: u32 },
+    #[error("read fault on main")]
+    MainRead,
+    /// A write or a sync failed.
+    #[error("write fault on main")]
+    MainWrite,
+    #[error("read fault on arena")]
+    ArenaRead,
+    /// A write or a sync failed.
+    #[error("write fault on arena")]
+    ArenaWrite,
     /// The input failed.
     #[error("read fault on input")]
     Input,
     /// The output failed.
     #[error("write fault on output")]
     Output,
+    /// The main device has below 64 or above 2^20 blocks, or the arena below 16 or above 2^20.
+    #[error("size of a device out of range")]
+    Size,
     /// There is no memory.
     #[error("no memory")]
     Memory,
     /// Behind so many bytes of the input stands no message.
     #[error("bad input at byte {0}")]
     BadInput(u64),
+    /// Block 0 of the arena is not of its format.
+    #[error("not an arena")]
+    NotArena,
+    /// The image has a part that is not built yet.
+    #[error("image not built yet")]
+    NotBuilt,
+}
+
+impl From<LinkEnd> for Why {
+    ghost use Rattle.fo_top.specs.Ending.{why_of};
+
+    ghost from_gives = { λ end why. why ≡ why_of end };
+
+    fn from(end: LinkEnd) -> Why {
+        match end {
+            LinkEnd::End => Why::Ended,
+            LinkEnd::BadMessage(place) => Why::BadInput(place),
+            LinkEnd::ReadFault => Why::Input,
+            LinkEnd::WriteFault => Why::Output,
+            LinkEnd::Memory => Why::Memory,
+        }
+    }
+}
+
+impl From<ToolEnd> for Why {
+    ghost use Rattle.fo_top.specs.Ending.{tool_why};
+
+    ghost from_gives = { λ end why. why ≡ tool_why end };
+
+    fn from(end: ToolEnd) -> Why {
+        match end {
+            ToolEnd::Ended => Why::Ended,
+            ToolEnd::NotFossil => Why::NotFossil,
+            ToolEnd::Unsound { rule, block } => Why::Unsound { rule, block },
+            ToolEnd::MainRead => Why::MainRead,
+            ToolEnd::MainWrite => Why::MainWrite,
+            ToolEnd::ArenaRead => Why::ArenaRead,
+            ToolEnd::ArenaWrite => Why::ArenaWrite,
+            ToolEnd::Output => Why::Output,
+            ToolEnd::Size => Why::Size,
+            ToolEnd::Memory => Why::Memory,
+            ToolEnd::NotArena => Why::NotArena,
+            ToolEnd::NotBuilt => Why::NotBuilt,
+        }
+    }
 }
 
 impl Why {
@@ -36,10 +102,19 @@ impl Why {
         match self {
             Why::Ended => 0,
             Why::Usage => 1,
+            Why::NotFossil => 2,
+            Why::Unsound { .. } => 3,
+            Why::MainRead => 4,
+            Why::MainWrite => 5,
+            Why::ArenaRead => 6,
+            Why::ArenaWrite => 7,
             Why::Input => 8,
             Why::Output => 9,
+            Why::Size => 10,
             Why::Memory => 11,
             Why::BadInput(_) => 13,
+            Why::NotArena => 14,
+            Why::NotBuilt => 16,
         }
     }
 }

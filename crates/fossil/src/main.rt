@@ -1,8 +1,10 @@
 //! Fossil, an archival file server over 9P2000.
 #![tactic(auto)]
 
+use fo_disk::FileDisk;
 use fo_links::{ReadSource, SystemClock, WriteSink};
 use fo_top::{Done, Why, run};
+use std::alloc::{AllocError, Global};
 use std::env;
 use std::io::{self, ErrorKind};
 use std::process::ExitCode;
@@ -14,6 +16,14 @@ fn words(rt: &HostRuntime) -> io::Result<Vec<String>> {
     Ok(args.collect(rt.alloc())?)
 }
 
+/// The path of a device's file: this word, or none.
+fn path(alloc: Global, words: &[String], at: usize) -> Result<String, AllocError> {
+    match words.get(at) {
+        Some(path) => path.clone(),
+        None => Ok(String::new(alloc)),
+    }
+}
+
 /// How the run ended.
 fn answer(rt: &HostRuntime) -> Why {
     let words = match words(rt) {
@@ -23,12 +33,20 @@ fn answer(rt: &HostRuntime) -> Why {
     };
     let input = ReadSource::new(rt.stdin());
     let out = WriteSink::new(rt.stdout());
+    let (Ok(main), Ok(arena)) = (
+        path(rt.alloc(), words.as_slice(), 1),
+        path(rt.alloc(), words.as_slice(), 2),
+    ) else {
+        return Why::Memory;
+    };
     let Done { why, .. } = run(
         rt.alloc(),
         words.as_slice(),
         input,
         out,
         SystemClock::new(rt),
+        FileDisk::new(rt, main),
+        FileDisk::new(rt, arena),
     );
     why
 }

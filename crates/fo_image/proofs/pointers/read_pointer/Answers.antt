@@ -1,4 +1,4 @@
-use Rattle.std.proofs.Common.{◌∙◌, ◌≡◌, sym, subst, arith, take, drop}
+use Rattle.std.proofs.Common.{◌∙◌, ◌≡◌, sym, subst, arith}
 use Rattle.std.proofs.lemmas.List.{take_all}
 use Rattle.fo_image.specs.declared.types.Pointer.TheVariants as pointer
 use Rattle.fo_image.specs.Format.{IsScore}

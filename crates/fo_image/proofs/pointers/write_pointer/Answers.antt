@@ -1,4 +1,4 @@
-use Rattle.std.proofs.Common.{◌∙◌, ap}
+use Rattle.std.proofs.Common.{◌∙◌}
 use Rattle.fo_image.proofs.PointerLemmas.{spells_pointer}
 use Rattle.fo_image.proofs.pointers.write_pointer.Goals as goal
 

@@ -1,4 +1,4 @@
-use Rattle.std.proofs.Common.{◌≡◌, ◌∙◌, ◌++◌}
+use Rattle.std.proofs.Common.{◌∙◌, ◌++◌}
 use Rattle.std.proofs.lemmas.List.{take_rest}
 use Rattle.fo_image.specs.Field.{Text, spelled}
 use Rattle.fo_image.proofs.RecordLemmas.{record_at}

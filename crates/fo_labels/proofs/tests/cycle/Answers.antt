@@ -1,7 +1,7 @@
 use Rattle.std.proofs.Common.{ap, arith}
 use Rattle.fo_image.specs.declared.types.Label.{Label}
 use Rattle.fo_image.specs.declared.types.Kind.TheVariants.{Data}
-use Rattle.fo_labels.specs.Region.{live_label}
+use Rattle.fo_image.specs.Usable.{live_label}
 use Rattle.fo_labels.proofs.RegionLaws.{block-relabeled, label_of-relabeled}
 use Rattle.fo_labels.proofs.tests.cycle.Goals as goal
 

@@ -1,10 +1,19 @@
-use Rattle.fo_top.specs.Conversation.{Standing, largest}
-use Rattle.fo_top.specs.Fids.{System, empty_system}
-use Rattle.fo_top.specs.Session.{system_goes}
-use Rattle.fo_top.proofs.Going.{going_starts, ends_early}
+use Rattle.std.proofs.Common.{refl}
+use Rattle.fo_top.proofs.Causes.{link_causes, link_serves, no_causes}
+use Rattle.fo_top.proofs.Runs.{runs_of, never_began}
 use Rattle.fo_top.proofs.top.answer_all.Goals as goal
 
+pub returns-in-Ok-clause-talk : goal.returns-in-Ok-clause-talk
+returns-in-Ok-clause-talk g c = runs_of _ _ _ _ _ _ _ _ _ c.serve.result _ c.from.ensures (rw c.in-Ok.ensures at c.serve.ensures.talk)
+
+pub returns-in-Ok-clause-causes : goal.returns-in-Ok-clause-causes
+returns-in-Ok-clause-causes g c = link_causes _ _ _ _ c.serve.result _ c.from.ensures c.serve.ensures.input_later c.serve.ensures.output_later c.serve.ensures.input c.serve.ensures.output
+
+pub returns-in-Ok-clause-served : goal.returns-in-Ok-clause-served
+returns-in-Ok-clause-served g c = λ e. link_serves c.serve.result _ c.from.ensures e
+
 pub returns-in-Err-clause-talk : goal.returns-in-Err-clause-talk
-returns-in-Err-clause-talk g c =
-    let first : Standing System = record { limit = largest; state = empty_system; faults = record { main = 0; arena = 0 } } in
-    ends_early _ _ _ _ _ _ _ _ _ _ (going_starts system_goes (g.C.Clock.told c.args.clock.now) first (g.S.Source.left c.args.input.now) (g.K.Sink.held c.args.out.now))
+returns-in-Err-clause-talk g c = never_began _ _ _
+
+pub returns-in-Err-clause-causes : goal.returns-in-Err-clause-causes
+returns-in-Err-clause-causes g c = no_causes _ _ _ refl

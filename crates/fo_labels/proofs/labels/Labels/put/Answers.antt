@@ -1,6 +1,6 @@
 use Rattle.std.proofs.Common.{◌<◌, length, sym, arith}
 use Rattle.std.proofs.lemmas.List.{map-set}
-use Rattle.fo_labels.specs.Region.{is_usable}
+use Rattle.fo_image.specs.Usable.{is_usable}
 use Rattle.fo_labels.specs.Floor.{floor}
 use Rattle.fo_labels.proofs.Usable.{count-set}
 use Rattle.fo_labels.proofs.labels.Labels.put.Goals as goal

@@ -1,6 +1,6 @@
 use Rattle.std.proofs.Common.{true, None}
 use Rattle.fo_plain.specs.Kept.{kept}
-use Rattle.fo_plain.specs.World.{Faults}
+use Rattle.fo_world.specs.World.{Faults}
 use Rattle.fo_top.specs.Session.{MayRefuse}
 use Rattle.fo_top.proofs.Serving.{serves_world}
 use Rattle.fo_top.proofs.system.SystemMachine.answer.Goals as goal

@@ -1,0 +1,5 @@
+mod Judged
+mod Places
+mod Scans
+mod Stages
+mod Started

@@ -1,0 +1,125 @@
+-- What the check answers over the images of the two devices.
+use Rattle.std.specs.Prelude.{◌≡◌, ◌≢◌, ℕ, ◌*◌, ◌<◌, ◌≤◌, false, List, length, Result, MatchResult}
+use Rattle.fo_base.specs.Cause.{Rose}
+use Rattle.fo_disk.specs.Disk.{Block}
+use Rattle.fo_disk.specs.declared.disk.DiskFault.TheVariants.{Read}
+use Rattle.fo_image.specs.declared.types.Super.{Super}
+use Rattle.fo_image.specs.declared.types.Label.{Label}
+use Rattle.fo_image.specs.declared.record.RootBlock.{RootBlock}
+use Rattle.fo_image.specs.Format.{SpellsHeader, SpellsSuper}
+use Rattle.fo_image.specs.Record.{SpellsRoot}
+use Rattle.fo_image.specs.Place.{label_blocks, first_data, label_block}
+use Rattle.fo_sound.specs.Sizes.{HasSizes, IsArena}
+use Rattle.fo_check.specs.declared.error.CheckError.{CheckError}
+use Rattle.fo_check.specs.declared.error.CheckError.TheVariants.{Size, NotArena, NotBuilt, Unsound, Main, Arena, Memory}
+use Rattle.fo_check.specs.declared.report.Report.{Report}
+use Rattle.fo_sound.specs.Image.{block_of, is_zero, IsDataBlock, label_bytes, HasLabel, rest_bytes}
+use Rattle.fo_sound.specs.Sound.{IsFormatted, HasEpochs, root_label, HasActiveRoot, IsBuilt, ReachesLow, HasTable, HasDepths, HasRootEntries, IsSound, HasLabels, leaked_count}
+
+-- ---- before the rules
+
+-- What is asked before any rule but S1: sizes in range, S1, and an arena in which nothing is used.
+pub record IsOpen (image vault : List Block) (s : Super) : Type 0 where
+  pub sizes : HasSizes image vault
+  pub formatted : IsFormatted image s
+  pub arena : IsArena vault 0
+
+-- ---- the rules that are broken, and the block that is named
+
+-- S1: the block that is not of its format
+pub data BreaksFormat (image : List Block) (block : ℕ) : Type 0 where
+  header : block ≡ 0 → ¬ SpellsHeader (record { blocks = length image }) (block_of image 0) → BreaksFormat image block
+  super_block : block ≡ 1 → ((s : Super) → ¬ SpellsSuper s (block_of image 1)) → BreaksFormat image block
+
+-- S2: block 1 for what the super block itself says, else the active root
+pub data BreaksActive (image : List Block) (s : Super) (block : ℕ) : Type 0 where
+  epochs : block ≡ 1 → ¬ HasEpochs s → BreaksActive image s block
+  place : block ≡ 1 → ¬ IsDataBlock (length image) s.active → BreaksActive image s block
+  label : block ≡ s.active → IsDataBlock (length image) s.active → ¬ HasLabel image s.active (root_label s) → BreaksActive image s block
+  root : block ≡ s.active → IsDataBlock (length image) s.active → ((root : RootBlock) → SpellsRoot root (block_of image s.active) → root.epoch ≢ s.high) → BreaksActive image s block
+
+-- S3: the data block that the active root names as the root before it, else the active root
+pub data BreaksChain (image : List Block) (s : Super) (root : RootBlock) (block : ℕ) : Type 0 where
+  earlier : block ≡ root.prev → IsDataBlock (length image) root.prev → BreaksChain image s root block
+  holder : block ≡ s.active → ¬ IsDataBlock (length image) root.prev → BreaksChain image s root block
+
+-- S4: the data block whose label is not of the format, else the block of the label table with bytes that are not zero
+pub data BreaksTable (image : List Block) (block : ℕ) : Type 0 where
+  label : IsDataBlock (length image) block → ((l : Label) → ¬ HasLabel image block l) → BreaksTable image block
+  other : (address : ℕ) → address < 585 * label_blocks (length image) → ¬ IsDataBlock (length image) address → block ≡ label_block address → is_zero (label_bytes image address) ≡ false → BreaksTable image block
+  rest : 2 ≤ block → block < first_data (length image) → is_zero (rest_bytes (block_of image block)) ≡ false → BreaksTable image block
+
+-- the lowest of the rules from S3 on that is broken, and a block at which it is broken
+pub data BreaksLater (image : List Block) (s : Super) (root : RootBlock) (rule block : ℕ) : Type 0 where
+  chain : rule ≡ 3 → ¬ ReachesLow s → BreaksChain image s root block → BreaksLater image s root rule block
+  table : rule ≡ 4 → ReachesLow s → BreaksTable image block → BreaksLater image s root rule block
+  depths : rule ≡ 5 → ReachesLow s → HasTable image → ¬ HasDepths root → block ≡ s.active → BreaksLater image s root rule block
+  entries : rule ≡ 6 → ReachesLow s → HasTable image → HasDepths root → ¬ HasRootEntries root → block ≡ s.active → BreaksLater image s root rule block
+
+-- ---- the answer
+
+-- A sound image that is built, and what is said of it: one block is used, the active root, and there is no snapshot.
+pub record IsReport (image : List Block) (s : Super) (root : RootBlock) (report : Report) : Type 0 where
+  pub built : IsBuilt s root
+  pub sound : IsSound image s root
+  pub labels : List Label
+  pub labelled : HasLabels image labels
+  pub numbers : report ≡ record { blocks = length image; used = 1; leaked = leaked_count image s labels; snapshots = 0 }
+
+pub record Reports (image vault : List Block) (report : Report) : Type 0 where
+  pub s : Super
+  pub root : RootBlock
+  pub opened : IsOpen image vault s
+  pub is_report : IsReport image s root report
+
+-- no arena: S1 holds, and block 0 of the arena is not of its format
+pub record IsNoArena (image vault : List Block) : Type 0 where
+  pub sizes : HasSizes image vault
+  pub s : Super
+  pub formatted : IsFormatted image s
+  pub none : (used : ℕ) → ¬ IsArena vault used
+
+-- Not built yet: something is archived, or S1 and S2 hold and there are snapshots, files or archives.
+pub data IsNotBuilt (image vault : List Block) : Type 0 where
+  archived : (s : Super) (used : ℕ) → HasSizes image vault → IsFormatted image s → IsArena vault used → 0 < used → IsNotBuilt image vault
+  more : (s : Super) (root : RootBlock) → IsOpen image vault s → HasActiveRoot image s root → ¬ IsBuilt s root → IsNotBuilt image vault
+
+-- the lowest rule that is broken, and a block at which it is broken
+pub data IsUnsound (image vault : List Block) (rule block : ℕ) : Type 0 where
+  format : rule ≡ 1 → HasSizes image vault → BreaksFormat image block → IsUnsound image vault rule block
+  active : (s : Super) → rule ≡ 2 → IsOpen image vault s → BreaksActive image s block → IsUnsound image vault rule block
+  later : (s : Super) (root : RootBlock) → IsOpen image vault s → HasActiveRoot image s root → IsBuilt s root → BreaksLater image s root rule block → IsUnsound image vault rule block
+
+-- Why there is no report. Of faults it is said elsewhere that they come only where that device's count rose.
+abbrev pub Refuses : List Block → List Block → CheckError → Type 0
+Refuses image vault Size = ¬ HasSizes image vault
+Refuses image vault NotArena = IsNoArena image vault
+Refuses image vault NotBuilt = IsNotBuilt image vault
+Refuses image vault (Unsound rule block) = IsUnsound image vault rule block
+Refuses image vault (Main fault) = Unit {0}
+Refuses image vault (Arena fault) = Unit {0}
+Refuses image vault Memory = Unit {0}
+
+-- a fault or want of memory
+abbrev pub IsOutside : CheckError → Type 0
+IsOutside Size = ⊥
+IsOutside NotArena = ⊥
+IsOutside NotBuilt = ⊥
+IsOutside (Unsound rule block) = ⊥
+IsOutside (Main fault) = Unit {0}
+IsOutside (Arena fault) = Unit {0}
+IsOutside Memory = Unit {0}
+
+-- What a step of the check answers: a value that is right, or a refusal with its reason. A value that is right is found,
+-- but for a fault or want of memory.
+pub record Finds {V : Type 0} (Right : V → Type 0) (Reason : CheckError → Type 0) (result : Result V CheckError) : Type 0 where
+  pub found : MatchResult result Right Reason
+  pub only : (v : V) → Right v → MatchResult result (λ w. w ≡ v) IsOutside
+
+-- ---- faults
+
+-- A fault is one of a read, and is answered only where that device's count rose.
+abbrev pub Blames : ℕ → ℕ → ℕ → ℕ → CheckError → Type 0
+Blames main main_now arena arena_now (Main fault) = (fault ≡ Read) × Rose main main_now
+Blames main main_now arena arena_now (Arena fault) = (fault ≡ Read) × Rose arena arena_now
+Blames main main_now arena arena_now _ = Unit {0}

@@ -1,0 +1,90 @@
+//! Reads of the two devices.
+ghost use Rattle.std.specs.Prelude.{◌≡◌, ℕ, ◌*◌, ◌^◌, ◌<◌, ◌≤◌, List, length, OnOk, IfOk, IfErr};
+ghost use Rattle.fo_base.specs.Cause.{HasCause};
+ghost use Rattle.fo_disk.specs.Disk.{Block};
+ghost use Rattle.fo_disk.specs.declared.disk.DiskFault.TheVariants.{Read as ReadFault};
+ghost use Rattle.fo_image.specs.Place.{label_blocks};
+ghost use Rattle.fo_check.specs.declared.error.CheckError.TheVariants.{Main as MainFailed, Arena as ArenaFailed};
+ghost use Rattle.fo_sound.specs.Image.{block_of};
+ghost use Rattle.fo_sound.specs.Device.{Shows, IsKept};
+ghost use Rattle.fo_check.specs.Scan.{IsScanned};
+
+use crate::error::CheckError;
+use crate::table::Table;
+use fo_disk::{BLOCK, Disk, DiskFault, Failed};
+use fo_image::{Super, label_blocks};
+
+/// The number of blocks of a device.
+pub(crate) fn count<D: Disk>(device: &mut D) -> Result<u64, Failed>
+    ensures size { IfOk result (λ n. D.size device.new ≡ n) }
+    ensures shown { (image : List Block) → Shows (D.holds device.old) image → IfOk result (λ n. length image ≡ n) }
+    ensures kept { IsKept (D.holds device.old) (D.holds device.new) (D.moments device.old) (D.moments device.new) (D.unsure device.old) (D.unsure device.new) }
+    ensures cause { HasCause (D.faults device.old) (D.faults device.new) result }
+{
+    device.blocks()
+}
+
+/// The bytes of a block.
+fn read<D: Disk>(device: &mut D, at: u32, into: &mut [u8]) -> Result<(), Failed>
+    requires block { at < D.size device.old }
+    requires length { length into.old ≡ 8192 }
+    ensures shown { (image : List Block) → Shows (D.holds device.old) image → OnOk result (into.new ≡ block_of image at) }
+    ensures size { D.size device.new ≡ D.size device.old }
+    ensures kept { IsKept (D.holds device.old) (D.holds device.new) (D.moments device.old) (D.moments device.new) (D.unsure device.old) (D.unsure device.new) }
+    ensures cause { HasCause (D.faults device.old) (D.faults device.new) result }
+{
+    device.read(at, into)
+}
+
+/// The bytes of a block of the main device.
+pub(crate) fn read_main<D: Disk>(main: &mut D, at: u32, into: &mut [u8]) -> Result<(), CheckError>
+    requires block { at < D.size main.old }
+    requires length { length into.old ≡ 8192 }
+    ensures shown { (image : List Block) → Shows (D.holds main.old) image → OnOk result (into.new ≡ block_of image at) }
+    ensures size { D.size main.new ≡ D.size main.old }
+    ensures kept { IsKept (D.holds main.old) (D.holds main.new) (D.moments main.old) (D.moments main.new) (D.unsure main.old) (D.unsure main.new) }
+    ensures cause { HasCause (D.faults main.old) (D.faults main.new) result }
+    ensures fault { IfErr result (λ e. e ≡ MainFailed ReadFault) }
+{
+    match read(main, at, into) {
+        Ok(()) => Ok(()),
+        Err(_) => Err(CheckError::Main(DiskFault::Read)),
+    }
+}
+
+/// The bytes of a block of the arena.
+pub(crate) fn read_arena<A: Disk>(arena: &mut A, at: u32, into: &mut [u8]) -> Result<(), CheckError>
+    requires block { at < A.size arena.old }
+    requires length { length into.old ≡ 8192 }
+    ensures shown { (image : List Block) → Shows (A.holds arena.old) image → OnOk result (into.new ≡ block_of image at) }
+    ensures size { A.size arena.new ≡ A.size arena.old }
+    ensures kept { IsKept (A.holds arena.old) (A.holds arena.new) (A.moments arena.old) (A.moments arena.new) (A.unsure arena.old) (A.unsure arena.new) }
+    ensures cause { HasCause (A.faults arena.old) (A.faults arena.new) result }
+    ensures fault { IfErr result (λ e. e ≡ ArenaFailed ReadFault) }
+{
+    match read(arena, at, into) {
+        Ok(()) => Ok(()),
+        Err(_) => Err(CheckError::Arena(DiskFault::Read)),
+    }
+}
+
+/// The label table, of which each block is read once.
+pub(crate) fn read_table<D: Disk>(main: &mut D, blocks: u32, s: &Super) -> Result<Table, CheckError>
+    requires size { D.size main.old ≡ blocks }
+    requires least { 64 ≤ blocks }
+    requires most { blocks ≤ 2 ^ 20 }
+    ensures scanned { (image : List Block) → length image ≡ blocks → Shows (D.holds main.old) image
+        → IfOk result (IsScanned image s.now (label_blocks blocks) (585 * label_blocks blocks)) }
+    ensures size { D.size main.new ≡ D.size main.old }
+    ensures kept { IsKept (D.holds main.old) (D.holds main.new) (D.moments main.old) (D.moments main.new) (D.unsure main.old) (D.unsure main.new) }
+    ensures cause { HasCause (D.faults main.old) (D.faults main.new) result }
+    ensures fault { IfErr result (λ e. e ≡ MainFailed ReadFault) }
+{
+    let mut block = [0; BLOCK];
+    let mut table = Table::new();
+    for n in 0..label_blocks(blocks) {
+        read_main(main, 2 + n, &mut block)?;
+        table.add_block(s, blocks, n, &block);
+    }
+    Ok(table)
+}

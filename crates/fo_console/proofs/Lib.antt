@@ -1,0 +1,4 @@
+pub mod Cutting
+pub mod WordLemmas
+pub mod Commands
+pub mod ReplyLemmas

@@ -1,0 +1,4 @@
+mod LabelBlocks
+mod Latest
+mod Made
+mod Left

@@ -1,0 +1,5 @@
+pub mod Lists
+pub mod Memory
+pub mod Links
+pub mod Labels
+pub mod First

@@ -1,0 +1,4 @@
+pub mod Plain
+pub mod Sound
+pub mod Props
+pub mod PlainLaws

@@ -1,0 +1,5 @@
+pub mod Device
+pub mod Fresh
+pub mod Image
+pub mod Sizes
+pub mod Sound

@@ -1,0 +1,6 @@
+pub mod Buffer
+pub mod Talking
+pub mod Front
+pub mod Letting
+pub mod Entries
+pub mod Going

@@ -1,0 +1,47 @@
+-- What answering one message does.
+use Rattle.std.specs.Prelude.{◌≡◌, ℕ, ⊤, Option, List, take, Bool, true, false, Result, Ok, Err, MatchResult, if◌then◌else◌}
+use Rattle.nine_wire.specs.declared.message.Request.{Request}
+use Rattle.nine_wire.specs.declared.message.Request.TheVariants as request
+use Rattle.nine_wire.specs.declared.message.Reply.{Reply}
+use Rattle.nine_wire.specs.Message.{reply_message, spelling}
+use Rattle.fo_links.specs.Links.{GainsEnd}
+use Rattle.fo_world.specs.World.{Faults}
+use Rattle.fo_talk.specs.Conversation.{Goes, Standing, Entry, LetsGo, Makes, Chain, said, limit_after, agreed_size}
+use Rattle.fo_talk.specs.declared.service.Stop.{Stop}
+use Rattle.fo_talk.specs.declared.service.Stop.TheVariants as stop
+
+abbrev pub is_version : Request → Bool
+is_version (request.Version msize version) = true
+is_version _ = false
+
+-- the limit after one request
+abbrev pub next_limit : ℕ → Bool → Reply → ℕ
+next_limit limit asked r = if asked then agreed_size r else limit
+
+-- What is let go before a request leads from one state and its counts to another.
+pub record Clears {S : Type 0} (goes : Goes S) (clock : Option ℕ) (r : Request) (s : S) (faults : Faults) (s' : S) (faults' : Faults) : Type 0 where
+  pub entries : List Entry
+  pub gone : LetsGo clock r entries
+  pub chain : Chain goes s faults entries s' faults'
+
+-- A message's entries, with this reply, lead from one state and its counts to another.
+pub record Asks {S : Type 0} (goes : Goes S) (clock : Option ℕ) (s : S) (faults : Faults) (tag : ℕ) (r : Request) (reply : Reply) (s' : S) (faults' : Faults) : Type 0 where
+  pub entries : List Entry
+  pub makes : Makes clock tag r entries
+  pub chain : Chain goes s faults entries s' faults'
+  pub says : said entries ≡ spelling tag (reply_message reply)
+  pub limits : (limit : ℕ) → limit_after limit entries ≡ next_limit limit (is_version r) reply
+
+-- What was to be said was put, or a front of it where the sink failed.
+abbrev pub Put : Option (List ℕ) → Option (List ℕ) → List ℕ → Result ℕ Stop → Type 0
+Put held held' bytes (Ok limit) = GainsEnd bytes held held'
+Put held held' bytes (Err stop.Output) = (n : ℕ) × GainsEnd (take n bytes) held held'
+Put held held' bytes (Err stop.Memory) = held' ≡ held
+
+-- The message's entries, what was put of its replies, and the limit after them.
+pub record Answered {S : Type 0} (goes : Goes S) (clock : Option ℕ) (from : Standing S) (tag : ℕ) (r : Request) (s' : S) (faults' : Faults) (held held' : Option (List ℕ)) (result : Result ℕ Stop) : Type 0 where
+  pub entries : List Entry
+  pub makes : Makes clock tag r entries
+  pub chain : Chain goes from.state from.faults entries s' faults'
+  pub put : Put held held' (said entries) result
+  pub limit : MatchResult result (λ limit. limit ≡ limit_after from.limit entries) (λ _. ⊤)

@@ -1,0 +1,162 @@
+-- A conversation over a stream: which entries the messages of the input make, and what is said. It
+-- speaks of lists alone, and not of buffers and pieces.
+use Rattle.std.specs.Prelude.{◌≡◌, ℕ, List, [], ◌∷◌, ◌++◌, drop, IfSome, None, Bool, true, false, if◌then◌else◌, codes}
+use Rattle.std.specs.declared.option.Option.{Option}
+use Rattle.std.specs.List.{flat_map}
+use Rattle.std.specs.Str.{bytes_eq}
+use Rattle.nine_wire.specs.declared.message.Request.{Request}
+use Rattle.nine_wire.specs.declared.message.Request.TheVariants as request
+use Rattle.nine_wire.specs.declared.message.Reply.{Reply}
+use Rattle.nine_wire.specs.declared.message.Reply.TheVariants as reply
+use Rattle.nine_wire.specs.Message.{request_message, reply_message, spelling}
+use Rattle.nine_wire.specs.Stands.{Stands}
+use Rattle.fo_world.specs.World.{Faults}
+
+-- what happens to a system
+pub data Event : Type 0 where
+  -- at this moment, in seconds since 1970-01-01 UTC, a client asks this under this tag
+  Asked : (now : ℕ) → (tag : ℕ) → (request : Request) → Event
+  -- at this moment the least fid is let go, as by a Tclunk
+  Drop : (now : ℕ) → Event
+
+-- what becomes of an event
+pub data Outcome : Type 0 where
+  -- this is replied under this tag
+  Replied : (tag : ℕ) → (reply : Reply) → Outcome
+  -- whether there was a fid, and the Rerror by which the Tclunk would be refused
+  LetGo : (more : Bool) → (reply : Option Reply) → Outcome
+
+-- an event with what became of it, and how often each device had failed before it and after it
+pub record Entry : Type 0 where
+  pub event : Event
+  pub outcome : Outcome
+  pub before : Faults
+  pub after : Faults
+
+-- a unit of input, which is a message of so many bytes, with the entries that it makes
+pub record Exchange : Type 0 where
+  pub tag : ℕ
+  pub request : Request
+  pub used : ℕ
+  pub entries : List Entry
+
+-- ---- which entries are made
+
+-- a moment is the clock's where the clock is known to stand still
+abbrev pub IsNow : Option ℕ → ℕ → Type 0
+IsNow clock now = IfSome clock (λ seconds. now ≡ seconds)
+
+abbrev pub asked : ℕ → ℕ → Request → Reply → Faults → Faults → Entry
+asked now tag r reply before after = record { event = Asked now tag r; outcome = Replied tag reply; before = before; after = after }
+
+abbrev pub let_go : ℕ → Bool → Option Reply → Faults → Faults → Entry
+let_go now more reply before after = record { event = Drop now; outcome = LetGo more reply; before = before; after = after }
+
+-- Fids are let go, one after another, until there is none.
+pub data Drops (clock : Option ℕ) : List Entry → Type 0 where
+  last : (now : ℕ) → (before after : Faults) → IsNow clock now → Drops clock (let_go now false None before after ∷ [])
+  more : (now : ℕ) → (reply : Option Reply) → (before after : Faults) → (entries : List Entry) → IsNow clock now → Drops clock entries → Drops clock (let_go now true reply before after ∷ entries)
+
+-- all fids are let go before a Tversion, and none before another message
+abbrev pub LetsGo : Option ℕ → Request → List Entry → Type 0
+LetsGo clock (request.Version msize version) entries = Drops clock entries
+LetsGo clock _ entries = entries ≡ []
+
+-- Which entries a message makes: those before it, and its own.
+pub record Makes (clock : Option ℕ) (tag : ℕ) (r : Request) (made : List Entry) : Type 0 where
+  pub drops : List Entry
+  pub gone : LetsGo clock r drops
+  pub now : ℕ
+  pub told : IsNow clock now
+  pub reply : Reply
+  pub before : Faults
+  pub after : Faults
+  pub made_is : made ≡ drops ++ asked now tag r reply before after ∷ []
+
+-- ---- what is said
+
+-- that a fid is let go isn't told the client
+abbrev pub spelled : Outcome → List ℕ
+spelled (Replied tag r) = spelling tag (reply_message r)
+spelled (LetGo there r) = []
+
+-- the replies, one after another
+abbrev pub said : List Entry → List ℕ
+said entries = flat_map (λ (e : Entry). spelled e.outcome) entries
+
+abbrev pub output : List Exchange → List ℕ
+output exchanges = flat_map (λ (x : Exchange). said x.entries) exchanges
+
+-- ---- the most bytes that a message may have
+
+abbrev pub largest : ℕ
+largest = 65560
+
+-- the one version that is agreed to
+abbrev pub version_text : List ℕ
+version_text = codes "9P2000"
+
+-- what the reply to a Tversion leaves: the msize of a version that was agreed to
+abbrev pub agreed_size : Reply → ℕ
+agreed_size (reply.Version msize version) = if bytes_eq version version_text then msize else largest
+agreed_size _ = largest
+
+abbrev pub limit_with : ℕ → Event → Outcome → ℕ
+limit_with limit (Asked now tag (request.Version msize version)) (Replied tag' r) = agreed_size r
+limit_with limit _ _ = limit
+
+-- the limit after these entries: it changes where a Tversion is answered
+abbrev pub limit_after : ℕ → List Entry → ℕ
+limit_after limit [] = limit
+limit_after limit (e ∷ es) = limit_after (limit_with limit e.event e.outcome) es
+
+-- ---- what a system does
+
+-- Which outcome an event may have, with the devices' faults before and after it, and the state that
+-- it leads to. It is a relation: a reply may be what the system says, or one of the named refusals.
+abbrev pub Goes : Type 0 → Type 1
+Goes S = S → Event → Outcome → Faults → Faults → S → Type 0
+
+-- The entries follow one another, each from the state and the counts that the one before it left.
+unfoldable pub Chain : {S : Type 0} → Goes S → S → Faults → List Entry → S → Faults → Type 0
+Chain goes s faults [] s' faults' = (s' ≡ s) × (faults' ≡ faults)
+Chain {S} goes s faults (e ∷ es) s' faults' =
+    (e.before ≡ faults) × ((mid : S) × goes s e.event e.outcome e.before e.after mid × Chain goes mid e.after es s' faults')
+
+-- All fids are let go, which leads from one state and its counts to another.
+pub record LetsAllGo {S : Type 0} (goes : Goes S) (clock : Option ℕ) (s : S) (faults : Faults) (s' : S) (faults' : Faults) : Type 0 where
+  pub entries : List Entry
+  pub drops : Drops clock entries
+  pub chain : Chain goes s faults entries s' faults'
+
+-- where a conversation stands: the limit, the system's state, and how often its devices have failed
+pub record Standing (S : Type 0) : Type 0 where
+  pub limit : ℕ
+  pub state : S
+  pub faults : Faults
+
+-- A message stands at the front of the bytes, and its entries lead from one standing to another.
+pub record Answers {S : Type 0} (goes : Goes S) (clock : Option ℕ) (from : Standing S) (bytes : List ℕ) (x : Exchange) (to : Standing S) : Type 0 where
+  pub stands : Stands from.limit bytes x.tag (request_message x.request) x.used
+  pub makes : Makes clock x.tag x.request x.entries
+  pub chain : Chain goes from.state from.faults x.entries to.state to.faults
+  pub limit : to.limit ≡ limit_after from.limit x.entries
+
+-- The messages of the bytes are answered one after another, as far as these exchanges go, and `rest`
+-- are the bytes behind them.
+unfoldable pub Talks : {S : Type 0} → Goes S → Option ℕ → Standing S → List ℕ → List Exchange → List ℕ → Standing S → Type 0
+Talks goes clock from bytes [] rest to = (rest ≡ bytes) × (to ≡ from)
+Talks {S} goes clock from bytes (x ∷ xs) rest to =
+    (mid : Standing S) × Answers goes clock from bytes x mid × Talks goes clock mid (drop x.used bytes) xs rest to
+
+-- ---- bytes at which a conversation stops
+
+-- no message stands at the front, within the limit
+pub record NoMessage (limit : ℕ) (bytes : List ℕ) : Type 0 where
+  pub none : (tag : ℕ) (r : Request) (used : ℕ) → Stands limit bytes tag (request_message r) used → ⊥
+
+-- There are bytes, and no message stands at their front: the size there is below 7 or above the
+-- limit, or the body is no T-message, or the bytes end inside it.
+pub record IsBad (limit : ℕ) (bytes : List ℕ) : Type 0 where
+  pub some : bytes ≡ [] → ⊥
+  pub none : NoMessage limit bytes

@@ -1,0 +1,5 @@
+pub mod Conversation
+pub mod Ending
+pub mod Filling
+pub mod Answering
+pub mod Stopping

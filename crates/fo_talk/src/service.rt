@@ -1,0 +1,153 @@
+//! The loop that answers the messages of a stream.
+ghost use Rattle.std.specs.Prelude.{◌≡◌, ℕ, ◌<◌, ◌≤◌, ◌^◌, IfSome, IfOk, Err};
+ghost use Rattle.fo_base.specs.Cause.{Rose};
+ghost use Rattle.nine_wire.specs.Message.{RequestFits};
+ghost use Rattle.fo_talk.specs.declared.service.Stop.TheVariants as stops;
+ghost use Rattle.fo_talk.specs.declared.end.LinkEnd.TheVariants as ends;
+ghost use Rattle.fo_talk.specs.Conversation.{largest};
+ghost use Rattle.fo_talk.specs.Answering.{Answered, next_limit};
+ghost use Rattle.fo_talk.specs.Ending.{Ends};
+ghost use Rattle.fo_talk.specs.Stopping.{Stopped, end_at};
+
+use crate::end::LinkEnd;
+use crate::inbox::{Inbox, LARGEST};
+use crate::machine::Machine;
+use crate::turns::{ask, is_version, let_all_go};
+use fo_base::Memory;
+use fo_links::{Clock, Sink, Source};
+use nine_wire::{Reply, Request, Step, read_msg, write_msg};
+use std::alloc::Global;
+
+/// Why a message was not answered to the end.
+#[derive(Clone, Copy, Debug, PartialEq, Eq)]
+pub enum Stop {
+    Output,
+    Memory,
+}
+
+impl From<Memory> for Stop {
+    ghost from_gives = { λ _ e. e ≡ stops.Memory };
+
+    fn from(_: Memory) -> Stop {
+        Stop::Memory
+    }
+}
+
+/// The most bytes that a message may have after a reply.
+fn next_limit(limit: u32, asked: bool, reply: &Reply) -> u32
+    ensures { result ≡ next_limit limit asked reply.now }
+{
+    if !asked {
+        return limit;
+    }
+    match reply {
+        Reply::Version { msize, version } if version.as_slice() == b"9P2000".as_slice() => *msize,
+        _ => LARGEST,
+    }
+}
+
+/// Answers one message, and gives the limit after it.
+fn answer_one<K: Sink, C: Clock, M: Machine>(
+    tag: u16,
+    request: Request,
+    limit: u32,
+    clock: &C,
+    machine: &mut M,
+    bytes: &mut Vec<u8>,
+    out: &mut K,
+) -> Result<u32, Stop>
+    requires limit { limit ≤ largest }
+    requires fits { RequestFits request }
+    ensures answered { Answered M.goes (C.told clock.now) (record { limit = limit; state = machine.old; faults = M.faults machine.old })
+        tag request machine.new (M.faults machine.new) (K.held out.old) (K.held out.new) result }
+    ensures small { IfOk result (λ limit. limit ≤ largest) }
+    ensures later { K.faults out.old ≤ K.faults out.new }
+    ensures output { result ≡ Err Stop.Output → Rose (K.faults out.old) (K.faults out.new) }
+{
+    let asked = is_version(&request);
+    let reply = ask(tag, request, clock, machine);
+    bytes.clear();
+    write_msg(tag, &reply, bytes)?;
+    match out.put(bytes.as_slice()) {
+        Ok(()) => Ok(next_limit(limit, asked, &reply)),
+        Err(_) => Err(Stop::Output),
+    }
+}
+
+/// How a conversation ends whose input ended, where these bytes wait.
+fn end_of_input(waiting: &[u8], place: u64) -> LinkEnd
+    ensures { result ≡ end_at waiting.now place }
+{
+    if waiting.is_empty() {
+        LinkEnd::End
+    } else {
+        LinkEnd::BadMessage(place)
+    }
+}
+
+/// Answers the messages of the input, one after the other, until it ends.
+fn converse<S: Source, K: Sink, C: Clock, M: Machine>(
+    alloc: Global,
+    input: &mut S,
+    out: &mut K,
+    clock: &C,
+    machine: &mut M,
+) -> LinkEnd
+    ensures talk { IfSome (S.left input.old) (λ bytes. Stopped M.goes (C.told clock.now) (record { limit = largest; state = machine.old; faults = M.faults machine.old })
+        bytes (S.left input.new) (K.held out.old) (K.held out.new) machine.new (M.faults machine.new) result) }
+    ensures input { result ≡ LinkEnd.ReadFault → Rose (S.faults input.old) (S.faults input.new) }
+    ensures output { result ≡ LinkEnd.WriteFault → Rose (K.faults out.old) (K.faults out.new) }
+    ensures input_later { S.faults input.old ≤ S.faults input.new }
+    ensures output_later { K.faults out.old ≤ K.faults out.new }
+{
+    let Ok(mut inbox) = Inbox::new(alloc) else {
+        return LinkEnd::Memory;
+    };
+    let mut bytes = Vec::new(alloc);
+    let mut limit = LARGEST;
+    let mut place = 0;
+    'messages: loop {
+        match read_msg(alloc, inbox.waiting(), limit) {
+            Ok(Step::Msg(tag, request, used)) => {
+                match answer_one(tag, request, limit, clock, machine, &mut bytes, out) {
+                    Ok(next) => limit = next,
+                    Err(Stop::Output) => return LinkEnd::WriteFault,
+                    Err(Stop::Memory) => return LinkEnd::Memory,
+                }
+                inbox.consume(used);
+                place += used as u64;
+            }
+            Ok(Step::More) => match inbox.fill(input) {
+                Ok(0) => return end_of_input(inbox.waiting(), place),
+                Ok(_) => {}
+                Err(_) => return LinkEnd::ReadFault,
+            },
+            Ok(Step::Bad(_)) => return LinkEnd::BadMessage(place),
+            Err(_) => return LinkEnd::Memory,
+        }
+    }
+}
+
+/// Answers the messages of the input (section 5 of the Plan 9 manual), one after the other, until it
+/// ends, and then lets all fids go.
+pub fn serve<S: Source, K: Sink, C: Clock, M: Machine>(
+    alloc: Global,
+    input: &mut S,
+    out: &mut K,
+    clock: &C,
+    machine: &mut M,
+) -> LinkEnd
+    // What was said to a source that tells its bytes, by how it ended, and where the machine stands.
+    ensures talk { IfSome (S.left input.old) (λ bytes. Ends M.goes (C.told clock.now) (record { limit = largest; state = machine.old; faults = M.faults machine.old })
+        bytes (S.left input.new) (K.held out.old) (K.held out.new) machine.new (M.faults machine.new) result) }
+
+    // A fault is the end only where that count rose in this call.
+    ensures input { result ≡ LinkEnd.ReadFault → Rose (S.faults input.old) (S.faults input.new) }
+    ensures output { result ≡ LinkEnd.WriteFault → Rose (K.faults out.old) (K.faults out.new) }
+    ensures input_later { S.faults input.old ≤ S.faults input.new }
+    ensures output_later { K.faults out.old ≤ K.faults out.new }
+{
+    let end = converse(alloc, input, out, clock, machine);
+    let_all_go(clock, machine);
+    end
+}

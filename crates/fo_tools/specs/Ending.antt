@@ -1,0 +1,75 @@
+-- How a tool ends, what it has printed then, and what the devices hold.
+use Rattle.std.specs.Prelude.{◌≡◌, ◌≢◌, ◌⊎◌, ℕ, ◌≤◌, ◌^◌, List, Option}
+use Rattle.fo_base.specs.Cause.{Rose}
+use Rattle.fo_links.specs.Links.{GainsEnd}
+use Rattle.fo_disk.specs.Disk.{Block, Content}
+use Rattle.fo_sound.specs.Sizes.{HasSizes}
+use Rattle.fo_format.specs.Formatted.{Formats}
+use Rattle.fo_check.specs.Answer.{IsNoArena, IsNotBuilt, IsUnsound}
+use Rattle.fo_check.specs.declared.report.Report.{Report}
+use Rattle.fo_tools.specs.Lines.{format_line, report_line, PutsFront}
+use Rattle.fo_tools.specs.declared.end.ToolEnd.{ToolEnd}
+use Rattle.fo_tools.specs.declared.end.ToolEnd.TheVariants as end
+
+-- ---- causes
+
+-- Neither count of faults falls, and a fault is the end only where that count rose.
+pub record HasCauses (main main' arena arena' out out' : ℕ) (how : ToolEnd) : Type 0 where
+  pub main_later : main ≤ main'
+  pub arena_later : arena ≤ arena'
+  pub out_later : out ≤ out'
+  pub main_read : how ≡ end.MainRead → Rose main main'
+  pub main_write : how ≡ end.MainWrite → Rose main main'
+  pub arena_read : how ≡ end.ArenaRead → Rose arena arena'
+  pub arena_write : how ≡ end.ArenaWrite → Rose arena arena'
+  pub output : how ≡ end.Output → Rose out out'
+
+-- ---- flfmt
+
+-- The line was printed, or a front of it where the output failed; else nothing. `blocks` is the main device's number of blocks.
+abbrev pub PrintsFormat : ℕ → Option (List ℕ) → Option (List ℕ) → ToolEnd → Type 0
+PrintsFormat blocks held held' end.Ended = (64 ≤ blocks) × (blocks ≤ 2 ^ 20) × GainsEnd (format_line blocks) held held'
+PrintsFormat blocks held held' end.Output = PutsFront (format_line blocks) held held'
+PrintsFormat blocks held held' _ = held' ≡ held
+
+-- What quiet devices that tell what they hold have then. An image is not looked at before it is formatted.
+abbrev pub EndsFormat : ℕ → List Block → List Block → Content → Content → ToolEnd → Type 0
+EndsFormat time image vault main arena end.Ended = Formats time image vault main arena
+EndsFormat time image vault main arena end.Output = Formats time image vault main arena
+EndsFormat time image vault main arena end.Size = ¬ HasSizes image vault
+EndsFormat time image vault main arena end.MainRead = Unit {0}
+EndsFormat time image vault main arena end.MainWrite = HasSizes image vault
+EndsFormat time image vault main arena end.ArenaRead = Unit {0}
+EndsFormat time image vault main arena end.ArenaWrite = HasSizes image vault
+EndsFormat time image vault main arena end.Memory = HasSizes image vault
+EndsFormat time image vault main arena end.NotFossil = ⊥
+EndsFormat time image vault main arena (end.Unsound rule block) = ⊥
+EndsFormat time image vault main arena end.NotArena = ⊥
+EndsFormat time image vault main arena end.NotBuilt = ⊥
+
+-- nothing was written
+abbrev pub WritesNothing : ToolEnd → Type 0
+WritesNothing how = (how ≡ end.Size) ⊎ ((how ≡ end.MainRead) ⊎ ((how ≡ end.ArenaRead) ⊎ (how ≡ end.Memory)))
+
+-- ---- flchk
+
+-- The line of a report was printed, or a front of it where the output failed; else nothing.
+abbrev pub PrintsReport : (Report → Type 0) → Option (List ℕ) → Option (List ℕ) → ToolEnd → Type 0
+PrintsReport Right held held' end.Ended = (r : Report) × Right r × GainsEnd (report_line r) held held'
+PrintsReport Right held held' end.Output = (r : Report) × Right r × PutsFront (report_line r) held held'
+PrintsReport Right held held' _ = held' ≡ held
+
+-- Why there is no report. A main device without header or super block is no fossil image.
+abbrev pub EndsCheck : List Block → List Block → ToolEnd → Type 0
+EndsCheck image vault end.Size = ¬ HasSizes image vault
+EndsCheck image vault end.NotFossil = (block : ℕ) × IsUnsound image vault 1 block
+EndsCheck image vault end.NotArena = IsNoArena image vault
+EndsCheck image vault end.NotBuilt = IsNotBuilt image vault
+EndsCheck image vault (end.Unsound rule block) = IsUnsound image vault rule block × (rule ≢ 1)
+EndsCheck image vault end.MainWrite = ⊥
+EndsCheck image vault end.ArenaWrite = ⊥
+EndsCheck image vault _ = Unit {0}
+
+-- The report was found, but for a fault of a read, of the output, or want of memory.
+abbrev pub MayMiss : ToolEnd → Type 0
+MayMiss how = (how ≡ end.Ended) ⊎ ((how ≡ end.Output) ⊎ ((how ≡ end.MainRead) ⊎ ((how ≡ end.ArenaRead) ⊎ (how ≡ end.Memory))))

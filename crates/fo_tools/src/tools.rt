@@ -1,0 +1,84 @@
+//! The tools.
+ghost use Rattle.std.specs.Prelude.{List};
+ghost use Rattle.fo_disk.specs.Disk.{Block};
+ghost use Rattle.fo_sound.specs.Device.{Shows, IsKept};
+ghost use Rattle.fo_check.specs.Answer.{Reports};
+ghost use Rattle.fo_check.specs.declared.report.Report.{Report};
+ghost use Rattle.fo_tools.specs.Ending.{HasCauses, PrintsFormat, EndsFormat, WritesNothing, PrintsReport, EndsCheck, MayMiss};
+
+use crate::end::ToolEnd;
+use crate::line::{format_line, report_line};
+use fo_check::check;
+use fo_disk::Disk;
+use fo_format::format;
+use fo_links::Sink;
+use std::alloc::Global;
+
+/// Formats both devices, whatever they hold, and prints `formatted <blocks> blocks <data blocks> data`. `time` is the moment of
+/// the root directory, in seconds since 1970-01-01 UTC.
+pub fn flfmt<D: Disk, A: Disk, K: Sink>(
+    alloc: Global,
+    main: &mut D,
+    arena: &mut A,
+    out: &mut K,
+    time: u32,
+) -> ToolEnd
+    // What is printed, over any devices.
+    ensures prints { PrintsFormat (D.size main.new) (K.held out.old) (K.held out.new) result }
+
+    // What quiet devices that tell what they hold have then.
+    ensures ends { (image vault : List Block) → Shows (D.holds main.old) image → Shows (A.holds arena.old) vault
+        → EndsFormat time image vault (D.holds main.new) (A.holds arena.new) result }
+
+    // Where nothing was written, nothing changed.
+    ensures main { WritesNothing result → IsKept (D.holds main.old) (D.holds main.new) (D.moments main.old) (D.moments main.new) (D.unsure main.old) (D.unsure main.new) }
+    ensures arena { WritesNothing result → IsKept (A.holds arena.old) (A.holds arena.new) (A.moments arena.old) (A.moments arena.new) (A.unsure arena.old) (A.unsure arena.new) }
+
+    ensures causes { HasCauses (D.faults main.old) (D.faults main.new) (A.faults arena.old) (A.faults arena.new) (K.faults out.old) (K.faults out.new) result }
+{
+    let blocks = match main.blocks() {
+        Ok(blocks) => blocks,
+        Err(_) => return ToolEnd::MainRead,
+    };
+    if blocks < 64 || 1 << 20 < blocks {
+        return ToolEnd::Size;
+    }
+    if let Err(e) = format(alloc, main, arena, time) {
+        return ToolEnd::from(e);
+    }
+    match out.put(format_line(blocks as u32).as_str().as_bytes()) {
+        Ok(()) => ToolEnd::Ended,
+        Err(_) => ToolEnd::Output,
+    }
+}
+
+/// Checks both devices and prints `sound <blocks> blocks <used> used <leaked> leaked <n> snapshots`. It writes no device.
+pub fn flchk<D: Disk, A: Disk, K: Sink>(
+    alloc: Global,
+    main: &mut D,
+    arena: &mut A,
+    out: &mut K,
+) -> ToolEnd
+    // What is printed, over any devices, is the line of a report or nothing; over quiet devices that tell what they hold it is the
+    // line of their report.
+    ensures prints { PrintsReport (λ r. (image vault : List Block) → Shows (D.holds main.old) image → Shows (A.holds arena.old) vault → Reports image vault r)
+        (K.held out.old) (K.held out.new) result }
+
+    // Why nothing is printed, over such devices; and a sound image is reported.
+    ensures ends { (image vault : List Block) → Shows (D.holds main.old) image → Shows (A.holds arena.old) vault → EndsCheck image vault result }
+    ensures only { (image vault : List Block) (r : Report) → Shows (D.holds main.old) image → Shows (A.holds arena.old) vault → Reports image vault r → MayMiss result }
+
+    // Nothing is written.
+    ensures main { IsKept (D.holds main.old) (D.holds main.new) (D.moments main.old) (D.moments main.new) (D.unsure main.old) (D.unsure main.new) }
+    ensures arena { IsKept (A.holds arena.old) (A.holds arena.new) (A.moments arena.old) (A.moments arena.new) (A.unsure arena.old) (A.unsure arena.new) }
+
+    ensures causes { HasCauses (D.faults main.old) (D.faults main.new) (A.faults arena.old) (A.faults arena.new) (K.faults out.old) (K.faults out.new) result }
+{
+    match check(alloc, main, arena) {
+        Ok(report) => match out.put(report_line(&report).as_str().as_bytes()) {
+            Ok(()) => ToolEnd::Ended,
+            Err(_) => ToolEnd::Output,
+        },
+        Err(e) => ToolEnd::from(e),
+    }
+}

@@ -1,0 +1,19 @@
+use Rattle.fo_top.proofs.Causes.{tool_causes, tool_serves}
+use Rattle.fo_top.proofs.top.check_all.Goals as goal
+
+pub returns-clause-checks : goal.returns-clause-checks
+returns-clause-checks g c = record {
+  how = c.flchk.result;
+  end_is = c.from.ensures;
+  prints = c.flchk.ensures.prints;
+  ends = c.flchk.ensures.ends;
+  only = c.flchk.ensures.only;
+  main_kept = c.flchk.ensures.main;
+  arena_kept = c.flchk.ensures.arena;
+}
+
+pub returns-clause-causes : goal.returns-clause-causes
+returns-clause-causes g c = tool_causes _ _ _ _ _ _ c.flchk.result _ c.from.ensures c.flchk.ensures.causes
+
+pub returns-clause-served : goal.returns-clause-served
+returns-clause-served g c = λ e. tool_serves c.flchk.result _ c.from.ensures e

@@ -1,0 +1,20 @@
+use Rattle.fo_top.proofs.Causes.{tool_causes, tool_serves}
+use Rattle.fo_top.proofs.top.format_all.Goals as goal
+
+pub returns-clause-formats : goal.returns-clause-formats
+returns-clause-formats g c = record {
+  how = c.flfmt.result;
+  end_is = c.from.ensures;
+  time = c.now.result;
+  now = c.now.ensures;
+  prints = c.flfmt.ensures.prints;
+  ends = c.flfmt.ensures.ends;
+  main_kept = c.flfmt.ensures.main;
+  arena_kept = c.flfmt.ensures.arena;
+}
+
+pub returns-clause-causes : goal.returns-clause-causes
+returns-clause-causes g c = tool_causes _ _ _ _ _ _ c.flfmt.result _ c.from.ensures c.flfmt.ensures.causes
+
+pub returns-clause-served : goal.returns-clause-served
+returns-clause-served g c = λ e. tool_serves c.flfmt.result _ c.from.ensures e

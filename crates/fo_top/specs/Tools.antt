@@ -1,0 +1,60 @@
+-- What a run of a tool says, and what the devices tell then.
+use Rattle.std.specs.Prelude.{◌≡◌, ℕ, ◌≤◌, Bool, List, Option}
+use Rattle.fo_base.specs.Cause.{Rose}
+use Rattle.fo_disk.specs.Disk.{Block, Content}
+use Rattle.fo_sound.specs.Device.{Shows, IsKept}
+use Rattle.fo_check.specs.Answer.{Reports}
+use Rattle.fo_check.specs.declared.report.Report.{Report}
+use Rattle.fo_talk.specs.Conversation.{IsNow}
+use Rattle.fo_tools.specs.Ending.{PrintsFormat, EndsFormat, WritesNothing, PrintsReport, EndsCheck, MayMiss}
+use Rattle.fo_tools.specs.declared.end.ToolEnd.{ToolEnd}
+use Rattle.fo_top.specs.declared.why.Why.{Why}
+use Rattle.fo_top.specs.declared.why.Why.TheVariants as why
+use Rattle.fo_top.specs.Ending.{tool_why}
+
+-- what a device tells
+pub record Device : Type 0 where
+  pub holds : Content
+  pub moments : List Content
+  pub unsure : List Bool
+
+abbrev pub device : Content → List Content → List Bool → Device
+device holds moments unsure = record { holds = holds; moments = moments; unsure = unsure }
+
+-- no version of the device changed
+abbrev pub IsSame : Device → Device → Type 0
+IsSame d d' = IsKept d.holds d'.holds d.moments d'.moments d.unsure d'.unsure
+
+-- `flfmt`, at a moment that is the clock's where the clock is known to stand still; the main device has so many blocks
+pub record FormatRun (clock : Option ℕ) (blocks : ℕ) (main main' arena arena' : Device) (held held' : Option (List ℕ)) (end : Why) : Type 0 where
+  pub how : ToolEnd
+  pub end_is : end ≡ tool_why how
+  pub time : ℕ
+  pub now : IsNow clock time
+  pub prints : PrintsFormat blocks held held' how
+  pub ends : (image vault : List Block) → Shows main.holds image → Shows arena.holds vault → EndsFormat time image vault main'.holds arena'.holds how
+  pub main_kept : WritesNothing how → IsSame main main'
+  pub arena_kept : WritesNothing how → IsSame arena arena'
+
+-- `flchk`, which writes no device
+pub record CheckRun (main main' arena arena' : Device) (held held' : Option (List ℕ)) (end : Why) : Type 0 where
+  pub how : ToolEnd
+  pub end_is : end ≡ tool_why how
+  pub prints : PrintsReport (λ r. (image vault : List Block) → Shows main.holds image → Shows arena.holds vault → Reports image vault r) held held' how
+  pub ends : (image vault : List Block) → Shows main.holds image → Shows arena.holds vault → EndsCheck image vault how
+  pub only : (image vault : List Block) (r : Report) → Shows main.holds image → Shows arena.holds vault → Reports image vault r → MayMiss how
+  pub main_kept : IsSame main main'
+  pub arena_kept : IsSame arena arena'
+
+-- No count of faults falls, and a fault is the end only where that count rose in this call.
+pub record HasCauses (input input' out out' main main' arena arena' : ℕ) (end : Why) : Type 0 where
+  pub input_later : input ≤ input'
+  pub out_later : out ≤ out'
+  pub main_later : main ≤ main'
+  pub arena_later : arena ≤ arena'
+  pub input_rose : end ≡ why.Input → Rose input input'
+  pub output_rose : end ≡ why.Output → Rose out out'
+  pub main_read : end ≡ why.MainRead → Rose main main'
+  pub main_write : end ≡ why.MainWrite → Rose main main'
+  pub arena_read : end ≡ why.ArenaRead → Rose arena arena'
+  pub arena_write : end ≡ why.ArenaWrite → Rose arena arena'

@@ -1,0 +1,194 @@
+//! Tables of users read.
+ghost use Rattle.std.specs.Prelude.{◌≡◌, List, map, IfOk, MatchResult};
+ghost use Rattle.std.specs.List.{list_all};
+ghost use Rattle.fo_users.specs.Table.{is_name_byte, is_user_name, is_known, is_apart, is_line, SpellsLine, all_differ, names_known, is_table, Spells};
+ghost use Rattle.fo_users.specs.Parts.{parts_at, members_of, leader_of, user_of, SpellsLines};
+ghost use Rattle.fo_users.specs.declared.table.User.{User};
+ghost use Rattle.fo_users.specs.declared.error.UsersError.TheVariants.{Memory as NoMemory};
+
+use crate::error::UsersError;
+use crate::table::{Members, User, Users, is_apart, is_known};
+use fo_base::Memory;
+use fo_world::Name;
+use std::alloc::{AllocError, Global};
+
+/// The parts of the bytes round a separator.
+fn parts<'a>(alloc: Global, bytes: &'a [u8], separator: u8) -> Result<Vec<&'a [u8]>, AllocError>
+    ensures { IfOk result (λ v. map (λ x. x.now) v.items ≡ parts_at separator bytes.now) }
+{
+    bytes.split(move |b| *b == separator).collect(alloc)
+}
+
+/// The members that a field names.
+fn read_members(alloc: Global, field: &[u8]) -> Result<Members, Memory>
+    ensures { IfOk result (λ m. m ≡ members_of field.now) }
+{
+    let mut names = Vec::new(alloc);
+    if !field.is_empty() {
+        for name in parts(alloc, field, b',')?.iter() {
+            names.push(Name::copy_of(alloc, name)?)?;
+        }
+    }
+    Ok(Members::new(names))
+}
+
+/// The leader that a field names.
+fn read_leader(alloc: Global, field: &[u8]) -> Result<Option<Name>, Memory>
+    ensures { IfOk result (λ l. l ≡ leader_of field.now) }
+{
+    if field.is_empty() {
+        return Ok(None);
+    }
+    Ok(Some(Name::copy_of(alloc, field)?))
+}
+
+/// What a line of four fields says, whatever bytes are in them.
+fn read_fields(alloc: Global, line: &[u8]) -> Result<Option<User>, Memory>
+    ensures { IfOk result (λ u. u ≡ user_of (parts_at 58 line.now)) }
+{
+    let fields = parts(alloc, line, b':')?;
+    let [id, name, leader, members] = fields.as_slice() else {
+        return Ok(None);
+    };
+    let id = Name::copy_of(alloc, id)?;
+    let name = Name::copy_of(alloc, name)?;
+    let leader = read_leader(alloc, leader)?;
+    let members = read_members(alloc, members)?;
+    Ok(Some(User {
+        id,
+        name,
+        leader,
+        members,
+    }))
+}
+
+/// Whether the bytes are a user's name: 1 to 64 ASCII letters, digits, `_`, `-` and `.`.
+fn is_user_name(name: &[u8]) -> bool
+    ensures { result ≡ is_user_name name.now }
+{
+    !name.is_empty() && name.len() <= 64 && are_name_bytes(name)
+}
+
+fn are_name_bytes(bytes: &[u8]) -> bool
+    ensures { result ≡ list_all is_name_byte bytes.now }
+{
+    bytes.iter().all(|b| b.is_ascii_alphanumeric() || *b == b'_' || *b == b'-' || *b == b'.')
+}
+
+fn are_user_names(names: &[Name]) -> bool
+    ensures { result ≡ list_all is_user_name names.now }
+{
+    names.iter().all(|name| is_user_name(name.as_slice()))
+}
+
+/// Whether all names in the line are names.
+fn is_line(user: &User) -> bool
+    ensures { result ≡ is_line user.now }
+{
+    let leader = match &user.leader {
+        Some(leader) => is_user_name(leader.as_slice()),
+        None => true,
+    };
+    is_user_name(user.id.as_slice())
+        && is_user_name(user.name.as_slice())
+        && leader
+        && are_user_names(user.members.as_slice())
+}
+
+/// The user whose line the bytes are.
+fn read_line(alloc: Global, bytes: &[u8]) -> Result<User, UsersError>
+    ensures found { IfOk result (λ u. SpellsLine bytes.now u) }
+    ensures only { (u : User) → SpellsLine bytes.now u → MatchResult result (λ v. v ≡ u) (λ e. e ≡ NoMemory) }
+{
+    let Some(user) = read_fields(alloc, bytes)? else {
+        return Err(UsersError::BadUsers);
+    };
+    if !is_line(&user) {
+        return Err(UsersError::BadUsers);
+    }
+    Ok(user)
+}
+
+/// The users whose lines stand round the newlines.
+fn read_lines(alloc: Global, bytes: &[u8]) -> Result<Vec<User>, UsersError>
+    ensures found { IfOk result (λ v. SpellsLines (parts_at 10 bytes.now) v.items) }
+    ensures only { (us : List User) → SpellsLines (parts_at 10 bytes.now) us → MatchResult result (λ v. v.items ≡ us) (λ e. e ≡ NoMemory) }
+{
+    let texts = parts(alloc, bytes, b'\n')?;
+    let mut users = Vec::new(alloc);
+    for text in texts.iter() {
+        users.push(read_line(alloc, text)?)?;
+    }
+    Ok(users)
+}
+
+/// Whether the user is apart from all of these.
+fn is_apart_from(user: &User, others: &[User]) -> bool
+    ensures { result ≡ list_all (is_apart user.now) others.now }
+{
+    others.iter().all(|other| is_apart(user, other))
+}
+
+/// Whether ids differ, and names.
+fn all_differ(lines: &[User]) -> bool
+    ensures { result ≡ all_differ lines.now }
+{
+    for (i, line) in lines.iter().enumerate() {
+        if !is_apart_from(line, &lines[i + 1..]) {
+            return false;
+        }
+    }
+    true
+}
+
+/// Whether all names are those of users of the table.
+fn are_known(lines: &[User], names: &[Name]) -> bool
+    ensures { result ≡ list_all (is_known lines.now) names.now }
+{
+    names.iter().all(|name| is_known(lines, name.as_slice()))
+}
+
+/// Whether the line's leader and members are users of the table.
+fn names_known(lines: &[User], line: &User) -> bool
+    ensures { result ≡ names_known lines.now line.now }
+{
+    let leader = match &line.leader {
+        Some(leader) => is_known(lines, leader.as_slice()),
+        None => true,
+    };
+    leader && are_known(lines, line.members.as_slice())
+}
+
+/// Whether the leaders and members of all lines are users of the table.
+fn all_names_known(lines: &[User]) -> bool
+    ensures { result ≡ list_all (names_known lines.now) lines.now }
+{
+    lines.iter().all(|line| names_known(lines, line))
+}
+
+/// Whether the lines make up a table.
+fn is_table(lines: &[User]) -> bool
+    ensures { result ≡ is_table lines.now }
+{
+    all_differ(lines)
+        && all_names_known(lines)
+        && is_known(lines, b"adm")
+        && is_known(lines, b"none")
+}
+
+/// The table that the bytes spell.
+pub fn read_users(alloc: Global, bytes: &[u8]) -> Result<Users, UsersError>
+    // The bytes spell the table that is answered.
+    ensures found { IfOk result (λ u. Spells bytes.now u) }
+    // A table that they spell is answered, unless memory runs out.
+    ensures only { (t : List User) → Spells bytes.now t → MatchResult result (λ u. u ≡ t) (λ e. e ≡ NoMemory) }
+{
+    let Some(lines) = bytes.strip_suffix(b"\n") else {
+        return Err(UsersError::BadUsers);
+    };
+    let users = read_lines(alloc, lines)?;
+    if !is_table(users.as_slice()) {
+        return Err(UsersError::BadUsers);
+    }
+    Ok(Users::new(users))
+}

@@ -1,0 +1,5 @@
+pub mod Texts
+pub mod Steps
+pub mod Going
+pub mod Fits
+mod Changes

@@ -1,0 +1,8 @@
+use Rattle.std.proofs.Common.{sym}
+use Rattle.fo_world.proofs.Changes.{put_name-insert}
+use Rattle.fo_world.proofs.tree.Names.insert.Goals as goal
+
+pub returns-clause-after : goal.returns-clause-after
+returns-clause-after c =
+    rw (c.in_ok-insert.ensures.items, c.place_for-i.ensures.place, c.as_slice.ensures.value, c.as_slice-2.ensures, ← c.self.view_is)
+    (sym (put_name-insert c.args.name c.args.node c.self.inside.entries.items))

@@ -1,0 +1,47 @@
+-- What a call on files may answer: the file step's answer, or a failure that has its cause.
+use Rattle.std.specs.Prelude.{◌≡◌, ℕ, ◌<◌, ◌≤◌, ◌⊎◌, ⊤, Bool, IsTrue, Option, Some, Result, Ok, Err, MatchResult, is_ok}
+use Rattle.std.proofs.Common.{arith}
+use Rattle.fo_base.specs.Cause.{Rose}
+use Rattle.fo_world.specs.declared.error.FileError.{FileError}
+use Rattle.fo_world.specs.declared.error.FileError.TheVariants as error
+use Rattle.fo_world.specs.World.{World, Faults}
+
+-- neither count falls
+pub record NotFewer (before after : Faults) : Type 0 where
+  pub main : before.main ≤ after.main
+  pub arena : before.arena ≤ after.arena
+
+-- the implementer tells how many blocks are usable, and they are fewer than the need
+abbrev pub IsBelow : Option ℕ → ℕ → Type 0
+IsBelow room need = (n : ℕ) × (room ≡ Some n) × (n < need)
+
+-- Why a call may fail beside what the step says. Want of memory is free. The file system is full only where the step grants the call and the room after it is below the need. A fault of a device comes only where its count rose in the call, and a damaged block only over devices that are not honest.
+abbrev pub MayFail : Faults → Faults → Type 0 → Option ℕ → ℕ → Bool → FileError → Type 0
+MayFail before after honest room need granted error.Memory = ⊤
+MayFail before after honest room need granted error.Full = IsTrue granted × IsBelow room need
+MayFail before after honest room need granted error.MainRead = Rose before.main after.main
+MayFail before after honest room need granted error.MainWrite = Rose before.main after.main
+MayFail before after honest room need granted error.MainSync = Rose before.main after.main
+MayFail before after honest room need granted error.ArenaRead = Rose before.arena after.arena
+MayFail before after honest room need granted error.ArenaWrite = Rose before.arena after.arena
+MayFail before after honest room need granted error.ArenaSync = Rose before.arena after.arena
+MayFail before after honest room need granted (error.Damaged b) = ¬ honest
+MayFail before after honest room need granted error.TooBig = ⊥
+MayFail before after honest room need granted error.Exists = ⊥
+MayFail before after honest room need granted error.Absent = ⊥
+MayFail before after honest room need granted error.NotEmpty = ⊥
+MayFail before after honest room need granted error.TooDeep = ⊥
+MayFail before after honest room need granted error.NoNumbers = ⊥
+MayFail before after honest room need granted error.NotDir = ⊥
+MayFail before after honest room need granted error.IsDir = ⊥
+MayFail before after honest room need granted error.ReadOnly = ⊥
+MayFail before after honest room need granted error.Halted = ⊥
+MayFail before after honest room need granted error.Gone = ⊥
+MayFail before after honest room need granted error.DirFull = ⊥
+
+-- A call gives what the step says, with the world after it; a refusal is the step's, or it has its cause, and it leaves the world.
+abbrev pub Answers : {A : Type 0} → Result (A × World) FileError → (Bool → FileError → Type 0) → World → World → Result A FileError → Type 0
+Answers told fails old new r = MatchResult r (λ x. told ≡ Ok (x, new)) (λ e. ((told ≡ Err e) ⊎ fails (is_ok told) e) × (new ≡ old))
+
+pub not_fewer : (f : Faults) → NotFewer f f
+not_fewer f = record { main = omega arith; arena = omega arith }

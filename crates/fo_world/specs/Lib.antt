@@ -1,0 +1,14 @@
+pub mod Names
+pub mod Tree
+pub mod Places
+pub mod Falls
+pub mod Date
+pub mod Dated
+pub mod World
+pub mod Texts
+pub mod Step
+pub mod Limits
+pub mod Fits
+pub mod Answers
+pub mod Pairs
+pub mod Laws

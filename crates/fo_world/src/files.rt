@@ -1,0 +1,161 @@
+//! The calls on files.
+use crate::error::FileError;
+use crate::place::{Change, Info, Place};
+use fo_base::Bytes;
+
+/// Calls on a world of files, each by the file step. An implementer keeps the whole world, or one tree of it; it may borrow what it stands on.
+pub trait FileOps {
+    ghost use Rattle.std.specs.Prelude.{◌≡◌, ℕ, ◌≤◌, ◌⊎◌, Bool, IsTrue, Option, length, take, drop, is_ok, MatchResult, Ok, Err};
+    ghost use Rattle.std.specs.Option.{option_copied};
+    ghost use Rattle.fo_world.specs.World.{World, Faults};
+    ghost use Rattle.fo_world.specs.Step as step;
+    ghost use Rattle.fo_world.specs.Limits.{IsName, IsUser, IsBelowRoot, IsChange};
+    ghost use Rattle.fo_world.specs.Answers.{Answers, MayFail, NotFewer};
+    ghost use Rattle.fo_world.specs.declared.place.View.{View};
+
+    /// The world that it stands for.
+    ghost world: { Self → World };
+
+    /// How many calls of each device have failed so far.
+    ghost faults: { Self → Faults };
+
+    /// The number of usable blocks, where all is settled, nothing is dirty and no removal is queued.
+    ghost room: { Self → Option ℕ };
+
+    /// The devices tell what they hold, and it is a sound image.
+    ghost honest: { Self → Type 0 };
+
+    /// The largest size of a file in bytes.
+    ghost largest: { Self → ℕ };
+
+    /// Whether it answers for all views, dated directories among them.
+    ghost whole: { Self → Bool };
+
+    /// The views for which it answers.
+    ghost serves: { Self → View → Type 0 };
+
+    /// What every call keeps: what the implementer stands on, and neither count of faults falls.
+    ghost keeps: { Self → Self → Type 0 };
+
+    /// What is told of the file at a place.
+    fn info(&mut self, at: &Place) -> Result<Info, FileError>
+        requires { serves self.old at.now.view }
+        ensures answer { Answers (step.info (whole self.old) (world self.old) at.now)
+            (MayFail (faults self.old) (faults self.new) (honest self.old) (room self.new) 0)
+            (world self.old) (world self.new) result }
+        ensures keeps { keeps self.old self.new };
+
+    /// What is told of the file with this name in a directory.
+    fn find(&mut self, at: &Place, name: &[u8]) -> Result<Info, FileError>
+        requires { serves self.old at.now.view }
+        ensures answer { Answers (step.find (whole self.old) (world self.old) at.now name.now)
+            (MayFail (faults self.old) (faults self.new) (honest self.old) (room self.new) 0)
+            (world self.old) (world self.new) result }
+        ensures keeps { keeps self.old self.new };
+
+    /// What is told of the directory above a place: of the place itself for the roots that can be attached to.
+    fn parent(&mut self, at: &Place) -> Result<Info, FileError>
+        requires { serves self.old at.now.view }
+        ensures answer { Answers (step.parent (whole self.old) (world self.old) at.now)
+            (MayFail (faults self.old) (faults self.new) (honest self.old) (room self.new) 0)
+            (world self.old) (world self.new) result }
+        ensures keeps { keeps self.old self.new };
+
+    /// What is told of the file with the least name in a directory, above the one given; None where there is none.
+    fn next_name(&mut self, at: &Place, after: Option<&Bytes>) -> Result<Option<Info>, FileError>
+        requires { serves self.old at.now.view }
+        ensures answer { Answers (step.next_name (whole self.old) (world self.old) at.now (option_copied after.entry))
+            (MayFail (faults self.old) (faults self.new) (honest self.old) (room self.new) 0)
+            (world self.old) (world self.new) result }
+        ensures keeps { keeps self.old self.new };
+
+    /// Puts the bytes of a file from an offset on into the front of `into`, as many as exist and fit, and says how many. The rest of `into` stays.
+    fn read(&mut self, at: &Place, offset: u64, into: &mut [u8]) -> Result<usize, FileError>
+        requires { serves self.old at.now.view }
+        ensures answer { let told = step.read (whole self.old) (world self.old) at.now offset (length into.old) in
+            MatchResult result
+            (λ n. (told ≡ Ok (take n into.new, world self.new)) × (n ≤ length into.old) × (drop n into.new ≡ drop n into.old))
+            (λ e. ((told ≡ Err e) ⊎ MayFail (faults self.old) (faults self.new) (honest self.old) (room self.new) 0 (is_ok told) e)
+            × (world self.new ≡ world self.old) × (into.new ≡ into.old)) }
+        ensures keeps { keeps self.old self.new };
+
+    /// Writes the bytes at an offset of a file, by a user at a moment (seconds since 1970-01-01 UTC).
+    fn write(
+        &mut self,
+        at: &Place,
+        offset: u64,
+        bytes: &[u8],
+        who: &Bytes,
+        now: u32,
+    ) -> Result<(), FileError>
+        requires serves { serves self.old at.now.view }
+        requires who { IsUser who.now }
+        ensures answer { Answers (step.write (whole self.old) (largest self.old) (world self.old) at.now offset bytes.now who.now now)
+            (MayFail (faults self.old) (faults self.new) (honest self.old) (room self.new) (step.write_need at.now bytes.now))
+            (world self.old) (world self.new) result }
+        ensures keeps { keeps self.old self.new };
+
+    /// Makes a file in a directory, or a directory where the mode has DMDIR. The new file is of `uid` and `gid`; `who` is its muid and the directory's.
+    fn create(
+        &mut self,
+        at: &Place,
+        name: &Bytes,
+        mode: u32,
+        who: &Bytes,
+        uid: &Bytes,
+        gid: &Bytes,
+        now: u32,
+    ) -> Result<Info, FileError>
+        requires serves { serves self.old at.now.view }
+        requires name { IsName name.now }
+        requires who { IsUser who.now }
+        requires uid { IsUser uid.now }
+        requires gid { IsUser gid.now }
+        ensures answer { Answers (step.create (whole self.old) (world self.old) at.now name.now mode who.now uid.now gid.now now)
+            (MayFail (faults self.old) (faults self.new) (honest self.old) (room self.new) (step.create_need at.now))
+            (world self.old) (world self.new) result }
+        ensures keeps { keeps self.old self.new };
+
+    /// Takes a file or an empty directory out of its directory.
+    fn remove(&mut self, at: &Place, who: &Bytes, now: u32) -> Result<(), FileError>
+        requires serves { serves self.old at.now.view }
+        requires below { IsBelowRoot at.now }
+        requires who { IsUser who.now }
+        ensures answer { Answers (step.remove (whole self.old) (world self.old) at.now who.now now)
+            (MayFail (faults self.old) (faults self.new) (honest self.old) (room self.new) (step.give (step.depth_of at.now)))
+            (world self.old) (world self.new) result }
+        ensures keeps { keeps self.old self.new };
+
+    /// Changes all that is given of a file, or nothing.
+    fn change(&mut self, at: &Place, what: &Change, who: &Bytes, now: u32) -> Result<(), FileError>
+        requires serves { serves self.old at.now.view }
+        requires change { IsChange (whole self.old) (world self.old) at.now what.now }
+        requires who { IsUser who.now }
+        ensures answer { Answers (step.change (whole self.old) (largest self.old) (world self.old) at.now what.now who.now now)
+            (MayFail (faults self.old) (faults self.new) (honest self.old) (room self.new) (step.change_need (whole self.old) (world self.old) at.now what.now))
+            (world self.old) (world self.new) result }
+        ensures keeps { keeps self.old self.new };
+
+    /// Settles all that was changed.
+    fn sync(&mut self) -> Result<(), FileError>
+        ensures answer { Answers (step.sync (world self.old))
+            (MayFail (faults self.old) (faults self.new) (honest self.old) (room self.new) 0)
+            (world self.old) (world self.new) result }
+        ensures keeps { keeps self.old self.new };
+
+    ghost keeps_at_once: { (a : Self) → keeps a a };
+
+    ghost keeps_joins: { (a b c : Self) → keeps a b → keeps b c → keeps a c };
+
+    ghost keeps_faults: { (a b : Self) → keeps a b → NotFewer (faults a) (faults b) };
+
+    ghost keeps_honest: { (a b : Self) → keeps a b → honest a → honest b };
+
+    ghost keeps_largest: { (a b : Self) → keeps a b → largest b ≡ largest a };
+
+    ghost keeps_whole: { (a b : Self) → keeps a b → whole b ≡ whole a };
+
+    ghost keeps_serves: { (a b : Self) (v : View) → keeps a b → serves a v → serves b v };
+
+    ghost whole_serves: { (a : Self) (v : View) → IsTrue (whole a) → serves a v };
+}

@@ -1,0 +1,216 @@
+use crate::{
+    Add, Body, Change, Fields, FileError, Info, Name, Names, Node, Place, Plain, Rename, TakeOut,
+    Trail, View, Write, follow,
+};
+use std::alloc::Global;
+use std::test::Fail;
+
+// A node of `adm` without vers and times.
+fn node(alloc: Global, number: u32, body: Body) -> Result<Node, FileError> {
+    Ok(Node {
+        number,
+        vers: 0,
+        mode: 0o755,
+        atime: 0,
+        mtime: 0,
+        uid: Name::copy_of(alloc, b"adm")?,
+        gid: Name::copy_of(alloc, b"adm")?,
+        muid: Name::copy_of(alloc, b"adm")?,
+        body,
+    })
+}
+
+// Adds a file or a directory below a directory, as `bob` at moment 1.
+fn add(
+    alloc: Global,
+    root: &mut Node,
+    trail: &[u32],
+    name: &[u8],
+    new: Node,
+) -> Result<(), FileError> {
+    let add = Add {
+        name: Name::copy_of(alloc, name)?,
+        node: new,
+        who: Name::copy_of(alloc, b"bob")?,
+        now: 1,
+    };
+    root.change(trail, add)
+}
+
+// A root with a directory `d` (1), in which are the files `b` (2) and `a` (3).
+fn tree(alloc: Global) -> Result<Node, FileError> {
+    let mut root = node(alloc, 0, Body::Dir(Names::new(alloc)))?;
+    let folder = node(alloc, 1, Body::Dir(Names::new(alloc)))?;
+    add(alloc, &mut root, &[], b"d", folder)?;
+    let file = node(alloc, 2, Body::File(Plain::new(alloc)))?;
+    add(alloc, &mut root, &[1], b"b", file)?;
+    let file = node(alloc, 3, Body::File(Plain::new(alloc)))?;
+    add(alloc, &mut root, &[1], b"a", file)?;
+    Ok(root)
+}
+
+// The names of the directory at a trail, each with a space behind it.
+fn names(alloc: Global, root: &Node, trail: &[u32]) -> Result<Vec<u8>, FileError> {
+    let slash = Name::copy_of(alloc, b"/")?;
+    let Some((_, node)) = follow(&slash, root, trail) else {
+        return Err(FileError::Gone);
+    };
+    let names = node.body.as_dir()?;
+    let mut all = Vec::new(alloc);
+    let mut last: Option<&Name> = None;
+    for _ in 0..10 {
+        match names.next_above(last) {
+            None => return Ok(all),
+            Some((name, _)) => {
+                all.extend_from_slice(name.as_slice())?;
+                all.push(b' ')?;
+                last = Some(name);
+            }
+        }
+    }
+    Ok(all)
+}
+
+// What is told of the file at a trail.
+fn told(alloc: Global, root: &Node, trail: &[u32]) -> Result<Info, FileError> {
+    let slash = Name::copy_of(alloc, b"/")?;
+    let Some((name, node)) = follow(&slash, root, trail) else {
+        return Err(FileError::Gone);
+    };
+    let place = Place {
+        view: View::Active,
+        trail: Trail::new(Vec::from_slice(alloc, trail)?),
+    };
+    Ok(Info::of(alloc, place, name, node)?)
+}
+
+// Path, vers, mode, atime, mtime and length.
+fn numbers(info: &Info) -> [u64; 6] {
+    [
+        info.path,
+        u64::from(info.vers),
+        u64::from(info.mode),
+        u64::from(info.atime),
+        u64::from(info.mtime),
+        info.length,
+    ]
+}
+
+// Writes "xy" at offset 1 of a file, as `bob` at moment 2.
+fn write(alloc: Global, root: &mut Node, trail: &[u32]) -> Result<(), FileError> {
+    let write = Write {
+        offset: 1,
+        bytes: Name::copy_of(alloc, b"xy")?,
+        who: Name::copy_of(alloc, b"bob")?,
+        now: 2,
+    };
+    root.change(trail, write)
+}
+
+// All fields but the name: mode 0600, mtime 9, length 2, group `sys`, as `eve` at moment 3.
+fn fields(alloc: Global) -> Result<Fields, FileError> {
+    let what = Change {
+        mode: Some(0o600),
+        mtime: Some(9),
+        length: Some(2),
+        name: None,
+        gid: Some(Name::copy_of(alloc, b"sys")?),
+    };
+    Ok(Fields {
+        what: what.copy(alloc)?,
+        who: Name::copy_of(alloc, b"eve")?,
+        now: 3,
+    })
+}
+
+// Renames the file `b` of a directory to `A`, and changes its fields.
+fn rename(alloc: Global, root: &mut Node, trail: &[u32]) -> Result<(), FileError> {
+    let rename = Rename {
+        old: Name::copy_of(alloc, b"b")?,
+        name: Name::copy_of(alloc, b"A")?,
+        fields: fields(alloc)?,
+        who: Name::copy_of(alloc, b"eve")?,
+        now: 3,
+    };
+    root.change(trail, rename)
+}
+
+// Takes the file `a` out of a directory.
+fn take_out(alloc: Global, root: &mut Node, trail: &[u32]) -> Result<(), FileError> {
+    let take_out = TakeOut {
+        name: Name::copy_of(alloc, b"a")?,
+        who: Name::copy_of(alloc, b"bob")?,
+        now: 4,
+    };
+    root.change(trail, take_out)
+}
+
+// The trail of a place, by way of a file below it.
+fn back(alloc: Global, place: &Place) -> Result<Trail, FileError> {
+    let below = place.copy(alloc)?.below(alloc, 9)?;
+    Ok(below.trail.front(alloc)?.copy(alloc)?)
+}
+
+#[test]
+fn ample(rt: HostRuntime) -> Result<(), Fail> {
+    let alloc = rt.alloc();
+    let mut root = tree(alloc)?;
+    assert_eq!(rt; numbers(&told(alloc, &root, &[1])?), [1, 2, 0o755, 0, 1, 0]);
+    write(alloc, &mut root, &[1, 2])?;
+    let info = told(alloc, &root, &[1, 2])?;
+    assert_eq!(rt; numbers(&info), [2, 1, 0o755, 0, 2, 3]);
+    assert_eq!(rt; info.name.as_slice(), b"b".as_slice());
+    assert_eq!(rt; info.muid.as_slice(), b"bob".as_slice());
+    assert_eq!(rt; back(alloc, &info.place)?.as_slice(), [1, 2].as_slice());
+    Ok(())
+}
+
+#[test]
+fn changes(rt: HostRuntime) -> Result<(), Fail> {
+    let alloc = rt.alloc();
+    let mut root = tree(alloc)?;
+    write(alloc, &mut root, &[1, 2])?;
+    rename(alloc, &mut root, &[1])?;
+    let info = told(alloc, &root, &[1, 2])?;
+    assert_eq!(rt; numbers(&info), [2, 2, 0o600, 0, 9, 2]);
+    assert_eq!(rt; info.gid.as_slice(), b"sys".as_slice());
+    assert_eq!(rt; info.muid.as_slice(), b"eve".as_slice());
+    assert_eq!(rt; names(alloc, &root, &[1])?.as_slice(), b"A a ".as_slice());
+    take_out(alloc, &mut root, &[1])?;
+    assert!(rt; matches!(told(alloc, &root, &[1, 3]), Err(FileError::Gone)));
+    assert_eq!(rt; told(alloc, &root, &[1, 2])?.path, 2);
+    Ok(())
+}
+
+#[test]
+fn paths(rt: HostRuntime) {
+    assert_eq!(rt; View::Active.path(7), 7);
+    assert_eq!(rt; View::Snap(2).path(7), 0x2_0000_0007);
+    assert_eq!(rt; View::Archive(2).path(7), 0x8000_0002_0000_0007);
+    let snapshots = View::Dated {
+        archive: false,
+        year: 0,
+        monthday: 0,
+    };
+    assert_eq!(rt; snapshots.path(7), 7);
+    let archives = View::Dated {
+        archive: true,
+        year: 0,
+        monthday: 0,
+    };
+    assert_eq!(rt; archives.path(7), 0x8000_0000_0000_0007);
+}
+
+#[test]
+fn texts(rt: HostRuntime) {
+    let texts: [(FileError, &[u8]); 5] = [
+        (FileError::Gone, b"file is gone"),
+        (FileError::NoNumbers, b"no file numbers left"),
+        (FileError::Damaged(0), b"damaged block 0"),
+        (FileError::Damaged(4294967295), b"damaged block 4294967295"),
+        (FileError::Memory, b"no memory"),
+    ];
+    for (error, text) in &texts {
+        assert_eq!(rt; error.text().as_slice(), *text);
+    }
+}
