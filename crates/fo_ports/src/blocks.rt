@@ -379,6 +379,9 @@ pub trait Blocks {
 
     ghost shown: { (b : Self) (image : Image) → left b (moments b) image → may_leave b image };
 
+    /// A device that has an image tells what it holds.
+    ghost told: { (b : Self) (image : Image) → may_leave b image → tells b };
+
     /// The active tree is one that is kept; it hangs from slot 0 of block 1.
     ghost active: { (b : Self) → tops b 1 };
 
@@ -434,10 +437,11 @@ pub trait Blocks {
     /// A block of data that is no leaf of records may have any bytes.
     ghost data_is_free: { (b : Self) (p : Place) (bytes : List ℕ) → p.kind ≡ Data 0 → p.rank % 32 ≢ 16 → length bytes ≡ 8192 → is_formed b p bytes };
 
-    /// What every call keeps: the epoch, the root, what is kept and held, what the device tells, and the counts do not fall.
+    /// What every call keeps: the epoch, the root, what is kept and held, the formats, what the device tells, and the counts do not
+    /// fall.
     ghost keeps_at_once: { (a : Self) → keeps a a };
 
     ghost keeps_joins: { (a b c : Self) → keeps a b → keeps b c → keeps a c };
 
-    ghost keeps_all: { (a b : Self) → keeps a b → (high b ≡ high a) × (root b ≡ root a) × (tells b ↔ tells a) × ((t : ℕ) → tops b t ↔ tops a t) × ((at : ℕ) → is_block b at ↔ is_block a at) × ((s : Score) (k : ℕ) → held b s k ≡ held a s k) × (faults a ≤ faults b) × (arena_faults a ≤ arena_faults b) };
+    ghost keeps_all: { (a b : Self) → keeps a b → (high b ≡ high a) × (root b ≡ root a) × (tells b ↔ tells a) × ((t : ℕ) → tops b t ↔ tops a t) × ((at : ℕ) → is_block b at ↔ is_block a at) × ((s : Score) (k : ℕ) → held b s k ≡ held a s k) × (faults a ≤ faults b) × (arena_faults a ≤ arena_faults b) × ((p : Place) (bytes : List ℕ) → is_formed b p bytes ↔ is_formed a p bytes) × ((c : Content) → limit b c ≡ limit a c) };
 }

@@ -23,6 +23,11 @@ pub enum BlockError {
 }
 
 impl From<fo_base::Memory> for BlockError {
+    ghost use Rattle.std.specs.Prelude.{◌≡◌};
+    ghost use Rattle.fo_ports.specs.declared.error.BlockError.TheVariants.{Memory};
+
+    ghost from_gives = { λ _ e. e ≡ Memory };
+
     fn from(_: fo_base::Memory) -> BlockError {
         BlockError::Memory
     }

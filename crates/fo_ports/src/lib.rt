@@ -3,7 +3,9 @@
 
 mod blocks;
 mod error;
+mod sources;
 
 pub use blocks::Blocks;
 pub use error::BlockError;
 pub use fo_crash::{Place, Slot};
+pub use sources::Bytes;

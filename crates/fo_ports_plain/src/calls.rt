@@ -213,6 +213,8 @@ impl Blocks for PlainBlocks {
 
     ghost shown = { λ b image h. absurd h };
 
+    ghost told = { λ b image is. tt };
+
     ghost active = { λ b. refl };
 
     ghost root_named = { λ b t. plain_root b.blocks.items b.super_at };
@@ -257,5 +259,5 @@ impl Blocks for PlainBlocks {
 
     ghost keeps_joins = { λ a b c p q. plain_joins p q };
 
-    ghost keeps_all = { λ a b k. (refl, refl, (λ h. h, λ h. h), λ t. (λ h. h, λ h. h), plain_blocks k, plain_held k, le_refl 0, le_refl 0) };
+    ghost keeps_all = { λ a b k. (refl, refl, (λ h. h, λ h. h), λ t. (λ h. h, λ h. h), plain_blocks k, plain_held k, le_refl 0, le_refl 0, λ p bytes. (λ h. h, λ h. h), λ c. refl) };
 }

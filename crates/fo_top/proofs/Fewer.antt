@@ -1,18 +1,31 @@
--- The least fid is there, so there are fewer without it.
-use Rattle.std.proofs.Common.{◌≡◌, ℕ, ◌<◌, Bool, true, false, cond, eqb, List, [], ◌∷◌, length, Some, None, min, inl, inr, ◌⊎◌, arith}
+-- What a session lets go: the least fid is there, so there are fewer without it; and what it agrees to.
+use Rattle.std.proofs.Common.{◌≡◌, ℕ, ◌<◌, ◌≤◌, Bool, true, false, cond, eqb, List, [], ◌∷◌, length, Some, None, Ok, Err, inl, inr, ◌⊎◌, refl, sym, ap, arith}
 use Rattle.std.specs.declared.option.Option.{Option}
-use Rattle.std.specs.List.{fold}
-use Rattle.std.proofs.lemmas.Bool.{eq-eqb, cases_lt}
-use Rattle.fo_top.specs.declared.fid.Fid.{Fid}
-use Rattle.fo_top.specs.Session.{lesser, least, without}
+use Rattle.std.specs.Prelude.{Result, nat_lt}
+use Rattle.std.specs.Str.{bytes_eq}
+use Rattle.std.proofs.lemmas.Bool.{eq-eqb}
+use Rattle.fo_world.specs.World.{World}
+use Rattle.nine_wire.specs.declared.message.Reply.{Reply}
+use Rattle.nine_wire.specs.declared.message.Reply.TheVariants as reply
+use Rattle.nine_fids.specs.declared.fid.Fid.{Fid}
+use Rattle.nine_fids.specs.declared.refusal.Refusal.{Refusal}
+use Rattle.nine_fids.specs.Refusing.{and_then}
+use Rattle.nine_fids.specs.Fids.{State, lesser, least, without, clunked, in_world}
+use Rattle.nine_fids.specs.Told.{Files}
+use Rattle.nine_session.specs.Removing.{clunk_fid, closed}
+use Rattle.nine_session.specs.Session.{Fails, Drops, IsDropped, AgreesWithin}
+use Rattle.nine_session.specs.Session as session
+use Rattle.fo_talk.specs.Conversation.{agreed_size, largest, version_text}
 
-min_is : (m n : ℕ) → (min m n ≡ m) ⊎ (min m n ≡ n)
-min_is m n = elim (cases_lt m n) [ inl lt ↦ inl (omega (arith, lt)) | inr le ↦ inr (omega (arith, le)) ]
+-- ---- the least fid
 
--- the lesser of two is one of them
-lesser_is : (best : Option ℕ) (f : Fid) (k : ℕ) → lesser best f ≡ Some k → (best ≡ Some k) ⊎ (f.number ≡ k)
-lesser_is None f k e = inr (cc)
-lesser_is (Some b) f k e = elim (min_is f.number b) [ inl m ↦ inr (cc) | inr m ↦ inl (cc) ]
+chosen : (b : Bool) (f g k : Fid) → cond b (Some g) (Some f) ≡ Some k → (k ≡ f) ⊎ (Some g ≡ Some k)
+chosen true f g k e = inr e
+chosen false f g k e = inl (cc)
+
+lesser_is : (f : Fid) (o : Option Fid) (k : Fid) → lesser f o ≡ Some k → (k ≡ f) ⊎ (o ≡ Some k)
+lesser_is f None k e = inl (cc)
+lesser_is f (Some g) k e = chosen (nat_lt g.number f.number) f g k e
 
 without_first : (k : ℕ) (f : Fid) (fs : List Fid) → f.number ≡ k → length (without k (f ∷ fs)) < length (f ∷ fs)
 without_first k f fs e = rw (eq-eqb f.number k e) (omega arith)
@@ -21,13 +34,68 @@ without_later : (b : Bool) (k : ℕ) (f : Fid) (fs : List Fid) → length (witho
 without_later true k f fs lt = omega arith
 without_later false k f fs lt = omega (arith, lt)
 
-shorter_from : (best : Option ℕ) (fids : List Fid) (k : ℕ) → fold lesser best fids ≡ Some k → (best ≡ Some k) ⊎ (length (without k fids) < length fids)
-shorter_from best [] k e = inl e
-shorter_from best (f ∷ fs) k e =
-    elim (shorter_from (lesser best f) fs k e) [
-      | inl here ↦ elim (lesser_is best f k here) [ inl first ↦ inl first | inr own ↦ inr (without_first k f fs own) ]
-      | inr later ↦ inr (without_later (eqb f.number k) k f fs later)
-    ]
+shorter : (fids : List Fid) (k : Fid) → least fids ≡ Some k → length (without k.number fids) < length fids
+shorter [] k e = absurd cc
+shorter (f ∷ fs) k e = elim (lesser_is f (least fs) k e) [
+  | inl here ↦ without_first k.number f fs (ap (λ (x : Fid). x.number) (sym here))
+  | inr there ↦ without_later (eqb f.number k.number) k.number f fs (shorter fs k there)
+]
 
-pub shorter : (fids : List Fid) (k : ℕ) → least fids ≡ Some k → length (without k fids) < length fids
-shorter fids k e = elim (shorter_from None fids k e) [ inl none ↦ absurd (cc) | inr less ↦ less ]
+-- ---- a fid that is let go
+
+-- the fids that a reply leaves
+abbrev fids_in : Result (Reply × State) Refusal → List Fid
+fids_in (Ok p) = p.1.session.fids
+fids_in (Err x) = []
+
+left_without : (z z' : State) (f : Fid) (r : Reply) (c : Result World Refusal) → and_then {B = Reply × State} c (λ w. Ok (reply.Clunk, clunked (in_world z w) f)) ≡ Ok (r, z') → z'.session.fids ≡ without f.number z.session.fids
+left_without z z' f r (Ok w) e = sym (ap fids_in e)
+left_without z z' f r (Err x) e = absurd cc
+
+clunked_without : (e : Files) (z z' : State) (now : ℕ) (f : Fid) (r : Reply) → clunk_fid e z now f ≡ Ok (r, z') → z'.session.fids ≡ without f.number z.session.fids
+unfolding clunk_fid
+clunked_without e z z' now f r told = left_without z z' f r (closed e z.world f now) told
+
+dropped_without : (e : Files) (fails : Fails) (z z' : State) (now : ℕ) (f : Fid) (more : Bool) (r : Option Reply) → Drops e fails z now (Some f) more r z' → z'.session.fids ≡ without f.number z.session.fids
+dropped_without e fails z z' now f more r d = elim d.1 [
+  | session.granted clunk told none ↦ clunked_without e z z' now f clunk told
+  | session.refused why told said left ↦ ap (λ (x : State). x.session.fids) left
+  | session.failed x cause said left ↦ ap (λ (x : State). x.session.fids) left
+]
+
+dropped_fewer : (e : Files) (fails : Fails) (z z' : State) (now : ℕ) (best : Option Fid) (more : Bool) (r : Option Reply) → least z.session.fids ≡ best → Drops e fails z now best more r z' → more ≡ true → length z'.session.fids < length z.session.fids
+dropped_fewer e fails z z' now None more r is d m = absurd cc
+dropped_fewer e fails z z' now (Some f) more r is d m = rw (dropped_without e fails z z' now f more r d) (shorter z.session.fids f is)
+
+pub fewer : (e : Files) (fails : Fails) (z z' : State) (now : ℕ) (more : Bool) (r : Option Reply) → Drops e fails z now (least z.session.fids) more r z' → more ≡ true → length z'.session.fids < length z.session.fids
+fewer e fails z z' now more r d m = dropped_fewer e fails z z' now (least z.session.fids) more r refl d m
+
+none_at : (e : Files) (fails : Fails) (z z' : State) (now : ℕ) (best : Option Fid) (more : Bool) (r : Option Reply) → Drops e fails z now best more r z' → more ≡ false → r ≡ None
+none_at e fails z z' now None more r d m = d.1
+none_at e fails z z' now (Some f) more r d m = absurd cc
+
+-- with no fid nothing is refused
+pub none_left : (e : Files) (fails : Fails) (z z' : State) (now : ℕ) (more : Bool) (r : Option Reply) → Drops e fails z now (least z.session.fids) more r z' → more ≡ false → r ≡ None
+none_left e fails z z' now more r d m = none_at e fails z z' now (least z.session.fids) more r d m
+
+-- ---- the message size
+
+agreed_version : (b : Bool) (msize : ℕ) → msize ≤ largest → cond b msize largest ≤ largest
+agreed_version true msize le = le
+agreed_version false msize le = omega arith
+
+pub agreed_within : (r : Reply) → AgreesWithin r → agreed_size r ≤ largest
+agreed_within (reply.Version msize version) le = agreed_version (bytes_eq version version_text) msize le
+agreed_within (reply.Auth q) le = omega arith
+agreed_within (reply.Attach q) le = omega arith
+agreed_within (reply.Error e) le = omega arith
+agreed_within reply.Flush le = omega arith
+agreed_within (reply.Walk qs) le = omega arith
+agreed_within (reply.Open q n) le = omega arith
+agreed_within (reply.Create q n) le = omega arith
+agreed_within (reply.Read b) le = omega arith
+agreed_within (reply.Write n) le = omega arith
+agreed_within reply.Clunk le = omega arith
+agreed_within reply.Remove le = omega arith
+agreed_within (reply.Stat b) le = omega arith
+agreed_within reply.Wstat le = omega arith

@@ -1,7 +1,3 @@
 pub mod Causes
-pub mod Errors
-pub mod Serving
-pub mod Worlds
-pub mod Records
 pub mod Fewer
 pub mod Runs

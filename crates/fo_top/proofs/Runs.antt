@@ -9,8 +9,8 @@ use Rattle.fo_talk.specs.declared.end.LinkEnd.{LinkEnd}
 use Rattle.fo_talk.specs.declared.end.LinkEnd.TheVariants as ends
 use Rattle.fo_talk.proofs.Going.{going_starts, ends_early, ends_of}
 use Rattle.fo_top.specs.Ending.{why_of, Runs}
-use Rattle.fo_top.specs.Fids.{System, empty_system}
-use Rattle.fo_top.specs.Session.{system_goes}
+use Rattle.nine_fids.specs.Fids.{State}
+use Rattle.fo_top.specs.System.{empty_system, system_goes}
 use Rattle.fo_top.specs.declared.why.Why.{Why}
 use Rattle.fo_top.specs.declared.why.Why.TheVariants as why
 
@@ -45,7 +45,7 @@ no_usage ends.Memory e = cc
 abbrev no_faults : Faults
 no_faults = record { main = 0; arena = 0 }
 
-abbrev started : Standing System
+abbrev started : Standing State
 started = record { limit = largest; state = empty_system; faults = no_faults }
 
 some_moment : (clock : Option ℕ) → (now : ℕ) × IsNow clock now

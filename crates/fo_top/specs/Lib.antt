@@ -1,5 +1,4 @@
 pub mod Ending
-pub mod Fids
-pub mod Session
+pub mod System
 pub mod Tools
 pub mod Words

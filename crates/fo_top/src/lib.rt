@@ -2,9 +2,6 @@
 #![tactic(auto)]
 
 mod command;
-mod fid;
-mod replies;
-mod session;
 mod system;
 mod top;
 mod why;

@@ -8,13 +8,19 @@ use std::alloc::{AllocError, Global};
 use std::process::Abort;
 use std::test::Fail;
 
-// A Tversion of 65560 bytes and 9P2000, a Tattach of glenda with fid 0, a Tstat of it, and what is
-// replied to each.
+// A Tversion of 65560 bytes and 9P2000, a Tattach of glenda with fid 0, a Tstat of it, a Tcreate of `f` in it for reading and writing
+// and with ORCLOSE, a Twalk from it to `f`, and what is replied to each but the last.
 const V: &str = "1300000064ffff180001000600395032303030";
 
 const T: &str = "1900000068010000000000ffffffff0600676c656e64610000";
 
 const S: &str = "0b0000007c020000000000";
+
+const C: &str = "13000000720200000000000100668001000042";
+
+const W: &str = "140000006e030000000000010000000100010066";
+
+const RC: &str = "180000007302000000000000010000000000000000000100";
 
 const RV: &str = "1300000065ffff180001000600395032303030";
 
@@ -31,20 +37,27 @@ fn digit(c: u8) -> u8 {
     }
 }
 
-// The bytes of these words, each the name of one above or in hexadecimal.
+// What a word stands for in hexadecimal: the name of one above, or itself.
+fn hex_of(word: &str) -> &str {
+    match word {
+        "V" => V,
+        "T" => T,
+        "S" => S,
+        "C" => C,
+        "W" => W,
+        "RC" => RC,
+        "RV" => RV,
+        "RT" => RT,
+        "RS" => RS,
+        _ => word,
+    }
+}
+
+// The bytes of these words.
 fn bytes(alloc: Global, text: &str) -> Result<Vec<u8>, AllocError> {
     let mut bytes = Vec::new(alloc);
     for word in text.split_whitespace() {
-        let hex = match word {
-            "V" => V,
-            "T" => T,
-            "S" => S,
-            "RV" => RV,
-            "RT" => RT,
-            "RS" => RS,
-            _ => word,
-        };
-        for pair in hex.as_bytes().chunks(2) {
+        for pair in hex_of(word).as_bytes().chunks(2) {
             if let [high, low] = pair {
                 bytes.push(digit(*high).wrapping_mul(16).wrapping_add(digit(*low)))?;
             }
@@ -234,10 +247,22 @@ fn rows(rt: HostRuntime) -> Result<(), Fail> {
             "RV RT 1f0000006b010016006e6f2061757468656e7469636174696f6e2068657265 130000006b01000a0066696420696e20757365 150000006b01000c00756e6b6e6f776e2074726565 RT",
             Why::Ended,
         ),
-        // not built yet: Tflush, and a tree
+        // Tflush, and Tauth
         (
-            "090000006c01000000 2500000068010000000000000000000600676c656e64610c006d61696e2f61726368697665",
-            "160000006b01000d006e6f74206275696c7420796574 160000006b01000d006e6f74206275696c7420796574",
+            "V 090000006c01000000 1500000066010005000000 0600676c656e6461 0000",
+            "RV 070000006d0100 1f0000006b010016006e6f2061757468656e7469636174696f6e2068657265",
+            Why::Ended,
+        ),
+        // a file that is made, written and read
+        (
+            "V T C 1900000076040000000000 0000000000000000 02000000 6869 1700000074050000000000 0000000000000000 0a000000",
+            "RV RT RC 0b000000770400 02000000 0d000000750500020000006869",
+            Why::Ended,
+        ),
+        // a file that was opened with ORCLOSE goes with a Tversion; the root has changed twice
+        (
+            "V T C V T W",
+            "RV RT RC RV 1400000069010080020000000000000000000000 1c0000006b0300130066696c6520646f6573206e6f74206578697374",
             Why::Ended,
         ),
         // input that ends inside a message

@@ -3,8 +3,7 @@ ghost use Rattle.std.specs.Prelude.{◌≡◌, ◌≢◌, ◌≤◌, ◌↔◌, 
 ghost use Rattle.std.specs.String.{string_bytes};
 ghost use Rattle.fo_talk.specs.Conversation.{largest};
 ghost use Rattle.fo_top.specs.Ending.{Runs, status_of};
-ghost use Rattle.fo_top.specs.Fids.{empty_system};
-ghost use Rattle.fo_top.specs.Session.{system_goes};
+ghost use Rattle.fo_top.specs.System.{empty_system, system_goes};
 ghost use Rattle.fo_top.specs.Tools.{device, FormatRun, CheckRun, HasCauses};
 ghost use Rattle.fo_top.specs.Words.{command_of};
 

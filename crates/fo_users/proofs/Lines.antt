@@ -102,7 +102,7 @@ line_spelled bytes u e = sym (join_with_byte-slice_split 58 bytes) ∙ fields_sp
 line_lacks : (u : User) → is_line u ≡ true → lacks 10 (line_text u) ≡ true
 line_lacks u h = joined_lacks 10 58 (fields_of u) refl (fields_lack 10 refl refl u (named u h))
 
-lines_lack : (us : List User) → list_all is_line us ≡ true → list_all (lacks 10) (map line_text us) ≡ true
+pub lines_lack : (us : List User) → list_all is_line us ≡ true → list_all (lacks 10) (map line_text us) ≡ true
 lines_lack [] h = refl
 lines_lack (u ∷ us) h = and_from _ _ (line_lacks u (and_parts _ _ h).0) (lines_lack us (and_parts _ _ h).1)
 

@@ -1,3 +1,4 @@
 pub mod Table
 pub mod Rights
 pub mod Parts
+pub mod Found

@@ -2,6 +2,7 @@
 #![tactic(auto)]
 
 mod error;
+mod laws;
 mod read;
 mod right;
 mod standard;
@@ -9,6 +10,7 @@ mod table;
 
 pub use error::UsersError;
 pub use fo_world::{Info, Name};
+pub use laws::tables_are_found;
 pub use read::read_users;
 pub use right::Right;
 pub use table::Users;

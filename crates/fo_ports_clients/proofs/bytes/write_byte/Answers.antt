@@ -6,7 +6,7 @@ use Rattle.fo_crash.specs.Images.{target, to_block, Reaches}
 use Rattle.fo_crash.proofs.Reach.{reaches_on}
 use Rattle.fo_crash.proofs.Keeps.{keeps_joins, keeps_fewer}
 use Rattle.fo_ports.specs.Blocks.{put_at}
-use Rattle.fo_ports.proofs.Bytes.{length_put_at}
+use Rattle.fo_ports.proofs.Lengths.{length_put_at}
 use Rattle.fo_ports_clients.proofs.Own.{other_leaf, apart_by}
 use Rattle.fo_ports_clients.proofs.Tree.{Tree, standing, root_reached}
 use Rattle.fo_ports_clients.proofs.bytes.write_byte.Goals as goal

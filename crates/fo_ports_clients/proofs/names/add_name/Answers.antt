@@ -8,7 +8,7 @@ use Rattle.fo_crash.specs.declared.place.Place.{Place}
 use Rattle.fo_crash.specs.Names.{IsInUse}
 use Rattle.fo_crash.proofs.Names.{free_entry_put, leaf_put}
 use Rattle.fo_ports.specs.Blocks.{MayPut, put_at}
-use Rattle.fo_ports.proofs.Bytes.{length_put_at}
+use Rattle.fo_ports.proofs.Lengths.{length_put_at}
 use Rattle.fo_ports_clients.specs.Leaf.{Lists}
 use Rattle.fo_ports_clients.proofs.Leaf.{put_lists, bytes_beside, still_all, nil_reaches, free_is_empty, no_drop, room_stays, never_drops, few_slots, still_uncovered, place_is}
 use Rattle.fo_ports_clients.proofs.names.add_name.Goals as goal

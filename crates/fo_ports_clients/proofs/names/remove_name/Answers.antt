@@ -2,7 +2,7 @@ use Rattle.std.proofs.Common.{◌≡◌, inl, ⊎_elim, ◌+◌, ◌<◌, ℕ, L
 use Rattle.fo_image.specs.declared.types.Kind.{Kind}
 use Rattle.fo_crash.proofs.Names.{leaf_put, entry_cleared}
 use Rattle.fo_ports.specs.Blocks.{MayPut, put_at}
-use Rattle.fo_ports.proofs.Bytes.{length_put_at}
+use Rattle.fo_ports.proofs.Lengths.{length_put_at}
 use Rattle.fo_ports_clients.specs.Leaf.{Lists}
 use Rattle.fo_ports_clients.proofs.Leaf.{put_lists, gone, bytes_beside, few_slots}
 use Rattle.fo_ports_clients.proofs.names.remove_name.Goals as goal

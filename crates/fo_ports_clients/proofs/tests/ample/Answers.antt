@@ -5,7 +5,7 @@ use Rattle.fo_image.specs.declared.types.Label.{Label}
 use Rattle.fo_crash.specs.declared.place.Place.{Place}
 use Rattle.fo_crash.specs.Places.{place}
 use Rattle.fo_ports.specs.Blocks.{slot_count}
-use Rattle.fo_ports.proofs.Bytes.{length_zero_bytes, length_put_at}
+use Rattle.fo_ports.proofs.Lengths.{length_zero_bytes, length_put_at}
 use Rattle.fo_ports_plain.specs.Plain.{Stands, block_at}
 use Rattle.fo_ports_clients.proofs.Leaf.{zeros_list_nothing}
 use Rattle.fo_ports_clients.proofs.tests.ample.Goals as goal

@@ -2,7 +2,7 @@ use Rattle.std.proofs.Common.{◌≡◌, length, sym, ◌∙◌, ap, arith}
 use Rattle.fo_image.specs.declared.types.Kind.TheVariants.{Data}
 use Rattle.fo_crash.specs.declared.place.Place.{Place}
 use Rattle.fo_crash.specs.Places.{place}
-use Rattle.fo_ports.proofs.Bytes.{length_zero_bytes}
+use Rattle.fo_ports.proofs.Lengths.{length_zero_bytes}
 use Rattle.fo_ports_plain.proofs.tests.bytes.Goals as goal
 
 pub put_bytes-requires-clause-within : goal.put_bytes-requires-clause-within

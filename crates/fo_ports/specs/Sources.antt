@@ -1,0 +1,104 @@
+-- Sources of bytes over blocks: what is read through leaves, and what the calls on a source do to the blocks.
+use Rattle.std.specs.Prelude.{◌≡◌, ◌≢◌, ◌⊎◌, ◌+◌, ◌*◌, ◌/◌, ◌%◌, ◌<◌, ◌≤◌, ℕ, Bool, true, false, List, length, map, slice_index, Option, Some, None}
+use Rattle.std.specs.List.{range_with_len}
+use Rattle.fo_image.specs.declared.types.Kind.{Kind}
+use Rattle.fo_image.specs.declared.types.Kind.TheVariants.{Data, Dir, Root}
+use Rattle.fo_image.specs.declared.types.Label.{Label}
+use Rattle.fo_image.specs.declared.types.State.TheVariants.{Live}
+use Rattle.fo_crash.specs.declared.place.Place.{Place}
+use Rattle.fo_crash.specs.Images.{Image, SameContent, SameImage, Reaches, to_block}
+use Rattle.fo_crash.specs.Steps.{AddsNothing, Passes}
+
+-- What stays of a source: the kind, tag and rank of its leaves, the generation of its entry, and the length up to which it can grow.
+pub record Form : Type 0 where
+  pub kind : Kind
+  pub tag : ℕ
+  pub rank : ℕ
+  pub generation : ℕ
+  pub limit : ℕ
+
+-- the source is one of entries
+abbrev pub is_dir : Kind → Bool
+is_dir (Dir level) = true
+is_dir (Data level) = false
+is_dir Root = false
+
+-- a byte of a leaf in memory; 0 where no leaf stands
+abbrev pub leaf_byte : Image → Option ℕ → ℕ → ℕ
+leaf_byte now None k = 0
+leaf_byte now (Some at) k = slice_index ((now at).bytes) k
+
+-- the byte at a place, by the leaves of 8192 bytes
+abbrev pub byte_of : (ℕ → Option ℕ) → Image → ℕ → ℕ
+byte_of leaves now k = leaf_byte now (leaves (k / 8192)) (k % 8192)
+
+-- the bytes at all places below a length
+abbrev pub bytes_of : (ℕ → Option ℕ) → Image → ℕ → List ℕ
+bytes_of leaves now len = map (byte_of leaves now) (range_with_len 0 len)
+
+-- how many blocks so many bytes touch at most: a leaf, with four blocks of pointers above it, for each 8192 bytes, for both ends,
+-- and for the leaf that was the last
+abbrev pub most_for : ℕ → ℕ
+most_for n = 5 * (n / 8192 + 3)
+
+-- A block stays in place: its slots where it is no leaf of entries, how long it is, its label and its places stay, and no removal
+-- is to close it that was not.
+pub record StaysInPlace {S : Type 0} (now : S → Image) (label : S → ℕ → Label) (stands : S → ℕ → Place → Type 0) (covered : S → ℕ → Type 0) (old new : S) (at : ℕ) : Type 0 where
+  pub same_slots : ((label old at).kind ≡ Dir 0) ⊎ ((j : ℕ) → (now new at).slot j ≡ (now old at).slot j)
+  pub same_length : length ((now new at).bytes) ≡ length ((now old at).bytes)
+  pub same_label : label new at ≡ label old at
+  pub same_places : (p : Place) → stands old at p → stands new at p
+  pub uncovered : (covered old at → ⊥) → covered new at → ⊥
+
+-- A block keeps its bytes, or is a leaf that ends within this length.
+abbrev pub KeepsBytes : (ℕ → Option ℕ) → ℕ → Image → Image → ℕ → Type 0
+KeepsBytes leaves size old new at = ((new at).bytes ≡ (old at).bytes) ⊎ ((i : ℕ) × (leaves i ≡ Some at) × (8192 * (i + 1) ≤ size))
+
+-- A call only looks: what memory is known to have stays, no image is added, and marks stay.
+pub record Looks {S : Type 0} (now : S → Image) (label : S → ℕ → Label) (stands : S → ℕ → Place → Type 0) (loose : S → ℕ → Type 0) (may_leave : S → Image → Type 0) (moments : S → ℕ) (left : S → ℕ → Image → Type 0) (tells : S → Type 0) (sealed_at : S → ℕ → Type 0) (spare room next : S → ℕ) (grants : S → Type 0) (pinned : S → ℕ → Type 0) (waits : S → ℕ → ℕ → ℕ → Type 0) (clearing : S → ℕ → ℕ → Type 0) (covered : S → ℕ → Type 0) (keeps : S → S → Type 0) (old new : S) : Type 0 where
+  pub memory : tells old → SameImage (now new) (now old)
+  pub known : (b : ℕ) → pinned old b → SameContent (now new b) (now old b)
+  pub adds : AddsNothing (may_leave old) (may_leave new)
+  pub passes : Passes (may_leave old) (moments old) (moments new) (left old) (left new)
+  pub order : (a b j : ℕ) → (waits old a b j → waits new a b j) × (clearing new b j → clearing old b j)
+  pub covers : (b : ℕ) → covered new b → covered old b
+  pub blocks : (b : ℕ) → (label new b ≡ label old b) × (pinned old b → pinned new b) × (sealed_at old b → sealed_at new b)
+  pub places : (b : ℕ) (p : Place) → (stands old b p → stands new b p) × (loose old b → loose new b)
+  pub numbers : (spare new ≡ spare old) × (room new ≡ room old) × (next new ≡ next old) × (grants old → grants new)
+  pub stays : keeps old new
+
+-- A block was given out: it was not live, and is.
+abbrev pub Made : (ℕ → Label) → (ℕ → Label) → ℕ → Type 0
+Made old new b = ((old b).state ≢ Live) × ((new b).state ≡ Live)
+
+-- A block that was given out, or one of these that is of the current epoch.
+abbrev pub Touched : (ℕ → Label) → (ℕ → Label) → ℕ → (ℕ → Type 0) → ℕ → Type 0
+Touched old new high mine b = Made old new b ⊎ (mine b × ((old b).epoch ≡ high))
+
+-- An image is one of before, but for these blocks.
+pub record Beside (touched : ℕ → Type 0) (images : Image → Type 0) (image : Image) : Type 0 where
+  pub other : Image
+  pub was : images other
+  pub same : (b : ℕ) → (touched b → ⊥) → SameContent (image b) (other b)
+
+-- An image is one of before, but for these blocks, in which no path from a top leads to a block that was given out.
+pub record Undone (touched made tops : ℕ → Type 0) (images : Image → Type 0) (image : Image) : Type 0 where
+  pub beside : Beside touched images image
+  pub apart : (t b : ℕ) → tops t → made b → Reaches beside.other (to_block t) b → ⊥
+
+-- A call on a source with these blocks changes blocks that it gives out, and those of its own that are inner ones and of the current
+-- epoch, in memory and in every image; all else stays. What is given out stood at no place, and only older blocks of the source are to
+-- be closed.
+pub record Changes {S : Type 0} (now : S → Image) (label : S → ℕ → Label) (stands : S → ℕ → Place → Type 0) (loose : S → ℕ → Type 0) (high : S → ℕ) (tops is_block : S → ℕ → Type 0) (may_leave : S → Image → Type 0) (moments : S → ℕ) (left : S → ℕ → Image → Type 0) (sealed_at : S → ℕ → Type 0) (pins_left room next : S → ℕ) (grants : S → Type 0) (pinned : S → ℕ → Type 0) (waits : S → ℕ → ℕ → ℕ → Type 0) (clearing : S → ℕ → ℕ → Type 0) (covered : S → ℕ → Type 0) (keeps : S → S → Type 0) (mine inner : ℕ → Type 0) (old new : S) : Type 0 where
+  pub memory : (b : ℕ) → (Touched (label old) (label new) (high old) inner b → ⊥) → SameContent (now new b) (now old b)
+  pub images : (image : Image) → may_leave new image → Undone (Touched (label old) (label new) (high old) inner) (Made (label old) (label new)) (tops old) (may_leave old) image
+  pub passes : Passes (Beside (Touched (label old) (label new) (high old) inner) (may_leave old)) (moments old) (moments new) (left old) (left new)
+  pub labels : (b : ℕ) → (Made (label old) (label new) b → ⊥) → label new b ≡ label old b
+  pub fresh : (b : ℕ) → Made (label old) (label new) b → ((p : Place) → stands old b p → ⊥) × (tops old b → ⊥) × (b ≢ 1)
+  pub made : (b : ℕ) → Made (label old) (label new) b → ((label new b).epoch ≡ high old) × is_block new b × pinned new b
+  pub places : (b : ℕ) (p : Place) → (Made (label old) (label new) b → ⊥) → (mine b → ⊥) → (covered new b → ⊥) → (stands old b p → stands new b p) × (loose old b → loose new b)
+  pub covers : (b : ℕ) → covered new b → covered old b ⊎ (mine b × ((label old b).epoch < high old))
+  pub marks : (b : ℕ) → (pinned old b → pinned new b) × ((Made (label old) (label new) b → ⊥) → sealed_at old b → sealed_at new b)
+  pub order : (a b j : ℕ) → ((Made (label old) (label new) a → ⊥) → (Made (label old) (label new) b → ⊥) → waits old a b j → waits new a b j) × (clearing new b j → (Made (label old) (label new) b → ⊥) × clearing old b j)
+  pub numbers : (pins_left new ≡ pins_left old) × (room new ≡ room old) × (next new ≡ next old) × (grants old → grants new)
+  pub stays : keeps old new

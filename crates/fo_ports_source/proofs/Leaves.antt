@@ -1,0 +1,291 @@
+-- The leaves of a plain source, before and after one of them is made current or changed.
+use Rattle.std.proofs.Common.{◌≡◌, ◌≢◌, ◌⊎◌, ◌+◌, ◌-◌, ◌*◌, ◌^◌, ◌/◌, ◌%◌, ◌<◌, ◌≤◌, ℕ, List, ◌++◌, length, take, drop, slice_index, slice_set, Option, Some, None, MatchOption, inl, inr, ⊎_elim, sym, refl, ap, ◌∙◌, subst, arith}
+use Rattle.std.proofs.lemmas.Bool.{cases_lt, cases_eq}
+use Rattle.std.proofs.lemmas.List.{length-append, length-take-le, length-set, get_or-take, get_or-drop, get_or_append_left, get_or-append_right, get_or-replicate, get_or_past, get_or-set_same, get_or-set_other}
+use Rattle.fo_image.specs.declared.types.Kind.{Kind}
+use Rattle.fo_image.specs.declared.types.Kind.TheVariants.{Dir}
+use Rattle.fo_image.specs.declared.types.Label.{Label}
+use Rattle.fo_image.specs.declared.types.State.TheVariants.{Live}
+use Rattle.fo_crash.specs.declared.place.Place.{Place}
+use Rattle.fo_crash.specs.Images.{Image, SameContent}
+use Rattle.fo_crash.specs.Steps.{PutsBytes}
+use Rattle.fo_ports.specs.Blocks.{blank, zero_bytes, put_at}
+use Rattle.fo_ports.proofs.Lengths.{length_put_at}
+use Rattle.fo_ports.specs.Sources.{Made, leaf_byte, byte_of}
+use Rattle.fo_ports_source.specs.Source.{leaf_of, HasLeaf, IsLeaf, Over, IsReady, Puts}
+use Rattle.fo_ports_source.specs.Steps.{Steps, Grew}
+use Rattle.fo_ports_source.proofs.Steps.{steps_none, steps_wider, steps_joins, made_first, made_second, made_either}
+
+some_is : {a b : ℕ} {leaf : Option ℕ} → leaf ≡ Some a → leaf ≡ Some b → a ≡ b
+some_is e f = cc
+
+zero_at : (k : ℕ) → slice_index zero_bytes k ≡ 0
+unfolding zero_bytes
+zero_at k = ⊎_elim (λ lt. get_or-replicate 8192 k 0 0 lt) (λ ge. get_or_past zero_bytes k 0 ge) (cases_lt k 8192)
+
+-- bytes that are put, place by place
+module _ (from : ℕ) (bytes old : List ℕ) (within : from + length bytes ≤ length old) where
+  front_len : length (take from old) ≡ from
+  front_len = length-take-le from old (omega (arith, within))
+
+  front_two : length (take from old ++ bytes) ≡ from + length bytes
+  front_two = length-append (take from old) bytes ∙ ap (λ n. n + length bytes) front_len
+
+  pub put_before : (k : ℕ) → k < from → slice_index (put_at from bytes old) k ≡ slice_index old k
+  put_before k lt =
+      get_or_append_left (take from old ++ bytes) (drop (from + length bytes) old) 0 k (omega (arith, front_two, lt))
+      ∙ get_or_append_left (take from old) bytes 0 k (omega (arith, front_len, lt)) ∙ get_or-take from old k 0 lt
+
+  pub put_within : (i : ℕ) → i < length bytes → slice_index (put_at from bytes old) (from + i) ≡ slice_index bytes i
+  put_within i lt =
+      let back : from + i - from ≡ i = omega arith in
+      get_or_append_left (take from old ++ bytes) (drop (from + length bytes) old) 0 (from + i) (omega (arith, front_two, lt))
+      ∙ get_or-append_right (take from old) bytes from (from + i) 0 front_len (omega arith) ∙ ap (λ n. slice_index bytes n) back
+
+  pub put_behind : (k : ℕ) → from + length bytes ≤ k → slice_index (put_at from bytes old) k ≡ slice_index old k
+  put_behind k ge =
+      let back : from + length bytes + (k - (from + length bytes)) ≡ k = omega (arith, ge) in
+      get_or-append_right (take from old ++ bytes) (drop (from + length bytes) old) (from + length bytes) k 0 front_two ge
+      ∙ get_or-drop (from + length bytes) old (k - (from + length bytes)) 0 ∙ ap (λ n. slice_index old n) back
+
+-- a byte of a leaf whose bytes stay
+pub byte_kept : (now new_now : Image) (leaf : Option ℕ) (k : ℕ) → ((at : ℕ) → leaf ≡ Some at → (new_now at).bytes ≡ (now at).bytes) → leaf_byte new_now leaf k ≡ leaf_byte now leaf k
+byte_kept now new_now None k same = refl
+byte_kept now new_now (Some at) k same = ap (λ bytes. slice_index bytes k) (same at refl)
+
+byte_owned : (now new_now : Image) (kind : Kind) (leaf : Option ℕ) (r k : ℕ) → MatchOption leaf (SameContent (new_now r) (blank kind)) (λ at. SameContent (new_now r) (now at)) → slice_index ((new_now r).bytes) k ≡ leaf_byte now leaf k
+byte_owned now new_now kind None r k same = ap (λ bytes. slice_index bytes k) same.bytes ∙ zero_at k
+byte_owned now new_now kind (Some at) r k same = ap (λ bytes. slice_index bytes k) same.bytes
+
+leaf_was : (old new : ℕ → Label) (high r : ℕ) (leaf : Option ℕ) → MatchOption leaf (Made old new r) (λ at. ((at ≡ r) × ((old at).epoch ≡ high)) ⊎ (((old at).epoch < high) × Made old new r)) → (leaf ≡ Some r) ⊎ Made old new r
+leaf_was old new high r None m = inr m
+leaf_was old new high r (Some at) m = ⊎_elim (λ h. inl (ap (λ x. Some x) h.0)) (λ h. inr h.1) m
+
+-- Leaf i was made current: it is block r now.
+pub record OwnsOne {S : Type 0} (now : S → Image) (label : S → ℕ → Label) (stands : S → ℕ → Place → Type 0) (loose : S → ℕ → Type 0) (high : S → ℕ) (tops is_block : S → ℕ → Type 0) (may_leave : S → Image → Type 0) (moments : S → ℕ) (left : S → ℕ → Image → Type 0) (sealed_at : S → ℕ → Type 0) (pins_left room next : S → ℕ) (grants : S → Type 0) (pinned : S → ℕ → Type 0) (waits : S → ℕ → ℕ → ℕ → Type 0) (clearing : S → ℕ → ℕ → Type 0) (covered : S → ℕ → Type 0) (keeps : S → S → Type 0) (tells : S → Type 0) (kind : Kind) (tag rank size : ℕ) (leaves new_leaves : List (Option ℕ)) (i r : ℕ) (old new : S) : Type 0 where
+  pub over : Over (now old) (label old) (stands old) (high old) (is_block old) (covered old) (tells old) kind tag rank size leaves
+  pub inside : 8192 * i < size
+  pub set_is : new_leaves ≡ slice_set leaves i (Some r)
+  pub content : MatchOption (leaf_of leaves i) (SameContent (now new r) (blank kind)) (λ at. SameContent (now new r) (now old at))
+  pub copied : MatchOption (leaf_of leaves i) (Made (label old) (label new) r) (λ at. ((at ≡ r) × ((label old at).epoch ≡ high old)) ⊎ (((label old at).epoch < high old) × Made (label old) (label new) r))
+  pub ready : IsReady (now new) (label new) (stands new) (high new) (is_block new) (covered new) (pinned new) kind tag rank r
+  pub steps : Steps now label stands loose high tops is_block may_leave moments left sealed_at pins_left room next grants pinned waits clearing covered keeps (λ b. ⊥) old new
+  pub only : (b : ℕ) → Made (label old) (label new) b → b ≡ r
+  pub told : tells new → tells old
+
+module _ {S : Type 0} {now : S → Image} {label : S → ℕ → Label} {stands : S → ℕ → Place → Type 0} {loose : S → ℕ → Type 0} {high : S → ℕ} {tops is_block : S → ℕ → Type 0} {may_leave : S → Image → Type 0} {moments : S → ℕ} {left : S → ℕ → Image → Type 0} {sealed_at : S → ℕ → Type 0} {pins_left room next : S → ℕ} {grants : S → Type 0} {pinned : S → ℕ → Type 0} {waits : S → ℕ → ℕ → ℕ → Type 0} {clearing : S → ℕ → ℕ → Type 0} {covered : S → ℕ → Type 0} {keeps : S → S → Type 0} {kind : Kind} {tag rank : ℕ} where
+  -- a leaf stays one over a step
+  pub leaf_kept : {mine : ℕ → Type 0} {at : ℕ} {old new : S} → Steps now label stands loose high tops is_block may_leave moments left sealed_at pins_left room next grants pinned waits clearing covered keeps mine old new → IsLeaf (label old) (stands old) (high old) (is_block old) (covered old) kind tag rank at → IsLeaf (label new) (stands new) (high new) (is_block new) (covered new) kind tag rank at
+  leaf_kept {at = at} {old = old} {new = new} s leaf =
+      let not_made : Made (label old) (label new) at → ⊥ = λ m. m.0 leaf.is_live in
+      let is = s.labels at not_made in
+      record {
+        is_one = s.same_blocks at leaf.is_one;
+        is_live = ap (λ (l : Label). l.state) is ∙ leaf.is_live;
+        has_kind = ap (λ (l : Label). l.kind) is ∙ leaf.has_kind;
+        up_to = subst (λ n. (label new at).epoch ≤ n) (sym s.same_high) (subst (λ (l : Label). l.epoch ≤ high old) (sym is) leaf.up_to);
+        there = (s.places at _ not_made).0 leaf.there;
+        uncovered = λ h. leaf.uncovered (s.covers at h);
+      }
+
+module _ {S : Type 0} {now : S → Image} {label : S → ℕ → Label} {stands : S → ℕ → Place → Type 0} {loose : S → ℕ → Type 0} {high : S → ℕ} {tops is_block : S → ℕ → Type 0} {may_leave : S → Image → Type 0} {moments : S → ℕ} {left : S → ℕ → Image → Type 0} {sealed_at : S → ℕ → Type 0} {pins_left room next : S → ℕ} {grants : S → Type 0} {pinned : S → ℕ → Type 0} {waits : S → ℕ → ℕ → ℕ → Type 0} {clearing : S → ℕ → ℕ → Type 0} {covered : S → ℕ → Type 0} {keeps : S → S → Type 0} {tells : S → Type 0} {kind : Kind} {tag rank size : ℕ} where
+  module _ {leaves new_leaves : List (Option ℕ)} {i r : ℕ} {old new : S} (o : OwnsOne now label stands loose high tops is_block may_leave moments left sealed_at pins_left room next grants pinned waits clearing covered keeps tells kind tag rank size leaves new_leaves i r old new) where
+    few : i < length leaves
+    few = let w = o.over.within in let h = o.inside in omega (arith, w, h)
+
+    here : leaf_of new_leaves i ≡ Some r
+    here = subst (λ ls. leaf_of ls i ≡ Some r) (sym o.set_is) (get_or-set_same leaves i (Some r) None few)
+
+    other : (j : ℕ) → j ≢ i → leaf_of new_leaves j ≡ leaf_of leaves j
+    other j ne = subst (λ ls. leaf_of ls j ≡ leaf_of leaves j) (sym o.set_is) (get_or-set_other leaves i j (Some r) None ne)
+
+    as_long : length new_leaves ≡ length leaves
+    as_long = ap length o.set_is ∙ length-set leaves i (Some r)
+
+    same_content : (j at : ℕ) → leaf_of leaves j ≡ Some at → SameContent (now new at) (now old at)
+    same_content j at e = o.steps.memory at (λ t. ⊎_elim (λ m. m.0 (o.over.leaf j at e).is_live) (λ h. h.0) t)
+
+    pub own_bytes : (k : ℕ) → byte_of (leaf_of new_leaves) (now new) k ≡ byte_of (leaf_of leaves) (now old) k
+    own_bytes k = ⊎_elim
+        (λ e. subst (λ j. leaf_byte (now new) (leaf_of new_leaves j) (k % 8192) ≡ leaf_byte (now old) (leaf_of leaves j) (k % 8192)) (sym e)
+        (ap (λ l. leaf_byte (now new) l (k % 8192)) here ∙ byte_owned (now old) (now new) kind (leaf_of leaves i) r (k % 8192) o.content))
+        (λ ne. ap (λ l. leaf_byte (now new) l (k % 8192)) (other (k / 8192) ne) ∙ byte_kept (now old) (now new) (leaf_of leaves (k / 8192)) (k % 8192) (λ at e. (same_content (k / 8192) at e).bytes))
+        (cases_eq (k / 8192) i)
+
+    was : (leaf_of leaves i ≡ Some r) ⊎ Made (label old) (label new) r
+    was = leaf_was (label old) (label new) (high old) r (leaf_of leaves i) o.copied
+
+    one : (j : ℕ) → leaf_of leaves j ≡ Some r → j ≡ i
+    one j e = ⊎_elim (λ f. o.over.apart j i r e f) (λ m. absurd (m.0 (o.over.leaf j r e).is_live)) was
+
+    pub own_over : Over (now new) (label new) (stands new) (high new) (is_block new) (covered new) (tells new) kind tag rank size new_leaves
+    own_over = record {
+      leaf = λ j at e. ⊎_elim
+          (λ is. subst (λ x. IsLeaf (label new) (stands new) (high new) (is_block new) (covered new) kind tag rank x) (some_is here (subst (λ x. leaf_of new_leaves x ≡ Some at) is e)) o.ready.leaf)
+          (λ ne. leaf_kept o.steps (o.over.leaf j at (sym (other j ne) ∙ e)))
+          (cases_eq j i);
+      apart = λ j k at e f. ⊎_elim
+          (λ is. ⊎_elim
+          (λ same. is ∙ sym same)
+          (λ ne. let is_r : at ≡ r = some_is (subst (λ x. leaf_of new_leaves x ≡ Some at) is e) here in is ∙ sym (one k (subst (λ x. leaf_of leaves k ≡ Some x) is_r (sym (other k ne) ∙ f))))
+          (cases_eq k i))
+          (λ ne. ⊎_elim
+          (λ is. let is_r : at ≡ r = some_is (subst (λ x. leaf_of new_leaves x ≡ Some at) is f) here in one j (subst (λ x. leaf_of leaves j ≡ Some x) is_r (sym (other j ne) ∙ e)) ∙ sym is)
+          (λ also. o.over.apart j k at (sym (other j ne) ∙ e) (sym (other k also) ∙ f))
+          (cases_eq k i))
+          (cases_eq j i);
+      none = λ j le. let h = o.inside in other j (λ e. (omega (arith, le, h, e))) ∙ o.over.none j le;
+      tail = λ told k le. own_bytes k ∙ o.over.tail (o.told told) k le;
+      within = subst (λ n. size ≤ 8192 * n) (sym as_long) o.over.within;
+      few = subst (λ n. n < 2 ^ 32) (sym as_long) o.over.few;
+      leaf_kind = o.over.leaf_kind;
+    }
+
+    still_one : (b : ℕ) → leaf_of leaves i ≡ Some b → (label old b).epoch ≡ high old → HasLeaf new_leaves b
+    still_one b e current = ⊎_elim
+        (λ h. record { number = i; is = here ∙ ap (λ x. Some x) (sym h.0) })
+        (λ h. let lt : (label old b).epoch < high old = h.0 in absurd (omega (arith, lt, current)))
+        (subst (λ leaf. MatchOption leaf (Made (label old) (label new) r) (λ at. ((at ≡ r) × ((label old at).epoch ≡ high old)) ⊎ (((label old at).epoch < high old) × Made (label old) (label new) r))) e o.copied)
+
+    pub own_grew : Grew now label stands loose high tops is_block may_leave moments left sealed_at pins_left room next grants pinned waits clearing covered keeps leaves new_leaves old new
+    own_grew = record {
+      as_long = as_long;
+      owned = λ b has. ⊎_elim
+          (λ is. let is_r : b ≡ r = some_is (subst (λ x. leaf_of new_leaves x ≡ Some b) is has.is) here in subst (λ x. HasLeaf leaves x ⊎ Made (label old) (label new) x) (sym is_r) (⊎_elim (λ e. inl (record { number = i; is = e })) (λ m. inr m) was))
+          (λ ne. inl (record { number = has.number; is = sym (other has.number ne) ∙ has.is }))
+          (cases_eq has.number i);
+      owns = λ b m. record { number = i; is = here ∙ ap (λ x. Some x) (sym (o.only b m)) };
+      kept = λ b has current. ⊎_elim
+          (λ is. still_one b (subst (λ x. leaf_of leaves x ≡ Some b) is has.is) current)
+          (λ ne. record { number = has.number; is = other has.number ne ∙ has.is })
+          (cases_eq has.number i);
+      still = λ p n prepared. record {
+        each = λ k at from to e. ⊎_elim
+            (λ is. let is_r : at ≡ r = some_is (subst (λ x. leaf_of new_leaves x ≡ Some at) is e) here in (subst (λ x. pinned new x) (sym is_r) o.ready.held, subst (λ x. length ((now new x).bytes) ≡ 8192) (sym is_r) o.ready.long))
+            (λ ne. let before = prepared.each k at from to (sym (other (k / 8192) ne) ∙ e) in ((o.steps.marks at).0 before.0, ap length (same_content (k / 8192) at (sym (other (k / 8192) ne) ∙ e)).bytes ∙ before.1))
+            (cases_eq (k / 8192) i);
+        limit = subst (λ m. p + n ≤ 8192 * m) (sym as_long) prepared.limit;
+      };
+      steps = steps_wider (λ b h. absurd h) o.steps;
+    }
+
+    pub own_pinned : pinned new r × (length ((now new r).bytes) ≡ 8192)
+    own_pinned = (o.ready.held, o.ready.long)
+
+    pub own_here : leaf_of new_leaves i ≡ Some r
+    own_here = here
+
+-- Bytes were put into leaf i, which is block at.
+pub record PutsOne {S : Type 0} (now : S → Image) (label : S → ℕ → Label) (stands : S → ℕ → Place → Type 0) (loose : S → ℕ → Type 0) (high : S → ℕ) (tops is_block : S → ℕ → Type 0) (may_leave : S → Image → Type 0) (moments : S → ℕ) (left : S → ℕ → Image → Type 0) (sealed_at : S → ℕ → Type 0) (pins_left room next : S → ℕ) (grants : S → Type 0) (pinned : S → ℕ → Type 0) (waits : S → ℕ → ℕ → ℕ → Type 0) (clearing : S → ℕ → ℕ → Type 0) (covered : S → ℕ → Type 0) (keeps : S → S → Type 0) (tells : S → Type 0) (kind : Kind) (tag rank size : ℕ) (leaves : List (Option ℕ)) (at place : ℕ) (piece : List ℕ) (old new : S) : Type 0 where
+  pub over : Over (now old) (label old) (stands old) (high old) (is_block old) (covered old) (tells old) kind tag rank size leaves
+  pub here : leaf_of leaves (place / 8192) ≡ Some at
+  pub part : place % 8192 + length piece ≤ 8192
+  pub inside : place + length piece ≤ size
+  pub long : length ((now old at).bytes) ≡ 8192
+  pub puts : PutsBytes at (put_at (place % 8192) piece ((now old at).bytes)) (now old) (now new)
+  pub labels : (b : ℕ) → label new b ≡ label old b
+  pub steps : Steps now label stands loose high tops is_block may_leave moments left sealed_at pins_left room next grants pinned waits clearing covered keeps (λ b. b ≡ at) old new
+  pub told : tells new → tells old
+
+pub same_leaf : (place m : ℕ) → place % 8192 + m < 8192 → ((place + m) / 8192 ≡ place / 8192) × ((place + m) % 8192 ≡ place % 8192 + m)
+same_leaf place m lt = (omega (arith, lt), omega (arith, lt))
+
+module _ {S : Type 0} {now : S → Image} {label : S → ℕ → Label} {stands : S → ℕ → Place → Type 0} {loose : S → ℕ → Type 0} {high : S → ℕ} {tops is_block : S → ℕ → Type 0} {may_leave : S → Image → Type 0} {moments : S → ℕ} {left : S → ℕ → Image → Type 0} {sealed_at : S → ℕ → Type 0} {pins_left room next : S → ℕ} {grants : S → Type 0} {pinned : S → ℕ → Type 0} {waits : S → ℕ → ℕ → ℕ → Type 0} {clearing : S → ℕ → ℕ → Type 0} {covered : S → ℕ → Type 0} {keeps : S → S → Type 0} {tells : S → Type 0} {kind : Kind} {tag rank size : ℕ} {leaves : List (Option ℕ)} {at place : ℕ} {piece : List ℕ} {old new : S}
+    (p : PutsOne now label stands loose high tops is_block may_leave moments left sealed_at pins_left room next grants pinned waits clearing covered keeps tells kind tag rank size leaves at place piece old new) where
+  put_fits : place % 8192 + length piece ≤ length ((now old at).bytes)
+  put_fits = subst (λ n. place % 8192 + length piece ≤ n) (sym p.long) p.part
+
+  elsewhere : (k : ℕ) → (k / 8192 ≢ place / 8192) → byte_of (leaf_of leaves) (now new) k ≡ byte_of (leaf_of leaves) (now old) k
+  elsewhere k ne = byte_kept (now old) (now new) (leaf_of leaves (k / 8192)) (k % 8192)
+      (λ b e. p.puts.others b (λ is. ne (p.over.apart (k / 8192) (place / 8192) at (e ∙ ap (λ x. Some x) is) p.here)))
+
+  -- in the leaf itself
+  inside : (k : ℕ) → k / 8192 ≡ place / 8192 → byte_of (leaf_of leaves) (now new) k ≡ slice_index (put_at (place % 8192) piece ((now old at).bytes)) (k % 8192)
+  inside k e = ap (λ j. leaf_byte (now new) (leaf_of leaves j) (k % 8192)) e ∙ ap (λ leaf. leaf_byte (now new) leaf (k % 8192)) p.here ∙ ap (λ bytes. slice_index bytes (k % 8192)) p.puts.here
+
+  before : (k : ℕ) → k / 8192 ≡ place / 8192 → slice_index ((now old at).bytes) (k % 8192) ≡ byte_of (leaf_of leaves) (now old) k
+  before k e = sym (ap (λ j. leaf_byte (now old) (leaf_of leaves j) (k % 8192)) e ∙ ap (λ leaf. leaf_byte (now old) leaf (k % 8192)) p.here)
+
+  pub put_puts : Puts (byte_of (leaf_of leaves) (now old)) (byte_of (leaf_of leaves) (now new)) place piece
+  put_puts = record {
+    within = λ m lt. let part = p.part in let same = same_leaf place m (omega (arith, part, lt)) in
+        inside (place + m) same.0 ∙ ap (λ k. slice_index (put_at (place % 8192) piece ((now old at).bytes)) k) same.1 ∙ put_within (place % 8192) piece ((now old at).bytes) put_fits m lt;
+    before = λ k lt. ⊎_elim
+        (λ e. let below : k % 8192 < place % 8192 = omega (arith, e, lt) in inside k e ∙ put_before (place % 8192) piece ((now old at).bytes) put_fits (k % 8192) below ∙ before k e)
+        (λ ne. elsewhere k ne)
+        (cases_eq (k / 8192) (place / 8192));
+    behind = λ k ge. ⊎_elim
+        (λ e. let above : place % 8192 + length piece ≤ k % 8192 = omega (arith, e, ge) in inside k e ∙ put_behind (place % 8192) piece ((now old at).bytes) put_fits (k % 8192) above ∙ before k e)
+        (λ ne. elsewhere k ne)
+        (cases_eq (k / 8192) (place / 8192));
+  }
+
+  pub put_over : Over (now new) (label new) (stands new) (high new) (is_block new) (covered new) (tells new) kind tag rank size leaves
+  put_over = record {
+    leaf = λ j b e. leaf_kept p.steps (p.over.leaf j b e);
+    apart = p.over.apart;
+    none = p.over.none;
+    tail = λ told k le. let in_size = p.inside in put_puts.behind k (omega (arith, in_size, le)) ∙ p.over.tail (p.told told) k le;
+    within = p.over.within;
+    few = p.over.few;
+    leaf_kind = p.over.leaf_kind;
+  }
+
+  put_long : (b : ℕ) → length ((now old b).bytes) ≡ 8192 → length ((now new b).bytes) ≡ 8192
+  put_long b was = ⊎_elim
+      (λ e. subst (λ x. length ((now new x).bytes) ≡ 8192) (sym e) (ap length p.puts.here ∙ length_put_at (place % 8192) piece ((now old at).bytes) put_fits ∙ p.long))
+      (λ ne. ap length (p.puts.others b ne) ∙ was)
+      (cases_eq b at)
+
+  pub put_grew : Grew now label stands loose high tops is_block may_leave moments left sealed_at pins_left room next grants pinned waits clearing covered keeps leaves leaves old new
+  put_grew = record {
+    as_long = refl;
+    owned = λ b has. inl has;
+    owns = λ b m. absurd (m.0 (ap (λ (l : Label). l.state) (sym (p.labels b)) ∙ m.1));
+    kept = λ b has current. has;
+    still = λ o n prepared. record {
+      each = λ k b from to e. let was = prepared.each k b from to e in ((p.steps.marks b).0 was.0, put_long b was.1);
+      limit = prepared.limit;
+    };
+    steps = steps_wider (λ b e. record { number = place / 8192; is = p.here ∙ ap (λ x. Some x) (sym e) }) p.steps;
+  }
+
+module _ {S : Type 0} {now : S → Image} {label : S → ℕ → Label} {stands : S → ℕ → Place → Type 0} {loose : S → ℕ → Type 0} {high : S → ℕ} {tops is_block : S → ℕ → Type 0} {may_leave : S → Image → Type 0} {moments : S → ℕ} {left : S → ℕ → Image → Type 0} {sealed_at : S → ℕ → Type 0} {pins_left room next : S → ℕ} {grants : S → Type 0} {pinned : S → ℕ → Type 0} {waits : S → ℕ → ℕ → ℕ → Type 0} {clearing : S → ℕ → ℕ → Type 0} {covered : S → ℕ → Type 0} {keeps : S → S → Type 0} {leaves mid_leaves new_leaves : List (Option ℕ)} {a b c : S} where
+  pub grew_joins : (keeps a b → keeps b c → keeps a c) → ((at : ℕ) → HasLeaf leaves at → (label a at).state ≡ Live) → Grew now label stands loose high tops is_block may_leave moments left sealed_at pins_left room next grants pinned waits clearing covered keeps leaves mid_leaves a b → Grew now label stands loose high tops is_block may_leave moments left sealed_at pins_left room next grants pinned waits clearing covered keeps mid_leaves new_leaves b c → Grew now label stands loose high tops is_block may_leave moments left sealed_at pins_left room next grants pinned waits clearing covered keeps leaves new_leaves a c
+  grew_joins joins lives first second = record {
+    as_long = second.as_long ∙ first.as_long;
+    owned = λ at has. ⊎_elim
+        (λ h. ⊎_elim (λ was. inl was) (λ m. inr (made_first joins first.steps second.steps first.owned lives at m)) (first.owned at h))
+        (λ n. inr (made_second joins first.steps second.steps first.owned lives at n))
+        (second.owned at has);
+    owns = λ at m. ⊎_elim
+        (λ made. second.kept at (first.owns at made) ((first.steps.made at made).0 ∙ sym first.steps.same_high))
+        (λ made. second.owns at made)
+        (made_either joins first.steps second.steps first.owned lives at m);
+    kept = λ at has current. second.kept at (first.kept at has current) (ap (λ (l : Label). l.epoch) (first.steps.labels at (λ m. m.0 (lives at has))) ∙ current ∙ sym first.steps.same_high);
+    still = λ o n prepared. second.still o n (first.still o n prepared);
+    steps = steps_joins joins first.steps second.steps first.owned lives;
+  }
+
+module _ {S : Type 0} {now : S → Image} {label : S → ℕ → Label} {stands : S → ℕ → Place → Type 0} {loose : S → ℕ → Type 0} {high : S → ℕ} {tops is_block : S → ℕ → Type 0} {may_leave : S → Image → Type 0} {moments : S → ℕ} {left : S → ℕ → Image → Type 0} {sealed_at : S → ℕ → Type 0} {pins_left room next : S → ℕ} {grants : S → Type 0} {pinned : S → ℕ → Type 0} {waits : S → ℕ → ℕ → ℕ → Type 0} {clearing : S → ℕ → ℕ → Type 0} {covered : S → ℕ → Type 0} {keeps : S → S → Type 0} {leaves : List (Option ℕ)} where
+  pub grew_none : (a : S) → keeps a a → Grew now label stands loose high tops is_block may_leave moments left sealed_at pins_left room next grants pinned waits clearing covered keeps leaves leaves a a
+  grew_none a once = record {
+    as_long = refl;
+    owned = λ at has. inl has;
+    owns = λ at m. absurd (m.0 m.1);
+    kept = λ at has current. has;
+    still = λ o n prepared. prepared;
+    steps = steps_none a once;
+  }
+
+module _ {S : Type 0} {now : S → Image} {label : S → ℕ → Label} {stands : S → ℕ → Place → Type 0} {loose : S → ℕ → Type 0} {high : S → ℕ} {tops is_block : S → ℕ → Type 0} {may_leave : S → Image → Type 0} {moments : S → ℕ} {left : S → ℕ → Image → Type 0} {sealed_at : S → ℕ → Type 0} {pins_left room next : S → ℕ} {grants : S → Type 0} {pinned : S → ℕ → Type 0} {waits : S → ℕ → ℕ → ℕ → Type 0} {clearing : S → ℕ → ℕ → Type 0} {covered : S → ℕ → Type 0} {keeps : S → S → Type 0} {leaves new_leaves : List (Option ℕ)} {a b : S} where
+  pub still_settled : Grew now label stands loose high tops is_block may_leave moments left sealed_at pins_left room next grants pinned waits clearing covered keeps leaves new_leaves a b
+      → ((at j : ℕ) → HasLeaf leaves at → clearing a at j → ((label a at).kind ≡ Dir 0) × ((label a at).epoch ≡ high a))
+      → (at j : ℕ) → HasLeaf new_leaves at → clearing b at j → ((label b at).kind ≡ Dir 0) × ((label b at).epoch ≡ high b)
+  still_settled grew settled at j has waits =
+      let was = (grew.steps.order at at j).1 waits in
+      let is = grew.steps.labels at was.0 in
+      ⊎_elim
+      (λ h. let s = settled at j h was.1 in (ap (λ (l : Label). l.kind) is ∙ s.0, ap (λ (l : Label). l.epoch) is ∙ s.1 ∙ sym grew.steps.same_high))
+      (λ m. absurd (was.0 m))
+      (grew.owned at has)

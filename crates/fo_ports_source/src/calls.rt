@@ -1,0 +1,116 @@
+//! The calls on a plain source.
+ghost use Rattle.std.specs.Prelude.{◌≡◌, Option};
+ghost use Rattle.fo_ports.specs.Sources.{is_dir};
+ghost use Rattle.fo_ports_source.specs.Source.{leaf_of};
+
+use crate::source::{LEAF, PlainSource};
+use fo_image::{Entry, Kind, Pointer};
+use fo_ports::{BlockError, Blocks, Bytes};
+
+impl<B: Blocks> Bytes<B> for PlainSource {
+    ghost use Rattle.std.specs.Prelude.{refl};
+    ghost use Rattle.fo_ports.specs.Sources.{bytes_of};
+    ghost use Rattle.fo_ports_source.specs.Source.{form_of, HasLeaf, Over, Prepared};
+    ghost use Rattle.fo_ports_source.specs.SourceLaws.{leaf_stands, source_stays, source_prepared, part_prepared};
+
+    ghost form = { λ s. form_of s.kind s.tag s.rank s.leaves.items };
+
+    ghost size = { λ s. s.size };
+
+    ghost is_over = { λ s b. Over (B.now b) (B.label b) (B.stands b) (B.high b) (B.is_block b) (B.covered b) (B.tells b) s.kind s.tag s.rank s.size s.leaves.items };
+
+    ghost leaf_at = { λ s b. leaf_of s.leaves.items };
+
+    ghost bytes = { λ s b. bytes_of (leaf_of s.leaves.items) (B.now b) s.size };
+
+    ghost owns = { λ s b at. HasLeaf s.leaves.items at };
+
+    ghost prepared = { λ s b o n. Prepared (B.now b) (B.pinned b) s.leaves.items o n };
+
+    fn len(&self) -> u64 {
+        self.size
+    }
+
+    fn entry(&self) -> Entry {
+        Entry {
+            generation: 0,
+            active: true,
+            dir: is_dir(self.kind),
+            depth: 0,
+            tag: self.tag,
+            size: self.size,
+            top: Pointer::Nil,
+        }
+    }
+
+    fn read(&mut self, on: &mut B, offset: u64, into: &mut [u8]) -> Result<usize, BlockError> {
+        let left = self.size.saturating_sub(offset);
+        if left == 0 {
+            return Ok(0);
+        }
+        let count = (left as usize).min(into.len());
+        self.copy_out(on, offset, &mut into[..count])?;
+        Ok(count)
+    }
+
+    fn leaf(&mut self, on: &mut B, i: u32) -> Result<Option<u32>, BlockError> {
+        let _ = on;
+        Ok(leaf_number(&self.leaves, i))
+    }
+
+    fn prepare(&mut self, on: &mut B, offset: u64, len: u64) -> Result<(), BlockError> {
+        let last = (offset + len).div_ceil(LEAF);
+        self.pin_all(on, offset / LEAF, last)?;
+        Ok(())
+    }
+
+    fn write(&mut self, on: &mut B, offset: u64, piece: &[u8]) {
+        if piece.is_empty() {
+            return;
+        }
+        self.size = self.size.max(offset + piece.len() as u64);
+        self.put(on, offset, piece);
+    }
+
+    fn own_leaf(&mut self, on: &mut B, i: u32) -> u32 {
+        self.size = self.size.max(LEAF * (i as u64 + 1));
+        self.own(on, i as usize)
+    }
+
+    ghost bytes_are = { λ s b over. refl };
+
+    ghost in_limit = { λ s b over. over.within };
+
+    ghost apart = { λ s b i j at over told e f. over.apart i j at e f };
+
+    ghost leaf_owned = { λ s b i at over e. record { number = i; is = e } };
+
+    ghost leaf_place = { λ s b i at p over told e stands. leaf_stands (B.one_place b) (over.leaf i at e) p stands };
+
+    ghost owned = { λ s b at p over told has stands. (leaf_stands (B.one_place b) (over.leaf has.number at has.is) p stands).1 };
+
+    ghost live = { λ s b at over told has. ((over.leaf has.number at has.is).is_live, (over.leaf has.number at has.is).up_to, (over.leaf has.number at has.is).uncovered) };
+
+    ghost stays = { λ s a b over keeps kept. (source_stays B.now B.label B.stands B.high B.is_block B.covered B.tells B.pinned s.kind s.tag s.rank s.size s.leaves.items a b (B.keeps_all a b keeps).0 (λ at. ((B.keeps_all a b keeps).4 at).1) (B.keeps_all a b keeps).2.0 over kept, λ i. refl, λ at. (λ h. h, λ h. h)) };
+
+    ghost still_prepared = { λ s a b o n over keeps kept prepared. source_prepared B.now B.label B.stands B.high B.is_block B.covered B.tells B.pinned s.kind s.tag s.rank s.size s.leaves.items a b o n kept prepared };
+
+    ghost prepared_within = { λ s b o n p m prepared from to. (part_prepared p m prepared from to, prepared.limit) };
+}
+
+/// Whether a kind is one of entries.
+fn is_dir(kind: Kind) -> bool
+    ensures { result ≡ is_dir kind }
+{
+    matches!(kind, Kind::Dir(_))
+}
+
+/// The leaf of a number.
+fn leaf_number(leaves: &[Option<u32>], i: u32) -> Option<u32>
+    ensures { result ≡ leaf_of leaves.now i }
+{
+    match leaves.get(i as usize) {
+        Some(leaf) => *leaf,
+        None => None,
+    }
+}

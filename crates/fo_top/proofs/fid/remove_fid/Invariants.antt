@@ -1,6 +1,0 @@
-use Rattle.std.proofs.Common.{◌≡◌, ◌++◌, take, drop}
-use Rattle.fo_top.specs.Session.{without}
-use Rattle.fo_top.proofs.fid.remove_fid.Given as goal
-
-abbrev pub invariant-loop-i : goal.invariant-loop-i
-invariant-loop-i l = record { same : l.fids.items ≡ l.fn.fids.items; rest : take l.i l.fids.items ++ without l.number (drop l.i l.fids.items) ≡ without l.number l.fids.items }

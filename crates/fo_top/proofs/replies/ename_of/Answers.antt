@@ -1,5 +1,0 @@
-use Rattle.fo_top.proofs.Errors.{error_is_text}
-use Rattle.fo_top.proofs.replies.ename_of.Goals as goal
-
-pub from_text-requires-clause-text : goal.from_text-requires-clause-text
-from_text-requires-clause-text c = rw (c.as_slice.ensures, c.text.ensures) (error_is_text c.args.e c.in_default.not-Damaged)

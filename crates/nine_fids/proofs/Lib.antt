@@ -1,0 +1,6 @@
+pub mod Missing
+pub mod Staying
+pub mod Errors
+pub mod Userly
+pub mod Tables
+pub mod Placing

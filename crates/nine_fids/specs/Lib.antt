@@ -1,0 +1,6 @@
+pub mod Fids
+pub mod Looking
+pub mod Modes
+pub mod Refusing
+pub mod Rights
+pub mod Told

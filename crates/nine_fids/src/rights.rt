@@ -1,0 +1,171 @@
+//! Who may do what.
+ghost use Rattle.std.specs.Prelude.{◌≡◌, true, IsTrue, Option, Ok, IfOk, IfErr, MatchResult, unwrap_or, option_and_then};
+ghost use Rattle.std.specs.List.{list_all};
+ghost use Rattle.fo_world.specs.Limits.{IsUser};
+ghost use Rattle.fo_world.specs.declared.error.FileError.TheVariants as failure;
+ghost use Rattle.fo_users.specs.Table.{is_line, standard_table};
+ghost use Rattle.fo_users.specs.Found.{table_in};
+ghost use Rattle.nine_fids.specs.declared.refusal.Refusal.TheVariants as refusal;
+ghost use Rattle.nine_fids.specs.Refusing.{told_apart};
+ghost use Rattle.nine_fids.specs.Told.{served};
+ghost use Rattle.nine_fids.specs.Rights as nine;
+ghost use Rattle.nine_fids.specs.Looking.{Looks, MayMiss};
+
+use crate::fid::Fid;
+use crate::looking::{bytes_at, named_at, parent_at};
+use crate::refusal::Refusal;
+use fo_base::Bytes;
+use fo_users::{Right, Users, UsersError, read_users};
+use fo_world::{FileError, FileOps, Info, Name, Place, View};
+use std::alloc::Global;
+
+/// The most bytes that a table of users has.
+const LARGEST_TABLE: u64 = 65536;
+
+/// What was looked for; None where the files have none.
+fn where_there<T>(looked: Result<T, Refusal>) -> Result<Option<T>, Refusal>
+    ensures { result ≡ told_apart looked }
+{
+    match looked {
+        Ok(value) => Ok(Some(value)),
+        Err(refusal) => {
+            if refusal.is_failure() {
+                Err(refusal)
+            } else {
+                Ok(None)
+            }
+        }
+    }
+}
+
+/// The bytes of a file of at most 65536 bytes.
+fn small_file<F: FileOps>(
+    alloc: Global,
+    files: &mut F,
+    info: &Info,
+) -> Result<Option<Bytes>, Refusal>
+    requires { IsTrue (F.whole files.old) }
+    ensures looks { Looks (Ok (nine.small_file (served (F.whole files.old) (F.largest files.old)) (F.world files.old) info.now))
+        (MayMiss (F.faults files.old) (F.faults files.new) (F.honest files.old)) result }
+    ensures world { F.world files.new ≡ F.world files.old }
+    ensures keeps { F.keeps files.old files.new }
+{
+    if info.length > LARGEST_TABLE {
+        return Ok(None);
+    }
+    where_there(bytes_at(alloc, files, &info.place, 0, info.length as usize))
+}
+
+/// What is told of the file with a name in a directory, where there is one.
+fn found_at<F: FileOps>(files: &mut F, at: &Place, name: &[u8]) -> Result<Option<Info>, Refusal>
+    requires { IsTrue (F.whole files.old) }
+    ensures looks { Looks (Ok (nine.found_at (served (F.whole files.old) (F.largest files.old)) (F.world files.old) at.now name.now))
+        (MayMiss (F.faults files.old) (F.faults files.new) (F.honest files.old)) result }
+    ensures world { F.world files.new ≡ F.world files.old }
+    ensures keeps { F.keeps files.old files.new }
+{
+    where_there(named_at(files, at, name))
+}
+
+/// The bytes of /adm/users in the active tree.
+fn users_file<F: FileOps>(alloc: Global, files: &mut F) -> Result<Option<Bytes>, Refusal>
+    requires { IsTrue (F.whole files.old) }
+    ensures looks { Looks (Ok (nine.users_file (served (F.whole files.old) (F.largest files.old)) (F.world files.old)))
+        (MayMiss (F.faults files.old) (F.faults files.new) (F.honest files.old)) result }
+    ensures world { F.world files.new ≡ F.world files.old }
+    ensures keeps { F.keeps files.old files.new }
+{
+    let root = Place::root(alloc, View::Active);
+    let Some(dir) = found_at(files, &root, b"adm")? else {
+        return Ok(None);
+    };
+    let Some(file) = found_at(files, &dir.place, b"users")? else {
+        return Ok(None);
+    };
+    small_file(alloc, files, &file)
+}
+
+/// The table that the bytes spell, or else the standard one.
+fn users_in(alloc: Global, bytes: &[u8]) -> Result<Users, Refusal>
+    ensures users { IfOk result (λ users. users ≡ unwrap_or (table_in bytes.now) standard_table) }
+    ensures lines { IfOk result (λ users. list_all is_line users ≡ true) }
+    ensures memory { IfErr result (λ r. r ≡ refusal.File failure.Memory) }
+{
+    match read_users(alloc, bytes) {
+        Ok(users) => Ok(users),
+        Err(UsersError::BadUsers) => Ok(Users::standard(alloc)?),
+        Err(UsersError::Memory) => Err(Refusal::File(FileError::Memory)),
+    }
+}
+
+/// The same, where there may be no bytes.
+fn users_or_standard(alloc: Global, bytes: &Option<Bytes>) -> Result<Users, Refusal>
+    ensures users { IfOk result (λ users. users ≡ unwrap_or (option_and_then table_in bytes.now) standard_table) }
+    ensures lines { IfOk result (λ users. list_all is_line users ≡ true) }
+    ensures memory { IfErr result (λ r. r ≡ refusal.File failure.Memory) }
+{
+    match bytes {
+        Some(bytes) => users_in(alloc, bytes.as_slice()),
+        None => Ok(Users::standard(alloc)?),
+    }
+}
+
+/// The table of users: that of /adm/users in the active tree, or else the standard one.
+pub fn table_of<F: FileOps>(alloc: Global, files: &mut F) -> Result<Users, Refusal>
+    requires { IsTrue (F.whole files.old) }
+    ensures looks { Looks (Ok (nine.table_of (served (F.whole files.old) (F.largest files.old)) (F.world files.old)))
+        (MayMiss (F.faults files.old) (F.faults files.new) (F.honest files.old)) result }
+    ensures lines { IfOk result (λ users. list_all is_line users ≡ true) }
+    ensures world { F.world files.new ≡ F.world files.old }
+    ensures keeps { F.keeps files.old files.new }
+{
+    let bytes = users_file(alloc, files)?;
+    users_or_standard(alloc, &bytes)
+}
+
+/// The user who attaches under this name.
+#[tactic(auto, unfolding(crate::specs::Rights::user_of))]
+pub fn user_of(alloc: Global, users: &Users, name: &Name) -> Result<Name, Refusal>
+    requires { list_all is_line users.now ≡ true }
+    ensures user { IfOk result (λ user. user ≡ nine.user_of users.now name.now) }
+    ensures fits { IfOk result IsUser }
+    ensures memory { IfErr result (λ r. r ≡ refusal.File failure.Memory) }
+{
+    if users.known(name) {
+        return Ok(name.copy(alloc)?);
+    }
+    Ok(Name::copy_of(alloc, b"none")?)
+}
+
+/// Whether a user owns a file, or leads its group.
+#[tactic(auto, unfolding(crate::specs::Rights::owns))]
+pub fn owns(users: &Users, user: &Name, info: &Info) -> bool
+    ensures { result ≡ nine.owns users.now user.now info.now }
+{
+    user.as_slice() == info.uid.as_slice() || users.leader(user, &info.gid)
+}
+
+/// Whether a user may give a file to a group.
+#[tactic(auto, unfolding(crate::specs::Rights::may_give))]
+pub fn may_give(users: &Users, user: &Name, info: &Info, gid: &Name) -> bool
+    ensures { result ≡ nine.may_give users.now user.now info.now gid.now }
+{
+    (user.as_slice() == info.uid.as_slice() && users.member(user, gid))
+        || (users.leader(user, &info.gid) && users.leader(user, gid))
+}
+
+/// Refuses who may not write in the directory that holds a fid's file.
+pub fn may_write_above<F: FileOps>(files: &mut F, users: &Users, fid: &Fid) -> Result<(), Refusal>
+    requires whole { IsTrue (F.whole files.old) }
+    requires users { users.now ≡ nine.table_of (served (F.whole files.old) (F.largest files.old)) (F.world files.old) }
+    ensures looks { Looks (nine.may_write_above (served (F.whole files.old) (F.largest files.old)) (F.world files.old) fid.now)
+        (MayMiss (F.faults files.old) (F.faults files.new) (F.honest files.old)) result }
+    ensures world { F.world files.new ≡ F.world files.old }
+    ensures keeps { F.keeps files.old files.new }
+{
+    let dir = parent_at(files, &fid.place)?;
+    if !users.may(&fid.user, &dir, Right::Write) {
+        return Err(Refusal::PermissionDenied);
+    }
+    Ok(())
+}

@@ -1,0 +1,13 @@
+pub mod Chains
+pub mod Ends
+pub mod Starts
+pub mod Trying
+pub mod Kept
+pub mod Links
+pub mod Listing
+pub mod Steps
+pub mod Transfers
+pub mod Walks
+pub mod Opens
+pub mod Records
+pub mod Restates

@@ -1,0 +1,235 @@
+-- Topen and Tcreate, step by step.
+use Rattle.std.proofs.Common.{◌≡◌, ℕ, ◌⊎◌, List, Bool, true, false, not, Option, Result, Ok, Err, refl, ap, ◌∙◌, inl, inr, ⊎_elim}
+use Rattle.std.specs.Prelude.{◌&&◌, ⊤, is_ok, IfOk}
+use Rattle.nine_fields.specs.declared.qid.Qid.{Qid}
+use Rattle.nine_wire.specs.declared.message.Reply.{Reply}
+use Rattle.nine_wire.specs.declared.message.Reply.TheVariants as reply
+use Rattle.fo_world.specs.declared.place.Info.{Info}
+use Rattle.fo_world.specs.declared.place.Place.{Place}
+use Rattle.fo_world.specs.declared.error.FileError.{FileError}
+use Rattle.fo_world.specs.declared.error.FileError.TheVariants as error
+use Rattle.fo_world.specs.Limits.{IsChange}
+use Rattle.fo_world.specs.World.{World}
+use Rattle.fo_world.specs.Step as step
+use Rattle.fo_users.specs.Rights.{may}
+use Rattle.fo_users.specs.declared.right.Right.TheVariants.{Write}
+use Rattle.nine_fids.specs.declared.fid.Fid.{Fid}
+use Rattle.nine_fids.specs.declared.mode.Mode.{Mode}
+use Rattle.nine_fids.specs.declared.refusal.Refusal.{Refusal}
+use Rattle.nine_fids.specs.declared.refusal.Refusal.TheVariants as refusal
+use Rattle.nine_fids.specs.Refusing.{and_then, refuse_if, some_or, changed}
+use Rattle.nine_fids.specs.Fids.{Fids, State, version_of, fid_at, is_open}
+use Rattle.nine_fids.specs.declared.fid.Opened.{Opened}
+use Rattle.nine_fids.specs.Told.{Files, info_at, is_dir, is_exclusive, qid_of, iounit}
+use Rattle.nine_fids.specs.Modes.{mode_of, is_more}
+use Rattle.nine_fids.proofs.Missing.{ok_same}
+use Rattle.nine_fids.specs.Rights.{table_of}
+use Rattle.nine_fids.specs.Looking.{IsRefused}
+use Rattle.nine_session.specs.Opening.{allowed_mode, allowed_new, opening_rights, truncated, cuts, cut_info, emptied, open_file, create_file, new_mode, opened_so, with_open, is_bad_name}
+use Rattle.nine_session.specs.Granting.{is_held, admitted, admitted_new, told_qid, with_put}
+use Rattle.nine_session.specs.Attempting.{state}
+use Rattle.nine_session.proofs.Steps.{past_refuse, past_then, then_same, refuse_same, refuse_ok, then_ok}
+
+-- ---- the file that may be opened
+
+module _ (e : Files) (w : World) (f : Fid) (x : List ℕ) (mode : ℕ) where
+  pub admitted_open : is_open f ≡ true → admitted e w f x mode ≡ Err refusal.FidIsOpen
+  unfolding admitted
+  admitted_open h = rw h refl
+
+  pub admitted_no_info : (r : Refusal) → is_open f ≡ false → info_at e w f.place ≡ Err r → admitted e w f x mode ≡ Err r
+  unfolding admitted
+  admitted_no_info r h k = rw (h, k) refl
+
+  pub admitted_no_mode : (i : Info) (r : Refusal) → is_open f ≡ false → info_at e w f.place ≡ Ok i → allowed_mode f i mode ≡ Err r → admitted e w f x mode ≡ Err r
+  unfolding admitted
+  admitted_no_mode i r h k l = rw (h, k, l) refl
+
+  pub admitted_no_right : (i : Info) (m : Mode) (r : Refusal) → is_open f ≡ false → info_at e w f.place ≡ Ok i → allowed_mode f i mode ≡ Ok m → opening_rights e w f i m ≡ Err r → admitted e w f x mode ≡ Err r
+  unfolding admitted
+  admitted_no_right i m r h k l o = rw (h, k, l, o) refl
+
+  pub admitted_there : (i : Info) (m : Mode) → is_open f ≡ false → info_at e w f.place ≡ Ok i → allowed_mode f i mode ≡ Ok m → opening_rights e w f i m ≡ Ok tt → admitted e w f x mode ≡ refuse_if (is_held f i x) refusal.ExclusivelyOpen (Ok (i, m))
+  unfolding admitted
+  admitted_there i m h k l o = rw (h, k, l, o) refl
+
+-- ---- the directory in which a file may be made
+
+module _ (e : Files) (w : World) (f : Fid) (name : List ℕ) (perm mode : ℕ) where
+  pub new_open : is_open f ≡ true → admitted_new e w f name perm mode ≡ Err refusal.FidIsOpen
+  unfolding admitted_new
+  new_open h = rw h refl
+
+  pub new_no_info : (r : Refusal) → is_open f ≡ false → info_at e w f.place ≡ Err r → admitted_new e w f name perm mode ≡ Err r
+  unfolding admitted_new
+  new_no_info r h k = rw (h, k) refl
+
+  pub new_no_mode : (i : Info) (r : Refusal) → is_open f ≡ false → info_at e w f.place ≡ Ok i → allowed_new f i name perm mode ≡ Err r → admitted_new e w f name perm mode ≡ Err r
+  unfolding admitted_new
+  new_no_mode i r h k l = rw (h, k, l) refl
+
+  pub new_there : (i : Info) (m : Mode) → is_open f ≡ false → info_at e w f.place ≡ Ok i → allowed_new f i name perm mode ≡ Ok m → admitted_new e w f name perm mode ≡ refuse_if (not (may (table_of e w) f.user i Write)) refusal.PermissionDenied (Ok (i, m))
+  unfolding admitted_new
+  new_there i m h k l = rw (h, k, l) refl
+
+-- ---- OTRUNC
+
+abbrev FailsSo : Type 1
+FailsSo = Bool → FileError → Type 0
+
+if_any : {A E : Type 0} (r : Result A E) → IfOk r (λ _. ⊤)
+if_any (Ok x) = tt
+if_any (Err e) = tt
+
+pub emptied_is_change : (whole : Bool) (w : World) (at : Place) → IsChange whole w at emptied
+emptied_is_change whole w at = record { name = tt; gid = tt; root = λ _. refl; kind = if_any (step.reached whole w at) }
+
+pub cut_not : (e : Files) (w : World) (f : Fid) (i : Info) (m : Mode) (now : ℕ) → cuts i m ≡ false → told_qid (truncated e w f i m now) ≡ Ok (qid_of i, w)
+unfolding truncated
+cut_not e w f i m now h = rw h refl
+
+pub cut_done : (e : Files) (w : World) (f : Fid) (i : Info) (m : Mode) (now : ℕ) (w' : World) → cuts i m ≡ true → step.change e.whole e.largest w f.place emptied f.user now ≡ Ok (tt, w') → told_qid (truncated e w f i m now) ≡ Ok (qid_of (cut_info i), w')
+unfolding truncated
+cut_done e w f i m now w' h k = rw (h, k) refl
+
+cut_refused : (t : Result (Unit {0} × World) FileError) (i : Info) (fails : FailsSo) (x : FileError) → (t ≡ Err x) ⊎ fails (is_ok t) x → (let on : Result (Info × World) Refusal = and_then (changed t) (λ p. Ok (i, p.1)) in IsRefused (told_qid on) (fails (is_ok on)) (refusal.File x))
+cut_refused (Ok p) i fails x h = ⊎_elim (λ t. absurd cc) (λ m. inr (x, refl, m)) h
+cut_refused (Err y) i fails x h = ⊎_elim (λ t. inl cc) (λ m. inr (x, refl, m)) h
+
+pub cut_fails : (e : Files) (w : World) (f : Fid) (i : Info) (m : Mode) (now : ℕ) (fails : FailsSo) (x : FileError) → cuts i m ≡ true → (let t = step.change e.whole e.largest w f.place emptied f.user now in (t ≡ Err x) ⊎ fails (is_ok t) x) → IsRefused (told_qid (truncated e w f i m now)) (fails (is_ok (truncated e w f i m now))) (refusal.File x)
+unfolding truncated
+cut_fails e w f i m now fails x h k = rw h (cut_refused (step.change e.whole e.largest w f.place emptied f.user now) (cut_info i) fails x k)
+
+-- ---- Topen
+
+granted_from : (t : Result (Info × World) Refusal) (q : Qid) (w : World) (rest : Qid → World → Reply × State) → told_qid t ≡ Ok (q, w) → and_then t (λ p. Ok (rest (qid_of p.0) p.1)) ≡ Ok (rest q w)
+granted_from (Ok p) q w rest h =
+    let same : (let pair : Qid × World = (qid_of p.0, p.1) in pair) ≡ (q, w) = ok_same _ _ h in
+    ap (λ (pair : Qid × World). Ok (rest pair.0 pair.1)) same
+granted_from (Err r) q w rest h = absurd cc
+
+fails_from : (t : Result (Info × World) Refusal) (rest : Info × World → Reply × State) (r : Refusal) (fails fails' : FailsSo) → ((b : Bool) (x : FileError) → fails b x → fails' b x) → IsRefused (told_qid t) (fails (is_ok t)) r → (let on : Result (Reply × State) Refusal = and_then t (λ p. Ok (rest p)) in IsRefused on (fails' (is_ok on)) r)
+fails_from (Ok p) rest r fails fails' up h = ⊎_elim (λ t. absurd cc) (λ m. inr (m.0, m.1, up true m.0 m.2)) h
+fails_from (Err y) rest r fails fails' up h = ⊎_elim (λ t. inl cc) (λ m. inr (m.0, m.1, up false m.0 m.2)) h
+
+abbrev pub opened_from : Files → State → ℕ → ℕ → Fid → Info × Mode → Result (Reply × State) Refusal
+opened_from e z now msize f a = and_then (truncated e z.world f a.0 a.1 now) (λ p. Ok (reply.Open (qid_of p.0) (iounit msize), with_open (record z { world = p.1 }) f f.place a.1 (is_exclusive a.0.mode)))
+
+module _ (e : Files) (z : State) (now fid mode : ℕ) where
+  pub open_no_version : (r : Refusal) → version_of z ≡ Err r → open_file e z now fid mode ≡ Err r
+  unfolding open_file
+  open_no_version r h = rw h refl
+
+  pub open_no_fid : (msize : ℕ) (r : Refusal) → version_of z ≡ Ok msize → fid_at z fid ≡ Err r → open_file e z now fid mode ≡ Err r
+  unfolding open_file
+  open_no_fid msize r h k = rw (h, k) refl
+
+  pub open_chain : (msize : ℕ) (f : Fid) → version_of z ≡ Ok msize → fid_at z fid ≡ Ok f → open_file e z now fid mode ≡ and_then (admitted e z.world f z.exclusive mode) (opened_from e z now msize f)
+  unfolding open_file admitted
+  open_chain msize f h k =
+      rw (h, k)
+      (refuse_same (is_open f) refusal.FidIsOpen _ _
+      (then_same (info_at e z.world f.place) _ _ (λ i.
+      then_same (allowed_mode f i mode) _ _ (λ m.
+      then_same (opening_rights e z.world f i m) _ _ (λ _.
+      past_refuse (is_held f i z.exclusive) refusal.ExclusivelyOpen (Ok (i, m)) (opened_from e z now msize f))
+      ∙ past_then (opening_rights e z.world f i m) _ (opened_from e z now msize f))
+      ∙ past_then (allowed_mode f i mode) _ (opened_from e z now msize f))
+      ∙ past_then (info_at e z.world f.place) _ (opened_from e z now msize f))
+      ∙ past_refuse (is_open f) refusal.FidIsOpen _ (opened_from e z now msize f))
+
+  pub open_refused : (msize : ℕ) (f : Fid) (r : Refusal) → version_of z ≡ Ok msize → fid_at z fid ≡ Ok f → admitted e z.world f z.exclusive mode ≡ Err r → open_file e z now fid mode ≡ Err r
+  open_refused msize f r h k l = open_chain msize f h k ∙ ap (λ t. and_then t (opened_from e z now msize f)) l
+
+  open_at : (msize : ℕ) (f : Fid) (a : Info × Mode) → version_of z ≡ Ok msize → fid_at z fid ≡ Ok f → admitted e z.world f z.exclusive mode ≡ Ok a → open_file e z now fid mode ≡ opened_from e z now msize f a
+  open_at msize f a h k l = open_chain msize f h k ∙ ap (λ t. and_then t (opened_from e z now msize f)) l
+
+  pub open_granted : (msize : ℕ) (f : Fid) (i : Info) (m : Mode) (q : Qid) (w : World) → version_of z ≡ Ok msize → fid_at z fid ≡ Ok f → admitted e z.world f z.exclusive mode ≡ Ok (i, m) → told_qid (truncated e z.world f i m now) ≡ Ok (q, w) → open_file e z now fid mode ≡ Ok (reply.Open q (iounit msize), with_open (record z { world = w }) f f.place m (is_exclusive i.mode))
+  open_granted msize f i m q w h k l t = open_at msize f (i, m) h k l ∙ granted_from (truncated e z.world f i m now) q w (λ p v. (reply.Open p (iounit msize), with_open (record z { world = v }) f f.place m (is_exclusive i.mode))) t
+
+  pub open_fails : (msize : ℕ) (f : Fid) (i : Info) (m : Mode) (r : Refusal) (fails fails' : FailsSo) → version_of z ≡ Ok msize → fid_at z fid ≡ Ok f → admitted e z.world f z.exclusive mode ≡ Ok (i, m) → ((b : Bool) (x : FileError) → fails b x → fails' b x) → IsRefused (told_qid (truncated e z.world f i m now)) (fails (is_ok (truncated e z.world f i m now))) r → IsRefused (open_file e z now fid mode) (fails' (is_ok (open_file e z now fid mode))) r
+  open_fails msize f i m r fails fails' h k l up p =
+      rw (open_at msize f (i, m) h k l) (fails_from (truncated e z.world f i m now) (λ p. (reply.Open (qid_of p.0) (iounit msize), with_open (record z { world = p.1 }) f f.place m (is_exclusive i.mode))) r fails fails' up p)
+
+-- ---- Tcreate
+
+made_by : (t : Result (Info × World) FileError) (p : Info × World) (rest : Info × World → Reply × State) → t ≡ Ok p → and_then (changed t) (λ q. Ok (rest q)) ≡ Ok (rest p)
+made_by t p rest h = ap (λ r. and_then (changed r) (λ q. Ok (rest q))) h
+
+made_fails : (t : Result (Info × World) FileError) (rest : Info × World → Reply × State) (x : FileError) (fails fails' : FailsSo) → ((b : Bool) (y : FileError) → fails b y → fails' b y) → (t ≡ Err x) ⊎ fails (is_ok t) x → (let on : Result (Reply × State) Refusal = and_then (changed t) (λ p. Ok (rest p)) in IsRefused on (fails' (is_ok on)) (refusal.File x))
+made_fails (Ok p) rest x fails fails' up h = ⊎_elim (λ t. absurd cc) (λ m. inr (x, refl, up true x m)) h
+made_fails (Err y) rest x fails fails' up h = ⊎_elim (λ t. inl cc) (λ m. inr (x, refl, up false x m)) h
+
+named_well : (f : Fid) (above : Info) (name : List ℕ) (perm mode : ℕ) (m : Mode) → allowed_new f above name perm mode ≡ Ok m → is_bad_name name ≡ false
+unfolding allowed_new
+named_well f above name perm mode m h =
+    let t3 : Result Mode Refusal = and_then (some_or (mode_of mode) refusal.BadOpenMode) (λ k. refuse_if (is_dir perm && is_more k) refusal.BadOpenMode (Ok k)) in
+    let t2 : Result Mode Refusal = refuse_if (is_bad_name name) refusal.BadName t3 in
+    let t1 : Result Mode Refusal = refuse_if (not (step.is_active f.place.view)) (refusal.File error.ReadOnly) t2 in
+    let first = refuse_ok (not (is_dir above.mode)) (refusal.File error.NotDir) t1 m h in
+    let second = refuse_ok (not (step.is_active f.place.view)) (refusal.File error.ReadOnly) t2 m first.1 in
+    (refuse_ok (is_bad_name name) refusal.BadName t3 m second.1).0
+
+-- a directory in which a file may be made, and a name that it may have
+pub new_named : (e : Files) (w : World) (f : Fid) (name : List ℕ) (perm mode : ℕ) (a : Info × Mode) → admitted_new e w f name perm mode ≡ Ok a → is_bad_name name ≡ false
+unfolding admitted_new
+new_named e w f name perm mode a h =
+    let last : Info → Mode → Result (Info × Mode) Refusal = λ above m. refuse_if (not (may (table_of e w) f.user above Write)) refusal.PermissionDenied (Ok (above, m)) in
+    let go : Info → Result (Info × Mode) Refusal = λ above. and_then (allowed_new f above name perm mode) (last above) in
+    let first = refuse_ok (is_open f) refusal.FidIsOpen (and_then (info_at e w f.place) go) a h in
+    let second = then_ok (info_at e w f.place) go a first.1 in
+    let third = then_ok (allowed_new f second.0 name perm mode) (last second.0) a second.2 in
+    named_well f second.0 name perm mode third.0 third.1
+
+abbrev pub made_from : Files → State → ℕ → List ℕ → ℕ → ℕ → Fid → Info × Mode → Result (Reply × State) Refusal
+made_from e z now name perm msize f a =
+    and_then (changed (step.create e.whole z.world f.place name (new_mode perm a.0.mode) f.user f.user a.0.gid now)) (λ p.
+    Ok (reply.Create (qid_of p.0) (iounit msize), with_open (record z { world = p.1 }) f p.0.place a.1 (is_exclusive p.0.mode)))
+
+module _ (e : Files) (z : State) (now fid : ℕ) (name : List ℕ) (perm mode : ℕ) where
+  pub create_no_version : (r : Refusal) → version_of z ≡ Err r → create_file e z now fid name perm mode ≡ Err r
+  unfolding create_file
+  create_no_version r h = rw h refl
+
+  pub create_no_fid : (msize : ℕ) (r : Refusal) → version_of z ≡ Ok msize → fid_at z fid ≡ Err r → create_file e z now fid name perm mode ≡ Err r
+  unfolding create_file
+  create_no_fid msize r h k = rw (h, k) refl
+
+  pub create_chain : (msize : ℕ) (f : Fid) → version_of z ≡ Ok msize → fid_at z fid ≡ Ok f → create_file e z now fid name perm mode ≡ and_then (admitted_new e z.world f name perm mode) (made_from e z now name perm msize f)
+  unfolding create_file admitted_new
+  create_chain msize f h k =
+      rw (h, k)
+      (refuse_same (is_open f) refusal.FidIsOpen _ _
+      (then_same (info_at e z.world f.place) _ _ (λ i.
+      then_same (allowed_new f i name perm mode) _ _ (λ m.
+      past_refuse (not (may (table_of e z.world) f.user i Write)) refusal.PermissionDenied (Ok (i, m)) (made_from e z now name perm msize f))
+      ∙ past_then (allowed_new f i name perm mode) _ (made_from e z now name perm msize f))
+      ∙ past_then (info_at e z.world f.place) _ (made_from e z now name perm msize f))
+      ∙ past_refuse (is_open f) refusal.FidIsOpen _ (made_from e z now name perm msize f))
+
+  pub create_refused : (msize : ℕ) (f : Fid) (r : Refusal) → version_of z ≡ Ok msize → fid_at z fid ≡ Ok f → admitted_new e z.world f name perm mode ≡ Err r → create_file e z now fid name perm mode ≡ Err r
+  create_refused msize f r h k l = create_chain msize f h k ∙ ap (λ t. and_then t (made_from e z now name perm msize f)) l
+
+  create_at : (msize : ℕ) (f : Fid) (a : Info × Mode) → version_of z ≡ Ok msize → fid_at z fid ≡ Ok f → admitted_new e z.world f name perm mode ≡ Ok a → create_file e z now fid name perm mode ≡ made_from e z now name perm msize f a
+  create_at msize f a h k l = create_chain msize f h k ∙ ap (λ t. and_then t (made_from e z now name perm msize f)) l
+
+  pub create_granted : (msize : ℕ) (f : Fid) (i : Info) (m : Mode) (j : Info) (w : World) → version_of z ≡ Ok msize → fid_at z fid ≡ Ok f → admitted_new e z.world f name perm mode ≡ Ok (i, m) → step.create e.whole z.world f.place name (new_mode perm i.mode) f.user f.user i.gid now ≡ Ok (j, w) → create_file e z now fid name perm mode ≡ Ok (reply.Create (qid_of j) (iounit msize), with_open (record z { world = w }) f j.place m (is_exclusive j.mode))
+  create_granted msize f i m j w h k l t = create_at msize f (i, m) h k l ∙ made_by (step.create e.whole z.world f.place name (new_mode perm i.mode) f.user f.user i.gid now) (j, w) (λ p. (reply.Create (qid_of p.0) (iounit msize), with_open (record z { world = p.1 }) f p.0.place m (is_exclusive p.0.mode))) t
+
+  pub create_fails : (msize : ℕ) (f : Fid) (i : Info) (m : Mode) (x : FileError) (fails fails' : FailsSo) → version_of z ≡ Ok msize → fid_at z fid ≡ Ok f → admitted_new e z.world f name perm mode ≡ Ok (i, m) → ((b : Bool) (y : FileError) → fails b y → fails' b y) → (let t = step.create e.whole z.world f.place name (new_mode perm i.mode) f.user f.user i.gid now in (t ≡ Err x) ⊎ fails (is_ok t) x) → IsRefused (create_file e z now fid name perm mode) (fails' (is_ok (create_file e z now fid name perm mode))) (refusal.File x)
+  create_fails msize f i m x fails fails' h k l up p =
+      rw (create_at msize f (i, m) h k l) (made_fails (step.create e.whole z.world f.place name (new_mode perm i.mode) f.user f.user i.gid now) (λ p. (reply.Create (qid_of p.0) (iounit msize), with_open (record z { world = p.1 }) f p.0.place m (is_exclusive p.0.mode))) x fails fails' up p)
+
+-- ---- a fid put in its place
+
+pub fid_made : (g : Fid) (n n' : ℕ) (u u' : List ℕ) (p p' : Place) (o o' : Option Opened) → g ≡ record { number = n; user = u; place = p; opened = o } → n ≡ n' → u ≡ u' → p ≡ p' → o ≡ o' → g ≡ record { number = n'; user = u'; place = p'; opened = o' }
+fid_made g n n' u u' p p' o o' is a b c d = is ∙ rw (a, b, c, d) refl
+
+pub put_is_open : (s : Fids) (x x' : List ℕ) (w w' : World) (f g : Fid) (at : Place) (m : Mode) (held held' : Bool) → x' ≡ x → held' ≡ held → g ≡ record { number = f.number; user = f.user; place = at; opened = opened_so m held } → with_put (state s x' w') g held' ≡ with_open (record { session = s; exclusive = x; world = w' }) f at m held
+put_is_open s x x' w w' f g at m held held' h k l = rw (h, k, l) refl
+
+pub open_replied : (told : Result (Reply × State) Refusal) (q : Qid) (n n' : ℕ) (z z' : State) → told ≡ Ok (reply.Open q n, z) → n' ≡ n → z' ≡ z → told ≡ Ok (reply.Open q n', z')
+open_replied told q n n' z z' h k l = h ∙ rw (k, l) refl
+
+pub create_replied : (told : Result (Reply × State) Refusal) (q q' : Qid) (n n' : ℕ) (z z' : State) → told ≡ Ok (reply.Create q n, z) → q' ≡ q → n' ≡ n → z' ≡ z → told ≡ Ok (reply.Create q' n', z')
+create_replied told q q' n n' z z' h j k l = h ∙ rw (j, k, l) refl

@@ -1,0 +1,175 @@
+-- Tread and Twrite: what they tell, once what they ask for first is known.
+use Rattle.std.proofs.Common.{◌≡◌, ℕ, ◌≤◌, List, length, take, drop, min, true, false, not, Result, Ok, Err, ◌==◌, refl, sym, ap, ◌∙◌, arith}
+use Rattle.std.specs.Prelude.{IfOk, is_ok, if◌then◌else◌}
+use Rattle.std.proofs.lemmas.List.{length-take}
+use Rattle.std.proofs.lemmas.Result.{IfOk-at_ok}
+use Rattle.nine_wire.specs.declared.message.Reply.{Reply}
+use Rattle.nine_wire.specs.declared.message.Reply.TheVariants as reply
+use Rattle.fo_world.specs.declared.place.Info.{Info}
+use Rattle.fo_world.specs.declared.place.Place.{Place}
+use Rattle.fo_world.specs.declared.tree.Node.{Node}
+use Rattle.fo_world.specs.declared.tree.Body.{Body}
+use Rattle.fo_world.specs.declared.tree.Body.TheVariants.{File, Dir}
+use Rattle.fo_world.specs.declared.error.FileError.{FileError}
+use Rattle.fo_world.specs.World.{World}
+use Rattle.fo_world.specs.Step as step
+use Rattle.nine_fids.specs.declared.fid.Fid.{Fid}
+use Rattle.nine_fids.specs.declared.fid.Opened.{Opened}
+use Rattle.nine_fids.specs.declared.refusal.Refusal.{Refusal}
+use Rattle.nine_fids.specs.declared.refusal.Refusal.TheVariants as refusal
+use Rattle.nine_fids.specs.Refusing.{and_then, refuse_if, looked, changed}
+use Rattle.nine_fids.specs.Fids.{State, version_of, fid_at, opened_of, in_world}
+use Rattle.nine_fids.specs.Told.{Files, info_at, bytes_at, is_dir, iounit}
+use Rattle.nine_fids.specs.Modes.{reads, writes}
+use Rattle.nine_session.specs.Session.{Told}
+use Rattle.nine_session.specs.Reading.{read, read_directory, write}
+use Rattle.nine_session.specs.Parts.{write_start}
+use Rattle.nine_fids.specs.Looking.{IsRefused}
+use Rattle.nine_session.proofs.Listing.{directory_from, directory_there}
+use Rattle.nine_session.proofs.Links.{then_ok, then_err, refuse_yes, refuse_no, link_refused, same_refused}
+
+-- ---- an open fid, where a version is agreed to
+
+abbrev pub Going : Type 0
+Going = ℕ → Fid → Opened → Told
+
+abbrev pub with_opened : State → ℕ → Going → Told
+with_opened z fid go = and_then (version_of z) (λ m. and_then (fid_at z fid) (λ f. and_then (opened_of f) (go m f)))
+
+pub no_version : (z : State) (fid : ℕ) (go : Going) (r : Refusal) → version_of z ≡ Err r → with_opened z fid go ≡ Err r
+no_version z fid go r h = then_err (version_of z) r (λ m. and_then (fid_at z fid) (λ f. and_then (opened_of f) (go m f))) h
+
+version_there : (z : State) (fid : ℕ) (go : Going) (m : ℕ) → version_of z ≡ Ok m → with_opened z fid go ≡ and_then (fid_at z fid) (λ f. and_then (opened_of f) (go m f))
+version_there z fid go m h = then_ok (version_of z) m (λ m. and_then (fid_at z fid) (λ f. and_then (opened_of f) (go m f))) h
+
+pub no_fid : (z : State) (fid : ℕ) (go : Going) (m : ℕ) (r : Refusal) → version_of z ≡ Ok m → fid_at z fid ≡ Err r → with_opened z fid go ≡ Err r
+no_fid z fid go m r h k = version_there z fid go m h ∙ then_err (fid_at z fid) r (λ f. and_then (opened_of f) (go m f)) k
+
+fid_found : (z : State) (fid : ℕ) (go : Going) (m : ℕ) (f : Fid) → version_of z ≡ Ok m → fid_at z fid ≡ Ok f → with_opened z fid go ≡ and_then (opened_of f) (go m f)
+fid_found z fid go m f h k = version_there z fid go m h ∙ then_ok (fid_at z fid) f (λ f. and_then (opened_of f) (go m f)) k
+
+pub not_opened : (z : State) (fid : ℕ) (go : Going) (m : ℕ) (f : Fid) (r : Refusal) → version_of z ≡ Ok m → fid_at z fid ≡ Ok f → opened_of f ≡ Err r → with_opened z fid go ≡ Err r
+not_opened z fid go m f r h k j = fid_found z fid go m f h k ∙ then_err (opened_of f) r (go m f) j
+
+pub opened_there : (z : State) (fid : ℕ) (go : Going) (m : ℕ) (f : Fid) (o : Opened) → version_of z ≡ Ok m → fid_at z fid ≡ Ok f → opened_of f ≡ Ok o → with_opened z fid go ≡ go m f o
+opened_there z fid go m f o h k j = fid_found z fid go m f h k ∙ then_ok (opened_of f) o (go m f) j
+
+-- ---- Tread
+
+-- of a file that is there
+abbrev pub reading : Files → State → ℕ → ℕ → ℕ → Fid → Opened → Info → Told
+reading e z offset count m f o i =
+    if is_dir i.mode then read_directory e z f o offset (min count (iounit m))
+    else and_then (bytes_at e z.world f.place offset (min count (iounit m))) (λ bytes. Ok (reply.Read bytes, z))
+
+-- of an open fid
+abbrev pub reads_from : Files → State → ℕ → ℕ → Going
+reads_from e z offset count m f o = refuse_if (not (reads o.access)) refusal.NotForReading (and_then (info_at e z.world f.place) (reading e z offset count m f o))
+
+pub read_begins : (e : Files) (z : State) (fid offset count : ℕ) → read e z fid offset count ≡ with_opened z fid (reads_from e z offset count)
+unfolding read
+read_begins e z fid offset count = refl
+
+pub reads_not : (e : Files) (z : State) (offset count m : ℕ) (f : Fid) (o : Opened) → reads o.access ≡ false → reads_from e z offset count m f o ≡ Err refusal.NotForReading
+reads_not e z offset count m f o h = refuse_yes (not (reads o.access)) refusal.NotForReading (and_then (info_at e z.world f.place) (reading e z offset count m f o)) (ap not h)
+
+pub reads_on : (e : Files) (z : State) (offset count m : ℕ) (f : Fid) (o : Opened) → reads o.access ≡ true → reads_from e z offset count m f o ≡ and_then (info_at e z.world f.place) (reading e z offset count m f o)
+reads_on e z offset count m f o h = refuse_no (not (reads o.access)) refusal.NotForReading (and_then (info_at e z.world f.place) (reading e z offset count m f o)) (ap not h)
+
+pub reads_directory : (e : Files) (z : State) (offset count m : ℕ) (f : Fid) (o : Opened) (i : Info) → is_dir i.mode ≡ true → reading e z offset count m f o i ≡ read_directory e z f o offset (min count (iounit m))
+reads_directory e z offset count m f o i h = rw h refl
+
+pub reads_file : (e : Files) (z : State) (offset count m : ℕ) (f : Fid) (o : Opened) (i : Info) → is_dir i.mode ≡ false → reading e z offset count m f o i ≡ and_then (bytes_at e z.world f.place offset (min count (iounit m))) (λ bytes. Ok (reply.Read bytes, z))
+reads_file e z offset count m f o i h = rw h refl
+
+pub read_opened : (e : Files) (z : State) (fid offset count m : ℕ) (f : Fid) (o : Opened) → version_of z ≡ Ok m → fid_at z fid ≡ Ok f → opened_of f ≡ Ok o → reads o.access ≡ true → read e z fid offset count ≡ and_then (info_at e z.world f.place) (reading e z offset count m f o)
+read_opened e z fid offset count m f o v h k a =
+    read_begins e z fid offset count ∙ opened_there z fid (reads_from e z offset count) m f o v h k ∙ reads_on e z offset count m f o a
+
+pub read_missed : (e : Files) (z : State) (fid offset count m : ℕ) (f : Fid) (o : Opened) (P : FileError → Type 0) (r : Refusal) → version_of z ≡ Ok m → fid_at z fid ≡ Ok f → opened_of f ≡ Ok o → reads o.access ≡ true → IsRefused (info_at e z.world f.place) P r → IsRefused (read e z fid offset count) P r
+read_missed e z fid offset count m f o P r v h k a refused =
+    same_refused (read e z fid offset count) (and_then (info_at e z.world f.place) (reading e z offset count m f o)) P r (read_opened e z fid offset count m f o v h k a)
+    (link_refused (info_at e z.world f.place) (reading e z offset count m f o) P r refused)
+
+pub read_there : (e : Files) (z : State) (fid offset count m : ℕ) (f : Fid) (o : Opened) (i : Info) → version_of z ≡ Ok m → fid_at z fid ≡ Ok f → opened_of f ≡ Ok o → reads o.access ≡ true → info_at e z.world f.place ≡ Ok i → read e z fid offset count ≡ reading e z offset count m f o i
+read_there e z fid offset count m f o i v h k a there = read_opened e z fid offset count m f o v h k a ∙ then_ok (info_at e z.world f.place) i (reading e z offset count m f o) there
+
+-- of a directory
+pub read_lists : (e : Files) (z : State) (fid offset count m : ℕ) (f : Fid) (o : Opened) (i : Info) → version_of z ≡ Ok m → fid_at z fid ≡ Ok f → opened_of f ≡ Ok o → reads o.access ≡ true → info_at e z.world f.place ≡ Ok i → is_dir i.mode ≡ true → read e z fid offset count ≡ directory_from e z fid offset (min count (iounit m))
+read_lists e z fid offset count m f o i v h k a there d =
+    read_there e z fid offset count m f o i v h k a there ∙ reads_directory e z offset count m f o i d ∙ sym (directory_there e z fid offset (min count (iounit m)) f o h k)
+
+-- of another file
+pub read_bytes : (e : Files) (z : State) (fid offset count m : ℕ) (f : Fid) (o : Opened) (i : Info) → version_of z ≡ Ok m → fid_at z fid ≡ Ok f → opened_of f ≡ Ok o → reads o.access ≡ true → info_at e z.world f.place ≡ Ok i → is_dir i.mode ≡ false → read e z fid offset count ≡ and_then (bytes_at e z.world f.place offset (min count (iounit m))) (λ bytes. Ok (reply.Read bytes, z))
+read_bytes e z fid offset count m f o i v h k a there d =
+    read_there e z fid offset count m f o i v h k a there ∙ reads_file e z offset count m f o i d
+
+pub read_unread : (e : Files) (z : State) (fid offset count m : ℕ) (f : Fid) (o : Opened) (i : Info) (P : FileError → Type 0) (r : Refusal) → version_of z ≡ Ok m → fid_at z fid ≡ Ok f → opened_of f ≡ Ok o → reads o.access ≡ true → info_at e z.world f.place ≡ Ok i → is_dir i.mode ≡ false → IsRefused (bytes_at e z.world f.place offset (min count (iounit m))) P r → IsRefused (read e z fid offset count) P r
+read_unread e z fid offset count m f o i P r v h k a there d refused =
+    let told : List ℕ → Told = λ bytes. Ok (reply.Read bytes, z) in
+    same_refused (read e z fid offset count) (and_then (bytes_at e z.world f.place offset (min count (iounit m))) told) P r (read_bytes e z fid offset count m f o i v h k a there d)
+    (link_refused (bytes_at e z.world f.place offset (min count (iounit m))) told P r refused)
+
+pub read_whole : (e : Files) (z : State) (fid offset count m : ℕ) (f : Fid) (o : Opened) (i : Info) (bytes : List ℕ) → version_of z ≡ Ok m → fid_at z fid ≡ Ok f → opened_of f ≡ Ok o → reads o.access ≡ true → info_at e z.world f.place ≡ Ok i → is_dir i.mode ≡ false → bytes_at e z.world f.place offset (min count (iounit m)) ≡ Ok bytes → read e z fid offset count ≡ Ok (reply.Read bytes, z)
+read_whole e z fid offset count m f o i bytes v h k a there d is =
+    let told : List ℕ → Told = λ bytes. Ok (reply.Read bytes, z) in
+    read_bytes e z fid offset count m f o i v h k a there d ∙ then_ok (bytes_at e z.world f.place offset (min count (iounit m))) bytes told is
+
+-- no more bytes than the count
+body_short : (w : World) (b : Body) (offset count : ℕ) → IfOk (looked (step.and_then (step.as_file b) (λ bytes. let out : Result (List ℕ × World) FileError = Ok (take count (drop offset bytes), w) in out))) (λ bytes. length bytes ≤ count)
+body_short w (File bytes) offset count = omega (arith, length-take count (drop offset bytes))
+body_short w (Dir names) offset count = tt
+
+reached_short : (w : World) (r : Result (List ℕ × Node) FileError) (offset count : ℕ) → IfOk (looked (step.and_then r (λ f. step.and_then (step.as_file f.1.body) (λ bytes. let out : Result (List ℕ × World) FileError = Ok (take count (drop offset bytes), w) in out)))) (λ bytes. length bytes ≤ count)
+reached_short w (Ok f) offset count = body_short w f.1.body offset count
+reached_short w (Err x) offset count = tt
+
+all_short : (e : Files) (w : World) (at : Place) (offset count : ℕ) → IfOk (bytes_at e w at offset count) (λ bytes. length bytes ≤ count)
+unfolding bytes_at step.read
+all_short e w at offset count = reached_short w (step.reached e.whole w at) offset count
+
+pub bytes_short : (e : Files) (w : World) (at : Place) (offset count : ℕ) (bytes : List ℕ) → bytes_at e w at offset count ≡ Ok bytes → length bytes ≤ count
+bytes_short e w at offset count bytes is = IfOk-at_ok (λ bytes. length bytes ≤ count) is (all_short e w at offset count)
+
+-- ---- Twrite
+
+abbrev pub writing : Files → State → ℕ → ℕ → List ℕ → Fid → Info → Told
+writing e z now offset bytes f i =
+    if length bytes == 0 then Ok (reply.Write 0, z)
+    else and_then (changed (step.write e.whole e.largest z.world f.place (write_start i offset) bytes f.user now)) (λ p. Ok (reply.Write (length bytes), in_world z p.1))
+
+abbrev pub writes_to : Files → State → ℕ → ℕ → List ℕ → Going
+writes_to e z now offset bytes m f o = refuse_if (not (writes o.access)) refusal.NotForWriting (and_then (info_at e z.world f.place) (writing e z now offset bytes f))
+
+pub write_begins : (e : Files) (z : State) (now fid offset : ℕ) (bytes : List ℕ) → write e z now fid offset bytes ≡ with_opened z fid (writes_to e z now offset bytes)
+unfolding write
+write_begins e z now fid offset bytes = refl
+
+pub writes_not : (e : Files) (z : State) (now offset m : ℕ) (bytes : List ℕ) (f : Fid) (o : Opened) → writes o.access ≡ false → writes_to e z now offset bytes m f o ≡ Err refusal.NotForWriting
+writes_not e z now offset m bytes f o h = refuse_yes (not (writes o.access)) refusal.NotForWriting (and_then (info_at e z.world f.place) (writing e z now offset bytes f)) (ap not h)
+
+pub writes_on : (e : Files) (z : State) (now offset m : ℕ) (bytes : List ℕ) (f : Fid) (o : Opened) → writes o.access ≡ true → writes_to e z now offset bytes m f o ≡ and_then (info_at e z.world f.place) (writing e z now offset bytes f)
+writes_on e z now offset m bytes f o h = refuse_no (not (writes o.access)) refusal.NotForWriting (and_then (info_at e z.world f.place) (writing e z now offset bytes f)) (ap not h)
+
+pub writes_none : (e : Files) (z : State) (now offset : ℕ) (bytes : List ℕ) (f : Fid) (i : Info) → (length bytes == 0) ≡ true → writing e z now offset bytes f i ≡ Ok (reply.Write 0, z)
+writes_none e z now offset bytes f i h = rw h refl
+
+pub writes_some : (e : Files) (z : State) (now offset : ℕ) (bytes : List ℕ) (f : Fid) (i : Info) → (length bytes == 0) ≡ false → writing e z now offset bytes f i ≡ and_then (changed (step.write e.whole e.largest z.world f.place (write_start i offset) bytes f.user now)) (λ p. Ok (reply.Write (length bytes), in_world z p.1))
+writes_some e z now offset bytes f i h = rw h refl
+
+pub write_opened : (e : Files) (z : State) (now fid offset m : ℕ) (bytes : List ℕ) (f : Fid) (o : Opened) → version_of z ≡ Ok m → fid_at z fid ≡ Ok f → opened_of f ≡ Ok o → writes o.access ≡ true → write e z now fid offset bytes ≡ and_then (info_at e z.world f.place) (writing e z now offset bytes f)
+write_opened e z now fid offset m bytes f o v h k a =
+    write_begins e z now fid offset bytes ∙ opened_there z fid (writes_to e z now offset bytes) m f o v h k ∙ writes_on e z now offset m bytes f o a
+
+pub write_missed : (e : Files) (z : State) (now fid offset m : ℕ) (bytes : List ℕ) (f : Fid) (o : Opened) (r : Refusal) → version_of z ≡ Ok m → fid_at z fid ≡ Ok f → opened_of f ≡ Ok o → writes o.access ≡ true → info_at e z.world f.place ≡ Err r → write e z now fid offset bytes ≡ Err r
+write_missed e z now fid offset m bytes f o r v h k a missed =
+    write_opened e z now fid offset m bytes f o v h k a ∙ then_err (info_at e z.world f.place) r (writing e z now offset bytes f) missed
+
+pub write_there : (e : Files) (z : State) (now fid offset m : ℕ) (bytes : List ℕ) (f : Fid) (o : Opened) (i : Info) → version_of z ≡ Ok m → fid_at z fid ≡ Ok f → opened_of f ≡ Ok o → writes o.access ≡ true → info_at e z.world f.place ≡ Ok i → write e z now fid offset bytes ≡ writing e z now offset bytes f i
+write_there e z now fid offset m bytes f o i v h k a there =
+    write_opened e z now fid offset m bytes f o v h k a ∙ then_ok (info_at e z.world f.place) i (writing e z now offset bytes f) there
+
+-- a chain that ends with a reply is granted as its last link is
+pub granted_same : {A : Type 0} (r : Result A Refusal) (go : A → Reply × State) → is_ok (and_then r (λ x. let out : Told = Ok (go x) in out)) ≡ is_ok r
+granted_same (Ok x) go = refl
+granted_same (Err e) go = refl
