@@ -7,13 +7,14 @@ use Rattle.nine_wire.specs.declared.message.Step.TheVariants as step
 use Rattle.nine_wire.specs.Message.{request_message}
 use Rattle.nine_wire.specs.Stands.{IsPart, IsFront, step_front}
 use Rattle.nine_wire.proofs.Laws.{part_none, bad_size_none, bad_body_none}
-use Rattle.fo_talk.specs.Conversation.{largest, NoMessage, IsBad}
+use Rattle.fo_talk.specs.Conversation.{NoMessage, IsBad}
+use Rattle.nine_wire.specs.Version.{largest_message}
 
 pub no_message : (limit : ℕ) (bytes : List ℕ) → IsPart limit bytes → NoMessage limit bytes
 no_message limit bytes p = record { none = λ tag r used s. part_none limit bytes tag (request_message r) used p s }
 
 -- a part of a message has room for more behind it
-pub part_room : (limit : ℕ) (bytes : List ℕ) → IsPart limit bytes → limit ≤ largest → length bytes < largest
+pub part_room : (limit : ℕ) (bytes : List ℕ) → IsPart limit bytes → limit ≤ largest_message → length bytes < largest_message
 part_room limit bytes p le = elim p.part [ inl short ↦ omega arith | inr q ↦ let most = q.0.most in omega (arith, most, q.1) ]
 
 some_bytes : (bytes more : List ℕ) → 4 ≤ length bytes → bytes ++ more ≡ [] → ⊥

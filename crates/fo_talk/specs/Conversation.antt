@@ -1,6 +1,6 @@
 -- A conversation over a stream: which entries the messages of the input make, and what is said. It
 -- speaks of lists alone, and not of buffers and pieces.
-use Rattle.std.specs.Prelude.{◌≡◌, ℕ, List, [], ◌∷◌, ◌++◌, drop, IfSome, None, Bool, true, false, if◌then◌else◌, codes}
+use Rattle.std.specs.Prelude.{◌≡◌, ℕ, List, [], ◌∷◌, ◌++◌, drop, IfSome, None, Bool, true, false, if◌then◌else◌}
 use Rattle.std.specs.declared.option.Option.{Option}
 use Rattle.std.specs.List.{flat_map}
 use Rattle.std.specs.Str.{bytes_eq}
@@ -10,6 +10,7 @@ use Rattle.nine_wire.specs.declared.message.Reply.{Reply}
 use Rattle.nine_wire.specs.declared.message.Reply.TheVariants as reply
 use Rattle.nine_wire.specs.Message.{request_message, reply_message, spelling}
 use Rattle.nine_wire.specs.Stands.{Stands}
+use Rattle.nine_wire.specs.Version.{largest_message, version_text}
 use Rattle.fo_world.specs.World.{Faults}
 
 -- what happens to a system
@@ -87,19 +88,10 @@ said entries = flat_map (λ (e : Entry). spelled e.outcome) entries
 abbrev pub output : List Exchange → List ℕ
 output exchanges = flat_map (λ (x : Exchange). said x.entries) exchanges
 
--- ---- the most bytes that a message may have
-
-abbrev pub largest : ℕ
-largest = 65560
-
--- the one version that is agreed to
-abbrev pub version_text : List ℕ
-version_text = codes "9P2000"
-
 -- what the reply to a Tversion leaves: the msize of a version that was agreed to
 abbrev pub agreed_size : Reply → ℕ
-agreed_size (reply.Version msize version) = if bytes_eq version version_text then msize else largest
-agreed_size _ = largest
+agreed_size (reply.Version msize version) = if bytes_eq version version_text then msize else largest_message
+agreed_size _ = largest_message
 
 abbrev pub limit_with : ℕ → Event → Outcome → ℕ
 limit_with limit (Asked now tag (request.Version msize version)) (Replied tag' r) = agreed_size r

@@ -6,11 +6,9 @@ ghost use Rattle.fo_talk.specs.Filling.{Filled};
 
 use fo_base::Memory;
 use fo_links::{Failed, Source};
+use nine_wire::LARGEST_MESSAGE;
 use std::alloc::Global;
 use std::marker::Model;
-
-/// The most bytes that a message may have.
-pub const LARGEST: u32 = 65560;
 
 /// The bytes that came and are not used up, at most as many as the largest message has. They lie
 /// in a buffer, and move to its front only where no room is left behind them: so each byte is moved
@@ -36,7 +34,7 @@ impl Inbox {
         ensures { IfOk result (λ inbox. inbox ≡ []) }
     {
         Ok(Inbox {
-            bytes: vec![in alloc; 0; 2 * LARGEST as usize]?,
+            bytes: vec![in alloc; 0; 2 * LARGEST_MESSAGE as usize]?,
             start: 0,
             end: 0,
         })

@@ -2,7 +2,8 @@
 ghost use Rattle.std.specs.Prelude.{◌≡◌, ℕ, ◌<◌, ◌≤◌, true, false, None};
 ghost use Rattle.nine_wire.specs.Message.{RequestFits, ReplyFits};
 ghost use Rattle.fo_world.specs.World.{Faults};
-ghost use Rattle.fo_talk.specs.Conversation.{Goes, Asked, Drop, Replied, LetGo, agreed_size, largest};
+ghost use Rattle.nine_wire.specs.Version.{largest_message};
+ghost use Rattle.fo_talk.specs.Conversation.{Goes, Asked, Drop, Replied, LetGo, agreed_size};
 
 use nine_wire::{Reply, Request};
 
@@ -23,7 +24,7 @@ pub trait Machine {
         requires { RequestFits request }
         ensures goes { goes self.old (Asked now tag request) (Replied tag result) (faults self.old) (faults self.new) self.new }
         ensures fits { ReplyFits result }
-        ensures small { agreed_size result ≤ largest };
+        ensures small { agreed_size result ≤ largest_message };
 
     /// Lets the least fid go at the moment `now`, as a Tclunk would, and says whether there was one,
     /// with the Rerror by which the Tclunk would be refused.

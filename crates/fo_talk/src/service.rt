@@ -4,18 +4,18 @@ ghost use Rattle.fo_base.specs.Cause.{Rose};
 ghost use Rattle.nine_wire.specs.Message.{RequestFits};
 ghost use Rattle.fo_talk.specs.declared.service.Stop.TheVariants as stops;
 ghost use Rattle.fo_talk.specs.declared.end.LinkEnd.TheVariants as ends;
-ghost use Rattle.fo_talk.specs.Conversation.{largest};
+ghost use Rattle.nine_wire.specs.Version.{largest_message};
 ghost use Rattle.fo_talk.specs.Answering.{Answered, next_limit};
 ghost use Rattle.fo_talk.specs.Ending.{Ends};
 ghost use Rattle.fo_talk.specs.Stopping.{Stopped, end_at};
 
 use crate::end::LinkEnd;
-use crate::inbox::{Inbox, LARGEST};
+use crate::inbox::Inbox;
 use crate::machine::Machine;
 use crate::turns::{ask, is_version, let_all_go};
 use fo_base::Memory;
 use fo_links::{Clock, Sink, Source};
-use nine_wire::{Reply, Request, Step, read_msg, write_msg};
+use nine_wire::{LARGEST_MESSAGE, Reply, Request, Step, read_msg, write_msg};
 use std::alloc::Global;
 
 /// Why a message was not answered to the end.
@@ -42,7 +42,7 @@ fn next_limit(limit: u32, asked: bool, reply: &Reply) -> u32
     }
     match reply {
         Reply::Version { msize, version } if version.as_slice() == b"9P2000".as_slice() => *msize,
-        _ => LARGEST,
+        _ => LARGEST_MESSAGE,
     }
 }
 
@@ -56,11 +56,11 @@ fn answer_one<K: Sink, C: Clock, M: Machine>(
     bytes: &mut Vec<u8>,
     out: &mut K,
 ) -> Result<u32, Stop>
-    requires limit { limit ≤ largest }
+    requires limit { limit ≤ largest_message }
     requires fits { RequestFits request }
     ensures answered { Answered M.goes (C.told clock.now) (record { limit = limit; state = machine.old; faults = M.faults machine.old })
         tag request machine.new (M.faults machine.new) (K.held out.old) (K.held out.new) result }
-    ensures small { IfOk result (λ limit. limit ≤ largest) }
+    ensures small { IfOk result (λ limit. limit ≤ largest_message) }
     ensures later { K.faults out.old ≤ K.faults out.new }
     ensures output { result ≡ Err Stop.Output → Rose (K.faults out.old) (K.faults out.new) }
 {
@@ -93,7 +93,7 @@ fn converse<S: Source, K: Sink, C: Clock, M: Machine>(
     clock: &C,
     machine: &mut M,
 ) -> LinkEnd
-    ensures talk { IfSome (S.left input.old) (λ bytes. Stopped M.goes (C.told clock.now) (record { limit = largest; state = machine.old; faults = M.faults machine.old })
+    ensures talk { IfSome (S.left input.old) (λ bytes. Stopped M.goes (C.told clock.now) (record { limit = largest_message; state = machine.old; faults = M.faults machine.old })
         bytes (S.left input.new) (K.held out.old) (K.held out.new) machine.new (M.faults machine.new) result) }
     ensures input { result ≡ LinkEnd.ReadFault → Rose (S.faults input.old) (S.faults input.new) }
     ensures output { result ≡ LinkEnd.WriteFault → Rose (K.faults out.old) (K.faults out.new) }
@@ -104,7 +104,7 @@ fn converse<S: Source, K: Sink, C: Clock, M: Machine>(
         return LinkEnd::Memory;
     };
     let mut bytes = Vec::new(alloc);
-    let mut limit = LARGEST;
+    let mut limit = LARGEST_MESSAGE;
     let mut place = 0;
     'messages: loop {
         match read_msg(alloc, inbox.waiting(), limit) {
@@ -138,7 +138,7 @@ pub fn serve<S: Source, K: Sink, C: Clock, M: Machine>(
     machine: &mut M,
 ) -> LinkEnd
     // What was said to a source that tells its bytes, by how it ended, and where the machine stands.
-    ensures talk { IfSome (S.left input.old) (λ bytes. Ends M.goes (C.told clock.now) (record { limit = largest; state = machine.old; faults = M.faults machine.old })
+    ensures talk { IfSome (S.left input.old) (λ bytes. Ends M.goes (C.told clock.now) (record { limit = largest_message; state = machine.old; faults = M.faults machine.old })
         bytes (S.left input.new) (K.held out.old) (K.held out.new) machine.new (M.faults machine.new) result) }
 
     // A fault is the end only where that count rose in this call.

@@ -1,7 +1,8 @@
 //! What a message makes of a machine.
 ghost use Rattle.std.specs.Prelude.{◌≡◌, ◌≤◌};
 ghost use Rattle.nine_wire.specs.Message.{RequestFits, ReplyFits};
-ghost use Rattle.fo_talk.specs.Conversation.{LetsAllGo, agreed_size, largest};
+ghost use Rattle.nine_wire.specs.Version.{largest_message};
+ghost use Rattle.fo_talk.specs.Conversation.{LetsAllGo, agreed_size};
 ghost use Rattle.fo_talk.specs.Answering.{Clears, Asks, is_version};
 
 use crate::machine::Machine;
@@ -41,7 +42,7 @@ pub fn ask<C: Clock, M: Machine>(tag: u16, request: Request, clock: &C, machine:
     requires { RequestFits request }
     ensures asks { Asks M.goes (C.told clock.now) machine.old (M.faults machine.old) tag request result machine.new (M.faults machine.new) }
     ensures fits { ReplyFits result }
-    ensures small { agreed_size result ≤ largest }
+    ensures small { agreed_size result ≤ largest_message }
 {
     clear_before(&request, clock, machine);
     machine.answer(clock.now(), tag, request)

@@ -15,7 +15,8 @@ use Rattle.nine_fids.specs.Told.{Files}
 use Rattle.nine_session.specs.Removing.{clunk_fid, closed}
 use Rattle.nine_session.specs.Session.{Fails, Drops, IsDropped, AgreesWithin}
 use Rattle.nine_session.specs.Session as session
-use Rattle.fo_talk.specs.Conversation.{agreed_size, largest, version_text}
+use Rattle.fo_talk.specs.Conversation.{agreed_size}
+use Rattle.nine_wire.specs.Version.{largest_message, version_text}
 
 -- ---- the least fid
 
@@ -80,11 +81,11 @@ none_left e fails z z' now more r d m = none_at e fails z z' now (least z.sessio
 
 -- ---- the message size
 
-agreed_version : (b : Bool) (msize : ℕ) → msize ≤ largest → cond b msize largest ≤ largest
+agreed_version : (b : Bool) (msize : ℕ) → msize ≤ largest_message → cond b msize largest_message ≤ largest_message
 agreed_version true msize le = le
 agreed_version false msize le = omega arith
 
-pub agreed_within : (r : Reply) → AgreesWithin r → agreed_size r ≤ largest
+pub agreed_within : (r : Reply) → AgreesWithin r → agreed_size r ≤ largest_message
 agreed_within (reply.Version msize version) le = agreed_version (bytes_eq version version_text) msize le
 agreed_within (reply.Auth q) le = omega arith
 agreed_within (reply.Attach q) le = omega arith

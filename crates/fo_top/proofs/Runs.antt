@@ -2,7 +2,8 @@
 use Rattle.std.proofs.Common.{◌≡◌, ℕ, List, [], ◌∷◌, Some, None, IfSome, false, refl}
 use Rattle.std.specs.declared.option.Option.{Option}
 use Rattle.fo_world.specs.World.{Faults}
-use Rattle.fo_talk.specs.Conversation.{Goes, Standing, IsNow, Drops, LetsAllGo, Chain, let_go, largest}
+use Rattle.fo_talk.specs.Conversation.{Goes, Standing, IsNow, Drops, LetsAllGo, Chain, let_go}
+use Rattle.nine_wire.specs.Version.{largest_message}
 use Rattle.fo_talk.specs.Conversation as talk
 use Rattle.fo_talk.specs.Ending.{Ends}
 use Rattle.fo_talk.specs.declared.end.LinkEnd.{LinkEnd}
@@ -46,7 +47,7 @@ abbrev no_faults : Faults
 no_faults = record { main = 0; arena = 0 }
 
 abbrev started : Standing State
-started = record { limit = largest; state = empty_system; faults = no_faults }
+started = record { limit = largest_message; state = empty_system; faults = no_faults }
 
 some_moment : (clock : Option ℕ) → (now : ℕ) × IsNow clock now
 some_moment None = (0, tt)

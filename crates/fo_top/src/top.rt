@@ -1,7 +1,7 @@
 //! The top call.
 ghost use Rattle.std.specs.Prelude.{◌≡◌, ◌≢◌, ◌≤◌, ◌↔◌, map, IfSome, Some, None};
 ghost use Rattle.std.specs.String.{string_bytes};
-ghost use Rattle.fo_talk.specs.Conversation.{largest};
+ghost use Rattle.nine_wire.specs.Version.{largest_message};
 ghost use Rattle.fo_top.specs.Ending.{Runs, status_of};
 ghost use Rattle.fo_top.specs.System.{empty_system, system_goes};
 ghost use Rattle.fo_top.specs.Tools.{device, FormatRun, CheckRun, HasCauses};
@@ -36,7 +36,7 @@ fn answer_all<S: Source, K: Sink, C: Clock>(
     clock: &C,
 ) -> Why
     ensures talk { IfSome (S.left input.old) (λ bytes. Runs system_goes (C.told clock.now)
-        (record { limit = largest; state = empty_system; faults = record { main = 0; arena = 0 } })
+        (record { limit = largest_message; state = empty_system; faults = record { main = 0; arena = 0 } })
         bytes (S.left input.new) (K.held out.old) (K.held out.new) result) }
     ensures causes { HasCauses (S.faults input.old) (S.faults input.new) (K.faults out.old) (K.faults out.new) 0 0 0 0 result }
     ensures served { result ≢ Why.Usage }
@@ -102,7 +102,7 @@ pub fn run<S: Source, K: Sink, C: Clock + Drop, D: Disk, A: Disk>(
 
     // `9p`: what was said to a source that tells its bytes, by how the run ended. No device is opened.
     ensures talk { command_of (map string_bytes words.now) ≡ Some Command.Serve → IfSome (S.left input) (λ bytes. Runs system_goes (C.told clock)
-        (record { limit = largest; state = empty_system; faults = record { main = 0; arena = 0 } })
+        (record { limit = largest_message; state = empty_system; faults = record { main = 0; arena = 0 } })
         bytes (S.left result.input) (K.held out) (K.held result.out) result.why) }
     ensures serves { command_of (map string_bytes words.now) ≡ Some Command.Serve → (result.main ≡ main) × (result.arena ≡ arena) }
 

@@ -3,6 +3,7 @@ use Rattle.std.specs.Prelude.{ℕ, List, [], ◌∷◌, ◌++◌, length, take, 
 use Rattle.std.specs.Str.{bytes_eq}
 use Rattle.nine_wire.specs.declared.message.Reply.{Reply}
 use Rattle.nine_wire.specs.declared.message.Reply.TheVariants as reply
+use Rattle.nine_wire.specs.Version.{largest_message, version_text}
 use Rattle.fo_world.specs.declared.place.View.{View}
 use Rattle.fo_world.specs.declared.place.View.TheVariants.{Active, Dated}
 use Rattle.fo_world.specs.Step as step
@@ -12,14 +13,6 @@ use Rattle.nine_fids.specs.Refusing.{and_then, refuse_if, some_or}
 use Rattle.nine_fids.specs.Fids.{State, nofid, most_fids, in_use, version_of, with_fids, restarted}
 use Rattle.nine_fids.specs.Told.{Files, info_at, qid_of}
 use Rattle.nine_fids.specs.Rights.{table_of, user_of}
-
--- the most bytes of a message that is agreed to
-abbrev pub largest_msize : ℕ
-largest_msize = 65560
-
--- the one version that is agreed to
-abbrev pub version_text : List ℕ
-version_text = codes "9P2000"
 
 -- the text before the first point, or all where there is none
 abbrev pub base_of : List ℕ → List ℕ
@@ -37,8 +30,8 @@ answer_text false = codes "unknown"
 unfoldable pub version : State → ℕ → List ℕ → Reply × State
 version z msize text =
     if nat_lt msize 256 then (reply.Error (codes "msize too small"), restarted z None)
-    else (if is_known text then (reply.Version (min msize largest_msize) (answer_text true), restarted z (Some (min msize largest_msize)))
-    else (reply.Version (min msize largest_msize) (answer_text false), restarted z None))
+    else (if is_known text then (reply.Version (min msize largest_message) (answer_text true), restarted z (Some (min msize largest_message)))
+    else (reply.Version (min msize largest_message) (answer_text false), restarted z None))
 
 -- Tauth: there is no authentication
 unfoldable pub auth : State → Result (Reply × State) Refusal

@@ -6,13 +6,10 @@ ghost use Rattle.nine_session.specs.Attempting.{agreed_size};
 use crate::session::Session;
 use fo_world::{FileError, FileOps, Name, Place, View};
 use nine_fids::{Fid, MOST_FIDS, NOFID, Refusal, in_use, info_at, qid_of, table_of, user_of};
-use nine_wire::{Ename, Reply};
+use nine_wire::{Ename, LARGEST_MESSAGE, Reply};
 
 /// The least message size that is agreed to.
 const LEAST: u32 = 256;
-
-/// The largest message size that is agreed to.
-const LARGEST: u32 = 65560;
 
 /// The place of the first point.
 fn point(version: &[u8]) -> Option<usize>
@@ -103,7 +100,7 @@ impl Session {
                 ename: Ename::new("msize too small"),
             });
         }
-        let msize = msize.min(LARGEST);
+        let msize = msize.min(LARGEST_MESSAGE);
         let known = is_known(version.as_slice());
         let Ok(version) = Name::copy_of(self.alloc, answer_text(known)) else {
             let agreed = self.msize;

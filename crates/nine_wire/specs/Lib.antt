@@ -1,3 +1,4 @@
 pub mod Message
 pub mod Stands
 pub mod Reading
+pub mod Version

@@ -16,5 +16,8 @@ pub use nine_fields::{Names, Qid, Qids};
 pub use read::{read_msg, read_reply};
 pub use write::{write_msg, write_request};
 
+/// The most bytes that a message may have.
+pub const LARGEST_MESSAGE: u32 = 65560;
+
 #[cfg(test)]
 mod tests;

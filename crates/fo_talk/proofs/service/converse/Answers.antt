@@ -5,14 +5,14 @@ use Rattle.nine_wire.specs.Message.{request_message}
 use Rattle.nine_wire.specs.Stands.{Stands, IsPart, IsFront, step_front}
 use Rattle.nine_wire.proofs.Laws.{stands_long}
 use Rattle.nine_wire.proofs.Sizes.{request_fits}
-use Rattle.fo_talk.specs.Conversation.{largest}
+use Rattle.nine_wire.specs.Version.{largest_message}
 use Rattle.fo_talk.proofs.Entries.{answers_of}
 use Rattle.fo_talk.proofs.Front.{no_message, part_room, still_bad}
 use Rattle.fo_talk.proofs.Going.{going_starts, going_fills, going_answers, ends_early, ends_unput, ends_unsaid, ends_unread, ends_bad, ends_at}
 use Rattle.fo_talk.proofs.service.converse.Goals as goal
 
 pub returns-in_default-clause-talk : goal.returns-in_default-clause-talk
-returns-in_default-clause-talk g c = ends_early _ _ _ _ _ _ _ _ _ _ (going_starts g.M.Machine.goes (g.C.Clock.told c.args.clock.now) (record { limit = largest; state = c.args.machine.now; faults = g.M.Machine.faults c.args.machine.now }) (g.S.Source.left c.args.input.now) (g.K.Sink.held c.args.out.now))
+returns-in_default-clause-talk g c = ends_early _ _ _ _ _ _ _ _ _ _ (going_starts g.M.Machine.goes (g.C.Clock.told c.args.clock.now) (record { limit = largest_message; state = c.args.machine.now; faults = g.M.Machine.faults c.args.machine.now }) (g.S.Source.left c.args.input.now) (g.K.Sink.held c.args.out.now))
 
 pub messages-init : goal.messages-init
 messages-init g c = record {
