@@ -70,33 +70,3 @@ dropped_fewer e fails z z' now (Some f) more r is d m = rw (dropped_without e fa
 
 pub fewer : (e : Files) (fails : Fails) (z z' : State) (now : ℕ) (more : Bool) (r : Option Reply) → Drops e fails z now (least z.session.fids) more r z' → more ≡ true → length z'.session.fids < length z.session.fids
 fewer e fails z z' now more r d m = dropped_fewer e fails z z' now (least z.session.fids) more r refl d m
-
-none_at : (e : Files) (fails : Fails) (z z' : State) (now : ℕ) (best : Option Fid) (more : Bool) (r : Option Reply) → Drops e fails z now best more r z' → more ≡ false → r ≡ None
-none_at e fails z z' now None more r d m = d.1
-none_at e fails z z' now (Some f) more r d m = absurd cc
-
--- with no fid nothing is refused
-pub none_left : (e : Files) (fails : Fails) (z z' : State) (now : ℕ) (more : Bool) (r : Option Reply) → Drops e fails z now (least z.session.fids) more r z' → more ≡ false → r ≡ None
-none_left e fails z z' now more r d m = none_at e fails z z' now (least z.session.fids) more r d m
-
--- ---- the message size
-
-agreed_version : (b : Bool) (msize : ℕ) → msize ≤ largest_message → cond b msize largest_message ≤ largest_message
-agreed_version true msize le = le
-agreed_version false msize le = omega arith
-
-pub agreed_within : (r : Reply) → AgreesWithin r → agreed_size r ≤ largest_message
-agreed_within (reply.Version msize version) le = agreed_version (bytes_eq version version_text) msize le
-agreed_within (reply.Auth q) le = omega arith
-agreed_within (reply.Attach q) le = omega arith
-agreed_within (reply.Error e) le = omega arith
-agreed_within reply.Flush le = omega arith
-agreed_within (reply.Walk qs) le = omega arith
-agreed_within (reply.Open q n) le = omega arith
-agreed_within (reply.Create q n) le = omega arith
-agreed_within (reply.Read b) le = omega arith
-agreed_within (reply.Write n) le = omega arith
-agreed_within reply.Clunk le = omega arith
-agreed_within reply.Remove le = omega arith
-agreed_within (reply.Stat b) le = omega arith
-agreed_within reply.Wstat le = omega arith
