@@ -1,14 +1,15 @@
 -- Changes of a tree, and of the pairs that a directory keeps.
-use Rattle.std.proofs.Common.{◌≡◌, refl, sym, ap, ◌∙◌, ℕ, zero, suc, ◌+◌, ◌<◌, ◌≤◌, List, [], ◌∷◌, length, take, drop, ◌-◌, get_or, set, Bool, true, false, not, cond, nat_eq, Some, None, arith, if◌then◌else◌}
+use Rattle.std.proofs.Common.{◌≡◌, refl, sym, ap, ◌∙◌, ℕ, zero, suc, ◌+◌, ◌<◌, ◌≤◌, List, [], ◌∷◌, length, take, drop, ◌-◌, get_or, set, Bool, true, false, not, cond, nat_eq, Option, Some, None, arith, if◌then◌else◌}
 use Rattle.std.proofs.lemmas.List.{take_all, set-get_or}
-use Rattle.std.specs.List.{insert, remove}
+use Rattle.std.specs.List.{insert, remove, position_or_len}
 use Rattle.std.specs.Str.{bytes_eq}
 use Rattle.fo_world.specs.declared.tree.Node.{Node}
 use Rattle.fo_world.specs.declared.tree.Body.{Body}
 use Rattle.fo_world.specs.declared.tree.Body.TheVariants.{File, Dir}
 use Rattle.fo_world.specs.Names.{Stat, Names}
 use Rattle.fo_world.specs.Tree.{stat_of, node_of, and_body, and_node, names_of, first, named, change_first, change_names, change_along, put_name, without, rename, rename_found, comes_before, name_count}
-use Rattle.fo_world.specs.Places.{place_numbered, place_named, place_for, renamed_at}
+use Rattle.fo_world.specs.Step.{is_above, next_above}
+use Rattle.fo_world.specs.Places.{place_numbered, place_named, place_for, place_above, renamed_at}
 
 change_first-and_body : (k : ℕ) (f : Node → Node) (name : List ℕ) (stat : Stat) (body : Body) (rest : Names) → change_first k f (and_body name stat body rest) ≡ (if nat_eq stat.number k then and_node name (f (node_of stat body)) rest else and_body name stat body (change_first k f rest))
 change_first-and_body k f name stat (File bytes) rest = refl
@@ -114,33 +115,50 @@ without-none k (p ∷ ps) h = without-and_body k p.0 (stat_of p.1) p.1.body (nam
     go true ih h = absurd (omega arith)
     go false ih h = ap (and_node p.0 p.1) (ih (omega arith))
 
--- what a name stands for, at its place
+-- ---- the first that passes a test, at its place
+
 first-and_body : (p : List ℕ → ℕ → Bool) (name : List ℕ) (stat : Stat) (body : Body) (rest : Names) → first p (and_body name stat body rest) ≡ (if p name stat.number then Some (name, node_of stat body) else first p rest)
 first-and_body p name stat (File bytes) rest = refl
 first-and_body p name stat (Dir inside) rest = refl
 
-pub named-item : (k : List ℕ) (es : List (List ℕ × Node)) (d : List ℕ × Node) (i : ℕ) → i ≡ place_named k es → i < length es → named k (names_of es) ≡ Some (get_or es i d)
-named-item k [] d i e l = absurd (omega arith)
-named-item k (p ∷ ps) d zero e l = first-and_body (λ other _. bytes_eq other k) p.0 (stat_of p.1) p.1.body (names_of ps) ∙ go (bytes_eq p.0 k) e
+pub first-item : (p : List ℕ → ℕ → Bool) (es : List (List ℕ × Node)) (d : List ℕ × Node) (i : ℕ) → i ≡ position_or_len (λ e. p e.0 e.1.number) es → i < length es → first p (names_of es) ≡ Some (get_or es i d)
+first-item p [] d i e l = absurd (omega arith)
+first-item p (x ∷ xs) d zero e l = first-and_body p x.0 (stat_of x.1) x.1.body (names_of xs) ∙ go (p x.0 x.1.number) e
   where
-    go : (b : Bool) → 0 ≡ cond (not b) (1 + place_named k ps) 0 → (if b then Some p else named k (names_of ps)) ≡ Some p
+    go : (b : Bool) → 0 ≡ cond (not b) (1 + position_or_len (λ e. p e.0 e.1.number) xs) 0 → (if b then Some x else first p (names_of xs)) ≡ Some x
     go true e = refl
     go false e = absurd (omega arith)
-named-item k (p ∷ ps) d (suc i) e l = first-and_body (λ other _. bytes_eq other k) p.0 (stat_of p.1) p.1.body (names_of ps) ∙ go (bytes_eq p.0 k) (named-item k ps d i) e
+first-item p (x ∷ xs) d (suc i) e l = first-and_body p x.0 (stat_of x.1) x.1.body (names_of xs) ∙ go (p x.0 x.1.number) (first-item p xs d i) e
   where
-    go : (b : Bool) → (i ≡ place_named k ps → i < length ps → named k (names_of ps) ≡ Some (get_or ps i d))
-        → suc i ≡ cond (not b) (1 + place_named k ps) 0 → (if b then Some p else named k (names_of ps)) ≡ Some (get_or ps i d)
+    go : (b : Bool) → (i ≡ position_or_len (λ e. p e.0 e.1.number) xs → i < length xs → first p (names_of xs) ≡ Some (get_or xs i d))
+        → suc i ≡ cond (not b) (1 + position_or_len (λ e. p e.0 e.1.number) xs) 0 → (if b then Some x else first p (names_of xs)) ≡ Some (get_or xs i d)
     go true ih e = absurd (omega arith)
     go false ih e = ih (omega arith) (omega arith)
 
-pub named-none : (k : List ℕ) (es : List (List ℕ × Node)) → length es ≤ place_named k es → named k (names_of es) ≡ None
-named-none k [] h = refl
-named-none k (p ∷ ps) h = first-and_body (λ other _. bytes_eq other k) p.0 (stat_of p.1) p.1.body (names_of ps) ∙ go (bytes_eq p.0 k) (named-none k ps) h
+pub first-none : (p : List ℕ → ℕ → Bool) (es : List (List ℕ × Node)) → length es ≤ position_or_len (λ e. p e.0 e.1.number) es → first p (names_of es) ≡ None
+first-none p [] h = refl
+first-none p (x ∷ xs) h = first-and_body p x.0 (stat_of x.1) x.1.body (names_of xs) ∙ go (p x.0 x.1.number) (first-none p xs) h
   where
-    go : (b : Bool) → (length ps ≤ place_named k ps → named k (names_of ps) ≡ None)
-        → length (p ∷ ps) ≤ cond (not b) (1 + place_named k ps) 0 → (if b then Some p else named k (names_of ps)) ≡ None
+    go : (b : Bool) → (length xs ≤ position_or_len (λ e. p e.0 e.1.number) xs → first p (names_of xs) ≡ None)
+        → length (x ∷ xs) ≤ cond (not b) (1 + position_or_len (λ e. p e.0 e.1.number) xs) 0 → (if b then Some x else first p (names_of xs)) ≡ None
     go true ih h = absurd (omega arith)
     go false ih h = ih (omega arith)
+
+pub named-item : (k : List ℕ) (es : List (List ℕ × Node)) (d : List ℕ × Node) (i : ℕ) → i ≡ place_named k es → i < length es → named k (names_of es) ≡ Some (get_or es i d)
+named-item k = first-item (λ name _. bytes_eq name k)
+
+pub named-none : (k : List ℕ) (es : List (List ℕ × Node)) → length es ≤ place_named k es → named k (names_of es) ≡ None
+named-none k = first-none (λ name _. bytes_eq name k)
+
+pub place_above-none : (es : List (List ℕ × Node)) → 0 ≡ place_above None es
+place_above-none [] = refl
+place_above-none (x ∷ xs) = refl
+
+pub next_above-item : (after : Option (List ℕ)) (es : List (List ℕ × Node)) (d : List ℕ × Node) (i : ℕ) → i ≡ place_above after es → i < length es → next_above after (names_of es) ≡ Some (get_or es i d)
+next_above-item after = first-item (λ name _. is_above after name)
+
+pub next_above-none : (after : Option (List ℕ)) (es : List (List ℕ × Node)) → length es ≤ place_above after es → next_above after (names_of es) ≡ None
+next_above-none after = first-none (λ name _. is_above after name)
 
 -- ---- another name
 

@@ -3,3 +3,4 @@ pub mod Steps
 pub mod Going
 pub mod Fits
 mod Changes
+mod Ascending

@@ -1,6 +1,7 @@
 pub mod Names
 pub mod Tree
 pub mod Places
+pub mod Ascending
 pub mod Falls
 pub mod Date
 pub mod Dated

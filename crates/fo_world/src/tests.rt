@@ -3,6 +3,7 @@ use crate::{
     Trail, View, Write, follow,
 };
 use std::alloc::Global;
+use std::process::Abort;
 use std::test::Fail;
 
 // A node of `adm` without vers and times.
@@ -179,6 +180,83 @@ fn changes(rt: HostRuntime) -> Result<(), Fail> {
     take_out(alloc, &mut root, &[1])?;
     assert!(rt; matches!(told(alloc, &root, &[1, 3]), Err(FileError::Gone)));
     assert_eq!(rt; told(alloc, &root, &[1, 2])?.path, 2);
+    Ok(())
+}
+
+// The name of the file with a number.
+fn name_of(number: u32) -> [u8; 2] {
+    [b'a' + (number % 8) as u8, b'a' + (number / 8 % 8) as u8]
+}
+
+// Whether the file with a number below 40 is still there.
+fn is_there(number: u32) -> bool {
+    number % 3 != 0
+}
+
+// A directory of 40 files that were put in a mixed order, with every third taken out.
+fn mixed(alloc: Global) -> Result<Names, FileError> {
+    let mut names = Names::new(alloc);
+    for i in 0..40u32 {
+        let number = i * 17 % 40;
+        let file = node(alloc, number, Body::File(Plain::new(alloc)))?;
+        names.insert(Name::copy_of(alloc, &name_of(number))?, file)?;
+    }
+    for number in 0..40u32 {
+        if !is_there(number) {
+            names.take_out(&name_of(number));
+        }
+    }
+    Ok(names)
+}
+
+// The number of the file that was found.
+fn number_of(found: Option<(&Name, &Node)>) -> Option<u32> {
+    match found {
+        None => None,
+        Some((_, node)) => Some(node.number),
+    }
+}
+
+// Whether a file has a lesser name than the best so far.
+fn is_better(number: u32, best: Option<u32>) -> bool {
+    match best {
+        None => true,
+        Some(best) => name_of(number).cmp(&name_of(best)).is_lt(),
+    }
+}
+
+// The number of the file with the least name above, found by looking at all.
+fn least_above(after: &[u8]) -> Option<u32> {
+    let mut best = None;
+    for number in 0..40u32 {
+        let above = after.cmp(&name_of(number).as_slice()).is_lt();
+        if above && is_there(number) && is_better(number, best) {
+            best = Some(number);
+        }
+    }
+    best
+}
+
+// What is found under the name of a number, and above it.
+fn finds(rt: &impl Abort, alloc: Global, names: &Names, number: u32) -> Result<(), FileError> {
+    let name = Name::copy_of(alloc, &name_of(number))?;
+    let wanted = if is_there(number) { Some(number) } else { None };
+    assert_eq!(rt; number_of(names.named(name.as_slice())), wanted);
+    assert_eq!(rt;
+        number_of(names.next_above(Some(&name))),
+        least_above(name.as_slice())
+    );
+    Ok(())
+}
+
+#[test]
+fn many_names(rt: HostRuntime) -> Result<(), Fail> {
+    let alloc = rt.alloc();
+    let names = mixed(alloc)?;
+    assert_eq!(rt; number_of(names.next_above(None)), least_above(b""));
+    for number in 0..40u32 {
+        finds(&rt, alloc, &names, number)?;
+    }
     Ok(())
 }
 

@@ -1,9 +1,10 @@
 //! Trees of files.
 ghost use Rattle.std.specs.Prelude.{◌≡◌, ℕ, ◌+◌, ◌<◌, ◌≤◌, List, length, is_ok, IfErr, MatchOption, Some, None, if◌then◌else◌};
 ghost use Rattle.std.specs.Option.{option_copied};
-ghost use Rattle.fo_world.specs.Tree.{along};
+ghost use Rattle.fo_world.specs.Tree.{along, comes_before};
 ghost use Rattle.fo_world.specs.Step.{is_above, with_fields};
-ghost use Rattle.fo_world.specs.Places.{place_numbered, place_named, place_for, renamed_at};
+ghost use Rattle.fo_world.specs.Ascending.{Ascending};
+ghost use Rattle.fo_world.specs.Places.{place_numbered, place_named, place_from, place_for, place_above, renamed_at};
 ghost use Rattle.fo_world.specs.declared.tree.Node.{Node};
 
 use crate::alter::{Alter, Fields};
@@ -54,6 +55,10 @@ impl Model for Names {
 
     ghost view = { λ a. names_of a.entries.items };
 
+    ghost use Rattle.fo_world.specs.Ascending.{Ascending};
+
+    ghost invariant = { λ a. Ascending a.entries.items };
+
     ghost size = { plain.count };
 
     ghost use Rattle.fo_world.specs.Falls.{names_fall};
@@ -80,29 +85,54 @@ fn place_numbered(entries: &[(Bytes, Node)], number: u32) -> Option<usize>
     None
 }
 
-// The index of the first file with this name.
-fn place_named(entries: &[(Bytes, Node)], name: &[u8]) -> Option<usize>
-    ensures { MatchOption result (length entries.now ≤ place_named name.now entries.now) (λ i. (i ≡ place_named name.now entries.now) × (i < length entries.now)) }
+// Whether a name comes before another.
+fn comes_before(name: &[u8], other: &[u8]) -> bool
+    ensures { result ≡ comes_before name.now other.now }
 {
-    for (i, entry) in entries.iter().enumerate() {
-        if entry.0.as_slice() == name {
-            return Some(i);
-        }
-    }
-    None
+    name.cmp(&other).is_lt()
 }
 
-// Where a new name goes.
+// The index of the first name that doesn't come before this one, by a binary search.
+fn place_from(entries: &[(Bytes, Node)], name: &[u8]) -> usize
+    requires { Ascending entries.now }
+    ensures place { result ≡ place_from name.now entries.now }
+    ensures within { result ≤ length entries.now }
+{
+    entries.partition_point(|entry| comes_before(entry.0.as_slice(), name))
+}
+
+// The index of the first file with this name.
+fn place_named(entries: &[(Bytes, Node)], name: &[u8]) -> Option<usize>
+    requires { Ascending entries.now }
+    ensures { MatchOption result (length entries.now ≤ place_named name.now entries.now) (λ i. (i ≡ place_named name.now entries.now) × (i < length entries.now)) }
+{
+    let i = place_from(entries, name);
+    if i < entries.len() && entries[i].0.as_slice() == name {
+        Some(i)
+    } else {
+        None
+    }
+}
+
+// Where a new name goes, by a binary search.
 fn place_for(entries: &[(Bytes, Node)], name: &[u8]) -> usize
+    requires { Ascending entries.now }
     ensures place { result ≡ place_for name.now entries.now }
     ensures within { result ≤ length entries.now }
 {
-    for (i, entry) in entries.iter().enumerate() {
-        if name.cmp(&entry.0.as_slice()).is_lt() {
-            return i;
-        }
+    entries.partition_point(|entry| !comes_before(name, entry.0.as_slice()))
+}
+
+// Where the first name above the one given stands, or of all where none is given.
+fn place_above(entries: &[(Bytes, Node)], after: Option<&Bytes>) -> usize
+    requires { Ascending entries.now }
+    ensures place { result ≡ place_above (option_copied after.entry) entries.now }
+    ensures within { result ≤ length entries.now }
+{
+    match after {
+        None => 0,
+        Some(after) => place_for(entries, after.as_slice()),
     }
-    entries.len()
 }
 
 /// Whether a name comes after the one given, where one is given.
@@ -111,7 +141,7 @@ pub fn is_above(after: Option<&Bytes>, name: &[u8]) -> bool
 {
     match after {
         None => true,
-        Some(after) => after.as_slice().cmp(&name).is_lt(),
+        Some(after) => comes_before(after.as_slice(), name),
     }
 }
 
@@ -127,7 +157,8 @@ fn rename_at(
     name: Bytes,
     fields: Fields,
 ) -> Result<(), FileError>
-    requires { i < length entries.old.items }
+    requires index { i < length entries.old.items }
+    requires ascending { Ascending entries.old.items }
     ensures after { (d : List ℕ × Node) → entries.new.items ≡ (if is_ok result then renamed_at entries.old.items i name (with_fields fields.what fields.who fields.now) d else entries.old.items) }
     ensures memory { IfErr result (λ e. e ≡ FileError.Memory) }
 {
@@ -170,24 +201,26 @@ impl Names {
         ensures pair { pair_copied result ≡ named name.now self.now }
         ensures found { MatchOption result (named name.now self.now ≡ None) (λ f. named name.now self.now ≡ Some (f.0.now, f.1.now)) }
     {
-        for entry in self.entries.as_slice() {
-            if entry.0.as_slice() == name {
-                return Some((&entry.0, &entry.1));
+        match place_named(self.entries.as_slice(), name) {
+            Some(i) => {
+                let entry = &self.entries[i];
+                Some((&entry.0, &entry.1))
             }
+            None => None,
         }
-        None
     }
 
     /// The least name above the one given, or of all where none is given.
     pub fn next_above(&self, after: Option<&Bytes>) -> Option<(&Bytes, &Node)>
         ensures { pair_copied result ≡ next_above (option_copied after.entry) self.now }
     {
-        for entry in self.entries.as_slice() {
-            if is_above(after, entry.0.as_slice()) {
-                return Some((&entry.0, &entry.1));
-            }
+        let i = place_above(self.entries.as_slice(), after);
+        if i < self.entries.len() {
+            let entry = &self.entries[i];
+            Some((&entry.0, &entry.1))
+        } else {
+            None
         }
-        None
     }
 
     // The file with this number, with its name.

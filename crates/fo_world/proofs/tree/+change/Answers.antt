@@ -1,6 +1,7 @@
 use Rattle.std.proofs.Common.{sym, arith, ◌<◌, length, is_ok}
 use Rattle.fo_world.specs.Tree.{change_along}
 use Rattle.fo_world.proofs.Changes.{change_first-item-if, change_first-none, change_along-step-if}
+use Rattle.fo_world.proofs.Ascending.{Ascending-item}
 use Rattle.fo_world.proofs.tree.+change.Goals as goal
 
 pub Names::change_first-returns-in-Some-clause-after : goal.Names::change_first-returns-in-Some-clause-after
@@ -16,3 +17,6 @@ pub Node::change-returns-else-trail-eq0-clause-after : goal.Node::change-returns
 Node::change-returns-else-trail-eq0-clause-after g t c =
     let h : 0 < length c.args.trail.now = omega arith in
     rw c.change_child.ensures.after (change_along-step-if (is_ok c.change_child.result) c.args.trail.now (g.C.Alter.after c.args.change) c.args.self.now h)
+
+pub Names::change_first-invariant_of-self : goal.Names::change_first-invariant_of-self
+Names::change_first-invariant_of-self g t c = Ascending-item c.self.inside.entries.items c.in-Some.i c.index_mut.result.now c.change.new.self c.index_mut.ensures.value c.self.invariant

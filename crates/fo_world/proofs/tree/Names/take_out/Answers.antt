@@ -1,5 +1,6 @@
 use Rattle.std.proofs.Common.{sym}
 use Rattle.fo_world.proofs.Changes.{without-remove, without-none}
+use Rattle.fo_world.proofs.Ascending.{Ascending-remove}
 use Rattle.fo_world.proofs.tree.Names.take_out.Goals as goal
 
 pub returns-in-Some : goal.returns-in-Some
@@ -9,3 +10,6 @@ returns-in-Some c =
 
 pub returns-in-None : goal.returns-in-None
 returns-in-None c = rw (← c.self.view_is) (sym (without-none c.args.name.now _ (rw c.as_slice.ensures.value at c.in-None.ensures)))
+
+pub invariant_of-self : goal.invariant_of-self
+invariant_of-self c = rw c.remove.ensures.items (Ascending-remove c.self.inside.entries.items c.in-Some.i c.self.invariant)
