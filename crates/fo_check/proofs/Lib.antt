@@ -3,3 +3,4 @@ mod Places
 mod Scans
 mod Stages
 mod Started
+mod Zeros

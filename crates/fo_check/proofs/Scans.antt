@@ -58,13 +58,13 @@ root_other {image} {s} {upto} {rooted} apart k = record {
       (cases_eq s.active upto);
 }
 
-pub root_bad : {image : List Block} {s : Super} {upto : ℕ} {rooted : Bool} → ((l : Label) → ¬ HasLabel image upto l) → KnowsRoot image s upto rooted → KnowsRoot image s (upto + 1) rooted
-root_bad {image} {s} {upto} {rooted} none k = record {
+pub root_none : {image : List Block} {s : Super} {upto : ℕ} {rooted : Bool} → ¬ HasLabel image upto (root_label s) → KnowsRoot image s upto rooted → KnowsRoot image s (upto + 1) rooted
+root_none {image} {s} {upto} {rooted} none k = record {
   not_yet = λ le. k.not_yet (omega arith);
   known = λ lt place. ⊎_elim
       (λ here.
       let none_yet : rooted ≡ false = k.not_yet (omega (arith, here)) in
-      (λ is. absurd (false≢true (subst IsTrue none_yet is)), λ has. absurd (none (root_label s) (subst (λ (n : ℕ). HasLabel image n (root_label s)) here has))))
+      (λ is. absurd (false≢true (subst IsTrue none_yet is)), λ has. absurd (none (subst (λ (n : ℕ). HasLabel image n (root_label s)) here has))))
       (λ other. k.known (omega (arith, other)) place)
       (cases_eq s.active upto);
 }

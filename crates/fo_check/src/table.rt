@@ -20,11 +20,15 @@ pub(crate) struct Table {
     pub(crate) leaked: u32,
 }
 
-/// Whether all bytes are zero.
+/// Whether all bytes are zero. It doesn't stop at the first that isn't, so that many are compared at a time.
 fn is_zero(bytes: &[u8]) -> bool
     ensures { result ≡ is_zero bytes.now }
 {
-    bytes.iter().all(|b| *b == 0)
+    let mut zero = true;
+    for byte in bytes {
+        zero &= *byte == 0;
+    }
+    zero
 }
 
 /// Whether this is the label of the active root.
@@ -97,7 +101,8 @@ impl Table {
         }
     }
 
-    /// The next block of the table, which is this one counted from 0.
+    /// The next block of the table, which is this one counted from 0. One that is zero has only labels of free blocks, and is
+    /// passed over at one look.
     pub(crate) fn add_block(&mut self, s: &Super, blocks: u32, n: u32, block: &[u8])
         requires length { length block.now ≡ 8192 }
         requires most { blocks ≤ 2 ^ 20 }
@@ -107,6 +112,9 @@ impl Table {
         ensures scanned { (image : List Block) → length image ≡ blocks → block.now ≡ block_of image (2 + n)
             → IsScanned image s.now n (585 * n) self.old → IsScanned image s.now (n + 1) (585 * (n + 1)) self.new }
     {
+        if is_zero(block) {
+            return;
+        }
         self.add_rest(2 + n, block);
         for place in 0..585 {
             let from = 14 * place as usize;

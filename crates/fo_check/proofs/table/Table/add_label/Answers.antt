@@ -6,7 +6,7 @@ use Rattle.fo_sound.specs.Image.{is_zero, IsDataBlock, label_bytes, HasLabel}
 use Rattle.fo_image.specs.Usable.{is_usable}
 use Rattle.fo_sound.specs.Sound.{root_label}
 use Rattle.fo_check.specs.Answer.BreaksTable.{label, other}
-use Rattle.fo_check.proofs.Scans.{noted, kept, whole_label, root_other, root_bad, root_here, leaked_other, leaked_bad, leaked_no, leaked_yes, used-leaked, usable-leaked, others-leaked}
+use Rattle.fo_check.proofs.Scans.{noted, kept, whole_label, root_other, root_none, root_here, leaked_other, leaked_bad, leaked_no, leaked_yes, used-leaked, usable-leaked, others-leaked}
 use Rattle.fo_check.proofs.table.Table.add_label.Goals.{then-address-first_data-via-then-address-first_data, then-address-first_data-via-else-address-first_data+then-blocks-address}
 use Rattle.fo_check.proofs.table.Table.add_label.Goals as goal
 
@@ -37,7 +37,7 @@ returns-in-Err-clause-scanned c image seen len is scan =
     let none : (l : Label) → ¬ HasLabel image c.args.address l = λ l h. c.in-Err.ensures.refused.1 l (subst (SpellsLabel l) (sym is) h.spelled) in
     record {
       whole = noted _ _ _ _ c.args.address c.note-in-Err.ensures.first (label place none) scan.whole;
-      root = rw c.note-in-Err.ensures.rooted (root_bad none scan.root);
+      root = rw c.note-in-Err.ensures.rooted (root_none (none (root_label c.args.s.now)) scan.root);
       leaked = rw c.note-in-Err.ensures.leaked (leaked_bad c.args.self.now.leaked place none);
     }
 
