@@ -18,6 +18,7 @@ use Rattle.fo_image.proofs.Padding.{zeros-from_all}
 use Rattle.fo_check.specs.declared.table.Table.{Table}
 use Rattle.fo_sound.specs.Image.{block_of, is_zero, label_bytes, HasLabel, rest_bytes}
 use Rattle.fo_sound.specs.Sound.{root_label}
+use Rattle.fo_sound.proofs.Labels.{free_spelled}
 use Rattle.fo_check.specs.Scan.{IsWhole, IsScanned}
 use Rattle.fo_check.proofs.Places.{label-bytes}
 use Rattle.fo_check.proofs.Scans.{kept, whole_label, whole_rest, root_none, leaked_other, leaked_no, usable-leaked}
@@ -29,14 +30,6 @@ zero-drop : (n : ℕ) (xs : List ℕ) → is_zero xs ≡ true → is_zero (drop 
 zero-drop n xs h = list_all-from_AllPass _ (drop n xs) (All-drop (λ x. (x == 0) ≡ true) n xs (AllPass-from_list_all _ xs h))
 
 -- ---- the label of a free block
-
-free_spelled : (bytes : List ℕ) → length bytes ≡ 14 → is_zero bytes ≡ true → SpellsLabel free_label bytes
-unfolding zeros
-free_spelled bytes len z = record {
-  holds = record { state_holds = (refl, refl, refl, refl) };
-  fit = (lit< tt, (lit< tt, (lit< tt, (lit< tt, (lit< tt, tt)))));
-  bytes_are = zeros-from_all bytes z ∙ ap zeros len;
-}
 
 small : (n : ℕ) → n < 2 ^ 8 → n % 256 ≡ n
 small n lt = omega arith

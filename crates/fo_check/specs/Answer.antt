@@ -66,13 +66,15 @@ pub record IsReport (image : List Block) (s : Super) (root : RootBlock) (report 
   pub labelled : HasLabels image labels
   pub numbers : report ≡ record { blocks = length image; used = 1; leaked = leaked_count image s labels; snapshots = 0 }
 
+-- The devices have sizes in range and an arena in which nothing is used, and the image is built and sound: what the report says.
 pub record Reports (image vault : List Block) (report : Report) : Type 0 where
   pub s : Super
   pub root : RootBlock
   pub opened : IsOpen image vault s
   pub is_report : IsReport image s root report
 
--- no arena: S1 holds, and block 0 of the arena is not of its format
+-- No arena: S1 holds, and block 0 of the arena is not of its format, or says another number of blocks or more used places than
+-- there are.
 pub record IsNoArena (image vault : List Block) : Type 0 where
   pub sizes : HasSizes image vault
   pub s : Super

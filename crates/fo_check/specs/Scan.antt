@@ -25,6 +25,7 @@ pub record KnowsRoot (image : List Block) (s : Super) (upto : ℕ) (rooted : Boo
 pub record CountsLeaked (image : List Block) (s : Super) (upto leaked : ℕ) : Type 0 where
   pub counted : (labels : List Label) → HasLabels image labels → leaked ≡ count_by (is_leaked s) (take (upto - first_data (length image)) (enumerate_from (first_data (length image)) labels))
 
+-- The label blocks before `seen` and the labels before `upto` were looked at: what the table then holds.
 pub record IsScanned (image : List Block) (s : Super) (seen upto : ℕ) (table : Table) : Type 0 where
   pub whole : MatchOption table.broken (IsWhole image seen upto) (BreaksTable image)
   pub root : KnowsRoot image s upto table.rooted

@@ -8,7 +8,7 @@ pub enum CheckError {
     /// The main device has below 64 or above 2^20 blocks, or the arena below 16 or above 2^20.
     #[error("size of a device out of range")]
     Size,
-    /// Block 0 of the arena is not of its format.
+    /// Block 0 of the arena is not of its format, or says another number of blocks or more used places than there are.
     #[error("not an arena")]
     NotArena,
     /// The image has a part that is not built yet: snapshots, files or archives.

@@ -9,17 +9,9 @@ use Rattle.fo_image.specs.Usable.{free_label}
 use Rattle.fo_image.proofs.Padding.{zeros-from_all}
 use Rattle.fo_sound.specs.Image.{block_of, is_zero, IsDataBlock, label_bytes}
 use Rattle.fo_sound.specs.Fresh.{fresh_super, fresh_root, IsFresh}
+use Rattle.fo_sound.proofs.Labels.{free_spelled}
 use Rattle.fo_format.specs.Labels.{IsLabelBlock, HasLabelBlocks}
 use Rattle.fo_format.specs.Formatted.{MakesFresh}
-
--- zeros spell the label of a free block
-free_spelled : (bytes : List ℕ) → length bytes ≡ 14 → is_zero bytes ≡ true → SpellsLabel free_label bytes
-unfolding zeros
-free_spelled bytes len z = record {
-  holds = record { state_holds = (refl, refl, refl, refl) };
-  fit = (lit< tt, (lit< tt, (lit< tt, (lit< tt, (lit< tt, tt)))));
-  bytes_are = zeros-from_all bytes z ∙ ap zeros len;
-}
 
 -- what stands in each block of the main device
 pub record IsWritten (time blocks : ℕ) (before now : List Block) : Type 0 where

@@ -1,1 +1,2 @@
 mod FreshRoot
+pub mod Labels

@@ -12,7 +12,7 @@ pub record HasSizes (image vault : List Block) : Type 0 where
   pub arena_least : 16 ≤ length vault
   pub arena_most : length vault ≤ 2 ^ 20
 
--- block 0 of the arena says how many blocks it has and how many of its places are used
+-- block 0 of the arena says how many blocks it has and how many of its places are used, and there are so many places
 pub record IsArena (vault : List Block) (used : ℕ) : Type 0 where
   pub head : SpellsArenaHead (record { blocks = length vault; used = used }) (block_of vault 0)
   pub places : used ≤ arena_places (length vault)

@@ -34,7 +34,8 @@ pub record HasEpochs (s : Super) : Type 0 where
 abbrev pub root_label : Super → Label
 root_label s = live_label Root 1 s.high
 
--- The active root is a live data block of kind root, tag 1 and epoch high, and holds a root block of epoch high.
+-- The epochs are in order, and the active root is a live data block of kind root, tag 1 and epoch high, which holds a root block of
+-- epoch high.
 pub record HasActiveRoot (image : List Block) (s : Super) (root : RootBlock) : Type 0 where
   pub epochs : HasEpochs s
   pub place : IsDataBlock (length image) s.active
@@ -72,7 +73,7 @@ pub record HasDepths (root : RootBlock) : Type 0 where
   pub entries : root.entries.depth ≤ 4
   pub meta : root.meta.depth ≤ 4
 
--- The two entries of the root directory are in use and have their tags, and the first alone is one of entries.
+-- The two entries of the root directory are in use and have their tags, and the first alone has the directory flag.
 pub record HasRootEntries (root : RootBlock) : Type 0 where
   pub entries_active : root.entries.active ≡ true
   pub entries_dir : root.entries.dir ≡ true
@@ -87,6 +88,7 @@ pub record HasNumbers (s : Super) (root : RootBlock) : Type 0 where
 
 -- ---- sound
 
+-- The image keeps every rule, with this super block and this active root block.
 pub record IsSound (image : List Block) (s : Super) (root : RootBlock) : Type 0 where
   pub formatted : IsFormatted image s  -- S1
   pub active : HasActiveRoot image s root  -- S2
