@@ -41,6 +41,11 @@ bytes_of leaves now len = map (byte_of leaves now) (range_with_len 0 len)
 abbrev pub most_for : ℕ → ℕ
 most_for n = 5 * (n / 8192 + 3)
 
+-- What a call on a source finds is what memory has: the device tells, or pins are left for the blocks on the way, or these were
+-- prepared.
+abbrev pub Finds : (tells : Type 0) (needed left : ℕ) (prepared : Type 0) → Type 0
+Finds tells needed left prepared = tells ⊎ ((needed ≤ left) ⊎ prepared)
+
 -- A block stays in place: its slots where it is no leaf of entries, how long it is, its label and its places stay, and no removal
 -- is to close it that was not.
 pub record StaysInPlace {S : Type 0} (now : S → Image) (label : S → ℕ → Label) (stands : S → ℕ → Place → Type 0) (covered : S → ℕ → Type 0) (old new : S) (at : ℕ) : Type 0 where
@@ -49,6 +54,20 @@ pub record StaysInPlace {S : Type 0} (now : S → Image) (label : S → ℕ → 
   pub same_label : label new at ≡ label old at
   pub same_places : (p : Place) → stands old at p → stands new at p
   pub uncovered : (covered old at → ⊥) → covered new at → ⊥
+
+-- A block that may be prepared: pinned, live, and with a label of this tag. Over a device that tells nothing, too, two sources of two
+-- tags have none in common.
+pub record IsReady {S : Type 0} (label : S → ℕ → Label) (pinned : S → ℕ → Type 0) (tag : ℕ) (on : S) (at : ℕ) : Type 0 where
+  pub is_pinned : pinned on at
+  pub live : (label on at).state ≡ Live
+  pub tagged : (label on at).tag ≡ tag
+
+-- A block stays prepared: it stays pinned, and its label, its slots where it is no leaf of entries, and how long it is stay.
+pub record StaysReady {S : Type 0} (now : S → Image) (label : S → ℕ → Label) (pinned : S → ℕ → Type 0) (old new : S) (at : ℕ) : Type 0 where
+  pub is_pinned : pinned new at
+  pub same_label : label new at ≡ label old at
+  pub same_slots : ((label old at).kind ≡ Dir 0) ⊎ ((j : ℕ) → (now new at).slot j ≡ (now old at).slot j)
+  pub same_length : length ((now new at).bytes) ≡ length ((now old at).bytes)
 
 -- A block keeps its bytes, or is a leaf that ends within this length.
 abbrev pub KeepsBytes : (ℕ → Option ℕ) → ℕ → Image → Image → ℕ → Type 0
@@ -71,9 +90,9 @@ pub record Looks {S : Type 0} (now : S → Image) (label : S → ℕ → Label) 
 abbrev pub Made : (ℕ → Label) → (ℕ → Label) → ℕ → Type 0
 Made old new b = ((old b).state ≢ Live) × ((new b).state ≡ Live)
 
--- A block that was given out, or one of these that is of the current epoch.
-abbrev pub Touched : (ℕ → Label) → (ℕ → Label) → ℕ → (ℕ → Type 0) → ℕ → Type 0
-Touched old new high mine b = Made old new b ⊎ (mine b × ((old b).epoch ≡ high))
+-- A block that was given out, or one of these that is of the current epoch and has a label of this tag.
+abbrev pub Touched : (ℕ → Label) → (ℕ → Label) → (high tag : ℕ) → (ℕ → Type 0) → ℕ → Type 0
+Touched old new high tag mine b = Made old new b ⊎ (mine b × ((old b).epoch ≡ high) × ((old b).tag ≡ tag))
 
 -- An image is one of before, but for these blocks.
 pub record Beside (touched : ℕ → Type 0) (images : Image → Type 0) (image : Image) : Type 0 where
@@ -86,16 +105,16 @@ pub record Undone (touched made tops : ℕ → Type 0) (images : Image → Type 
   pub beside : Beside touched images image
   pub apart : (t b : ℕ) → tops t → made b → Reaches beside.other (to_block t) b → ⊥
 
--- A call on a source with these blocks changes blocks that it gives out, and those of its own that are inner ones and of the current
--- epoch, in memory and in every image; all else stays. What is given out stood at no place, and only older blocks of the source are to
+-- A call on a source with these blocks changes blocks that it gives out, and those of its own that are inner ones, of the current
+-- epoch and of its tag, in memory and in every image; all else stays. What is given out stood at no place, and only older blocks of the source are to
 -- be closed.
-pub record Changes {S : Type 0} (now : S → Image) (label : S → ℕ → Label) (stands : S → ℕ → Place → Type 0) (loose : S → ℕ → Type 0) (high : S → ℕ) (tops is_block : S → ℕ → Type 0) (may_leave : S → Image → Type 0) (moments : S → ℕ) (left : S → ℕ → Image → Type 0) (sealed_at : S → ℕ → Type 0) (pins_left room next : S → ℕ) (grants : S → Type 0) (pinned : S → ℕ → Type 0) (waits : S → ℕ → ℕ → ℕ → Type 0) (clearing : S → ℕ → ℕ → Type 0) (covered : S → ℕ → Type 0) (keeps : S → S → Type 0) (mine inner : ℕ → Type 0) (old new : S) : Type 0 where
-  pub memory : (b : ℕ) → (Touched (label old) (label new) (high old) inner b → ⊥) → SameContent (now new b) (now old b)
-  pub images : (image : Image) → may_leave new image → Undone (Touched (label old) (label new) (high old) inner) (Made (label old) (label new)) (tops old) (may_leave old) image
-  pub passes : Passes (Beside (Touched (label old) (label new) (high old) inner) (may_leave old)) (moments old) (moments new) (left old) (left new)
+pub record Changes {S : Type 0} (now : S → Image) (label : S → ℕ → Label) (stands : S → ℕ → Place → Type 0) (loose : S → ℕ → Type 0) (high : S → ℕ) (tops is_block : S → ℕ → Type 0) (may_leave : S → Image → Type 0) (moments : S → ℕ) (left : S → ℕ → Image → Type 0) (sealed_at : S → ℕ → Type 0) (pins_left room next : S → ℕ) (grants : S → Type 0) (pinned : S → ℕ → Type 0) (waits : S → ℕ → ℕ → ℕ → Type 0) (clearing : S → ℕ → ℕ → Type 0) (covered : S → ℕ → Type 0) (keeps : S → S → Type 0) (tag : ℕ) (mine inner : ℕ → Type 0) (old new : S) : Type 0 where
+  pub memory : (b : ℕ) → (Touched (label old) (label new) (high old) tag inner b → ⊥) → SameContent (now new b) (now old b)
+  pub images : (image : Image) → may_leave new image → Undone (Touched (label old) (label new) (high old) tag inner) (Made (label old) (label new)) (tops old) (may_leave old) image
+  pub passes : Passes (Beside (Touched (label old) (label new) (high old) tag inner) (may_leave old)) (moments old) (moments new) (left old) (left new)
   pub labels : (b : ℕ) → (Made (label old) (label new) b → ⊥) → label new b ≡ label old b
   pub fresh : (b : ℕ) → Made (label old) (label new) b → ((p : Place) → stands old b p → ⊥) × (tops old b → ⊥) × (b ≢ 1)
-  pub made : (b : ℕ) → Made (label old) (label new) b → ((label new b).epoch ≡ high old) × is_block new b × pinned new b
+  pub made : (b : ℕ) → Made (label old) (label new) b → ((label new b).epoch ≡ high old) × ((label new b).tag ≡ tag) × is_block new b × pinned new b
   pub places : (b : ℕ) (p : Place) → (Made (label old) (label new) b → ⊥) → (mine b → ⊥) → (covered new b → ⊥) → (stands old b p → stands new b p) × (loose old b → loose new b)
   pub covers : (b : ℕ) → covered new b → covered old b ⊎ (mine b × ((label old b).epoch < high old))
   pub marks : (b : ℕ) → (pinned old b → pinned new b) × ((Made (label old) (label new) b → ⊥) → sealed_at old b → sealed_at new b)

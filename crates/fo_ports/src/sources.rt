@@ -9,7 +9,7 @@ ghost use Rattle.fo_crash.specs.Images.{SameContent};
 ghost use Rattle.fo_crash.specs.Steps.{IsSure};
 ghost use Rattle.fo_ports.specs.Blocks.{blank};
 ghost use Rattle.fo_ports.specs.Causes.{Caused};
-ghost use Rattle.fo_ports.specs.Sources.{Form, is_dir, bytes_of, most_for, StaysInPlace, KeepsBytes, Looks, Changes, Made};
+ghost use Rattle.fo_ports.specs.Sources.{Form, is_dir, bytes_of, most_for, Finds, StaysInPlace, IsReady, StaysReady, KeepsBytes, Looks, Changes, Made};
 
 use crate::blocks::Blocks;
 use crate::error::BlockError;
@@ -56,13 +56,12 @@ pub trait Bytes<B: Blocks> {
         ensures is { (result.dir ≡ is_dir (form self.now).kind) × (result.tag ≡ (form self.now).tag) × (result.size ≡ size self.now) };
 
     /// Copies the bytes from the offset on to the front of the slice, as many as there are and fit, and says how many. Where it is
-    /// refused the front of the slice may have been changed.
+    /// refused the front of the slice may have been changed. Of a source of entries nothing is said of the bytes given, since its
+    /// leaves are read by `leaf` and slot by slot.
     fn read(&mut self, on: &mut B, offset: u64, into: &mut [u8]) -> Result<usize, BlockError>
         requires over { is_over self.old on.old }
-        requires kind { (form self.old).kind ≡ Data 0 }
-        requires pins { (most_for (length into.old) ≤ B.pins_left on.old) ⊎ prepared self.old on.old offset (length into.old) }
         ensures count { IfOk result (λ n. n ≡ min (length into.old) (size self.old - offset)) }
-        ensures given { IfOk result (λ n. take n into.new ≡ take (length into.old) (drop offset (bytes self.new on.new))) }
+        ensures given { IfOk result (λ n. (form self.old).kind ≡ Data 0 → Finds (B.tells on.old) (most_for (length into.old)) (B.pins_left on.old) (prepared self.old on.old offset (length into.old)) → take n into.new ≡ take (length into.old) (drop offset (bytes self.new on.new))) }
         ensures behind { IfOk result (λ n. drop n into.new ≡ drop n into.old) }
         ensures same { (form self.new ≡ form self.old) × (size self.new ≡ size self.old) }
         ensures over { is_over self.new on.new }
@@ -77,9 +76,8 @@ pub trait Bytes<B: Blocks> {
     /// The address of leaf `i`; None exactly where no local leaf stands.
     fn leaf(&mut self, on: &mut B, i: u32) -> Result<Option<u32>, BlockError>
         requires over { is_over self.old on.old }
-        requires pins { (4 ≤ B.pins_left on.old) ⊎ prepared self.old on.old (8192 * i) 8192 }
-        ensures at { IfOk result (λ at. at ≡ leaf_at self.new on.new i) }
-        ensures block { IfOk result (λ at. IfSome at (λ b. owns self.new on.new b × B.is_block on.new b)) }
+        ensures at { IfOk result (λ at. Finds (B.tells on.old) 4 (B.pins_left on.old) (prepared self.old on.old (8192 * i) 8192) → at ≡ leaf_at self.new on.new i) }
+        ensures block { IfOk result (λ at. IfSome at (λ b. B.is_block on.new b)) }
         ensures same { (form self.new ≡ form self.old) × (size self.new ≡ size self.old) }
         ensures over { is_over self.new on.new }
         ensures bytes { B.tells on.old → bytes self.new on.new ≡ bytes self.old on.old }
@@ -91,12 +89,11 @@ pub trait Bytes<B: Blocks> {
         ensures cause { IfErr result (Caused ⊥ (λ b. (B.tells on.old → ⊥) × B.is_block on.old b) (Rose (B.faults on.old) (B.faults on.new)) ⊥) };
 
     /// Gets, and so pins, the blocks on the way to these bytes, and where they end past the source's end those on the way to its
-    /// last leaf.
+    /// last leaf. Over a device that tells nothing a block whose label is not that of a live block of the source is damaged.
     fn prepare(&mut self, on: &mut B, offset: u64, len: u64) -> Result<(), BlockError>
         requires over { is_over self.old on.old }
         requires limit { offset + len ≤ (form self.old).limit }
-        requires pins { most_for len ≤ B.pins_left on.old }
-        ensures prepared { OnOk result (prepared self.new on.new offset len) }
+        ensures prepared { OnOk result (most_for len ≤ B.pins_left on.old → prepared self.new on.new offset len) }
         ensures same { (form self.new ≡ form self.old) × (size self.new ≡ size self.old) }
         ensures over { is_over self.new on.new }
         ensures bytes { B.tells on.old → bytes self.new on.new ≡ bytes self.old on.old }
@@ -114,7 +111,6 @@ pub trait Bytes<B: Blocks> {
         requires kind { ((form self.old).kind ≡ Data 0) × ((form self.old).rank % 32 ≢ 16) }
         requires prepared { prepared self.old on.old offset (length piece.now) }
         requires spare { most_for (length piece.now) ≤ B.spare on.old }
-        requires settled { (b j : ℕ) → owns self.old on.old b → B.clearing on.old b j → ((B.label on.old b).kind ≡ Dir 0) × ((B.label on.old b).epoch ≡ B.high on.old) }
         ensures none { length piece.now ≡ 0 → size self.new ≡ size self.old }
         ensures size { 0 < length piece.now → size self.new ≡ max (size self.old) (offset + length piece.now) }
         ensures bytes { B.tells on.old → bytes self.new on.new ≡ written (bytes self.old on.old) offset piece.now }
@@ -123,7 +119,7 @@ pub trait Bytes<B: Blocks> {
         ensures owns { (b : ℕ) → (owns self.new on.new b → owns self.old on.old b ⊎ Made (B.label on.old) (B.label on.new) b) × (Made (B.label on.old) (B.label on.new) b → owns self.new on.new b) }
         ensures still { (o n : ℕ) → prepared self.old on.old o n → prepared self.new on.new o n }
         ensures spare { B.spare on.old ≤ B.spare on.new + most_for (length piece.now) }
-        ensures changes { Changes B.now B.label B.stands B.loose B.high B.tops B.is_block B.may_leave B.moments B.left B.sealed_at B.pins_left B.room B.next B.grants B.pinned B.waits B.clearing B.covered B.keeps (owns self.old on.old) (owns self.old on.old) on.old on.new };
+        ensures changes { Changes B.now B.label B.stands B.loose B.high B.tops B.is_block B.may_leave B.moments B.left B.sealed_at B.pins_left B.room B.next B.grants B.pinned B.waits B.clearing B.covered B.keeps (form self.old).tag (owns self.old on.old) (owns self.old on.old) on.old on.new };
 
     /// Makes leaf `i` one of the current epoch, and gives its address: an older leaf is copied, and a missing one is added. A leaf that
     /// is given out is in every image what memory has; no other leaf changes. Where the source ends before the leaf does, it now ends
@@ -132,12 +128,11 @@ pub trait Bytes<B: Blocks> {
         requires over { is_over self.old on.old }
         requires prepared { prepared self.old on.old (8192 * i) 8192 }
         requires spare { most_for 8192 ≤ B.spare on.old }
-        requires settled { (b j : ℕ) → owns self.old on.old b → B.clearing on.old b j → ((B.label on.old b).kind ≡ Dir 0) × ((B.label on.old b).epoch ≡ B.high on.old) }
         ensures at { leaf_at self.new on.new i ≡ Some result }
         ensures others { B.tells on.old → (j : ℕ) → j ≢ i → leaf_at self.new on.new j ≡ leaf_at self.old on.old j }
         ensures content { MatchOption (leaf_at self.old on.old i) (SameContent (B.now on.new result) (blank (form self.old).kind)) (λ b. SameContent (B.now on.new result) (B.now on.old b)) }
         ensures copied { MatchOption (leaf_at self.old on.old i) (Made (B.label on.old) (B.label on.new) result) (λ b. ((b ≡ result) × ((B.label on.old b).epoch ≡ B.high on.old)) ⊎ (((B.label on.old b).epoch < B.high on.old) × Made (B.label on.old) (B.label on.new) result)) }
-        ensures label { ((B.label on.new result).state ≡ Live) × ((B.label on.new result).kind ≡ (form self.old).kind) × ((B.label on.new result).epoch ≡ B.high on.new) }
+        ensures label { ((B.label on.new result).state ≡ Live) × ((B.label on.new result).kind ≡ (form self.old).kind) × ((B.label on.new result).tag ≡ (form self.old).tag) × ((B.label on.new result).epoch ≡ B.high on.new) }
         ensures ready { owns self.new on.new result × B.pinned on.new result × (length ((B.now on.new result).bytes) ≡ 8192) }
         ensures sure { Made (B.label on.old) (B.label on.new) result → IsSure (B.now on.new) result (B.may_leave on.new) }
         ensures size { size self.new ≡ max (size self.old) (8192 * (i + 1)) }
@@ -147,7 +142,7 @@ pub trait Bytes<B: Blocks> {
         ensures owns { (b : ℕ) → (owns self.new on.new b → owns self.old on.old b ⊎ Made (B.label on.old) (B.label on.new) b) × (Made (B.label on.old) (B.label on.new) b → owns self.new on.new b) }
         ensures still { (o n : ℕ) → prepared self.old on.old o n → prepared self.new on.new o n }
         ensures spare { B.spare on.old ≤ B.spare on.new + most_for 8192 }
-        ensures changes { Changes B.now B.label B.stands B.loose B.high B.tops B.is_block B.may_leave B.moments B.left B.sealed_at B.pins_left B.room B.next B.grants B.pinned B.waits B.clearing B.covered B.keeps (owns self.old on.old) (λ b. owns self.old on.old b × ((B.label on.old b).kind ≢ (form self.old).kind)) on.old on.new };
+        ensures changes { Changes B.now B.label B.stands B.loose B.high B.tops B.is_block B.may_leave B.moments B.left B.sealed_at B.pins_left B.room B.next B.grants B.pinned B.waits B.clearing B.covered B.keeps (form self.old).tag (owns self.old on.old) (λ b. owns self.old on.old b × ((B.label on.old b).kind ≢ (form self.old).kind)) on.old on.new };
 
     // LAWS
     /// The bytes are those of the leaves in memory.
@@ -160,7 +155,9 @@ pub trait Bytes<B: Blocks> {
 
     ghost leaf_owned: { (s : Self) (b : B) (i at : ℕ) → is_over s b → leaf_at s b i ≡ Some at → owns s b at };
 
-    /// A leaf stands at a place of the source's kind, tag and rank.
+    /// A leaf stands at a place, which is of the source's kind, tag and rank.
+    ghost leaf_stands: { (s : Self) (b : B) (i at : ℕ) → is_over s b → B.tells b → leaf_at s b i ≡ Some at → (p : Place) × B.stands b at p };
+
     ghost leaf_place: { (s : Self) (b : B) (i at : ℕ) (p : Place) → is_over s b → B.tells b → leaf_at s b i ≡ Some at → B.stands b at p → (p.kind ≡ (form s).kind) × (p.tag ≡ (form s).tag) × (p.rank ≡ (form s).rank) };
 
     /// The source's blocks have its tag, so sources of two tags share none. They are live, of an epoch up to the high one, and not to
@@ -169,11 +166,12 @@ pub trait Bytes<B: Blocks> {
 
     ghost live: { (s : Self) (b : B) (at : ℕ) → is_over s b → B.tells b → owns s b at → ((B.label b at).state ≡ Live) × ((B.label b at).epoch ≤ B.high b) × (B.covered b at → ⊥) };
 
-    /// Where its blocks stay in place, and keep their bytes but for leaves that end within it, a source keeps its leaves.
-    ghost stays: { (s : Self) (a b : B) → is_over s a → B.keeps a b → ((at : ℕ) → owns s a at → StaysInPlace B.now B.label B.stands B.covered a b at × KeepsBytes (leaf_at s a) (size s) (B.now a) (B.now b) at) → is_over s b × ((i : ℕ) → leaf_at s b i ≡ leaf_at s a i) × ((at : ℕ) → owns s b at ↔ owns s a at) };
+    /// Where its blocks stay in place, and keep their bytes but for leaves that end within it, a source keeps its leaves. Over a
+    /// device that tells nothing it stays over the blocks whatever else is done to them.
+    ghost stays: { (s : Self) (a b : B) → is_over s a → B.keeps a b → (B.tells a → (at : ℕ) → owns s a at → StaysInPlace B.now B.label B.stands B.covered a b at × KeepsBytes (leaf_at s a) (size s) (B.now a) (B.now b) at) → is_over s b × (B.tells a → ((i : ℕ) → leaf_at s b i ≡ leaf_at s a i) × ((at : ℕ) → owns s b at ↔ owns s a at)) };
 
-    /// Where they stay pinned, too, what was prepared stays so.
-    ghost still_prepared: { (s : Self) (a b : B) (o n : ℕ) → is_over s a → B.keeps a b → ((at : ℕ) → owns s a at → StaysInPlace B.now B.label B.stands B.covered a b at × (B.pinned a at → B.pinned b at)) → prepared s a o n → prepared s b o n };
+    /// Where the blocks that are prepared stay so, what was prepared stays so.
+    ghost still_prepared: { (s : Self) (a b : B) (o n : ℕ) → is_over s a → is_over s b → B.keeps a b → ((at : ℕ) → IsReady B.label B.pinned (form s).tag a at → StaysReady B.now B.label B.pinned a b at) → prepared s a o n → prepared s b o n };
 
     /// What is prepared ends within the limit, and each part of it is prepared.
     ghost prepared_within: { (s : Self) (b : B) (o n p m : ℕ) → prepared s b o n → o ≤ p → p + m ≤ o + n → prepared s b p m × (o + n ≤ (form s).limit) };
