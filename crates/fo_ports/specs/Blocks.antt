@@ -8,7 +8,7 @@ use Rattle.fo_image.specs.Field.{Four, number}
 use Rattle.fo_image.specs.Format.{PointerHolds, EntryHolds, SpellsPointer, SpellsEntry}
 use Rattle.fo_crash.specs.declared.slot.Slot.{Slot}
 use Rattle.fo_crash.specs.declared.slot.Slot.TheVariants.{Pointer as To, Entry as Head, Prev}
-use Rattle.fo_crash.specs.Images.{Content, Image, target, walk, depth_of}
+use Rattle.fo_crash.specs.Images.{Content, Image, Reaches, target, walk, depth_of}
 
 -- how many slots a block has
 abbrev pub slot_count : Kind → ℕ
@@ -136,6 +136,10 @@ dropped old new = depth_of old - depth_of new
 -- A block that is older than the epoch keeps its parent: it is put only where it stood, or where the levels above it are dropped.
 pub record KeepsParent (now : Image) (old s : Slot) (older : ℕ → Type 0) : Type 0 where
   pub each : (b : ℕ) → target s ≡ Local b → older b → target (walk now old (zeros (dropped old s))) ≡ Local b
+
+-- A block may be closed by what is queued and waits: a removal is to close it, or it hangs from a slot that waits to be cleared.
+abbrev pub IsDoomed : (now : Image) (clearing : ℕ → ℕ → Type 0) (covered : ℕ → Type 0) → ℕ → Type 0
+IsDoomed now clearing covered b = covered b ⊎ ((at : ℕ) × (j : ℕ) × clearing at j × Reaches now ((now at).slot j) b)
 
 -- the root blocks from one on, each by the slot of the root before
 abbrev pub before_of : Slot → ℕ

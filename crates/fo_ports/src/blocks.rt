@@ -13,7 +13,7 @@ ghost use Rattle.fo_crash.specs.Images.{Content, Image, to_block, target, walk, 
 ghost use Rattle.fo_crash.specs.Steps.{AddsSlot, AddsBytes, AddsBlock, AddsNothing, AddsSuper, AllAre, IsSure, HasSuper, Brings, Covers, Passes, PutsSlot, PutsBytes, PutsBlock, Clears, cleared};
 ghost use Rattle.fo_crash.specs.Names.{SameUse, IsInUse};
 ghost use Rattle.fo_crash.specs.Places.{place, place_below, super_place, IsPlaced, OnePlace, RanksFall, Fits};
-ghost use Rattle.fo_ports.specs.Blocks.{slot_count, IsLevel, blank, SlotFits, Reads, ReadsSlots, MayPut, put_at, zeros, dropped, KeepsParent, OnChain};
+ghost use Rattle.fo_ports.specs.Blocks.{slot_count, IsLevel, blank, SlotFits, Reads, ReadsSlots, MayPut, put_at, zeros, dropped, KeepsParent, IsDoomed, OnChain};
 ghost use Rattle.fo_ports.specs.Causes.{Caused, IsFull};
 
 use crate::error::BlockError;
@@ -335,6 +335,7 @@ pub trait Blocks {
         ensures order { (b j : ℕ) → clearing self.new b j → clearing self.old b j }
         ensures blocks { (t b : ℕ) → tops self.old t → Reaches (now self.new) (to_block t) b → (label self.new b ≡ label self.old b) × (sealed_at self.old b → sealed_at self.new b) }
         ensures places { (t b : ℕ) (p : Place) → tops self.old t → Reaches (now self.new) (to_block t) b → stands self.old b p → stands self.new b p }
+        ensures undoomed { tells self.old → (b : ℕ) → (IsDoomed (now self.old) (clearing self.old) (covered self.old) b → ⊥) → (label self.new b ≡ label self.old b) × (sealed_at self.old b → sealed_at self.new b) × (covered self.new b → ⊥) × ((p : Place) → stands self.old b p → stands self.new b p) }
         ensures numbers { (next self.new ≡ next self.old) × (grants self.old → grants self.new) }
         ensures cause { IfErr result (Caused (IsFull (usable self.new) blocks (now self.new) (may_leave self.new) (clearing self.new) (covered self.new)) (λ b. tells self.old → ⊥) (Rose (faults self.old) (faults self.new)) ⊥) }
         ensures passes { Passes (may_leave self.old) (moments self.old) (moments self.new) (left self.old) (left self.new) }
@@ -359,6 +360,7 @@ pub trait Blocks {
         ensures passes { Passes (may_leave self.old) (moments self.old) (moments self.new) (left self.old) (left self.new) }
         ensures blocks { (b : ℕ) → (label self.new b ≡ label self.old b) × (pinned self.old b → pinned self.new b) × (sealed_at self.old b → sealed_at self.new b) }
         ensures places { (b : ℕ) (p : Place) → Reaches (now self.new) (to_block 1) b → stands self.old b p → stands self.new b p }
+        ensures undoomed { tells self.old → (b : ℕ) → (IsDoomed (now self.old) (clearing self.old) (covered self.old) b → ⊥) → (label self.new b ≡ label self.old b) × (sealed_at self.old b → sealed_at self.new b) × (covered self.new b → ⊥) × ((p : Place) → stands self.old b p → stands self.new b p) }
         ensures numbers { (spare self.new ≡ spare self.old) × (pins_left self.new ≡ pins_left self.old) × (room self.new ≡ room self.old) × (next self.new ≡ next self.old) × (grants self.old → grants self.new) }
         ensures cause { IfErr result (Caused ⊥ (λ b. ⊥) (Rose (faults self.old) (faults self.new)) ⊥) }
         ensures keeps { keeps self.old self.new };
