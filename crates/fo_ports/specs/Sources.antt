@@ -24,19 +24,6 @@ is_dir (Dir level) = true
 is_dir (Data level) = false
 is_dir Root = false
 
--- a byte of a leaf in memory; 0 where no leaf stands
-abbrev pub leaf_byte : Image → Option ℕ → ℕ → ℕ
-leaf_byte now None k = 0
-leaf_byte now (Some at) k = slice_index ((now at).bytes) k
-
--- the byte at a place, by the leaves of 8192 bytes
-abbrev pub byte_of : (ℕ → Option ℕ) → Image → ℕ → ℕ
-byte_of leaves now k = leaf_byte now (leaves (k / 8192)) (k % 8192)
-
--- the bytes at all places below a length
-abbrev pub bytes_of : (ℕ → Option ℕ) → Image → ℕ → List ℕ
-bytes_of leaves now len = map (byte_of leaves now) (range_with_len 0 len)
-
 -- A byte of a leaf: as memory has it where the leaf stands on the device, as it is held where the leaf is named by its score, and 0
 -- where there is no leaf.
 abbrev pub byte_at : Image → Option ℕ → Option (List ℕ) → ℕ → ℕ
