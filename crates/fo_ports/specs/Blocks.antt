@@ -1,13 +1,14 @@
 -- What blocks of each kind have.
-use Rattle.std.specs.Prelude.{◌≡◌, ◌⊎◌, ◌≤◌, ◌+◌, ◌-◌, ℕ, zero, suc, false, cond, nat_lt, List, [], ◌∷◌, ◌++◌, take, drop, length, replicate}
+use Rattle.std.specs.Prelude.{◌≡◌, ◌⊎◌, ◌<◌, ◌≤◌, ◌+◌, ◌-◌, ◌*◌, ℕ, zero, suc, false, cond, nat_lt, List, [], ◌∷◌, ◌++◌, take, drop, length, replicate}
 use Rattle.fo_image.specs.declared.types.Kind.{Kind}
 use Rattle.fo_image.specs.declared.types.Kind.TheVariants.{Data, Dir, Root}
 use Rattle.fo_image.specs.declared.types.Pointer.TheVariants.{Nil, Local}
 use Rattle.fo_image.specs.declared.types.Entry.{Entry}
-use Rattle.fo_image.specs.Format.{PointerHolds, EntryHolds}
+use Rattle.fo_image.specs.Field.{Four, number}
+use Rattle.fo_image.specs.Format.{PointerHolds, EntryHolds, SpellsPointer, SpellsEntry}
 use Rattle.fo_crash.specs.declared.slot.Slot.{Slot}
 use Rattle.fo_crash.specs.declared.slot.Slot.TheVariants.{Pointer as To, Entry as Head, Prev}
-use Rattle.fo_crash.specs.Images.{Content, Image, target, walk, depth_of}
+use Rattle.fo_crash.specs.Images.{Content, Image, Reaches, target, walk, depth_of}
 
 -- how many slots a block has
 abbrev pub slot_count : Kind → ℕ
@@ -87,6 +88,32 @@ pub record Reads (kind : Kind) (c : Content) (bytes : List ℕ) : Type 0 where
   pub before : take (slots_from kind) bytes ≡ take (slots_from kind) c.bytes
   pub behind : drop (slots_to kind) bytes ≡ drop (slots_to kind) c.bytes
 
+-- where slot i of a block begins, in bytes
+abbrev pub slot_start : Kind → ℕ → ℕ
+slot_start (Data level) i = 20 * i
+slot_start (Dir zero) i = 40 * i
+slot_start (Dir (suc level)) i = 20 * i
+slot_start Root zero = 24
+slot_start Root (suc zero) = 64
+slot_start Root (suc (suc i)) = 16
+
+-- how many bytes a slot takes
+abbrev pub slot_size : Slot → ℕ
+slot_size (To p) = 20
+slot_size (Head e) = 40
+slot_size (Prev epoch at) = 8
+
+-- These bytes spell this slot.
+abbrev pub SpellsSlot : Slot → List ℕ → Type 0
+SpellsSlot (To p) bytes = SpellsPointer p bytes
+SpellsSlot (Head e) bytes = SpellsEntry e bytes
+SpellsSlot (Prev epoch at) bytes = bytes ≡ number Four epoch ++ number Four at
+
+-- The slots of a block as it is read: each is one that a block of this kind can have there, and is spelled there.
+pub record ReadsSlots (kind : Kind) (c : Content) (bytes : List ℕ) : Type 0 where
+  pub fit : (i : ℕ) → i < slot_count kind → SlotFits kind i (c.slot i)
+  pub spelled : (i : ℕ) → i < slot_count kind → SpellsSlot (c.slot i) (take (slot_size (c.slot i)) (drop (slot_start kind i) bytes))
+
 -- These bytes spell no slot, and not the epoch of a root block.
 abbrev pub MayPut : Kind → ℕ → ℕ → Type 0
 MayPut (Data level) from end = slots_to (Data level) ≤ from
@@ -109,6 +136,10 @@ dropped old new = depth_of old - depth_of new
 -- A block that is older than the epoch keeps its parent: it is put only where it stood, or where the levels above it are dropped.
 pub record KeepsParent (now : Image) (old s : Slot) (older : ℕ → Type 0) : Type 0 where
   pub each : (b : ℕ) → target s ≡ Local b → older b → target (walk now old (zeros (dropped old s))) ≡ Local b
+
+-- A block may be closed by what is queued and waits: a removal is to close it, or it hangs from a slot that waits to be cleared.
+abbrev pub IsDoomed : (now : Image) (clearing : ℕ → ℕ → Type 0) (covered : ℕ → Type 0) → ℕ → Type 0
+IsDoomed now clearing covered b = covered b ⊎ ((at : ℕ) × (j : ℕ) × clearing at j × Reaches now ((now at).slot j) b)
 
 -- the root blocks from one on, each by the slot of the root before
 abbrev pub before_of : Slot → ℕ

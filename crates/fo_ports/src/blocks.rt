@@ -5,7 +5,7 @@ ghost use Rattle.fo_image.specs.declared.types.Score.{Score};
 ghost use Rattle.fo_image.specs.declared.types.Label.{Label};
 ghost use Rattle.fo_image.specs.declared.types.State.TheVariants.{Live};
 ghost use Rattle.fo_image.specs.declared.types.Kind.{Kind};
-ghost use Rattle.fo_image.specs.declared.types.Kind.TheVariants.{Data, Root};
+ghost use Rattle.fo_image.specs.declared.types.Kind.TheVariants.{Data, Dir, Root};
 ghost use Rattle.fo_image.specs.declared.types.Pointer.TheVariants.{Local};
 ghost use Rattle.fo_crash.specs.declared.slot.Slot.{Slot};
 ghost use Rattle.fo_crash.specs.declared.place.Place.{Place};
@@ -13,7 +13,7 @@ ghost use Rattle.fo_crash.specs.Images.{Content, Image, to_block, target, walk, 
 ghost use Rattle.fo_crash.specs.Steps.{AddsSlot, AddsBytes, AddsBlock, AddsNothing, AddsSuper, AllAre, IsSure, HasSuper, Brings, Covers, Passes, PutsSlot, PutsBytes, PutsBlock, Clears, cleared};
 ghost use Rattle.fo_crash.specs.Names.{SameUse, IsInUse};
 ghost use Rattle.fo_crash.specs.Places.{place, place_below, super_place, IsPlaced, OnePlace, RanksFall, Fits};
-ghost use Rattle.fo_ports.specs.Blocks.{slot_count, IsLevel, blank, SlotFits, Reads, MayPut, put_at, zeros, dropped, KeepsParent, OnChain};
+ghost use Rattle.fo_ports.specs.Blocks.{slot_count, IsLevel, blank, SlotFits, Reads, ReadsSlots, MayPut, put_at, zeros, dropped, KeepsParent, IsDoomed, OnChain};
 ghost use Rattle.fo_ports.specs.Causes.{Caused, IsFull};
 
 use crate::error::BlockError;
@@ -121,15 +121,20 @@ pub trait Blocks {
     /// What every call keeps, also of what the implementer borrows.
     ghost keeps: { Self → Self → Type 0 };
 
-    /// Copies a block of this kind and rank, as it was last put, and pins it. A pinned block is had again without fail.
+    /// Copies a block of this kind and rank, as it was last put, and pins it while pins are left. A pinned block is had again without
+    /// fail. A block that has a label of another kind, or whose bytes are not of the kind's format, is damaged; over a device that
+    /// tells what it holds, no block that stands at a place is.
     fn get(&mut self, at: u32, kind: Kind, rank: u32, into: &mut [u8]) -> Result<(), BlockError>
         requires block { is_block self.old at }
         requires length { length into.old ≡ 8192 }
         requires place { tells self.old → (p : Place) → stands self.old at p → (p.kind ≡ kind) × (p.rank ≡ rank) }
         ensures bytes { OnOk result (Reads kind (now self.new at) into.new) }
+        ensures slots { OnOk result (ReadsSlots kind (now self.new at) into.new) }
+        ensures names { OnOk result ((i below : ℕ) → i < slot_count kind → target ((now self.new at).slot i) ≡ Local below → is_block self.new below) }
+        ensures kind { OnOk result ((label self.old at).kind ≡ kind) }
         ensures nothing { OnErr result (into.new ≡ into.old) }
         ensures pinned { OnOk result (0 < pins_left self.old → pinned self.new at) }
-        ensures again { pinned self.old at → IsOk result × (pins_left self.new ≡ pins_left self.old) }
+        ensures again { pinned self.old at → (label self.old at).kind ≡ kind → IsOk result × (pins_left self.new ≡ pins_left self.old) }
         ensures pins { pins_left self.old ≤ pins_left self.new + 1 }
         ensures now { tells self.old → SameImage (now self.new) (now self.old) }
         ensures known { (b : ℕ) → pinned self.old b → SameContent (now self.new b) (now self.old b) }
@@ -140,7 +145,7 @@ pub trait Blocks {
         ensures blocks { (b : ℕ) → (label self.new b ≡ label self.old b) × (pinned self.old b → pinned self.new b) × (sealed_at self.old b → sealed_at self.new b) }
         ensures places { (b : ℕ) (p : Place) → (stands self.old b p → stands self.new b p) × (loose self.old b → loose self.new b) }
         ensures numbers { (spare self.new ≡ spare self.old) × (room self.new ≡ room self.old) × (next self.new ≡ next self.old) × (grants self.old → grants self.new) }
-        ensures cause { IfErr result (Caused ⊥ (λ b. (tells self.old → ⊥) × (b ≡ at)) (Rose (faults self.old) (faults self.new)) ⊥) }
+        ensures cause { IfErr result (Caused ⊥ (λ b. (b ≡ at) × (tells self.old → (p : Place) → stands self.old at p → ⊥)) (Rose (faults self.old) (faults self.new)) ⊥) }
         ensures keeps { keeps self.old self.new };
 
     /// A slot of a pinned block.
@@ -268,15 +273,16 @@ pub trait Blocks {
         ensures numbers { (spare self.new ≡ spare self.old) × (pins_left self.new ≡ pins_left self.old) × (room self.new + 409 * dropped ((now self.old at).slot i) slot ≡ room self.old) × (next self.new ≡ next self.old) × (grants self.old → grants self.new) }
         ensures keeps { keeps self.old self.new };
 
-    /// Clears a slot: at once, or when block `after` is settled with what it has now or later. An image with the cleared slot has
-    /// that block's bytes as they are now. What the slot named is queued to be closed.
+    /// Clears a slot: at once, or, of a leaf of entries, when block `after` is settled with what it has now or later. An image with
+    /// the cleared slot has that block's bytes as they are now. What the slot named is queued to be closed.
     fn remove_slot(&mut self, at: u32, i: u32, after: Option<u32>)
         requires pinned { pinned self.old at }
         requires current { (label self.old at).epoch ≡ high self.old }
         requires slots { i < slot_count (label self.old at).kind }
         requires room { 0 < room self.old }
         requires settled { clearing self.old at i → ⊥ }
-        ensures now { PutsSlot at i (cleared ((now self.old at).slot i)) (now self.old) (now self.new) ⊎ (SameImage (now self.new) (now self.old) × clearing self.new at i × (after ≢ None)) }
+        requires entries { (after ≡ None) ⊎ ((label self.old at).kind ≡ Dir 0) }
+        ensures now { (PutsSlot at i (cleared ((now self.old at).slot i)) (now self.old) (now self.new) × (clearing self.new at i → ⊥)) ⊎ (SameImage (now self.new) (now self.old) × clearing self.new at i × (after ≢ None)) }
         ensures adds { AddsSlot (now self.old) at i (cleared ((now self.old at).slot i)) (λ image. IfSome after (λ leaf. (image leaf).bytes ≡ (now self.old leaf).bytes)) (may_leave self.old) (may_leave self.new) }
         ensures covers { Covers ((now self.old at).slot i) (now self.old) (now self.new) (covered self.old) (covered self.new) }
         ensures places { (b : ℕ) (p : Place) → (covered self.new b → ⊥) → (stands self.old b p → stands self.new b p) × (loose self.old b → loose self.new b) }
@@ -329,6 +335,7 @@ pub trait Blocks {
         ensures order { (b j : ℕ) → clearing self.new b j → clearing self.old b j }
         ensures blocks { (t b : ℕ) → tops self.old t → Reaches (now self.new) (to_block t) b → (label self.new b ≡ label self.old b) × (sealed_at self.old b → sealed_at self.new b) }
         ensures places { (t b : ℕ) (p : Place) → tops self.old t → Reaches (now self.new) (to_block t) b → stands self.old b p → stands self.new b p }
+        ensures undoomed { tells self.old → (b : ℕ) → (IsDoomed (now self.old) (clearing self.old) (covered self.old) b → ⊥) → (label self.new b ≡ label self.old b) × (sealed_at self.old b → sealed_at self.new b) × (covered self.new b → ⊥) × ((p : Place) → stands self.old b p → stands self.new b p) }
         ensures numbers { (next self.new ≡ next self.old) × (grants self.old → grants self.new) }
         ensures cause { IfErr result (Caused (IsFull (usable self.new) blocks (now self.new) (may_leave self.new) (clearing self.new) (covered self.new)) (λ b. tells self.old → ⊥) (Rose (faults self.old) (faults self.new)) ⊥) }
         ensures passes { Passes (may_leave self.old) (moments self.old) (moments self.new) (left self.old) (left self.new) }
@@ -353,6 +360,7 @@ pub trait Blocks {
         ensures passes { Passes (may_leave self.old) (moments self.old) (moments self.new) (left self.old) (left self.new) }
         ensures blocks { (b : ℕ) → (label self.new b ≡ label self.old b) × (pinned self.old b → pinned self.new b) × (sealed_at self.old b → sealed_at self.new b) }
         ensures places { (b : ℕ) (p : Place) → Reaches (now self.new) (to_block 1) b → stands self.old b p → stands self.new b p }
+        ensures undoomed { tells self.old → (b : ℕ) → (IsDoomed (now self.old) (clearing self.old) (covered self.old) b → ⊥) → (label self.new b ≡ label self.old b) × (sealed_at self.old b → sealed_at self.new b) × (covered self.new b → ⊥) × ((p : Place) → stands self.old b p → stands self.new b p) }
         ensures numbers { (spare self.new ≡ spare self.old) × (pins_left self.new ≡ pins_left self.old) × (room self.new ≡ room self.old) × (next self.new ≡ next self.old) × (grants self.old → grants self.new) }
         ensures cause { IfErr result (Caused ⊥ (λ b. ⊥) (Rose (faults self.old) (faults self.new)) ⊥) }
         ensures keeps { keeps self.old self.new };
@@ -430,6 +438,9 @@ pub trait Blocks {
 
     /// What is waited for is in use.
     ghost waits_in_use: { (b : Self) (a on j : ℕ) → waits b a on j → (g : ℕ) × IsInUse ((now b on).slot j) g };
+
+    /// Only slots of leaves of entries of the current epoch wait to be cleared.
+    ghost clears_entries: { (b : Self) (at j : ℕ) → clearing b at j → ((label b at).kind ≡ Dir 0) × ((label b at).epoch ≡ high b) };
 
     /// A sealed block of the active tree and epoch is reached in every image.
     ghost in_place: { (b : Self) (at : ℕ) → sealed_at b at → (label b at).epoch ≡ high b → Reaches (now b) (to_block 1) at → (image : Image) → may_leave b image → Reaches image (to_block 1) at };

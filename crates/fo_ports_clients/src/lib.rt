@@ -8,4 +8,6 @@ pub use bytes::write_byte;
 pub use names::{add_name, remove_name};
 
 #[cfg(test)]
+mod small_tree;
+#[cfg(test)]
 mod tests;

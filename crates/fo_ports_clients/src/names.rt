@@ -1,6 +1,6 @@
 //! A name and its entry are put and taken out, so that each name has its entry in use in every image.
 ghost use Rattle.std.specs.Prelude.{◌≡◌, ◌≢◌, ◌⊎◌, ◌+◌, ◌%◌, ◌<◌, ◌≤◌, ℕ, [], ◌∷◌, length, true};
-ghost use Rattle.fo_image.specs.declared.types.Kind.TheVariants.{Data};
+ghost use Rattle.fo_image.specs.declared.types.Kind.TheVariants.{Data, Dir};
 ghost use Rattle.fo_image.specs.declared.types.Pointer.TheVariants.{Nil};
 ghost use Rattle.fo_crash.specs.declared.place.Place.{Place};
 ghost use Rattle.fo_crash.specs.declared.slot.Slot.TheVariants.{Entry as Head};
@@ -64,6 +64,7 @@ pub fn remove_name<B: Blocks>(on: &mut B, leaf: u32, entries: u32, i: u32)
     requires leaf_place { B.tells on.old → (p : Place) → B.stands on.old leaf p → (p.kind ≡ Data 0) × (p.rank % 32 ≢ 16) }
     requires entries_pinned { B.pinned on.old entries }
     requires entries_current { (B.label on.old entries).epoch ≡ B.high on.old }
+    requires entries_kind { (B.label on.old entries).kind ≡ Dir 0 }
     requires slots { i < slot_count (B.label on.old entries).kind }
     requires room { 0 < B.room on.old }
     requires settled { B.clearing on.old entries i → ⊥ }

@@ -1,8 +1,9 @@
 -- Blocks in memory at first.
-use Rattle.std.proofs.Common.{◌≡◌, ◌≢◌, ◌⊎◌, inl, inr, ⊎_elim, ℕ, zero, suc, ◌<◌, ◌≤◌, false, List, [], ◌∷◌, ◌++◌, ◌+◌, ◌-◌, take, length, replicate, set, get_or, refl, sym, ◌∙◌, ap, subst, arith}
+use Rattle.std.proofs.Common.{◌≡◌, ◌≢◌, ◌⊎◌, inl, inr, ⊎_elim, ℕ, zero, suc, ◌<◌, ◌≤◌, false, List, [], ◌∷◌, ◌++◌, ◌+◌, ◌-◌, ◌^◌, take, length, replicate, set, get_or, refl, sym, ◌∙◌, ap, subst, arith}
 use Rattle.std.proofs.lemmas.Bool.{cases_eq, cases_lt}
 use Rattle.fo_image.specs.declared.types.Kind.{Kind}
 use Rattle.fo_image.specs.declared.types.Kind.TheVariants.{Root}
+use Rattle.fo_image.specs.declared.types.State.TheVariants.{Live}
 use Rattle.fo_image.specs.declared.types.Pointer.TheVariants.{Nil, Local}
 use Rattle.fo_crash.specs.declared.slot.Slot.{Slot}
 use Rattle.fo_crash.specs.declared.slot.Slot.TheVariants.{Pointer as To}
@@ -11,7 +12,7 @@ use Rattle.fo_crash.specs.Images.{target, SameContent}
 use Rattle.fo_crash.specs.Places.{place_below, root_place, super_place}
 use Rattle.fo_ports.specs.Blocks.{slot_count, SlotFits, blank, blank_slot}
 use Rattle.fo_ports_plain.specs.declared.block.PlainBlock.{PlainBlock}
-use Rattle.fo_ports_plain.specs.Plain.{block_at, slot_of, content_of, no_block, Updates, IsNew}
+use Rattle.fo_ports_plain.specs.Plain.{block_at, slot_of, content_of, label_of, no_block, Updates, IsNew}
 use Rattle.fo_ports_plain.specs.Sound.{Linked, IsSpelled, IsSuper, Sound}
 use Rattle.fo_ports_plain.proofs.Lists.{updated}
 use Rattle.fo_ports_plain.proofs.Memory.{blank_nowhere}
@@ -21,10 +22,12 @@ pub record IsRoot (x : PlainBlock) : Type 0 where
   pub slots : (i : ℕ) → slot_of x i ≡ blank_slot Root i
   pub place : x.place ≡ root_place
   pub loose : x.loose ≡ false
+  pub epoch : x.epoch ≡ 1
 
 pub record IsTop (s : PlainBlock) : Type 0 where
   pub super_at : IsSuper s
   pub loose : s.loose ≡ false
+  pub epoch : s.epoch ≡ 1
   pub root : slot_of s 0 ≡ To (Local 2)
   pub others : (i : ℕ) → i ≢ 0 → slot_of s i ≡ To Nil
 
@@ -55,7 +58,7 @@ root_spelled (suc zero) lt = (record { active_holds = (refl, refl, refl, refl, r
 root_spelled (suc (suc zero)) lt = tt
 root_spelled (suc (suc (suc i))) lt = absurd (omega arith)
 
-pub first_sound : {blocks : List PlainBlock} (n : ℕ) (x s : PlainBlock) → 2 < n → IsRoot x → IsTop s → Updates 1 s (replicate n x) blocks → Sound blocks 3
+pub first_sound : {blocks : List PlainBlock} (n : ℕ) (x s : PlainBlock) → 2 < n → IsRoot x → IsTop s → Updates 1 s (replicate n x) blocks → Sound blocks 3 1
 first_sound {blocks} n x s many root top up = record {
   super_at = subst (λ (y : PlainBlock). IsSuper y) (sym up.here) top.super_at;
   links = λ a i b e. ⊎_elim (λ one. from_top a one i b e) (λ ne. absurd (nowhere a ne i b e)) (cases_eq a 1);
@@ -63,6 +66,13 @@ first_sound {blocks} n x s many root top up = record {
       (λ is. subst (λ (y : PlainBlock). IsSpelled y) (sym is) spells)
       (λ is. subst (λ (y : PlainBlock). IsSpelled y) (sym is) (λ i lt. absurd (omega arith)))
       (at_first n x s up a (λ e. let one : a ≡ 1 = e in omega (arith, one, above)));
+  aged = λ b lt. ⊎_elim
+      (λ one. let is : (block_at blocks b).epoch ≡ 1 = ap (λ k. (block_at blocks k).epoch) one ∙ ap (λ (y : PlainBlock). y.epoch) up.here ∙ top.epoch in omega (arith, is))
+      (λ ne. ⊎_elim
+      (λ is. let e : (block_at blocks b).epoch ≡ 1 = ap (λ (y : PlainBlock). y.epoch) is ∙ root.epoch in omega (arith, e))
+      (λ is. let e : (block_at blocks b).epoch ≡ 0 = ap (λ (y : PlainBlock). y.epoch) is in omega (arith, e))
+      (at_first n x s up b ne))
+      (cases_eq b 1);
 }
   where
     spells : IsSpelled x
@@ -85,6 +95,7 @@ first_sound {blocks} n x s many root top up = record {
       subst (λ (p : Place). (place_below p 0 (slot_of s 0)).rank < p.rank) (sym top.super_at.0) (subst (λ (t : Slot). (place_below super_place 0 t).rank < 2145) (sym top.root) (omega arith)),
       top.loose,
       root.loose,
+      λ ne. absurd (ne refl),
     )
 
     from_top : (a : ℕ) → a ≡ 1 → (i b : ℕ) → target (slot_of (block_at blocks a) i) ≡ Local b → Linked 3 i b (block_at blocks a) (block_at blocks b)
@@ -116,21 +127,24 @@ pub first_updates : (n : ℕ) (items : List PlainBlock) (x s : PlainBlock) → 2
 first_updates n items x s many is = subst (λ (xs : List PlainBlock). Updates 1 s (replicate n x) (set xs 1 s)) (sym is) (updated (replicate n x) 1 s (let long = length_filled n x in omega (arith, long, many)))
 
 -- an empty root block made of zeros
-pub root_by : (zeros x : PlainBlock) (kind : Kind) → SameContent (content_of zeros) (blank kind) → kind ≡ Root → zeros.place ≡ root_place → x.place ≡ record zeros.place { index = 0 } → x.loose ≡ false → x.slots ≡ zeros.slots → IsRoot x
-root_by zeros x kind content kind_is zeros_place place loose slots = record {
+pub root_by : (zeros x : PlainBlock) (kind : Kind) → SameContent (content_of zeros) (blank kind) → kind ≡ Root → zeros.place ≡ root_place → x.place ≡ record zeros.place { index = 0 } → x.loose ≡ false → x.epoch ≡ 1 → x.slots ≡ zeros.slots → IsRoot x
+root_by zeros x kind content kind_is zeros_place place loose epoch slots = record {
   slots = λ i. ap (λ ss. get_or ss i (To Nil)) slots ∙ content.slots i ∙ ap (λ k. blank_slot k i) kind_is;
   place = place ∙ ap (λ (p : Place). record p { index = 0 }) zeros_place;
   loose = loose;
+  epoch = epoch;
 }
 
 -- The device is new.
-pub first_new : {blocks : List PlainBlock} (count : ℕ) (x s : PlainBlock) → SameContent (content_of x) (blank Root) → x.place ≡ root_place → Updates 1 s (replicate (count + 3) x) blocks → IsNew count blocks 3 0 0
-first_new {blocks} count x s content place up = record {
+pub first_new : {blocks : List PlainBlock} (count : ℕ) (x s : PlainBlock) → SameContent (content_of x) (blank Root) → x.place ≡ root_place → x.epoch ≡ 1 → Updates 1 s (replicate (count + 3) x) blocks → IsNew count blocks 3 1 0 0
+first_new {blocks} count x s content place epoch up = record {
   as_long = up.as_long ∙ length_filled (count + 3) x;
   three = refl;
+  first = refl;
   nothing = (refl, refl);
   root = subst (λ (y : PlainBlock). SameContent (content_of y) (blank Root)) (sym second) content;
   at_root = record { above = omega arith; was_made = omega arith; is = ap (λ (y : PlainBlock). y.place) second ∙ place };
+  root_label = ap (λ (y : PlainBlock). label_of Live y.epoch (2 ^ 32 - 1) y) second ∙ ap (λ n. label_of Live n (2 ^ 32 - 1) x) epoch ∙ ap (λ (p : Place). record { state = Live; kind = p.kind; tag = p.tag; epoch = 1; closing = 2 ^ 32 - 1 }) place;
 }
   where
     second : block_at blocks 2 ≡ x

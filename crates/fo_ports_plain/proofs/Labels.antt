@@ -18,19 +18,20 @@ use Rattle.fo_ports.specs.Blocks.{slot_count, SlotFits}
 use Rattle.fo_ports_plain.specs.declared.block.PlainBlock.{PlainBlock}
 use Rattle.fo_ports_plain.specs.Plain.{block_at, memory, label_of, label_at, Stands}
 use Rattle.fo_ports_plain.specs.Sound.{IsSuper}
+use Rattle.fo_ports_plain.specs.PlainLaws.{epoch_made}
 use Rattle.fo_ports_plain.proofs.Links.{fits_fixed}
 
 -- the label of a block that was not made
 label_free : (blocks : List PlainBlock) (made b : ℕ) → made ≤ b → label_at blocks made b ≡ label_of Free 0 0 (block_at blocks b)
 label_free blocks made b le =
     let test : nat_lt b made ≡ false = grind (arith, common_steps) in
-    ap (λ t. cond t (label_of Live 1 (2 ^ 32 - 1) (block_at blocks b)) (label_of Free 0 0 (block_at blocks b))) test
+    ap (λ t. cond t (label_of Live (block_at blocks b).epoch (2 ^ 32 - 1) (block_at blocks b)) (label_of Free 0 0 (block_at blocks b))) test
 
 -- a block with the epoch was made, and so was one that is live
-pub current_made : (blocks : List PlainBlock) (made b : ℕ) → (label_at blocks made b).epoch ≡ 1 → b < made
-current_made blocks made b e = ⊎_elim
+pub current_made : (blocks : List PlainBlock) (made high b : ℕ) → 0 < high → (label_at blocks made b).epoch ≡ high → b < made
+current_made blocks made high b begun e = ⊎_elim
     (λ lt. lt)
-    (λ le. let zero_is_one : 0 ≡ 1 = sym (ap (λ (l : Label). l.epoch) (label_free blocks made b le)) ∙ e in absurd (omega (arith, zero_is_one)))
+    (λ le. let none : 0 ≡ high = sym (ap (λ (l : Label). l.epoch) (label_free blocks made b le)) ∙ e in absurd (omega (arith, begun, none)))
     (cases_lt b made)
 
 pub live_made : (blocks : List PlainBlock) (made b : ℕ) → (label_at blocks made b).state ≡ Live → b < made
@@ -64,19 +65,31 @@ never_root p Root (suc (suc i)) (Prev x y) b lt fits e = let nil : Nil ≡ Local
 never_root p Root (suc (suc i)) (To q) b lt fits e = absurd fits
 never_root p Root (suc (suc i)) (Head x) b lt fits e = absurd fits
 
--- What a slot that may be put leads to: a block that was made, beyond the super block, and stands at the place below.
+-- What a slot that may be put leads to: a block that was made, beyond the super block, stands at the place below, and is of no later
+-- epoch.
 pub record LeadsOn (blocks : List PlainBlock) (made at i below : ℕ) (s : Slot) : Type 0 where
   pub above : 1 < below
   pub was_made : below < made
   pub fits : FitsAt ((block_at blocks below).loose ≡ true) ((block_at blocks below).place) (place_below ((block_at blocks at).place) i s)
+  pub ages : (block_at blocks below).epoch ≤ (block_at blocks at).epoch
 
-pub leads_on : (blocks : List PlainBlock) (made at i below : ℕ) (s : Slot) → IsSuper (block_at blocks 1) → 1 < at → at < made → i < slot_count (block_at blocks at).place.kind → SlotFits (block_at blocks at).place.kind i s → target s ≡ Local below → Brings (memory blocks) s (λ b. ((label_at blocks made b).state ≡ Live) × ((label_at blocks made b).epoch ≤ 1) × (⊥ → ⊥)) → Fits (Stands blocks made) (λ b. (block_at blocks b).loose ≡ true) at i s → LeadsOn blocks made at i below s
-leads_on blocks made at i below s super above was lt spelled e brings fits = record {
+pub leads_on : (blocks : List PlainBlock) (made high at i below : ℕ) (s : Slot) → IsSuper (block_at blocks 1) → 1 < at → 0 < high → (label_at blocks made at).epoch ≡ high → i < slot_count (block_at blocks at).place.kind → SlotFits (block_at blocks at).place.kind i s → target s ≡ Local below → Brings (memory blocks) s (λ b. ((label_at blocks made b).state ≡ Live) × ((label_at blocks made b).epoch ≤ high) × (⊥ → ⊥)) → Fits (Stands blocks made) (λ b. (block_at blocks b).loose ≡ true) at i s → LeadsOn blocks made at i below s
+leads_on blocks made high at i below s super above begun current lt spelled e brings fits = record {
   above = ⊎_elim (λ ok. ok) (λ low. absurd (not_super (omega (arith, low, stands.above)))) (cases_lt 1 below);
-  was_made = live_made blocks made below (brings.each below (record { path = []; leads = e })).0;
+  was_made = low;
   fits = here;
+  ages =
+      let own : (block_at blocks at).epoch ≡ high = sym (epoch_made blocks made at was) ∙ current in
+      let its : (block_at blocks below).epoch ≤ high = subst (λ n. n ≤ high) (epoch_made blocks made below low) (brings.each below (record { path = []; leads = e })).1 in
+      omega (arith, own, its);
 }
   where
+    was : at < made
+    was = current_made blocks made high at begun current
+
+    low : below < made
+    low = live_made blocks made below (brings.each below (record { path = []; leads = e })).0
+
     p : Place
     p = place_below ((block_at blocks at).place) i s
 

@@ -3,3 +3,4 @@ pub mod Memory
 pub mod Links
 pub mod Labels
 pub mod First
+pub mod Spelling

@@ -13,18 +13,19 @@ use Rattle.fo_crash.specs.Places.{place_below, FitsAt}
 use Rattle.fo_ports.specs.Blocks.{slot_count, SlotFits}
 use Rattle.fo_ports_plain.specs.declared.block.PlainBlock.{PlainBlock}
 use Rattle.fo_ports_plain.specs.Plain.{block_at, slot_of, content_of, memory, Updates, index_below}
-use Rattle.fo_ports_plain.specs.Sound.{Linked, Links, IsSpelled, Spelled, IsSuper, Sound, leads_to_root}
+use Rattle.fo_ports_plain.specs.Sound.{Linked, Links, IsSpelled, Spelled, IsSuper, Aged, Sound, leads_to_root}
 use Rattle.fo_ports_plain.proofs.Lists.{part_kept, puts_slot}
 
 -- a link between other versions of two blocks
-pub moved : (made i b : ℕ) (u v x y : PlainBlock) → Linked made i b u v → x.place ≡ u.place → slot_of x i ≡ slot_of u i → x.loose ≡ false → y.place ≡ v.place → y.loose ≡ false → Linked made i b x y
-moved made i b u v x y l p s f q g = (
+pub moved : (made i b : ℕ) (u v x y : PlainBlock) → Linked made i b u v → x.place ≡ u.place → slot_of x i ≡ slot_of u i → x.loose ≡ false → y.place ≡ v.place → y.loose ≡ false → (b ≢ 2 → v.epoch ≤ u.epoch → y.epoch ≤ x.epoch) → Linked made i b x y
+moved made i b u v x y l p s f q g ages = (
   l.0,
   l.1,
   q ∙ l.2 ∙ below,
   subst (λ (r : Place). r.rank < x.place.rank) below (subst (λ (r : Place). (place_below u.place i (slot_of u i)).rank < r.rank) (sym p) l.3),
   f,
   g,
+  λ ne. ages ne (l.6 ne),
 )
   where
     below : place_below u.place i (slot_of u i) ≡ place_below x.place i (slot_of x i)
@@ -45,18 +46,35 @@ firm_by {old} {new} {at} {x} up here = record {
       (cases_eq b at);
 }
 
+-- Blocks keep their epochs, but for the root block, whose epoch may rise.
+pub record Rises (old new : List PlainBlock) : Type 0 where
+  pub up : (b : ℕ) → (block_at old b).epoch ≤ (block_at new b).epoch
+  pub others : (b : ℕ) → b ≢ 2 → (block_at new b).epoch ≡ (block_at old b).epoch
+
+pub rises_by : {old new : List PlainBlock} {at : ℕ} {x : PlainBlock} → Updates at x old new → x.epoch ≡ (block_at old at).epoch → Rises old new
+rises_by {old} {new} {at} {x} up epoch = record {
+  up = λ b. let same : (block_at new b).epoch ≡ (block_at old b).epoch = part_kept (λ (y : PlainBlock). y.epoch) up epoch b in omega (arith, same);
+  others = λ b _. part_kept (λ (y : PlainBlock). y.epoch) up epoch b;
+}
+
+pub aged_by : {old new : List PlainBlock} {at made high : ℕ} {x : PlainBlock} → Updates at x old new → x.epoch ≡ (block_at old at).epoch → Aged old made high → Aged new made high
+aged_by {old} {new} {at} {made} {high} {x} up epoch aged b lt = subst (λ n. n ≤ high) (sym (part_kept (λ (y : PlainBlock). y.epoch) up epoch b)) (aged b lt)
+
 -- Each slot that leads on is as it was, or a link to a block of before.
-pub links_by : {old new : List PlainBlock} (made : ℕ) → Firm old new → ((a j b : ℕ) → target (slot_of (block_at new a) j) ≡ Local b → (slot_of (block_at new a) j ≡ slot_of (block_at old a) j) ⊎ Linked made j b (block_at new a) (block_at old b)) → Links old made → Links new made
-links_by {old} {new} made firm slots links a j b e = ⊎_elim
+pub links_by : {old new : List PlainBlock} (made : ℕ) → Firm old new → Rises old new → ((a j b : ℕ) → target (slot_of (block_at new a) j) ≡ Local b → (slot_of (block_at new a) j ≡ slot_of (block_at old a) j) ⊎ Linked made j b (block_at new a) (block_at old b)) → Links old made → Links new made
+links_by {old} {new} made firm rises slots links a j b e = ⊎_elim
     (λ same.
     let l = links a j b (ap target (sym same) ∙ e) in
     let above = firm.each a l.4 in
     let below = firm.each b l.5 in
-    moved made j b (block_at old a) (block_at old b) (block_at new a) (block_at new b) l above.0 same above.1 below.0 below.1)
+    moved made j b (block_at old a) (block_at old b) (block_at new a) (block_at new b) l above.0 same above.1 below.0 below.1 (risen a b))
     (λ l.
     let below = firm.each b l.5 in
-    moved made j b (block_at new a) (block_at old b) (block_at new a) (block_at new b) l refl refl l.4 below.0 below.1)
+    moved made j b (block_at new a) (block_at old b) (block_at new a) (block_at new b) l refl refl l.4 below.0 below.1 (λ ne le. let same = rises.others b ne in omega (arith, same, le)))
     (slots a j b e)
+  where
+    risen : (a b : ℕ) → b ≢ 2 → (block_at old b).epoch ≤ (block_at old a).epoch → (block_at new b).epoch ≤ (block_at new a).epoch
+    risen a b ne le = let same = rises.others b ne in let up = rises.up a in omega (arith, same, up, le)
 
 pub spelled_by : {old new : List PlainBlock} {at : ℕ} {x : PlainBlock} → Updates at x old new → IsSpelled x → Spelled old → Spelled new
 spelled_by {old} {new} {at} {x} up here spelled a above = ⊎_elim
@@ -85,7 +103,13 @@ made_links {old} {new} {made} {block} up own links a i b e = ⊎_elim
         let lt : b < made = l.1 in
         let below : block_at new b ≡ block_at old b = up.others b (λ is. let e : b ≡ made = is in omega (arith, lt, e)) in
         subst (λ (u : PlainBlock). Linked (made + 1) i b u (block_at new b)) (sym here)
-        (subst (λ (v : PlainBlock). Linked (made + 1) i b x v) (sym below) (l.0, omega (arith, lt), l.2, l.3, l.4, l.5))
+        (subst (λ (v : PlainBlock). Linked (made + 1) i b x v) (sym below) (l.0, omega (arith, lt), l.2, l.3, l.4, l.5, l.6))
+
+pub made_aged : {old new : List PlainBlock} {made high : ℕ} {block : PlainBlock} → Updates made block old new → block.epoch ≡ high → Aged old made high → Aged new (made + 1) high
+made_aged {old} {new} {made} {high} {block} up epoch aged b lt = ⊎_elim
+    (λ is. let e : (block_at new b).epoch ≡ high = ap (λ n. (block_at new n).epoch) is ∙ ap (λ (y : PlainBlock). y.epoch) up.here ∙ epoch in omega (arith, e))
+    (λ ne. subst (λ n. n ≤ high) (sym (ap (λ (y : PlainBlock). y.epoch) (up.others b ne))) (aged b (omega (arith, lt, ne))))
+    (cases_eq b made)
 
 -- Nothing leads to a block that is not made yet.
 pub none_leads : {old new : List PlainBlock} {made : ℕ} {block : PlainBlock} → Updates made block old new → ((i b : ℕ) → target (slot_of block i) ≡ Local b → Linked made i b block (block_at old b)) → Links old made → (a i : ℕ) → target (slot_of (block_at new a) i) ≢ Local made
@@ -108,11 +132,12 @@ super_by {old} {new} {at} {x} up here is = ⊎_elim
     (cases_eq 1 at)
 
 -- A block keeps its slots, and its place if its index is fixed.
-pub stays_sound : {old new : List PlainBlock} {at : ℕ} {x : PlainBlock} (made : ℕ) → Updates at x old new → ((i : ℕ) → slot_of x i ≡ slot_of (block_at old at) i) → x.place.kind ≡ (block_at old at).place.kind → ((block_at old at).loose ≡ false → (x.place ≡ (block_at old at).place) × (x.loose ≡ false)) → (at ≡ 1 → x.place ≡ (block_at old at).place) → Sound old made → Sound new made
-stays_sound {old} {new} {at} {x} made up slots kind firm super sound = record {
+pub stays_sound : {old new : List PlainBlock} {at high : ℕ} {x : PlainBlock} (made : ℕ) → Updates at x old new → x.epoch ≡ (block_at old at).epoch → ((i : ℕ) → slot_of x i ≡ slot_of (block_at old at) i) → x.place.kind ≡ (block_at old at).place.kind → ((block_at old at).loose ≡ false → (x.place ≡ (block_at old at).place) × (x.loose ≡ false)) → (at ≡ 1 → x.place ≡ (block_at old at).place) → Sound old made high → Sound new made high
+stays_sound {old} {new} {at} {high} {x} made up epoch slots kind firm super sound = record {
   super_at = super_by up is_super sound.super_at;
-  links = links_by made (firm_by up firm) (λ a j b e. inl (all a j)) sound.links;
+  links = links_by made (firm_by up firm) (rises_by up epoch) (λ a j b e. inl (all a j)) sound.links;
   spelled = λ a above. spelled_same (block_at old a) (block_at new a) (same_kind a) (all a) (sound.spelled a above);
+  aged = aged_by up epoch sound.aged;
 }
   where
     is_super : at ≡ 1 → IsSuper x
@@ -126,12 +151,47 @@ stays_sound {old} {new} {at} {x} made up slots kind firm super sound = record {
     same_kind : (a : ℕ) → (block_at new a).place.kind ≡ (block_at old a).place.kind
     same_kind a = part_kept (λ (y : PlainBlock). y.place.kind) up kind a
 
+-- The root block is of a new epoch.
+pub root_sound : {old new : List PlainBlock} {high : ℕ} {x : PlainBlock} (made : ℕ) → Updates 2 x old new → x.epoch ≡ high + 1 → x.place ≡ (block_at old 2).place → x.loose ≡ (block_at old 2).loose → x.slots ≡ (block_at old 2).slots → 2 < made → Sound old made high → Sound new made (high + 1)
+root_sound {old} {new} {high} {x} made up epoch place loose slots three sound = record {
+  super_at = super_by up (λ e. absurd (omega (arith, e))) sound.super_at;
+  links = links_by made (firm_by up (λ firm. (place, loose ∙ firm))) rises (λ a j b e. inl (all a j)) sound.links;
+  spelled = λ a above. spelled_same (block_at old a) (block_at new a) (part_kept (λ (y : PlainBlock). y.place.kind) up (ap (λ (p : Place). p.kind) place) a) (all a) (sound.spelled a above);
+  aged = λ b lt. ⊎_elim
+      (λ is. let e = root b is in omega (arith, e))
+      (λ ne. let same = others b ne in let le : (block_at old b).epoch ≤ high = sound.aged b lt in omega (arith, same, le))
+      (cases_eq b 2);
+}
+  where
+    all : (a j : ℕ) → slot_of (block_at new a) j ≡ slot_of (block_at old a) j
+    all a j = part_kept (λ (y : PlainBlock). slot_of y j) up (ap (λ ss. get_or ss j (To Nil)) slots) a
+
+    root : (b : ℕ) → b ≡ 2 → (block_at new b).epoch ≡ high + 1
+    root b is = ap (λ k. (block_at new k).epoch) is ∙ ap (λ (y : PlainBlock). y.epoch) up.here ∙ epoch
+
+    others : (b : ℕ) → b ≢ 2 → (block_at new b).epoch ≡ (block_at old b).epoch
+    others b ne = ap (λ (y : PlainBlock). y.epoch) (up.others b ne)
+
+    rises : Rises old new
+    rises = record {
+      up = λ b. ⊎_elim
+          (λ is.
+          let e = root b is in
+          let was : (block_at old 2).epoch ≤ high = sound.aged 2 three in
+          let old_is : (block_at old b).epoch ≡ (block_at old 2).epoch = ap (λ k. (block_at old k).epoch) is in
+          omega (arith, e, was, old_is))
+          (λ ne. let same = others b ne in omega (arith, same))
+          (cases_eq b 2);
+      others = others;
+    }
+
 -- A slot of a block is put; if it leads on, it is a link.
-pub put_sound : {old new : List PlainBlock} {at : ℕ} {y : PlainBlock} (made i : ℕ) (s : Slot) → Updates at y old new → y.place ≡ (block_at old at).place → ((block_at old at).loose ≡ false → y.loose ≡ false) → y.slots ≡ set (block_at old at).slots i s → slot_of y i ≡ s → 1 < at → SlotFits (block_at old at).place.kind i s → ((b : ℕ) → target s ≡ Local b → Linked made i b y (block_at old b)) → Sound old made → Sound new made
-put_sound {old} {new} {at} {y} made i s up place loose slots here above fits link sound = record {
+pub put_sound : {old new : List PlainBlock} {at high : ℕ} {y : PlainBlock} (made i : ℕ) (s : Slot) → Updates at y old new → y.epoch ≡ (block_at old at).epoch → y.place ≡ (block_at old at).place → ((block_at old at).loose ≡ false → y.loose ≡ false) → y.slots ≡ set (block_at old at).slots i s → slot_of y i ≡ s → 1 < at → SlotFits (block_at old at).place.kind i s → ((b : ℕ) → target s ≡ Local b → Linked made i b y (block_at old b)) → Sound old made high → Sound new made high
+put_sound {old} {new} {at} {high} {y} made i s up epoch place loose slots here above fits link sound = record {
   super_at = super_by up (λ e. let one : at ≡ 1 = e in absurd (omega (arith, one, above))) sound.super_at;
-  links = links_by made (firm_by up (λ firm. (place, loose firm))) leads sound.links;
+  links = links_by made (firm_by up (λ firm. (place, loose firm))) (rises_by up epoch) leads sound.links;
   spelled = spelled_by up spells sound.spelled;
+  aged = aged_by up epoch sound.aged;
 }
   where
     other : (j : ℕ) → j ≢ i → slot_of y j ≡ slot_of (block_at old at) j
@@ -194,8 +254,8 @@ below_apart blocks at below p free fits lower is =
     omega (arith, lower, r, q)
 
 -- The index of a child's place is fixed.
-pub child_sound : {old new : List PlainBlock} {below : ℕ} {x : PlainBlock} (made : ℕ) (p : Place) → Updates below x old new → FitsAt ((block_at old below).loose ≡ true) ((block_at old below).place) p → x.place ≡ p → x.loose ≡ false → x.slots ≡ (block_at old below).slots → 1 < below → Sound old made → Sound new made
-child_sound {old} {new} {below} {x} made p up fits place loose slots above sound = stays_sound made up
+pub child_sound : {old new : List PlainBlock} {below high : ℕ} {x : PlainBlock} (made : ℕ) (p : Place) → Updates below x old new → x.epoch ≡ (block_at old below).epoch → FitsAt ((block_at old below).loose ≡ true) ((block_at old below).place) p → x.place ≡ p → x.loose ≡ false → x.slots ≡ (block_at old below).slots → 1 < below → Sound old made high → Sound new made high
+child_sound {old} {new} {below} {high} {x} made p up epoch fits place loose slots above sound = stays_sound made up epoch
     (λ i. ap (λ ss. get_or ss i (To Nil)) slots)
     (ap (λ (q : Place). q.kind) place ∙ sym (ap (λ (q : Place). q.kind) (fits_fixed ((block_at old below).place) p ((block_at old below).loose ≡ true) fits)))
     (λ firm. (place ∙ fits_firm ((block_at old below).place) p ((block_at old below).loose) fits firm, loose))
@@ -203,8 +263,8 @@ child_sound {old} {new} {below} {x} made p up fits place loose slots above sound
     sound
 
 -- A slot is led to a child that stands at its place.
-pub parent_sound : {old new : List PlainBlock} {at : ℕ} {y : PlainBlock} (made i below : ℕ) (s : Slot) → Updates at y old new → y.place ≡ (block_at old at).place → y.loose ≡ false → y.slots ≡ set (block_at old at).slots i s → slot_of y i ≡ s → 1 < at → SlotFits (block_at old at).place.kind i s → target s ≡ Local below → (1 < below) × (below < made) → (block_at old below).place ≡ place_below (block_at old at).place i s → (block_at old below).loose ≡ false → (place_below (block_at old at).place i s).rank < (block_at old at).place.rank → Sound old made → Sound new made
-parent_sound {old} {new} {at} {y} made i below s up place loose slots here above spelled leads is_made stands firm lower sound = put_sound made i s up place (λ _. loose) slots here above spelled link sound
+pub parent_sound : {old new : List PlainBlock} {at high : ℕ} {y : PlainBlock} (made i below : ℕ) (s : Slot) → Updates at y old new → y.epoch ≡ (block_at old at).epoch → (block_at old below).epoch ≤ y.epoch → y.place ≡ (block_at old at).place → y.loose ≡ false → y.slots ≡ set (block_at old at).slots i s → slot_of y i ≡ s → 1 < at → SlotFits (block_at old at).place.kind i s → target s ≡ Local below → (1 < below) × (below < made) → (block_at old below).place ≡ place_below (block_at old at).place i s → (block_at old below).loose ≡ false → (place_below (block_at old at).place i s).rank < (block_at old at).place.rank → Sound old made high → Sound new made high
+parent_sound {old} {new} {at} {high} {y} made i below s up epoch ages place loose slots here above spelled leads is_made stands firm lower sound = put_sound made i s up epoch place (λ _. loose) slots here above spelled link sound
   where
     link : (b : ℕ) → target s ≡ Local b → Linked made i b y (block_at old b)
     link b e =
@@ -218,6 +278,7 @@ parent_sound {old} {new} {at} {y} made i below s up place loose slots here above
           subst (λ (r : Place). r.rank < y.place.rank) below_is (subst (λ (r : Place). (place_below (block_at old at).place i s).rank < r.rank) (sym place) lower),
           loose,
           firm,
+          λ _. ages,
         )
 
 -- A slot is put after a block that keeps its slots and bytes.
@@ -237,10 +298,13 @@ pub record Copies (u x : PlainBlock) : Type 0 where
   pub bytes : x.bytes ≡ u.bytes
   pub slots : (i : ℕ) → slot_of x i ≡ slot_of u i
 
-pub copied_links : (blocks : List PlainBlock) (made at : ℕ) (x : PlainBlock) → Copies (block_at blocks at) x → Links blocks made → (i b : ℕ) → target (slot_of x i) ≡ Local b → Linked made i b x (block_at blocks b)
-copied_links blocks made at x copies links i b e =
+pub copied_links : (blocks : List PlainBlock) (made at : ℕ) (x : PlainBlock) → Copies (block_at blocks at) x → Aged blocks made x.epoch → Links blocks made → (i b : ℕ) → target (slot_of x i) ≡ Local b → Linked made i b x (block_at blocks b)
+copied_links blocks made at x copies aged links i b e =
     let l = links at i b (ap target (sym (copies.slots i)) ∙ e) in
-    moved made i b (block_at blocks at) (block_at blocks b) x (block_at blocks b) l copies.place (copies.slots i) (copies.loose ∙ l.4) refl l.5
+    moved made i b (block_at blocks at) (block_at blocks b) x (block_at blocks b) l copies.place (copies.slots i) (copies.loose ∙ l.4) refl l.5 (λ _ _. aged b l.1)
+
+pub copied_aged : (blocks : List PlainBlock) (made high epoch : ℕ) → epoch ≡ high → Aged blocks made high → Aged blocks made epoch
+copied_aged blocks made high epoch is aged b lt = let le : (block_at blocks b).epoch ≤ high = aged b lt in omega (arith, le, is)
 
 pub copied_spelled : (u x : PlainBlock) → Copies u x → IsSpelled u → IsSpelled x
 copied_spelled u x copies spelled = spelled_same u x (ap (λ (p : Place). p.kind) copies.place) copies.slots spelled

@@ -5,7 +5,7 @@ use Rattle.std.proofs.lemmas.Grind.{common_steps}
 use Rattle.fo_image.specs.declared.types.Pointer.TheVariants.{Nil}
 use Rattle.fo_crash.specs.declared.slot.Slot.{Slot}
 use Rattle.fo_crash.specs.declared.slot.Slot.TheVariants.{Pointer as To}
-use Rattle.fo_crash.specs.Steps.{PutsSlot, PutsBytes}
+use Rattle.fo_crash.specs.Steps.{PutsSlot}
 use Rattle.fo_ports_plain.specs.declared.block.PlainBlock.{PlainBlock}
 use Rattle.fo_ports_plain.specs.Plain.{no_block, block_at, slot_of, memory, Updates}
 
@@ -42,17 +42,6 @@ puts_slot {old} {new} {at} {i} {s} {k} {x} up is bytes slots here = record {
       ∙ ap (λ (y : PlainBlock). slot_of y j) is ∙ ap (λ c. slot_of (block_at old c) j) (sym e))
       (λ nb. ap (λ (y : PlainBlock). slot_of y j) (up.others b nb))
       (cases_eq b at);
-}
-
--- bytes of one block are put
-pub puts_bytes : {old new : List PlainBlock} {at : ℕ} {bytes : List ℕ} {k x : PlainBlock} → Updates at x old new → k ≡ block_at old at → x.bytes ≡ bytes → x.slots ≡ k.slots → PutsBytes at bytes (memory old) (memory new)
-puts_bytes {old} {new} {at} {bytes} {k} {x} up is here slots = record {
-  slots = λ b j. ⊎_elim
-      (λ e. ap (λ c. slot_of (block_at new c) j) e ∙ ap (λ (y : PlainBlock). slot_of y j) up.here ∙ ap (λ (ss : List Slot). get_or ss j (To Nil)) slots ∙ ap (λ (y : PlainBlock). slot_of y j) is ∙ ap (λ c. slot_of (block_at old c) j) (sym e))
-      (λ nb. ap (λ (y : PlainBlock). slot_of y j) (up.others b nb))
-      (cases_eq b at);
-  here = ap (λ (y : PlainBlock). y.bytes) up.here ∙ here;
-  others = λ b ne. ap (λ (y : PlainBlock). y.bytes) (up.others b ne);
 }
 
 -- what an update leaves of a part of each block

@@ -1,20 +1,17 @@
 -- Blocks whose only image is what memory has.
-use Rattle.std.proofs.Common.{◌≡◌, ◌≢◌, inl, inr, ⊎_elim, ℕ, zero, suc, Bool, true, false, cond, nat_lt, List, refl, sym, ◌∙◌, ap, subst, Option, Some, None, IfSome}
+use Rattle.std.proofs.Common.{◌≡◌, ◌≢◌, inl, inr, ⊎_elim, ℕ, zero, suc, Bool, true, false, cond, nat_lt, refl, sym, ◌∙◌, ap, subst, Option, Some, None, IfSome}
 use Rattle.std.proofs.lemmas.Bool.{cases_eq}
 use Rattle.fo_image.specs.declared.types.Kind.{Kind}
 use Rattle.fo_image.specs.declared.types.Kind.TheVariants.{Data, Dir, Root}
 use Rattle.fo_image.specs.declared.types.Pointer.TheVariants.{Nil, Local}
 use Rattle.fo_crash.specs.declared.slot.Slot.{Slot}
 use Rattle.fo_crash.specs.declared.slot.Slot.TheVariants.{Pointer as To, Entry as Head}
-use Rattle.fo_crash.specs.Images.{Content, Image, target, SameContent, SameImage, with_slot, with_bytes, with_block}
-use Rattle.fo_crash.specs.Steps.{AddsSlot, AddsBytes, AddsBlock, AddsNothing, PutsSlot, PutsBytes, PutsBlock}
-use Rattle.fo_crash.proofs.Updates.{slot_bytes, slot_other, slot_here, block_other, block_here, bytes_other, bytes_slot, bytes_here}
+use Rattle.fo_crash.specs.Images.{Content, Image, target, SameContent, SameImage, with_slot, with_block}
+use Rattle.fo_crash.specs.Steps.{AddsSlot, AddsBlock, PutsSlot, PutsBlock}
+use Rattle.fo_crash.proofs.Updates.{slot_bytes, slot_other, slot_here, block_other, block_here}
 use Rattle.fo_crash.proofs.Reach.{reaches_within}
 use Rattle.fo_crash.proofs.Sure.{same_joins}
 use Rattle.fo_ports.specs.Blocks.{no_entry, blank_slot}
-
-pub nothing_added : {old new : Image} → SameImage new old → AddsNothing (λ image. SameImage image old) (λ image. SameImage image new)
-nothing_added same = record { each = λ image is. record { each = λ b. same_joins (is.each b) (same.each b) } }
 
 pub slot_added : {old new : Image} {at i : ℕ} {s : Slot} {beside : Image → Type 0} → PutsSlot at i s old new → ((image : Image) → SameImage image new → beside image) → AddsSlot old at i s beside (λ image. SameImage image old) (λ image. SameImage image new)
 slot_added {old} {new} {at} {i} {s} puts besides = record {
@@ -30,23 +27,6 @@ slot_added {old} {new} {at} {i} {s} puts besides = record {
             (cases_eq j i))
             (λ ne. slot_other image at i ((old at).slot i) b j (inl ne) ∙ (is.each b).slots j ∙ puts.others b j (inl ne))
             (cases_eq b at);
-      };
-    },
-    besides image is,
-  );
-}
-
-pub bytes_added : {old new : Image} {at : ℕ} {bytes : List ℕ} {beside : Image → Type 0} → PutsBytes at bytes old new → ((image : Image) → SameImage image new → beside image) → AddsBytes old at bytes beside (λ image. SameImage image old) (λ image. SameImage image new)
-bytes_added {old} {new} {at} {bytes} puts besides = record {
-  each = λ image is. inr (
-    (is.each at).bytes ∙ puts.here,
-    record {
-      each = λ b. record {
-        bytes = ⊎_elim
-            (λ b_is. ap (λ x. (with_bytes image at ((old at).bytes) x).bytes) b_is ∙ bytes_here image at ((old at).bytes) ∙ ap (λ x. (old x).bytes) (sym b_is))
-            (λ ne. ap (λ (k : Content). k.bytes) (bytes_other image at ((old at).bytes) b ne) ∙ (is.each b).bytes ∙ puts.others b ne)
-            (cases_eq b at);
-        slots = λ j. bytes_slot image at ((old at).bytes) b j ∙ (is.each b).slots j ∙ puts.slots b j;
       };
     },
     besides image is,

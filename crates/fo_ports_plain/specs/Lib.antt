@@ -1,4 +1,5 @@
 pub mod Plain
+pub mod Spell
 pub mod Sound
 pub mod Props
 pub mod PlainLaws

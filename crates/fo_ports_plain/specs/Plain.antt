@@ -19,7 +19,7 @@ use Rattle.fo_ports_plain.specs.declared.held.HeldBlock.{HeldBlock}
 
 -- what stands past the end of the list of blocks
 abbrev pub no_block : PlainBlock
-no_block = record { place = place (Data 0) 0 0 0; loose = false; awaited = false; bytes = []; slots = [] }
+no_block = record { place = place (Data 0) 0 0 0; epoch = 0; loose = false; awaited = false; bytes = []; slots = [] }
 
 abbrev pub block_at : List PlainBlock → ℕ → PlainBlock
 block_at blocks b = slice_index_or blocks b no_block
@@ -37,9 +37,9 @@ memory blocks = λ b. content_of (block_at blocks b)
 abbrev pub label_of : State → ℕ → ℕ → PlainBlock → Label
 label_of state epoch closing block = record { state = state; kind = block.place.kind; tag = block.place.tag; epoch = epoch; closing = closing }
 
--- the label of a block: all that were made are live, in epoch 1
+-- the label of a block: all that were made are live
 abbrev pub label_at : List PlainBlock → ℕ → ℕ → Label
-label_at blocks made b = cond (nat_lt b made) (label_of Live 1 (2 ^ 32 - 1) (block_at blocks b)) (label_of Free 0 0 (block_at blocks b))
+label_at blocks made b = cond (nat_lt b made) (label_of Live (block_at blocks b).epoch (2 ^ 32 - 1) (block_at blocks b)) (label_of Free 0 0 (block_at blocks b))
 
 -- A block that was made stands at its place.
 pub record Stands (blocks : List PlainBlock) (made b : ℕ) (p : Place) : Type 0 where
@@ -73,9 +73,11 @@ held_in [] score kind = None
 held_in (h ∷ held) score kind = cond (is_under h.score h.kind score kind) (Some h.bytes) (held_in held score kind)
 
 -- A new device: so many blocks may be made, and block 2 is the root block of an empty tree.
-pub record IsNew (count : ℕ) (blocks : List PlainBlock) (made spare room : ℕ) : Type 0 where
+pub record IsNew (count : ℕ) (blocks : List PlainBlock) (made high spare room : ℕ) : Type 0 where
   pub as_long : length blocks ≡ count + 3
   pub three : made ≡ 3
+  pub first : high ≡ 1
   pub nothing : (spare ≡ 0) × (room ≡ 0)
   pub root : SameContent (memory blocks 2) (blank Root)
   pub at_root : Stands blocks made 2 root_place
+  pub root_label : label_at blocks made 2 ≡ record { state = Live; kind = Root; tag = 1; epoch = 1; closing = 2 ^ 32 - 1 }

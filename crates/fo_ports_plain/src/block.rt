@@ -10,10 +10,12 @@ ghost use Rattle.fo_ports_plain.specs.Plain.{content_of, slot_of, index_below};
 use fo_crash::{Place, Slot};
 use fo_image::{Entry, Kind, Pointer};
 
-/// A block with its place, and whether the index of that place is still free and a leaf waits for its entries.
+/// A block with its place and the epoch in which it was given out, and whether the index of that place is still free and a leaf waits
+/// for its entries.
 #[derive(Clone, Copy)]
 pub struct PlainBlock {
     pub(crate) place: Place,
+    pub(crate) epoch: u32,
     pub(crate) loose: bool,
     pub(crate) awaited: bool,
     pub(crate) bytes: [u8; 8192],
@@ -25,7 +27,7 @@ impl PlainBlock {
     pub(crate) fn with_index(self, index: u64) -> PlainBlock
         ensures place { result.place ≡ record self.place { index = index } }
         ensures loose { result.loose ≡ false }
-        ensures rest { (result.awaited ≡ self.awaited) × (result.bytes ≡ self.bytes) × (result.slots ≡ self.slots) }
+        ensures rest { (result.awaited ≡ self.awaited) × (result.bytes ≡ self.bytes) × (result.slots ≡ self.slots) × (result.epoch ≡ self.epoch) }
     {
         let mut block = self;
         block.place.index = index;
@@ -38,7 +40,7 @@ impl PlainBlock {
         requires { i < 409 }
         ensures slots { result.slots ≡ slice_set self.slots i slot }
         ensures here { slot_of result i ≡ slot }
-        ensures rest { (result.place ≡ self.place) × (result.loose ≡ self.loose) × (result.awaited ≡ self.awaited) × (result.bytes ≡ self.bytes) }
+        ensures rest { (result.place ≡ self.place) × (result.loose ≡ self.loose) × (result.awaited ≡ self.awaited) × (result.bytes ≡ self.bytes) × (result.epoch ≡ self.epoch) }
     {
         let mut block = self;
         block.slots[i as usize] = slot;
@@ -49,26 +51,47 @@ impl PlainBlock {
     pub(crate) fn with_bytes(self, from: u32, bytes: &[u8]) -> PlainBlock
         requires { from + length bytes.now ≤ length self.bytes }
         ensures bytes { result.bytes ≡ put_at from bytes.now self.bytes }
-        ensures rest { (result.place ≡ self.place) × (result.loose ≡ self.loose) × (result.awaited ≡ self.awaited) × (result.slots ≡ self.slots) }
+        ensures rest { (result.place ≡ self.place) × (result.loose ≡ self.loose) × (result.awaited ≡ self.awaited) × (result.slots ≡ self.slots) × (result.epoch ≡ self.epoch) }
     {
         let mut block = self;
         put_part(&mut block.bytes, from as usize, bytes);
         block
     }
 
-    /// The block with a leaf that waits for its entries, or none.
-    pub(crate) fn with_awaited(self, awaited: bool) -> PlainBlock
-        ensures awaited { result.awaited ≡ awaited }
+    /// The block with a leaf that waits for its entries.
+    pub(crate) fn with_awaited(self) -> PlainBlock
+        ensures awaited { result.awaited ≡ true }
+        ensures rest { (result.place ≡ self.place) × (result.loose ≡ self.loose) × (result.bytes ≡ self.bytes) × (result.slots ≡ self.slots) × (result.epoch ≡ self.epoch) }
+    {
+        let mut block = self;
+        block.awaited = true;
+        block
+    }
+
+    /// The block of another epoch.
+    pub(crate) fn with_epoch(self, epoch: u32) -> PlainBlock
+        ensures epoch { result.epoch ≡ epoch }
+        ensures rest { (result.place ≡ self.place) × (result.loose ≡ self.loose) × (result.awaited ≡ self.awaited) × (result.bytes ≡ self.bytes) × (result.slots ≡ self.slots) }
+    {
+        let mut block = self;
+        block.epoch = epoch;
+        block
+    }
+
+    /// A copy of the block, of this epoch. No leaf waits for its entries.
+    pub(crate) fn copied(self, epoch: u32) -> PlainBlock
+        ensures marks { (result.awaited ≡ false) × (result.epoch ≡ epoch) }
         ensures rest { (result.place ≡ self.place) × (result.loose ≡ self.loose) × (result.bytes ≡ self.bytes) × (result.slots ≡ self.slots) }
     {
         let mut block = self;
-        block.awaited = awaited;
+        block.awaited = false;
+        block.epoch = epoch;
         block
     }
 }
 
 /// Copies bytes into a part.
-fn put_part(into: &mut [u8], from: usize, bytes: &[u8])
+pub(crate) fn put_part(into: &mut [u8], from: usize, bytes: &[u8])
     requires { from + length bytes.now ≤ length into.old }
     ensures { into.new ≡ put_at from bytes.now into.old }
 {
@@ -172,12 +195,13 @@ pub(crate) fn no_bytes() -> [u8; 8192]
 }
 
 /// A block of zeros.
-pub(crate) fn blank_block(place: Place) -> PlainBlock
-    ensures marks { (result.place ≡ place) × (result.loose ≡ true) × (result.awaited ≡ false) }
+pub(crate) fn blank_block(place: Place, epoch: u32) -> PlainBlock
+    ensures marks { (result.place ≡ place) × (result.loose ≡ true) × (result.awaited ≡ false) × (result.epoch ≡ epoch) }
     ensures content { SameContent (content_of result) (blank place.kind) }
 {
     PlainBlock {
         place,
+        epoch,
         loose: true,
         awaited: false,
         bytes: no_bytes(),

@@ -10,6 +10,7 @@ ghost use Rattle.fo_ports_plain.specs.Plain.{memory, label_at, Stands, Awaits, b
 use crate::block::blank_block;
 use crate::held::copy_held;
 use crate::plain::PlainBlocks;
+use crate::spell::spell_slots;
 use fo_crash::{Place, Slot};
 use fo_image::{Kind, Label, Pointer, Score, State};
 use fo_ports::{BlockError, Blocks};
@@ -28,7 +29,7 @@ impl Blocks for PlainBlocks {
 
     ghost loose = { λ s b. (block_at s.blocks.items b).loose ≡ true };
 
-    ghost high = { λ s. 1 };
+    ghost high = { λ s. s.high };
 
     ghost root = { λ s. 2 };
 
@@ -80,12 +81,16 @@ impl Blocks for PlainBlocks {
 
     ghost arena_faults = { λ s. 0 };
 
-    ghost keeps = { λ s t. PlainKeeps s.blocks.items t.blocks.items s.held.items t.held.items };
+    ghost keeps = { λ s t. PlainKeeps s.blocks.items t.blocks.items s.held.items t.held.items s.high t.high };
 
     fn get(&mut self, at: u32, kind: Kind, rank: u32, into: &mut [u8]) -> Result<(), BlockError> {
-        let _ = (kind, rank);
+        let _ = rank;
         let block = &self.blocks[at as usize];
+        if block.place.kind != kind {
+            return Err(BlockError::Damaged(at));
+        }
         into.copy_from_slice(&block.bytes);
+        spell_slots(kind, &block.slots, into);
         Ok(())
     }
 
@@ -101,13 +106,13 @@ impl Blocks for PlainBlocks {
             state: if live { State::Live } else { State::Free },
             kind: block.place.kind,
             tag: block.place.tag,
-            epoch: if live { 1 } else { 0 },
+            epoch: if live { block.epoch } else { 0 },
             closing: if live { u32::MAX } else { 0 },
         }
     }
 
     fn high(&self) -> u32 {
-        1
+        self.high
     }
 
     fn root(&self) -> u32 {
@@ -133,11 +138,11 @@ impl Blocks for PlainBlocks {
             index: 0,
             rank,
         };
-        self.make(blank_block(place))
+        self.make(blank_block(place, self.high))
     }
 
     fn copy(&mut self, at: u32) -> u32 {
-        let block = self.blocks[at as usize].with_awaited(false);
+        let block = self.blocks[at as usize].copied(self.high);
         self.make(block)
     }
 
@@ -235,9 +240,9 @@ impl Blocks for PlainBlocks {
 
     ghost spelled = { λ b at i is lt. plain_spelled b.blocks.items b.made b.spelled at i is lt };
 
-    ghost live = { λ b at t ne r. plain_live b.blocks.items b.made at b.links ne r };
+    ghost live = { λ b at t ne r. plain_live b.blocks.items b.made b.high at b.links b.aged ne r };
 
-    ghost falls = { λ b top at i below t is_top ne r e. plain_falls b.blocks.items b.made b.links top at i below is_top ne r e };
+    ghost falls = { λ b top at i below t is_top ne r e. plain_falls b.blocks.items b.made b.super_at b.three b.links top at i below is_top ne r e };
 
     ghost old_is_sure = { λ b top at is_top ne r older. record { each = λ image is. is.each at } };
 
@@ -251,13 +256,15 @@ impl Blocks for PlainBlocks {
 
     ghost waits_in_use = { λ b a on j w. plain_uses b.blocks.items on j w };
 
+    ghost clears_entries = { λ b at j h. absurd h };
+
     ghost in_place = { λ b at sealed current r image is. plain_in_place b.blocks.items at r image is };
 
     ghost data_is_free = { λ b p bytes k r l. tt };
 
-    ghost keeps_at_once = { λ a. plain_at_once a.blocks.items a.held.items };
+    ghost keeps_at_once = { λ a. plain_at_once a.blocks.items a.held.items a.high };
 
     ghost keeps_joins = { λ a b c p q. plain_joins p q };
 
-    ghost keeps_all = { λ a b k. (refl, refl, (λ h. h, λ h. h), λ t. (λ h. h, λ h. h), plain_blocks k, plain_held k, le_refl 0, le_refl 0, λ p bytes. (λ h. h, λ h. h), λ c. refl) };
+    ghost keeps_all = { λ a b k. (k.same_high, refl, (λ h. h, λ h. h), λ t. (λ h. h, λ h. h), plain_blocks k, plain_held k, le_refl 0, le_refl 0, λ p bytes. (λ h. h, λ h. h), λ c. refl) };
 }

@@ -3,8 +3,10 @@
 
 mod block;
 mod calls;
+mod device;
 mod held;
 mod plain;
+mod spell;
 
 pub use plain::PlainBlocks;
 

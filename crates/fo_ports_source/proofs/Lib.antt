@@ -4,3 +4,4 @@ pub mod Puts
 pub mod Looks
 pub mod Lists
 pub mod Values
+pub mod Plain

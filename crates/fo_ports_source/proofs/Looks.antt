@@ -1,18 +1,18 @@
 -- Calls that only look, one after another, and why they are refused.
-use Rattle.std.proofs.Common.{◌≡◌, ◌⊎◌, ◌+◌, ◌-◌, ◌/◌, ◌%◌, ◌^◌, ◌≤◌, ℕ, List, length, min, Option, Some, inl, inr, ⊎_elim, sym, refl, ap, ◌∙◌, subst, arith}
+use Rattle.std.proofs.Common.{◌≡◌, ◌⊎◌, ◌+◌, ◌-◌, ◌/◌, ◌%◌, ◌^◌, ◌≤◌, ℕ, List, length, min, Option, Some, inl, inr, ⊎_elim, ap, ◌∙◌, arith}
 use Rattle.fo_base.specs.Cause.{Rose}
 use Rattle.fo_image.specs.declared.types.Kind.{Kind}
 use Rattle.fo_image.specs.declared.types.Label.{Label}
 use Rattle.fo_crash.specs.declared.place.Place.{Place}
 use Rattle.fo_crash.specs.Images.{Image}
-use Rattle.fo_crash.proofs.Moments.{passes_none}
 use Rattle.fo_ports.specs.declared.error.BlockError.{BlockError}
 use Rattle.fo_ports.specs.declared.error.BlockError.TheVariants.{Full, Damaged, Fault, Arena, Memory}
 use Rattle.fo_ports.specs.Causes.{Caused}
-use Rattle.fo_ports.specs.Sources.{Looks, byte_of}
-use Rattle.fo_ports_source.specs.Source.{leaf_of, Over, Prepared}
+use Rattle.fo_ports.specs.Sources.{Looks}
+use Rattle.fo_ports_source.specs.Source.{leaf_of, byte_of, Over, IsHeld, Prepared}
+use Rattle.fo_ports_source.specs.SourceLaws.{still_labelled}
 use Rattle.fo_ports_source.proofs.Leaves.{byte_kept}
-use Rattle.fo_ports_source.proofs.Steps.{content_once, content_joins, passes_of, passes_joins}
+use Rattle.fo_ports_source.proofs.Steps.{content_joins, passes_of, passes_joins}
 
 -- A refusal after calls that looked has its cause, too.
 pub cause_after : (damaged earlier : ℕ → Type 0) (first mid last : ℕ) (e : BlockError) → ((b : ℕ) → damaged b → earlier b) → first ≤ mid → Caused ⊥ damaged (Rose mid last) ⊥ e → Caused ⊥ earlier (Rose first last) ⊥ e
@@ -26,20 +26,6 @@ cause_after damaged earlier first mid last (Arena which) wider le cause = cause
 cause_after damaged earlier first mid last Memory wider le cause = cause
 
 module _ {S : Type 0} {now : S → Image} {label : S → ℕ → Label} {stands : S → ℕ → Place → Type 0} {loose : S → ℕ → Type 0} {may_leave : S → Image → Type 0} {moments : S → ℕ} {left : S → ℕ → Image → Type 0} {tells : S → Type 0} {sealed_at : S → ℕ → Type 0} {spare room next : S → ℕ} {grants : S → Type 0} {pinned : S → ℕ → Type 0} {waits : S → ℕ → ℕ → ℕ → Type 0} {clearing : S → ℕ → ℕ → Type 0} {covered : S → ℕ → Type 0} {keeps : S → S → Type 0} where
-  pub looks_none : (a : S) → keeps a a → Looks now label stands loose may_leave moments left tells sealed_at spare room next grants pinned waits clearing covered keeps a a
-  looks_none a once = record {
-    memory = λ told. record { each = λ b. content_once (now a b) };
-    known = λ b h. content_once (now a b);
-    adds = record { each = λ image is. is };
-    passes = passes_none (may_leave a) (moments a) (left a);
-    order = λ x b j. (λ w. w, λ h. h);
-    covers = λ b h. h;
-    blocks = λ b. (refl, λ h. h, λ h. h);
-    places = λ b p. (λ s. s, λ l. l);
-    numbers = (refl, refl, refl, λ h. h);
-    stays = once;
-  }
-
   pub looks_joins : {a b c : S} → (keeps a b → keeps b c → keeps a c) → (tells a → tells b) → Looks now label stands loose may_leave moments left tells sealed_at spare room next grants pinned waits clearing covered keeps a b → Looks now label stands loose may_leave moments left tells sealed_at spare room next grants pinned waits clearing covered keeps b c → Looks now label stands loose may_leave moments left tells sealed_at spare room next grants pinned waits clearing covered keeps a c
   looks_joins joins told first second = record {
     memory = λ is. record { each = λ b. content_joins ((second.memory (told is)).each b) ((first.memory is).each b) };
@@ -64,9 +50,17 @@ module _ {S : Type 0} {now : S → Image} {label : S → ℕ → Label} {stands 
   pub byte_looks : {old new : S} → Looks now label stands loose may_leave moments left tells sealed_at spare room next grants pinned waits clearing covered keeps old new → (leaves : List (Option ℕ)) (k : ℕ) → ((at : ℕ) → leaf_of leaves (k / 8192) ≡ Some at → tells old ⊎ pinned old at) → byte_of (leaf_of leaves) (now new) k ≡ byte_of (leaf_of leaves) (now old) k
   byte_looks {old = old} {new = new} looks leaves k known = byte_kept (now old) (now new) (leaf_of leaves (k / 8192)) (k % 8192) (λ at e. known_bytes looks at (known at e))
 
-  pub prepared_looks : {old new : S} {leaves : List (Option ℕ)} {o n : ℕ} → Looks now label stands loose may_leave moments left tells sealed_at spare room next grants pinned waits clearing covered keeps old new → Prepared (now old) (pinned old) leaves o n → Prepared (now new) (pinned new) leaves o n
-  prepared_looks looks prepared = record {
-    each = λ k at from to e. let was = prepared.each k at from to e in ((looks.blocks at).1 was.0, ap length (looks.known at was.0).bytes ∙ was.1);
+  -- one that is held stays so
+  pub held_looks : (high : S → ℕ) {old new : S} {kind : Kind} {tag : ℕ} → Looks now label stands loose may_leave moments left tells sealed_at spare room next grants pinned waits clearing covered keeps old new → high new ≡ high old → (at : ℕ) → IsHeld (now old) (label old) (high old) (pinned old) kind tag at → IsHeld (now new) (label new) (high new) (pinned new) kind tag at
+  held_looks high looks same_high at was = record {
+    labelled = still_labelled same_high (looks.blocks at).0 was.labelled;
+    is_pinned = (looks.blocks at).1 was.is_pinned;
+    long = ap length (looks.known at was.is_pinned).bytes ∙ was.long;
+  }
+
+  pub prepared_looks : (high : S → ℕ) {old new : S} {kind : Kind} {tag : ℕ} {leaves : List (Option ℕ)} {o n : ℕ} → Looks now label stands loose may_leave moments left tells sealed_at spare room next grants pinned waits clearing covered keeps old new → high new ≡ high old → Prepared (now old) (label old) (high old) (pinned old) kind tag leaves o n → Prepared (now new) (label new) (high new) (pinned new) kind tag leaves o n
+  prepared_looks high looks same_high prepared = record {
+    each = λ k at from to e. held_looks high looks same_high at (prepared.each k at from to e);
     limit = prepared.limit;
   }
 
@@ -75,18 +69,17 @@ module _ {S : Type 0} {now : S → Image} {label : S → ℕ → Label} {stands 
         → Over (now old) (label old) (stands old) (high old) (is_block old) (covered old) (tells old) kind tag rank size leaves
         → Over (now new) (label new) (stands new) (high new) (is_block new) (covered new) (tells new) kind tag rank size leaves
     over_looks {old = old} {new = new} looks same_high same_blocks told over = record {
-      leaf = λ i at e.
-          let was = over.leaf i at e in
-          let is = (looks.blocks at).0 in
-          record {
-            is_one = same_blocks at was.is_one;
-            is_live = ap (λ (l : Label). l.state) is ∙ was.is_live;
-            has_kind = ap (λ (l : Label). l.kind) is ∙ was.has_kind;
-            up_to = subst (λ n. (label new at).epoch ≤ n) (sym same_high) (subst (λ (l : Label). l.epoch ≤ high old) (sym is) was.up_to);
-            there = (looks.places at _).0 was.there;
-            uncovered = λ h. was.uncovered (looks.covers at h);
-          };
-      apart = over.apart;
+      leaf = λ i at e. record {
+        is_one = same_blocks at (over.leaf i at e).is_one;
+        told = λ is.
+            let was = (over.leaf i at e).told (told is) in
+            record {
+              labelled = still_labelled same_high (looks.blocks at).0 was.labelled;
+              there = (looks.places at _).0 was.there;
+              uncovered = λ h. was.uncovered (looks.covers at h);
+            };
+      };
+      apart = λ is. over.apart (told is);
       none = over.none;
       tail = λ is k le. byte_looks looks leaves k (λ at e. inl (told is)) ∙ over.tail (told is) k le;
       within = over.within;

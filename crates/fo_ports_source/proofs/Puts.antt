@@ -1,5 +1,5 @@
 -- Bytes that are put one part after another, and how much is spent.
-use Rattle.std.proofs.Common.{◌≡◌, ℕ, ◌+◌, ◌-◌, ◌/◌, ◌%◌, ◌<◌, ◌≤◌, ◌⊎◌, List, [], ◌++◌, length, min, take, drop, Result, Ok, Err, IfErr, slice_index, refl, sym, ◌∙◌, ap, arith, inl, inr, ⊎_elim}
+use Rattle.std.proofs.Common.{◌≡◌, ◌*◌, ◌^◌, ℕ, ◌+◌, ◌-◌, ◌/◌, ◌%◌, ◌<◌, ◌≤◌, ◌⊎◌, List, [], ◌++◌, length, min, take, drop, Result, Ok, Err, IfErr, slice_index, refl, sym, ◌∙◌, ap, arith, inl, inr, ⊎_elim}
 use Rattle.std.proofs.lemmas.Bool.{cases_lt}
 use Rattle.std.proofs.lemmas.List.{length-take-le, get_or-take, get_or-drop, length-drop, get_or_append_left, get_or-append_right}
 use Rattle.std.proofs.lemmas.Slice.{take-put_mid}
@@ -9,8 +9,8 @@ use Rattle.fo_base.specs.Cause.{Rose}
 use Rattle.fo_ports.specs.declared.error.BlockError.{BlockError}
 use Rattle.fo_ports.specs.Causes.{Caused}
 use Rattle.fo_ports_source.proofs.Looks.{cause_after}
-use Rattle.fo_ports.specs.Sources.{most_for}
-use Rattle.fo_ports_source.specs.Source.{Puts, Spent}
+use Rattle.fo_ports.specs.Sources.{depth_for, most_for}
+use Rattle.fo_ports_source.specs.Source.{leaves_for, Puts, Spent}
 
 pub puts_after : {a b c : ℕ → ℕ} {offset : ℕ} {bytes : List ℕ} → ((k : ℕ) → b k ≡ a k) → Puts b c offset bytes → Puts a c offset bytes
 puts_after same p = record { within = p.within; before = λ k lt. p.before k lt ∙ same k; behind = λ k ge. p.behind k ge ∙ same k }
@@ -68,19 +68,12 @@ spent_more len offset done count before now new_now lt is one spent = record { i
     most (inl h) = omega (arith, h.0, h.1, one, some)
     most (inr h) = ⊎_elim (λ e. omega (arith, e, h.1, one, some)) (λ e. absurd (omega (arith, e, lt))) h.0
 
-pub spent_left : (len offset done before now : ℕ) → done < len → most_for len ≤ before → Spent len offset done before now → 0 < now
+pub spent_left : (len offset done before now : ℕ) → done < len → leaves_for len ≤ before → Spent len offset done before now → 0 < now
 spent_left len offset done before now lt enough spent = by spent.is
   where
     by : ((done ≡ 0) × (before ≤ now)) ⊎ ((((offset + done) % 8192 ≡ 0) ⊎ (done ≡ len)) × (before + offset / 8192 ≤ now + (offset + done + 8191) / 8192)) → 0 < now
     by (inl h) = omega (arith, h.1, enough)
     by (inr h) = omega (arith, h.1, enough, lt)
-
-pub spent_all : (len offset done before now : ℕ) → done ≤ len → Spent len offset done before now → before ≤ now + most_for len
-spent_all len offset done before now le spent = by spent.is
-  where
-    by : ((done ≡ 0) × (before ≤ now)) ⊎ ((((offset + done) % 8192 ≡ 0) ⊎ (done ≡ len)) × (before + offset / 8192 ≤ now + (offset + done + 8191) / 8192)) → before ≤ now + most_for len
-    by (inl h) = omega (arith, h.1)
-    by (inr h) = omega (arith, h.1, le)
 
 -- bytes that are copied out, one part after another
 module _ (mid new : ℕ → ℕ) (into sub : List ℕ) (offset done n m : ℕ) (same : m ≡ n) (le : done + n ≤ length into) (len : length sub ≡ n)
@@ -106,6 +99,13 @@ module _ (mid new : ℕ → ℕ) (into sub : List ℕ) (offset done n m : ℕ) (
 pub later_cause : {T : Type 0} (r : Result T BlockError) (damaged earlier : ℕ → Type 0) (first mid last : ℕ) → ((b : ℕ) → damaged b → earlier b) → first ≤ mid → IfErr r (Caused ⊥ damaged (Rose mid last) ⊥) → IfErr r (Caused ⊥ earlier (Rose first last) ⊥)
 later_cause (Ok x) damaged earlier first mid last wider le cause = cause
 later_cause (Err e) damaged earlier first mid last wider le cause = cause_after damaged earlier first mid last e wider le cause
+
+-- a source needs no more than the trait allows
+pub few_leaves : (end n : ℕ) → leaves_for n ≤ most_for end n
+few_leaves end n = by n (depth_for end)
+  where
+    by : (n depth : ℕ) → n / 8192 + 2 ≤ n / 8192 + n / 2 ^ 21 + 3 * (depth + 1)
+    by n depth = omega arith
 
 pub length_put_mid : (a k : ℕ) (xs ys : List ℕ) → a + k ≤ length xs → length ys ≡ k → length (put_mid a k xs ys) ≡ length xs
 length_put_mid a k xs ys le is = grind (arith, common_steps)

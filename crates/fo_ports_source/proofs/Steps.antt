@@ -1,5 +1,6 @@
 -- The calls of a plain source, one by one and one after another.
 use Rattle.std.proofs.Common.{◌≡◌, ◌≢◌, ◌⊎◌, ◌<◌, ◌≤◌, ℕ, List, [], ◌∷◌, inl, inr, ⊎_elim, sym, refl, ap, ◌∙◌, subst, arith}
+use Rattle.std.proofs.Math.Nat.{le_refl}
 use Rattle.std.proofs.lemmas.Bool.{cases_lt, cases_eq}
 use Rattle.fo_image.specs.declared.types.Label.{Label}
 use Rattle.fo_image.specs.declared.types.State.{State}
@@ -19,6 +20,9 @@ same_state : (s : State) → (s ≡ Live) ⊎ (s ≢ Live)
 same_state Live = inl refl
 same_state Free = inr (λ e. (cc))
 same_state Closed = inr (λ e. (cc))
+
+pub cases_made : (old new : ℕ → Label) (at : ℕ) → Made old new at ⊎ (Made old new at → ⊥)
+cases_made old new at = ⊎_elim (λ was. inr (λ m. m.0 was)) (λ no. ⊎_elim (λ is. inl (no, is)) (λ not. inr (λ m. not m.1)) (same_state (new at).state)) (same_state (old at).state)
 
 pub content_once : (c : Content) → SameContent c c
 content_once c = record { bytes = refl; slots = λ i. refl }
@@ -72,7 +76,7 @@ passes_joins {A = A} {first = first} {mid = mid} {last = last} {new = new} p q =
     by k image lt le h (inl above) = q.within k image above le h
 
 -- What a call says that gives out a block.
-pub record GivesOut {S : Type 0} (now : S → Image) (label : S → ℕ → Label) (stands : S → ℕ → Place → Type 0) (loose : S → ℕ → Type 0) (high : S → ℕ) (tops is_block : S → ℕ → Type 0) (may_leave : S → Image → Type 0) (moments : S → ℕ) (left : S → ℕ → Image → Type 0) (sealed_at : S → ℕ → Type 0) (pins_left room next : S → ℕ) (grants : S → Type 0) (pinned : S → ℕ → Type 0) (waits : S → ℕ → ℕ → ℕ → Type 0) (clearing : S → ℕ → ℕ → Type 0) (covered : S → ℕ → Type 0) (keeps : S → S → Type 0) (at : ℕ) (content : Content) (old new : S) : Type 0 where
+pub record GivesOut {S : Type 0} (now : S → Image) (label : S → ℕ → Label) (stands : S → ℕ → Place → Type 0) (loose : S → ℕ → Type 0) (high : S → ℕ) (tops is_block : S → ℕ → Type 0) (may_leave : S → Image → Type 0) (moments : S → ℕ) (left : S → ℕ → Image → Type 0) (sealed_at : S → ℕ → Type 0) (pins_left room next : S → ℕ) (grants : S → Type 0) (pinned : S → ℕ → Type 0) (waits : S → ℕ → ℕ → ℕ → Type 0) (clearing : S → ℕ → ℕ → Type 0) (covered : S → ℕ → Type 0) (keeps : S → S → Type 0) (tag at : ℕ) (content : Content) (old new : S) : Type 0 where
   pub kept : keeps old new
   pub high_is : high new ≡ high old
   pub tops_stay : (b : ℕ) → tops old b → tops new b
@@ -81,6 +85,7 @@ pub record GivesOut {S : Type 0} (now : S → Image) (label : S → ℕ → Labe
   pub adds : AddsBlock (tops old) at content (may_leave old) (may_leave new)
   pub live : (label new at).state ≡ Live
   pub epoch : (label new at).epoch ≡ high old
+  pub tagged : (label new at).tag ≡ tag
   pub fresh : ((p : Place) → stands old at p → ⊥) × (tops old at → ⊥) × (at ≢ 1) × ((label old at).state ≢ Live)
   pub is_new : is_block new at × pinned new at × (covered new at → ⊥) × ((a j : ℕ) → waits new a at j → ⊥)
   pub others : (b : ℕ) → b ≢ at → (label new b ≡ label old b) × (pinned old b → pinned new b) × (sealed_at old b → sealed_at new b) × (covered new b → covered old b)
@@ -93,12 +98,13 @@ pub record GivesOut {S : Type 0} (now : S → Image) (label : S → ℕ → Labe
   pub granted : grants old → grants new
 
 -- What a call says that puts bytes into a block of the current epoch.
-pub record PutsInto {S : Type 0} (now : S → Image) (label : S → ℕ → Label) (stands : S → ℕ → Place → Type 0) (loose : S → ℕ → Type 0) (high : S → ℕ) (tops is_block : S → ℕ → Type 0) (may_leave : S → Image → Type 0) (moments : S → ℕ) (left : S → ℕ → Image → Type 0) (sealed_at : S → ℕ → Type 0) (pins_left room next : S → ℕ) (grants : S → Type 0) (pinned : S → ℕ → Type 0) (waits : S → ℕ → ℕ → ℕ → Type 0) (clearing : S → ℕ → ℕ → Type 0) (covered : S → ℕ → Type 0) (keeps : S → S → Type 0) (at : ℕ) (bytes : List ℕ) (beside : Image → Type 0) (old new : S) : Type 0 where
+pub record PutsInto {S : Type 0} (now : S → Image) (label : S → ℕ → Label) (stands : S → ℕ → Place → Type 0) (loose : S → ℕ → Type 0) (high : S → ℕ) (tops is_block : S → ℕ → Type 0) (may_leave : S → Image → Type 0) (moments : S → ℕ) (left : S → ℕ → Image → Type 0) (sealed_at : S → ℕ → Type 0) (pins_left room next : S → ℕ) (grants : S → Type 0) (pinned : S → ℕ → Type 0) (waits : S → ℕ → ℕ → ℕ → Type 0) (clearing : S → ℕ → ℕ → Type 0) (covered : S → ℕ → Type 0) (keeps : S → S → Type 0) (tag at : ℕ) (bytes : List ℕ) (beside : Image → Type 0) (old new : S) : Type 0 where
   pub kept : keeps old new
   pub high_is : high new ≡ high old
   pub tops_stay : (b : ℕ) → tops old b → tops new b
   pub blocks_stay : (b : ℕ) → is_block old b → is_block new b
   pub current : (label old at).epoch ≡ high old
+  pub tagged : (label old at).tag ≡ tag
   pub puts : PutsBytes at bytes (now old) (now new)
   pub adds : AddsBytes (now old) at bytes beside (may_leave old) (may_leave new)
   pub order : (a b j : ℕ) → (waits old a b j → waits new a b j) × (clearing new b j → clearing old b j)
@@ -111,10 +117,10 @@ pub record PutsInto {S : Type 0} (now : S → Image) (label : S → ℕ → Labe
   pub nexts : next new ≡ next old
   pub granted : grants old → grants new
 
-module _ {S : Type 0} {now : S → Image} {label : S → ℕ → Label} {stands : S → ℕ → Place → Type 0} {loose : S → ℕ → Type 0} {high : S → ℕ} {tops is_block : S → ℕ → Type 0} {may_leave : S → Image → Type 0} {moments : S → ℕ} {left : S → ℕ → Image → Type 0} {sealed_at : S → ℕ → Type 0} {pins_left room next : S → ℕ} {grants : S → Type 0} {pinned : S → ℕ → Type 0} {waits : S → ℕ → ℕ → ℕ → Type 0} {clearing : S → ℕ → ℕ → Type 0} {covered : S → ℕ → Type 0} {keeps : S → S → Type 0} where
-  pub steps_wider : {mine more : ℕ → Type 0} {old new : S} → ((b : ℕ) → mine b → more b) → Steps now label stands loose high tops is_block may_leave moments left sealed_at pins_left room next grants pinned waits clearing covered keeps mine old new → Steps now label stands loose high tops is_block may_leave moments left sealed_at pins_left room next grants pinned waits clearing covered keeps more old new
+module _ {S : Type 0} {now : S → Image} {label : S → ℕ → Label} {stands : S → ℕ → Place → Type 0} {loose : S → ℕ → Type 0} {high : S → ℕ} {tops is_block : S → ℕ → Type 0} {may_leave : S → Image → Type 0} {moments : S → ℕ} {left : S → ℕ → Image → Type 0} {sealed_at : S → ℕ → Type 0} {pins_left room next : S → ℕ} {grants : S → Type 0} {pinned : S → ℕ → Type 0} {waits : S → ℕ → ℕ → ℕ → Type 0} {clearing : S → ℕ → ℕ → Type 0} {covered : S → ℕ → Type 0} {keeps : S → S → Type 0} {tag : ℕ} where
+  pub steps_wider : {mine more : ℕ → Type 0} {old new : S} → ((b : ℕ) → mine b → more b) → Steps now label stands loose high tops is_block may_leave moments left sealed_at pins_left room next grants pinned waits clearing covered keeps tag mine old new → Steps now label stands loose high tops is_block may_leave moments left sealed_at pins_left room next grants pinned waits clearing covered keeps tag more old new
   steps_wider {mine = mine} {more = more} {old = old} {new = new} wider s =
-      let all : (b : ℕ) → Touched (label old) (label new) (high old) mine b → Touched (label old) (label new) (high old) more b = λ b. ⊎_elim (λ m. inl m) (λ h. inr (wider b h.0, h.1)) in
+      let all : (b : ℕ) → Touched (label old) (label new) (high old) tag mine b → Touched (label old) (label new) (high old) tag more b = λ b. ⊎_elim (λ m. inl m) (λ h. inr (wider b h.0, h.1, h.2)) in
       record {
         memory = λ b h. s.memory b (λ t. h (all b t));
         images = λ image is. let i = s.images image is in record { beside = beside_wider image all i.beside; same_slots = i.same_slots; apart = i.apart };
@@ -133,8 +139,8 @@ module _ {S : Type 0} {now : S → Image} {label : S → ℕ → Label} {stands 
         same_blocks = s.same_blocks;
       }
 
-  pub steps_changes : {mine inner : ℕ → Type 0} {old new : S} → Steps now label stands loose high tops is_block may_leave moments left sealed_at pins_left room next grants pinned waits clearing covered keeps inner old new → Changes now label stands loose high tops is_block may_leave moments left sealed_at pins_left room next grants pinned waits clearing covered keeps mine inner old new
-  steps_changes s = record {
+  pub steps_changes : {mine inner : ℕ → Type 0} {old new : S} → Steps now label stands loose high tops is_block may_leave moments left sealed_at pins_left room next grants pinned waits clearing covered keeps tag inner old new → Changes now label stands loose high tops is_block may_leave moments left sealed_at pins_left room next grants pinned waits clearing covered keeps tag mine inner old new
+  steps_changes {old = old} s = record {
     memory = s.memory;
     images = λ image is. let i = s.images image is in record { beside = i.beside; apart = i.apart };
     passes = s.passes;
@@ -145,15 +151,15 @@ module _ {S : Type 0} {now : S → Image} {label : S → ℕ → Label} {stands 
     covers = λ b h. inl (s.covers b h);
     marks = s.marks;
     order = s.order;
-    numbers = s.numbers;
+    numbers = (s.numbers.0, subst (λ n. n ≤ room old) (sym s.numbers.1) (le_refl (room old)), s.numbers.2, s.numbers.3);
     stays = s.stays;
   }
 
-  pub steps_none : {mine : ℕ → Type 0} (a : S) → keeps a a → Steps now label stands loose high tops is_block may_leave moments left sealed_at pins_left room next grants pinned waits clearing covered keeps mine a a
+  pub steps_none : {mine : ℕ → Type 0} (a : S) → keeps a a → Steps now label stands loose high tops is_block may_leave moments left sealed_at pins_left room next grants pinned waits clearing covered keeps tag mine a a
   steps_none {mine = mine} a once = record {
     memory = λ b h. content_once (now a b);
-    images = λ image is. record { beside = beside_once (Touched (label a) (label a) (high a) mine) image is; same_slots = λ b j h. refl; apart = λ t b top m. absurd (m.0 m.1) };
-    passes = passes_none (Beside (Touched (label a) (label a) (high a) mine) (may_leave a)) (moments a) (left a);
+    images = λ image is. record { beside = beside_once (Touched (label a) (label a) (high a) tag mine) image is; same_slots = λ b j h. refl; apart = λ t b top m. absurd (m.0 m.1) };
+    passes = passes_none (Beside (Touched (label a) (label a) (high a) tag mine) (may_leave a)) (moments a) (left a);
     labels = λ b h. refl;
     fresh = λ b m. absurd (m.0 m.1);
     made = λ b m. absurd (m.0 m.1);
@@ -168,8 +174,8 @@ module _ {S : Type 0} {now : S → Image} {label : S → ℕ → Label} {stands 
     same_blocks = λ b h. h;
   }
 
-  module _ {mine more : ℕ → Type 0} {a b c : S} (joins : keeps a b → keeps b c → keeps a c) (first : Steps now label stands loose high tops is_block may_leave moments left sealed_at pins_left room next grants pinned waits clearing covered keeps mine a b) (second : Steps now label stands loose high tops is_block may_leave moments left sealed_at pins_left room next grants pinned waits clearing covered keeps more b c)
-      (of : (at : ℕ) → more at → mine at ⊎ Made (label a) (label b) at) (lives : (at : ℕ) → mine at → (label a at).state ≡ Live) where
+  module _ {mine more : ℕ → Type 0} {a b c : S} (joins : keeps a b → keeps b c → keeps a c) (first : Steps now label stands loose high tops is_block may_leave moments left sealed_at pins_left room next grants pinned waits clearing covered keeps tag mine a b) (second : Steps now label stands loose high tops is_block may_leave moments left sealed_at pins_left room next grants pinned waits clearing covered keeps tag more b c)
+      (of : (at : ℕ) → more at → mine at ⊎ Made (label a) (label b) at) where
     pub made_first : (at : ℕ) → Made (label a) (label b) at → Made (label a) (label c) at
     made_first at m = (m.0, ap (λ (l : Label). l.state) (second.labels at (λ n. n.0 m.1)) ∙ m.1)
 
@@ -179,23 +185,26 @@ module _ {S : Type 0} {now : S → Image} {label : S → ℕ → Label} {stands 
     pub made_either : (at : ℕ) → Made (label a) (label c) at → Made (label a) (label b) at ⊎ Made (label b) (label c) at
     made_either at m = ⊎_elim (λ e. inl (m.0, e)) (λ n. inr (n, m.1)) (same_state (label b at).state)
 
-    touched_first : (at : ℕ) → Touched (label a) (label b) (high a) mine at → Touched (label a) (label c) (high a) mine at
+    touched_first : (at : ℕ) → Touched (label a) (label b) (high a) tag mine at → Touched (label a) (label c) (high a) tag mine at
     touched_first at = ⊎_elim (λ m. inl (made_first at m)) (λ h. inr h)
 
-    touched_second : (at : ℕ) → Touched (label b) (label c) (high b) more at → Touched (label a) (label c) (high a) mine at
+    touched_second : (at : ℕ) → Touched (label b) (label c) (high b) tag more at → Touched (label a) (label c) (high a) tag mine at
     touched_second at = ⊎_elim (λ n. inl (made_second at n))
         (λ h. ⊎_elim
-        (λ own. inr (own, ap (λ (l : Label). l.epoch) (sym (first.labels at (λ m. m.0 (lives at own)))) ∙ h.1 ∙ first.same_high))
+        (λ m. inl (made_first at m))
+        (λ no. let same = sym (first.labels at no) in ⊎_elim
+        (λ own. inr (own, ap (λ (l : Label). l.epoch) same ∙ h.1 ∙ first.same_high, ap (λ (l : Label). l.tag) same ∙ h.2))
         (λ m. inl (made_first at m))
         (of at h.0))
+        (cases_made (label a) (label b) at))
 
-    beside_first : (image : Image) → Beside (Touched (label a) (label b) (high a) mine) (may_leave a) image → Beside (Touched (label a) (label c) (high a) mine) (may_leave a) image
+    beside_first : (image : Image) → Beside (Touched (label a) (label b) (high a) tag mine) (may_leave a) image → Beside (Touched (label a) (label c) (high a) tag mine) (may_leave a) image
     beside_first image = beside_wider image touched_first
 
-    beside_second : (image : Image) → Beside (Touched (label b) (label c) (high b) more) (may_leave b) image → Beside (Touched (label a) (label c) (high a) mine) (may_leave a) image
+    beside_second : (image : Image) → Beside (Touched (label b) (label c) (high b) tag more) (may_leave b) image → Beside (Touched (label a) (label c) (high a) tag mine) (may_leave a) image
     beside_second image = beside_joins image (λ other is. beside_first other (first.images other is).beside) touched_second
 
-    pub steps_joins : Steps now label stands loose high tops is_block may_leave moments left sealed_at pins_left room next grants pinned waits clearing covered keeps mine a c
+    pub steps_joins : Steps now label stands loose high tops is_block may_leave moments left sealed_at pins_left room next grants pinned waits clearing covered keeps tag mine a c
     steps_joins = record {
       memory = λ at h. content_joins (second.memory at (λ t. h (touched_second at t))) (first.memory at (λ t. h (touched_first at t)));
       images = λ image is.
@@ -216,8 +225,8 @@ module _ {S : Type 0} {now : S → Image} {label : S → ℕ → Label} {stands 
           (λ n. let free = second.fresh at n in (λ p s. free.0 p ((first.places at p (λ m. n.0 m.1)).0 s), λ t. free.1 (first.same_tops at t), free.2))
           (made_either at m);
       made = λ at m. ⊎_elim
-          (λ m. let was = first.made at m in (ap (λ (l : Label). l.epoch) (second.labels at (λ n. n.0 m.1)) ∙ was.0, second.same_blocks at was.1, (second.marks at).0 was.2))
-          (λ n. let was = second.made at n in (was.0 ∙ first.same_high, was.1, was.2))
+          (λ m. let was = first.made at m in let same = second.labels at (λ n. n.0 m.1) in (ap (λ (l : Label). l.epoch) same ∙ was.0, ap (λ (l : Label). l.tag) same ∙ was.1, second.same_blocks at was.2, (second.marks at).0 was.3))
+          (λ n. let was = second.made at n in (was.0 ∙ first.same_high, was.1, was.2, was.3))
           (made_either at m);
       places = λ at p h. (λ s. (second.places at p (λ n. h (made_second at n))).0 ((first.places at p (λ m. h (made_first at m))).0 s), λ l. (second.places at p (λ n. h (made_second at n))).1 ((first.places at p (λ m. h (made_first at m))).1 l));
       covers = λ at h. first.covers at (second.covers at h);
@@ -233,7 +242,7 @@ module _ {S : Type 0} {now : S → Image} {label : S → ℕ → Label} {stands 
       same_blocks = λ at t. second.same_blocks at (first.same_blocks at t);
     }
 
-  module _ {old new : S} {at : ℕ} {content : Content} (g : GivesOut now label stands loose high tops is_block may_leave moments left sealed_at pins_left room next grants pinned waits clearing covered keeps at content old new) where
+  module _ {old new : S} {at : ℕ} {content : Content} (g : GivesOut now label stands loose high tops is_block may_leave moments left sealed_at pins_left room next grants pinned waits clearing covered keeps tag at content old new) where
     is_made : Made (label old) (label new) at
     is_made = (g.fresh.3, g.live)
 
@@ -243,7 +252,7 @@ module _ {S : Type 0} {now : S → Image} {label : S → ℕ → Label} {stands 
     not_at : (b : ℕ) → (Made (label old) (label new) b → ⊥) → b ≢ at
     not_at b h e = h (subst (λ x. Made (label old) (label new) x) (sym e) is_made)
 
-    pub given_out : Steps now label stands loose high tops is_block may_leave moments left sealed_at pins_left room next grants pinned waits clearing covered keeps (λ b. ⊥) old new
+    pub given_out : Steps now label stands loose high tops is_block may_leave moments left sealed_at pins_left room next grants pinned waits clearing covered keeps tag (λ b. ⊥) old new
     given_out = record {
       memory = λ b h. g.puts.others b (not_at b (λ m. h (inl m)));
       images = λ image is. let before = g.adds.before image is in record {
@@ -253,10 +262,10 @@ module _ {S : Type 0} {now : S → Image} {label : S → ℕ → Label} {stands 
             (λ x j ne. ap (λ (c : Content). c.slot j) (sym (block_other image at before.0 x ne)))
             (λ x e far. g.adds.apart image is t top (subst (λ y. Reaches image (to_block t) y) e far)) b r));
       };
-      passes = passes_of (λ image is. beside_once (Touched (label old) (label new) (high old) (λ b. ⊥)) image is) g.passes;
+      passes = passes_of (λ image is. beside_once (Touched (label old) (label new) (high old) tag (λ b. ⊥)) image is) g.passes;
       labels = λ b h. (g.others b (not_at b h)).0;
       fresh = λ b m. let e = made_is b m in (λ p s. g.fresh.0 p (subst (λ x. stands old x p) e s), λ t. g.fresh.1 (subst (λ x. tops old x) e t), λ is. g.fresh.2 (sym e ∙ is));
-      made = λ b m. let e = sym (made_is b m) in (subst (λ x. (label new x).epoch ≡ high old) e g.epoch, subst (λ x. is_block new x) e g.is_new.0, subst (λ x. pinned new x) e g.is_new.1);
+      made = λ b m. let e = sym (made_is b m) in (subst (λ x. (label new x).epoch ≡ high old) e g.epoch, subst (λ x. (label new x).tag ≡ tag) e g.tagged, subst (λ x. is_block new x) e g.is_new.0, subst (λ x. pinned new x) e g.is_new.1);
       places = λ b p h. g.places b p (not_at b h);
       covers = λ b h. ⊎_elim (λ e. absurd (g.is_new.2 (subst (λ x. covered new x) e h))) (λ ne. (g.others b ne).3 h) (cases_eq b at);
       marks = λ b. (λ h. ⊎_elim (λ e. subst (λ x. pinned new x) (sym e) g.is_new.1) (λ ne. (g.others b ne).1 h) (cases_eq b at), λ m h. (g.others b (not_at b m)).2 h);
@@ -268,25 +277,25 @@ module _ {S : Type 0} {now : S → Image} {label : S → ℕ → Label} {stands 
       same_blocks = g.blocks_stay;
     }
 
-  module _ {old new : S} {at : ℕ} {bytes : List ℕ} {beside : Image → Type 0} (g : PutsInto now label stands loose high tops is_block may_leave moments left sealed_at pins_left room next grants pinned waits clearing covered keeps at bytes beside old new) where
+  module _ {old new : S} {at : ℕ} {bytes : List ℕ} {beside : Image → Type 0} (g : PutsInto now label stands loose high tops is_block may_leave moments left sealed_at pins_left room next grants pinned waits clearing covered keeps tag at bytes beside old new) where
     none_made : (b : ℕ) → Made (label old) (label new) b → ⊥
     none_made b m = m.0 (ap (λ (l : Label). l.state) (sym (g.blocks b).0) ∙ m.1)
 
-    aside : (b : ℕ) → (Touched (label old) (label new) (high old) (λ x. x ≡ at) b → ⊥) → b ≢ at
-    aside b h e = h (inr (e, ap (λ x. (label old x).epoch) e ∙ g.current))
+    aside : (b : ℕ) → (Touched (label old) (label new) (high old) tag (λ x. x ≡ at) b → ⊥) → b ≢ at
+    aside b h e = h (inr (e, ap (λ x. (label old x).epoch) e ∙ g.current, ap (λ x. (label old x).tag) e ∙ g.tagged))
 
-    pub bytes_put : Steps now label stands loose high tops is_block may_leave moments left sealed_at pins_left room next grants pinned waits clearing covered keeps (λ b. b ≡ at) old new
+    pub bytes_put : Steps now label stands loose high tops is_block may_leave moments left sealed_at pins_left room next grants pinned waits clearing covered keeps tag (λ b. b ≡ at) old new
     bytes_put = record {
       memory = λ b h. record { bytes = g.puts.others b (aside b h); slots = g.puts.slots b };
       images = λ image is. ⊎_elim
-          (λ was. record { beside = beside_once (Touched (label old) (label new) (high old) (λ b. b ≡ at)) image was; same_slots = λ b j h. refl; apart = λ t b top m. absurd (none_made b m) })
+          (λ was. record { beside = beside_once (Touched (label old) (label new) (high old) tag (λ b. b ≡ at)) image was; same_slots = λ b j h. refl; apart = λ t b top m. absurd (none_made b m) })
           (λ put. record {
             beside = record { other = with_bytes image at ((now old at).bytes); was = put.1; same = λ b h. content_at (sym (bytes_other image at ((now old at).bytes) b (aside b h))) };
             same_slots = λ b j h. sym (bytes_slot image at ((now old at).bytes) b j);
             apart = λ t b top m. absurd (none_made b m);
           })
           (g.adds.each image is);
-      passes = passes_of (λ image is. beside_once (Touched (label old) (label new) (high old) (λ b. b ≡ at)) image is) g.passes;
+      passes = passes_of (λ image is. beside_once (Touched (label old) (label new) (high old) tag (λ b. b ≡ at)) image is) g.passes;
       labels = λ b h. (g.blocks b).0;
       fresh = λ b m. absurd (none_made b m);
       made = λ b m. absurd (none_made b m);

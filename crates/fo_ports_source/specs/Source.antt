@@ -7,11 +7,19 @@ use Rattle.fo_image.specs.declared.types.State.TheVariants.{Live}
 use Rattle.fo_crash.specs.declared.place.Place.{Place}
 use Rattle.fo_crash.specs.Images.{Image}
 use Rattle.fo_crash.specs.Places.{place}
-use Rattle.fo_ports.specs.Sources.{Form, byte_of}
+use Rattle.fo_ports.specs.Sources.{Form, byte_at}
 
 -- the leaf of a number
 abbrev pub leaf_of : List (Option ℕ) → ℕ → Option ℕ
 leaf_of leaves i = slice_index_or leaves i None
+
+-- a byte of the source: 0 where no leaf stands
+abbrev pub byte_of : (ℕ → Option ℕ) → Image → ℕ → ℕ
+byte_of leaves now k = byte_at now (leaves (k / 8192)) None (k % 8192)
+
+-- how many leaves so many bytes touch at most
+abbrev pub leaves_for : ℕ → ℕ
+leaves_for n = n / 8192 + 2
 
 -- A block is a leaf of the source.
 pub record HasLeaf (leaves : List (Option ℕ)) (at : ℕ) : Type 0 where
@@ -21,37 +29,51 @@ pub record HasLeaf (leaves : List (Option ℕ)) (at : ℕ) : Type 0 where
 abbrev pub form_of : Kind → ℕ → ℕ → List (Option ℕ) → Form
 form_of kind tag rank leaves = record { kind = kind; tag = tag; rank = rank; generation = 0; limit = 8192 * length leaves }
 
--- A block may be a leaf of a source of this kind, tag and rank. It is in no slot, so the index of its place is 0.
-pub record IsLeaf (label : ℕ → Label) (stands : ℕ → Place → Type 0) (high : ℕ) (is_block covered : ℕ → Type 0) (kind : Kind) (tag rank at : ℕ) : Type 0 where
-  pub is_one : is_block at
-  pub is_live : (label at).state ≡ Live
-  pub has_kind : (label at).kind ≡ kind
-  pub up_to : (label at).epoch ≤ high
+-- A label is one of a leaf of this kind and tag: that of a live block, of an epoch up to the high one.
+pub record HasLabel (high : ℕ) (kind : Kind) (tag : ℕ) (l : Label) : Type 0 where
+  pub is_live : l.state ≡ Live
+  pub has_kind : l.kind ≡ kind
+  pub has_tag : l.tag ≡ tag
+  pub up_to : l.epoch ≤ high
+
+-- What a device that tells has of a leaf. It is in no slot, so the index of its place is 0.
+pub record IsTold (label : ℕ → Label) (stands : ℕ → Place → Type 0) (high : ℕ) (covered : ℕ → Type 0) (kind : Kind) (tag rank at : ℕ) : Type 0 where
+  pub labelled : HasLabel high kind tag (label at)
   pub there : stands at (place kind tag 0 rank)
   pub uncovered : covered at → ⊥
 
--- A source stands over these blocks: its leaves are different blocks, none lies past its end, and where the device tells each byte
--- past its end is 0.
+-- A block may be a leaf of a source of this kind, tag and rank: over a device that tells nothing it is just a block.
+pub record IsLeaf (label : ℕ → Label) (stands : ℕ → Place → Type 0) (high : ℕ) (is_block covered : ℕ → Type 0) (tells : Type 0) (kind : Kind) (tag rank at : ℕ) : Type 0 where
+  pub is_one : is_block at
+  pub told : tells → IsTold label stands high covered kind tag rank at
+
+-- A source stands over these blocks: its leaves are blocks, and none lies past its end. Where the device tells they are different
+-- ones, and each byte past its end is 0.
 pub record Over (now : Image) (label : ℕ → Label) (stands : ℕ → Place → Type 0) (high : ℕ) (is_block covered : ℕ → Type 0) (tells : Type 0) (kind : Kind) (tag rank size : ℕ) (leaves : List (Option ℕ)) : Type 0 where
-  pub leaf : (i at : ℕ) → leaf_of leaves i ≡ Some at → IsLeaf label stands high is_block covered kind tag rank at
-  pub apart : (i j at : ℕ) → leaf_of leaves i ≡ Some at → leaf_of leaves j ≡ Some at → i ≡ j
+  pub leaf : (i at : ℕ) → leaf_of leaves i ≡ Some at → IsLeaf label stands high is_block covered tells kind tag rank at
+  pub apart : tells → (i j at : ℕ) → leaf_of leaves i ≡ Some at → leaf_of leaves j ≡ Some at → i ≡ j
   pub none : (i : ℕ) → size ≤ 8192 * i → leaf_of leaves i ≡ None
   pub tail : tells → (k : ℕ) → size ≤ k → byte_of (leaf_of leaves) now k ≡ 0
   pub within : size ≤ 8192 * length leaves
   pub few : length leaves < 2 ^ 32
   pub leaf_kind : (kind ≡ Data 0) ⊎ (kind ≡ Dir 0)
 
--- The leaves of so many bytes from an offset on are pinned.
-pub record Prepared (now : Image) (pinned : ℕ → Type 0) (leaves : List (Option ℕ)) (offset n : ℕ) : Type 0 where
-  pub each : (k at : ℕ) → offset ≤ k → k < offset + n → leaf_of leaves (k / 8192) ≡ Some at → pinned at × (length ((now at).bytes) ≡ 8192)
+-- A leaf of this kind and tag was got or given out: it is pinned, and whole.
+pub record IsHeld (now : Image) (label : ℕ → Label) (high : ℕ) (pinned : ℕ → Type 0) (kind : Kind) (tag at : ℕ) : Type 0 where
+  pub labelled : HasLabel high kind tag (label at)
+  pub is_pinned : pinned at
+  pub long : length ((now at).bytes) ≡ 8192
+
+-- The leaves of so many bytes from an offset on are held.
+pub record Prepared (now : Image) (label : ℕ → Label) (high : ℕ) (pinned : ℕ → Type 0) (kind : Kind) (tag : ℕ) (leaves : List (Option ℕ)) (offset n : ℕ) : Type 0 where
+  pub each : (k at : ℕ) → offset ≤ k → k < offset + n → leaf_of leaves (k / 8192) ≡ Some at → IsHeld now label high pinned kind tag at
   pub limit : offset + n ≤ 8192 * length leaves
 
--- A block of the current epoch that was got or given out.
-pub record IsReady (now : Image) (label : ℕ → Label) (stands : ℕ → Place → Type 0) (high : ℕ) (is_block covered pinned : ℕ → Type 0) (kind : Kind) (tag rank at : ℕ) : Type 0 where
-  pub leaf : IsLeaf label stands high is_block covered kind tag rank at
+-- A leaf of the current epoch that is held.
+pub record IsOwn (now : Image) (label : ℕ → Label) (stands : ℕ → Place → Type 0) (high : ℕ) (is_block covered : ℕ → Type 0) (tells : Type 0) (pinned : ℕ → Type 0) (kind : Kind) (tag rank at : ℕ) : Type 0 where
+  pub leaf : IsLeaf label stands high is_block covered tells kind tag rank at
+  pub held : IsHeld now label high pinned kind tag at
   pub current : (label at).epoch ≡ high
-  pub held : pinned at
-  pub long : length ((now at).bytes) ≡ 8192
 
 -- The bytes from an offset on are these, and all others are as they were.
 pub record Puts (old new : ℕ → ℕ) (offset : ℕ) (bytes : List ℕ) : Type 0 where

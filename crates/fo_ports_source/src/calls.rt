@@ -8,10 +8,11 @@ use fo_image::{Entry, Kind, Pointer};
 use fo_ports::{BlockError, Blocks, Bytes};
 
 impl<B: Blocks> Bytes<B> for PlainSource {
-    ghost use Rattle.std.specs.Prelude.{refl};
-    ghost use Rattle.fo_ports.specs.Sources.{bytes_of};
+    ghost use Rattle.std.specs.Prelude.{refl, None};
+    ghost use Rattle.fo_crash.specs.Places.{place};
+    ghost use Rattle.fo_ports.specs.Sources.{source_bytes};
     ghost use Rattle.fo_ports_source.specs.Source.{form_of, HasLeaf, Over, Prepared};
-    ghost use Rattle.fo_ports_source.specs.SourceLaws.{leaf_stands, source_stays, source_prepared, part_prepared};
+    ghost use Rattle.fo_ports_source.specs.SourceLaws.{only_place, source_stays, source_prepared, part_prepared};
 
     ghost form = { λ s. form_of s.kind s.tag s.rank s.leaves.items };
 
@@ -21,11 +22,15 @@ impl<B: Blocks> Bytes<B> for PlainSource {
 
     ghost leaf_at = { λ s b. leaf_of s.leaves.items };
 
-    ghost bytes = { λ s b. bytes_of (leaf_of s.leaves.items) (B.now b) s.size };
+    ghost held_at = { λ s b i. None };
+
+    ghost named = { λ s b score kind. ⊥ };
+
+    ghost bytes = { λ s b. source_bytes (leaf_of s.leaves.items) (λ i. None) (B.now b) s.size };
 
     ghost owns = { λ s b at. HasLeaf s.leaves.items at };
 
-    ghost prepared = { λ s b o n. Prepared (B.now b) (B.pinned b) s.leaves.items o n };
+    ghost prepared = { λ s b o n. Prepared (B.now b) (B.label b) (B.high b) (B.pinned b) s.kind s.tag s.leaves.items o n };
 
     fn len(&self) -> u64 {
         self.size
@@ -81,19 +86,21 @@ impl<B: Blocks> Bytes<B> for PlainSource {
 
     ghost in_limit = { λ s b over. over.within };
 
-    ghost apart = { λ s b i j at over told e f. over.apart i j at e f };
+    ghost apart = { λ s b i j at over told e f. over.apart told i j at e f };
 
     ghost leaf_owned = { λ s b i at over e. record { number = i; is = e } };
 
-    ghost leaf_place = { λ s b i at p over told e stands. leaf_stands (B.one_place b) (over.leaf i at e) p stands };
+    ghost leaf_stands = { λ s b i at over told e. (place s.kind s.tag 0 s.rank, ((over.leaf i at e).told told).there) };
 
-    ghost owned = { λ s b at p over told has stands. (leaf_stands (B.one_place b) (over.leaf has.number at has.is) p stands).1 };
+    ghost leaf_place = { λ s b i at p over told e stands. only_place (B.one_place b) ((over.leaf i at e).told told) p stands };
 
-    ghost live = { λ s b at over told has. ((over.leaf has.number at has.is).is_live, (over.leaf has.number at has.is).up_to, (over.leaf has.number at has.is).uncovered) };
+    ghost owned = { λ s b at p over told has stands. (only_place (B.one_place b) ((over.leaf has.number at has.is).told told) p stands).1 };
 
-    ghost stays = { λ s a b over keeps kept. (source_stays B.now B.label B.stands B.high B.is_block B.covered B.tells B.pinned s.kind s.tag s.rank s.size s.leaves.items a b (B.keeps_all a b keeps).0 (λ at. ((B.keeps_all a b keeps).4 at).1) (B.keeps_all a b keeps).2.0 over kept, λ i. refl, λ at. (λ h. h, λ h. h)) };
+    ghost live = { λ s b at over told has. let leaf = (over.leaf has.number at has.is).told told in (leaf.labelled.is_live, leaf.labelled.up_to, leaf.uncovered) };
 
-    ghost still_prepared = { λ s a b o n over keeps kept prepared. source_prepared B.now B.label B.stands B.high B.is_block B.covered B.tells B.pinned s.kind s.tag s.rank s.size s.leaves.items a b o n kept prepared };
+    ghost stays = { λ s a b over keeps kept. (source_stays B.now B.label B.stands B.high B.is_block B.covered B.tells B.pinned s.kind s.tag s.rank s.size s.leaves.items a b (B.keeps_all a b keeps).0 (λ at. ((B.keeps_all a b keeps).4 at).1) (B.keeps_all a b keeps).2.0 over kept, λ told. (λ i. (refl, refl), λ at. (λ h. h, λ h. h))) };
+
+    ghost still_prepared = { λ s a b o n over over_still keeps kept prepared. source_prepared B.now B.label B.stands B.high B.is_block B.covered B.tells B.pinned s.kind s.tag s.rank s.size s.leaves.items a b o n (B.keeps_all a b keeps).0 kept prepared };
 
     ghost prepared_within = { λ s b o n p m prepared from to. (part_prepared p m prepared from to, prepared.limit) };
 }

@@ -1,11 +1,11 @@
 //! Leaves of the current epoch.
-ghost use Rattle.std.specs.Prelude.{◌≡◌, ◌≢◌, ◌⊎◌, ◌+◌, ◌<◌, ◌≤◌, ℕ, length, Option, Some, None, MatchOption, true, false};
+ghost use Rattle.std.specs.Prelude.{◌≡◌, ◌⊎◌, ◌+◌, ◌<◌, ◌≤◌, ℕ, Option, Some, None, MatchOption, true, false};
 ghost use Rattle.fo_image.specs.declared.types.Kind.TheVariants.{Data, Dir};
 ghost use Rattle.fo_crash.specs.Images.{SameContent};
 ghost use Rattle.fo_crash.specs.Steps.{IsSure};
 ghost use Rattle.fo_ports.specs.Blocks.{blank};
 ghost use Rattle.fo_ports.specs.Sources.{Made};
-ghost use Rattle.fo_ports_source.specs.Source.{IsLeaf, IsReady};
+ghost use Rattle.fo_ports_source.specs.Source.{IsLeaf, IsHeld, IsOwn};
 ghost use Rattle.fo_ports_source.specs.Steps.{Steps};
 
 use fo_image::Kind;
@@ -20,14 +20,13 @@ pub(crate) fn own_block<B: Blocks>(
     rank: u32,
 ) -> u32
     requires kind { (kind ≡ Data 0) ⊎ (kind ≡ Dir 0) }
-    requires leaf { (at : ℕ) → leaf ≡ Some at → IsLeaf (B.label on.old) (B.stands on.old) (B.high on.old) (B.is_block on.old) (B.covered on.old) kind tag rank at }
-    requires pinned { (at : ℕ) → leaf ≡ Some at → B.pinned on.old at × (length ((B.now on.old at).bytes) ≡ 8192) }
-    requires settled { (at j : ℕ) → leaf ≡ Some at → B.clearing on.old at j → (B.label on.old at).epoch ≡ B.high on.old }
+    requires leaf { (at : ℕ) → leaf ≡ Some at → IsLeaf (B.label on.old) (B.stands on.old) (B.high on.old) (B.is_block on.old) (B.covered on.old) (B.tells on.old) kind tag rank at }
+    requires held { (at : ℕ) → leaf ≡ Some at → IsHeld (B.now on.old) (B.label on.old) (B.high on.old) (B.pinned on.old) kind tag at }
     requires spare { 0 < B.spare on.old }
     ensures content { MatchOption leaf (SameContent (B.now on.new result) (blank kind)) (λ at. SameContent (B.now on.new result) (B.now on.old at)) }
     ensures copied { MatchOption leaf (Made (B.label on.old) (B.label on.new) result) (λ at. ((at ≡ result) × ((B.label on.old at).epoch ≡ B.high on.old)) ⊎ (((B.label on.old at).epoch < B.high on.old) × Made (B.label on.old) (B.label on.new) result)) }
-    ensures ready { IsReady (B.now on.new) (B.label on.new) (B.stands on.new) (B.high on.new) (B.is_block on.new) (B.covered on.new) (B.pinned on.new) kind tag rank result }
-    ensures steps { Steps B.now B.label B.stands B.loose B.high B.tops B.is_block B.may_leave B.moments B.left B.sealed_at B.pins_left B.room B.next B.grants B.pinned B.waits B.clearing B.covered B.keeps (λ b. ⊥) on.old on.new }
+    ensures own { IsOwn (B.now on.new) (B.label on.new) (B.stands on.new) (B.high on.new) (B.is_block on.new) (B.covered on.new) (B.tells on.new) (B.pinned on.new) kind tag rank result }
+    ensures steps { Steps B.now B.label B.stands B.loose B.high B.tops B.is_block B.may_leave B.moments B.left B.sealed_at B.pins_left B.room B.next B.grants B.pinned B.waits B.clearing B.covered B.keeps tag (λ b. ⊥) on.old on.new }
     ensures sure { Made (B.label on.old) (B.label on.new) result → IsSure (B.now on.new) result (B.may_leave on.new) }
     ensures only { (b : ℕ) → Made (B.label on.old) (B.label on.new) b → b ≡ result }
     ensures spare { B.spare on.old ≤ B.spare on.new + 1 }
@@ -44,8 +43,8 @@ fn new_leaf<B: Blocks>(on: &mut B, kind: Kind, tag: u32, rank: u32) -> u32
     requires spare { 0 < B.spare on.old }
     ensures content { SameContent (B.now on.new result) (blank kind) }
     ensures made { Made (B.label on.old) (B.label on.new) result }
-    ensures ready { IsReady (B.now on.new) (B.label on.new) (B.stands on.new) (B.high on.new) (B.is_block on.new) (B.covered on.new) (B.pinned on.new) kind tag rank result }
-    ensures steps { Steps B.now B.label B.stands B.loose B.high B.tops B.is_block B.may_leave B.moments B.left B.sealed_at B.pins_left B.room B.next B.grants B.pinned B.waits B.clearing B.covered B.keeps (λ b. ⊥) on.old on.new }
+    ensures own { IsOwn (B.now on.new) (B.label on.new) (B.stands on.new) (B.high on.new) (B.is_block on.new) (B.covered on.new) (B.tells on.new) (B.pinned on.new) kind tag rank result }
+    ensures steps { Steps B.now B.label B.stands B.loose B.high B.tops B.is_block B.may_leave B.moments B.left B.sealed_at B.pins_left B.room B.next B.grants B.pinned B.waits B.clearing B.covered B.keeps tag (λ b. ⊥) on.old on.new }
     ensures sure { Made (B.label on.old) (B.label on.new) result → IsSure (B.now on.new) result (B.may_leave on.new) }
     ensures only { (b : ℕ) → Made (B.label on.old) (B.label on.new) b → b ≡ result }
     ensures spare { B.spare on.old ≤ B.spare on.new + 1 }
@@ -55,14 +54,13 @@ fn new_leaf<B: Blocks>(on: &mut B, kind: Kind, tag: u32, rank: u32) -> u32
 
 /// The leaf itself where it is of the current epoch, and else a copy.
 fn own_copy<B: Blocks>(on: &mut B, at: u32, kind: Kind, tag: u32, rank: u32) -> u32
-    requires leaf { IsLeaf (B.label on.old) (B.stands on.old) (B.high on.old) (B.is_block on.old) (B.covered on.old) kind tag rank at }
-    requires pinned { B.pinned on.old at × (length ((B.now on.old at).bytes) ≡ 8192) }
-    requires settled { (j : ℕ) → B.clearing on.old at j → (B.label on.old at).epoch ≡ B.high on.old }
+    requires leaf { IsLeaf (B.label on.old) (B.stands on.old) (B.high on.old) (B.is_block on.old) (B.covered on.old) (B.tells on.old) kind tag rank at }
+    requires held { IsHeld (B.now on.old) (B.label on.old) (B.high on.old) (B.pinned on.old) kind tag at }
     requires spare { 0 < B.spare on.old }
     ensures content { SameContent (B.now on.new result) (B.now on.old at) }
     ensures copied { ((at ≡ result) × ((B.label on.old at).epoch ≡ B.high on.old)) ⊎ (((B.label on.old at).epoch < B.high on.old) × Made (B.label on.old) (B.label on.new) result) }
-    ensures ready { IsReady (B.now on.new) (B.label on.new) (B.stands on.new) (B.high on.new) (B.is_block on.new) (B.covered on.new) (B.pinned on.new) kind tag rank result }
-    ensures steps { Steps B.now B.label B.stands B.loose B.high B.tops B.is_block B.may_leave B.moments B.left B.sealed_at B.pins_left B.room B.next B.grants B.pinned B.waits B.clearing B.covered B.keeps (λ b. ⊥) on.old on.new }
+    ensures own { IsOwn (B.now on.new) (B.label on.new) (B.stands on.new) (B.high on.new) (B.is_block on.new) (B.covered on.new) (B.tells on.new) (B.pinned on.new) kind tag rank result }
+    ensures steps { Steps B.now B.label B.stands B.loose B.high B.tops B.is_block B.may_leave B.moments B.left B.sealed_at B.pins_left B.room B.next B.grants B.pinned B.waits B.clearing B.covered B.keeps tag (λ b. ⊥) on.old on.new }
     ensures sure { Made (B.label on.old) (B.label on.new) result → IsSure (B.now on.new) result (B.may_leave on.new) }
     ensures only { (b : ℕ) → Made (B.label on.old) (B.label on.new) b → b ≡ result }
     ensures spare { B.spare on.old ≤ B.spare on.new + 1 }

@@ -1,13 +1,13 @@
 //! A source of bytes as a list of the addresses of its leaves.
 ghost use Rattle.std.specs.Prelude.{◌≡◌, ◌≢◌, ◌⊎◌, ◌+◌, ◌*◌, ◌/◌, ◌%◌, ◌<◌, ◌≤◌, ℕ, length, slice_set, slice_index, Some, None, IfOk, OnOk, IfErr, MatchOption};
 ghost use Rattle.fo_base.specs.Cause.{Rose};
-ghost use Rattle.fo_image.specs.declared.types.Kind.TheVariants.{Data, Dir};
+ghost use Rattle.fo_image.specs.declared.types.Kind.TheVariants.{Data};
 ghost use Rattle.fo_crash.specs.Images.{SameContent};
 ghost use Rattle.fo_crash.specs.Steps.{IsSure};
 ghost use Rattle.fo_ports.specs.Blocks.{blank};
 ghost use Rattle.fo_ports.specs.Causes.{Caused};
-ghost use Rattle.fo_ports.specs.Sources.{Made, Looks, byte_of, most_for};
-ghost use Rattle.fo_ports_source.specs.Source.{leaf_of, HasLeaf, Over, IsReady, Prepared, Puts, IsEmpty};
+ghost use Rattle.fo_ports.specs.Sources.{Made, Finds, Looks};
+ghost use Rattle.fo_ports_source.specs.Source.{leaf_of, byte_of, leaves_for, Over, IsHeld, IsOwn, Prepared, Puts, IsEmpty};
 ghost use Rattle.fo_ports_source.specs.Steps.{Steps, Grew};
 
 use crate::leaf::{copy_from, pin_block};
@@ -56,19 +56,18 @@ impl PlainSource {
     pub(crate) fn own<B: Blocks>(&mut self, on: &mut B, i: usize) -> u32
         requires over { Over (B.now on.old) (B.label on.old) (B.stands on.old) (B.high on.old) (B.is_block on.old) (B.covered on.old) (B.tells on.old) self.old.kind self.old.tag self.old.rank self.old.size self.old.leaves.items }
         requires within { 8192 * i < self.old.size }
-        requires pinned { (at : ℕ) → leaf_of self.old.leaves.items i ≡ Some at → B.pinned on.old at × (length ((B.now on.old at).bytes) ≡ 8192) }
-        requires settled { (b j : ℕ) → HasLeaf self.old.leaves.items b → B.clearing on.old b j → ((B.label on.old b).kind ≡ Dir 0) × ((B.label on.old b).epoch ≡ B.high on.old) }
+        requires held { (at : ℕ) → leaf_of self.old.leaves.items i ≡ Some at → IsHeld (B.now on.old) (B.label on.old) (B.high on.old) (B.pinned on.old) self.old.kind self.old.tag at }
         requires spare { 0 < B.spare on.old }
         ensures leaves { self.new.leaves.items ≡ slice_set self.old.leaves.items i (Some result) }
         ensures same { (self.new.kind ≡ self.old.kind) × (self.new.tag ≡ self.old.tag) × (self.new.rank ≡ self.old.rank) × (self.new.size ≡ self.old.size) }
         ensures over { Over (B.now on.new) (B.label on.new) (B.stands on.new) (B.high on.new) (B.is_block on.new) (B.covered on.new) (B.tells on.new) self.new.kind self.new.tag self.new.rank self.new.size self.new.leaves.items }
-        ensures bytes { (k : ℕ) → byte_of (leaf_of self.new.leaves.items) (B.now on.new) k ≡ byte_of (leaf_of self.old.leaves.items) (B.now on.old) k }
+        ensures bytes { B.tells on.old → (k : ℕ) → byte_of (leaf_of self.new.leaves.items) (B.now on.new) k ≡ byte_of (leaf_of self.old.leaves.items) (B.now on.old) k }
         ensures content { MatchOption (leaf_of self.old.leaves.items i) (SameContent (B.now on.new result) (blank self.old.kind)) (λ at. SameContent (B.now on.new result) (B.now on.old at)) }
         ensures copied { MatchOption (leaf_of self.old.leaves.items i) (Made (B.label on.old) (B.label on.new) result) (λ at. ((at ≡ result) × ((B.label on.old at).epoch ≡ B.high on.old)) ⊎ (((B.label on.old at).epoch < B.high on.old) × Made (B.label on.old) (B.label on.new) result)) }
         ensures sure { Made (B.label on.old) (B.label on.new) result → IsSure (B.now on.new) result (B.may_leave on.new) }
-        ensures ready { IsReady (B.now on.new) (B.label on.new) (B.stands on.new) (B.high on.new) (B.is_block on.new) (B.covered on.new) (B.pinned on.new) self.old.kind self.old.tag self.old.rank result }
-        ensures steps { Steps B.now B.label B.stands B.loose B.high B.tops B.is_block B.may_leave B.moments B.left B.sealed_at B.pins_left B.room B.next B.grants B.pinned B.waits B.clearing B.covered B.keeps (λ b. ⊥) on.old on.new }
-        ensures grew { Grew B.now B.label B.stands B.loose B.high B.tops B.is_block B.may_leave B.moments B.left B.sealed_at B.pins_left B.room B.next B.grants B.pinned B.waits B.clearing B.covered B.keeps self.old.leaves.items self.new.leaves.items on.old on.new }
+        ensures own { IsOwn (B.now on.new) (B.label on.new) (B.stands on.new) (B.high on.new) (B.is_block on.new) (B.covered on.new) (B.tells on.new) (B.pinned on.new) self.old.kind self.old.tag self.old.rank result }
+        ensures steps { Steps B.now B.label B.stands B.loose B.high B.tops B.is_block B.may_leave B.moments B.left B.sealed_at B.pins_left B.room B.next B.grants B.pinned B.waits B.clearing B.covered B.keeps self.old.tag (λ b. ⊥) on.old on.new }
+        ensures grew { Grew B.now B.label B.stands B.loose B.high B.tops B.is_block B.may_leave B.moments B.left B.sealed_at B.pins_left B.room B.next B.grants B.pinned B.waits B.clearing B.covered B.keeps self.old.kind self.old.tag self.old.leaves.items self.new.leaves.items on.old on.new }
         ensures spare { B.spare on.old ≤ B.spare on.new + 1 }
     {
         let at = own_block(on, self.leaves[i], self.kind, self.tag, self.rank);
@@ -82,13 +81,12 @@ impl PlainSource {
         requires kind { (self.old.kind ≡ Data 0) × (self.old.rank % 32 ≢ 16) }
         requires part { (0 < length piece.now) × (place % 8192 + length piece.now ≤ 8192) }
         requires within { place + length piece.now ≤ self.old.size }
-        requires pinned { (at : ℕ) → leaf_of self.old.leaves.items (place / 8192) ≡ Some at → B.pinned on.old at × (length ((B.now on.old at).bytes) ≡ 8192) }
-        requires settled { (b j : ℕ) → HasLeaf self.old.leaves.items b → B.clearing on.old b j → ((B.label on.old b).kind ≡ Dir 0) × ((B.label on.old b).epoch ≡ B.high on.old) }
+        requires held { (at : ℕ) → leaf_of self.old.leaves.items (place / 8192) ≡ Some at → IsHeld (B.now on.old) (B.label on.old) (B.high on.old) (B.pinned on.old) self.old.kind self.old.tag at }
         requires spare { 0 < B.spare on.old }
-        ensures puts { Puts (byte_of (leaf_of self.old.leaves.items) (B.now on.old)) (byte_of (leaf_of self.new.leaves.items) (B.now on.new)) place piece.now }
+        ensures puts { B.tells on.old → Puts (byte_of (leaf_of self.old.leaves.items) (B.now on.old)) (byte_of (leaf_of self.new.leaves.items) (B.now on.new)) place piece.now }
         ensures same { (self.new.kind ≡ self.old.kind) × (self.new.tag ≡ self.old.tag) × (self.new.rank ≡ self.old.rank) × (self.new.size ≡ self.old.size) }
         ensures over { Over (B.now on.new) (B.label on.new) (B.stands on.new) (B.high on.new) (B.is_block on.new) (B.covered on.new) (B.tells on.new) self.new.kind self.new.tag self.new.rank self.new.size self.new.leaves.items }
-        ensures grew { Grew B.now B.label B.stands B.loose B.high B.tops B.is_block B.may_leave B.moments B.left B.sealed_at B.pins_left B.room B.next B.grants B.pinned B.waits B.clearing B.covered B.keeps self.old.leaves.items self.new.leaves.items on.old on.new }
+        ensures grew { Grew B.now B.label B.stands B.loose B.high B.tops B.is_block B.may_leave B.moments B.left B.sealed_at B.pins_left B.room B.next B.grants B.pinned B.waits B.clearing B.covered B.keeps self.old.kind self.old.tag self.old.leaves.items self.new.leaves.items on.old on.new }
         ensures spare { B.spare on.old ≤ B.spare on.new + 1 }
     {
         let at = self.own(on, (place / LEAF) as usize);
@@ -100,14 +98,13 @@ impl PlainSource {
         requires over { Over (B.now on.old) (B.label on.old) (B.stands on.old) (B.high on.old) (B.is_block on.old) (B.covered on.old) (B.tells on.old) self.old.kind self.old.tag self.old.rank self.old.size self.old.leaves.items }
         requires kind { (self.old.kind ≡ Data 0) × (self.old.rank % 32 ≢ 16) }
         requires within { offset + length piece.now ≤ self.old.size }
-        requires prepared { Prepared (B.now on.old) (B.pinned on.old) self.old.leaves.items offset (length piece.now) }
-        requires settled { (b j : ℕ) → HasLeaf self.old.leaves.items b → B.clearing on.old b j → ((B.label on.old b).kind ≡ Dir 0) × ((B.label on.old b).epoch ≡ B.high on.old) }
-        requires spare { most_for (length piece.now) ≤ B.spare on.old }
-        ensures puts { Puts (byte_of (leaf_of self.old.leaves.items) (B.now on.old)) (byte_of (leaf_of self.new.leaves.items) (B.now on.new)) offset piece.now }
+        requires prepared { Prepared (B.now on.old) (B.label on.old) (B.high on.old) (B.pinned on.old) self.old.kind self.old.tag self.old.leaves.items offset (length piece.now) }
+        requires spare { leaves_for (length piece.now) ≤ B.spare on.old }
+        ensures puts { B.tells on.old → Puts (byte_of (leaf_of self.old.leaves.items) (B.now on.old)) (byte_of (leaf_of self.new.leaves.items) (B.now on.new)) offset piece.now }
         ensures same { (self.new.kind ≡ self.old.kind) × (self.new.tag ≡ self.old.tag) × (self.new.rank ≡ self.old.rank) × (self.new.size ≡ self.old.size) }
         ensures over { Over (B.now on.new) (B.label on.new) (B.stands on.new) (B.high on.new) (B.is_block on.new) (B.covered on.new) (B.tells on.new) self.new.kind self.new.tag self.new.rank self.new.size self.new.leaves.items }
-        ensures grew { Grew B.now B.label B.stands B.loose B.high B.tops B.is_block B.may_leave B.moments B.left B.sealed_at B.pins_left B.room B.next B.grants B.pinned B.waits B.clearing B.covered B.keeps self.old.leaves.items self.new.leaves.items on.old on.new }
-        ensures spare { B.spare on.old ≤ B.spare on.new + most_for (length piece.now) }
+        ensures grew { Grew B.now B.label B.stands B.loose B.high B.tops B.is_block B.may_leave B.moments B.left B.sealed_at B.pins_left B.room B.next B.grants B.pinned B.waits B.clearing B.covered B.keeps self.old.kind self.old.tag self.old.leaves.items self.new.leaves.items on.old on.new }
+        ensures spare { B.spare on.old ≤ B.spare on.new + leaves_for (length piece.now) }
     {
         let mut done = 0;
         while done < piece.len() {
@@ -126,10 +123,9 @@ impl PlainSource {
         into: &mut [u8],
     ) -> Result<(), BlockError>
         requires over { Over (B.now on.old) (B.label on.old) (B.stands on.old) (B.high on.old) (B.is_block on.old) (B.covered on.old) (B.tells on.old) self.now.kind self.now.tag self.now.rank self.now.size self.now.leaves.items }
-        requires kind { self.now.kind ≡ Data 0 }
         requires part { place % 8192 + length into.old ≤ 8192 }
         requires within { place < self.now.size }
-        ensures given { OnOk result ((i : ℕ) → i < length into.old → slice_index into.new i ≡ byte_of (leaf_of self.now.leaves.items) (B.now on.new) (place + i)) }
+        ensures given { OnOk result (self.now.kind ≡ Data 0 → (i : ℕ) → i < length into.old → slice_index into.new i ≡ byte_of (leaf_of self.now.leaves.items) (B.now on.new) (place + i)) }
         ensures pinned { OnOk result ((at : ℕ) → leaf_of self.now.leaves.items (place / 8192) ≡ Some at → (0 < B.pins_left on.old) ⊎ B.pinned on.old at → B.pinned on.new at) }
         ensures pins { B.pins_left on.old ≤ B.pins_left on.new + 1 }
         ensures looks { Looks B.now B.label B.stands B.loose B.may_leave B.moments B.left B.tells B.sealed_at B.spare B.room B.next B.grants B.pinned B.waits B.clearing B.covered B.keeps on.old on.new }
@@ -155,11 +151,9 @@ impl PlainSource {
         into: &mut [u8],
     ) -> Result<(), BlockError>
         requires over { Over (B.now on.old) (B.label on.old) (B.stands on.old) (B.high on.old) (B.is_block on.old) (B.covered on.old) (B.tells on.old) self.now.kind self.now.tag self.now.rank self.now.size self.now.leaves.items }
-        requires kind { self.now.kind ≡ Data 0 }
         requires within { offset + length into.old ≤ self.now.size }
-        requires pins { (most_for (length into.old) ≤ B.pins_left on.old) ⊎ Prepared (B.now on.old) (B.pinned on.old) self.now.leaves.items offset (length into.old) }
-        ensures given { OnOk result ((i : ℕ) → i < length into.old → slice_index into.new i ≡ byte_of (leaf_of self.now.leaves.items) (B.now on.new) (offset + i)) }
-        ensures pins { B.pins_left on.old ≤ B.pins_left on.new + most_for (length into.old) }
+        ensures given { OnOk result (self.now.kind ≡ Data 0 → Finds (B.tells on.old) (leaves_for (length into.old)) (B.pins_left on.old) (Prepared (B.now on.old) (B.label on.old) (B.high on.old) (B.pinned on.old) self.now.kind self.now.tag self.now.leaves.items offset (length into.old)) → (i : ℕ) → i < length into.old → slice_index into.new i ≡ byte_of (leaf_of self.now.leaves.items) (B.now on.new) (offset + i)) }
+        ensures pins { B.pins_left on.old ≤ B.pins_left on.new + leaves_for (length into.old) }
         ensures looks { Looks B.now B.label B.stands B.loose B.may_leave B.moments B.left B.tells B.sealed_at B.spare B.room B.next B.grants B.pinned B.waits B.clearing B.covered B.keeps on.old on.new }
         ensures cause { IfErr result (Caused ⊥ (λ b. (B.tells on.old → ⊥) × B.is_block on.old b) (Rose (B.faults on.old) (B.faults on.new)) ⊥) }
     {
@@ -173,11 +167,11 @@ impl PlainSource {
         Ok(())
     }
 
-    /// Gets, and so pins, leaf `i` where there is one.
+    /// Gets, and so pins, leaf `i` where there is one, and looks at its label.
     fn pin<B: Blocks>(&self, on: &mut B, i: usize) -> Result<(), BlockError>
         requires over { Over (B.now on.old) (B.label on.old) (B.stands on.old) (B.high on.old) (B.is_block on.old) (B.covered on.old) (B.tells on.old) self.now.kind self.now.tag self.now.rank self.now.size self.now.leaves.items }
         requires within { i < length self.now.leaves.items }
-        ensures pinned { OnOk result ((at : ℕ) → leaf_of self.now.leaves.items i ≡ Some at → (0 < B.pins_left on.old) ⊎ B.pinned on.old at → B.pinned on.new at × (length ((B.now on.new at).bytes) ≡ 8192)) }
+        ensures held { OnOk result ((at : ℕ) → leaf_of self.now.leaves.items i ≡ Some at → (0 < B.pins_left on.old) ⊎ B.pinned on.old at → IsHeld (B.now on.new) (B.label on.new) (B.high on.new) (B.pinned on.new) self.now.kind self.now.tag at) }
         ensures pins { B.pins_left on.old ≤ B.pins_left on.new + 1 }
         ensures looks { Looks B.now B.label B.stands B.loose B.may_leave B.moments B.left B.tells B.sealed_at B.spare B.room B.next B.grants B.pinned B.waits B.clearing B.covered B.keeps on.old on.new }
         ensures cause { IfErr result (Caused ⊥ (λ b. (B.tells on.old → ⊥) × B.is_block on.old b) (Rose (B.faults on.old) (B.faults on.new)) ⊥) }
@@ -197,8 +191,7 @@ impl PlainSource {
     ) -> Result<(), BlockError>
         requires over { Over (B.now on.old) (B.label on.old) (B.stands on.old) (B.high on.old) (B.is_block on.old) (B.covered on.old) (B.tells on.old) self.now.kind self.now.tag self.now.rank self.now.size self.now.leaves.items }
         requires within { (first ≤ last) × (last ≤ length self.now.leaves.items) }
-        requires pins { last ≤ B.pins_left on.old + first }
-        ensures pinned { OnOk result ((i at : ℕ) → first ≤ i → i < last → leaf_of self.now.leaves.items i ≡ Some at → B.pinned on.new at × (length ((B.now on.new at).bytes) ≡ 8192)) }
+        ensures held { OnOk result (last ≤ B.pins_left on.old + first → (i at : ℕ) → first ≤ i → i < last → leaf_of self.now.leaves.items i ≡ Some at → IsHeld (B.now on.new) (B.label on.new) (B.high on.new) (B.pinned on.new) self.now.kind self.now.tag at) }
         ensures pins { B.pins_left on.old + first ≤ B.pins_left on.new + last }
         ensures looks { Looks B.now B.label B.stands B.loose B.may_leave B.moments B.left B.tells B.sealed_at B.spare B.room B.next B.grants B.pinned B.waits B.clearing B.covered B.keeps on.old on.new }
         ensures cause { IfErr result (Caused ⊥ (λ b. (B.tells on.old → ⊥) × B.is_block on.old b) (Rose (B.faults on.old) (B.faults on.new)) ⊥) }

@@ -1,5 +1,6 @@
-use Rattle.std.proofs.Common.{◌≡◌, inl, ⊎_elim, ◌+◌, ◌<◌, ℕ, List, [], ◌∷◌, length, get_or, sym, ◌∙◌, ap, subst, arith}
+use Rattle.std.proofs.Common.{◌≡◌, inl, inr, ⊎_elim, ◌+◌, ◌<◌, ℕ, List, [], ◌∷◌, length, get_or, sym, ◌∙◌, ap, subst, arith}
 use Rattle.fo_image.specs.declared.types.Kind.{Kind}
+use Rattle.fo_image.specs.declared.types.Label.{Label}
 use Rattle.fo_crash.proofs.Names.{leaf_put, entry_cleared}
 use Rattle.fo_ports.specs.Blocks.{MayPut, put_at}
 use Rattle.fo_ports.proofs.Lengths.{length_put_at}
@@ -40,3 +41,6 @@ returns-clause-fit g c =
 
 pub remove_slot-requires-clause-settled : goal.remove_slot-requires-clause-settled
 remove_slot-requires-clause-settled g c = λ h. c.requires.settled ((c.put_bytes.ensures.order 0 c.args.entries c.args.i).1 h)
+
+pub remove_slot-requires-clause-entries : goal.remove_slot-requires-clause-entries
+remove_slot-requires-clause-entries g c = inr (ap (λ (l : Label). l.kind) (c.put_bytes.ensures.blocks c.args.entries).0 ∙ c.requires.entries_kind)

@@ -1,4 +1,4 @@
-use Rattle.std.proofs.Common.{ap}
+use Rattle.std.proofs.Common.{◌∙◌, ap}
 use Rattle.fo_image.specs.declared.types.Label.{Label}
 use Rattle.fo_ports_source.proofs.Steps.{given_out, steps_none}
 use Rattle.fo_ports_source.proofs.own.own_copy.Goals as goal
@@ -18,6 +18,7 @@ returns-else-is_current-clause-steps g c =
       adds = e.adds;
       live = ap (λ (l : Label). l.state) e.label;
       epoch = ap (λ (l : Label). l.epoch) e.label;
+      tagged = ap (λ (l : Label). l.tag) e.label ∙ c.requires.held.labelled.has_tag;
       fresh = e.fresh;
       is_new = e.new;
       others = e.others;

@@ -22,12 +22,12 @@ set-requires-clause-sound c = λ new up.
     let index = index_below ((block_at blocks c.args.at).place) c.args.i in
     let index_is : (c.index_below-index.result ≡ index) ⊎ ((2 ^ 64 ≤ index) × (c.index_below-index.result ≡ q.index)) = subst (λ (y : PlainBlock). (c.index_below-index.result ≡ index) ⊎ ((2 ^ 64 ≤ index) × (c.index_below-index.result ≡ y.place.index))) child_is (subst (λ (y : PlainBlock). (c.index_below-index.result ≡ index_below y.place c.args.i) ⊎ ((2 ^ 64 ≤ index_below y.place c.args.i) × (c.index_below-index.result ≡ c.index-child.result.now.place.index))) k_is c.index_below-index.ensures) in
     let place : c.with_index.result.place ≡ p = c.with_index.ensures.place ∙ ap (λ (y : PlainBlock). record y.place { index = c.index_below-index.result }) child_is ∙ fits_at q p is_free index c.index_below-index.result (index_any ((block_at blocks c.args.at).place) c.args.i s) c.requires.fits index_is in
-    child_sound self.made p up c.requires.fits
+    child_sound self.made p up (c.with_index.ensures.rest.3 ∙ ap (λ (y : PlainBlock). y.epoch) child_is) c.requires.fits
     place
     c.with_index.ensures.loose
     (c.with_index.ensures.rest.2 ∙ ap (λ (y : PlainBlock). y.slots) child_is)
     c.requires.below.0
-    (record { super_at = self.super_at; links = self.links; spelled = self.spelled })
+    (record { super_at = self.super_at; links = self.links; spelled = self.spelled; aged = self.aged })
 
 pub set-requires-2-clause-sound : goal.set-requires-2-clause-sound
 set-requires-2-clause-sound c = λ new up.
@@ -54,7 +54,12 @@ set-requires-2-clause-sound c = λ new up.
     let fixed = c.with_index-2.ensures in
     let put = c.with_slot-block.ensures in
     let place : c.with_slot-block.result.place ≡ (block_at mid.blocks.items c.args.at).place = put.rest.0 ∙ fixed.place ∙ ap (λ (y : PlainBlock). record y.place { index = c.index.result.now.place.index }) again_is ∙ ap (λ (y : PlainBlock). record (block_at mid.blocks.items c.args.at).place { index = y.place.index }) (k_is ∙ sym mid_at) in
+    let epoch : c.with_slot-block.result.epoch ≡ (block_at mid.blocks.items c.args.at).epoch = put.rest.4 ∙ fixed.rest.3 ∙ ap (λ (y : PlainBlock). y.epoch) again_is in
     parent_sound mid.made c.args.i c.args.below s up
+    epoch
+    (let below_is : (block_at mid.blocks.items c.args.below).epoch ≡ (block_at blocks c.args.below).epoch = ap (λ (y : PlainBlock). y.epoch) one.here ∙ child.rest.3 ∙ ap (λ (y : PlainBlock). y.epoch) child_is in
+    let at_is : c.with_slot-block.result.epoch ≡ (block_at blocks c.args.at).epoch = epoch ∙ ap (λ (y : PlainBlock). y.epoch) mid_at in
+    omega (arith, below_is, at_is, c.requires.ages))
     place
     (put.rest.1 ∙ fixed.loose)
     (put.slots ∙ ap (λ ss. set ss c.args.i s) (fixed.rest.2 ∙ ap (λ (y : PlainBlock). y.slots) again_is))
@@ -66,7 +71,7 @@ set-requires-2-clause-sound c = λ new up.
     (ap (λ (y : PlainBlock). y.place) one.here ∙ child_place ∙ ap (λ (y : PlainBlock). place_below y.place c.args.i s) (sym mid_at))
     (ap (λ (y : PlainBlock). y.loose) one.here ∙ child.loose)
     (subst (λ (y : PlainBlock). (place_below y.place c.args.i s).rank < y.place.rank) (sym mid_at) c.requires.lower)
-    (record { super_at = mid.super_at; links = mid.links; spelled = mid.spelled })
+    (record { super_at = mid.super_at; links = mid.links; spelled = mid.spelled; aged = mid.aged })
 
 pub returns-clause-puts : goal.returns-clause-puts
 returns-clause-puts c =

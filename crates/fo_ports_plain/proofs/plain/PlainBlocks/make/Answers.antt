@@ -2,7 +2,7 @@ use Rattle.std.proofs.Common.{◌+◌, ◌^◌, ◌<◌, ◌≤◌, length, sym,
 use Rattle.fo_ports_plain.specs.declared.block.PlainBlock.{PlainBlock}
 use Rattle.fo_ports_plain.specs.Sound.{IsSuper}
 use Rattle.fo_ports_plain.proofs.Lists.{updated}
-use Rattle.fo_ports_plain.proofs.Links.{made_links, spelled_by}
+use Rattle.fo_ports_plain.proofs.Links.{made_links, made_aged, spelled_by}
 use Rattle.fo_ports_plain.proofs.plain.PlainBlocks.make.Goals as goal
 
 pub invariant_of-self-clause-super_at : goal.invariant_of-self-clause-super_at
@@ -25,6 +25,12 @@ invariant_of-self-clause-spelled c =
     let blocks = c.args.self.now.blocks.items in
     let spared : c.args.self.now.made + c.args.self.now.spare ≤ length blocks = c.args.self.now.spared in
     spelled_by (updated blocks c.args.self.now.made c.args.block (omega (arith, spared, c.requires.spare))) c.requires.spelled c.args.self.now.spelled
+
+pub invariant_of-self-clause-aged : goal.invariant_of-self-clause-aged
+invariant_of-self-clause-aged c =
+    let blocks = c.args.self.now.blocks.items in
+    let spared : c.args.self.now.made + c.args.self.now.spare ≤ length blocks = c.args.self.now.spared in
+    made_aged (updated blocks c.args.self.now.made c.args.block (omega (arith, spared, c.requires.spare))) c.requires.epoch c.args.self.now.aged
 
 pub returns-clause-updates : goal.returns-clause-updates
 returns-clause-updates c =

@@ -14,8 +14,9 @@ set-requires-clause-sound c = λ new up.
     let k_is : c.index.result.now ≡ block_at self.blocks.items c.args.at = block_is self.blocks.items c.args.at c.index.result.now c.requires c.index.ensures in
     let rest = c.with_awaited-block.ensures.rest in
     stays_sound self.made up
+    (rest.4 ∙ ap (λ (y : PlainBlock). y.epoch) k_is)
     (λ i. ap (λ ss. get_or ss i (To Nil)) (rest.3 ∙ ap (λ (y : PlainBlock). y.slots) k_is))
     (ap (λ (p : Place). p.kind) (rest.0 ∙ ap (λ (y : PlainBlock). y.place) k_is))
     (λ firm. (rest.0 ∙ ap (λ (y : PlainBlock). y.place) k_is, rest.1 ∙ ap (λ (y : PlainBlock). y.loose) k_is ∙ firm))
     (λ _. rest.0 ∙ ap (λ (y : PlainBlock). y.place) k_is)
-    (record { super_at = self.super_at; links = self.links; spelled = self.spelled })
+    (record { super_at = self.super_at; links = self.links; spelled = self.spelled; aged = self.aged })

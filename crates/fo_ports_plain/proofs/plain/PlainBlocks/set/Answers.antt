@@ -11,6 +11,9 @@ invariant_of-self-clause-links c = (c.requires.sound _ (updated c.args.self.now.
 pub invariant_of-self-clause-spelled : goal.invariant_of-self-clause-spelled
 invariant_of-self-clause-spelled c = (c.requires.sound _ (updated c.args.self.now.blocks.items c.args.at c.args.block c.requires.block)).spelled
 
+pub invariant_of-self-clause-aged : goal.invariant_of-self-clause-aged
+invariant_of-self-clause-aged c = (c.requires.sound _ (updated c.args.self.now.blocks.items c.args.at c.args.block c.requires.block)).aged
+
 pub returns-clause-updates : goal.returns-clause-updates
 returns-clause-updates c = updated c.args.self.now.blocks.items c.args.at c.args.block c.requires.block
 

@@ -11,6 +11,7 @@ set-requires-clause-sound c = λ new up.
     let k_is : c.index.result.now ≡ block_at self.blocks.items c.args.at = block_is self.blocks.items c.args.at c.index.result.now c.requires.block.1 c.index.ensures in
     let made = c.with_slot-block.ensures in
     put_sound self.made c.args.i c.args.slot up
+    (made.rest.4 ∙ ap (λ (y : PlainBlock). y.epoch) k_is)
     (made.rest.0 ∙ ap (λ (y : PlainBlock). y.place) k_is)
     (λ firm. made.rest.1 ∙ ap (λ (y : PlainBlock). y.loose) k_is ∙ firm)
     (made.slots ∙ ap (λ (y : PlainBlock). set y.slots c.args.i c.args.slot) k_is)
@@ -18,4 +19,4 @@ set-requires-clause-sound c = λ new up.
     c.requires.block.0
     c.requires.fits
     (λ b e. absurd (c.requires.nowhere b e))
-    (record { super_at = self.super_at; links = self.links; spelled = self.spelled })
+    (record { super_at = self.super_at; links = self.links; spelled = self.spelled; aged = self.aged })

@@ -1,21 +1,15 @@
 use Rattle.std.proofs.Common.{◌≡◌, ◌-◌, ◌≤◌, [], min, length, take, drop, ◌∙◌, inl, inr, ⊎_elim, arith}
 use Rattle.std.proofs.lemmas.List.{take_at, length-take}
-use Rattle.fo_ports.specs.Sources.{byte_of}
-use Rattle.fo_ports_source.specs.Source.{leaf_of}
+use Rattle.fo_ports_source.specs.Source.{leaf_of, byte_of}
 use Rattle.fo_ports_source.specs.SourceLaws.{part_prepared}
 use Rattle.fo_ports_source.proofs.Looks.{over_looks}
+use Rattle.fo_ports_source.proofs.Puts.{few_leaves}
 use Rattle.fo_ports_source.proofs.Values.{values_given}
 use Rattle.fo_ports_source.proofs.calls.PlainSourceBytes.read.Goals as goal
 
 pub returns-then-left-eq0-clause-given : goal.returns-then-left-eq0-clause-given
-returns-then-left-eq0-clause-given g c =
+returns-then-left-eq0-clause-given g c = λ of_data found.
     values_given (byte_of (leaf_of c.args.self.now.leaves.items) (g.B.Blocks.now c.args.on.now)) c.args.self.now.size c.args.offset (length c.args.into.now) [] (omega arith) (λ i lt. absurd (omega (arith, lt)))
-
-pub copy_out-requires-clause-pins : goal.copy_out-requires-clause-pins
-copy_out-requires-clause-pins g c =
-    let n = c.min-count.result in
-    let short : length (take n c.args.into.now) ≤ length c.args.into.now = omega (arith, length-take n c.args.into.now) in
-    ⊎_elim (λ enough. inl (omega (arith, short, enough))) (λ prepared. inr (part_prepared c.args.offset (length (take n c.args.into.now)) prepared (omega arith) (omega (arith, short)))) c.requires.pins
 
 pub returns-in_err-copy_out-clause-over : goal.returns-in_err-copy_out-clause-over
 returns-in_err-copy_out-clause-over g c =
@@ -24,13 +18,22 @@ returns-in_err-copy_out-clause-over g c =
     over_looks g.B.Blocks.high g.B.Blocks.is_block looks k.0 (λ b. (k.4 b).1) k.2.0 c.requires.over
 
 pub returns-clause-given : goal.returns-clause-given
-returns-clause-given g c =
+returns-clause-given g c = λ of_data found.
     let n = c.min-count.result in
+    let short : length (take n c.args.into.now) ≤ length c.args.into.now = omega (arith, length-take n c.args.into.now) in
     let long : length c.copy_out.new.into ≡ n = c.copy_out.auto.into ∙ (omega (arith, length-take n c.args.into.now)) in
     let is : length c.copy_out.new.into ≡ min (length c.args.into.now) (c.args.self.now.size - c.args.offset) = omega (arith, long) in
     take_at c.copy_out.new.into (drop n c.args.into.now) n long
     ∙ values_given (byte_of (leaf_of c.args.self.now.leaves.items) (g.B.Blocks.now c.copy_out.new.on)) c.args.self.now.size c.args.offset (length c.args.into.now) c.copy_out.new.into is
-    (λ i lt. c.in_ok-copy_out.ensures.given i (omega (arith, lt, long, length-take n c.args.into.now)))
+    (λ i lt. c.in_ok-copy_out.ensures.given of_data
+    (⊎_elim
+    (λ told. inl told)
+    (λ pins. inr (⊎_elim
+    (λ enough. inl (omega (arith, short, few_leaves c.args.self.now.size (length c.args.into.now), enough)))
+    (λ prepared. inr (part_prepared c.args.offset (length (take n c.args.into.now)) prepared (omega arith) (omega (arith, short))))
+    pins))
+    found)
+    i (omega (arith, lt, long, length-take n c.args.into.now)))
 
 pub returns-clause-over : goal.returns-clause-over
 returns-clause-over g c =

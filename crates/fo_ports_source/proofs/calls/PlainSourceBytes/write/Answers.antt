@@ -1,7 +1,7 @@
 use Rattle.std.proofs.Common.{rules, ◌≡◌, ◌+◌, ◌<◌, map, max, length, ap, ◌∙◌, arith}
 use Rattle.std.specs.List.{range_with_len}
-use Rattle.fo_ports.specs.Sources.{byte_of}
-use Rattle.fo_ports_source.specs.Source.{leaf_of}
+use Rattle.fo_ports_source.specs.Source.{leaf_of, byte_of}
+use Rattle.fo_ports_source.proofs.Leaves.{prepared_same}
 use Rattle.fo_ports_source.proofs.Steps.{steps_changes}
 use Rattle.fo_ports_source.proofs.Values.{values_written}
 use Rattle.fo_ports_source.proofs.calls.PlainSourceBytes.write.Goals as goal
@@ -12,7 +12,10 @@ returns-clause-bytes g c = λ told.
     let new = byte_of (leaf_of c.put.new.self.leaves.items) (g.B.Blocks.now c.put.new.on) in
     let size_is : c.put.new.self.size ≡ max c.args.self.now.size (c.args.offset + length c.args.piece.now) = omega arith in
     let some : 0 < length c.args.piece.now = search rules in
-    ap (λ n. map new (range_with_len 0 n)) size_is ∙ values_written old new c.args.self.now.size c.args.offset c.args.piece.now some (c.requires.over.tail told) c.put.ensures.puts
+    ap (λ n. map new (range_with_len 0 n)) size_is ∙ values_written old new c.args.self.now.size c.args.offset c.args.piece.now some (c.requires.over.tail told) (c.put.ensures.puts told)
+
+pub returns-clause-still : goal.returns-clause-still
+returns-clause-still g c = λ o n prepared. prepared_same c.put.ensures.same.0 c.put.ensures.same.1 (c.put.ensures.grew.still o n prepared)
 
 pub returns-clause-changes : goal.returns-clause-changes
 returns-clause-changes g c = steps_changes c.put.ensures.grew.steps

@@ -4,8 +4,7 @@ use Rattle.std.proofs.lemmas.List.{length-take-le, length-drop}
 use borrow.Rule.Slice.PartMut.{put_mid}
 use Rattle.fo_base.specs.Cause.{Rose}
 use Rattle.fo_ports.specs.Causes.{Caused}
-use Rattle.fo_ports.specs.Sources.{byte_of}
-use Rattle.fo_ports_source.specs.Source.{leaf_of, Spent}
+use Rattle.fo_ports_source.specs.Source.{leaf_of, byte_of, Spent}
 use Rattle.fo_ports_source.proofs.Looks.{looks_joins, over_looks, byte_looks, still_known, prepared_looks}
 use Rattle.fo_ports_source.proofs.Puts.{spent_more, spent_left, copied_more, later_cause, length_put_mid}
 use Rattle.fo_ports_source.proofs.source.PlainSource.copy_out.Goals as goal
@@ -54,18 +53,21 @@ loop-done-preserved g c =
     record {
       within = omega (arith, same_len, fits);
       looks = looks_joins (g.met.B.Blocks.keeps_joins _ _ _) k.2.1 i.looks c.copy_part.ensures.looks;
-      given = copied_more (byte_of (leaf_of leaves) (g.B.Blocks.now mid)) (byte_of (leaf_of leaves) (g.B.Blocks.now new)) into sub c.args.offset done n (done + n - done) back fits sub_len i.given
-          (λ j below. byte_looks c.copy_part.ensures.looks leaves (c.args.offset + j) (λ at is. i.known (c.args.offset + j) at (omega arith) (omega (arith, below)) is))
-          (λ j below. e.given j (omega (arith, part_len, below)));
-      known = λ x at from to is. ⊎_elim
-          (λ below. still_known c.copy_part.ensures.looks more.2.1 at (i.known x at from below is))
+      given = λ of_data found. copied_more (byte_of (leaf_of leaves) (g.B.Blocks.now mid)) (byte_of (leaf_of leaves) (g.B.Blocks.now new)) into sub c.args.offset done n (done + n - done) back fits sub_len (i.given of_data found)
+          (λ j below. byte_looks c.copy_part.ensures.looks leaves (c.args.offset + j) (λ at is. i.known found (c.args.offset + j) at (omega arith) (omega (arith, below)) is))
+          (λ j below. e.given of_data j (omega (arith, part_len, below)));
+      known = λ found x at from to is. ⊎_elim
+          (λ below. still_known c.copy_part.ensures.looks more.2.1 at (i.known found x at from below is))
           (λ above.
           let same : x / 8192 ≡ (c.args.offset + done) / 8192 = omega (arith, above, to, count) in
           let is_here = subst (λ y. leaf_of leaves y ≡ Some at) same is in
-          inr (e.pinned at is_here (⊎_elim
+          ⊎_elim
+          (λ told. inl (more.2.1 (k.2.1 told)))
+          (λ pins. inr (e.pinned at is_here (⊎_elim
           (λ enough. inl (spent_left (length c.args.into.now) c.args.offset done (g.B.Blocks.pins_left on) (g.B.Blocks.pins_left mid) (omega arith) enough (subst (λ m. Spent m c.args.offset done (g.B.Blocks.pins_left on) (g.B.Blocks.pins_left mid)) c.loop-done.auto.into i.spent)))
-          (λ prepared. inr ((prepared_looks i.looks prepared).each (c.args.offset + done) at (omega arith) (omega arith) is_here).0)
-          c.requires.pins)))
+          (λ prepared. inr ((prepared_looks g.B.Blocks.high i.looks k.0 prepared).each (c.args.offset + done) at (omega arith) (omega arith) is_here).is_pinned)
+          pins)))
+          found)
           (cases_lt x (c.args.offset + done));
       spent = subst (λ m. Spent m c.args.offset (done + n) (g.B.Blocks.pins_left on) (g.B.Blocks.pins_left new)) (sym same_len) (spent_more (length into) c.args.offset done n (g.B.Blocks.pins_left on) (g.B.Blocks.pins_left mid) (g.B.Blocks.pins_left new) lt count c.copy_part.ensures.pins i.spent);
     }

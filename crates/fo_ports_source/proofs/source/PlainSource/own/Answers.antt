@@ -17,13 +17,13 @@ own_block-at-requires-clause-leaf g c = λ at e.
     let few : c.args.i < length c.args.self.now.leaves.items = omega (arith, within, inside) in
     over.leaf c.args.i at (get_or_default c.args.self.now.leaves.items c.args.i None c.index.result.now few ∙ sym c.index.ensures ∙ e)
 
-pub own_block-at-requires-clause-settled : goal.own_block-at-requires-clause-settled
-own_block-at-requires-clause-settled g c = λ at j e waits.
+pub own_block-at-requires-clause-held : goal.own_block-at-requires-clause-held
+own_block-at-requires-clause-held g c = λ at e.
     let over = c.requires.over in
     let within = over.within in
     let inside = c.requires.within in
     let few : c.args.i < length c.args.self.now.leaves.items = omega (arith, within, inside) in
-    (c.requires.settled at j (record { number = c.args.i; is = get_or_default c.args.self.now.leaves.items c.args.i None c.index.result.now few ∙ sym c.index.ensures ∙ e }) waits).1
+    c.requires.held at (get_or_default c.args.self.now.leaves.items c.args.i None c.index.result.now few ∙ sym c.index.ensures ∙ e)
 
 one : (g : given.Over) (c : goal.After-self-1 g) → OwnsOne g.B.Blocks.now g.B.Blocks.label g.B.Blocks.stands g.B.Blocks.loose g.B.Blocks.high g.B.Blocks.tops g.B.Blocks.is_block g.B.Blocks.may_leave g.B.Blocks.moments g.B.Blocks.left g.B.Blocks.sealed_at g.B.Blocks.pins_left g.B.Blocks.room g.B.Blocks.next g.B.Blocks.grants g.B.Blocks.pinned g.B.Blocks.waits g.B.Blocks.clearing g.B.Blocks.covered g.B.Blocks.keeps g.B.Blocks.tells c.args.self.now.kind c.args.self.now.tag c.args.self.now.rank c.args.self.now.size c.args.self.now.leaves.items (set c.args.self.now.leaves.items c.args.i (Some c.own_block-at.result)) c.args.i c.own_block-at.result c.args.on.now c.own_block-at.new.on
 one g c =
@@ -39,7 +39,7 @@ one g c =
       set_is = refl;
       content = subst (λ leaf. MatchOption leaf (SameContent (g.B.Blocks.now c.own_block-at.new.on c.own_block-at.result) (blank c.args.self.now.kind)) (λ at. SameContent (g.B.Blocks.now c.own_block-at.new.on c.own_block-at.result) (g.B.Blocks.now c.args.on.now at))) read e.content;
       copied = subst (λ leaf. MatchOption leaf (Made (g.B.Blocks.label c.args.on.now) (g.B.Blocks.label c.own_block-at.new.on) c.own_block-at.result) (λ at. ((at ≡ c.own_block-at.result) × ((g.B.Blocks.label c.args.on.now at).epoch ≡ g.B.Blocks.high c.args.on.now)) ⊎ (((g.B.Blocks.label c.args.on.now at).epoch < g.B.Blocks.high c.args.on.now) × Made (g.B.Blocks.label c.args.on.now) (g.B.Blocks.label c.own_block-at.new.on) c.own_block-at.result))) read e.copied;
-      ready = e.ready;
+      own = e.own;
       steps = e.steps;
       only = e.only;
       told = (g.met.B.Blocks.keeps_all c.args.on.now c.own_block-at.new.on e.steps.stays).2.0;

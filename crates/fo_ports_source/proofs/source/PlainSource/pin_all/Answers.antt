@@ -1,9 +1,9 @@
-use Rattle.std.proofs.Common.{rules, IfErr, ◌≡◌, length, Some, ◌∙◌, ap, subst, inl, ⊎_elim, arith}
+use Rattle.std.proofs.Common.{rules, IfErr, ◌≡◌, Some, subst, inl, ⊎_elim, arith}
 use Rattle.std.proofs.lemmas.Bool.{cases_lt}
 use Rattle.fo_base.specs.Cause.{Rose}
 use Rattle.fo_ports.specs.Causes.{Caused}
 use Rattle.fo_ports_source.specs.Source.{leaf_of}
-use Rattle.fo_ports_source.proofs.Looks.{looks_joins, over_looks}
+use Rattle.fo_ports_source.proofs.Looks.{looks_joins, over_looks, held_looks}
 use Rattle.fo_ports_source.proofs.Puts.{later_cause}
 use Rattle.fo_ports_source.proofs.source.PlainSource.pin_all.Goals as goal
 
@@ -35,11 +35,12 @@ loop-i-preserved g c =
     let k = g.met.B.Blocks.keeps_all on mid i.looks.stays in
     let e = c.in_ok-pin.ensures in
     let looks = c.pin.ensures.looks in
+    let more = g.met.B.Blocks.keeps_all mid c.pin.new.on looks.stays in
     record {
       looks = looks_joins (g.met.B.Blocks.keeps_joins _ _ _) k.2.1 i.looks looks;
-      held = λ j at from to is. ⊎_elim
-          (λ below. let was = i.held j at from below is in ((looks.blocks at).1 was.0, ap length (looks.known at was.0).bytes ∙ was.1))
-          (λ above. let same : j ≡ c.loop-i.i = omega arith in e.pinned at (subst (λ y. leaf_of c.args.self.now.leaves.items y ≡ Some at) same is) (inl (omega arith)))
+      held = λ enough j at from to is. ⊎_elim
+          (λ below. held_looks g.B.Blocks.high looks more.0 at (i.held enough j at from below is))
+          (λ above. let same : j ≡ c.loop-i.i = omega arith in e.held at (subst (λ y. leaf_of c.args.self.now.leaves.items y ≡ Some at) same is) (inl (omega arith)))
           (cases_lt j c.loop-i.i);
       pins = omega arith;
     }

@@ -1,16 +1,14 @@
 use Rattle.std.proofs.Common.{◌≡◌, ◌<◌, ◌≤◌, ◌+◌, ◌-◌, length, refl, ◌∙◌, arith}
-use Rattle.fo_ports_source.proofs.Leaves.{grew_joins, grew_none, still_settled}
+use Rattle.fo_ports_source.proofs.Leaves.{grew_joins, grew_none, grew_same, prepared_same}
 use Rattle.fo_ports_source.proofs.Puts.{puts_more, puts_none, spent_more, spent_none}
 use Rattle.fo_ports_source.proofs.source.PlainSource.put.Goals as goal
 
-pub put_part-requires-clause-settled : goal.put_part-requires-clause-settled
-put_part-requires-clause-settled g c = still_settled c.loop-done.invariant.grew c.requires.settled
-
-pub put_part-requires-clause-pinned : goal.put_part-requires-clause-pinned
-put_part-requires-clause-pinned g c = λ at e.
+pub put_part-requires-clause-held : goal.put_part-requires-clause-held
+put_part-requires-clause-held g c = λ at e.
+    let i = c.loop-done.invariant in
     let done = c.loop-done.done in
     let within : c.args.offset + done < c.args.offset + length c.args.piece.now = omega arith in
-    (c.loop-done.invariant.grew.still c.args.offset (length c.args.piece.now) c.requires.prepared).each (c.args.offset + done) at (omega arith) within e
+    (prepared_same i.same.0 i.same.1 (i.grew.still c.args.offset (length c.args.piece.now) c.requires.prepared)).each (c.args.offset + done) at (omega arith) within e
 
 pub loop-done-preserved : goal.loop-done-preserved
 loop-done-preserved g c =
@@ -18,14 +16,15 @@ loop-done-preserved g c =
     let n = c.min-count.result in
     let i = c.loop-done.invariant in
     let e = c.put_part.ensures in
+    let k = g.met.B.Blocks.keeps_all c.args.on.now c.loop-done.on i.grew.steps.stays in
     let within : done + n ≤ length c.args.piece.now = omega arith in
     let len : done + n - done ≡ n = omega arith in
     record {
       within = within;
       over = e.over;
       same = (e.same.0 ∙ i.same.0, e.same.1 ∙ i.same.1, e.same.2 ∙ i.same.2, e.same.3 ∙ i.same.3);
-      puts = puts_more _ _ _ c.args.offset done n c.args.piece.now within i.puts (rw len at e.puts);
-      grew = grew_joins (g.met.B.Blocks.keeps_joins _ _ _) (λ at has. (c.requires.over.leaf has.number at has.is).is_live) i.grew e.grew;
+      puts = λ told. puts_more _ _ _ c.args.offset done n c.args.piece.now within (i.puts told) (rw len at (e.puts (k.2.1 told)));
+      grew = grew_joins (g.met.B.Blocks.keeps_joins _ _ _) i.grew (grew_same i.same.0 i.same.1 e.grew);
       spent = spent_more (length c.args.piece.now) c.args.offset done n (g.B.Blocks.spare c.args.on.now) (g.B.Blocks.spare c.loop-done.on) (g.B.Blocks.spare c.put_part.new.on) (omega arith) c.min-count.ensures e.spare i.spent;
     }
 
@@ -34,7 +33,7 @@ loop-done-init g c = record {
   within = omega arith;
   over = c.requires.over;
   same = (refl, refl, refl, refl);
-  puts = puts_none _ c.args.offset;
+  puts = λ told. puts_none _ c.args.offset;
   grew = grew_none c.args.on.now (g.met.B.Blocks.keeps_at_once c.args.on.now);
   spent = spent_none (length c.args.piece.now) c.args.offset (g.B.Blocks.spare c.args.on.now);
 }

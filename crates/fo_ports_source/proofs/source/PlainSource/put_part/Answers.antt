@@ -1,8 +1,8 @@
-use Rattle.std.proofs.Common.{◌≡◌, ◌<◌, ◌≤◌, ◌/◌, ◌+◌, length, Some, None, sym, subst, arith}
+use Rattle.std.proofs.Common.{◌≡◌, ◌<◌, ◌≤◌, ◌/◌, ◌+◌, length, Some, None, sym, ◌∙◌, subst, arith}
 use Rattle.std.proofs.lemmas.List.{get_or-set_same}
 use Rattle.fo_ports_source.specs.Source.{leaf_of}
 use Rattle.fo_ports_source.proofs.Steps.{bytes_put}
-use Rattle.fo_ports_source.proofs.Leaves.{PutsOne, put_puts, put_over, put_grew, grew_joins}
+use Rattle.fo_ports_source.proofs.Leaves.{PutsOne, put_puts, put_over, put_grew, grew_joins, grew_same}
 use Rattle.fo_ports_source.proofs.Puts.{puts_after}
 use Rattle.fo_ports_source.proofs.source.PlainSource.put_part.Given as given
 use Rattle.fo_ports_source.proofs.source.PlainSource.put_part.Goals as goal
@@ -24,7 +24,7 @@ one g c =
       here = subst (λ leaves. leaf_of leaves (c.args.place / 8192) ≡ Some c.own-at.result) (sym owned.leaves) (get_or-set_same c.args.self.now.leaves.items (c.args.place / 8192) (Some c.own-at.result) None few);
       part = c.requires.part.1;
       inside = subst (λ n. c.args.place + length c.args.piece.now ≤ n) (sym owned.same.3) c.requires.within;
-      long = owned.ready.long;
+      long = owned.own.held.long;
       puts = e.now;
       labels = λ b. (e.blocks b).0;
       steps = bytes_put {at = c.own-at.result} (record {
@@ -32,7 +32,8 @@ one g c =
         high_is = k.0;
         tops_stay = λ b. (k.3 b).1;
         blocks_stay = λ b. (k.4 b).1;
-        current = owned.ready.current;
+        current = owned.own.current;
+        tagged = owned.own.held.labelled.has_tag ∙ sym owned.same.1;
         puts = e.now;
         adds = e.adds;
         order = e.order;
@@ -49,7 +50,7 @@ one g c =
     }
 
 pub returns-clause-puts : goal.returns-clause-puts
-returns-clause-puts g c = puts_after c.own-at.ensures.bytes (put_puts (one g c))
+returns-clause-puts g c = λ told. puts_after (c.own-at.ensures.bytes told) (put_puts (one g c) ((g.met.B.Blocks.keeps_all c.args.on.now c.own-at.new.on c.own-at.ensures.steps.stays).2.1 told))
 
 pub returns-clause-over : goal.returns-clause-over
 returns-clause-over g c = put_over (one g c)
@@ -59,4 +60,4 @@ returns-clause-grew g c =
     let on = c.args.on.now in
     let mid = c.own-at.new.on in
     let new = c.put_bytes.new.self in
-    grew_joins (g.met.B.Blocks.keeps_joins on mid new) (λ at has. (c.requires.over.leaf has.number at has.is).is_live) c.own-at.ensures.grew (put_grew (one g c))
+    grew_joins (g.met.B.Blocks.keeps_joins on mid new) c.own-at.ensures.grew (grew_same c.own-at.ensures.same.0 c.own-at.ensures.same.1 (put_grew (one g c)))
