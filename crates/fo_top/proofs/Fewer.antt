@@ -12,7 +12,8 @@ use Rattle.nine_fids.specs.declared.refusal.Refusal.{Refusal}
 use Rattle.nine_fids.specs.Refusing.{and_then}
 use Rattle.nine_fids.specs.Fids.{State, lesser, least, without, clunked, in_world}
 use Rattle.nine_fids.specs.Told.{Files}
-use Rattle.nine_session.specs.Removing.{clunk_fid, closed}
+use Rattle.nine_files.specs.Removing.{closed}
+use Rattle.nine_session.specs.Removing.{clunk_fid}
 use Rattle.nine_session.specs.Session.{Fails, Drops, IsDropped, AgreesWithin}
 use Rattle.nine_session.specs.Session as session
 use Rattle.fo_talk.specs.Conversation.{agreed_size}

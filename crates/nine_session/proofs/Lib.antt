@@ -1,13 +1,11 @@
-pub mod Chains
 pub mod Ends
-pub mod Starts
-pub mod Trying
 pub mod Kept
 pub mod Links
 pub mod Listing
-pub mod Steps
-pub mod Transfers
-pub mod Walks
 pub mod Opens
 pub mod Records
 pub mod Restates
+pub mod Starts
+pub mod Transfers
+pub mod Trying
+pub mod Walks

@@ -1,219 +1,27 @@
--- Reads of directories: which files are given, one after the other.
-use Rattle.std.proofs.Common.{◌≡◌, ℕ, suc, ◌+◌, ◌-◌, ◌≤◌, ◌<◌, ◌%◌, ◌^◌, List, [], ◌∷◌, ◌++◌, length, Bool, true, false, not, ◌&&◌, Option, Some, None, Result, Ok, Err, ◌==◌, refl, sym, ap, subst, ◌∙◌, append_assoc, length-append, arith}
-use Rattle.std.specs.Prelude.{is_some, nat_lt, if◌then◌else◌}
-use Rattle.std.proofs.lemmas.List.{append-nil, flat_map_more}
-use Rattle.std.proofs.lemmas.Bool.{ltb-false}
-use Rattle.std.proofs.lemmas.Bool.Decides.{nat_tests}
-use Rattle.nine_stat.specs.Stat as stats
+-- Reads of directories: the reply, and the place where the next read goes on.
+use Rattle.std.proofs.Common.{◌≡◌, ℕ, suc, ◌+◌, ◌%◌, ◌^◌, List, length, Bool, true, false, not, ◌&&◌, Option, Result, Ok, Err, ◌==◌, refl, sym, ap, ◌∙◌}
 use Rattle.nine_wire.specs.declared.message.Reply.{Reply}
 use Rattle.nine_wire.specs.declared.message.Reply.TheVariants as reply
 use Rattle.fo_world.specs.declared.place.Info.{Info}
-use Rattle.fo_world.specs.declared.place.Place.{Place}
 use Rattle.fo_world.specs.declared.error.FileError.{FileError}
-use Rattle.fo_world.specs.World.{World}
 use Rattle.nine_fids.specs.declared.fid.Fid.{Fid}
 use Rattle.nine_fids.specs.declared.fid.Opened.{Opened}
 use Rattle.nine_fids.specs.declared.refusal.Refusal.{Refusal}
 use Rattle.nine_fids.specs.declared.refusal.Refusal.TheVariants as refusal
 use Rattle.nine_fids.specs.Refusing.{and_then, refuse_if}
 use Rattle.nine_fids.specs.Fids.{State, fid_at, opened_of, with_fid, with_fids}
-use Rattle.nine_fids.specs.Told.{Files, next_at, record_of}
+use Rattle.nine_fids.specs.Told.{Files, next_at}
 use Rattle.nine_fids.specs.Looking.{IsRefused}
-use Rattle.nine_session.specs.Reading.{fitting, files_above, exceeds, last_name, records_of, read_to, start_of, read_directory}
-use Rattle.nine_session.specs.Parts.{listed, Gives, taken, next_taken, Adds}
-use Rattle.nine_session.proofs.Links.{then_then, then_ok, then_err, refuse_yes, refuse_no, refuse_then, link_refused, same_refused}
-
--- ---- records
-
--- each record has bytes
-pub record_some : (i : Info) → 1 ≤ length (record_of i)
-unfolding stats.spelling
-record_some i = omega arith
-
-last_more : (after : Option (List ℕ)) (files : List Info) (i : Info) → last_name after (files ++ i ∷ []) ≡ Some i.name
-last_more after [] i = refl
-last_more after (j ∷ files) i = last_more (Some j.name) files i
-
--- ---- the next file
-
-taken_at : (b z : Bool) (count held : ℕ) (i j : Info) → nat_lt (count - held) (length (record_of j)) ≡ b → (if b then (if z then Err refusal.CountTooSmall else Ok None) else (let out : Result (Option Info) Refusal = Ok (Some j) in out)) ≡ Ok (Some i) → length (record_of i) ≤ count - held
-taken_at true true count held i j is told = absurd cc
-taken_at true false count held i j is told = absurd cc
-taken_at false z count held i j is told =
-    let same : j ≡ i = cc in
-    let P : Info → Type 0 = λ k. length (record_of k) ≤ count - held in
-    subst P same (ltb-false (count - held) (length (record_of j)) is)
-
-taken_fits : (count held : ℕ) (t : Result (Option Info) Refusal) (i : Info) → and_then t (taken count held) ≡ Ok (Some i) → length (record_of i) ≤ count - held
-taken_fits count held (Err r) i told = absurd cc
-taken_fits count held (Ok None) i told = absurd cc
-taken_fits count held (Ok (Some j)) i told = taken_at (nat_lt (count - held) (length (record_of j))) (held == 0) count held i j refl told
-
--- ---- the rest of a read
-
--- the rest of a read, once its next file is known
-abbrev pub continued : (Option (List ℕ) → ℕ → Result (List Info) Refusal) → List Info → ℕ → Option Info → Result (List Info) Refusal
-continued go files left None = Ok files
-continued go files left (Some i) = and_then (go (Some i.name) (left - length (record_of i))) (λ rest. Ok (files ++ i ∷ rest))
-
-abbrev Going : Type 0
-Going = Option (List ℕ) → ℕ → Result (List Info) Refusal
-
-first_at : (go : Going) (count : ℕ) (i : Info) (b b' : Bool) → b' ≡ b →
-    refuse_if b refusal.CountTooSmall (if b then Ok [] else and_then (go (Some i.name) (count - length (record_of i))) (λ rest. Ok (i ∷ rest)))
-    ≡ and_then (if b' then (let out : Result (Option Info) Refusal = Err refusal.CountTooSmall in out) else Ok (Some i)) (continued go [] count)
-first_at go count i true true same = refl
-first_at go count i false false same = refl
-first_at go count i true false same = absurd cc
-first_at go count i false true same = absurd cc
-
-first_taken : (go : Going) (count : ℕ) (t : Result (Option Info) Refusal) →
-    and_then t (λ first. refuse_if (exceeds count first) refusal.CountTooSmall (and_then t (fitting go count)))
-    ≡ and_then (and_then t (taken count 0)) (continued go [] count)
-first_taken go count (Err r) = refl
-first_taken go count (Ok None) = refl
-first_taken go count (Ok (Some i)) =
-    let none : count - 0 ≡ count = omega arith in
-    first_at go count i (nat_lt count (length (record_of i))) (nat_lt (count - 0) (length (record_of i))) (ap (λ n. nat_lt n (length (record_of i))) none)
-
-listed_begins : (e : Files) (w : World) (at : Place) (after : Option (List ℕ)) (count : ℕ) → listed e w at after count ≡ and_then (next_taken e w at after count 0) (continued (files_above count e w at) [] count)
-unfolding listed files_above
-listed_begins e w at after count = first_taken (files_above count e w at) count (next_at e w at after)
-
-later_at : (go : Going) (left : ℕ) (files : List Info) (i : Info) (b b' z : Bool) → b' ≡ b → z ≡ false →
-    and_then (if b then Ok [] else and_then (go (Some i.name) (left - length (record_of i))) (λ rest. Ok (i ∷ rest))) (λ rest. let out : Result (List Info) Refusal = Ok (files ++ rest) in out)
-    ≡ and_then (if b' then (if z then Err refusal.CountTooSmall else Ok None) else (let out : Result (Option Info) Refusal = Ok (Some i) in out)) (continued go files left)
-later_at go left files i true true true same held = absurd cc
-later_at go left files i true true false same held = ap Ok (append-nil files)
-later_at go left files i false false z same held = then_then (go (Some i.name) (left - length (record_of i))) (λ rest. Ok (i ∷ rest)) (λ rest. Ok (files ++ rest))
-later_at go left files i true false z same held = absurd cc
-later_at go left files i false true z same held = absurd cc
-
-later_taken : (go : Going) (count held left : ℕ) (files : List Info) (t : Result (Option Info) Refusal) → (held == 0) ≡ false → left ≡ count - held →
-    and_then (and_then t (fitting go left)) (λ rest. let out : Result (List Info) Refusal = Ok (files ++ rest) in out)
-    ≡ and_then (and_then t (taken count held)) (continued go files left)
-later_taken go count held left files (Err r) some is = refl
-later_taken go count held left files (Ok None) some is = ap Ok (append-nil files)
-later_taken go count held left files (Ok (Some i)) some is =
-    later_at go left files i (nat_lt left (length (record_of i))) (nat_lt (count - held) (length (record_of i))) (held == 0) (ap (λ n. nat_lt n (length (record_of i))) (sym is)) some
-
-above_later : (e : Files) (w : World) (at : Place) (s : ℕ) (last : Option (List ℕ)) (count held left : ℕ) (files : List Info) → (held == 0) ≡ false → left ≡ count - held →
-    and_then (files_above (suc s) e w at last left) (λ rest. let out : Result (List Info) Refusal = Ok (files ++ rest) in out)
-    ≡ and_then (next_taken e w at last count held) (continued (files_above s e w at) files left)
-unfolding files_above
-above_later e w at s last count held left files some is = later_taken (files_above s e w at) count held left files (next_at e w at last) some is
-
-one_more : (files : List Info) (i : Info) (r : Result (List Info) Refusal) →
-    and_then r (λ rest. let out : Result (List Info) Refusal = Ok (files ++ i ∷ rest) in out)
-    ≡ and_then r (λ rest. let out : Result (List Info) Refusal = Ok ((files ++ i ∷ []) ++ rest) in out)
-one_more files i (Ok rest) = ap Ok (sym (append_assoc files (i ∷ []) rest))
-one_more files i (Err r) = refl
-
--- ---- a read in progress
-
--- what has been given so far, and how the whole goes on from there
-pub record Listing (e : Files) (w : World) (at : Place) (after : Option (List ℕ)) (count : ℕ) (bytes : List ℕ) (last : Option (List ℕ)) : Type 0 where
-  pub files : List Info
-  pub bytes_so : bytes ≡ records_of files
-  pub last_so : last ≡ last_name after files
-  pub steps : ℕ
-  pub left : ℕ
-  pub left_so : left + length bytes ≡ count
-  pub enough : left ≤ steps
-  pub goes_on : listed e w at after count ≡ and_then (next_taken e w at last count (length bytes)) (continued (files_above steps e w at) files left)
-
-none_listed : (e : Files) (w : World) (at : Place) (after : Option (List ℕ)) (count : ℕ) → Listing e w at after count [] after
-none_listed e w at after count = record {
-  files = [];
-  bytes_so = refl;
-  last_so = refl;
-  steps = count;
-  left = count;
-  left_so = omega arith;
-  enough = omega arith;
-  goes_on = listed_begins e w at after count;
-}
-
-pub listing_begins : (e : Files) (w : World) (at : Place) (after : Option (List ℕ)) (count : ℕ) (bytes : List ℕ) → bytes ≡ [] → Listing e w at after count bytes after
-listing_begins e w at after count bytes none = let P : List ℕ → Type 0 = λ bs. Listing e w at after count bs after in subst P (sym none) (none_listed e w at after count)
-
--- the whole, from the file that is taken on
-listing_next : (e : Files) (w : World) (at : Place) (after : Option (List ℕ)) (count : ℕ) (bytes : List ℕ) (last : Option (List ℕ)) (l : Listing e w at after count bytes last) (i : Info) (s held : ℕ) →
-    next_taken e w at last count (length bytes) ≡ Ok (Some i) → l.steps ≡ suc s → (held == 0) ≡ false → l.left - length (record_of i) ≡ count - held →
-    listed e w at after count ≡ and_then (next_taken e w at (Some i.name) count held) (continued (files_above s e w at) (l.files ++ i ∷ []) (l.left - length (record_of i)))
-listing_next e w at after count bytes last l i s held told steps some left =
-    l.goes_on
-    ∙ then_ok (next_taken e w at last count (length bytes)) (Some i) (continued (files_above l.steps e w at) l.files l.left) told
-    ∙ ap (λ n. continued (files_above n e w at) l.files l.left (Some i)) steps
-    ∙ one_more l.files i (files_above (suc s) e w at (Some i.name) (l.left - length (record_of i)))
-    ∙ above_later e w at s (Some i.name) count held (l.left - length (record_of i)) (l.files ++ i ∷ []) some left
-
-not_zero : (n m : ℕ) → 1 ≤ m → (n + m == 0) ≡ false
-not_zero n m le = grind (arith, nat_tests)
-
-listing_taken : (e : Files) (w : World) (at : Place) (after : Option (List ℕ)) (count : ℕ) (bytes : List ℕ) (last : Option (List ℕ)) → Listing e w at after count bytes last → (i : Info) → next_taken e w at last count (length bytes) ≡ Ok (Some i) → Listing e w at after count (bytes ++ record_of i) (Some i.name)
-listing_taken e w at after count bytes last l i told =
-    let fits : length (record_of i) ≤ count - length bytes = taken_fits count (length bytes) (next_at e w at last) i told in
-    let some : 1 ≤ length (record_of i) = record_some i in
-    let len : length (bytes ++ record_of i) ≡ length bytes + length (record_of i) = length-append bytes (record_of i) in
-    let left_is : l.left + length bytes ≡ count = l.left_so in
-    let enough_is : l.left ≤ l.steps = l.enough in
-    let more : (length (bytes ++ record_of i) == 0) ≡ false = ap (λ n. n == 0) len ∙ not_zero (length bytes) (length (record_of i)) some in
-    record {
-      files = l.files ++ i ∷ [];
-      bytes_so = ap (λ bs. bs ++ record_of i) l.bytes_so ∙ flat_map_more record_of [] l.files i;
-      last_so = sym (last_more after l.files i);
-      steps = l.steps - 1;
-      left = l.left - length (record_of i);
-      left_so = omega arith;
-      enough = omega arith;
-      goes_on = listing_next e w at after count bytes last l i (l.steps - 1) (length (bytes ++ record_of i)) told (omega arith) more (omega arith);
-    }
-
--- a file more
-pub listing_more : (e : Files) (w : World) (at : Place) (after : Option (List ℕ)) (count : ℕ) (bytes new : List ℕ) (last later : Option (List ℕ)) → Listing e w at after count bytes last → (o : Option Info) → next_taken e w at last count (length bytes) ≡ Ok o → is_some o ≡ true → Adds o bytes new last later → Listing e w at after count new later
-listing_more e w at after count bytes new last later l None told some adds = absurd cc
-listing_more e w at after count bytes new last later l (Some i) told some adds =
-    let P : List ℕ → Type 0 = λ bs. Listing e w at after count bs later in
-    let Q : Option (List ℕ) → Type 0 = λ n. Listing e w at after count (bytes ++ record_of i) n in
-    subst P (sym adds.0) (subst Q (sym adds.1) (listing_taken e w at after count bytes last l i told))
-
--- no file more
-pub listing_done : (e : Files) (w : World) (at : Place) (after : Option (List ℕ)) (count : ℕ) (bytes new : List ℕ) (last later : Option (List ℕ)) → Listing e w at after count bytes last → (o : Option Info) → next_taken e w at last count (length bytes) ≡ Ok o → is_some o ≡ false → Adds o bytes new last later → Gives (listed e w at after count) after count new later
-listing_done e w at after count bytes new last later l (Some i) told none adds = absurd cc
-listing_done e w at after count bytes new last later l None told none adds =
-    let left_is : l.left + length bytes ≡ count = l.left_so in
-    let same : length new ≡ length bytes = ap length adds.0 in
-    record {
-      files = l.files;
-      told_so = l.goes_on ∙ then_ok (next_taken e w at last count (length bytes)) None (continued (files_above l.steps e w at) l.files l.left) told;
-      bytes_so = adds.0 ∙ l.bytes_so;
-      last_so = adds.1 ∙ l.last_so;
-      within = omega arith;
-    }
-
-pub listing_refused : (e : Files) (w : World) (at : Place) (after : Option (List ℕ)) (count : ℕ) (bytes : List ℕ) (last : Option (List ℕ)) (P : FileError → Type 0) (r : Refusal) → Listing e w at after count bytes last → IsRefused (next_taken e w at last count (length bytes)) P r → IsRefused (listed e w at after count) P r
-listing_refused e w at after count bytes last P r l h =
-    same_refused (listed e w at after count) _ P r l.goes_on (link_refused (next_taken e w at last count (length bytes)) (continued (files_above l.steps e w at) l.files l.left) P r h)
-
--- it holds no more than the count
-pub listing_within : (e : Files) (w : World) (at : Place) (after : Option (List ℕ)) (count : ℕ) (bytes : List ℕ) (last : Option (List ℕ)) → Listing e w at after count bytes last → length bytes ≤ count
-listing_within e w at after count bytes last l = let left_is : l.left + length bytes ≡ count = l.left_so in omega arith
-
--- a file more brings the end nearer
-pub listing_nearer : (e : Files) (w : World) (at : Place) (after : Option (List ℕ)) (count : ℕ) (bytes new : List ℕ) (last later : Option (List ℕ)) → Listing e w at after count bytes last → (o : Option Info) → next_taken e w at last count (length bytes) ≡ Ok o → is_some o ≡ true → Adds o bytes new last later → count - length new < count - length bytes
-listing_nearer e w at after count bytes new last later l None told some adds = absurd cc
-listing_nearer e w at after count bytes new last later l (Some i) told some adds =
-    let fits : length (record_of i) ≤ count - length bytes = taken_fits count (length bytes) (next_at e w at last) i told in
-    let one : 1 ≤ length (record_of i) = record_some i in
-    let len : length (bytes ++ record_of i) ≡ length bytes + length (record_of i) = length-append bytes (record_of i) in
-    let same : length new ≡ length (bytes ++ record_of i) = ap length adds.0 in
-    omega arith
+use Rattle.nine_files.specs.Parts.{Gives, listed}
+use Rattle.nine_files.specs.Reading.{exceeds, files_above, last_name, read_to, records_of, start_of}
+use Rattle.nine_files.proofs.Links.{then_ok}
+use Rattle.nine_session.specs.Reading.{read_directory}
+use Rattle.nine_session.proofs.Links.{link_refused, refuse_no, refuse_yes, same_refused, then_err, past_refuse}
 
 -- ---- the request
 
 looks_first : {A B C : Type 0} (t : Result A Refusal) (b : A → Bool) (r : Refusal) (u : Result B Refusal) (g : B → Result C Refusal) → and_then t (λ x. refuse_if (b x) r (and_then u g)) ≡ and_then (and_then t (λ x. refuse_if (b x) r u)) g
-looks_first (Ok x) b r u g = sym (refuse_then (b x) r u g)
+looks_first (Ok x) b r u g = past_refuse (b x) r u g
 looks_first (Err e) b r u g = refl
 
 -- the reply and the state, once the files are known

@@ -1,6 +1,6 @@
 -- Topen and Tcreate, step by step.
 use Rattle.std.proofs.Common.{◌≡◌, ℕ, ◌⊎◌, List, Bool, true, false, not, Option, Result, Ok, Err, refl, ap, ◌∙◌, inl, inr, ⊎_elim}
-use Rattle.std.specs.Prelude.{◌&&◌, ⊤, is_ok, IfOk}
+use Rattle.std.specs.Prelude.{◌&&◌, is_ok}
 use Rattle.nine_fields.specs.declared.qid.Qid.{Qid}
 use Rattle.nine_wire.specs.declared.message.Reply.{Reply}
 use Rattle.nine_wire.specs.declared.message.Reply.TheVariants as reply
@@ -8,7 +8,6 @@ use Rattle.fo_world.specs.declared.place.Info.{Info}
 use Rattle.fo_world.specs.declared.place.Place.{Place}
 use Rattle.fo_world.specs.declared.error.FileError.{FileError}
 use Rattle.fo_world.specs.declared.error.FileError.TheVariants as error
-use Rattle.fo_world.specs.Limits.{IsChange}
 use Rattle.fo_world.specs.World.{World}
 use Rattle.fo_world.specs.Step as step
 use Rattle.fo_users.specs.Rights.{may}
@@ -25,80 +24,12 @@ use Rattle.nine_fids.specs.Modes.{mode_of, is_more}
 use Rattle.nine_fids.proofs.Missing.{ok_same}
 use Rattle.nine_fids.specs.Rights.{table_of}
 use Rattle.nine_fids.specs.Looking.{IsRefused}
-use Rattle.nine_session.specs.Opening.{allowed_mode, allowed_new, opening_rights, truncated, cuts, cut_info, emptied, open_file, create_file, new_mode, opened_so, with_open, is_bad_name}
-use Rattle.nine_session.specs.Granting.{is_held, admitted, admitted_new, told_qid, with_put}
-use Rattle.nine_session.specs.Attempting.{state}
-use Rattle.nine_session.proofs.Steps.{past_refuse, past_then, then_same, refuse_same, refuse_ok, then_ok}
-
--- ---- the file that may be opened
-
-module _ (e : Files) (w : World) (f : Fid) (x : List ℕ) (mode : ℕ) where
-  pub admitted_open : is_open f ≡ true → admitted e w f x mode ≡ Err refusal.FidIsOpen
-  unfolding admitted
-  admitted_open h = rw h refl
-
-  pub admitted_no_info : (r : Refusal) → is_open f ≡ false → info_at e w f.place ≡ Err r → admitted e w f x mode ≡ Err r
-  unfolding admitted
-  admitted_no_info r h k = rw (h, k) refl
-
-  pub admitted_no_mode : (i : Info) (r : Refusal) → is_open f ≡ false → info_at e w f.place ≡ Ok i → allowed_mode f i mode ≡ Err r → admitted e w f x mode ≡ Err r
-  unfolding admitted
-  admitted_no_mode i r h k l = rw (h, k, l) refl
-
-  pub admitted_no_right : (i : Info) (m : Mode) (r : Refusal) → is_open f ≡ false → info_at e w f.place ≡ Ok i → allowed_mode f i mode ≡ Ok m → opening_rights e w f i m ≡ Err r → admitted e w f x mode ≡ Err r
-  unfolding admitted
-  admitted_no_right i m r h k l o = rw (h, k, l, o) refl
-
-  pub admitted_there : (i : Info) (m : Mode) → is_open f ≡ false → info_at e w f.place ≡ Ok i → allowed_mode f i mode ≡ Ok m → opening_rights e w f i m ≡ Ok tt → admitted e w f x mode ≡ refuse_if (is_held f i x) refusal.ExclusivelyOpen (Ok (i, m))
-  unfolding admitted
-  admitted_there i m h k l o = rw (h, k, l, o) refl
-
--- ---- the directory in which a file may be made
-
-module _ (e : Files) (w : World) (f : Fid) (name : List ℕ) (perm mode : ℕ) where
-  pub new_open : is_open f ≡ true → admitted_new e w f name perm mode ≡ Err refusal.FidIsOpen
-  unfolding admitted_new
-  new_open h = rw h refl
-
-  pub new_no_info : (r : Refusal) → is_open f ≡ false → info_at e w f.place ≡ Err r → admitted_new e w f name perm mode ≡ Err r
-  unfolding admitted_new
-  new_no_info r h k = rw (h, k) refl
-
-  pub new_no_mode : (i : Info) (r : Refusal) → is_open f ≡ false → info_at e w f.place ≡ Ok i → allowed_new f i name perm mode ≡ Err r → admitted_new e w f name perm mode ≡ Err r
-  unfolding admitted_new
-  new_no_mode i r h k l = rw (h, k, l) refl
-
-  pub new_there : (i : Info) (m : Mode) → is_open f ≡ false → info_at e w f.place ≡ Ok i → allowed_new f i name perm mode ≡ Ok m → admitted_new e w f name perm mode ≡ refuse_if (not (may (table_of e w) f.user i Write)) refusal.PermissionDenied (Ok (i, m))
-  unfolding admitted_new
-  new_there i m h k l = rw (h, k, l) refl
-
--- ---- OTRUNC
-
-abbrev FailsSo : Type 1
-FailsSo = Bool → FileError → Type 0
-
-if_any : {A E : Type 0} (r : Result A E) → IfOk r (λ _. ⊤)
-if_any (Ok x) = tt
-if_any (Err e) = tt
-
-pub emptied_is_change : (whole : Bool) (w : World) (at : Place) → IsChange whole w at emptied
-emptied_is_change whole w at = record { name = tt; gid = tt; root = λ _. refl; kind = if_any (step.reached whole w at) }
-
-pub cut_not : (e : Files) (w : World) (f : Fid) (i : Info) (m : Mode) (now : ℕ) → cuts i m ≡ false → told_qid (truncated e w f i m now) ≡ Ok (qid_of i, w)
-unfolding truncated
-cut_not e w f i m now h = rw h refl
-
-pub cut_done : (e : Files) (w : World) (f : Fid) (i : Info) (m : Mode) (now : ℕ) (w' : World) → cuts i m ≡ true → step.change e.whole e.largest w f.place emptied f.user now ≡ Ok (tt, w') → told_qid (truncated e w f i m now) ≡ Ok (qid_of (cut_info i), w')
-unfolding truncated
-cut_done e w f i m now w' h k = rw (h, k) refl
-
-cut_refused : (t : Result (Unit {0} × World) FileError) (i : Info) (fails : FailsSo) (x : FileError) → (t ≡ Err x) ⊎ fails (is_ok t) x → (let on : Result (Info × World) Refusal = and_then (changed t) (λ p. Ok (i, p.1)) in IsRefused (told_qid on) (fails (is_ok on)) (refusal.File x))
-cut_refused (Ok p) i fails x h = ⊎_elim (λ t. absurd cc) (λ m. inr (x, refl, m)) h
-cut_refused (Err y) i fails x h = ⊎_elim (λ t. inl cc) (λ m. inr (x, refl, m)) h
-
-pub cut_fails : (e : Files) (w : World) (f : Fid) (i : Info) (m : Mode) (now : ℕ) (fails : FailsSo) (x : FileError) → cuts i m ≡ true → (let t = step.change e.whole e.largest w f.place emptied f.user now in (t ≡ Err x) ⊎ fails (is_ok t) x) → IsRefused (told_qid (truncated e w f i m now)) (fails (is_ok (truncated e w f i m now))) (refusal.File x)
-unfolding truncated
-cut_fails e w f i m now fails x h k = rw h (cut_refused (step.change e.whole e.largest w f.place emptied f.user now) (cut_info i) fails x k)
+use Rattle.nine_files.specs.Granting.{admitted, admitted_new, is_held, told_qid}
+use Rattle.nine_files.specs.Opening.{allowed_mode, allowed_new, is_bad_name, new_mode, opened_so, opening_rights, truncated}
+use Rattle.nine_files.proofs.Links.{FailsSo, past_then, refuse_ok, then_ok_parts}
+use Rattle.nine_session.specs.Attempting.{state, with_put}
+use Rattle.nine_session.specs.Opening.{create_file, open_file, with_open}
+use Rattle.nine_session.proofs.Links.{past_refuse, refuse_same, then_same}
 
 -- ---- Topen
 
@@ -177,8 +108,8 @@ new_named e w f name perm mode a h =
     let last : Info → Mode → Result (Info × Mode) Refusal = λ above m. refuse_if (not (may (table_of e w) f.user above Write)) refusal.PermissionDenied (Ok (above, m)) in
     let go : Info → Result (Info × Mode) Refusal = λ above. and_then (allowed_new f above name perm mode) (last above) in
     let first = refuse_ok (is_open f) refusal.FidIsOpen (and_then (info_at e w f.place) go) a h in
-    let second = then_ok (info_at e w f.place) go a first.1 in
-    let third = then_ok (allowed_new f second.0 name perm mode) (last second.0) a second.2 in
+    let second = then_ok_parts (info_at e w f.place) go a first.1 in
+    let third = then_ok_parts (allowed_new f second.0 name perm mode) (last second.0) a second.2 in
     named_well f second.0 name perm mode third.0 third.1
 
 abbrev pub made_from : Files → State → ℕ → List ℕ → ℕ → ℕ → Fid → Info × Mode → Result (Reply × State) Refusal

@@ -1,38 +1,30 @@
 -- Tstat and Twstat, step by step.
-use Rattle.std.proofs.Common.{◌≡◌, ℕ, ◌+◌, ◌<◌, ◌≤◌, List, [], ◌∷◌, length, Bool, true, false, not, Option, Some, None, Result, Ok, Err, refl, sym, ap, ◌∙◌, inl, inr, ⊎_elim, ◌⊎◌, arith}
-use Rattle.std.specs.Prelude.{is_ok, ◌&&◌, ◌||◌, ◌==◌, nat_lt, is_some, if◌then◌else◌, codes, IfSome, IfOk}
-use Rattle.std.specs.Str.{bytes_eq}
-use Rattle.std.specs.List.{list_all, list_any}
+use Rattle.std.proofs.Common.{◌≡◌, ℕ, ◌+◌, ◌<◌, ◌≤◌, length, Bool, true, false, not, Result, Ok, Err, refl, sym, ap, ◌∙◌, inl, inr, ⊎_elim, arith}
+use Rattle.std.specs.Prelude.{is_ok, ◌||◌, nat_lt}
 use Rattle.std.proofs.lemmas.Bool.Decides.{nat_tests}
 use Rattle.nine_wire.specs.declared.message.Reply.{Reply}
 use Rattle.nine_wire.specs.declared.message.Reply.TheVariants as reply
 use Rattle.nine_stat.specs.declared.stat.Stat.{Stat}
-use Rattle.nine_fields.specs.Field.{TextFits}
-use Rattle.fo_world.specs.declared.tree.Node.{Node}
 use Rattle.fo_world.specs.declared.place.Info.{Info}
-use Rattle.fo_world.specs.declared.place.Place.{Place}
 use Rattle.fo_world.specs.declared.place.Change.{Change}
 use Rattle.fo_world.specs.declared.error.FileError.{FileError}
 use Rattle.fo_world.specs.declared.error.FileError.TheVariants as error
 use Rattle.fo_world.specs.World.{World}
-use Rattle.fo_world.specs.Limits.{IsName, IsUser, IsChange}
 use Rattle.fo_world.specs.Step as step
-use Rattle.fo_users.specs.declared.table.User.{User}
-use Rattle.fo_users.specs.Table.{is_line, is_known}
 use Rattle.nine_fids.specs.declared.fid.Fid.{Fid}
 use Rattle.nine_fids.specs.declared.refusal.Refusal.{Refusal}
 use Rattle.nine_fids.specs.declared.refusal.Refusal.TheVariants as refusal
-use Rattle.nine_fids.specs.Refusing.{and_then, refuse_if, changed, looked}
+use Rattle.nine_fids.specs.Refusing.{and_then, refuse_if, changed}
 use Rattle.nine_fids.specs.Fids.{State, version_of, fid_at, in_world}
-use Rattle.nine_fids.specs.Told.{Files, info_at, is_dir, record_of, reply_len}
+use Rattle.nine_fids.specs.Told.{Files, info_at, record_of, reply_len}
 use Rattle.nine_fids.specs.Rights.{table_of}
 use Rattle.nine_fids.specs.Looking.{IsRefused}
-use Rattle.nine_fids.proofs.Userly.{known_name}
-use Rattle.nine_session.specs.Opening.{is_bad_name}
-use Rattle.nine_session.specs.Stating.{stat, wstat, restated, settled, allowed_name, names_badly, changing_rights, changes_kind, lengthens, is_strange, changes_fixed, change_of, touches_fixed, touches, is_bad_stat}
-use Rattle.nine_session.specs.Granting.{is_bad, is_bad_by, allowed_change, changed_by}
+use Rattle.nine_files.specs.Granting.{allowed_change, changed_by}
+use Rattle.nine_files.specs.Stating.{allowed_name, change_of, changes_fixed, changing_rights, touches, touches_fixed}
+use Rattle.nine_files.proofs.Links.{FailsSo, past_then}
+use Rattle.nine_session.specs.Stating.{is_bad_stat, restated, settled, stat, wstat}
+use Rattle.nine_session.proofs.Links.{past_refuse, refuse_same, then_same}
 use Rattle.nine_session.proofs.Records.{reply_length}
-use Rattle.nine_session.proofs.Steps.{past_refuse, past_then, then_same, refuse_same, refuse_ok, then_ok}
 
 -- ---- Tstat
 
@@ -75,154 +67,6 @@ module _ (e : Files) (z : State) (fid msize : ℕ) (f : Fid) (i : Info) (n : ℕ
   stat_done le =
       let short : nat_lt msize (reply_len (reply.Stat (record_of i))) ≡ false = short_enough msize n (reply_len (reply.Stat (record_of i))) (reply_length (record_of i) ∙ ap (λ x. 9 + x) (sym is)) le in
       stat_there e z fid msize f i h k l ∙ ap (λ b. refuse_if b refusal.StatTooLong (Ok (reply.Stat (record_of i), z))) short
-
--- ---- a change that is allowed
-
-module _ (e : Files) (w : World) (f : Fid) (fixed : Bool) (c : Change) (i : Info) where
-  pub change_elsewhere : step.is_active f.place.view ≡ false → allowed_change e w f fixed c i ≡ Err (refusal.File error.ReadOnly)
-  unfolding allowed_change
-  change_elsewhere h = rw h refl
-
-  pub change_bad : step.is_active f.place.view ≡ true → is_bad e w fixed c i ≡ true → allowed_change e w f fixed c i ≡ Err refusal.BadStat
-  unfolding allowed_change
-  change_bad h k = rw (h, k) refl
-
-  pub change_unnamed : (r : Refusal) → step.is_active f.place.view ≡ true → is_bad e w fixed c i ≡ false → allowed_name f c.name ≡ Err r → allowed_change e w f fixed c i ≡ Err r
-  unfolding allowed_change
-  change_unnamed r h k l = rw (h, k, l) refl
-
-  pub change_last : step.is_active f.place.view ≡ true → is_bad e w fixed c i ≡ false → allowed_name f c.name ≡ Ok tt → allowed_change e w f fixed c i ≡ changing_rights e w f i c
-  unfolding allowed_change
-  change_last h k l = rw (h, k, l) refl
-
-  pub change_good : allowed_change e w f fixed c i ≡ Ok tt → (is_bad e w fixed c i ≡ false) × (allowed_name f c.name ≡ Ok tt)
-  unfolding allowed_change
-  change_good h =
-      let first = refuse_ok (not (step.is_active f.place.view)) (refusal.File error.ReadOnly) (refuse_if (is_bad e w fixed c i) refusal.BadStat (and_then (allowed_name f c.name) (λ _. changing_rights e w f i c))) tt h in
-      let second = refuse_ok (is_bad e w fixed c i) refusal.BadStat (and_then (allowed_name f c.name) (λ _. changing_rights e w f i c)) tt first.1 in
-      (second.0, (then_ok (allowed_name f c.name) (λ _. changing_rights e w f i c) tt second.1).1)
-
--- the parts of what is not bad
-no_second : (a b c d : Bool) → (a || b || c || d) ≡ false → b ≡ false
-no_second true b c d h = absurd cc
-no_second false true c d h = absurd cc
-no_second false false c d h = refl
-
-no_fourth : (a b c d : Bool) → (a || b || c || d) ≡ false → d ≡ false
-no_fourth true b c d h = absurd cc
-no_fourth false true c d h = absurd cc
-no_fourth false false true d h = absurd cc
-no_fourth false false false d h = h
-
-pub or_apart : (a b c d : Bool) → (a || (b || c) || d) ≡ (a || b || c || d)
-or_apart true b c d = refl
-or_apart false true c d = refl
-or_apart false false c d = refl
-
--- ---- what is asked of a change
-
-same_kind : (a b : Bool) → (if a then not b else b) ≡ false → a ≡ b
-same_kind true true h = refl
-same_kind true false h = absurd cc
-same_kind false true h = absurd cc
-same_kind false false h = refl
-
-kind_at : (mode : Option ℕ) (i : Info) (g : List ℕ × Node) → i.mode ≡ g.1.mode → changes_kind mode i.mode ≡ false → IfSome mode (λ m. step.is_dir_mode m ≡ step.is_dir_mode g.1.mode)
-kind_at None i g same h = tt
-kind_at (Some m) i g same h = same_kind (is_dir m) (is_dir i.mode) h ∙ ap is_dir same
-
-kind_reached : (r : Result (List ℕ × Node) FileError) (w : World) (at : Place) (mode : Option ℕ) (i : Info) → looked (step.and_then r (λ f. Ok (step.info_of at f, w))) ≡ Ok i → changes_kind mode i.mode ≡ false → IfOk r (λ g. IfSome mode (λ m. step.is_dir_mode m ≡ step.is_dir_mode g.1.mode))
-kind_reached (Ok g) w at mode i is h =
-    let same : step.info_of at g ≡ i = cc in
-    kind_at mode i g (sym (ap (λ (j : Info). j.mode) same)) h
-kind_reached (Err x) w at mode i is h = tt
-
-kind_stays : (e : Files) (w : World) (at : Place) (mode : Option ℕ) (i : Info) → info_at e w at ≡ Ok i → changes_kind mode i.mode ≡ false → IfOk (step.reached e.whole w at) (λ g. IfSome mode (λ m. step.is_dir_mode m ≡ step.is_dir_mode g.1.mode))
-unfolding info_at
-kind_stays e w at mode i is h = kind_reached (step.reached e.whole w at) w at mode i is h
-
-no_fifth : (a b c d e : Bool) → (a || b || c || d || e) ≡ false → e ≡ false
-no_fifth true b c d e h = absurd cc
-no_fifth false true c d e h = absurd cc
-no_fifth false false true d e h = absurd cc
-no_fifth false false false true e h = absurd cc
-no_fifth false false false false e h = h
-
-at_most : (n : ℕ) → nat_lt 255 n ≡ false → n ≤ 255
-at_most n h = grind (arith, nat_tests)
-
-short_name : (name : List ℕ) → is_bad_name name ≡ false → (1 ≤ length name) × (length name ≤ 255)
-short_name [] h = absurd cc
-short_name (b ∷ bs) h = (omega arith, at_most (length (b ∷ bs)) (no_fifth (bytes_eq (b ∷ bs) []) (bytes_eq (b ∷ bs) (codes ".")) (bytes_eq (b ∷ bs) (codes "..")) (list_any (λ x. x == 47) (b ∷ bs)) (nat_lt 255 (length (b ∷ bs))) h))
-
-pub good_name : (name : List ℕ) → is_bad_name name ≡ false → TextFits name → IsName name
-good_name name h fits = let p = short_name name h in record { some = p.0; short = p.1; text = fits.1 }
-
-name_good : (name : Option (List ℕ)) → names_badly name ≡ false → IfSome name TextFits → IfSome name IsName
-name_good None h fits = tt
-name_good (Some name) h fits = good_name name h fits
-
-no_root : (name : Option (List ℕ)) (n : ℕ) → (is_some name && (n == 0)) ≡ false → n ≡ 0 → name ≡ None
-no_root None n h is = refl
-no_root (Some name) n h is = absurd (grind (arith, nat_tests))
-
-name_allowed : (f : Fid) (name : Option (List ℕ)) → allowed_name f name ≡ Ok tt → (names_badly name ≡ false) × ((is_some name && (length f.place.trail == 0)) ≡ false)
-unfolding allowed_name
-name_allowed f name h =
-    let first = refuse_ok (names_badly name) refusal.BadName (refuse_if (is_some name && (length f.place.trail == 0)) refusal.RenamesRoot (Ok tt)) tt h in
-    (first.0, (refuse_ok (is_some name && (length f.place.trail == 0)) refusal.RenamesRoot (Ok tt) tt first.1).0)
-
-pub known_group : (table : List User) (gid : Option (List ℕ)) → list_all is_line table ≡ true → is_strange table gid ≡ false → IfSome gid IsUser
-known_group table None lines h = tt
-known_group table (Some gid) lines h = known_name table gid lines (is_true (is_known table gid) h)
-  where
-    is_true : (b : Bool) → not b ≡ false → b ≡ true
-    is_true true k = refl
-    is_true false k = absurd cc
-
-module _ (e : Files) (w : World) (f : Fid) (fixed : Bool) (c : Change) (i : Info) (good : allowed_change e w f fixed c i ≡ Ok tt) where
-  pub group_known : is_strange (table_of e w) c.gid ≡ false
-  group_known = no_fourth fixed (changes_kind c.mode i.mode) (lengthens c.length i.mode) (is_strange (table_of e w) c.gid) (change_good e w f fixed c i good).0
-
-  pub is_change : info_at e w f.place ≡ Ok i → IfSome c.name TextFits → IfSome c.gid IsUser → IsChange e.whole w f.place c
-  is_change there text group =
-      let parts = change_good e w f fixed c i good in
-      let named = name_allowed f c.name parts.1 in
-      record {
-        name = name_good c.name named.0 text;
-        gid = group;
-        root = λ is. no_root c.name (length f.place.trail) named.1 is;
-        kind = kind_stays e w f.place c.mode i there (no_second fixed (changes_kind c.mode i.mode) (lengthens c.length i.mode) (is_strange (table_of e w) c.gid) parts.0);
-      }
-
-if_ok_any : {A E : Type 0} (r : Result A E) (P : Type 0) → P → IfOk r (λ _. P)
-if_ok_any (Ok x) P p = p
-if_ok_any (Err e) P p = tt
-
-pub group_after : (r : Result (Unit {0}) Refusal) (table : List User) (fixed : Bool) (c : Change) (i : Info) → list_all is_line table ≡ true → is_bad_by table fixed c i ≡ false → IfOk r (λ _. IfSome c.gid IsUser)
-group_after r table fixed c i lines good = if_ok_any r (IfSome c.gid IsUser) (known_group table c.gid lines (no_fourth fixed (changes_kind c.mode i.mode) (lengthens c.length i.mode) (is_strange table c.gid) good))
-
--- ---- a change that is made
-
-abbrev FailsSo : Type 1
-FailsSo = Bool → FileError → Type 0
-
-change_failed : (t : Result (Unit {0} × World) FileError) (fails fails' : FailsSo) (x : FileError) → ((b : Bool) (y : FileError) → fails b y → fails' b y) → (t ≡ Err x) ⊎ fails (is_ok t) x → (let on : Result World Refusal = and_then (changed t) (λ p. Ok p.1) in IsRefused on (fails' (is_ok on)) (refusal.File x))
-change_failed (Ok p) fails fails' x up h = ⊎_elim (λ t. absurd cc) (λ m. inr (x, refl, up true x m)) h
-change_failed (Err y) fails fails' x up h = ⊎_elim (λ t. inl cc) (λ m. inr (x, refl, up false x m)) h
-
-module _ (e : Files) (w : World) (now : ℕ) (f : Fid) (fixed : Bool) (c : Change) (i : Info) where
-  pub changed_refused : (r : Refusal) → allowed_change e w f fixed c i ≡ Err r → changed_by e w now f fixed c i ≡ Err r
-  unfolding changed_by
-  changed_refused r h = rw h refl
-
-  pub changed_done : (w' : World) → allowed_change e w f fixed c i ≡ Ok tt → step.change e.whole e.largest w f.place c f.user now ≡ Ok (tt, w') → changed_by e w now f fixed c i ≡ Ok w'
-  unfolding changed_by
-  changed_done w' h k = rw (h, k) refl
-
-  pub changed_fails : (x : FileError) (fails fails' : FailsSo) → allowed_change e w f fixed c i ≡ Ok tt → ((b : Bool) (y : FileError) → fails b y → fails' b y) → (let t = step.change e.whole e.largest w f.place c f.user now in (t ≡ Err x) ⊎ fails (is_ok t) x) → IsRefused (changed_by e w now f fixed c i) (fails' (is_ok (changed_by e w now f fixed c i))) (refusal.File x)
-  unfolding changed_by
-  changed_fails x fails fails' h up p = rw h (change_failed (step.change e.whole e.largest w f.place c f.user now) fails fails' x up p)
 
 -- ---- Twstat
 

@@ -7,6 +7,7 @@ use Rattle.std.proofs.lemmas.Bool.Decides.{nat_tests}
 use Rattle.nine_fields.specs.Field.{TextFits}
 use Rattle.nine_wire.specs.declared.message.Reply.{Reply}
 use Rattle.nine_wire.specs.declared.message.Reply.TheVariants as reply
+use Rattle.nine_wire.specs.Version.{largest_message}
 use Rattle.fo_world.specs.declared.place.Info.{Info}
 use Rattle.fo_world.specs.declared.place.View.{View}
 use Rattle.fo_world.specs.Step as step
@@ -15,7 +16,7 @@ use Rattle.nine_fids.specs.declared.refusal.Refusal.TheVariants as refusal
 use Rattle.nine_fids.specs.Fids.{State, nofid, most_fids, in_use, version_of, with_fids, restarted}
 use Rattle.nine_fids.specs.Told.{Files, info_at, qid_of}
 use Rattle.nine_fids.specs.Rights.{table_of, user_of}
-use Rattle.nine_session.specs.Attaching.{largest_msize, is_known, answer_text, version, auth, flush, attach, tree_of}
+use Rattle.nine_session.specs.Attaching.{answer_text, attach, auth, flush, is_known, tree_of, version}
 use Rattle.nine_session.specs.Attempting.{agreed_size}
 
 -- ---- Tversion
@@ -28,9 +29,9 @@ version_by : (z : State) (msize : ℕ) (b : Bool) → (let r : Reply × State = 
 version_by z msize true = refl
 version_by z msize false = refl
 
-pub version_agreed : (z : State) (msize : ℕ) (text : List ℕ) → 256 ≤ msize → version z msize text ≡ (reply.Version (min msize largest_msize) (answer_text (is_known text)), restarted z (agreed_size (is_known text) (min msize largest_msize)))
+pub version_agreed : (z : State) (msize : ℕ) (text : List ℕ) → 256 ≤ msize → version z msize text ≡ (reply.Version (min msize largest_message) (answer_text (is_known text)), restarted z (agreed_size (is_known text) (min msize largest_message)))
 unfolding version
-version_agreed z msize text le = let is : nat_lt msize 256 ≡ false = grind (arith, nat_tests) in rw is (version_by z (min msize largest_msize) (is_known text))
+version_agreed z msize text le = let is : nat_lt msize 256 ≡ false = grind (arith, nat_tests) in rw is (version_by z (min msize largest_message) (is_known text))
 
 pub answer_fits : (b : Bool) → TextFits (answer_text b)
 unfolding is_utf8 chars encode

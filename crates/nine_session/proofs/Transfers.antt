@@ -21,12 +21,13 @@ use Rattle.nine_fids.specs.Refusing.{and_then, refuse_if, looked, changed}
 use Rattle.nine_fids.specs.Fids.{State, version_of, fid_at, opened_of, in_world}
 use Rattle.nine_fids.specs.Told.{Files, info_at, bytes_at, is_dir, iounit}
 use Rattle.nine_fids.specs.Modes.{reads, writes}
-use Rattle.nine_session.specs.Session.{Told}
-use Rattle.nine_session.specs.Reading.{read, read_directory, write}
-use Rattle.nine_session.specs.Parts.{write_start}
 use Rattle.nine_fids.specs.Looking.{IsRefused}
+use Rattle.nine_files.specs.Parts.{write_start}
+use Rattle.nine_files.proofs.Links.{then_ok}
+use Rattle.nine_session.specs.Reading.{read, read_directory, write}
+use Rattle.nine_session.specs.Session.{Told}
+use Rattle.nine_session.proofs.Links.{link_refused, refuse_no, refuse_yes, same_refused, then_err}
 use Rattle.nine_session.proofs.Listing.{directory_from, directory_there}
-use Rattle.nine_session.proofs.Links.{then_ok, then_err, refuse_yes, refuse_no, link_refused, same_refused}
 
 -- ---- an open fid, where a version is agreed to
 
@@ -124,12 +125,12 @@ reached_short : (w : World) (r : Result (List ℕ × Node) FileError) (offset co
 reached_short w (Ok f) offset count = body_short w f.1.body offset count
 reached_short w (Err x) offset count = tt
 
-all_short : (e : Files) (w : World) (at : Place) (offset count : ℕ) → IfOk (bytes_at e w at offset count) (λ bytes. length bytes ≤ count)
+read_short : (e : Files) (w : World) (at : Place) (offset count : ℕ) → IfOk (bytes_at e w at offset count) (λ bytes. length bytes ≤ count)
 unfolding bytes_at step.read
-all_short e w at offset count = reached_short w (step.reached e.whole w at) offset count
+read_short e w at offset count = reached_short w (step.reached e.whole w at) offset count
 
 pub bytes_short : (e : Files) (w : World) (at : Place) (offset count : ℕ) (bytes : List ℕ) → bytes_at e w at offset count ≡ Ok bytes → length bytes ≤ count
-bytes_short e w at offset count bytes is = IfOk-at_ok (λ bytes. length bytes ≤ count) is (all_short e w at offset count)
+bytes_short e w at offset count bytes is = IfOk-at_ok (λ bytes. length bytes ≤ count) is (read_short e w at offset count)
 
 -- ---- Twrite
 

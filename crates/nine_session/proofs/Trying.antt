@@ -14,9 +14,9 @@ use Rattle.nine_fids.specs.Fids.{State}
 use Rattle.nine_fids.specs.Told.{Files}
 use Rattle.nine_fids.specs.Looking.{IsRefused, MayMiss}
 use Rattle.nine_fids.proofs.Missing.{refused_by, fails_by_missing}
-use Rattle.nine_session.specs.Session.{Told, Fails, Tells, Serves, IsDropped, left_by}
 use Rattle.nine_session.specs.Session as session
 use Rattle.nine_session.specs.Attempting.{Attempts, Replies, Tried, error_of}
+use Rattle.nine_session.specs.Session.{Fails, IsDropped, Serves, Told}
 
 -- ---- how a request comes out
 

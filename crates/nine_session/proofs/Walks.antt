@@ -1,104 +1,24 @@
--- Walks: how far they came, and what is then told.
-use Rattle.std.proofs.Common.{◌≡◌, ℕ, suc, ◌+◌, ◌≤◌, ◌<◌, List, [], ◌∷◌, ◌++◌, length, get_or, drop, drop-cons, add-one, Bool, true, false, not, ◌&&◌, Option, Some, None, Result, Ok, Err, ◌==◌, refl, sym, ap, ◌∙◌, append_assoc, arith}
-use Rattle.std.specs.Prelude.{IfErr, IfOk, nat_lt, nat_le, if◌then◌else◌}
-use Rattle.std.proofs.lemmas.List.{append-nil}
+-- Walks: the tests of a fid, and the walk from it.
+use Rattle.std.proofs.Common.{◌≡◌, ℕ, suc, ◌≤◌, List, [], ◌∷◌, length, Bool, true, false, not, ◌&&◌, Result, Ok, Err, ◌==◌, refl, ◌∙◌, arith}
+use Rattle.std.specs.Prelude.{IfOk, nat_lt, nat_le}
 use Rattle.std.proofs.lemmas.Result.{IfOk-at_ok}
-use Rattle.nine_fields.specs.declared.qid.Qid.{Qid}
-use Rattle.nine_wire.specs.declared.message.Reply.TheVariants as reply
 use Rattle.fo_world.specs.declared.place.Info.{Info}
-use Rattle.fo_world.specs.declared.place.Place.{Place}
 use Rattle.fo_world.specs.World.{World}
 use Rattle.fo_world.specs.declared.error.FileError.{FileError}
 use Rattle.nine_fids.specs.Looking.{IsRefused}
-use Rattle.fo_world.specs.declared.error.FileError.TheVariants as error
-use Rattle.fo_users.specs.declared.right.Right.TheVariants.{Execute}
-use Rattle.fo_users.specs.Rights.{may}
-use Rattle.nine_fids.specs.Rights.{table_of}
-use Rattle.fo_world.specs.Step as step
 use Rattle.nine_fids.specs.declared.fid.Fid.{Fid}
 use Rattle.nine_fids.specs.declared.refusal.Refusal.{Refusal}
 use Rattle.nine_fids.specs.declared.refusal.Refusal.TheVariants as refusal
-use Rattle.nine_fids.specs.Refusing.{and_then, refuse_if, is_failure}
-use Rattle.nine_fids.specs.Told.{Files, info_at, parent_at, named_at, is_dir, qid_of}
+use Rattle.nine_fids.specs.Refusing.{and_then, refuse_if}
+use Rattle.nine_fids.specs.Told.{Files, info_at}
 use Rattle.nine_fids.specs.Fids.{State, version_of, fid_at, is_open, in_use, most_fids}
-use Rattle.nine_fids.proofs.Staying.{told_plain, parent_stays, named_plain}
-use Rattle.nine_session.specs.declared.walking.Walked.{Walked}
-use Rattle.nine_session.specs.Walking.{next, is_up, stands_for_none, walked, passed, from_next, ended, walk_from, walk}
-use Rattle.nine_session.specs.Parts.{walked_fid, arrived}
-use Rattle.nine_session.proofs.Links.{then_ok, then_err, link_refused, same_refused}
-
--- ---- one name
-
--- a refusal that is told is no failure
-abbrev IsPlain : {A : Type 0} → Result A Refusal → Type 0
-IsPlain r = IfErr r (λ e. is_failure e ≡ false)
-
-refuse_plain : {A : Type 0} (b : Bool) (e : Refusal) (rest : Result A Refusal) → is_failure e ≡ false → IsPlain rest → IsPlain (refuse_if b e rest)
-refuse_plain true e rest plain more = plain
-refuse_plain false e rest plain more = more
-
-if_plain : {A : Type 0} (b : Bool) (x y : Result A Refusal) → IsPlain x → IsPlain y → IsPlain (if b then x else y)
-if_plain true x y p q = p
-if_plain false x y p q = q
-
-parent_plain : (e : Files) (w : World) (at : Place) → IsPlain (parent_at e w at)
-unfolding parent_at
-parent_plain e w at = told_plain (step.parent e.whole w at) w (parent_stays e.whole w at)
-
-pub next_plain : (e : Files) (w : World) (user : List ℕ) (i : Info) (name : List ℕ) → IfErr (next e w user i name) (λ r. is_failure r ≡ false)
-unfolding next
-next_plain e w user i name =
-    let named : Result Info Refusal = named_at e w i.place name in
-    let there : Result Info Refusal = refuse_if (stands_for_none name) (refusal.File error.Absent) named in
-    let led : Result Info Refusal = if is_up name then parent_at e w i.place else there in
-    let may_go : Bool = may (table_of e w) user i Execute in
-    refuse_plain (not (is_dir i.mode)) (refusal.File error.NotDir) (refuse_if (not may_go) refusal.PermissionDenied led) refl
-    (refuse_plain (not may_go) refusal.PermissionDenied led refl
-    (if_plain (is_up name) (parent_at e w i.place) there (parent_plain e w i.place)
-    (refuse_plain (stands_for_none name) (refusal.File error.Absent) named refl (named_plain e w i.place name))))
-
--- ---- all names
-
--- what a walk comes to, behind what it has passed
-abbrev pub behind : List Qid → Walked → Walked
-behind qids w = record { qids = qids ++ w.qids; last = w.last; stopped = w.stopped }
-
-one_behind : (qids : List Qid) (q : Qid) (w : Walked) → behind qids (passed q w) ≡ behind (qids ++ q ∷ []) w
-one_behind qids q w =
-    let put : List Qid → Walked = λ t. record { qids = t; last = w.last; stopped = w.stopped } in
-    ap put (sym (append_assoc qids (q ∷ []) w.qids))
-
-none_behind : (qids : List Qid) (at : Place) (stopped : Option Refusal) → behind qids (record { qids = []; last = at; stopped = stopped }) ≡ record { qids = qids; last = at; stopped = stopped }
-none_behind qids at stopped =
-    let put : List Qid → Walked = λ t. record { qids = t; last = at; stopped = stopped } in
-    ap put (append-nil qids)
-
--- no name is left
-pub walk_done : (e : Files) (w : World) (user : List ℕ) (names : List (List ℕ)) (qids : List Qid) (i : Info) → names ≡ [] → behind qids (walked e w user names i) ≡ record { qids = qids; last = i.place; stopped = None }
-unfolding walked
-walk_done e w user names qids i none =
-    ap (λ ns. behind qids (walked e w user ns i)) none ∙ none_behind qids i.place None
-
--- a name leads on
-pub walk_on : (e : Files) (w : World) (user : List ℕ) (names rest : List (List ℕ)) (name : List ℕ) (qids : List Qid) (i j : Info) → names ≡ name ∷ rest → next e w user i name ≡ Ok j → behind qids (walked e w user names i) ≡ behind (qids ++ qid_of j ∷ []) (walked e w user rest j)
-unfolding walked
-walk_on e w user names rest name qids i j front leads =
-    ap (λ ns. behind qids (walked e w user ns i)) front
-    ∙ ap (λ t. behind qids (from_next (walked e w user rest) i t)) leads
-    ∙ one_behind qids (qid_of j) (walked e w user rest j)
-
--- a name leads nowhere
-pub walk_stops : (e : Files) (w : World) (user : List ℕ) (names rest : List (List ℕ)) (name : List ℕ) (qids : List Qid) (i : Info) (r : Refusal) → names ≡ name ∷ rest → next e w user i name ≡ Err r → behind qids (walked e w user names i) ≡ record { qids = qids; last = i.place; stopped = Some r }
-unfolding walked
-walk_stops e w user names rest name qids i r front stops =
-    ap (λ ns. behind qids (walked e w user ns i)) front
-    ∙ ap (λ t. behind qids (from_next (walked e w user rest) i t)) stops
-    ∙ none_behind qids i.place (Some r)
-
--- the names from one on
-pub name_here : (names : List (List ℕ)) (i : ℕ) (name : List ℕ) → i < length names → name ≡ get_or names i name → drop i names ≡ name ∷ drop (i + 1) names
-name_here names i name within is =
-    drop-cons names i name within ∙ ap (λ n. n ∷ drop (suc i) names) (sym is) ∙ ap (λ k. name ∷ drop k names) (sym (add-one i))
+use Rattle.nine_files.specs.declared.walking.Walked.{Walked}
+use Rattle.nine_files.specs.Parts.{arrived}
+use Rattle.nine_files.specs.Walking.{from_next, next, walked}
+use Rattle.nine_files.proofs.Links.{then_ok}
+use Rattle.nine_session.specs.Attempting.{walked_fid}
+use Rattle.nine_session.specs.Walking.{ended, walk, walk_from}
+use Rattle.nine_session.proofs.Links.{link_refused, same_refused, then_err}
 
 -- ---- a walk has no more qids than names
 
@@ -115,12 +35,12 @@ looked_short : (r : Result Info Refusal) (go : Info → Walked) (n : ℕ) → ((
 looked_short (Ok i) go n short = short i
 looked_short (Err r) go n short = tt
 
-all_short : (e : Files) (w : World) (f : Fid) (names : List (List ℕ)) → IfOk (arrived e w f names) (λ v. length v.qids ≤ length names)
-all_short e w f [] = omega arith
-all_short e w f (name ∷ names) = looked_short (info_at e w f.place) (walked e w f.user (name ∷ names)) (suc (length names)) (walked_short e w f.user (name ∷ names))
+arrival_short : (e : Files) (w : World) (f : Fid) (names : List (List ℕ)) → IfOk (arrived e w f names) (λ v. length v.qids ≤ length names)
+arrival_short e w f [] = omega arith
+arrival_short e w f (name ∷ names) = looked_short (info_at e w f.place) (walked e w f.user (name ∷ names)) (suc (length names)) (walked_short e w f.user (name ∷ names))
 
 pub arrived_short : (e : Files) (w : World) (f : Fid) (names : List (List ℕ)) (v : Walked) → arrived e w f names ≡ Ok v → length v.qids ≤ length names
-arrived_short e w f names v is = IfOk-at_ok (λ v. length v.qids ≤ length names) is (all_short e w f names)
+arrived_short e w f names v is = IfOk-at_ok (λ v. length v.qids ≤ length names) is (arrival_short e w f names)
 
 -- ---- the request
 
@@ -203,15 +123,3 @@ tested_full z f fid newfid names a b d h = rw (a, b, d, h) refl
 
 pub tested_well : (z : State) (f : Fid) (fid newfid : ℕ) (names : List (List ℕ)) → nat_lt 16 (length names) ≡ false → is_open f ≡ false → (not (newfid == fid) && in_use newfid z.session.fids) ≡ false → (not (newfid == fid) && nat_le most_fids (length z.session.fids)) ≡ false → tested z f fid newfid names ≡ Ok f
 tested_well z f fid newfid names a b d h = rw (a, b, d, h) refl
-
--- ---- its end
-
--- one that stops at its first name is refused
-pub ended_at_once : (z : State) (f : Fid) (newfid : ℕ) (qids : List Qid) (at : Place) (r : Refusal) → length qids ≡ 0 → ended z f newfid qids at (Some r) ≡ Err r
-ended_at_once z f newfid [] at r none = refl
-ended_at_once z f newfid (q ∷ qids) at r none = absurd (omega arith)
-
--- one that stops later tells the qids so far
-pub ended_later : (z : State) (f : Fid) (newfid : ℕ) (qids : List Qid) (at : Place) (r : Refusal) → (length qids ≡ 0 → ⊥) → ended z f newfid qids at (Some r) ≡ Ok (reply.Walk qids, z)
-ended_later z f newfid [] at r some = absurd (some refl)
-ended_later z f newfid (q ∷ qids) at r some = refl

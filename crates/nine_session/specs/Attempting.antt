@@ -1,22 +1,20 @@
 -- What the private calls of a session answer.
-use Rattle.std.specs.Prelude.{◌≡◌, ℕ, List, Bool, true, false, Option, Some, None, Result, Ok, Err, MatchResult, IfOk, is_ok}
+use Rattle.std.specs.Prelude.{◌≡◌, ℕ, List, Bool, true, false, Option, Some, None, Result, Ok, Err, MatchResult, IfOk, is_ok, not, ◌&&◌, length, ◌==◌, nat_lt, nat_le}
 use Rattle.nine_wire.specs.declared.message.Request.{Request}
 use Rattle.nine_wire.specs.Message.{ReplyFits}
 use Rattle.nine_wire.specs.declared.message.Reply.{Reply}
 use Rattle.nine_wire.specs.declared.message.Reply.TheVariants as reply
 use Rattle.fo_world.specs.declared.error.FileError.{FileError}
-use Rattle.fo_world.specs.declared.error.FileError.TheVariants as error
-use Rattle.fo_world.specs.declared.place.Info.{Info}
 use Rattle.fo_world.specs.World.{World}
 use Rattle.nine_fids.specs.Looking.{IsRefused}
 use Rattle.nine_fids.specs.declared.refusal.Refusal.{Refusal}
 use Rattle.nine_fids.specs.declared.refusal.Refusal.TheVariants as refusal
 use Rattle.nine_fids.specs.declared.fid.Fid.{Fid}
-use Rattle.nine_fids.specs.Fids.{Fids, State, fid_of, clunked}
-use Rattle.nine_fids.specs.Refusing.{and_then, refusal_text}
-use Rattle.nine_fids.specs.Told.{Files, info_at}
-use Rattle.nine_session.specs.Session.{Told, Tells, Needs, Fails, AgreesWithin, left_by}
-use Rattle.nine_session.specs.Removing as removing
+use Rattle.nine_fids.specs.Fids.{Fids, State, fid_of, clunked, number_at, is_open, with_fid, most_fids, in_use, version_of, fid_at}
+use Rattle.nine_fids.specs.Refusing.{and_then, refusal_text, refuse_if}
+use Rattle.nine_fids.specs.Told.{Files}
+use Rattle.nine_session.specs.Opening.{listed}
+use Rattle.nine_session.specs.Session.{AgreesWithin, Fails, Needs, Tells, Told, left_by}
 
 abbrev pub state : Fids → List ℕ → World → State
 state session exclusive w = record { session = session; exclusive = exclusive; world = w }
@@ -28,18 +26,6 @@ Replies told z result = MatchResult result (λ r. told ≡ Ok (r, z)) (λ r. tol
 -- A request: its reply and the state after it, or a refusal and what it leaves.
 abbrev pub Attempts : Told → (FileError → Type 0) → State → State → Result Reply Refusal → Type 0
 Attempts told fails left z' result = MatchResult result (λ r. told ≡ Ok (r, z')) (λ r. IsRefused told fails r × (z' ≡ left))
-
--- The refusal is a failure of the files that has its cause.
-abbrev pub Misses : (FileError → Type 0) → Refusal → Type 0
-Misses fails r = (x : FileError) × (r ≡ refusal.File x) × fails x
-
--- A step that changes the world: what is told, with the world after it, or a refusal that leaves the world.
-abbrev pub Changes : {A : Type 0} → Result (A × World) Refusal → (FileError → Type 0) → World → World → Result A Refusal → Type 0
-Changes told fails old new result = MatchResult result (λ x. told ≡ Ok (x, new)) (λ r. IsRefused told fails r × (new ≡ old))
-
--- the same, where nothing but the world after it is told
-abbrev pub Leads : Result World Refusal → (FileError → Type 0) → World → World → Result (Unit {0}) Refusal → Type 0
-Leads told fails old new result = MatchResult result (λ _. told ≡ Ok new) (λ r. IsRefused told fails r × (new ≡ old))
 
 -- without the fid of this number, where there is one
 abbrev pub without_one : State → Option Fid → State
@@ -61,15 +47,6 @@ pub record Tried (e : Files) (fails : Fails) (z : State) (now : ℕ) (q : Reques
   pub needs : Needs e z q need
   pub attempts : Attempts told (fails need (is_ok told)) (left_by z q) z' result
 
--- the world without the file of a fid, where that is there
-abbrev pub removed_there : Files → World → Fid → ℕ → Result World Refusal
-removed_there e w f now = and_then (info_at e w f.place) (λ _. removing.removed e w f now)
-
--- what was looked at is gone
-abbrev pub gone : Result Info Refusal → Bool
-gone (Err (refusal.File error.Gone)) = true
-gone _ = false
-
 -- the message size that is agreed to, where the version is known
 abbrev pub agreed_size : Bool → ℕ → Option ℕ
 agreed_size true msize = Some msize
@@ -79,3 +56,24 @@ agreed_size false msize = None
 abbrev pub error_of : Result Reply Refusal → Option Reply
 error_of (Ok r) = None
 error_of (Err why) = Some (reply.Error (refusal_text why))
+
+-- with an open fid in place of the one of its number, and its file on the list where it is held
+abbrev pub with_put : State → Fid → Bool → State
+with_put z f held = record {
+  session = record { msize = z.session.msize; fids = with_fid f z.session.fids };
+  exclusive = listed held (number_at f.place) z.exclusive;
+  world = z.world;
+}
+
+-- ---- walks
+
+-- the fid that a walk goes from, where it may
+unfoldable pub walked_fid : State → ℕ → ℕ → List (List ℕ) → Result Fid Refusal
+walked_fid z fid newfid names =
+    and_then (version_of z) (λ _.
+    and_then (fid_at z fid) (λ f.
+    refuse_if (nat_lt 16 (length names)) refusal.TooManyNames (
+    refuse_if (is_open f) refusal.FidIsOpen (
+    refuse_if (not (newfid == fid) && in_use newfid z.session.fids) refusal.FidInUse (
+    refuse_if (not (newfid == fid) && nat_le most_fids (length z.session.fids)) refusal.TooManyFids (
+    Ok f))))))

@@ -6,5 +6,3 @@ pub mod Removing
 pub mod Session
 pub mod Stating
 pub mod Walking
-pub mod Parts
-pub mod Granting

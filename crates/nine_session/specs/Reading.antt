@@ -1,11 +1,7 @@
 -- Tread and Twrite (read(5) of the Plan 9 manual).
-use Rattle.std.specs.Prelude.{ℕ, zero, suc, ◌+◌, ◌-◌, ◌%◌, ◌^◌, List, [], ◌∷◌, length, min, Bool, false, not, ◌&&◌, ◌==◌, nat_lt, Option, Some, None, Result, Ok, if◌then◌else◌}
-use Rattle.std.specs.List.{flat_map}
+use Rattle.std.specs.Prelude.{ℕ, suc, ◌+◌, ◌%◌, ◌^◌, List, length, min, not, ◌&&◌, ◌==◌, Result, Ok, if◌then◌else◌}
 use Rattle.nine_wire.specs.declared.message.Reply.{Reply}
 use Rattle.nine_wire.specs.declared.message.Reply.TheVariants as reply
-use Rattle.fo_world.specs.declared.place.Info.{Info}
-use Rattle.fo_world.specs.declared.place.Place.{Place}
-use Rattle.fo_world.specs.World.{World}
 use Rattle.fo_world.specs.Step as step
 use Rattle.nine_fids.specs.declared.fid.Fid.{Fid}
 use Rattle.nine_fids.specs.declared.fid.Opened.{Opened}
@@ -13,41 +9,9 @@ use Rattle.nine_fids.specs.declared.refusal.Refusal.{Refusal}
 use Rattle.nine_fids.specs.declared.refusal.Refusal.TheVariants as refusal
 use Rattle.nine_fids.specs.Refusing.{and_then, refuse_if, changed}
 use Rattle.nine_fids.specs.Fids.{State, version_of, fid_at, opened_of, with_fid, with_fids, in_world}
-use Rattle.nine_fids.specs.Told.{Files, info_at, next_at, bytes_at, is_dir, appends, record_of, iounit}
+use Rattle.nine_fids.specs.Told.{Files, info_at, next_at, bytes_at, is_dir, appends, iounit}
 use Rattle.nine_fids.specs.Modes.{reads, writes}
-
--- ---- directories
-
--- As many files of a directory as have their records within the bytes left, in the order of their names, from the first above a
--- name on. Each record has bytes, so one step more than bytes is enough.
-abbrev pub fitting : (Option (List ℕ) → ℕ → Result (List Info) Refusal) → ℕ → Option Info → Result (List Info) Refusal
-fitting go left None = Ok []
-fitting go left (Some i) = if nat_lt left (length (record_of i)) then Ok [] else and_then (go (Some i.name) (left - length (record_of i))) (λ rest. Ok (i ∷ rest))
-
-unfoldable pub files_above : ℕ → Files → World → Place → Option (List ℕ) → ℕ → Result (List Info) Refusal
-files_above zero e w at after left = Ok []
-files_above (suc steps) e w at after left = and_then (next_at e w at after) (fitting (files_above steps e w at) left)
-
--- the first record takes more than the count
-abbrev pub exceeds : ℕ → Option Info → Bool
-exceeds count None = false
-exceeds count (Some i) = nat_lt count (length (record_of i))
-
--- the name of the last file, or the one before
-abbrev pub last_name : Option (List ℕ) → List Info → Option (List ℕ)
-last_name after [] = after
-last_name after (i ∷ is) = last_name (Some i.name) is
-
-abbrev pub records_of : List Info → List ℕ
-records_of is = flat_map record_of is
-
--- the fid with the place in the directory where its next read goes on; offsets count modulo 2^64
-abbrev pub read_to : Fid → Opened → ℕ → Option (List ℕ) → Fid
-read_to f o offset last = record f { opened = Some (record o { offset = offset; last = last }) }
-
--- where a read of a directory begins: at its first name, or behind the last one that was given
-abbrev pub start_of : Opened → ℕ → Option (List ℕ)
-start_of o offset = if offset == 0 then None else o.last
+use Rattle.nine_files.specs.Reading.{exceeds, files_above, last_name, read_to, records_of, start_of}
 
 unfoldable pub read_directory : Files → State → Fid → Opened → ℕ → ℕ → Result (Reply × State) Refusal
 read_directory e z f o offset count =

@@ -1,27 +1,13 @@
 -- Tclunk and Tremove, and the end of a session (clunk(5), remove(5) of the Plan 9 manual).
-use Rattle.std.specs.Prelude.{ℕ, length, Bool, false, not, ◌==◌, Result, Ok, Err, if◌then◌else◌}
-use Rattle.std.specs.Option.{option_map_or}
+use Rattle.std.specs.Prelude.{ℕ, Result, Ok}
 use Rattle.nine_wire.specs.declared.message.Reply.{Reply}
 use Rattle.nine_wire.specs.declared.message.Reply.TheVariants as reply
-use Rattle.fo_world.specs.declared.place.Info.{Info}
-use Rattle.fo_world.specs.declared.error.FileError.TheVariants as error
-use Rattle.fo_world.specs.World.{World}
-use Rattle.fo_world.specs.Step as step
 use Rattle.nine_fids.specs.declared.fid.Fid.{Fid}
 use Rattle.nine_fids.specs.declared.refusal.Refusal.{Refusal}
-use Rattle.nine_fids.specs.declared.refusal.Refusal.TheVariants as refusal
-use Rattle.nine_fids.specs.Refusing.{and_then, refuse_if, changed}
+use Rattle.nine_fids.specs.Refusing.{and_then}
 use Rattle.nine_fids.specs.Fids.{State, version_of, fid_at, clunked, in_world}
 use Rattle.nine_fids.specs.Told.{Files, info_at}
-use Rattle.nine_fids.specs.Rights.{may_write_above}
-
--- the world without the file of a fid
-unfoldable pub removed : Files → World → Fid → ℕ → Result World Refusal
-removed e w f now =
-    refuse_if (not (step.is_active f.place.view)) (refusal.File error.ReadOnly) (
-    refuse_if (length f.place.trail == 0) refusal.RemovesRoot (
-    and_then (may_write_above e w f) (λ _.
-    and_then (changed (step.remove e.whole w f.place f.user now)) (λ p. Ok p.1))))
+use Rattle.nine_files.specs.Removing.{closed, removed}
 
 -- Tremove: the file is removed, and in each case the fid is gone
 unfoldable pub remove : Files → State → ℕ → ℕ → Result (Reply × State) Refusal
@@ -30,20 +16,6 @@ remove e z now fid =
     and_then (fid_at z fid) (λ f.
     and_then (info_at e z.world f.place) (λ _.
     and_then (removed e z.world f now) (λ w. Ok (reply.Remove, clunked (in_world z w) f)))))
-
--- a fid that was opened with ORCLOSE
-abbrev pub removes : Fid → Bool
-removes f = option_map_or (λ o. o.remove) f.opened false
-
--- the world without the file of such a fid, where it is not gone
-abbrev pub removed_unless_gone : Files → World → Fid → ℕ → Result Info Refusal → Result World Refusal
-removed_unless_gone e w f now (Err (refusal.File error.Gone)) = Ok w
-removed_unless_gone e w f now (Err r) = Err r
-removed_unless_gone e w f now (Ok i) = removed e w f now
-
--- the world after the end of a fid
-unfoldable pub closed : Files → World → Fid → ℕ → Result World Refusal
-closed e w f now = if removes f then removed_unless_gone e w f now (info_at e w f.place) else Ok w
 
 unfoldable pub clunk_fid : Files → State → ℕ → Fid → Result (Reply × State) Refusal
 clunk_fid e z now f = and_then (closed e z.world f now) (λ w. Ok (reply.Clunk, clunked (in_world z w) f))

@@ -4,6 +4,7 @@ use Rattle.nine_wire.specs.declared.message.Request.{Request}
 use Rattle.nine_wire.specs.declared.message.Request.TheVariants as request
 use Rattle.nine_wire.specs.declared.message.Reply.{Reply}
 use Rattle.nine_wire.specs.declared.message.Reply.TheVariants as reply
+use Rattle.nine_wire.specs.Version.{largest_message}
 use Rattle.nine_stat.specs.declared.stat.Stat.{Stat}
 use Rattle.nine_stat.specs.Stat.{IsRecord}
 use Rattle.fo_world.specs.declared.place.Place.{Place}
@@ -16,11 +17,13 @@ use Rattle.nine_fids.specs.Refusing.{refusal_text}
 use Rattle.nine_fids.specs.Fids.{State, known, clunked, restarted}
 use Rattle.nine_fids.specs.Told.{Files}
 use Rattle.nine_session.specs.Attaching as attaching
-use Rattle.nine_session.specs.Walking as walking
 use Rattle.nine_session.specs.Opening as opening
 use Rattle.nine_session.specs.Reading as reading
 use Rattle.nine_session.specs.Removing as removing
 use Rattle.nine_session.specs.Stating as stating
+use Rattle.nine_session.specs.Walking as walking
+use Rattle.nine_files.specs.Opening.{emptied}
+use Rattle.nine_files.specs.Stating.{change_of}
 
 -- ---- what is granted, and what is refused
 
@@ -67,10 +70,10 @@ need_at (Some f) need = need f.place
 
 -- what the changes of a stat record need
 abbrev pub restating_need : Files → State → ℕ → Stat → ℕ
-restating_need e z fid s = need_at (known fid z.session.fids) (λ at. step.change_need e.whole z.world at (stating.change_of s))
+restating_need e z fid s = need_at (known fid z.session.fids) (λ at. step.change_need e.whole z.world at (change_of s))
 
 abbrev pub Needs : Files → State → Request → ℕ → Type 0
-Needs e z (request.Open fid mode) need = need ≡ need_at (known fid z.session.fids) (λ at. step.change_need e.whole z.world at opening.emptied)
+Needs e z (request.Open fid mode) need = need ≡ need_at (known fid z.session.fids) (λ at. step.change_need e.whole z.world at emptied)
 Needs e z (request.Create fid name perm mode) need = need ≡ need_at (known fid z.session.fids) step.create_need
 Needs e z (request.Write fid offset bytes) need = need ≡ need_at (known fid z.session.fids) (λ at. step.write_need at bytes)
 Needs e z (request.Clunk fid) need = need ≡ need_at (known fid z.session.fids) (λ at. step.give (step.depth_of at))
@@ -82,7 +85,7 @@ Needs e z _ need = need ≡ 0
 
 -- a reply to Tversion agrees to no more than the largest message size
 abbrev pub AgreesWithin : Reply → Type 0
-AgreesWithin (reply.Version msize version) = msize ≤ attaching.largest_msize
+AgreesWithin (reply.Version msize version) = msize ≤ largest_message
 AgreesWithin _ = Unit {0}
 
 -- the reply to what is told, and the state after it

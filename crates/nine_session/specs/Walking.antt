@@ -1,50 +1,16 @@
 -- Twalk (walk(5) of the Plan 9 manual).
-use Rattle.std.specs.Prelude.{ℕ, List, [], ◌∷◌, ◌++◌, length, Bool, not, ◌&&◌, ◌||◌, ◌==◌, nat_lt, nat_le, Option, Some, None, Result, Ok, Err, if◌then◌else◌, codes}
-use Rattle.std.specs.Str.{bytes_eq}
+use Rattle.std.specs.Prelude.{ℕ, List, [], ◌∷◌, ◌++◌, length, not, ◌&&◌, ◌==◌, nat_lt, nat_le, Option, Some, None, Result, Ok, Err, if◌then◌else◌}
 use Rattle.nine_fields.specs.declared.qid.Qid.{Qid}
 use Rattle.nine_wire.specs.declared.message.Reply.{Reply}
 use Rattle.nine_wire.specs.declared.message.Reply.TheVariants as reply
-use Rattle.fo_world.specs.declared.place.Info.{Info}
 use Rattle.fo_world.specs.declared.place.Place.{Place}
-use Rattle.fo_world.specs.declared.error.FileError.TheVariants as error
-use Rattle.fo_world.specs.World.{World}
-use Rattle.fo_users.specs.declared.right.Right.TheVariants.{Execute}
-use Rattle.nine_session.specs.declared.walking.Walked.{Walked}
 use Rattle.nine_fids.specs.declared.fid.Fid.{Fid}
 use Rattle.nine_fids.specs.declared.refusal.Refusal.{Refusal}
 use Rattle.nine_fids.specs.declared.refusal.Refusal.TheVariants as refusal
 use Rattle.nine_fids.specs.Refusing.{and_then, refuse_if}
 use Rattle.nine_fids.specs.Fids.{State, most_fids, in_use, is_open, with_fid, version_of, fid_at, with_fids}
-use Rattle.nine_fids.specs.Told.{Files, info_at, parent_at, named_at, is_dir, qid_of}
-use Rattle.fo_users.specs.Rights.{may}
-use Rattle.nine_fids.specs.Rights.{table_of}
-
--- `.` and the empty name stand for no file
-abbrev pub stands_for_none : List ℕ → Bool
-stands_for_none name = bytes_eq name [] || bytes_eq name (codes ".")
-
-abbrev pub is_up : List ℕ → Bool
-is_up name = bytes_eq name (codes "..")
-
--- what a name leads to from a file, for a user; `..` leads to the directory above
-unfoldable pub next : Files → World → List ℕ → Info → List ℕ → Result Info Refusal
-next e w user i name =
-    refuse_if (not (is_dir i.mode)) (refusal.File error.NotDir) (
-    refuse_if (not (may (table_of e w) user i Execute)) refusal.PermissionDenied (
-    if is_up name then parent_at e w i.place
-    else refuse_if (stands_for_none name) (refusal.File error.Absent) (named_at e w i.place name)))
-
--- how far a walk comes, by one file more
-abbrev pub passed : Qid → Walked → Walked
-passed qid w = record w { qids = qid ∷ w.qids }
-
-abbrev pub from_next : (Info → Walked) → Info → Result Info Refusal → Walked
-from_next go i (Ok j) = passed (qid_of j) (go j)
-from_next go i (Err r) = record { qids = []; last = i.place; stopped = Some r }
-
-unfoldable pub walked : Files → World → List ℕ → List (List ℕ) → Info → Walked
-walked e w user [] i = record { qids = []; last = i.place; stopped = None }
-walked e w user (name ∷ names) i = from_next (walked e w user names) i (next e w user i name)
+use Rattle.nine_fids.specs.Told.{Files, info_at}
+use Rattle.nine_files.specs.Walking.{walked}
 
 -- the fids after a walk: the new one is at the place where the walk came to
 abbrev pub moved : Fid → ℕ → Place → List Fid → List Fid

@@ -2,145 +2,17 @@
 ghost use Rattle.std.specs.Prelude.{◌≡◌, ◌==◌, ◌&&◌, not, nat_le, length, IsTrue, MatchResult};
 ghost use Rattle.nine_fids.specs.Fids as kept;
 ghost use Rattle.nine_fids.specs.Told.{served};
-ghost use Rattle.nine_fids.specs.Rights.{table_of};
-ghost use Rattle.nine_fids.specs.Looking.{Looks, MayMiss};
+ghost use Rattle.nine_fids.specs.Looking.{MayMiss};
 ghost use Rattle.nine_session.specs.Walking as nine;
-ghost use Rattle.nine_session.specs.Parts.{arrived};
-ghost use Rattle.nine_session.specs.Attempting.{Misses};
 
 use crate::session::Session;
-use fo_users::{Right, Users};
-use fo_world::{FileError, FileOps, Info, Name, Place};
-use nine_fids::{
-    Fid, MOST_FIDS, Refusal, in_use, info_at, is_dir, named_at, parent_at, put_fid, qid_of,
-    table_of,
-};
-use nine_wire::{Names, Qid, Qids, Reply};
-use std::alloc::Global;
+use fo_world::{FileOps, Name};
+use nine_fids::{Fid, MOST_FIDS, Refusal, in_use, put_fid};
+use nine_files::{Walked, walk_from};
+use nine_wire::{Names, Reply};
 
 /// The most names of a walk.
 const MOST_NAMES: usize = 16;
-
-/// How far a walk comes: the qids of what it passes, the last place, and why it stops before its end.
-#[derive(Drop)]
-pub struct Walked {
-    pub qids: Qids,
-    pub last: Place,
-    pub stopped: Option<Refusal>,
-}
-
-/// Whether a name leads to the directory above.
-fn is_up(name: &[u8]) -> bool
-    ensures { result ≡ nine.is_up name.now }
-{
-    name == b"..".as_slice()
-}
-
-/// Whether a name is that of no file.
-fn stands_for_none(name: &[u8]) -> bool
-    ensures { result ≡ nine.stands_for_none name.now }
-{
-    name == b"".as_slice() || name == b".".as_slice()
-}
-
-/// What a name leads to from a file, for a user.
-fn next<F: FileOps>(
-    files: &mut F,
-    users: &Users,
-    user: &Name,
-    from: &Info,
-    name: &[u8],
-) -> Result<Info, Refusal>
-    requires whole { IsTrue (F.whole files.old) }
-    requires users { users.now ≡ table_of (served (F.whole files.old) (F.largest files.old)) (F.world files.old) }
-    ensures looks { Looks (nine.next (served (F.whole files.old) (F.largest files.old)) (F.world files.old) user.now from.now name.now)
-        (MayMiss (F.faults files.old) (F.faults files.new) (F.honest files.old)) result }
-    ensures world { F.world files.new ≡ F.world files.old }
-    ensures keeps { F.keeps files.old files.new }
-{
-    if !is_dir(from.mode) {
-        return Err(Refusal::File(FileError::NotDir));
-    }
-    if !users.may(user, from, Right::Execute) {
-        return Err(Refusal::PermissionDenied);
-    }
-    if is_up(name) {
-        return parent_at(files, &from.place);
-    }
-    if stands_for_none(name) {
-        return Err(Refusal::File(FileError::Absent));
-    }
-    named_at(files, &from.place, name)
-}
-
-/// Goes along the names as far as they lead. A failure of the files ends it as a whole.
-fn follow<F: FileOps>(
-    alloc: Global,
-    files: &mut F,
-    users: &Users,
-    user: &Name,
-    names: &[Name],
-    from: Info,
-) -> Result<Walked, Refusal>
-    requires whole { IsTrue (F.whole files.old) }
-    requires users { users.now ≡ table_of (served (F.whole files.old) (F.largest files.old)) (F.world files.old) }
-    ensures comes { MatchResult result
-        (λ w. w ≡ nine.walked (served (F.whole files.old) (F.largest files.old)) (F.world files.old) user.now names.now from)
-        (Misses (MayMiss (F.faults files.old) (F.faults files.new) (F.honest files.old))) }
-    ensures world { F.world files.new ≡ F.world files.old }
-    ensures keeps { F.keeps files.old files.new }
-{
-    let mut qids = Vec::new(alloc);
-    let mut last = from;
-    for name in names {
-        match next(files, users, user, &last, name.as_slice()) {
-            Ok(found) => {
-                qids.push(qid_of(&found))?;
-                last = found;
-            }
-            Err(refusal) => {
-                if refusal.is_failure() {
-                    return Err(refusal);
-                }
-                return Ok(Walked {
-                    qids: Qids::new(qids),
-                    last: last.place,
-                    stopped: Some(refusal),
-                });
-            }
-        }
-    }
-    Ok(Walked {
-        qids: Qids::new(qids),
-        last: last.place,
-        stopped: None,
-    })
-}
-
-/// Goes from a fid's file along the names.
-fn walk_from<F: FileOps>(
-    alloc: Global,
-    files: &mut F,
-    fid: &Fid,
-    names: &[Name],
-) -> Result<Walked, Refusal>
-    requires { IsTrue (F.whole files.old) }
-    ensures arrives { Looks (arrived (served (F.whole files.old) (F.largest files.old)) (F.world files.old) fid.now names.now)
-        (MayMiss (F.faults files.old) (F.faults files.new) (F.honest files.old)) result }
-    ensures world { F.world files.new ≡ F.world files.old }
-    ensures keeps { F.keeps files.old files.new }
-{
-    if names.is_empty() {
-        return Ok(Walked {
-            qids: Qids::new(Vec::new(alloc)),
-            last: fid.place.copy(alloc)?,
-            stopped: None,
-        });
-    }
-    let start = info_at(files, &fid.place)?;
-    let users = table_of(alloc, files)?;
-    follow(alloc, files, &users, &fid.user, names, start)
-}
 
 /// Whether a walk can't go to a new fid because its number is in use.
 fn is_taken(fids: &[Fid], fid: u32, newfid: u32) -> bool
@@ -166,8 +38,7 @@ impl Session {
     ghost use Rattle.nine_fids.specs.Told.{served};
     ghost use Rattle.nine_fids.specs.Looking.{MayMiss};
     ghost use Rattle.nine_session.specs.Walking as nine;
-    ghost use Rattle.nine_session.specs.Parts.{walked_fid};
-    ghost use Rattle.nine_session.specs.Attempting.{state, Attempts, IsSent};
+    ghost use Rattle.nine_session.specs.Attempting.{walked_fid, state, Attempts, IsSent};
 
     /// Twalk.
     pub(crate) fn walk<F: FileOps>(

@@ -2,7 +2,7 @@ use Rattle.std.proofs.Common.{ap, ◌∙◌, refl, inr, arith}
 use Rattle.fo_world.specs.declared.error.FileError.TheVariants as failure
 use Rattle.nine_fids.specs.Fids.{restarted}
 use Rattle.nine_session.specs.Attempting.{state}
-use Rattle.nine_session.proofs.Starts.{version_small, version_agreed, answer_fits}
+use Rattle.nine_session.proofs.Starts.{answer_fits, version_agreed, version_small}
 use Rattle.nine_session.proofs.session.Session.agree.Goals as goal
 
 pub returns-then-msize-lt-LEAST-clause-attempts : goal.returns-then-msize-lt-LEAST-clause-attempts

@@ -1,4 +1,4 @@
-use Rattle.nine_session.proofs.Trying.{serves_reply, serves_refusal}
+use Rattle.nine_session.proofs.Trying.{serves_refusal, serves_reply}
 use Rattle.nine_session.proofs.session.Session.answer.Goals as goal
 
 pub returns-in-Ok-clause-serves : goal.returns-in-Ok-clause-serves

@@ -7,7 +7,7 @@ use Rattle.nine_fids.specs.Told.{served, info_at}
 use Rattle.nine_fids.proofs.Missing.{refused_by, failed_by, fails_since, ok_same}
 use Rattle.nine_session.specs.Attaching.{attach, tree_of}
 use Rattle.nine_session.specs.Attempting.{state}
-use Rattle.nine_session.proofs.Starts.{attach_no_version, attach_auth, attach_in_use, attach_many, attach_unknown, attach_refused, attach_granted, Asks, HasRoom}
+use Rattle.nine_session.proofs.Starts.{Asks, HasRoom, attach_auth, attach_granted, attach_in_use, attach_many, attach_no_version, attach_refused, attach_unknown}
 use Rattle.nine_session.proofs.session.Session.attach.Goals as goal
 
 pub returns-in_err-version-clause-attempts : goal.returns-in_err-version-clause-attempts

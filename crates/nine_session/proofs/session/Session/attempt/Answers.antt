@@ -5,15 +5,16 @@ use Rattle.fo_world.specs.Step as step
 use Rattle.nine_fids.specs.Fids.{State, known}
 use Rattle.nine_fids.specs.Told.{served}
 use Rattle.nine_session.specs.Attaching as attaching
-use Rattle.nine_session.specs.Walking as walking
 use Rattle.nine_session.specs.Opening as opening
 use Rattle.nine_session.specs.Reading as reading
 use Rattle.nine_session.specs.Removing as removing
 use Rattle.nine_session.specs.Stating as stating
-use Rattle.nine_session.specs.Session.{need_at, restating_need}
+use Rattle.nine_session.specs.Walking as walking
+use Rattle.nine_files.specs.Opening.{emptied}
 use Rattle.nine_session.specs.Attempting.{state}
+use Rattle.nine_session.specs.Session.{need_at, restating_need}
 use Rattle.nine_session.proofs.Records.{record_there}
-use Rattle.nine_session.proofs.Trying.{attempts_looking, attempts_replying, attempts_memory}
+use Rattle.nine_session.proofs.Trying.{attempts_looking, attempts_memory, attempts_replying}
 use Rattle.nine_session.proofs.session.Session.attempt.Goals as goal
 
 pub returns-in-Version-clause-tried : goal.returns-in-Version-clause-tried
@@ -86,7 +87,7 @@ returns-in-Open-clause-tried g c =
     let w = g.F.FileOps.world f in
     let z : State = state c.args.self.now c.args.exclusive.now.items w in
     let e = served (g.F.FileOps.whole f) (g.F.FileOps.largest f) in
-    rw c.in-Open.is (record { told = opening.open_file e z c.args.now c.in-Open.fid c.in-Open.mode; need = need_at (known c.in-Open.fid z.session.fids) (λ at. step.change_need (g.F.FileOps.whole f) w at opening.emptied); tells = refl; needs = refl; attempts = c.open.ensures.attempts })
+    rw c.in-Open.is (record { told = opening.open_file e z c.args.now c.in-Open.fid c.in-Open.mode; need = need_at (known c.in-Open.fid z.session.fids) (λ at. step.change_need (g.F.FileOps.whole f) w at emptied); tells = refl; needs = refl; attempts = c.open.ensures.attempts })
 
 pub returns-in-Create-clause-tried : goal.returns-in-Create-clause-tried
 returns-in-Create-clause-tried g c =

@@ -4,7 +4,9 @@ use Rattle.nine_fids.specs.Fids.{State, known, version_of, fid_at}
 use Rattle.nine_fids.specs.Told.{served}
 use Rattle.nine_fids.specs.declared.refusal.Refusal.TheVariants as refusal
 use Rattle.nine_session.specs.Attempting.{state}
-use Rattle.nine_session.proofs.Ends.{clunk_no_version, clunk_unknown, clunk_known, known_fid, some_ok, some_err, left_as_was, left_unknown, left_known}
+use Rattle.nine_session.proofs.Ends.{clunk_known, clunk_no_version, clunk_unknown, left_as_was, left_known, left_unknown, some_err}
+use Rattle.nine_session.proofs.Kept.{known_fid}
+use Rattle.nine_session.proofs.Links.{some_or_ok}
 use Rattle.nine_session.proofs.session.Session.clunk.Goals as goal
 
 pub returns-in_err-version-clause-attempts : goal.returns-in_err-version-clause-attempts
@@ -36,6 +38,6 @@ returns-clause-attempts g c =
     let z : State = state c.args.self.now c.args.exclusive.now.items (g.F.FileOps.world f) in
     let v : version_of z ≡ Ok _ = sym (c.in_ok-version.ensures z.exclusive z.world) in
     let k = c.in_ok-fid.ensures z.exclusive z.world in
-    let is : known c.args.fid z.session.fids ≡ Some _ = some_ok _ refusal.UnknownFid _ k in
+    let is : known c.args.fid z.session.fids ≡ Some _ = some_or_ok _ refusal.UnknownFid _ k in
     let found = known_fid c.args.fid z.session.fids _ is in
     rw (clunk_known e z c.args.now c.args.fid _ _ v k, is, left_known z z.session.msize _ refusal.NoVersion _ v) (c.clunk_fid.ensures.attempts _ found)

@@ -7,8 +7,8 @@ use Rattle.fo_world.specs.Step as step
 use Rattle.nine_fids.specs.Fids.{State, clunked}
 use Rattle.nine_fids.specs.Told.{served}
 use Rattle.nine_session.specs.Attempting.{state}
-use Rattle.nine_session.proofs.Chains.{fid_user}
-use Rattle.nine_session.proofs.Ends.{clunk_refused, clunk_granted, gone_is}
+use Rattle.nine_session.proofs.Ends.{clunk_granted, clunk_refused, gone_is}
+use Rattle.nine_session.proofs.Kept.{fid_user}
 use Rattle.nine_session.proofs.session.Session.clunk_fid.Goals as goal
 
 pub remove_on_close-removed-requires-clause-user : goal.remove_on_close-removed-requires-clause-user

@@ -9,13 +9,15 @@ use Rattle.nine_fids.specs.declared.fid.Fid.{Fid}
 use Rattle.nine_fids.specs.Fids.{Fids, AreUsers, known}
 use Rattle.nine_fids.specs.Told.{served, is_exclusive, qid_of}
 use Rattle.nine_fids.proofs.Missing.{fails_since}
-use Rattle.nine_session.specs.Opening.{create_file, opened_so, new_mode}
-use Rattle.nine_session.specs.Granting.{admitted_new}
-use Rattle.nine_session.specs.Session.{need_at}
+use Rattle.nine_files.specs.Granting.{admitted_new}
+use Rattle.nine_files.specs.Opening.{new_mode, opened_so}
+use Rattle.nine_files.proofs.Links.{refused_looking}
+use Rattle.nine_files.proofs.Restates.{good_name}
 use Rattle.nine_session.specs.Attempting.{state}
-use Rattle.nine_session.proofs.Steps.{refused_looking, need_there, fid_number, fid_is_user}
-use Rattle.nine_session.proofs.Restates.{good_name}
-use Rattle.nine_session.proofs.Opens.{create_no_version, create_no_fid, create_refused, create_granted, create_fails, create_replied, new_named, fid_made, put_is_open}
+use Rattle.nine_session.specs.Opening.{create_file}
+use Rattle.nine_session.specs.Session.{need_at}
+use Rattle.nine_session.proofs.Kept.{need_there, number_there, user_there}
+use Rattle.nine_session.proofs.Opens.{create_fails, create_granted, create_no_fid, create_no_version, create_refused, create_replied, fid_made, new_named, put_is_open}
 use Rattle.nine_session.proofs.session.Session.create.Goals as goal
 
 pub returns-in_err-msize-clause-attempts : goal.returns-in_err-msize-clause-attempts
@@ -67,14 +69,14 @@ create-requires-clause-who g c =
     let w = g.F.FileOps.world c.args.files.now in
     let P : Fids → Type 0 = λ s. AreUsers s.fids in
     let Q : List ℕ → Type 0 = λ u. IsUser u in
-    subst Q (sym c.in_ok-user.ensures) (fid_is_user (state c.args.self.now [] w) c.args.fid c.in_ok-from.from.now (subst P c.self.view_is c.self.invariant) (c.in_ok-from.ensures [] w))
+    subst Q (sym c.in_ok-user.ensures) (user_there (state c.args.self.now [] w) c.args.fid c.in_ok-from.from.now (subst P c.self.view_is c.self.invariant) (c.in_ok-from.ensures [] w))
 
 pub create-requires-clause-uid : goal.create-requires-clause-uid
 create-requires-clause-uid g c =
     let w = g.F.FileOps.world c.args.files.now in
     let P : Fids → Type 0 = λ s. AreUsers s.fids in
     let Q : List ℕ → Type 0 = λ u. IsUser u in
-    subst Q (sym c.in_ok-user.ensures) (fid_is_user (state c.args.self.now [] w) c.args.fid c.in_ok-from.from.now (subst P c.self.view_is c.self.invariant) (c.in_ok-from.ensures [] w))
+    subst Q (sym c.in_ok-user.ensures) (user_there (state c.args.self.now [] w) c.args.fid c.in_ok-from.from.now (subst P c.self.view_is c.self.invariant) (c.in_ok-from.ensures [] w))
 
 pub returns-in_err-info-clause-attempts : goal.returns-in_err-info-clause-attempts
 returns-in_err-info-clause-attempts g c =
@@ -111,7 +113,7 @@ put_open-requires-clause-user g c =
     let P : Fids → Type 0 = λ s. AreUsers s.fids in
     let Q : List ℕ → Type 0 = λ u. IsUser u in
     let same : c.open_fid.result.user ≡ c.in_ok-from.from.now.user = ap (λ (y : Fid). y.user) c.open_fid.ensures ∙ c.in_ok-user.ensures in
-    subst Q (sym same) (fid_is_user (state c.args.self.now [] w) c.args.fid c.in_ok-from.from.now (subst P c.self.view_is c.self.invariant) (c.in_ok-from.ensures [] w))
+    subst Q (sym same) (user_there (state c.args.self.now [] w) c.args.fid c.in_ok-from.from.now (subst P c.self.view_is c.self.invariant) (c.in_ok-from.ensures [] w))
 
 pub returns-clause-attempts : goal.returns-clause-attempts
 returns-clause-attempts g c =
@@ -130,7 +132,7 @@ returns-clause-attempts g c =
     let admitted_so = rw c.as_slice.ensures at c.in_ok-above.ensures.looks in
     let made_so = rw (met.keeps_whole _ _ k, c.admit_new.ensures.world, c.new_mode-perm.ensures, c.in_ok-user.ensures) at c.in_ok-info.ensures.answer in
     let held = c.is_exclusive-held.ensures in
-    let made = fid_made c.open_fid.result c.args.fid from.number _ from.user info.place info.place _ (opened_so mode (is_exclusive info.mode)) c.open_fid.ensures (sym (fid_number z c.args.fid from there)) c.in_ok-user.ensures refl (ap (opened_so mode) held) in
+    let made = fid_made c.open_fid.result c.args.fid from.number _ from.user info.place info.place _ (opened_so mode (is_exclusive info.mode)) c.open_fid.ensures (sym (number_there z c.args.fid from there)) c.in_ok-user.ensures refl (ap (opened_so mode) held) in
     create_replied (create_file e z c.args.now c.args.fid c.args.name.now c.args.perm c.args.mode) (qid_of info) c.qid_of-qid.result _ c.saturating_sub.result _ _
     (create_granted e z c.args.now c.args.fid c.args.name.now c.args.perm c.args.mode c.in_ok-msize.msize from c.in_ok-above.above mode info w' (sym (c.version.ensures x w) ∙ c.in_ok-msize.was) there admitted_so made_so)
     c.qid_of-qid.ensures
@@ -146,7 +148,7 @@ returns-clause-world g c =
     let k = c.admit_new.ensures.keeps in
     let from = c.in_ok-from.from.now in
     let P : Fids → Type 0 = λ s. AreUsers s.fids in
-    let user : IsUser from.user = fid_is_user (state c.args.self.now [] w) c.args.fid from (subst P c.self.view_is c.self.invariant) (c.in_ok-from.ensures [] w) in
+    let user : IsUser from.user = user_there (state c.args.self.now [] w) c.args.fid from (subst P c.self.view_is c.self.invariant) (c.in_ok-from.ensures [] w) in
     let admitted_so = rw c.as_slice.ensures at c.in_ok-above.ensures.looks in
     let name : IsName c.args.name.now = good_name c.args.name.now (new_named e w from c.args.name.now c.args.perm c.args.mode (c.in_ok-above.above, c.in_ok-above.mode) admitted_so) c.requires.name in
     let made_so = rw (met.keeps_whole _ _ k, c.admit_new.ensures.world, c.new_mode-perm.ensures, c.in_ok-user.ensures) at c.in_ok-info.ensures.answer in

@@ -4,8 +4,8 @@ use Rattle.fo_world.specs.Answers.{MayFail}
 use Rattle.fo_world.specs.Step as step
 use Rattle.nine_fids.specs.Fids.{State, fid_of, clunked}
 use Rattle.nine_fids.specs.Told.{served}
-use Rattle.nine_session.specs.Removing.{clunk_fid}
 use Rattle.nine_session.specs.Attempting.{state}
+use Rattle.nine_session.specs.Removing.{clunk_fid}
 use Rattle.nine_session.proofs.Ends.{least_found}
 use Rattle.nine_session.proofs.Trying.{dropped}
 use Rattle.nine_session.proofs.session.Session.drop_one.Goals as goal

@@ -1,7 +1,7 @@
 use Rattle.std.proofs.Common.{sym}
 use Rattle.std.proofs.lemmas.Result.{err_from_is_err_and}
 use Rattle.nine_session.specs.Attempting.{state}
-use Rattle.nine_session.proofs.Starts.{flush_refused, flush_granted}
+use Rattle.nine_session.proofs.Starts.{flush_granted, flush_refused}
 use Rattle.nine_session.proofs.session.Session.flush.Goals as goal
 
 pub returns-in_err-version-clause-replies : goal.returns-in_err-version-clause-replies

@@ -1,6 +1,6 @@
 use Rattle.nine_session.specs.Attempting.{state}
-use Rattle.nine_session.proofs.Chains.{users_without}
 use Rattle.nine_session.proofs.Ends.{gone_state}
+use Rattle.nine_session.proofs.Kept.{users_without}
 use Rattle.nine_session.proofs.session.Session.let_go.Goals as goal
 
 pub invariant_of-self : goal.invariant_of-self

@@ -8,12 +8,14 @@ use Rattle.nine_fids.specs.declared.fid.Fid.{Fid}
 use Rattle.nine_fids.specs.Fids.{Fids, AreUsers, known}
 use Rattle.nine_fids.specs.Told.{served, is_exclusive}
 use Rattle.nine_fids.proofs.Missing.{fails_since}
-use Rattle.nine_session.specs.Opening.{emptied, open_file, opened_so}
-use Rattle.nine_session.specs.Granting.{admitted}
-use Rattle.nine_session.specs.Session.{need_at}
+use Rattle.nine_files.specs.Granting.{admitted}
+use Rattle.nine_files.specs.Opening.{emptied, opened_so}
+use Rattle.nine_files.proofs.Links.{refused_looking}
 use Rattle.nine_session.specs.Attempting.{state}
-use Rattle.nine_session.proofs.Steps.{refused_looking, need_there, fid_number, fid_is_user}
-use Rattle.nine_session.proofs.Opens.{open_no_version, open_no_fid, open_refused, open_granted, open_fails, open_replied, fid_made, put_is_open}
+use Rattle.nine_session.specs.Opening.{open_file}
+use Rattle.nine_session.specs.Session.{need_at}
+use Rattle.nine_session.proofs.Kept.{need_there, number_there, user_there}
+use Rattle.nine_session.proofs.Opens.{fid_made, open_fails, open_granted, open_no_fid, open_no_version, open_refused, open_replied, put_is_open}
 use Rattle.nine_session.proofs.session.Session.open.Goals as goal
 
 pub returns-in_err-msize-clause-attempts : goal.returns-in_err-msize-clause-attempts
@@ -57,7 +59,7 @@ pub truncate-requires-clause-user : goal.truncate-requires-clause-user
 truncate-requires-clause-user g c =
     let w = g.F.FileOps.world c.args.files.now in
     let P : Fids → Type 0 = λ s. AreUsers s.fids in
-    fid_is_user (state c.args.self.now [] w) c.args.fid c.in_ok-from.from.now (subst P c.self.view_is c.self.invariant) (c.in_ok-from.ensures [] w)
+    user_there (state c.args.self.now [] w) c.args.fid c.in_ok-from.from.now (subst P c.self.view_is c.self.invariant) (c.in_ok-from.ensures [] w)
 
 pub returns-in_err-qid-clause-attempts : goal.returns-in_err-qid-clause-attempts
 returns-in_err-qid-clause-attempts g c =
@@ -95,7 +97,7 @@ put_open-requires-clause-user g c =
     let P : Fids → Type 0 = λ s. AreUsers s.fids in
     let Q : List ℕ → Type 0 = λ u. IsUser u in
     let same : c.open_fid.result.user ≡ c.in_ok-from.from.now.user = ap (λ (y : Fid). y.user) c.open_fid.ensures ∙ c.in_ok-user.ensures in
-    subst Q (sym same) (fid_is_user (state c.args.self.now [] w) c.args.fid c.in_ok-from.from.now (subst P c.self.view_is c.self.invariant) (c.in_ok-from.ensures [] w))
+    subst Q (sym same) (user_there (state c.args.self.now [] w) c.args.fid c.in_ok-from.from.now (subst P c.self.view_is c.self.invariant) (c.in_ok-from.ensures [] w))
 
 pub returns-clause-attempts : goal.returns-clause-attempts
 returns-clause-attempts g c =
@@ -114,7 +116,7 @@ returns-clause-attempts g c =
     let admitted_so = rw c.as_slice.ensures.value at c.in_ok-info.ensures.looks in
     let cut = rw (met.keeps_whole _ _ k, met.keeps_largest _ _ k, c.admit.ensures.world) at c.in_ok-qid.ensures.changes in
     let held = c.is_exclusive-held.ensures in
-    let made = fid_made c.open_fid.result c.args.fid from.number _ from.user _ from.place _ (opened_so mode (is_exclusive info.mode)) c.open_fid.ensures (sym (fid_number z c.args.fid from there)) c.in_ok-user.ensures c.in_ok-place.ensures (ap (opened_so mode) held) in
+    let made = fid_made c.open_fid.result c.args.fid from.number _ from.user _ from.place _ (opened_so mode (is_exclusive info.mode)) c.open_fid.ensures (sym (number_there z c.args.fid from there)) c.in_ok-user.ensures c.in_ok-place.ensures (ap (opened_so mode) held) in
     open_replied (open_file e z c.args.now c.args.fid c.args.mode) c.in_ok-qid.qid _ c.saturating_sub.result _ _
     (open_granted e z c.args.now c.args.fid c.args.mode c.in_ok-msize.msize from info mode c.in_ok-qid.qid w' (sym (c.version.ensures x w) ∙ c.in_ok-msize.was) there admitted_so cut)
     c.saturating_sub.ensures

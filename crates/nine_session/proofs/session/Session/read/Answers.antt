@@ -5,12 +5,12 @@ use Rattle.nine_fids.specs.Modes.{reads}
 use Rattle.nine_fids.specs.Told.{served, iounit, bytes_at}
 use Rattle.nine_fids.proofs.Missing.{fails_since, refused_by}
 use Rattle.nine_fids.specs.Looking.{MayMiss}
-use Rattle.nine_session.specs.Reading.{read}
 use Rattle.nine_session.specs.Attempting.{state}
+use Rattle.nine_session.specs.Reading.{read}
 use Rattle.nine_session.proofs.Kept.{replied_same}
-use Rattle.nine_session.proofs.Listing.{directory_from}
 use Rattle.nine_session.proofs.Links.{attempts_same}
-use Rattle.nine_session.proofs.Transfers.{no_version, no_fid, not_opened, opened_there, read_begins, reads_from, reads_not, read_missed, read_lists, read_unread, read_whole, bytes_short}
+use Rattle.nine_session.proofs.Listing.{directory_from}
+use Rattle.nine_session.proofs.Transfers.{bytes_short, no_fid, no_version, not_opened, opened_there, read_begins, read_lists, read_missed, read_unread, read_whole, reads_from, reads_not}
 use Rattle.nine_session.proofs.session.Session.read.Goals as goal
 
 pub returns-in_err-msize-clause-attempts : goal.returns-in_err-msize-clause-attempts

@@ -1,11 +1,11 @@
 use Rattle.std.proofs.Common.{◌≡◌, ◌+◌, ◌%◌, ◌^◌, [], length, refl, sym, ap, ◌∙◌, inl, arith}
 use Rattle.std.proofs.lemmas.Result.{err_from_is_err_and}
 use Rattle.nine_fids.specs.Told.{served}
-use Rattle.nine_session.specs.Reading.{start_of, read_to}
-use Rattle.nine_session.specs.Parts.{listed, Gives}
+use Rattle.nine_files.specs.Parts.{Gives, listed}
+use Rattle.nine_files.specs.Reading.{read_to, start_of}
 use Rattle.nine_session.specs.Attempting.{state}
-use Rattle.nine_session.proofs.Kept.{user_there, users_with, users_seen, put_state, replied_same}
-use Rattle.nine_session.proofs.Listing.{directory_no_fid, directory_not_open, directory_bad, directory_refused, directory_given}
+use Rattle.nine_session.proofs.Kept.{put_state, replied_same, user_there, users_seen, users_with}
+use Rattle.nine_session.proofs.Listing.{directory_bad, directory_given, directory_no_fid, directory_not_open, directory_refused}
 use Rattle.nine_session.proofs.session.Session.read_directory.Goals as goal
 
 pub returns-in_err-from-clause-attempts : goal.returns-in_err-from-clause-attempts

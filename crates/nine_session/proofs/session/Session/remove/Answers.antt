@@ -8,8 +8,9 @@ use Rattle.nine_fids.specs.Fids.{State, known, version_of, fid_at, clunked}
 use Rattle.nine_fids.specs.Told.{served}
 use Rattle.nine_fids.specs.declared.refusal.Refusal.TheVariants as refusal
 use Rattle.nine_session.specs.Attempting.{state}
-use Rattle.nine_session.proofs.Chains.{fid_user}
-use Rattle.nine_session.proofs.Ends.{remove_no_version, remove_unknown, remove_refused, remove_granted, known_fid, gone_is, some_ok, some_err, left_as_was, left_unknown, left_known}
+use Rattle.nine_session.proofs.Ends.{gone_is, left_as_was, left_known, left_unknown, remove_granted, remove_no_version, remove_refused, remove_unknown, some_err}
+use Rattle.nine_session.proofs.Kept.{fid_user, known_fid}
+use Rattle.nine_session.proofs.Links.{some_or_ok}
 use Rattle.nine_session.proofs.session.Session.remove.Goals as goal
 
 pub returns-in_err-version-clause-attempts : goal.returns-in_err-version-clause-attempts
@@ -38,7 +39,7 @@ pub remove_there-removed-requires-clause-user : goal.remove_there-removed-requir
 remove_there-removed-requires-clause-user g c =
     let fids = c.self.inside.fids.items in
     let k = rw (← c.self.view_is) at (c.in_ok-from.ensures c.args.exclusive.now.items (g.F.FileOps.world c.args.files.now)) in
-    fid_user c.args.fid fids _ c.self.invariant (known_fid c.args.fid fids _ (some_ok _ refusal.UnknownFid _ k))
+    fid_user c.args.fid fids _ c.self.invariant (known_fid c.args.fid fids _ (some_or_ok _ refusal.UnknownFid _ k))
 
 pub returns-in_err-removed-clause-attempts : goal.returns-in_err-removed-clause-attempts
 returns-in_err-removed-clause-attempts g c =
@@ -49,7 +50,7 @@ returns-in_err-removed-clause-attempts g c =
     let p = err_from_is_err_and c.from_residual-in_err-removed.result c.from_residual-in_err-removed.ensures.1 in
     let v : version_of z ≡ Ok _ = sym (c.in_ok-version.ensures z.exclusive z.world) in
     let k = c.in_ok-from.ensures z.exclusive z.world in
-    let is : known c.args.fid z.session.fids ≡ Some _ = some_ok _ refusal.UnknownFid _ k in
+    let is : known c.args.fid z.session.fids ≡ Some _ = some_or_ok _ refusal.UnknownFid _ k in
     let found = known_fid c.args.fid z.session.fids _ is in
     let changes = c.in_err-removed.ensures.changes in
     rw (p.1, p.2, is, left_known z z.session.msize _ refusal.NoVersion _ v) (
@@ -65,7 +66,7 @@ returns-clause-attempts g c =
     let then = g.F.FileOps.world c.remove_there-removed.new.files in
     let v : version_of z ≡ Ok _ = sym (c.in_ok-version.ensures z.exclusive z.world) in
     let k = c.in_ok-from.ensures z.exclusive z.world in
-    let is : known c.args.fid z.session.fids ≡ Some _ = some_ok _ refusal.UnknownFid _ k in
+    let is : known c.args.fid z.session.fids ≡ Some _ = some_or_ok _ refusal.UnknownFid _ k in
     let found = known_fid c.args.fid z.session.fids _ is in
     remove_granted e z c.args.now c.args.fid _ c.in_ok-from.from.now then v k c.in_ok-removed.ensures.changes
     ∙ ap (λ (u : State). Ok (reply.Remove, u)) (sym (c.let_go.ensures then ∙ gone_is (state c.args.self.now c.args.exclusive.now.items then) c.args.fid _ found))

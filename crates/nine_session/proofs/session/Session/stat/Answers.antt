@@ -4,10 +4,10 @@ use Rattle.nine_wire.specs.declared.message.Reply.TheVariants as reply
 use Rattle.nine_wire.specs.Message.{ReplyFits}
 use Rattle.nine_fids.specs.Told.{served, info_at, record_of}
 use Rattle.nine_fids.proofs.Missing.{refused_by}
-use Rattle.nine_session.specs.Stating.{stat}
 use Rattle.nine_session.specs.Attempting.{state}
+use Rattle.nine_session.specs.Stating.{stat}
 use Rattle.nine_session.proofs.Records.{stat_sends}
-use Rattle.nine_session.proofs.Restates.{stat_no_version, stat_no_fid, stat_no_info, stat_too_long, stat_done}
+use Rattle.nine_session.proofs.Restates.{stat_done, stat_no_fid, stat_no_info, stat_no_version, stat_too_long}
 use Rattle.nine_session.proofs.session.Session.stat.Goals as goal
 
 pub returns-in_err-msize-clause-attempts : goal.returns-in_err-msize-clause-attempts

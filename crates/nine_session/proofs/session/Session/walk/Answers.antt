@@ -5,9 +5,9 @@ use Rattle.fo_world.specs.declared.error.FileError.TheVariants as error
 use Rattle.nine_fids.specs.Told.{served}
 use Rattle.nine_fids.specs.Looking.{MayMiss}
 use Rattle.nine_session.specs.Walking as nine
-use Rattle.nine_session.specs.Attempting.{state, Attempts}
-use Rattle.nine_session.proofs.Links.{memory_misses, attempts_same}
-use Rattle.nine_session.proofs.Walks.{walk_refused, walk_misses, walk_arrives, arrived_short}
+use Rattle.nine_session.specs.Attempting.{Attempts, state}
+use Rattle.nine_session.proofs.Links.{attempts_same, memory_misses}
+use Rattle.nine_session.proofs.Walks.{arrived_short, walk_arrives, walk_misses, walk_refused}
 use Rattle.nine_session.proofs.session.Session.walk.Goals as goal
 
 pub returns-in_err-from-clause-attempts : goal.returns-in_err-from-clause-attempts

@@ -8,7 +8,7 @@ use Rattle.nine_fids.specs.declared.fid.Fid.{Fid}
 use Rattle.nine_fids.specs.Fids.{Fids, in_use, most_fids}
 use Rattle.nine_session.specs.Attempting.{state}
 use Rattle.nine_session.proofs.Kept.{number_there, user_there, users_seen}
-use Rattle.nine_session.proofs.Walks.{walk_no_version, walk_no_fid, walk_tests, tested_many, tested_open, tested_used, tested_full, tested_well}
+use Rattle.nine_session.proofs.Walks.{tested_full, tested_many, tested_open, tested_used, tested_well, walk_no_fid, walk_no_version, walk_tests}
 use Rattle.nine_session.proofs.session.Session.walked_fid.Goals as goal
 
 pub returns-in_err-version-clause-told : goal.returns-in_err-version-clause-told

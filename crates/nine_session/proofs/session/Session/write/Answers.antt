@@ -7,17 +7,17 @@ use Rattle.nine_fids.specs.Fids.{State, known, in_world}
 use Rattle.nine_fids.specs.Modes.{writes}
 use Rattle.nine_fids.specs.Refusing.{changed}
 use Rattle.nine_fids.specs.Told.{served, info_at}
-use Rattle.nine_session.specs.Parts.{write_start}
-use Rattle.nine_session.specs.Reading.{write}
-use Rattle.nine_session.specs.Session.{Told, need_at}
 use Rattle.fo_world.specs.World.{World}
 use Rattle.nine_wire.specs.declared.message.Reply.{Reply}
 use Rattle.nine_wire.specs.declared.message.Reply.TheVariants as reply
+use Rattle.nine_files.specs.Parts.{write_start}
+use Rattle.nine_files.proofs.Links.{refused_looking, then_ok}
 use Rattle.nine_session.specs.Attempting.{state}
-use Rattle.nine_session.proofs.Kept.{user_there, users_seen, known_there, told_same}
-use Rattle.nine_session.proofs.Links.{then_ok, then_err}
-use Rattle.nine_session.proofs.Steps.{refused_looking, refused_changing}
-use Rattle.nine_session.proofs.Transfers.{no_version, no_fid, not_opened, opened_there, write_begins, writes_to, writes_not, write_missed, write_there, writes_none, writes_some, granted_same}
+use Rattle.nine_session.specs.Reading.{write}
+use Rattle.nine_session.specs.Session.{Told, need_at}
+use Rattle.nine_session.proofs.Kept.{known_there, told_same, user_there, users_seen}
+use Rattle.nine_session.proofs.Links.{refused_changing, then_err}
+use Rattle.nine_session.proofs.Transfers.{granted_same, no_fid, no_version, not_opened, opened_there, write_begins, write_missed, write_there, writes_none, writes_not, writes_some, writes_to}
 use Rattle.nine_session.proofs.session.Session.write.Goals as goal
 
 pub returns-in_err-version-clause-attempts : goal.returns-in_err-version-clause-attempts

@@ -9,11 +9,13 @@ use Rattle.nine_fids.specs.Fids.{Fids, AreUsers, known}
 use Rattle.nine_fids.specs.Told.{served, info_at}
 use Rattle.nine_fids.specs.Looking.{MayMiss}
 use Rattle.nine_fids.proofs.Missing.{refused_by, fails_since}
-use Rattle.nine_session.specs.Stating.{wstat, change_of, changes_fixed, touches_fixed, touches}
-use Rattle.nine_session.specs.Session.{need_at, restating_need}
+use Rattle.nine_files.specs.Stating.{change_of, changes_fixed, touches, touches_fixed}
+use Rattle.nine_files.proofs.Links.{refused_looking}
 use Rattle.nine_session.specs.Attempting.{state}
-use Rattle.nine_session.proofs.Steps.{refused_looking, need_there, fid_is_user}
-use Rattle.nine_session.proofs.Restates.{wstat_no_version, wstat_no_fid, wstat_no_info, asks_same, wstat_settles, wstat_done, wstat_fails}
+use Rattle.nine_session.specs.Session.{need_at, restating_need}
+use Rattle.nine_session.specs.Stating.{wstat}
+use Rattle.nine_session.proofs.Kept.{need_there, user_there}
+use Rattle.nine_session.proofs.Restates.{asks_same, wstat_done, wstat_fails, wstat_no_fid, wstat_no_info, wstat_no_version, wstat_settles}
 use Rattle.nine_session.proofs.session.Session.wstat.Goals as goal
 
 pub returns-in_err-version-clause-attempts : goal.returns-in_err-version-clause-attempts
@@ -82,7 +84,7 @@ pub restate-requires-clause-user : goal.restate-requires-clause-user
 restate-requires-clause-user g c =
     let w = g.F.FileOps.world c.args.files.now in
     let P : Fids → Type 0 = λ s. AreUsers s.fids in
-    fid_is_user (state c.args.self.now [] w) c.args.fid c.in_ok-from.from.now (subst P c.self.view_is c.self.invariant) (c.in_ok-from.ensures [] w)
+    user_there (state c.args.self.now [] w) c.args.fid c.in_ok-from.from.now (subst P c.self.view_is c.self.invariant) (c.in_ok-from.ensures [] w)
 
 pub returns-in_err-restate-clause-attempts : goal.returns-in_err-restate-clause-attempts
 returns-in_err-restate-clause-attempts g c = λ x s rec.

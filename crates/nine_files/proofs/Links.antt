@@ -1,0 +1,59 @@
+-- A chain of steps that may be refused, link by link.
+use Rattle.std.proofs.Common.{◌≡◌, Bool, true, false, Option, None, Result, Ok, Err, refl, sym, ap, ◌∙◌, ⊎_elim, ℕ, inl, inr}
+use Rattle.std.specs.Prelude.{IfErr}
+use Rattle.std.proofs.lemmas.Result.{IfErr-at_err}
+use Rattle.std.proofs.lemmas.Bool.{true≢false}
+use Rattle.fo_world.specs.declared.error.FileError.{FileError}
+use Rattle.fo_world.specs.World.{Faults}
+use Rattle.fo_world.specs.Answers.{NotFewer, MayFail}
+use Rattle.nine_fids.specs.declared.refusal.Refusal.{Refusal}
+use Rattle.nine_fids.specs.Refusing.{and_then, refuse_if, is_failure}
+use Rattle.nine_fids.specs.Looking.{MayMiss, IsRefused}
+use Rattle.nine_fids.proofs.Missing.{is_miss, fails_since, fails_by_missing}
+use Rattle.nine_files.specs.Answering.{Misses}
+
+-- ---- what a chain is, once its first link is known
+
+pub then_ok : {A B : Type 0} (r : Result A Refusal) (x : A) (f : A → Result B Refusal) → r ≡ Ok x → and_then r f ≡ f x
+then_ok r x f h = ap (λ t. and_then t f) h
+
+-- ---- two chains are one
+
+pub past_then : {A B C : Type 0} (x : Result A Refusal) (f : A → Result B Refusal) (g : B → Result C Refusal) → and_then x (λ a. and_then (f a) g) ≡ and_then (and_then x f) g
+past_then (Ok a) f g = refl
+past_then (Err r) f g = refl
+
+-- ---- what a chain that ends well says
+
+pub refuse_ok : {A : Type 0} (b : Bool) (r : Refusal) (x : Result A Refusal) (y : A) → refuse_if b r x ≡ Ok y → (b ≡ false) × (x ≡ Ok y)
+refuse_ok true r x y h = absurd cc
+refuse_ok false r x y h = (refl, h)
+
+pub then_ok_parts : {A B : Type 0} (x : Result A Refusal) (f : A → Result B Refusal) (y : B) → and_then x f ≡ Ok y → (a : A) × (x ≡ Ok a) × (f a ≡ Ok y)
+then_ok_parts (Ok a) f y h = (a, refl, h)
+then_ok_parts (Err r) f y h = absurd cc
+
+-- ---- refusals
+
+-- what is no failure is told
+pub told_if_plain : {A : Type 0} (told : Result A Refusal) (f0 f1 : Faults) (h : Type 0) (r : Refusal) → is_failure r ≡ false → IsRefused told (MayMiss f0 f1 h) r → told ≡ Err r
+told_if_plain told f0 f1 h r plain k = ⊎_elim (λ e. e) (λ p. absurd (true≢false (sym (ap is_failure p.1 ∙ is_miss f0 f1 h p.0 p.2) ∙ plain))) k
+
+-- a failure has its cause, where none is told
+pub miss_if_failure : {A : Type 0} (told : Result A Refusal) (f0 f1 : Faults) (h : Type 0) (r : Refusal) → IfErr told (λ e. is_failure e ≡ false) → is_failure r ≡ true → IsRefused told (MayMiss f0 f1 h) r → Misses (MayMiss f0 f1 h) r
+miss_if_failure told f0 f1 h r plain failed k = ⊎_elim (λ e. absurd (true≢false (sym failed ∙ IfErr-at_err (λ v. is_failure v ≡ false) e plain))) (λ p. p) k
+
+-- the same since before
+pub missed_since : {A : Type 0} (told : Result A Refusal) (f0 f1 f2 : Faults) (h0 h1 : Type 0) (r : Refusal) → NotFewer f0 f1 → (h0 → h1) → IfErr told (λ e. is_failure e ≡ false) → is_failure r ≡ true → IsRefused told (MayMiss f1 f2 h1) r → Misses (MayMiss f0 f2 h0) r
+missed_since told f0 f1 f2 h0 h1 r fewer up plain failed k =
+    let m = miss_if_failure told f1 f2 h1 r plain failed k in
+    (m.0, m.1, fails_since f0 f1 f2 h0 h1 None 0 false fewer up m.0 m.2)
+
+-- a call that only looked refuses a request that changes
+pub refused_looking : {A B : Type 0} (part : Result A Refusal) (whole : Result B Refusal) (f0 f1 : Faults) (h : Type 0) (room : Option ℕ) (need : ℕ) (granted : Bool) (r : Refusal) → (part ≡ Err r → whole ≡ Err r) → IsRefused part (MayMiss f0 f1 h) r → IsRefused whole (MayFail f0 f1 h room need granted) r
+refused_looking part whole f0 f1 h room need granted r told p =
+    ⊎_elim (λ e. inl (told e)) (λ q. inr (q.0, q.1, fails_by_missing f0 f1 h room need granted q.0 q.2)) p
+
+-- why a step may fail, where it is granted and where it is not
+abbrev pub FailsSo : Type 1
+FailsSo = Bool → FileError → Type 0

@@ -1,0 +1,262 @@
+//! Opening, creating and truncating files.
+ghost use Rattle.std.specs.Prelude.{◌≡◌, IsTrue, IfOk, Result, Ok, is_ok};
+ghost use Rattle.fo_world.specs.Answers.{MayFail};
+ghost use Rattle.fo_world.specs.Fits.{WorldFits, InfoFits};
+ghost use Rattle.fo_world.specs.Limits.{IsUser};
+ghost use Rattle.fo_world.specs.Step as step;
+ghost use Rattle.nine_fids.specs.Told.{served, qid_of};
+ghost use Rattle.nine_fids.specs.Rights.{table_of};
+ghost use Rattle.nine_fids.specs.Looking.{Looks, MayMiss};
+ghost use Rattle.nine_files.specs.Answering.{Changes};
+ghost use Rattle.nine_files.specs.Granting as granting;
+ghost use Rattle.nine_files.specs.Opening as nine;
+
+use fo_users::{Right, Users};
+use fo_world::{Change, FileError, FileOps, Info, Name, Place, View};
+use nine_fids::{
+    Access, Fid, Mode, Opened, Refusal, appends, info_at, is_dir, is_exclusive, is_listed,
+    may_write_above, number_at, qid_of, table_of,
+};
+use nine_wire::Qid;
+use std::alloc::Global;
+
+/// Whether a name can't be given: it is empty, `.`, `..`, has a `/`, or more than 255 bytes.
+pub(crate) fn is_bad_name(name: &[u8]) -> bool
+    ensures { result ≡ nine.is_bad_name name.now }
+{
+    name == b"".as_slice()
+        || name == b".".as_slice()
+        || name == b"..".as_slice()
+        || name.contains(&b'/')
+        || name.len() > 255
+}
+
+/// The mode of a new file: of 0666 (for a directory, of 0777) what the directory above has, and of the other bits 0111, DMAPPEND,
+/// DMEXCL and DMTMP (for a directory, DMDIR and DMTMP).
+pub fn new_mode(perm: u32, above: u32) -> u32
+    ensures { result ≡ nine.new_mode perm above }
+{
+    if is_dir(perm) {
+        perm & (0x8400_0000 | (above & 0o777))
+    } else {
+        perm & (0x6400_0049 | (above & 0o666))
+    }
+}
+
+/// Whether a user has the right to a file that an access wants.
+fn may_access(users: &Users, user: &Name, info: &Info, access: Access) -> bool
+    ensures { result ≡ nine.may_access users.now user.now info.now access }
+{
+    match access {
+        Access::Read => users.may(user, info, Right::Read),
+        Access::Write => users.may(user, info, Right::Write),
+        Access::Execute => users.may(user, info, Right::Execute),
+        Access::ReadWrite => {
+            users.may(user, info, Right::Read) && users.may(user, info, Right::Write)
+        }
+    }
+}
+
+/// Whether a user has the rights to a file that a mode wants.
+fn may_open(users: &Users, user: &Name, info: &Info, mode: Mode) -> bool
+    ensures { result ≡ nine.may_open users.now user.now info.now mode }
+{
+    may_access(users, user, info, mode.access)
+        && (!mode.truncate || users.may(user, info, Right::Write))
+}
+
+/// Refuses who may not open a file so.
+fn check_rights<F: FileOps>(
+    files: &mut F,
+    users: &Users,
+    fid: &Fid,
+    info: &Info,
+    mode: Mode,
+) -> Result<(), Refusal>
+    requires whole { IsTrue (F.whole files.old) }
+    requires users { users.now ≡ table_of (served (F.whole files.old) (F.largest files.old)) (F.world files.old) }
+    ensures looks { Looks (nine.opening_rights (served (F.whole files.old) (F.largest files.old)) (F.world files.old) fid.now info.now mode)
+        (MayMiss (F.faults files.old) (F.faults files.new) (F.honest files.old)) result }
+    ensures world { F.world files.new ≡ F.world files.old }
+    ensures keeps { F.keeps files.old files.new }
+{
+    if !may_open(users, &fid.user, info, mode) {
+        return Err(Refusal::PermissionDenied);
+    }
+    if !mode.remove {
+        return Ok(());
+    }
+    may_write_above(files, users, fid)
+}
+
+/// The mode in which a file may be opened, where its kind and its view allow it.
+#[tactic(auto, unfolding(crate::specs::Opening::allowed_mode))]
+fn allowed_mode(fid: &Fid, info: &Info, mode: u8) -> Result<Mode, Refusal>
+    ensures { result ≡ nine.allowed_mode fid.now info.now mode }
+{
+    let mode = Mode::of(mode).ok_or(Refusal::BadOpenMode)?;
+    if fid.place.view != View::Active && mode.changes() {
+        return Err(Refusal::File(FileError::ReadOnly));
+    }
+    if is_dir(info.mode) && mode.is_more() {
+        return Err(Refusal::File(FileError::IsDir));
+    }
+    Ok(mode)
+}
+
+/// The mode in which a new file may be made, where the name and the directory allow it.
+#[tactic(auto, unfolding(crate::specs::Opening::allowed_new))]
+fn allowed_new(fid: &Fid, above: &Info, name: &[u8], perm: u32, mode: u8) -> Result<Mode, Refusal>
+    ensures { result ≡ nine.allowed_new fid.now above.now name.now perm mode }
+{
+    if !is_dir(above.mode) {
+        return Err(Refusal::File(FileError::NotDir));
+    }
+    if fid.place.view != View::Active {
+        return Err(Refusal::File(FileError::ReadOnly));
+    }
+    if is_bad_name(name) {
+        return Err(Refusal::BadName);
+    }
+    let mode = Mode::of(mode).ok_or(Refusal::BadOpenMode)?;
+    if is_dir(perm) && mode.is_more() {
+        return Err(Refusal::BadOpenMode);
+    }
+    Ok(mode)
+}
+
+/// Whether a file is for exclusive use and open.
+fn is_held(from: &Fid, info: &Info, exclusive: &[u32]) -> bool
+    ensures { result ≡ granting.is_held from.now info.now exclusive.now }
+{
+    is_exclusive(info.mode) && is_listed(number_at(&from.place), exclusive)
+}
+
+/// The file of a fid and the mode in which it may be opened now: it isn't open, the mode may be had for its kind and view, its user
+/// has the rights, and it isn't held for exclusive use by any number of `exclusive`. The checks stand in this order.
+pub fn admit<F: FileOps>(
+    alloc: Global,
+    files: &mut F,
+    from: &Fid,
+    exclusive: &[u32],
+    mode: u8,
+) -> Result<(Info, Mode), Refusal>
+    requires { IsTrue (F.whole files.old) }
+    ensures looks { Looks (granting.admitted (served (F.whole files.old) (F.largest files.old)) (F.world files.old) from.now exclusive.now mode)
+        (MayMiss (F.faults files.old) (F.faults files.new) (F.honest files.old)) result }
+    ensures world { F.world files.new ≡ F.world files.old }
+    ensures keeps { F.keeps files.old files.new }
+{
+    if from.opened.is_some() {
+        return Err(Refusal::FidIsOpen);
+    }
+    let info = info_at(files, &from.place)?;
+    let mode = allowed_mode(from, &info, mode)?;
+    let users = table_of(alloc, files)?;
+    check_rights(files, &users, from, &info, mode)?;
+    if is_held(from, &info, exclusive) {
+        return Err(Refusal::ExclusivelyOpen);
+    }
+    Ok((info, mode))
+}
+
+/// The directory of a fid and the mode in which a new file may be made in it: the fid isn't open, the directory, its view, the name
+/// and the mode allow it, and its user may write there. The checks stand in this order.
+pub fn admit_new<F: FileOps>(
+    alloc: Global,
+    files: &mut F,
+    from: &Fid,
+    name: &[u8],
+    perm: u32,
+    mode: u8,
+) -> Result<(Info, Mode), Refusal>
+    requires { IsTrue (F.whole files.old) }
+    ensures looks { Looks (granting.admitted_new (served (F.whole files.old) (F.largest files.old)) (F.world files.old) from.now name.now perm mode)
+        (MayMiss (F.faults files.old) (F.faults files.new) (F.honest files.old)) result }
+    ensures fits { WorldFits (F.world files.old) → IfOk result (λ p. InfoFits p.0) }
+    ensures world { F.world files.new ≡ F.world files.old }
+    ensures keeps { F.keeps files.old files.new }
+{
+    if from.opened.is_some() {
+        return Err(Refusal::FidIsOpen);
+    }
+    let above = info_at(files, &from.place)?;
+    let mode = allowed_new(from, &above, name, perm, mode)?;
+    let users = table_of(alloc, files)?;
+    if !users.may(&from.user, &above, Right::Write) {
+        return Err(Refusal::PermissionDenied);
+    }
+    Ok((above, mode))
+}
+
+/// Whether OTRUNC makes a file empty.
+fn cuts(info: &Info, mode: Mode) -> bool
+    ensures { result ≡ nine.cuts info.now mode }
+{
+    mode.truncate && !appends(info.mode) && info.length > 0
+}
+
+/// The qid of a file that was made empty.
+fn cut_qid(info: &Info) -> Qid
+    ensures { result ≡ qid_of (nine.cut_info info.now) }
+{
+    let mut qid = qid_of(info);
+    qid.vers = qid.vers.wrapping_add(1);
+    qid
+}
+
+/// Length 0, and no other change.
+fn emptied() -> Change
+    ensures { result ≡ nine.emptied }
+{
+    Change {
+        mode: None,
+        mtime: None,
+        length: Some(0),
+        name: None,
+        gid: None,
+    }
+}
+
+/// Makes the file of a fid, whose user is one of files, empty where OTRUNC asks for it at the moment `now`: the qid that it has
+/// then. A refusal or a failure leaves the world.
+pub fn truncate<F: FileOps>(
+    files: &mut F,
+    fid: &Fid,
+    info: &Info,
+    mode: Mode,
+    now: u32,
+) -> Result<Qid, Refusal>
+    requires whole { IsTrue (F.whole files.old) }
+    requires user { IsUser fid.now.user }
+    ensures changes { let told = nine.truncated (served (F.whole files.old) (F.largest files.old)) (F.world files.old) fid.now info.now mode now in
+        Changes (granting.told_qid told)
+        (MayFail (F.faults files.old) (F.faults files.new) (F.honest files.old) (F.room files.new) (step.change_need (F.whole files.old) (F.world files.old) fid.now.place nine.emptied) (is_ok told))
+        (F.world files.old) (F.world files.new) result }
+    ensures world { WorldFits (F.world files.old) → WorldFits (F.world files.new) }
+    ensures keeps { F.keeps files.old files.new }
+{
+    if !cuts(info, mode) {
+        return Ok(qid_of(info));
+    }
+    files.change(&fid.place, &emptied(), &fid.user, now)?;
+    Ok(cut_qid(info))
+}
+
+/// A fid that is open, and has read nothing yet.
+pub fn open_fid(number: u32, user: Name, place: Place, mode: Mode, exclusive: bool) -> Fid
+    ensures { result ≡ record { number = number; user = user; place = place; opened = nine.opened_so mode exclusive } }
+{
+    Fid {
+        number,
+        user,
+        place,
+        opened: Some(Opened {
+            access: mode.access,
+            remove: mode.remove,
+            exclusive,
+            offset: 0,
+            last: None,
+        }),
+    }
+}
