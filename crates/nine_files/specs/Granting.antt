@@ -50,6 +50,7 @@ told_qid (Err r) = Err r
 abbrev pub is_bad_by : List User → Bool → Change → Info → Bool
 is_bad_by table fixed c i = fixed || changes_kind c.mode i.mode || lengthens c.length i.mode || is_strange table c.gid
 
+-- The same by the table of users of the active tree.
 abbrev pub is_bad : Files → World → Bool → Change → Info → Bool
 is_bad e w fixed c i = is_bad_by (table_of e w) fixed c i
 

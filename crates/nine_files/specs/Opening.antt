@@ -25,6 +25,7 @@ use Rattle.nine_fids.specs.Rights.{table_of, may_write_above}
 
 -- ---- rights
 
+-- a user's right to access a file so
 abbrev pub may_access : List User → List ℕ → Info → Access → Bool
 may_access table user i Read = may table user i ToRead
 may_access table user i Write = may table user i ToWrite
@@ -54,9 +55,11 @@ emptied = record { mode = None; mtime = None; length = Some 0; name = None; gid 
 abbrev pub cuts : Info → Mode → Bool
 cuts i m = m.truncate && not (appends i.mode) && nat_lt 0 i.length
 
+-- what is told of a file that was made empty
 abbrev pub cut_info : Info → Info
 cut_info i = record i { vers = (i.vers + 1) % 2 ^ 32; length = 0 }
 
+-- the file and the world after OTRUNC, if it was asked for
 unfoldable pub truncated : Files → World → Fid → Info → Mode → ℕ → Result (Info × World) Refusal
 truncated e w f i m now =
     if cuts i m then and_then (changed (step.change e.whole e.largest w f.place emptied f.user now)) (λ p. Ok (cut_info i, p.1))

@@ -41,6 +41,7 @@ taken count held None = Ok None
 taken count held (Some i) =
     if nat_lt (count - held) (length (record_of i)) then (if held == 0 then Err refusal.CountTooSmall else Ok None) else Ok (Some i)
 
+-- The same of the file with the least name above the last one.
 abbrev pub next_taken : Files → World → Place → Option (List ℕ) → ℕ → ℕ → Result (Option Info) Refusal
 next_taken e w at last count held = and_then (next_at e w at last) (taken count held)
 

@@ -18,6 +18,7 @@ abbrev pub fitting : (Option (List ℕ) → ℕ → Result (List Info) Refusal) 
 fitting go left None = Ok []
 fitting go left (Some i) = if nat_lt left (length (record_of i)) then Ok [] else and_then (go (Some i.name) (left - length (record_of i))) (λ rest. Ok (i ∷ rest))
 
+-- the files whose records fit, from a name on
 unfoldable pub files_above : ℕ → Files → World → Place → Option (List ℕ) → ℕ → Result (List Info) Refusal
 files_above zero e w at after left = Ok []
 files_above (suc steps) e w at after left = and_then (next_at e w at after) (fitting (files_above steps e w at) left)
@@ -32,6 +33,7 @@ abbrev pub last_name : Option (List ℕ) → List Info → Option (List ℕ)
 last_name after [] = after
 last_name after (i ∷ is) = last_name (Some i.name) is
 
+-- the records of files, one after another
 abbrev pub records_of : List Info → List ℕ
 records_of is = flat_map record_of is
 

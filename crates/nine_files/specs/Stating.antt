@@ -23,6 +23,7 @@ use Rattle.nine_files.specs.Opening.{is_bad_name}
 abbrev pub given : ℕ → ℕ → Option ℕ
 given width n = if n == 2 ^ width - 1 then None else Some n
 
+-- the same of a text
 abbrev pub given_text : List ℕ → Option (List ℕ)
 given_text text = if bytes_eq text [] then None else Some text
 
@@ -35,6 +36,7 @@ abbrev pub differs : Option ℕ → ℕ → Bool
 differs None now = false
 differs (Some n) now = not (n == now)
 
+-- the same of a text
 abbrev pub text_differs : Option (List ℕ) → List ℕ → Bool
 text_differs None now = false
 text_differs (Some text) now = not (bytes_eq text now)
@@ -43,6 +45,7 @@ text_differs (Some text) now = not (bytes_eq text now)
 abbrev pub touches_fixed : Stat → Bool
 touches_fixed s = is_some (given 16 s.kind) || is_some (given 32 s.dev) || is_some (given 8 s.qid.kind) || is_some (given 32 s.qid.vers) || is_some (given 64 s.qid.path) || is_some (given_text s.uid) || is_some (given_text s.muid)
 
+-- a field that can be changed is given
 abbrev pub touches : Change → Bool
 touches c = is_some c.mode || is_some c.mtime || is_some c.length || is_some c.name || is_some c.gid
 
@@ -67,6 +70,7 @@ abbrev pub is_strange : List User → Option (List ℕ) → Bool
 is_strange table None = false
 is_strange table (Some gid) = not (is_known table gid)
 
+-- a name is given that no file may have
 abbrev pub names_badly : Option (List ℕ) → Bool
 names_badly None = false
 names_badly (Some name) = is_bad_name name
@@ -82,6 +86,7 @@ abbrev pub may_regroup : List User → List ℕ → Info → Option (List ℕ) �
 may_regroup table user i None = true
 may_regroup table user i (Some gid) = may_give table user i gid
 
+-- To write for a length, to own the file for a mode or a time, and to give it to a group.
 abbrev pub may_change : List User → List ℕ → Info → Change → Bool
 may_change table user i c =
     (is_none c.length || may table user i Write) && ((is_none c.mode && is_none c.mtime) || owns table user i) && may_regroup table user i c.gid

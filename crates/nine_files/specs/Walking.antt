@@ -18,6 +18,7 @@ use Rattle.nine_fids.specs.Rights.{table_of}
 abbrev pub stands_for_none : List ℕ → Bool
 stands_for_none name = bytes_eq name [] || bytes_eq name (codes ".")
 
+-- `..` stands for the directory above
 abbrev pub is_up : List ℕ → Bool
 is_up name = bytes_eq name (codes "..")
 
@@ -33,10 +34,12 @@ next e w user i name =
 abbrev pub passed : Qid → Walked → Walked
 passed qid w = record w { qids = qid ∷ w.qids }
 
+-- a walk goes on from the next file, or stops where there is none
 abbrev pub from_next : (Info → Walked) → Info → Result Info Refusal → Walked
 from_next go i (Ok j) = passed (qid_of j) (go j)
 from_next go i (Err r) = record { qids = []; last = i.place; stopped = Some r }
 
+-- a walk by names: the qids of the files on the way, the last place, and why it stopped before the end
 unfoldable pub walked : Files → World → List ℕ → List (List ℕ) → Info → Walked
 walked e w user [] i = record { qids = []; last = i.place; stopped = None }
 walked e w user (name ∷ names) i = from_next (walked e w user names) i (next e w user i name)

@@ -18,6 +18,7 @@ use Rattle.nine_fids.specs.Rights.{table_of, user_of}
 abbrev pub base_of : List ℕ → List ℕ
 base_of version = take (unwrap_or (position (λ b. b == 46) version) (length version)) version
 
+-- a version is one of 9P2000
 abbrev pub is_known : List ℕ → Bool
 is_known version = bytes_eq (base_of version) version_text
 

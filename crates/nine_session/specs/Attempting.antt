@@ -16,6 +16,7 @@ use Rattle.nine_fids.specs.Told.{Files}
 use Rattle.nine_session.specs.Opening.{listed}
 use Rattle.nine_session.specs.Session.{AgreesWithin, Fails, Needs, Tells, Told, left_by}
 
+-- the state that a session, the list of exclusive opens and the world make
 abbrev pub state : Fids → List ℕ → World → State
 state session exclusive w = record { session = session; exclusive = exclusive; world = w }
 
@@ -32,6 +33,7 @@ abbrev pub without_one : State → Option Fid → State
 without_one z None = z
 without_one z (Some f) = clunked z f
 
+-- without the fid of a number, if there is one
 abbrev pub let_go : ℕ → State → State
 let_go number z = without_one z (fid_of number z.session.fids)
 

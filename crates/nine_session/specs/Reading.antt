@@ -13,6 +13,7 @@ use Rattle.nine_fids.specs.Told.{Files, info_at, next_at, bytes_at, is_dir, appe
 use Rattle.nine_fids.specs.Modes.{reads, writes}
 use Rattle.nine_files.specs.Reading.{exceeds, files_above, last_name, read_to, records_of, start_of}
 
+-- The records that fit into the count. It goes on where the last read ended, or begins anew at offset 0.
 unfoldable pub read_directory : Files → State → Fid → Opened → ℕ → ℕ → Result (Reply × State) Refusal
 read_directory e z f o offset count =
     refuse_if (not (offset == 0) && not (offset == o.offset)) refusal.BadOffset (

@@ -17,6 +17,7 @@ remove e z now fid =
     and_then (info_at e z.world f.place) (λ _.
     and_then (removed e z.world f now) (λ w. Ok (reply.Remove, clunked (in_world z w) f)))))
 
+-- the fid is gone, and for ORCLOSE its file
 unfoldable pub clunk_fid : Files → State → ℕ → Fid → Result (Reply × State) Refusal
 clunk_fid e z now f = and_then (closed e z.world f now) (λ w. Ok (reply.Clunk, clunked (in_world z w) f))
 

@@ -64,6 +64,7 @@ left_by z _ = z
 
 -- ---- the usable blocks that a request needs, where it is granted
 
+-- what a request at a fid's place needs
 abbrev pub need_at : Option Fid → (Place → ℕ) → ℕ
 need_at None need = 0
 need_at (Some f) need = need f.place
@@ -72,6 +73,7 @@ need_at (Some f) need = need f.place
 abbrev pub restating_need : Files → State → ℕ → Stat → ℕ
 restating_need e z fid s = need_at (known fid z.session.fids) (λ at. step.change_need e.whole z.world at (change_of s))
 
+-- A request needs so many usable blocks.
 abbrev pub Needs : Files → State → Request → ℕ → Type 0
 Needs e z (request.Open fid mode) need = need ≡ need_at (known fid z.session.fids) (λ at. step.change_need e.whole z.world at emptied)
 Needs e z (request.Create fid name perm mode) need = need ≡ need_at (known fid z.session.fids) step.create_need

@@ -27,9 +27,11 @@ stat e z fid =
 
 -- ---- Twstat
 
+-- a change of what can't be changed, of a directory's length or kind, or to a group that there isn't
 abbrev pub is_bad_stat : List User → Stat → Info → Bool
 is_bad_stat table s i = changes_fixed s i || changes_kind (change_of s).mode i.mode || lengthens (change_of s).length i.mode || is_strange table (change_of s).gid
 
+-- Twstat where something is given: the checks in their order, and then the change
 unfoldable pub restated : Files → State → ℕ → Fid → Stat → Info → Result (Reply × State) Refusal
 restated e z now f s i =
     refuse_if (not (step.is_active f.place.view)) (refusal.File error.ReadOnly) (

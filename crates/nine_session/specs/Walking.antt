@@ -24,6 +24,7 @@ ended z f newfid qids at None = Ok (reply.Walk qids, with_fids z (moved f newfid
 ended z f newfid [] at (Some r) = Err r
 ended z f newfid (qid ∷ qids) at (Some r) = Ok (reply.Walk (qid ∷ qids), z)
 
+-- a walk by these names, to this fid
 abbrev pub walk_from : Files → State → Fid → ℕ → List (List ℕ) → Result (Reply × State) Refusal
 walk_from e z f newfid [] = ended z f newfid [] f.place None
 walk_from e z f newfid (name ∷ names) =
