@@ -1,23 +1,21 @@
--- A new block of zeros is put below a slot.
-use Rattle.std.proofs.Common.{◌≡◌, inr, ℕ, length, ◌-◌, ◌*◌, ◌^◌, ◌<◌, true, false, zero, suc, List, [], ◌∷◌, sym, ◌∙◌, ap, subst, arith}
+-- A small tree in memory, in which a new block of zeros is put below a slot.
+use Rattle.std.proofs.Common.{◌≡◌, ◌≢◌, inr, ℕ, length, ◌^◌, ◌<◌, List, [], ◌∷◌, sym, ◌∙◌, ap, subst}
 use Rattle.fo_image.specs.declared.types.Kind.{Kind}
 use Rattle.fo_image.specs.declared.types.Kind.TheVariants.{Data, Root}
 use Rattle.fo_image.specs.declared.types.Label.{Label}
 use Rattle.fo_image.specs.declared.types.Pointer.TheVariants.{Local}
 use Rattle.fo_crash.specs.declared.slot.Slot.{Slot}
 use Rattle.fo_crash.specs.declared.place.Place.{Place}
-use Rattle.fo_crash.specs.Images.{Image, target, depth_of, walk, to_block, SameContent}
+use Rattle.fo_crash.specs.Images.{Image, target, walk, to_block, SameContent}
 use Rattle.fo_crash.specs.Steps.{Brings}
 use Rattle.fo_crash.specs.Places.{place_below, OnePlace, FitsAt, Fits}
 use Rattle.fo_crash.proofs.Reach.{lost, reaches_same}
-use Rattle.fo_crash.specs.declared.slot.Slot.TheVariants.{Pointer as To, Entry as Head, Prev}
-use Rattle.fo_crash.specs.Names.{IsInUse}
-use Rattle.fo_ports.specs.Blocks.{blank, no_entry, dropped, SlotFits, IsPointer, KeepsParent}
+use Rattle.fo_ports.specs.Blocks.{blank}
 use Rattle.fo_ports_plain.specs.declared.plain.PlainBlocks.{PlainBlocks}
 use Rattle.fo_ports_plain.specs.Plain.{memory, label_at, Stands}
 use Rattle.fo_ports_plain.specs.PlainLaws.{PlainKeeps, plain_blocks}
 use Rattle.fo_ports_plain.proofs.Memory.{blank_nowhere}
-use Rattle.fo_ports_clients.specs.Small.{live_label, source_of, HasRoot, HasTop, HasLeaf}
+use Rattle.fo_ports_clients.specs.Small.{live_label, HasRoot, HasTop, HasLeaf}
 
 -- It brings itself alone.
 pub new_brings : {now : Image} {P : ℕ → Type 0} (s : Slot) (kind : Kind) (below : ℕ) → target s ≡ Local below → SameContent (now below) (blank kind) → P below → Brings now s P
@@ -26,16 +24,6 @@ new_brings {now} {P} s kind below leads zeros own = record { each = λ b r. let 
     only : (b : ℕ) (path : List ℕ) → target (walk now (to_block below) path) ≡ Local b → P b
     only b [] e = let both : Local below ≡ Local b = e in let is : below ≡ b = cc in subst P is own
     only b (i ∷ path) e = absurd (lost now path ((now below).slot i) (λ x h. blank_nowhere kind i x (ap target (sym (zeros.slots i)) ∙ h)) b e)
-
--- It has no older parent.
-pub new_parent : {now : Image} (label : ℕ → Label) (old s : Slot) (below high : ℕ) → target s ≡ Local below → (label below).epoch ≡ high → KeepsParent now old s (λ b. (label b).epoch < high)
-new_parent {now} label old s below high leads current = record {
-  each = λ b e older.
-      let both : Local below ≡ Local b = sym leads ∙ e in
-      let is : below ≡ b = cc in
-      let low : (label below).epoch < high = subst (λ x. (label x).epoch < high) (sym is) older in
-      absurd (omega (arith, current, low));
-}
 
 -- It fits where its place is the one below the slot but for the index.
 pub new_fits : {stands : ℕ → Place → Type 0} {loose : ℕ → Type 0} {at below : ℕ} (i : ℕ) (s : Slot) (p q : Place) → OnePlace stands → stands at p → stands below q → loose below → target s ≡ Local below → (place_below p i s).index < 2 ^ 64 → record q { index = (place_below p i s).index } ≡ place_below p i s → Fits stands loose at i s
@@ -85,28 +73,8 @@ leaf_still on next top k leaf stays slot bytes has = record {
   long = ap length bytes ∙ has.long;
 }
 
--- The entry of the source can be spelled.
-pub source_fits : (top : ℕ) → top < 2 ^ 32 - 1 → SlotFits Root 0 (Head (source_of top))
-source_fits top small = (record { active_holds = (record { room = omega arith; least = λ less lt. least less lt }, small) }, omega arith)
-  where
-    least : (less : ℕ) → less < 1 → 8192 * 409 ^ less < 16384
-    least zero lt = omega arith
-    least (suc less) lt = absurd (omega arith)
-
--- In place of an entry that names nothing no level is dropped, and it is in no use.
-pub drops_none : (old new : Slot) → old ≡ Head no_entry → dropped old new ≡ 0
-drops_none old new is = let none : depth_of old ≡ 0 = ap depth_of is in omega (arith, none)
-
-pub unused : (old : Slot) (g : ℕ) → old ≡ Head no_entry → IsInUse old g → ⊥
-unused old g is used = let now : IsInUse (Head no_entry) g = subst (λ (s : Slot). IsInUse s g) is used in let both : false ≡ true = now.0 in cc
-
--- Nor in place of a pointer.
-pub pointer_unused : (old : Slot) (g : ℕ) → IsPointer old → IsInUse old g → ⊥
-pointer_unused (To p) g fits used = used
-pointer_unused (Head e) g fits used = fits
-pointer_unused (Prev epoch at) g fits used = fits
-
-pub pointer_drops : (old new : Slot) → IsPointer old → dropped old new ≡ 0
-pointer_drops (To p) new fits = omega arith
-pointer_drops (Head e) new fits = absurd fits
-pointer_drops (Prev epoch at) new fits = absurd fits
+-- A block of data is not the root block.
+pub not_root : {on : PlainBlocks} (b level : ℕ) → HasRoot on → label_at on.blocks.items on.made b ≡ live_label (Data level) 40 on.high → b ≢ 2
+not_root {on} b level root labelled is =
+    let both : Data level ≡ Root = ap (λ (l : Label). l.kind) (sym labelled ∙ ap (λ x. label_at on.blocks.items on.made x) is ∙ root.labelled) in
+    cc

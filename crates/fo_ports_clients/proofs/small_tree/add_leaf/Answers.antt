@@ -1,4 +1,4 @@
-use Rattle.std.proofs.Common.{◌≡◌, ◌≢◌, inl, inr, ℕ, ◌+◌, ◌*◌, ◌≤◌, ◌<◌, length, sym, refl, ◌∙◌, ap, subst, arith}
+use Rattle.std.proofs.Common.{◌≡◌, ◌≢◌, inl, inr, ℕ, ◌+◌, ◌*◌, length, sym, refl, ◌∙◌, ap, subst, arith}
 use Rattle.fo_image.specs.declared.types.Kind.TheVariants.{Data, Root}
 use Rattle.fo_image.specs.declared.types.Label.{Label}
 use Rattle.fo_image.specs.declared.types.Pointer.TheVariants.{Local}
@@ -6,72 +6,13 @@ use Rattle.fo_crash.specs.declared.slot.Slot.{Slot}
 use Rattle.fo_crash.specs.declared.slot.Slot.TheVariants.{Pointer as To}
 use Rattle.fo_crash.specs.Images.{target}
 use Rattle.fo_crash.specs.Places.{place}
-use Rattle.fo_ports.specs.Blocks.{slot_count, SlotFits, IsPointer}
 use Rattle.fo_ports.proofs.Lengths.{length_zero_bytes}
-use Rattle.fo_ports_plain.specs.Plain.{memory, label_at, Stands}
-use Rattle.fo_ports_plain.specs.PlainLaws.{plain_one, plain_small, plain_spelled, plain_blocks}
+use Rattle.fo_ports_plain.specs.Plain.{label_at, Stands}
+use Rattle.fo_ports_plain.specs.PlainLaws.{plain_one, plain_blocks}
 use Rattle.fo_ports_clients.specs.Small.{live_label}
 use Rattle.fo_ports_clients.proofs.Own.{apart_by}
-use Rattle.fo_ports_clients.proofs.Small.{Stays, root_still, top_still, leaf_still, new_brings, new_parent, new_fits, new_lower, pointer_unused, pointer_drops}
+use Rattle.fo_ports_clients.proofs.Small.{Stays, root_still, top_still, leaf_still, new_brings, new_fits, new_lower}
 use Rattle.fo_ports_clients.proofs.small_tree.add_leaf.Goals as goal
-
-pub put_slot-requires-clause-current : goal.put_slot-requires-clause-current
-put_slot-requires-clause-current c =
-    let on = c.args.on.now in
-    let mid = c.new_block-leaf.new.self in
-    let top = c.args.top in
-    let leaf = c.new_block-leaf.result in
-    let made = c.new_block-leaf.ensures in
-    let root_ne : 2 ≢ leaf = apart_by (λ x. (label_at on.blocks.items on.made x).state) 2 leaf (λ e. made.fresh.3 (sym e ∙ ap (λ (l : Label). l.state) c.requires.root.labelled)) in
-    let top_ne : top ≢ leaf = apart_by (λ x. (label_at on.blocks.items on.made x).state) top leaf (λ e. made.fresh.3 (sym e ∙ ap (λ (l : Label). l.state) c.requires.top.labelled)) in
-    let root = root_still on mid (record { label = (made.others 2 root_ne).0; places = λ p. (made.places 2 p root_ne).0; keeps = made.keeps }) c.requires.root in
-    let at_top = top_still on mid top (record { label = (made.others top top_ne).0; places = λ p. (made.places top p top_ne).0; keeps = made.keeps }) (ap target ((made.now.others 2 root_ne).slots 0)) c.requires.top in
-    let slot : Slot = To (Local leaf) in
-    ap (λ (l : Label). l.epoch) at_top.labelled
-
-pub put_slot-requires-clause-slots : goal.put_slot-requires-clause-slots
-put_slot-requires-clause-slots c =
-    let on = c.args.on.now in
-    let mid = c.new_block-leaf.new.self in
-    let top = c.args.top in
-    let leaf = c.new_block-leaf.result in
-    let made = c.new_block-leaf.ensures in
-    let root_ne : 2 ≢ leaf = apart_by (λ x. (label_at on.blocks.items on.made x).state) 2 leaf (λ e. made.fresh.3 (sym e ∙ ap (λ (l : Label). l.state) c.requires.root.labelled)) in
-    let top_ne : top ≢ leaf = apart_by (λ x. (label_at on.blocks.items on.made x).state) top leaf (λ e. made.fresh.3 (sym e ∙ ap (λ (l : Label). l.state) c.requires.top.labelled)) in
-    let root = root_still on mid (record { label = (made.others 2 root_ne).0; places = λ p. (made.places 2 p root_ne).0; keeps = made.keeps }) c.requires.root in
-    let at_top = top_still on mid top (record { label = (made.others top top_ne).0; places = λ p. (made.places top p top_ne).0; keeps = made.keeps }) (ap target ((made.now.others 2 root_ne).slots 0)) c.requires.top in
-    let slot : Slot = To (Local leaf) in
-    subst (λ (l : Label). c.args.k < slot_count l.kind) (sym at_top.labelled) c.requires.slot
-
-pub put_slot-requires-clause-spelled : goal.put_slot-requires-clause-spelled
-put_slot-requires-clause-spelled c =
-    let on = c.args.on.now in
-    let mid = c.new_block-leaf.new.self in
-    let top = c.args.top in
-    let leaf = c.new_block-leaf.result in
-    let made = c.new_block-leaf.ensures in
-    let root_ne : 2 ≢ leaf = apart_by (λ x. (label_at on.blocks.items on.made x).state) 2 leaf (λ e. made.fresh.3 (sym e ∙ ap (λ (l : Label). l.state) c.requires.root.labelled)) in
-    let top_ne : top ≢ leaf = apart_by (λ x. (label_at on.blocks.items on.made x).state) top leaf (λ e. made.fresh.3 (sym e ∙ ap (λ (l : Label). l.state) c.requires.top.labelled)) in
-    let root = root_still on mid (record { label = (made.others 2 root_ne).0; places = λ p. (made.places 2 p root_ne).0; keeps = made.keeps }) c.requires.root in
-    let at_top = top_still on mid top (record { label = (made.others top top_ne).0; places = λ p. (made.places top p top_ne).0; keeps = made.keeps }) (ap target ((made.now.others 2 root_ne).slots 0)) c.requires.top in
-    let slot : Slot = To (Local leaf) in
-    subst (λ (l : Label). SlotFits l.kind c.args.k slot) (sym at_top.labelled) (plain_small mid.blocks.items leaf mid.few made.new.0)
-
-pub put_slot-requires-clause-same_use : goal.put_slot-requires-clause-same_use
-put_slot-requires-clause-same_use c = λ a w.
-    let on = c.args.on.now in
-    let mid = c.new_block-leaf.new.self in
-    let top = c.args.top in
-    let leaf = c.new_block-leaf.result in
-    let made = c.new_block-leaf.ensures in
-    let root_ne : 2 ≢ leaf = apart_by (λ x. (label_at on.blocks.items on.made x).state) 2 leaf (λ e. made.fresh.3 (sym e ∙ ap (λ (l : Label). l.state) c.requires.root.labelled)) in
-    let top_ne : top ≢ leaf = apart_by (λ x. (label_at on.blocks.items on.made x).state) top leaf (λ e. made.fresh.3 (sym e ∙ ap (λ (l : Label). l.state) c.requires.top.labelled)) in
-    let root = root_still on mid (record { label = (made.others 2 root_ne).0; places = λ p. (made.places 2 p root_ne).0; keeps = made.keeps }) c.requires.root in
-    let at_top = top_still on mid top (record { label = (made.others top top_ne).0; places = λ p. (made.places top p top_ne).0; keeps = made.keeps }) (ap target ((made.now.others 2 root_ne).slots 0)) c.requires.top in
-    let slot : Slot = To (Local leaf) in
-    let lt : c.args.k < slot_count (label_at mid.blocks.items mid.made top).kind = subst (λ (l : Label). c.args.k < slot_count l.kind) (sym at_top.labelled) c.requires.slot in
-    let pointer : IsPointer ((memory mid.blocks.items top).slot c.args.k) = subst (λ (l : Label). SlotFits l.kind c.args.k ((memory mid.blocks.items top).slot c.args.k)) at_top.labelled (plain_spelled mid.blocks.items mid.made mid.spelled top c.args.k at_top.block lt) in
-    absurd (pointer_unused ((memory mid.blocks.items top).slot c.args.k) w.generation pointer w.in_use)
 
 pub put_slot-requires-clause-brings : goal.put_slot-requires-clause-brings
 put_slot-requires-clause-brings c = λ told.
@@ -114,52 +55,6 @@ put_slot-requires-clause-lower c = λ told b p at_p e.
     let at_top = top_still on mid top (record { label = (made.others top top_ne).0; places = λ p. (made.places top p top_ne).0; keeps = made.keeps }) (ap target ((made.now.others 2 root_ne).slots 0)) c.requires.top in
     let slot : Slot = To (Local leaf) in
     new_lower c.args.k slot (place (Data 1) 40 0 2113) p (plain_one mid.blocks.items mid.made) at_top.there (omega arith) at_p
-
-pub put_slot-requires-clause-parent : goal.put_slot-requires-clause-parent
-put_slot-requires-clause-parent c = λ told.
-    let on = c.args.on.now in
-    let mid = c.new_block-leaf.new.self in
-    let top = c.args.top in
-    let leaf = c.new_block-leaf.result in
-    let made = c.new_block-leaf.ensures in
-    let root_ne : 2 ≢ leaf = apart_by (λ x. (label_at on.blocks.items on.made x).state) 2 leaf (λ e. made.fresh.3 (sym e ∙ ap (λ (l : Label). l.state) c.requires.root.labelled)) in
-    let top_ne : top ≢ leaf = apart_by (λ x. (label_at on.blocks.items on.made x).state) top leaf (λ e. made.fresh.3 (sym e ∙ ap (λ (l : Label). l.state) c.requires.top.labelled)) in
-    let root = root_still on mid (record { label = (made.others 2 root_ne).0; places = λ p. (made.places 2 p root_ne).0; keeps = made.keeps }) c.requires.root in
-    let at_top = top_still on mid top (record { label = (made.others top top_ne).0; places = λ p. (made.places top p top_ne).0; keeps = made.keeps }) (ap target ((made.now.others 2 root_ne).slots 0)) c.requires.top in
-    let slot : Slot = To (Local leaf) in
-    new_parent (label_at mid.blocks.items mid.made) ((memory mid.blocks.items top).slot c.args.k) slot leaf mid.high refl (ap (λ (l : Label). l.epoch) made.label ∙ sym made.keeps.same_high)
-
-pub put_slot-requires-clause-room : goal.put_slot-requires-clause-room
-put_slot-requires-clause-room c =
-    let on = c.args.on.now in
-    let mid = c.new_block-leaf.new.self in
-    let top = c.args.top in
-    let leaf = c.new_block-leaf.result in
-    let made = c.new_block-leaf.ensures in
-    let root_ne : 2 ≢ leaf = apart_by (λ x. (label_at on.blocks.items on.made x).state) 2 leaf (λ e. made.fresh.3 (sym e ∙ ap (λ (l : Label). l.state) c.requires.root.labelled)) in
-    let top_ne : top ≢ leaf = apart_by (λ x. (label_at on.blocks.items on.made x).state) top leaf (λ e. made.fresh.3 (sym e ∙ ap (λ (l : Label). l.state) c.requires.top.labelled)) in
-    let root = root_still on mid (record { label = (made.others 2 root_ne).0; places = λ p. (made.places 2 p root_ne).0; keeps = made.keeps }) c.requires.root in
-    let at_top = top_still on mid top (record { label = (made.others top top_ne).0; places = λ p. (made.places top p top_ne).0; keeps = made.keeps }) (ap target ((made.now.others 2 root_ne).slots 0)) c.requires.top in
-    let slot : Slot = To (Local leaf) in
-    let lt : c.args.k < slot_count (label_at mid.blocks.items mid.made top).kind = subst (λ (l : Label). c.args.k < slot_count l.kind) (sym at_top.labelled) c.requires.slot in
-    let pointer : IsPointer ((memory mid.blocks.items top).slot c.args.k) = subst (λ (l : Label). SlotFits l.kind c.args.k ((memory mid.blocks.items top).slot c.args.k)) at_top.labelled (plain_spelled mid.blocks.items mid.made mid.spelled top c.args.k at_top.block lt) in
-    subst (λ n. 409 * n ≤ mid.room) (sym (pointer_drops ((memory mid.blocks.items top).slot c.args.k) slot pointer)) (omega arith)
-
-pub put_slot-requires-clause-tops : goal.put_slot-requires-clause-tops
-put_slot-requires-clause-tops c = λ n x less e.
-    let on = c.args.on.now in
-    let mid = c.new_block-leaf.new.self in
-    let top = c.args.top in
-    let leaf = c.new_block-leaf.result in
-    let made = c.new_block-leaf.ensures in
-    let root_ne : 2 ≢ leaf = apart_by (λ x. (label_at on.blocks.items on.made x).state) 2 leaf (λ e. made.fresh.3 (sym e ∙ ap (λ (l : Label). l.state) c.requires.root.labelled)) in
-    let top_ne : top ≢ leaf = apart_by (λ x. (label_at on.blocks.items on.made x).state) top leaf (λ e. made.fresh.3 (sym e ∙ ap (λ (l : Label). l.state) c.requires.top.labelled)) in
-    let root = root_still on mid (record { label = (made.others 2 root_ne).0; places = λ p. (made.places 2 p root_ne).0; keeps = made.keeps }) c.requires.root in
-    let at_top = top_still on mid top (record { label = (made.others top top_ne).0; places = λ p. (made.places top p top_ne).0; keeps = made.keeps }) (ap target ((made.now.others 2 root_ne).slots 0)) c.requires.top in
-    let slot : Slot = To (Local leaf) in
-    let lt : c.args.k < slot_count (label_at mid.blocks.items mid.made top).kind = subst (λ (l : Label). c.args.k < slot_count l.kind) (sym at_top.labelled) c.requires.slot in
-    let pointer : IsPointer ((memory mid.blocks.items top).slot c.args.k) = subst (λ (l : Label). SlotFits l.kind c.args.k ((memory mid.blocks.items top).slot c.args.k)) at_top.labelled (plain_spelled mid.blocks.items mid.made mid.spelled top c.args.k at_top.block lt) in
-    absurd (omega (arith, less, pointer_drops ((memory mid.blocks.items top).slot c.args.k) slot pointer))
 
 pub returns-clause-root : goal.returns-clause-root
 returns-clause-root c =
