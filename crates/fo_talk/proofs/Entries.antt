@@ -9,7 +9,7 @@ use Rattle.nine_wire.specs.declared.message.Reply.{Reply}
 use Rattle.nine_wire.specs.Message.{request_message, reply_message, spelling}
 use Rattle.nine_wire.specs.Stands.{Stands}
 use Rattle.fo_world.specs.World.{Faults}
-use Rattle.fo_talk.specs.Conversation.{Goes, Standing, Entry, Asked, Replied, IsNow, asked, Drops, LetsGo, Makes, Chain, LetsAllGo, Answers, said, limit_with, limit_after}
+use Rattle.fo_talk.specs.Conversation.{Goes, Standing, Entry, Asked, Replied, IsNow, asked, Drops, LetsGo, Makes, Chain, Answers, said, limit_with, limit_after}
 use Rattle.fo_talk.specs.Conversation as talk
 use Rattle.fo_talk.specs.Answering.{Clears, Asks, Answered, Put, is_version, next_limit}
 use Rattle.fo_talk.specs.declared.service.Stop.{Stop}
@@ -39,10 +39,6 @@ pub clears_none : {S : Type 0} (goes : Goes S) (clock : Option ℕ) (r : Request
 unfolding Chain
 clears_none goes clock (request.Version msize version) s f is = cc
 clears_none goes clock _ s f is = record { entries = []; gone = refl; chain = (refl, refl) }
-
-pub clears_all : {S : Type 0} (goes : Goes S) (clock : Option ℕ) (r : Request) (s s' : S) (f f' : Faults) → is_version r ≡ true → LetsAllGo goes clock s f s' f' → Clears goes clock r s f s' f'
-clears_all goes clock (request.Version msize version) s s' f f' is l = record { entries = l.entries; gone = l.drops; chain = l.chain }
-clears_all goes clock _ s s' f f' is l = cc
 
 -- ---- a message
 

@@ -2,7 +2,7 @@
 use Rattle.std.proofs.Common.{◌≡◌, ℕ, List, [], ◌∷◌, Some, None, IfSome, false, refl}
 use Rattle.std.specs.declared.option.Option.{Option}
 use Rattle.fo_world.specs.World.{Faults}
-use Rattle.fo_talk.specs.Conversation.{Goes, Standing, IsNow, Drops, LetsAllGo, Chain, let_go}
+use Rattle.fo_talk.specs.Conversation.{Goes, Standing, IsNow, LetsAllGo, Chain, let_go}
 use Rattle.nine_wire.specs.Version.{largest_message}
 use Rattle.fo_talk.specs.Conversation as talk
 use Rattle.fo_talk.specs.Ending.{Ends}
@@ -19,27 +19,6 @@ pub runs_of : {S : Type 0} (goes : Goes S) (clock : Option ℕ) (first : Standin
     → IfSome left (λ bytes. Ends goes clock first bytes left' held held' s f link) → IfSome left (λ bytes. Runs goes clock first bytes left' held held' end)
 runs_of goes clock first None left' held held' s f link end is talked = tt
 runs_of goes clock first (Some bytes) left' held held' s f link end is talked = record { link = link; end_is = is; system = s; faults = f; talk = talked }
-
-pub only_input : (link : LinkEnd) → why_of link ≡ why.Input → link ≡ ends.ReadFault
-only_input ends.End e = cc
-only_input (ends.BadMessage n) e = cc
-only_input ends.ReadFault e = refl
-only_input ends.WriteFault e = cc
-only_input ends.Memory e = cc
-
-pub only_output : (link : LinkEnd) → why_of link ≡ why.Output → link ≡ ends.WriteFault
-only_output ends.End e = cc
-only_output (ends.BadMessage n) e = cc
-only_output ends.ReadFault e = cc
-only_output ends.WriteFault e = refl
-only_output ends.Memory e = cc
-
-pub no_usage : (link : LinkEnd) → why_of link ≡ why.Usage → ⊥
-no_usage ends.End e = cc
-no_usage (ends.BadMessage n) e = cc
-no_usage ends.ReadFault e = cc
-no_usage ends.WriteFault e = cc
-no_usage ends.Memory e = cc
 
 -- ---- a run that never began
 
