@@ -185,57 +185,83 @@ fn lengths(rt: HostRuntime) -> Result<(), Fail> {
     Ok(())
 }
 
-/// Writes the reply behind what is there.
+/// The answer is written as these lines, behind what is there.
 fn replies(
     rt: &(impl Abort + Alloc<A = Global>),
-    answer: &Answer,
+    answer: Answer,
     lines: &str,
 ) -> Result<(), AllocError> {
     let mut out = Vec::from_slice(rt.alloc(), b"> ")?;
-    write_reply(answer, &mut out).expect(rt, "memory");
+    write_reply(&answer, &mut out).expect(rt, "memory");
     let wanted = format!(in rt.alloc(); "> {lines}")?;
     assert_eq!(rt; out.as_slice(), wanted.as_bytes());
     Ok(())
 }
 
 #[test]
-fn numbers(rt: HostRuntime) -> Result<(), Fail> {
-    let snapped = |epoch, archive| Answer::Snapped { epoch, archive };
-    replies(&rt, &Answer::Done, "ok\n")?;
-    replies(&rt, &snapped(1, false), "snap 1\n")?;
-    replies(&rt, &snapped(12, true), "snap 12 archive\n")?;
-    replies(
-        &rt,
-        &Answer::Epochs { low: 2, high: 30 },
-        "epoch low 2 high 30\n",
-    )?;
+fn epochs(rt: HostRuntime) -> Result<(), Fail> {
+    for (epoch, archive, lines) in [(1, false, "snap 1\n"), (12, true, "snap 12 archive\n")] {
+        replies(&rt, Answer::Snapped { epoch, archive }, lines)?;
+    }
+    let epochs = Answer::Epochs { low: 2, high: 30 };
+    replies(&rt, epochs, "epoch low 2 high 30\n")?;
+    Ok(())
+}
+
+#[test]
+fn counts(rt: HostRuntime) -> Result<(), Fail> {
     let checked = Answer::Checked { used: 3, leaked: 1 };
-    replies(&rt, &checked, "check ok used 3 leaked 1\n")?;
+    replies(&rt, checked, "check ok used 3 leaked 1\n")?;
     let space = Answer::Space {
         usable: 60,
         blocks: 61,
         used: 0,
         places: 14,
     };
-    replies(&rt, &space, "main 60 of 61\narena 0 of 14\n")?;
+    replies(&rt, space, "main 60 of 61\narena 0 of 14\n")?;
+    Ok(())
+}
+
+/// What `stat` writes of a file with this mode, length and path.
+fn tells(
+    rt: &(impl Abort + Alloc<A = Global>),
+    mode: u32,
+    length: u64,
+    path: u64,
+    lines: &str,
+) -> Result<(), AllocError> {
+    let info = file(rt.alloc(), mode, length, path)?;
+    replies(rt, Answer::Stat(info), lines)
+}
+
+#[test]
+fn files(rt: HostRuntime) -> Result<(), Fail> {
+    for (mode, length, path, lines) in [
+        (0o664, 0, 1, "stat x adm sys glenda 664 0 1\n"),
+        (
+            0xe400_0000,
+            1 << 40,
+            7,
+            "stat x adm sys glenda dalt0 1099511627776 7\n",
+        ),
+    ] {
+        tells(&rt, mode, length, path, lines)?;
+    }
     Ok(())
 }
 
 #[test]
-fn texts(rt: HostRuntime) -> Result<(), Fail> {
-    let plain = Answer::Stat(file(rt.alloc(), 0o664, 0, 1)?);
-    replies(&rt, &plain, "stat x adm sys glenda 664 0 1\n")?;
-    let flagged = Answer::Stat(file(rt.alloc(), 0xe400_0000, 1 << 40, 7)?);
-    replies(
-        &rt,
-        &flagged,
-        "stat x adm sys glenda dalt0 1099511627776 7\n",
-    )?;
+fn users(rt: HostRuntime) -> Result<(), Fail> {
     let lines = "adm:adm::\nnone:none::\n";
-    let users = Answer::Users(Vec::from_slice(rt.alloc(), lines.as_bytes())?);
-    replies(&rt, &users, lines)?;
-    let error = Answer::Error(name(rt.alloc(), "bad command")?);
-    replies(&rt, &error, "error bad command\n")?;
+    let users = Vec::from_slice(rt.alloc(), lines.as_bytes())?;
+    replies(&rt, Answer::Users(users), lines)?;
+    Ok(())
+}
+
+#[test]
+fn errors(rt: HostRuntime) -> Result<(), Fail> {
+    let text = name(rt.alloc(), "bad command")?;
+    replies(&rt, Answer::Error(text), "error bad command\n")?;
     Ok(())
 }
 
@@ -245,6 +271,6 @@ fn ample(rt: HostRuntime) -> Result<(), Fail> {
     let command = read_line(rt.alloc(), line).expect(&rt, "a command");
     let text = written(rt.alloc(), &command)?;
     assert_eq!(rt; text.as_str(), "Create /a/b glenda sys 640");
-    replies(&rt, &Answer::Done, "ok\n")?;
+    replies(&rt, Answer::Done, "ok\n")?;
     Ok(())
 }

@@ -636,7 +636,11 @@ impl FileOps for PlainFiles {
 
     ghost serves = { λ _ _. Unit {0} };
 
+    ghost settled = { λ _. Unit {0} };
+
     ghost keeps = { λ _ _. Unit {0} };
+
+    ghost touches = { λ _ _ _. Unit {0} };
 
     ghost keeps_at_once = { λ a. tt };
 
@@ -651,6 +655,20 @@ impl FileOps for PlainFiles {
     ghost keeps_whole = { λ a b p. refl };
 
     ghost keeps_serves = { λ a b v p q. tt };
+
+    ghost keeps_touches = { λ a b w p. tt };
+
+    ghost keeps_then = { λ a b c w p q. tt };
+
+    ghost touches_faults = { λ a b w p. not_fewer _ };
+
+    ghost touches_honest = { λ a b w p q. tt };
+
+    ghost touches_largest = { λ a b w p. refl };
+
+    ghost touches_whole = { λ a b w p. refl };
+
+    ghost touches_serves = { λ a b w v p q. tt };
 
     ghost whole_serves = { λ a v p. tt };
 

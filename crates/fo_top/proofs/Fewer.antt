@@ -1,8 +1,7 @@
 -- What a session lets go: the least fid is there, so there are fewer without it; and what it agrees to.
-use Rattle.std.proofs.Common.{◌≡◌, ℕ, ◌<◌, ◌≤◌, Bool, true, false, cond, eqb, List, [], ◌∷◌, length, Some, None, Ok, Err, inl, inr, ◌⊎◌, refl, sym, ap, arith}
+use Rattle.std.proofs.Common.{◌≡◌, ℕ, ◌<◌, Bool, true, false, cond, eqb, List, [], ◌∷◌, length, Some, None, Ok, Err, inl, inr, ◌⊎◌, refl, sym, ap, arith}
 use Rattle.std.specs.declared.option.Option.{Option}
 use Rattle.std.specs.Prelude.{Result, nat_lt}
-use Rattle.std.specs.Str.{bytes_eq}
 use Rattle.std.proofs.lemmas.Bool.{eq-eqb}
 use Rattle.fo_world.specs.World.{World}
 use Rattle.nine_wire.specs.declared.message.Reply.{Reply}
@@ -14,10 +13,8 @@ use Rattle.nine_fids.specs.Fids.{State, lesser, least, without, clunked, in_worl
 use Rattle.nine_fids.specs.Told.{Files}
 use Rattle.nine_files.specs.Removing.{closed}
 use Rattle.nine_session.specs.Removing.{clunk_fid}
-use Rattle.nine_session.specs.Session.{Fails, Drops, IsDropped, AgreesWithin}
+use Rattle.nine_session.specs.Session.{Fails, Touches, Drops, IsDropped, AgreesWithin}
 use Rattle.nine_session.specs.Session as session
-use Rattle.fo_talk.specs.Conversation.{agreed_size}
-use Rattle.nine_wire.specs.Version.{largest_message, version_text}
 
 -- ---- the least fid
 
@@ -58,16 +55,16 @@ clunked_without : (e : Files) (z z' : State) (now : ℕ) (f : Fid) (r : Reply) �
 unfolding clunk_fid
 clunked_without e z z' now f r told = left_without z z' f r (closed e z.world f now) told
 
-dropped_without : (e : Files) (fails : Fails) (z z' : State) (now : ℕ) (f : Fid) (more : Bool) (r : Option Reply) → Drops e fails z now (Some f) more r z' → z'.session.fids ≡ without f.number z.session.fids
-dropped_without e fails z z' now f more r d = elim d.1 [
-  | session.granted clunk told none ↦ clunked_without e z z' now f clunk told
-  | session.refused why told said left ↦ ap (λ (x : State). x.session.fids) left
-  | session.failed x cause said left ↦ ap (λ (x : State). x.session.fids) left
+dropped_without : (e : Files) (fails : Fails) (within : Touches) (z z' : State) (now : ℕ) (f : Fid) (more : Bool) (r : Option Reply) → Drops e fails within z now (Some f) more r z' → z'.session.fids ≡ without f.number z.session.fids
+dropped_without e fails within z z' now f more r d = elim d.1 [
+  | session.granted clunk told none touched ↦ clunked_without e z z' now f clunk told
+  | session.refused why told said left touched ↦ ap (λ (x : State). x.session.fids) left
+  | session.failed x cause said left touched ↦ ap (λ (x : State). x.session.fids) left
 ]
 
-dropped_fewer : (e : Files) (fails : Fails) (z z' : State) (now : ℕ) (best : Option Fid) (more : Bool) (r : Option Reply) → least z.session.fids ≡ best → Drops e fails z now best more r z' → more ≡ true → length z'.session.fids < length z.session.fids
-dropped_fewer e fails z z' now None more r is d m = absurd cc
-dropped_fewer e fails z z' now (Some f) more r is d m = rw (dropped_without e fails z z' now f more r d) (shorter z.session.fids f is)
+dropped_fewer : (e : Files) (fails : Fails) (within : Touches) (z z' : State) (now : ℕ) (best : Option Fid) (more : Bool) (r : Option Reply) → least z.session.fids ≡ best → Drops e fails within z now best more r z' → more ≡ true → length z'.session.fids < length z.session.fids
+dropped_fewer e fails within z z' now None more r is d m = absurd cc
+dropped_fewer e fails within z z' now (Some f) more r is d m = rw (dropped_without e fails within z z' now f more r d) (shorter z.session.fids f is)
 
-pub fewer : (e : Files) (fails : Fails) (z z' : State) (now : ℕ) (more : Bool) (r : Option Reply) → Drops e fails z now (least z.session.fids) more r z' → more ≡ true → length z'.session.fids < length z.session.fids
-fewer e fails z z' now more r d m = dropped_fewer e fails z z' now (least z.session.fids) more r refl d m
+pub fewer : (e : Files) (fails : Fails) (within : Touches) (z z' : State) (now : ℕ) (more : Bool) (r : Option Reply) → Drops e fails within z now (least z.session.fids) more r z' → more ≡ true → length z'.session.fids < length z.session.fids
+fewer e fails within z z' now more r d m = dropped_fewer e fails within z z' now (least z.session.fids) more r refl d m

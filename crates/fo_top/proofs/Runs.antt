@@ -36,7 +36,7 @@ none_goes : (clock : Option ℕ) → LetsAllGo system_goes clock empty_system no
 unfolding Chain
 none_goes clock =
     let m = some_moment clock in
-    record { entries = let_go m.0 false None no_faults no_faults ∷ []; drops = talk.last m.0 no_faults no_faults m.1; chain = (refl, (empty_system, (refl, refl, refl), (refl, refl))) }
+    record { entries = let_go m.0 false None no_faults no_faults ∷ []; drops = talk.last m.0 no_faults no_faults m.1; chain = (refl, (empty_system, (refl, refl, refl, tt), (refl, refl))) }
 
 pub never_began : (clock : Option ℕ) (left held : Option (List ℕ)) → IfSome left (λ bytes. Runs system_goes clock started bytes left held held why.Memory)
 never_began clock left held =

@@ -1,5 +1,5 @@
 -- What a call on files may answer: the file step's answer, or a failure that has its cause.
-use Rattle.std.specs.Prelude.{◌≡◌, ℕ, ◌<◌, ◌≤◌, ◌⊎◌, ⊤, Bool, IsTrue, Option, Some, Result, Ok, Err, MatchResult, is_ok}
+use Rattle.std.specs.Prelude.{◌≡◌, ℕ, ◌<◌, ◌≤◌, ◌⊎◌, ⊤, Bool, true, false, IsTrue, if◌then◌else◌, Option, Some, Result, Ok, Err, MatchResult, is_ok}
 use Rattle.std.proofs.Common.{arith}
 use Rattle.fo_base.specs.Cause.{Rose}
 use Rattle.fo_world.specs.declared.error.FileError.{FileError}
@@ -42,6 +42,32 @@ MayFail before after honest room need granted error.DirFull = ⊥
 -- A call gives what the step says, with the world after it; a refusal is the step's, or it has its cause, and it leaves the world.
 abbrev pub Answers : {A : Type 0} → Result (A × World) FileError → (Bool → FileError → Type 0) → World → World → Result A FileError → Type 0
 Answers told fails old new r = MatchResult r (λ x. told ≡ Ok (x, new)) (λ e. ((told ≡ Err e) ⊎ fails (is_ok told) e) × (new ≡ old))
+
+-- ---- what a call may have touched
+
+-- a failure of a device, which may have come when the change was half made
+abbrev pub is_fault : FileError → Bool
+is_fault error.MainRead = true
+is_fault error.MainWrite = true
+is_fault error.MainSync = true
+is_fault error.ArenaRead = true
+is_fault error.ArenaWrite = true
+is_fault error.ArenaSync = true
+is_fault _ = false
+
+-- a call that is answered, or in which a device fails, may have touched what it was to change; any other refusal touches nothing
+abbrev pub may_touch : {A : Type 0} → Result A FileError → Bool
+may_touch (Ok x) = true
+may_touch (Err e) = is_fault e
+
+-- the world after a step, where it is granted, and else the one before it
+abbrev pub granted_world : {A : Type 0} → Result (A × World) FileError → World → World
+granted_world (Ok p) old = p.1
+granted_world (Err e) old = old
+
+-- The world that a call went towards, by the step that it was to make and by its answer: no more was touched than what differs between the world before it and this one.
+abbrev pub tried : {A B : Type 0} → Result (A × World) FileError → World → Result B FileError → World
+tried told old r = if may_touch r then granted_world told old else old
 
 pub not_fewer : (f : Faults) → NotFewer f f
 not_fewer f = record { main = omega arith; arena = omega arith }

@@ -5,12 +5,12 @@ use fo_base::Bytes;
 
 /// Calls on a world of files, each by the file step. An implementer keeps the whole world, or one tree of it; it may borrow what it stands on.
 pub trait FileOps {
-    ghost use Rattle.std.specs.Prelude.{◌≡◌, ℕ, ◌≤◌, ◌⊎◌, Bool, IsTrue, Option, length, take, drop, is_ok, MatchResult, Ok, Err};
+    ghost use Rattle.std.specs.Prelude.{◌≡◌, ℕ, ◌≤◌, ◌⊎◌, Bool, IsTrue, Option, length, take, drop, is_ok, MatchResult, IfOk, Ok, Err};
     ghost use Rattle.std.specs.Option.{option_copied};
     ghost use Rattle.fo_world.specs.World.{World, Faults};
     ghost use Rattle.fo_world.specs.Step as step;
     ghost use Rattle.fo_world.specs.Limits.{IsName, IsUser, IsBelowRoot, IsChange};
-    ghost use Rattle.fo_world.specs.Answers.{Answers, MayFail, NotFewer};
+    ghost use Rattle.fo_world.specs.Answers.{Answers, MayFail, NotFewer, tried};
     ghost use Rattle.fo_world.specs.declared.place.View.{View};
 
     /// The world that it stands for.
@@ -34,8 +34,15 @@ pub trait FileOps {
     /// The views for which it answers.
     ghost serves: { Self → View → Type 0 };
 
-    /// What every call keeps: what the implementer stands on, and neither count of faults falls.
+    /// All that was changed is settled: a crash now would leave every file as the world has it.
+    ghost settled: { Self → Type 0 };
+
+    /// What a call keeps that touches nothing: what the implementer stands on, and what a crash on the way would leave. Neither count of faults falls.
     ghost keeps: { Self → Self → Type 0 };
+
+    /// What a call keeps that may touch files: from the first to the second no more was touched than what differs between the world of the first and this one, so
+    /// a crash on the way would leave every other file as one after `keeps` does.
+    ghost touches: { Self → World → Self → Type 0 };
 
     /// What is told of the file at a place.
     fn info(&mut self, at: &Place) -> Result<Info, FileError>
@@ -93,7 +100,7 @@ pub trait FileOps {
         ensures answer { Answers (step.write (whole self.old) (largest self.old) (world self.old) at.now offset bytes.now who.now now)
             (MayFail (faults self.old) (faults self.new) (honest self.old) (room self.new) (step.write_need at.now bytes.now))
             (world self.old) (world self.new) result }
-        ensures keeps { keeps self.old self.new };
+        ensures touches { touches self.old (tried (step.write (whole self.old) (largest self.old) (world self.old) at.now offset bytes.now who.now now) (world self.old) result) self.new };
 
     /// Makes a file in a directory, or a directory where the mode has DMDIR. The new file is of `uid` and `gid`; `who` is its muid and the directory's.
     fn create(
@@ -114,7 +121,7 @@ pub trait FileOps {
         ensures answer { Answers (step.create (whole self.old) (world self.old) at.now name.now mode who.now uid.now gid.now now)
             (MayFail (faults self.old) (faults self.new) (honest self.old) (room self.new) (step.create_need at.now))
             (world self.old) (world self.new) result }
-        ensures keeps { keeps self.old self.new };
+        ensures touches { touches self.old (tried (step.create (whole self.old) (world self.old) at.now name.now mode who.now uid.now gid.now now) (world self.old) result) self.new };
 
     /// Takes a file or an empty directory out of its directory.
     fn remove(&mut self, at: &Place, who: &Bytes, now: u32) -> Result<(), FileError>
@@ -124,7 +131,7 @@ pub trait FileOps {
         ensures answer { Answers (step.remove (whole self.old) (world self.old) at.now who.now now)
             (MayFail (faults self.old) (faults self.new) (honest self.old) (room self.new) (step.give (step.depth_of at.now)))
             (world self.old) (world self.new) result }
-        ensures keeps { keeps self.old self.new };
+        ensures touches { touches self.old (tried (step.remove (whole self.old) (world self.old) at.now who.now now) (world self.old) result) self.new };
 
     /// Changes all that is given of a file, or nothing.
     fn change(&mut self, at: &Place, what: &Change, who: &Bytes, now: u32) -> Result<(), FileError>
@@ -134,13 +141,14 @@ pub trait FileOps {
         ensures answer { Answers (step.change (whole self.old) (largest self.old) (world self.old) at.now what.now who.now now)
             (MayFail (faults self.old) (faults self.new) (honest self.old) (room self.new) (step.change_need (whole self.old) (world self.old) at.now what.now))
             (world self.old) (world self.new) result }
-        ensures keeps { keeps self.old self.new };
+        ensures touches { touches self.old (tried (step.change (whole self.old) (largest self.old) (world self.old) at.now what.now who.now now) (world self.old) result) self.new };
 
-    /// Settles all that was changed.
+    /// Settles all that was changed before.
     fn sync(&mut self) -> Result<(), FileError>
         ensures answer { Answers (step.sync (world self.old))
             (MayFail (faults self.old) (faults self.new) (honest self.old) (room self.new) 0)
             (world self.old) (world self.new) result }
+        ensures settled { IfOk result (λ _. settled self.new) }
         ensures keeps { keeps self.old self.new };
 
     ghost keeps_at_once: { (a : Self) → keeps a a };
@@ -156,6 +164,20 @@ pub trait FileOps {
     ghost keeps_whole: { (a b : Self) → keeps a b → whole b ≡ whole a };
 
     ghost keeps_serves: { (a b : Self) (v : View) → keeps a b → serves a v → serves b v };
+
+    ghost keeps_touches: { (a b : Self) (w : World) → keeps a b → touches a w b };
+
+    ghost keeps_then: { (a b c : Self) (w : World) → keeps a b → touches b w c → touches a w c };
+
+    ghost touches_faults: { (a b : Self) (w : World) → touches a w b → NotFewer (faults a) (faults b) };
+
+    ghost touches_honest: { (a b : Self) (w : World) → touches a w b → honest a → honest b };
+
+    ghost touches_largest: { (a b : Self) (w : World) → touches a w b → largest b ≡ largest a };
+
+    ghost touches_whole: { (a b : Self) (w : World) → touches a w b → whole b ≡ whole a };
+
+    ghost touches_serves: { (a b : Self) (w : World) (v : View) → touches a w b → serves a v → serves b v };
 
     ghost whole_serves: { (a : Self) (v : View) → IsTrue (whole a) → serves a v };
 }

@@ -4,4 +4,5 @@ pub mod Listing
 pub mod Opens
 pub mod Removals
 pub mod Restates
+pub mod Touching
 pub mod Walks

@@ -4,6 +4,7 @@ use Rattle.std.specs.Prelude.{is_ok}
 use Rattle.fo_world.specs.declared.place.Info.{Info}
 use Rattle.fo_world.specs.declared.error.FileError.{FileError}
 use Rattle.fo_world.specs.World.{World}
+use Rattle.fo_world.specs.Answers as answers
 use Rattle.fo_world.specs.Step as step
 use Rattle.fo_users.specs.Rights.{may}
 use Rattle.fo_users.specs.declared.right.Right.TheVariants.{Write}
@@ -16,9 +17,11 @@ use Rattle.nine_fids.specs.Fids.{is_open}
 use Rattle.nine_fids.specs.Told.{Files, info_at, qid_of}
 use Rattle.nine_fids.specs.Rights.{table_of}
 use Rattle.nine_fids.specs.Looking.{IsRefused}
+use Rattle.nine_files.specs.Answering.{granted_with}
 use Rattle.nine_files.specs.Granting.{admitted, admitted_new, is_held, told_qid}
 use Rattle.nine_files.specs.Opening.{allowed_mode, allowed_new, cut_info, cuts, emptied, opening_rights, truncated}
 use Rattle.nine_files.proofs.Links.{FailsSo}
+use Rattle.nine_files.proofs.Touching.{given_granted}
 
 -- ---- the file that may be opened
 
@@ -79,3 +82,7 @@ cut_refused (Err y) i fails x h = ⊎_elim (λ t. inl cc) (λ m. inr (x, refl, m
 pub cut_fails : (e : Files) (w : World) (f : Fid) (i : Info) (m : Mode) (now : ℕ) (fails : FailsSo) (x : FileError) → cuts i m ≡ true → (let t = step.change e.whole e.largest w f.place emptied f.user now in (t ≡ Err x) ⊎ fails (is_ok t) x) → IsRefused (told_qid (truncated e w f i m now)) (fails (is_ok (truncated e w f i m now))) (refusal.File x)
 unfolding truncated
 cut_fails e w f i m now fails x h k = rw h (cut_refused (step.change e.whole e.largest w f.place emptied f.user now) (cut_info i) fails x k)
+
+pub cut_granted : (e : Files) (w : World) (f : Fid) (i : Info) (m : Mode) (now : ℕ) → cuts i m ≡ true → granted_with (truncated e w f i m now) w ≡ answers.granted_world (step.change e.whole e.largest w f.place emptied f.user now) w
+unfolding truncated
+cut_granted e w f i m now h = rw h (given_granted (step.change e.whole e.largest w f.place emptied f.user now) (cut_info i) w)

@@ -6,6 +6,7 @@ use Rattle.fo_world.specs.declared.error.FileError.TheVariants as error
 use Rattle.fo_world.specs.declared.place.Info.{Info}
 use Rattle.fo_world.specs.World.{World, Faults}
 use Rattle.fo_world.specs.Answers.{MayFail, NotFewer}
+use Rattle.fo_world.specs.Answers as answers
 use Rattle.fo_world.specs.Step as step
 use Rattle.nine_fids.specs.declared.fid.Fid.{Fid}
 use Rattle.nine_fids.specs.declared.refusal.Refusal.{Refusal}
@@ -15,8 +16,9 @@ use Rattle.nine_fids.specs.Told.{Files, info_at}
 use Rattle.nine_fids.specs.Rights.{may_write_above}
 use Rattle.nine_fids.specs.Looking.{IsRefused, MayMiss, Looks}
 use Rattle.nine_fids.proofs.Missing.{refused_by, fails_since, fails_by_missing}
-use Rattle.nine_files.specs.Answering.{Leads}
+use Rattle.nine_files.specs.Answering.{Leads, granted_world}
 use Rattle.nine_files.specs.Removing.{closed, gone, removed, removed_unless_gone, removes}
+use Rattle.nine_files.proofs.Touching.{led_granted}
 
 -- ---- causes
 
@@ -60,6 +62,9 @@ removed_above e w f now r h k a = rw (h, k, a) refl
 pub removed_told : (e : Files) (w : World) (f : Fid) (now : ℕ) → step.is_active f.place.view ≡ true → (length f.place.trail == 0) ≡ false → may_write_above e w f ≡ Ok tt → removed e w f now ≡ and_then (changed (step.remove e.whole w f.place f.user now)) (λ p. Ok p.1)
 unfolding removed
 removed_told e w f now h k a = rw (h, k, a) refl
+
+pub removed_granted : (e : Files) (w : World) (f : Fid) (now : ℕ) → step.is_active f.place.view ≡ true → (length f.place.trail == 0) ≡ false → may_write_above e w f ≡ Ok tt → granted_world (removed e w f now) w ≡ answers.granted_world (step.remove e.whole w f.place f.user now) w
+removed_granted e w f now h k a = rw (removed_told e w f now h k a) (led_granted (step.remove e.whole w f.place f.user now) w)
 
 -- ---- ORCLOSE
 

@@ -12,6 +12,7 @@ use Rattle.fo_world.specs.declared.place.Change.{Change}
 use Rattle.fo_world.specs.declared.error.FileError.{FileError}
 use Rattle.fo_world.specs.declared.error.FileError.TheVariants as error
 use Rattle.fo_world.specs.World.{World}
+use Rattle.fo_world.specs.Answers as answers
 use Rattle.fo_world.specs.Limits.{IsName, IsUser, IsChange}
 use Rattle.fo_world.specs.Step as step
 use Rattle.fo_users.specs.declared.table.User.{User}
@@ -24,10 +25,12 @@ use Rattle.nine_fids.specs.Told.{Files, info_at, is_dir}
 use Rattle.nine_fids.specs.Rights.{table_of}
 use Rattle.nine_fids.specs.Looking.{IsRefused}
 use Rattle.nine_fids.proofs.Userly.{known_name}
+use Rattle.nine_files.specs.Answering.{granted_world}
 use Rattle.nine_files.specs.Granting.{allowed_change, changed_by, is_bad, is_bad_by}
 use Rattle.nine_files.specs.Opening.{is_bad_name}
 use Rattle.nine_files.specs.Stating.{allowed_name, changes_kind, changing_rights, is_strange, lengthens, names_badly}
 use Rattle.nine_files.proofs.Links.{FailsSo, refuse_ok, then_ok_parts}
+use Rattle.nine_files.proofs.Touching.{led_granted}
 
 -- ---- a change that is allowed
 
@@ -165,3 +168,7 @@ module _ (e : Files) (w : World) (now : ℕ) (f : Fid) (fixed : Bool) (c : Chang
   pub changed_fails : (x : FileError) (fails fails' : FailsSo) → allowed_change e w f fixed c i ≡ Ok tt → ((b : Bool) (y : FileError) → fails b y → fails' b y) → (let t = step.change e.whole e.largest w f.place c f.user now in (t ≡ Err x) ⊎ fails (is_ok t) x) → IsRefused (changed_by e w now f fixed c i) (fails' (is_ok (changed_by e w now f fixed c i))) (refusal.File x)
   unfolding changed_by
   changed_fails x fails fails' h up p = rw h (change_failed (step.change e.whole e.largest w f.place c f.user now) fails fails' x up p)
+
+  pub changed_by_granted : allowed_change e w f fixed c i ≡ Ok tt → granted_world (changed_by e w now f fixed c i) w ≡ answers.granted_world (step.change e.whole e.largest w f.place c f.user now) w
+  unfolding changed_by
+  changed_by_granted h = rw h (led_granted (step.change e.whole e.largest w f.place c f.user now) w)

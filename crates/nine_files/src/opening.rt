@@ -7,7 +7,7 @@ ghost use Rattle.fo_world.specs.Step as step;
 ghost use Rattle.nine_fids.specs.Told.{served, qid_of};
 ghost use Rattle.nine_fids.specs.Rights.{table_of};
 ghost use Rattle.nine_fids.specs.Looking.{Looks, MayMiss};
-ghost use Rattle.nine_files.specs.Answering.{Changes};
+ghost use Rattle.nine_files.specs.Answering.{Changes, granted_with, tried};
 ghost use Rattle.nine_files.specs.Granting as granting;
 ghost use Rattle.nine_files.specs.Opening as nine;
 
@@ -234,7 +234,7 @@ pub fn truncate<F: FileOps>(
         (MayFail (F.faults files.old) (F.faults files.new) (F.honest files.old) (F.room files.new) (step.change_need (F.whole files.old) (F.world files.old) fid.now.place nine.emptied) (is_ok told))
         (F.world files.old) (F.world files.new) result }
     ensures world { WorldFits (F.world files.old) → WorldFits (F.world files.new) }
-    ensures keeps { F.keeps files.old files.new }
+    ensures touches { F.touches files.old (tried (granted_with (nine.truncated (served (F.whole files.old) (F.largest files.old)) (F.world files.old) fid.now info.now mode now) (F.world files.old)) (F.world files.old) result) files.new }
 {
     if !cuts(info, mode) {
         return Ok(qid_of(info));

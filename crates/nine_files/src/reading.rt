@@ -12,7 +12,7 @@ ghost use Rattle.nine_fids.specs.Told.{served};
 ghost use Rattle.nine_fids.specs.Looking.{IsRefused, MayMiss};
 ghost use Rattle.nine_files.specs.Reading as nine;
 ghost use Rattle.nine_files.specs.Parts.{listed, Gives, write_start};
-ghost use Rattle.nine_files.specs.Answering.{Changes};
+ghost use Rattle.nine_files.specs.Answering.{Changes, granted_with, tried};
 
 use fo_world::{FileOps, Info, Name, Place};
 use nine_fids::{Fid, Opened, Refusal, appends, next_at, put_record};
@@ -185,7 +185,7 @@ pub fn write_bytes<F: FileOps>(
         Changes told (MayFail (F.faults files.old) (F.faults files.new) (F.honest files.old) (F.room files.new) (step.write_need fid.now.place bytes.now) (is_ok told))
         (F.world files.old) (F.world files.new) result }
     ensures world { WorldFits (F.world files.old) → WorldFits (F.world files.new) }
-    ensures keeps { F.keeps files.old files.new }
+    ensures touches { F.touches files.old (tried (granted_with (changed (step.write (F.whole files.old) (F.largest files.old) (F.world files.old) fid.now.place (write_start info.now offset) bytes.now fid.now.user now)) (F.world files.old)) (F.world files.old) result) files.new }
 {
     let offset = write_start(info, offset);
     files.write(&fid.place, offset, bytes, &fid.user, now)?;

@@ -6,7 +6,7 @@ ghost use Rattle.fo_world.specs.Limits.{IsUser};
 ghost use Rattle.fo_world.specs.Step as step;
 ghost use Rattle.nine_fids.specs.Told.{served};
 ghost use Rattle.nine_files.specs.Removing as nine;
-ghost use Rattle.nine_files.specs.Answering.{Leads};
+ghost use Rattle.nine_files.specs.Answering.{Leads, granted_world, tried};
 ghost use Rattle.nine_files.specs.Removing.{removed_there, gone};
 
 use fo_world::{FileError, FileOps, Info, View};
@@ -32,7 +32,7 @@ fn remove_file<F: FileOps>(alloc: Global, files: &mut F, now: u32, fid: &Fid) ->
         Leads told (MayFail (F.faults files.old) (F.faults files.new) (F.honest files.old) (F.room files.new) (step.give (step.depth_of fid.now.place)) (is_ok told))
         (F.world files.old) (F.world files.new) result }
     ensures world { WorldFits (F.world files.new) }
-    ensures keeps { F.keeps files.old files.new }
+    ensures touches { F.touches files.old (tried (granted_world (nine.removed (served (F.whole files.old) (F.largest files.old)) (F.world files.old) fid.now now) (F.world files.old)) (F.world files.old) result) files.new }
 {
     if !is_active(&fid.place.view) {
         return Err(Refusal::File(FileError::ReadOnly));
@@ -61,7 +61,7 @@ pub fn remove_on_close<F: FileOps>(
         Leads told (MayFail (F.faults files.old) (F.faults files.new) (F.honest files.old) (F.room files.new) (step.give (step.depth_of fid.now.place)) (is_ok told))
         (F.world files.old) (F.world files.new) result }
     ensures world { WorldFits (F.world files.new) }
-    ensures keeps { F.keeps files.old files.new }
+    ensures touches { F.touches files.old (tried (granted_world (nine.closed (served (F.whole files.old) (F.largest files.old)) (F.world files.old) fid.now now) (F.world files.old)) (F.world files.old) result) files.new }
 {
     if !is_removed(fid) {
         return Ok(());
@@ -108,7 +108,7 @@ pub fn remove_there<F: FileOps>(
         Leads told (MayFail (F.faults files.old) (F.faults files.new) (F.honest files.old) (F.room files.new) (step.give (step.depth_of fid.now.place)) (is_ok told))
         (F.world files.old) (F.world files.new) result }
     ensures world { WorldFits (F.world files.new) }
-    ensures keeps { F.keeps files.old files.new }
+    ensures touches { F.touches files.old (tried (granted_world (removed_there (served (F.whole files.old) (F.largest files.old)) (F.world files.old) fid.now now) (F.world files.old)) (F.world files.old) result) files.new }
 {
     info_at(files, &fid.place)?;
     remove_file(alloc, files, now, fid)

@@ -8,7 +8,7 @@ ghost use Rattle.nine_fields.specs.Field.{TextFits};
 ghost use Rattle.nine_fids.specs.Told.{served, info_at};
 ghost use Rattle.nine_fids.specs.Rights.{table_of};
 ghost use Rattle.nine_fids.specs.Looking.{Looks, MayMiss};
-ghost use Rattle.nine_files.specs.Answering.{Leads};
+ghost use Rattle.nine_files.specs.Answering.{Leads, granted_world, tried};
 ghost use Rattle.nine_files.specs.Granting as granting;
 ghost use Rattle.nine_files.specs.Stating as nine;
 
@@ -251,7 +251,7 @@ pub fn restate<F: FileOps>(
         (MayFail (F.faults files.old) (F.faults files.new) (F.honest files.old) (F.room files.new) (step.change_need (F.whole files.old) (F.world files.old) fid.now.place what.now) (is_ok told))
         (F.world files.old) (F.world files.new) result }
     ensures world { WorldFits (F.world files.old) → WorldFits (F.world files.new) }
-    ensures keeps { F.keeps files.old files.new }
+    ensures touches { F.touches files.old (tried (granted_world (granting.changed_by (served (F.whole files.old) (F.largest files.old)) (F.world files.old) now fid.now is_bad what.now info.now) (F.world files.old)) (F.world files.old) result) files.new }
 {
     check_change(alloc, files, fid, is_bad, info, what)?;
     files.change(&fid.place, what, &fid.user, now)?;
@@ -261,6 +261,7 @@ pub fn restate<F: FileOps>(
 /// Settles all that was changed before.
 pub fn settle<F: FileOps>(files: &mut F) -> Result<(), Refusal>
     ensures looks { Looks (Ok tt) (MayMiss (F.faults files.old) (F.faults files.new) (F.honest files.old)) result }
+    ensures settled { IfOk result (λ _. F.settled files.new) }
     ensures world { F.world files.new ≡ F.world files.old }
     ensures keeps { F.keeps files.old files.new }
 {

@@ -14,11 +14,13 @@ use Rattle.nine_fids.specs.Refusing.{and_then, some_or}
 use Rattle.nine_fids.specs.Fids.{State, fid_of, fid_at, version_of, without, released, clunked, in_world, least, lesser}
 use Rattle.nine_fids.specs.Told.{Files, info_at}
 use Rattle.nine_fids.specs.Looking.{IsRefused}
+use Rattle.nine_files.specs.Answering.{granted_world as led_world}
 use Rattle.nine_files.specs.Removing.{closed, removed, removed_there}
 use Rattle.nine_session.specs.Attempting.{let_go}
 use Rattle.nine_session.specs.Removing.{clunk, clunk_fid, remove}
-use Rattle.nine_session.specs.Session.{Told, without_fid}
+use Rattle.nine_session.specs.Session.{Told, granted_world, without_fid}
 use Rattle.nine_session.proofs.Kept.{fid_number}
+use Rattle.nine_session.proofs.Links.{world_led}
 
 -- ---- chains
 
@@ -65,6 +67,10 @@ pub clunk_granted : (e : Files) (z : State) (now : ℕ) (f : Fid) (w : World) �
 unfolding clunk_fid
 clunk_granted e z now f w h = rw h refl
 
+pub clunk_goes : (e : Files) (z : State) (now : ℕ) (f : Fid) → granted_world (clunk_fid e z now f) z.world ≡ led_world (closed e z.world f now) z.world
+unfolding clunk_fid
+clunk_goes e z now f = world_led (clunk_fid e z now f) (closed e z.world f now) (λ w. (reply.Clunk, clunked (in_world z w) f)) z.world refl (λ w. refl)
+
 there_then : (told : Result Info Refusal) (rest : Result World Refusal) (go : World → Result (Reply × State) Refusal) → and_then told (λ _. and_then rest go) ≡ and_then (and_then told (λ _. rest)) go
 there_then (Ok i) rest go = refl
 there_then (Err r) rest go = refl
@@ -78,6 +84,9 @@ remove_refused e z now fid n f fails r v k h = rw (remove_known e z now fid n f 
 
 pub remove_granted : (e : Files) (z : State) (now fid n : ℕ) (f : Fid) (w : World) → version_of z ≡ Ok n → fid_at z fid ≡ Ok f → removed_there e z.world f now ≡ Ok w → remove e z now fid ≡ Ok (reply.Remove, clunked (in_world z w) f)
 remove_granted e z now fid n f w v k h = remove_known e z now fid n f v k ∙ rw h refl
+
+pub remove_goes : (e : Files) (z : State) (now fid n : ℕ) (f : Fid) → version_of z ≡ Ok n → fid_at z fid ≡ Ok f → granted_world (remove e z now fid) z.world ≡ led_world (removed_there e z.world f now) z.world
+remove_goes e z now fid n f v k = world_led (remove e z now fid) (removed_there e z.world f now) (λ w. (reply.Remove, clunked (in_world z w) f)) z.world (remove_known e z now fid n f v k) (λ w. refl)
 
 pub clunk_no_version : (e : Files) (z : State) (now fid : ℕ) (r : Refusal) → version_of z ≡ Err r → clunk e z now fid ≡ Err r
 unfolding clunk

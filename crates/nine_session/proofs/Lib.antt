@@ -6,6 +6,7 @@ pub mod Opens
 pub mod Records
 pub mod Restates
 pub mod Starts
+pub mod Staying
 pub mod Transfers
 pub mod Trying
 pub mod Walks

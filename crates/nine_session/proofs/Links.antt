@@ -1,7 +1,7 @@
 -- A chain of steps that may be refused, link by link.
 use Rattle.std.proofs.Common.{◌≡◌, Bool, true, false, Option, Some, None, Result, Ok, Err, refl, sym, ap, subst, ◌∙◌, ⊎_elim, ℕ, inl, inr}
 use Rattle.fo_world.specs.declared.error.FileError.{FileError}
-use Rattle.fo_world.specs.World.{Faults}
+use Rattle.fo_world.specs.World.{World, Faults}
 use Rattle.fo_world.specs.Answers.{NotFewer, MayFail}
 use Rattle.nine_fids.specs.declared.refusal.Refusal.{Refusal}
 use Rattle.nine_fids.specs.Refusing.{and_then, refuse_if, some_or}
@@ -10,8 +10,9 @@ use Rattle.nine_fids.proofs.Missing.{refused_by, fails_since}
 use Rattle.nine_fids.specs.Fids.{State}
 use Rattle.nine_wire.specs.declared.message.Reply.{Reply}
 use Rattle.fo_world.specs.declared.error.FileError.TheVariants as error
+use Rattle.nine_files.specs.Answering.{granted_with, granted_world as led_world}
 use Rattle.nine_session.specs.Attempting.{Attempts}
-use Rattle.nine_session.specs.Session.{Told}
+use Rattle.nine_session.specs.Session.{Told, granted_world}
 
 -- ---- what a chain is, once its first link is known
 
@@ -62,6 +63,18 @@ refused_changing part whole f0 f1 f2 h0 h1 room need need' granted granted' r fe
     let P : ℕ → Type 0 = λ n. IsRefused whole (MayFail f0 f2 h0 room n granted') r in
     let Q : Bool → Type 0 = λ b. IsRefused whole (MayFail f0 f2 h0 room need b) r in
     subst P same (subst Q same' (⊎_elim (λ e. inl (told e)) (λ q. inr (q.0, q.1, fails_since f0 f1 f2 h0 h1 room need granted fewer up q.0 q.2)) p))
+
+-- ---- the world that a chain grants
+
+-- a chain that ends with a reply grants the world that its last link leads to
+pub world_led : (told : Told) (t : Result World Refusal) (go : World → Reply × State) (old : World) → told ≡ and_then t (λ w. Ok (go w)) → ((w : World) → (go w).1.world ≡ w) → granted_world told old ≡ led_world t old
+world_led told (Ok w) go old is same = ap (λ (r : Told). granted_world r old) is ∙ same w
+world_led told (Err r) go old is same = ap (λ (r : Told). granted_world r old) is
+
+-- the same, where the last link tells more than the world
+pub world_with : {A : Type 0} (told : Told) (t : Result (A × World) Refusal) (go : A × World → Reply × State) (old : World) → told ≡ and_then t (λ p. Ok (go p)) → ((p : A × World) → (go p).1.world ≡ p.1) → granted_world told old ≡ granted_with t old
+world_with told (Ok p) go old is same = ap (λ (r : Told). granted_world r old) is ∙ same p
+world_with told (Err r) go old is same = ap (λ (r : Told). granted_world r old) is
 
 -- ---- options
 

@@ -9,6 +9,7 @@ use Rattle.fo_world.specs.declared.place.Place.{Place}
 use Rattle.fo_world.specs.declared.error.FileError.{FileError}
 use Rattle.fo_world.specs.declared.error.FileError.TheVariants as error
 use Rattle.fo_world.specs.World.{World}
+use Rattle.fo_world.specs.Answers.{granted_world as made_world}
 use Rattle.fo_world.specs.Step as step
 use Rattle.fo_users.specs.Rights.{may}
 use Rattle.fo_users.specs.declared.right.Right.TheVariants.{Write}
@@ -24,12 +25,15 @@ use Rattle.nine_fids.specs.Modes.{mode_of, is_more}
 use Rattle.nine_fids.proofs.Missing.{ok_same}
 use Rattle.nine_fids.specs.Rights.{table_of}
 use Rattle.nine_fids.specs.Looking.{IsRefused}
+use Rattle.nine_files.specs.Answering.{granted_with}
 use Rattle.nine_files.specs.Granting.{admitted, admitted_new, is_held, told_qid}
 use Rattle.nine_files.specs.Opening.{allowed_mode, allowed_new, is_bad_name, new_mode, opened_so, opening_rights, truncated}
 use Rattle.nine_files.proofs.Links.{FailsSo, past_then, refuse_ok, then_ok_parts}
+use Rattle.nine_files.proofs.Touching.{changed_granted}
 use Rattle.nine_session.specs.Attempting.{state, with_put}
 use Rattle.nine_session.specs.Opening.{create_file, open_file, with_open}
-use Rattle.nine_session.proofs.Links.{past_refuse, refuse_same, then_same}
+use Rattle.nine_session.specs.Session.{granted_world}
+use Rattle.nine_session.proofs.Links.{past_refuse, refuse_same, then_same, world_with}
 
 -- ---- Topen
 
@@ -81,6 +85,10 @@ module _ (e : Files) (z : State) (now fid mode : ℕ) where
   pub open_fails : (msize : ℕ) (f : Fid) (i : Info) (m : Mode) (r : Refusal) (fails fails' : FailsSo) → version_of z ≡ Ok msize → fid_at z fid ≡ Ok f → admitted e z.world f z.exclusive mode ≡ Ok (i, m) → ((b : Bool) (x : FileError) → fails b x → fails' b x) → IsRefused (told_qid (truncated e z.world f i m now)) (fails (is_ok (truncated e z.world f i m now))) r → IsRefused (open_file e z now fid mode) (fails' (is_ok (open_file e z now fid mode))) r
   open_fails msize f i m r fails fails' h k l up p =
       rw (open_at msize f (i, m) h k l) (fails_from (truncated e z.world f i m now) (λ p. (reply.Open (qid_of p.0) (iounit msize), with_open (record z { world = p.1 }) f f.place m (is_exclusive i.mode))) r fails fails' up p)
+
+  pub open_goes : (msize : ℕ) (f : Fid) (i : Info) (m : Mode) → version_of z ≡ Ok msize → fid_at z fid ≡ Ok f → admitted e z.world f z.exclusive mode ≡ Ok (i, m) → granted_world (open_file e z now fid mode) z.world ≡ granted_with (truncated e z.world f i m now) z.world
+  open_goes msize f i m h k l =
+      world_with (open_file e z now fid mode) (truncated e z.world f i m now) (λ p. (reply.Open (qid_of p.0) (iounit msize), with_open (record z { world = p.1 }) f f.place m (is_exclusive i.mode))) z.world (open_at msize f (i, m) h k l) (λ p. refl)
 
 -- ---- Tcreate
 
@@ -150,6 +158,12 @@ module _ (e : Files) (z : State) (now fid : ℕ) (name : List ℕ) (perm mode : 
   pub create_fails : (msize : ℕ) (f : Fid) (i : Info) (m : Mode) (x : FileError) (fails fails' : FailsSo) → version_of z ≡ Ok msize → fid_at z fid ≡ Ok f → admitted_new e z.world f name perm mode ≡ Ok (i, m) → ((b : Bool) (y : FileError) → fails b y → fails' b y) → (let t = step.create e.whole z.world f.place name (new_mode perm i.mode) f.user f.user i.gid now in (t ≡ Err x) ⊎ fails (is_ok t) x) → IsRefused (create_file e z now fid name perm mode) (fails' (is_ok (create_file e z now fid name perm mode))) (refusal.File x)
   create_fails msize f i m x fails fails' h k l up p =
       rw (create_at msize f (i, m) h k l) (made_fails (step.create e.whole z.world f.place name (new_mode perm i.mode) f.user f.user i.gid now) (λ p. (reply.Create (qid_of p.0) (iounit msize), with_open (record z { world = p.1 }) f p.0.place m (is_exclusive p.0.mode))) x fails fails' up p)
+
+  pub create_goes : (msize : ℕ) (f : Fid) (i : Info) (m : Mode) → version_of z ≡ Ok msize → fid_at z fid ≡ Ok f → admitted_new e z.world f name perm mode ≡ Ok (i, m) → granted_world (create_file e z now fid name perm mode) z.world ≡ made_world (step.create e.whole z.world f.place name (new_mode perm i.mode) f.user f.user i.gid now) z.world
+  create_goes msize f i m h k l =
+      let t = step.create e.whole z.world f.place name (new_mode perm i.mode) f.user f.user i.gid now in
+      world_with (create_file e z now fid name perm mode) (changed t) (λ p. (reply.Create (qid_of p.0) (iounit msize), with_open (record z { world = p.1 }) f p.0.place m (is_exclusive p.0.mode))) z.world (create_at msize f (i, m) h k l) (λ p. refl)
+      ∙ changed_granted t z.world
 
 -- ---- a fid put in its place
 

@@ -19,11 +19,13 @@ use Rattle.nine_fids.specs.Fids.{State, version_of, fid_at, in_world}
 use Rattle.nine_fids.specs.Told.{Files, info_at, record_of, reply_len}
 use Rattle.nine_fids.specs.Rights.{table_of}
 use Rattle.nine_fids.specs.Looking.{IsRefused}
+use Rattle.nine_files.specs.Answering.{granted_world as led_world}
 use Rattle.nine_files.specs.Granting.{allowed_change, changed_by}
 use Rattle.nine_files.specs.Stating.{allowed_name, change_of, changes_fixed, changing_rights, touches, touches_fixed}
 use Rattle.nine_files.proofs.Links.{FailsSo, past_then}
 use Rattle.nine_session.specs.Stating.{is_bad_stat, restated, settled, stat, wstat}
-use Rattle.nine_session.proofs.Links.{past_refuse, refuse_same, then_same}
+use Rattle.nine_session.specs.Session.{granted_world}
+use Rattle.nine_session.proofs.Links.{past_refuse, refuse_same, then_same, world_led}
 use Rattle.nine_session.proofs.Records.{reply_length}
 
 -- ---- Tstat
@@ -123,3 +125,7 @@ module _ (e : Files) (z : State) (now fid : ℕ) (s : Stat) where
   pub wstat_fails : (msize : ℕ) (f : Fid) (i : Info) (r : Refusal) (fails fails' : FailsSo) → version_of z ≡ Ok msize → fid_at z fid ≡ Ok f → info_at e z.world f.place ≡ Ok i → (touches_fixed s || touches (change_of s)) ≡ true → ((b : Bool) (y : FileError) → fails b y → fails' b y) → (let t = changed_by e z.world now f (changes_fixed s i) (change_of s) i in IsRefused t (fails (is_ok t)) r) → IsRefused (wstat e z now fid s) (fails' (is_ok (wstat e z now fid s))) r
   wstat_fails msize f i r fails fails' h k l t up p =
       rw (wstat_changes msize f i h k l t) (restate_failed (changed_by e z.world now f (changes_fixed s i) (change_of s) i) (λ v. (reply.Wstat, in_world z v)) r fails fails' up p)
+
+  pub wstat_goes : (msize : ℕ) (f : Fid) (i : Info) → version_of z ≡ Ok msize → fid_at z fid ≡ Ok f → info_at e z.world f.place ≡ Ok i → (touches_fixed s || touches (change_of s)) ≡ true → granted_world (wstat e z now fid s) z.world ≡ led_world (changed_by e z.world now f (changes_fixed s i) (change_of s) i) z.world
+  wstat_goes msize f i h k l t =
+      world_led (wstat e z now fid s) (changed_by e z.world now f (changes_fixed s i) (change_of s) i) (λ w. (reply.Wstat, in_world z w)) z.world (wstat_changes msize f i h k l t) (λ w. refl)

@@ -14,7 +14,8 @@ use Rattle.nine_fids.specs.Fids.{Fids, State, fid_of, clunked, number_at, is_ope
 use Rattle.nine_fids.specs.Refusing.{and_then, refusal_text, refuse_if}
 use Rattle.nine_fids.specs.Told.{Files}
 use Rattle.nine_session.specs.Opening.{listed}
-use Rattle.nine_session.specs.Session.{AgreesWithin, Fails, Needs, Tells, Told, left_by}
+use Rattle.nine_session.specs.Session.{AgreesWithin, Fails, Needs, Tells, Told, Touches, granted_world, left_by}
+use Rattle.nine_files.specs.Answering.{tried}
 
 -- the state that a session, the list of exclusive opens and the world make
 abbrev pub state : Fids → List ℕ → World → State
@@ -41,13 +42,14 @@ let_go number z = without_one z (fid_of number z.session.fids)
 abbrev pub IsSent : Result Reply Refusal → Type 0
 IsSent result = IfOk result (λ r. ReplyFits r × AgreesWithin r)
 
--- A request as it is attempted: what it is told, the blocks that it needs, and how it comes out.
-pub record Tried (e : Files) (fails : Fails) (z : State) (now : ℕ) (q : Request) (z' : State) (result : Result Reply Refusal) : Type 0 where
+-- A request as it is attempted: what it is told, the blocks that it needs, how it comes out, and what it may have touched.
+pub record Tried (e : Files) (fails : Fails) (within : Touches) (z : State) (now : ℕ) (q : Request) (z' : State) (result : Result Reply Refusal) : Type 0 where
   pub told : Told
   pub need : ℕ
   pub tells : Tells e z now q told
   pub needs : Needs e z q need
   pub attempts : Attempts told (fails need (is_ok told)) (left_by z q) z' result
+  pub touched : within (tried (granted_world told z.world) z.world result)
 
 -- the message size that is agreed to, where the version is known
 abbrev pub agreed_size : Bool → ℕ → Option ℕ

@@ -1,5 +1,5 @@
 -- What a session replies to each request, and what it and the world are then (section 5 of the Plan 9 manual).
-use Rattle.std.specs.Prelude.{◌≡◌, ◌≤◌, ℕ, Bool, true, false, Option, Some, None, Result, Ok, Err, is_ok}
+use Rattle.std.specs.Prelude.{◌≡◌, ◌≤◌, ℕ, Bool, true, false, not, ◌||◌, IsTrue, Option, Some, None, Result, Ok, Err, is_ok, if◌then◌else◌}
 use Rattle.nine_wire.specs.declared.message.Request.{Request}
 use Rattle.nine_wire.specs.declared.message.Request.TheVariants as request
 use Rattle.nine_wire.specs.declared.message.Reply.{Reply}
@@ -10,6 +10,8 @@ use Rattle.nine_stat.specs.Stat.{IsRecord}
 use Rattle.fo_world.specs.declared.place.Place.{Place}
 use Rattle.fo_world.specs.declared.error.FileError.{FileError}
 use Rattle.fo_world.specs.Step as step
+use Rattle.fo_world.specs.World.{World}
+use Rattle.fo_world.specs.Answers.{is_fault}
 use Rattle.nine_fids.specs.declared.fid.Fid.{Fid}
 use Rattle.nine_fids.specs.declared.refusal.Refusal.{Refusal}
 use Rattle.nine_fids.specs.declared.refusal.Refusal.TheVariants as refusal
@@ -24,6 +26,7 @@ use Rattle.nine_session.specs.Stating as stating
 use Rattle.nine_session.specs.Walking as walking
 use Rattle.nine_files.specs.Opening.{emptied}
 use Rattle.nine_files.specs.Stating.{change_of}
+use Rattle.nine_files.specs.Stating as changing
 
 -- ---- what is granted, and what is refused
 
@@ -95,26 +98,47 @@ abbrev pub replied : Told → State → Reply × State
 replied (Ok p) left = p
 replied (Err r) left = (reply.Error (refusal_text r), left)
 
+-- the world that is granted, or the one before where the request is refused
+abbrev pub granted_world : Told → World → World
+granted_world (Ok p) old = p.1.world
+granted_world (Err r) old = old
+
+-- no more was touched than what differs between the world before and this one
+abbrev pub Touches : Type 1
+Touches = World → Type 0
+
 -- why the files may fail a request beside what is told
 abbrev pub Fails : Type 1
 Fails = ℕ → Bool → FileError → Type 0
 
 -- The reply and the state are those that the definition tells, or the reply is the text of a failure of the files that has its
--- cause, and the state is that which a refusal leaves.
-pub data Serves (e : Files) (fails : Fails) (z : State) (now : ℕ) (q : Request) (r : Reply) (z' : State) : Type 0 where
-  as_told : (told : Told) → Tells e z now q told → (r, z') ≡ replied told (left_by z q) → Serves e fails z now q r z'
-  failed : (told : Told) (need : ℕ) (x : FileError) → Tells e z now q told → Needs e z q need → fails need (is_ok told) x → r ≡ reply.Error (refusal_text (refusal.File x)) → z' ≡ left_by z q → Serves e fails z now q r z'
+-- cause, and the state is that which a refusal leaves. No more was touched than what the definition changes, and nothing where the
+-- definition refuses the request, or the failure is none of a device.
+pub data Serves (e : Files) (fails : Fails) (within : Touches) (z : State) (now : ℕ) (q : Request) (r : Reply) (z' : State) : Type 0 where
+  as_told : (told : Told) → Tells e z now q told → (r, z') ≡ replied told (left_by z q) → within (granted_world told z.world) → Serves e fails within z now q r z'
+  failed : (told : Told) (need : ℕ) (x : FileError) → Tells e z now q told → Needs e z q need → fails need (is_ok told) x → r ≡ reply.Error (refusal_text (refusal.File x)) → z' ≡ left_by z q → within (if is_fault x then granted_world told z.world else z.world) → Serves e fails within z now q r z'
+
+-- ---- the sync that a client asks for
+
+-- nothing is given by a stat record
+abbrev pub touches_nothing : Stat → Bool
+touches_nothing s = not (changing.touches_fixed s || changing.touches (change_of s))
+
+-- a Twstat that touches nothing
+abbrev pub AsksSync : Request → Type 0
+AsksSync (request.Wstat fid stat) = (s : Stat) × IsRecord stat s × IsTrue (touches_nothing s)
+AsksSync _ = ⊥
 
 -- ---- the end of a session
 
 -- What the end of a fid answers: nothing where Tclunk would be granted, else the reply that would refuse it. The fid is gone in
 -- each case.
-pub data IsDropped (told : Told) (fails : FileError → Type 0) (left : State) (answer : Option Reply) (z' : State) : Type 0 where
-  granted : (r : Reply) → told ≡ Ok (r, z') → answer ≡ None → IsDropped told fails left answer z'
-  refused : (why : Refusal) → told ≡ Err why → answer ≡ Some (reply.Error (refusal_text why)) → z' ≡ left → IsDropped told fails left answer z'
-  failed : (x : FileError) → fails x → answer ≡ Some (reply.Error (refusal_text (refusal.File x))) → z' ≡ left → IsDropped told fails left answer z'
+pub data IsDropped (told : Told) (fails : FileError → Type 0) (within : Touches) (old : World) (left : State) (answer : Option Reply) (z' : State) : Type 0 where
+  granted : (r : Reply) → told ≡ Ok (r, z') → answer ≡ None → within z'.world → IsDropped told fails within old left answer z'
+  refused : (why : Refusal) → told ≡ Err why → answer ≡ Some (reply.Error (refusal_text why)) → z' ≡ left → within old → IsDropped told fails within old left answer z'
+  failed : (x : FileError) → fails x → answer ≡ Some (reply.Error (refusal_text (refusal.File x))) → z' ≡ left → within (if is_fault x then granted_world told old else old) → IsDropped told fails within old left answer z'
 
 -- the least fid goes as by Tclunk; with no fid the version is forgotten
-abbrev pub Drops : Files → Fails → State → ℕ → Option Fid → Bool → Option Reply → State → Type 0
-Drops e fails z now None more r z' = (more ≡ false) × (r ≡ None) × (z' ≡ restarted z None)
-Drops e fails z now (Some f) more r z' = (more ≡ true) × IsDropped (removing.clunk_fid e z now f) (λ x. fails (step.give (step.depth_of f.place)) (is_ok (removing.clunk_fid e z now f)) x) (clunked z f) r z'
+abbrev pub Drops : Files → Fails → Touches → State → ℕ → Option Fid → Bool → Option Reply → State → Type 0
+Drops e fails within z now None more r z' = (more ≡ false) × (r ≡ None) × (z' ≡ restarted z None) × within z.world
+Drops e fails within z now (Some f) more r z' = (more ≡ true) × IsDropped (removing.clunk_fid e z now f) (λ x. fails (step.give (step.depth_of f.place)) (is_ok (removing.clunk_fid e z now f)) x) within z.world (clunked z f) r z'

@@ -25,7 +25,8 @@ impl Session {
     ghost use Rattle.nine_fields.specs.Field.{TextFits};
     ghost use Rattle.nine_fids.specs.Fids.{known};
     ghost use Rattle.nine_fids.specs.Told.{served};
-    ghost use Rattle.nine_session.specs.Session.{need_at};
+    ghost use Rattle.nine_files.specs.Answering.{tried};
+    ghost use Rattle.nine_session.specs.Session.{granted_world, need_at};
     ghost use Rattle.nine_session.specs.Attempting.{state, Attempts, IsSent, with_put};
     ghost use Rattle.nine_session.specs.Opening as nine;
     ghost use Rattle.nine_files.specs.Opening.{emptied};
@@ -60,7 +61,7 @@ impl Session {
             (state self.old exclusive.old.items (F.world files.old)) (state self.new exclusive.new.items (F.world files.new)) result }
         ensures sends { IsSent result }
         ensures world { WorldFits (F.world files.new) }
-        ensures keeps { F.keeps files.old files.new }
+        ensures touches { F.touches files.old (tried (granted_world (nine.open_file (served (F.whole files.old) (F.largest files.old)) (state self.old exclusive.old.items (F.world files.old)) now fid mode) (F.world files.old)) (F.world files.old) result) files.new }
     {
         let msize = self.version()?;
         let from = self.fid(fid)?;
@@ -97,7 +98,7 @@ impl Session {
             (state self.old exclusive.old.items (F.world files.old)) (state self.new exclusive.new.items (F.world files.new)) result }
         ensures sends { IsSent result }
         ensures world { WorldFits (F.world files.new) }
-        ensures keeps { F.keeps files.old files.new }
+        ensures touches { F.touches files.old (tried (granted_world (nine.create_file (served (F.whole files.old) (F.largest files.old)) (state self.old exclusive.old.items (F.world files.old)) now fid name.now perm mode) (F.world files.old)) (F.world files.old) result) files.new }
     {
         let msize = self.version()?;
         let from = self.fid(fid)?;

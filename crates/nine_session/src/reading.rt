@@ -24,7 +24,8 @@ impl Session {
     ghost use Rattle.nine_fids.specs.Fids as fids;
     ghost use Rattle.nine_fids.specs.Told.{served};
     ghost use Rattle.nine_fids.specs.Looking.{MayMiss};
-    ghost use Rattle.nine_session.specs.Session.{need_at};
+    ghost use Rattle.nine_files.specs.Answering.{tried};
+    ghost use Rattle.nine_session.specs.Session.{granted_world, need_at};
     ghost use Rattle.nine_session.specs.Reading as nine;
     ghost use Rattle.nine_session.specs.Attempting.{state, Attempts, IsSent};
 
@@ -113,7 +114,7 @@ impl Session {
             (state self.now x (F.world files.old)) (state self.now x (F.world files.new)) result }
         ensures sends { IsSent result }
         ensures world { WorldFits (F.world files.new) }
-        ensures keeps { F.keeps files.old files.new }
+        ensures touches { (x : List ℕ) → F.touches files.old (tried (granted_world (nine.write (served (F.whole files.old) (F.largest files.old)) (state self.now x (F.world files.old)) now fid offset bytes.now) (F.world files.old)) (F.world files.old) result) files.new }
     {
         // The user of a fid is a user of files, as the session keeps it.
         let _ = &self.fids;

@@ -16,7 +16,8 @@ impl Session {
     ghost use Rattle.std.specs.Prelude.{Some};
     ghost use Rattle.nine_fids.specs.declared.fid.Fid.{Fid};
     ghost use Rattle.nine_fids.specs.Fids.{fid_of, known, clunked};
-    ghost use Rattle.nine_session.specs.Session.{need_at, without_fid};
+    ghost use Rattle.nine_files.specs.Answering.{tried};
+    ghost use Rattle.nine_session.specs.Session.{granted_world, need_at, without_fid};
     ghost use Rattle.nine_session.specs.Attempting.{state, Attempts, IsSent};
 
     /// Clunks the fid of this number, which there is. It is gone in each case.
@@ -35,7 +36,7 @@ impl Session {
             Attempts told (MayFail (F.faults files.old) (F.faults files.new) (F.honest files.old) (F.room files.new) (step.give (step.depth_of f.place)) (is_ok told)) (clunked z f) (state self.new exclusive.new.items (F.world files.new)) result) }
         ensures sends { IsSent result }
         ensures world { WorldFits (F.world files.new) }
-        ensures keeps { F.keeps files.old files.new }
+        ensures touches { (f : Fid) → fid_of number self.old.fids ≡ Some f → F.touches files.old (tried (granted_world (nine.clunk_fid (served (F.whole files.old) (F.largest files.old)) (state self.old exclusive.old.items (F.world files.old)) now f) (F.world files.old)) (F.world files.old) result) files.new }
     {
         let Some(fid) = fid_of(self.fids.as_slice(), number) else {
             return Err(Refusal::UnknownFid);
@@ -62,7 +63,7 @@ impl Session {
             (without_fid z self.old.msize (known fid self.old.fids)) (state self.new exclusive.new.items (F.world files.new)) result }
         ensures sends { IsSent result }
         ensures world { WorldFits (F.world files.new) }
-        ensures keeps { F.keeps files.old files.new }
+        ensures touches { F.touches files.old (tried (granted_world (nine.clunk (served (F.whole files.old) (F.largest files.old)) (state self.old exclusive.old.items (F.world files.old)) now fid) (F.world files.old)) (F.world files.old) result) files.new }
     {
         self.version()?;
         self.fid(fid)?;
@@ -85,7 +86,7 @@ impl Session {
             (without_fid z self.old.msize (known fid self.old.fids)) (state self.new exclusive.new.items (F.world files.new)) result }
         ensures sends { IsSent result }
         ensures world { WorldFits (F.world files.new) }
-        ensures keeps { F.keeps files.old files.new }
+        ensures touches { F.touches files.old (tried (granted_world (nine.remove (served (F.whole files.old) (F.largest files.old)) (state self.old exclusive.old.items (F.world files.old)) now fid) (F.world files.old)) (F.world files.old) result) files.new }
     {
         self.version()?;
         let from = self.fid(fid)?;

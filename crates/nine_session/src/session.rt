@@ -40,13 +40,14 @@ impl Session {
     ghost use Rattle.std.specs.Prelude.{◌≡◌, ◌<◌, ℕ, List, IsTrue, is_ok, IfOk, IfSome, MatchResult, MatchOption, Ok, Err, Some, None, length, slice_index_or};
     ghost use Rattle.nine_fids.specs.declared.fid.Fid.{Fid};
     ghost use Rattle.nine_wire.specs.Message.{RequestFits, ReplyFits};
+    ghost use Rattle.nine_wire.specs.declared.message.Reply.TheVariants as reply;
     ghost use Rattle.fo_world.specs.Answers.{MayFail};
     ghost use Rattle.fo_world.specs.Fits.{WorldFits};
     ghost use Rattle.fo_world.specs.World.{World};
     ghost use Rattle.nine_fids.specs.Fids as nine;
     ghost use Rattle.nine_fids.specs.Fids.{no_fids};
     ghost use Rattle.nine_fids.specs.Told.{served};
-    ghost use Rattle.nine_session.specs.Session.{Serves, Drops, AgreesWithin};
+    ghost use Rattle.nine_session.specs.Session.{AsksSync, Serves, Drops, AgreesWithin};
     ghost use Rattle.nine_session.specs.Attempting.{state, let_go, Tried, IsSent};
     ghost use Rattle.nine_fids.specs.declared.refusal.Refusal.TheVariants as refusal;
 
@@ -111,11 +112,12 @@ impl Session {
         requires request { RequestFits request }
         ensures tried { Tried (served (F.whole files.old) (F.largest files.old))
             (λ need granted x. MayFail (F.faults files.old) (F.faults files.new) (F.honest files.old) (F.room files.new) need granted x)
+            (λ goal. F.touches files.old goal files.new)
             (state self.old exclusive.old.items (F.world files.old)) now request
             (state self.new exclusive.new.items (F.world files.new)) result }
         ensures sends { IsSent result }
         ensures world { WorldFits (F.world files.new) }
-        ensures keeps { F.keeps files.old files.new }
+        ensures settled { AsksSync request → IfOk result (λ _. F.settled files.new) }
     {
         match request {
             Request::Version { msize, version } => self.agree(exclusive, msize, &version),
@@ -157,9 +159,10 @@ impl Session {
         requires world { WorldFits (F.world files.old) }
         requires request { RequestFits request }
 
-        // The reply is the definition's, or the text of a failure that has its cause.
+        // The reply is the definition's, or the text of a failure that has its cause; and no more was touched than the definition changes.
         ensures serves { Serves (served (F.whole files.old) (F.largest files.old))
             (λ need granted x. MayFail (F.faults files.old) (F.faults files.new) (F.honest files.old) (F.room files.new) need granted x)
+            (λ goal. F.touches files.old goal files.new)
             (state self.old exclusive.old.items (F.world files.old)) now request result
             (state self.new exclusive.new.items (F.world files.new)) }
 
@@ -168,7 +171,9 @@ impl Session {
         ensures size { AgreesWithin result }
 
         ensures world { WorldFits (F.world files.new) }
-        ensures keeps { F.keeps files.old files.new }
+
+        // Once a Twstat that touches nothing is answered Rwstat, all that was changed is settled.
+        ensures settled { AsksSync request → result ≡ reply.Wstat → F.settled files.new }
     {
         match self.attempt(files, exclusive, now, request) {
             Ok(reply) => reply,
@@ -188,10 +193,10 @@ impl Session {
         requires world { WorldFits (F.world files.old) }
         ensures drops { Drops (served (F.whole files.old) (F.largest files.old))
             (λ need granted x. MayFail (F.faults files.old) (F.faults files.new) (F.honest files.old) (F.room files.new) need granted x)
+            (λ goal. F.touches files.old goal files.new)
             (state self.old exclusive.old.items (F.world files.old)) now (nine.least self.old.fids) result.0 result.1
             (state self.new exclusive.new.items (F.world files.new)) }
         ensures world { WorldFits (F.world files.new) }
-        ensures keeps { F.keeps files.old files.new }
     {
         let Some(number) = self.least_number() else {
             self.restart(exclusive, None);

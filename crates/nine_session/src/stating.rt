@@ -24,7 +24,8 @@ impl Session {
     ghost use Rattle.nine_fids.specs.declared.refusal.Refusal.TheVariants as refusal;
     ghost use Rattle.nine_fids.specs.Told.{served};
     ghost use Rattle.nine_fids.specs.Looking.{MayMiss};
-    ghost use Rattle.nine_session.specs.Session.{restating_need};
+    ghost use Rattle.nine_files.specs.Answering.{tried};
+    ghost use Rattle.nine_session.specs.Session.{granted_world, restating_need, touches_nothing};
     ghost use Rattle.nine_session.specs.Attempting.{state, Attempts, IsSent};
     ghost use Rattle.nine_session.specs.Stating as nine;
 
@@ -69,7 +70,8 @@ impl Session {
             z (state self.now x (F.world files.new)) result) }
         ensures sends { IsSent result }
         ensures world { WorldFits (F.world files.new) }
-        ensures keeps { F.keeps files.old files.new }
+        ensures touches { (x : List ℕ) (s : Stat) → IsRecord stat.now s → F.touches files.old (tried (granted_world (nine.wstat (served (F.whole files.old) (F.largest files.old)) (state self.now x (F.world files.old)) now fid s) (F.world files.old)) (F.world files.old) result) files.new }
+        ensures settled { (s : Stat) → IsRecord stat.now s → IsTrue (touches_nothing s) → IfOk result (λ _. F.settled files.new) }
     {
         self.version()?;
         let from = self.fid(fid)?;

@@ -43,3 +43,14 @@ returns-clause-changes g c =
     let then = rw (met.keeps_whole _ _ k, met.keeps_largest _ _ k, c.info_at-looked.ensures.world) at c.remove_file.ensures.changes in
     rw (closed_there e w c.args.fid.now c.args.now _ (sym c.is_removed.ensures ∙ c.if-not-is_removed.false) looks)
     (leads_since (removed e w c.args.fid.now c.args.now) _ _ _ _ _ _ _ _ _ _ (met.keeps_faults _ _ k) (met.keeps_honest _ _ k) then)
+
+pub returns-clause-touches : goal.returns-clause-touches
+returns-clause-touches g c =
+    let f = c.args.files.now in
+    let e = served (g.F.FileOps.whole f) (g.F.FileOps.largest f) in
+    let w = g.F.FileOps.world f in
+    let met = g.met.F.FileOps in
+    let k = c.info_at-looked.ensures.keeps in
+    let looks = rw c.in_ok-looked.was at c.info_at-looked.ensures.looks in
+    let touches = rw (met.keeps_whole _ _ k, met.keeps_largest _ _ k, c.info_at-looked.ensures.world) at c.remove_file.ensures.touches in
+    rw (closed_there e w c.args.fid.now c.args.now _ (sym c.is_removed.ensures ∙ c.if-not-is_removed.false) looks) (met.keeps_then _ _ _ _ k touches)

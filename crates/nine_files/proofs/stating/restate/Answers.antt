@@ -8,7 +8,7 @@ use Rattle.nine_fids.specs.Told.{served}
 use Rattle.nine_fids.proofs.Missing.{fails_since}
 use Rattle.nine_files.specs.Granting.{allowed_change, changed_by}
 use Rattle.nine_files.proofs.Links.{refused_looking}
-use Rattle.nine_files.proofs.Restates.{changed_done, changed_fails, changed_refused, is_change}
+use Rattle.nine_files.proofs.Restates.{changed_by_granted, changed_done, changed_fails, changed_refused, is_change}
 use Rattle.nine_files.proofs.stating.restate.Goals as goal
 
 pub returns-in_err-check_change-clause-changes : goal.returns-in_err-check_change-clause-changes
@@ -77,3 +77,22 @@ returns-clause-world g c =
     let made = rw (met.keeps_whole _ _ k, met.keeps_largest _ _ k, c.check_change.ensures.world) at c.in_ok-change.ensures.answer in
     let good : IsChange (g.F.FileOps.whole f) w c.args.fid.now.place c.args.what.now = is_change e w c.args.fid.now c.args.is_bad c.args.what.now c.args.info.now c.in_ok-check_change.ensures.looks c.requires.info c.requires.name c.in_ok-check_change.ensures.gid in
     λ fit. change-fits (g.F.FileOps.whole f) (g.F.FileOps.largest f) w c.args.fid.now.place c.args.what.now c.args.fid.now.user c.args.now (g.F.FileOps.world c.change.new.self) good.name good.gid c.requires.user fit made
+
+pub returns-in_err-change-clause-touches : goal.returns-in_err-change-clause-touches
+returns-in_err-change-clause-touches g c =
+    let f = c.args.files.now in
+    let e = served (g.F.FileOps.whole f) (g.F.FileOps.largest f) in
+    let met = g.met.F.FileOps in
+    let k = c.check_change.ensures.keeps in
+    let p = err_from_is_err_and c.from_residual-in_err-change.result c.from_residual-in_err-change.ensures.1 in
+    let touches = rw (met.keeps_whole _ _ k, met.keeps_largest _ _ k, c.check_change.ensures.world) at c.in_err-change.ensures.touches in
+    rw (p.1, p.2, changed_by_granted e (g.F.FileOps.world f) c.args.now c.args.fid.now c.args.is_bad c.args.what.now c.args.info.now c.in_ok-check_change.ensures.looks) (met.keeps_then _ _ _ _ k touches)
+
+pub returns-clause-touches : goal.returns-clause-touches
+returns-clause-touches g c =
+    let f = c.args.files.now in
+    let e = served (g.F.FileOps.whole f) (g.F.FileOps.largest f) in
+    let met = g.met.F.FileOps in
+    let k = c.check_change.ensures.keeps in
+    let touches = rw (met.keeps_whole _ _ k, met.keeps_largest _ _ k, c.check_change.ensures.world) at c.in_ok-change.ensures.touches in
+    rw (changed_by_granted e (g.F.FileOps.world f) c.args.now c.args.fid.now c.args.is_bad c.args.what.now c.args.info.now c.in_ok-check_change.ensures.looks) (met.keeps_then _ _ _ _ k touches)

@@ -1,5 +1,5 @@
 use Rattle.fo_world.specs.World.{Faults}
-use Rattle.fo_top.specs.System.{in_memory, fails}
+use Rattle.fo_top.specs.System.{in_memory, fails, untold}
 use Rattle.fo_top.proofs.Fewer as drops
 use Rattle.fo_top.proofs.system.SystemMachine.drop_one.Goals as goal
 
@@ -9,4 +9,4 @@ returns-clause-goes c = rw (← c.self.view_is) c.drop_one.ensures.drops
 pub returns-clause-fewer : goal.returns-clause-fewer
 returns-clause-fewer c =
     let none : Faults = record { main = 0; arena = 0 } in
-    rw (← c.self.view_is) (drops.fewer in_memory (fails none none) _ _ _ _ _ c.drop_one.ensures.drops)
+    rw (← c.self.view_is) (drops.fewer in_memory (fails none none) untold _ _ _ _ _ c.drop_one.ensures.drops)

@@ -41,3 +41,13 @@ returns-clause-attempts g c =
     let is : known c.args.fid z.session.fids ≡ Some _ = some_or_ok _ refusal.UnknownFid _ k in
     let found = known_fid c.args.fid z.session.fids _ is in
     rw (clunk_known e z c.args.now c.args.fid _ _ v k, is, left_known z z.session.msize _ refusal.NoVersion _ v) (c.clunk_fid.ensures.attempts _ found)
+
+pub returns-clause-touches : goal.returns-clause-touches
+returns-clause-touches g c =
+    let f = c.args.files.now in
+    let e = served (g.F.FileOps.whole f) (g.F.FileOps.largest f) in
+    let z : State = state c.args.self.now c.args.exclusive.now.items (g.F.FileOps.world f) in
+    let v : version_of z ≡ Ok _ = sym (c.in_ok-version.ensures z.exclusive z.world) in
+    let k = c.in_ok-fid.ensures z.exclusive z.world in
+    let found = known_fid c.args.fid z.session.fids _ (some_or_ok _ refusal.UnknownFid _ k) in
+    rw (clunk_known e z c.args.now c.args.fid _ _ v k) (c.clunk_fid.ensures.touches _ found)

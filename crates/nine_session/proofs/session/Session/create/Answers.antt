@@ -17,7 +17,7 @@ use Rattle.nine_session.specs.Attempting.{state}
 use Rattle.nine_session.specs.Opening.{create_file}
 use Rattle.nine_session.specs.Session.{need_at}
 use Rattle.nine_session.proofs.Kept.{need_there, number_there, user_there}
-use Rattle.nine_session.proofs.Opens.{create_fails, create_granted, create_no_fid, create_no_version, create_refused, create_replied, fid_made, new_named, put_is_open}
+use Rattle.nine_session.proofs.Opens.{create_fails, create_goes, create_granted, create_no_fid, create_no_version, create_refused, create_replied, fid_made, new_named, put_is_open}
 use Rattle.nine_session.proofs.session.Session.create.Goals as goal
 
 pub returns-in_err-msize-clause-attempts : goal.returns-in_err-msize-clause-attempts
@@ -153,3 +153,32 @@ returns-clause-world g c =
     let name : IsName c.args.name.now = good_name c.args.name.now (new_named e w from c.args.name.now c.args.perm c.args.mode (c.in_ok-above.above, c.in_ok-above.mode) admitted_so) c.requires.name in
     let made_so = rw (met.keeps_whole _ _ k, c.admit_new.ensures.world, c.new_mode-perm.ensures, c.in_ok-user.ensures) at c.in_ok-info.ensures.answer in
     (create-fits (g.F.FileOps.whole f) w from.place c.args.name.now (new_mode c.args.perm c.in_ok-above.above.mode) from.user from.user c.in_ok-above.above.gid c.args.now c.in_ok-info.info (g.F.FileOps.world c.create.new.self) name user user (c.in_ok-above.ensures.fits c.requires.world).gid c.requires.world made_so).world
+
+pub returns-in_err-info-clause-touches : goal.returns-in_err-info-clause-touches
+returns-in_err-info-clause-touches g c =
+    let f = c.args.files.now in
+    let e = served (g.F.FileOps.whole f) (g.F.FileOps.largest f) in
+    let w = g.F.FileOps.world f in
+    let x = c.args.exclusive.now.items in
+    let z = state c.args.self.now x w in
+    let met = g.met.F.FileOps in
+    let k = c.admit_new.ensures.keeps in
+    let admitted_so = rw c.as_slice.ensures at c.in_ok-above.ensures.looks in
+    let p = err_from_is_err_and c.from_residual-in_err-info.result c.from_residual-in_err-info.ensures.1 in
+    let then = rw (met.keeps_whole _ _ k, c.admit_new.ensures.world, c.new_mode-perm.ensures, c.in_ok-user.ensures) at c.in_err-info.ensures.touches in
+    rw (p.1, p.2, create_goes e z c.args.now c.args.fid c.args.name.now c.args.perm c.args.mode c.in_ok-msize.msize c.in_ok-from.from.now c.in_ok-above.above c.in_ok-above.mode (sym (c.version.ensures x w) ∙ c.in_ok-msize.was) (c.in_ok-from.ensures x w) admitted_so)
+    (met.keeps_then _ _ _ _ k then)
+
+pub returns-clause-touches : goal.returns-clause-touches
+returns-clause-touches g c =
+    let f = c.args.files.now in
+    let e = served (g.F.FileOps.whole f) (g.F.FileOps.largest f) in
+    let w = g.F.FileOps.world f in
+    let x = c.args.exclusive.now.items in
+    let z = state c.args.self.now x w in
+    let met = g.met.F.FileOps in
+    let k = c.admit_new.ensures.keeps in
+    let admitted_so = rw c.as_slice.ensures at c.in_ok-above.ensures.looks in
+    let then = rw (met.keeps_whole _ _ k, c.admit_new.ensures.world, c.new_mode-perm.ensures, c.in_ok-user.ensures) at c.in_ok-info.ensures.touches in
+    rw (create_goes e z c.args.now c.args.fid c.args.name.now c.args.perm c.args.mode c.in_ok-msize.msize c.in_ok-from.from.now c.in_ok-above.above c.in_ok-above.mode (sym (c.version.ensures x w) ∙ c.in_ok-msize.was) (c.in_ok-from.ensures x w) admitted_so)
+    (met.keeps_then _ _ _ _ k then)

@@ -11,7 +11,10 @@ use Rattle.nine_session.proofs.Trying.{dropped}
 use Rattle.nine_session.proofs.session.Session.drop_one.Goals as goal
 
 pub returns-in_default-clause-drops : goal.returns-in_default-clause-drops
-returns-in_default-clause-drops g c = rw c.in_default.ensures (refl, refl, c.restart.ensures (g.F.FileOps.world c.args.files.now))
+returns-in_default-clause-drops g c =
+    let f = c.args.files.now in
+    let met = g.met.F.FileOps in
+    rw c.in_default.ensures (refl, refl, c.restart.ensures (g.F.FileOps.world f), met.keeps_touches f f _ (met.keeps_at_once f))
 
 pub returns-clause-drops : goal.returns-clause-drops
 returns-clause-drops g c =
@@ -24,4 +27,4 @@ returns-clause-drops g c =
     let found : fid_of c.in-Some.number z.session.fids ≡ Some fid = rw p.2 (least_found z.session.fids fid p.1) in
     let told = clunk_fid e z c.args.now fid in
     rw (p.1, c.error_of.ensures)
-    (refl, dropped told (MayFail (g.F.FileOps.faults f) (g.F.FileOps.faults f') (g.F.FileOps.honest f) (g.F.FileOps.room f') (step.give (step.depth_of fid.place)) (is_ok told)) (clunked z fid) _ c.clunk_fid-clunked.result (c.clunk_fid-clunked.ensures.attempts fid found))
+    (refl, dropped told (MayFail (g.F.FileOps.faults f) (g.F.FileOps.faults f') (g.F.FileOps.honest f) (g.F.FileOps.room f') (step.give (step.depth_of fid.place)) (is_ok told)) (λ goal. g.F.FileOps.touches f goal f') (g.F.FileOps.world f) (clunked z fid) _ c.clunk_fid-clunked.result (c.clunk_fid-clunked.ensures.attempts fid found) (c.clunk_fid-clunked.ensures.touches fid found))

@@ -15,7 +15,7 @@ use Rattle.nine_session.specs.Attempting.{state}
 use Rattle.nine_session.specs.Opening.{open_file}
 use Rattle.nine_session.specs.Session.{need_at}
 use Rattle.nine_session.proofs.Kept.{need_there, number_there, user_there}
-use Rattle.nine_session.proofs.Opens.{fid_made, open_fails, open_granted, open_no_fid, open_no_version, open_refused, open_replied, put_is_open}
+use Rattle.nine_session.proofs.Opens.{fid_made, open_fails, open_goes, open_granted, open_no_fid, open_no_version, open_refused, open_replied, put_is_open}
 use Rattle.nine_session.proofs.session.Session.open.Goals as goal
 
 pub returns-in_err-msize-clause-attempts : goal.returns-in_err-msize-clause-attempts
@@ -121,3 +121,32 @@ returns-clause-attempts g c =
     (open_granted e z c.args.now c.args.fid c.args.mode c.in_ok-msize.msize from info mode c.in_ok-qid.qid w' (sym (c.version.ensures x w) ∙ c.in_ok-msize.was) there admitted_so cut)
     c.saturating_sub.ensures
     (c.put_open.ensures w' ∙ put_is_open c.args.self.now x c.reserve.new.self.items w w' from c.open_fid.result from.place mode (is_exclusive info.mode) c.is_exclusive-held.result c.reserve.ensures.items held made)
+
+pub returns-in_err-qid-clause-touches : goal.returns-in_err-qid-clause-touches
+returns-in_err-qid-clause-touches g c =
+    let f = c.args.files.now in
+    let e = served (g.F.FileOps.whole f) (g.F.FileOps.largest f) in
+    let w = g.F.FileOps.world f in
+    let x = c.args.exclusive.now.items in
+    let z = state c.args.self.now x w in
+    let met = g.met.F.FileOps in
+    let k = c.admit.ensures.keeps in
+    let admitted_so = rw c.as_slice.ensures.value at c.in_ok-info.ensures.looks in
+    let p = err_from_is_err_and c.from_residual-in_err-qid.result c.from_residual-in_err-qid.ensures.1 in
+    let then = rw (met.keeps_whole _ _ k, met.keeps_largest _ _ k, c.admit.ensures.world) at c.in_err-qid.ensures.touches in
+    rw (p.1, p.2, open_goes e z c.args.now c.args.fid c.args.mode c.in_ok-msize.msize c.in_ok-from.from.now c.in_ok-info.info c.in_ok-info.mode (sym (c.version.ensures x w) ∙ c.in_ok-msize.was) (c.in_ok-from.ensures x w) admitted_so)
+    (met.keeps_then _ _ _ _ k then)
+
+pub returns-clause-touches : goal.returns-clause-touches
+returns-clause-touches g c =
+    let f = c.args.files.now in
+    let e = served (g.F.FileOps.whole f) (g.F.FileOps.largest f) in
+    let w = g.F.FileOps.world f in
+    let x = c.args.exclusive.now.items in
+    let z = state c.args.self.now x w in
+    let met = g.met.F.FileOps in
+    let k = c.admit.ensures.keeps in
+    let admitted_so = rw c.as_slice.ensures.value at c.in_ok-info.ensures.looks in
+    let then = rw (met.keeps_whole _ _ k, met.keeps_largest _ _ k, c.admit.ensures.world) at c.in_ok-qid.ensures.touches in
+    rw (open_goes e z c.args.now c.args.fid c.args.mode c.in_ok-msize.msize c.in_ok-from.from.now c.in_ok-info.info c.in_ok-info.mode (sym (c.version.ensures x w) ∙ c.in_ok-msize.was) (c.in_ok-from.ensures x w) admitted_so)
+    (met.keeps_then _ _ _ _ k then)

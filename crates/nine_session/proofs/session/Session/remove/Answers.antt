@@ -8,7 +8,7 @@ use Rattle.nine_fids.specs.Fids.{State, known, version_of, fid_at, clunked}
 use Rattle.nine_fids.specs.Told.{served}
 use Rattle.nine_fids.specs.declared.refusal.Refusal.TheVariants as refusal
 use Rattle.nine_session.specs.Attempting.{state}
-use Rattle.nine_session.proofs.Ends.{gone_is, left_as_was, left_known, left_unknown, remove_granted, remove_no_version, remove_refused, remove_unknown, some_err}
+use Rattle.nine_session.proofs.Ends.{gone_is, left_as_was, left_known, left_unknown, remove_goes, remove_granted, remove_no_version, remove_refused, remove_unknown, some_err}
 use Rattle.nine_session.proofs.Kept.{fid_user, known_fid}
 use Rattle.nine_session.proofs.Links.{some_or_ok}
 use Rattle.nine_session.proofs.session.Session.remove.Goals as goal
@@ -70,3 +70,20 @@ returns-clause-attempts g c =
     let found = known_fid c.args.fid z.session.fids _ is in
     remove_granted e z c.args.now c.args.fid _ c.in_ok-from.from.now then v k c.in_ok-removed.ensures.changes
     ∙ ap (λ (u : State). Ok (reply.Remove, u)) (sym (c.let_go.ensures then ∙ gone_is (state c.args.self.now c.args.exclusive.now.items then) c.args.fid _ found))
+
+pub returns-in_err-removed-clause-touches : goal.returns-in_err-removed-clause-touches
+returns-in_err-removed-clause-touches g c =
+    let here = c.args.files.now in
+    let e = served (g.F.FileOps.whole here) (g.F.FileOps.largest here) in
+    let z : State = state c.args.self.now c.args.exclusive.now.items (g.F.FileOps.world here) in
+    let p = err_from_is_err_and c.from_residual-in_err-removed.result c.from_residual-in_err-removed.ensures.1 in
+    let v : version_of z ≡ Ok _ = sym (c.in_ok-version.ensures z.exclusive z.world) in
+    rw (p.1, p.2, remove_goes e z c.args.now c.args.fid _ _ v (c.in_ok-from.ensures z.exclusive z.world)) c.in_err-removed.ensures.touches
+
+pub returns-clause-touches : goal.returns-clause-touches
+returns-clause-touches g c =
+    let here = c.args.files.now in
+    let e = served (g.F.FileOps.whole here) (g.F.FileOps.largest here) in
+    let z : State = state c.args.self.now c.args.exclusive.now.items (g.F.FileOps.world here) in
+    let v : version_of z ≡ Ok _ = sym (c.in_ok-version.ensures z.exclusive z.world) in
+    rw (remove_goes e z c.args.now c.args.fid _ _ v (c.in_ok-from.ensures z.exclusive z.world)) c.in_ok-removed.ensures.touches

@@ -17,7 +17,7 @@ use Rattle.nine_session.specs.Reading.{write}
 use Rattle.nine_session.specs.Session.{Told, need_at}
 use Rattle.nine_session.proofs.Kept.{known_there, told_same, user_there, users_seen}
 use Rattle.nine_session.proofs.Links.{refused_changing, then_err}
-use Rattle.nine_session.proofs.Transfers.{granted_same, no_fid, no_version, not_opened, opened_there, write_begins, write_missed, write_there, writes_none, writes_not, writes_some, writes_to}
+use Rattle.nine_session.proofs.Transfers.{granted_same, no_fid, no_version, not_opened, opened_there, write_begins, write_goes, write_missed, write_there, writes_none, writes_not, writes_some, writes_to}
 use Rattle.nine_session.proofs.session.Session.write.Goals as goal
 
 pub returns-in_err-version-clause-attempts : goal.returns-in_err-version-clause-attempts
@@ -165,3 +165,40 @@ returns-clause-attempts g c =
     ∙ writes_some e z c.args.now c.args.offset bytes f i some
     ∙ then_ok part (c.in_ok-write_bytes.field-0, g.F.FileOps.world c.write_bytes.new.files) (λ p. Ok (go p)) changes
     ∙ ap (λ (bs : List ℕ). let out : Told = Ok (reply.Write (length bs), state c.args.self.now x (g.F.FileOps.world c.write_bytes.new.files)) in out) (sym c.as_slice-bytes.ensures)
+
+pub returns-in_err-write_bytes-clause-touches : goal.returns-in_err-write_bytes-clause-touches
+returns-in_err-write_bytes-clause-touches g c =
+    let met = g.met.F.FileOps in
+    let files = c.args.files.now in
+    let w = g.F.FileOps.world files in
+    let e = served (g.F.FileOps.whole files) (g.F.FileOps.largest files) in
+    let bytes = c.args.bytes.now in
+    let k = c.info_at.ensures.keeps in
+    let f = c.in_ok-from.from.now in
+    let o = c.in_ok-opened.opened.now in
+    let may : writes o.access ≡ true = sym c.writes.ensures ∙ c.if-not-writes.false in
+    let some : (length bytes == 0) ≡ false = ap (λ (bs : List ℕ). length bs == 0) (sym c.as_slice-bytes.ensures) ∙ sym c.is_empty.ensures ∙ c.if-is_empty.false in
+    let then = rw (met.keeps_whole _ _ k, met.keeps_largest _ _ k, c.info_at.ensures.world, c.as_slice-bytes.ensures) at c.in_err-write_bytes.ensures.touches in
+    let p = err_from_is_err_and c.from_residual-in_err-write_bytes.result c.from_residual-in_err-write_bytes.ensures.1 in
+    λ x.
+    let z = state c.args.self.now x w in
+    rw (p.1, p.2, write_goes e z c.args.now c.args.fid c.args.offset c.in_ok-version.field-0 bytes f o c.in_ok-info.info (sym (c.in_ok-version.ensures x w)) (c.in_ok-from.ensures x w) c.in_ok-opened.ensures may c.in_ok-info.ensures.looks some)
+    (met.keeps_then _ _ _ _ k then)
+
+pub returns-clause-touches : goal.returns-clause-touches
+returns-clause-touches g c =
+    let met = g.met.F.FileOps in
+    let files = c.args.files.now in
+    let w = g.F.FileOps.world files in
+    let e = served (g.F.FileOps.whole files) (g.F.FileOps.largest files) in
+    let bytes = c.args.bytes.now in
+    let k = c.info_at.ensures.keeps in
+    let f = c.in_ok-from.from.now in
+    let o = c.in_ok-opened.opened.now in
+    let may : writes o.access ≡ true = sym c.writes.ensures ∙ c.if-not-writes.false in
+    let some : (length bytes == 0) ≡ false = ap (λ (bs : List ℕ). length bs == 0) (sym c.as_slice-bytes.ensures) ∙ sym c.is_empty.ensures ∙ c.if-is_empty.false in
+    let then = rw (met.keeps_whole _ _ k, met.keeps_largest _ _ k, c.info_at.ensures.world, c.as_slice-bytes.ensures) at c.in_ok-write_bytes.ensures.touches in
+    λ x.
+    let z = state c.args.self.now x w in
+    rw (write_goes e z c.args.now c.args.fid c.args.offset c.in_ok-version.field-0 bytes f o c.in_ok-info.info (sym (c.in_ok-version.ensures x w)) (c.in_ok-from.ensures x w) c.in_ok-opened.ensures may c.in_ok-info.ensures.looks some)
+    (met.keeps_then _ _ _ _ k then)

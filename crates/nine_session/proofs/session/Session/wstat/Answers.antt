@@ -1,5 +1,6 @@
 use Rattle.std.proofs.Common.{◌≡◌, ℕ, true, false, not, None, [], Result, Ok, sym, ap, ◌∙◌, subst, inl, refl}
 use Rattle.std.specs.Prelude.{is_ok, ◌||◌}
+use Rattle.std.proofs.lemmas.Bool.{true≢false}
 use Rattle.std.proofs.lemmas.Result.{err_from_is_err_and}
 use Rattle.fo_world.specs.Step as step
 use Rattle.fo_world.specs.Answers.{MayFail}
@@ -15,7 +16,7 @@ use Rattle.nine_session.specs.Attempting.{state}
 use Rattle.nine_session.specs.Session.{need_at, restating_need}
 use Rattle.nine_session.specs.Stating.{wstat}
 use Rattle.nine_session.proofs.Kept.{need_there, user_there}
-use Rattle.nine_session.proofs.Restates.{asks_same, wstat_done, wstat_fails, wstat_no_fid, wstat_no_info, wstat_no_version, wstat_settles}
+use Rattle.nine_session.proofs.Restates.{asks_same, wstat_done, wstat_fails, wstat_goes, wstat_no_fid, wstat_no_info, wstat_no_version, wstat_settles}
 use Rattle.nine_session.proofs.session.Session.wstat.Goals as goal
 
 pub returns-in_err-version-clause-attempts : goal.returns-in_err-version-clause-attempts
@@ -134,3 +135,46 @@ returns-clause-attempts g c = λ x s rec.
     let busy : (touches_fixed s || touches (change_of s)) ≡ true = asks_same c.touches_fixed-fixed.result (touches_fixed s) c.change_of-what.result (change_of s) true fixed what (c.is_idle.ensures ∙ ap not c.if-is_idle.false) in
     let done = rw (met.keeps_whole _ _ k, met.keeps_largest _ _ k, c.info_at.ensures.world, bad, what) at c.in_ok-restate.ensures.changes in
     wstat_done e z c.args.now c.args.fid s c.in_ok-version.field-0 c.in_ok-from.from.now c.in_ok-info.info (g.F.FileOps.world c.restate.new.files) (sym (c.version.ensures x w) ∙ c.in_ok-version.was) (c.in_ok-from.ensures x w) c.in_ok-info.ensures.looks busy done
+
+pub returns-in_err-restate-clause-touches : goal.returns-in_err-restate-clause-touches
+returns-in_err-restate-clause-touches g c = λ x s rec.
+    let f = c.args.files.now in
+    let e = served (g.F.FileOps.whole f) (g.F.FileOps.largest f) in
+    let w = g.F.FileOps.world f in
+    let z = state c.args.self.now x w in
+    let met = g.met.F.FileOps in
+    let k = c.info_at.ensures.keeps in
+    let same : c.in_ok-stat.stat ≡ s = c.in_ok-stat.ensures.only s rec in
+    let fixed : c.touches_fixed-fixed.result ≡ touches_fixed s = c.touches_fixed-fixed.ensures ∙ ap touches_fixed same in
+    let what : c.change_of-what.result ≡ change_of s = c.change_of-what.ensures ∙ ap change_of same in
+    let bad : c.changes_fixed-is_bad.result ≡ changes_fixed s c.in_ok-info.info = c.changes_fixed-is_bad.ensures ∙ ap (λ t. changes_fixed t c.in_ok-info.info) same in
+    let busy : (touches_fixed s || touches (change_of s)) ≡ true = asks_same c.touches_fixed-fixed.result (touches_fixed s) c.change_of-what.result (change_of s) true fixed what (c.is_idle.ensures ∙ ap not c.if-is_idle.false) in
+    let p = err_from_is_err_and c.from_residual-in_err-restate.result c.from_residual-in_err-restate.ensures.1 in
+    let then = rw (met.keeps_whole _ _ k, met.keeps_largest _ _ k, c.info_at.ensures.world, bad, what) at c.in_err-restate.ensures.touches in
+    rw (p.1, p.2, wstat_goes e z c.args.now c.args.fid s c.in_ok-version.field-0 c.in_ok-from.from.now c.in_ok-info.info (sym (c.version.ensures x w) ∙ c.in_ok-version.was) (c.in_ok-from.ensures x w) c.in_ok-info.ensures.looks busy)
+    (met.keeps_then _ _ _ _ k then)
+
+pub returns-clause-touches : goal.returns-clause-touches
+returns-clause-touches g c = λ x s rec.
+    let f = c.args.files.now in
+    let e = served (g.F.FileOps.whole f) (g.F.FileOps.largest f) in
+    let w = g.F.FileOps.world f in
+    let z = state c.args.self.now x w in
+    let met = g.met.F.FileOps in
+    let k = c.info_at.ensures.keeps in
+    let same : c.in_ok-stat.stat ≡ s = c.in_ok-stat.ensures.only s rec in
+    let fixed : c.touches_fixed-fixed.result ≡ touches_fixed s = c.touches_fixed-fixed.ensures ∙ ap touches_fixed same in
+    let what : c.change_of-what.result ≡ change_of s = c.change_of-what.ensures ∙ ap change_of same in
+    let bad : c.changes_fixed-is_bad.result ≡ changes_fixed s c.in_ok-info.info = c.changes_fixed-is_bad.ensures ∙ ap (λ t. changes_fixed t c.in_ok-info.info) same in
+    let busy : (touches_fixed s || touches (change_of s)) ≡ true = asks_same c.touches_fixed-fixed.result (touches_fixed s) c.change_of-what.result (change_of s) true fixed what (c.is_idle.ensures ∙ ap not c.if-is_idle.false) in
+    let then = rw (met.keeps_whole _ _ k, met.keeps_largest _ _ k, c.info_at.ensures.world, bad, what) at c.in_ok-restate.ensures.touches in
+    rw (wstat_goes e z c.args.now c.args.fid s c.in_ok-version.field-0 c.in_ok-from.from.now c.in_ok-info.info (sym (c.version.ensures x w) ∙ c.in_ok-version.was) (c.in_ok-from.ensures x w) c.in_ok-info.ensures.looks busy)
+    (met.keeps_then _ _ _ _ k then)
+
+pub returns-clause-settled : goal.returns-clause-settled
+returns-clause-settled g c = λ s rec idle.
+    let same : c.in_ok-stat.stat ≡ s = c.in_ok-stat.ensures.only s rec in
+    let fixed : c.touches_fixed-fixed.result ≡ touches_fixed s = c.touches_fixed-fixed.ensures ∙ ap touches_fixed same in
+    let what : c.change_of-what.result ≡ change_of s = c.change_of-what.ensures ∙ ap change_of same in
+    let busy : (touches_fixed s || touches (change_of s)) ≡ true = asks_same c.touches_fixed-fixed.result (touches_fixed s) c.change_of-what.result (change_of s) true fixed what (c.is_idle.ensures ∙ ap not c.if-is_idle.false) in
+    absurd (true≢false (sym (rw busy at idle)))
