@@ -1,5 +1,5 @@
 -- What a call on files may answer: the file step's answer, or a failure that has its cause.
-use Rattle.std.specs.Prelude.{◌≡◌, ℕ, ◌<◌, ◌≤◌, ◌⊎◌, ⊤, Bool, true, false, IsTrue, if◌then◌else◌, Option, Some, Result, Ok, Err, MatchResult, is_ok}
+use Rattle.std.specs.Prelude.{◌≡◌, ℕ, ◌<◌, ◌≤◌, ◌⊎◌, ⊤, Bool, true, false, IsTrue, if◌then◌else◌, Result, Ok, Err, IfErr, MatchResult, is_ok}
 use Rattle.std.proofs.Common.{arith}
 use Rattle.fo_base.specs.Cause.{Rose}
 use Rattle.fo_world.specs.declared.error.FileError.{FileError}
@@ -11,12 +11,33 @@ pub record NotFewer (before after : Faults) : Type 0 where
   pub main : before.main ≤ after.main
   pub arena : before.arena ≤ after.arena
 
--- the implementer tells how many blocks are usable, and they are fewer than the need
-abbrev pub IsBelow : Option ℕ → ℕ → Type 0
-IsBelow room need = (n : ℕ) × (room ≡ Some n) × (n < need)
+-- with all settled so many blocks are usable, and they are fewer than the need
+abbrev pub IsBelow : (ℕ → Type 0) → ℕ → Type 0
+IsBelow has_room need = (n : ℕ) × has_room n × (n < need)
+
+-- What has a cause over any devices: a fault comes only where its device's count rose in the call, a damaged block only over devices
+-- that are not honest, and full only where the room after the call is below the most that such a call takes.
+abbrev pub HasCause : Faults → Faults → Type 0 → (ℕ → Type 0) → ℕ → FileError → Type 0
+HasCause before after honest room most error.MainRead = Rose before.main after.main
+HasCause before after honest room most error.MainWrite = Rose before.main after.main
+HasCause before after honest room most error.MainSync = Rose before.main after.main
+HasCause before after honest room most error.ArenaRead = Rose before.arena after.arena
+HasCause before after honest room most error.ArenaWrite = Rose before.arena after.arena
+HasCause before after honest room most error.ArenaSync = Rose before.arena after.arena
+HasCause before after honest room most (error.Damaged b) = ¬ honest
+HasCause before after honest room most error.Full = IsBelow room most
+HasCause before after honest room most _ = ⊤
+
+-- Over any devices a refusal has its cause; beside these a refusal is the step's where the devices are honest (`Answers`).
+abbrev pub Refuses : {A : Type 0} → Faults → Faults → Type 0 → (ℕ → Type 0) → ℕ → Result A FileError → Type 0
+Refuses before after honest room most r = IfErr r (HasCause before after honest room most)
+
+-- A call that changes something is granted only where the room is up to the need.
+abbrev pub HadRoom : {A : Type 0} → (ℕ → Type 0) → ℕ → Result A FileError → Type 0
+HadRoom has_room need r = MatchResult r (λ x. (n : ℕ) → has_room n → need ≤ n) (λ e. ⊤)
 
 -- Why a call may fail beside what the step says. Want of memory is free. The file system is full only where the step grants the call and the room after it is below the need. A fault of a device comes only where its count rose in the call, and a damaged block only over devices that are not honest.
-abbrev pub MayFail : Faults → Faults → Type 0 → Option ℕ → ℕ → Bool → FileError → Type 0
+abbrev pub MayFail : Faults → Faults → Type 0 → (ℕ → Type 0) → ℕ → Bool → FileError → Type 0
 MayFail before after honest room need granted error.Memory = ⊤
 MayFail before after honest room need granted error.Full = IsTrue granted × IsBelow room need
 MayFail before after honest room need granted error.MainRead = Rose before.main after.main

@@ -374,3 +374,7 @@ change_need_of what depth (Err e) = 0
 
 abbrev pub change_need : Bool → World → Place → Change → ℕ
 change_need whole w at what = change_need_of what (depth_of at) (reached whole w at)
+
+-- what any change of a file may take, whatever the world
+abbrev pub most_need : Place → ℕ
+most_need at = need (depth_of at) 0
