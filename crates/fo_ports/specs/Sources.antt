@@ -171,7 +171,7 @@ pub record SameLeaves (tells : Type 0) (old new : Leaves) : Type 0 where
   pub leaves : tells → (i : ℕ) → (new.at i ≡ old.at i) × (new.held i ≡ old.held i)
   pub owns : tells → (b : ℕ) → new.owns b ↔ old.owns b
   pub still : (o n : ℕ) → old.prepared o n → new.prepared o n
-  pub current : tells → old.current → new.current
+  pub current : old.current → new.current
 
 -- A source was changed: it has its old blocks and all that were given out, or fewer of the old ones; what was prepared stays so.
 pub record Grows (old_on new_on : State) (old new : Leaves) : Type 0 where

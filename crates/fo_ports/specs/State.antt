@@ -10,7 +10,7 @@ use Rattle.fo_crash.specs.declared.place.Place.{Place}
 use Rattle.fo_crash.specs.Images.{Content, Image, SameContent, SameImage, Reaches, target, walk, to_block}
 use Rattle.fo_crash.specs.Steps.{AddsNothing, AddsBlock, Passes, PutsBlock, Brings, Through, Fills, cleared}
 use Rattle.fo_crash.specs.Places.{Fits, place_below}
-use Rattle.fo_crash.specs.Names.{IsInUse}
+use Rattle.fo_crash.specs.Names.{IsInUse, SameUse}
 use Rattle.fo_ports.specs.Blocks.{KeepsParent, IsInner, dropped, zeros}
 
 pub record State : Type 1 where
@@ -273,6 +273,10 @@ pub record MayRemoveSlot (s : State) (at i : ℕ) : Type 0 where
   pub holder : IsHeld s at
   pub keeps : (c : ℕ) → target ((s.now at).slot i) ≡ Local c → Reaches s.now (to_block 1) c
 
+-- entry j is the second of the pair whose first is i
+abbrev pub IsSecondOf : ℕ → ℕ → Type 0
+IsSecondOf i j = (k : ℕ) × (i ≡ 2 * k) × (j ≡ 2 * k + 1)
+
 -- What was put hangs now at its place, and is apart no more; a new top that was raised over a block comes in its place.
 pub record Hangs (at i : ℕ) (slot : Slot) (old new : State) : Type 0 where
   pub place : old.tells → (b : ℕ) (p : Place) → old.stands at p → target slot ≡ Local b → new.stands b (place_below p i slot)
@@ -282,7 +286,7 @@ pub record Hangs (at i : ℕ) (slot : Slot) (old new : State) : Type 0 where
   pub raised : (x : ℕ) → new.instead at x → old.instead at x ⊎ (IsRaised old at i × ((b : ℕ) × (target slot ≡ Local b) × (((b ≡ x) × (old.apart b → ⊥)) ⊎ old.instead b x)))
   pub raises : (b x : ℕ) → IsRaised old at i → target slot ≡ Local b → (old.instead b x ⊎ ((b ≡ x) × (old.apart b → ⊥))) → new.instead at x
   pub still : (x : ℕ) → old.instead at x → new.instead at x
-  pub waits : (a on j : ℕ) → (on ≢ at) ⊎ (j ≢ i) → old.waits a on j → new.waits a on j
+  pub waits : (a on j : ℕ) → (on ≢ at) ⊎ (((j ≢ i) × (IsSecondOf i j → ⊥)) ⊎ SameUse slot ((old.now at).slot i)) → old.waits a on j → new.waits a on j
 
 -- An entry that is waited for is in use, or is the second of a pair whose first is.
 abbrev pub IsPairUsed : Image → ℕ → ℕ → Type 0

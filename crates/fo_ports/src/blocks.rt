@@ -218,6 +218,7 @@ pub trait Blocks {
         requires apart { (state self.old).tells → (y x : ℕ) → (state self.old).instead y x → IsDoomed (state self.old) x → ⊥ }
         ensures all { OnOk result (AllAre (state self.new).now (state self.new).may_leave) }
         ensures none { OnOk result ((b j : ℕ) → (state self.new).clearing b j → ⊥) }
+        ensures clean { OnOk result ((b : ℕ) → (state self.new).dirty b → ⊥) }
         ensures sealed { OnOk result ((state self.old).tells → (b : ℕ) → (state self.new).sure b × (Reaches (state self.new).now (to_block 1) b → (state self.new).sealed b)) }
         ensures rests { Rests (state self.old) (state self.new) }
         ensures blocks { (b : ℕ) → ((state self.new).label b ≡ (state self.old).label b) × ((state self.old).pinned b → (state self.new).pinned b) × ((state self.old).sealed b → (state self.new).sealed b) }
