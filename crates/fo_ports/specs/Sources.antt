@@ -69,13 +69,14 @@ most_cleared size end = cond (nat_le end size) 0 (409 * depth_for size)
 abbrev pub Finds : (tells : Type 0) (needed left : ℕ) (prepared : Type 0) → Type 0
 Finds tells needed left prepared = tells ⊎ ((needed ≤ left) ⊎ prepared)
 
--- A block stays in place: its slots where it is no leaf of entries, how long it is, its label and its places stay, no removal is to
--- close it that was not, and nothing more was made to come in its place.
+-- A block stays in place: its slots where it is no leaf of entries, how long it is, its label and its places stay, it hangs from block 1
+-- where it did, no removal is to close it that was not, and nothing more was made to come in its place.
 pub record StaysInPlace (old new : State) (at : ℕ) : Type 0 where
   pub same_slots : ((old.label at).kind ≡ Dir 0) ⊎ ((j : ℕ) → (new.now at).slot j ≡ (old.now at).slot j)
   pub same_length : length ((new.now at).bytes) ≡ length ((old.now at).bytes)
   pub same_label : new.label at ≡ old.label at
   pub same_places : (p : Place) → old.stands at p → new.stands at p
+  pub in_tree : Reaches old.now (to_block 1) at → Reaches new.now (to_block 1) at
   pub uncovered : (old.covered at → ⊥) → new.covered at → ⊥
   pub instead : (b : ℕ) → new.instead b at → old.instead b at
 
@@ -140,6 +141,7 @@ pub record Changes (tag : ℕ) (mine inner : ℕ → Type 0) (old new : State) :
   pub instead : (b x : ℕ) → new.instead b x → old.instead b x ⊎ (Made old new b × mine x)
   pub covers : (b : ℕ) → (old.covered b → new.covered b) × ((old.covered b → ⊥) → (mine b → ⊥) → new.covered b → ⊥)
   pub leaves : old.tells → (b : ℕ) → Reaches old.now (to_block 1) b → (Reaches new.now (to_block 1) b → ⊥) → new.covered b
+  pub in_tree : old.tells → (b : ℕ) → (mine b → ⊥) → Reaches old.now (to_block 1) b → Reaches new.now (to_block 1) b
   pub waits : (a on j : ℕ) → (Made old new a → ⊥) → (Made old new on → ⊥) → old.waits a on j → new.waits a on j
   pub no_wait : AddsNoWait none old new
   pub clearing : (b j : ℕ) → new.clearing b j → (Made old new b → ⊥) × old.clearing b j
