@@ -1,6 +1,6 @@
 -- The calls of a plain source, one by one and one after another.
-use Rattle.std.proofs.Common.{◌≡◌, ◌≢◌, ◌⊎◌, ◌↔◌, ◌<◌, ◌≤◌, ◌+◌, ℕ, List, [], ◌∷◌, inl, inr, ⊎_elim, sym, refl, ap, ◌∙◌, subst, arith}
-use Rattle.std.proofs.lemmas.Bool.{cases_lt, cases_eq}
+use Rattle.std.proofs.Common.{◌≡◌, ◌≢◌, ◌⊎◌, ◌↔◌, ◌<◌, ℕ, List, [], ◌∷◌, inl, inr, ⊎_elim, sym, refl, ap, ◌∙◌, subst, arith}
+use Rattle.std.proofs.lemmas.Bool.{cases_eq}
 use Rattle.fo_image.specs.declared.types.Label.{Label}
 use Rattle.fo_image.specs.declared.types.State.{State as BlockState}
 use Rattle.fo_image.specs.declared.types.State.TheVariants.{Free, Live, Closed}
@@ -194,9 +194,12 @@ module _ {tag : ℕ} where
         (λ n.
         let is = second.made at n in
         record {
-          was = (is.was.0, λ told.
-              let mid = is.was.1 (first.all.still_tells.1 told) in
-              (λ top. mid.0 ((first.all.same_tops at).1 top), λ p s. by told n mid.1 p s));
+          was = (
+            is.was.0,
+            λ told.
+                let mid = is.was.1 (first.all.still_tells.1 told) in
+                (λ top. mid.0 ((first.all.same_tops at).1 top), λ p s. by told n mid.1 p s),
+          );
           labelled = (is.labelled.0 ∙ first.all.same_high, is.labelled.1);
           is_one = is.is_one;
           is_pinned = is.is_pinned;

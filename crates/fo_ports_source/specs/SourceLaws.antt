@@ -6,7 +6,7 @@ use Rattle.fo_image.specs.declared.types.Label.{Label}
 use Rattle.fo_crash.specs.declared.place.Place.{Place}
 use Rattle.fo_crash.specs.Places.{place, OnePlace}
 use Rattle.fo_ports.specs.State.{State, KeepsAll}
-use Rattle.fo_ports.specs.Sources.{StaysInPlace, IsReady, StaysReady, KeepsBytes, Undisturbed, byte_at}
+use Rattle.fo_ports.specs.Sources.{StaysInPlace, IsReady, StaysReady, Undisturbed, byte_at}
 use Rattle.fo_ports_source.specs.Source.{leaf_of, leaves_of, HasLeaf, HasLabel, IsTold, Over, Prepared, IsTopCurrent}
 
 -- a leaf stands at its place alone

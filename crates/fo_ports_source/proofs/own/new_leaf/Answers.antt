@@ -1,4 +1,4 @@
-use Rattle.std.proofs.Common.{◌≡◌, ◌≤◌, ◌<◌, length, lit≤, refl, sym, ◌∙◌, ap, subst, ⊎_elim, arith}
+use Rattle.std.proofs.Common.{◌≤◌, length, lit≤, refl, sym, ◌∙◌, ap, subst, ⊎_elim, arith}
 use Rattle.std.proofs.Math.Nat.{le_refl}
 use Rattle.fo_image.specs.declared.types.Label.{Label}
 use Rattle.fo_ports.specs.Blocks.{blank, IsLevel}

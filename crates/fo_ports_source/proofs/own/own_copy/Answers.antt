@@ -1,7 +1,5 @@
-use Rattle.std.proofs.Common.{◌≡◌, ◌<◌, refl, sym, subst}
-use Rattle.fo_image.specs.declared.types.Label.{Label}
-use Rattle.fo_ports_source.proofs.Steps.{GivesOut, given_out, made_is, steps_none}
-use Rattle.fo_ports_source.proofs.own.own_copy.Given as given
+use Rattle.std.proofs.Common.{◌<◌, refl, sym, subst}
+use Rattle.fo_ports_source.proofs.Steps.{given_out, steps_none}
 use Rattle.fo_ports_source.proofs.own.own_copy.Goals as goal
 
 pub copy-requires-clause-in_tree : goal.copy-requires-clause-in_tree

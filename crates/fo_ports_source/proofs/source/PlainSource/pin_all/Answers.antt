@@ -1,4 +1,4 @@
-use Rattle.std.proofs.Common.{rules, IfErr, ◌≡◌, ◌<◌, ◌≤◌, Some, subst, inl, ⊎_elim, arith}
+use Rattle.std.proofs.Common.{rules, IfErr, ◌≡◌, Some, subst, inl, ⊎_elim, arith}
 use Rattle.std.proofs.lemmas.Bool.{cases_lt}
 use Rattle.fo_base.specs.Cause.{Rose}
 use Rattle.fo_ports.specs.Causes.{Caused}
