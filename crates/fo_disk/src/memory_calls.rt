@@ -128,6 +128,7 @@ impl Disk for MemDisk {
         ensures unsure { unsure_of self.new ≡ unsure_of self.old }
         ensures calls { Counted self.old.calls self.new.calls }
         ensures cause { HasCause self.old.faults self.new.faults result }
+        ensures answered { OnOk result (self.new.faults ≡ self.old.faults) }
     {
         if next_call(&self.fails, &mut self.calls) {
             return Err(count_fault(&mut self.faults));
