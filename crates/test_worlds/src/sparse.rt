@@ -104,7 +104,7 @@ const CHANGES: [(u32, usize, u32); 12] = [
     (50, 0, 51),
 ];
 
-// The same write in both.
+// The same write of one byte, many times, in both.
 fn write_both(
     rt: &impl Abort,
     alloc: Global,
@@ -112,9 +112,10 @@ fn write_both(
     list: &[u8],
     offset: u32,
     count: usize,
+    fill: u8,
 ) -> Result<Vec<u8>, Fail> {
     assert!(rt; count <= 9000);
-    let bytes = vec![in alloc; 7; count]?;
+    let bytes = vec![in alloc; fill; count]?;
     plain.write(u64::from(offset), &bytes)?;
     Ok(write_whole(alloc, list, offset as usize, &bytes)?)
 }
@@ -144,8 +145,10 @@ fn cut_both(
 // The lists after all changes.
 fn change_both(rt: &impl Abort, alloc: Global, plain: &mut Plain) -> Result<(), Fail> {
     let mut list = Vec::new(alloc);
+    let mut fill = 0u8;
     for (offset, count, len) in CHANGES {
-        let longer = write_both(rt, alloc, plain, list.as_slice(), offset, count)?;
+        fill = fill.wrapping_add(1);
+        let longer = write_both(rt, alloc, plain, list.as_slice(), offset, count, fill)?;
         list = cut_both(rt, alloc, plain, longer, len)?;
         is_same(rt, alloc, plain, list.as_slice())?;
     }
