@@ -19,6 +19,3 @@ pub use fo_world::{
     Snap, Trail, Tree, View, World,
 };
 pub use plain::PlainFiles;
-
-#[cfg(test)]
-mod tests;

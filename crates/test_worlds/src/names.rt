@@ -1,4 +1,5 @@
-use crate::{DatedName, dated};
+//! Dated names.
+use fo_names::{DatedName, dated};
 use std::test::Fail;
 
 #[test]

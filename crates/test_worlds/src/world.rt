@@ -1,4 +1,5 @@
-use crate::{
+//! Trees of files, and what is told of them.
+use fo_world::{
     Add, Body, Change, Fields, FileError, Info, Name, Names, Node, Place, Plain, Rename, TakeOut,
     Trail, View, Write, follow,
 };
@@ -38,16 +39,45 @@ fn add(
     root.change(trail, add)
 }
 
-// A root with a directory `d` (1), in which are the files `b` (2) and `a` (3).
+// Adds a file with this number and name to the directory 1.
+fn add_file(alloc: Global, root: &mut Node, number: u32, name: &[u8]) -> Result<(), FileError> {
+    let file = node(alloc, number, Body::File(Plain::new(alloc)))?;
+    add(alloc, root, &[1], name, file)
+}
+
+// A directory `d` (1), in which are the files `b` (2) and `a` (3).
+fn fill(alloc: Global, root: &mut Node) -> Result<(), FileError> {
+    let folder = node(alloc, 1, Body::Dir(Names::new(alloc)))?;
+    add(alloc, root, &[], b"d", folder)?;
+    add_file(alloc, root, 2, b"b")?;
+    add_file(alloc, root, 3, b"a")
+}
+
+// A root with these.
 fn tree(alloc: Global) -> Result<Node, FileError> {
     let mut root = node(alloc, 0, Body::Dir(Names::new(alloc)))?;
-    let folder = node(alloc, 1, Body::Dir(Names::new(alloc)))?;
-    add(alloc, &mut root, &[], b"d", folder)?;
-    let file = node(alloc, 2, Body::File(Plain::new(alloc)))?;
-    add(alloc, &mut root, &[1], b"b", file)?;
-    let file = node(alloc, 3, Body::File(Plain::new(alloc)))?;
-    add(alloc, &mut root, &[1], b"a", file)?;
+    fill(alloc, &mut root)?;
     Ok(root)
+}
+
+// A name with a space behind it.
+fn append(all: &mut Vec<u8>, name: &Name) -> Result<(), FileError> {
+    all.extend_from_slice(name.as_slice())?;
+    all.push(b' ')?;
+    Ok(())
+}
+
+// The names of a directory, at most 10.
+fn append_names(all: &mut Vec<u8>, names: &Names) -> Result<(), FileError> {
+    let mut last: Option<&Name> = None;
+    for _ in 0..10 {
+        let Some((name, _)) = names.next_above(last) else {
+            return Ok(());
+        };
+        append(all, name)?;
+        last = Some(name);
+    }
+    Ok(())
 }
 
 // The names of the directory at a trail, each with a space behind it.
@@ -58,17 +88,7 @@ fn names(alloc: Global, root: &Node, trail: &[u32]) -> Result<Vec<u8>, FileError
     };
     let names = node.body.as_dir()?;
     let mut all = Vec::new(alloc);
-    let mut last: Option<&Name> = None;
-    for _ in 0..10 {
-        match names.next_above(last) {
-            None => return Ok(all),
-            Some((name, _)) => {
-                all.extend_from_slice(name.as_slice())?;
-                all.push(b' ')?;
-                last = Some(name);
-            }
-        }
-    }
+    append_names(&mut all, names)?;
     Ok(all)
 }
 
@@ -152,17 +172,51 @@ fn back(alloc: Global, place: &Place) -> Result<Trail, FileError> {
     Ok(below.trail.front(alloc)?.copy(alloc)?)
 }
 
+// What is told of the file `b` once it is written.
+fn is_written(rt: &impl Abort, alloc: Global, info: &Info) -> Result<(), Fail> {
+    assert_eq!(rt; numbers(info), [2, 1, 0o755, 0, 2, 3]);
+    assert_eq!(rt; info.name.as_slice(), b"b".as_slice());
+    assert_eq!(rt; info.muid.as_slice(), b"bob".as_slice());
+    assert_eq!(rt; back(alloc, &info.place)?.as_slice(), [1, 2].as_slice());
+    Ok(())
+}
+
+// The file `b` is written.
+fn writes(rt: &impl Abort, alloc: Global, root: &mut Node) -> Result<(), Fail> {
+    assert_eq!(rt; numbers(&told(alloc, root, &[1])?), [1, 2, 0o755, 0, 1, 0]);
+    write(alloc, root, &[1, 2])?;
+    let info = told(alloc, root, &[1, 2])?;
+    is_written(rt, alloc, &info)
+}
+
 #[test]
 fn ample(rt: HostRuntime) -> Result<(), Fail> {
     let alloc = rt.alloc();
     let mut root = tree(alloc)?;
-    assert_eq!(rt; numbers(&told(alloc, &root, &[1])?), [1, 2, 0o755, 0, 1, 0]);
-    write(alloc, &mut root, &[1, 2])?;
-    let info = told(alloc, &root, &[1, 2])?;
-    assert_eq!(rt; numbers(&info), [2, 1, 0o755, 0, 2, 3]);
-    assert_eq!(rt; info.name.as_slice(), b"b".as_slice());
-    assert_eq!(rt; info.muid.as_slice(), b"bob".as_slice());
-    assert_eq!(rt; back(alloc, &info.place)?.as_slice(), [1, 2].as_slice());
+    writes(&rt, alloc, &mut root)
+}
+
+// What is told of the file `b` once it is renamed.
+fn is_renamed(rt: &impl Abort, info: &Info) {
+    assert_eq!(rt; numbers(info), [2, 2, 0o600, 0, 9, 2]);
+    assert_eq!(rt; info.gid.as_slice(), b"sys".as_slice());
+    assert_eq!(rt; info.muid.as_slice(), b"eve".as_slice());
+}
+
+// The file `b` is written and renamed.
+fn renames(rt: &impl Abort, alloc: Global, root: &mut Node) -> Result<(), Fail> {
+    write(alloc, root, &[1, 2])?;
+    rename(alloc, root, &[1])?;
+    is_renamed(rt, &told(alloc, root, &[1, 2])?);
+    assert_eq!(rt; names(alloc, root, &[1])?.as_slice(), b"A a ".as_slice());
+    Ok(())
+}
+
+// The file `a` is taken out.
+fn takes_out(rt: &impl Abort, alloc: Global, root: &mut Node) -> Result<(), Fail> {
+    take_out(alloc, root, &[1])?;
+    assert!(rt; matches!(told(alloc, root, &[1, 3]), Err(FileError::Gone)));
+    assert_eq!(rt; told(alloc, root, &[1, 2])?.path, 2);
     Ok(())
 }
 
@@ -170,17 +224,8 @@ fn ample(rt: HostRuntime) -> Result<(), Fail> {
 fn changes(rt: HostRuntime) -> Result<(), Fail> {
     let alloc = rt.alloc();
     let mut root = tree(alloc)?;
-    write(alloc, &mut root, &[1, 2])?;
-    rename(alloc, &mut root, &[1])?;
-    let info = told(alloc, &root, &[1, 2])?;
-    assert_eq!(rt; numbers(&info), [2, 2, 0o600, 0, 9, 2]);
-    assert_eq!(rt; info.gid.as_slice(), b"sys".as_slice());
-    assert_eq!(rt; info.muid.as_slice(), b"eve".as_slice());
-    assert_eq!(rt; names(alloc, &root, &[1])?.as_slice(), b"A a ".as_slice());
-    take_out(alloc, &mut root, &[1])?;
-    assert!(rt; matches!(told(alloc, &root, &[1, 3]), Err(FileError::Gone)));
-    assert_eq!(rt; told(alloc, &root, &[1, 2])?.path, 2);
-    Ok(())
+    renames(&rt, alloc, &mut root)?;
+    takes_out(&rt, alloc, &mut root)
 }
 
 // The name of the file with a number.
@@ -193,14 +238,26 @@ fn is_there(number: u32) -> bool {
     number % 3 != 0
 }
 
+// Puts the file with this number into a directory.
+fn put(alloc: Global, names: &mut Names, number: u32) -> Result<(), FileError> {
+    let file = node(alloc, number, Body::File(Plain::new(alloc)))?;
+    let name = Name::copy_of(alloc, &name_of(number))?;
+    names.insert(name, file)?;
+    Ok(())
+}
+
+// Puts 40 files in a mixed order.
+fn put_all(alloc: Global, names: &mut Names) -> Result<(), FileError> {
+    for i in 0..40u32 {
+        put(alloc, names, i * 17 % 40)?;
+    }
+    Ok(())
+}
+
 // A directory of 40 files that were put in a mixed order, with every third taken out.
 fn mixed(alloc: Global) -> Result<Names, FileError> {
     let mut names = Names::new(alloc);
-    for i in 0..40u32 {
-        let number = i * 17 % 40;
-        let file = node(alloc, number, Body::File(Plain::new(alloc)))?;
-        names.insert(Name::copy_of(alloc, &name_of(number))?, file)?;
-    }
+    put_all(alloc, &mut names)?;
     for number in 0..40u32 {
         if !is_there(number) {
             names.take_out(&name_of(number));
@@ -249,14 +306,20 @@ fn finds(rt: &impl Abort, alloc: Global, names: &Names, number: u32) -> Result<(
     Ok(())
 }
 
+// What is found under all names, and above them.
+fn finds_all(rt: &impl Abort, alloc: Global, names: &Names) -> Result<(), FileError> {
+    for number in 0..40u32 {
+        finds(rt, alloc, names, number)?;
+    }
+    Ok(())
+}
+
 #[test]
 fn many_names(rt: HostRuntime) -> Result<(), Fail> {
     let alloc = rt.alloc();
     let names = mixed(alloc)?;
     assert_eq!(rt; number_of(names.next_above(None)), least_above(b""));
-    for number in 0..40u32 {
-        finds(&rt, alloc, &names, number)?;
-    }
+    finds_all(&rt, alloc, &names)?;
     Ok(())
 }
 

@@ -1,11 +1,13 @@
-ghost use Rattle.std.specs.Prelude.{◌≡◌, IfOk};
+//! Files kept as plain trees.
+ghost use Rattle.std.specs.Prelude.{◌≡◌, ◌<◌, ◌^◌, All, IfOk};
 ghost use Rattle.fo_world.specs.Limits.{IsName, IsUser};
+ghost use Rattle.fo_world.specs.Fits.{NodeFits, SnapFits, ArchiveFits};
 
-use crate::{
-    Archive, Body, Change, FileError, FileOps, Info, Name, Names, Node, Place, PlainFiles, Snap,
-    Trail, Tree, View, World,
-};
 use fo_base::is_text;
+use fo_plain::PlainFiles;
+use fo_world::{
+    Archive, Change, FileError, FileOps, Info, Name, Place, Snap, Trail, Tree, View, World,
+};
 use std::alloc::Global;
 use std::process::Abort;
 use std::test::Fail;
@@ -148,20 +150,47 @@ fn bytes(
     Ok(Vec::from_slice(alloc, &into[..n])?)
 }
 
+// The name that is told.
+fn name_told(info: Info) -> Name {
+    let Info { name, .. } = info;
+    name
+}
+
+// The next name in a directory.
+fn name_above(
+    files: &mut PlainFiles,
+    at: &Place,
+    last: Option<Name>,
+) -> Result<Option<Name>, FileError> {
+    match files.next_name(at, last.as_ref())? {
+        None => Ok(None),
+        Some(info) => Ok(Some(name_told(info))),
+    }
+}
+
+// A name with a space behind it; the name comes back.
+fn append(all: &mut Vec<u8>, name: Name) -> Result<Name, FileError> {
+    all.extend_from_slice(name.as_slice())?;
+    all.push(b' ')?;
+    Ok(name)
+}
+
+// The names of a directory in their order, at most 100.
+fn append_names(all: &mut Vec<u8>, files: &mut PlainFiles, at: &Place) -> Result<(), FileError> {
+    let mut last: Option<Name> = None;
+    for _ in 0..100 {
+        let Some(name) = name_above(files, at, last)? else {
+            return Ok(());
+        };
+        last = Some(append(all, name)?);
+    }
+    Ok(())
+}
+
 // The names of a directory in their order, each with a space behind it.
 fn names(files: &mut PlainFiles, alloc: Global, at: &Place) -> Result<Vec<u8>, FileError> {
     let mut all = Vec::new(alloc);
-    let mut last: Option<Name> = None;
-    for _ in 0..100 {
-        match files.next_name(at, last.as_ref())? {
-            None => return Ok(all),
-            Some(info) => {
-                all.extend_from_slice(info.name.as_slice())?;
-                all.push(b' ')?;
-                last = Some(info.name.copy(alloc)?);
-            }
-        }
-    }
+    append_names(&mut all, files, at)?;
     Ok(all)
 }
 
@@ -256,20 +285,30 @@ fn changes(rt: &impl Abort, files: &mut PlainFiles, alloc: Global) -> Result<(),
     sees(rt, files, alloc, &[1], [1, 2, 0o644, 2, 9, 2])
 }
 
+// A file is made, written and found.
+fn begins(rt: &impl Abort, files: &mut PlainFiles, alloc: Global) -> Result<(), Fail> {
+    sees(rt, files, alloc, &[], [0, 0, 0x8000_01ff, 1, 1, 0])?;
+    makes(rt, files, alloc)?;
+    put(files, alloc, &[1], 0, b"hello", 3)?;
+    finds(rt, files, alloc)?;
+    holds(rt, files, alloc, 1, b"ello")
+}
+
+// It is changed and removed, and all is settled.
+fn goes_on(rt: &impl Abort, files: &mut PlainFiles, alloc: Global) -> Result<(), Fail> {
+    changes(rt, files, alloc)?;
+    take_out(files, alloc, &[1], 7)?;
+    gone(rt, told(files, alloc, &[1]));
+    settle(files)?;
+    Ok(())
+}
+
 #[test]
 fn ample(rt: HostRuntime) -> Result<(), Fail> {
     let alloc = rt.alloc();
     let mut files = PlainFiles::new(alloc, 1)?;
-    sees(&rt, &mut files, alloc, &[], [0, 0, 0x8000_01ff, 1, 1, 0])?;
-    makes(&rt, &mut files, alloc)?;
-    put(&mut files, alloc, &[1], 0, b"hello", 3)?;
-    finds(&rt, &mut files, alloc)?;
-    holds(&rt, &mut files, alloc, 1, b"ello")?;
-    changes(&rt, &mut files, alloc)?;
-    take_out(&mut files, alloc, &[1], 7)?;
-    gone(&rt, told(&mut files, alloc, &[1]));
-    settle(&mut files)?;
-    Ok(())
+    begins(&rt, &mut files, alloc)?;
+    goes_on(&rt, &mut files, alloc)
 }
 
 // The file is gone.
@@ -288,17 +327,22 @@ fn ends(rt: &impl Abort, files: &mut PlainFiles, alloc: Global) -> Result<(), Fa
     Ok(())
 }
 
+// What is written, with zeros before it and bytes of before behind it.
+fn fills(rt: &impl Abort, files: &mut PlainFiles, alloc: Global) -> Result<(), Fail> {
+    put(files, alloc, &[1], 3, b"ab", 3)?;
+    holds(rt, files, alloc, 0, b"\0\0\0ab")?;
+    put(files, alloc, &[1], 1, b"x", 3)?;
+    holds(rt, files, alloc, 0, b"\0x\0ab")?;
+    put(files, alloc, &[1], 0, b"", 4)?;
+    sees(rt, files, alloc, &[1], [1, 2, 0o644, 2, 3, 5])
+}
+
 #[test]
 fn writes(rt: HostRuntime) -> Result<(), Fail> {
     let alloc = rt.alloc();
     let mut files = PlainFiles::new(alloc, 1)?;
     makes(&rt, &mut files, alloc)?;
-    put(&mut files, alloc, &[1], 3, b"ab", 3)?;
-    holds(&rt, &mut files, alloc, 0, b"\0\0\0ab")?;
-    put(&mut files, alloc, &[1], 1, b"x", 3)?;
-    holds(&rt, &mut files, alloc, 0, b"\0x\0ab")?;
-    put(&mut files, alloc, &[1], 0, b"", 4)?;
-    sees(&rt, &mut files, alloc, &[1], [1, 2, 0o644, 2, 3, 5])?;
+    fills(&rt, &mut files, alloc)?;
     ends(&rt, &mut files, alloc)
 }
 
@@ -332,17 +376,51 @@ fn misses(rt: &impl Abort, files: &mut PlainFiles, alloc: Global) {
     assert!(rt; matches!(written, Err(FileError::IsDir)));
 }
 
+// Four files, and what is refused while they are there.
+fn fills_directories(rt: &impl Abort, files: &mut PlainFiles, alloc: Global) -> Result<(), Fail> {
+    four(files, alloc)?;
+    lists(rt, files, alloc, b"a ab b ")?;
+    refuses(rt, files, alloc);
+    Ok(())
+}
+
+// Two of them less: their numbers are not given again.
+fn empties_directories(rt: &impl Abort, files: &mut PlainFiles, alloc: Global) -> Result<(), Fail> {
+    take_out(files, alloc, &[1, 4], 3)?;
+    take_out(files, alloc, &[1], 3)?;
+    misses(rt, files, alloc);
+    assert_eq!(rt; make(files, alloc, &[], b"d", FILE, 4)?.path, 5);
+    Ok(())
+}
+
 #[test]
 fn directories(rt: HostRuntime) -> Result<(), Fail> {
     let alloc = rt.alloc();
     let mut files = PlainFiles::new(alloc, 1)?;
-    four(&mut files, alloc)?;
-    lists(&rt, &mut files, alloc, b"a ab b ")?;
-    refuses(&rt, &mut files, alloc);
-    take_out(&mut files, alloc, &[1, 4], 3)?;
-    take_out(&mut files, alloc, &[1], 3)?;
-    misses(&rt, &mut files, alloc);
-    assert_eq!(rt; make(&mut files, alloc, &[], b"d", FILE, 4)?.path, 5);
+    fills_directories(&rt, &mut files, alloc)?;
+    empties_directories(&rt, &mut files, alloc)
+}
+
+// The numbers 1 to 64.
+const TRAIL: [u32; 64] = [
+    1, 2, 3, 4, 5, 6, 7, 8, 9, 10, 11, 12, 13, 14, 15, 16, 17, 18, 19, 20, 21, 22, 23, 24, 25, 26,
+    27, 28, 29, 30, 31, 32, 33, 34, 35, 36, 37, 38, 39, 40, 41, 42, 43, 44, 45, 46, 47, 48, 49, 50,
+    51, 52, 53, 54, 55, 56, 57, 58, 59, 60, 61, 62, 63, 64,
+];
+
+// Directories, each in the one before.
+fn nests(files: &mut PlainFiles, alloc: Global) -> Result<(), FileError> {
+    for depth in 0..64usize {
+        let _ = make(files, alloc, &TRAIL[..depth], b"d", FOLDER, 2)?;
+    }
+    Ok(())
+}
+
+// No directory goes deeper, but a file does.
+fn is_deepest(rt: &impl Abort, files: &mut PlainFiles, alloc: Global) -> Result<(), Fail> {
+    let deeper = make(files, alloc, &TRAIL, b"d", FOLDER, 2);
+    assert!(rt; matches!(deeper, Err(FileError::TooDeep)));
+    assert_eq!(rt; make(files, alloc, &TRAIL, b"f", FILE, 2)?.path, 65);
     Ok(())
 }
 
@@ -350,59 +428,69 @@ fn directories(rt: HostRuntime) -> Result<(), Fail> {
 fn depths(rt: HostRuntime) -> Result<(), Fail> {
     let alloc = rt.alloc();
     let mut files = PlainFiles::new(alloc, 1)?;
-    let mut trail = Vec::new(alloc);
-    for number in 1..65u32 {
-        let _ = make(&mut files, alloc, trail.as_slice(), b"d", FOLDER, 2)?;
-        trail.push(number)?;
-    }
-    let deeper = make(&mut files, alloc, trail.as_slice(), b"d", FOLDER, 2);
-    assert!(rt; matches!(deeper, Err(FileError::TooDeep)));
-    assert_eq!(rt;
-        make(&mut files, alloc, trail.as_slice(), b"f", FILE, 2)?.path,
-        65
-    );
-    Ok(())
+    nests(&mut files, alloc)?;
+    is_deepest(&rt, &mut files, alloc)
 }
 
 // A tree with a root alone.
-fn tree(alloc: Global) -> Result<Tree, FileError> {
-    Ok(Tree {
-        root: Node {
-            number: 0,
-            vers: 0,
-            mode: 0x8000_01ff,
-            atime: 0,
-            mtime: 0,
-            uid: Name::copy_of(alloc, b"adm")?,
-            gid: Name::copy_of(alloc, b"adm")?,
-            muid: Name::copy_of(alloc, b"adm")?,
-            body: Body::Dir(Names::new(alloc)),
-        },
-    })
+fn tree(alloc: Global) -> Result<Tree, FileError>
+    ensures { IfOk result (λ t. NodeFits t.root) }
+{
+    let World { active, .. } = PlainFiles::new(alloc, 0)?.into_world();
+    Ok(active)
 }
 
-// A world with three snapshots: of epochs 1 and 2 in one minute of 1970-01-01, where the first is kept or not, and of epoch 3 on 2000-02-29 at 23:59, which is archived.
-fn with_snapshots(alloc: Global, first: bool) -> Result<PlainFiles, FileError> {
+// Snapshots, with one more behind them.
+fn and_snap(alloc: Global, snaps: Vec<Snap>, epoch: u32, time: u32) -> Result<Vec<Snap>, FileError>
+    requires epoch { epoch < 2 ^ 31 }
+    requires snaps { All SnapFits snaps.items }
+    ensures { IfOk result (λ v. All SnapFits v.items) }
+{
+    let mut snaps = snaps;
+    let snap = Snap::new(epoch, time, tree(alloc)?);
+    snaps.push(snap)?;
+    Ok(snaps)
+}
+
+// Snapshots of epochs 1 and 2 in one minute of 1970-01-01, where the first is kept or not, and of epoch 3 on 2000-02-29 at 23:59.
+fn snaps(alloc: Global, first: bool) -> Result<Vec<Snap>, FileError>
+    ensures { IfOk result (λ v. All SnapFits v.items) }
+{
     let mut snaps = Vec::new(alloc);
     if first {
-        snaps.push(Snap::new(1, 0, tree(alloc)?))?;
+        snaps = and_snap(alloc, snaps, 1, 0)?;
     }
-    snaps.push(Snap::new(2, 59, tree(alloc)?))?;
-    snaps.push(Snap::new(3, 951868740, tree(alloc)?))?;
+    let two = and_snap(alloc, snaps, 2, 59)?;
+    and_snap(alloc, two, 3, 951868740)
+}
+
+// The archive of epoch 3.
+fn archives(alloc: Global) -> Result<Vec<Archive>, FileError>
+    ensures { IfOk result (λ v. All ArchiveFits v.items) }
+{
+    let archive = Archive::new(3, 951868740, [0; 20], tree(alloc)?);
     let mut archives = Vec::new(alloc);
-    archives.push(Archive::new(3, 951868740, [0; 20], tree(alloc)?))?;
-    let world = World {
-        active: tree(alloc)?,
-        low: if first { 1 } else { 2 },
-        high: 4,
-        snaps,
-        archives,
-        pending: 0,
-        next: 1,
-        halted: false,
-        exclusive: Vec::new(alloc),
-    };
+    archives.push(archive)?;
+    Ok(archives)
+}
+
+// A world with these snapshots and archives.
+fn keep(alloc: Global, snaps: Vec<Snap>, archives: Vec<Archive>) -> Result<PlainFiles, FileError>
+    requires snaps { All SnapFits snaps.items }
+    requires archives { All ArchiveFits archives.items }
+{
+    let mut world = PlainFiles::new(alloc, 0)?.into_world();
+    world.high = 4;
+    world.snaps = snaps;
+    world.archives = archives;
     Ok(PlainFiles::of(alloc, world))
+}
+
+// A world with three snapshots, or without the first of them, and with an archive of the last.
+fn with_snapshots(alloc: Global, first: bool) -> Result<PlainFiles, FileError> {
+    let snaps = snaps(alloc, first)?;
+    let archives = archives(alloc)?;
+    keep(alloc, snaps, archives)
 }
 
 // The view of a dated directory.

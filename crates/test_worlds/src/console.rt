@@ -1,4 +1,5 @@
-use crate::{Answer, Command, Info, LineError, Name, read_line, write_reply};
+//! Lines of the console.
+use fo_console::{Answer, Command, Info, LineError, Name, read_line, write_reply};
 use fo_world::{Place, Trail, View};
 use std::alloc::{AllocError, Global};
 use std::process::Abort;
@@ -27,14 +28,25 @@ fn file(alloc: Global, mode: u32, length: u64, path: u64) -> Result<Info, AllocE
     })
 }
 
+/// A slash and a name.
+fn append(alloc: Global, text: &mut String, name: &Name) -> Result<(), AllocError> {
+    text.push_str("/")?;
+    text.push_str(String::from_utf8_lossy(alloc, name.as_slice())?.as_str())?;
+    Ok(())
+}
+
+/// A slash and a name, for each.
+fn append_all(alloc: Global, text: &mut String, path: &[Name]) -> Result<(), AllocError> {
+    for name in path {
+        append(alloc, text, name)?;
+    }
+    Ok(())
+}
+
 /// The names of a path, each after a slash.
 fn slashed(alloc: Global, path: &[Name]) -> Result<String, AllocError> {
     let mut text = String::new(alloc);
-    for name in path {
-        let bytes = name.as_slice();
-        text.push_str("/")?;
-        text.push_str(String::from_utf8_lossy(alloc, bytes)?.as_str())?;
-    }
+    append_all(alloc, &mut text, path)?;
     Ok(text)
 }
 
