@@ -65,6 +65,14 @@ truncated e w f i m now =
     if cuts i m then and_then (changed (step.change e.whole e.largest w f.place emptied f.user now)) (λ p. Ok (cut_info i, p.1))
     else Ok (i, w)
 
+-- the blocks that OTRUNC needs: those of emptying the file where it makes one empty, and else none
+abbrev pub cut_need : Files → World → Fid → Info → Mode → ℕ
+cut_need e w f i m = if cuts i m then step.change_need e.whole w f.place emptied else 0
+
+-- the most of them, whatever the world
+abbrev pub most_cut : Fid → Info → Mode → ℕ
+most_cut f i m = if cuts i m then step.most_need f.place else 0
+
 -- the mode that a byte says, where the file's view and its kind allow it
 unfoldable pub allowed_mode : Fid → Info → ℕ → Result Mode Refusal
 allowed_mode f i mode =

@@ -1,15 +1,15 @@
 //! Walking along names.
-ghost use Rattle.std.specs.Prelude.{◌≡◌, ◌==◌, IsTrue, MatchResult};
+ghost use Rattle.std.specs.Prelude.{◌≡◌, ◌==◌, IsTrue, IfOk, IfErr, MatchResult};
 ghost use Rattle.nine_fids.specs.Told.{served};
 ghost use Rattle.nine_fids.specs.Rights.{table_of};
-ghost use Rattle.nine_fids.specs.Looking.{Looks, MayMiss};
+ghost use Rattle.nine_fids.specs.Looking.{HasCause, Looks, MayMiss};
 ghost use Rattle.nine_files.specs.Walking as nine;
-ghost use Rattle.nine_files.specs.Parts.{arrived};
+ghost use Rattle.nine_files.specs.Parts.{arrived, IsPart};
 ghost use Rattle.nine_files.specs.Answering.{Misses};
 
 use fo_users::{Right, Users};
 use fo_world::{FileError, FileOps, Info, Name, Place};
-use nine_fids::{Fid, Refusal, info_at, is_dir, named_at, parent_at, qid_of, table_of};
+use nine_fids::{Fid, Refusal, Stated, info_at, is_dir, named_at, parent_at, qid_of, table_of};
 use nine_wire::Qids;
 use std::alloc::Global;
 
@@ -44,10 +44,8 @@ fn next<F: FileOps>(
     name: &[u8],
 ) -> Result<Info, Refusal>
     requires whole { IsTrue (F.whole files.old) }
-    requires users { users.now ≡ table_of (served (F.whole files.old) (F.largest files.old)) (F.world files.old) }
-    ensures looks { Looks (nine.next (served (F.whole files.old) (F.largest files.old)) (F.world files.old) user.now from.now name.now)
-        (MayMiss (F.faults files.old) (F.faults files.new) (F.honest files.old)) result }
-    ensures world { F.world files.new ≡ F.world files.old }
+    requires users { F.honest files.old → users.now ≡ table_of (served (F.whole files.old) (F.largest files.old)) (F.world files.old) }
+    ensures looks { Looks (⟦<F as Stated>⟧.state files.old) (⟦<F as Stated>⟧.state files.new) (λ e w. nine.next e w user.now from.now name.now) result }
     ensures keeps { F.keeps files.old files.new }
 {
     if !is_dir(from.mode) {
@@ -75,11 +73,13 @@ fn follow<F: FileOps>(
     from: Info,
 ) -> Result<Walked, Refusal>
     requires whole { IsTrue (F.whole files.old) }
-    requires users { users.now ≡ table_of (served (F.whole files.old) (F.largest files.old)) (F.world files.old) }
-    ensures comes { MatchResult result
+    requires users { F.honest files.old → users.now ≡ table_of (served (F.whole files.old) (F.largest files.old)) (F.world files.old) }
+    ensures comes { F.honest files.old → MatchResult result
         (λ w. w ≡ nine.walked (served (F.whole files.old) (F.largest files.old)) (F.world files.old) user.now names.now from)
         (Misses (MayMiss (F.faults files.old) (F.faults files.new) (F.honest files.old))) }
-    ensures world { F.world files.new ≡ F.world files.old }
+    ensures part { IfOk result (IsPart names.now) }
+    ensures world { F.honest files.old → F.world files.new ≡ F.world files.old }
+    ensures cause { IfErr result (HasCause (⟦<F as Stated>⟧.state files.old) (⟦<F as Stated>⟧.state files.new) 0) }
     ensures keeps { F.keeps files.old files.new }
 {
     let mut qids = Vec::new(alloc);
@@ -118,9 +118,8 @@ pub fn walk_from<F: FileOps>(
     names: &[Name],
 ) -> Result<Walked, Refusal>
     requires { IsTrue (F.whole files.old) }
-    ensures arrives { Looks (arrived (served (F.whole files.old) (F.largest files.old)) (F.world files.old) fid.now names.now)
-        (MayMiss (F.faults files.old) (F.faults files.new) (F.honest files.old)) result }
-    ensures world { F.world files.new ≡ F.world files.old }
+    ensures arrives { Looks (⟦<F as Stated>⟧.state files.old) (⟦<F as Stated>⟧.state files.new) (λ e w. arrived e w fid.now names.now) result }
+    ensures part { IfOk result (IsPart names.now) }
     ensures keeps { F.keeps files.old files.new }
 {
     if names.is_empty() {
