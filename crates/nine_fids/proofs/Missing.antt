@@ -32,7 +32,7 @@ fails_by_missing f0 f1 h room need granted x m = m
 pub no_memory : (f0 f1 : Faults) (h : Type 0) → MayMiss f0 f1 h error.Memory
 no_memory f0 f1 h = tt
 
-rose_before : (a b c : ℕ) → a ≤ b → Rose b c → Rose a c
+pub rose_before : (a b c : ℕ) → a ≤ b → Rose b c → Rose a c
 rose_before a b c le r = omega (arith, le, r)
 
 -- a cause since later is a cause since before

@@ -1,6 +1,6 @@
 -- Calls that look, over any devices, joined one after the other.
 use Rattle.std.proofs.Common.{◌≡◌, ℕ, true, false, None, Result, Ok, Err, refl, sym, ap, subst, ◌∙◌, inl, inr, ⊎_elim, ◌⊎◌}
-use Rattle.std.specs.Prelude.{is_ok, IfErr, if◌then◌else◌, Bool, Option}
+use Rattle.std.specs.Prelude.{is_ok, IfErr, IfOk, if◌then◌else◌, Bool, Option}
 use Rattle.std.proofs.lemmas.Result.{IfErr-at_err}
 use Rattle.fo_world.specs.declared.error.FileError.{FileError}
 use Rattle.fo_world.specs.declared.error.FileError.TheVariants as error
@@ -11,7 +11,7 @@ use Rattle.nine_fids.specs.declared.refusal.Refusal.{Refusal}
 use Rattle.nine_fids.specs.declared.refusal.Refusal.TheVariants as refusal
 use Rattle.nine_fids.specs.Refusing.{looked, told_apart, is_failure}
 use Rattle.nine_fids.specs.Rights.{found}
-use Rattle.nine_fids.specs.Told.{Files}
+use Rattle.nine_fids.specs.Told.{Files, served}
 use Rattle.nine_fids.specs.Looking.{FilesState, Follows, HasCause, IsRefused, Looks, MayMiss, Tells}
 use Rattle.nine_fids.proofs.Missing.{fails_since, is_miss, misses, refused_by, rose_before}
 use Rattle.nine_fids.proofs.Staying.{Stays, seen}
@@ -22,7 +22,7 @@ Told A = Files → World → Result A Refusal
 -- ---- from one moment to a later one
 
 pub follows : (a b : FilesState) → b.how.whole ≡ a.how.whole → b.how.largest ≡ a.how.largest → NotFewer a.faults b.faults → (a.honest → b.honest) → Follows a b
-follows a b whole largest faults honest = record { how = cc; faults = faults; honest = honest }
+follows a b whole largest faults honest = record { how = ap (λ x. served x b.how.largest) whole ∙ ap (served a.how.whole) largest; faults = faults; honest = honest }
 
 pub cause_since : (a b c : FilesState) (most : ℕ) (r : Refusal) → Follows a b → HasCause b c most r → HasCause a c most r
 cause_since a b c most (refusal.File error.MainRead) f m = rose_before _ _ _ f.faults.main m
@@ -82,8 +82,9 @@ pub refused_after : {A B : Type 0} (a b c : FilesState) (part : Told A) (whole :
 refused_after a b c part whole r f world told l = looks_refused a c part whole r told (looks_after a b c part part (Err r) f world (λ h. refl) l)
 
 -- what is told later is told of the world of before
-pub told_since : {A : Type 0} (a b c : FilesState) (later : Told A) (x : A) → Follows a b → (a.honest → b.world ≡ a.world) → Looks b c later (Ok x) → a.honest → later a.how a.world ≡ Ok x
-told_since a b c later x f world l h = (looks_after a b c later later (Ok x) f world (λ h. refl) l).answer h
+pub told_at : {A : Type 0} (b c : FilesState) (later : Told A) (x : A) (whole : Bool) (largest : ℕ) (w : World) → b.how.whole ≡ whole → b.how.largest ≡ largest → b.world ≡ w → Looks b c later (Ok x) → b.honest → later (served whole largest) w ≡ Ok x
+told_at b c later x whole largest w same_whole same_largest world l h =
+    sym (ap (λ t. later (served t b.how.largest) b.world) same_whole ∙ ap (λ n. later (served whole n) b.world) same_largest ∙ ap (later (served whole largest)) world) ∙ l.answer h
 
 pub looks_denied : {A : Type 0} (a b : FilesState) (told : Told A) (r : Refusal) → (a.honest → told a.how a.world ≡ Err r) → (a.honest → b.world ≡ a.world) → HasCause a b 0 r → Looks a b told (Err r)
 looks_denied a b told r is world cause = record { answer = λ h. inl (is h); world = world; cause = cause }
@@ -127,13 +128,13 @@ apart_tells a b told (Err r) plain l =
     (λ e. apart_at told (MayMiss a.faults b.faults a.honest) r false (IfErr-at_err (λ v. is_failure v ≡ false) e plain) (ap (λ t. Ok (found t)) e))
     (λ p. apart_at told (MayMiss a.faults b.faults a.honest) r true (ap is_failure p.1 ∙ is_miss a.faults b.faults a.honest p.0 p.2) (inr p)) l
 
-cause_at : {A : Type 0} (a b : FilesState) (r : Refusal) (v : Bool) → HasCause a b 0 r → IfErr (if v then Err r else (let out : Result (Option A) Refusal = Ok None in out)) (HasCause a b 0)
-cause_at a b r true m = m
-cause_at a b r false m = tt
+cause_at : (A : Type 0) (a b : FilesState) (r : Refusal) (v : Bool) → HasCause a b 0 r → IfErr (if v then Err r else (let out : Result (Option A) Refusal = Ok None in out)) (HasCause a b 0)
+cause_at A a b r true m = m
+cause_at A a b r false m = tt
 
 apart_cause : {A : Type 0} (a b : FilesState) (r : Result A Refusal) → IfErr r (HasCause a b 0) → IfErr (told_apart r) (HasCause a b 0)
 apart_cause a b (Ok x) m = tt
-apart_cause a b (Err r) m = cause_at a b r (is_failure r) m
+apart_cause a b (Err r) m = cause_at _ a b r (is_failure r) m
 
 pub apart_looks : {A : Type 0} (a b : FilesState) (told : Told A) (r : Result A Refusal) → ((e : Files) (w : World) → IfErr (told e w) (λ e. is_failure e ≡ false)) → Looks a b told r → Looks a b (λ e w. Ok (found (told e w))) (told_apart r)
 apart_looks a b told r plain l = record {
@@ -141,3 +142,26 @@ apart_looks a b told r plain l = record {
     world = l.world;
     cause = apart_cause a b r l.cause;
   }
+
+-- ---- where what is told is known otherwise
+
+pub looks_as : {A : Type 0} (a b : FilesState) (told part : Told A) (r : Result A Refusal) → (a.honest → part a.how a.world ≡ told a.how a.world) → Looks a b part r → Looks a b told r
+looks_as a b told part r same l = record {
+    answer = λ h. let P : Result _ Refusal → Type 0 = λ t. Tells t (MayMiss a.faults b.faults a.honest) r in subst P (same h) (l.answer h);
+    world = l.world;
+    cause = l.cause;
+  }
+
+-- what is granted but for memory
+pub looks_memory : {A : Type 0} (a b : FilesState) (told : Files → World → A) (x : A) (r : Result A Refusal) → (a.honest → told a.how a.world ≡ x) → (a.honest → b.world ≡ a.world) → IfOk r (λ y. y ≡ x) → IfErr r (λ e. e ≡ refusal.File error.Memory) → Looks a b (λ e w. Ok (told e w)) r
+looks_memory a b told x (Ok y) same world is m = looks_ok a b (λ e w. Ok (told e w)) y (λ h. ap Ok (same h ∙ sym is)) world
+looks_memory a b told x (Err r) same world is m =
+    let P : Refusal → Type 0 = λ v. Looks a b (λ e w. Ok (told e w)) (Err v) in
+    subst P (sym m) (looks_no_memory a b (λ e w. Ok (told e w)) world)
+
+-- a part that is never refused by what is told
+pub looks_failed : {A B : Type 0} (a b : FilesState) (part : Files → World → A) (whole : Told B) (r : Refusal) → Looks a b (λ e w. Ok (part e w)) (Err r) → Looks a b whole (Err r)
+looks_failed a b part whole r l = looks_refused a b (λ e w. Ok (part e w)) whole r (λ h e. absurd cc) l
+
+pub failed_after : {A B : Type 0} (a b c : FilesState) (part : Files → World → A) (whole : Told B) (r : Refusal) → Follows a b → (a.honest → b.world ≡ a.world) → Looks b c (λ e w. Ok (part e w)) (Err r) → Looks a c whole (Err r)
+failed_after a b c part whole r f world l = refused_after a b c (λ e w. Ok (part e w)) whole r f world (λ h e. absurd cc) l
