@@ -1,9 +1,9 @@
 -- What one call does to memory, and what it adds to the images that a crash may leave, now or after whatever is flushed later.
-use Rattle.std.specs.Prelude.{◌≡◌, ◌≢◌, ◌⊎◌, ◌<◌, ◌≤◌, ℕ, List, false}
-use Rattle.fo_image.specs.declared.types.Pointer.TheVariants.{Nil}
+use Rattle.std.specs.Prelude.{◌≡◌, ◌≢◌, ◌⊎◌, ◌<◌, ◌≤◌, ℕ, List, ◌∷◌, ◌++◌, false}
+use Rattle.fo_image.specs.declared.types.Pointer.TheVariants.{Nil, Local}
 use Rattle.fo_crash.specs.declared.slot.Slot.{Slot}
 use Rattle.fo_crash.specs.declared.slot.Slot.TheVariants.{Pointer as To, Entry as Head, Prev}
-use Rattle.fo_crash.specs.Images.{Content, Image, SameContent, SameImage, Reaches, to_block, with_slot, with_bytes, with_block}
+use Rattle.fo_crash.specs.Images.{Content, Image, SameContent, SameImage, Reaches, target, walk, to_block, with_slot, with_bytes, with_block}
 
 -- In memory this slot is put, and all else stays.
 pub record PutsSlot (at i : ℕ) (s : Slot) (old new : Image) : Type 0 where
@@ -32,6 +32,20 @@ cleared (Prev epoch at) = Prev 0 0
 pub record Clears (waiting : ℕ → ℕ → Type 0) (old new : Image) : Type 0 where
   pub bytes : (b : ℕ) → (new b).bytes ≡ (old b).bytes
   pub slots : (b j : ℕ) → ((new b).slot j ≡ (old b).slot j) ⊎ (waiting b j × ((new b).slot j ≡ cleared ((old b).slot j)))
+
+-- An image is another one, but for slots that were cleared: some of these slots are as memory had them cleared.
+pub record IsCleared (slots : ℕ → ℕ → Type 0) (now image other : Image) : Type 0 where
+  pub bytes : (b : ℕ) → (other b).bytes ≡ (image b).bytes
+  pub each : (b j : ℕ) → ((other b).slot j ≡ (image b).slot j) ⊎ (slots b j × ((other b).slot j ≡ cleared ((now b).slot j)))
+
+-- Slots that waited were cleared: each image that is left would be one of before with any of them cleared, so none is left in which a
+-- record still names one.
+pub record Fills (slots : ℕ → ℕ → Type 0) (now : Image) (old new : Image → Type 0) : Type 0 where
+  pub each : (image other : Image) → new image → IsCleared slots now image other → old other
+
+-- Every image has the bytes of this block as memory has them.
+pub record HasBytes (now : Image) (at : ℕ) (images : Image → Type 0) : Type 0 where
+  pub each : (image : Image) → images image → (image at).bytes ≡ (now at).bytes
 
 -- No image was added.
 pub record AddsNothing (old new : Image → Type 0) : Type 0 where
@@ -74,15 +88,39 @@ pub record HasSuper (now : Image) (doubt : Content → Type 0) (images : Image �
 pub record Brings (now : Image) (s : Slot) (P : ℕ → Type 0) : Type 0 where
   pub each : (b : ℕ) → Reaches now s b → P b
 
--- More blocks are to be closed: each of them was reached from a slot in memory before, and is reached from block 1 no more.
-pub record Covers (s : Slot) (old_now new_now : Image) (old new : ℕ → Type 0) : Type 0 where
-  pub each : (b : ℕ) → new b → old b ⊎ (Reaches old_now s b × (Reaches new_now (to_block 1) b → ⊥))
+-- A path leads from a slot to a block, through blocks of this sort alone.
+pub record Through (on : ℕ → Type 0) (now : Image) (s : Slot) (b : ℕ) : Type 0 where
+  pub path : List ℕ
+  pub leads : target (walk now s path) ≡ Local b
+  pub within : (front : List ℕ) (i : ℕ) (rest : List ℕ) (x : ℕ) → path ≡ front ++ (i ∷ rest) → target (walk now s front) ≡ Local x → on x
 
--- Moments pass: what came before stays, and every image of a moment within is one of these.
-pub record Passes (images : Image → Type 0) (first last : ℕ) (old new : ℕ → Image → Type 0) : Type 0 where
+-- A slot that was `s` was put or cleared: what hung below it through blocks of pointers and hangs from block 1 no more is to be closed,
+-- and so is what was; no other block is that did not hang from this slot. (A removal follows no entry: what hangs from an entry of a leaf
+-- that leaves is closed with that entry, or was named by nobody.)
+pub record Covers (inner : ℕ → Type 0) (s : Slot) (old_now new_now : Image) (old new : ℕ → Type 0) : Type 0 where
+  pub leaves : (b : ℕ) → Through inner old_now s b → Reaches old_now (to_block 1) b → (Reaches new_now (to_block 1) b → ⊥) → new b
+  pub still : (b : ℕ) → old b → new b
+  pub only : (b : ℕ) → (old b → ⊥) → (Reaches old_now s b → ⊥) → new b → ⊥
+
+-- The image is the same as another in each block that a path from these tops reaches in it.
+pub record SameFrom (tops : ℕ → Type 0) (image other : Image) : Type 0 where
+  pub each : (t b : ℕ) → tops t → Reaches image (to_block t) b → SameContent (image b) (other b)
+
+-- An image is one of these, as far as paths from these tops lead.
+pub record IsOneOf (tops : ℕ → Type 0) (images : Image → Type 0) (image : Image) : Type 0 where
+  pub other : Image
+  pub is : images other
+  pub same : SameFrom tops image other
+
+-- Moments pass: what came before stays, and every image of a moment within is one of these, as far as paths from the tops lead.
+pub record Passes (tops : ℕ → Type 0) (images : Image → Type 0) (first last : ℕ) (old new : ℕ → Image → Type 0) : Type 0 where
   pub later : first ≤ last
   pub before : (k : ℕ) (image : Image) → k ≤ first → new k image → old k image
-  pub within : (k : ℕ) (image : Image) → first < k → k ≤ last → new k image → images image
+  pub within : (k : ℕ) (image : Image) → first < k → k ≤ last → new k image → IsOneOf tops images image
+
+-- P says nothing of blocks that no path from the tops reaches.
+pub record Respects (tops : ℕ → Type 0) (P : Image → Type 0) : Type 0 where
+  pub each : (image other : Image) → SameFrom tops image other → P other → P image
 
 -- Every image of every moment of a stretch has P.
 pub record Throughout (P : Image → Type 0) (first last : ℕ) (left : ℕ → Image → Type 0) : Type 0 where

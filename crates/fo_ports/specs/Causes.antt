@@ -1,7 +1,7 @@
 -- Why a call on blocks may be refused.
-use Rattle.std.specs.Prelude.{ℕ, ◌<◌}
-use Rattle.fo_crash.specs.Images.{Image}
+use Rattle.std.specs.Prelude.{◌≡◌, ℕ, ◌<◌}
 use Rattle.fo_crash.specs.Steps.{AllAre}
+use Rattle.fo_ports.specs.State.{State}
 use Rattle.fo_ports.specs.declared.error.BlockError.{BlockError}
 use Rattle.fo_ports.specs.declared.error.BlockError.TheVariants.{Full, Damaged, Fault, Arena, Memory}
 
@@ -13,9 +13,13 @@ Caused full damaged fault arena (Fault which) = fault
 Caused full damaged fault arena (Arena which) = arena
 Caused full damaged fault arena Memory = Unit {0}
 
--- There is no room: fewer blocks are usable than are asked for, all is settled, and nothing waits to be cleared or closed.
-pub record IsFull (usable asked : ℕ) (now : Image) (images : Image → Type 0) (clearing : ℕ → ℕ → Type 0) (covered : ℕ → Type 0) : Type 0 where
-  pub few : usable < asked
-  pub settled : AllAre now images
-  pub cleared : (b j : ℕ) → clearing b j → ⊥
-  pub closed : (b : ℕ) → covered b → ⊥
+-- All is settled, nothing is to be written, no slot waits to be cleared, and no removal is queued.
+pub record IsSettled (s : State) : Type 0 where
+  pub settled : AllAre s.now s.may_leave
+  pub clean : (b : ℕ) → s.dirty b → ⊥
+  pub empty : s.queued ≡ 0
+  pub cleared : (b j : ℕ) → s.clearing b j → ⊥
+
+-- There is no room: fewer blocks are usable than are asked for, all is settled, and nothing waits.
+abbrev pub IsFull : State → ℕ → Type 0
+IsFull s asked = (s.usable < asked) × IsSettled s

@@ -1,14 +1,14 @@
 -- Sources of bytes over blocks: what is read through leaves, and what the calls on a source do to the blocks.
-use Rattle.std.specs.Prelude.{◌≡◌, ◌≢◌, ◌⊎◌, ◌+◌, ◌*◌, ◌/◌, ◌%◌, ◌^◌, ◌≤◌, ℕ, Bool, true, false, cond, nat_le, List, length, map, slice_index, Option, Some, None}
+use Rattle.std.specs.Prelude.{◌≡◌, ◌≢◌, ◌⊎◌, ◌+◌, ◌*◌, ◌/◌, ◌%◌, ◌^◌, ◌<◌, ◌≤◌, ◌↔◌, ℕ, Bool, true, false, cond, nat_le, List, length, map, slice_index, Option, Some, None, MatchOption}
 use Rattle.std.specs.List.{range_with_len}
 use Rattle.fo_image.specs.declared.types.Kind.{Kind}
 use Rattle.fo_image.specs.declared.types.Score.{Score}
 use Rattle.fo_image.specs.declared.types.Kind.TheVariants.{Data, Dir, Root}
-use Rattle.fo_image.specs.declared.types.Label.{Label}
 use Rattle.fo_image.specs.declared.types.State.TheVariants.{Live}
 use Rattle.fo_crash.specs.declared.place.Place.{Place}
-use Rattle.fo_crash.specs.Images.{Image, SameContent, SameImage, Reaches, to_block}
-use Rattle.fo_crash.specs.Steps.{AddsNothing, Passes}
+use Rattle.fo_crash.specs.Images.{Image, SameContent, Reaches, to_block}
+use Rattle.fo_ports.specs.Blocks.{blank}
+use Rattle.fo_ports.specs.State.{State, KeepsNumbers, AddsNoWait, none}
 
 -- What stays of a source: the kind, tag and rank of its leaves, the generation of its entry, and the length up to which it can grow.
 pub record Form : Type 0 where
@@ -56,6 +56,10 @@ most_for end n = n / 8192 + n / 2 ^ 21 + 3 * way_for end
 abbrev pub most_to_own : (size i : ℕ) → ℕ
 most_to_own size i = cond (nat_le (8192 * (i + 1)) size) (way_for size) (2 * way_for (8192 * (i + 1)))
 
+-- So many blocks are enough to own leaf i: one less where the source's top is of the current epoch.
+abbrev pub IsEnough : (current : Type 0) → (size i blocks : ℕ) → Type 0
+IsEnough current size i blocks = (most_to_own size i ≤ blocks) ⊎ (current × (most_to_own size i ≤ blocks + 1))
+
 -- how many slots are cleared at most where a source grows: those past its end in the blocks of pointers on the way to its last leaf
 abbrev pub most_cleared : (size end : ℕ) → ℕ
 most_cleared size end = cond (nat_le end size) 0 (409 * depth_for size)
@@ -65,78 +69,126 @@ most_cleared size end = cond (nat_le end size) 0 (409 * depth_for size)
 abbrev pub Finds : (tells : Type 0) (needed left : ℕ) (prepared : Type 0) → Type 0
 Finds tells needed left prepared = tells ⊎ ((needed ≤ left) ⊎ prepared)
 
--- A block stays in place: its slots where it is no leaf of entries, how long it is, its label and its places stay, and no removal
--- is to close it that was not.
-pub record StaysInPlace {S : Type 0} (now : S → Image) (label : S → ℕ → Label) (stands : S → ℕ → Place → Type 0) (covered : S → ℕ → Type 0) (old new : S) (at : ℕ) : Type 0 where
-  pub same_slots : ((label old at).kind ≡ Dir 0) ⊎ ((j : ℕ) → (now new at).slot j ≡ (now old at).slot j)
-  pub same_length : length ((now new at).bytes) ≡ length ((now old at).bytes)
-  pub same_label : label new at ≡ label old at
-  pub same_places : (p : Place) → stands old at p → stands new at p
-  pub uncovered : (covered old at → ⊥) → covered new at → ⊥
+-- A block stays in place: its slots where it is no leaf of entries, how long it is, its label and its places stay, it hangs from block 1
+-- where it did, no removal is to close it that was not, and nothing more was made to come in its place.
+pub record StaysInPlace (old new : State) (at : ℕ) : Type 0 where
+  pub same_slots : ((old.label at).kind ≡ Dir 0) ⊎ ((j : ℕ) → (new.now at).slot j ≡ (old.now at).slot j)
+  pub same_length : length ((new.now at).bytes) ≡ length ((old.now at).bytes)
+  pub same_label : new.label at ≡ old.label at
+  pub same_places : (p : Place) → old.stands at p → new.stands at p
+  pub in_tree : Reaches old.now (to_block 1) at → Reaches new.now (to_block 1) at
+  pub uncovered : (old.covered at → ⊥) → new.covered at → ⊥
+  pub instead : (b : ℕ) → new.instead b at → old.instead b at
 
 -- A block that may be prepared: pinned, live, and with a label of this tag. Over a device that tells nothing, too, two sources of two
 -- tags have none in common.
-pub record IsReady {S : Type 0} (label : S → ℕ → Label) (pinned : S → ℕ → Type 0) (tag : ℕ) (on : S) (at : ℕ) : Type 0 where
-  pub is_pinned : pinned on at
-  pub live : (label on at).state ≡ Live
-  pub tagged : (label on at).tag ≡ tag
+pub record IsReady (tag : ℕ) (on : State) (at : ℕ) : Type 0 where
+  pub is_pinned : on.pinned at
+  pub live : (on.label at).state ≡ Live
+  pub tagged : (on.label at).tag ≡ tag
 
 -- A block stays prepared: it stays pinned, and its label, its slots where it is no leaf of entries, and how long it is stay.
-pub record StaysReady {S : Type 0} (now : S → Image) (label : S → ℕ → Label) (pinned : S → ℕ → Type 0) (old new : S) (at : ℕ) : Type 0 where
-  pub is_pinned : pinned new at
-  pub same_label : label new at ≡ label old at
-  pub same_slots : ((label old at).kind ≡ Dir 0) ⊎ ((j : ℕ) → (now new at).slot j ≡ (now old at).slot j)
-  pub same_length : length ((now new at).bytes) ≡ length ((now old at).bytes)
+pub record StaysReady (old new : State) (at : ℕ) : Type 0 where
+  pub is_pinned : new.pinned at
+  pub same_label : new.label at ≡ old.label at
+  pub same_slots : ((old.label at).kind ≡ Dir 0) ⊎ ((j : ℕ) → (new.now at).slot j ≡ (old.now at).slot j)
+  pub same_length : length ((new.now at).bytes) ≡ length ((old.now at).bytes)
 
 -- A block keeps its bytes, or is a leaf that ends within this length.
 abbrev pub KeepsBytes : (ℕ → Option ℕ) → ℕ → Image → Image → ℕ → Type 0
 KeepsBytes leaves size old new at = ((new at).bytes ≡ (old at).bytes) ⊎ ((i : ℕ) × (leaves i ≡ Some at) × (8192 * (i + 1) ≤ size))
 
--- A call only looks: what memory is known to have stays, no image is added, and marks stay.
-pub record Looks {S : Type 0} (now : S → Image) (label : S → ℕ → Label) (stands : S → ℕ → Place → Type 0) (loose : S → ℕ → Type 0) (may_leave : S → Image → Type 0) (moments : S → ℕ) (left : S → ℕ → Image → Type 0) (tells : S → Type 0) (sealed_at : S → ℕ → Type 0) (spare room next : S → ℕ) (grants : S → Type 0) (pinned : S → ℕ → Type 0) (waits : S → ℕ → ℕ → ℕ → Type 0) (clearing : S → ℕ → ℕ → Type 0) (covered : S → ℕ → Type 0) (keeps : S → S → Type 0) (old new : S) : Type 0 where
-  pub memory : tells old → SameImage (now new) (now old)
-  pub known : (b : ℕ) → pinned old b → SameContent (now new b) (now old b)
-  pub adds : AddsNothing (may_leave old) (may_leave new)
-  pub passes : Passes (may_leave old) (moments old) (moments new) (left old) (left new)
-  pub order : (a b j : ℕ) → (waits old a b j → waits new a b j) × (clearing new b j → clearing old b j)
-  pub covers : (b : ℕ) → covered new b → covered old b
-  pub blocks : (b : ℕ) → (label new b ≡ label old b) × (pinned old b → pinned new b) × (sealed_at old b → sealed_at new b)
-  pub places : (b : ℕ) (p : Place) → (stands old b p → stands new b p) × (loose old b → loose new b)
-  pub numbers : (spare new ≡ spare old) × (room new ≡ room old) × (next new ≡ next old) × (grants old → grants new)
-  pub stays : keeps old new
-
 -- A block was given out: it was not live, and is.
-abbrev pub Made : (ℕ → Label) → (ℕ → Label) → ℕ → Type 0
-Made old new b = ((old b).state ≢ Live) × ((new b).state ≡ Live)
+abbrev pub Made : (old new : State) → ℕ → Type 0
+Made old new b = ((old.label b).state ≢ Live) × ((new.label b).state ≡ Live)
 
 -- A block that was given out, or one of these that is of the current epoch and has a label of this tag.
-abbrev pub Touched : (ℕ → Label) → (ℕ → Label) → (high tag : ℕ) → (ℕ → Type 0) → ℕ → Type 0
-Touched old new high tag mine b = Made old new b ⊎ (mine b × ((old b).epoch ≡ high) × ((old b).tag ≡ tag))
+abbrev pub Touched : (old new : State) → (tag : ℕ) → (ℕ → Type 0) → ℕ → Type 0
+Touched old new tag mine b = Made old new b ⊎ (mine b × ((old.label b).epoch ≡ old.high) × ((old.label b).tag ≡ tag))
 
--- An image is one of before, but for these blocks.
-pub record Beside (touched : ℕ → Type 0) (images : Image → Type 0) (image : Image) : Type 0 where
+-- An image is one of before, but for these blocks; each slot of a block that was there before is that of the image of before, or is what
+-- memory has now; and no path from a top led to a block that was given out.
+pub record Undone (touched : ℕ → Type 0) (old new : State) (image : Image) : Type 0 where
   pub other : Image
-  pub was : images other
+  pub was : old.may_leave other
   pub same : (b : ℕ) → (touched b → ⊥) → SameContent (image b) (other b)
+  pub slots : (b j : ℕ) → (Made old new b → ⊥) → ((image b).slot j ≡ (other b).slot j) ⊎ ((image b).slot j ≡ (new.now b).slot j)
+  pub apart : (t b : ℕ) → old.tops t → Made old new b → Reaches other (to_block t) b → ⊥
 
--- An image is one of before, but for these blocks, in which no path from a top leads to a block that was given out.
-pub record Undone (touched made tops : ℕ → Type 0) (images : Image → Type 0) (image : Image) : Type 0 where
-  pub beside : Beside touched images image
-  pub apart : (t b : ℕ) → tops t → made b → Reaches beside.other (to_block t) b → ⊥
+-- A block that was given out: it hung nowhere, is of the current epoch and of this tag, pinned, and in every image what memory has.
+pub record IsMade (tag : ℕ) (old new : State) (b : ℕ) : Type 0 where
+  pub was : (b ≢ 1) × (old.tells → (old.tops b → ⊥) × ((p : Place) → old.stands b p → ⊥))
+  pub labelled : ((new.label b).epoch ≡ old.high) × ((new.label b).tag ≡ tag)
+  pub is_one : new.is_block b
+  pub is_pinned : new.pinned b
+  pub is_fresh : new.fresh b
+
+-- A block that was not given out keeps its label and its marks, and whether it is apart.
+pub record StaysMarked (old new : State) (b : ℕ) : Type 0 where
+  pub label : new.label b ≡ old.label b
+  pub marks : (old.pinned b → new.pinned b) × (old.sealed b → new.sealed b) × (old.fresh b → new.fresh b)
+  pub apart : new.apart b ↔ old.apart b
 
 -- A call on a source with these blocks changes blocks that it gives out, and those of its own that are inner ones, of the current
--- epoch and of its tag, in memory and in every image; all else stays. What is given out stood at no place, and only blocks of the source are to be
--- closed.
-pub record Changes {S : Type 0} (now : S → Image) (label : S → ℕ → Label) (stands : S → ℕ → Place → Type 0) (loose : S → ℕ → Type 0) (high : S → ℕ) (tops is_block : S → ℕ → Type 0) (may_leave : S → Image → Type 0) (moments : S → ℕ) (left : S → ℕ → Image → Type 0) (sealed_at : S → ℕ → Type 0) (pins_left room next : S → ℕ) (grants : S → Type 0) (pinned : S → ℕ → Type 0) (waits : S → ℕ → ℕ → ℕ → Type 0) (clearing : S → ℕ → ℕ → Type 0) (covered : S → ℕ → Type 0) (keeps : S → S → Type 0) (tag : ℕ) (mine inner : ℕ → Type 0) (old new : S) : Type 0 where
-  pub memory : (b : ℕ) → (Touched (label old) (label new) (high old) tag inner b → ⊥) → SameContent (now new b) (now old b)
-  pub images : (image : Image) → may_leave new image → Undone (Touched (label old) (label new) (high old) tag inner) (Made (label old) (label new)) (tops old) (may_leave old) image
-  pub passes : Passes (Beside (Touched (label old) (label new) (high old) tag inner) (may_leave old)) (moments old) (moments new) (left old) (left new)
-  pub labels : (b : ℕ) → (Made (label old) (label new) b → ⊥) → label new b ≡ label old b
-  pub fresh : (b : ℕ) → Made (label old) (label new) b → ((p : Place) → stands old b p → ⊥) × (tops old b → ⊥) × (b ≢ 1)
-  pub made : (b : ℕ) → Made (label old) (label new) b → ((label new b).epoch ≡ high old) × ((label new b).tag ≡ tag) × is_block new b × pinned new b
-  pub places : (b : ℕ) (p : Place) → (Made (label old) (label new) b → ⊥) → (mine b → ⊥) → (covered new b → ⊥) → (stands old b p → stands new b p) × (loose old b → loose new b)
-  pub covers : (b : ℕ) → covered new b → covered old b ⊎ mine b
-  pub marks : (b : ℕ) → (pinned old b → pinned new b) × ((Made (label old) (label new) b → ⊥) → sealed_at old b → sealed_at new b)
-  pub order : (a b j : ℕ) → ((Made (label old) (label new) a → ⊥) → (Made (label old) (label new) b → ⊥) → waits old a b j → waits new a b j) × (clearing new b j → (Made (label old) (label new) b → ⊥) × clearing old b j)
-  pub numbers : (pins_left new ≡ pins_left old) × (room new ≤ room old) × (next new ≡ next old) × (grants old → grants new)
-  pub stays : keeps old new
+-- epoch and of its tag, in memory and in every image; all else stays. Only blocks of the source are to be closed, and all are that leave
+-- the tree. No device call is made.
+pub record Changes (tag : ℕ) (mine inner : ℕ → Type 0) (old new : State) : Type 0 where
+  pub memory : (b : ℕ) → (Touched old new tag inner b → ⊥) → SameContent (new.now b) (old.now b)
+  pub images : (image : Image) → new.may_leave image → Undone (Touched old new tag inner) old new image
+  pub made : (b : ℕ) → Made old new b → IsMade tag old new b
+  pub others : (b : ℕ) → (Made old new b → ⊥) → StaysMarked old new b
+  pub places : old.tells → (b : ℕ) (p : Place) → (Made old new b → ⊥) → (mine b → ⊥) → (new.covered b → ⊥) → old.stands b p → new.stands b p
+  pub instead : (b x : ℕ) → new.instead b x → old.instead b x ⊎ (Made old new b × mine x)
+  pub covers : (b : ℕ) → (old.covered b → new.covered b) × ((old.covered b → ⊥) → (mine b → ⊥) → new.covered b → ⊥)
+  pub leaves : old.tells → (b : ℕ) → Reaches old.now (to_block 1) b → (Reaches new.now (to_block 1) b → ⊥) → new.covered b
+  pub in_tree : old.tells → (b : ℕ) → (mine b → ⊥) → Reaches old.now (to_block 1) b → Reaches new.now (to_block 1) b
+  pub waits : (a on j : ℕ) → (Made old new a → ⊥) → (Made old new on → ⊥) → old.waits a on j → new.waits a on j
+  pub no_wait : AddsNoWait none old new
+  pub clearing : (b j : ℕ) → new.clearing b j → (Made old new b → ⊥) × old.clearing b j
+  pub dirty : (b : ℕ) → new.dirty b → old.dirty b ⊎ (Touched old new tag mine b ⊎ ((x : ℕ) × Made old new x × (b ≡ new.label_block x)))
+  pub moments : new.moments ≡ old.moments
+  pub left : (k : ℕ) (image : Image) → new.left k image → old.left k image
+  pub pins : new.pins_left ≡ old.pins_left
+  pub numbers : KeepsNumbers old new
+
+-- What a source has over blocks.
+pub record Leaves : Type 1 where
+  -- the address of each leaf, None where no local leaf stands; and the bytes of each leaf that is named by its score, as they are held
+  pub at : ℕ → Option ℕ
+  pub held : ℕ → Option (List ℕ)
+  -- a block of the source is named by this score, under this kind
+  pub named : Score → ℕ → Type 0
+  -- the bytes that memory reads through the source
+  pub bytes : List ℕ
+  -- the source's blocks: its leaves and what leads to them
+  pub owns : ℕ → Type 0
+  -- so many bytes from an offset on are prepared: the blocks on the way to them are pinned
+  pub prepared : ℕ → ℕ → Type 0
+  -- the block from which all others hang is of the current epoch, so owning a leaf takes one block less
+  pub current : Type 0
+
+-- A source was only looked at, over a device that tells or not.
+pub record SameLeaves (tells : Type 0) (old new : Leaves) : Type 0 where
+  pub bytes : tells → new.bytes ≡ old.bytes
+  pub leaves : tells → (i : ℕ) → (new.at i ≡ old.at i) × (new.held i ≡ old.held i)
+  pub owns : tells → (b : ℕ) → new.owns b ↔ old.owns b
+  pub still : (o n : ℕ) → old.prepared o n → new.prepared o n
+  pub current : old.current → new.current
+
+-- A source was changed: it has its old blocks and all that were given out, or fewer of the old ones; what was prepared stays so.
+pub record Grows (old_on new_on : State) (old new : Leaves) : Type 0 where
+  pub owns : (b : ℕ) → (new.owns b → old.owns b ⊎ Made old_on new_on b) × (Made old_on new_on b → new.owns b)
+  pub still : (o n : ℕ) → old.prepared o n → new.prepared o n
+
+-- Leaf i is owned: at this address, of the current epoch, pinned and whole; it is what was there, or was given out.
+pub record Owned (form : Form) (i at : ℕ) (old_on new_on : State) (old new : Leaves) : Type 0 where
+  pub is : new.at i ≡ Some at
+  pub others : old_on.tells → (j : ℕ) → j ≢ i → (new.at j ≡ old.at j) × (new.held j ≡ old.held j)
+  pub content : MatchOption (old.at i) (MatchOption (old.held i) (SameContent (new_on.now at) (blank form.kind)) (λ bytes. (new_on.now at).bytes ≡ bytes)) (λ b. SameContent (new_on.now at) (old_on.now b))
+  pub copied : MatchOption (old.at i) (Made old_on new_on at) (λ b. ((b ≡ at) × ((old_on.label b).epoch ≡ old_on.high)) ⊎ (((old_on.label b).epoch < old_on.high) × Made old_on new_on at))
+  pub label : ((new_on.label at).state ≡ Live) × ((new_on.label at).kind ≡ form.kind) × ((new_on.label at).tag ≡ form.tag) × ((new_on.label at).epoch ≡ new_on.high)
+  pub ready : new.owns at × new_on.pinned at × (length ((new_on.now at).bytes) ≡ 8192)
+
+-- What a source stands on stays in place.
+pub record Undisturbed (leaves : Leaves) (size : ℕ) (old new : State) : Type 0 where
+  pub each : (at : ℕ) → leaves.owns at → StaysInPlace old new at × KeepsBytes leaves.at size old.now new.now at

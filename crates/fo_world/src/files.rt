@@ -188,6 +188,9 @@ pub trait FileOps {
 
     ghost keeps_serves: { (a b : Self) (v : View) → keeps a b → serves a v → serves b v };
 
+    /// What only looks leaves the room as it was.
+    ghost keeps_room: { (a b : Self) (n : ℕ) → keeps a b → has_room a n → has_room b n };
+
     ghost keeps_touches: { (a b : Self) (w : World) → keeps a b → touches a w 0 b };
 
     ghost keeps_then: { (a b c : Self) (w : World) (n : ℕ) → keeps a b → touches b w n c → touches a w n c };

@@ -1,0 +1,309 @@
+-- What blocks are at one moment, and what each kind of call leaves as it was.
+use Rattle.std.specs.Prelude.{◌≡◌, ◌≢◌, ◌⊎◌, ◌↔◌, ◌+◌, ◌*◌, ◌<◌, ◌≤◌, ℕ, List, Option}
+use Rattle.fo_image.specs.declared.types.Score.{Score}
+use Rattle.fo_image.specs.declared.types.Label.{Label}
+use Rattle.fo_image.specs.declared.types.State.TheVariants.{Live}
+use Rattle.fo_image.specs.declared.types.Pointer.{Pointer}
+use Rattle.fo_image.specs.declared.types.Pointer.TheVariants.{Local}
+use Rattle.fo_crash.specs.declared.slot.Slot.{Slot}
+use Rattle.fo_crash.specs.declared.place.Place.{Place}
+use Rattle.fo_crash.specs.Images.{Content, Image, SameContent, SameImage, Reaches, target, walk, to_block}
+use Rattle.fo_crash.specs.Steps.{AddsNothing, AddsBlock, Passes, PutsBlock, Brings, Through, Fills, cleared}
+use Rattle.fo_crash.specs.Places.{Fits, place_below}
+use Rattle.fo_crash.specs.Names.{IsInUse, SameUse}
+use Rattle.fo_ports.specs.Blocks.{KeepsParent, IsInner, dropped, zeros}
+
+pub record State : Type 1 where
+  -- what each block holds in memory: block 1 is the super block, whose slot 0 leads to the active root block
+  pub now : Image
+  -- the label of each block in memory
+  pub label : ℕ → Label
+  -- the place at which a block stands in some image, or was made for
+  pub stands : ℕ → Place → Type 0
+  -- a block that was made and put into no slot yet; and the block in whose place it was made to come
+  pub apart : ℕ → Type 0
+  pub instead : ℕ → ℕ → Type 0
+  -- the epoch of the active tree (blocks of older epochs are never changed), and its root block
+  pub high : ℕ
+  pub root : ℕ
+  -- block 1, from which the active tree hangs, and the root blocks of the snapshots that are kept
+  pub tops : ℕ → Type 0
+  -- the addresses of data blocks
+  pub is_block : ℕ → Type 0
+  -- what is held under each score and kind
+  pub held : Score → ℕ → Option (List ℕ)
+  -- the next file number, whether it was granted, and the limit of file numbers that a super block says
+  pub next : ℕ
+  pub grants : Type 0
+  pub limit : Content → ℕ
+  -- the device tells what it holds
+  pub tells : Type 0
+  -- every image that a crash may leave, now or after whatever is flushed later
+  pub may_leave : Image → Type 0
+  -- how many moments have passed, and what images a crash could have left at each of them
+  pub moments : ℕ
+  pub left : ℕ → Image → Type 0
+  -- the super block that was last tried, while it is not known to be settled or overruled
+  pub doubt : Content → Type 0
+  -- blocks that are in every image what memory has: as far as is known, and because they were given out and none was written since
+  pub sure : ℕ → Type 0
+  pub fresh : ℕ → Type 0
+  -- blocks that hung from block 1 when all was settled
+  pub sealed : ℕ → Type 0
+  -- how many blocks may still be made, how many more may be pinned by `get`, and how many removals and waits are left
+  pub spare : ℕ
+  pub pins_left : ℕ
+  pub room : ℕ
+  pub pinned : ℕ → Type 0
+  -- how many blocks would be usable with all settled and no removal left
+  pub usable : ℕ
+  -- the block that holds the label of a data block; and which of data blocks and blocks of labels are to be written
+  pub label_block : ℕ → ℕ
+  pub dirty : ℕ → Type 0
+  -- how many removals are queued
+  pub queued : ℕ
+  -- what is put into this leaf from now on is in an image only with this entry in use as memory has it
+  pub waits : ℕ → ℕ → ℕ → Type 0
+  -- this slot is cleared when the leaf that it waits for is settled
+  pub clearing : ℕ → ℕ → Type 0
+  -- a removal is to close this block
+  pub covered : ℕ → Type 0
+  -- how many faults the main device and the arena's had, up to 2^64 - 1
+  pub faults : ℕ
+  pub arena_faults : ℕ
+
+-- What every call keeps.
+pub record KeepsAll (old new : State) : Type 0 where
+  pub same_high : new.high ≡ old.high
+  pub same_root : new.root ≡ old.root
+  pub same_tops : (t : ℕ) → new.tops t ↔ old.tops t
+  pub same_blocks : (b : ℕ) → new.is_block b ↔ old.is_block b
+  pub same_held : (score : Score) (kind : ℕ) → new.held score kind ≡ old.held score kind
+  pub same_limit : (c : Content) → new.limit c ≡ old.limit c
+  pub same_label_blocks : (b : ℕ) → new.label_block b ≡ old.label_block b
+  pub still_tells : new.tells ↔ old.tells
+  pub more_faults : old.faults ≤ new.faults
+  pub more_arena_faults : old.arena_faults ≤ new.arena_faults
+
+-- no block
+abbrev pub none : ℕ → Type 0
+none b = ⊥
+
+-- Blocks stay as they are, but for those that a call gives out (`made`), and but for the places of those that it puts (`put`).
+pub record Stays (made put : ℕ → Type 0) (old new : State) : Type 0 where
+  pub labels : (b : ℕ) → (made b → ⊥) → new.label b ≡ old.label b
+  pub marks : (b : ℕ) → (made b → ⊥) → (old.pinned b → new.pinned b) × (old.sealed b → new.sealed b) × (old.fresh b → new.fresh b)
+  pub places : old.tells → (b : ℕ) (p : Place) → (made b → ⊥) → (put b → ⊥) → (new.covered b → ⊥) → old.stands b p → new.stands b p
+  pub apart : (b : ℕ) → (made b → ⊥) → (put b → ⊥) → new.apart b ↔ old.apart b
+  pub instead : (b x : ℕ) → (made b → ⊥) → (put b → ⊥) → new.instead b x ↔ old.instead b x
+  pub waits : (a on j : ℕ) → (made a → ⊥) → (made on → ⊥) → (put on → ⊥) → old.waits a on j → new.waits a on j
+
+-- Nothing begins to wait, but what these put.
+pub record AddsNoWait (but : ℕ → Type 0) (old new : State) : Type 0 where
+  pub each : (a on j : ℕ) → (but a → ⊥) → new.waits a on j → old.waits a on j
+
+-- No slot begins to wait to be cleared.
+pub record KeepsOrder (made : ℕ → Type 0) (old new : State) : Type 0 where
+  pub clearing : (b j : ℕ) → new.clearing b j → (made b → ⊥) × old.clearing b j
+
+-- The same blocks are to be closed.
+pub record KeepsCovered (old new : State) : Type 0 where
+  pub covered : (b : ℕ) → new.covered b ↔ old.covered b
+
+-- A call makes no device call, and uses so many blocks and so many removals or waits.
+pub record Uses (blocks removals : ℕ) (old new : State) : Type 0 where
+  pub spare : new.spare + blocks ≡ old.spare
+  pub room : new.room + removals ≡ old.room
+  pub pins : new.pins_left ≡ old.pins_left
+  pub moments : new.moments ≡ old.moments
+  pub left : (k : ℕ) (image : Image) → new.left k image → old.left k image
+
+-- File numbers stay.
+pub record KeepsNumbers (old new : State) : Type 0 where
+  pub next : new.next ≡ old.next
+  pub grants : old.grants → new.grants
+
+-- A change of one block: beside what the call says of memory, images and what is to be closed, all stays.
+pub record Frame (here put : ℕ → Type 0) (removals : ℕ) (old new : State) : Type 0 where
+  pub stays : Stays none put old new
+  pub dirty : (b : ℕ) → new.dirty b → old.dirty b ⊎ here b
+  pub uses : Uses 0 removals old new
+  pub numbers : KeepsNumbers old new
+
+-- A change of one block, or of none, after which no other slot waits to be cleared and the same blocks are to be closed.
+pub record Calm (here : ℕ → Type 0) (removals : ℕ) (old new : State) : Type 0 where
+  pub frame : Frame here none removals old new
+  pub order : KeepsOrder none old new
+  pub covered : KeepsCovered old new
+
+-- A block was given out with this content and label, for a place: it hung nowhere, no image leads to it, it is pinned, and fresh.
+pub record Gives (at : ℕ) (c : Content) (l : Label) (old new : State) : Type 0 where
+  pub memory : PutsBlock at c old.now new.now
+  pub images : AddsBlock old.tops at c old.may_leave new.may_leave
+  pub label : new.label at ≡ l
+  pub was : ((old.label at).state ≢ Live) × (at ≢ 1) × (old.covered at → ⊥) × (old.tells → (old.tops at → ⊥) × ((p : Place) → old.stands at p → ⊥))
+  pub is : new.is_block at × new.pinned at × new.fresh at × new.apart at × (new.covered at → ⊥) × ((a j : ℕ) → new.waits a at j → ⊥)
+  pub stays : Stays (λ b. b ≡ at) none old new
+  pub order : KeepsOrder (λ b. b ≡ at) old new
+  pub covered : (b : ℕ) → b ≢ at → new.covered b ↔ old.covered b
+  pub no_wait : AddsNoWait none old new
+  pub dirty : (b : ℕ) → new.dirty b → old.dirty b ⊎ ((b ≡ at) ⊎ (b ≡ new.label_block at))
+  pub uses : Uses 1 0 old new
+  pub numbers : KeepsNumbers old new
+
+-- A call only looks: what memory is known to have stays, no image is added, and marks stay.
+pub record Looks (old new : State) : Type 0 where
+  pub memory : old.tells → SameImage new.now old.now
+  pub known : (b : ℕ) → old.pinned b → SameContent (new.now b) (old.now b)
+  pub images : AddsNothing old.may_leave new.may_leave
+  pub passes : Passes old.tops old.may_leave old.moments new.moments old.left new.left
+  pub stays : Stays none none old new
+  pub order : KeepsOrder none old new
+  pub covered : KeepsCovered old new
+  pub no_wait : AddsNoWait none old new
+  pub dirty : (b : ℕ) → new.dirty b → old.dirty b
+  pub room : (new.spare ≡ old.spare) × (new.room ≡ old.room)
+  pub numbers : KeepsNumbers old new
+
+-- A call for a file number leaves all but block 1 as it is.
+pub record Numbers (old new : State) : Type 0 where
+  pub label : (b : ℕ) → new.label b ≡ old.label b
+  pub marks : (b : ℕ) → (old.pinned b → new.pinned b) × (old.sealed b → new.sealed b)
+  pub places : old.tells → (b : ℕ) (p : Place) → old.stands b p → new.stands b p
+  pub apart : (b : ℕ) → new.apart b ↔ old.apart b
+  pub instead : (b x : ℕ) → new.instead b x ↔ old.instead b x
+  pub waits : (a on j : ℕ) → old.waits a on j → new.waits a on j
+  pub order : KeepsOrder none old new
+  pub covered : KeepsCovered old new
+  pub no_wait : AddsNoWait none old new
+  pub dirty : (b : ℕ) → new.dirty b → old.dirty b
+  pub room : (new.spare ≡ old.spare) × (new.pins_left ≡ old.pins_left) × (new.room ≡ old.room) × (new.next ≡ old.next)
+
+-- a block of pointers
+abbrev pub IsPointers : State → ℕ → Type 0
+IsPointers s b = IsInner (s.label b).kind
+
+-- A block may be closed by what is queued and waits: a removal is to close it, or it hangs from a slot that waits to be cleared.
+abbrev pub IsDoomed : State → ℕ → Type 0
+IsDoomed s b = s.covered b ⊎ ((at : ℕ) × (j : ℕ) × s.clearing at j × Reaches s.now ((s.now at).slot j) b)
+
+-- A block that is not doomed stays, but for slots that waited.
+pub record StaysUndoomed (old new : State) (b : ℕ) : Type 0 where
+  pub bytes : (new.now b).bytes ≡ (old.now b).bytes
+  pub slots : (j : ℕ) → ((new.now b).slot j ≡ (old.now b).slot j) ⊎ (old.clearing b j × ((new.now b).slot j ≡ cleared ((old.now b).slot j)))
+  pub label : new.label b ≡ old.label b
+  pub sealed : old.sealed b → new.sealed b
+  pub uncovered : new.covered b → ⊥
+  pub places : (p : Place) → old.stands b p → new.stands b p
+
+-- a slot waited, and was cleared
+abbrev pub WasCleared : (old new : State) → ℕ → ℕ → Type 0
+WasCleared old new at j = old.clearing at j × (new.clearing at j → ⊥) × ((new.now at).slot j ≡ cleared ((old.now at).slot j))
+
+-- Flushing, settling and closing: no image is added, slots that waited may be cleared, and blocks that were doomed may be closed. What
+-- hung from a slot that was cleared, through blocks of pointers, and hangs from block 1 no more is to be closed, until it is closed.
+pub record Rests (old new : State) : Type 0 where
+  pub blocks : old.tells → (b : ℕ) → (IsDoomed old b → ⊥) → StaysUndoomed old new b
+  pub images : AddsNothing old.may_leave new.may_leave
+  pub passes : Passes old.tops old.may_leave old.moments new.moments old.left new.left
+  pub fills : old.tells → Fills (WasCleared old new) old.now old.may_leave new.may_leave
+  pub order : (b j : ℕ) → new.clearing b j → old.clearing b j
+  pub no_wait : AddsNoWait none old new
+  pub dirty : (b : ℕ) → new.dirty b → old.dirty b ⊎ (((j : ℕ) × old.clearing b j) ⊎ ((x : ℕ) × (new.label x ≢ old.label x) × (b ≡ old.label_block x)))
+  pub closes : old.tells → (b : ℕ) → old.covered b → new.covered b ⊎ ((new.label b).state ≢ Live)
+  pub leaves : old.tells → (at j b : ℕ) → WasCleared old new at j → Through (IsPointers old) old.now ((old.now at).slot j) b → Reaches old.now (to_block 1) b → (Reaches new.now (to_block 1) b → ⊥) → new.covered b ⊎ ((new.label b).state ≢ Live)
+  pub apart : (b : ℕ) → new.apart b ↔ old.apart b
+  pub instead : (b x : ℕ) → new.instead b x ↔ old.instead b x
+  pub numbers : KeepsNumbers old new
+
+-- where a slot led, below the levels that its source loses
+abbrev pub led_to : Image → Slot → Slot → Pointer
+led_to now old new = target (walk now old (zeros (dropped old new)))
+
+-- A block that was made, put nowhere yet, and not to come in the place of another; and one of which no slot leads on, so that the index
+-- of its place is still free.
+abbrev pub IsNew : State → ℕ → Type 0
+IsNew s b = s.apart b × ((x : ℕ) → s.instead b x → ⊥)
+
+abbrev pub IsLoose : State → ℕ → Type 0
+IsLoose s b = IsNew s b × ((j x : ℕ) → target ((s.now b).slot j) ≢ Local x)
+
+-- slot 0 of a new block of pointers, which is raised over what is put there
+abbrev pub IsRaised : State → ℕ → ℕ → Type 0
+IsRaised s at i = IsLoose s at × IsInner (s.label at).kind × (i ≡ 0)
+
+-- What may be put into a slot, so that each block is found at one spot: what hangs there already, below the levels that go; what was
+-- made to come in the place of that; and where nothing hangs a loose block, the top of a new source, and what a new top is raised over.
+abbrev pub Comes : State → (at i : ℕ) (old new : Slot) → ℕ → Type 0
+Comes s at i old new b = (led_to s.now old new ≡ Local b) ⊎ (((x : ℕ) × s.instead b x × (led_to s.now old new ≡ Local x)) ⊎ (((x : ℕ) → target old ≢ Local x) × IsFirst))
+  where
+    IsFirst : Type 0
+    IsFirst = IsLoose s b ⊎ ((IsNew s b × (IsInner (s.label at).kind → ⊥)) ⊎ (IsRaised s at i × (s.apart b ⊎ Reaches s.now (to_block 1) b)))
+
+-- Nothing that leaves hangs below a block that was made to come in its place and comes not with this slot; and no slot of what leaves
+-- waits to be cleared.
+pub record LeavesNone (s : State) (old new : Slot) : Type 0 where
+  pub each : (y x : ℕ) → s.instead y x → Reaches s.now old x → Reaches s.now new x ⊎ Reaches s.now new y
+  pub still : (b j : ℕ) → s.clearing b j → Reaches s.now old b → Reaches s.now new b
+
+-- a block hangs from block 1 in memory, or from a block that was made and put into no slot yet
+abbrev pub IsHeld : State → ℕ → Type 0
+IsHeld s at = Reaches s.now (to_block 1) at ⊎ ((w : ℕ) × s.apart w × Reaches s.now (to_block w) at)
+
+-- A slot may be put, where the device tells: what it brings is live and not to be closed, it fits its place and is lower, an older
+-- block keeps its parent, it comes to its one spot, the block that it is put into is in the tree or made and not to be closed, and no
+-- block that was made is let go.
+pub record MayPutSlot (s : State) (at i : ℕ) (slot : Slot) : Type 0 where
+  pub brings : Brings s.now slot (λ b. ((s.label b).state ≡ Live) × ((s.label b).epoch ≤ s.high) × (s.covered b → ⊥))
+  pub fits : Fits s.stands (IsLoose s) at i slot
+  pub lower : (b : ℕ) (p : Place) → s.stands at p → target slot ≡ Local b → (place_below p i slot).rank < p.rank
+  pub parent : KeepsParent s.now ((s.now at).slot i) slot (λ b. (s.label b).epoch < s.high)
+  pub comes : (b : ℕ) → target slot ≡ Local b → Comes s at i ((s.now at).slot i) slot b
+  pub leaves : LeavesNone s ((s.now at).slot i) slot
+  pub uncovered : s.covered at → ⊥
+  pub first : IsInner (s.label at).kind → i ≡ 0 → (x : ℕ) → target ((s.now at).slot i) ≡ Local x → (b : ℕ) × (target slot ≡ Local b)
+  pub holder : IsHeld s at
+  pub keeps : (c : ℕ) → target ((s.now at).slot i) ≡ Local c → (target slot ≡ Local c) ⊎ Reaches s.now (to_block 1) c
+
+-- A slot may be cleared, where the device tells.
+pub record MayRemoveSlot (s : State) (at i : ℕ) : Type 0 where
+  pub leaves : LeavesNone s ((s.now at).slot i) (cleared ((s.now at).slot i))
+  pub uncovered : s.covered at → ⊥
+  pub first : IsInner (s.label at).kind → i ≢ 0
+  pub holder : IsHeld s at
+  pub keeps : (c : ℕ) → target ((s.now at).slot i) ≡ Local c → Reaches s.now (to_block 1) c
+
+-- entry j is the second of the pair whose first is i
+abbrev pub IsSecondOf : ℕ → ℕ → Type 0
+IsSecondOf i j = (k : ℕ) × (i ≡ 2 * k) × (j ≡ 2 * k + 1)
+
+-- What was put hangs now at its place, and is apart no more; a new top that was raised over a block comes in its place.
+pub record Hangs (at i : ℕ) (slot : Slot) (old new : State) : Type 0 where
+  pub place : old.tells → (b : ℕ) (p : Place) → old.stands at p → target slot ≡ Local b → new.stands b (place_below p i slot)
+  pub put : (b : ℕ) → target slot ≡ Local b → (new.apart b → ⊥) × ((x : ℕ) → new.instead b x → ⊥)
+  pub at_place : old.tells → (p : Place) → (new.covered at → ⊥) → old.stands at p → new.stands at p
+  pub at_apart : target slot ≢ Local at → new.apart at ↔ old.apart at
+  pub raised : (x : ℕ) → new.instead at x → old.instead at x ⊎ (IsRaised old at i × ((b : ℕ) × (target slot ≡ Local b) × (((b ≡ x) × (old.apart b → ⊥)) ⊎ old.instead b x)))
+  pub raises : (b x : ℕ) → IsRaised old at i → target slot ≡ Local b → (old.instead b x ⊎ ((b ≡ x) × (old.apart b → ⊥))) → new.instead at x
+  pub still : (x : ℕ) → old.instead at x → new.instead at x
+  pub waits : (a on j : ℕ) → (on ≢ at) ⊎ (((j ≢ i) × (IsSecondOf i j → ⊥)) ⊎ SameUse slot ((old.now at).slot i)) → old.waits a on j → new.waits a on j
+
+-- An entry that is waited for is in use, or is the second of a pair whose first is.
+abbrev pub IsPairUsed : Image → ℕ → ℕ → Type 0
+IsPairUsed now on j = ((g : ℕ) × IsInUse ((now on).slot j) g) ⊎ ((k : ℕ) × (j ≡ 2 * k + 1) × ((g : ℕ) × IsInUse ((now on).slot (2 * k)) g))
+
+-- A leaf waits for both entries of each pair whose first is in use and waits for no clearing.
+pub record WaitsForPairs (at on : ℕ) (old new : State) : Type 0 where
+  pub each : (k g : ℕ) → IsInUse ((old.now on).slot (2 * k)) g → (old.clearing on (2 * k) → ⊥) → new.waits at on (2 * k) × new.waits at on (2 * k + 1)
+
+-- What waits to be cleared is in use in memory, or stands beside an entry that is: so a pair with no entry in use doesn't wait.
+pub record WaitsInUse (s : State) : Type 0 where
+  pub first : (at k : ℕ) → s.clearing at (2 * k + 1) → s.clearing at (2 * k)
+  pub used : (at k : ℕ) → s.clearing at (2 * k) → (g : ℕ) × IsInUse ((s.now at).slot (2 * k)) g
+
+-- A block that nothing uses and nothing will close: live, below no top, and not to be closed.
+pub record IsLost (s : State) (b : ℕ) : Type 0 where
+  pub is_one : s.is_block b
+  pub live : (s.label b).state ≡ Live
+  pub unreached : (t : ℕ) → s.tops t → Reaches s.now (to_block t) b → ⊥
+  pub uncovered : s.covered b → ⊥
