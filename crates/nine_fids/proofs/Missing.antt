@@ -15,7 +15,7 @@ use Rattle.nine_fids.specs.Looking.{MayMiss, IsRefused}
 
 -- ---- causes
 
-none_below : (n : ℕ) → n < 0 → ⊥
+pub none_below : (n : ℕ) → n < 0 → ⊥
 none_below n lt = omega (arith, lt)
 
 -- a call that needs no block fails as one that only looks

@@ -7,7 +7,6 @@ ghost use Rattle.fo_users.specs.Table.{is_line, standard_table};
 ghost use Rattle.fo_users.specs.Found.{table_in};
 ghost use Rattle.nine_fids.specs.declared.refusal.Refusal.TheVariants as refusal;
 ghost use Rattle.nine_fids.specs.Refusing.{told_apart};
-ghost use Rattle.nine_fids.specs.Told.{served};
 ghost use Rattle.nine_fids.specs.Rights as nine;
 ghost use Rattle.nine_fids.specs.Looking.{Looks};
 
@@ -147,11 +146,10 @@ pub fn may_give(users: &Users, user: &Name, info: &Info, gid: &Name) -> bool
         || (users.leader(user, &info.gid) && users.leader(user, gid))
 }
 
-/// Refuses who may not write in the directory that holds a fid's file.
+/// Refuses who may not write, by this table, in the directory that holds a fid's file.
 pub fn may_write_above<F: FileOps>(files: &mut F, users: &Users, fid: &Fid) -> Result<(), Refusal>
-    requires whole { IsTrue (F.whole files.old) }
-    requires users { F.honest files.old → users.now ≡ nine.table_of (served (F.whole files.old) (F.largest files.old)) (F.world files.old) }
-    ensures looks { Looks (⟦<F as Stated>⟧.state files.old) (⟦<F as Stated>⟧.state files.new) (λ e w. nine.may_write_above e w fid.now) result }
+    requires { IsTrue (F.whole files.old) }
+    ensures looks { Looks (⟦<F as Stated>⟧.state files.old) (⟦<F as Stated>⟧.state files.new) (λ e w. nine.may_write_above_by users.now e w fid.now) result }
     ensures keeps { F.keeps files.old files.new }
 {
     let dir = parent_at(files, &fid.place)?;

@@ -21,7 +21,7 @@ use Rattle.nine_fids.specs.Told.{Files, is_dir, appends}
 use Rattle.fo_users.specs.declared.table.User.{User}
 use Rattle.fo_users.specs.Rights.{may}
 use Rattle.nine_fids.specs.Modes.{mode_of, changes, is_more}
-use Rattle.nine_fids.specs.Rights.{table_of, may_write_above}
+use Rattle.nine_fids.specs.Rights.{table_of, may_write_above_by}
 
 -- ---- rights
 
@@ -36,10 +36,14 @@ may_access table user i Execute = may table user i ToExecute
 abbrev pub may_open : List User → List ℕ → Info → Mode → Bool
 may_open table user i m = may_access table user i m.access && (not m.truncate || may table user i ToWrite)
 
--- the rights to open a file so, and for ORCLOSE to write in its directory
-unfoldable pub opening_rights : Files → World → Fid → Info → Mode → Result (Unit {0}) Refusal
-opening_rights e w f i m =
-    refuse_if (not (may_open (table_of e w) f.user i m)) refusal.PermissionDenied (if m.remove then may_write_above e w f else Ok tt)
+-- the rights by a table to open a file so, and for ORCLOSE to write in its directory
+unfoldable pub opening_rights_by : List User → Files → World → Fid → Info → Mode → Result (Unit {0}) Refusal
+opening_rights_by table e w f i m =
+    refuse_if (not (may_open table f.user i m)) refusal.PermissionDenied (if m.remove then may_write_above_by table e w f else Ok tt)
+
+-- by the table of the active tree
+abbrev pub opening_rights : Files → World → Fid → Info → Mode → Result (Unit {0}) Refusal
+opening_rights e w f i m = opening_rights_by (table_of e w) e w f i m
 
 -- ---- Topen
 

@@ -2,8 +2,7 @@
 ghost use Rattle.std.specs.Prelude.{◌≡◌, IsTrue, IfOk, Result, Ok};
 ghost use Rattle.fo_world.specs.Fits.{InfoFits};
 ghost use Rattle.fo_world.specs.Limits.{IsUser};
-ghost use Rattle.nine_fids.specs.Told.{served, qid_of};
-ghost use Rattle.nine_fids.specs.Rights.{table_of};
+ghost use Rattle.nine_fids.specs.Told.{qid_of};
 ghost use Rattle.nine_fids.specs.Looking.{Looks};
 ghost use Rattle.nine_files.specs.Answering.{Changes};
 ghost use Rattle.nine_files.specs.Granting as granting;
@@ -63,7 +62,7 @@ fn may_open(users: &Users, user: &Name, info: &Info, mode: Mode) -> bool
         && (!mode.truncate || users.may(user, info, Right::Write))
 }
 
-/// Refuses who may not open a file so.
+/// Refuses who may not, by this table, open a file so.
 fn check_rights<F: FileOps>(
     files: &mut F,
     users: &Users,
@@ -71,9 +70,8 @@ fn check_rights<F: FileOps>(
     info: &Info,
     mode: Mode,
 ) -> Result<(), Refusal>
-    requires whole { IsTrue (F.whole files.old) }
-    requires users { F.honest files.old → users.now ≡ table_of (served (F.whole files.old) (F.largest files.old)) (F.world files.old) }
-    ensures looks { Looks (⟦<F as Stated>⟧.state files.old) (⟦<F as Stated>⟧.state files.new) (λ e w. nine.opening_rights e w fid.now info.now mode) result }
+    requires { IsTrue (F.whole files.old) }
+    ensures looks { Looks (⟦<F as Stated>⟧.state files.old) (⟦<F as Stated>⟧.state files.new) (λ e w. nine.opening_rights_by users.now e w fid.now info.now mode) result }
     ensures keeps { F.keeps files.old files.new }
 {
     if !may_open(users, &fid.user, info, mode) {

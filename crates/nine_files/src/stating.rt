@@ -4,7 +4,6 @@ ghost use Rattle.fo_world.specs.Limits.{IsUser};
 ghost use Rattle.fo_world.specs.Step as step;
 ghost use Rattle.nine_fields.specs.Field.{TextFits};
 ghost use Rattle.nine_fids.specs.Told.{served, info_at};
-ghost use Rattle.nine_fids.specs.Rights.{table_of};
 ghost use Rattle.nine_fids.specs.Looking.{Looks};
 ghost use Rattle.nine_files.specs.Answering.{Leads};
 ghost use Rattle.nine_files.specs.Granting as granting;
@@ -148,7 +147,7 @@ fn may_change(users: &Users, user: &Name, info: &Info, what: &Change) -> bool
         && regroups
 }
 
-/// Refuses who may not make a change.
+/// Refuses who may not, by this table, make a change.
 fn check_rights<F: FileOps>(
     files: &mut F,
     users: &Users,
@@ -156,9 +155,8 @@ fn check_rights<F: FileOps>(
     info: &Info,
     what: &Change,
 ) -> Result<(), Refusal>
-    requires whole { IsTrue (F.whole files.old) }
-    requires users { F.honest files.old → users.now ≡ table_of (served (F.whole files.old) (F.largest files.old)) (F.world files.old) }
-    ensures looks { Looks (⟦<F as Stated>⟧.state files.old) (⟦<F as Stated>⟧.state files.new) (λ e w. nine.changing_rights e w fid.now info.now what.now) result }
+    requires { IsTrue (F.whole files.old) }
+    ensures looks { Looks (⟦<F as Stated>⟧.state files.old) (⟦<F as Stated>⟧.state files.new) (λ e w. nine.changing_rights_by users.now e w fid.now info.now what.now) result }
     ensures keeps { F.keeps files.old files.new }
 {
     if !may_change(users, &fid.user, info, what) {
@@ -214,6 +212,7 @@ fn check_change<F: FileOps>(
     requires { IsTrue (F.whole files.old) }
     ensures looks { Looks (⟦<F as Stated>⟧.state files.old) (⟦<F as Stated>⟧.state files.new) (λ e w. granting.allowed_change e w fid.now is_bad what.now info.now) result }
     ensures gid { IfOk result (λ _. IfSome what.now.gid IsUser) }
+    ensures name { IfOk result (λ _. nine.allowed_name fid.now what.now.name ≡ Ok tt) }
     ensures keeps { F.keeps files.old files.new }
 {
     if !is_active(&fid.place.view) {

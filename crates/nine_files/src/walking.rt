@@ -1,7 +1,6 @@
 //! Walking along names.
 ghost use Rattle.std.specs.Prelude.{◌≡◌, ◌==◌, IsTrue, IfOk, IfErr, MatchResult};
 ghost use Rattle.nine_fids.specs.Told.{served};
-ghost use Rattle.nine_fids.specs.Rights.{table_of};
 ghost use Rattle.nine_fids.specs.Looking.{HasCause, Looks, MayMiss};
 ghost use Rattle.nine_files.specs.Walking as nine;
 ghost use Rattle.nine_files.specs.Parts.{arrived, IsPart};
@@ -35,7 +34,7 @@ fn stands_for_none(name: &[u8]) -> bool
     name == b"".as_slice() || name == b".".as_slice()
 }
 
-/// What a name leads to from a file, for a user.
+/// What a name leads to from a file, for a user of this table.
 fn next<F: FileOps>(
     files: &mut F,
     users: &Users,
@@ -43,9 +42,8 @@ fn next<F: FileOps>(
     from: &Info,
     name: &[u8],
 ) -> Result<Info, Refusal>
-    requires whole { IsTrue (F.whole files.old) }
-    requires users { F.honest files.old → users.now ≡ table_of (served (F.whole files.old) (F.largest files.old)) (F.world files.old) }
-    ensures looks { Looks (⟦<F as Stated>⟧.state files.old) (⟦<F as Stated>⟧.state files.new) (λ e w. nine.next e w user.now from.now name.now) result }
+    requires { IsTrue (F.whole files.old) }
+    ensures looks { Looks (⟦<F as Stated>⟧.state files.old) (⟦<F as Stated>⟧.state files.new) (λ e w. nine.next_by users.now e w user.now from.now name.now) result }
     ensures keeps { F.keeps files.old files.new }
 {
     if !is_dir(from.mode) {
@@ -72,10 +70,9 @@ fn follow<F: FileOps>(
     names: &[Name],
     from: Info,
 ) -> Result<Walked, Refusal>
-    requires whole { IsTrue (F.whole files.old) }
-    requires users { F.honest files.old → users.now ≡ table_of (served (F.whole files.old) (F.largest files.old)) (F.world files.old) }
+    requires { IsTrue (F.whole files.old) }
     ensures comes { F.honest files.old → MatchResult result
-        (λ w. w ≡ nine.walked (served (F.whole files.old) (F.largest files.old)) (F.world files.old) user.now names.now from)
+        (λ w. w ≡ nine.walked_by users.now (served (F.whole files.old) (F.largest files.old)) (F.world files.old) user.now names.now from)
         (Misses (MayMiss (F.faults files.old) (F.faults files.new) (F.honest files.old))) }
     ensures part { IfOk result (IsPart names.now) }
     ensures world { F.honest files.old → F.world files.new ≡ F.world files.old }
