@@ -4,7 +4,7 @@ use Rattle.std.specs.Prelude.{is_ok, if◌then◌else◌, IfErr}
 use Rattle.fo_world.specs.declared.error.FileError.{FileError}
 use Rattle.fo_world.specs.declared.error.FileError.TheVariants as error
 use Rattle.fo_world.specs.World.{World, Faults}
-use Rattle.fo_world.specs.Answers.{Answers, HadRoom, MayFail, is_fault}
+use Rattle.fo_world.specs.Answers.{MayFail, is_fault}
 use Rattle.fo_world.specs.Answers as answers
 use Rattle.nine_fids.specs.declared.refusal.Refusal.{Refusal}
 use Rattle.nine_fids.specs.declared.refusal.Refusal.TheVariants as refusal
@@ -13,7 +13,7 @@ use Rattle.nine_fids.specs.Told.{Files, served}
 use Rattle.nine_fids.specs.Looking.{FilesState, Follows, HasCause, IsRefused, Looks}
 use Rattle.nine_fids.proofs.Missing.{fails_since, none_below, refused_by}
 use Rattle.nine_fids.proofs.Seeing.{Stepped, Told, cause_since, looks_denied}
-use Rattle.nine_files.specs.Answering.{Changes, FailsBy, IsChanged, IsLed, Leads, granted_with, granted_world, tried}
+use Rattle.nine_files.specs.Answering.{Changes, FailsBy, HadRoom, IsChanged, IsLed, Leads, granted_with, granted_world, tried}
 use Rattle.nine_files.proofs.Links.{refused_looking}
 use Rattle.nine_files.proofs.Touching.{given_granted, led_granted}
 
@@ -112,34 +112,34 @@ module _ {A : Type 0} (b c : FilesState) (touches : Touches) (step : Stepped A) 
 
 -- ---- in other words
 
-led_as : {r : Result (Unit {0}) Refusal} (a b : FilesState) (t t' : Result World Refusal) (n n' : ℕ) → t ≡ t' → n ≡ n' → IsLed t (FailsBy a b n (is_ok t)) a.world b.world r → IsLed t' (FailsBy a b n' (is_ok t')) a.world b.world r
-led_as a b t t' n n' same even l =
-    let P : Result World Refusal → Type 0 = λ u. IsLed u (FailsBy a b n' (is_ok u)) a.world b.world _ in
-    let Q : ℕ → Type 0 = λ k. IsLed t (FailsBy a b k (is_ok t)) a.world b.world _ in
+led_as : (r : Result (Unit {0}) Refusal) (a b : FilesState) (t t' : Result World Refusal) (n n' : ℕ) → t ≡ t' → n ≡ n' → IsLed t (FailsBy a b n (is_ok t)) a.world b.world r → IsLed t' (FailsBy a b n' (is_ok t')) a.world b.world r
+led_as r a b t t' n n' same even l =
+    let P : Result World Refusal → Type 0 = λ u. IsLed u (FailsBy a b n' (is_ok u)) a.world b.world r in
+    let Q : ℕ → Type 0 = λ k. IsLed t (FailsBy a b k (is_ok t)) a.world b.world r in
     subst P same (subst Q even l)
 
 pub leads_as : (a b : FilesState) (touches : Touches) (told told' : Told World) (need need' : Needs) (most most' : ℕ) (r : Result (Unit {0}) Refusal)
     → (a.honest → told a.how a.world ≡ told' a.how a.world) → (a.honest → need a.how a.world ≡ need' a.how a.world) → most ≡ most'
     → Leads a b touches told need most r → Leads a b touches told' need' most' r
 leads_as a b touches told told' need need' most most' r same even full l = record {
-    answer = λ h. led_as a b (told a.how a.world) (told' a.how a.world) (need a.how a.world) (need' a.how a.world) (same h) (even h) (l.answer h);
+    answer = λ h. led_as r a b (told a.how a.world) (told' a.how a.world) (need a.how a.world) (need' a.how a.world) (same h) (even h) (l.answer h);
     room = λ h. subst (λ k. HadRoom a.has_room k r) (even h) (l.room h);
     touched = λ h. subst (λ u. touches (tried (granted_world u a.world) a.world r) (need' a.how a.world)) (same h) (subst (λ k. touches (tried (granted_world (told a.how a.world) a.world) a.world r) k) (even h) (l.touched h));
     cause = subst (λ k. IfErr r (HasCause a b k)) full l.cause;
     taken = subst (λ k. (w : World) × touches w k) full l.taken;
   }
 
-changed_as : {A : Type 0} {r : Result A Refusal} (a b : FilesState) (t t' : Result (A × World) Refusal) (n n' : ℕ) → t ≡ t' → n ≡ n' → IsChanged t (FailsBy a b n (is_ok t)) a.world b.world r → IsChanged t' (FailsBy a b n' (is_ok t')) a.world b.world r
-changed_as a b t t' n n' same even l =
-    let P : Result (_ × World) Refusal → Type 0 = λ u. IsChanged u (FailsBy a b n' (is_ok u)) a.world b.world _ in
-    let Q : ℕ → Type 0 = λ k. IsChanged t (FailsBy a b k (is_ok t)) a.world b.world _ in
+changed_as : {A : Type 0} (r : Result A Refusal) (a b : FilesState) (t t' : Result (A × World) Refusal) (n n' : ℕ) → t ≡ t' → n ≡ n' → IsChanged t (FailsBy a b n (is_ok t)) a.world b.world r → IsChanged t' (FailsBy a b n' (is_ok t')) a.world b.world r
+changed_as r a b t t' n n' same even l =
+    let P : Result (_ × World) Refusal → Type 0 = λ u. IsChanged u (FailsBy a b n' (is_ok u)) a.world b.world r in
+    let Q : ℕ → Type 0 = λ k. IsChanged t (FailsBy a b k (is_ok t)) a.world b.world r in
     subst P same (subst Q even l)
 
 pub changes_as : {A : Type 0} (a b : FilesState) (touches : Touches) (told told' : Told (A × World)) (need need' : Needs) (most most' : ℕ) (r : Result A Refusal)
     → (a.honest → told a.how a.world ≡ told' a.how a.world) → (a.honest → need a.how a.world ≡ need' a.how a.world) → most ≡ most'
     → Changes a b touches told need most r → Changes a b touches told' need' most' r
 changes_as a b touches told told' need need' most most' r same even full l = record {
-    answer = λ h. changed_as a b (told a.how a.world) (told' a.how a.world) (need a.how a.world) (need' a.how a.world) (same h) (even h) (l.answer h);
+    answer = λ h. changed_as r a b (told a.how a.world) (told' a.how a.world) (need a.how a.world) (need' a.how a.world) (same h) (even h) (l.answer h);
     room = λ h. subst (λ k. HadRoom a.has_room k r) (even h) (l.room h);
     touched = λ h. subst (λ u. touches (tried (granted_with u a.world) a.world r) (need' a.how a.world)) (same h) (subst (λ k. touches (tried (granted_with (told a.how a.world) a.world) a.world r) k) (even h) (l.touched h));
     cause = subst (λ k. IfErr r (HasCause a b k)) full l.cause;
@@ -148,7 +148,7 @@ changes_as a b touches told told' need need' most most' r same even full l = rec
 
 -- ---- after calls that looked
 
-had_before : {A : Type 0} (has_room has_room' : ℕ → Type 0) (need : ℕ) (r : Result A Refusal) → ((n : ℕ) → has_room n → has_room' n) → HadRoom has_room' need r → HadRoom has_room need r
+pub had_before : {A : Type 0} (has_room has_room' : ℕ → Type 0) (need : ℕ) (r : Result A Refusal) → ((n : ℕ) → has_room n → has_room' n) → HadRoom has_room' need r → HadRoom has_room need r
 had_before has_room has_room' need (Ok x) up h = λ n has. h n (up n has)
 had_before has_room has_room' need (Err r) up h = tt
 

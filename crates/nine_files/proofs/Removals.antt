@@ -13,7 +13,7 @@ use Rattle.nine_fids.specs.Refusing.{and_then, changed}
 use Rattle.nine_fids.specs.Told.{Files, info_at}
 use Rattle.nine_fids.specs.Rights.{may_write_above}
 use Rattle.nine_fids.specs.Looking.{IsRefused, MayMiss, Tells}
-use Rattle.nine_files.specs.Removing.{close_need, closed, gone, most_close, remove_need, removed, removed_unless_gone, removes}
+use Rattle.nine_files.specs.Removing.{close_need, closed, gone, most_close, remove_need, removed, removed_there, removed_unless_gone, removes}
 
 -- ---- files removed
 
@@ -32,6 +32,14 @@ removed_above e w f now r h k a = rw (h, k, a) refl
 pub removed_told : (e : Files) (w : World) (f : Fid) (now : ℕ) → step.is_active f.place.view ≡ true → (length f.place.trail == 0) ≡ false → may_write_above e w f ≡ Ok tt → removed e w f now ≡ and_then (changed (step.remove e.whole w f.place f.user now)) (λ p. Ok p.1)
 unfolding removed
 removed_told e w f now h k a = rw (h, k, a) refl
+
+-- ---- where the file is there
+
+pub there_refused : (e : Files) (w : World) (f : Fid) (now : ℕ) (r : Refusal) → info_at e w f.place ≡ Err r → removed_there e w f now ≡ Err r
+there_refused e w f now r h = ap (λ t. and_then t (λ _. removed e w f now)) h
+
+pub there_told : (e : Files) (w : World) (f : Fid) (now : ℕ) (i : Info) → info_at e w f.place ≡ Ok i → removed_there e w f now ≡ removed e w f now
+there_told e w f now i h = ap (λ t. and_then t (λ _. removed e w f now)) h
 
 -- ---- ORCLOSE
 

@@ -1,8 +1,8 @@
 -- What calls that look at files, and calls that change them, answer.
-use Rattle.std.specs.Prelude.{◌≡◌, ℕ, Bool, false, Result, Ok, Err, IfErr, MatchResult, is_ok, if◌then◌else◌, true}
+use Rattle.std.specs.Prelude.{◌≡◌, ℕ, ◌≤◌, ⊤, Bool, false, Result, Ok, Err, IfErr, MatchResult, is_ok, if◌then◌else◌, true}
 use Rattle.fo_world.specs.declared.error.FileError.{FileError}
 use Rattle.fo_world.specs.World.{World}
-use Rattle.fo_world.specs.Answers.{MayFail, HadRoom, is_fault}
+use Rattle.fo_world.specs.Answers.{MayFail, is_fault}
 use Rattle.nine_fids.specs.Told.{Files}
 use Rattle.nine_fids.specs.Looking.{FilesState, HasCause, IsRefused}
 use Rattle.nine_fids.specs.declared.refusal.Refusal.{Refusal}
@@ -43,6 +43,10 @@ IsChanged told fails old new result = MatchResult result (λ x. told ≡ Ok (x, 
 -- the same, where nothing but the world after it is told
 abbrev pub IsLed : Result World Refusal → (FileError → Type 0) → World → World → Result (Unit {0}) Refusal → Type 0
 IsLed told fails old new result = MatchResult result (λ _. told ≡ Ok new) (λ r. IsRefused told fails r × (new ≡ old))
+
+-- it is granted only where the room is up to the need
+abbrev pub HadRoom : {A : Type 0} → (ℕ → Type 0) → ℕ → Result A Refusal → Type 0
+HadRoom has_room need r = MatchResult r (λ x. (n : ℕ) → has_room n → need ≤ n) (λ e. ⊤)
 
 -- why a call may fail that needs so many blocks, where it is granted and where it is not
 abbrev pub FailsBy : FilesState → FilesState → ℕ → Bool → FileError → Type 0

@@ -222,7 +222,7 @@ pub fn truncate<F: FileOps>(
 ) -> Result<Qid, Refusal>
     requires whole { IsTrue (F.whole files.old) }
     requires user { IsUser fid.now.user }
-    ensures changes { Changes (⟦<F as Stated>⟧.state files.old) (⟦<F as Stated>⟧.state files.new)
+    ensures { Changes (⟦<F as Stated>⟧.state files.old) (⟦<F as Stated>⟧.state files.new)
         (λ w n. F.touches files.old w n files.new)
         (λ e w. granting.told_qid (nine.truncated e w fid.now info.now mode now)) (λ e w. nine.cut_need e w fid.now info.now mode) (nine.most_cut fid.now info.now mode) result }
 {

@@ -1,6 +1,5 @@
 //! Reading directories, and writing.
 ghost use Rattle.std.specs.Prelude.{◌≡◌, ◌==◌, ◌&&◌, not, IsTrue, IfOk, IfErr, MatchResult, Ok, Err};
-ghost use Rattle.fo_world.specs.Answers.{HadRoom};
 ghost use Rattle.fo_world.specs.Limits.{IsUser};
 ghost use Rattle.fo_world.specs.Step as step;
 ghost use Rattle.nine_fids.specs.Refusing.{changed};
@@ -11,7 +10,7 @@ ghost use Rattle.nine_fids.specs.Told.{served};
 ghost use Rattle.nine_fids.specs.Looking.{HasCause, IsRefused, MayMiss};
 ghost use Rattle.nine_files.specs.Reading as nine;
 ghost use Rattle.nine_files.specs.Parts.{listed, Gives, write_start};
-ghost use Rattle.nine_files.specs.Answering.{Changes};
+ghost use Rattle.nine_files.specs.Answering.{Changes, HadRoom};
 
 use fo_world::{FileOps, Info, Name, Place};
 use nine_fids::{Fid, Opened, Refusal, Stated, appends, next_at, put_record};
@@ -25,7 +24,7 @@ pub struct Records {
 }
 
 impl Records {
-    ghost use Rattle.std.specs.Prelude.{◌≡◌, ◌-◌, ◌≤◌, length, not, nat_lt, IsTrue, Option, Some, None, is_some, Ok, IfErr, MatchResult, if◌then◌else◌};
+    ghost use Rattle.std.specs.Prelude.{◌≡◌, ◌-◌, ◌≤◌, length, not, nat_lt, IsTrue, Option, Some, None, is_some, Ok, IfOk, IfErr, MatchResult, if◌then◌else◌};
     ghost use Rattle.fo_world.specs.Fits.{InfoFits};
     ghost use Rattle.fo_world.specs.declared.error.FileError.TheVariants as failure;
     ghost use Rattle.fo_world.specs.declared.place.Info.{Info};
@@ -38,9 +37,10 @@ impl Records {
     fn add(&mut self, alloc: Global, info: Info, count: usize) -> Result<bool, Refusal>
         requires fits { InfoFits info }
         requires within { length self.old.bytes.items ≤ count }
-        ensures { MatchResult result (λ added. (added ≡ not (nat_lt (count - length self.old.bytes.items) (length (record_of info))))
+        ensures adds { MatchResult result (λ added. (added ≡ not (nat_lt (count - length self.old.bytes.items) (length (record_of info))))
             × Adds (if added then Some info else None) self.old.bytes.items self.new.bytes.items self.old.last self.new.last)
             (λ r. r ≡ refusal.File failure.Memory) }
+        ensures short { IfOk result (λ _. length self.new.bytes.items ≤ count) }
     {
         let name = info.name.copy(alloc)?;
         let start = self.bytes.len();
@@ -67,6 +67,7 @@ impl Records {
             MatchResult result (λ taken. (next : Option Info) × (F.honest files.old → told ≡ Ok next) × (taken ≡ is_some next) × Adds next self.old.bytes.items self.new.bytes.items self.old.last self.new.last)
             (λ r. F.honest files.old → IsRefused told (MayMiss (F.faults files.old) (F.faults files.new) (F.honest files.old)) r) }
         ensures world { F.honest files.old → F.world files.new ≡ F.world files.old }
+        ensures short { IfOk result (λ _. length self.new.bytes.items ≤ count) }
         ensures cause { IfErr result (HasCause (⟦<F as Stated>⟧.state files.old) (⟦<F as Stated>⟧.state files.new) 0) }
         ensures keeps { F.keeps files.old files.new }
     {

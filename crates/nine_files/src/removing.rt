@@ -1,10 +1,9 @@
 //! Removing files.
 ghost use Rattle.std.specs.Prelude.{◌≡◌, IsTrue};
-ghost use Rattle.fo_world.specs.Answers.{HadRoom};
 ghost use Rattle.fo_world.specs.Limits.{IsUser};
 ghost use Rattle.fo_world.specs.Step as step;
 ghost use Rattle.nine_files.specs.Removing as nine;
-ghost use Rattle.nine_files.specs.Answering.{Leads};
+ghost use Rattle.nine_files.specs.Answering.{HadRoom, Leads};
 ghost use Rattle.nine_files.specs.Removing.{removed_there, gone};
 
 use fo_world::{FileError, FileOps, Info, View};
@@ -52,7 +51,7 @@ pub fn remove_on_close<F: FileOps>(
 ) -> Result<(), Refusal>
     requires whole { IsTrue (F.whole files.old) }
     requires user { IsUser fid.now.user }
-    ensures changes { Leads (⟦<F as Stated>⟧.state files.old) (⟦<F as Stated>⟧.state files.new)
+    ensures { Leads (⟦<F as Stated>⟧.state files.old) (⟦<F as Stated>⟧.state files.new)
         (λ w n. F.touches files.old w n files.new)
         (λ e w. nine.closed e w fid.now now) (λ e w. nine.close_need e w fid.now) (nine.most_close fid.now) result }
 {

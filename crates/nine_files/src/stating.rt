@@ -241,7 +241,7 @@ pub fn restate<F: FileOps>(
     requires user { IsUser fid.now.user }
     requires info { F.honest files.old → info_at (served (F.whole files.old) (F.largest files.old)) (F.world files.old) fid.now.place ≡ Ok info.now }
     requires name { IfSome what.now.name TextFits }
-    ensures changes { Leads (⟦<F as Stated>⟧.state files.old) (⟦<F as Stated>⟧.state files.new)
+    ensures { Leads (⟦<F as Stated>⟧.state files.old) (⟦<F as Stated>⟧.state files.new)
         (λ w n. F.touches files.old w n files.new)
         (λ e w. granting.changed_by e w now fid.now is_bad what.now info.now) (λ e w. step.change_need e.whole w fid.now.place what.now) (step.most_need fid.now.place) result }
 {

@@ -2,13 +2,13 @@
 ghost use Rattle.std.specs.Prelude.{◌≡◌, IfOk, IsTrue};
 ghost use Rattle.fo_world.specs.Limits.{IsName, IsUser};
 
-use crate::{
-    Access, Fid, Mode, Refusal, bytes_at, in_use, info_at, known, least, may_write_above, named_at,
-    next_at, parent_at, put_record, remove_fid, table_of, user_of,
-};
 use fo_base::is_text;
 use fo_plain::PlainFiles;
 use fo_world::{FileError, FileOps, Info, Name, Place, Trail, View};
+use nine_fids::{
+    Access, Fid, Mode, Refusal, bytes_at, in_use, info_at, known, least, may_write_above, named_at,
+    next_at, parent_at, put_record, remove_fid, table_of, user_of,
+};
 use nine_wire::Reply;
 use std::alloc::Global;
 use std::process::Abort;

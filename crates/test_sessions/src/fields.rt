@@ -1,5 +1,5 @@
 //! Fields both ways, by bytes written out by hand from the manual.
-use crate::{
+use nine_fields::{
     Malformed, Qid, ReadError, brief_at, data_at, names_at, put_both, put_names, put_qid, put_qids,
     put_string, put_u8, put_u16, put_u32, put_u64, qid_at, qids_at, stat_at, text_at, u8_at,
     u16_at, u32_at, u64_at,

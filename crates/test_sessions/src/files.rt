@@ -1,17 +1,15 @@
 //! Each call that may want memory, with ample memory, over plain files.
 ghost use Rattle.std.specs.Prelude.{IfOk};
-ghost use Rattle.fo_world.specs.Fits.{WorldFits};
 ghost use Rattle.fo_world.specs.Limits.{IsName, IsUser};
-ghost use Rattle.fo_plain.specs.Kept.{kept};
 
-use crate::{
-    admit, admit_new, list_records, read_to, remove_on_close, remove_there, restate, settle,
-    start_of, truncate, walk_from, write_bytes,
-};
 use fo_base::is_text;
 use fo_plain::PlainFiles;
 use fo_world::{Change, FileError, FileOps, Info, Name, Place, Trail, View};
 use nine_fids::{Access, Fid, Opened, Refusal, info_at};
+use nine_files::{
+    admit, admit_new, list_records, read_to, remove_on_close, remove_there, restate, settle,
+    start_of, truncate, walk_from, write_bytes,
+};
 use nine_wire::Qid;
 use std::alloc::Global;
 use std::process::Abort;
@@ -66,10 +64,7 @@ fn opened(remove: bool, offset: u64, last: Option<Name>) -> Opened {
 }
 
 /// Makes a file at the root.
-fn make(alloc: Global, files: &mut PlainFiles, text: &[u8]) -> Result<(), Refusal>
-    requires { WorldFits (kept files.old) }
-    ensures { WorldFits (kept files.new) }
-{
+fn make(alloc: Global, files: &mut PlainFiles, text: &[u8]) -> Result<(), Refusal> {
     let root = Place::root(alloc, View::Active);
     let text = name(alloc, text)?;
     let glenda = user(alloc, b"glenda")?;
@@ -79,9 +74,7 @@ fn make(alloc: Global, files: &mut PlainFiles, text: &[u8]) -> Result<(), Refusa
 }
 
 /// Files with `f`, of number 1, and `g`, of number 2.
-fn two_files(alloc: Global) -> Result<PlainFiles, Refusal>
-    ensures { IfOk result (λ files. WorldFits (kept files)) }
-{
+fn two_files(alloc: Global) -> Result<PlainFiles, Refusal> {
     let mut files = PlainFiles::new(alloc, 1)?;
     make(alloc, &mut files, b"f")?;
     make(alloc, &mut files, b"g")?;
@@ -182,9 +175,7 @@ fn changed(alloc: Global, files: &mut PlainFiles) -> Result<u32, Refusal> {
 }
 
 /// Removes both files.
-fn remove_both(alloc: Global, files: &mut PlainFiles) -> Result<(), Refusal>
-    requires { WorldFits (kept files.old) }
-{
+fn remove_both(alloc: Global, files: &mut PlainFiles) -> Result<(), Refusal> {
     remove_there(alloc, files, 6, &fid(alloc, &[1], None)?)?;
     let closed = fid(alloc, &[2], Some(opened(true, 0, None)))?;
     remove_on_close(alloc, files, 7, &closed)

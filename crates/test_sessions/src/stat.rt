@@ -1,5 +1,5 @@
 //! The record of a file `f` of mode 0644 and five bytes, by bytes written out by hand from the manual.
-use crate::{CutError, Stat, StatError, cut_dir, read_stat, write_stat};
+use nine_stat::{CutError, Stat, StatError, cut_dir, read_stat, write_stat};
 use nine_wire::{Qid, Str};
 use std::alloc::{AllocError, Global};
 use std::test::Fail;

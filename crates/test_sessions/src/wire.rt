@@ -1,5 +1,5 @@
 //! Every message once both ways, by bytes written out by hand from the manual; and bytes that are no message.
-use crate::{
+use nine_wire::{
     BadMsg, Ename, Names, Qid, Qids, Reply, ReplyStep, Request, Step, Str, read_msg, read_reply,
     write_msg, write_request,
 };

@@ -1,5 +1,5 @@
 use Rattle.nine_stat.proofs.Records.{record_spellable}
-use Rattle.nine_stat.proofs.tests.ample.Goals as goal
+use Rattle.test_sessions.proofs.stat.ample.Goals as goal
 
 pub write_stat-requires : goal.write_stat-requires
 write_stat-requires g c = record_spellable _ c.in_ok-read.read c.in_ok-read.ensures.found
