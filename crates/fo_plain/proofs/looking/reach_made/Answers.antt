@@ -1,6 +1,6 @@
 use Rattle.std.proofs.Common.{refl, ap, ◌<◌, length, inl, arith}
 use Rattle.fo_plain.proofs.Reach.{along-bare}
-use Rattle.fo_plain.proofs.plain.reach_made.Goals as goal
+use Rattle.fo_plain.proofs.looking.reach_made.Goals as goal
 
 pub returns-then-as_slice-gt0 : goal.returns-then-as_slice-gt0
 returns-then-as_slice-gt0 c =
