@@ -77,7 +77,7 @@ impl Records {
         if self.add(alloc, info, count)? {
             return Ok(true);
         }
-        if self.bytes.is_empty() {
+        if self.bytes.as_slice().is_empty() {
             return Err(Refusal::CountTooSmall);
         }
         Ok(false)
