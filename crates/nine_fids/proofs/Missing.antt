@@ -1,12 +1,10 @@
 -- Calls that look, one after the other: what refuses one of them refuses the whole.
-use Rattle.std.proofs.Common.{◌≡◌, ℕ, ◌≤◌, ◌<◌, Bool, true, false, Option, Some, None, Result, Ok, Err, refl, sym, ap, subst, ◌∙◌, inl, inr, ⊎_elim, ◌⊎◌, arith}
-use Rattle.std.specs.Prelude.{is_ok, IfErr, IfOk, if◌then◌else◌}
-use Rattle.std.proofs.lemmas.Result.{IfErr-at_err}
+use Rattle.std.proofs.Common.{◌≡◌, ℕ, ◌≤◌, ◌<◌, Bool, true, Option, Some, None, Result, Ok, Err, refl, sym, inl, inr, ⊎_elim, arith}
 use Rattle.std.proofs.lemmas.Bool.{true≢false}
 use Rattle.fo_base.specs.Cause.{Rose}
 use Rattle.fo_world.specs.declared.error.FileError.{FileError}
 use Rattle.fo_world.specs.declared.error.FileError.TheVariants as error
-use Rattle.fo_world.specs.World.{World, Faults}
+use Rattle.fo_world.specs.World.{Faults}
 use Rattle.fo_world.specs.Answers.{MayFail, NotFewer}
 use Rattle.nine_fids.specs.declared.refusal.Refusal.{Refusal}
 use Rattle.nine_fids.specs.declared.refusal.Refusal.TheVariants as refusal
@@ -27,10 +25,6 @@ misses f0 f1 h room granted x m = m
 pub fails_by_missing : (f0 f1 : Faults) (h : Type 0) (room : ℕ → Type 0) (need : ℕ) (granted : Bool) (x : FileError) → MayMiss f0 f1 h x → MayFail f0 f1 h room need granted x
 fails_by_missing f0 f1 h room need granted error.Full m = absurd (true≢false (sym m.0))
 fails_by_missing f0 f1 h room need granted x m = m
-
--- want of memory is free
-pub no_memory : (f0 f1 : Faults) (h : Type 0) → MayMiss f0 f1 h error.Memory
-no_memory f0 f1 h = tt
 
 pub rose_before : (a b c : ℕ) → a ≤ b → Rose b c → Rose a c
 rose_before a b c le r = omega (arith, le, r)
@@ -68,10 +62,6 @@ is_miss f0 f1 h x m = refl
 pub refused_by : {A B : Type 0} (part : Result A Refusal) (whole : Result B Refusal) (P Q : FileError → Type 0) (r : Refusal) → (part ≡ Err r → whole ≡ Err r) → ((x : FileError) → P x → Q x) → IsRefused part P r → IsRefused whole Q r
 refused_by part whole P Q r told fails h =
     ⊎_elim (λ e. inl (told e)) (λ p. inr (p.0, p.1, fails p.0 p.2)) h
-
--- want of memory refuses anything that looks
-pub refused_by_memory : {A : Type 0} (told : Result A Refusal) (f0 f1 : Faults) (h : Type 0) (r : Refusal) → r ≡ refusal.File error.Memory → IsRefused told (MayMiss f0 f1 h) r
-refused_by_memory told f0 f1 h r e = inr (error.Memory, e, tt)
 
 -- where nothing is refused, a refusal is a failure
 pub failed_by : {A B : Type 0} (part : Result A Refusal) (x : A) (whole : Result B Refusal) (P Q : FileError → Type 0) (r : Refusal) → part ≡ Ok x → ((y : FileError) → P y → Q y) → IsRefused part P r → IsRefused whole Q r

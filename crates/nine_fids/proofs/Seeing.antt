@@ -12,7 +12,7 @@ use Rattle.nine_fids.specs.declared.refusal.Refusal.TheVariants as refusal
 use Rattle.nine_fids.specs.Refusing.{looked, told_apart, is_failure}
 use Rattle.nine_fids.specs.Rights.{found}
 use Rattle.nine_fids.specs.Told.{Files, served}
-use Rattle.nine_fids.specs.Looking.{FilesState, Follows, HasCause, IsRefused, Looks, MayMiss, Tells}
+use Rattle.nine_fids.specs.Looking.{FilesState, Follows, HasCause, Looks, MayMiss, Tells}
 use Rattle.nine_fids.proofs.Missing.{fails_since, is_miss, misses, refused_by, rose_before}
 use Rattle.nine_fids.proofs.Staying.{Stays, seen}
 
@@ -62,20 +62,20 @@ cause_before a b c (Err r) f m = cause_since a b c 0 r f m
 -- a last call that looks, after others that looked
 pub looks_after : {A : Type 0} (a b c : FilesState) (told later : Told A) (r : Result A Refusal) → Follows a b → (a.honest → b.world ≡ a.world) → (a.honest → later a.how a.world ≡ told a.how a.world) → Looks b c later r → Looks a c told r
 looks_after a b c told later r f world same l = record {
-    answer = λ h.
-        let P : Result _ Refusal → Type 0 = λ t. Tells t (MayMiss b.faults c.faults b.honest) r in
-        fails_before a b c (told a.how a.world) r f (subst P (told_before a b told later f (world h) (same h)) (l.answer (f.honest h)));
-    world = λ h. l.world (f.honest h) ∙ world h;
-    cause = cause_before a b c r f l.cause;
-  }
+  answer = λ h.
+      let P : Result _ Refusal → Type 0 = λ t. Tells t (MayMiss b.faults c.faults b.honest) r in
+      fails_before a b c (told a.how a.world) r f (subst P (told_before a b told later f (world h) (same h)) (l.answer (f.honest h)));
+  world = λ h. l.world (f.honest h) ∙ world h;
+  cause = cause_before a b c r f l.cause;
+}
 
 -- what refuses a part refuses the whole
 pub looks_refused : {A B : Type 0} (a b : FilesState) (part : Told A) (whole : Told B) (r : Refusal) → (a.honest → part a.how a.world ≡ Err r → whole a.how a.world ≡ Err r) → Looks a b part (Err r) → Looks a b whole (Err r)
 looks_refused a b part whole r told l = record {
-    answer = λ h. refused_by (part a.how a.world) (whole a.how a.world) (MayMiss a.faults b.faults a.honest) (MayMiss a.faults b.faults a.honest) r (told h) (λ x m. m) (l.answer h);
-    world = l.world;
-    cause = l.cause;
-  }
+  answer = λ h. refused_by (part a.how a.world) (whole a.how a.world) (MayMiss a.faults b.faults a.honest) (MayMiss a.faults b.faults a.honest) r (told h) (λ x m. m) (l.answer h);
+  world = l.world;
+  cause = l.cause;
+}
 
 -- the same of a part that came after others that looked
 pub refused_after : {A B : Type 0} (a b c : FilesState) (part : Told A) (whole : Told B) (r : Refusal) → Follows a b → (a.honest → b.world ≡ a.world) → (a.honest → part a.how a.world ≡ Err r → whole a.how a.world ≡ Err r) → Looks b c part (Err r) → Looks a c whole (Err r)
@@ -102,17 +102,17 @@ Stepped A = Files → World → Result (A × World) FileError
 
 pub seen_looks : {A : Type 0} (a b : FilesState) (step : Stepped A) (x : A) → ((e : Files) (w : World) → Stays w (step e w)) → (a.honest → step a.how a.world ≡ Ok (x, b.world)) → Looks a b (λ e w. looked (step e w)) (Ok x)
 seen_looks a b step x stays is = record {
-    answer = λ h. (seen (step a.how a.world) a.world b.world x (stays a.how a.world) (is h)).0;
-    world = λ h. (seen (step a.how a.world) a.world b.world x (stays a.how a.world) (is h)).1;
-    cause = tt;
-  }
+  answer = λ h. (seen (step a.how a.world) a.world b.world x (stays a.how a.world) (is h)).0;
+  world = λ h. (seen (step a.how a.world) a.world b.world x (stays a.how a.world) (is h)).1;
+  cause = tt;
+}
 
 pub missed_looks : {A : Type 0} (a b : FilesState) (step : Stepped A) (x : FileError) → (a.honest → ((step a.how a.world ≡ Err x) ⊎ MayFail a.faults b.faults a.honest b.has_room 0 (is_ok (step a.how a.world)) x) × (b.world ≡ a.world)) → answers.HasCause a.faults b.faults a.honest b.has_room 0 x → Looks a b (λ e w. looked (step e w)) (Err (refusal.File x))
 missed_looks a b step x is cause = record {
-    answer = λ h. ⊎_elim (λ t. inl (ap looked t)) (λ m. inr (x, refl, misses a.faults b.faults a.honest b.has_room (is_ok (step a.how a.world)) x m)) (is h).0;
-    world = λ h. (is h).1;
-    cause = cause;
-  }
+  answer = λ h. ⊎_elim (λ t. inl (ap looked t)) (λ m. inr (x, refl, misses a.faults b.faults a.honest b.has_room (is_ok (step a.how a.world)) x m)) (is h).0;
+  world = λ h. (is h).1;
+  cause = cause;
+}
 
 -- ---- what is there or not is never refused
 
@@ -138,19 +138,19 @@ apart_cause a b (Err r) m = cause_at _ a b r (is_failure r) m
 
 pub apart_looks : {A : Type 0} (a b : FilesState) (told : Told A) (r : Result A Refusal) → ((e : Files) (w : World) → IfErr (told e w) (λ e. is_failure e ≡ false)) → Looks a b told r → Looks a b (λ e w. Ok (found (told e w))) (told_apart r)
 apart_looks a b told r plain l = record {
-    answer = λ h. apart_tells a b (told a.how a.world) r (plain a.how a.world) (l.answer h);
-    world = l.world;
-    cause = apart_cause a b r l.cause;
-  }
+  answer = λ h. apart_tells a b (told a.how a.world) r (plain a.how a.world) (l.answer h);
+  world = l.world;
+  cause = apart_cause a b r l.cause;
+}
 
 -- ---- where what is told is known otherwise
 
 pub looks_as : {A : Type 0} (a b : FilesState) (told part : Told A) (r : Result A Refusal) → (a.honest → part a.how a.world ≡ told a.how a.world) → Looks a b part r → Looks a b told r
 looks_as a b told part r same l = record {
-    answer = λ h. let P : Result _ Refusal → Type 0 = λ t. Tells t (MayMiss a.faults b.faults a.honest) r in subst P (same h) (l.answer h);
-    world = l.world;
-    cause = l.cause;
-  }
+  answer = λ h. let P : Result _ Refusal → Type 0 = λ t. Tells t (MayMiss a.faults b.faults a.honest) r in subst P (same h) (l.answer h);
+  world = l.world;
+  cause = l.cause;
+}
 
 -- what is granted but for memory
 pub looks_memory : {A : Type 0} (a b : FilesState) (told : Files → World → A) (x : A) (r : Result A Refusal) → (a.honest → told a.how a.world ≡ x) → (a.honest → b.world ≡ a.world) → IfOk r (λ y. y ≡ x) → IfErr r (λ e. e ≡ refusal.File error.Memory) → Looks a b (λ e w. Ok (told e w)) r

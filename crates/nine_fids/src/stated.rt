@@ -10,10 +10,10 @@ pub trait Stated {
 
 impl<F: FileOps> Stated for F {
     ghost state = { λ f. record {
-        how = record { whole = F.whole f; largest = F.largest f };
-        world = F.world f;
-        faults = F.faults f;
-        honest = F.honest f;
-        has_room = F.has_room f;
+      how = record { whole = F.whole f; largest = F.largest f };
+      world = F.world f;
+      faults = F.faults f;
+      honest = F.honest f;
+      has_room = F.has_room f;
     } };
 }

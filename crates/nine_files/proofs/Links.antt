@@ -44,12 +44,6 @@ told_if_plain told f0 f1 h r plain k = ⊎_elim (λ e. e) (λ p. absurd (true≢
 pub miss_if_failure : {A : Type 0} (told : Result A Refusal) (f0 f1 : Faults) (h : Type 0) (r : Refusal) → IfErr told (λ e. is_failure e ≡ false) → is_failure r ≡ true → IsRefused told (MayMiss f0 f1 h) r → Misses (MayMiss f0 f1 h) r
 miss_if_failure told f0 f1 h r plain failed k = ⊎_elim (λ e. absurd (true≢false (sym failed ∙ IfErr-at_err (λ v. is_failure v ≡ false) e plain))) (λ p. p) k
 
--- the same since before
-pub missed_since : {A : Type 0} (told : Result A Refusal) (f0 f1 f2 : Faults) (h0 h1 : Type 0) (r : Refusal) → NotFewer f0 f1 → (h0 → h1) → IfErr told (λ e. is_failure e ≡ false) → is_failure r ≡ true → IsRefused told (MayMiss f1 f2 h1) r → Misses (MayMiss f0 f2 h0) r
-missed_since told f0 f1 f2 h0 h1 r fewer up plain failed k =
-    let m = miss_if_failure told f1 f2 h1 r plain failed k in
-    (m.0, m.1, fails_since f0 f1 f2 h0 h1 (λ n. ⊥) 0 false fewer up m.0 m.2)
-
 -- a call that only looked refuses a request that changes
 pub refused_looking : {A B : Type 0} (part : Result A Refusal) (whole : Result B Refusal) (f0 f1 : Faults) (h : Type 0) (room : ℕ → Type 0) (need : ℕ) (granted : Bool) (r : Refusal) → (part ≡ Err r → whole ≡ Err r) → IsRefused part (MayMiss f0 f1 h) r → IsRefused whole (MayFail f0 f1 h room need granted) r
 refused_looking part whole f0 f1 h room need granted r told p =

@@ -2,7 +2,7 @@ use Rattle.std.proofs.Common.{◌≡◌, length, arith}
 use Rattle.std.proofs.lemmas.Result.{err_from_is_err_and}
 use Rattle.fo_world.specs.Step as step
 use Rattle.nine_fids.specs.Told.{bytes_at}
-use Rattle.nine_fids.proofs.Seeing.{looks_no_memory, missed_looks, seen_looks}
+use Rattle.nine_fids.proofs.Seeing.{missed_looks, seen_looks}
 use Rattle.nine_fids.proofs.Staying.{read_stays}
 use Rattle.nine_fids.proofs.Placing.{cut_to}
 use Rattle.nine_fids.proofs.looking.bytes_at.Goals as goal
