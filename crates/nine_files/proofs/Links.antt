@@ -5,7 +5,7 @@ use Rattle.std.proofs.lemmas.Result.{IfErr-at_err}
 use Rattle.std.proofs.lemmas.Bool.{true≢false}
 use Rattle.fo_world.specs.declared.error.FileError.{FileError}
 use Rattle.fo_world.specs.World.{Faults}
-use Rattle.fo_world.specs.Answers.{NotFewer, MayFail}
+use Rattle.fo_world.specs.Answers.{MayFail}
 use Rattle.nine_fids.specs.declared.refusal.Refusal.{Refusal}
 use Rattle.nine_fids.specs.Refusing.{and_then, refuse_if, some_or, is_failure}
 use Rattle.nine_fids.specs.Looking.{FilesState, Follows, HasCause, IsRefused, Looks, MayMiss}
@@ -87,7 +87,7 @@ pub looks_walked : {A : Type 0} (a b c : FilesState) (told : Told A) (x : A) (r 
     → (a.honest → MatchResult r (λ y. y ≡ x) (Misses (MayMiss b.faults c.faults b.honest))) → (b.honest → c.world ≡ b.world) → IfErr r (HasCause b c 0) → Looks a c told r
 looks_walked a b c told x (Ok y) f world is comes same cause = record { answer = λ h. is h ∙ ap Ok (sym (comes h)); world = λ h. same (f.honest h) ∙ world h; cause = tt }
 looks_walked a b c told x (Err r) f world is comes same cause = record {
-    answer = λ h. let m = comes h in inr (m.0, m.1, fails_since a.faults b.faults c.faults a.honest b.honest (λ n. ⊥) 0 false f.faults f.honest m.0 m.2);
-    world = λ h. same (f.honest h) ∙ world h;
-    cause = cause_since a b c 0 r f cause;
-  }
+  answer = λ h. let m = comes h in inr (m.0, m.1, fails_since a.faults b.faults c.faults a.honest b.honest (λ n. ⊥) 0 false f.faults f.honest m.0 m.2);
+  world = λ h. same (f.honest h) ∙ world h;
+  cause = cause_since a b c 0 r f cause;
+}

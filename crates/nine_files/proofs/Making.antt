@@ -60,12 +60,12 @@ module _ {A : Type 0} (b c : FilesState) (touches : Touches) (step : Stepped A) 
       → ((w : World) × touches w most)
       → Leads b c touches (led step) need most (Err (refusal.File x))
   leads_err x answer touched cause taken = record {
-      answer = λ h. (led_err (step b.how b.world) (FailsBy b c (need b.how b.world)) x (answer h).0, (answer h).1);
-      room = λ h. tt;
-      touched = λ h. subst (λ g. touches (if is_fault x then g else b.world) (need b.how b.world)) (sym (led_granted (step b.how b.world) b.world)) (touched h);
-      cause = cause;
-      taken = taken;
-    }
+    answer = λ h. (led_err (step b.how b.world) (FailsBy b c (need b.how b.world)) x (answer h).0, (answer h).1);
+    room = λ h. tt;
+    touched = λ h. subst (λ g. touches (if is_fault x then g else b.world) (need b.how b.world)) (sym (led_granted (step b.how b.world) b.world)) (touched h);
+    cause = cause;
+    taken = taken;
+  }
 
   pub leads_ok : (x : A)
       → (b.honest → step b.how b.world ≡ Ok (x, c.world))
@@ -74,12 +74,12 @@ module _ {A : Type 0} (b c : FilesState) (touches : Touches) (step : Stepped A) 
       → ((w : World) × touches w most)
       → Leads b c touches (led step) need most (Ok tt)
   leads_ok x answer room touched taken = record {
-      answer = λ h. ap (λ t. and_then (changed t) (λ p. Ok p.1)) (answer h);
-      room = room;
-      touched = λ h. subst (λ g. touches g (need b.how b.world)) (sym (led_granted (step b.how b.world) b.world)) (touched h);
-      cause = tt;
-      taken = taken;
-    }
+    answer = λ h. ap (λ t. and_then (changed t) (λ p. Ok p.1)) (answer h);
+    room = room;
+    touched = λ h. subst (λ g. touches g (need b.how b.world)) (sym (led_granted (step b.how b.world) b.world)) (touched h);
+    cause = tt;
+    taken = taken;
+  }
 
   module _ {B : Type 0} (y : B) where
     pub changes_err : (x : FileError)
@@ -89,12 +89,12 @@ module _ {A : Type 0} (b c : FilesState) (touches : Touches) (step : Stepped A) 
         → ((w : World) × touches w most)
         → Changes b c touches (gives y step) need most (Err (refusal.File x))
     changes_err x answer touched cause taken = record {
-        answer = λ h. (gives_err y (step b.how b.world) (FailsBy b c (need b.how b.world)) x (answer h).0, (answer h).1);
-        room = λ h. tt;
-        touched = λ h. subst (λ g. touches (if is_fault x then g else b.world) (need b.how b.world)) (sym (given_granted (step b.how b.world) y b.world)) (touched h);
-        cause = cause;
-        taken = taken;
-      }
+      answer = λ h. (gives_err y (step b.how b.world) (FailsBy b c (need b.how b.world)) x (answer h).0, (answer h).1);
+      room = λ h. tt;
+      touched = λ h. subst (λ g. touches (if is_fault x then g else b.world) (need b.how b.world)) (sym (given_granted (step b.how b.world) y b.world)) (touched h);
+      cause = cause;
+      taken = taken;
+    }
 
     pub changes_ok : (x : A)
         → (b.honest → step b.how b.world ≡ Ok (x, c.world))
@@ -103,12 +103,12 @@ module _ {A : Type 0} (b c : FilesState) (touches : Touches) (step : Stepped A) 
         → ((w : World) × touches w most)
         → Changes b c touches (gives y step) need most (Ok y)
     changes_ok x answer room touched taken = record {
-        answer = λ h. ap (λ t. and_then (changed t) (λ p. Ok (y, p.1))) (answer h);
-        room = room;
-        touched = λ h. subst (λ g. touches g (need b.how b.world)) (sym (given_granted (step b.how b.world) y b.world)) (touched h);
-        cause = tt;
-        taken = taken;
-      }
+      answer = λ h. ap (λ t. and_then (changed t) (λ p. Ok (y, p.1))) (answer h);
+      room = room;
+      touched = λ h. subst (λ g. touches g (need b.how b.world)) (sym (given_granted (step b.how b.world) y b.world)) (touched h);
+      cause = tt;
+      taken = taken;
+    }
 
 -- ---- in other words
 
@@ -122,12 +122,12 @@ pub leads_as : (a b : FilesState) (touches : Touches) (told told' : Told World) 
     → (a.honest → told a.how a.world ≡ told' a.how a.world) → (a.honest → need a.how a.world ≡ need' a.how a.world) → most ≡ most'
     → Leads a b touches told need most r → Leads a b touches told' need' most' r
 leads_as a b touches told told' need need' most most' r same even full l = record {
-    answer = λ h. led_as r a b (told a.how a.world) (told' a.how a.world) (need a.how a.world) (need' a.how a.world) (same h) (even h) (l.answer h);
-    room = λ h. subst (λ k. HadRoom a.has_room k r) (even h) (l.room h);
-    touched = λ h. subst (λ u. touches (tried (granted_world u a.world) a.world r) (need' a.how a.world)) (same h) (subst (λ k. touches (tried (granted_world (told a.how a.world) a.world) a.world r) k) (even h) (l.touched h));
-    cause = subst (λ k. IfErr r (HasCause a b k)) full l.cause;
-    taken = subst (λ k. (w : World) × touches w k) full l.taken;
-  }
+  answer = λ h. led_as r a b (told a.how a.world) (told' a.how a.world) (need a.how a.world) (need' a.how a.world) (same h) (even h) (l.answer h);
+  room = λ h. subst (λ k. HadRoom a.has_room k r) (even h) (l.room h);
+  touched = λ h. subst (λ u. touches (tried (granted_world u a.world) a.world r) (need' a.how a.world)) (same h) (subst (λ k. touches (tried (granted_world (told a.how a.world) a.world) a.world r) k) (even h) (l.touched h));
+  cause = subst (λ k. IfErr r (HasCause a b k)) full l.cause;
+  taken = subst (λ k. (w : World) × touches w k) full l.taken;
+}
 
 changed_as : {A : Type 0} (r : Result A Refusal) (a b : FilesState) (t t' : Result (A × World) Refusal) (n n' : ℕ) → t ≡ t' → n ≡ n' → IsChanged t (FailsBy a b n (is_ok t)) a.world b.world r → IsChanged t' (FailsBy a b n' (is_ok t')) a.world b.world r
 changed_as r a b t t' n n' same even l =
@@ -139,12 +139,12 @@ pub changes_as : {A : Type 0} (a b : FilesState) (touches : Touches) (told told'
     → (a.honest → told a.how a.world ≡ told' a.how a.world) → (a.honest → need a.how a.world ≡ need' a.how a.world) → most ≡ most'
     → Changes a b touches told need most r → Changes a b touches told' need' most' r
 changes_as a b touches told told' need need' most most' r same even full l = record {
-    answer = λ h. changed_as r a b (told a.how a.world) (told' a.how a.world) (need a.how a.world) (need' a.how a.world) (same h) (even h) (l.answer h);
-    room = λ h. subst (λ k. HadRoom a.has_room k r) (even h) (l.room h);
-    touched = λ h. subst (λ u. touches (tried (granted_with u a.world) a.world r) (need' a.how a.world)) (same h) (subst (λ k. touches (tried (granted_with (told a.how a.world) a.world) a.world r) k) (even h) (l.touched h));
-    cause = subst (λ k. IfErr r (HasCause a b k)) full l.cause;
-    taken = subst (λ k. (w : World) × touches w k) full l.taken;
-  }
+  answer = λ h. changed_as r a b (told a.how a.world) (told' a.how a.world) (need a.how a.world) (need' a.how a.world) (same h) (even h) (l.answer h);
+  room = λ h. subst (λ k. HadRoom a.has_room k r) (even h) (l.room h);
+  touched = λ h. subst (λ u. touches (tried (granted_with u a.world) a.world r) (need' a.how a.world)) (same h) (subst (λ k. touches (tried (granted_with (told a.how a.world) a.world) a.world r) k) (even h) (l.touched h));
+  cause = subst (λ k. IfErr r (HasCause a b k)) full l.cause;
+  taken = subst (λ k. (w : World) × touches w k) full l.taken;
+}
 
 -- ---- after calls that looked
 
@@ -164,25 +164,25 @@ pub leads_after : (a b c : FilesState) (touches touches' : Touches) (told : Told
     → Follows a b → (a.honest → b.world ≡ a.world) → ((n : ℕ) → a.has_room n → b.has_room n) → ((w : World) (n : ℕ) → touches' w n → touches w n)
     → Leads b c touches' told need most r → Leads a c touches told need most r
 leads_after a b c touches touches' told need most r f world room up l = record {
-    answer = λ h. led_before a b c (told a.how a.world) (need a.how a.world) a.world r f
-        (carried a b (λ e w. IsLed (told e w) (FailsBy b c (need e w) (is_ok (told e w))) w c.world r) f (world h) (l.answer (f.honest h)));
-    room = λ h. had_before a.has_room b.has_room (need a.how a.world) r room (carried a b (λ e w. HadRoom b.has_room (need e w) r) f (world h) (l.room (f.honest h)));
-    touched = λ h. up _ _ (carried a b (λ e w. touches' (tried (granted_world (told e w) w) w r) (need e w)) f (world h) (l.touched (f.honest h)));
-    cause = led_cause a b c most r f l.cause;
-    taken = (l.taken.0, up _ _ l.taken.1);
-  }
+  answer = λ h. led_before a b c (told a.how a.world) (need a.how a.world) a.world r f
+      (carried a b (λ e w. IsLed (told e w) (FailsBy b c (need e w) (is_ok (told e w))) w c.world r) f (world h) (l.answer (f.honest h)));
+  room = λ h. had_before a.has_room b.has_room (need a.how a.world) r room (carried a b (λ e w. HadRoom b.has_room (need e w) r) f (world h) (l.room (f.honest h)));
+  touched = λ h. up _ _ (carried a b (λ e w. touches' (tried (granted_world (told e w) w) w r) (need e w)) f (world h) (l.touched (f.honest h)));
+  cause = led_cause a b c most r f l.cause;
+  taken = (l.taken.0, up _ _ l.taken.1);
+}
 
 -- what only looked refuses the whole
 pub leads_looked : {B : Type 0} (a b : FilesState) (touches : Touches) (part : Told B) (told : Told World) (need : Needs) (most : ℕ) (r : Refusal)
     → (a.honest → part a.how a.world ≡ Err r → told a.how a.world ≡ Err r) → ((w : World) (n : ℕ) → touches w n)
     → Looks a b part (Err r) → Leads a b touches told need most (Err r)
 leads_looked a b touches part told need most r up any l = record {
-    answer = λ h. (refused_looking (part a.how a.world) (told a.how a.world) a.faults b.faults a.honest b.has_room (need a.how a.world) (is_ok (told a.how a.world)) r (up h) (l.answer h), l.world h);
-    room = λ h. tt;
-    touched = λ h. any _ _;
-    cause = cause_more a b most r l.cause;
-    taken = (a.world, any a.world most);
-  }
+  answer = λ h. (refused_looking (part a.how a.world) (told a.how a.world) a.faults b.faults a.honest b.has_room (need a.how a.world) (is_ok (told a.how a.world)) r (up h) (l.answer h), l.world h);
+  room = λ h. tt;
+  touched = λ h. any _ _;
+  cause = cause_more a b most r l.cause;
+  taken = (a.world, any a.world most);
+}
 
 pub leads_denied : (a b : FilesState) (touches : Touches) (told : Told World) (need : Needs) (most : ℕ) (r : Refusal)
     → (a.honest → told a.how a.world ≡ Err r) → (a.honest → b.world ≡ a.world) → HasCause a b 0 r → ((w : World) (n : ℕ) → touches w n)
@@ -194,20 +194,20 @@ pub leads_still : (a b : FilesState) (touches : Touches) (told : Told World) (ne
     → (a.honest → told a.how a.world ≡ Ok a.world) → (a.honest → need a.how a.world ≡ 0) → (a.honest → b.world ≡ a.world) → ((w : World) (n : ℕ) → touches w n)
     → Leads a b touches told need most (Ok tt)
 leads_still a b touches told need most is none world any = record {
-    answer = λ h. is h ∙ ap Ok (sym (world h));
-    room = λ h n has. let zero : need a.how a.world ≡ 0 = none h in omega arith;
-    touched = λ h. any _ _;
-    cause = tt;
-    taken = (a.world, any a.world most);
-  }
+  answer = λ h. is h ∙ ap Ok (sym (world h));
+  room = λ h n has. let zero : need a.how a.world ≡ 0 = none h in omega arith;
+  touched = λ h. any _ _;
+  cause = tt;
+  taken = (a.world, any a.world most);
+}
 
 pub changes_still : {A : Type 0} (a : FilesState) (touches : Touches) (told : Told (A × World)) (need : Needs) (most : ℕ) (x : A)
     → (a.honest → told a.how a.world ≡ Ok (x, a.world)) → (a.honest → need a.how a.world ≡ 0) → ((w : World) (n : ℕ) → touches w n)
     → Changes a a touches told need most (Ok x)
 changes_still a touches told need most x is none any = record {
-    answer = is;
-    room = λ h n has. let zero : need a.how a.world ≡ 0 = none h in omega arith;
-    touched = λ h. any _ _;
-    cause = tt;
-    taken = (a.world, any a.world most);
-  }
+  answer = is;
+  room = λ h n has. let zero : need a.how a.world ≡ 0 = none h in omega arith;
+  touched = λ h. any _ _;
+  cause = tt;
+  taken = (a.world, any a.world most);
+}

@@ -1,5 +1,5 @@
 -- Files that are removed: what the steps tell, case by case.
-use Rattle.std.proofs.Common.{◌≡◌, ℕ, Bool, true, false, Option, None, Result, Ok, Err, ◌==◌, refl, sym, ap, subst, ◌∙◌, ⊎_elim, length}
+use Rattle.std.proofs.Common.{◌≡◌, ℕ, Bool, true, false, Result, Ok, Err, ◌==◌, refl, sym, ap, subst, ◌∙◌, ⊎_elim, length}
 use Rattle.std.specs.Prelude.{not, ◌&&◌, if◌then◌else◌}
 use Rattle.fo_world.specs.declared.error.FileError.{FileError}
 use Rattle.fo_world.specs.declared.error.FileError.TheVariants as error

@@ -47,8 +47,8 @@ returns-in_err-take_next-clause-lists g c =
     let k = c.records.invariant.keeps in
     let r = c.in_err-take_next.field-0.0 in
     rw (p.1, p.2) (λ h.
-        let denied = rw (met.keeps_whole _ _ k, met.keeps_largest _ _ k, c.records.invariant.world h) at c.in_err-take_next.ensures.takes (met.keeps_honest _ _ k h) in
-        refused_by _ _ _ _ r (listing_refused _ _ _ _ _ _ _ _ r (c.records.invariant.given.listing h)) (fails_since _ _ _ _ _ (λ n. ⊥) 0 false (met.keeps_faults _ _ k) (met.keeps_honest _ _ k)) denied)
+    let denied = rw (met.keeps_whole _ _ k, met.keeps_largest _ _ k, c.records.invariant.world h) at c.in_err-take_next.ensures.takes (met.keeps_honest _ _ k h) in
+    refused_by _ _ _ _ r (listing_refused _ _ _ _ _ _ _ _ r (c.records.invariant.given.listing h)) (fails_since _ _ _ _ _ (λ n. ⊥) 0 false (met.keeps_faults _ _ k) (met.keeps_honest _ _ k)) denied)
 
 pub returns-in_err-take_next-clause-world : goal.returns-in_err-take_next-clause-world
 returns-in_err-take_next-clause-world g c =

@@ -49,8 +49,8 @@ returns-in_err-may_write_above-clause-changes g c =
     let r = c.in_err-may_write_above.field-0.0 in
     rw (p.1, p.2) (leads_looked _ _ _ (λ e w. may_write_above_by c.in_ok-users.users e w c.args.fid.now) _ _ _ r
     (λ h denied.
-        let table : table_of e w ≡ c.in_ok-users.users = ok_same _ _ (c.in_ok-users.ensures.looks.answer h) in
-        removed_above e w c.args.fid.now c.args.now r active root (ap (λ t. may_write_above_by t e w c.args.fid.now) table ∙ denied))
+    let table : table_of e w ≡ c.in_ok-users.users = ok_same _ _ (c.in_ok-users.ensures.looks.answer h) in
+    removed_above e w c.args.fid.now c.args.now r active root (ap (λ t. may_write_above_by t e w c.args.fid.now) table ∙ denied))
     (λ w n. met.touches_more _ _ w 0 n (omega arith) (met.keeps_touches _ _ w j))
     (looks_after _ _ _ _ (λ e w. may_write_above_by c.in_ok-users.users e w c.args.fid.now) (Err r) (follows _ _ (met.keeps_whole _ _ k) (met.keeps_largest _ _ k) (met.keeps_faults _ _ k) (met.keeps_honest _ _ k)) c.table_of.ensures.looks.world (λ h. refl) c.in_err-may_write_above.ensures.looks))
 
@@ -72,10 +72,10 @@ returns-in_err-remove-clause-changes g c =
     rw (p.1, p.2)
     (leads_as _ _ _ (led removes) _ need _ _ _ _
     (λ h.
-        let table : table_of e w ≡ c.in_ok-users.users = ok_same _ _ (c.in_ok-users.ensures.looks.answer h) in
-        let above = ap (λ t. may_write_above_by t e w c.args.fid.now) table
-            ∙ told_at _ _ (λ e w. may_write_above_by c.in_ok-users.users e w c.args.fid.now) _ _ _ _ (met.keeps_whole _ _ k) (met.keeps_largest _ _ k) (c.table_of.ensures.looks.world h) c.in_ok-may_write_above.ensures.looks (met.keeps_honest _ _ k h) in
-        sym (removed_told e w c.args.fid.now c.args.now active root above))
+    let table : table_of e w ≡ c.in_ok-users.users = ok_same _ _ (c.in_ok-users.ensures.looks.answer h) in
+    let above = ap (λ t. may_write_above_by t e w c.args.fid.now) table
+    ∙ told_at _ _ (λ e w. may_write_above_by c.in_ok-users.users e w c.args.fid.now) _ _ _ _ (met.keeps_whole _ _ k) (met.keeps_largest _ _ k) (c.table_of.ensures.looks.world h) c.in_ok-may_write_above.ensures.looks (met.keeps_honest _ _ k h) in
+    sym (removed_told e w c.args.fid.now c.args.now active root above))
     (λ h. refl) refl
     (leads_after _ b _ _ (λ w n. g.F.FileOps.touches mid w n c.remove.new.self) (led removes) need _ _ (follows _ _ (met.keeps_whole _ _ j) (met.keeps_largest _ _ j) (met.keeps_faults _ _ j) (met.keeps_honest _ _ j))
     (λ h. c.may_write_above.ensures.looks.world (met.keeps_honest _ _ k h) ∙ c.table_of.ensures.looks.world h) (λ n. met.keeps_room _ _ n j) (λ w n. met.keeps_then _ _ _ w n j)
@@ -97,10 +97,10 @@ returns-clause-changes g c =
     let need = λ (e : Files) (w : World). remove_need c.args.fid.now in
     (leads_as _ _ _ (led removes) _ need _ _ _ _
     (λ h.
-        let table : table_of e w ≡ c.in_ok-users.users = ok_same _ _ (c.in_ok-users.ensures.looks.answer h) in
-        let above = ap (λ t. may_write_above_by t e w c.args.fid.now) table
-            ∙ told_at _ _ (λ e w. may_write_above_by c.in_ok-users.users e w c.args.fid.now) _ _ _ _ (met.keeps_whole _ _ k) (met.keeps_largest _ _ k) (c.table_of.ensures.looks.world h) c.in_ok-may_write_above.ensures.looks (met.keeps_honest _ _ k h) in
-        sym (removed_told e w c.args.fid.now c.args.now active root above))
+    let table : table_of e w ≡ c.in_ok-users.users = ok_same _ _ (c.in_ok-users.ensures.looks.answer h) in
+    let above = ap (λ t. may_write_above_by t e w c.args.fid.now) table
+    ∙ told_at _ _ (λ e w. may_write_above_by c.in_ok-users.users e w c.args.fid.now) _ _ _ _ (met.keeps_whole _ _ k) (met.keeps_largest _ _ k) (c.table_of.ensures.looks.world h) c.in_ok-may_write_above.ensures.looks (met.keeps_honest _ _ k h) in
+    sym (removed_told e w c.args.fid.now c.args.now active root above))
     (λ h. refl) refl
     (leads_after _ b _ _ (λ w n. g.F.FileOps.touches mid w n c.remove.new.self) (led removes) need _ _ (follows _ _ (met.keeps_whole _ _ j) (met.keeps_largest _ _ j) (met.keeps_faults _ _ j) (met.keeps_honest _ _ j))
     (λ h. c.may_write_above.ensures.looks.world (met.keeps_honest _ _ k h) ∙ c.table_of.ensures.looks.world h) (λ n. met.keeps_room _ _ n j) (λ w n. met.keeps_then _ _ _ w n j)

@@ -1,4 +1,4 @@
-use Rattle.std.proofs.Common.{sym, refl, Err, arith}
+use Rattle.std.proofs.Common.{sym, refl, arith}
 use Rattle.std.proofs.lemmas.Result.{err_from_is_err_and}
 use Rattle.nine_fids.specs.Told.{info_at, served}
 use Rattle.nine_fids.proofs.Seeing.{follows}

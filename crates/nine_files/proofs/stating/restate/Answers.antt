@@ -1,4 +1,4 @@
-use Rattle.std.proofs.Common.{sym, refl, ◌∙◌, arith}
+use Rattle.std.proofs.Common.{sym, refl, arith}
 use Rattle.std.proofs.lemmas.Result.{err_from_is_err_and}
 use Rattle.fo_world.specs.Step as step
 use Rattle.fo_world.specs.World.{World}
@@ -29,9 +29,9 @@ change-requires-clause-change g c =
     let k = c.check_change.ensures.keeps in
     is_change _ _ _ c.args.fid.now c.args.what.now c.in_ok-check_change.ensures.name c.requires.name c.in_ok-check_change.ensures.gid
     (λ later.
-        let h = met.keeps_silent _ _ k later in
-        rw (met.keeps_whole _ _ k, c.check_change.ensures.looks.world h)
-        (kind_good e w c.args.fid.now c.args.is_bad c.args.what.now c.args.info.now (c.in_ok-check_change.ensures.looks.answer h) (c.requires.info h)))
+    let h = met.keeps_silent _ _ k later in
+    rw (met.keeps_whole _ _ k, c.check_change.ensures.looks.world h)
+    (kind_good e w c.args.fid.now c.args.is_bad c.args.what.now c.args.info.now (c.in_ok-check_change.ensures.looks.answer h) (c.requires.info h)))
 
 pub returns-in_err-change : goal.returns-in_err-change
 returns-in_err-change g c =

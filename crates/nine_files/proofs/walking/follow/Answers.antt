@@ -70,9 +70,9 @@ returns-in-Err-clause-comes g c =
     let front = name_here c.args.names.now c.loop-name.name-index c.name-item.result c.loop-name-test.true c.name-item.is in
     let looks = rw c.as_slice.ensures at c.in-Err.ensures.looks in
     rw c.new.ensures (λ h.
-        let stops = told_if_plain (told e w) (g.F.FileOps.faults f) (g.F.FileOps.faults c.next.new.files) (g.F.FileOps.honest f) c.in-Err.refusal (sym c.is_failure.ensures ∙ c.if-is_failure.false)
-            ((looks_after a b _ told told _ (follows _ _ (met.keeps_whole _ _ k) (met.keeps_largest _ _ k) (met.keeps_faults _ _ k) (met.keeps_honest _ _ k)) c.loop-name.invariant.world (λ h. refl) looks).answer h) in
-        sym (c.loop-name.invariant.comes h ∙ walk_stops c.args.users.now e w c.args.user.now (drop c.loop-name.name-index c.args.names.now) (drop (c.loop-name.name-index + 1) c.args.names.now) c.name-item.result c.loop-name.qids.items c.loop-name.last c.in-Err.refusal front stops))
+    let stops = told_if_plain (told e w) (g.F.FileOps.faults f) (g.F.FileOps.faults c.next.new.files) (g.F.FileOps.honest f) c.in-Err.refusal (sym c.is_failure.ensures ∙ c.if-is_failure.false)
+    ((looks_after a b _ told told _ (follows _ _ (met.keeps_whole _ _ k) (met.keeps_largest _ _ k) (met.keeps_faults _ _ k) (met.keeps_honest _ _ k)) c.loop-name.invariant.world (λ h. refl) looks).answer h) in
+    sym (c.loop-name.invariant.comes h ∙ walk_stops c.args.users.now e w c.args.user.now (drop c.loop-name.name-index c.args.names.now) (drop (c.loop-name.name-index + 1) c.args.names.now) c.name-item.result c.loop-name.qids.items c.loop-name.last c.in-Err.refusal front stops))
 
 pub returns-in-Err-clause-part : goal.returns-in-Err-clause-part
 returns-in-Err-clause-part g c =

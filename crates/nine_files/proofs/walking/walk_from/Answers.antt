@@ -35,8 +35,8 @@ returns-clause-arrives g c =
     looks_walked _ (state_of (g.F.FileOps.whole later) (g.F.FileOps.largest later) (g.F.FileOps.world later) (g.F.FileOps.faults later) (g.F.FileOps.honest later) (g.F.FileOps.has_room later)) _ _ (walked_by users e w user names start) _ (follows _ _ (met.keeps_whole _ _ j) (met.keeps_largest _ _ j) (met.keeps_faults _ _ j) (met.keeps_honest _ _ j))
     (λ h. c.table_of.ensures.looks.world (met.keeps_honest _ _ k h) ∙ c.info_at.ensures.looks.world h)
     (λ h.
-        let table : table_of e w ≡ users = ok_same _ _ (told_at _ _ (λ e w. Ok (table_of e w)) _ _ _ _ (met.keeps_whole _ _ k) (met.keeps_largest _ _ k) (c.info_at.ensures.looks.world h) c.in_ok-users.ensures.looks (met.keeps_honest _ _ k h)) in
-        arrived_from e w c.args.fid.now names some ∙ ap (λ t. and_then t (λ i. Ok (walked_by (table_of e w) e w user names i))) (c.in_ok-start.ensures.looks.answer h)
-        ∙ ap (λ t. Ok (walked_by t e w user names start)) table)
+    let table : table_of e w ≡ users = ok_same _ _ (told_at _ _ (λ e w. Ok (table_of e w)) _ _ _ _ (met.keeps_whole _ _ k) (met.keeps_largest _ _ k) (c.info_at.ensures.looks.world h) c.in_ok-users.ensures.looks (met.keeps_honest _ _ k h)) in
+    arrived_from e w c.args.fid.now names some ∙ ap (λ t. and_then t (λ i. Ok (walked_by (table_of e w) e w user names i))) (c.in_ok-start.ensures.looks.answer h)
+    ∙ ap (λ t. Ok (walked_by t e w user names start)) table)
     (λ h. rw (met.keeps_whole _ _ j, met.keeps_largest _ _ j, c.table_of.ensures.looks.world (met.keeps_honest _ _ k h) ∙ c.info_at.ensures.looks.world h) at c.follow.ensures.comes (met.keeps_honest _ _ j h))
     c.follow.ensures.world c.follow.ensures.cause
