@@ -100,6 +100,7 @@ pub fn write_byte<B: Blocks>(on: &mut B, top: u32, k: u32, leaf: u32, from: u32,
     ensures others { (B.state on.old).tells → KeepsAll (IsOtherLeaf k) (B.state on.old).may_leave (B.state on.new).may_leave }
 
     ensures leads { (above : ℕ) × (target (((B.state on.new).now (B.state on.new).root).slot 0) ≡ Local above) × (target (((B.state on.new).now above).slot k) ≡ Local result) }
+    ensures linked { (B.state on.new).tells → (y x : ℕ) → (B.state on.new).instead y x → ⊥ }
     ensures written { ((B.state on.new).now result).bytes ≡ put_at from (byte ∷ []) (((B.state on.old).now leaf).bytes) }
     ensures keeps { B.keeps on.old on.new }
 {
