@@ -24,11 +24,39 @@ pub record HasCauses (main main' arena arena' out out' : ℕ) (how : ToolEnd) : 
   pub arena_write : how ≡ end.ArenaWrite → Rose arena arena'
   pub output : how ≡ end.Output → Rose out out'
 
+-- ---- over any devices
+
+-- the numbers of blocks of the main device and of the arena are in range
+abbrev pub InRange : ℕ → ℕ → Type 0
+InRange main arena = (64 ≤ main) × (main ≤ 2 ^ 20) × (16 ≤ arena) × (arena ≤ 2 ^ 20)
+
+-- How flfmt may end, where so many blocks were found: for a size exactly where one is out of range, but for blocks that could not
+-- be counted; and never for what an image holds, since it looks at none.
+abbrev pub MayEndFormat : ℕ → ℕ → ToolEnd → Type 0
+MayEndFormat main arena end.Size = ¬ InRange main arena
+MayEndFormat main arena end.MainRead = Unit {0}
+MayEndFormat main arena end.ArenaRead = Unit {0}
+MayEndFormat main arena end.NotFossil = ⊥
+MayEndFormat main arena (end.Unsound rule block) = ⊥
+MayEndFormat main arena end.NotArena = ⊥
+MayEndFormat main arena end.NotBuilt = ⊥
+MayEndFormat main arena _ = InRange main arena
+
+-- How flchk may end, where so many blocks were found: for a size exactly where one is out of range, but for reads that failed; and
+-- never for a write, since it writes nothing.
+abbrev pub MayEndCheck : ℕ → ℕ → ToolEnd → Type 0
+MayEndCheck main arena end.Size = ¬ InRange main arena
+MayEndCheck main arena end.MainRead = Unit {0}
+MayEndCheck main arena end.ArenaRead = Unit {0}
+MayEndCheck main arena end.MainWrite = ⊥
+MayEndCheck main arena end.ArenaWrite = ⊥
+MayEndCheck main arena _ = InRange main arena
+
 -- ---- flfmt
 
 -- The line was printed, or a front of it where the output failed; else nothing. `blocks` is the main device's number of blocks.
 abbrev pub PrintsFormat : ℕ → Option (List ℕ) → Option (List ℕ) → ToolEnd → Type 0
-PrintsFormat blocks held held' end.Ended = (64 ≤ blocks) × (blocks ≤ 2 ^ 20) × GainsEnd (format_line blocks) held held'
+PrintsFormat blocks held held' end.Ended = GainsEnd (format_line blocks) held held'
 PrintsFormat blocks held held' end.Output = PutsFront (format_line blocks) held held'
 PrintsFormat blocks held held' _ = held' ≡ held
 
@@ -42,10 +70,7 @@ EndsFormat time image vault main arena end.MainWrite = HasSizes image vault
 EndsFormat time image vault main arena end.ArenaRead = Unit {0}
 EndsFormat time image vault main arena end.ArenaWrite = HasSizes image vault
 EndsFormat time image vault main arena end.Memory = HasSizes image vault
-EndsFormat time image vault main arena end.NotFossil = ⊥
-EndsFormat time image vault main arena (end.Unsound rule block) = ⊥
-EndsFormat time image vault main arena end.NotArena = ⊥
-EndsFormat time image vault main arena end.NotBuilt = ⊥
+EndsFormat time image vault main arena _ = ⊥
 
 -- nothing was written
 abbrev pub WritesNothing : ToolEnd → Type 0

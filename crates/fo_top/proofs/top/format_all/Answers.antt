@@ -8,6 +8,7 @@ returns-clause-formats g c = record {
   time = c.now.result;
   now = c.now.ensures;
   prints = c.flfmt.ensures.prints;
+  sized = c.flfmt.ensures.sized;
   ends = c.flfmt.ensures.ends;
   main_kept = c.flfmt.ensures.main;
   arena_kept = c.flfmt.ensures.arena;
