@@ -1,9 +1,9 @@
 -- How a tool ends, what it has printed then, and what the devices hold.
-use Rattle.std.specs.Prelude.{◌≡◌, ◌≢◌, ◌⊎◌, ℕ, ◌≤◌, ◌^◌, List, Option}
+use Rattle.std.specs.Prelude.{◌≡◌, ◌≢◌, ◌⊎◌, ℕ, ◌≤◌, List, Option}
 use Rattle.fo_base.specs.Cause.{Rose}
 use Rattle.fo_links.specs.Links.{GainsEnd}
 use Rattle.fo_disk.specs.Disk.{Block, Content}
-use Rattle.fo_sound.specs.Sizes.{HasSizes}
+use Rattle.fo_sound.specs.Sizes.{HasSizes, IsMainSize, InRange}
 use Rattle.fo_format.specs.Formatted.{Formats}
 use Rattle.fo_check.specs.Answer.{IsNoArena, IsNotBuilt, IsUnsound}
 use Rattle.fo_check.specs.declared.report.Report.{Report}
@@ -13,7 +13,7 @@ use Rattle.fo_tools.specs.declared.end.ToolEnd.TheVariants as end
 
 -- ---- causes
 
--- Neither count of faults falls, and a fault is the end only where that count rose.
+-- No count of faults falls, a fault is the end only where that count rose, and a size only where no device failed.
 pub record HasCauses (main main' arena arena' out out' : ℕ) (how : ToolEnd) : Type 0 where
   pub main_later : main ≤ main'
   pub arena_later : arena ≤ arena'
@@ -23,19 +23,16 @@ pub record HasCauses (main main' arena arena' out out' : ℕ) (how : ToolEnd) : 
   pub arena_read : how ≡ end.ArenaRead → Rose arena arena'
   pub arena_write : how ≡ end.ArenaWrite → Rose arena arena'
   pub output : how ≡ end.Output → Rose out out'
+  pub size : how ≡ end.Size → (main' ≡ main) × (arena' ≡ arena)
 
 -- ---- over any devices
-
--- the numbers of blocks of the main device and of the arena are in range
-abbrev pub InRange : ℕ → ℕ → Type 0
-InRange main arena = (64 ≤ main) × (main ≤ 2 ^ 20) × (16 ≤ arena) × (arena ≤ 2 ^ 20)
 
 -- How flfmt may end, where so many blocks were found: for a size exactly where one is out of range, but for blocks that could not
 -- be counted; and never for what an image holds, since it looks at none.
 abbrev pub MayEndFormat : ℕ → ℕ → ToolEnd → Type 0
 MayEndFormat main arena end.Size = ¬ InRange main arena
 MayEndFormat main arena end.MainRead = Unit {0}
-MayEndFormat main arena end.ArenaRead = Unit {0}
+MayEndFormat main arena end.ArenaRead = IsMainSize main
 MayEndFormat main arena end.NotFossil = ⊥
 MayEndFormat main arena (end.Unsound rule block) = ⊥
 MayEndFormat main arena end.NotArena = ⊥
@@ -47,10 +44,15 @@ MayEndFormat main arena _ = InRange main arena
 abbrev pub MayEndCheck : ℕ → ℕ → ToolEnd → Type 0
 MayEndCheck main arena end.Size = ¬ InRange main arena
 MayEndCheck main arena end.MainRead = Unit {0}
-MayEndCheck main arena end.ArenaRead = Unit {0}
+MayEndCheck main arena end.ArenaRead = IsMainSize main
 MayEndCheck main arena end.MainWrite = ⊥
 MayEndCheck main arena end.ArenaWrite = ⊥
 MayEndCheck main arena _ = InRange main arena
+
+-- A size is the end only where the main device, of which so many blocks were found, was asked for that number, and so was the arena
+-- if it is in range. Of both devices the calls before and after are counted.
+abbrev pub AsksSizes : ℕ → ℕ → ℕ → ℕ → ℕ → ToolEnd → Type 0
+AsksSizes size main main' arena arena' how = how ≡ end.Size → Rose main main' × (IsMainSize size → Rose arena arena')
 
 -- ---- flfmt
 

@@ -6,6 +6,7 @@ returns-clause-checks g c = record {
   how = c.flchk.result;
   end_is = c.from.ensures;
   sized = c.flchk.ensures.sized;
+  asked = c.flchk.ensures.asked;
   prints = c.flchk.ensures.prints;
   ends = c.flchk.ensures.ends;
   only = c.flchk.ensures.only;

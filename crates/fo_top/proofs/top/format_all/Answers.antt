@@ -9,6 +9,7 @@ returns-clause-formats g c = record {
   now = c.now.ensures;
   prints = c.flfmt.ensures.prints;
   sized = c.flfmt.ensures.sized;
+  asked = c.flfmt.ensures.asked;
   ends = c.flfmt.ensures.ends;
   main_kept = c.flfmt.ensures.main;
   arena_kept = c.flfmt.ensures.arena;
