@@ -40,7 +40,12 @@ fn clear_before<C: Clock, M: Machine>(request: &Request, clock: &mut C, machine:
 }
 
 /// The machine's reply to a request.
-pub fn ask<C: Clock, M: Machine>(tag: u16, request: Request, clock: &mut C, machine: &mut M) -> Reply
+pub fn ask<C: Clock, M: Machine>(
+    tag: u16,
+    request: Request,
+    clock: &mut C,
+    machine: &mut M,
+) -> Reply
     requires { RequestFits request }
     ensures asks { Asks M.goes (record { clock = C.coming clock.old; state = machine.old; faults = M.faults machine.old })
         tag request result (record { clock = C.coming clock.new; state = machine.new; faults = M.faults machine.new }) }
