@@ -1,10 +1,11 @@
 //! Conversations over sources and sinks in memory, with a machine that counts.
 ghost use Rattle.std.specs.Prelude.{◌<◌};
 
-use crate::{LinkEnd, Machine, serve};
-use fo_links::{MemSink, MemSource, SetClock};
+use crate::messages::bytes;
+use fo_links::{MemClock, MemSink, MemSource, SetClock};
+use fo_talk::{LinkEnd, Machine, serve};
 use nine_wire::{Qid, Reply, Request};
-use std::alloc::{AllocError, Global};
+use std::alloc::Global;
 use std::process::Abort;
 use std::test::Fail;
 
@@ -54,50 +55,6 @@ impl Machine for Counter {
     }
 }
 
-// A Tversion of 65560 bytes and 9P2000, a Tattach of glenda with fid 0, a Tflush, and what is replied
-// to each.
-const V: &str = "1300000064ffff180001000600395032303030";
-
-const T: &str = "1900000068010000000000ffffffff0600676c656e64610000";
-
-const F: &str = "090000006c01000000";
-
-const RV: &str = "1300000065ffff180001000600395032303030";
-
-const RT: &str = "1400000069010080000000000000000000000000";
-
-const RF: &str = "070000006d0100";
-
-fn digit(c: u8) -> u8 {
-    match c {
-        b'0'..=b'9' => c - b'0',
-        b'a'..=b'f' => c - b'a' + 10,
-        _ => 0,
-    }
-}
-
-// The bytes of these words, each the name of one above or in hexadecimal.
-fn bytes(alloc: Global, text: &str) -> Result<Vec<u8>, AllocError> {
-    let mut bytes = Vec::new(alloc);
-    for word in text.split_whitespace() {
-        let hex = match word {
-            "V" => V,
-            "T" => T,
-            "F" => F,
-            "RV" => RV,
-            "RT" => RT,
-            "RF" => RF,
-            _ => word,
-        };
-        for pair in hex.as_bytes().chunks(2) {
-            if let [high, low] = pair {
-                bytes.push(digit(*high).wrapping_mul(16).wrapping_add(digit(*low)))?;
-            }
-        }
-    }
-    Ok(bytes)
-}
-
 // Talks over these bytes, which come at most `step` at a time: what is said, how it ends, how many
 // fids are let go, and how often none was left.
 fn says(
@@ -118,36 +75,13 @@ fn says(
         gone: 0,
         emptied: 0,
     };
-    let ended = serve(alloc, &mut input, &mut out, &SetClock::new(7), &mut counter);
+    let mut clock = SetClock::new(7);
+    let ended = serve(alloc, &mut input, &mut out, &mut clock, &mut counter);
     assert_eq!(rt; ended, end);
     assert_eq!(rt; out.bytes(), bytes(alloc, output)?.as_slice());
     assert_eq!(rt; counter.fids, 0);
     assert_eq!(rt; counter.gone, counts.0);
     assert_eq!(rt; counter.emptied, counts.1);
-    Ok(())
-}
-
-// Talks over V, T and F, which come at most 30 bytes at a time, where these calls fail.
-fn faulty(
-    rt: &impl Abort,
-    alloc: Global,
-    reads: &[u64],
-    writes: &[u64],
-    said: usize,
-    end: LinkEnd,
-) -> Result<(), Fail> {
-    let mut input = MemSource::new(bytes(alloc, "V T F")?, 30, reads.to_vec(alloc)?);
-    let mut out = MemSink::new(writes.to_vec(alloc)?);
-    let mut counter = Counter {
-        fids: 0,
-        gone: 0,
-        emptied: 0,
-    };
-    let ended = serve(alloc, &mut input, &mut out, &SetClock::new(7), &mut counter);
-    assert_eq!(rt; ended, end);
-    let all = bytes(alloc, "RV RT RF")?;
-    assert_eq!(rt; Some(out.bytes()), all.get(..said));
-    assert_eq!(rt; counter.fids, 0);
     Ok(())
 }
 
@@ -199,29 +133,52 @@ fn rows(rt: HostRuntime) -> Result<(), Fail> {
     Ok(())
 }
 
-#[test]
-fn faults(rt: HostRuntime) -> Result<(), Fail> {
-    for (call, said) in [(0u64, 0usize), (1, 19), (2, 46)] {
-        faulty(&rt, rt.alloc(), &[call], &[], said, LinkEnd::ReadFault)?;
-    }
-    // A call of the sink that fails puts a half of its piece.
-    for (call, said) in [(0u64, 9usize), (1, 29), (2, 42)] {
-        faulty(&rt, rt.alloc(), &[], &[call], said, LinkEnd::WriteFault)?;
-    }
-    Ok(())
+/// Knows the moments at which it was asked, or a fid was let go, in order.
+#[derive(Drop)]
+struct Diary {
+    moments: [u32; 8],
+    count: usize,
 }
 
-#[test]
-fn texts(rt: HostRuntime) -> Result<(), Fail> {
-    for (end, text) in [
-        (LinkEnd::End, "end of input"),
-        (LinkEnd::BadMessage(19), "bad message at byte 19"),
-        (LinkEnd::ReadFault, "read fault"),
-        (LinkEnd::WriteFault, "write fault"),
-        (LinkEnd::Memory, "no memory"),
-    ] {
-        let said = format!(in rt.alloc(); "{end}")?;
-        assert_eq!(rt; said.as_str(), text);
+impl Diary {
+    fn enter(&mut self, now: u32) {
+        if let Some(moment) = self.moments.get_mut(self.count) {
+            *moment = now;
+            self.count = self.count.saturating_add(1);
+        }
     }
+}
+
+impl Machine for Diary {
+    ghost faults = { λ _. record { main = 0; arena = 0 } };
+
+    ghost fids = { λ _. 0 };
+
+    ghost goes = { λ _ _ _ _ _ _. Unit {0} };
+
+    fn answer(&mut self, now: u32, _tag: u16, _request: Request) -> Reply {
+        self.enter(now);
+        Reply::Flush
+    }
+
+    fn drop_one(&mut self, now: u32) -> (bool, Option<Reply>) {
+        self.enter(now);
+        (false, None)
+    }
+}
+
+/// A clock that moves is read once for each request, and once for each fid or none that is let go.
+#[test]
+fn moments(rt: HostRuntime) -> Result<(), Fail> {
+    let alloc = rt.alloc();
+    let mut input = MemSource::new(bytes(alloc, "F F V F")?, 9, Vec::new(alloc));
+    let mut out = MemSink::new(Vec::new(alloc));
+    let mut clock = MemClock::new(vec![in alloc; 5, 6, 8, 8, 11, 20]?);
+    let mut diary = Diary {
+        moments: [0; 8],
+        count: 0,
+    };
+    serve(alloc, &mut input, &mut out, &mut clock, &mut diary);
+    assert_eq!(rt; diary.moments, [5, 6, 8, 8, 11, 20, 0, 0]);
     Ok(())
 }

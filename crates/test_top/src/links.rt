@@ -1,5 +1,7 @@
-use crate::{
-    Clock, Failed, MemSink, MemSource, ReadSource, SetClock, Sink, Source, SystemClock, WriteSink,
+//! Streams and clocks.
+
+use fo_links::{
+    Clock, Failed, MemClock, MemSink, ReadSource, Sink, Source, SystemClock, WriteSink,
 };
 use std::io::{self, ErrorKind, Read, Write};
 use std::test::Fail;
@@ -13,43 +15,6 @@ fn ample(rt: HostRuntime) -> Result<(), Fail> {
     assert_eq!(rt; sink.put(b""), Ok(()));
     assert_eq!(rt; sink.put(b" two"), Ok(()));
     assert_eq!(rt; sink.bytes(), b"one two".as_slice());
-    Ok(())
-}
-
-#[test]
-fn a_source_gives_its_bytes_by_steps(rt: HostRuntime) -> Result<(), Fail> {
-    // step, and what three calls with a piece of four bytes leave there
-    let table = [
-        (1, [b"g...", b"l...", b"e..."]),
-        (3, [b"gle.", b"nda.", b"...."]),
-        (4, [b"glen", b"da..", b"...."]),
-        (9, [b"glen", b"da..", b"...."]),
-    ];
-    for (step, calls) in table {
-        let bytes = Vec::from_slice(rt.alloc(), b"glenda")?;
-        let mut source = MemSource::new(bytes, step, Vec::new(rt.alloc()));
-        for want in calls {
-            let mut piece = *b"....";
-            let count = want.iter().filter(|b| **b != b'.').count();
-            assert_eq!(rt; source.take(&mut piece), Ok(count));
-            assert_eq!(rt; piece, *want);
-        }
-        assert_eq!(rt; source.take(&mut []), Ok(0));
-    }
-    Ok(())
-}
-
-#[test]
-fn a_failing_source_loses_nothing(rt: HostRuntime) -> Result<(), Fail> {
-    let bytes = Vec::from_slice(rt.alloc(), b"glenda")?;
-    let mut source = MemSource::new(bytes, 2, Vec::from_slice(rt.alloc(), &[1, 2])?);
-    let mut piece = *b"....";
-    assert_eq!(rt; source.take(&mut piece), Ok(2));
-    assert_eq!(rt; source.take(&mut piece), Err(Failed));
-    assert_eq!(rt; source.take(&mut piece), Err(Failed));
-    assert_eq!(rt; piece, *b"gl..");
-    assert_eq!(rt; source.take(&mut piece), Ok(2));
-    assert_eq!(rt; piece, *b"en..");
     Ok(())
 }
 
@@ -188,15 +153,20 @@ impl time::Clock for FakeClock {
 
 #[test]
 fn clocks(rt: HostRuntime) -> Result<(), Fail> {
-    assert_eq!(rt; SetClock::new(7).now(), 7);
-    assert!(rt; SystemClock::new(&rt).now() > 1_600_000_000);
+    let mut clock = MemClock::new(vec![in rt.alloc(); 7, 9]?);
+    for want in [7, 9, 0, 0] {
+        assert_eq!(rt; clock.now(), want);
+    }
+    let mut clock = SystemClock::new(&rt);
+    assert!(rt; clock.now() > 1_600_000_000);
     for (seconds, want) in [
         (None, 0),
         (Some(1_600_000_000), 1_600_000_000),
         (Some(4_294_967_295), 4_294_967_295),
         (Some(4_294_967_296), 4_294_967_295),
     ] {
-        assert_eq!(rt; SystemClock::new(FakeClock { seconds }).now(), want);
+        let mut clock = SystemClock::new(FakeClock { seconds });
+        assert_eq!(rt; clock.now(), want);
     }
     Ok(())
 }

@@ -1,4 +1,5 @@
-use crate::{Bytes, is_text};
+//! Texts.
+use fo_base::{Bytes, is_text};
 use std::test::Fail;
 
 #[test]

@@ -1,70 +1,13 @@
 //! Whole runs over sources, sinks and devices in memory.
 ghost use Rattle.std.specs.Prelude.{◌<◌};
 
-use crate::{Done, Why, run};
+use crate::messages::bytes;
 use fo_disk::MemDisk;
-use fo_links::{MemSink, MemSource, SetClock};
+use fo_links::{MemClock, MemSink, MemSource, SetClock};
+use fo_top::{Done, Why, run};
 use std::alloc::{AllocError, Global};
 use std::process::Abort;
 use std::test::Fail;
-
-// A Tversion of 65560 bytes and 9P2000, a Tattach of glenda with fid 0, a Tstat of it, a Tcreate of `f` in it for reading and writing
-// and with ORCLOSE, a Twalk from it to `f`, and what is replied to each but the last.
-const V: &str = "1300000064ffff180001000600395032303030";
-
-const T: &str = "1900000068010000000000ffffffff0600676c656e64610000";
-
-const S: &str = "0b0000007c020000000000";
-
-const C: &str = "13000000720200000000000100668001000042";
-
-const W: &str = "140000006e030000000000010000000100010066";
-
-const RC: &str = "180000007302000000000000010000000000000000000100";
-
-const RV: &str = "1300000065ffff180001000600395032303030";
-
-const RT: &str = "1400000069010080000000000000000000000000";
-
-const RS: &str =
-    "440000007d02003b00390000000000000080000000000000000000000000ff0100800000000000000000000000000000000001002f030061646d030061646d030061646d";
-
-fn digit(c: u8) -> u8 {
-    match c {
-        b'0'..=b'9' => c - b'0',
-        b'a'..=b'f' => c - b'a' + 10,
-        _ => 0,
-    }
-}
-
-// What a word stands for in hexadecimal: the name of one above, or itself.
-fn hex_of(word: &str) -> &str {
-    match word {
-        "V" => V,
-        "T" => T,
-        "S" => S,
-        "C" => C,
-        "W" => W,
-        "RC" => RC,
-        "RV" => RV,
-        "RT" => RT,
-        "RS" => RS,
-        _ => word,
-    }
-}
-
-// The bytes of these words.
-fn bytes(alloc: Global, text: &str) -> Result<Vec<u8>, AllocError> {
-    let mut bytes = Vec::new(alloc);
-    for word in text.split_whitespace() {
-        for pair in hex_of(word).as_bytes().chunks(2) {
-            if let [high, low] = pair {
-                bytes.push(digit(*high).wrapping_mul(16).wrapping_add(digit(*low)))?;
-            }
-        }
-    }
-    Ok(bytes)
-}
 
 fn words(alloc: Global, list: &[&str]) -> Result<Vec<String>, AllocError> {
     let mut words = Vec::new(alloc);
@@ -97,43 +40,15 @@ fn says(
     let done = run(
         alloc,
         words.as_slice(),
+        main,
+        arena,
         input,
         out,
         SetClock::new(7),
-        main,
-        arena,
     );
     assert_eq!(rt; done.why, why);
     assert_eq!(rt; done.out.bytes(), bytes(alloc, output)?.as_slice());
     assert_eq!(rt; (done.main.calls(), done.arena.calls()), (0, 0));
-    Ok(())
-}
-
-// Runs `9p` over V, T and S, which come at most 30 bytes at a time, where these calls fail.
-fn faulty(
-    rt: &impl Abort,
-    alloc: Global,
-    reads: &[u64],
-    writes: &[u64],
-    said: usize,
-    why: Why,
-) -> Result<(), Fail> {
-    let words = words(alloc, &["9p", "main", "arena"])?;
-    let input = MemSource::new(bytes(alloc, "V T S")?, 30, reads.to_vec(alloc)?);
-    let out = MemSink::new(writes.to_vec(alloc)?);
-    let (main, arena) = (disk(alloc, 64)?, disk(alloc, 16)?);
-    let done = run(
-        alloc,
-        words.as_slice(),
-        input,
-        out,
-        SetClock::new(7),
-        main,
-        arena,
-    );
-    assert_eq!(rt; done.why, why);
-    let all = bytes(alloc, "RV RT RS")?;
-    assert_eq!(rt; Some(done.out.bytes()), all.get(..said));
     Ok(())
 }
 
@@ -153,17 +68,17 @@ fn tool(
     let done = run(
         alloc,
         words.as_slice(),
+        main,
+        arena,
         input,
         out,
         SetClock::new(7),
-        main,
-        arena,
     );
     let Done {
         why: ended,
-        out,
         main,
         arena,
+        out,
         ..
     } = done;
     assert_eq!(rt; ended, why);
@@ -180,25 +95,6 @@ fn ample(rt: HostRuntime) -> Result<(), Fail> {
     let devices = (disk(alloc, 64)?, disk(alloc, 16)?);
     let devices = tool(&rt, alloc, "flfmt", devices, Why::Ended, formatted)?;
     tool(&rt, alloc, "flchk", devices, Why::Ended, sound)?;
-    Ok(())
-}
-
-#[test]
-fn tools(rt: HostRuntime) -> Result<(), Fail> {
-    let alloc = rt.alloc();
-    let fresh = (disk(alloc, 64)?, disk(alloc, 16)?);
-    tool(&rt, alloc, "flchk", fresh, Why::NotFossil, "")?;
-    let small = (disk(alloc, 63)?, disk(alloc, 16)?);
-    tool(&rt, alloc, "flfmt", small, Why::Size, "")?;
-    let failing = MemDisk::new(alloc, 64, vec![in alloc; 1u64]?)?;
-    tool(
-        &rt,
-        alloc,
-        "flfmt",
-        (failing, disk(alloc, 16)?),
-        Why::MainRead,
-        "",
-    )?;
     Ok(())
 }
 
@@ -285,76 +181,71 @@ fn rows(rt: HostRuntime) -> Result<(), Fail> {
     Ok(())
 }
 
-#[test]
-fn faults(rt: HostRuntime) -> Result<(), Fail> {
-    for (call, said) in [(0u64, 0usize), (1, 19), (2, 107)] {
-        faulty(&rt, rt.alloc(), &[call], &[], said, Why::Input)?;
-    }
-    // A call of the sink that fails puts a half of its piece.
-    for (call, said) in [(0u64, 9usize), (1, 29), (2, 73)] {
-        faulty(&rt, rt.alloc(), &[], &[call], said, Why::Output)?;
-    }
+// The end of a run over no device and no input, and what is printed of it.
+fn ends(rt: &impl Abort, alloc: Global, name: &str, why: Why, text: &str) -> Result<(), Fail> {
+    let words = words(alloc, &[name, "main", "arena"])?;
+    let (main, arena) = (disk(alloc, 0)?, disk(alloc, 16)?);
+    let done = run(
+        alloc,
+        words.as_slice(),
+        main,
+        arena,
+        MemSource::new(Vec::new(alloc), 9, Vec::new(alloc)),
+        MemSink::new(Vec::new(alloc)),
+        SetClock::new(7),
+    );
+    assert_eq!(rt; done.why, why);
+    assert_eq!(rt; done.why.text().as_str(), text);
     Ok(())
 }
 
 #[test]
-fn usage(rt: HostRuntime) -> Result<(), Fail> {
+fn texts(rt: HostRuntime) -> Result<(), Fail> {
     let alloc = rt.alloc();
-    for list in [
-        ["9p", "main"].as_slice(),
-        ["9p", "main", ""].as_slice(),
-        ["9p", "", "arena"].as_slice(),
-        ["9P", "main", "arena"].as_slice(),
-        ["9p", "main", "arena", "more"].as_slice(),
-        ["flfmt", "main"].as_slice(),
-        ["flchk", "", "arena"].as_slice(),
-    ] {
-        let words = words(alloc, list)?;
-        let input = MemSource::new(bytes(alloc, "V T S")?, 9, Vec::new(alloc));
-        let out = MemSink::new(Vec::new(alloc));
-        let (main, arena) = (disk(alloc, 64)?, disk(alloc, 16)?);
-        let done = run(
-            alloc,
-            words.as_slice(),
-            input,
-            out,
-            SetClock::new(7),
-            main,
-            arena,
-        );
-        assert_eq!(rt; done.why, Why::Usage);
-        assert_eq!(rt; done.status, 1);
-        assert_eq!(rt; done.out.bytes(), b"".as_slice());
-    }
+    ends(
+        &rt,
+        alloc,
+        "flfmt",
+        Why::Size,
+        "size of a device out of range",
+    )?;
+    ends(
+        &rt,
+        alloc,
+        "9P",
+        Why::Usage,
+        "usage: fossil command main arena [options]",
+    )?;
+    let place = Why::BadInput(18_446_744_073_709_551_615);
+    assert_eq!(rt;
+        place.text().as_str(),
+        "bad input at byte 18446744073709551615"
+    );
+    let rule = Why::Unsound { rule: 2, block: 3 };
+    assert_eq!(rt; rule.text().as_str(), "unsound S2 at block 3");
     Ok(())
 }
 
+// The file `f` is made at the fourth reading of the clock: the first is for the fids that a Tversion lets go, the fifth for the Tstat.
 #[test]
-fn statuses_and_texts(rt: HostRuntime) -> Result<(), Fail> {
-    for (why, status, text) in [
-        (Why::Ended, 0, "ended"),
-        (Why::Usage, 1, "usage: fossil command main arena [options]"),
-        (Why::NotFossil, 2, "not a fossil image"),
-        (
-            Why::Unsound { rule: 2, block: 3 },
-            3,
-            "unsound S2 at block 3",
-        ),
-        (Why::MainRead, 4, "read fault on main"),
-        (Why::MainWrite, 5, "write fault on main"),
-        (Why::ArenaRead, 6, "read fault on arena"),
-        (Why::ArenaWrite, 7, "write fault on arena"),
-        (Why::Input, 8, "read fault on input"),
-        (Why::Output, 9, "write fault on output"),
-        (Why::Size, 10, "size of a device out of range"),
-        (Why::Memory, 11, "no memory"),
-        (Why::BadInput(19), 13, "bad input at byte 19"),
-        (Why::NotArena, 14, "not an arena"),
-        (Why::NotBuilt, 16, "image not built yet"),
-    ] {
-        let said = format!(in rt.alloc(); "{why}")?;
-        assert_eq!(rt; said.as_str(), text);
-        assert_eq!(rt; why.status(), status);
-    }
+fn moments(rt: HostRuntime) -> Result<(), Fail> {
+    let alloc = rt.alloc();
+    let words = words(alloc, &["9p", "main", "arena"])?;
+    let (main, arena) = (disk(alloc, 64)?, disk(alloc, 16)?);
+    let done = run(
+        alloc,
+        words.as_slice(),
+        main,
+        arena,
+        MemSource::new(bytes(alloc, "V T C S")?, 9, Vec::new(alloc)),
+        MemSink::new(Vec::new(alloc)),
+        MemClock::new(vec![in alloc; 3, 4, 5, 600, 7]?),
+    );
+    let stat =
+        "4a0000007d020041003f00000000000000000000000001000000000000008001000058020000580200000000000000000000010066 0600676c656e6461 030061646d 0600676c656e6461";
+    assert_eq!(rt;
+        done.out.bytes().get(63..),
+        Some(bytes(alloc, stat)?.as_slice())
+    );
     Ok(())
 }

@@ -1,6 +1,8 @@
-use crate::{ToolEnd, flchk, flfmt};
+//! The tools over devices in memory.
+
 use fo_disk::{BLOCK, Disk, MemDisk};
 use fo_links::MemSink;
+use fo_tools::{ToolEnd, flchk, flfmt};
 use std::alloc::Global;
 use std::test::Fail;
 
@@ -95,20 +97,6 @@ fn broken(rt: HostRuntime) -> Result<(), Fail> {
     Ok(())
 }
 
-/// A main device of 63 blocks is refused, and so is one of none.
-#[test]
-fn sizes(rt: HostRuntime) -> Result<(), Fail> {
-    let alloc = rt.alloc();
-    for blocks in [0, 63] {
-        let mut edges = Edges::failing(alloc, NEVER, NEVER, NEVER)?;
-        edges.main = MemDisk::new(alloc, blocks, Vec::new(alloc))?;
-        assert!(rt; edges.format(alloc) == ToolEnd::Size);
-        assert!(rt; edges.check(alloc) == ToolEnd::Size);
-        assert!(rt; edges.out.bytes().is_empty());
-    }
-    Ok(())
-}
-
 /// Each call of `flfmt` fails in turn: there are 7 of the main device, 3 of the arena and one of the output. Nothing fails after it.
 #[test]
 fn format_faults(rt: HostRuntime) -> Result<(), Fail> {
@@ -135,53 +123,6 @@ fn format_faults(rt: HostRuntime) -> Result<(), Fail> {
             _ => b"",
         };
         assert!(rt; edges.out.bytes() == printed);
-    }
-    Ok(())
-}
-
-/// Each call of `flchk` fails in turn, after those of `flfmt`: there are 5 of the main device, 2 of the arena and one of the output.
-#[test]
-fn check_faults(rt: HostRuntime) -> Result<(), Fail> {
-    let alloc = rt.alloc();
-    for (main, arena, out, end) in [
-        (7, NEVER, NEVER, ToolEnd::MainRead),
-        (8, NEVER, NEVER, ToolEnd::MainRead),
-        (9, NEVER, NEVER, ToolEnd::MainRead),
-        (10, NEVER, NEVER, ToolEnd::MainRead),
-        (11, NEVER, NEVER, ToolEnd::MainRead),
-        (NEVER, 3, NEVER, ToolEnd::ArenaRead),
-        (NEVER, 4, NEVER, ToolEnd::ArenaRead),
-        (NEVER, NEVER, 1, ToolEnd::Output),
-        (12, 5, 2, ToolEnd::Ended),
-    ] {
-        let mut edges = Edges::failing(alloc, main, arena, out)?;
-        assert!(rt; edges.format(alloc) == ToolEnd::Ended);
-        assert!(rt; edges.check(alloc) == end);
-        assert!(rt; edges.check(alloc) == ToolEnd::Ended || end == ToolEnd::Ended);
-    }
-    Ok(())
-}
-
-/// What is printed of each end that has no line of its own.
-#[test]
-fn texts(rt: HostRuntime) -> Result<(), Fail> {
-    let alloc = rt.alloc();
-    for (end, text) in [
-        (ToolEnd::NotFossil, "not a fossil image"),
-        (
-            ToolEnd::Unsound { rule: 2, block: 3 },
-            "unsound S2 at block 3",
-        ),
-        (ToolEnd::MainRead, "read fault on main"),
-        (ToolEnd::MainWrite, "write fault on main"),
-        (ToolEnd::ArenaRead, "read fault on arena"),
-        (ToolEnd::ArenaWrite, "write fault on arena"),
-        (ToolEnd::Output, "write fault on output"),
-        (ToolEnd::Size, "size of a device out of range"),
-        (ToolEnd::Memory, "no memory"),
-        (ToolEnd::NotArena, "not an arena"),
-    ] {
-        assert!(rt; format!(in alloc; "{end}")?.as_str() == text);
     }
     Ok(())
 }
