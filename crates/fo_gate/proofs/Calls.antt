@@ -8,7 +8,7 @@ use Rattle.fo_gate.specs.declared.rule.Slot.{Slot}
 use Rattle.fo_gate.specs.declared.rule.Slot.TheVariants.{In, Out, Made}
 use Rattle.fo_gate.specs.Lists.{StartsWith, longer, elements_at, least, split_greatest}
 use Rattle.fo_gate.specs.History.{IsLegal, entry, last_low, last_high}
-use Rattle.fo_gate.specs.Steps.{with_ticket, with_state, with_turn, with_post, with_seen, at_rest, without_greatest, greatest_alone, joined_view, IsPlaced, IsApart, Compares, IsLegalFrom, HasEntered, Looks, Reads, after_slot, after_made}
+use Rattle.fo_gate.specs.Steps.{with_ticket, with_state, with_turn, with_post, with_seen, at_rest, without_greatest, greatest_alone, joined_view, IsPlaced, IsApart, Compares, IsLegalFrom, HasEntered, Looks, Reads, after_made}
 use Rattle.fo_gate.specs.Calls.{IsViewOf, IsFull, IsJoined, IsCall, IsRead, MakesNoCall}
 use Rattle.fo_gate.specs.Rule.{first_view}
 use Rattle.fo_gate.specs.Weights.{total, below}
@@ -43,6 +43,10 @@ module _ {S E O : Type 0} where
   -- a plain write of the held slot
   pub puts : (x y : Slot S E O) (v : View S E O) (m n : Me (Slot S E O) (View S E O)) → m ≡ (v, (0, x) ∷ []) → n ≡ (m.0, (0, y) ∷ rest m.1) → n ≡ (v, (0, y) ∷ [])
   puts x y v m n e is = is ∙ (λ k. ((e k).0, (0, y) ∷ rest (e k).1))
+
+  -- the same, of a value that is known in two forms
+  pub puts_as : (x y z : Slot S E O) (v : View S E O) (m n : Me (Slot S E O) (View S E O)) → m ≡ (v, (0, x) ∷ []) → n ≡ (m.0, (0, y) ∷ rest m.1) → y ≡ z → n ≡ (v, (0, z) ∷ [])
+  puts_as x y z v m n e is same = puts x y v m n e is ∙ (λ k. (v, (0, same k) ∷ []))
 
   pub slot_found : (x y : Slot S E O) (v : View S E O) (m : Me (Slot S E O) (View S E O)) → m ≡ (v, (0, x) ∷ []) → m.1 ≡ (0, y) ∷ rest m.1 → y ≡ x
   slot_found x y v m e d = found_in m.1 x y (ap (λ p. p.1) e) d

@@ -1,6 +1,7 @@
 -- What a seat knows after each step of a gate, and what the step tells it.
 use Rattle.std.specs.Prelude.{◌≡◌, ◌≢◌, ℕ, ◌%◌, ◌<◌, ◌≤◌, List, [], ◌∷◌, ◌++◌, length, slice_index, true, false}
 use Rattle.atomic_table.specs.Table.{Me, Step, rest}
+use Rattle.std.specs.declared.snapshot.Snapshot.{Snapshot}
 use Rattle.fo_gate.specs.Weights.{total, below}
 use Rattle.fo_gate.specs.Lists.{StartsWith, longer, shorter, least, split_greatest}
 use Rattle.fo_gate.specs.History.{IsLegal, last_low, last_high, epochs_word, entry}
@@ -61,6 +62,16 @@ module _ {S E O : Type 0} where
   -- it holds no number twice, and each is below the number of seats
   abbrev pub IsApart : View S E O → Type 0
   IsApart v = (f : ℕ → ℕ) → total f v.numbers ≤ below f v.seats
+
+  -- a turn by this event, with this outcome and this state after it, as it lies in the slot
+  pub record IsNote (e : E) (o : O) (z : S) (slot : Slot S E O) : Type 0 where
+    pub asked : Snapshot E
+    pub answered : Snapshot O
+    pub after : Snapshot S
+    pub is : slot ≡ Made asked answered after
+    pub event : asked.value ≡ e
+    pub outcome : answered.value ≡ o
+    pub state : after.value ≡ z
 
   -- Draw: the number found is that of a ticket, which the seat has
   abbrev pub Draws : Step (Slot S E O) → Me (Slot S E O) (View S E O) → ℕ → Me (Slot S E O) (View S E O) → Type 0

@@ -1,6 +1,6 @@
 //! A gate, its seats and its calls.
 ghost use Rattle.std.specs.Prelude.{◌≡◌, ◌+◌, ◌*◌, ◌<◌, [], length};
-ghost use Rattle.fo_gate.specs.Steps.{IsIdle, IsApart};
+ghost use Rattle.fo_gate.specs.Steps.{IsIdle, IsApart, IsNote};
 
 use crate::rule::{
     Commit, Compare, Draw, Look, Numbers, OneHistory, PassOn, Post, Read, Slot, Start,
@@ -155,10 +155,7 @@ impl<S: Turned> Gate<S> {
             shared.fetch_add::<PassOn>(inner, SERVING, 1);
             return Err(event);
         }
-        let asked = Snapshot::of(&event);
-        let outcome = state.turn(event);
-        // What the commit makes of the history is read from the slot.
-        let note = Slot::Made(asked, Snapshot::of(&outcome), Snapshot::of(&state));
+        let (outcome, note) = play(&mut state, event);
         let left = shared.exchange(inner, 0, note);
         let Slot::Out = left else { unreachable!() };
         shared.fetch_add::<Commit>(inner, LENGTH, 1);
@@ -242,6 +239,17 @@ impl<S: Turned> Gate<S> {
         };
         state
     }
+}
+
+// Makes one turn of a state, and the note of it from which the commit takes the new entry.
+fn play<S: Turned>(state: &mut S, event: S::Event) -> (S::Outcome, Slot<S, S::Event, S::Outcome>)
+    ensures turned { S.turns state.old event result.0 state.new }
+    ensures note { IsNote event result.0 state.new result.1 }
+{
+    let asked = Snapshot::of(&event);
+    let outcome = state.turn(event);
+    let answered = Snapshot::of(&outcome);
+    (outcome, Slot::Made(asked, answered, Snapshot::of(&*state)))
 }
 
 // The epochs in one word, the low one in its upper half.
