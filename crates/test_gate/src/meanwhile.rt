@@ -15,7 +15,9 @@ const LOOKS: u32 = 10_000_000;
 
 // The stages of a turn, in a word that two threads share.
 const WAITING: u64 = 0;
+
 const BEGUN: u64 = 1;
+
 const MAY_END: u64 = 2;
 
 /// Whether a stage comes before many looks have passed.
@@ -32,15 +34,15 @@ fn comes(word: &AtomicU64, stage: u64) -> bool {
 /// A state whose turns last until they may end. Its high epoch is the number of its turns.
 #[derive(Drop)]
 struct Patient {
+    stage: Arc<AtomicU64, Global>,
     turns: u32,
 }
 
 impl Turned for Patient {
-    /// The stage of the turn.
-    type Event = Arc<AtomicU64, Global>;
+    type Event = u64;
 
-    /// Whether the turn was told to end.
-    type Outcome = bool;
+    /// 1 where the turn was told to end.
+    type Outcome = u64;
 
     ghost turns = { λ _ _ _ _. ⊤ };
 
@@ -48,10 +50,12 @@ impl Turned for Patient {
 
     ghost high = { λ a. a.turns };
 
-    fn turn(&mut self, event: Arc<AtomicU64, Global>) -> bool {
-        let _ = event.compare_exchange(WAITING, BEGUN, Ordering::SeqCst, Ordering::SeqCst);
+    fn turn(&mut self, _event: u64) -> u64 {
+        let _ = self
+            .stage
+            .compare_exchange(WAITING, BEGUN, Ordering::SeqCst, Ordering::SeqCst);
         self.turns = self.turns.wrapping_add(1);
-        comes(&event, MAY_END)
+        u64::from(comes(&self.stage, MAY_END))
     }
 
     fn epochs(&self) -> (u32, u32) {
@@ -64,14 +68,13 @@ fn outcome_of<R: Wait>(
     rt: &R,
     gate: &Gate<Patient>,
     mut seat: Seat<Patient>,
-    event: Arc<AtomicU64, Global>,
-) -> (Option<bool>, Seat<Patient>)
+) -> (u64, Seat<Patient>)
     requires { IsSeatOf gate.now seat }
     ensures { IsSeatOf gate.now result.1 }
 {
-    match gate.turn(rt, &mut seat, event) {
-        Ok((outcome, _)) => (Some(outcome), seat),
-        Err(_) => (None, seat),
+    match gate.turn(rt, &mut seat, 0) {
+        Ok((outcome, _)) => (outcome, seat),
+        Err(_) => (0, seat),
     }
 }
 
@@ -91,39 +94,42 @@ fn read_meanwhile<R: Threads + Wait + Sync>(
     gate: &Gate<Patient>,
     seat: Seat<Patient>,
     other: Seat<Patient>,
-    event: Arc<AtomicU64, Global>,
-    stage: Arc<AtomicU64, Global>,
-) -> ((Option<bool>, Seat<Patient>), (u32, u32))
+    stage: &AtomicU64,
+) -> ((u64, Seat<Patient>), (u32, u32))
     requires seat { IsSeatOf gate.now seat }
     requires other { IsSeatOf gate.now other }
     ensures { IsSeatOf gate.now result.0.1 }
 {
     thread::join(
         rt,
-        move || -> (Option<bool>, Seat<Patient>)
+        move || -> (u64, Seat<Patient>)
             requires { IsSeatOf gate.now seat }
             ensures { IsSeatOf gate.entry.now result.1 }
-        { outcome_of(rt, gate, seat, event) },
+        { outcome_of(rt, gate, seat) },
         move || -> (u32, u32)
             requires { IsSeatOf gate.now other }
-        { read_and_end(gate, other, &stage) },
+        { read_and_end(gate, other, stage) },
     )
 }
 
 /// A turn and what was read while it lasted; then the epochs after it.
 #[derive(Debug, PartialEq, Eq, Clone, Copy)]
 struct Read {
-    told: Option<bool>,
+    told: u64,
     meanwhile: (u32, u32),
     after: (u32, u32),
 }
 
 fn read_in_two<R: Threads + Wait + Sync>(rt: &R, alloc: Global) -> Option<Read> {
-    let event = Arc::new(alloc, AtomicU64::new(WAITING)).ok()?;
-    let stage = Arc::try_clone(&event).ok()?;
-    let (gate, mut seat) = Gate::new(alloc, Patient { turns: 0 }, 2).ok()?;
+    let stage = Arc::new(alloc, AtomicU64::new(WAITING)).ok()?;
+    let shared = Arc::try_clone(&stage).ok()?;
+    let state = Patient {
+        stage: shared,
+        turns: 0,
+    };
+    let (gate, mut seat) = Gate::new(alloc, state, 2).ok()?;
     let other = gate.split(&mut seat).ok()?;
-    let ((told, mut seat), meanwhile) = read_meanwhile(rt, &gate, seat, other, event, stage);
+    let ((told, mut seat), meanwhile) = read_meanwhile(rt, &gate, seat, other, &stage);
     let after = gate.epochs(&mut seat);
     Some(Read {
         told,
@@ -135,7 +141,7 @@ fn read_in_two<R: Threads + Wait + Sync>(rt: &R, alloc: Global) -> Option<Read> 
 #[test]
 fn epochs_are_read_while_a_turn_lasts(rt: HostRuntime) -> Result<(), Fail> {
     let wanted = Read {
-        told: Some(true),
+        told: 1,
         meanwhile: (3, 0),
         after: (3, 1),
     };
