@@ -2,6 +2,7 @@
 ghost use Rattle.std.specs.Prelude.{◌≡◌, ◌+◌, ◌%◌, ◌^◌};
 ghost use Rattle.fo_gate.specs.Seats.{IsSeatOf};
 
+use crate::shared::epochs_in_two;
 use fo_gate::{Front, Gate, Seat, Turned};
 use std::alloc::{AllocError, Global};
 use std::sync::Wait;
@@ -164,5 +165,19 @@ fn finds_memory(alloc: Global) -> bool {
 #[test]
 fn ample(rt: HostRuntime) -> Result<(), Fail> {
     assert!(rt; finds_memory(rt.alloc()));
+    Ok(())
+}
+
+/// Two seats of a counter that stands at 5 see its epochs, each in a thread of its own.
+fn see_in_two<R: Threads + Sync>(rt: &R, alloc: Global) -> Option<((u32, u32), bool)> {
+    let (gate, mut seat) = Gate::new(alloc, Counter { count: 5 }, 2).ok()?;
+    let other = gate.split(&mut seat).ok()?;
+    let (read, seat) = epochs_in_two(rt, &gate, seat, other);
+    Some((read, gate.alone(&seat)))
+}
+
+#[test]
+fn two_threads_see_the_epochs(rt: HostRuntime) -> Result<(), Fail> {
+    assert!(rt; see_in_two(&rt, rt.alloc()) == Some(((5, 7), true)));
     Ok(())
 }
