@@ -1,165 +1,157 @@
-ghost use Rattle.std.specs.Prelude.{◌≡◌, ◌<◌, length};
-
-use crate::{CheckError, Report, check};
+use fo_check::{CheckError, Report, check};
 use fo_disk::{BLOCK, Disk, DiskFault, MemDisk};
-use fo_image::{
-    ArenaHead, Header, Kind, Label, State, write_arena_head, write_header, write_label, write_root,
-    write_super,
-};
-use fo_sound::{fresh_label, fresh_root, fresh_super};
+use fo_format::format;
 use std::alloc::Global;
 use std::test::Fail;
 
-/// The label table of a device that was just formatted.
-fn fresh_labels() -> [u8; BLOCK]
-    ensures { length result ≡ 8192 }
-{
-    let mut labels = [0; BLOCK];
-    write_label(&fresh_label(64), &mut labels[42..56]);
-    labels
-}
-
-/// Gives block 10 the label of a live block.
-fn make_live(labels: &mut [u8])
-    requires { length labels.old ≡ 8192 }
-{
-    let live = Label {
-        state: State::Live,
-        kind: Kind::Data(0),
-        tag: 34,
-        epoch: 1,
-        closing: u32::MAX,
-    };
-    write_label(&live, &mut labels[140..154]);
-}
-
-/// Writes the image of a device that was just formatted, in four writes and a sync, and that of an empty arena, in a
-/// write and a sync.
-fn format<D: Disk, A: Disk>(alloc: Global, main: &mut D, arena: &mut A) -> Result<(), Fail>
-    requires main { D.size main.old ≡ 64 }
-    requires arena { A.size arena.old ≡ 16 }
-    ensures main { D.size main.new ≡ D.size main.old }
-    ensures arena { A.size arena.new ≡ A.size arena.old }
-{
+/// Gives one byte of a block this value.
+fn change(disk: &mut MemDisk, at: u32, place: usize, byte: u8) -> Result<(), Fail> {
+    if disk.blocks()? <= u64::from(at) || BLOCK <= place {
+        return Ok(());
+    }
     let mut block = [0; BLOCK];
-    write_header(&Header { blocks: 64 }, &mut block);
-    main.write(0, &block)?;
-    write_super(&fresh_super(64), &mut block);
-    main.write(1, &block)?;
-    main.write(2, &fresh_labels())?;
-    write_root(&fresh_root(alloc, 7)?, &mut block);
-    main.write(3, &block)?;
-    main.sync()?;
-    let head = ArenaHead {
-        blocks: 16,
-        used: 0,
-    };
-    write_arena_head(&head, &mut block);
-    arena.write(0, &block)?;
-    arena.sync()?;
+    disk.read(at, &mut block)?;
+    block[place] = byte;
+    disk.write(at, &block)?;
+    disk.sync()?;
     Ok(())
+}
+
+/// Gives these bytes of the main device these values, each by its block and its place.
+fn change_all(main: &mut MemDisk, bytes: &[(u32, usize, u8)]) -> Result<(), Fail> {
+    for (at, place, byte) in bytes {
+        change(main, *at, *place, *byte)?;
+    }
+    Ok(())
+}
+
+/// What the check answers once devices of 64 and 16 blocks were formatted and some bytes of the main device were changed.
+fn answer(alloc: Global, bytes: &[(u32, usize, u8)]) -> Result<Result<Report, CheckError>, Fail> {
+    let mut main = MemDisk::new(alloc, 64, Vec::new(alloc))?;
+    let mut arena = MemDisk::new(alloc, 16, Vec::new(alloc))?;
+    format(alloc, &mut main, &mut arena, 7)?;
+    change_all(&mut main, bytes)?;
+    Ok(check(alloc, &mut main, &mut arena))
+}
+
+/// Whether the check names this rule and this block.
+fn names(alloc: Global, bytes: &[(u32, usize, u8)], rule: u8, block: u32) -> Result<bool, Fail> {
+    Ok(answer(alloc, bytes)? == Err(CheckError::Unsound { rule, block }))
 }
 
 /// A formatted device is sound. A live block that no tree reaches is leaked.
 #[test]
 fn ample(rt: HostRuntime) -> Result<(), Fail> {
-    let alloc = rt.alloc();
-    let mut main = MemDisk::new(alloc, 64, Vec::new(alloc))?;
-    let mut arena = MemDisk::new(alloc, 16, Vec::new(alloc))?;
-    format(alloc, &mut main, &mut arena)?;
     let mut wanted = Report {
         blocks: 64,
         used: 1,
         leaked: 0,
         snapshots: 0,
     };
-    assert_eq!(rt; check(alloc, &mut main, &mut arena)?, wanted);
-
-    let mut labels = fresh_labels();
-    make_live(&mut labels);
-    main.write(2, &labels)?;
-    main.sync()?;
+    assert!(rt; answer(rt.alloc(), &[])? == Ok(wanted));
     wanted.leaked = 1;
-    assert_eq!(rt; check(alloc, &mut main, &mut arena)?, wanted);
+    let live = [
+        (2, 140, 1),
+        (2, 145, 1),
+        (2, 146, 255),
+        (2, 147, 255),
+        (2, 148, 255),
+        (2, 149, 255),
+    ];
+    assert!(rt; answer(rt.alloc(), &live)? == Ok(wanted));
     Ok(())
 }
 
-/// The answer once one byte of the label table of a formatted device was changed.
-fn changed(alloc: Global, place: usize, byte: u8) -> Result<Result<Report, CheckError>, Fail>
-    requires { place < 8192 }
-{
+/// The header and the super block; low above high, and an active root that is free or of another epoch.
+#[test]
+fn starts(rt: HostRuntime) -> Result<(), Fail> {
+    assert!(rt; names(rt.alloc(), &[(0, 0, 0)], 1, 0)?);
+    assert!(rt; names(rt.alloc(), &[(1, 0, 0)], 1, 1)?);
+    assert!(rt; names(rt.alloc(), &[(1, 13, 2)], 2, 1)?);
+    assert!(rt; names(rt.alloc(), &[(1, 21, 4)], 2, 4)?);
+    assert!(rt; names(rt.alloc(), &[(2, 47, 2)], 2, 3)?);
+    assert!(rt; names(rt.alloc(), &[(3, 11, 2)], 2, 3)?);
+    Ok(())
+}
+
+/// Epochs 2 to 3, and a root before the active one, of epoch 1 at block 9: the chain ends at the active root.
+#[test]
+fn chain(rt: HostRuntime) -> Result<(), Fail> {
+    let bytes = [
+        (1, 13, 2),
+        (1, 17, 3),
+        (2, 47, 3),
+        (3, 11, 3),
+        (3, 19, 1),
+        (3, 23, 9),
+    ];
+    assert!(rt; names(rt.alloc(), &bytes, 3, 3)?);
+    Ok(())
+}
+
+/// The state of the label of block 4, the label of block 0, the bytes after all labels, and the tag of the entries.
+#[test]
+fn tables(rt: HostRuntime) -> Result<(), Fail> {
+    assert!(rt; names(rt.alloc(), &[(2, 56, 7)], 4, 4)?);
+    assert!(rt; names(rt.alloc(), &[(2, 0, 1)], 4, 2)?);
+    assert!(rt; names(rt.alloc(), &[(2, 8191, 1)], 4, 2)?);
+    assert!(rt; names(rt.alloc(), &[(3, 35, 33)], 6, 3)?);
+    Ok(())
+}
+
+/// What the check answers over an arena with this byte at this place of block 0.
+fn arena_answer(alloc: Global, place: usize, byte: u8) -> Result<Result<Report, CheckError>, Fail> {
     let mut main = MemDisk::new(alloc, 64, Vec::new(alloc))?;
     let mut arena = MemDisk::new(alloc, 16, Vec::new(alloc))?;
-    format(alloc, &mut main, &mut arena)?;
-    let mut labels = fresh_labels();
-    labels[place] = byte;
-    main.write(2, &labels)?;
-    main.sync()?;
+    format(alloc, &mut main, &mut arena, 7)?;
+    change(&mut arena, 0, place, byte)?;
     Ok(check(alloc, &mut main, &mut arena))
 }
 
-/// The epoch of the root's label, the state of the next one, the label of block 0, and the bytes after all labels.
+/// An arena without its first letter, and one with a place in use.
 #[test]
-fn broken(rt: HostRuntime) -> Result<(), Fail> {
-    let alloc = rt.alloc();
-    assert!(rt; changed(alloc, 47, 2)? == Err(CheckError::Unsound { rule: 2, block: 3 }));
-    assert!(rt; changed(alloc, 56, 7)? == Err(CheckError::Unsound { rule: 4, block: 4 }));
-    assert!(rt; changed(alloc, 0, 1)? == Err(CheckError::Unsound { rule: 4, block: 2 }));
-    assert!(rt; changed(alloc, 8191, 1)? == Err(CheckError::Unsound { rule: 4, block: 2 }));
-
-    let mut main = MemDisk::new(alloc, 64, Vec::new(alloc))?;
-    let mut arena = MemDisk::new(alloc, 16, Vec::new(alloc))?;
-    format(alloc, &mut main, &mut arena)?;
-    main.write(1, &[0; BLOCK])?;
-    main.sync()?;
-    assert!(rt;
-        check(alloc, &mut main, &mut arena) == Err(CheckError::Unsound { rule: 1, block: 1 })
-    );
+fn arenas(rt: HostRuntime) -> Result<(), Fail> {
+    assert!(rt; arena_answer(rt.alloc(), 0, 0)? == Err(CheckError::NotArena));
+    assert!(rt; arena_answer(rt.alloc(), 15, 1)? == Err(CheckError::NotBuilt));
     Ok(())
 }
 
-/// An arena whose block 0 is zero or has a place in use, and devices of too few blocks.
+/// Whether the check of zeros of so many blocks says that a size is out of range.
+fn is_size(alloc: Global, blocks: u32, arena_blocks: u32) -> Result<bool, Fail> {
+    let mut main = MemDisk::new(alloc, blocks, Vec::new(alloc))?;
+    let mut arena = MemDisk::new(alloc, arena_blocks, Vec::new(alloc))?;
+    Ok(check(alloc, &mut main, &mut arena) == Err(CheckError::Size))
+}
+
 #[test]
-fn refused(rt: HostRuntime) -> Result<(), Fail> {
-    let alloc = rt.alloc();
-    let mut main = MemDisk::new(alloc, 64, Vec::new(alloc))?;
-    let mut arena = MemDisk::new(alloc, 16, Vec::new(alloc))?;
-    format(alloc, &mut main, &mut arena)?;
-    let mut block = [0; BLOCK];
-    arena.write(0, &block)?;
-    assert!(rt; check(alloc, &mut main, &mut arena) == Err(CheckError::NotArena));
-    let head = ArenaHead {
-        blocks: 16,
-        used: 1,
-    };
-    write_arena_head(&head, &mut block);
-    arena.write(0, &block)?;
-    arena.sync()?;
-    assert!(rt; check(alloc, &mut main, &mut arena) == Err(CheckError::NotBuilt));
-    let mut small = MemDisk::new(alloc, 63, Vec::new(alloc))?;
-    assert!(rt; check(alloc, &mut small, &mut arena) == Err(CheckError::Size));
-    let mut small_arena = MemDisk::new(alloc, 15, Vec::new(alloc))?;
-    assert!(rt; check(alloc, &mut main, &mut small_arena) == Err(CheckError::Size));
+fn sizes(rt: HostRuntime) -> Result<(), Fail> {
+    assert!(rt; is_size(rt.alloc(), 63, 16)?);
+    assert!(rt; is_size(rt.alloc(), 64, 15)?);
+    assert!(rt; is_size(rt.alloc(), 0, 16)?);
+    assert!(rt; is_size(rt.alloc(), 64, 0)?);
+    assert!(rt; !is_size(rt.alloc(), 64, 16)?);
     Ok(())
 }
 
-/// Each call of a device fails in turn: `format` makes 5 calls of main and 2 of the arena, and the check 5 and 2.
+/// Whether the check answers this fault once, where the call of this number of the main device or of the arena fails.
+fn fails(alloc: Global, main_call: u64, arena_call: u64, fault: CheckError) -> Result<bool, Fail> {
+    let mut main = MemDisk::new(alloc, 64, vec![in alloc; main_call]?)?;
+    let mut arena = MemDisk::new(alloc, 16, vec![in alloc; arena_call]?)?;
+    format(alloc, &mut main, &mut arena, 7)?;
+    Ok(
+        check(alloc, &mut main, &mut arena) == Err(fault)
+            && check(alloc, &mut main, &mut arena).is_ok(),
+    )
+}
+
+/// Each call fails in turn: `format` makes 6 calls of the main device and 3 of the arena, and the check 5 and 2.
 #[test]
 fn faults(rt: HostRuntime) -> Result<(), Fail> {
-    let alloc = rt.alloc();
-    for failing in 5..10 {
-        let mut main = MemDisk::new(alloc, 64, vec![in alloc; failing]?)?;
-        let mut arena = MemDisk::new(alloc, 16, Vec::new(alloc))?;
-        format(alloc, &mut main, &mut arena)?;
-        assert!(rt; check(alloc, &mut main, &mut arena) == Err(CheckError::Main(DiskFault::Read)));
-        assert!(rt; check(alloc, &mut main, &mut arena).is_ok());
+    for call in 6..11 {
+        assert!(rt; fails(rt.alloc(), call, 99, CheckError::Main(DiskFault::Read))?);
     }
-    for failing in 2..4 {
-        let mut main = MemDisk::new(alloc, 64, Vec::new(alloc))?;
-        let mut arena = MemDisk::new(alloc, 16, vec![in alloc; failing]?)?;
-        format(alloc, &mut main, &mut arena)?;
-        assert!(rt; check(alloc, &mut main, &mut arena) == Err(CheckError::Arena(DiskFault::Read)));
-        assert!(rt; check(alloc, &mut main, &mut arena).is_ok());
+    for call in 3..5 {
+        assert!(rt; fails(rt.alloc(), 99, call, CheckError::Arena(DiskFault::Read))?);
     }
     Ok(())
 }
