@@ -1,4 +1,12 @@
-//! The formats of the main device and of the arena, read and written.
+//! The formats of the main device and of the arena, read and written (docs/FORMATS.md).
+//!
+//! A format is its fields in their order and a condition on their values; bytes spell a value where they are its fields, and zeros
+//! behind them. A place is where something stands: the block, and the byte in it.
+//!
+//! Proved: each value has one spelling and each spelling one value, a reader answers that value and refuses exactly where there is
+//! none, and a writer spells what it was given. Want of memory may be answered where a record or a root block is read.
+//!
+//! Not proved: that the fields are the ones that docs/FORMATS.md names (`test_disk` reads bytes that were worked out by hand).
 #![tactic(auto)]
 
 mod arena;
@@ -29,6 +37,3 @@ pub use roots::{is_root, read_root, write_root};
 pub use types::{
     ArenaHead, ArenaLine, Bad, Entry, Header, Kind, Label, Pointer, Score, State, Super,
 };
-
-#[cfg(test)]
-mod tests;

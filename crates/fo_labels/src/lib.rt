@@ -1,10 +1,15 @@
-//! The labels of the data blocks: which block is given out next, and which may be given out again.
+//! The labels of all blocks in memory, of which the least usable block is found without a walk over them.
+//!
+//! A block is usable where it may be given out: free, or closed where no snapshot that is kept holds it (the labels and epochs of
+//! the Fossil paper). The labels stand in a list, and a tree of minima over it says from which low epoch on each block is usable.
+//!
+//! Proved: `alloc` gives the least usable block and none only where there is none, `close` and `restore` change one label, and
+//! `usable` counts. Want of memory may be answered by `new` alone.
+//!
+//! Not proved: how long a search takes (`test_disk` makes 100,000 of them over 2^20 labels).
 #![tactic(auto)]
 
 mod index;
 mod labels;
 
 pub use labels::Labels;
-
-#[cfg(test)]
-mod tests;

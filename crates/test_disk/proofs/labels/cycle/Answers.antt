@@ -3,7 +3,7 @@ use Rattle.fo_image.specs.declared.types.Label.{Label}
 use Rattle.fo_image.specs.declared.types.Kind.TheVariants.{Data}
 use Rattle.fo_image.specs.Usable.{live_label}
 use Rattle.fo_labels.proofs.RegionLaws.{block-relabeled, label_of-relabeled}
-use Rattle.fo_labels.proofs.tests.cycle.Goals as goal
+use Rattle.test_disk.proofs.labels.cycle.Goals as goal
 
 pub close-requires : goal.close-requires
 close-requires c =
