@@ -8,6 +8,3 @@ mod slot;
 
 pub use place::Place;
 pub use slot::Slot;
-
-#[cfg(test)]
-mod tests;

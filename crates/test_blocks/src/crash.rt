@@ -1,4 +1,4 @@
-use crate::{Place, Slot};
+use fo_crash::{Place, Slot};
 use fo_image::{Entry, Kind, Pointer};
 use std::test::Fail;
 
