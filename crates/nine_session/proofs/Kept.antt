@@ -42,8 +42,8 @@ pub number_there : (z : State) (k : ℕ) (f : Fid) → fid_at z k ≡ Ok f → f
 number_there z k f h = fid_number k z.session.fids f (fid_there z k f h)
 
 -- the blocks that its file needs
-pub need_there : (o : Option Fid) (f : Fid) (need : Place → ℕ) → some_or o refusal.UnknownFid ≡ Ok f → need_at o need ≡ need f.place
-need_there (Some g) f need h = let same : g ≡ f = cc in ap (λ (x : Fid). need x.place) same
+pub need_there : (o : Option Fid) (f : Fid) (need : Fid → ℕ) → some_or o refusal.UnknownFid ≡ Ok f → need_at o need ≡ need f
+need_there (Some g) f need h = let same : g ≡ f = cc in ap need same
 need_there None f need h = absurd cc
 
 -- ---- users
