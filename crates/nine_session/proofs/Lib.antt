@@ -2,6 +2,7 @@ pub mod Ends
 pub mod Kept
 pub mod Links
 pub mod Listing
+pub mod Looked
 pub mod Opens
 pub mod Records
 pub mod Restates
