@@ -11,7 +11,7 @@ use Rattle.nine_fids.specs.declared.refusal.Refusal.TheVariants as refusal
 use Rattle.nine_fids.specs.Refusing.{is_failure}
 use Rattle.nine_fids.specs.Told.{Files}
 use Rattle.nine_fids.specs.Fids.{Fids, State, version_of, fid_at, opened_of, known}
-use Rattle.nine_fids.specs.Looking.{FilesState, Follows, HasCause, Looks, MayMiss}
+use Rattle.nine_fids.specs.Looking.{FilesState, Follows, HasCause, IsRefused, Looks, MayMiss}
 use Rattle.nine_fids.proofs.Missing.{fails_since, refused_by}
 use Rattle.nine_fids.proofs.Seeing.{cause_since, looks_after, plain_cause}
 use Rattle.nine_files.proofs.Links.{plain_at, some_plain}
@@ -62,6 +62,10 @@ wants a b k k' told r memory same world =
     let P : Refusal → Type 0 = λ v. Looked a b k k told (Err v) in
     let Q : Kept → Type 0 = λ v. Looked a b k v told (Err r) in
     subst Q (sym same) (subst P (sym memory) (record { answer = λ h. (inr (error.Memory, refl, tt), ap (in_files k) (world h)); cause = tt; left_is = refl }))
+
+-- a refusal or a failure, as a look has it
+pub refused : (a b : FilesState) (k : Kept) (told : Files → State → Told) (r : Refusal) → (a.honest → IsRefused (told a.how (in_files k a.world)) (MayMiss a.faults b.faults a.honest) r) → (a.honest → b.world ≡ a.world) → HasCause a b 0 r → Looked a b k k told (Err r)
+refused a b k told r is world cause = record { answer = λ h. (is h, ap (in_files k) (world h)); cause = cause; left_is = refl }
 
 -- the reply and the state are those that are told
 pub granted : (a b : FilesState) (k k' : Kept) (told : Files → State → Told) (r : Reply) → (a.honest → told a.how (in_files k a.world) ≡ Ok (r, in_files k' b.world)) → Looked a b k k' told (Ok r)
