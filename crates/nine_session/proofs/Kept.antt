@@ -10,7 +10,6 @@ use Rattle.nine_fids.specs.Fids.{Fids, State, AreUsers, nofid, fid_of, known, fi
 use Rattle.nine_wire.specs.declared.message.Reply.{Reply}
 use Rattle.nine_wire.specs.declared.message.Reply.TheVariants as reply
 use Rattle.nine_fids.specs.Refusing.{some_or}
-use Rattle.fo_world.specs.declared.place.Place.{Place}
 use Rattle.nine_session.specs.Attempting.{state}
 use Rattle.nine_session.specs.Session.{Told, need_at}
 use Rattle.nine_session.proofs.Links.{some_or_ok}

@@ -1,4 +1,4 @@
-use Rattle.std.proofs.Common.{◌≡◌, ◌+◌, ◌%◌, ◌^◌, [], length, refl, sym, ap, ◌∙◌, arith}
+use Rattle.std.proofs.Common.{◌≡◌, ◌+◌, ◌%◌, ◌^◌, [], length, refl, sym, ◌∙◌, arith}
 use Rattle.std.proofs.lemmas.Result.{err_from_is_err_and}
 use Rattle.nine_fids.specs.Told.{served}
 use Rattle.nine_files.specs.Parts.{Gives, listed}
@@ -6,7 +6,7 @@ use Rattle.nine_files.specs.Reading.{read_to, start_of}
 use Rattle.nine_session.specs.Attempting.{state}
 use Rattle.nine_session.proofs.Kept.{put_state, replied_same, user_there, users_seen, users_with}
 use Rattle.nine_session.proofs.Listing.{directory_bad, directory_given, directory_no_fid, directory_not_open, directory_refused}
-use Rattle.nine_session.proofs.Looked.{denied, fid_plain, granted, opened_plain, refused, wants}
+use Rattle.nine_session.proofs.Looked.{denied, fid_plain, granted, opened_plain, refused}
 use Rattle.nine_session.proofs.session.Session.read_directory.Goals as goal
 
 pub returns-in_err-from-clause-looked : goal.returns-in_err-from-clause-looked

@@ -4,7 +4,7 @@ use Rattle.nine_wire.specs.declared.message.Reply.TheVariants as reply
 use Rattle.nine_wire.specs.Message.{ReplyFits}
 use Rattle.nine_fids.specs.Told.{served, info_at, record_of}
 use Rattle.nine_session.specs.Attempting.{state}
-use Rattle.nine_session.proofs.Looked.{denied, fid_plain, granted, missed, version_plain, wants}
+use Rattle.nine_session.proofs.Looked.{denied, fid_plain, granted, missed, version_plain}
 use Rattle.nine_session.proofs.Records.{stat_sends}
 use Rattle.nine_session.proofs.Restates.{stat_done, stat_no_fid, stat_no_info, stat_no_version, stat_too_long}
 use Rattle.nine_session.proofs.session.Session.stat.Goals as goal

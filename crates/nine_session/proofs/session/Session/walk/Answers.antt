@@ -1,9 +1,9 @@
-use Rattle.std.proofs.Common.{◌≡◌, ◌≤◌, [], length, Err, refl, sym, ap, ◌∙◌, arith}
+use Rattle.std.proofs.Common.{◌≡◌, ◌≤◌, [], length, Err, refl, sym, arith}
 use Rattle.std.proofs.lemmas.Result.{err_from_is_err_and}
 use Rattle.nine_fids.specs.Told.{served}
 use Rattle.nine_files.specs.Parts.{arrived}
 use Rattle.nine_session.specs.Attempting.{kept, state, walked_fid}
-use Rattle.nine_session.proofs.Looked.{denied, missed, wants}
+use Rattle.nine_session.proofs.Looked.{denied, missed}
 use Rattle.nine_session.proofs.Walks.{walk_arrives, walk_finishes, walk_granted, walk_misses, walk_refused, walked_plain}
 use Rattle.nine_session.proofs.session.Session.walk.Goals as goal
 
