@@ -67,6 +67,10 @@ pub clunk_granted : (e : Files) (z : State) (now : ℕ) (f : Fid) (w : World) �
 unfolding clunk_fid
 clunk_granted e z now f w h = rw h refl
 
+pub clunk_chain : (e : Files) (z : State) (now : ℕ) (f : Fid) → clunk_fid e z now f ≡ and_then (closed e z.world f now) (λ w. Ok (reply.Clunk, clunked (in_world z w) f))
+unfolding clunk_fid
+clunk_chain e z now f = refl
+
 pub clunk_goes : (e : Files) (z : State) (now : ℕ) (f : Fid) → granted_world (clunk_fid e z now f) z.world ≡ led_world (closed e z.world f now) z.world
 unfolding clunk_fid
 clunk_goes e z now f = world_led (clunk_fid e z now f) (closed e z.world f now) (λ w. (reply.Clunk, clunked (in_world z w) f)) z.world refl (λ w. refl)

@@ -1,0 +1,184 @@
+-- What a method of a session does for a request, over any devices: one lemma for each way in which it comes out.
+use Rattle.std.proofs.Common.{◌≡◌, ℕ, ◌≤◌, Bool, Result, Ok, Err, refl, sym, ap, subst, ◌∙◌, inl, inr, ⊎_elim, arith}
+use Rattle.std.specs.Prelude.{is_ok, IfErr}
+use Rattle.nine_wire.specs.declared.message.Reply.{Reply}
+use Rattle.fo_world.specs.declared.error.FileError.{FileError}
+use Rattle.fo_world.specs.declared.error.FileError.TheVariants as error
+use Rattle.fo_world.specs.World.{World}
+
+use Rattle.nine_fids.specs.declared.refusal.Refusal.{Refusal}
+use Rattle.nine_fids.specs.declared.refusal.Refusal.TheVariants as refusal
+use Rattle.nine_fids.specs.Refusing.{and_then}
+use Rattle.nine_fids.specs.Told.{Files}
+use Rattle.nine_fids.specs.Fids.{State}
+use Rattle.nine_fids.specs.Looking.{FilesState, Follows, HasCause, IsRefused, Looks}
+use Rattle.nine_fids.proofs.Missing.{fails_since, none_below, refused_by}
+use Rattle.nine_fids.proofs.Seeing.{cause_since, looks_denied}
+use Rattle.nine_files.specs.Answering.{Changes, FailsBy, HadRoom, IsChanged, Leads, granted_with, tried}
+use Rattle.nine_files.specs.Answering as answering
+use Rattle.nine_files.proofs.Links.{refused_looking}
+use Rattle.nine_files.proofs.Making.{had_before}
+use Rattle.nine_session.specs.Attempting.{Attempted}
+use Rattle.nine_session.specs.Session.{Kept, Told, Touches, granted_world, in_files, kept_of}
+use Rattle.nine_session.proofs.Ends.{end_refused}
+use Rattle.nine_session.proofs.Links.{world_led, world_with}
+
+cause_more : (a b : FilesState) (most : ℕ) (r : Refusal) → HasCause a b 0 r → HasCause a b most r
+cause_more a b most (refusal.File error.Full) m = absurd (none_below m.0 m.2)
+cause_more a b most r m = m
+
+-- the last link tells more than a world
+pub chain_refused : {A : Type 0} (told : Result (A × World) Refusal) (rest : A × World → Reply × State) (fails : Bool → FileError → Type 0) (r : Refusal) → IsRefused told (fails (is_ok told)) r → (let on : Told = and_then told (λ p. Ok (rest p)) in IsRefused on (fails (is_ok on)) r)
+chain_refused (Ok p) rest fails r h = ⊎_elim (λ t. absurd cc) (λ m. inr m) h
+chain_refused (Err x) rest fails r h = ⊎_elim (λ t. inl cc) (λ m. inr m) h
+
+module _ (a c : FilesState) (within : Touches) (k k' : Kept) (told : Files → State → Told) (need : Files → State → ℕ) (most : ℕ) (left : State → State) where
+  left_so : k' ≡ kept_of (left (in_files k a.world)) → c.world ≡ (left (in_files k a.world)).world → in_files k' c.world ≡ left (in_files k a.world)
+  left_so kept world = ap (λ (x : Kept). in_files x c.world) kept ∙ ap (λ (w : World). in_files (kept_of (left (in_files k a.world))) w) world
+
+  -- ---- what only looked refuses the whole
+
+  pub attempted_looked : {B : Type 0} (part : Files → World → Result B Refusal) (r : Refusal)
+      → (a.honest → part a.how a.world ≡ Err r → told a.how (in_files k a.world) ≡ Err r)
+      → Looks a c part (Err r)
+      → k' ≡ kept_of (left (in_files k a.world)) → (left (in_files k a.world)).world ≡ a.world
+      → ((w : World) (n : ℕ) → within w n)
+      → Attempted a c within k k' told need most left (Err r)
+  attempted_looked part r up l kept stays any = record {
+    answer = λ h.
+        let z = in_files k a.world in
+        (refused_looking (part a.how a.world) (told a.how z) a.faults c.faults a.honest c.has_room (need a.how z) (is_ok (told a.how z)) r (up h) (l.answer h), left_so kept (l.world h ∙ sym stays));
+    room = λ h. tt;
+    touched = λ h. any _ _;
+    cause = cause_more a c most r l.cause;
+    left_is = kept;
+    taken = (a.world, any a.world most);
+  }
+
+  -- refused by the definition
+  pub attempted_denied : (r : Refusal)
+      → (a.honest → told a.how (in_files k a.world) ≡ Err r) → (a.honest → c.world ≡ a.world) → HasCause a c 0 r
+      → k' ≡ kept_of (left (in_files k a.world)) → (left (in_files k a.world)).world ≡ a.world
+      → ((w : World) (n : ℕ) → within w n)
+      → Attempted a c within k k' told need most left (Err r)
+  attempted_denied r is world cause kept stays any =
+      attempted_looked (λ e w. told e (in_files k w)) r (λ h e. e) (looks_denied a c (λ e w. told e (in_files k w)) r is world cause) kept stays any
+
+  -- granted, and no block is needed
+  pub attempted_still : (r : Reply)
+      → (a.honest → told a.how (in_files k a.world) ≡ Ok (r, in_files k' c.world)) → (a.honest → need a.how (in_files k a.world) ≡ 0)
+      → ((w : World) (n : ℕ) → within w n)
+      → Attempted a c within k k' told need most left (Ok r)
+  attempted_still r is none any = record {
+    answer = is;
+    room = λ h n has. let zero : need a.how (in_files k a.world) ≡ 0 = none h in omega arith;
+    touched = λ h. any _ _;
+    cause = tt;
+    left_is = tt;
+    taken = (a.world, any a.world most);
+  }
+
+  -- ---- a last call that leads to a world
+
+  module _ (part : Files → World → Result World Refusal) (needs : Files → World → ℕ) (go : World → Reply × State)
+      (is : a.honest → told a.how (in_files k a.world) ≡ and_then (part a.how a.world) (λ w. Ok (go w)))
+      (same : (w : World) → (go w).1.world ≡ w)
+      (even : a.honest → needs a.how a.world ≡ need a.how (in_files k a.world)) where
+    pub led_refused : (r : Refusal) → Leads a c within part needs most (Err r)
+        → k' ≡ kept_of (left (in_files k a.world)) → (left (in_files k a.world)).world ≡ a.world
+        → Attempted a c within k k' told need most left (Err r)
+    led_refused r l kept stays = record {
+      answer = λ h.
+          let z = in_files k a.world in
+          let P : Told → Type 0 = λ t. IsRefused t (FailsBy a c (need a.how z) (is_ok t)) r in
+          let Q : ℕ → Type 0 = λ n. IsRefused (part a.how a.world) (FailsBy a c n (is_ok (part a.how a.world))) r in
+          (subst P (sym (is h)) (end_refused (part a.how a.world) go (FailsBy a c (need a.how z)) r (subst Q (even h) (l.answer h).0)), left_so kept ((l.answer h).1 ∙ sym stays));
+      room = λ h. tt;
+      touched = λ h.
+          let z = in_files k a.world in
+          let P : World → Type 0 = λ g. within (tried {A = Reply} g a.world (Err r)) (need a.how z) in
+          let Q : ℕ → Type 0 = λ n. within (tried {A = Reply} (answering.granted_world (part a.how a.world) a.world) a.world (Err r)) n in
+          subst P (sym (world_led (told a.how z) (part a.how a.world) go a.world (is h) same)) (subst Q (even h) (l.touched h));
+      cause = l.cause;
+      left_is = kept;
+      taken = l.taken;
+    }
+
+    pub led_granted : (r : Reply) → Leads a c within part needs most (Ok tt) → (a.honest → go c.world ≡ (r, in_files k' c.world)) → Attempted a c within k k' told need most left (Ok r)
+    led_granted r l end = record {
+      answer = λ h. is h ∙ ap (λ t. and_then t (λ w. Ok (go w))) (l.answer h) ∙ ap Ok (end h);
+      room = λ h n has. subst (λ m. m ≤ n) (even h) (l.room h n has);
+      touched = λ h.
+          let z = in_files k a.world in
+          let P : World → Type 0 = λ g. within g (need a.how z) in
+          let Q : ℕ → Type 0 = λ n. within (answering.granted_world (part a.how a.world) a.world) n in
+          subst P (sym (world_led (told a.how z) (part a.how a.world) go a.world (is h) same)) (subst Q (even h) (l.touched h));
+      cause = tt;
+      left_is = tt;
+      taken = l.taken;
+    }
+
+  -- ---- a last call that tells more than the world
+
+  module _ {A : Type 0} (part : Files → World → Result (A × World) Refusal) (needs : Files → World → ℕ) (go : A × World → Reply × State)
+      (is : a.honest → told a.how (in_files k a.world) ≡ and_then (part a.how a.world) (λ p. Ok (go p)))
+      (same : (p : A × World) → (go p).1.world ≡ p.1)
+      (even : a.honest → needs a.how a.world ≡ need a.how (in_files k a.world)) where
+    pub changed_refused : (r : Refusal) → Changes a c within part needs most (Err r)
+        → k' ≡ kept_of (left (in_files k a.world)) → (left (in_files k a.world)).world ≡ a.world
+        → Attempted a c within k k' told need most left (Err r)
+    changed_refused r l kept stays = record {
+      answer = λ h.
+          let z = in_files k a.world in
+          let P : Told → Type 0 = λ t. IsRefused t (FailsBy a c (need a.how z) (is_ok t)) r in
+          let Q : ℕ → Type 0 = λ n. IsRefused (part a.how a.world) (FailsBy a c n (is_ok (part a.how a.world))) r in
+          (subst P (sym (is h)) (chain_refused (part a.how a.world) go (FailsBy a c (need a.how z)) r (subst Q (even h) (l.answer h).0)), left_so kept ((l.answer h).1 ∙ sym stays));
+      room = λ h. tt;
+      touched = λ h.
+          let z = in_files k a.world in
+          let P : World → Type 0 = λ g. within (tried {A = Reply} g a.world (Err r)) (need a.how z) in
+          let Q : ℕ → Type 0 = λ n. within (tried {A = Reply} (granted_with (part a.how a.world) a.world) a.world (Err r)) n in
+          subst P (sym (world_with (told a.how z) (part a.how a.world) go a.world (is h) same)) (subst Q (even h) (l.touched h));
+      cause = l.cause;
+      left_is = kept;
+      taken = l.taken;
+    }
+
+    pub changed_done : (r : Reply) (x : A) → Changes a c within part needs most (Ok x) → (a.honest → go (x, c.world) ≡ (r, in_files k' c.world)) → Attempted a c within k k' told need most left (Ok r)
+    changed_done r x l end = record {
+      answer = λ h. is h ∙ ap (λ t. and_then t (λ p. Ok (go p))) (l.answer h) ∙ ap Ok (end h);
+      room = λ h n has. subst (λ m. m ≤ n) (even h) (l.room h n has);
+      touched = λ h.
+          let z = in_files k a.world in
+          let P : World → Type 0 = λ g. within g (need a.how z) in
+          let Q : ℕ → Type 0 = λ n. within (granted_with (part a.how a.world) a.world) n in
+          subst P (sym (world_with (told a.how z) (part a.how a.world) go a.world (is h) same)) (subst Q (even h) (l.touched h));
+      cause = tt;
+      left_is = tt;
+      taken = l.taken;
+    }
+
+-- ---- a call that changes, after calls that looked
+
+carried : (a b : FilesState) (P : Files → World → Type 0) → Follows a b → b.world ≡ a.world → P b.how b.world → P a.how a.world
+carried a b P f world p = subst (λ w. P a.how w) world (subst (λ e. P e b.world) f.how p)
+
+changed_before : {A : Type 0} (a b c : FilesState) (told : Result (A × World) Refusal) (need : ℕ) (w : World) (r : Result A Refusal) → Follows a b → IsChanged told (FailsBy b c need (is_ok told)) w c.world r → IsChanged told (FailsBy a c need (is_ok told)) w c.world r
+changed_before a b c told need w (Ok x) f l = l
+changed_before a b c told need w (Err r) f l = (refused_by told told (FailsBy b c need (is_ok told)) (FailsBy a c need (is_ok told)) r (λ t. t) (fails_since a.faults b.faults c.faults a.honest b.honest c.has_room need (is_ok told) f.faults f.honest) l.0, l.1)
+
+changed_cause : {A : Type 0} (a b c : FilesState) (most : ℕ) (r : Result A Refusal) → Follows a b → IfErr r (HasCause b c most) → IfErr r (HasCause a c most)
+changed_cause a b c most (Ok x) f m = tt
+changed_cause a b c most (Err r) f m = cause_since a b c most r f m
+
+pub changes_after : {A : Type 0} (a b c : FilesState) (touches touches' : Touches) (told : Files → World → Result (A × World) Refusal) (need : Files → World → ℕ) (most : ℕ) (r : Result A Refusal)
+    → Follows a b → (a.honest → b.world ≡ a.world) → ((n : ℕ) → a.has_room n → b.has_room n) → ((w : World) (n : ℕ) → touches' w n → touches w n)
+    → Changes b c touches' told need most r → Changes a c touches told need most r
+changes_after a b c touches touches' told need most r f world room up l = record {
+  answer = λ h. changed_before a b c (told a.how a.world) (need a.how a.world) a.world r f
+      (carried a b (λ e w. IsChanged (told e w) (FailsBy b c (need e w) (is_ok (told e w))) w c.world r) f (world h) (l.answer (f.honest h)));
+  room = λ h. had_before a.has_room b.has_room (need a.how a.world) r room (carried a b (λ e w. HadRoom b.has_room (need e w) r) f (world h) (l.room (f.honest h)));
+  touched = λ h. up _ _ (carried a b (λ e w. touches' (tried (granted_with (told e w) w) w r) (need e w)) f (world h) (l.touched (f.honest h)));
+  cause = changed_cause a b c most r f l.cause;
+  taken = (l.taken.0, up _ _ l.taken.1);
+}
