@@ -1,24 +1,23 @@
 -- What a method of a session does for a request, over any devices: one lemma for each way in which it comes out.
-use Rattle.std.proofs.Common.{◌≡◌, ℕ, ◌≤◌, Bool, Result, Ok, Err, refl, sym, ap, subst, ◌∙◌, inl, inr, ⊎_elim, arith}
+use Rattle.std.proofs.Common.{◌≡◌, ℕ, ◌≤◌, Bool, false, Result, Ok, Err, refl, sym, ap, subst, ◌∙◌, inl, inr, ⊎_elim, arith}
 use Rattle.std.specs.Prelude.{is_ok, IfErr}
 use Rattle.nine_wire.specs.declared.message.Reply.{Reply}
 use Rattle.fo_world.specs.declared.error.FileError.{FileError}
 use Rattle.fo_world.specs.declared.error.FileError.TheVariants as error
 use Rattle.fo_world.specs.World.{World}
-
 use Rattle.nine_fids.specs.declared.refusal.Refusal.{Refusal}
 use Rattle.nine_fids.specs.declared.refusal.Refusal.TheVariants as refusal
-use Rattle.nine_fids.specs.Refusing.{and_then}
+use Rattle.nine_fids.specs.Refusing.{and_then, is_failure}
 use Rattle.nine_fids.specs.Told.{Files}
 use Rattle.nine_fids.specs.Fids.{State}
 use Rattle.nine_fids.specs.Looking.{FilesState, Follows, HasCause, IsRefused, Looks}
 use Rattle.nine_fids.proofs.Missing.{fails_since, none_below, refused_by}
-use Rattle.nine_fids.proofs.Seeing.{cause_since, looks_denied}
+use Rattle.nine_fids.proofs.Seeing.{cause_since}
 use Rattle.nine_files.specs.Answering.{Changes, FailsBy, HadRoom, IsChanged, Leads, granted_with, tried}
 use Rattle.nine_files.specs.Answering as answering
-use Rattle.nine_files.proofs.Links.{refused_looking}
+use Rattle.nine_files.proofs.Links.{looks_plain, refused_looking}
 use Rattle.nine_files.proofs.Making.{had_before}
-use Rattle.nine_session.specs.Attempting.{Attempted}
+use Rattle.nine_session.specs.Attempting.{Attempted, Attempts}
 use Rattle.nine_session.specs.Session.{Kept, Told, Touches, granted_world, in_files, kept_of}
 use Rattle.nine_session.proofs.Ends.{end_refused}
 use Rattle.nine_session.proofs.Links.{world_led, world_with}
@@ -55,14 +54,14 @@ module _ (a c : FilesState) (within : Touches) (k k' : Kept) (told : Files → S
     taken = (a.world, any a.world most);
   }
 
-  -- refused by the definition
+  -- refused by the definition, which is no failure
   pub attempted_denied : (r : Refusal)
-      → (a.honest → told a.how (in_files k a.world) ≡ Err r) → (a.honest → c.world ≡ a.world) → HasCause a c 0 r
+      → (a.honest → told a.how (in_files k a.world) ≡ Err r) → (a.honest → c.world ≡ a.world) → is_failure r ≡ false
       → k' ≡ kept_of (left (in_files k a.world)) → (left (in_files k a.world)).world ≡ a.world
       → ((w : World) (n : ℕ) → within w n)
       → Attempted a c within k k' told need most left (Err r)
-  attempted_denied r is world cause kept stays any =
-      attempted_looked (λ e w. told e (in_files k w)) r (λ h e. e) (looks_denied a c (λ e w. told e (in_files k w)) r is world cause) kept stays any
+  attempted_denied r is world plain kept stays any =
+      attempted_looked (λ e w. told e (in_files k w)) r (λ h e. e) (looks_plain a c (λ e w. told e (in_files k w)) r is world plain) kept stays any
 
   -- granted, and no block is needed
   pub attempted_still : (r : Reply)
@@ -182,3 +181,30 @@ changes_after a b c touches touches' told need most r f world room up l = record
   cause = changed_cause a b c most r f l.cause;
   taken = (l.taken.0, up _ _ l.taken.1);
 }
+
+-- ---- in other words
+
+as_told : (told told' : Told) (fails : ℕ → Bool → FileError → Type 0) (n n' : ℕ) (left left' z' : State) (result : Result Reply Refusal) → told ≡ told' → n ≡ n' → left ≡ left' → Attempts told (fails n (is_ok told)) left z' result → Attempts told' (fails n' (is_ok told')) left' z' result
+as_told told told' fails n n' left left' z' result same even leaves l =
+    let P : Told → Type 0 = λ t. Attempts t (fails n' (is_ok t)) left' z' result in
+    let Q : ℕ → Type 0 = λ m. Attempts told (fails m (is_ok told)) left' z' result in
+    let R : State → Type 0 = λ s. Attempts told (fails n (is_ok told)) s z' result in
+    subst P same (subst Q even (subst R leaves l))
+
+-- where what is told, what is needed and what is left are known otherwise
+pub attempted_as : (a c : FilesState) (within : Touches) (k k' : Kept) (told told' : Files → State → Told) (need need' : Files → State → ℕ) (most most' : ℕ) (left left' : State → State) (result : Result Reply Refusal)
+    → (a.honest → told a.how (in_files k a.world) ≡ told' a.how (in_files k a.world))
+    → (a.honest → need a.how (in_files k a.world) ≡ need' a.how (in_files k a.world))
+    → most ≡ most'
+    → left (in_files k a.world) ≡ left' (in_files k a.world)
+    → Attempted a c within k k' told need most left result → Attempted a c within k k' told' need' most' left' result
+attempted_as a c within k k' told told' need need' most most' left left' result same even full leaves l =
+    let z = in_files k a.world in
+    record {
+      answer = λ h. as_told (told a.how z) (told' a.how z) (FailsBy a c) (need a.how z) (need' a.how z) (left z) (left' z) (in_files k' c.world) result (same h) (even h) leaves (l.answer h);
+      room = λ h. subst (λ n. HadRoom a.has_room n result) (even h) (l.room h);
+      touched = λ h. subst (λ (t : Told). within (tried (granted_world t a.world) a.world result) (need' a.how z)) (same h) (subst (λ n. within (tried (granted_world (told a.how z) a.world) a.world result) n) (even h) (l.touched h));
+      cause = subst (λ n. IfErr result (HasCause a c n)) full l.cause;
+      left_is = subst (λ (s : State). IfErr result (λ _. k' ≡ kept_of s)) leaves l.left_is;
+      taken = subst (λ n. (w : World) × within w n) full l.taken;
+    }

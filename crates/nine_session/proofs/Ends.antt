@@ -10,12 +10,14 @@ use Rattle.fo_world.specs.declared.place.Info.{Info}
 use Rattle.fo_world.specs.World.{World}
 use Rattle.nine_fids.specs.declared.fid.Fid.{Fid}
 use Rattle.nine_fids.specs.declared.refusal.Refusal.{Refusal}
-use Rattle.nine_fids.specs.Refusing.{and_then, some_or}
-use Rattle.nine_fids.specs.Fids.{State, fid_of, fid_at, version_of, without, released, clunked, in_world, least, lesser}
+use Rattle.nine_fids.specs.declared.refusal.Refusal.TheVariants as refusal
+use Rattle.nine_fids.specs.Refusing.{and_then, some_or, is_failure}
+use Rattle.nine_fids.specs.Fids.{State, known, fid_of, fid_at, version_of, without, released, clunked, in_world, least, lesser}
 use Rattle.nine_fids.specs.Told.{Files, info_at}
 use Rattle.nine_fids.specs.Looking.{IsRefused}
 use Rattle.nine_files.specs.Answering.{granted_world as led_world}
 use Rattle.nine_files.specs.Removing.{closed, removed, removed_there}
+use Rattle.nine_files.proofs.Links.{plain_at, some_plain}
 use Rattle.nine_session.specs.Attempting.{let_go}
 use Rattle.nine_session.specs.Removing.{clunk, clunk_fid, remove}
 use Rattle.nine_session.specs.Session.{Told, granted_world, without_fid}
@@ -27,6 +29,13 @@ use Rattle.nine_session.proofs.Links.{world_led}
 pub some_err : {A : Type 0} (o : Option A) (r s : Refusal) → some_or o r ≡ Err s → o ≡ None
 some_err (Some y) r s h = absurd cc
 some_err None r s h = refl
+
+-- a refusal for want of a version, or of a fid, is no failure
+pub no_version : (z : State) (r : Refusal) → version_of z ≡ Err r → is_failure r ≡ false
+no_version z r h = plain_at (version_of z) r (some_plain z.session.msize refusal.NoVersion refl) h
+
+pub unknown_fid : (z : State) (fid : ℕ) (r : Refusal) → fid_at z fid ≡ Err r → is_failure r ≡ false
+unknown_fid z fid r h = plain_at (fid_at z fid) r (some_plain (known fid z.session.fids) refusal.UnknownFid refl) h
 
 -- a world, and then a reply and a state
 pub end_refused : (told : Result World Refusal) (rest : World → Reply × State) (fails : Bool → FileError → Type 0) (r : Refusal) → IsRefused told (fails (is_ok told)) r → (let on : Told = and_then told (λ w. Ok (rest w)) in IsRefused on (fails (is_ok on)) r)
