@@ -1,18 +1,20 @@
 -- What a method of a session does for a request, over any devices: one lemma for each way in which it comes out.
-use Rattle.std.proofs.Common.{◌≡◌, ℕ, ◌≤◌, Bool, false, Result, Ok, Err, refl, sym, ap, subst, ◌∙◌, inl, inr, ⊎_elim, arith}
-use Rattle.std.specs.Prelude.{is_ok, IfErr}
+use Rattle.std.proofs.Common.{◌≡◌, ℕ, ◌≤◌, Bool, false, Result, Ok, Err, refl, sym, ap, subst, ◌∙◌, inl, inr, ⊎_elim, ◌⊎◌, arith}
+use Rattle.std.specs.Prelude.{is_ok, IfErr, if◌then◌else◌}
 use Rattle.nine_wire.specs.declared.message.Reply.{Reply}
 use Rattle.fo_world.specs.declared.error.FileError.{FileError}
 use Rattle.fo_world.specs.declared.error.FileError.TheVariants as error
 use Rattle.fo_world.specs.World.{World}
+use Rattle.fo_world.specs.Answers.{MayFail, is_fault}
+use Rattle.fo_world.specs.Answers as answers
 use Rattle.nine_fids.specs.declared.refusal.Refusal.{Refusal}
 use Rattle.nine_fids.specs.declared.refusal.Refusal.TheVariants as refusal
-use Rattle.nine_fids.specs.Refusing.{and_then, is_failure}
+use Rattle.nine_fids.specs.Refusing.{and_then, changed, is_failure}
 use Rattle.nine_fids.specs.Told.{Files}
 use Rattle.nine_fids.specs.Fids.{State}
 use Rattle.nine_fids.specs.Looking.{FilesState, Follows, HasCause, IsRefused, Looks}
 use Rattle.nine_fids.proofs.Missing.{fails_since, none_below, refused_by}
-use Rattle.nine_fids.proofs.Seeing.{cause_since}
+use Rattle.nine_fids.proofs.Seeing.{Stepped, cause_since, looks_no_memory}
 use Rattle.nine_files.specs.Answering.{Changes, FailsBy, HadRoom, IsChanged, Leads, granted_with, tried}
 use Rattle.nine_files.specs.Answering as answering
 use Rattle.nine_files.proofs.Links.{looks_plain, refused_looking}
@@ -208,3 +210,52 @@ attempted_as a c within k k' told told' need need' most most' left left' result 
       left_is = subst (λ (s : State). IfErr result (λ _. k' ≡ kept_of s)) leaves l.left_is;
       taken = subst (λ n. (w : World) × within w n) full l.taken;
     }
+
+-- ---- a call of the files that changes, by itself
+
+changed_granted : {A : Type 0} (told : Result (A × World) FileError) (w : World) → granted_with (changed told) w ≡ answers.granted_world told w
+changed_granted (Ok p) w = refl
+changed_granted (Err x) w = refl
+
+changed_err : {A : Type 0} (told : Result (A × World) FileError) (fails : Bool → FileError → Type 0) (x : FileError) → (told ≡ Err x) ⊎ fails (is_ok told) x → IsRefused (changed told) (fails (is_ok (changed told))) (refusal.File x)
+changed_err (Ok p) fails x h = ⊎_elim (λ t. absurd cc) (λ m. inr (x, refl, m)) h
+changed_err (Err y) fails x h = ⊎_elim (λ t. inl cc) (λ m. inr (x, refl, m)) h
+
+module _ {A : Type 0} (b c : FilesState) (touches : Touches) (step : Stepped A) (need : Files → World → ℕ) (most : ℕ) where
+  pub makes_err : (x : FileError)
+      → (b.honest → ((step b.how b.world ≡ Err x) ⊎ MayFail b.faults c.faults b.honest c.has_room (need b.how b.world) (is_ok (step b.how b.world)) x) × (c.world ≡ b.world))
+      → (b.honest → touches (if is_fault x then answers.granted_world (step b.how b.world) b.world else b.world) (need b.how b.world))
+      → answers.HasCause b.faults c.faults b.honest c.has_room most x
+      → ((w : World) × touches w most)
+      → Changes b c touches (λ e w. changed (step e w)) need most (Err (refusal.File x))
+  makes_err x answer touched cause taken = record {
+    answer = λ h. (changed_err (step b.how b.world) (FailsBy b c (need b.how b.world)) x (answer h).0, (answer h).1);
+    room = λ h. tt;
+    touched = λ h. subst (λ g. touches (if is_fault x then g else b.world) (need b.how b.world)) (sym (changed_granted (step b.how b.world) b.world)) (touched h);
+    cause = cause;
+    taken = taken;
+  }
+
+  pub makes_ok : (x : A)
+      → (b.honest → step b.how b.world ≡ Ok (x, c.world))
+      → (b.honest → (n : ℕ) → b.has_room n → need b.how b.world ≤ n)
+      → (b.honest → touches (answers.granted_world (step b.how b.world) b.world) (need b.how b.world))
+      → ((w : World) × touches w most)
+      → Changes b c touches (λ e w. changed (step e w)) need most (Ok x)
+  makes_ok x answer room touched taken = record {
+    answer = λ h. ap changed (answer h);
+    room = room;
+    touched = λ h. subst (λ g. touches g (need b.how b.world)) (sym (changed_granted (step b.how b.world) b.world)) (touched h);
+    cause = tt;
+    taken = taken;
+  }
+
+-- want of memory, after calls that looked
+pub attempted_no_memory : (a c : FilesState) (within : Touches) (k k' : Kept) (told : Files → State → Told) (need : Files → State → ℕ) (most : ℕ) (left : State → State) (r : Refusal)
+    → r ≡ refusal.File error.Memory → (a.honest → c.world ≡ a.world)
+    → k' ≡ kept_of (left (in_files k a.world)) → (left (in_files k a.world)).world ≡ a.world
+    → ((w : World) (n : ℕ) → within w n)
+    → Attempted a c within k k' told need most left (Err r)
+attempted_no_memory a c within k k' told need most left r is world kept stays any =
+    let P : Refusal → Type 0 = λ v. Attempted a c within k k' told need most left (Err v) in
+    subst P (sym is) (attempted_looked a c within k k' told need most left (λ e w. told e (in_files k w)) (refusal.File error.Memory) (λ h e. e) (looks_no_memory a c (λ e w. told e (in_files k w)) world) kept stays any)

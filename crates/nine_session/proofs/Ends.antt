@@ -31,11 +31,11 @@ some_err (Some y) r s h = absurd cc
 some_err None r s h = refl
 
 -- a refusal for want of a version, or of a fid, is no failure
-pub no_version : (z : State) (r : Refusal) → version_of z ≡ Err r → is_failure r ≡ false
-no_version z r h = plain_at (version_of z) r (some_plain z.session.msize refusal.NoVersion refl) h
+pub version_plain : (z : State) (r : Refusal) → version_of z ≡ Err r → is_failure r ≡ false
+version_plain z r h = plain_at (version_of z) r (some_plain z.session.msize refusal.NoVersion refl) h
 
-pub unknown_fid : (z : State) (fid : ℕ) (r : Refusal) → fid_at z fid ≡ Err r → is_failure r ≡ false
-unknown_fid z fid r h = plain_at (fid_at z fid) r (some_plain (known fid z.session.fids) refusal.UnknownFid refl) h
+pub fid_plain : (z : State) (fid : ℕ) (r : Refusal) → fid_at z fid ≡ Err r → is_failure r ≡ false
+fid_plain z fid r h = plain_at (fid_at z fid) r (some_plain (known fid z.session.fids) refusal.UnknownFid refl) h
 
 -- a world, and then a reply and a state
 pub end_refused : (told : Result World Refusal) (rest : World → Reply × State) (fails : Bool → FileError → Type 0) (r : Refusal) → IsRefused told (fails (is_ok told)) r → (let on : Told = and_then told (λ w. Ok (rest w)) in IsRefused on (fails (is_ok on)) r)

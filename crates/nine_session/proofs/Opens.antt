@@ -76,7 +76,7 @@ module _ (e : Files) (z : State) (now fid mode : ℕ) where
   pub open_refused : (msize : ℕ) (f : Fid) (r : Refusal) → version_of z ≡ Ok msize → fid_at z fid ≡ Ok f → admitted e z.world f z.exclusive mode ≡ Err r → open_file e z now fid mode ≡ Err r
   open_refused msize f r h k l = open_chain msize f h k ∙ ap (λ t. and_then t (opened_from e z now msize f)) l
 
-  open_at : (msize : ℕ) (f : Fid) (a : Info × Mode) → version_of z ≡ Ok msize → fid_at z fid ≡ Ok f → admitted e z.world f z.exclusive mode ≡ Ok a → open_file e z now fid mode ≡ opened_from e z now msize f a
+  pub open_at : (msize : ℕ) (f : Fid) (a : Info × Mode) → version_of z ≡ Ok msize → fid_at z fid ≡ Ok f → admitted e z.world f z.exclusive mode ≡ Ok a → open_file e z now fid mode ≡ opened_from e z now msize f a
   open_at msize f a h k l = open_chain msize f h k ∙ ap (λ t. and_then t (opened_from e z now msize f)) l
 
   pub open_granted : (msize : ℕ) (f : Fid) (i : Info) (m : Mode) (q : Qid) (w : World) → version_of z ≡ Ok msize → fid_at z fid ≡ Ok f → admitted e z.world f z.exclusive mode ≡ Ok (i, m) → told_qid (truncated e z.world f i m now) ≡ Ok (q, w) → open_file e z now fid mode ≡ Ok (reply.Open q (iounit msize), with_open (record z { world = w }) f f.place m (is_exclusive i.mode))
@@ -149,7 +149,7 @@ module _ (e : Files) (z : State) (now fid : ℕ) (name : List ℕ) (perm mode : 
   pub create_refused : (msize : ℕ) (f : Fid) (r : Refusal) → version_of z ≡ Ok msize → fid_at z fid ≡ Ok f → admitted_new e z.world f name perm mode ≡ Err r → create_file e z now fid name perm mode ≡ Err r
   create_refused msize f r h k l = create_chain msize f h k ∙ ap (λ t. and_then t (made_from e z now name perm msize f)) l
 
-  create_at : (msize : ℕ) (f : Fid) (a : Info × Mode) → version_of z ≡ Ok msize → fid_at z fid ≡ Ok f → admitted_new e z.world f name perm mode ≡ Ok a → create_file e z now fid name perm mode ≡ made_from e z now name perm msize f a
+  pub create_at : (msize : ℕ) (f : Fid) (a : Info × Mode) → version_of z ≡ Ok msize → fid_at z fid ≡ Ok f → admitted_new e z.world f name perm mode ≡ Ok a → create_file e z now fid name perm mode ≡ made_from e z now name perm msize f a
   create_at msize f a h k l = create_chain msize f h k ∙ ap (λ t. and_then t (made_from e z now name perm msize f)) l
 
   pub create_granted : (msize : ℕ) (f : Fid) (i : Info) (m : Mode) (j : Info) (w : World) → version_of z ≡ Ok msize → fid_at z fid ≡ Ok f → admitted_new e z.world f name perm mode ≡ Ok (i, m) → step.create e.whole z.world f.place name (new_mode perm i.mode) f.user f.user i.gid now ≡ Ok (j, w) → create_file e z now fid name perm mode ≡ Ok (reply.Create (qid_of j) (iounit msize), with_open (record z { world = w }) f j.place m (is_exclusive j.mode))

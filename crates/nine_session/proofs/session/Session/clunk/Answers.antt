@@ -8,7 +8,7 @@ use Rattle.nine_files.specs.Removing.{close_need, most_close}
 use Rattle.nine_session.specs.Attempting.{state}
 use Rattle.nine_session.specs.Session.{kept_of, without_fid}
 use Rattle.nine_session.proofs.Attempted.{attempted_as, attempted_denied}
-use Rattle.nine_session.proofs.Ends.{clunk_known, clunk_no_version, clunk_unknown, left_as_was, left_known, left_unknown, no_version, some_err, unknown_fid}
+use Rattle.nine_session.proofs.Ends.{clunk_known, clunk_no_version, clunk_unknown, left_as_was, left_known, left_unknown, version_plain, some_err, fid_plain}
 use Rattle.nine_session.proofs.Kept.{known_fid, need_there}
 use Rattle.nine_session.proofs.Links.{some_or_ok}
 use Rattle.nine_session.proofs.session.Session.clunk.Goals as goal
@@ -22,7 +22,7 @@ returns-in_err-version-clause-attempted g c =
     let p = err_from_is_err_and c.from_residual.result c.from_residual.ensures.1 in
     let v : version_of z ≡ Err r = sym (c.in_err-version.ensures z.exclusive z.world) in
     let left = left_as_was z z.session.msize (known c.args.fid z.session.fids) refusal.NoVersion r v in
-    rw (p.1, p.2) (attempted_denied _ _ _ _ _ _ _ _ _ r (λ h. clunk_no_version _ z c.args.now c.args.fid r v) (λ h. refl) (no_version z r v)
+    rw (p.1, p.2) (attempted_denied _ _ _ _ _ _ _ _ _ r (λ h. clunk_no_version _ z c.args.now c.args.fid r v) (λ h. refl) (version_plain z r v)
     (ap kept_of (sym left)) (ap (λ (x : State). x.world) left) (λ w n. met.touches_more _ _ w 0 n (omega arith) (met.keeps_touches _ _ w (met.keeps_at_once _))))
 
 pub returns-in_err-fid-clause-attempted : goal.returns-in_err-fid-clause-attempted
@@ -36,7 +36,7 @@ returns-in_err-fid-clause-attempted g c =
     let k : fid_at z c.args.fid ≡ Err r = c.in_err-fid.ensures z.exclusive z.world in
     let none : known c.args.fid z.session.fids ≡ None = some_err _ refusal.UnknownFid r k in
     let left = ap (without_fid z z.session.msize) none ∙ left_unknown z z.session.msize in
-    rw (p.1, p.2) (attempted_denied _ _ _ _ _ _ _ _ _ r (λ h. clunk_unknown _ z c.args.now c.args.fid _ r v k) (λ h. refl) (unknown_fid z c.args.fid r k)
+    rw (p.1, p.2) (attempted_denied _ _ _ _ _ _ _ _ _ r (λ h. clunk_unknown _ z c.args.now c.args.fid _ r v k) (λ h. refl) (fid_plain z c.args.fid r k)
     (ap kept_of (sym left)) (ap (λ (x : State). x.world) left) (λ w n. met.touches_more _ _ w 0 n (omega arith) (met.keeps_touches _ _ w (met.keeps_at_once _))))
 
 pub returns-clause-attempted : goal.returns-clause-attempted

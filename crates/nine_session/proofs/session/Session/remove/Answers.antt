@@ -5,9 +5,10 @@ use Rattle.nine_fids.specs.Fids.{State, known, version_of, fid_at, clunked, in_w
 use Rattle.nine_fids.specs.declared.refusal.Refusal.TheVariants as refusal
 use Rattle.nine_files.specs.Removing.{remove_need, removed_there}
 use Rattle.nine_session.specs.Attempting.{state}
+use Rattle.nine_session.specs.Removing.{remove}
 use Rattle.nine_session.specs.Session.{kept_of, without_fid}
 use Rattle.nine_session.proofs.Attempted.{attempted_denied, attempted_as, led_granted, led_refused}
-use Rattle.nine_session.proofs.Ends.{gone_is, left_as_was, left_known, left_unknown, no_version, remove_known, remove_no_version, remove_unknown, some_err, unknown_fid}
+use Rattle.nine_session.proofs.Ends.{gone_is, left_as_was, left_known, left_unknown, version_plain, remove_known, remove_no_version, remove_unknown, some_err, fid_plain}
 use Rattle.nine_session.proofs.Kept.{fid_user, known_fid, need_there}
 use Rattle.nine_session.proofs.Links.{some_or_ok}
 use Rattle.nine_session.proofs.session.Session.remove.Goals as goal
@@ -21,7 +22,7 @@ returns-in_err-version-clause-attempted g c =
     let p = err_from_is_err_and c.from_residual.result c.from_residual.ensures.1 in
     let v : version_of z ≡ Err r = sym (c.in_err-version.ensures z.exclusive z.world) in
     let left = left_as_was z z.session.msize (known c.args.fid z.session.fids) refusal.NoVersion r v in
-    rw (p.1, p.2) (attempted_denied _ _ _ _ _ _ _ _ _ r (λ h. remove_no_version _ z c.args.now c.args.fid r v) (λ h. refl) (no_version z r v)
+    rw (p.1, p.2) (attempted_denied _ _ _ _ _ _ _ _ _ r (λ h. remove_no_version _ z c.args.now c.args.fid r v) (λ h. refl) (version_plain z r v)
     (ap kept_of (sym left)) (ap (λ (x : State). x.world) left) (λ w n. met.touches_more _ _ w 0 n (omega arith) (met.keeps_touches _ _ w (met.keeps_at_once _))))
 
 pub returns-in_err-from-clause-attempted : goal.returns-in_err-from-clause-attempted
@@ -35,7 +36,7 @@ returns-in_err-from-clause-attempted g c =
     let k : fid_at z c.args.fid ≡ Err r = c.in_err-from.ensures z.exclusive z.world in
     let none : known c.args.fid z.session.fids ≡ None = some_err _ refusal.UnknownFid r k in
     let left = ap (without_fid z z.session.msize) none ∙ left_unknown z z.session.msize in
-    rw (p.1, p.2) (attempted_denied _ _ _ _ _ _ _ _ _ r (λ h. remove_unknown _ z c.args.now c.args.fid _ r v k) (λ h. refl) (unknown_fid z c.args.fid r k)
+    rw (p.1, p.2) (attempted_denied _ _ _ _ _ _ _ _ _ r (λ h. remove_unknown _ z c.args.now c.args.fid _ r v k) (λ h. refl) (fid_plain z c.args.fid r k)
     (ap kept_of (sym left)) (ap (λ (x : State). x.world) left) (λ w n. met.touches_more _ _ w 0 n (omega arith) (met.keeps_touches _ _ w (met.keeps_at_once _))))
 
 pub remove_there-removed-requires-clause-user : goal.remove_there-removed-requires-clause-user
@@ -55,7 +56,7 @@ returns-in_err-removed-clause-attempted g c =
     let k = c.in_ok-from.ensures z.exclusive z.world in
     let is : known c.args.fid z.session.fids ≡ Some _ = some_or_ok _ refusal.UnknownFid _ k in
     let found = known_fid c.args.fid z.session.fids _ is in
-    rw (p.1, p.2) (attempted_as _ _ _ _ _ _ _ (λ e x. remove_need f) _ (remove_need f) _ (λ x. clunked x f) _ _ (λ h. refl)
+    rw (p.1, p.2) (attempted_as _ _ _ _ _ (λ e x. remove e x c.args.now c.args.fid) _ (λ e x. remove_need f) _ (remove_need f) _ (λ x. clunked x f) _ _ (λ h. refl)
     (λ h. sym (need_there (known c.args.fid z.session.fids) f remove_need k))
     (sym (need_there (known c.args.fid z.session.fids) f remove_need k))
     (sym (ap (without_fid z z.session.msize) is ∙ left_known z z.session.msize f refusal.NoVersion _ v))
@@ -74,7 +75,7 @@ returns-clause-attempted g c =
     let k = c.in_ok-from.ensures z.exclusive z.world in
     let is : known c.args.fid z.session.fids ≡ Some _ = some_or_ok _ refusal.UnknownFid _ k in
     let found = known_fid c.args.fid z.session.fids _ is in
-    attempted_as _ _ _ _ _ _ _ (λ e x. remove_need f) _ (remove_need f) _ (λ x. clunked x f) _ _ (λ h. refl)
+    attempted_as _ _ _ _ _ (λ e x. remove e x c.args.now c.args.fid) _ (λ e x. remove_need f) _ (remove_need f) _ (λ x. clunked x f) _ _ (λ h. refl)
     (λ h. sym (need_there (known c.args.fid z.session.fids) f remove_need k))
     (sym (need_there (known c.args.fid z.session.fids) f remove_need k))
     (sym (ap (without_fid z z.session.msize) is ∙ left_known z z.session.msize f refusal.NoVersion _ v))
