@@ -29,7 +29,6 @@ use Rattle.nine_files.specs.Answering.{granted_with}
 use Rattle.nine_files.specs.Granting.{admitted, admitted_new, is_held, told_qid}
 use Rattle.nine_files.specs.Opening.{allowed_mode, allowed_new, is_bad_name, new_mode, opened_so, opening_rights, truncated}
 use Rattle.nine_files.proofs.Links.{FailsSo, past_then, refuse_ok, then_ok_parts}
-use Rattle.nine_files.proofs.Touching.{changed_granted}
 use Rattle.nine_session.specs.Attempting.{state, with_put}
 use Rattle.nine_session.specs.Opening.{create_file, open_file, with_open}
 use Rattle.nine_session.specs.Session.{granted_world}
@@ -92,14 +91,7 @@ module _ (e : Files) (z : State) (now fid mode : ℕ) where
 
 -- ---- Tcreate
 
-made_by : (t : Result (Info × World) FileError) (p : Info × World) (rest : Info × World → Reply × State) → t ≡ Ok p → and_then (changed t) (λ q. Ok (rest q)) ≡ Ok (rest p)
-made_by t p rest h = ap (λ r. and_then (changed r) (λ q. Ok (rest q))) h
-
-made_fails : (t : Result (Info × World) FileError) (rest : Info × World → Reply × State) (x : FileError) (fails fails' : FailsSo) → ((b : Bool) (y : FileError) → fails b y → fails' b y) → (t ≡ Err x) ⊎ fails (is_ok t) x → (let on : Result (Reply × State) Refusal = and_then (changed t) (λ p. Ok (rest p)) in IsRefused on (fails' (is_ok on)) (refusal.File x))
-made_fails (Ok p) rest x fails fails' up h = ⊎_elim (λ t. absurd cc) (λ m. inr (x, refl, up true x m)) h
-made_fails (Err y) rest x fails fails' up h = ⊎_elim (λ t. inl cc) (λ m. inr (x, refl, up false x m)) h
-
-named_well : (f : Fid) (above : Info) (name : List ℕ) (perm mode : ℕ) (m : Mode) → allowed_new f above name perm mode ≡ Ok m → is_bad_name name ≡ false
+pub named_well : (f : Fid) (above : Info) (name : List ℕ) (perm mode : ℕ) (m : Mode) → allowed_new f above name perm mode ≡ Ok m → is_bad_name name ≡ false
 unfolding allowed_new
 named_well f above name perm mode m h =
     let t3 : Result Mode Refusal = and_then (some_or (mode_of mode) refusal.BadOpenMode) (λ k. refuse_if (is_dir perm && is_more k) refusal.BadOpenMode (Ok k)) in
@@ -109,21 +101,14 @@ named_well f above name perm mode m h =
     let second = refuse_ok (not (step.is_active f.place.view)) (refusal.File error.ReadOnly) t2 m first.1 in
     (refuse_ok (is_bad_name name) refusal.BadName t3 m second.1).0
 
--- a directory in which a file may be made, and a name that it may have
-pub new_named : (e : Files) (w : World) (f : Fid) (name : List ℕ) (perm mode : ℕ) (a : Info × Mode) → admitted_new e w f name perm mode ≡ Ok a → is_bad_name name ≡ false
-unfolding admitted_new
-new_named e w f name perm mode a h =
-    let last : Info → Mode → Result (Info × Mode) Refusal = λ above m. refuse_if (not (may (table_of e w) f.user above Write)) refusal.PermissionDenied (Ok (above, m)) in
-    let go : Info → Result (Info × Mode) Refusal = λ above. and_then (allowed_new f above name perm mode) (last above) in
-    let first = refuse_ok (is_open f) refusal.FidIsOpen (and_then (info_at e w f.place) go) a h in
-    let second = then_ok_parts (info_at e w f.place) go a first.1 in
-    let third = then_ok_parts (allowed_new f second.0 name perm mode) (last second.0) a second.2 in
-    named_well f second.0 name perm mode third.0 third.1
+-- the reply for a file that was made, and the state with its fid
+abbrev pub created : ℕ → State → Fid → Mode → Info × World → Reply × State
+created msize z f m p = (reply.Create (qid_of p.0) (iounit msize), with_open (record z { world = p.1 }) f p.0.place m (is_exclusive p.0.mode))
 
 abbrev pub made_from : Files → State → ℕ → List ℕ → ℕ → ℕ → Fid → Info × Mode → Result (Reply × State) Refusal
 made_from e z now name perm msize f a =
     and_then (changed (step.create e.whole z.world f.place name (new_mode perm a.0.mode) f.user f.user a.0.gid now)) (λ p.
-    Ok (reply.Create (qid_of p.0) (iounit msize), with_open (record z { world = p.1 }) f p.0.place a.1 (is_exclusive p.0.mode)))
+    Ok (created msize z f a.1 p))
 
 module _ (e : Files) (z : State) (now fid : ℕ) (name : List ℕ) (perm mode : ℕ) where
   pub create_no_version : (r : Refusal) → version_of z ≡ Err r → create_file e z now fid name perm mode ≡ Err r
@@ -152,19 +137,6 @@ module _ (e : Files) (z : State) (now fid : ℕ) (name : List ℕ) (perm mode : 
   pub create_at : (msize : ℕ) (f : Fid) (a : Info × Mode) → version_of z ≡ Ok msize → fid_at z fid ≡ Ok f → admitted_new e z.world f name perm mode ≡ Ok a → create_file e z now fid name perm mode ≡ made_from e z now name perm msize f a
   create_at msize f a h k l = create_chain msize f h k ∙ ap (λ t. and_then t (made_from e z now name perm msize f)) l
 
-  pub create_granted : (msize : ℕ) (f : Fid) (i : Info) (m : Mode) (j : Info) (w : World) → version_of z ≡ Ok msize → fid_at z fid ≡ Ok f → admitted_new e z.world f name perm mode ≡ Ok (i, m) → step.create e.whole z.world f.place name (new_mode perm i.mode) f.user f.user i.gid now ≡ Ok (j, w) → create_file e z now fid name perm mode ≡ Ok (reply.Create (qid_of j) (iounit msize), with_open (record z { world = w }) f j.place m (is_exclusive j.mode))
-  create_granted msize f i m j w h k l t = create_at msize f (i, m) h k l ∙ made_by (step.create e.whole z.world f.place name (new_mode perm i.mode) f.user f.user i.gid now) (j, w) (λ p. (reply.Create (qid_of p.0) (iounit msize), with_open (record z { world = p.1 }) f p.0.place m (is_exclusive p.0.mode))) t
-
-  pub create_fails : (msize : ℕ) (f : Fid) (i : Info) (m : Mode) (x : FileError) (fails fails' : FailsSo) → version_of z ≡ Ok msize → fid_at z fid ≡ Ok f → admitted_new e z.world f name perm mode ≡ Ok (i, m) → ((b : Bool) (y : FileError) → fails b y → fails' b y) → (let t = step.create e.whole z.world f.place name (new_mode perm i.mode) f.user f.user i.gid now in (t ≡ Err x) ⊎ fails (is_ok t) x) → IsRefused (create_file e z now fid name perm mode) (fails' (is_ok (create_file e z now fid name perm mode))) (refusal.File x)
-  create_fails msize f i m x fails fails' h k l up p =
-      rw (create_at msize f (i, m) h k l) (made_fails (step.create e.whole z.world f.place name (new_mode perm i.mode) f.user f.user i.gid now) (λ p. (reply.Create (qid_of p.0) (iounit msize), with_open (record z { world = p.1 }) f p.0.place m (is_exclusive p.0.mode))) x fails fails' up p)
-
-  pub create_goes : (msize : ℕ) (f : Fid) (i : Info) (m : Mode) → version_of z ≡ Ok msize → fid_at z fid ≡ Ok f → admitted_new e z.world f name perm mode ≡ Ok (i, m) → granted_world (create_file e z now fid name perm mode) z.world ≡ made_world (step.create e.whole z.world f.place name (new_mode perm i.mode) f.user f.user i.gid now) z.world
-  create_goes msize f i m h k l =
-      let t = step.create e.whole z.world f.place name (new_mode perm i.mode) f.user f.user i.gid now in
-      world_with (create_file e z now fid name perm mode) (changed t) (λ p. (reply.Create (qid_of p.0) (iounit msize), with_open (record z { world = p.1 }) f p.0.place m (is_exclusive p.0.mode))) z.world (create_at msize f (i, m) h k l) (λ p. refl)
-      ∙ changed_granted t z.world
-
 -- ---- a fid put in its place
 
 pub fid_made : (g : Fid) (n n' : ℕ) (u u' : List ℕ) (p p' : Place) (o o' : Option Opened) → g ≡ record { number = n; user = u; place = p; opened = o } → n ≡ n' → u ≡ u' → p ≡ p' → o ≡ o' → g ≡ record { number = n'; user = u'; place = p'; opened = o' }
@@ -176,5 +148,5 @@ put_is_open s x x' w w' f g at m held held' h k l = rw (h, k, l) refl
 pub open_replied : (told : Result (Reply × State) Refusal) (q : Qid) (n n' : ℕ) (z z' : State) → told ≡ Ok (reply.Open q n, z) → n' ≡ n → z' ≡ z → told ≡ Ok (reply.Open q n', z')
 open_replied told q n n' z z' h k l = h ∙ rw (k, l) refl
 
-pub create_replied : (told : Result (Reply × State) Refusal) (q q' : Qid) (n n' : ℕ) (z z' : State) → told ≡ Ok (reply.Create q n, z) → q' ≡ q → n' ≡ n → z' ≡ z → told ≡ Ok (reply.Create q' n', z')
-create_replied told q q' n n' z z' h j k l = h ∙ rw (j, k, l) refl
+pub create_replies : (q q' : Qid) (n n' : ℕ) (z z' : State) → q' ≡ q → n' ≡ n → z' ≡ z → (let out : Reply × State = (reply.Create q n, z) in out) ≡ (reply.Create q' n', z')
+create_replies q q' n n' z z' j k l = rw (j, k, l) refl
