@@ -259,3 +259,26 @@ pub attempted_no_memory : (a c : FilesState) (within : Touches) (k k' : Kept) (t
 attempted_no_memory a c within k k' told need most left r is world kept stays any =
     let P : Refusal → Type 0 = λ v. Attempted a c within k k' told need most left (Err v) in
     subst P (sym is) (attempted_looked a c within k k' told need most left (λ e w. told e (in_files k w)) (refusal.File error.Memory) (λ h e. e) (looks_no_memory a c (λ e w. told e (in_files k w)) world) kept stays any)
+
+-- ---- more blocks
+
+cause_up : (a c : FilesState) (n m : ℕ) (r : Refusal) → n ≤ m → HasCause a c n r → HasCause a c m r
+cause_up a c n m (refusal.File error.Full) le h = (h.0, h.1, omega (arith, le, h.2))
+cause_up a c n m r le h = h
+
+causes_up : (a c : FilesState) (n m : ℕ) (result : Result Reply Refusal) → n ≤ m → IfErr result (HasCause a c n) → IfErr result (HasCause a c m)
+causes_up a c n m (Ok r) le h = tt
+causes_up a c n m (Err r) le h = cause_up a c n m r le h
+
+-- with no more blocks than these, no more than those
+pub attempted_more : (a c : FilesState) (within : Touches) (k k' : Kept) (told : Files → State → Told) (need : Files → State → ℕ) (n m : ℕ) (left : State → State) (result : Result Reply Refusal)
+    → n ≤ m → ((w : World) → within w n → within w m)
+    → Attempted a c within k k' told need n left result → Attempted a c within k k' told need m left result
+attempted_more a c within k k' told need n m left result le up l = record {
+  answer = l.answer;
+  room = l.room;
+  touched = l.touched;
+  cause = causes_up a c n m result le l.cause;
+  left_is = l.left_is;
+  taken = (l.taken.0, up l.taken.0 l.taken.1);
+}
