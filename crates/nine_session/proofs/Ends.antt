@@ -10,12 +10,14 @@ use Rattle.fo_world.specs.declared.place.Info.{Info}
 use Rattle.fo_world.specs.World.{World}
 use Rattle.nine_fids.specs.declared.fid.Fid.{Fid}
 use Rattle.nine_fids.specs.declared.refusal.Refusal.{Refusal}
-use Rattle.nine_fids.specs.Refusing.{and_then, some_or}
-use Rattle.nine_fids.specs.Fids.{State, fid_of, fid_at, version_of, without, released, clunked, in_world, least, lesser}
+use Rattle.nine_fids.specs.declared.refusal.Refusal.TheVariants as refusal
+use Rattle.nine_fids.specs.Refusing.{and_then, some_or, is_failure}
+use Rattle.nine_fids.specs.Fids.{State, known, fid_of, fid_at, version_of, without, released, clunked, in_world, least, lesser}
 use Rattle.nine_fids.specs.Told.{Files, info_at}
 use Rattle.nine_fids.specs.Looking.{IsRefused}
 use Rattle.nine_files.specs.Answering.{granted_world as led_world}
 use Rattle.nine_files.specs.Removing.{closed, removed, removed_there}
+use Rattle.nine_files.proofs.Links.{plain_at, some_plain}
 use Rattle.nine_session.specs.Attempting.{let_go}
 use Rattle.nine_session.specs.Removing.{clunk, clunk_fid, remove}
 use Rattle.nine_session.specs.Session.{Told, granted_world, without_fid}
@@ -27,6 +29,13 @@ use Rattle.nine_session.proofs.Links.{world_led}
 pub some_err : {A : Type 0} (o : Option A) (r s : Refusal) → some_or o r ≡ Err s → o ≡ None
 some_err (Some y) r s h = absurd cc
 some_err None r s h = refl
+
+-- a refusal for want of a version, or of a fid, is no failure
+pub version_plain : (z : State) (r : Refusal) → version_of z ≡ Err r → is_failure r ≡ false
+version_plain z r h = plain_at (version_of z) r (some_plain z.session.msize refusal.NoVersion refl) h
+
+pub fid_plain : (z : State) (fid : ℕ) (r : Refusal) → fid_at z fid ≡ Err r → is_failure r ≡ false
+fid_plain z fid r h = plain_at (fid_at z fid) r (some_plain (known fid z.session.fids) refusal.UnknownFid refl) h
 
 -- a world, and then a reply and a state
 pub end_refused : (told : Result World Refusal) (rest : World → Reply × State) (fails : Bool → FileError → Type 0) (r : Refusal) → IsRefused told (fails (is_ok told)) r → (let on : Told = and_then told (λ w. Ok (rest w)) in IsRefused on (fails (is_ok on)) r)
@@ -66,6 +75,10 @@ clunk_refused e z now f fails r h = end_refused (closed e z.world f now) (λ w. 
 pub clunk_granted : (e : Files) (z : State) (now : ℕ) (f : Fid) (w : World) → closed e z.world f now ≡ Ok w → clunk_fid e z now f ≡ Ok (reply.Clunk, clunked (in_world z w) f)
 unfolding clunk_fid
 clunk_granted e z now f w h = rw h refl
+
+pub clunk_chain : (e : Files) (z : State) (now : ℕ) (f : Fid) → clunk_fid e z now f ≡ and_then (closed e z.world f now) (λ w. Ok (reply.Clunk, clunked (in_world z w) f))
+unfolding clunk_fid
+clunk_chain e z now f = refl
 
 pub clunk_goes : (e : Files) (z : State) (now : ℕ) (f : Fid) → granted_world (clunk_fid e z now f) z.world ≡ led_world (closed e z.world f now) z.world
 unfolding clunk_fid

@@ -1,3 +1,4 @@
+pub mod Attempted
 pub mod Ends
 pub mod Kept
 pub mod Links
