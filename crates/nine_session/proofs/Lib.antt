@@ -1,3 +1,4 @@
+pub mod Answered
 pub mod Attempted
 pub mod Ends
 pub mod Kept

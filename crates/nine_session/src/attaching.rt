@@ -1,6 +1,8 @@
 //! Tversion, Tauth, Tflush and Tattach.
 ghost use Rattle.std.specs.Prelude.{◌≡◌, ◌==◌, ◌<◌, length, position, IfSome};
 ghost use Rattle.nine_session.specs.Attaching as nine;
+ghost use Rattle.nine_wire.specs.declared.message.Request.TheVariants as request;
+ghost use Rattle.nine_session.specs.Session.{Grants};
 ghost use Rattle.nine_session.specs.Attempting.{agreed_size, kept, Looked};
 
 use crate::session::Session;
@@ -74,13 +76,15 @@ fn tree_of(aname: &[u8]) -> Option<View>
 }
 
 impl Session {
-    ghost use Rattle.std.specs.Prelude.{◌≡◌, ℕ, List, IsTrue};
+    ghost use Rattle.std.specs.Prelude.{◌≡◌, ℕ, List, IsTrue, IfOk};
     ghost use Rattle.fo_world.specs.World.{World};
     ghost use Rattle.fo_world.specs.declared.error.FileError.TheVariants as failure;
     ghost use Rattle.nine_fids.specs.Fids.{restarted};
     ghost use Rattle.nine_fids.specs.Told.{served};
     ghost use Rattle.nine_fids.specs.Looking.{Looks};
     ghost use Rattle.nine_session.specs.Attaching as nine;
+    ghost use Rattle.nine_wire.specs.declared.message.Request.TheVariants as request;
+    ghost use Rattle.nine_session.specs.Session.{Grants};
     ghost use Rattle.nine_session.specs.Attempting.{state, kept, Attempts, Looked, Replies, IsSent};
 
     /// Tversion.
@@ -141,6 +145,7 @@ impl Session {
         requires { IsTrue (F.whole files.old) }
         ensures looked { (x : List ℕ) → Looked (⟦<F as Stated>⟧.state files.old) (⟦<F as Stated>⟧.state files.new) (kept self.old x) (kept self.new x)
             (λ e z. nine.attach e z fid afid uname.now aname.now) result }
+        ensures part { IfOk result (λ r. Grants (request.Attach fid afid uname.now aname.now) r) }
         ensures sends { IsSent result }
         ensures keeps { F.keeps files.old files.new }
     {

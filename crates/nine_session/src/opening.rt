@@ -5,7 +5,7 @@ ghost use Rattle.fo_world.specs.Step as step;
 ghost use Rattle.nine_fids.specs.Told.{served, qid_of};
 ghost use Rattle.nine_wire.specs.declared.message.Request.TheVariants as request;
 ghost use Rattle.nine_files.specs.Granting.{admitted};
-ghost use Rattle.nine_session.specs.Session.{in_files, most_of, need_at, opening_need};
+ghost use Rattle.nine_session.specs.Session.{Grants, in_files, most_of, need_at, opening_need};
 ghost use Rattle.nine_session.specs.Attempting.{kept, with_put, Attempted};
 ghost use Rattle.nine_session.specs.Opening as nine;
 
@@ -16,7 +16,7 @@ use nine_files::{admit, admit_new, new_mode, open_fid, truncate};
 use nine_wire::Reply;
 
 impl Session {
-    ghost use Rattle.std.specs.Prelude.{◌≡◌, ◌<◌, IsTrue, is_ok, vec_len, vec_capacity};
+    ghost use Rattle.std.specs.Prelude.{◌≡◌, ◌<◌, IsTrue, IfOk, is_ok, vec_len, vec_capacity};
             ghost use Rattle.fo_world.specs.Limits.{IsUser};
     ghost use Rattle.fo_world.specs.World.{World};
     ghost use Rattle.fo_world.specs.Step as step;
@@ -25,7 +25,7 @@ impl Session {
     ghost use Rattle.nine_fids.specs.Told.{served};
     ghost use Rattle.nine_wire.specs.declared.message.Request.TheVariants as request;
     ghost use Rattle.nine_files.specs.Granting.{admitted};
-    ghost use Rattle.nine_session.specs.Session.{in_files, most_of, need_at, opening_need};
+    ghost use Rattle.nine_session.specs.Session.{Grants, in_files, most_of, need_at, opening_need};
     ghost use Rattle.nine_session.specs.Attempting.{state, kept, Attempted, IsSent, with_put};
     ghost use Rattle.nine_session.specs.Opening as nine;
     
@@ -56,6 +56,7 @@ impl Session {
             (kept self.old exclusive.old.items) (kept self.new exclusive.new.items)
             (λ e z. nine.open_file e z now fid mode)
             (λ e z. need_at (known fid z.session.fids) (λ f. opening_need e z.world f (admitted e z.world f z.exclusive mode))) (most_of (in_files (kept self.old exclusive.old.items) (F.world files.old)) (request.Open fid mode)) (λ z. z) result }
+        ensures part { IfOk result (λ r. Grants (request.Open fid mode) r) }
         ensures sends { IsSent result }
     {
         let msize = self.version()?;
@@ -90,6 +91,7 @@ impl Session {
             (kept self.old exclusive.old.items) (kept self.new exclusive.new.items)
             (λ e z. nine.create_file e z now fid name.now perm mode)
             (λ e z. need_at (known fid z.session.fids) (λ f. step.create_need f.place)) (need_at (known fid self.old.fids) (λ f. step.create_need f.place)) (λ z. z) result }
+        ensures part { IfOk result (λ r. Grants (request.Create fid name.now perm mode) r) }
         ensures sends { IsSent result }
     {
         let msize = self.version()?;

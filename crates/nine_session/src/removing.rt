@@ -3,7 +3,8 @@ ghost use Rattle.std.specs.Prelude.{◌≡◌, IsTrue, is_ok};
 ghost use Rattle.fo_world.specs.Step as step;
 ghost use Rattle.nine_fids.specs.Told.{served};
 ghost use Rattle.nine_files.specs.Removing.{close_need, most_close, remove_need};
-ghost use Rattle.nine_session.specs.Session.{need_at, without_fid};
+ghost use Rattle.nine_session.specs.Session.{Grants, need_at, without_fid};
+ghost use Rattle.nine_wire.specs.declared.message.Request.TheVariants as request;
 ghost use Rattle.nine_session.specs.Attempting.{kept, Attempted};
 ghost use Rattle.nine_session.specs.Removing as nine;
 
@@ -14,12 +15,14 @@ use nine_files::{remove_on_close, remove_there};
 use nine_wire::Reply;
 
 impl Session {
-    ghost use Rattle.std.specs.Prelude.{◌≡◌, ℕ, Some, IsTrue};
+    ghost use Rattle.std.specs.Prelude.{◌≡◌, ℕ, Some, IsTrue, IfOk};
+    ghost use Rattle.fo_world.specs.World.{World};
+    ghost use Rattle.nine_wire.specs.declared.message.Request.TheVariants as request;
     ghost use Rattle.nine_fids.specs.declared.fid.Fid.{Fid};
     ghost use Rattle.nine_fids.specs.Fids.{fid_of, known, clunked};
     ghost use Rattle.nine_files.specs.Removing.{close_need, most_close, remove_need};
-    ghost use Rattle.nine_session.specs.Session.{need_at, without_fid};
-    ghost use Rattle.nine_session.specs.Attempting.{state, kept, Attempted, IsSent};
+    ghost use Rattle.nine_session.specs.Session.{Grants, need_at, without_fid};
+    ghost use Rattle.nine_session.specs.Attempting.{state, kept, let_go, Attempted, IsSent};
 
     /// Clunks the fid of this number, which there is. It is gone in each case.
     pub(crate) fn clunk_fid<F: FileOps>(
@@ -34,6 +37,8 @@ impl Session {
             (kept self.old exclusive.old.items) (kept self.new exclusive.new.items)
             (λ e z. nine.clunk_fid e z now f)
             (λ e z. close_need e z.world f) (most_close f) (λ z. clunked z f) result }
+        ensures part { IfOk result (λ r. Grants (request.Clunk number) r) }
+        ensures gone { (w : World) → state self.new exclusive.new.items w ≡ let_go number (state self.old exclusive.old.items w) }
         ensures sends { IsSent result }
     {
         let Some(fid) = fid_of(self.fids.as_slice(), number) else {
@@ -58,6 +63,7 @@ impl Session {
             (kept self.old exclusive.old.items) (kept self.new exclusive.new.items)
             (λ e z. nine.clunk e z now fid)
             (λ e z. need_at (known fid z.session.fids) (close_need e z.world)) (need_at (known fid self.old.fids) most_close) (λ z. without_fid z z.session.msize (known fid z.session.fids)) result }
+        ensures part { IfOk result (λ r. Grants (request.Clunk fid) r) }
         ensures sends { IsSent result }
     {
         self.version()?;
@@ -78,6 +84,7 @@ impl Session {
             (kept self.old exclusive.old.items) (kept self.new exclusive.new.items)
             (λ e z. nine.remove e z now fid)
             (λ e z. need_at (known fid z.session.fids) remove_need) (need_at (known fid self.old.fids) remove_need) (λ z. without_fid z z.session.msize (known fid z.session.fids)) result }
+        ensures part { IfOk result (λ r. Grants (request.Remove fid) r) }
         ensures sends { IsSent result }
     {
         self.version()?;

@@ -3,8 +3,9 @@ ghost use Rattle.std.specs.Prelude.{◌≡◌, ℕ, IsTrue, IfOk, Ok, Result, is
 ghost use Rattle.nine_fids.specs.Told.{served, info_at};
 ghost use Rattle.fo_world.specs.Step as step;
 ghost use Rattle.nine_files.specs.Stating.{change_of};
-ghost use Rattle.nine_session.specs.Session.{need_at};
+ghost use Rattle.nine_session.specs.Session.{Grants, need_at};
 ghost use Rattle.nine_session.specs.Attempting.{kept, Attempted, Looked};
+ghost use Rattle.nine_wire.specs.declared.message.Request.TheVariants as request;
 ghost use Rattle.nine_session.specs.Stating as nine;
 
 use crate::session::Session;
@@ -19,13 +20,14 @@ impl Session {
     ghost use Rattle.std.specs.Prelude.{◌≡◌, ℕ, List, IsTrue, IfOk, MatchResult, is_ok};
             ghost use Rattle.fo_world.specs.declared.error.FileError.TheVariants as failure;
     ghost use Rattle.nine_stat.specs.declared.stat.Stat.{Stat};
+    ghost use Rattle.nine_wire.specs.declared.message.Request.TheVariants as request;
     ghost use Rattle.nine_stat.specs.Stat.{IsRecord};
     ghost use Rattle.nine_fids.specs.declared.refusal.Refusal.TheVariants as refusal;
     ghost use Rattle.nine_fids.specs.Told.{served};
     ghost use Rattle.fo_world.specs.Step as step;
     ghost use Rattle.nine_fids.specs.Fids.{known};
     ghost use Rattle.nine_files.specs.Stating.{change_of};
-    ghost use Rattle.nine_session.specs.Session.{need_at, touches_nothing};
+    ghost use Rattle.nine_session.specs.Session.{Grants, need_at, touches_nothing};
     ghost use Rattle.nine_session.specs.Attempting.{state, kept, Attempted, Looked, IsSent};
     ghost use Rattle.nine_session.specs.Stating as nine;
 
@@ -34,6 +36,7 @@ impl Session {
         requires whole { IsTrue (F.whole files.old) }
         ensures looked { (x : List ℕ) → Looked (⟦<F as Stated>⟧.state files.old) (⟦<F as Stated>⟧.state files.new) (kept self.now x) (kept self.now x)
             (λ e z. nine.stat e z fid) result }
+        ensures part { IfOk result (λ r. Grants (request.Stat fid) r) }
         ensures sends { IsSent result }
         ensures keeps { F.keeps files.old files.new }
     {
@@ -63,6 +66,7 @@ impl Session {
             (kept self.now x) (kept self.now x)
             (λ e z. nine.wstat e z now fid s)
             (λ e z. need_at (known fid z.session.fids) (λ f. step.change_need e.whole z.world f.place (change_of s))) (need_at (known fid self.now.fids) (λ f. step.most_need f.place)) (λ z. z) result }
+        ensures part { IfOk result (λ r. Grants (request.Wstat fid stat.now) r) }
         ensures sends { IsSent result }
         ensures settled { (s : Stat) → IsRecord stat.now s → IsTrue (touches_nothing s) → IfOk result (λ _. F.settled files.new) }
     {
