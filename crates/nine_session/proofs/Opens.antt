@@ -6,10 +6,8 @@ use Rattle.nine_wire.specs.declared.message.Reply.{Reply}
 use Rattle.nine_wire.specs.declared.message.Reply.TheVariants as reply
 use Rattle.fo_world.specs.declared.place.Info.{Info}
 use Rattle.fo_world.specs.declared.place.Place.{Place}
-use Rattle.fo_world.specs.declared.error.FileError.{FileError}
 use Rattle.fo_world.specs.declared.error.FileError.TheVariants as error
 use Rattle.fo_world.specs.World.{World}
-use Rattle.fo_world.specs.Answers.{granted_world as made_world}
 use Rattle.fo_world.specs.Step as step
 use Rattle.fo_users.specs.Rights.{may}
 use Rattle.fo_users.specs.declared.right.Right.TheVariants.{Write}
@@ -24,8 +22,6 @@ use Rattle.nine_fids.specs.Told.{Files, has_bit, info_at, is_dir, is_exclusive, 
 use Rattle.nine_fids.specs.Modes.{access_of, mode_of, is_more, changes}
 use Rattle.nine_fids.proofs.Missing.{ok_same}
 use Rattle.nine_fids.specs.Rights.{table_of}
-use Rattle.nine_fids.specs.Looking.{IsRefused}
-use Rattle.nine_files.specs.Answering.{granted_with}
 use Rattle.nine_files.specs.Granting.{admitted, admitted_new, is_held, told_qid}
 use Rattle.nine_files.specs.Opening.{cuts, most_cut, allowed_mode, allowed_new, is_bad_name, new_mode, opened_so, opening_rights, truncated}
 use Rattle.nine_files.proofs.Links.{past_then, refuse_ok, then_ok_parts}

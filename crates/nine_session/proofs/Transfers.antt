@@ -1,10 +1,9 @@
 -- Tread and Twrite: what they tell, once what they ask for first is known.
 use Rattle.std.proofs.Common.{◌≡◌, ℕ, ◌≤◌, List, length, take, drop, min, true, false, not, Result, Ok, Err, ◌==◌, refl, sym, ap, ◌∙◌, arith}
-use Rattle.std.specs.Prelude.{IfOk, is_ok, if◌then◌else◌}
+use Rattle.std.specs.Prelude.{IfOk, if◌then◌else◌}
 use Rattle.std.proofs.lemmas.Bool.{eqb-true}
 use Rattle.std.proofs.lemmas.List.{length-take}
 use Rattle.std.proofs.lemmas.Result.{IfOk-at_ok}
-use Rattle.nine_wire.specs.declared.message.Reply.{Reply}
 use Rattle.nine_wire.specs.declared.message.Reply.TheVariants as reply
 use Rattle.fo_world.specs.declared.place.Info.{Info}
 use Rattle.fo_world.specs.declared.place.Place.{Place}
@@ -23,12 +22,11 @@ use Rattle.nine_fids.specs.Fids.{State, version_of, fid_at, opened_of, in_world}
 use Rattle.nine_fids.specs.Told.{Files, info_at, bytes_at, is_dir, iounit}
 use Rattle.nine_fids.specs.Modes.{reads, writes}
 use Rattle.nine_fids.specs.Looking.{IsRefused}
-use Rattle.nine_files.specs.Answering.{granted_with}
 use Rattle.nine_files.specs.Parts.{write_start}
 use Rattle.nine_files.proofs.Links.{plain_at, some_plain, then_ok}
 use Rattle.nine_session.specs.Reading.{read, read_directory, write}
-use Rattle.nine_session.specs.Session.{Told, granted_world}
-use Rattle.nine_session.proofs.Links.{link_refused, refuse_no, refuse_yes, same_refused, then_err, world_with}
+use Rattle.nine_session.specs.Session.{Told}
+use Rattle.nine_session.proofs.Links.{link_refused, refuse_no, refuse_yes, same_refused, then_err}
 use Rattle.nine_session.proofs.Listing.{directory_from, directory_there}
 
 -- ---- an open fid, where a version is agreed to
@@ -182,13 +180,3 @@ write_missed e z now fid offset m bytes f o r v h k a missed =
 pub write_there : (e : Files) (z : State) (now fid offset m : ℕ) (bytes : List ℕ) (f : Fid) (o : Opened) (i : Info) → version_of z ≡ Ok m → fid_at z fid ≡ Ok f → opened_of f ≡ Ok o → writes o.access ≡ true → info_at e z.world f.place ≡ Ok i → write e z now fid offset bytes ≡ writing e z now offset bytes f i
 write_there e z now fid offset m bytes f o i v h k a there =
     write_opened e z now fid offset m bytes f o v h k a ∙ then_ok (info_at e z.world f.place) i (writing e z now offset bytes f) there
-
-pub write_goes : (e : Files) (z : State) (now fid offset m : ℕ) (bytes : List ℕ) (f : Fid) (o : Opened) (i : Info) → version_of z ≡ Ok m → fid_at z fid ≡ Ok f → opened_of f ≡ Ok o → writes o.access ≡ true → info_at e z.world f.place ≡ Ok i → (length bytes == 0) ≡ false → granted_world (write e z now fid offset bytes) z.world ≡ granted_with (changed (step.write e.whole e.largest z.world f.place (write_start i offset) bytes f.user now)) z.world
-write_goes e z now fid offset m bytes f o i v h k a there some =
-    world_with (write e z now fid offset bytes) (changed (step.write e.whole e.largest z.world f.place (write_start i offset) bytes f.user now)) (λ p. (reply.Write (length bytes), in_world z p.1)) z.world
-    (write_there e z now fid offset m bytes f o i v h k a there ∙ writes_some e z now offset bytes f i some) (λ p. refl)
-
--- a chain that ends with a reply is granted as its last link is
-pub granted_same : {A : Type 0} (r : Result A Refusal) (go : A → Reply × State) → is_ok (and_then r (λ x. let out : Told = Ok (go x) in out)) ≡ is_ok r
-granted_same (Ok x) go = refl
-granted_same (Err e) go = refl

@@ -1,8 +1,6 @@
-use Rattle.std.proofs.Common.{◌≡◌, ap, refl, sym, subst, ◌∙◌, Err, Ok, Some, None, Option, arith}
+use Rattle.std.proofs.Common.{◌≡◌, ap, refl, sym, ◌∙◌, Err, Ok, Some, None, arith}
 use Rattle.std.proofs.lemmas.Result.{err_from_is_err_and}
 use Rattle.nine_fids.specs.Fids.{State, known, version_of, fid_at}
-use Rattle.nine_fids.specs.Told.{Files}
-use Rattle.nine_fids.specs.declared.fid.Fid.{Fid}
 use Rattle.nine_fids.specs.declared.refusal.Refusal.TheVariants as refusal
 use Rattle.nine_files.specs.Removing.{close_need, most_close}
 use Rattle.nine_session.specs.Attempting.{state}

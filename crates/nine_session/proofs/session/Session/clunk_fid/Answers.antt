@@ -1,7 +1,6 @@
 use Rattle.std.proofs.Common.{◌≡◌, ap, refl, ◌∙◌, sym}
 use Rattle.std.proofs.lemmas.Result.{err_from_is_err_and}
 use Rattle.nine_wire.specs.declared.message.Reply.TheVariants as reply
-use Rattle.fo_world.specs.World.{World}
 use Rattle.nine_fids.specs.Fids.{State, clunked, in_world}
 use Rattle.nine_files.specs.Removing.{close_need, closed}
 use Rattle.nine_session.specs.Attempting.{state}

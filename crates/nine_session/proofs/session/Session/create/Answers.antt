@@ -1,12 +1,10 @@
-use Rattle.std.proofs.Common.{◌≡◌, ℕ, List, [], Ok, refl, sym, ap, ◌∙◌, subst, arith}
+use Rattle.std.proofs.Common.{◌≡◌, ℕ, List, [], refl, sym, ap, ◌∙◌, subst, arith}
 use Rattle.std.proofs.lemmas.Result.{err_from_is_err_and}
-use Rattle.fo_world.specs.declared.place.Info.{Info}
 use Rattle.fo_world.specs.World.{World}
 use Rattle.fo_world.specs.Limits.{IsUser}
 use Rattle.fo_world.specs.Step as step
-use Rattle.nine_wire.specs.declared.message.Reply.TheVariants as reply
 use Rattle.nine_fids.specs.declared.fid.Fid.{Fid}
-use Rattle.nine_fids.specs.Fids.{Fids, AreUsers, State, known}
+use Rattle.nine_fids.specs.Fids.{Fids, AreUsers, known}
 use Rattle.nine_fids.specs.Refusing.{changed}
 use Rattle.nine_fids.specs.Told.{Files, served, is_exclusive, iounit, qid_of}
 use Rattle.nine_fids.proofs.Seeing.{follows}
@@ -15,8 +13,7 @@ use Rattle.nine_files.specs.Opening.{new_mode, opened_so}
 use Rattle.nine_files.proofs.Making.{state_of}
 use Rattle.nine_files.proofs.Restates.{good_name}
 use Rattle.nine_session.specs.Attempting.{state, kept}
-use Rattle.nine_session.specs.Opening.{create_file, with_open}
-use Rattle.nine_session.specs.Session.{kept_of}
+use Rattle.nine_session.specs.Opening.{create_file}
 use Rattle.nine_session.proofs.Attempted.{attempted_as, attempted_denied, attempted_looked, attempted_no_memory, changed_done, changed_refused, changes_after, makes_err, makes_ok}
 use Rattle.nine_session.proofs.Ends.{fid_plain, version_plain}
 use Rattle.nine_session.proofs.Kept.{need_there, number_there, user_there}

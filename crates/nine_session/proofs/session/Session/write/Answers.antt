@@ -1,13 +1,12 @@
-use Rattle.std.proofs.Common.{◌≡◌, ◌==◌, ℕ, List, [], length, true, false, Option, Ok, refl, sym, ap, ◌∙◌, arith}
+use Rattle.std.proofs.Common.{◌≡◌, ◌==◌, ℕ, List, [], length, true, false, refl, sym, ap, ◌∙◌, arith}
 use Rattle.std.proofs.lemmas.Result.{err_from_is_err_and}
 use Rattle.fo_world.specs.Step as step
 use Rattle.fo_world.specs.World.{World}
-use Rattle.nine_fids.specs.Fids.{State, known, in_world}
+use Rattle.nine_fids.specs.Fids.{known, in_world}
 use Rattle.nine_fids.specs.Modes.{writes}
 use Rattle.nine_fids.specs.Refusing.{changed}
 use Rattle.nine_fids.specs.Told.{Files, served, info_at}
 use Rattle.nine_fids.proofs.Seeing.{follows}
-use Rattle.nine_wire.specs.declared.message.Reply.{Reply}
 use Rattle.nine_wire.specs.declared.message.Reply.TheVariants as reply
 use Rattle.nine_files.specs.Parts.{write_start}
 use Rattle.nine_session.specs.Attempting.{state}

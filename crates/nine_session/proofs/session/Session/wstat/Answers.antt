@@ -1,18 +1,17 @@
-use Rattle.std.proofs.Common.{◌≡◌, ℕ, true, false, not, [], Ok, sym, ap, ◌∙◌, subst, refl, arith}
+use Rattle.std.proofs.Common.{◌≡◌, true, false, not, [], Ok, sym, ap, ◌∙◌, subst, refl, arith}
 use Rattle.std.specs.Prelude.{◌||◌}
 use Rattle.std.proofs.lemmas.Bool.{true≢false}
 use Rattle.std.proofs.lemmas.Result.{err_from_is_err_and}
 use Rattle.fo_world.specs.World.{World}
 use Rattle.fo_world.specs.Step as step
 use Rattle.nine_wire.specs.declared.message.Reply.TheVariants as reply
-use Rattle.nine_fids.specs.Fids.{Fids, AreUsers, State, known, in_world}
+use Rattle.nine_fids.specs.Fids.{Fids, AreUsers, known, in_world}
 use Rattle.nine_fids.specs.Told.{Files, served, info_at}
 use Rattle.nine_fids.proofs.Seeing.{failed_after, follows}
 use Rattle.nine_files.specs.Granting.{changed_by}
 use Rattle.nine_files.specs.Stating.{change_of, changes_fixed, touches, touches_fixed}
 use Rattle.nine_files.proofs.Making.{leads_after}
 use Rattle.nine_session.specs.Attempting.{state}
-use Rattle.nine_session.specs.Session.{in_files}
 use Rattle.nine_session.specs.Stating.{wstat}
 use Rattle.nine_session.proofs.Attempted.{attempted_as, attempted_denied, attempted_looked, attempted_no_memory, attempted_still, led_granted, led_refused}
 use Rattle.nine_session.proofs.Ends.{fid_plain, version_plain}
