@@ -242,7 +242,6 @@ module _ (a : FilesState) (within : Touches) (k : Kept) (now : ℕ) where
     taken = (a.world, subst (λ n. within a.world n) (sym none) (any a.world));
   }
 
-
   pub auth_over : (afid : ℕ) (uname aname : List ℕ) (result : Result Reply Refusal) → ((w : World) → within w 0)
       → Replies (auth (in_files k a.world)) (in_files k a.world) result → TriedOver a a within k k now (request.Auth afid uname aname) result
   unfolding auth

@@ -7,7 +7,9 @@ ghost use Rattle.nine_session.specs.Attempting.{agreed_size, kept, Looked};
 
 use crate::session::Session;
 use fo_world::{FileError, FileOps, Name, Place, View};
-use nine_fids::{Fid, MOST_FIDS, NOFID, Refusal, in_use, info_at, qid_of, table_of, user_of, Stated};
+use nine_fids::{
+    Fid, MOST_FIDS, NOFID, Refusal, Stated, in_use, info_at, qid_of, table_of, user_of,
+};
 use nine_wire::{Ename, LARGEST_MESSAGE, Reply};
 
 /// The least message size that is agreed to.

@@ -11,13 +11,13 @@ ghost use Rattle.nine_session.specs.Opening as nine;
 
 use crate::session::Session;
 use fo_world::{FileOps, Name};
-use nine_fids::{Fid, Refusal, is_exclusive, number_at, put_fid, qid_of, Stated};
+use nine_fids::{Fid, Refusal, Stated, is_exclusive, number_at, put_fid, qid_of};
 use nine_files::{admit, admit_new, new_mode, open_fid, truncate};
 use nine_wire::Reply;
 
 impl Session {
     ghost use Rattle.std.specs.Prelude.{◌≡◌, ◌<◌, IsTrue, IfOk, is_ok, vec_len, vec_capacity};
-            ghost use Rattle.fo_world.specs.Limits.{IsUser};
+    ghost use Rattle.fo_world.specs.Limits.{IsUser};
     ghost use Rattle.fo_world.specs.World.{World};
     ghost use Rattle.fo_world.specs.Step as step;
     ghost use Rattle.nine_fields.specs.Field.{TextFits};
@@ -28,7 +28,7 @@ impl Session {
     ghost use Rattle.nine_session.specs.Session.{Grants, in_files, most_of, need_at, opening_need};
     ghost use Rattle.nine_session.specs.Attempting.{state, kept, Attempted, IsSent, with_put};
     ghost use Rattle.nine_session.specs.Opening as nine;
-    
+
     /// Puts an open fid in place of the one of its number, and its file on the list where it is for exclusive use. Room on the
     /// list was made before.
     fn put_open(&mut self, exclusive: &mut Vec<u32>, fid: Fid, held: bool)

@@ -12,13 +12,13 @@ ghost use Rattle.nine_session.specs.Reading as nine;
 use crate::session::Session;
 use fo_base::Bytes;
 use fo_world::FileOps;
-use nine_fids::{Refusal, bytes_at, info_at, is_dir, put_fid, Stated};
+use nine_fids::{Refusal, Stated, bytes_at, info_at, is_dir, put_fid};
 use nine_files::{is_bad_offset, list_records, opened_of, read_to, start_of, write_bytes};
 use nine_wire::Reply;
 
 impl Session {
     ghost use Rattle.std.specs.Prelude.{◌≡◌, ◌<◌, ◌-◌, ◌^◌, ℕ, List, length, IsTrue, IfOk};
-            ghost use Rattle.fo_world.specs.Step as step;
+    ghost use Rattle.fo_world.specs.Step as step;
     ghost use Rattle.nine_fids.specs.Refusing.{and_then};
     ghost use Rattle.nine_fids.specs.Fids as fids;
     ghost use Rattle.nine_fids.specs.Told.{served};

@@ -10,7 +10,7 @@ ghost use Rattle.nine_session.specs.Removing as nine;
 
 use crate::session::Session;
 use fo_world::FileOps;
-use nine_fids::{Fid, Refusal, fid_of, Stated};
+use nine_fids::{Fid, Refusal, Stated, fid_of};
 use nine_files::{remove_on_close, remove_there};
 use nine_wire::Reply;
 

@@ -11,14 +11,14 @@ ghost use Rattle.nine_session.specs.Stating as nine;
 use crate::session::Session;
 use fo_base::Bytes;
 use fo_world::{FileError, FileOps};
-use nine_fids::{Refusal, info_at, put_record, Stated};
+use nine_fids::{Refusal, Stated, info_at, put_record};
 use nine_files::{change_of, changes_fixed, is_idle, restate, settle, touches_fixed};
 use nine_stat::{Stat, read_stat};
 use nine_wire::Reply;
 
 impl Session {
     ghost use Rattle.std.specs.Prelude.{◌≡◌, ℕ, List, IsTrue, IfOk, MatchResult, is_ok};
-            ghost use Rattle.fo_world.specs.declared.error.FileError.TheVariants as failure;
+    ghost use Rattle.fo_world.specs.declared.error.FileError.TheVariants as failure;
     ghost use Rattle.nine_stat.specs.declared.stat.Stat.{Stat};
     ghost use Rattle.nine_wire.specs.declared.message.Request.TheVariants as request;
     ghost use Rattle.nine_stat.specs.Stat.{IsRecord};

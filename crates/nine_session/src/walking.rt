@@ -9,7 +9,7 @@ ghost use Rattle.nine_session.specs.Walking as nine;
 
 use crate::session::Session;
 use fo_world::{FileOps, Name};
-use nine_fids::{Fid, MOST_FIDS, Refusal, in_use, put_fid, Stated};
+use nine_fids::{Fid, MOST_FIDS, Refusal, Stated, in_use, put_fid};
 use nine_files::{Walked, walk_from};
 use nine_wire::{Names, Reply};
 
@@ -33,7 +33,7 @@ fn lacks_room(fids: &[Fid], fid: u32, newfid: u32) -> bool
 impl Session {
     ghost use Rattle.std.specs.Prelude.{◌≡◌, ◌<◌, ◌≤◌, ◌^◌, ℕ, List, length, IsTrue, IfOk, OnOk, MatchResult, Ok, Err};
     ghost use Rattle.fo_world.specs.World.{World};
-        ghost use Rattle.fo_world.specs.Limits.{IsUser};
+    ghost use Rattle.fo_world.specs.Limits.{IsUser};
     ghost use Rattle.fo_world.specs.declared.error.FileError.TheVariants as failure;
     ghost use Rattle.nine_fids.specs.declared.fid.Fid.{Fid};
     ghost use Rattle.nine_fids.specs.Told.{served};

@@ -21,5 +21,10 @@ returns g c =
     let fid = p.0 in
     let found : fid_of c.in-Some.number z.session.fids ≡ Some fid = rw p.2 (least_found z.session.fids fid p.1) in
     rw (p.1, c.error_of.ensures)
-    (record { drops = (refl, lets_go _ _ (λ w n. g.F.FileOps.touches f w n f') (kept c.args.self.now c.args.exclusive.now.items) _ c.args.now fid c.clunk_fid-clunked.result
-    (ap kept_of (c.clunk_fid-clunked.ensures.gone w ∙ gone_fid z c.in-Some.number fid found)) (c.clunk_fid-clunked.ensures.attempted fid found)) })
+    (record {
+      drops = (
+        refl,
+        lets_go _ _ (λ w n. g.F.FileOps.touches f w n f') (kept c.args.self.now c.args.exclusive.now.items) _ c.args.now fid c.clunk_fid-clunked.result
+            (ap kept_of (c.clunk_fid-clunked.ensures.gone w ∙ gone_fid z c.in-Some.number fid found)) (c.clunk_fid-clunked.ensures.attempted fid found),
+      );
+    })
