@@ -1,5 +1,5 @@
 -- The end of fids: what the steps tell, case by case.
-use Rattle.std.proofs.Common.{◌≡◌, ℕ, List, Bool, true, false, Option, Some, None, Result, Ok, Err, [], ◌∷◌, ◌==◌, refl, ◌∙◌, subst, inl, inr, ⊎_elim, arith}
+use Rattle.std.proofs.Common.{◌≡◌, ℕ, List, Bool, true, false, Option, Some, None, Result, Ok, Err, [], ◌∷◌, ◌==◌, refl, subst, inl, inr, ⊎_elim, arith}
 use Rattle.std.specs.Prelude.{is_ok, nat_lt, if◌then◌else◌}
 use Rattle.std.proofs.lemmas.Bool.Decides.{nat_tests}
 use Rattle.std.proofs.lemmas.Bool.{eq-eqb}
@@ -10,23 +10,30 @@ use Rattle.fo_world.specs.declared.place.Info.{Info}
 use Rattle.fo_world.specs.World.{World}
 use Rattle.nine_fids.specs.declared.fid.Fid.{Fid}
 use Rattle.nine_fids.specs.declared.refusal.Refusal.{Refusal}
-use Rattle.nine_fids.specs.Refusing.{and_then, some_or}
-use Rattle.nine_fids.specs.Fids.{State, fid_of, fid_at, version_of, without, released, clunked, in_world, least, lesser}
+use Rattle.nine_fids.specs.declared.refusal.Refusal.TheVariants as refusal
+use Rattle.nine_fids.specs.Refusing.{and_then, some_or, is_failure}
+use Rattle.nine_fids.specs.Fids.{State, known, fid_of, fid_at, version_of, without, released, clunked, in_world, least, lesser}
 use Rattle.nine_fids.specs.Told.{Files, info_at}
 use Rattle.nine_fids.specs.Looking.{IsRefused}
-use Rattle.nine_files.specs.Answering.{granted_world as led_world}
 use Rattle.nine_files.specs.Removing.{closed, removed, removed_there}
+use Rattle.nine_files.proofs.Links.{plain_at, some_plain}
 use Rattle.nine_session.specs.Attempting.{let_go}
 use Rattle.nine_session.specs.Removing.{clunk, clunk_fid, remove}
-use Rattle.nine_session.specs.Session.{Told, granted_world, without_fid}
+use Rattle.nine_session.specs.Session.{Told, without_fid}
 use Rattle.nine_session.proofs.Kept.{fid_number}
-use Rattle.nine_session.proofs.Links.{world_led}
 
 -- ---- chains
 
 pub some_err : {A : Type 0} (o : Option A) (r s : Refusal) → some_or o r ≡ Err s → o ≡ None
 some_err (Some y) r s h = absurd cc
 some_err None r s h = refl
+
+-- a refusal for want of a version, or of a fid, is no failure
+pub version_plain : (z : State) (r : Refusal) → version_of z ≡ Err r → is_failure r ≡ false
+version_plain z r h = plain_at (version_of z) r (some_plain z.session.msize refusal.NoVersion refl) h
+
+pub fid_plain : (z : State) (fid : ℕ) (r : Refusal) → fid_at z fid ≡ Err r → is_failure r ≡ false
+fid_plain z fid r h = plain_at (fid_at z fid) r (some_plain (known fid z.session.fids) refusal.UnknownFid refl) h
 
 -- a world, and then a reply and a state
 pub end_refused : (told : Result World Refusal) (rest : World → Reply × State) (fails : Bool → FileError → Type 0) (r : Refusal) → IsRefused told (fails (is_ok told)) r → (let on : Told = and_then told (λ w. Ok (rest w)) in IsRefused on (fails (is_ok on)) r)
@@ -59,17 +66,9 @@ gone_state z number f fids exclusive is at on =
 
 -- ---- Tclunk and Tremove
 
-pub clunk_refused : (e : Files) (z : State) (now : ℕ) (f : Fid) (fails : Bool → FileError → Type 0) (r : Refusal) → IsRefused (closed e z.world f now) (fails (is_ok (closed e z.world f now))) r → IsRefused (clunk_fid e z now f) (fails (is_ok (clunk_fid e z now f))) r
+pub clunk_chain : (e : Files) (z : State) (now : ℕ) (f : Fid) → clunk_fid e z now f ≡ and_then (closed e z.world f now) (λ w. Ok (reply.Clunk, clunked (in_world z w) f))
 unfolding clunk_fid
-clunk_refused e z now f fails r h = end_refused (closed e z.world f now) (λ w. (reply.Clunk, clunked (in_world z w) f)) fails r h
-
-pub clunk_granted : (e : Files) (z : State) (now : ℕ) (f : Fid) (w : World) → closed e z.world f now ≡ Ok w → clunk_fid e z now f ≡ Ok (reply.Clunk, clunked (in_world z w) f)
-unfolding clunk_fid
-clunk_granted e z now f w h = rw h refl
-
-pub clunk_goes : (e : Files) (z : State) (now : ℕ) (f : Fid) → granted_world (clunk_fid e z now f) z.world ≡ led_world (closed e z.world f now) z.world
-unfolding clunk_fid
-clunk_goes e z now f = world_led (clunk_fid e z now f) (closed e z.world f now) (λ w. (reply.Clunk, clunked (in_world z w) f)) z.world refl (λ w. refl)
+clunk_chain e z now f = refl
 
 there_then : (told : Result Info Refusal) (rest : Result World Refusal) (go : World → Result (Reply × State) Refusal) → and_then told (λ _. and_then rest go) ≡ and_then (and_then told (λ _. rest)) go
 there_then (Ok i) rest go = refl
@@ -78,15 +77,6 @@ there_then (Err r) rest go = refl
 pub remove_known : (e : Files) (z : State) (now fid n : ℕ) (f : Fid) → version_of z ≡ Ok n → fid_at z fid ≡ Ok f → remove e z now fid ≡ and_then (removed_there e z.world f now) (λ w. Ok (reply.Remove, clunked (in_world z w) f))
 unfolding remove
 remove_known e z now fid n f h k = rw (h, k) (there_then (info_at e z.world f.place) (removed e z.world f now) (λ w. Ok (reply.Remove, clunked (in_world z w) f)))
-
-pub remove_refused : (e : Files) (z : State) (now fid n : ℕ) (f : Fid) (fails : Bool → FileError → Type 0) (r : Refusal) → version_of z ≡ Ok n → fid_at z fid ≡ Ok f → IsRefused (removed_there e z.world f now) (fails (is_ok (removed_there e z.world f now))) r → IsRefused (remove e z now fid) (fails (is_ok (remove e z now fid))) r
-remove_refused e z now fid n f fails r v k h = rw (remove_known e z now fid n f v k) (end_refused (removed_there e z.world f now) (λ w. (reply.Remove, clunked (in_world z w) f)) fails r h)
-
-pub remove_granted : (e : Files) (z : State) (now fid n : ℕ) (f : Fid) (w : World) → version_of z ≡ Ok n → fid_at z fid ≡ Ok f → removed_there e z.world f now ≡ Ok w → remove e z now fid ≡ Ok (reply.Remove, clunked (in_world z w) f)
-remove_granted e z now fid n f w v k h = remove_known e z now fid n f v k ∙ rw h refl
-
-pub remove_goes : (e : Files) (z : State) (now fid n : ℕ) (f : Fid) → version_of z ≡ Ok n → fid_at z fid ≡ Ok f → granted_world (remove e z now fid) z.world ≡ led_world (removed_there e z.world f now) z.world
-remove_goes e z now fid n f v k = world_led (remove e z now fid) (removed_there e z.world f now) (λ w. (reply.Remove, clunked (in_world z w) f)) z.world (remove_known e z now fid n f v k) (λ w. refl)
 
 pub clunk_no_version : (e : Files) (z : State) (now fid : ℕ) (r : Refusal) → version_of z ≡ Err r → clunk e z now fid ≡ Err r
 unfolding clunk

@@ -10,7 +10,6 @@ use Rattle.nine_fids.specs.Fids.{Fids, State, AreUsers, nofid, fid_of, known, fi
 use Rattle.nine_wire.specs.declared.message.Reply.{Reply}
 use Rattle.nine_wire.specs.declared.message.Reply.TheVariants as reply
 use Rattle.nine_fids.specs.Refusing.{some_or}
-use Rattle.fo_world.specs.declared.place.Place.{Place}
 use Rattle.nine_session.specs.Attempting.{state}
 use Rattle.nine_session.specs.Session.{Told, need_at}
 use Rattle.nine_session.proofs.Links.{some_or_ok}
@@ -42,8 +41,8 @@ pub number_there : (z : State) (k : ℕ) (f : Fid) → fid_at z k ≡ Ok f → f
 number_there z k f h = fid_number k z.session.fids f (fid_there z k f h)
 
 -- the blocks that its file needs
-pub need_there : (o : Option Fid) (f : Fid) (need : Place → ℕ) → some_or o refusal.UnknownFid ≡ Ok f → need_at o need ≡ need f.place
-need_there (Some g) f need h = let same : g ≡ f = cc in ap (λ (x : Fid). need x.place) same
+pub need_there : (o : Option Fid) (f : Fid) (need : Fid → ℕ) → some_or o refusal.UnknownFid ≡ Ok f → need_at o need ≡ need f
+need_there (Some g) f need h = let same : g ≡ f = cc in ap need same
 need_there None f need h = absurd cc
 
 -- ---- users

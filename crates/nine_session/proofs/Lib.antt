@@ -1,7 +1,10 @@
+pub mod Answered
+pub mod Attempted
 pub mod Ends
 pub mod Kept
 pub mod Links
 pub mod Listing
+pub mod Looked
 pub mod Opens
 pub mod Records
 pub mod Restates

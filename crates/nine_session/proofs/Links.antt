@@ -58,7 +58,7 @@ attempts_same told other P Q left z (Ok r) is up h = is ∙ h
 attempts_same told other P Q left z (Err r) is up h = (same_refused told other Q r is (refused_by other other P Q r (λ e. e) up h.0), h.1)
 
 -- the call that changes, after calls that looked, refuses the whole
-pub refused_changing : {A B : Type 0} (part : Result A Refusal) (whole : Result B Refusal) (f0 f1 f2 : Faults) (h0 h1 : Type 0) (room : Option ℕ) (need need' : ℕ) (granted granted' : Bool) (r : Refusal) → NotFewer f0 f1 → (h0 → h1) → need ≡ need' → granted ≡ granted' → (part ≡ Err r → whole ≡ Err r) → IsRefused part (MayFail f1 f2 h1 room need granted) r → IsRefused whole (MayFail f0 f2 h0 room need' granted') r
+pub refused_changing : {A B : Type 0} (part : Result A Refusal) (whole : Result B Refusal) (f0 f1 f2 : Faults) (h0 h1 : Type 0) (room : ℕ → Type 0) (need need' : ℕ) (granted granted' : Bool) (r : Refusal) → NotFewer f0 f1 → (h0 → h1) → need ≡ need' → granted ≡ granted' → (part ≡ Err r → whole ≡ Err r) → IsRefused part (MayFail f1 f2 h1 room need granted) r → IsRefused whole (MayFail f0 f2 h0 room need' granted') r
 refused_changing part whole f0 f1 f2 h0 h1 room need need' granted granted' r fewer up same same' told p =
     let P : ℕ → Type 0 = λ n. IsRefused whole (MayFail f0 f2 h0 room n granted') r in
     let Q : Bool → Type 0 = λ b. IsRefused whole (MayFail f0 f2 h0 room need b) r in

@@ -70,11 +70,11 @@ directory_refused e z fid offset count f o P r h k good refused =
     (link_refused (listed e z.world f.place (start_of o offset) count) (λ is. Ok (directory_read z f o offset is)) P r refused)
 
 -- the reply and the state after it, by what a read gives
-pub directory_given : (e : Files) (z : State) (fid offset count : ℕ) (f : Fid) (o : Opened) (bytes : List ℕ) (last : Option (List ℕ)) → fid_at z fid ≡ Ok f → opened_of f ≡ Ok o → is_bad o offset ≡ false → Gives (listed e z.world f.place (start_of o offset) count) (start_of o offset) count bytes last →
+pub directory_given : (H : Type 0) (e : Files) (z : State) (fid offset count : ℕ) (f : Fid) (o : Opened) (bytes : List ℕ) (last : Option (List ℕ)) → fid_at z fid ≡ Ok f → opened_of f ≡ Ok o → is_bad o offset ≡ false → Gives H (listed e z.world f.place (start_of o offset) count) (start_of o offset) count bytes last → H →
     directory_from e z fid offset count ≡ Ok (reply.Read bytes, with_fids z (with_fid (read_to f o ((offset + length bytes) % 2 ^ 64) last) z.session.fids))
-directory_given e z fid offset count f o bytes last h k good gives =
+directory_given H e z fid offset count f o bytes last h k good gives honest =
     let out : List ℕ → Option (List ℕ) → Result (Reply × State) Refusal = λ bs name. Ok (reply.Read bs, with_fids z (with_fid (read_to f o ((offset + length bs) % 2 ^ 64) name) z.session.fids)) in
     directory_goes e z fid offset count f o h k good
-    ∙ then_ok (listed e z.world f.place (start_of o offset) count) gives.files (λ is. Ok (directory_read z f o offset is)) gives.told_so
+    ∙ then_ok (listed e z.world f.place (start_of o offset) count) gives.files (λ is. Ok (directory_read z f o offset is)) (gives.told_so honest)
     ∙ sym (ap (λ bs. out bs (last_name (start_of o offset) gives.files)) gives.bytes_so)
     ∙ sym (ap (out bytes) gives.last_so)

@@ -1,15 +1,13 @@
 -- Topen and Tcreate, step by step.
-use Rattle.std.proofs.Common.{◌≡◌, ℕ, ◌⊎◌, List, Bool, true, false, not, Option, Result, Ok, Err, refl, ap, ◌∙◌, inl, inr, ⊎_elim}
-use Rattle.std.specs.Prelude.{◌&&◌, is_ok}
+use Rattle.std.proofs.Common.{◌≡◌, ℕ, ◌≤◌, List, Bool, true, false, not, Option, Some, None, Result, Ok, Err, refl, sym, ap, ◌∙◌, arith}
+use Rattle.std.specs.Prelude.{◌&&◌, if◌then◌else◌}
 use Rattle.nine_fields.specs.declared.qid.Qid.{Qid}
 use Rattle.nine_wire.specs.declared.message.Reply.{Reply}
 use Rattle.nine_wire.specs.declared.message.Reply.TheVariants as reply
 use Rattle.fo_world.specs.declared.place.Info.{Info}
 use Rattle.fo_world.specs.declared.place.Place.{Place}
-use Rattle.fo_world.specs.declared.error.FileError.{FileError}
 use Rattle.fo_world.specs.declared.error.FileError.TheVariants as error
 use Rattle.fo_world.specs.World.{World}
-use Rattle.fo_world.specs.Answers.{granted_world as made_world}
 use Rattle.fo_world.specs.Step as step
 use Rattle.fo_users.specs.Rights.{may}
 use Rattle.fo_users.specs.declared.right.Right.TheVariants.{Write}
@@ -20,32 +18,28 @@ use Rattle.nine_fids.specs.declared.refusal.Refusal.TheVariants as refusal
 use Rattle.nine_fids.specs.Refusing.{and_then, refuse_if, some_or, changed}
 use Rattle.nine_fids.specs.Fids.{Fids, State, version_of, fid_at, is_open}
 use Rattle.nine_fids.specs.declared.fid.Opened.{Opened}
-use Rattle.nine_fids.specs.Told.{Files, info_at, is_dir, is_exclusive, qid_of, iounit}
-use Rattle.nine_fids.specs.Modes.{mode_of, is_more}
+use Rattle.nine_fids.specs.Told.{Files, has_bit, info_at, is_dir, is_exclusive, qid_of, iounit}
+use Rattle.nine_fids.specs.Modes.{access_of, mode_of, is_more, changes}
 use Rattle.nine_fids.proofs.Missing.{ok_same}
 use Rattle.nine_fids.specs.Rights.{table_of}
-use Rattle.nine_fids.specs.Looking.{IsRefused}
-use Rattle.nine_files.specs.Answering.{granted_with}
 use Rattle.nine_files.specs.Granting.{admitted, admitted_new, is_held, told_qid}
-use Rattle.nine_files.specs.Opening.{allowed_mode, allowed_new, is_bad_name, new_mode, opened_so, opening_rights, truncated}
-use Rattle.nine_files.proofs.Links.{FailsSo, past_then, refuse_ok, then_ok_parts}
-use Rattle.nine_files.proofs.Touching.{changed_granted}
+use Rattle.nine_files.specs.Opening.{cuts, most_cut, allowed_mode, allowed_new, is_bad_name, new_mode, opened_so, opening_rights, truncated}
+use Rattle.nine_files.proofs.Links.{past_then, refuse_ok, then_ok_parts}
 use Rattle.nine_session.specs.Attempting.{state, with_put}
 use Rattle.nine_session.specs.Opening.{create_file, open_file, with_open}
-use Rattle.nine_session.specs.Session.{granted_world}
-use Rattle.nine_session.proofs.Links.{past_refuse, refuse_same, then_same, world_with}
+use Rattle.nine_session.specs.Session.{need_at}
+use Rattle.nine_session.proofs.Kept.{need_there}
+use Rattle.nine_session.proofs.Links.{past_refuse, refuse_same, some_or_ok, then_same}
 
 -- ---- Topen
 
-granted_from : (t : Result (Info × World) Refusal) (q : Qid) (w : World) (rest : Qid → World → Reply × State) → told_qid t ≡ Ok (q, w) → and_then t (λ p. Ok (rest (qid_of p.0) p.1)) ≡ Ok (rest q w)
-granted_from (Ok p) q w rest h =
-    let same : (let pair : Qid × World = (qid_of p.0, p.1) in pair) ≡ (q, w) = ok_same _ _ h in
-    ap (λ (pair : Qid × World). Ok (rest pair.0 pair.1)) same
-granted_from (Err r) q w rest h = absurd cc
+-- the reply for a file that is open, and the state with its fid
+abbrev pub opened_by : ℕ → State → Fid → Info → Mode → Qid × World → Reply × State
+opened_by msize z f i m p = (reply.Open p.0 (iounit msize), with_open (record z { world = p.1 }) f f.place m (is_exclusive i.mode))
 
-fails_from : (t : Result (Info × World) Refusal) (rest : Info × World → Reply × State) (r : Refusal) (fails fails' : FailsSo) → ((b : Bool) (x : FileError) → fails b x → fails' b x) → IsRefused (told_qid t) (fails (is_ok t)) r → (let on : Result (Reply × State) Refusal = and_then t (λ p. Ok (rest p)) in IsRefused on (fails' (is_ok on)) r)
-fails_from (Ok p) rest r fails fails' up h = ⊎_elim (λ t. absurd cc) (λ m. inr (m.0, m.1, up true m.0 m.2)) h
-fails_from (Err y) rest r fails fails' up h = ⊎_elim (λ t. inl cc) (λ m. inr (m.0, m.1, up false m.0 m.2)) h
+qid_then : (t : Result (Info × World) Refusal) (rest : Qid × World → Reply × State) → and_then t (λ p. Ok (rest (qid_of p.0, p.1))) ≡ and_then (told_qid t) (λ p. Ok (rest p))
+qid_then (Ok p) rest = refl
+qid_then (Err r) rest = refl
 
 abbrev pub opened_from : Files → State → ℕ → ℕ → Fid → Info × Mode → Result (Reply × State) Refusal
 opened_from e z now msize f a = and_then (truncated e z.world f a.0 a.1 now) (λ p. Ok (reply.Open (qid_of p.0) (iounit msize), with_open (record z { world = p.1 }) f f.place a.1 (is_exclusive a.0.mode)))
@@ -76,30 +70,44 @@ module _ (e : Files) (z : State) (now fid mode : ℕ) where
   pub open_refused : (msize : ℕ) (f : Fid) (r : Refusal) → version_of z ≡ Ok msize → fid_at z fid ≡ Ok f → admitted e z.world f z.exclusive mode ≡ Err r → open_file e z now fid mode ≡ Err r
   open_refused msize f r h k l = open_chain msize f h k ∙ ap (λ t. and_then t (opened_from e z now msize f)) l
 
-  open_at : (msize : ℕ) (f : Fid) (a : Info × Mode) → version_of z ≡ Ok msize → fid_at z fid ≡ Ok f → admitted e z.world f z.exclusive mode ≡ Ok a → open_file e z now fid mode ≡ opened_from e z now msize f a
+  pub open_at : (msize : ℕ) (f : Fid) (a : Info × Mode) → version_of z ≡ Ok msize → fid_at z fid ≡ Ok f → admitted e z.world f z.exclusive mode ≡ Ok a → open_file e z now fid mode ≡ opened_from e z now msize f a
   open_at msize f a h k l = open_chain msize f h k ∙ ap (λ t. and_then t (opened_from e z now msize f)) l
 
-  pub open_granted : (msize : ℕ) (f : Fid) (i : Info) (m : Mode) (q : Qid) (w : World) → version_of z ≡ Ok msize → fid_at z fid ≡ Ok f → admitted e z.world f z.exclusive mode ≡ Ok (i, m) → told_qid (truncated e z.world f i m now) ≡ Ok (q, w) → open_file e z now fid mode ≡ Ok (reply.Open q (iounit msize), with_open (record z { world = w }) f f.place m (is_exclusive i.mode))
-  open_granted msize f i m q w h k l t = open_at msize f (i, m) h k l ∙ granted_from (truncated e z.world f i m now) q w (λ p v. (reply.Open p (iounit msize), with_open (record z { world = v }) f f.place m (is_exclusive i.mode))) t
+  pub open_cuts : (msize : ℕ) (f : Fid) (i : Info) (m : Mode) → version_of z ≡ Ok msize → fid_at z fid ≡ Ok f → admitted e z.world f z.exclusive mode ≡ Ok (i, m) → open_file e z now fid mode ≡ and_then (told_qid (truncated e z.world f i m now)) (λ p. Ok (opened_by msize z f i m p))
+  open_cuts msize f i m h k l = open_at msize f (i, m) h k l ∙ qid_then (truncated e z.world f i m now) (opened_by msize z f i m)
 
-  pub open_fails : (msize : ℕ) (f : Fid) (i : Info) (m : Mode) (r : Refusal) (fails fails' : FailsSo) → version_of z ≡ Ok msize → fid_at z fid ≡ Ok f → admitted e z.world f z.exclusive mode ≡ Ok (i, m) → ((b : Bool) (x : FileError) → fails b x → fails' b x) → IsRefused (told_qid (truncated e z.world f i m now)) (fails (is_ok (truncated e z.world f i m now))) r → IsRefused (open_file e z now fid mode) (fails' (is_ok (open_file e z now fid mode))) r
-  open_fails msize f i m r fails fails' h k l up p =
-      rw (open_at msize f (i, m) h k l) (fails_from (truncated e z.world f i m now) (λ p. (reply.Open (qid_of p.0) (iounit msize), with_open (record z { world = p.1 }) f f.place m (is_exclusive i.mode))) r fails fails' up p)
+mode_if : (b : Bool) (x m : Mode) → (if b then None else Some x) ≡ Some m → x ≡ m
+mode_if true x m h = absurd cc
+mode_if false x m h = cc
 
-  pub open_goes : (msize : ℕ) (f : Fid) (i : Info) (m : Mode) → version_of z ≡ Ok msize → fid_at z fid ≡ Ok f → admitted e z.world f z.exclusive mode ≡ Ok (i, m) → granted_world (open_file e z now fid mode) z.world ≡ granted_with (truncated e z.world f i m now) z.world
-  open_goes msize f i m h k l =
-      world_with (open_file e z now fid mode) (truncated e z.world f i m now) (λ p. (reply.Open (qid_of p.0) (iounit msize), with_open (record z { world = p.1 }) f f.place m (is_exclusive i.mode))) z.world (open_at msize f (i, m) h k l) (λ p. refl)
+mode_bit : (mode : ℕ) (m : Mode) → mode_of mode ≡ Some m → m.truncate ≡ has_bit mode 16
+mode_bit mode m h =
+    let x : Mode = record { access = access_of mode; truncate = has_bit mode 16; remove = has_bit mode 64 } in
+    ap (λ (y : Mode). y.truncate) (sym (mode_if (has_bit mode 140) x m h))
+
+-- the bit of OTRUNC is what a mode says of it
+cut_bit : (f : Fid) (i : Info) (mode : ℕ) (m : Mode) → allowed_mode f i mode ≡ Ok m → m.truncate ≡ has_bit mode 16
+unfolding allowed_mode
+cut_bit f i mode m h =
+    let go : Mode → Result Mode Refusal = λ m. refuse_if (not (step.is_active f.place.view) && changes m) (refusal.File error.ReadOnly) (refuse_if (is_dir i.mode && is_more m) (refusal.File error.IsDir) (Ok m)) in
+    let first = then_ok_parts (some_or (mode_of mode) refusal.BadOpenMode) go m h in
+    let second = refuse_ok (not (step.is_active f.place.view) && changes first.0) (refusal.File error.ReadOnly) (refuse_if (is_dir i.mode && is_more first.0) (refusal.File error.IsDir) (Ok first.0)) m first.2 in
+    let third = refuse_ok (is_dir i.mode && is_more first.0) (refusal.File error.IsDir) (Ok first.0) m second.1 in
+    let same : first.0 ≡ m = ok_same _ _ third.1 in
+    ap (λ (x : Mode). x.truncate) (sym same) ∙ mode_bit mode first.0 (some_or_ok (mode_of mode) refusal.BadOpenMode first.0 first.1)
+
+-- no more blocks than the mode may need
+most_within : (b t c : Bool) (n n' : ℕ) → t ≡ b → (t ≡ false → c ≡ false) → n ≡ n' → (if c then n else 0) ≤ (if b then n' else 0)
+most_within true t true n n' is none same = omega (arith, same)
+most_within true t false n n' is none same = omega arith
+most_within false t c n n' is none same = let zero : c ≡ false = none is in rw zero (omega arith)
+
+pub cut_within : (o : Option Fid) (f : Fid) (i : Info) (mode : ℕ) (m : Mode) → allowed_mode f i mode ≡ Ok m → some_or o refusal.UnknownFid ≡ Ok f → most_cut f i m ≤ (if has_bit mode 16 then need_at o (λ f. step.most_need f.place) else 0)
+cut_within o f i mode m h there = most_within (has_bit mode 16) m.truncate (cuts i m) (step.most_need f.place) (need_at o (λ f. step.most_need f.place)) (cut_bit f i mode m h) (λ none. rw none refl) (sym (need_there o f (λ f. step.most_need f.place) there))
 
 -- ---- Tcreate
 
-made_by : (t : Result (Info × World) FileError) (p : Info × World) (rest : Info × World → Reply × State) → t ≡ Ok p → and_then (changed t) (λ q. Ok (rest q)) ≡ Ok (rest p)
-made_by t p rest h = ap (λ r. and_then (changed r) (λ q. Ok (rest q))) h
-
-made_fails : (t : Result (Info × World) FileError) (rest : Info × World → Reply × State) (x : FileError) (fails fails' : FailsSo) → ((b : Bool) (y : FileError) → fails b y → fails' b y) → (t ≡ Err x) ⊎ fails (is_ok t) x → (let on : Result (Reply × State) Refusal = and_then (changed t) (λ p. Ok (rest p)) in IsRefused on (fails' (is_ok on)) (refusal.File x))
-made_fails (Ok p) rest x fails fails' up h = ⊎_elim (λ t. absurd cc) (λ m. inr (x, refl, up true x m)) h
-made_fails (Err y) rest x fails fails' up h = ⊎_elim (λ t. inl cc) (λ m. inr (x, refl, up false x m)) h
-
-named_well : (f : Fid) (above : Info) (name : List ℕ) (perm mode : ℕ) (m : Mode) → allowed_new f above name perm mode ≡ Ok m → is_bad_name name ≡ false
+pub named_well : (f : Fid) (above : Info) (name : List ℕ) (perm mode : ℕ) (m : Mode) → allowed_new f above name perm mode ≡ Ok m → is_bad_name name ≡ false
 unfolding allowed_new
 named_well f above name perm mode m h =
     let t3 : Result Mode Refusal = and_then (some_or (mode_of mode) refusal.BadOpenMode) (λ k. refuse_if (is_dir perm && is_more k) refusal.BadOpenMode (Ok k)) in
@@ -109,21 +117,14 @@ named_well f above name perm mode m h =
     let second = refuse_ok (not (step.is_active f.place.view)) (refusal.File error.ReadOnly) t2 m first.1 in
     (refuse_ok (is_bad_name name) refusal.BadName t3 m second.1).0
 
--- a directory in which a file may be made, and a name that it may have
-pub new_named : (e : Files) (w : World) (f : Fid) (name : List ℕ) (perm mode : ℕ) (a : Info × Mode) → admitted_new e w f name perm mode ≡ Ok a → is_bad_name name ≡ false
-unfolding admitted_new
-new_named e w f name perm mode a h =
-    let last : Info → Mode → Result (Info × Mode) Refusal = λ above m. refuse_if (not (may (table_of e w) f.user above Write)) refusal.PermissionDenied (Ok (above, m)) in
-    let go : Info → Result (Info × Mode) Refusal = λ above. and_then (allowed_new f above name perm mode) (last above) in
-    let first = refuse_ok (is_open f) refusal.FidIsOpen (and_then (info_at e w f.place) go) a h in
-    let second = then_ok_parts (info_at e w f.place) go a first.1 in
-    let third = then_ok_parts (allowed_new f second.0 name perm mode) (last second.0) a second.2 in
-    named_well f second.0 name perm mode third.0 third.1
+-- the reply for a file that was made, and the state with its fid
+abbrev pub created : ℕ → State → Fid → Mode → Info × World → Reply × State
+created msize z f m p = (reply.Create (qid_of p.0) (iounit msize), with_open (record z { world = p.1 }) f p.0.place m (is_exclusive p.0.mode))
 
 abbrev pub made_from : Files → State → ℕ → List ℕ → ℕ → ℕ → Fid → Info × Mode → Result (Reply × State) Refusal
 made_from e z now name perm msize f a =
     and_then (changed (step.create e.whole z.world f.place name (new_mode perm a.0.mode) f.user f.user a.0.gid now)) (λ p.
-    Ok (reply.Create (qid_of p.0) (iounit msize), with_open (record z { world = p.1 }) f p.0.place a.1 (is_exclusive p.0.mode)))
+    Ok (created msize z f a.1 p))
 
 module _ (e : Files) (z : State) (now fid : ℕ) (name : List ℕ) (perm mode : ℕ) where
   pub create_no_version : (r : Refusal) → version_of z ≡ Err r → create_file e z now fid name perm mode ≡ Err r
@@ -149,21 +150,8 @@ module _ (e : Files) (z : State) (now fid : ℕ) (name : List ℕ) (perm mode : 
   pub create_refused : (msize : ℕ) (f : Fid) (r : Refusal) → version_of z ≡ Ok msize → fid_at z fid ≡ Ok f → admitted_new e z.world f name perm mode ≡ Err r → create_file e z now fid name perm mode ≡ Err r
   create_refused msize f r h k l = create_chain msize f h k ∙ ap (λ t. and_then t (made_from e z now name perm msize f)) l
 
-  create_at : (msize : ℕ) (f : Fid) (a : Info × Mode) → version_of z ≡ Ok msize → fid_at z fid ≡ Ok f → admitted_new e z.world f name perm mode ≡ Ok a → create_file e z now fid name perm mode ≡ made_from e z now name perm msize f a
+  pub create_at : (msize : ℕ) (f : Fid) (a : Info × Mode) → version_of z ≡ Ok msize → fid_at z fid ≡ Ok f → admitted_new e z.world f name perm mode ≡ Ok a → create_file e z now fid name perm mode ≡ made_from e z now name perm msize f a
   create_at msize f a h k l = create_chain msize f h k ∙ ap (λ t. and_then t (made_from e z now name perm msize f)) l
-
-  pub create_granted : (msize : ℕ) (f : Fid) (i : Info) (m : Mode) (j : Info) (w : World) → version_of z ≡ Ok msize → fid_at z fid ≡ Ok f → admitted_new e z.world f name perm mode ≡ Ok (i, m) → step.create e.whole z.world f.place name (new_mode perm i.mode) f.user f.user i.gid now ≡ Ok (j, w) → create_file e z now fid name perm mode ≡ Ok (reply.Create (qid_of j) (iounit msize), with_open (record z { world = w }) f j.place m (is_exclusive j.mode))
-  create_granted msize f i m j w h k l t = create_at msize f (i, m) h k l ∙ made_by (step.create e.whole z.world f.place name (new_mode perm i.mode) f.user f.user i.gid now) (j, w) (λ p. (reply.Create (qid_of p.0) (iounit msize), with_open (record z { world = p.1 }) f p.0.place m (is_exclusive p.0.mode))) t
-
-  pub create_fails : (msize : ℕ) (f : Fid) (i : Info) (m : Mode) (x : FileError) (fails fails' : FailsSo) → version_of z ≡ Ok msize → fid_at z fid ≡ Ok f → admitted_new e z.world f name perm mode ≡ Ok (i, m) → ((b : Bool) (y : FileError) → fails b y → fails' b y) → (let t = step.create e.whole z.world f.place name (new_mode perm i.mode) f.user f.user i.gid now in (t ≡ Err x) ⊎ fails (is_ok t) x) → IsRefused (create_file e z now fid name perm mode) (fails' (is_ok (create_file e z now fid name perm mode))) (refusal.File x)
-  create_fails msize f i m x fails fails' h k l up p =
-      rw (create_at msize f (i, m) h k l) (made_fails (step.create e.whole z.world f.place name (new_mode perm i.mode) f.user f.user i.gid now) (λ p. (reply.Create (qid_of p.0) (iounit msize), with_open (record z { world = p.1 }) f p.0.place m (is_exclusive p.0.mode))) x fails fails' up p)
-
-  pub create_goes : (msize : ℕ) (f : Fid) (i : Info) (m : Mode) → version_of z ≡ Ok msize → fid_at z fid ≡ Ok f → admitted_new e z.world f name perm mode ≡ Ok (i, m) → granted_world (create_file e z now fid name perm mode) z.world ≡ made_world (step.create e.whole z.world f.place name (new_mode perm i.mode) f.user f.user i.gid now) z.world
-  create_goes msize f i m h k l =
-      let t = step.create e.whole z.world f.place name (new_mode perm i.mode) f.user f.user i.gid now in
-      world_with (create_file e z now fid name perm mode) (changed t) (λ p. (reply.Create (qid_of p.0) (iounit msize), with_open (record z { world = p.1 }) f p.0.place m (is_exclusive p.0.mode))) z.world (create_at msize f (i, m) h k l) (λ p. refl)
-      ∙ changed_granted t z.world
 
 -- ---- a fid put in its place
 
@@ -173,8 +161,8 @@ fid_made g n n' u u' p p' o o' is a b c d = is ∙ rw (a, b, c, d) refl
 pub put_is_open : (s : Fids) (x x' : List ℕ) (w w' : World) (f g : Fid) (at : Place) (m : Mode) (held held' : Bool) → x' ≡ x → held' ≡ held → g ≡ record { number = f.number; user = f.user; place = at; opened = opened_so m held } → with_put (state s x' w') g held' ≡ with_open (record { session = s; exclusive = x; world = w' }) f at m held
 put_is_open s x x' w w' f g at m held held' h k l = rw (h, k, l) refl
 
-pub open_replied : (told : Result (Reply × State) Refusal) (q : Qid) (n n' : ℕ) (z z' : State) → told ≡ Ok (reply.Open q n, z) → n' ≡ n → z' ≡ z → told ≡ Ok (reply.Open q n', z')
-open_replied told q n n' z z' h k l = h ∙ rw (k, l) refl
+pub open_replies : (q : Qid) (n n' : ℕ) (z z' : State) → n' ≡ n → z' ≡ z → (let out : Reply × State = (reply.Open q n, z) in out) ≡ (reply.Open q n', z')
+open_replies q n n' z z' k l = rw (k, l) refl
 
-pub create_replied : (told : Result (Reply × State) Refusal) (q q' : Qid) (n n' : ℕ) (z z' : State) → told ≡ Ok (reply.Create q n, z) → q' ≡ q → n' ≡ n → z' ≡ z → told ≡ Ok (reply.Create q' n', z')
-create_replied told q q' n n' z z' h j k l = h ∙ rw (j, k, l) refl
+pub create_replies : (q q' : Qid) (n n' : ℕ) (z z' : State) → q' ≡ q → n' ≡ n → z' ≡ z → (let out : Reply × State = (reply.Create q n, z) in out) ≡ (reply.Create q' n', z')
+create_replies q q' n n' z z' j k l = rw (j, k, l) refl

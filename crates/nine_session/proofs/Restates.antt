@@ -1,12 +1,15 @@
 -- Tstat and Twstat, step by step.
-use Rattle.std.proofs.Common.{◌≡◌, ℕ, ◌+◌, ◌<◌, ◌≤◌, length, Bool, true, false, not, Result, Ok, Err, refl, sym, ap, ◌∙◌, inl, inr, ⊎_elim, arith}
-use Rattle.std.specs.Prelude.{is_ok, ◌||◌, nat_lt}
+use Rattle.std.proofs.Common.{◌≡◌, ℕ, ◌+◌, ◌<◌, ◌≤◌, length, List, Bool, true, false, not, Option, Some, None, Result, Ok, Err, refl, sym, ap, ◌∙◌, arith}
+use Rattle.std.specs.Prelude.{◌||◌, nat_lt}
 use Rattle.std.proofs.lemmas.Bool.Decides.{nat_tests}
 use Rattle.nine_wire.specs.declared.message.Reply.{Reply}
 use Rattle.nine_wire.specs.declared.message.Reply.TheVariants as reply
 use Rattle.nine_stat.specs.declared.stat.Stat.{Stat}
 use Rattle.fo_world.specs.declared.place.Info.{Info}
 use Rattle.fo_world.specs.declared.place.Change.{Change}
+use Rattle.fo_world.specs.declared.place.Place.{Place}
+use Rattle.fo_world.specs.declared.tree.Node.{Node}
+use Rattle.fo_world.specs.declared.tree.Body.{Body}
 use Rattle.fo_world.specs.declared.error.FileError.{FileError}
 use Rattle.fo_world.specs.declared.error.FileError.TheVariants as error
 use Rattle.fo_world.specs.World.{World}
@@ -18,14 +21,11 @@ use Rattle.nine_fids.specs.Refusing.{and_then, refuse_if, changed}
 use Rattle.nine_fids.specs.Fids.{State, version_of, fid_at, in_world}
 use Rattle.nine_fids.specs.Told.{Files, info_at, record_of, reply_len}
 use Rattle.nine_fids.specs.Rights.{table_of}
-use Rattle.nine_fids.specs.Looking.{IsRefused}
-use Rattle.nine_files.specs.Answering.{granted_world as led_world}
 use Rattle.nine_files.specs.Granting.{allowed_change, changed_by}
 use Rattle.nine_files.specs.Stating.{allowed_name, change_of, changes_fixed, changing_rights, touches, touches_fixed}
-use Rattle.nine_files.proofs.Links.{FailsSo, past_then}
+use Rattle.nine_files.proofs.Links.{past_then}
 use Rattle.nine_session.specs.Stating.{is_bad_stat, restated, settled, stat, wstat}
-use Rattle.nine_session.specs.Session.{granted_world}
-use Rattle.nine_session.proofs.Links.{past_refuse, refuse_same, then_same, world_led}
+use Rattle.nine_session.proofs.Links.{past_refuse, refuse_same, then_same}
 use Rattle.nine_session.proofs.Records.{reply_length}
 
 -- ---- Tstat
@@ -75,6 +75,26 @@ module _ (e : Files) (z : State) (fid msize : ℕ) (f : Fid) (i : Info) (n : ℕ
 pub asks_same : (a a' : Bool) (c c' : Change) (b : Bool) → a ≡ a' → c ≡ c' → (a || touches c) ≡ b → (a' || touches c') ≡ b
 asks_same a a' c c' b h k is = sym (ap (λ t. t || touches c) h ∙ ap (λ d. a' || touches d) k) ∙ is
 
+nothing_given : (mode mtime length : Option ℕ) (name gid : Option (List ℕ)) (old : List ℕ) (body : Body) → touches (record { mode = mode; mtime = mtime; length = length; name = name; gid = gid }) ≡ false → step.changes_nothing (record { mode = mode; mtime = mtime; length = length; name = name; gid = gid }) old body ≡ true
+nothing_given None None None None None old body h = refl
+nothing_given (Some x) mtime length name gid old body h = absurd cc
+nothing_given None (Some x) length name gid old body h = absurd cc
+nothing_given None None (Some x) name gid old body h = absurd cc
+nothing_given None None None (Some x) gid old body h = absurd cc
+nothing_given None None None None (Some x) old body h = absurd cc
+
+idle_at : (c : Change) (depth : ℕ) (t : Result (List ℕ × Node) FileError) → touches c ≡ false → step.change_need_of c depth t ≡ 0
+idle_at c depth (Ok f) h = rw (nothing_given c.mode c.mtime c.length c.name c.gid f.0 f.1.body h) refl
+idle_at c depth (Err e) h = refl
+
+not_either : (a b : Bool) → (a || b) ≡ false → b ≡ false
+not_either true b h = absurd cc
+not_either false b h = h
+
+-- where nothing is given, no block is needed
+pub idle_need : (whole : Bool) (w : World) (at : Place) (fixed : Bool) (c : Change) → (fixed || touches c) ≡ false → step.change_need whole w at c ≡ 0
+idle_need whole w at fixed c h = idle_at c (step.depth_of at) (step.reached whole w at) (not_either fixed (touches c) h)
+
 abbrev reply_in : State → World → Result (Reply × State) Refusal
 reply_in z w = Ok (reply.Wstat, in_world z w)
 
@@ -93,10 +113,6 @@ restated_chain e z now f s i =
     ∙ past_refuse a (refusal.File error.ReadOnly) (refuse_if b refusal.BadStat (and_then (allowed_name f (change_of s).name) (λ _. changing_rights e z.world f i (change_of s)))) end
     ∙ then_same (allowed_change e z.world f (changes_fixed s i) (change_of s) i) end (λ x. and_then (last x) (reply_in z)) (λ x. past_then told (λ p. Ok p.1) (reply_in z))
     ∙ past_then (allowed_change e z.world f (changes_fixed s i) (change_of s) i) last (reply_in z)
-
-restate_failed : (t : Result World Refusal) (rest : World → Reply × State) (r : Refusal) (fails fails' : FailsSo) → ((b : Bool) (y : FileError) → fails b y → fails' b y) → IsRefused t (fails (is_ok t)) r → (let on : Result (Reply × State) Refusal = and_then t (λ v. Ok (rest v)) in IsRefused on (fails' (is_ok on)) r)
-restate_failed (Ok w) rest r fails fails' up h = ⊎_elim (λ t. absurd cc) (λ m. inr (m.0, m.1, up true m.0 m.2)) h
-restate_failed (Err y) rest r fails fails' up h = ⊎_elim (λ t. inl cc) (λ m. inr (m.0, m.1, up false m.0 m.2)) h
 
 module _ (e : Files) (z : State) (now fid : ℕ) (s : Stat) where
   pub wstat_no_version : (r : Refusal) → version_of z ≡ Err r → wstat e z now fid s ≡ Err r
@@ -118,14 +134,3 @@ module _ (e : Files) (z : State) (now fid : ℕ) (s : Stat) where
   pub wstat_changes : (msize : ℕ) (f : Fid) (i : Info) → version_of z ≡ Ok msize → fid_at z fid ≡ Ok f → info_at e z.world f.place ≡ Ok i → (touches_fixed s || touches (change_of s)) ≡ true → wstat e z now fid s ≡ and_then (changed_by e z.world now f (changes_fixed s i) (change_of s) i) (λ w. Ok (reply.Wstat, in_world z w))
   unfolding wstat
   wstat_changes msize f i h k l t = rw (h, k, l, t) (restated_chain e z now f s i)
-
-  pub wstat_done : (msize : ℕ) (f : Fid) (i : Info) (w : World) → version_of z ≡ Ok msize → fid_at z fid ≡ Ok f → info_at e z.world f.place ≡ Ok i → (touches_fixed s || touches (change_of s)) ≡ true → changed_by e z.world now f (changes_fixed s i) (change_of s) i ≡ Ok w → wstat e z now fid s ≡ Ok (reply.Wstat, in_world z w)
-  wstat_done msize f i w h k l t d = wstat_changes msize f i h k l t ∙ ap (λ r. and_then r (λ v. Ok (reply.Wstat, in_world z v))) d
-
-  pub wstat_fails : (msize : ℕ) (f : Fid) (i : Info) (r : Refusal) (fails fails' : FailsSo) → version_of z ≡ Ok msize → fid_at z fid ≡ Ok f → info_at e z.world f.place ≡ Ok i → (touches_fixed s || touches (change_of s)) ≡ true → ((b : Bool) (y : FileError) → fails b y → fails' b y) → (let t = changed_by e z.world now f (changes_fixed s i) (change_of s) i in IsRefused t (fails (is_ok t)) r) → IsRefused (wstat e z now fid s) (fails' (is_ok (wstat e z now fid s))) r
-  wstat_fails msize f i r fails fails' h k l t up p =
-      rw (wstat_changes msize f i h k l t) (restate_failed (changed_by e z.world now f (changes_fixed s i) (change_of s) i) (λ v. (reply.Wstat, in_world z v)) r fails fails' up p)
-
-  pub wstat_goes : (msize : ℕ) (f : Fid) (i : Info) → version_of z ≡ Ok msize → fid_at z fid ≡ Ok f → info_at e z.world f.place ≡ Ok i → (touches_fixed s || touches (change_of s)) ≡ true → granted_world (wstat e z now fid s) z.world ≡ led_world (changed_by e z.world now f (changes_fixed s i) (change_of s) i) z.world
-  wstat_goes msize f i h k l t =
-      world_led (wstat e z now fid s) (changed_by e z.world now f (changes_fixed s i) (change_of s) i) (λ w. (reply.Wstat, in_world z w)) z.world (wstat_changes msize f i h k l t) (λ w. refl)

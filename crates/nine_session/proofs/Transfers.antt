@@ -1,9 +1,9 @@
 -- Tread and Twrite: what they tell, once what they ask for first is known.
 use Rattle.std.proofs.Common.{◌≡◌, ℕ, ◌≤◌, List, length, take, drop, min, true, false, not, Result, Ok, Err, ◌==◌, refl, sym, ap, ◌∙◌, arith}
-use Rattle.std.specs.Prelude.{IfOk, is_ok, if◌then◌else◌}
+use Rattle.std.specs.Prelude.{IfOk, if◌then◌else◌}
+use Rattle.std.proofs.lemmas.Bool.{eqb-true}
 use Rattle.std.proofs.lemmas.List.{length-take}
 use Rattle.std.proofs.lemmas.Result.{IfOk-at_ok}
-use Rattle.nine_wire.specs.declared.message.Reply.{Reply}
 use Rattle.nine_wire.specs.declared.message.Reply.TheVariants as reply
 use Rattle.fo_world.specs.declared.place.Info.{Info}
 use Rattle.fo_world.specs.declared.place.Place.{Place}
@@ -17,17 +17,16 @@ use Rattle.nine_fids.specs.declared.fid.Fid.{Fid}
 use Rattle.nine_fids.specs.declared.fid.Opened.{Opened}
 use Rattle.nine_fids.specs.declared.refusal.Refusal.{Refusal}
 use Rattle.nine_fids.specs.declared.refusal.Refusal.TheVariants as refusal
-use Rattle.nine_fids.specs.Refusing.{and_then, refuse_if, looked, changed}
+use Rattle.nine_fids.specs.Refusing.{and_then, refuse_if, looked, changed, is_failure}
 use Rattle.nine_fids.specs.Fids.{State, version_of, fid_at, opened_of, in_world}
 use Rattle.nine_fids.specs.Told.{Files, info_at, bytes_at, is_dir, iounit}
 use Rattle.nine_fids.specs.Modes.{reads, writes}
 use Rattle.nine_fids.specs.Looking.{IsRefused}
-use Rattle.nine_files.specs.Answering.{granted_with}
 use Rattle.nine_files.specs.Parts.{write_start}
-use Rattle.nine_files.proofs.Links.{then_ok}
+use Rattle.nine_files.proofs.Links.{plain_at, some_plain, then_ok}
 use Rattle.nine_session.specs.Reading.{read, read_directory, write}
-use Rattle.nine_session.specs.Session.{Told, granted_world}
-use Rattle.nine_session.proofs.Links.{link_refused, refuse_no, refuse_yes, same_refused, then_err, world_with}
+use Rattle.nine_session.specs.Session.{Told}
+use Rattle.nine_session.proofs.Links.{link_refused, refuse_no, refuse_yes, same_refused, then_err}
 use Rattle.nine_session.proofs.Listing.{directory_from, directory_there}
 
 -- ---- an open fid, where a version is agreed to
@@ -52,6 +51,10 @@ fid_found z fid go m f h k = version_there z fid go m h ∙ then_ok (fid_at z fi
 
 pub not_opened : (z : State) (fid : ℕ) (go : Going) (m : ℕ) (f : Fid) (r : Refusal) → version_of z ≡ Ok m → fid_at z fid ≡ Ok f → opened_of f ≡ Err r → with_opened z fid go ≡ Err r
 not_opened z fid go m f r h k j = fid_found z fid go m f h k ∙ then_err (opened_of f) r (go m f) j
+
+-- a fid that isn't open is refused, which is no failure
+pub opened_plain : (f : Fid) (r : Refusal) → opened_of f ≡ Err r → is_failure r ≡ false
+opened_plain f r h = plain_at (opened_of f) r (some_plain f.opened refusal.FidIsNotOpen refl) h
 
 pub opened_there : (z : State) (fid : ℕ) (go : Going) (m : ℕ) (f : Fid) (o : Opened) → version_of z ≡ Ok m → fid_at z fid ≡ Ok f → opened_of f ≡ Ok o → with_opened z fid go ≡ go m f o
 opened_there z fid go m f o h k j = fid_found z fid go m f h k ∙ then_ok (opened_of f) o (go m f) j
@@ -156,6 +159,13 @@ writes_on e z now offset m bytes f o h = refuse_no (not (writes o.access)) refus
 pub writes_none : (e : Files) (z : State) (now offset : ℕ) (bytes : List ℕ) (f : Fid) (i : Info) → (length bytes == 0) ≡ true → writing e z now offset bytes f i ≡ Ok (reply.Write 0, z)
 writes_none e z now offset bytes f i h = rw h refl
 
+-- nothing is written, and no block is needed
+pub none_needed : (at : Place) (bytes : List ℕ) → (length bytes == 0) ≡ true → step.write_need at bytes ≡ 0
+none_needed at bytes h = ap (λ b. if b then 0 else step.need (step.depth_of at) (length bytes)) h
+
+pub no_bytes : (bytes : List ℕ) → (length bytes == 0) ≡ true → 0 ≡ length bytes
+no_bytes bytes h = sym (eqb-true (length bytes) 0 h)
+
 pub writes_some : (e : Files) (z : State) (now offset : ℕ) (bytes : List ℕ) (f : Fid) (i : Info) → (length bytes == 0) ≡ false → writing e z now offset bytes f i ≡ and_then (changed (step.write e.whole e.largest z.world f.place (write_start i offset) bytes f.user now)) (λ p. Ok (reply.Write (length bytes), in_world z p.1))
 writes_some e z now offset bytes f i h = rw h refl
 
@@ -170,13 +180,3 @@ write_missed e z now fid offset m bytes f o r v h k a missed =
 pub write_there : (e : Files) (z : State) (now fid offset m : ℕ) (bytes : List ℕ) (f : Fid) (o : Opened) (i : Info) → version_of z ≡ Ok m → fid_at z fid ≡ Ok f → opened_of f ≡ Ok o → writes o.access ≡ true → info_at e z.world f.place ≡ Ok i → write e z now fid offset bytes ≡ writing e z now offset bytes f i
 write_there e z now fid offset m bytes f o i v h k a there =
     write_opened e z now fid offset m bytes f o v h k a ∙ then_ok (info_at e z.world f.place) i (writing e z now offset bytes f) there
-
-pub write_goes : (e : Files) (z : State) (now fid offset m : ℕ) (bytes : List ℕ) (f : Fid) (o : Opened) (i : Info) → version_of z ≡ Ok m → fid_at z fid ≡ Ok f → opened_of f ≡ Ok o → writes o.access ≡ true → info_at e z.world f.place ≡ Ok i → (length bytes == 0) ≡ false → granted_world (write e z now fid offset bytes) z.world ≡ granted_with (changed (step.write e.whole e.largest z.world f.place (write_start i offset) bytes f.user now)) z.world
-write_goes e z now fid offset m bytes f o i v h k a there some =
-    world_with (write e z now fid offset bytes) (changed (step.write e.whole e.largest z.world f.place (write_start i offset) bytes f.user now)) (λ p. (reply.Write (length bytes), in_world z p.1)) z.world
-    (write_there e z now fid offset m bytes f o i v h k a there ∙ writes_some e z now offset bytes f i some) (λ p. refl)
-
--- a chain that ends with a reply is granted as its last link is
-pub granted_same : {A : Type 0} (r : Result A Refusal) (go : A → Reply × State) → is_ok (and_then r (λ x. let out : Told = Ok (go x) in out)) ≡ is_ok r
-granted_same (Ok x) go = refl
-granted_same (Err e) go = refl

@@ -1,46 +1,32 @@
 -- Walks: the tests of a fid, and the walk from it.
-use Rattle.std.proofs.Common.{◌≡◌, ℕ, suc, ◌≤◌, List, [], ◌∷◌, length, Bool, true, false, not, ◌&&◌, Result, Ok, Err, ◌==◌, refl, ◌∙◌, arith}
-use Rattle.std.specs.Prelude.{IfOk, nat_lt, nat_le}
+use Rattle.std.proofs.Common.{◌≡◌, ℕ, ◌≤◌, List, [], ◌∷◌, length, Bool, true, false, not, ◌&&◌, Option, Some, None, Result, Ok, Err, ◌==◌, refl, ap, ◌∙◌, sym, subst, ⊎_elim}
 use Rattle.std.proofs.lemmas.Result.{IfOk-at_ok}
+use Rattle.std.specs.Prelude.{IfOk, IfSome, nat_lt, nat_le}
+use Rattle.fo_world.specs.declared.error.FileError.TheVariants as error
 use Rattle.fo_world.specs.declared.place.Info.{Info}
+use Rattle.fo_world.specs.declared.place.Place.{Place}
 use Rattle.fo_world.specs.World.{World}
-use Rattle.fo_world.specs.declared.error.FileError.{FileError}
-use Rattle.nine_fids.specs.Looking.{IsRefused}
+use Rattle.nine_fields.specs.declared.qid.Qid.{Qid}
+use Rattle.nine_wire.specs.declared.message.Reply.{Reply}
+use Rattle.nine_wire.specs.declared.message.Reply.TheVariants as reply
+use Rattle.nine_wire.specs.declared.message.Request.TheVariants as request
+use Rattle.nine_fids.specs.Looking.{FilesState, HasCause, MayMiss}
 use Rattle.nine_fids.specs.declared.fid.Fid.{Fid}
 use Rattle.nine_fids.specs.declared.refusal.Refusal.{Refusal}
 use Rattle.nine_fids.specs.declared.refusal.Refusal.TheVariants as refusal
-use Rattle.nine_fids.specs.Refusing.{and_then, refuse_if}
+use Rattle.nine_fids.specs.Refusing.{and_then, refuse_if, is_failure}
 use Rattle.nine_fids.specs.Told.{Files, info_at}
-use Rattle.nine_fids.specs.Fids.{State, version_of, fid_at, is_open, in_use, most_fids}
+use Rattle.nine_fids.specs.Fids.{State, version_of, fid_at, is_open, in_use, most_fids, known}
+use Rattle.nine_fids.proofs.Seeing.{plain_cause}
 use Rattle.nine_files.specs.declared.walking.Walked.{Walked}
 use Rattle.nine_files.specs.Parts.{arrived}
-use Rattle.nine_files.specs.Walking.{from_next, next, walked}
-use Rattle.nine_files.proofs.Links.{then_ok}
-use Rattle.nine_session.specs.Attempting.{walked_fid}
+use Rattle.nine_files.specs.Walking.{walked}
+use Rattle.nine_files.proofs.Links.{IsPlain, plain_at, refuse_plain, some_plain, then_ok, then_plain}
+use Rattle.nine_session.specs.Attempting.{Attempts, Looked, walked_fid}
+use Rattle.nine_session.specs.Session.{Grants, Kept, Told, in_files, kept_of}
 use Rattle.nine_session.specs.Walking.{ended, walk, walk_from}
-use Rattle.nine_session.proofs.Links.{link_refused, same_refused, then_err}
-
--- ---- a walk has no more qids than names
-
-next_short : (go : Info → Walked) (i : Info) (r : Result Info Refusal) (n : ℕ) → ((j : Info) → length (go j).qids ≤ n) → length (from_next go i r).qids ≤ suc n
-next_short go i (Ok j) n short = let le : length (go j).qids ≤ n = short j in omega arith
-next_short go i (Err r) n short = omega arith
-
-walked_short : (e : Files) (w : World) (user : List ℕ) (names : List (List ℕ)) (i : Info) → length (walked e w user names i).qids ≤ length names
-unfolding walked
-walked_short e w user [] i = omega arith
-walked_short e w user (name ∷ names) i = next_short (walked e w user names) i (next e w user i name) (length names) (λ j. walked_short e w user names j)
-
-looked_short : (r : Result Info Refusal) (go : Info → Walked) (n : ℕ) → ((i : Info) → length (go i).qids ≤ n) → IfOk (and_then r (λ i. let out : Result Walked Refusal = Ok (go i) in out)) (λ v. length v.qids ≤ n)
-looked_short (Ok i) go n short = short i
-looked_short (Err r) go n short = tt
-
-arrival_short : (e : Files) (w : World) (f : Fid) (names : List (List ℕ)) → IfOk (arrived e w f names) (λ v. length v.qids ≤ length names)
-arrival_short e w f [] = omega arith
-arrival_short e w f (name ∷ names) = looked_short (info_at e w f.place) (walked e w f.user (name ∷ names)) (suc (length names)) (walked_short e w f.user (name ∷ names))
-
-pub arrived_short : (e : Files) (w : World) (f : Fid) (names : List (List ℕ)) (v : Walked) → arrived e w f names ≡ Ok v → length v.qids ≤ length names
-arrived_short e w f names v is = IfOk-at_ok (λ v. length v.qids ≤ length names) is (arrival_short e w f names)
+use Rattle.nine_session.proofs.Links.{attempts_same, memory_misses, then_err}
+use Rattle.nine_session.proofs.Looked.{granted}
 
 -- ---- the request
 
@@ -80,10 +66,8 @@ walk_refused e z fid newfid names r h = walk_begins e z fid newfid names ∙ the
 pub walk_goes : (e : Files) (z : State) (fid newfid : ℕ) (names : List (List ℕ)) (f : Fid) → walked_fid z fid newfid names ≡ Ok f → walk e z fid newfid names ≡ and_then (arrived e z.world f names) (λ w. ended z f newfid w.qids w.last w.stopped)
 walk_goes e z fid newfid names f h = walk_begins e z fid newfid names ∙ then_ok (walked_fid z fid newfid names) f (λ f. walk_from e z f newfid names) h ∙ walk_ends e z f newfid names
 
-pub walk_misses : (e : Files) (z : State) (fid newfid : ℕ) (names : List (List ℕ)) (f : Fid) (P : FileError → Type 0) (r : Refusal) → walked_fid z fid newfid names ≡ Ok f → IsRefused (arrived e z.world f names) P r → IsRefused (walk e z fid newfid names) P r
-walk_misses e z fid newfid names f P r h refused =
-    same_refused (walk e z fid newfid names) (and_then (arrived e z.world f names) (λ w. ended z f newfid w.qids w.last w.stopped)) P r (walk_goes e z fid newfid names f h)
-    (link_refused (arrived e z.world f names) (λ w. ended z f newfid w.qids w.last w.stopped) P r refused)
+pub walk_misses : (e : Files) (z : State) (fid newfid : ℕ) (names : List (List ℕ)) (f : Fid) (r : Refusal) → walked_fid z fid newfid names ≡ Ok f → arrived e z.world f names ≡ Err r → walk e z fid newfid names ≡ Err r
+walk_misses e z fid newfid names f r h refused = walk_goes e z fid newfid names f h ∙ then_err (arrived e z.world f names) r (λ w. ended z f newfid w.qids w.last w.stopped) refused
 
 pub walk_arrives : (e : Files) (z : State) (fid newfid : ℕ) (names : List (List ℕ)) (f : Fid) (v : Walked) → walked_fid z fid newfid names ≡ Ok f → arrived e z.world f names ≡ Ok v → walk e z fid newfid names ≡ ended z f newfid v.qids v.last v.stopped
 walk_arrives e z fid newfid names f v h there = walk_goes e z fid newfid names f h ∙ then_ok (arrived e z.world f names) v (λ w. ended z f newfid w.qids w.last w.stopped) there
@@ -123,3 +107,63 @@ tested_full z f fid newfid names a b d h = rw (a, b, d, h) refl
 
 pub tested_well : (z : State) (f : Fid) (fid newfid : ℕ) (names : List (List ℕ)) → nat_lt 16 (length names) ≡ false → is_open f ≡ false → (not (newfid == fid) && in_use newfid z.session.fids) ≡ false → (not (newfid == fid) && nat_le most_fids (length z.session.fids)) ≡ false → tested z f fid newfid names ≡ Ok f
 tested_well z f fid newfid names a b d h = rw (a, b, d, h) refl
+
+tests_plain : (z : State) (f : Fid) (fid newfid : ℕ) (names : List (List ℕ)) → IsPlain (tested z f fid newfid names)
+tests_plain z f fid newfid names =
+    let d : Result Fid Refusal = refuse_if (not (newfid == fid) && nat_le most_fids (length z.session.fids)) refusal.TooManyFids (Ok f) in
+    let c : Result Fid Refusal = refuse_if (not (newfid == fid) && in_use newfid z.session.fids) refusal.FidInUse d in
+    let b : Result Fid Refusal = refuse_if (is_open f) refusal.FidIsOpen c in
+    refuse_plain (nat_lt 16 (length names)) refusal.TooManyNames b refl
+    (refuse_plain (is_open f) refusal.FidIsOpen c refl
+    (refuse_plain (not (newfid == fid) && in_use newfid z.session.fids) refusal.FidInUse d refl
+    (refuse_plain (not (newfid == fid) && nat_le most_fids (length z.session.fids)) refusal.TooManyFids (Ok f) refl tt)))
+
+-- what refuses the fid is no failure
+fid_plain : (z : State) (fid newfid : ℕ) (names : List (List ℕ)) → IsPlain (walked_fid z fid newfid names)
+unfolding walked_fid
+fid_plain z fid newfid names =
+    then_plain (version_of z) (λ _. and_then (fid_at z fid) (λ f. tested z f fid newfid names)) (some_plain z.session.msize refusal.NoVersion refl)
+    (λ m. then_plain (fid_at z fid) (λ f. tested z f fid newfid names) (some_plain (known fid z.session.fids) refusal.UnknownFid refl) (λ f. tests_plain z f fid newfid names))
+
+pub walked_plain : (z : State) (fid newfid : ℕ) (names : List (List ℕ)) (r : Refusal) → walked_fid z fid newfid names ≡ Err r → is_failure r ≡ false
+walked_plain z fid newfid names r h = plain_at (walked_fid z fid newfid names) r (fid_plain z fid newfid names) h
+
+-- ---- the end of a walk
+
+end_plain : (z : State) (f : Fid) (newfid : ℕ) (qids : List Qid) (at : Place) (stopped : Option Refusal) → IfSome stopped (λ r. is_failure r ≡ false) → IsPlain (ended z f newfid qids at stopped)
+end_plain z f newfid qids at None plain = tt
+end_plain z f newfid [] at (Some r) plain = plain
+end_plain z f newfid (qid ∷ qids) at (Some r) plain = tt
+
+end_grants : (z : State) (f : Fid) (newfid : ℕ) (qids : List Qid) (at : Place) (stopped : Option Refusal) → IfOk (ended z f newfid qids at stopped) (λ p. p.0 ≡ reply.Walk qids)
+end_grants z f newfid qids at None = refl
+end_grants z f newfid [] at (Some r) = tt
+end_grants z f newfid (qid ∷ qids) at (Some r) = refl
+
+pub walk_granted : (k k' : Kept) (w : World) (f : Fid) (fid newfid : ℕ) (names : List (List ℕ)) (v : Walked) (r : Result Reply Refusal) → length v.qids ≤ length names
+    → Attempts (ended (in_files k w) f newfid v.qids v.last v.stopped) (λ x. x ≡ error.Memory) (in_files k w) (in_files k' w) r → IfOk r (Grants (request.Walk fid newfid names))
+walk_granted k k' w f fid newfid names v (Ok r) short ends =
+    let is : r ≡ reply.Walk v.qids = IfOk-at_ok (λ p. p.0 ≡ reply.Walk v.qids) ends (end_grants (in_files k w) f newfid v.qids v.last v.stopped) in
+    let P : Reply → Type 0 = λ s. Grants (request.Walk fid newfid names) s in
+    subst P (sym is) short
+walk_granted k k' w f fid newfid names v (Err r) short ends = tt
+
+-- the request, once it is known how far the walk came
+pub walk_finishes : (a b : FilesState) (k k' : Kept) (told : Files → State → Told) (f : Fid) (newfid : ℕ) (v : Walked) (r : Result Reply Refusal) → IfSome v.stopped (λ e. is_failure e ≡ false)
+    → (a.honest → told a.how (in_files k a.world) ≡ ended (in_files k a.world) f newfid v.qids v.last v.stopped) → (a.honest → b.world ≡ a.world)
+    → ((w : World) → Attempts (ended (in_files k w) f newfid v.qids v.last v.stopped) (λ x. x ≡ error.Memory) (in_files k w) (in_files k' w) r) → Looked a b k k' told r
+walk_finishes a b k k' told f newfid v (Ok r) plain same world ends =
+    let out : World → Told = λ w. Ok (r, in_files k' w) in
+    granted a b k k' told r (λ h. same h ∙ ends a.world ∙ sym (ap out (world h)))
+walk_finishes a b k k' told f newfid v (Err r) plain same world ends =
+    let end : World → Told = λ w. ended (in_files k w) f newfid v.qids v.last v.stopped in
+    let P : Refusal → Type 0 = λ e. HasCause a b 0 e in
+    record {
+      answer = λ h.
+          let Q : World → Type 0 = λ w. Attempts (end a.world) (λ x. x ≡ error.Memory) (in_files k a.world) (in_files k' w) (Err r) in
+          attempts_same (told a.how (in_files k a.world)) (end a.world) (λ x. x ≡ error.Memory) (MayMiss a.faults b.faults a.honest) (in_files k a.world) (in_files k' b.world) (Err r) (same h)
+          (memory_misses a.faults b.faults a.honest) (subst Q (sym (world h)) (ends a.world));
+      cause = ⊎_elim (λ e. plain_cause a b 0 r (plain_at (end a.world) r (end_plain (in_files k a.world) f newfid v.qids v.last v.stopped plain) e))
+          (λ m. subst P (sym (m.1 ∙ ap (λ x. refusal.File x) m.2)) tt) (ends a.world).0;
+      left_is = ap kept_of (ends a.world).1;
+    }

@@ -1,5 +1,5 @@
 -- What the private calls of a session answer.
-use Rattle.std.specs.Prelude.{◌≡◌, ℕ, List, Bool, true, false, Option, Some, None, Result, Ok, Err, MatchResult, IfOk, is_ok, not, ◌&&◌, length, ◌==◌, nat_lt, nat_le}
+use Rattle.std.specs.Prelude.{◌≡◌, ℕ, List, Bool, true, false, Option, Some, None, Result, Ok, Err, MatchResult, IfOk, IfErr, is_ok, not, ◌&&◌, length, ◌==◌, nat_lt, nat_le}
 use Rattle.nine_wire.specs.declared.message.Request.{Request}
 use Rattle.nine_wire.specs.Message.{ReplyFits}
 use Rattle.nine_wire.specs.declared.message.Reply.{Reply}
@@ -14,10 +14,16 @@ use Rattle.nine_fids.specs.Fids.{Fids, State, fid_of, clunked, number_at, is_ope
 use Rattle.nine_fids.specs.Refusing.{and_then, refusal_text, refuse_if}
 use Rattle.nine_fids.specs.Told.{Files}
 use Rattle.nine_session.specs.Opening.{listed}
-use Rattle.nine_session.specs.Session.{AgreesWithin, Fails, Needs, Tells, Told, Touches, granted_world, left_by}
+use Rattle.nine_fids.specs.Looking.{FilesState, HasCause, MayMiss}
+use Rattle.nine_files.specs.Answering.{FailsBy, HadRoom}
+use Rattle.nine_session.specs.Session.{AgreesWithin, Fails, Grants, Kept, Needs, Tells, Told, Touches, granted_world, in_files, kept_of, left_by, most_of}
 use Rattle.nine_files.specs.Answering.{tried}
 
--- the state that a session, the list of exclusive opens and the world make
+-- a session with the list of exclusive opens
+abbrev pub kept : Fids → List ℕ → Kept
+kept session exclusive = record { session = session; exclusive = exclusive }
+
+-- the state that these and the world make
 abbrev pub state : Fids → List ℕ → World → State
 state session exclusive w = record { session = session; exclusive = exclusive; world = w }
 
@@ -42,14 +48,39 @@ let_go number z = without_one z (fid_of number z.session.fids)
 abbrev pub IsSent : Result Reply Refusal → Type 0
 IsSent result = IfOk result (λ r. ReplyFits r × AgreesWithin r)
 
+-- What a method of a session does for a request, over files: where they are honest it answers what is told, or fails for a cause; over
+-- any files a refusal has its cause and leaves this, and no more blocks are taken than `most`.
+pub record Attempted (old new : FilesState) (within : Touches) (k k' : Kept) (told : Files → State → Told) (need : Files → State → ℕ) (most : ℕ) (left : State → State) (result : Result Reply Refusal) : Type 0 where
+  pub answer : old.honest → Attempts (told old.how (in_files k old.world)) (FailsBy old new (need old.how (in_files k old.world)) (is_ok (told old.how (in_files k old.world)))) (left (in_files k old.world)) (in_files k' new.world) result
+  pub room : old.honest → HadRoom old.has_room (need old.how (in_files k old.world)) result
+  pub touched : old.honest → within (tried (granted_world (told old.how (in_files k old.world)) old.world) old.world result) (need old.how (in_files k old.world))
+  pub cause : IfErr result (HasCause old new most)
+  pub left_is : IfErr result (λ _. k' ≡ kept_of (left (in_files k old.world)))
+  pub taken : (w : World) × within w most
+
+-- The same of a method that only looks.
+pub record Looked (old new : FilesState) (k k' : Kept) (told : Files → State → Told) (result : Result Reply Refusal) : Type 0 where
+  pub answer : old.honest → Attempts (told old.how (in_files k old.world)) (MayMiss old.faults new.faults old.honest) (in_files k old.world) (in_files k' new.world) result
+  pub cause : IfErr result (HasCause old new 0)
+  pub left_is : IfErr result (λ _. k' ≡ k)
+
 -- A request as it is attempted: what it is told, the blocks that it needs, how it comes out, and what it may have touched.
-pub record Tried (e : Files) (fails : Fails) (within : Touches) (z : State) (now : ℕ) (q : Request) (z' : State) (result : Result Reply Refusal) : Type 0 where
+pub record Tried (e : Files) (fails : Fails) (has_room : ℕ → Type 0) (within : Touches) (z : State) (now : ℕ) (q : Request) (z' : State) (result : Result Reply Refusal) : Type 0 where
   pub told : Told
   pub need : ℕ
   pub tells : Tells e z now q told
   pub needs : Needs e z q need
   pub attempts : Attempts told (fails need (is_ok told)) (left_by z q) z' result
-  pub touched : within (tried (granted_world told z.world) z.world result)
+  pub room : HadRoom has_room need result
+  pub touched : within (tried (granted_world told z.world) z.world result) need
+
+-- and over any files
+pub record TriedOver (old new : FilesState) (within : Touches) (k k' : Kept) (now : ℕ) (q : Request) (result : Result Reply Refusal) : Type 0 where
+  pub answer : old.honest → Tried old.how (FailsBy old new) old.has_room within (in_files k old.world) now q (in_files k' new.world) result
+  pub grants : IfOk result (Grants q)
+  pub cause : IfErr result (HasCause old new (most_of (in_files k old.world) q))
+  pub left_is : IfErr result (λ _. k' ≡ kept_of (left_by (in_files k old.world) q))
+  pub taken : (w : World) × within w (most_of (in_files k old.world) q)
 
 -- the message size that is agreed to, where the version is known
 abbrev pub agreed_size : Bool → ℕ → Option ℕ

@@ -1,11 +1,15 @@
 //! Tversion, Tauth, Tflush and Tattach.
 ghost use Rattle.std.specs.Prelude.{◌≡◌, ◌==◌, ◌<◌, length, position, IfSome};
 ghost use Rattle.nine_session.specs.Attaching as nine;
-ghost use Rattle.nine_session.specs.Attempting.{agreed_size};
+ghost use Rattle.nine_wire.specs.declared.message.Request.TheVariants as request;
+ghost use Rattle.nine_session.specs.Session.{Grants};
+ghost use Rattle.nine_session.specs.Attempting.{agreed_size, kept, Looked};
 
 use crate::session::Session;
 use fo_world::{FileError, FileOps, Name, Place, View};
-use nine_fids::{Fid, MOST_FIDS, NOFID, Refusal, in_use, info_at, qid_of, table_of, user_of};
+use nine_fids::{
+    Fid, MOST_FIDS, NOFID, Refusal, Stated, in_use, info_at, qid_of, table_of, user_of,
+};
 use nine_wire::{Ename, LARGEST_MESSAGE, Reply};
 
 /// The least message size that is agreed to.
@@ -74,14 +78,16 @@ fn tree_of(aname: &[u8]) -> Option<View>
 }
 
 impl Session {
-    ghost use Rattle.std.specs.Prelude.{◌≡◌, ℕ, List, IsTrue};
+    ghost use Rattle.std.specs.Prelude.{◌≡◌, ℕ, List, IsTrue, IfOk};
     ghost use Rattle.fo_world.specs.World.{World};
     ghost use Rattle.fo_world.specs.declared.error.FileError.TheVariants as failure;
     ghost use Rattle.nine_fids.specs.Fids.{restarted};
     ghost use Rattle.nine_fids.specs.Told.{served};
-    ghost use Rattle.nine_fids.specs.Looking.{MayMiss, Looks};
+    ghost use Rattle.nine_fids.specs.Looking.{Looks};
     ghost use Rattle.nine_session.specs.Attaching as nine;
-    ghost use Rattle.nine_session.specs.Attempting.{state, Attempts, Replies, IsSent};
+    ghost use Rattle.nine_wire.specs.declared.message.Request.TheVariants as request;
+    ghost use Rattle.nine_session.specs.Session.{Grants};
+    ghost use Rattle.nine_session.specs.Attempting.{state, kept, Attempts, Looked, Replies, IsSent};
 
     /// Tversion.
     pub(crate) fn agree(
@@ -139,11 +145,10 @@ impl Session {
         aname: &Name,
     ) -> Result<Reply, Refusal>
         requires { IsTrue (F.whole files.old) }
-        ensures attempts { (x : List ℕ) → Attempts (nine.attach (served (F.whole files.old) (F.largest files.old)) (state self.old x (F.world files.old)) fid afid uname.now aname.now)
-            (MayMiss (F.faults files.old) (F.faults files.new) (F.honest files.old))
-            (state self.old x (F.world files.old)) (state self.new x (F.world files.new)) result }
+        ensures looked { (x : List ℕ) → Looked (⟦<F as Stated>⟧.state files.old) (⟦<F as Stated>⟧.state files.new) (kept self.old x) (kept self.new x)
+            (λ e z. nine.attach e z fid afid uname.now aname.now) result }
+        ensures part { IfOk result (λ r. Grants (request.Attach fid afid uname.now aname.now) r) }
         ensures sends { IsSent result }
-        ensures world { F.world files.new ≡ F.world files.old }
         ensures keeps { F.keeps files.old files.new }
     {
         self.version()?;

@@ -10,6 +10,3 @@ mod stating;
 mod walking;
 
 pub use session::Session;
-
-#[cfg(test)]
-mod tests;

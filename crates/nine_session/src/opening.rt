@@ -1,35 +1,33 @@
 //! Topen and Tcreate.
 ghost use Rattle.std.specs.Prelude.{◌≡◌, IsTrue, Result, Ok, is_ok};
-ghost use Rattle.fo_world.specs.Answers.{MayFail};
-ghost use Rattle.fo_world.specs.Fits.{WorldFits};
 ghost use Rattle.fo_world.specs.Limits.{IsUser};
 ghost use Rattle.fo_world.specs.Step as step;
 ghost use Rattle.nine_fids.specs.Told.{served, qid_of};
-ghost use Rattle.nine_session.specs.Attempting.{with_put};
+ghost use Rattle.nine_wire.specs.declared.message.Request.TheVariants as request;
+ghost use Rattle.nine_files.specs.Granting.{admitted};
+ghost use Rattle.nine_session.specs.Session.{Grants, in_files, most_of, need_at, opening_need};
+ghost use Rattle.nine_session.specs.Attempting.{kept, with_put, Attempted};
 ghost use Rattle.nine_session.specs.Opening as nine;
-ghost use Rattle.nine_files.specs.Opening.{emptied};
 
 use crate::session::Session;
 use fo_world::{FileOps, Name};
-use nine_fids::{Fid, Refusal, is_exclusive, number_at, put_fid, qid_of};
+use nine_fids::{Fid, Refusal, Stated, is_exclusive, number_at, put_fid, qid_of};
 use nine_files::{admit, admit_new, new_mode, open_fid, truncate};
 use nine_wire::Reply;
 
 impl Session {
-    ghost use Rattle.std.specs.Prelude.{◌≡◌, ◌<◌, IsTrue, is_ok, vec_len, vec_capacity};
-    ghost use Rattle.fo_world.specs.Answers.{MayFail};
-    ghost use Rattle.fo_world.specs.Fits.{WorldFits};
+    ghost use Rattle.std.specs.Prelude.{◌≡◌, ◌<◌, IsTrue, IfOk, is_ok, vec_len, vec_capacity};
     ghost use Rattle.fo_world.specs.Limits.{IsUser};
     ghost use Rattle.fo_world.specs.World.{World};
     ghost use Rattle.fo_world.specs.Step as step;
     ghost use Rattle.nine_fields.specs.Field.{TextFits};
     ghost use Rattle.nine_fids.specs.Fids.{known};
     ghost use Rattle.nine_fids.specs.Told.{served};
-    ghost use Rattle.nine_files.specs.Answering.{tried};
-    ghost use Rattle.nine_session.specs.Session.{granted_world, need_at};
-    ghost use Rattle.nine_session.specs.Attempting.{state, Attempts, IsSent, with_put};
+    ghost use Rattle.nine_wire.specs.declared.message.Request.TheVariants as request;
+    ghost use Rattle.nine_files.specs.Granting.{admitted};
+    ghost use Rattle.nine_session.specs.Session.{Grants, in_files, most_of, need_at, opening_need};
+    ghost use Rattle.nine_session.specs.Attempting.{state, kept, Attempted, IsSent, with_put};
     ghost use Rattle.nine_session.specs.Opening as nine;
-    ghost use Rattle.nine_files.specs.Opening.{emptied};
 
     /// Puts an open fid in place of the one of its number, and its file on the list where it is for exclusive use. Room on the
     /// list was made before.
@@ -54,14 +52,12 @@ impl Session {
         mode: u8,
     ) -> Result<Reply, Refusal>
         requires whole { IsTrue (F.whole files.old) }
-        requires world { WorldFits (F.world files.old) }
-        ensures attempts { let told = nine.open_file (served (F.whole files.old) (F.largest files.old)) (state self.old exclusive.old.items (F.world files.old)) now fid mode in
-            Attempts told
-            (MayFail (F.faults files.old) (F.faults files.new) (F.honest files.old) (F.room files.new) (need_at (known fid self.old.fids) (λ at. step.change_need (F.whole files.old) (F.world files.old) at emptied)) (is_ok told))
-            (state self.old exclusive.old.items (F.world files.old)) (state self.new exclusive.new.items (F.world files.new)) result }
+        ensures attempted { Attempted (⟦<F as Stated>⟧.state files.old) (⟦<F as Stated>⟧.state files.new) (λ w n. F.touches files.old w n files.new)
+            (kept self.old exclusive.old.items) (kept self.new exclusive.new.items)
+            (λ e z. nine.open_file e z now fid mode)
+            (λ e z. need_at (known fid z.session.fids) (λ f. opening_need e z.world f (admitted e z.world f z.exclusive mode))) (most_of (in_files (kept self.old exclusive.old.items) (F.world files.old)) (request.Open fid mode)) (λ z. z) result }
+        ensures part { IfOk result (λ r. Grants (request.Open fid mode) r) }
         ensures sends { IsSent result }
-        ensures world { WorldFits (F.world files.new) }
-        ensures touches { F.touches files.old (tried (granted_world (nine.open_file (served (F.whole files.old) (F.largest files.old)) (state self.old exclusive.old.items (F.world files.old)) now fid mode) (F.world files.old)) (F.world files.old) result) files.new }
     {
         let msize = self.version()?;
         let from = self.fid(fid)?;
@@ -90,15 +86,13 @@ impl Session {
         mode: u8,
     ) -> Result<Reply, Refusal>
         requires whole { IsTrue (F.whole files.old) }
-        requires world { WorldFits (F.world files.old) }
         requires name { TextFits name.now }
-        ensures attempts { let told = nine.create_file (served (F.whole files.old) (F.largest files.old)) (state self.old exclusive.old.items (F.world files.old)) now fid name.now perm mode in
-            Attempts told
-            (MayFail (F.faults files.old) (F.faults files.new) (F.honest files.old) (F.room files.new) (need_at (known fid self.old.fids) step.create_need) (is_ok told))
-            (state self.old exclusive.old.items (F.world files.old)) (state self.new exclusive.new.items (F.world files.new)) result }
+        ensures attempted { Attempted (⟦<F as Stated>⟧.state files.old) (⟦<F as Stated>⟧.state files.new) (λ w n. F.touches files.old w n files.new)
+            (kept self.old exclusive.old.items) (kept self.new exclusive.new.items)
+            (λ e z. nine.create_file e z now fid name.now perm mode)
+            (λ e z. need_at (known fid z.session.fids) (λ f. step.create_need f.place)) (need_at (known fid self.old.fids) (λ f. step.create_need f.place)) (λ z. z) result }
+        ensures part { IfOk result (λ r. Grants (request.Create fid name.now perm mode) r) }
         ensures sends { IsSent result }
-        ensures world { WorldFits (F.world files.new) }
-        ensures touches { F.touches files.old (tried (granted_world (nine.create_file (served (F.whole files.old) (F.largest files.old)) (state self.old exclusive.old.items (F.world files.old)) now fid name.now perm mode) (F.world files.old)) (F.world files.old) result) files.new }
     {
         let msize = self.version()?;
         let from = self.fid(fid)?;

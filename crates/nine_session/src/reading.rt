@@ -1,33 +1,32 @@
 //! Tread and Twrite.
 ghost use Rattle.std.specs.Prelude.{◌≡◌, IsTrue, is_ok, Ok, Err};
-ghost use Rattle.fo_world.specs.Answers.{MayFail};
-ghost use Rattle.fo_world.specs.Fits.{WorldFits};
 ghost use Rattle.fo_world.specs.Step as step;
 ghost use Rattle.nine_fids.specs.Fids as fids;
 ghost use Rattle.nine_fids.specs.Told.{served};
-ghost use Rattle.nine_fids.specs.Looking.{MayMiss};
+ghost use Rattle.nine_wire.specs.declared.message.Request.TheVariants as request;
+ghost use Rattle.nine_wire.specs.declared.message.Reply.TheVariants as reply;
+ghost use Rattle.nine_session.specs.Session.{Grants, need_at};
+ghost use Rattle.nine_session.specs.Attempting.{kept, Attempted, Looked};
 ghost use Rattle.nine_session.specs.Reading as nine;
 
 use crate::session::Session;
 use fo_base::Bytes;
 use fo_world::FileOps;
-use nine_fids::{Refusal, bytes_at, info_at, is_dir, put_fid};
+use nine_fids::{Refusal, Stated, bytes_at, info_at, is_dir, put_fid};
 use nine_files::{is_bad_offset, list_records, opened_of, read_to, start_of, write_bytes};
 use nine_wire::Reply;
 
 impl Session {
-    ghost use Rattle.std.specs.Prelude.{◌≡◌, ◌<◌, ◌-◌, ◌^◌, ℕ, List, length, IsTrue, is_ok};
-    ghost use Rattle.fo_world.specs.Answers.{MayFail};
-    ghost use Rattle.fo_world.specs.Fits.{WorldFits};
+    ghost use Rattle.std.specs.Prelude.{◌≡◌, ◌<◌, ◌-◌, ◌^◌, ℕ, List, length, IsTrue, IfOk};
     ghost use Rattle.fo_world.specs.Step as step;
     ghost use Rattle.nine_fids.specs.Refusing.{and_then};
     ghost use Rattle.nine_fids.specs.Fids as fids;
     ghost use Rattle.nine_fids.specs.Told.{served};
-    ghost use Rattle.nine_fids.specs.Looking.{MayMiss};
-    ghost use Rattle.nine_files.specs.Answering.{tried};
-    ghost use Rattle.nine_session.specs.Session.{granted_world, need_at};
+    ghost use Rattle.nine_wire.specs.declared.message.Request.TheVariants as request;
+    ghost use Rattle.nine_wire.specs.declared.message.Reply.TheVariants as reply;
+    ghost use Rattle.nine_session.specs.Session.{Grants, need_at};
     ghost use Rattle.nine_session.specs.Reading as nine;
-    ghost use Rattle.nine_session.specs.Attempting.{state, Attempts, IsSent};
+    ghost use Rattle.nine_session.specs.Attempting.{state, kept, Attempted, Looked, IsSent};
 
     /// Tread.
     pub(crate) fn read<F: FileOps>(
@@ -38,12 +37,10 @@ impl Session {
         count: u32,
     ) -> Result<Reply, Refusal>
         requires whole { IsTrue (F.whole files.old) }
-        requires world { WorldFits (F.world files.old) }
-        ensures attempts { (x : List ℕ) → Attempts (nine.read (served (F.whole files.old) (F.largest files.old)) (state self.old x (F.world files.old)) fid offset count)
-            (MayMiss (F.faults files.old) (F.faults files.new) (F.honest files.old))
-            (state self.old x (F.world files.old)) (state self.new x (F.world files.new)) result }
+        ensures looked { (x : List ℕ) → Looked (⟦<F as Stated>⟧.state files.old) (⟦<F as Stated>⟧.state files.new) (kept self.old x) (kept self.new x)
+            (λ e z. nine.read e z fid offset count) result }
+        ensures part { IfOk result (λ r. Grants (request.Read fid offset count) r) }
         ensures sends { IsSent result }
-        ensures world { WorldFits (F.world files.new) }
         ensures keeps { F.keeps files.old files.new }
     {
         let msize = self.version()?;
@@ -70,14 +67,11 @@ impl Session {
         count: u32,
     ) -> Result<Reply, Refusal>
         requires whole { IsTrue (F.whole files.old) }
-        requires world { WorldFits (F.world files.old) }
         requires short { count < 2 ^ 32 - 11 }
-        ensures attempts { (x : List ℕ) → Attempts (and_then (fids.fid_at (state self.old x (F.world files.old)) fid)
-            (λ f. and_then (fids.opened_of f) (λ o. nine.read_directory (served (F.whole files.old) (F.largest files.old)) (state self.old x (F.world files.old)) f o offset count)))
-            (MayMiss (F.faults files.old) (F.faults files.new) (F.honest files.old))
-            (state self.old x (F.world files.old)) (state self.new x (F.world files.new)) result }
+        ensures looked { (x : List ℕ) → Looked (⟦<F as Stated>⟧.state files.old) (⟦<F as Stated>⟧.state files.new) (kept self.old x) (kept self.new x)
+            (λ e z. and_then (fids.fid_at z fid) (λ f. and_then (fids.opened_of f) (λ o. nine.read_directory e z f o offset count))) result }
+        ensures part { IfOk result (λ r. Grants (request.Read fid offset count) r) }
         ensures sends { IsSent result }
-        ensures world { F.world files.new ≡ F.world files.old }
         ensures keeps { F.keeps files.old files.new }
     {
         let from = self.fid(fid)?;
@@ -105,16 +99,13 @@ impl Session {
         bytes: &Bytes,
     ) -> Result<Reply, Refusal>
         requires whole { IsTrue (F.whole files.old) }
-        requires world { WorldFits (F.world files.old) }
         requires bytes { length bytes.now < 2 ^ 32 - 23 }
-        ensures attempts { (x : List ℕ) →
-            let told = nine.write (served (F.whole files.old) (F.largest files.old)) (state self.now x (F.world files.old)) now fid offset bytes.now in
-            Attempts told
-            (MayFail (F.faults files.old) (F.faults files.new) (F.honest files.old) (F.room files.new) (need_at (fids.known fid self.now.fids) (λ at. step.write_need at bytes.now)) (is_ok told))
-            (state self.now x (F.world files.old)) (state self.now x (F.world files.new)) result }
+        ensures attempted { (x : List ℕ) → Attempted (⟦<F as Stated>⟧.state files.old) (⟦<F as Stated>⟧.state files.new) (λ w n. F.touches files.old w n files.new)
+            (kept self.now x) (kept self.now x)
+            (λ e z. nine.write e z now fid offset bytes.now)
+            (λ e z. need_at (fids.known fid z.session.fids) (λ f. step.write_need f.place bytes.now)) (need_at (fids.known fid self.now.fids) (λ f. step.write_need f.place bytes.now)) (λ z. z) result }
+        ensures part { IfOk result (λ r. r ≡ reply.Write (length bytes.now)) }
         ensures sends { IsSent result }
-        ensures world { WorldFits (F.world files.new) }
-        ensures touches { (x : List ℕ) → F.touches files.old (tried (granted_world (nine.write (served (F.whole files.old) (F.largest files.old)) (state self.now x (F.world files.old)) now fid offset bytes.now) (F.world files.old)) (F.world files.old) result) files.new }
     {
         // The user of a fid is a user of files, as the session keeps it.
         let _ = &self.fids;

@@ -3,7 +3,7 @@ ghost use Rattle.std.specs.Prelude.{◌≡◌};
 ghost use Rattle.nine_session.specs.Attempting.{error_of};
 
 use fo_world::FileOps;
-use nine_fids::{Fid, Refusal, fid_of, known, least, release, release_all, remove_fid};
+use nine_fids::{Fid, Refusal, Stated, fid_of, known, least, release, release_all, remove_fid};
 use nine_wire::{Reply, Request};
 use std::alloc::Global;
 use std::marker::Model;
@@ -41,14 +41,12 @@ impl Session {
     ghost use Rattle.nine_fids.specs.declared.fid.Fid.{Fid};
     ghost use Rattle.nine_wire.specs.Message.{RequestFits, ReplyFits};
     ghost use Rattle.nine_wire.specs.declared.message.Reply.TheVariants as reply;
-    ghost use Rattle.fo_world.specs.Answers.{MayFail};
-    ghost use Rattle.fo_world.specs.Fits.{WorldFits};
     ghost use Rattle.fo_world.specs.World.{World};
     ghost use Rattle.nine_fids.specs.Fids as nine;
     ghost use Rattle.nine_fids.specs.Fids.{no_fids};
     ghost use Rattle.nine_fids.specs.Told.{served};
     ghost use Rattle.nine_session.specs.Session.{AsksSync, Serves, Drops, AgreesWithin};
-    ghost use Rattle.nine_session.specs.Attempting.{state, let_go, Tried, IsSent};
+    ghost use Rattle.nine_session.specs.Attempting.{state, kept, let_go, TriedOver, IsSent};
     ghost use Rattle.nine_fids.specs.declared.refusal.Refusal.TheVariants as refusal;
 
     /// A session before any message.
@@ -108,15 +106,10 @@ impl Session {
         request: Request,
     ) -> Result<Reply, Refusal>
         requires whole { IsTrue (F.whole files.old) }
-        requires world { WorldFits (F.world files.old) }
         requires request { RequestFits request }
-        ensures tried { Tried (served (F.whole files.old) (F.largest files.old))
-            (λ need granted x. MayFail (F.faults files.old) (F.faults files.new) (F.honest files.old) (F.room files.new) need granted x)
-            (λ goal. F.touches files.old goal files.new)
-            (state self.old exclusive.old.items (F.world files.old)) now request
-            (state self.new exclusive.new.items (F.world files.new)) result }
+        ensures tried { TriedOver (⟦<F as Stated>⟧.state files.old) (⟦<F as Stated>⟧.state files.new) (λ w n. F.touches files.old w n files.new)
+            (kept self.old exclusive.old.items) (kept self.new exclusive.new.items) now request result }
         ensures sends { IsSent result }
-        ensures world { WorldFits (F.world files.new) }
         ensures settled { AsksSync request → IfOk result (λ _. F.settled files.new) }
     {
         match request {
@@ -156,21 +149,16 @@ impl Session {
         request: Request,
     ) -> Reply
         requires whole { IsTrue (F.whole files.old) }
-        requires world { WorldFits (F.world files.old) }
         requires request { RequestFits request }
 
-        // The reply is the definition's, or the text of a failure that has its cause; and no more was touched than the definition changes.
-        ensures serves { Serves (served (F.whole files.old) (F.largest files.old))
-            (λ need granted x. MayFail (F.faults files.old) (F.faults files.new) (F.honest files.old) (F.room files.new) need granted x)
-            (λ goal. F.touches files.old goal files.new)
-            (state self.old exclusive.old.items (F.world files.old)) now request result
-            (state self.new exclusive.new.items (F.world files.new)) }
+        // Where the files are honest the reply is the definition's, or the text of a failure that has its cause, and no more was touched than
+        // the definition changes. Over any files the reply is of the request's kind, or a refusal with its cause.
+        ensures serves { Serves (⟦<F as Stated>⟧.state files.old) (⟦<F as Stated>⟧.state files.new) (λ w n. F.touches files.old w n files.new)
+            (kept self.old exclusive.old.items) now request result (kept self.new exclusive.new.items) }
 
         // The reply has a spelling, and agrees to no more than the largest message size.
         ensures fits { ReplyFits result }
         ensures size { AgreesWithin result }
-
-        ensures world { WorldFits (F.world files.new) }
 
         // Once a Twstat that touches nothing is answered Rwstat, all that was changed is settled.
         ensures settled { AsksSync request → result ≡ reply.Wstat → F.settled files.new }
@@ -190,13 +178,8 @@ impl Session {
         now: u32,
     ) -> (bool, Option<Reply>)
         requires whole { IsTrue (F.whole files.old) }
-        requires world { WorldFits (F.world files.old) }
-        ensures drops { Drops (served (F.whole files.old) (F.largest files.old))
-            (λ need granted x. MayFail (F.faults files.old) (F.faults files.new) (F.honest files.old) (F.room files.new) need granted x)
-            (λ goal. F.touches files.old goal files.new)
-            (state self.old exclusive.old.items (F.world files.old)) now (nine.least self.old.fids) result.0 result.1
-            (state self.new exclusive.new.items (F.world files.new)) }
-        ensures world { WorldFits (F.world files.new) }
+        ensures drops { Drops (⟦<F as Stated>⟧.state files.old) (⟦<F as Stated>⟧.state files.new) (λ w n. F.touches files.old w n files.new)
+            (kept self.old exclusive.old.items) now (nine.least self.old.fids) result.0 result.1 (kept self.new exclusive.new.items) }
     {
         let Some(number) = self.least_number() else {
             self.restart(exclusive, None);

@@ -1,43 +1,43 @@
 //! Tstat and Twstat.
 ghost use Rattle.std.specs.Prelude.{◌≡◌, ℕ, IsTrue, IfOk, Ok, Result, is_ok};
-ghost use Rattle.fo_world.specs.Answers.{MayFail};
-ghost use Rattle.fo_world.specs.Fits.{WorldFits};
 ghost use Rattle.nine_fids.specs.Told.{served, info_at};
-ghost use Rattle.nine_fids.specs.Looking.{MayMiss};
+ghost use Rattle.fo_world.specs.Step as step;
+ghost use Rattle.nine_files.specs.Stating.{change_of};
+ghost use Rattle.nine_session.specs.Session.{Grants, need_at};
+ghost use Rattle.nine_session.specs.Attempting.{kept, Attempted, Looked};
+ghost use Rattle.nine_wire.specs.declared.message.Request.TheVariants as request;
 ghost use Rattle.nine_session.specs.Stating as nine;
 
 use crate::session::Session;
 use fo_base::Bytes;
 use fo_world::{FileError, FileOps};
-use nine_fids::{Refusal, info_at, put_record};
+use nine_fids::{Refusal, Stated, info_at, put_record};
 use nine_files::{change_of, changes_fixed, is_idle, restate, settle, touches_fixed};
 use nine_stat::{Stat, read_stat};
 use nine_wire::Reply;
 
 impl Session {
     ghost use Rattle.std.specs.Prelude.{◌≡◌, ℕ, List, IsTrue, IfOk, MatchResult, is_ok};
-    ghost use Rattle.fo_world.specs.Answers.{MayFail};
-    ghost use Rattle.fo_world.specs.Fits.{WorldFits};
     ghost use Rattle.fo_world.specs.declared.error.FileError.TheVariants as failure;
     ghost use Rattle.nine_stat.specs.declared.stat.Stat.{Stat};
+    ghost use Rattle.nine_wire.specs.declared.message.Request.TheVariants as request;
     ghost use Rattle.nine_stat.specs.Stat.{IsRecord};
     ghost use Rattle.nine_fids.specs.declared.refusal.Refusal.TheVariants as refusal;
     ghost use Rattle.nine_fids.specs.Told.{served};
-    ghost use Rattle.nine_fids.specs.Looking.{MayMiss};
-    ghost use Rattle.nine_files.specs.Answering.{tried};
-    ghost use Rattle.nine_session.specs.Session.{granted_world, restating_need, touches_nothing};
-    ghost use Rattle.nine_session.specs.Attempting.{state, Attempts, IsSent};
+    ghost use Rattle.fo_world.specs.Step as step;
+    ghost use Rattle.nine_fids.specs.Fids.{known};
+    ghost use Rattle.nine_files.specs.Stating.{change_of};
+    ghost use Rattle.nine_session.specs.Session.{Grants, need_at, touches_nothing};
+    ghost use Rattle.nine_session.specs.Attempting.{state, kept, Attempted, Looked, IsSent};
     ghost use Rattle.nine_session.specs.Stating as nine;
 
     /// Tstat.
     pub(crate) fn stat<F: FileOps>(&self, files: &mut F, fid: u32) -> Result<Reply, Refusal>
         requires whole { IsTrue (F.whole files.old) }
-        requires world { WorldFits (F.world files.old) }
-        ensures attempts { (x : List ℕ) → Attempts (nine.stat (served (F.whole files.old) (F.largest files.old)) (state self.now x (F.world files.old)) fid)
-            (MayMiss (F.faults files.old) (F.faults files.new) (F.honest files.old))
-            (state self.now x (F.world files.old)) (state self.now x (F.world files.new)) result }
+        ensures looked { (x : List ℕ) → Looked (⟦<F as Stated>⟧.state files.old) (⟦<F as Stated>⟧.state files.new) (kept self.now x) (kept self.now x)
+            (λ e z. nine.stat e z fid) result }
+        ensures part { IfOk result (λ r. Grants (request.Stat fid) r) }
         ensures sends { IsSent result }
-        ensures world { WorldFits (F.world files.new) }
         ensures keeps { F.keeps files.old files.new }
     {
         let msize = self.version()?;
@@ -62,15 +62,12 @@ impl Session {
         stat: &Bytes,
     ) -> Result<Reply, Refusal>
         requires whole { IsTrue (F.whole files.old) }
-        requires world { WorldFits (F.world files.old) }
-        ensures attempts { (x : List ℕ) (s : Stat) → IsRecord stat.now s →
-            (let e = served (F.whole files.old) (F.largest files.old) in let z = state self.now x (F.world files.old) in
-            Attempts (nine.wstat e z now fid s)
-            (MayFail (F.faults files.old) (F.faults files.new) (F.honest files.old) (F.room files.new) (restating_need e z fid s) (is_ok (nine.wstat e z now fid s)))
-            z (state self.now x (F.world files.new)) result) }
+        ensures attempted { (x : List ℕ) (s : Stat) → IsRecord stat.now s → Attempted (⟦<F as Stated>⟧.state files.old) (⟦<F as Stated>⟧.state files.new) (λ w n. F.touches files.old w n files.new)
+            (kept self.now x) (kept self.now x)
+            (λ e z. nine.wstat e z now fid s)
+            (λ e z. need_at (known fid z.session.fids) (λ f. step.change_need e.whole z.world f.place (change_of s))) (need_at (known fid self.now.fids) (λ f. step.most_need f.place)) (λ z. z) result }
+        ensures part { IfOk result (λ r. Grants (request.Wstat fid stat.now) r) }
         ensures sends { IsSent result }
-        ensures world { WorldFits (F.world files.new) }
-        ensures touches { (x : List ℕ) (s : Stat) → IsRecord stat.now s → F.touches files.old (tried (granted_world (nine.wstat (served (F.whole files.old) (F.largest files.old)) (state self.now x (F.world files.old)) now fid s) (F.world files.old)) (F.world files.old) result) files.new }
         ensures settled { (s : Stat) → IsRecord stat.now s → IsTrue (touches_nothing s) → IfOk result (λ _. F.settled files.new) }
     {
         self.version()?;

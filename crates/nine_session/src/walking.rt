@@ -2,12 +2,14 @@
 ghost use Rattle.std.specs.Prelude.{◌≡◌, ◌==◌, ◌&&◌, not, nat_le, length, IsTrue, MatchResult};
 ghost use Rattle.nine_fids.specs.Fids as kept;
 ghost use Rattle.nine_fids.specs.Told.{served};
-ghost use Rattle.nine_fids.specs.Looking.{MayMiss};
+ghost use Rattle.nine_wire.specs.declared.message.Request.TheVariants as request;
+ghost use Rattle.nine_session.specs.Session.{Grants};
+ghost use Rattle.nine_session.specs.Attempting.{kept, Looked};
 ghost use Rattle.nine_session.specs.Walking as nine;
 
 use crate::session::Session;
 use fo_world::{FileOps, Name};
-use nine_fids::{Fid, MOST_FIDS, Refusal, in_use, put_fid};
+use nine_fids::{Fid, MOST_FIDS, Refusal, Stated, in_use, put_fid};
 use nine_files::{Walked, walk_from};
 use nine_wire::{Names, Reply};
 
@@ -31,14 +33,14 @@ fn lacks_room(fids: &[Fid], fid: u32, newfid: u32) -> bool
 impl Session {
     ghost use Rattle.std.specs.Prelude.{◌≡◌, ◌<◌, ◌≤◌, ◌^◌, ℕ, List, length, IsTrue, IfOk, OnOk, MatchResult, Ok, Err};
     ghost use Rattle.fo_world.specs.World.{World};
-    ghost use Rattle.fo_world.specs.Fits.{WorldFits};
     ghost use Rattle.fo_world.specs.Limits.{IsUser};
     ghost use Rattle.fo_world.specs.declared.error.FileError.TheVariants as failure;
     ghost use Rattle.nine_fids.specs.declared.fid.Fid.{Fid};
     ghost use Rattle.nine_fids.specs.Told.{served};
-    ghost use Rattle.nine_fids.specs.Looking.{MayMiss};
+    ghost use Rattle.nine_wire.specs.declared.message.Request.TheVariants as request;
+    ghost use Rattle.nine_session.specs.Session.{Grants};
     ghost use Rattle.nine_session.specs.Walking as nine;
-    ghost use Rattle.nine_session.specs.Attempting.{walked_fid, state, Attempts, IsSent};
+    ghost use Rattle.nine_session.specs.Attempting.{walked_fid, state, kept, Attempts, Looked, IsSent};
 
     /// Twalk.
     pub(crate) fn walk<F: FileOps>(
@@ -49,12 +51,10 @@ impl Session {
         names: &Names,
     ) -> Result<Reply, Refusal>
         requires whole { IsTrue (F.whole files.old) }
-        requires world { WorldFits (F.world files.old) }
-        ensures attempts { (x : List ℕ) → Attempts (nine.walk (served (F.whole files.old) (F.largest files.old)) (state self.old x (F.world files.old)) fid newfid names.now)
-            (MayMiss (F.faults files.old) (F.faults files.new) (F.honest files.old))
-            (state self.old x (F.world files.old)) (state self.new x (F.world files.new)) result }
+        ensures looked { (x : List ℕ) → Looked (⟦<F as Stated>⟧.state files.old) (⟦<F as Stated>⟧.state files.new) (kept self.old x) (kept self.new x)
+            (λ e z. nine.walk e z fid newfid names.now) result }
+        ensures part { IfOk result (λ r. Grants (request.Walk fid newfid names.now) r) }
         ensures sends { IsSent result }
-        ensures world { WorldFits (F.world files.new) }
         ensures keeps { F.keeps files.old files.new }
     {
         let names = names.as_slice();

@@ -1,132 +1,101 @@
 use Rattle.std.proofs.Common.{refl, Ok}
-use Rattle.std.specs.Prelude.{is_ok}
-use Rattle.fo_world.specs.Answers.{MayFail}
+use Rattle.std.specs.Prelude.{IfOk}
 use Rattle.fo_world.specs.Step as step
+use Rattle.nine_wire.specs.declared.message.Request.TheVariants as request
 use Rattle.nine_fids.specs.Fids.{State, known}
+use Rattle.nine_fids.specs.Looking.{FilesState}
 use Rattle.nine_fids.specs.Told.{served}
+use Rattle.nine_files.specs.Granting.{admitted}
+use Rattle.nine_files.specs.Removing.{close_need, remove_need}
+use Rattle.nine_files.specs.Stating.{change_of}
+use Rattle.nine_files.proofs.Making.{state_of}
 use Rattle.nine_session.specs.Attaching as attaching
 use Rattle.nine_session.specs.Opening as opening
 use Rattle.nine_session.specs.Reading as reading
 use Rattle.nine_session.specs.Removing as removing
 use Rattle.nine_session.specs.Stating as stating
 use Rattle.nine_session.specs.Walking as walking
-use Rattle.nine_files.specs.Opening.{emptied}
-use Rattle.nine_session.specs.Attempting.{state}
-use Rattle.nine_session.specs.Session.{need_at, restating_need}
+use Rattle.nine_session.specs.Attempting.{kept}
+use Rattle.nine_session.specs.Session.{need_at, opening_need}
 use Rattle.nine_session.proofs.Records.{record_there}
-use Rattle.nine_session.proofs.Trying.{attempts_looking, attempts_memory, attempts_replying}
+use Rattle.nine_session.proofs.Trying.{auth_over, changes_over, flush_over, looks_over, version_over, wrote}
 use Rattle.nine_session.proofs.session.Session.attempt.Goals as goal
 
 pub returns-in-Version-clause-tried : goal.returns-in-Version-clause-tried
 returns-in-Version-clause-tried g c =
     let f = c.args.files.now in
-    let w = g.F.FileOps.world f in
-    let z : State = state c.args.self.now c.args.exclusive.now.items w in
-    let told = Ok (attaching.version z c.in-Version.msize c.in-Version.version) in
-    rw c.in-Version.is (record { told = told; need = 0; tells = refl; needs = refl; attempts = attempts_memory told (g.F.FileOps.faults f) (g.F.FileOps.faults f) (g.F.FileOps.honest f) (g.F.FileOps.room f) 0 _ _ c.agree.result (c.agree.ensures.attempts w); touched = g.met.F.FileOps.keeps_touches f f _ (g.met.F.FileOps.keeps_at_once f) })
+    let a : FilesState = state_of (g.F.FileOps.whole f) (g.F.FileOps.largest f) (g.F.FileOps.world f) (g.F.FileOps.faults f) (g.F.FileOps.honest f) (g.F.FileOps.has_room f) in
+    rw c.in-Version.is (version_over a (λ w n. g.F.FileOps.touches f w n f) (kept c.args.self.now c.args.exclusive.now.items) c.args.now _ c.in-Version.msize c.in-Version.version c.agree.result
+    (λ w. g.met.F.FileOps.keeps_touches f f w (g.met.F.FileOps.keeps_at_once f)) (c.agree.ensures.attempts (g.F.FileOps.world f)))
 
 pub returns-in-Auth-clause-tried : goal.returns-in-Auth-clause-tried
 returns-in-Auth-clause-tried g c =
     let f = c.args.files.now in
-    let w = g.F.FileOps.world f in
-    let z : State = state c.args.self.now c.args.exclusive.now.items w in
-    let told = attaching.auth z in
-    rw c.in-Auth.is (record { told = told; need = 0; tells = refl; needs = refl; attempts = attempts_replying told (MayFail (g.F.FileOps.faults f) (g.F.FileOps.faults f) (g.F.FileOps.honest f) (g.F.FileOps.room f) 0 (is_ok told)) z c.auth.result (c.auth.ensures.replies c.args.exclusive.now.items w); touched = g.met.F.FileOps.keeps_touches f f _ (g.met.F.FileOps.keeps_at_once f) })
+    let a : FilesState = state_of (g.F.FileOps.whole f) (g.F.FileOps.largest f) (g.F.FileOps.world f) (g.F.FileOps.faults f) (g.F.FileOps.honest f) (g.F.FileOps.has_room f) in
+    rw c.in-Auth.is (auth_over a (λ w n. g.F.FileOps.touches f w n f) (kept c.args.self.now c.args.exclusive.now.items) c.args.now _ _ _ c.auth.result
+    (λ w. g.met.F.FileOps.keeps_touches f f w (g.met.F.FileOps.keeps_at_once f)) (c.auth.ensures.replies c.args.exclusive.now.items (g.F.FileOps.world f)))
 
 pub returns-in-Flush-clause-tried : goal.returns-in-Flush-clause-tried
 returns-in-Flush-clause-tried g c =
     let f = c.args.files.now in
-    let w = g.F.FileOps.world f in
-    let z : State = state c.args.self.now c.args.exclusive.now.items w in
-    let told = attaching.flush z in
-    rw c.in-Flush.is (record { told = told; need = 0; tells = refl; needs = refl; attempts = attempts_replying told (MayFail (g.F.FileOps.faults f) (g.F.FileOps.faults f) (g.F.FileOps.honest f) (g.F.FileOps.room f) 0 (is_ok told)) z c.flush.result (c.flush.ensures.replies c.args.exclusive.now.items w); touched = g.met.F.FileOps.keeps_touches f f _ (g.met.F.FileOps.keeps_at_once f) })
+    let a : FilesState = state_of (g.F.FileOps.whole f) (g.F.FileOps.largest f) (g.F.FileOps.world f) (g.F.FileOps.faults f) (g.F.FileOps.honest f) (g.F.FileOps.has_room f) in
+    rw c.in-Flush.is (flush_over a (λ w n. g.F.FileOps.touches f w n f) (kept c.args.self.now c.args.exclusive.now.items) c.args.now _ c.flush.result
+    (λ w. g.met.F.FileOps.keeps_touches f f w (g.met.F.FileOps.keeps_at_once f)) (c.flush.ensures.replies c.args.exclusive.now.items (g.F.FileOps.world f)))
 
 pub returns-in-Attach-clause-tried : goal.returns-in-Attach-clause-tried
 returns-in-Attach-clause-tried g c =
     let f = c.args.files.now in
-    let w = g.F.FileOps.world f in
-    let z : State = state c.args.self.now c.args.exclusive.now.items w in
-    let e = served (g.F.FileOps.whole f) (g.F.FileOps.largest f) in
     let f' = c.attach.new.files in
-    let told = attaching.attach e z c.in-Attach.fid c.in-Attach.afid c.in-Attach.uname c.in-Attach.aname in
-    rw c.in-Attach.is (record { told = told; need = 0; tells = refl; needs = refl; attempts = attempts_looking told (g.F.FileOps.faults f) (g.F.FileOps.faults f') (g.F.FileOps.honest f) (g.F.FileOps.room f') z _ c.attach.result (c.attach.ensures.attempts c.args.exclusive.now.items); touched = g.met.F.FileOps.keeps_touches f f' _ c.attach.ensures.keeps })
+    let x = c.args.exclusive.now.items in
+    rw c.in-Attach.is (looks_over _ _ (λ w n. g.F.FileOps.touches f w n f') (kept c.args.self.now x) (kept c.attach.new.self x) c.args.now (request.Attach c.in-Attach.fid c.in-Attach.afid c.in-Attach.uname c.in-Attach.aname)
+    (λ e z. attaching.attach e z c.in-Attach.fid c.in-Attach.afid c.in-Attach.uname c.in-Attach.aname) c.attach.result refl refl refl refl
+    (λ w. g.met.F.FileOps.keeps_touches f f' w c.attach.ensures.keeps) c.attach.ensures.part (c.attach.ensures.looked x))
 
 pub returns-in-Walk-clause-tried : goal.returns-in-Walk-clause-tried
 returns-in-Walk-clause-tried g c =
     let f = c.args.files.now in
-    let w = g.F.FileOps.world f in
-    let z : State = state c.args.self.now c.args.exclusive.now.items w in
-    let e = served (g.F.FileOps.whole f) (g.F.FileOps.largest f) in
     let f' = c.walk.new.files in
-    let told = walking.walk e z c.in-Walk.fid c.in-Walk.newfid c.in-Walk.names in
-    rw c.in-Walk.is (record { told = told; need = 0; tells = refl; needs = refl; attempts = attempts_looking told (g.F.FileOps.faults f) (g.F.FileOps.faults f') (g.F.FileOps.honest f) (g.F.FileOps.room f') z _ c.walk.result (c.walk.ensures.attempts c.args.exclusive.now.items); touched = g.met.F.FileOps.keeps_touches f f' _ c.walk.ensures.keeps })
+    let x = c.args.exclusive.now.items in
+    rw c.in-Walk.is (looks_over _ _ (λ w n. g.F.FileOps.touches f w n f') (kept c.args.self.now x) (kept c.walk.new.self x) c.args.now (request.Walk c.in-Walk.fid c.in-Walk.newfid c.in-Walk.names)
+    (λ e z. walking.walk e z c.in-Walk.fid c.in-Walk.newfid c.in-Walk.names) c.walk.result refl refl refl refl
+    (λ w. g.met.F.FileOps.keeps_touches f f' w c.walk.ensures.keeps) c.walk.ensures.part (c.walk.ensures.looked x))
 
 pub returns-in-Read-clause-tried : goal.returns-in-Read-clause-tried
 returns-in-Read-clause-tried g c =
     let f = c.args.files.now in
-    let w = g.F.FileOps.world f in
-    let z : State = state c.args.self.now c.args.exclusive.now.items w in
-    let e = served (g.F.FileOps.whole f) (g.F.FileOps.largest f) in
     let f' = c.read.new.files in
-    let told = reading.read e z c.in-Read.fid c.in-Read.offset c.in-Read.count in
-    rw c.in-Read.is (record { told = told; need = 0; tells = refl; needs = refl; attempts = attempts_looking told (g.F.FileOps.faults f) (g.F.FileOps.faults f') (g.F.FileOps.honest f) (g.F.FileOps.room f') z _ c.read.result (c.read.ensures.attempts c.args.exclusive.now.items); touched = g.met.F.FileOps.keeps_touches f f' _ c.read.ensures.keeps })
+    let x = c.args.exclusive.now.items in
+    rw c.in-Read.is (looks_over _ _ (λ w n. g.F.FileOps.touches f w n f') (kept c.args.self.now x) (kept c.read.new.self x) c.args.now (request.Read c.in-Read.fid c.in-Read.offset c.in-Read.count)
+    (λ e z. reading.read e z c.in-Read.fid c.in-Read.offset c.in-Read.count) c.read.result refl refl refl refl
+    (λ w. g.met.F.FileOps.keeps_touches f f' w c.read.ensures.keeps) c.read.ensures.part (c.read.ensures.looked x))
 
 pub returns-in-Stat-clause-tried : goal.returns-in-Stat-clause-tried
 returns-in-Stat-clause-tried g c =
     let f = c.args.files.now in
-    let w = g.F.FileOps.world f in
-    let z : State = state c.args.self.now c.args.exclusive.now.items w in
-    let e = served (g.F.FileOps.whole f) (g.F.FileOps.largest f) in
     let f' = c.stat.new.files in
-    let told = stating.stat e z c.in-Stat.fid in
-    rw c.in-Stat.is (record { told = told; need = 0; tells = refl; needs = refl; attempts = attempts_looking told (g.F.FileOps.faults f) (g.F.FileOps.faults f') (g.F.FileOps.honest f) (g.F.FileOps.room f') z _ c.stat.result (c.stat.ensures.attempts c.args.exclusive.now.items); touched = g.met.F.FileOps.keeps_touches f f' _ c.stat.ensures.keeps })
-
-pub returns-in-Open-clause-tried : goal.returns-in-Open-clause-tried
-returns-in-Open-clause-tried g c =
-    let f = c.args.files.now in
-    let w = g.F.FileOps.world f in
-    let z : State = state c.args.self.now c.args.exclusive.now.items w in
-    let e = served (g.F.FileOps.whole f) (g.F.FileOps.largest f) in
-    rw c.in-Open.is (record { told = opening.open_file e z c.args.now c.in-Open.fid c.in-Open.mode; need = need_at (known c.in-Open.fid z.session.fids) (λ at. step.change_need (g.F.FileOps.whole f) w at emptied); tells = refl; needs = refl; attempts = c.open.ensures.attempts; touched = c.open.ensures.touches })
-
-pub returns-in-Create-clause-tried : goal.returns-in-Create-clause-tried
-returns-in-Create-clause-tried g c =
-    let f = c.args.files.now in
-    let w = g.F.FileOps.world f in
-    let z : State = state c.args.self.now c.args.exclusive.now.items w in
-    let e = served (g.F.FileOps.whole f) (g.F.FileOps.largest f) in
-    rw c.in-Create.is (record { told = opening.create_file e z c.args.now c.in-Create.fid c.in-Create.name c.in-Create.perm c.in-Create.mode; need = need_at (known c.in-Create.fid z.session.fids) step.create_need; tells = refl; needs = refl; attempts = c.create.ensures.attempts; touched = c.create.ensures.touches })
+    let x = c.args.exclusive.now.items in
+    rw c.in-Stat.is (looks_over _ _ (λ w n. g.F.FileOps.touches f w n f') (kept c.args.self.now x) (kept c.args.self.now x) c.args.now (request.Stat c.in-Stat.fid)
+    (λ e z. stating.stat e z c.in-Stat.fid) c.stat.result refl refl refl refl
+    (λ w. g.met.F.FileOps.keeps_touches f f' w c.stat.ensures.keeps) c.stat.ensures.part (c.stat.ensures.looked x))
 
 pub returns-in-Write-clause-tried : goal.returns-in-Write-clause-tried
 returns-in-Write-clause-tried g c =
     let f = c.args.files.now in
-    let w = g.F.FileOps.world f in
-    let z : State = state c.args.self.now c.args.exclusive.now.items w in
-    let e = served (g.F.FileOps.whole f) (g.F.FileOps.largest f) in
-    rw c.in-Write.is (record { told = reading.write e z c.args.now c.in-Write.fid c.in-Write.offset c.in-Write.bytes; need = need_at (known c.in-Write.fid z.session.fids) (λ at. step.write_need at c.in-Write.bytes); tells = refl; needs = refl; attempts = c.write.ensures.attempts c.args.exclusive.now.items; touched = c.write.ensures.touches c.args.exclusive.now.items })
-
-pub returns-in-Clunk-clause-tried : goal.returns-in-Clunk-clause-tried
-returns-in-Clunk-clause-tried g c =
-    let f = c.args.files.now in
-    let w = g.F.FileOps.world f in
-    let z : State = state c.args.self.now c.args.exclusive.now.items w in
-    let e = served (g.F.FileOps.whole f) (g.F.FileOps.largest f) in
-    rw c.in-Clunk.is (record { told = removing.clunk e z c.args.now c.in-Clunk.fid; need = need_at (known c.in-Clunk.fid z.session.fids) (λ at. step.give (step.depth_of at)); tells = refl; needs = refl; attempts = c.clunk.ensures.attempts; touched = c.clunk.ensures.touches })
-
-pub returns-in-Remove-clause-tried : goal.returns-in-Remove-clause-tried
-returns-in-Remove-clause-tried g c =
-    let f = c.args.files.now in
-    let w = g.F.FileOps.world f in
-    let z : State = state c.args.self.now c.args.exclusive.now.items w in
-    let e = served (g.F.FileOps.whole f) (g.F.FileOps.largest f) in
-    rw c.in-Remove.is (record { told = removing.remove e z c.args.now c.in-Remove.fid; need = need_at (known c.in-Remove.fid z.session.fids) (λ at. step.give (step.depth_of at)); tells = refl; needs = refl; attempts = c.remove.ensures.attempts; touched = c.remove.ensures.touches })
+    let f' = c.write.new.files in
+    let x = c.args.exclusive.now.items in
+    rw c.in-Write.is (changes_over _ _ (λ w n. g.F.FileOps.touches f w n f') (kept c.args.self.now x) (kept c.args.self.now x) c.args.now (request.Write c.in-Write.fid c.in-Write.offset c.in-Write.bytes)
+    (λ e z. reading.write e z c.args.now c.in-Write.fid c.in-Write.offset c.in-Write.bytes)
+    (λ e z. need_at (known c.in-Write.fid z.session.fids) (λ at. step.write_need at.place c.in-Write.bytes)) c.write.result refl refl
+    (wrote c.in-Write.fid c.in-Write.offset c.in-Write.bytes c.write.result c.write.ensures.part) (c.write.ensures.attempted x))
 
 pub returns-clause-tried : goal.returns-clause-tried
 returns-clause-tried g c =
     let f = c.args.files.now in
-    let w = g.F.FileOps.world f in
-    let z : State = state c.args.self.now c.args.exclusive.now.items w in
-    let e = served (g.F.FileOps.whole f) (g.F.FileOps.largest f) in
+    let f' = c.wstat.new.files in
+    let x = c.args.exclusive.now.items in
     let fits = rw c.in-Wstat.is at c.requires.request in
     let s = record_there c.in-Wstat.stat fits.1 in
-    rw c.in-Wstat.is (record { told = stating.wstat e z c.args.now c.in-Wstat.fid s.0; need = restating_need e z c.in-Wstat.fid s.0; tells = (s.0, s.1, refl); needs = (s.0, s.1, refl); attempts = c.wstat.ensures.attempts c.args.exclusive.now.items s.0 s.1; touched = c.wstat.ensures.touches c.args.exclusive.now.items s.0 s.1 })
+    rw c.in-Wstat.is (changes_over _ _ (λ w n. g.F.FileOps.touches f w n f') (kept c.args.self.now x) (kept c.args.self.now x) c.args.now (request.Wstat c.in-Wstat.fid c.in-Wstat.stat)
+    (λ e z. stating.wstat e z c.args.now c.in-Wstat.fid s.0)
+    (λ e z. need_at (known c.in-Wstat.fid z.session.fids) (λ at. step.change_need e.whole z.world at.place (change_of s.0))) c.wstat.result (s.0, s.1, refl) (s.0, s.1, refl)
+    c.wstat.ensures.part (c.wstat.ensures.attempted x s.0 s.1))
