@@ -37,7 +37,7 @@ none_goes : (clock : Readings) → LetsAllGo system_goes (begun clock) (begun (l
 unfolding Chain
 none_goes clock =
     let m = some_moment clock in
-    record { entries = let_go m.0 false None no_faults no_faults ∷ []; drops = talk.last m.0 no_faults no_faults; chain = (refl, m.1, (empty_system, (refl, refl, refl, tt), refl)) }
+    record { entries = let_go m.0 false None no_faults no_faults ∷ []; drops = talk.last m.0 no_faults no_faults; chain = (refl, m.1, (empty_system, (refl, refl, refl, tt, refl), refl)) }
 
 pub never_began : (clock : Readings) (left held : Option (List ℕ)) → IfSome left (λ bytes. Runs system_goes (record { limit = largest_message; position = begun clock }) bytes left held held why.Memory)
 never_began clock left held =

@@ -19,7 +19,6 @@ pub struct System {
 }
 
 impl Model for System {
-    ghost use Rattle.fo_world.specs.Fits.{WorldFits};
     ghost use Rattle.fo_world.specs.Names.{names_code};
     ghost use Rattle.fo_plain.specs.Kept.{kept};
     ghost use Rattle.nine_fids.specs.Fids.{State};
@@ -30,8 +29,6 @@ impl Model for System {
     ghost coded = { Prim.hlevel (codes, names_code) };
 
     ghost view = { λ s. record { session = s.session; exclusive = s.exclusive.items; world = kept s.files } };
-
-    ghost invariant = { λ s. WorldFits (kept s.files) };
 }
 
 impl System {
