@@ -204,15 +204,30 @@ fn ample(rt: HostRuntime) -> Result<(), Fail> {
     records(&rt, alloc)
 }
 
+/// The table doesn't know `glenda`, and `ken` isn't of the group of the directory.
+fn denies(rt: &impl Abort, alloc: Global, files: &mut PlainFiles) -> Result<(), Fail> {
+    attaches(rt, alloc, files, b"glenda", b"none")?;
+    is_denied(rt, alloc, files, b"ken")
+}
+
 #[test]
 fn rights(rt: HostRuntime) -> Result<(), Fail> {
     let alloc = rt.alloc();
     let mut files = with_table(alloc)?;
-    attaches(&rt, alloc, &mut files, b"glenda", b"none")?;
-    is_denied(&rt, alloc, &mut files, b"ken")?;
-    let mut empty = PlainFiles::new(alloc, 1)?;
-    attaches(&rt, alloc, &mut empty, b"glenda", b"glenda")?;
-    attaches(&rt, alloc, &mut empty, b"ken", b"none")
+    denies(&rt, alloc, &mut files)
+}
+
+/// Files without a table know `glenda`, and not `ken`.
+fn is_standard(rt: &impl Abort, alloc: Global, files: &mut PlainFiles) -> Result<(), Fail> {
+    attaches(rt, alloc, files, b"glenda", b"glenda")?;
+    attaches(rt, alloc, files, b"ken", b"none")
+}
+
+#[test]
+fn no_table(rt: HostRuntime) -> Result<(), Fail> {
+    let alloc = rt.alloc();
+    let mut files = PlainFiles::new(alloc, 1)?;
+    is_standard(&rt, alloc, &mut files)
 }
 
 /// A refusal is shown as its Rerror says it.

@@ -97,12 +97,16 @@ fn walks(rt: &impl Abort, alloc: Global) -> Result<(), Fail> {
 }
 
 /// Only the first record stands within the count.
-fn lists(rt: &impl Abort, alloc: Global) -> Result<(), Fail> {
-    let mut files = two_files(alloc)?;
+fn is_listed(rt: &impl Abort, alloc: Global, files: &mut PlainFiles) -> Result<(), Fail> {
     let root = Place::root(alloc, View::Active);
-    let given = list_records(alloc, &mut files, &root, None, 100)?;
+    let given = list_records(alloc, files, &root, None, 100)?;
     assert_eq!(rt; given.bytes.as_slice(), RECORD);
     Ok(())
+}
+
+fn lists(rt: &impl Abort, alloc: Global) -> Result<(), Fail> {
+    let mut files = two_files(alloc)?;
+    is_listed(rt, alloc, &mut files)
 }
 
 /// The name from which a read goes on that has given `f`.
@@ -158,9 +162,11 @@ fn opens(rt: &impl Abort, alloc: Global) -> Result<(), Fail> {
     Ok(())
 }
 
-/// Changes the mode of `f`, and settles that: its mode then.
-fn changed(alloc: Global, files: &mut PlainFiles) -> Result<u32, Refusal> {
-    let fid = fid(alloc, &[1], None)?;
+/// Changes the mode of a file.
+fn set_mode(alloc: Global, files: &mut PlainFiles, fid: &Fid) -> Result<(), Refusal>
+    requires { IsUser fid.now.user }
+{
+    let info = info_at(files, &fid.place)?;
     let what = Change {
         mode: Some(0o600),
         mtime: None,
@@ -168,27 +174,67 @@ fn changed(alloc: Global, files: &mut PlainFiles) -> Result<u32, Refusal> {
         name: None,
         gid: None,
     };
-    let info = info_at(files, &fid.place)?;
-    restate(alloc, files, 5, &fid, false, &info, &what)?;
-    settle(files)?;
+    restate(alloc, files, 5, fid, false, &info, &what)
+}
+
+/// Changes the mode of `f`, and settles that.
+fn change(alloc: Global, files: &mut PlainFiles) -> Result<(), Refusal> {
+    let fid = fid(alloc, &[1], None)?;
+    set_mode(alloc, files, &fid)?;
+    settle(files)
+}
+
+/// The mode of `f`.
+fn mode(alloc: Global, files: &mut PlainFiles) -> Result<u32, Refusal> {
+    let fid = fid(alloc, &[1], None)?;
     Ok(told(files, &fid)?.mode)
 }
 
-/// Removes both files.
-fn remove_both(alloc: Global, files: &mut PlainFiles) -> Result<(), Refusal> {
-    remove_there(alloc, files, 6, &fid(alloc, &[1], None)?)?;
-    let closed = fid(alloc, &[2], Some(opened(true, 0, None)))?;
-    remove_on_close(alloc, files, 7, &closed)
+fn is_changed(rt: &impl Abort, alloc: Global, files: &mut PlainFiles) -> Result<(), Fail> {
+    change(alloc, files)?;
+    assert_eq!(rt; mode(alloc, files)?, 0o600);
+    Ok(())
+}
+
+fn changes(rt: &impl Abort, alloc: Global) -> Result<(), Fail> {
+    let mut files = two_files(alloc)?;
+    is_changed(rt, alloc, &mut files)
+}
+
+/// Removes `f`.
+fn remove_one(alloc: Global, files: &mut PlainFiles) -> Result<(), Refusal> {
+    let fid = fid(alloc, &[1], None)?;
+    remove_there(alloc, files, 6, &fid)
+}
+
+/// Clunks a fid of `g` that was opened with ORCLOSE.
+fn close_other(alloc: Global, files: &mut PlainFiles) -> Result<(), Refusal> {
+    let fid = fid(alloc, &[2], Some(opened(true, 0, None)))?;
+    remove_on_close(alloc, files, 7, &fid)
+}
+
+fn is_gone(
+    rt: &impl Abort,
+    alloc: Global,
+    files: &mut PlainFiles,
+    number: u32,
+) -> Result<(), Fail> {
+    let fid = fid(alloc, &[number], None)?;
+    let gone = told(files, &fid);
+    assert!(rt; matches!(gone, Err(Refusal::File(FileError::Gone))));
+    Ok(())
+}
+
+fn both_go(rt: &impl Abort, alloc: Global, files: &mut PlainFiles) -> Result<(), Fail> {
+    remove_one(alloc, files)?;
+    close_other(alloc, files)?;
+    is_gone(rt, alloc, files, 1)?;
+    is_gone(rt, alloc, files, 2)
 }
 
 fn removes(rt: &impl Abort, alloc: Global) -> Result<(), Fail> {
     let mut files = two_files(alloc)?;
-    remove_both(alloc, &mut files)?;
-    for number in [1, 2] {
-        let gone = told(&mut files, &fid(alloc, &[number], None)?);
-        assert!(rt; matches!(gone, Err(Refusal::File(FileError::Gone))));
-    }
-    Ok(())
+    both_go(rt, alloc, &mut files)
 }
 
 #[test]
@@ -198,7 +244,6 @@ fn ample(rt: HostRuntime) -> Result<(), Fail> {
     lists(&rt, alloc)?;
     reads(&rt, alloc)?;
     opens(&rt, alloc)?;
-    let mut files = two_files(alloc)?;
-    assert_eq!(rt; changed(alloc, &mut files)?, 0o600);
+    changes(&rt, alloc)?;
     removes(&rt, alloc)
 }

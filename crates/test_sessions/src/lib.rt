@@ -1,14 +1,10 @@
-//! Tests of the crates nine_*: each call that may want memory with ample memory, values that the Plan 9 manual gives, and records and
-//! messages that were written out by hand from it.
+//! Tests of the crates nine_fids, nine_files and nine_session: each call that may want memory with ample memory, rows of
+//! conversations, and files that tell whether all is settled.
 #![tactic(auto)]
 
 #[cfg(test)]
 mod fids;
 #[cfg(test)]
-mod fields;
-#[cfg(test)]
 mod files;
 #[cfg(test)]
-mod stat;
-#[cfg(test)]
-mod wire;
+mod session;

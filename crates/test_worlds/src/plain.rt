@@ -440,35 +440,69 @@ fn tree(alloc: Global) -> Result<Tree, FileError>
     Ok(active)
 }
 
+// The snapshot of an epoch.
+fn snap(alloc: Global, epoch: u32, time: u32) -> Result<Snap, FileError>
+    requires { epoch < 2 ^ 31 }
+    ensures { IfOk result SnapFits }
+{
+    let tree = tree(alloc)?;
+    Ok(Snap::new(epoch, time, tree))
+}
+
+// Snapshots, with this one behind them.
+fn push_snap(snaps: Vec<Snap>, snap: Snap) -> Result<Vec<Snap>, FileError>
+    requires snaps { All SnapFits snaps.items }
+    requires snap { SnapFits snap }
+    ensures { IfOk result (λ v. All SnapFits v.items) }
+{
+    let mut snaps = snaps;
+    snaps.push(snap)?;
+    Ok(snaps)
+}
+
 // Snapshots, with one more behind them.
 fn and_snap(alloc: Global, snaps: Vec<Snap>, epoch: u32, time: u32) -> Result<Vec<Snap>, FileError>
     requires epoch { epoch < 2 ^ 31 }
     requires snaps { All SnapFits snaps.items }
     ensures { IfOk result (λ v. All SnapFits v.items) }
 {
-    let mut snaps = snaps;
-    let snap = Snap::new(epoch, time, tree(alloc)?);
-    snaps.push(snap)?;
-    Ok(snaps)
+    let snap = snap(alloc, epoch, time)?;
+    push_snap(snaps, snap)
+}
+
+// No snapshot, or the one of epoch 1.
+fn first_snaps(alloc: Global, first: bool) -> Result<Vec<Snap>, FileError>
+    ensures { IfOk result (λ v. All SnapFits v.items) }
+{
+    let none = Vec::new(alloc);
+    if first {
+        return and_snap(alloc, none, 1, 0);
+    }
+    Ok(none)
 }
 
 // Snapshots of epochs 1 and 2 in one minute of 1970-01-01, where the first is kept or not, and of epoch 3 on 2000-02-29 at 23:59.
 fn snaps(alloc: Global, first: bool) -> Result<Vec<Snap>, FileError>
     ensures { IfOk result (λ v. All SnapFits v.items) }
 {
-    let mut snaps = Vec::new(alloc);
-    if first {
-        snaps = and_snap(alloc, snaps, 1, 0)?;
-    }
-    let two = and_snap(alloc, snaps, 2, 59)?;
+    let one = first_snaps(alloc, first)?;
+    let two = and_snap(alloc, one, 2, 59)?;
     and_snap(alloc, two, 3, 951868740)
 }
 
 // The archive of epoch 3.
+fn archive(alloc: Global) -> Result<Archive, FileError>
+    ensures { IfOk result ArchiveFits }
+{
+    let tree = tree(alloc)?;
+    Ok(Archive::new(3, 951868740, [0; 20], tree))
+}
+
+// The archive of epoch 3 alone.
 fn archives(alloc: Global) -> Result<Vec<Archive>, FileError>
     ensures { IfOk result (λ v. All ArchiveFits v.items) }
 {
-    let archive = Archive::new(3, 951868740, [0; 20], tree(alloc)?);
+    let archive = archive(alloc)?;
     let mut archives = Vec::new(alloc);
     archives.push(archive)?;
     Ok(archives)

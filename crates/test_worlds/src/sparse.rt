@@ -104,53 +104,83 @@ const CHANGES: [(u32, usize, u32); 12] = [
     (50, 0, 51),
 ];
 
-// The same write of one byte, many times, in both.
+// The same bytes are written in both.
 fn write_both(
     rt: &impl Abort,
     alloc: Global,
     plain: &mut Plain,
-    list: &[u8],
+    list: &mut Vec<u8>,
     offset: u32,
-    count: usize,
+    bytes: &[u8],
+) -> Result<(), Fail> {
+    assert!(rt; bytes.len() <= 9000);
+    plain.write(u64::from(offset), bytes)?;
+    *list = write_whole(alloc, list.as_slice(), offset as usize, bytes)?;
+    Ok(())
+}
+
+// One byte, many times, is written in both.
+fn fill_both(
+    rt: &impl Abort,
+    alloc: Global,
+    plain: &mut Plain,
+    list: &mut Vec<u8>,
+    change: (u32, usize),
     fill: u8,
-) -> Result<Vec<u8>, Fail> {
-    assert!(rt; count <= 9000);
+) -> Result<(), Fail> {
+    let (offset, count) = change;
     let bytes = vec![in alloc; fill; count]?;
-    plain.write(u64::from(offset), &bytes)?;
-    Ok(write_whole(alloc, list, offset as usize, &bytes)?)
+    write_both(rt, alloc, plain, list, offset, &bytes)
+}
+
+// What was read is all of the list, as long as both.
+fn is_list(rt: &impl Abort, plain: &Plain, list: &[u8], all: &mut [u8]) {
+    assert_eq!(rt; plain.read(0, all), list.len());
+    assert_eq!(rt; plain.len(), list.len() as u64);
+    assert_eq!(rt; &*all, list);
 }
 
 // Both have these bytes.
 fn is_same(rt: &impl Abort, alloc: Global, plain: &Plain, list: &[u8]) -> Result<(), Fail> {
     let mut all = vec![in alloc; 0; list.len()]?;
-    assert_eq!(rt; plain.read(0, &mut all), list.len());
-    assert_eq!(rt; plain.len(), list.len() as u64);
-    assert_eq!(rt; all.as_slice(), list);
+    is_list(rt, plain, list, &mut all);
     Ok(())
 }
 
 // The same length for both.
-fn cut_both(
+fn cut_both(alloc: Global, plain: &mut Plain, list: &mut Vec<u8>, len: u32) -> Result<(), Fail> {
+    plain.set_len(u64::from(len));
+    *list = resize_whole(alloc, list.as_slice(), len as usize)?;
+    Ok(())
+}
+
+// The same write and the same length for both.
+fn change_both(
     rt: &impl Abort,
     alloc: Global,
     plain: &mut Plain,
-    list: Vec<u8>,
-    len: u32,
-) -> Result<Vec<u8>, Fail> {
+    list: &mut Vec<u8>,
+    change: (u32, usize, u32),
+    fill: u8,
+) -> Result<(), Fail> {
+    let (offset, count, len) = change;
+    fill_both(rt, alloc, plain, list, (offset, count), fill)?;
     is_same(rt, alloc, plain, list.as_slice())?;
-    plain.set_len(u64::from(len));
-    Ok(resize_whole(alloc, list.as_slice(), len as usize)?)
+    cut_both(alloc, plain, list, len)?;
+    is_same(rt, alloc, plain, list.as_slice())
 }
 
-// The lists after all changes.
-fn change_both(rt: &impl Abort, alloc: Global, plain: &mut Plain) -> Result<(), Fail> {
-    let mut list = Vec::new(alloc);
+// All changes, each with another byte.
+fn change_all(
+    rt: &impl Abort,
+    alloc: Global,
+    plain: &mut Plain,
+    list: &mut Vec<u8>,
+) -> Result<(), Fail> {
     let mut fill = 0u8;
-    for (offset, count, len) in CHANGES {
+    for change in CHANGES {
         fill = fill.wrapping_add(1);
-        let longer = write_both(rt, alloc, plain, list.as_slice(), offset, count, fill)?;
-        list = cut_both(rt, alloc, plain, longer, len)?;
-        is_same(rt, alloc, plain, list.as_slice())?;
+        change_both(rt, alloc, plain, list, change, fill)?;
     }
     Ok(())
 }
@@ -159,5 +189,6 @@ fn change_both(rt: &impl Abort, alloc: Global, plain: &mut Plain) -> Result<(), 
 fn agrees_with_the_plain_program(rt: HostRuntime) -> Result<(), Fail> {
     let alloc = rt.alloc();
     let mut plain = Plain::new(alloc);
-    change_both(&rt, alloc, &mut plain)
+    let mut list = Vec::new(alloc);
+    change_all(&rt, alloc, &mut plain, &mut list)
 }

@@ -123,14 +123,21 @@ fn lines(rt: HostRuntime) -> Result<(), Fail> {
     Ok(())
 }
 
+/// Reads a table with a line that was made.
+fn reads_made(
+    rt: &(impl Abort + Alloc<A = Global>),
+    line: String,
+    good: bool,
+) -> Result<(), AllocError> {
+    reads_line(rt, line.as_str(), good)
+}
+
 #[test]
 fn long_names(rt: HostRuntime) -> Result<(), Fail> {
-    let long = format!(in rt.alloc(); "{BYTES_64}:{BYTES_64}::\n")?;
-    reads_line(&rt, long.as_str(), true)?;
-    let longer_id = format!(in rt.alloc(); "{BYTES_64}x:b::\n")?;
-    reads_line(&rt, longer_id.as_str(), false)?;
-    let longer_name = format!(in rt.alloc(); "a:{BYTES_64}x::\n")?;
-    reads_line(&rt, longer_name.as_str(), false)?;
+    let alloc = rt.alloc();
+    reads_made(&rt, format!(in alloc; "{BYTES_64}:{BYTES_64}::\n")?, true)?;
+    reads_made(&rt, format!(in alloc; "{BYTES_64}x:b::\n")?, false)?;
+    reads_made(&rt, format!(in alloc; "a:{BYTES_64}x::\n")?, false)?;
     Ok(())
 }
 

@@ -1,52 +1,64 @@
 //! The record of a file `f` of mode 0644 and five bytes, by bytes written out by hand from the manual.
 use nine_stat::{CutError, Stat, StatError, cut_dir, read_stat, write_stat};
-use nine_wire::{Qid, Str};
-use std::alloc::{AllocError, Global};
+use nine_wire::Qid;
+use std::alloc::Global;
+use std::process::Abort;
 use std::test::Fail;
 
 /// The record: 65 bytes.
 const FILE: &[u8] =
     b"?\x00\x00\x00\x00\x00\x00\x00\x00\x01\x00\x00\x00\x01\x00\x00\x00\x00\x00\x00\x00\xa4\x01\x00\x00\x00\x00\x00\x00\x00\x00\x00\x00\x05\x00\x00\x00\x00\x00\x00\x00\x01\x00f\x06\x00glenda\x03\x00adm\x06\x00glenda";
 
-fn file(alloc: Global) -> Result<Stat, AllocError> {
-    Ok(Stat {
+/// What was read of it.
+fn is_file(rt: &impl Abort, read: &Stat) {
+    let qid = Qid {
         kind: 0,
-        dev: 0,
-        qid: Qid {
-            kind: 0,
-            vers: 1,
-            path: 1,
-        },
-        mode: 0o644,
-        atime: 0,
-        mtime: 0,
-        length: 5,
-        name: Str::copy_of(alloc, b"f")?,
-        uid: Str::copy_of(alloc, b"glenda")?,
-        gid: Str::copy_of(alloc, b"adm")?,
-        muid: Str::copy_of(alloc, b"glenda")?,
-    })
+        vers: 1,
+        path: 1,
+    };
+    assert_eq!(rt; read.qid, qid);
+    assert_eq!(rt; (read.kind, read.dev, read.mode), (0, 0, 0o644));
+    assert_eq!(rt; (read.atime, read.mtime, read.length), (0, 0, 5));
+    assert_eq!(rt; read.name.as_slice(), b"f".as_slice());
+    assert_eq!(rt; read.uid.as_slice(), b"glenda".as_slice());
+    assert_eq!(rt; read.gid.as_slice(), b"adm".as_slice());
+    assert_eq!(rt; read.muid.as_slice(), b"glenda".as_slice());
+}
+
+/// The record is read and written.
+fn written(alloc: Global) -> Result<Vec<u8>, Fail> {
+    let read = read_stat(alloc, FILE)?;
+    let mut out = Vec::new(alloc);
+    write_stat(&read, &mut out)?;
+    Ok(out)
+}
+
+/// The record is read, and cut to this many bytes: so many whole records.
+fn cut(
+    rt: &impl Abort,
+    alloc: Global,
+    count: u32,
+    wanted: Result<usize, CutError>,
+) -> Result<Vec<u8>, Fail> {
+    let read = read_stat(alloc, FILE)?;
+    let list = [read];
+    let mut cut = Vec::new(alloc);
+    assert_eq!(rt; cut_dir(&list, count, &mut cut), wanted);
+    Ok(cut)
+}
+
+/// The bytes are those of the record.
+fn is_record(rt: &impl Abort, bytes: Vec<u8>) {
+    assert_eq!(rt; bytes.as_slice(), FILE);
 }
 
 #[test]
 fn ample(rt: HostRuntime) -> Result<(), Fail> {
     let alloc = rt.alloc();
-    let read = read_stat(alloc, FILE)?;
-    let (wanted, got) = (
-        format!(in alloc; "{:?}", file(alloc)?)?,
-        format!(in alloc; "{:?}", read)?,
-    );
-    assert_eq!(rt; got.as_str(), wanted.as_str());
-    let mut out = Vec::new(alloc);
-    write_stat(&read, &mut out)?;
-    assert_eq!(rt; out.as_slice(), FILE);
-    let list = [read];
-    let mut cut = Vec::new(alloc);
-    assert_eq!(rt; cut_dir(&list, 64, &mut cut), Err(CutError::TooSmall));
-    assert_eq!(rt; cut_dir(&list, 65, &mut cut), Ok(1));
-    assert_eq!(rt; cut.as_slice(), FILE);
-    assert_eq!(rt; cut_dir(&[], 0, &mut cut), Ok(0));
-    assert_eq!(rt; cut.len(), 65);
+    is_file(&rt, &read_stat(alloc, FILE)?);
+    is_record(&rt, written(alloc)?);
+    is_record(&rt, cut(&rt, alloc, 65, Ok(1))?);
+    assert_eq!(rt; cut(&rt, alloc, 64, Err(CutError::TooSmall))?.len(), 0);
     Ok(())
 }
 

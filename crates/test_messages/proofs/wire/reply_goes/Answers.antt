@@ -5,7 +5,7 @@ use Rattle.nine_wire.specs.declared.message.ReplyStep.TheVariants as steps
 use Rattle.nine_wire.specs.Message.{reply_message, ReplyFits}
 use Rattle.nine_wire.specs.Stands.{IsFront, reply_front}
 use Rattle.nine_wire.proofs.Sizes.{reply_fits}
-use Rattle.test_sessions.proofs.wire.reply_goes.Goals as goal
+use Rattle.test_messages.proofs.wire.reply_goes.Goals as goal
 
 -- what was read has a spelling
 read_fits : (limit : ℕ) (bytes : List ℕ) (step : ReplyStep) (tag : ℕ) (x : Reply) (used : ℕ) → step ≡ steps.Msg tag x used → IsFront reply_message limit bytes (reply_front step) → ReplyFits x

@@ -5,7 +5,7 @@ use Rattle.nine_wire.specs.declared.message.Step.TheVariants as steps
 use Rattle.nine_wire.specs.Message.{request_message, RequestFits}
 use Rattle.nine_wire.specs.Stands.{IsFront, step_front}
 use Rattle.nine_wire.proofs.Sizes.{request_fits}
-use Rattle.test_sessions.proofs.wire.request_goes.Goals as goal
+use Rattle.test_messages.proofs.wire.request_goes.Goals as goal
 
 -- what was read has a spelling
 read_fits : (limit : ℕ) (bytes : List ℕ) (step : Step) (tag : ℕ) (x : Request) (used : ℕ) → step ≡ steps.Msg tag x used → IsFront request_message limit bytes (step_front step) → RequestFits x
