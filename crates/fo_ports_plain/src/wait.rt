@@ -1,0 +1,61 @@
+//! Waits of a block for pairs of entries.
+ghost use Rattle.std.specs.Prelude.{◌≡◌, ◌*◌, ◌<◌, ℕ, false, true, cond, slice_index_or, slice_set};
+ghost use Rattle.fo_image.specs.declared.types.Pointer.TheVariants.{Nil};
+ghost use Rattle.fo_crash.specs.declared.slot.Slot.TheVariants.{Pointer as To};
+ghost use Rattle.fo_ports_plain.specs.Plain.{is_active};
+ghost use Rattle.fo_ports_plain.specs.Moves.{EndsWaits};
+
+use fo_crash::Slot;
+
+/// What is put into block `at` waits for these pairs of entries of block `on`.
+#[derive(Clone, Copy)]
+pub struct Wait {
+    pub(crate) at: u32,
+    pub(crate) on: u32,
+    pub(crate) pairs: [bool; 205],
+}
+
+impl Wait {
+    /// The wait without one of its pairs.
+    pub(crate) fn without(self, pair: u32) -> Wait
+        requires { pair < 205 }
+        ensures { result ≡ record self { pairs = slice_set self.pairs pair false } }
+    {
+        let mut wait = self;
+        wait.pairs[pair as usize] = false;
+        wait
+    }
+}
+
+/// Whether the slot is an entry in use.
+fn is_active(slot: &Slot) -> bool
+    ensures { result ≡ is_active slot.now }
+{
+    match slot {
+        Slot::Entry(entry) => entry.active,
+        Slot::Pointer(_) | Slot::Prev(_, _) => false,
+    }
+}
+
+/// The pairs of entries whose first is in use.
+pub(crate) fn used_pairs(slots: &[Slot; 409]) -> [bool; 205]
+    ensures { (k : ℕ) → slice_index_or result k false ≡ is_active (slice_index_or slots.now (2 * k) (To Nil)) }
+{
+    let mut pairs = [false; 205];
+    for k in 0..205usize {
+        pairs[k] = is_active(&slots[2 * k]);
+    }
+    pairs
+}
+
+/// Ends the waits for one pair of entries of a block.
+pub(crate) fn end_pair(waits: &mut [Wait], on: u32, pair: u32)
+    requires { pair < 205 }
+    ensures { EndsWaits on (2 * pair) waits.old waits.new }
+{
+    for n in 0..waits.len() {
+        if waits[n].on == on {
+            waits[n] = waits[n].without(pair);
+        }
+    }
+}
