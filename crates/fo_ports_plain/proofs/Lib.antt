@@ -1,2 +1,9 @@
 pub mod Lists
 pub mod Spelling
+pub mod Fits
+pub mod Linked
+pub mod Joints
+pub mod Taken
+pub mod Still
+pub mod Made
+pub mod Comes

@@ -222,7 +222,7 @@ waits_in_use p waiting a on j w =
     let is = in_use (slot_of (block_at p.blocks on) (2 * (j / 2))) here in
     ⊎_elim
     (λ e. inl (subst (λ k. (g : ℕ) × IsInUse (slot_of (block_at p.blocks on) k) g) (sym e) is))
-    (λ e. inr (j / 2, (e, is)))
+    (λ e. inr (j / 2, e, is))
     (in_pair j)
 
 pub clears_entries : (p : Plain) (at j : ℕ) → (state_of p).clearing at j → (A : Type 0) → A

@@ -90,6 +90,7 @@ pub record IsStead (made : ℕ) (block other : PlainBlock) : Type 0 where
 -- Sources: each block that was made has one; block 1 alone has that of number 1. A source of which a block is the first hangs nowhere
 -- yet, and is that of no other such block.
 pub record Sources (blocks : List PlainBlock) (made : ℕ) : Type 0 where
+  pub apart : (b : ℕ) → (block_at blocks b).apart ≡ true → (1 < b) × (b < made)
   pub numbered : (b : ℕ) → 1 < b → b < made → (1 < (block_at blocks b).source) × ((block_at blocks b).source < made)
   pub free : (b : ℕ) → IsFirst (block_at blocks b) → (home_of blocks (block_at blocks b).source).hangs ≡ false
   pub one : (b c : ℕ) → IsFirst (block_at blocks b) → IsFirst (block_at blocks c) → (block_at blocks b).source ≡ (block_at blocks c).source → b ≡ c

@@ -9,17 +9,17 @@ use crate::home::Home;
 use fo_crash::Slot;
 
 /// Puts one block in place of another.
-pub(crate) fn set_block(blocks: &mut [PlainBlock], at: u32, block: PlainBlock)
-    requires { at < length blocks.old }
-    ensures { Updates at block blocks.old blocks.new }
+pub(crate) fn set_block(blocks: &mut Vec<PlainBlock>, at: u32, block: PlainBlock)
+    requires { at < length blocks.old.items }
+    ensures { Updates at block blocks.old.items blocks.new.items }
 {
     blocks[at as usize] = block;
 }
 
 /// The source of this number hangs here from now on.
-pub(crate) fn hang(blocks: &mut [PlainBlock], source: u32, home: Home)
-    requires { source < length blocks.old }
-    ensures { Updates source (record (block_at blocks.old source) { home = home }) blocks.old blocks.new }
+pub(crate) fn hang(blocks: &mut Vec<PlainBlock>, source: u32, home: Home)
+    requires { source < length blocks.old.items }
+    ensures { Updates source (record (block_at blocks.old.items source) { home = home }) blocks.old.items blocks.new.items }
 {
     let block = blocks[source as usize].with_home(home);
     set_block(blocks, source, block);
@@ -34,18 +34,39 @@ pub(crate) struct Joint {
     pub(crate) origin: u32,
 }
 
+impl Joint {
+    /// The block that is put into is of the source of the one below, and comes in the place of this block.
+    pub(crate) fn raised(self, origin: u32) -> Joint
+        ensures { result ≡ record self { source = self.under; origin = origin } }
+    {
+        let mut joint = self;
+        joint.source = self.under;
+        joint.origin = origin;
+        joint
+    }
+
+    /// The block below is of the source of the one that is put into.
+    pub(crate) fn inside(self) -> Joint
+        ensures { result ≡ record self { under = self.source } }
+    {
+        let mut joint = self;
+        joint.under = self.source;
+        joint
+    }
+}
+
 /// Puts a slot that leads to a block.
 pub(crate) fn put_link(
-    blocks: &mut [PlainBlock],
+    blocks: &mut Vec<PlainBlock>,
     at: u32,
     i: u32,
     slot: Slot,
     below: u32,
     joint: Joint,
 )
-    requires blocks { (at < length blocks.old) × (below < length blocks.old) × (at ≢ below) }
+    requires blocks { (at < length blocks.old.items) × (below < length blocks.old.items) × (at ≢ below) }
     requires slot { i < 409 }
-    ensures { PutsLink at i below slot joint.index joint.under joint.source joint.origin blocks.old blocks.new }
+    ensures { PutsLink at i below slot joint.index joint.under joint.source joint.origin blocks.old.items blocks.new.items }
 {
     let child = blocks[below as usize].joined(joint.index, joint.under);
     set_block(blocks, below, child);

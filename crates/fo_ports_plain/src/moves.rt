@@ -9,17 +9,17 @@ use fo_image::Pointer;
 use fo_ports::BlockError;
 
 impl PlainBlocks {
-    ghost use Rattle.std.specs.Prelude.{◌≡◌, ◌≢◌, ◌+◌, ◌*◌, ◌<◌, ℕ, List, ◌++◌, ◌∷◌, [], length, slice_set, ◌≤◌, OnOk, IfErr};
+    ghost use Rattle.std.specs.Prelude.{◌≡◌, ◌≢◌, ◌⊎◌, ◌+◌, ◌*◌, ◌^◌, ◌<◌, ℕ, cond, List, ◌++◌, ◌∷◌, [], length, slice_set, ◌≤◌, OnOk, IfErr};
     ghost use Rattle.fo_image.specs.declared.types.Pointer.TheVariants.{Local};
     ghost use Rattle.fo_ports.specs.declared.error.BlockError.TheVariants.{Memory};
     ghost use Rattle.fo_crash.specs.Images.{target};
     ghost use Rattle.fo_crash.specs.Steps.{cleared};
-    ghost use Rattle.fo_ports.specs.Blocks.{put_at, cost, slot_count, SlotFits, IsFormed};
+    ghost use Rattle.fo_ports.specs.Blocks.{put_at, cost, slot_count, SlotFits, IsFormed, IsInner};
     ghost use Rattle.fo_ports_plain.specs.declared.block.PlainBlock.{PlainBlock};
     ghost use Rattle.fo_ports_plain.specs.declared.wait.Wait.{Wait};
-    ghost use Rattle.fo_ports_plain.specs.Plain.{block_at, slot_of, is_active, pair_of, IsMade, Updates};
+    ghost use Rattle.fo_ports_plain.specs.Plain.{block_at, slot_of, index_below, is_active, pair_of, IsMade, Updates};
     ghost use Rattle.fo_ports_plain.specs.Sound.{Well};
-    ghost use Rattle.fo_ports_plain.specs.Moves.{Linking, MayLink, KeepsUse, EndsWaits, Takes};
+    ghost use Rattle.fo_ports_plain.specs.Moves.{IsFree, Linking, MayLink, KeepsUse, EndsWaits, Takes};
     ghost use Rattle.fo_ports_plain.specs.Parts.{parts};
 
     /// Puts a block in place of another.
@@ -71,29 +71,87 @@ impl PlainBlocks {
         ensures links { Linking at i below slot self.old.blocks.items self.new.blocks.items }
         ensures rest { parts self.new ≡ record (parts self.old) { blocks = self.new.blocks.items } }
     {
-        let above = self.blocks[at as usize];
-        let child = self.blocks[below as usize];
-        let mut joint = Joint {
+        let above = &self.blocks[at as usize];
+        if !is_inner(above.place.kind) {
+            self.link_entry(at, i, slot, below);
+        } else if i == 0 && above.is_free() {
+            self.raise(at, i, slot, below);
+        } else {
+            self.link_inner(at, i, slot, below);
+        }
+    }
+
+    /// Leads an entry to the top of its source, which hangs from it from now on.
+    fn link_entry(&mut self, at: u32, i: u32, slot: Slot, below: u32)
+        requires slot { i < 409 }
+        requires may { MayLink self.old.blocks.items self.old.made at i below slot }
+        requires used { KeepsUse self.old.waits.items at i slot }
+        requires outer { IsInner (block_at self.old.blocks.items at).place.kind → ⊥ }
+        ensures links { Linking at i below slot self.old.blocks.items self.new.blocks.items }
+        ensures rest { parts self.new ≡ record (parts self.old) { blocks = self.new.blocks.items } }
+    {
+        let joint = self.joint(at, i, below);
+        let home = Home {
+            hangs: true,
+            source: joint.source,
+            index: index_in(&self.blocks[at as usize].place),
+            slot: i,
+        };
+        hang(&mut self.blocks, joint.under, home);
+        put_link(&mut self.blocks, at, i, slot, below, joint);
+    }
+
+    /// Raises a new top over a block, of whose source it is from now on.
+    fn raise(&mut self, at: u32, i: u32, slot: Slot, below: u32)
+        requires slot { i < 409 }
+        requires may { MayLink self.old.blocks.items self.old.made at i below slot }
+        requires used { KeepsUse self.old.waits.items at i slot }
+        requires top { IsInner (block_at self.old.blocks.items at).place.kind × (i ≡ 0) × IsFree (block_at self.old.blocks.items at) }
+        ensures links { Linking at i below slot self.old.blocks.items self.new.blocks.items }
+        ensures rest { parts self.new ≡ record (parts self.old) { blocks = self.new.blocks.items } }
+    {
+        let origin = self.origin_over(below);
+        let joint = self.joint(at, i, below).raised(origin);
+        put_link(&mut self.blocks, at, i, slot, below, joint);
+    }
+
+    /// Leads a slot of a block of pointers to a block of its source, or to one that comes to be of it.
+    fn link_inner(&mut self, at: u32, i: u32, slot: Slot, below: u32)
+        requires slot { i < 409 }
+        requires may { MayLink self.old.blocks.items self.old.made at i below slot }
+        requires used { KeepsUse self.old.waits.items at i slot }
+        requires inner { IsInner (block_at self.old.blocks.items at).place.kind }
+        requires not_raised { i ≡ 0 → IsFree (block_at self.old.blocks.items at) → ⊥ }
+        ensures links { Linking at i below slot self.old.blocks.items self.new.blocks.items }
+        ensures rest { parts self.new ≡ record (parts self.old) { blocks = self.new.blocks.items } }
+    {
+        let joint = self.joint(at, i, below).inside();
+        put_link(&mut self.blocks, at, i, slot, below, joint);
+    }
+
+    /// The index of the place below slot `i`, and the sources and the origin as they are.
+    fn joint(&self, at: u32, i: u32, below: u32) -> Joint
+        requires blocks { (at < length self.now.blocks.items) × (below < length self.now.blocks.items) }
+        ensures index { (result.index ≡ index_below (block_at self.now.blocks.items at).place i) ⊎ ((2 ^ 64 ≤ index_below (block_at self.now.blocks.items at).place i) × (result.index ≡ (block_at self.now.blocks.items below).place.index)) }
+        ensures sources { (result.under ≡ (block_at self.now.blocks.items below).source) × (result.source ≡ (block_at self.now.blocks.items at).source) × (result.origin ≡ (block_at self.now.blocks.items at).origin) }
+    {
+        let above = &self.blocks[at as usize];
+        let child = &self.blocks[below as usize];
+        Joint {
             index: index_below(&above.place, i, child.place.index),
             under: child.source,
             source: above.source,
             origin: above.origin,
-        };
-        if !is_inner(above.place.kind) {
-            let home = Home {
-                hangs: true,
-                source: above.source,
-                index: index_in(&above.place),
-                slot: i,
-            };
-            hang(&mut self.blocks, child.source, home);
-        } else if i == 0 && above.is_free() {
-            joint.source = child.source;
-            joint.origin = if child.apart { child.origin } else { below };
-        } else {
-            joint.under = above.source;
         }
-        put_link(&mut self.blocks, at, i, slot, below, joint);
+    }
+
+    /// In whose place a new top over a block comes: in that of the block, or in whose place that one was to come.
+    fn origin_over(&self, below: u32) -> u32
+        requires { below < length self.now.blocks.items }
+        ensures { result ≡ cond (block_at self.now.blocks.items below).apart (block_at self.now.blocks.items below).origin below }
+    {
+        let child = &self.blocks[below as usize];
+        if child.apart { child.origin } else { below }
     }
 
     /// Marks the block to which a slot leads as one that is taken out, if the slot that comes in its place leads elsewhere.

@@ -1,5 +1,6 @@
 //! Waits of a block for pairs of entries.
 ghost use Rattle.std.specs.Prelude.{◌≡◌, ◌*◌, ◌<◌, ℕ, false, true, cond, slice_index_or, slice_set};
+ghost use Rattle.std.specs.Vec.{vec_len, vec_capacity};
 ghost use Rattle.fo_image.specs.declared.types.Pointer.TheVariants.{Nil};
 ghost use Rattle.fo_crash.specs.declared.slot.Slot.TheVariants.{Pointer as To};
 ghost use Rattle.fo_ports_plain.specs.Plain.{is_active};
@@ -49,9 +50,10 @@ pub(crate) fn used_pairs(slots: &[Slot; 409]) -> [bool; 205]
 }
 
 /// Ends the waits for one pair of entries of a block.
-pub(crate) fn end_pair(waits: &mut [Wait], on: u32, pair: u32)
+pub(crate) fn end_pair(waits: &mut Vec<Wait>, on: u32, pair: u32)
     requires { pair < 205 }
-    ensures { EndsWaits on (2 * pair) waits.old waits.new }
+    ensures ends { EndsWaits on (2 * pair) waits.old.items waits.new.items }
+    ensures room { (vec_len waits.new ≡ vec_len waits.old) × (vec_capacity waits.new ≡ vec_capacity waits.old) }
 {
     for n in 0..waits.len() {
         if waits[n].on == on {
