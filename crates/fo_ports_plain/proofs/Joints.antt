@@ -12,8 +12,8 @@ use Rattle.fo_ports_plain.specs.declared.home.Home.{Home}
 use Rattle.fo_ports_plain.specs.declared.block.PlainBlock.{PlainBlock}
 use Rattle.fo_ports_plain.specs.Plain.{block_at, slot_of, index_in, index_below, Updates}
 use Rattle.fo_ports_plain.specs.Sound.{HangsAt, home_of}
-use Rattle.fo_ports_plain.specs.Moves.{IsFree, PutsLink, JoinsInner, JoinsOuter, Raises, Linking}
-use Rattle.fo_ports_plain.proofs.Fits.{index_any, fits_at}
+use Rattle.fo_ports_plain.specs.Moves.{IsFree, PutsLink, JoinsInner, JoinsOuter, Raises, Linking, MayLink}
+use Rattle.fo_ports_plain.proofs.Fits.{index_any, fits_at, fits_rank}
 
 -- Blocks are the same but for where sources hang.
 pub record SameButHome (old mid : List PlainBlock) : Type 0 where
@@ -109,3 +109,59 @@ module _ {old mid new : List PlainBlock} {at i below index under source origin :
     );
     way = way;
   }
+
+-- a block below has a lower rank, so it is another
+pub other_block : {blocks : List PlainBlock} {made at i below : ℕ} {s : Slot} → MayLink blocks made at i below s → at ≢ below
+other_block {blocks} {made} {at} {i} {below} {s} may e =
+    let rank : (block_at blocks below).place.rank ≡ (place_below (block_at blocks at).place i s).rank = fits_rank (block_at blocks below).place (place_below (block_at blocks at).place i s) (IsFree (block_at blocks below)) may.fits in
+    let same : (block_at blocks at).place.rank ≡ (block_at blocks below).place.rank = ap (λ x. (block_at blocks x).place.rank) e in
+    let lower = may.lower in
+    omega (arith, rank, same, lower)
+
+-- the index, the sources and the origin that a slot is put with
+pub record IsJoint (blocks : List PlainBlock) (at i below index under source origin : ℕ) : Type 0 where
+  pub index_is : (index ≡ index_below (block_at blocks at).place i) ⊎ ((2 ^ 64 ≤ index_below (block_at blocks at).place i) × (index ≡ (block_at blocks below).place.index))
+  pub under_is : under ≡ (block_at blocks below).source
+  pub source_is : source ≡ (block_at blocks at).source
+  pub origin_is : origin ≡ (block_at blocks at).origin
+
+pub entry_linking : {old mid new : List PlainBlock} {made at i below index under source origin : ℕ} {s : Slot} {h : Home} → MayLink old made at i below s → (IsInner (block_at old at).place.kind → ⊥) → IsJoint old at i below index under source origin → HangsAt h source (index_in (block_at old at).place) i → Updates under (record (block_at old under) { home = h }) old mid → PutsLink at i below s index under source origin mid new → Linking at i below s old new
+entry_linking {old} {mid} {new} {made} {at} {i} {below} {index} {under} {source} {origin} {s} {h} may outer joint hangs up puts =
+    let ne = other_block may in
+    let m = one_home up in
+    let here : home_of new (block_at old below).source ≡ h = homes m puts ne (block_at old below).source ∙ ap (λ x. home_of mid x) (sym joint.under_is) ∙ ap (λ (z : PlainBlock). z.home) up.here in
+    linking m puts ne may.fits joint.index_is (inr (inl (record {
+      outer = outer;
+      under = under_is m puts ne ∙ joint.under_is;
+      source = source_is m puts ne ∙ joint.source_is;
+      origin = origin_is m puts ne ∙ joint.origin_is;
+      hangs = subst (λ x. HangsAt x (block_at old at).source (index_in (block_at old at).place) i) (sym here) (subst (λ x. HangsAt h x (index_in (block_at old at).place) i) joint.source_is hangs);
+      homes = λ x other. homes m puts ne x ∙ ap (λ (z : PlainBlock). z.home) (up.others x (λ e. other (e ∙ joint.under_is)));
+    })))
+
+pub inner_linking : {old new : List PlainBlock} {made at i below index under source origin : ℕ} {s : Slot} → MayLink old made at i below s → IsInner (block_at old at).place.kind → (i ≡ 0 → IsFree (block_at old at) → ⊥) → IsJoint old at i below index under source origin → PutsLink at i below s index source source origin old new → Linking at i below s old new
+inner_linking {old} {new} {made} {at} {i} {below} {index} {under} {source} {origin} {s} may inner not_raised joint puts =
+    let ne = other_block may in
+    let m = no_home old in
+    linking m puts ne may.fits joint.index_is (inl (record {
+      inner = inner;
+      not_raised = not_raised;
+      under = under_is m puts ne ∙ joint.source_is;
+      source = source_is m puts ne ∙ joint.source_is;
+      origin = origin_is m puts ne ∙ joint.origin_is;
+      homes = homes m puts ne;
+    }))
+
+pub raise_linking : {old new : List PlainBlock} {made at i below index under source origin over : ℕ} {s : Slot} → MayLink old made at i below s → IsInner (block_at old at).place.kind × (i ≡ 0) × IsFree (block_at old at) → IsJoint old at i below index under source origin → over ≡ cond (block_at old below).apart (block_at old below).origin below → PutsLink at i below s index under under over old new → Linking at i below s old new
+raise_linking {old} {new} {made} {at} {i} {below} {index} {under} {source} {origin} {over} {s} may top joint over_is puts =
+    let ne = other_block may in
+    let m = no_home old in
+    linking m puts ne may.fits joint.index_is (inr (inr (record {
+      inner = top.0;
+      first = top.1;
+      free = top.2;
+      under = under_is m puts ne ∙ joint.under_is;
+      source = source_is m puts ne ∙ joint.under_is;
+      origin = origin_is m puts ne ∙ over_is;
+      homes = homes m puts ne;
+    })))

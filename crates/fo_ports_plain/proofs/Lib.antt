@@ -7,3 +7,7 @@ pub mod Taken
 pub mod Still
 pub mod Made
 pub mod Comes
+pub mod Waits
+pub mod Memory
+pub mod Frames
+pub mod Puts

@@ -1,7 +1,9 @@
 -- What is kept of blocks stays true where bytes are put, a slot comes to lead nowhere, or a mark is made.
-use Rattle.std.proofs.Common.{◌≡◌, ◌≢◌, ◌⊎◌, inl, inr, ⊎_elim, ℕ, ◌+◌, ◌*◌, ◌<◌, ◌≤◌, Bool, true, false, List, length, get_or, set, get_or-set_other, refl, sym, ◌∙◌, ap, subst, arith}
+use Rattle.std.proofs.Common.{◌≡◌, ◌≢◌, ◌⊎◌, inl, inr, ⊎_elim, ℕ, ◌+◌, ◌*◌, ◌<◌, ◌≤◌, Bool, true, false, cond, nat_eq, List, length, get_or, set, get_or-set_other, refl, sym, ◌∙◌, ap, subst, arith}
 use Rattle.std.proofs.lemmas.Bool.{cases_eq}
-use Rattle.fo_image.specs.declared.types.Pointer.TheVariants.{Nil, Local}
+use Rattle.std.proofs.lemmas.Grind.{common_steps}
+use Rattle.fo_image.specs.declared.types.Pointer.{Pointer}
+use Rattle.fo_image.specs.declared.types.Pointer.TheVariants.{Nil, Local, Score as Held}
 use Rattle.fo_crash.specs.declared.slot.Slot.{Slot}
 use Rattle.fo_crash.specs.declared.slot.Slot.TheVariants.{Pointer as To}
 use Rattle.fo_crash.specs.declared.place.Place.{Place}
@@ -13,7 +15,7 @@ use Rattle.fo_ports_plain.specs.declared.block.PlainBlock.{PlainBlock}
 use Rattle.fo_ports_plain.specs.declared.wait.Wait.{Wait}
 use Rattle.fo_ports_plain.specs.Plain.{block_at, slot_of, index_in, is_active, wait_at, pair_of, IsMade, Updates}
 use Rattle.fo_ports_plain.specs.Sound.{HangsAt, InSource, Linked, Links, IsSpelled, IsFirst, Sound, Formed, Waiting, Queue, Well, home_of, leads_to}
-use Rattle.fo_ports_plain.specs.Moves.{KeepsUse, Takes}
+use Rattle.fo_ports_plain.specs.Moves.{KeepsUse, Takes, elsewhere}
 use Rattle.fo_ports_plain.proofs.Lists.{part_kept}
 
 -- all of two blocks that sources and places are made of
@@ -225,3 +227,37 @@ pub taken_waiting : {old new : List PlainBlock} {made x : ℕ} (waits : List Wai
 taken_waiting {old} {new} {made} {x} waits up waiting n k lt is =
     let w = waiting n k lt is in
     record { was_made = w.was_made; used = ap is_active (part_kept (λ (z : PlainBlock). slot_of z (2 * k)) up refl (wait_at waits n).on) ∙ w.used }
+
+-- One block more is marked.
+pub one_taken : {old new : List PlainBlock} {x : ℕ} {before s : Slot} → Updates x (record (block_at old x) { taken = true }) old new → target before ≡ Local x → target s ≢ target before → Takes before s old new
+one_taken {old} {new} {x} {before} {s} up leads other = record {
+  as_long = up.as_long;
+  same = λ b. ⊎_elim
+      (λ e. subst (λ z. block_at new z ≡ record (block_at old z) { taken = (block_at new z).taken }) (sym e) (up.here ∙ ap (λ t. record (block_at old x) { taken = t }) (sym here)))
+      (λ ne. up.others b ne ∙ ap (λ t. record (block_at old b) { taken = t }) (sym (ap (λ (z : PlainBlock). z.taken) (up.others b ne))))
+      (cases_eq b x);
+  taken = λ y to ne. let both : Local x ≡ Local y = sym leads ∙ to in ap (λ z. (block_at new z).taken) (let is : y ≡ x = cc in is) ∙ here;
+  still = λ b was. ⊎_elim
+      (λ e. ap (λ z. (block_at new z).taken) e ∙ here)
+      (λ ne. ap (λ (z : PlainBlock). z.taken) (up.others b ne) ∙ was)
+      (cases_eq b x);
+  only = λ b is. ⊎_elim
+      (λ e. inr (leads ∙ ap Local (sym e), other))
+      (λ ne. inl (sym (ap (λ (z : PlainBlock). z.taken) (up.others b ne)) ∙ is))
+      (cases_eq b x);
+}
+  where
+    here : (block_at new x).taken ≡ true
+    here = ap (λ (z : PlainBlock). z.taken) up.here
+
+pub none_taken : {old : List PlainBlock} {before s : Slot} → ((x : ℕ) → target before ≡ Local x → target s ≢ target before → ⊥) → Takes before s old old
+none_taken {old} {before} {s} none = record { as_long = refl; same = λ b. refl; taken = λ x to ne. absurd (none x to ne); still = λ b was. was; only = λ b is. inl is }
+
+pub goes_elsewhere : (x : ℕ) (p : Pointer) → elsewhere x p ≡ true → p ≢ Local x
+goes_elsewhere x Nil h e = cc
+goes_elsewhere x (Held score) h e = cc
+goes_elsewhere x (Local y) h e =
+    let is : y ≡ x = cc in
+    let test : nat_eq y x ≡ true = grind (arith, common_steps) in
+    let no : false ≡ true = ap (λ t. cond t false true) (sym test) ∙ h in
+    cc

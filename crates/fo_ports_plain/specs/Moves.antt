@@ -1,6 +1,7 @@
 -- What the private calls on blocks in memory do.
-use Rattle.std.specs.Prelude.{◌≡◌, ◌≢◌, ◌⊎◌, ◌+◌, ◌*◌, ◌<◌, ◌≤◌, ℕ, Bool, true, false, cond, List, length, slice_set}
-use Rattle.fo_image.specs.declared.types.Pointer.TheVariants.{Local}
+use Rattle.std.specs.Prelude.{◌≡◌, ◌≢◌, ◌⊎◌, ◌+◌, ◌*◌, ◌<◌, ◌≤◌, ℕ, Bool, true, false, cond, nat_eq, List, length, slice_set}
+use Rattle.fo_image.specs.declared.types.Pointer.{Pointer}
+use Rattle.fo_image.specs.declared.types.Pointer.TheVariants.{Nil, Local, Score as Held}
 use Rattle.fo_crash.specs.declared.slot.Slot.{Slot}
 use Rattle.fo_crash.specs.Images.{target}
 use Rattle.fo_crash.specs.Places.{place_below, FitsAt}
@@ -65,6 +66,12 @@ pub record Linking (at i below : ℕ) (s : Slot) (old new : List PlainBlock) : T
   pub aparts : (b : ℕ) → b ≢ below → (block_at new b).apart ≡ (block_at old b).apart
   pub origins : (b : ℕ) → b ≢ at → b ≢ below → ((block_at new b).origin ≡ (block_at old b).origin) × ((block_at new b).source ≡ (block_at old b).source)
   pub way : JoinsInner at i below old new ⊎ (JoinsOuter at i below old new ⊎ Raises at i below old new)
+
+-- the pointer leads to no block, or to another one
+abbrev pub elsewhere : ℕ → Pointer → Bool
+elsewhere x (Local y) = cond (nat_eq y x) false true
+elsewhere x Nil = true
+elsewhere x (Held score) = true
 
 -- A block that was led to by a slot is marked as taken out, if the slot to be put leads elsewhere.
 pub record Takes (old_slot s : Slot) (old new : List PlainBlock) : Type 0 where

@@ -6,7 +6,7 @@ ghost use Rattle.fo_image.specs.declared.types.Kind.TheVariants.{Dir, Root};
 ghost use Rattle.fo_crash.specs.declared.slot.Slot.TheVariants.{Pointer as To, Prev};
 ghost use Rattle.fo_ports.specs.Blocks.{put_at, no_entry, blank, blank_slot, zero_bytes, IsInner, ends};
 ghost use Rattle.fo_ports_plain.specs.Plain.{content_of, slot_of, index_below, index_in, nowhere};
-ghost use Rattle.fo_ports_plain.specs.Moves.{IsFree};
+ghost use Rattle.fo_ports_plain.specs.Moves.{IsFree, elsewhere};
 
 use crate::home::Home;
 use fo_crash::{Place, Slot};
@@ -137,6 +137,16 @@ fn leads_nowhere(slots: &[Slot]) -> bool
         }
     }
     true
+}
+
+/// Whether a slot leads to no block, or to another one.
+pub(crate) fn leads_elsewhere(slot: &Slot, x: u32) -> bool
+    ensures { result ≡ elsewhere x (target slot.now) }
+{
+    match slot.target() {
+        Pointer::Local(y) => y != x,
+        Pointer::Nil | Pointer::Score(_) => true,
+    }
 }
 
 /// No slot, from which nothing hangs.

@@ -88,7 +88,7 @@ impl Blocks for PlainBlocks {
     }
 
     fn put_slot(&mut self, at: u32, i: u32, slot: Slot) {
-        self.room -= self.cost(at, i, &slot);
+        self.room -= self.cost(at, i, &slot, self.room);
         self.take_out(at, i, &slot);
         match slot.target() {
             Pointer::Local(below) => self.link(at, i, slot, below),

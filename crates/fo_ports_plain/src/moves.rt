@@ -1,5 +1,5 @@
 //! What the calls do to blocks in memory.
-use crate::block::{PlainBlock, depth, ends, index_below, index_in, is_inner};
+use crate::block::{PlainBlock, depth, ends, index_below, index_in, is_inner, leads_elsewhere};
 use crate::home::Home;
 use crate::links::{Joint, hang, put_link, set_block};
 use crate::plain::PlainBlocks;
@@ -163,7 +163,7 @@ impl PlainBlocks {
     {
         let old = self.blocks[at as usize].slots[i as usize].target();
         match old {
-            Pointer::Local(x) if slot.target() != old => {
+            Pointer::Local(x) if leads_elsewhere(slot, x) => {
                 let block = self.blocks[x as usize].taken_out();
                 set_block(&mut self.blocks, x, block);
                 self.queued = self.queued.saturating_add(1);
@@ -209,10 +209,10 @@ impl PlainBlocks {
     }
 
     /// How many removals a put takes.
-    pub(crate) fn cost(&self, at: u32, i: u32, slot: &Slot) -> u32
+    pub(crate) fn cost(&self, at: u32, i: u32, slot: &Slot, room: u32) -> u32
         requires block { at < length self.now.blocks.items }
         requires slots { i < 409 }
-        requires room { cost (slot_of (block_at self.now.blocks.items at) i) slot.now ≤ self.now.room }
+        requires room { cost (slot_of (block_at self.now.blocks.items at) i) slot.now ≤ room }
         ensures { result ≡ cost (slot_of (block_at self.now.blocks.items at) i) slot.now }
     {
         let old = &self.blocks[at as usize].slots[i as usize];

@@ -1,5 +1,5 @@
 //! Waits of a block for pairs of entries.
-ghost use Rattle.std.specs.Prelude.{◌≡◌, ◌*◌, ◌<◌, ℕ, false, true, cond, slice_index_or, slice_set};
+ghost use Rattle.std.specs.Prelude.{◌≡◌, ◌≢◌, ◌*◌, ◌<◌, ℕ, false, true, cond, slice_index_or, slice_set};
 ghost use Rattle.std.specs.Vec.{vec_len, vec_capacity};
 ghost use Rattle.fo_image.specs.declared.types.Pointer.TheVariants.{Nil};
 ghost use Rattle.fo_crash.specs.declared.slot.Slot.TheVariants.{Pointer as To};
@@ -17,13 +17,16 @@ pub struct Wait {
 }
 
 impl Wait {
-    /// The wait without one of its pairs.
-    pub(crate) fn without(self, pair: u32) -> Wait
+    /// The wait without one of its pairs, if it is for entries of this block.
+    fn ended(self, on: u32, pair: u32) -> Wait
         requires { pair < 205 }
-        ensures { result ≡ record self { pairs = slice_set self.pairs pair false } }
+        ensures here { self.on ≡ on → result ≡ record self { pairs = slice_set self.pairs pair false } }
+        ensures other { self.on ≢ on → result ≡ self }
     {
         let mut wait = self;
-        wait.pairs[pair as usize] = false;
+        if wait.on == on {
+            wait.pairs[pair as usize] = false;
+        }
         wait
     }
 }
@@ -56,8 +59,6 @@ pub(crate) fn end_pair(waits: &mut Vec<Wait>, on: u32, pair: u32)
     ensures room { (vec_len waits.new ≡ vec_len waits.old) × (vec_capacity waits.new ≡ vec_capacity waits.old) }
 {
     for n in 0..waits.len() {
-        if waits[n].on == on {
-            waits[n] = waits[n].without(pair);
-        }
+        waits[n] = waits[n].ended(on, pair);
     }
 }
