@@ -283,3 +283,10 @@ keeps_use p at i s waiting same = record {
       same_active s (slot_of (block_at p.blocks at) i) (same (wait_at p.waits n).at awaits)
       (ap (λ z. is_active (slot_of (block_at p.blocks z) i)) (sym on) ∙ ap (λ z. is_active (slot_of (block_at p.blocks (wait_at p.waits n).on) z)) i_is ∙ w.used);
 }
+
+pub few_slots : (k : Kind) → slot_count k ≤ 409
+few_slots (Data zero) = omega arith
+few_slots (Data (suc n)) = omega arith
+few_slots (Dir zero) = omega arith
+few_slots (Dir (suc n)) = omega arith
+few_slots Root = omega arith

@@ -125,6 +125,13 @@ impl PlainBlock {
     {
         self.apart && self.origin == 0 && leads_nowhere(&self.slots)
     }
+
+    /// Whether a block that is put into slot `i` of this one has this one raised over it, as a new top.
+    pub(crate) fn is_raised(&self, i: u32) -> bool
+        ensures { IsTrue result ↔ ((i ≡ 0) × IsFree self.now) }
+    {
+        i == 0 && self.is_free()
+    }
 }
 
 /// Whether these slots lead to no block.

@@ -74,7 +74,7 @@ impl PlainBlocks {
         let above = &self.blocks[at as usize];
         if !is_inner(above.place.kind) {
             self.link_entry(at, i, slot, below);
-        } else if i == 0 && above.is_free() {
+        } else if above.is_raised(i) {
             self.raise(at, i, slot, below);
         } else {
             self.link_inner(at, i, slot, below);
