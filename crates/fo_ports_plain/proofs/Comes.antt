@@ -263,7 +263,7 @@ may_link p at i below s sound is_made current few spelled leads may = record {
         (may.comes below leads)
 
 -- an entry in the same use is as active
-same_active : (s t : Slot) → SameUse s t → is_active t ≡ true → is_active s ≡ true
+pub same_active : (s t : Slot) → SameUse s t → is_active t ≡ true → is_active s ≡ true
 same_active (Head e) (Head f) h is = h.1 ∙ is
 same_active (To x) (To y) h is = absurd (cc)
 same_active (To x) (Head f) h is = let no : To x ≡ Head f = h in absurd (cc)

@@ -11,3 +11,6 @@ pub mod Waits
 pub mod Memory
 pub mod Frames
 pub mod Puts
+pub mod Reading
+pub mod Removes
+pub mod Bytes
