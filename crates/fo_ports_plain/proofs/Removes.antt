@@ -1,5 +1,5 @@
 -- A slot is cleared, and waits for its pair of entries are over.
-use Rattle.std.proofs.Common.{◌≡◌, ◌≢◌, ◌⊎◌, inl, inr, ⊎_elim, ℕ, ◌+◌, ◌*◌, ◌/◌, ◌<◌, ◌≤◌, Bool, true, false, List, length, refl, sym, ◌∙◌, ap, subst, arith}
+use Rattle.std.proofs.Common.{◌≡◌, ◌≢◌, ◌⊎◌, inl, inr, ⊎_elim, ℕ, zero, suc, ◌+◌, ◌*◌, ◌/◌, ◌<◌, ◌≤◌, Bool, true, false, List, length, refl, sym, ◌∙◌, ap, subst, arith}
 use Rattle.std.proofs.lemmas.Bool.{cases_eq}
 use Rattle.fo_image.specs.declared.types.Pointer.TheVariants.{Nil, Local}
 use Rattle.fo_crash.specs.declared.slot.Slot.{Slot}
@@ -7,6 +7,9 @@ use Rattle.fo_crash.specs.declared.slot.Slot.TheVariants.{Pointer as To, Entry a
 use Rattle.fo_crash.specs.Images.{target}
 use Rattle.fo_crash.specs.Names.{SameUse}
 use Rattle.fo_crash.specs.Steps.{cleared}
+use Rattle.fo_image.specs.declared.types.Kind.{Kind}
+use Rattle.fo_image.specs.declared.types.Kind.TheVariants.{Data, Dir, Root}
+use Rattle.fo_ports.specs.Blocks.{IsPointer, IsEntry, IsPrev, SlotFits}
 use Rattle.fo_ports.specs.State.{IsSecondOf}
 use Rattle.fo_ports_plain.specs.declared.block.PlainBlock.{PlainBlock}
 use Rattle.fo_ports_plain.specs.declared.wait.Wait.{Wait}
@@ -70,3 +73,27 @@ waits_still {blocks} {made} {at} {i} {old} {new} waiting ends a on j h w = ⊎_e
     (cases_eq on at))
     h)
     h
+
+-- A cleared slot is one that the block can spell, where the slot was.
+cleared_pointer : (s : Slot) → IsPointer s → IsPointer (cleared s)
+cleared_pointer (To p) f = tt
+cleared_pointer (Head e) f = absurd f
+cleared_pointer (Prev x y) f = absurd f
+
+cleared_entry : (s : Slot) → IsEntry s → IsEntry (cleared s)
+cleared_entry (Head e) f = (record { active_holds = (refl, refl, refl, refl, refl) }, omega arith)
+cleared_entry (To p) f = absurd f
+cleared_entry (Prev x y) f = absurd f
+
+cleared_prev : (s : Slot) → IsPrev s → IsPrev (cleared s)
+cleared_prev (Prev x y) f = tt
+cleared_prev (To p) f = absurd f
+cleared_prev (Head e) f = absurd f
+
+pub cleared_fits : (k : Kind) (i : ℕ) (s : Slot) → SlotFits k i s → SlotFits k i (cleared s)
+cleared_fits (Data level) i s f = cleared_pointer s f
+cleared_fits (Dir zero) i s f = cleared_entry s f
+cleared_fits (Dir (suc level)) i s f = cleared_pointer s f
+cleared_fits Root zero s f = cleared_entry s f
+cleared_fits Root (suc zero) s f = cleared_entry s f
+cleared_fits Root (suc (suc i)) s f = cleared_prev s f

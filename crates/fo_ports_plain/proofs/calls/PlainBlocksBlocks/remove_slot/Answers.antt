@@ -2,7 +2,7 @@ use Rattle.std.proofs.Common.{◌≡◌, ◌≢◌, ◌⊎◌, inl, inr, ⊎_eli
 use Rattle.fo_crash.specs.declared.place.Place.{Place}
 use Rattle.fo_crash.specs.Images.{SameImage, target}
 use Rattle.fo_crash.specs.Steps.{cleared, HasBytes}
-use Rattle.fo_ports.specs.Blocks.{slot_count}
+use Rattle.fo_ports.specs.Blocks.{slot_count, SlotFits}
 use Rattle.fo_ports.specs.State.{Frame, Hangs, AddsNoWait, none}
 use Rattle.fo_ports_plain.specs.Plain.{block_at, slot_of, memory, label_at, Covered, Updates}
 use Rattle.fo_crash.proofs.Reach.{lost}
@@ -14,7 +14,7 @@ use Rattle.fo_ports_plain.specs.Meaning.{Plain, state_of}
 use Rattle.fo_ports_plain.specs.Parts.{parts}
 use Rattle.fo_ports_plain.proofs.Comes.{few_slots}
 use Rattle.fo_ports_plain.proofs.Puts.{all_slot}
-use Rattle.fo_ports_plain.proofs.Removes.{cleared_nowhere, waits_kept, waits_fewer, waits_still}
+use Rattle.fo_ports_plain.proofs.Removes.{cleared_nowhere, waits_kept, waits_fewer, waits_still, cleared_fits}
 use Rattle.fo_ports_plain.proofs.Frames.{put_frame, put_hangs, put_covers}
 use Rattle.fo_ports_plain.proofs.calls.PlainBlocksBlocks.remove_slot.Goals as goal
 
@@ -162,3 +162,15 @@ set_slot-requires-clause-slot c =
     let mid_is : c.end_waits.new.self.blocks.items ≡ c.take_out.new.self.blocks.items = ap (λ (z : Plain). z.blocks) c.end_waits.ensures.rest in
     let place : (block_at c.take_out.new.self.blocks.items c.args.at).place ≡ (block_at p.blocks c.args.at).place = ap (λ (z : PlainBlock). z.place) (c.take_out.ensures.takes.same c.args.at) in
     (omega (arith, few, most), subst (λ m. c.args.i < slot_count (block_at m c.args.at).place.kind) (sym mid_is) (subst (λ (z : Place). c.args.i < slot_count z.kind) (sym place) (subst (λ k. c.args.i < slot_count k) (label_kind p.blocks p.made c.args.at).0 few)))
+
+pub set_slot-requires-clause-fits : goal.set_slot-requires-clause-fits
+set_slot-requires-clause-fits c =
+    let self = c.args.self.now in
+    let p = parts self in
+    let few : c.args.i < slot_count (label_at p.blocks p.made c.args.at).kind = c.requires.slots in
+    let mid_is : c.end_waits.new.self.blocks.items ≡ c.take_out.new.self.blocks.items = ap (λ (z : Plain). z.blocks) c.end_waits.ensures.rest in
+    let place : (block_at c.take_out.new.self.blocks.items c.args.at).place ≡ (block_at p.blocks c.args.at).place = ap (λ (z : PlainBlock). z.place) (c.take_out.ensures.takes.same c.args.at) in
+    let is : c.cleared-slot.result ≡ cleared (slot_of (block_at p.blocks c.args.at) c.args.i) = c.cleared-slot.ensures ∙ ap cleared c.slot.ensures in
+    let was = self.sound.spelled c.args.at c.requires.pinned.0 c.args.i (subst (λ k. c.args.i < slot_count k) (label_kind p.blocks p.made c.args.at).0 few) in
+    let fits = cleared_fits (block_at p.blocks c.args.at).place.kind c.args.i (slot_of (block_at p.blocks c.args.at) c.args.i) was in
+    subst (λ m. SlotFits (block_at m c.args.at).place.kind c.args.i c.cleared-slot.result) (sym mid_is) (subst (λ (z : Place). SlotFits z.kind c.args.i c.cleared-slot.result) (sym place) (subst (λ x. SlotFits (block_at p.blocks c.args.at).place.kind c.args.i x) (sym is) fits))
