@@ -1,4 +1,7 @@
 //! What all layers share: texts, want of memory, and what is said of faults.
+//!
+//! Proved: a `Bytes` is the list of its bytes, and a copy has the same; `is_text` is true exactly of UTF-8 without a zero byte. Want of
+//! memory is free.
 #![tactic(auto)]
 
 mod memory;
@@ -6,6 +9,3 @@ mod text;
 
 pub use memory::Memory;
 pub use text::{Bytes, is_text};
-
-#[cfg(test)]
-mod tests;

@@ -21,7 +21,7 @@ shown_on kept shows = record { quiet = kept.same_versions ∙ shows.quiet; some 
 
 -- what is said of values is no fault
 pub judged-blames : (main main_now arena arena_now : ℕ) (e : CheckError) → IsJudgement e → Blames main main_now arena arena_now e
-judged-blames main main_now arena arena_now Size h = tt
+judged-blames main main_now arena arena_now Size h = absurd h
 judged-blames main main_now arena arena_now NotArena h = tt
 judged-blames main main_now arena arena_now NotBuilt h = tt
 judged-blames main main_now arena arena_now (Unsound rule block) h = tt

@@ -1,6 +1,6 @@
 -- What the check answers over the images of the two devices.
-use Rattle.std.specs.Prelude.{◌≡◌, ◌≢◌, ℕ, ◌*◌, ◌<◌, ◌≤◌, false, List, length, Result, MatchResult}
-use Rattle.fo_base.specs.Cause.{Rose}
+use Rattle.std.specs.Prelude.{◌≡◌, ◌≢◌, ℕ, ◌*◌, ◌<◌, ◌≤◌, false, List, length, Result, IfErr, MatchResult}
+use Rattle.fo_base.specs.Cause.{Rose, Counted}
 use Rattle.fo_disk.specs.Disk.{Block}
 use Rattle.fo_disk.specs.declared.disk.DiskFault.TheVariants.{Read}
 use Rattle.fo_image.specs.declared.types.Super.{Super}
@@ -9,7 +9,7 @@ use Rattle.fo_image.specs.declared.record.RootBlock.{RootBlock}
 use Rattle.fo_image.specs.Format.{SpellsHeader, SpellsSuper}
 use Rattle.fo_image.specs.Record.{SpellsRoot}
 use Rattle.fo_image.specs.Place.{label_blocks, first_data, label_block}
-use Rattle.fo_sound.specs.Sizes.{HasSizes, IsArena}
+use Rattle.fo_sound.specs.Sizes.{IsMainSize, InRange, HasSizes, IsArena}
 use Rattle.fo_check.specs.declared.error.CheckError.{CheckError}
 use Rattle.fo_check.specs.declared.error.CheckError.TheVariants.{Size, NotArena, NotBuilt, Unsound, Main, Arena, Memory}
 use Rattle.fo_check.specs.declared.report.Report.{Report}
@@ -38,20 +38,16 @@ pub data BreaksActive (image : List Block) (s : Super) (block : ℕ) : Type 0 wh
   label : block ≡ s.active → IsDataBlock (length image) s.active → ¬ HasLabel image s.active (root_label s) → BreaksActive image s block
   root : block ≡ s.active → IsDataBlock (length image) s.active → ((root : RootBlock) → SpellsRoot root (block_of image s.active) → root.epoch ≢ s.high) → BreaksActive image s block
 
--- S3: the data block that the active root names as the root before it, else the active root
-pub data BreaksChain (image : List Block) (s : Super) (root : RootBlock) (block : ℕ) : Type 0 where
-  earlier : block ≡ root.prev → IsDataBlock (length image) root.prev → BreaksChain image s root block
-  holder : block ≡ s.active → ¬ IsDataBlock (length image) root.prev → BreaksChain image s root block
-
 -- S4: the data block whose label is not of the format, else the block of the label table with bytes that are not zero
 pub data BreaksTable (image : List Block) (block : ℕ) : Type 0 where
   label : IsDataBlock (length image) block → ((l : Label) → ¬ HasLabel image block l) → BreaksTable image block
   other : (address : ℕ) → address < 585 * label_blocks (length image) → ¬ IsDataBlock (length image) address → block ≡ label_block address → is_zero (label_bytes image address) ≡ false → BreaksTable image block
   rest : 2 ≤ block → block < first_data (length image) → is_zero (rest_bytes (block_of image block)) ≡ false → BreaksTable image block
 
--- the lowest of the rules from S3 on that is broken, and a block at which it is broken
+-- The lowest of the rules from S3 on that is broken, and a block at which it is broken. For S3 that is the last root block which the
+-- chain reaches: no root before the active one is kept, so it is the active root.
 pub data BreaksLater (image : List Block) (s : Super) (root : RootBlock) (rule block : ℕ) : Type 0 where
-  chain : rule ≡ 3 → ¬ ReachesLow s → BreaksChain image s root block → BreaksLater image s root rule block
+  chain : rule ≡ 3 → ¬ ReachesLow s → block ≡ s.active → BreaksLater image s root rule block
   table : rule ≡ 4 → ReachesLow s → BreaksTable image block → BreaksLater image s root rule block
   depths : rule ≡ 5 → ReachesLow s → HasTable image → ¬ HasDepths root → block ≡ s.active → BreaksLater image s root rule block
   entries : rule ≡ 6 → ReachesLow s → HasTable image → HasDepths root → ¬ HasRootEntries root → block ≡ s.active → BreaksLater image s root rule block
@@ -118,10 +114,30 @@ pub record Finds {V : Type 0} (Right : V → Type 0) (Reason : CheckError → Ty
   pub found : MatchResult result Right Reason
   pub only : (v : V) → Right v → MatchResult result (λ w. w ≡ v) IsOutside
 
--- ---- faults
+-- ---- over any devices
 
--- A fault is one of a read, and is answered only where that device's count rose.
+-- What a refusal says of the numbers of blocks that were found. The main device is asked first. Where the blocks of a device could
+-- not be counted, nothing is known of their number.
+abbrev pub RefusesAt : ℕ → ℕ → CheckError → Type 0
+RefusesAt main arena Size = ¬ InRange main arena
+RefusesAt main arena NotArena = InRange main arena
+RefusesAt main arena NotBuilt = InRange main arena
+RefusesAt main arena (Unsound rule block) = InRange main arena
+RefusesAt main arena (Main fault) = Unit {0}
+RefusesAt main arena (Arena fault) = IsMainSize main
+RefusesAt main arena Memory = InRange main arena
+
+-- `Size` is answered exactly where one of the numbers of blocks that were found is out of range.
+abbrev pub KnowsSizes : {V : Type 0} → ℕ → ℕ → Result V CheckError → Type 0
+KnowsSizes main arena result = MatchResult result (λ _. InRange main arena) (RefusesAt main arena)
+
+-- `Size` is answered only where the main device was asked for its number of blocks, and so was the arena if that number is in range.
+abbrev pub AsksSizes : {V : Type 0} → ℕ → ℕ → ℕ → ℕ → ℕ → Result V CheckError → Type 0
+AsksSizes size main main_now arena arena_now result = IfErr result (λ e. e ≡ Size → Counted main main_now × (IsMainSize size → Counted arena arena_now))
+
+-- A fault is one of a read, and is answered only where that device's count rose. `Size` is answered only where no device failed.
 abbrev pub Blames : ℕ → ℕ → ℕ → ℕ → CheckError → Type 0
+Blames main main_now arena arena_now Size = (main_now ≡ main) × (arena_now ≡ arena)
 Blames main main_now arena arena_now (Main fault) = (fault ≡ Read) × Rose main main_now
 Blames main main_now arena arena_now (Arena fault) = (fault ≡ Read) × Rose arena arena_now
 Blames main main_now arena arena_now _ = Unit {0}

@@ -79,3 +79,13 @@ IsJudgement (Unsound rule block) = Unit {0}
 IsJudgement (Main fault) = ⊥
 IsJudgement (Arena fault) = ⊥
 IsJudgement Memory = ⊥
+
+-- any refusal but one for a size
+abbrev pub IsNoSize : CheckError → Type 0
+IsNoSize Size = ⊥
+IsNoSize NotArena = Unit {0}
+IsNoSize NotBuilt = Unit {0}
+IsNoSize (Unsound rule block) = Unit {0}
+IsNoSize (Main fault) = Unit {0}
+IsNoSize (Arena fault) = Unit {0}
+IsNoSize Memory = Unit {0}

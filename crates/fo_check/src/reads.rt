@@ -1,6 +1,6 @@
 //! Reads of the two devices.
 ghost use Rattle.std.specs.Prelude.{◌≡◌, ℕ, ◌*◌, ◌^◌, ◌<◌, ◌≤◌, List, length, OnOk, IfOk, IfErr};
-ghost use Rattle.fo_base.specs.Cause.{HasCause};
+ghost use Rattle.fo_base.specs.Cause.{HasCause, Counted};
 ghost use Rattle.fo_disk.specs.Disk.{Block};
 ghost use Rattle.fo_disk.specs.declared.disk.DiskFault.TheVariants.{Read as ReadFault};
 ghost use Rattle.fo_image.specs.Place.{label_blocks};
@@ -17,6 +17,9 @@ use fo_image::{Super, label_blocks};
 /// The number of blocks of a device.
 pub(crate) fn count<D: Disk>(device: &mut D) -> Result<u64, Failed>
     ensures size { IfOk result (λ n. D.size device.new ≡ n) }
+    ensures fixed { 0 < D.size device.old → D.size device.new ≡ D.size device.old }
+    ensures asked { Counted (D.calls device.old) (D.calls device.new) }
+    ensures answered { OnOk result (D.faults device.new ≡ D.faults device.old) }
     ensures shown { (image : List Block) → Shows (D.holds device.old) image → IfOk result (λ n. length image ≡ n) }
     ensures kept { IsKept (D.holds device.old) (D.holds device.new) (D.moments device.old) (D.moments device.new) (D.unsure device.old) (D.unsure device.new) }
     ensures cause { HasCause (D.faults device.old) (D.faults device.new) result }

@@ -111,12 +111,7 @@ pub(crate) fn judge(
         return Err(CheckError::NotBuilt);
     }
     if s.low != s.high {
-        let named = if is_data_block(blocks, root.prev) {
-            root.prev
-        } else {
-            s.active
-        };
-        return Err(unsound(3, named));
+        return Err(unsound(3, s.active));
     }
     if let Some(block) = table.broken {
         return Err(unsound(4, block));

@@ -14,6 +14,3 @@ pub use error::LineError;
 pub use fo_world::{Info, Name};
 pub use read::read_line;
 pub use write::write_reply;
-
-#[cfg(test)]
-mod tests;

@@ -1,7 +1,8 @@
 -- What a disk in memory has held at each moment.
-use Rattle.std.specs.Prelude.{◌≡◌, ◌==◌, ℕ, ◌-◌, ◌<◌, Bool, false, if◌then◌else◌, List, [], ◌∷◌, ◌++◌, length, map, reverse, take, drop, slice_index_or, slice_set}
+use Rattle.std.specs.Prelude.{◌≡◌, ◌==◌, ◌⊎◌, ℕ, ◌-◌, ◌<◌, Bool, true, false, if◌then◌else◌, List, [], ◌∷◌, ◌++◌, length, map, reverse, take, drop, slice_index_or, slice_set}
 use Rattle.std.specs.List.{list_any}
-use Rattle.fo_disk.specs.Disk.{Block, Versions, Content}
+use Rattle.fo_base.specs.Cause.{Rose}
+use Rattle.fo_disk.specs.Disk.{Block, Versions, Content, Appends}
 use Rattle.fo_disk.specs.declared.memory.Version.{Version}
 use Rattle.fo_disk.specs.declared.memory.Cell.{Cell}
 use Rattle.fo_disk.specs.declared.memory.Change.{Change}
@@ -78,3 +79,10 @@ lists m = m.fails.items
 -- the next call is to fail
 abbrev pub is_listed : MemDisk → Bool
 is_listed m = list_any (λ n. n == m.calls) m.fails.items
+
+-- What a write does, with how many calls found no memory before and after it: it lands, and fails only where it is listed to,
+-- or it finds no memory, fails and changes nothing.
+abbrev pub Lands : ℕ → Block → Bool → Bool → Content → Content → ℕ → ℕ → Type 0
+Lands at bytes listed failed old new before now =
+    (Appends at bytes old new × (failed ≡ listed) × (now ≡ before))
+    ⊎ ((new ≡ old) × (failed ≡ true) × Rose before now)

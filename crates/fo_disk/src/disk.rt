@@ -31,7 +31,7 @@ pub enum DiskFault {
 /// A disk of blocks of 8192 bytes, each of which a crash may leave as any of its versions.
 ///
 /// A block has a settled version and those of the writes since. A sync that answers Ok settles each block whose last write
-/// answered Ok. A call fails only where the count of faults rises in it.
+/// answered Ok. A call fails only where the count of faults rises in it, and no fault is counted where the blocks are found.
 pub trait Disk {
     /// The versions of each block. A disk that tells nothing has none.
     ghost holds: { Self → Content };
@@ -59,7 +59,8 @@ pub trait Disk {
         ensures moments { moments self.new ≡ moments self.old }
         ensures unsure { unsure self.new ≡ unsure self.old }
         ensures calls { Counted (calls self.old) (calls self.new) }
-        ensures cause { HasCause (faults self.old) (faults self.new) result };
+        ensures cause { HasCause (faults self.old) (faults self.new) result }
+        ensures answered { OnOk result (faults self.new ≡ faults self.old) };
 
     /// One of the versions of a block. Where it fails, `into` is unchanged.
     fn read(&mut self, at: u32, into: &mut [u8]) -> Result<(), Failed>

@@ -38,5 +38,6 @@ pub struct MemDisk {
     pub(crate) fails: Vec<u64>,
     pub(crate) calls: u64,
     pub(crate) faults: u64,
+    pub(crate) wants: u64,
     ghost flags: { length unsure.items ≡ length cells.items },
 }

@@ -2,9 +2,9 @@
 ghost use Rattle.std.specs.Prelude.{◌≡◌, ◌==◌, ◌⊎◌, ◌<◌, ◌≤◌, ◌++◌, ◌-◌, [], ◌∷◌, ℕ, List, Bool, true, false, length, map, slice_index, slice_set, replicate, OnOk, OnErr, IfOk, MatchResult, is_err};
 ghost use Rattle.std.specs.List.{Contains, list_any};
 ghost use Rattle.std.proofs.Common.{inr, refl};
-ghost use Rattle.fo_base.specs.Cause.{HasCause, Counted};
+ghost use Rattle.fo_base.specs.Cause.{HasCause, Counted, Rose};
 ghost use Rattle.fo_disk.specs.Disk.{versions_of, latest_of, settled, IsImage, Writes, Syncs, Passes};
-ghost use Rattle.fo_disk.specs.Memory.{bytes_of, cell_of, cells_of, content_of, holds_of, moments_of, unsure_of, is_listed, lists, with_version, settled_cell, picked, SettledFrom, versions_in};
+ghost use Rattle.fo_disk.specs.Memory.{bytes_of, cell_of, cells_of, content_of, holds_of, moments_of, unsure_of, is_listed, lists, with_version, settled_cell, Lands, picked, SettledFrom, versions_in};
 ghost use Rattle.fo_disk.specs.declared.memory.Change.TheVariants.{Wrote, Settled};
 ghost use Rattle.fo_disk.specs.MemoryLaws.{is_content, has_flags};
 
@@ -21,7 +21,7 @@ impl MemDisk {
         ensures holds { IfOk result (λ m. holds_of m ≡ settled (replicate blocks (replicate 8192 0))) }
         ensures moments { IfOk result (λ m. moments_of m ≡ holds_of m ∷ []) }
         ensures unsure { IfOk result (λ m. unsure_of m ≡ replicate blocks false) }
-        ensures counts { IfOk result (λ m. (m.calls ≡ 0) × (m.faults ≡ 0) × (m.fails.items ≡ fails.items)) }
+        ensures counts { IfOk result (λ m. (m.calls ≡ 0) × (m.faults ≡ 0) × (m.wants ≡ 0) × (m.fails.items ≡ fails.items)) }
     {
         let mut cells = Vec::new(alloc);
         let mut unsure = Vec::new(alloc);
@@ -37,6 +37,7 @@ impl MemDisk {
             fails,
             calls: 0,
             faults: 0,
+            wants: 0,
         })
     }
 
@@ -45,6 +46,13 @@ impl MemDisk {
         ensures { result ≡ self.now.calls }
     {
         self.calls
+    }
+
+    /// How many calls found no memory, up to 2^64 - 1.
+    pub fn wants(&self) -> u64
+        ensures { result ≡ self.now.wants }
+    {
+        self.wants
     }
 
     /// How many versions a block has.
@@ -65,7 +73,7 @@ impl MemDisk {
         ensures holds { IfOk result (λ m. holds_of m ≡ settled (picked picks.now (holds_of self.now))) }
         ensures moments { IfOk result (λ m. moments_of m ≡ holds_of m ∷ []) }
         ensures unsure { IfOk result (λ m. unsure_of m ≡ replicate (length picks.now) false) }
-        ensures counts { IfOk result (λ m. (m.calls ≡ 0) × (m.faults ≡ 0) × (m.fails.items ≡ [])) }
+        ensures counts { IfOk result (λ m. (m.calls ≡ 0) × (m.faults ≡ 0) × (m.wants ≡ 0) × (m.fails.items ≡ [])) }
     {
         let alloc = self.alloc;
         let mut cells = Vec::new(alloc);
@@ -84,6 +92,7 @@ impl MemDisk {
             fails: Vec::new(alloc),
             calls: 0,
             faults: 0,
+            wants: 0,
         })
     }
 }
@@ -111,6 +120,7 @@ impl Disk for MemDisk {
     fn blocks(&mut self) -> Result<u64, Failed>
         ensures listed { is_err result ≡ is_listed self.old }
         ensures lists { lists self.new ≡ lists self.old }
+        ensures wants { self.new.wants ≡ self.old.wants }
         ensures size { MatchResult result (λ n. length self.new.cells.items ≡ n) (λ _. length self.new.cells.items ≡ length self.old.cells.items) }
         ensures fixed { length self.new.cells.items ≡ length self.old.cells.items }
         ensures holds { holds_of self.new ≡ holds_of self.old }
@@ -118,6 +128,7 @@ impl Disk for MemDisk {
         ensures unsure { unsure_of self.new ≡ unsure_of self.old }
         ensures calls { Counted self.old.calls self.new.calls }
         ensures cause { HasCause self.old.faults self.new.faults result }
+        ensures answered { OnOk result (self.new.faults ≡ self.old.faults) }
     {
         if next_call(&self.fails, &mut self.calls) {
             return Err(count_fault(&mut self.faults));
@@ -131,6 +142,7 @@ impl Disk for MemDisk {
         requires length { length into.old ≡ 8192 }
         ensures listed { is_err result ≡ is_listed self.old }
         ensures lists { lists self.new ≡ lists self.old }
+        ensures wants { self.new.wants ≡ self.old.wants }
         ensures bytes { OnOk result (at < length (holds_of self.old) → Contains (versions_of (holds_of self.old) at) into.new) }
         ensures latest { OnOk result (into.new ≡ latest_of (versions_of (holds_of self.old) at)) }
         ensures nothing { OnErr result (into.new ≡ into.old) }
@@ -149,12 +161,14 @@ impl Disk for MemDisk {
         Ok(())
     }
 
-    /// It fails at the listed calls, and where there is no memory, which leaves the versions as they were.
+    /// It fails at the listed calls, where its bytes land all the same, and where there is no memory, which leaves the versions
+    /// as they were.
     fn write(&mut self, at: u32, from: &[u8]) -> Result<(), Failed>
         requires block { at < length self.old.cells.items }
         requires length { length from.now ≡ 8192 }
         ensures listed { is_listed self.old ≡ true → is_err result ≡ true }
         ensures memory { OnErr result (is_listed self.old ≡ false → holds_of self.new ≡ holds_of self.old) }
+        ensures lands { Lands at from.now (is_listed self.old) (is_err result) (holds_of self.old) (holds_of self.new) self.old.wants self.new.wants }
         ensures lists { lists self.new ≡ lists self.old }
         ensures size { length self.new.cells.items ≡ length self.old.cells.items }
         ensures holds { Writes at from.now result (holds_of self.old) (holds_of self.new) }
@@ -181,6 +195,7 @@ impl Disk for MemDisk {
             }
             Err(Memory) => {
                 self.unsure[at as usize] = true;
+                count_want(&mut self.wants);
                 Err(count_fault(&mut self.faults))
             }
         }
@@ -189,6 +204,7 @@ impl Disk for MemDisk {
     /// It fails at the listed calls, and where there is no memory.
     fn sync(&mut self) -> Result<(), Failed>
         ensures listed { is_listed self.old ≡ true → is_err result ≡ true }
+        ensures memory { MatchResult result (λ _. self.new.wants ≡ self.old.wants) (λ _. is_listed self.old ≡ false → Rose self.old.wants self.new.wants) }
         ensures lists { lists self.new ≡ lists self.old }
         ensures size { length self.new.cells.items ≡ length self.old.cells.items }
         ensures holds { Syncs (unsure_of self.old) result (holds_of self.old) (holds_of self.new) }
@@ -202,7 +218,10 @@ impl Disk for MemDisk {
         }
         match settle(self.alloc, &mut self.cells, &self.unsure, &mut self.changes) {
             Ok(()) => Ok(()),
-            Err(Memory) => Err(count_fault(&mut self.faults)),
+            Err(Memory) => {
+                count_want(&mut self.wants);
+                Err(count_fault(&mut self.faults))
+            }
         }
     }
 }
@@ -276,6 +295,13 @@ fn next_call(fails: &[u64], calls: &mut u64) -> bool
     let listed = fails.contains(calls);
     count_call(calls);
     listed
+}
+
+// Counts a call that found no memory.
+fn count_want(wants: &mut u64)
+    ensures { Rose wants.old wants.new }
+{
+    *wants = wants.saturating_add(1);
 }
 
 // Adds a version of a block, and notes it.

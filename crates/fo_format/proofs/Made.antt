@@ -1,13 +1,10 @@
 -- What the writes to the main device make.
-use Rattle.std.proofs.Common.{◌≡◌, inr, ℕ, ◌*◌, ◌<◌, ◌≤◌, true, lit<, List, [], length, set, take, drop, refl, sym, ◌∙◌, ap, subst, arith, length-set, length-take, length-drop, get_or-set_other, get_or-set_same}
+use Rattle.std.proofs.Common.{◌≡◌, inr, ℕ, ◌*◌, ◌<◌, ◌≤◌, List, [], length, set, take, drop, refl, sym, ◌∙◌, ap, subst, arith, length-set, length-take, length-drop, get_or-set_other, get_or-set_same}
 use Rattle.fo_disk.specs.Disk.{Block}
-use Rattle.fo_image.specs.Field.{zeros}
-use Rattle.fo_image.specs.Format.{SpellsHeader, SpellsSuper, SpellsLabel}
+use Rattle.fo_image.specs.Format.{SpellsHeader, SpellsSuper}
 use Rattle.fo_image.specs.Record.{SpellsRoot}
 use Rattle.fo_image.specs.Place.{label_blocks, first_data, label_block, label_byte}
-use Rattle.fo_image.specs.Usable.{free_label}
-use Rattle.fo_image.proofs.Padding.{zeros-from_all}
-use Rattle.fo_sound.specs.Image.{block_of, is_zero, IsDataBlock, label_bytes}
+use Rattle.fo_sound.specs.Image.{block_of, IsDataBlock, label_bytes}
 use Rattle.fo_sound.specs.Fresh.{fresh_super, fresh_root, IsFresh}
 use Rattle.fo_sound.proofs.Labels.{free_spelled}
 use Rattle.fo_format.specs.Labels.{IsLabelBlock, HasLabelBlocks}

@@ -1,12 +1,12 @@
 -- What formatting leaves on the two devices, and what is said where it is refused or broken off.
-use Rattle.std.specs.Prelude.{◌≡◌, ◌≢◌, ℕ, ◌≤◌, Bool, true, false, List, length, Result, IfErr}
-use Rattle.fo_base.specs.Cause.{Rose}
+use Rattle.std.specs.Prelude.{◌≡◌, ◌≢◌, ℕ, ◌≤◌, Bool, true, false, List, length, Result, IfErr, MatchResult}
+use Rattle.fo_base.specs.Cause.{Rose, Counted}
 use Rattle.fo_disk.specs.Disk.{Block, Content, latest}
 use Rattle.fo_disk.specs.declared.disk.DiskFault.{DiskFault}
 use Rattle.fo_disk.specs.declared.disk.DiskFault.TheVariants.{Read, Write, Sync}
 use Rattle.fo_image.specs.Place.{first_data}
 use Rattle.fo_sound.specs.Image.{block_of, IsDataBlock}
-use Rattle.fo_sound.specs.Sizes.{HasSizes, IsArena}
+use Rattle.fo_sound.specs.Sizes.{IsMainSize, InRange, HasSizes, IsArena}
 use Rattle.fo_sound.specs.Device.{Shows}
 use Rattle.fo_sound.specs.Fresh.{IsFresh}
 use Rattle.fo_format.specs.declared.error.FormatError.{FormatError}
@@ -92,15 +92,36 @@ IsLater Read = ⊥
 IsLater Write = Unit {0}
 IsLater Sync = Unit {0}
 
--- ---- faults
+-- ---- over any devices
 
--- A fault is answered only where that device's count rose.
+-- What a refusal says of the numbers of blocks that were found. The main device is asked first. Where the blocks of a device could
+-- not be counted, nothing is known of their number.
+abbrev pub RefusesAt : ℕ → ℕ → FormatError → Type 0
+RefusesAt main arena Size = ¬ InRange main arena
+RefusesAt main arena (Main Read) = Unit {0}
+RefusesAt main arena (Main Write) = InRange main arena
+RefusesAt main arena (Main Sync) = InRange main arena
+RefusesAt main arena (Arena Read) = IsMainSize main
+RefusesAt main arena (Arena Write) = InRange main arena
+RefusesAt main arena (Arena Sync) = InRange main arena
+RefusesAt main arena Memory = InRange main arena
+
+-- `Size` is answered exactly where one of the numbers of blocks that were found is out of range.
+abbrev pub KnowsSizes : {V : Type 0} → ℕ → ℕ → Result V FormatError → Type 0
+KnowsSizes main arena result = MatchResult result (λ _. InRange main arena) (RefusesAt main arena)
+
+-- `Size` is answered only where the main device was asked for its number of blocks, and so was the arena if that number is in range.
+abbrev pub AsksSizes : {V : Type 0} → ℕ → ℕ → ℕ → ℕ → ℕ → Result V FormatError → Type 0
+AsksSizes size main main_now arena arena_now result = IfErr result (λ e. e ≡ Size → Counted main main_now × (IsMainSize size → Counted arena arena_now))
+
+-- A fault is answered only where that device's count rose, and `Size` only where no device failed.
 abbrev pub Blames : ℕ → ℕ → ℕ → ℕ → FormatError → Type 0
+Blames main main_now arena arena_now Size = (main_now ≡ main) × (arena_now ≡ arena)
 Blames main main_now arena arena_now (Main fault) = Rose main main_now
 Blames main main_now arena arena_now (Arena fault) = Rose arena arena_now
 Blames main main_now arena arena_now _ = Unit {0}
 
--- The counts of faults never fall, and a fault is answered only where its device's count rose.
+-- The counts of faults never fall, a fault is answered only where its device's count rose, and `Size` only where neither did.
 pub record HasCauses {T : Type 0} (main main_now arena arena_now : ℕ) (result : Result T FormatError) : Type 0 where
   pub main_later : main ≤ main_now
   pub arena_later : arena ≤ arena_now

@@ -1,6 +1,6 @@
 //! Calls of a device, each with its fault, and what they do to the last versions of its blocks.
 ghost use Rattle.std.specs.Prelude.{◌≡◌, ◌<◌, List, length, slice_set, OnOk, IfOk, IfErr};
-ghost use Rattle.fo_base.specs.Cause.{HasCause};
+ghost use Rattle.fo_base.specs.Cause.{HasCause, Counted};
 ghost use Rattle.fo_disk.specs.Disk.{Block, latest, IsSure, IsQuiet};
 ghost use Rattle.fo_disk.specs.declared.disk.DiskFault.TheVariants.{Read, Write, Sync};
 ghost use Rattle.fo_sound.specs.Device.{Shows, IsKept};
@@ -11,6 +11,8 @@ use fo_disk::{Disk, DiskFault};
 pub(crate) fn count<D: Disk>(device: &mut D) -> Result<u64, DiskFault>
     ensures size { IfOk result (λ n. D.size device.new ≡ n) }
     ensures fixed { 0 < D.size device.old → D.size device.new ≡ D.size device.old }
+    ensures asked { Counted (D.calls device.old) (D.calls device.new) }
+    ensures answered { IfOk result (λ _. D.faults device.new ≡ D.faults device.old) }
     ensures shown { (image : List Block) → Shows (D.holds device.old) image → IfOk result (λ n. length image ≡ n) }
     ensures kept { IsKept (D.holds device.old) (D.holds device.new) (D.moments device.old) (D.moments device.new) (D.unsure device.old) (D.unsure device.new) }
     ensures cause { HasCause (D.faults device.old) (D.faults device.new) result }

@@ -7,7 +7,7 @@ ghost use Rattle.fo_image.specs.Record.{RootHolds};
 ghost use Rattle.fo_sound.specs.Sizes.{HasSizes};
 ghost use Rattle.fo_sound.specs.Device.{Shows, IsKept};
 ghost use Rattle.fo_sound.specs.Fresh.{fresh_root};
-ghost use Rattle.fo_format.specs.Formatted.{MakesFresh, MakesEmpty, Unsettled, RefusesSizes, Refuses, HasCauses, IsOfSizes, IsLater, Formats, wrote_main, wrote_arena};
+ghost use Rattle.fo_format.specs.Formatted.{MakesFresh, MakesEmpty, Unsettled, RefusesSizes, Refuses, HasCauses, KnowsSizes, AsksSizes, IsOfSizes, IsLater, Formats, wrote_main, wrote_arena};
 
 use crate::calls::{count, sync, write};
 use crate::error::FormatError;
@@ -25,8 +25,11 @@ fn sizes<D: Disk, A: Disk>(main: &mut D, arena: &mut A) -> Result<(u32, u32), Fo
     ensures answer { (image vault : List Block) → Shows (D.holds main.old) image → Shows (A.holds arena.old) vault
         → MatchResult result (λ n. HasSizes image vault × (length image ≡ n.0) × (length vault ≡ n.1)) (RefusesSizes image vault) }
     ensures found { IfOk result (λ n. (D.size main.new ≡ n.0) × (A.size arena.new ≡ n.1) × (64 ≤ n.0) × (n.0 ≤ 2 ^ 20) × (16 ≤ n.1) × (n.1 ≤ 2 ^ 20)) }
+    ensures sizes { KnowsSizes (D.size main.new) (A.size arena.new) result }
+    ensures asked { AsksSizes (D.size main.new) (D.calls main.old) (D.calls main.new) (A.calls arena.old) (A.calls arena.new) result }
     ensures only { IfErr result IsOfSizes }
     ensures fixed { 0 < D.size main.old → D.size main.new ≡ D.size main.old }
+    ensures arena_fixed { 0 < A.size arena.old → A.size arena.new ≡ A.size arena.old }
     ensures main { IsKept (D.holds main.old) (D.holds main.new) (D.moments main.old) (D.moments main.new) (D.unsure main.old) (D.unsure main.new) }
     ensures arena { IsKept (A.holds arena.old) (A.holds arena.new) (A.moments arena.old) (A.moments arena.new) (A.unsure arena.old) (A.unsure arena.new) }
     ensures causes { HasCauses (D.faults main.old) (D.faults main.new) (A.faults arena.old) (A.faults arena.new) result }
@@ -54,6 +57,7 @@ fn write_arena<A: Disk>(arena: &mut A, blocks: u32) -> Result<(), DiskFault>
     requires least { 16 ≤ blocks }
     ensures made { length (latest (A.holds arena.old)) ≡ blocks
         → let made = MakesEmpty (latest (A.holds arena.old)) (latest (A.holds arena.new)) in MatchResult result (λ _. made) (Unsettled made) }
+    ensures size { A.size arena.new ≡ A.size arena.old }
     ensures quiet { OnOk result (IsSure (A.unsure arena.old) (A.holds arena.old) → IsQuiet (A.holds arena.new)) }
     ensures cause { HasCause (A.faults arena.old) (A.faults arena.new) result }
     ensures fault { IfErr result IsLater }
@@ -122,8 +126,12 @@ pub fn format<D: Disk, A: Disk>(
     ensures formats { (image vault : List Block) → Shows (D.holds main.old) image → Shows (A.holds arena.old) vault
         → MatchResult result (λ _. Formats time image vault (D.holds main.new) (A.holds arena.new)) (Refuses time image vault (D.holds main.new) (A.holds arena.new)) }
 
-    // A number of blocks that is known stays.
+    // Over any devices: `Size` is answered exactly where a number of blocks that was found is out of range, and a number that is
+    // known stays.
+    ensures sizes { KnowsSizes (D.size main.new) (A.size arena.new) result }
+    ensures asked { AsksSizes (D.size main.new) (D.calls main.old) (D.calls main.new) (A.calls arena.old) (A.calls arena.new) result }
     ensures fixed { 0 < D.size main.old → D.size main.new ≡ D.size main.old }
+    ensures arena_fixed { 0 < A.size arena.old → A.size arena.new ≡ A.size arena.old }
 
     // Where nothing was written, nothing changed.
     ensures main { IfErr result (λ e. wrote_main e ≡ false → IsKept (D.holds main.old) (D.holds main.new) (D.moments main.old) (D.moments main.new) (D.unsure main.old) (D.unsure main.new)) }

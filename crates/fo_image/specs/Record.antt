@@ -1,5 +1,5 @@
 -- Records and root blocks, each by its fields in their order and the condition on its values.
-use Rattle.std.specs.Prelude.{◌≡◌, ℕ, ◌+◌, ◌≤◌, ◌↔◌, List, [], ◌∷◌, ◌++◌, length, codes, Result, IfOk, IfErr, MatchResult}
+use Rattle.std.specs.Prelude.{◌≡◌, ℕ, ◌+◌, ◌^◌, ◌<◌, ◌≤◌, ◌↔◌, List, [], ◌∷◌, ◌++◌, length, codes, Result, IfOk, IfErr, MatchResult}
 use Rattle.fo_base.specs.Text.{IsText}
 use Rattle.fo_image.specs.declared.types.Bad.TheVariants as bad
 use Rattle.fo_image.specs.declared.record.Record.{Record}
@@ -7,7 +7,7 @@ use Rattle.fo_image.specs.declared.record.RootBlock.{RootBlock}
 use Rattle.fo_image.specs.declared.record.RecordError.{RecordError}
 use Rattle.fo_image.specs.declared.record.RecordError.TheVariants as why
 use Rattle.fo_image.specs.Field.{Two, Four, Field, Number, Fixed, Text, Spells}
-use Rattle.fo_image.specs.Format.{EntryHolds, entry_fields}
+use Rattle.fo_image.specs.Format.{IsEpoch, EntryHolds, entry_fields}
 
 -- UTF-8 without NUL, of one byte up to so many
 pub record IsTextWithin (limit : ℕ) (bytes : List ℕ) : Type 0 where
@@ -41,9 +41,10 @@ pub record RootRecordHolds (r : Record) : Type 0 where
   pub slot_is : r.slot ≡ 0
   pub generation_is : r.generation ≡ 0
 
--- a root has both an epoch before its own and the address of that root, or neither
+-- The epochs are below 2^31. A root has both the epoch and the address of the root before it, or neither.
 pub record RootHolds (r : RootBlock) : Type 0 where
-  pub epoch_is : 1 ≤ r.epoch
+  pub epoch_is : IsEpoch r.epoch
+  pub prev_epoch_is : r.prev_epoch < 2 ^ 31
   pub prev_is : (r.prev_epoch ≡ 0) ↔ (r.prev ≡ 0)
   pub entries_hold : EntryHolds r.entries
   pub meta_holds : EntryHolds r.meta

@@ -7,6 +7,7 @@ ghost use Rattle.fo_image.specs.Part.{parts_bytes};
 ghost use Rattle.fo_image.specs.Record.{RootRecordHolds, RootHolds, SpellsRoot, ReadsInMemory, root_head};
 
 use crate::entries::{entry_of, is_entry, write_entry};
+use crate::labels::is_epoch;
 use crate::parts::{Part, u16_at, u32_at, write_parts};
 use crate::places::BLOCK;
 use crate::record::{Record, RecordError, RootBlock};
@@ -42,7 +43,8 @@ fn is_root_record(own: &Record) -> bool
 pub fn is_root(root: &RootBlock) -> bool
     ensures { IsTrue result ↔ RootHolds root.now }
 {
-    1 <= root.epoch
+    is_epoch(root.epoch)
+        && root.prev_epoch < 1 << 31
         && (root.prev_epoch == 0) == (root.prev == 0)
         && is_entry(&root.entries)
         && is_entry(&root.meta)

@@ -20,10 +20,41 @@ impl SetClock {
 }
 
 impl Clock for SetClock {
-    ghost told = { λ clock. Some clock.seconds };
+    ghost coming = { λ clock. Some (λ _. clock.seconds) };
 
-    fn now(&self) -> u32 {
+    fn now(&mut self) -> u32 {
         self.seconds
+    }
+}
+
+/// A clock in memory, which says these moments, one a reading, and then 0.
+#[derive(Debug, Drop)]
+pub struct MemClock {
+    moments: Vec<u32>,
+    at: usize,
+}
+
+impl MemClock {
+    /// A clock that says these moments, in seconds since 1970-01-01 UTC.
+    pub fn new(moments: Vec<u32>) -> MemClock
+        ensures moments { result.moments.items ≡ moments.items }
+        ensures at { result.at ≡ 0 }
+    {
+        MemClock { moments, at: 0 }
+    }
+}
+
+impl Clock for MemClock {
+    ghost use Rattle.fo_links.specs.MemClock.{coming_of};
+
+    ghost coming = { coming_of };
+
+    fn now(&mut self) -> u32 {
+        let Some(seconds) = self.moments.get(self.at) else {
+            return 0;
+        };
+        self.at += 1;
+        *seconds
     }
 }
 
@@ -44,9 +75,9 @@ impl<R: time::Clock> SystemClock<R> {
 }
 
 impl<R: time::Clock> Clock for SystemClock<R> {
-    ghost told = { λ clock. None };
+    ghost coming = { λ clock. None };
 
-    fn now(&self) -> u32 {
+    fn now(&mut self) -> u32 {
         let Ok(time) = SystemTime::now(&self.rt) else {
             return 0;
         };

@@ -2,6 +2,7 @@
 ghost use Rattle.std.specs.Prelude.{◌≡◌, ℕ, ◌^◌, ◌<◌, List, length, IfSome};
 ghost use Rattle.std.specs.declared.option.Option.{Option};
 ghost use Rattle.fo_base.specs.Cause.{HasCause};
+ghost use Rattle.fo_links.specs.Clocks.{Readings, IsRead};
 ghost use Rattle.fo_links.specs.Links.{Taken, Put};
 
 use thiserror::Error;
@@ -56,10 +57,10 @@ pub trait Sink {
 
 /// Tells the time.
 pub trait Clock {
-    /// The time, in seconds since 1970-01-01 UTC, where the clock is known to stand still.
-    ghost told: { Self → Option ℕ };
+    /// What its readings will say, one after another, where the clock tells that.
+    ghost coming: { Self → Readings };
 
-    /// The time, in seconds since 1970-01-01 UTC.
-    fn now(&self) -> u32
-        ensures { IfSome (told self.now) (λ seconds. result ≡ seconds) };
+    /// The next reading: the time, in seconds since 1970-01-01 UTC.
+    fn now(&mut self) -> u32
+        ensures { IsRead (coming self.old) (coming self.new) result };
 }

@@ -5,6 +5,3 @@ mod names;
 
 pub use fo_world::Name;
 pub use names::{DatedName, dated};
-
-#[cfg(test)]
-mod tests;

@@ -1,2 +1,4 @@
 mod Empty
 mod Reach
+mod Causes
+mod Within

@@ -2,6 +2,7 @@
 use Rattle.std.specs.Prelude.{◌≡◌, ℕ, ◌⊎◌, [], List, false, Option, Some, None, Result, Ok, Err, MatchResult}
 use Rattle.fo_world.specs.declared.place.Place.{Place}
 use Rattle.fo_world.specs.declared.place.Change.{Change}
+use Rattle.fo_world.specs.declared.place.Info.{Info}
 use Rattle.fo_world.specs.declared.tree.Body.TheVariants.{Dir}
 use Rattle.fo_plain.specs.declared.plain.PlainFiles.{PlainFiles}
 use Rattle.fo_world.specs.declared.error.FileError.{FileError}
@@ -30,3 +31,11 @@ Grants after told r = MatchResult r (λ x. told ≡ Ok (tt, after x)) (λ e. (to
 abbrev pub changed_world : World → Place → Change → Option (List ℕ) → List ℕ → ℕ → World
 changed_world w at what None who now = w
 changed_world w at what (Some old) who now = after_change w at what old who now
+
+-- A granted change leads to this world, or memory is wanting and the world stays.
+abbrev pub Becomes : World → World → World → Result (Unit {0}) FileError → Type 0
+Becomes after old new r = MatchResult r (λ _. new ≡ after) (λ e. (e ≡ error.Memory) × (new ≡ old))
+
+-- a granted call that also tells of a file
+abbrev pub Makes : Info × World → World → World → Result Info FileError → Type 0
+Makes after old new r = MatchResult r (λ i. (i, new) ≡ after) (λ e. (e ≡ error.Memory) × (new ≡ old))

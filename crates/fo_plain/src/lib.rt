@@ -4,8 +4,12 @@
 //! The types are those of `fo_world`, and go by this crate's name too.
 #![tactic(auto)]
 
+mod changing;
+mod checking;
 mod date;
 mod dated;
+mod looking;
+mod made;
 mod plain;
 mod reached;
 mod taken;
@@ -15,6 +19,3 @@ pub use fo_world::{
     Snap, Trail, Tree, View, World,
 };
 pub use plain::PlainFiles;
-
-#[cfg(test)]
-mod tests;

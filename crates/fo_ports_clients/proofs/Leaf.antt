@@ -1,20 +1,23 @@
 -- One byte of a leaf is put.
-use Rattle.std.proofs.Common.{◌≡◌, ◌≢◌, ◌⊎◌, inl, inr, ⊎_elim, ℕ, ◌+◌, ◌*◌, ◌<◌, ◌≤◌, zero, suc, Bool, true, false, List, [], ◌∷◌, ◌++◌, length, get_or, take, drop, replicate, refl, sym, ◌∙◌, ap, subst, arith, add-one}
+use Rattle.std.proofs.Common.{◌≡◌, ◌≢◌, ◌⊎◌, inl, inr, ⊎_elim, ℕ, ◌%◌, ◌<◌, zero, suc, Bool, true, false, List, [], ◌∷◌, ◌++◌, length, get_or, take, drop, refl, sym, ◌∙◌, ap, subst, arith, add-one}
 use Rattle.std.proofs.lemmas.Bool.{cases_eq}
 use Rattle.fo_image.specs.declared.types.Entry.{Entry}
 use Rattle.fo_image.specs.declared.types.Kind.{Kind}
 use Rattle.fo_image.specs.declared.types.Kind.TheVariants.{Data, Dir, Root}
+use Rattle.fo_image.specs.declared.types.Pointer.{Pointer}
 use Rattle.fo_image.specs.declared.types.Pointer.TheVariants.{Nil, Local}
 use Rattle.fo_image.specs.Format.{ActiveHolds}
 use Rattle.fo_crash.specs.declared.slot.Slot.{Slot}
 use Rattle.fo_crash.specs.declared.slot.Slot.TheVariants.{Pointer as To, Entry as Head, Prev}
-use Rattle.fo_crash.specs.Images.{Image, target, depth_of, Reaches}
-use Rattle.fo_crash.specs.Steps.{AddsBytes, AddsNothing, Covers}
+use Rattle.fo_crash.specs.Images.{Image, target, depth_of, to_block, Reaches}
+use Rattle.fo_crash.specs.Steps.{AddsBytes, AddsNothing, Covers, PutsBytes}
 use Rattle.fo_crash.specs.Names.{InAll, IsInUse}
 use Rattle.fo_crash.specs.Places.{OnePlace}
 use Rattle.fo_crash.specs.declared.place.Place.{Place}
-use Rattle.fo_crash.proofs.Reach.{lost}
-use Rattle.fo_ports.specs.Blocks.{slot_count, SlotFits, put_at, dropped, zero_bytes}
+use Rattle.fo_crash.proofs.Reach.{lost, reaches_on, same_walk}
+use Rattle.fo_ports.specs.Blocks.{slot_count, SlotFits, IsFormed, IsInner, put_at, dropped, cost, ends}
+use Rattle.fo_ports.specs.State.{State, IsHeld, IsPointers, Frame, Hangs, MayPutSlot, MayRemoveSlot}
+use Rattle.fo_ports_clients.proofs.Copies.{put_places}
 use Rattle.fo_ports_clients.specs.Leaf.{Lists}
 
 put_other : (xs : List ℕ) (i v j : ℕ) → i < length xs → j ≢ i → get_or (take i xs ++ (v ∷ []) ++ drop (suc i) xs) j 0 ≡ get_or xs j 0
@@ -75,17 +78,6 @@ free_is_empty Root (suc zero) (To p) fits free e is = absurd fits
 free_is_empty Root (suc zero) (Prev x y) fits free e is = absurd fits
 free_is_empty Root (suc (suc i)) s fits free e is = absurd is
 
-pub no_drop : (old new : Slot) (room : ℕ) → depth_of old ≡ 0 → 409 * dropped old new ≤ room
-no_drop old new room empty =
-    let none : dropped old new ≡ 0 = omega (arith, empty) in
-    subst (λ n. 409 * n ≤ room) (sym none) (omega arith)
-
-pub room_stays : (old new : Slot) (room left : ℕ) → depth_of old ≡ 0 → left + 409 * dropped old new ≡ room → left ≡ room
-room_stays old new room left empty e =
-    let none : dropped old new ≡ 0 = omega (arith, empty) in
-    let same : left + 409 * 0 ≡ room = subst (λ n. left + 409 * n ≡ room) none e in
-    omega (arith, same)
-
 pub never_drops : (old new : Slot) (n : ℕ) → depth_of old ≡ 0 → n < dropped old new → ⊥
 never_drops old new n empty lt =
     let none : dropped old new ≡ 0 = omega (arith, empty) in
@@ -100,25 +92,57 @@ few_slots (Dir (suc level)) i lt = lt
 few_slots Root i lt = omega arith
 
 -- What was taken out of the tree of memory is nothing.
-pub still_uncovered : {now next : Image} {s : Slot} {old new : ℕ → Type 0} (b : ℕ) → Covers s now next old new → target s ≡ Nil → (old b → ⊥) → new b → ⊥
-still_uncovered {s = s} b covers nil none h = ⊎_elim none (λ r. nil_reaches s b nil r.0) (covers.each b h)
+pub still_uncovered : {inner : ℕ → Type 0} {now next : Image} {s : Slot} {old new : ℕ → Type 0} (b : ℕ) → Covers inner s now next old new → target s ≡ Nil → (old b → ⊥) → new b → ⊥
+still_uncovered {s = s} b covers nil none h = covers.only b none (λ r. nil_reaches s b nil r) h
 
 -- the one place of a block that still stands there
 pub place_is : {new : ℕ → Place → Type 0} (b : ℕ) (p q : Place) → OnePlace new → new b p → new b q → q ≡ p
 place_is b p q one before now = one.each b q p now before
 
--- a block of zeros lists nothing
-repeated_at : (n d i : ℕ) → get_or (replicate n d) i d ≡ d
-repeated_at zero d i = refl
-repeated_at (suc n) d zero = refl
-repeated_at (suc n) d (suc i) = repeated_at n d i
+-- A leaf that holds no records is of its format where it is whole.
+pub plain_formed : (kind : Kind) (rank : ℕ) (bytes : List ℕ) → kind ≡ Data 0 → rank % 32 ≢ 16 → length bytes ≡ 8192 → IsFormed kind rank bytes
+plain_formed kind rank bytes is plain long = subst (λ (k : Kind). IsFormed k rank bytes) (sym is) (long, λ e. absurd (plain e))
 
-zero_byte : (i : ℕ) → get_or zero_bytes i 0 ≡ 0
-unfolding zero_bytes
-zero_byte i = repeated_at 8192 0 i
+nil_local : {a : ℕ} {p : Pointer} → p ≡ Nil → p ≡ Local a → ⊥
+nil_local nil e = cc
 
-pub zeros_list_nothing : (bytes : List ℕ) (i g : ℕ) → bytes ≡ zero_bytes → Lists bytes i g → ⊥
-zeros_list_nothing bytes i g is lists =
-    let none : 0 ≡ g = sym (zero_byte i) ∙ ap (λ (xs : List ℕ). get_or xs i 0) (sym is) ∙ lists.0 in
-    let some : 0 < g = lists.1 in
-    omega (arith, none, some)
+-- A slot that leads nowhere may be put where nothing hangs.
+pub may_put_nil : {s : State} (at i : ℕ) (slot : Slot) → target slot ≡ Nil → target ((s.now at).slot i) ≡ Nil → (s.covered at → ⊥) → IsHeld s at → MayPutSlot s at i slot
+may_put_nil {s = s} at i slot nil none uncovered held = record {
+  brings = record { each = λ b r. absurd (nil_reaches slot b nil r) };
+  fits = record { each = λ b p stands e. absurd (nil_local nil e) };
+  lower = λ b p stands e. absurd (nil_local nil e);
+  parent = record { each = λ b e older. absurd (nil_local nil e) };
+  comes = λ b e. absurd (nil_local nil e);
+  leaves = record { each = λ y x is r. absurd (nil_reaches ((s.now at).slot i) x none r); still = λ b j waits r. absurd (nil_reaches ((s.now at).slot i) b none r) };
+  uncovered = uncovered;
+  first = λ inner zero x e. absurd (nil_local none e);
+  holder = held;
+  keeps = λ c e. absurd (nil_local none e);
+}
+
+-- An entry of a leaf of the tree may be cleared where nothing is to come in the place of another block and nothing below it waits.
+pub may_remove : {s : State} (at i : ℕ) → (s.label at).kind ≡ Dir 0 → ((y x : ℕ) → s.instead y x → ⊥) → ((b j : ℕ) → s.clearing b j → Reaches s.now ((s.now at).slot i) b → ⊥) → (s.covered at → ⊥) → Reaches s.now (to_block 1) at → MayRemoveSlot s at i
+may_remove {s = s} at i kind linked quiet uncovered reached = record {
+  leaves = record { each = λ y x is r. absurd (linked y x is); still = λ b j waits r. absurd (quiet b j waits r) };
+  uncovered = uncovered;
+  first = λ inner zero. let none : 0 < 0 = subst (λ (k : Kind). IsInner k) kind inner in omega (arith, none);
+  holder = inl reached;
+  keeps = λ c e. reaches_on i reached e;
+}
+
+-- What leads nowhere and has no depth costs no removal to replace.
+pub nil_cost : (old new : Slot) → depth_of old ≡ 0 → target old ≡ Nil → cost old new ≡ 0
+nil_cost old new flat nil =
+    let none : dropped old new ≡ 0 = omega (arith, flat) in
+    let ends_none : ends (target old) (target new) ≡ 0 = ap (λ p. ends p (target new)) nil in
+    omega (arith, none, ends_none)
+
+-- After a put of a slot that leads nowhere, where nothing hung, all stand where they stood.
+pub nil_places : {at i : ℕ} {slot : Slot} {n : ℕ} {old new : State} → old.tells → Frame (λ b. b ≡ at) (λ b. (b ≡ at) ⊎ (target slot ≡ Local b)) n old new → Hangs at i slot old new → Covers (IsPointers old) ((old.now at).slot i) old.now new.now old.covered new.covered
+    → target slot ≡ Nil → target ((old.now at).slot i) ≡ Nil → (b : ℕ) (p : Place) → (old.covered b → ⊥) → old.stands b p → new.stands b p
+nil_places {at = at} {i = i} {slot = slot} {old = old} {new = new} told frame hangs covers nil none b p uncovered stands = put_places told frame hangs b p (λ e. nil_local nil e) (still_uncovered b covers none uncovered) stands
+
+-- Where bytes are put, what was reached still is.
+pub bytes_reached : {now next : Image} {at : ℕ} {bytes : List ℕ} {t : Slot} {c : ℕ} → PutsBytes at bytes now next → Reaches now t c → Reaches next t c
+bytes_reached {now = now} {next = next} {t = t} puts r = record { path = r.path; leads = ap target (same_walk next now puts.slots r.path t) ∙ r.leads }

@@ -1,4 +1,4 @@
 pub mod Leaf
 pub mod Own
 pub mod Tree
-pub mod Small
+pub mod Copies

@@ -1,19 +1,22 @@
 -- One way to a new block.
-use Rattle.std.proofs.Common.{◌≡◌, ◌≢◌, ◌⊎◌, inl, inr, ⊎_elim, ℕ, ◌-◌, ◌^◌, ◌<◌, Bool, true, false, zero, suc, List, [], ◌∷◌, refl, sym, ◌∙◌, ap, subst, arith}
+use Rattle.std.proofs.Common.{◌≡◌, ◌≢◌, ◌⊎◌, inl, inr, ⊎_elim, ℕ, ◌+◌, ◌-◌, ◌*◌, ◌^◌, ◌<◌, Bool, true, false, zero, suc, List, [], ◌∷◌, refl, sym, ◌∙◌, ap, subst, arith}
 use Rattle.fo_image.specs.declared.types.Entry.{Entry}
 use Rattle.fo_image.specs.declared.types.Kind.{Kind}
 use Rattle.fo_image.specs.declared.types.Kind.TheVariants.{Data, Dir, Root}
+use Rattle.fo_image.specs.declared.types.Pointer.{Pointer}
 use Rattle.fo_image.specs.declared.types.Pointer.TheVariants.{Nil, Local}
 use Rattle.fo_image.specs.Format.{ActiveHolds}
 use Rattle.fo_crash.specs.declared.slot.Slot.{Slot}
 use Rattle.fo_crash.specs.declared.slot.Slot.TheVariants.{Pointer as To, Entry as Head, Prev}
-use Rattle.fo_crash.specs.Images.{Content, Image, Arena, Link, IsArena, from_block, target, note, goes, depth_of, with_slot, with_bytes, with_block}
+use Rattle.fo_crash.specs.Images.{Content, Image, Arena, Link, IsArena, from_block, target, note, goes, with_slot, with_bytes, with_block}
+use Rattle.fo_crash.specs.Names.{IsInUse, SameUse}
 use Rattle.fo_crash.specs.Shows.{Keeps}
 use Rattle.fo_crash.specs.Steps.{AddsSlot, AddsBytes, AddsBlock}
 use Rattle.fo_crash.proofs.Updates.{slot_other, block_other}
 use Rattle.fo_crash.proofs.Reach.{reaches}
 use Rattle.fo_crash.proofs.Keeps.{bytes_keeps, goes_aside, goes_bytes}
-use Rattle.fo_ports.specs.Blocks.{SlotFits, IsPointer, IsEntry, dropped}
+use Rattle.fo_ports.specs.Blocks.{SlotFits, IsPointer, IsEntry, slot_count}
+use Rattle.fo_ports.specs.State.{IsPairUsed}
 use Rattle.fo_ports_clients.specs.Own.{led, HasOneWay, MovesOne, IsOtherLeaf}
 
 pub led_note : (s : Slot) (to : ℕ) → note (led s to) ≡ note s
@@ -25,14 +28,6 @@ pub led_target : (s : Slot) (below to : ℕ) → target s ≡ Local below → ta
 led_target (To p) below to e = refl
 led_target (Head x) below to e = refl
 led_target (Prev epoch at) below to e = let both : Nil ≡ Local below = e in absurd (cc)
-
-led_depth : (s : Slot) (to : ℕ) → depth_of (led s to) ≡ depth_of s
-led_depth (To p) to = refl
-led_depth (Head e) to = refl
-led_depth (Prev epoch at) to = refl
-
-pub led_drops : (s : Slot) (to : ℕ) → dropped s (led s to) ≡ 0
-led_drops s to = let same : depth_of (led s to) ≡ depth_of s = led_depth s to in omega (arith, same)
 
 -- what fits still fits with another target
 led_active : (active : Bool) (e : Entry) (below to : ℕ) → e.top ≡ Local below → to < 2 ^ 32 - 1 → ActiveHolds active e → ActiveHolds active (record e { top = Local to })
@@ -108,3 +103,45 @@ other_leaf {arena} {root} {top} {leaf} {k} {now} {bytes} {beside} {mid} {last} {
             (inr ne, tt),
           ),
         )
+
+-- What is led elsewhere is in the same use where it is no bare pointer.
+pub led_use : (s : Slot) (to : ℕ) → ((p : Pointer) → s ≢ To p) → SameUse (led s to) s
+led_use (To p) to not = absurd (not p refl)
+led_use (Head e) to not = (refl, refl, refl, refl)
+led_use (Prev epoch at) to not = refl
+
+used_points_not : (s : Slot) (g : ℕ) → IsInUse s g → IsPointer s → ⊥
+used_points_not (To p) g used fits = used
+used_points_not (Head e) g used fits = fits
+used_points_not (Prev epoch at) g used fits = used
+
+entry_points_not : (s : Slot) → IsEntry s → (p : Pointer) → s ≢ To p
+entry_points_not (To q) fits p e = fits
+entry_points_not (Head x) fits p e = cc
+entry_points_not (Prev epoch at) fits p e = fits
+
+-- an entry of a root block stands in one of its first two slots
+root_entry : (n g : ℕ) (s : Slot) → SlotFits Root n s → IsInUse s g → n < 2
+root_entry zero g s fits used = omega arith
+root_entry (suc zero) g s fits used = omega arith
+root_entry (suc (suc n)) g (To p) fits used = absurd used
+root_entry (suc (suc n)) g (Head e) fits used = absurd fits
+root_entry (suc (suc n)) g (Prev epoch at) fits used = absurd used
+
+-- The second slot of a pair whose first is in use is an entry, too.
+second_entry : (kind : Kind) (i k g : ℕ) (s first : Slot) → i ≡ 2 * k + 1 → SlotFits kind i s → SlotFits kind (2 * k) first → IsInUse first g → (p : Pointer) → s ≢ To p
+second_entry (Data level) i k g s first is fits before used = absurd (used_points_not first g used before)
+second_entry (Dir zero) i k g s first is fits before used = entry_points_not s fits
+second_entry (Dir (suc level)) i k g s first is fits before used = absurd (used_points_not first g used before)
+second_entry Root i k g s first is fits before used =
+    let low : 2 * k < 2 = root_entry (2 * k) g first before used in
+    let one : i ≡ 1 = omega (arith, is, low) in
+    let there : SlotFits Root 1 s = subst (λ n. SlotFits Root n s) one fits in
+    entry_points_not s there
+
+-- What is waited for is an entry.
+pub waited_entry : (now : Image) (kind : Kind) (at i : ℕ) → i < slot_count kind → ((j : ℕ) → j < slot_count kind → SlotFits kind j ((now at).slot j)) → IsPairUsed now at i → (p : Pointer) → (now at).slot i ≢ To p
+waited_entry now kind at i lt fits used = ⊎_elim
+    (λ own p e. subst (λ (s : Slot). IsInUse s own.0) e own.1)
+    (λ pair. let is = pair.1 in second_entry kind i pair.0 pair.2.0 ((now at).slot i) ((now at).slot (2 * pair.0)) is (fits i lt) (fits (2 * pair.0) (omega (arith, is, lt))) pair.2.1)
+    used

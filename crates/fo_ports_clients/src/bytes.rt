@@ -29,37 +29,39 @@ fn led(slot: Slot, to: u32) -> Slot
 
 /// Copies the older block below a slot, and leads the slot to the copy.
 fn own_below<B: Blocks>(on: &mut B, at: u32, i: u32, below: u32) -> u32
-    requires at_pinned { B.pinned on.old at }
-    requires at_live { (B.label on.old at).state ≡ Live }
-    requires current { (B.label on.old at).epoch ≡ B.high on.old }
-    requires reached { B.tells on.old → Reaches (B.now on.old) (to_block 1) at }
-    requires slots { i < slot_count (B.label on.old at).kind }
-    requires settled { B.clearing on.old at i → ⊥ }
-    requires spare { 0 < B.spare on.old }
-    requires leads { target ((B.now on.old at).slot i) ≡ Local below }
-    requires below_pinned { B.pinned on.old below }
-    requires below_live { (B.label on.old below).state ≡ Live }
+    requires at_pinned { (B.state on.old).pinned at }
+    requires at_apart { at ≢ 1 }
+    requires at_live { ((B.state on.old).label at).state ≡ Live }
+    requires current { ((B.state on.old).label at).epoch ≡ (B.state on.old).high }
+    requires reached { (B.state on.old).tells → Reaches (B.state on.old).now (to_block 1) at }
+    requires slots { i < slot_count ((B.state on.old).label at).kind }
+    requires settled { (B.state on.old).clearing at i → ⊥ }
+    requires spare { 0 < (B.state on.old).spare }
+    requires leads { target (((B.state on.old).now at).slot i) ≡ Local below }
+    requires below_pinned { (B.state on.old).pinned below }
+    requires below_live { ((B.state on.old).label below).state ≡ Live }
     requires below_apart { below ≢ 1 }
-    requires whole { (j : ℕ) → B.clearing on.old below j → ⊥ }
-    requires older { (B.label on.old below).epoch < B.high on.old }
+    requires older { ((B.state on.old).label below).epoch < (B.state on.old).high }
+    requires linked { (B.state on.old).tells → (y x : ℕ) → (B.state on.old).instead y x → ⊥ }
 
     // Every image shows what one of before shows.
-    ensures shows { B.tells on.old → KeepsAll Everywhere (B.may_leave on.old) (B.may_leave on.new) }
+    ensures shows { (B.state on.old).tells → KeepsAll Everywhere (B.state on.old).may_leave (B.state on.new).may_leave }
 
-    ensures one_way { HasOneWay at i result (B.may_leave on.new) }
-    ensures moves { MovesOne at i result (B.may_leave on.old) (B.may_leave on.new) }
-    ensures here { target ((B.now on.new at).slot i) ≡ Local result }
-    ensures copied { SameContent (B.now on.new result) (B.now on.old below) }
-    ensures slots { (b j : ℕ) → b ≢ result → (b ≢ at) ⊎ (j ≢ i) → (B.now on.new b).slot j ≡ (B.now on.old b).slot j }
-    ensures bytes { (b : ℕ) → b ≢ result → (B.now on.new b).bytes ≡ (B.now on.old b).bytes }
-    ensures fresh { (result ≢ 1) × ((B.label on.old result).state ≢ Live) }
-    ensures label { ((B.label on.new result).state ≡ Live) × ((B.label on.new result).kind ≡ (B.label on.old below).kind) × ((B.label on.new result).epoch ≡ B.high on.new) }
-    ensures others { (b : ℕ) → b ≢ result → (B.label on.new b ≡ B.label on.old b) × (B.pinned on.old b → B.pinned on.new b) }
-    ensures pinned { B.pinned on.new result }
-    ensures order { (b j : ℕ) → B.clearing on.new b j → (b ≢ result) × B.clearing on.old b j }
-    ensures place { B.tells on.old → (p : Place) → B.stands on.old below p → B.stands on.new result p }
-    ensures places { (b : ℕ) (p : Place) → b ≢ result → B.stands on.old b p → (B.covered on.new b → ⊥) → B.stands on.new b p }
-    ensures spare { B.spare on.new + 1 ≡ B.spare on.old }
+    ensures one_way { HasOneWay at i result (B.state on.new).may_leave }
+    ensures moves { MovesOne at i result (B.state on.old).may_leave (B.state on.new).may_leave }
+    ensures here { target (((B.state on.new).now at).slot i) ≡ Local result }
+    ensures copied { SameContent ((B.state on.new).now result) ((B.state on.old).now below) }
+    ensures slots { (b j : ℕ) → b ≢ result → (b ≢ at) ⊎ (j ≢ i) → ((B.state on.new).now b).slot j ≡ ((B.state on.old).now b).slot j }
+    ensures bytes { (b : ℕ) → b ≢ result → ((B.state on.new).now b).bytes ≡ ((B.state on.old).now b).bytes }
+    ensures fresh { (result ≢ 1) × (((B.state on.old).label result).state ≢ Live) }
+    ensures label { (((B.state on.new).label result).state ≡ Live) × (((B.state on.new).label result).kind ≡ ((B.state on.old).label below).kind) × (((B.state on.new).label result).epoch ≡ (B.state on.new).high) }
+    ensures others { (b : ℕ) → b ≢ result → ((B.state on.new).label b ≡ (B.state on.old).label b) × ((B.state on.old).pinned b → (B.state on.new).pinned b) }
+    ensures pinned { (B.state on.new).pinned result }
+    ensures order { (b j : ℕ) → (B.state on.new).clearing b j → (b ≢ result) × (B.state on.old).clearing b j }
+    ensures place { (B.state on.old).tells → (p : Place) → (B.state on.old).stands below p → (B.state on.new).stands result p }
+    ensures places { (B.state on.old).tells → (b : ℕ) (p : Place) → b ≢ result → (B.state on.old).stands b p → ((B.state on.new).covered b → ⊥) → (B.state on.new).stands b p }
+    ensures linked { (B.state on.new).tells → (y x : ℕ) → (B.state on.new).instead y x → ⊥ }
+    ensures spare { (B.state on.new).spare + 1 ≡ (B.state on.old).spare }
     ensures keeps { B.keeps on.old on.new }
 {
     let slot = on.slot(at, i);
@@ -69,34 +71,37 @@ fn own_below<B: Blocks>(on: &mut B, at: u32, i: u32, below: u32) -> u32
 }
 
 /// Writes a byte of leaf `k` of the source of one level of pointers that is the first of the active root block. The leaf and the
-/// block of pointers are older than the epoch, and are copied.
+/// block of pointers are older than the epoch, and are copied. Nothing was made before that is still to come in the place of another
+/// block.
 pub fn write_byte<B: Blocks>(on: &mut B, top: u32, k: u32, leaf: u32, from: u32, byte: u8) -> u32
-    requires spare { 2 ≤ B.spare on.old }
-    requires root_pinned { B.pinned on.old (B.root on.old) }
-    requires root_live { (B.label on.old (B.root on.old)).state ≡ Live }
-    requires root_slots { 0 < slot_count (B.label on.old (B.root on.old)).kind }
-    requires current { (B.label on.old (B.root on.old)).epoch ≡ B.high on.old }
-    requires settled { (b j : ℕ) → B.clearing on.old b j → ⊥ }
-    requires apart { (B.root on.old ≢ 1) × (top ≢ 1) × (leaf ≢ 1) }
-    requires top_leads { target ((B.now on.old (B.root on.old)).slot 0) ≡ Local top }
-    requires top_pinned { B.pinned on.old top }
-    requires top_live { (B.label on.old top).state ≡ Live }
-    requires top_older { (B.label on.old top).epoch < B.high on.old }
-    requires slots { k < slot_count (B.label on.old top).kind }
-    requires leaf_leads { target ((B.now on.old top).slot k) ≡ Local leaf }
-    requires leaf_pinned { B.pinned on.old leaf }
-    requires leaf_live { (B.label on.old leaf).state ≡ Live }
-    requires leaf_older { (B.label on.old leaf).epoch < B.high on.old }
-    requires leaf_kind { (B.label on.old leaf).kind ≡ Data 0 }
-    requires leaf_long { length ((B.now on.old leaf).bytes) ≡ 8192 }
-    requires leaf_place { B.tells on.old → (p : Place) → B.stands on.old leaf p → p.rank % 32 ≢ 16 }
+    requires spare { 2 ≤ (B.state on.old).spare }
+    requires root_pinned { (B.state on.old).pinned (B.state on.old).root }
+    requires root_live { ((B.state on.old).label (B.state on.old).root).state ≡ Live }
+    requires root_slots { 0 < slot_count ((B.state on.old).label (B.state on.old).root).kind }
+    requires current { ((B.state on.old).label (B.state on.old).root).epoch ≡ (B.state on.old).high }
+    requires settled { (b j : ℕ) → (B.state on.old).clearing b j → ⊥ }
+    requires apart { ((B.state on.old).root ≢ 1) × (top ≢ 1) × (leaf ≢ 1) }
+    requires top_leads { target (((B.state on.old).now (B.state on.old).root).slot 0) ≡ Local top }
+    requires top_pinned { (B.state on.old).pinned top }
+    requires top_live { ((B.state on.old).label top).state ≡ Live }
+    requires top_older { ((B.state on.old).label top).epoch < (B.state on.old).high }
+    requires slots { k < slot_count ((B.state on.old).label top).kind }
+    requires leaf_leads { target (((B.state on.old).now top).slot k) ≡ Local leaf }
+    requires leaf_pinned { (B.state on.old).pinned leaf }
+    requires leaf_live { ((B.state on.old).label leaf).state ≡ Live }
+    requires leaf_older { ((B.state on.old).label leaf).epoch < (B.state on.old).high }
+    requires leaf_kind { ((B.state on.old).label leaf).kind ≡ Data 0 }
+    requires leaf_long { length (((B.state on.old).now leaf).bytes) ≡ 8192 }
+    requires leaf_place { (B.state on.old).tells → (p : Place) → (B.state on.old).stands leaf p → p.rank % 32 ≢ 16 }
     requires within { from < 8192 }
+    requires linked { (B.state on.old).tells → (y x : ℕ) → (B.state on.old).instead y x → ⊥ }
 
     // Every image shows the other leaves as one of before does.
-    ensures others { B.tells on.old → KeepsAll (IsOtherLeaf k) (B.may_leave on.old) (B.may_leave on.new) }
+    ensures others { (B.state on.old).tells → KeepsAll (IsOtherLeaf k) (B.state on.old).may_leave (B.state on.new).may_leave }
 
-    ensures leads { (above : ℕ) × (target ((B.now on.new (B.root on.new)).slot 0) ≡ Local above) × (target ((B.now on.new above).slot k) ≡ Local result) }
-    ensures written { (B.now on.new result).bytes ≡ put_at from (byte ∷ []) ((B.now on.old leaf).bytes) }
+    ensures leads { (above : ℕ) × (target (((B.state on.new).now (B.state on.new).root).slot 0) ≡ Local above) × (target (((B.state on.new).now above).slot k) ≡ Local result) }
+    ensures linked { (B.state on.new).tells → (y x : ℕ) → (B.state on.new).instead y x → ⊥ }
+    ensures written { ((B.state on.new).now result).bytes ≡ put_at from (byte ∷ []) (((B.state on.old).now leaf).bytes) }
     ensures keeps { B.keeps on.old on.new }
 {
     let root = on.root();

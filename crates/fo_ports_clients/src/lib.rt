@@ -1,4 +1,13 @@
 //! Small clients of the blocks below a cache, over any implementation: what the layers above do, in little.
+//!
+//! A block is *owned* once it is of the current epoch: an older one is copied, and the slot that led to it is led to the copy. A *name*
+//! is a byte of a leaf of names, the generation of the entry that it names.
+//!
+//! Proved, over any blocks and any device: `write_byte` writes into copies, up to the root block, and every image shows the other leaves
+//! as one of before does; after `add_name` and `remove_name` each name has its entry in use in every image. Each call gives what it
+//! makes its place in the tree, so nothing is left that is to come in the place of another block. Where the device tells what it holds,
+//! a name is put only into a leaf that hung in the tree when all was last settled. Not said: what is found once the device was read
+//! anew.
 #![tactic(auto)]
 
 mod bytes;
@@ -6,8 +15,3 @@ mod names;
 
 pub use bytes::write_byte;
 pub use names::{add_name, remove_name};
-
-#[cfg(test)]
-mod small_tree;
-#[cfg(test)]
-mod tests;

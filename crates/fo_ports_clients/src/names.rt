@@ -4,16 +4,19 @@ ghost use Rattle.fo_image.specs.declared.types.Kind.TheVariants.{Data, Dir};
 ghost use Rattle.fo_image.specs.declared.types.Pointer.TheVariants.{Nil};
 ghost use Rattle.fo_crash.specs.declared.place.Place.{Place};
 ghost use Rattle.fo_crash.specs.declared.slot.Slot.TheVariants.{Entry as Head};
+ghost use Rattle.fo_crash.specs.Images.{Reaches, to_block};
 ghost use Rattle.fo_crash.specs.Steps.{cleared};
 ghost use Rattle.fo_crash.specs.Names.{NamesFit, InAll, IsInUse};
 ghost use Rattle.fo_ports.specs.Blocks.{slot_count, SlotFits, put_at};
+ghost use Rattle.fo_ports.specs.State.{IsHeld};
 ghost use Rattle.fo_ports_clients.specs.Leaf.{Lists, StandsBelow};
 
 use fo_crash::Slot;
 use fo_image::Entry;
 use fo_ports::Blocks;
 
-/// Adds name `i` with its entry, which is free and names nothing yet.
+/// Adds name `i` with its entry, which is free and names nothing yet, and is the first of its pair. The leaf of names hung from
+/// block 1 when all was last settled.
 pub fn add_name<B: Blocks>(
     on: &mut B,
     leaf: u32,
@@ -22,31 +25,34 @@ pub fn add_name<B: Blocks>(
     entry: Entry,
     generation: u8,
 )
-    requires fit { InAll (NamesFit Lists leaf entries) (B.may_leave on.old) }
-    requires leaf_pinned { B.pinned on.old leaf }
-    requires leaf_current { (B.label on.old leaf).epoch ≡ B.high on.old }
-    requires leaf_kind { (B.label on.old leaf).kind ≡ Data 0 }
-    requires leaf_long { length ((B.now on.old leaf).bytes) ≡ 8192 }
-    requires leaf_place { B.tells on.old → (p : Place) → B.stands on.old leaf p → (p.kind ≡ Data 0) × (p.rank % 32 ≢ 16) }
-    requires entries_pinned { B.pinned on.old entries }
-    requires entries_current { (B.label on.old entries).epoch ≡ B.high on.old }
-    requires lower { B.tells on.old → StandsBelow (B.stands on.old) entries leaf }
-    requires uncovered { (B.covered on.old leaf → ⊥) × (B.covered on.old entries → ⊥) }
-    requires slots { i < slot_count (B.label on.old entries).kind }
-    requires room { 0 < B.room on.old }
-    requires free { (g : ℕ) → IsInUse ((B.now on.old entries).slot i) g → ⊥ }
-    requires settled { B.clearing on.old entries i → ⊥ }
-    requires spelled { SlotFits (B.label on.old entries).kind i (Head entry) }
+    requires fit { InAll (NamesFit Lists leaf entries) (B.state on.old).may_leave }
+    requires leaf_pinned { (B.state on.old).pinned leaf }
+    requires leaf_current { ((B.state on.old).label leaf).epoch ≡ (B.state on.old).high }
+    requires leaf_kind { ((B.state on.old).label leaf).kind ≡ Data 0 }
+    requires leaf_long { length (((B.state on.old).now leaf).bytes) ≡ 8192 }
+    requires leaf_place { (B.state on.old).tells → (p : Place) → (B.state on.old).stands leaf p → (p.kind ≡ Data 0) × (p.rank % 32 ≢ 16) }
+    requires entries_pinned { (B.state on.old).pinned entries }
+    requires entries_current { ((B.state on.old).label entries).epoch ≡ (B.state on.old).high }
+    requires lower { (B.state on.old).tells → StandsBelow (B.state on.old).stands entries leaf }
+    requires uncovered { ((B.state on.old).covered leaf → ⊥) × ((B.state on.old).covered entries → ⊥) }
+    requires held { (B.state on.old).tells → IsHeld (B.state on.old) entries }
+    requires sealed { (B.state on.old).tells → (B.state on.old).sealed leaf }
+    requires first { i % 2 ≡ 0 }
+    requires slots { i < slot_count ((B.state on.old).label entries).kind }
+    requires room { 0 < (B.state on.old).room }
+    requires free { (g : ℕ) → IsInUse (((B.state on.old).now entries).slot i) g → ⊥ }
+    requires settled { (B.state on.old).clearing entries i → ⊥ }
+    requires spelled { SlotFits ((B.state on.old).label entries).kind i (Head entry) }
     requires empty { entry.top ≡ Nil }
     requires active { entry.active ≡ true }
     requires same { entry.generation ≡ generation }
-    ensures fit { InAll (NamesFit Lists leaf entries) (B.may_leave on.new) }
-    ensures name { (B.now on.new leaf).bytes ≡ put_at i (generation ∷ []) ((B.now on.old leaf).bytes) }
-    ensures entry { (B.now on.new entries).slot i ≡ Head entry }
-    ensures blocks { (b : ℕ) → (B.label on.new b ≡ B.label on.old b) × (B.pinned on.old b → B.pinned on.new b) }
-    ensures order { (b j : ℕ) → B.clearing on.new b j → B.clearing on.old b j }
-    ensures place { (p : Place) → B.stands on.old leaf p → B.stands on.new leaf p }
-    ensures room { B.room on.new + 1 ≡ B.room on.old }
+    ensures fit { InAll (NamesFit Lists leaf entries) (B.state on.new).may_leave }
+    ensures name { ((B.state on.new).now leaf).bytes ≡ put_at i (generation ∷ []) (((B.state on.old).now leaf).bytes) }
+    ensures entry { ((B.state on.new).now entries).slot i ≡ Head entry }
+    ensures blocks { (b : ℕ) → ((B.state on.new).label b ≡ (B.state on.old).label b) × ((B.state on.old).pinned b → (B.state on.new).pinned b) }
+    ensures order { (b j : ℕ) → (B.state on.new).clearing b j → (B.state on.old).clearing b j }
+    ensures place { (B.state on.old).tells → (p : Place) → (B.state on.old).stands leaf p → (B.state on.new).stands leaf p }
+    ensures room { (B.state on.new).room + 1 ≡ (B.state on.old).room }
     ensures keeps { B.keeps on.old on.new }
 {
     on.put_slot(entries, i, Slot::Entry(entry));
@@ -54,25 +60,32 @@ pub fn add_name<B: Blocks>(
     on.put_bytes(leaf, i, &[generation]);
 }
 
-/// Takes name `i` out. Its entry is cleared once the leaf without the name is settled.
+/// Takes name `i` out. Its entry is cleared once the leaf without the name is settled. The leaf of entries hangs from block 1, as it
+/// did when all was last settled, nothing is still to come in the place of another block, and no slot below the entry waits to be
+/// cleared.
 pub fn remove_name<B: Blocks>(on: &mut B, leaf: u32, entries: u32, i: u32)
-    requires fit { InAll (NamesFit Lists leaf entries) (B.may_leave on.old) }
-    requires leaf_pinned { B.pinned on.old leaf }
-    requires leaf_current { (B.label on.old leaf).epoch ≡ B.high on.old }
-    requires leaf_kind { (B.label on.old leaf).kind ≡ Data 0 }
-    requires leaf_long { length ((B.now on.old leaf).bytes) ≡ 8192 }
-    requires leaf_place { B.tells on.old → (p : Place) → B.stands on.old leaf p → (p.kind ≡ Data 0) × (p.rank % 32 ≢ 16) }
-    requires entries_pinned { B.pinned on.old entries }
-    requires entries_current { (B.label on.old entries).epoch ≡ B.high on.old }
-    requires entries_kind { (B.label on.old entries).kind ≡ Dir 0 }
-    requires slots { i < slot_count (B.label on.old entries).kind }
-    requires room { 0 < B.room on.old }
-    requires settled { B.clearing on.old entries i → ⊥ }
-    ensures fit { InAll (NamesFit Lists leaf entries) (B.may_leave on.new) }
-    ensures name { (B.now on.new leaf).bytes ≡ put_at i (0 ∷ []) ((B.now on.old leaf).bytes) }
-    ensures entry { ((B.now on.new entries).slot i ≡ cleared ((B.now on.old entries).slot i)) ⊎ B.clearing on.new entries i }
-    ensures blocks { (b : ℕ) → (B.label on.new b ≡ B.label on.old b) × (B.pinned on.old b → B.pinned on.new b) }
-    ensures room { B.room on.new + 1 ≡ B.room on.old }
+    requires fit { InAll (NamesFit Lists leaf entries) (B.state on.old).may_leave }
+    requires leaf_pinned { (B.state on.old).pinned leaf }
+    requires leaf_current { ((B.state on.old).label leaf).epoch ≡ (B.state on.old).high }
+    requires leaf_kind { ((B.state on.old).label leaf).kind ≡ Data 0 }
+    requires leaf_long { length (((B.state on.old).now leaf).bytes) ≡ 8192 }
+    requires leaf_place { (B.state on.old).tells → (p : Place) → (B.state on.old).stands leaf p → (p.kind ≡ Data 0) × (p.rank % 32 ≢ 16) }
+    requires entries_pinned { (B.state on.old).pinned entries }
+    requires entries_current { ((B.state on.old).label entries).epoch ≡ (B.state on.old).high }
+    requires entries_kind { ((B.state on.old).label entries).kind ≡ Dir 0 }
+    requires entries_sealed { (B.state on.old).tells → (B.state on.old).sealed entries }
+    requires reached { (B.state on.old).tells → Reaches (B.state on.old).now (to_block 1) entries }
+    requires uncovered { (B.state on.old).tells → (B.state on.old).covered entries → ⊥ }
+    requires linked { (B.state on.old).tells → (y x : ℕ) → (B.state on.old).instead y x → ⊥ }
+    requires quiet { (B.state on.old).tells → (b j : ℕ) → (B.state on.old).clearing b j → Reaches (B.state on.old).now (((B.state on.old).now entries).slot i) b → ⊥ }
+    requires slots { i < slot_count ((B.state on.old).label entries).kind }
+    requires room { 0 < (B.state on.old).room }
+    requires settled { (B.state on.old).clearing entries i → ⊥ }
+    ensures fit { InAll (NamesFit Lists leaf entries) (B.state on.new).may_leave }
+    ensures name { ((B.state on.new).now leaf).bytes ≡ put_at i (0 ∷ []) (((B.state on.old).now leaf).bytes) }
+    ensures entry { (((B.state on.new).now entries).slot i ≡ cleared (((B.state on.old).now entries).slot i)) ⊎ (B.state on.new).clearing entries i }
+    ensures blocks { (b : ℕ) → ((B.state on.new).label b ≡ (B.state on.old).label b) × ((B.state on.old).pinned b → (B.state on.new).pinned b) }
+    ensures room { (B.state on.new).room + 1 ≡ (B.state on.old).room }
     ensures keeps { B.keeps on.old on.new }
 {
     on.put_bytes(leaf, i, &[0]);

@@ -5,14 +5,14 @@ use Rattle.std.proofs.lemmas.List.{length-append, length-take-le, length-set, ge
 use Rattle.fo_image.specs.declared.types.Kind.{Kind}
 use Rattle.fo_image.specs.declared.types.Label.{Label}
 use Rattle.fo_image.specs.declared.types.State.TheVariants.{Live}
-use Rattle.fo_crash.specs.declared.place.Place.{Place}
 use Rattle.fo_crash.specs.Images.{Image, SameContent}
 use Rattle.fo_crash.specs.Steps.{PutsBytes}
 use Rattle.fo_ports.specs.Blocks.{blank, zero_bytes, put_at}
 use Rattle.fo_ports.proofs.Lengths.{length_put_at}
+use Rattle.fo_ports.specs.State.{State, KeepsAll}
 use Rattle.fo_ports.specs.Sources.{Made, byte_at}
 use Rattle.fo_ports_source.specs.Source.{leaf_of, byte_of, HasLeaf, IsLeaf, Over, IsHeld, IsOwn, Prepared, Puts}
-use Rattle.fo_ports_source.specs.SourceLaws.{still_labelled}
+use Rattle.fo_ports_source.specs.SourceLaws.{still_labelled, was_older}
 use Rattle.fo_ports_source.specs.Steps.{Steps, Grew}
 use Rattle.fo_ports_source.proofs.Steps.{cases_made, steps_none, steps_wider, steps_joins, made_first, made_second, made_either}
 
@@ -57,47 +57,51 @@ byte_owned : (now new_now : Image) (kind : Kind) (leaf : Option ℕ) (r k : ℕ)
 byte_owned now new_now kind None r k same = ap (λ bytes. slice_index bytes k) same.bytes ∙ zero_at k
 byte_owned now new_now kind (Some at) r k same = ap (λ bytes. slice_index bytes k) same.bytes
 
-leaf_was : (old new : ℕ → Label) (high r : ℕ) (leaf : Option ℕ) → MatchOption leaf (Made old new r) (λ at. ((at ≡ r) × ((old at).epoch ≡ high)) ⊎ (((old at).epoch < high) × Made old new r)) → (leaf ≡ Some r) ⊎ Made old new r
-leaf_was old new high r None m = inr m
-leaf_was old new high r (Some at) m = ⊎_elim (λ h. inl (ap (λ x. Some x) h.0)) (λ h. inr h.1) m
+leaf_was : (old new : State) (r : ℕ) (leaf : Option ℕ) → MatchOption leaf (Made old new r) (λ at. ((at ≡ r) × ((old.label at).epoch ≡ old.high)) ⊎ (((old.label at).epoch < old.high) × Made old new r)) → (leaf ≡ Some r) ⊎ Made old new r
+leaf_was old new r None m = inr m
+leaf_was old new r (Some at) m = ⊎_elim (λ h. inl (ap (λ x. Some x) h.0)) (λ h. inr h.1) m
 
 -- Leaf i was made current: it is block r now.
-pub record OwnsOne {S : Type 0} (now : S → Image) (label : S → ℕ → Label) (stands : S → ℕ → Place → Type 0) (loose : S → ℕ → Type 0) (high : S → ℕ) (tops is_block : S → ℕ → Type 0) (may_leave : S → Image → Type 0) (moments : S → ℕ) (left : S → ℕ → Image → Type 0) (sealed_at : S → ℕ → Type 0) (pins_left room next : S → ℕ) (grants : S → Type 0) (pinned : S → ℕ → Type 0) (waits : S → ℕ → ℕ → ℕ → Type 0) (clearing : S → ℕ → ℕ → Type 0) (covered : S → ℕ → Type 0) (keeps : S → S → Type 0) (tells : S → Type 0) (kind : Kind) (tag rank size : ℕ) (leaves new_leaves : List (Option ℕ)) (i r : ℕ) (old new : S) : Type 0 where
-  pub over : Over (now old) (label old) (stands old) (high old) (is_block old) (covered old) (tells old) kind tag rank size leaves
+pub record OwnsOne (kind : Kind) (tag rank size : ℕ) (leaves new_leaves : List (Option ℕ)) (i r : ℕ) (old new : State) : Type 0 where
+  pub over : Over old kind tag rank size leaves
   pub inside : 8192 * i < size
   pub set_is : new_leaves ≡ slice_set leaves i (Some r)
-  pub content : MatchOption (leaf_of leaves i) (SameContent (now new r) (blank kind)) (λ at. SameContent (now new r) (now old at))
-  pub copied : MatchOption (leaf_of leaves i) (Made (label old) (label new) r) (λ at. ((at ≡ r) × ((label old at).epoch ≡ high old)) ⊎ (((label old at).epoch < high old) × Made (label old) (label new) r))
-  pub own : IsOwn (now new) (label new) (stands new) (high new) (is_block new) (covered new) (tells new) (pinned new) kind tag rank r
-  pub steps : Steps now label stands loose high tops is_block may_leave moments left sealed_at pins_left room next grants pinned waits clearing covered keeps tag (λ b. ⊥) old new
-  pub only : (b : ℕ) → Made (label old) (label new) b → b ≡ r
-  pub told : tells new → tells old
+  pub content : MatchOption (leaf_of leaves i) (SameContent (new.now r) (blank kind)) (λ at. SameContent (new.now r) (old.now at))
+  pub copied : MatchOption (leaf_of leaves i) (Made old new r) (λ at. ((at ≡ r) × ((old.label at).epoch ≡ old.high)) ⊎ (((old.label at).epoch < old.high) × Made old new r))
+  pub own : IsOwn new kind tag rank r
+  pub steps : Steps tag (HasLeaf leaves) (λ b. ⊥) old new
+  pub only : (b : ℕ) → Made old new b → b ≡ r
 
-module _ {S : Type 0} {now : S → Image} {label : S → ℕ → Label} {stands : S → ℕ → Place → Type 0} {loose : S → ℕ → Type 0} {high : S → ℕ} {tops is_block : S → ℕ → Type 0} {may_leave : S → Image → Type 0} {moments : S → ℕ} {left : S → ℕ → Image → Type 0} {sealed_at : S → ℕ → Type 0} {pins_left room next : S → ℕ} {grants : S → Type 0} {pinned : S → ℕ → Type 0} {waits : S → ℕ → ℕ → ℕ → Type 0} {clearing : S → ℕ → ℕ → Type 0} {covered : S → ℕ → Type 0} {keeps : S → S → Type 0} {kind : Kind} {tag : ℕ} where
+module _ {kind : Kind} {tag : ℕ} where
   -- a leaf stays one over a step
-  pub leaf_kept : {mine : ℕ → Type 0} {rank at : ℕ} {old new : S} {tells still_tells : Type 0} → Steps now label stands loose high tops is_block may_leave moments left sealed_at pins_left room next grants pinned waits clearing covered keeps tag mine old new → (still_tells → tells) → IsLeaf (label old) (stands old) (high old) (is_block old) (covered old) tells kind tag rank at → IsLeaf (label new) (stands new) (high new) (is_block new) (covered new) still_tells kind tag rank at
-  leaf_kept {at = at} {old = old} {new = new} s told leaf = record {
-    is_one = s.same_blocks at leaf.is_one;
+  pub leaf_kept : {mine inner : ℕ → Type 0} {rank at : ℕ} {old new : State} → Steps tag mine inner old new → IsLeaf old kind tag rank at → IsLeaf new kind tag rank at
+  leaf_kept {at = at} {old = old} {new = new} s leaf = record {
+    is_one = (s.all.same_blocks at).1 leaf.is_one;
     told = λ is.
-        let was = leaf.told (told is) in
-        let not_made : Made (label old) (label new) at → ⊥ = λ m. m.0 was.labelled.is_live in
+        let before = s.all.still_tells.0 is in
+        let was = leaf.told before in
+        let not_made : Made old new at → ⊥ = λ m. m.0 was.labelled.is_live in
+        let spared : new.covered at → ⊥ = λ h. was.uncovered ((s.covered at).0 h) in
         record {
-          labelled = still_labelled s.same_high (s.labels at not_made) was.labelled;
-          there = (s.places at _ not_made).0 was.there;
-          uncovered = λ h. was.uncovered (s.covers at h);
+          labelled = still_labelled s.all.same_high (s.others at not_made).label was.labelled;
+          there = s.places before at _ not_made spared was.there;
+          uncovered = spared;
+          in_tree = λ older. s.reaches before at (was.in_tree (was_older s.all.same_high (s.others at not_made).label older));
         };
   }
 
   -- one that is held stays so where it stays as long
-  held_kept : {mine : ℕ → Type 0} {at : ℕ} {old new : S} → Steps now label stands loose high tops is_block may_leave moments left sealed_at pins_left room next grants pinned waits clearing covered keeps tag mine old new → length ((now new at).bytes) ≡ length ((now old at).bytes) → IsHeld (now old) (label old) (high old) (pinned old) kind tag at → IsHeld (now new) (label new) (high new) (pinned new) kind tag at
-  held_kept {at = at} s same was = record {
-    labelled = still_labelled s.same_high (s.labels at (λ m. m.0 was.labelled.is_live)) was.labelled;
-    is_pinned = (s.marks at).0 was.is_pinned;
-    long = same ∙ was.long;
-  }
+  held_kept : {mine inner : ℕ → Type 0} {at : ℕ} {old new : State} → Steps tag mine inner old new → length ((new.now at).bytes) ≡ length ((old.now at).bytes) → IsHeld old kind tag at → IsHeld new kind tag at
+  held_kept {at = at} s same was =
+      let stays = s.others at (λ m. m.0 was.labelled.is_live) in
+      record {
+        labelled = still_labelled s.all.same_high stays.label was.labelled;
+        is_pinned = stays.marks.0 was.is_pinned;
+        long = same ∙ was.long;
+      }
 
-module _ {S : Type 0} {now : S → Image} {label : S → ℕ → Label} {stands : S → ℕ → Place → Type 0} {loose : S → ℕ → Type 0} {high : S → ℕ} {tops is_block : S → ℕ → Type 0} {may_leave : S → Image → Type 0} {moments : S → ℕ} {left : S → ℕ → Image → Type 0} {sealed_at : S → ℕ → Type 0} {pins_left room next : S → ℕ} {grants : S → Type 0} {pinned : S → ℕ → Type 0} {waits : S → ℕ → ℕ → ℕ → Type 0} {clearing : S → ℕ → ℕ → Type 0} {covered : S → ℕ → Type 0} {keeps : S → S → Type 0} {tells : S → Type 0} {kind : Kind} {tag rank size : ℕ} where
-  module _ {leaves new_leaves : List (Option ℕ)} {i r : ℕ} {old new : S} (o : OwnsOne now label stands loose high tops is_block may_leave moments left sealed_at pins_left room next grants pinned waits clearing covered keeps tells kind tag rank size leaves new_leaves i r old new) where
+module _ {kind : Kind} {tag rank size : ℕ} where
+  module _ {leaves new_leaves : List (Option ℕ)} {i r : ℕ} {old new : State} (o : OwnsOne kind tag rank size leaves new_leaves i r old new) where
     few : i < length leaves
     few = let w = o.over.within in let h = o.inside in omega (arith, w, h)
 
@@ -110,59 +114,59 @@ module _ {S : Type 0} {now : S → Image} {label : S → ℕ → Label} {stands 
     as_long : length new_leaves ≡ length leaves
     as_long = ap length o.set_is ∙ length-set leaves i (Some r)
 
-    same_content : (at : ℕ) → (label old at).state ≡ Live → SameContent (now new at) (now old at)
+    same_content : (at : ℕ) → (old.label at).state ≡ Live → SameContent (new.now at) (old.now at)
     same_content at live = o.steps.memory at (λ t. ⊎_elim (λ m. m.0 live) (λ h. h.0) t)
 
-    live_leaf : tells old → (j at : ℕ) → leaf_of leaves j ≡ Some at → (label old at).state ≡ Live
+    live_leaf : old.tells → (j at : ℕ) → leaf_of leaves j ≡ Some at → (old.label at).state ≡ Live
     live_leaf told j at e = ((o.over.leaf j at e).told told).labelled.is_live
 
-    pub own_bytes : tells old → (k : ℕ) → byte_of (leaf_of new_leaves) (now new) k ≡ byte_of (leaf_of leaves) (now old) k
+    pub own_bytes : old.tells → (k : ℕ) → byte_of (leaf_of new_leaves) new.now k ≡ byte_of (leaf_of leaves) old.now k
     own_bytes told k = ⊎_elim
-        (λ e. subst (λ j. byte_at (now new) (leaf_of new_leaves j) None (k % 8192) ≡ byte_at (now old) (leaf_of leaves j) None (k % 8192)) (sym e)
-        (ap (λ l. byte_at (now new) l None (k % 8192)) here ∙ byte_owned (now old) (now new) kind (leaf_of leaves i) r (k % 8192) o.content))
-        (λ ne. ap (λ l. byte_at (now new) l None (k % 8192)) (other (k / 8192) ne) ∙ byte_kept (now old) (now new) (leaf_of leaves (k / 8192)) (k % 8192) (λ at e. (same_content at (live_leaf told (k / 8192) at e)).bytes))
+        (λ e. subst (λ j. byte_at new.now (leaf_of new_leaves j) None (k % 8192) ≡ byte_at old.now (leaf_of leaves j) None (k % 8192)) (sym e)
+        (ap (λ l. byte_at new.now l None (k % 8192)) here ∙ byte_owned old.now new.now kind (leaf_of leaves i) r (k % 8192) o.content))
+        (λ ne. ap (λ l. byte_at new.now l None (k % 8192)) (other (k / 8192) ne) ∙ byte_kept old.now new.now (leaf_of leaves (k / 8192)) (k % 8192) (λ at e. (same_content at (live_leaf told (k / 8192) at e)).bytes))
         (cases_eq (k / 8192) i)
 
-    was : (leaf_of leaves i ≡ Some r) ⊎ Made (label old) (label new) r
-    was = leaf_was (label old) (label new) (high old) r (leaf_of leaves i) o.copied
+    was : (leaf_of leaves i ≡ Some r) ⊎ Made old new r
+    was = leaf_was old new r (leaf_of leaves i) o.copied
 
-    one : tells old → (j : ℕ) → leaf_of leaves j ≡ Some r → j ≡ i
+    one : old.tells → (j : ℕ) → leaf_of leaves j ≡ Some r → j ≡ i
     one told j e = ⊎_elim (λ f. o.over.apart told j i r e f) (λ m. absurd (m.0 (live_leaf told j r e))) was
 
-    pub own_over : Over (now new) (label new) (stands new) (high new) (is_block new) (covered new) (tells new) kind tag rank size new_leaves
+    pub own_over : Over new kind tag rank size new_leaves
     own_over = record {
       leaf = λ j at e. ⊎_elim
-          (λ is. subst (λ x. IsLeaf (label new) (stands new) (high new) (is_block new) (covered new) (tells new) kind tag rank x) (some_is here (subst (λ x. leaf_of new_leaves x ≡ Some at) is e)) o.own.leaf)
-          (λ ne. leaf_kept o.steps o.told (o.over.leaf j at (sym (other j ne) ∙ e)))
+          (λ is. subst (λ x. IsLeaf new kind tag rank x) (some_is here (subst (λ x. leaf_of new_leaves x ≡ Some at) is e)) o.own.leaf)
+          (λ ne. leaf_kept o.steps (o.over.leaf j at (sym (other j ne) ∙ e)))
           (cases_eq j i);
       apart = λ told j k at e f. ⊎_elim
           (λ is. ⊎_elim
           (λ same. is ∙ sym same)
-          (λ ne. let is_r : at ≡ r = some_is (subst (λ x. leaf_of new_leaves x ≡ Some at) is e) here in is ∙ sym (one (o.told told) k (subst (λ x. leaf_of leaves k ≡ Some x) is_r (sym (other k ne) ∙ f))))
+          (λ ne. let is_r : at ≡ r = some_is (subst (λ x. leaf_of new_leaves x ≡ Some at) is e) here in is ∙ sym (one (o.steps.all.still_tells.0 told) k (subst (λ x. leaf_of leaves k ≡ Some x) is_r (sym (other k ne) ∙ f))))
           (cases_eq k i))
           (λ ne. ⊎_elim
-          (λ is. let is_r : at ≡ r = some_is (subst (λ x. leaf_of new_leaves x ≡ Some at) is f) here in one (o.told told) j (subst (λ x. leaf_of leaves j ≡ Some x) is_r (sym (other j ne) ∙ e)) ∙ sym is)
-          (λ also. o.over.apart (o.told told) j k at (sym (other j ne) ∙ e) (sym (other k also) ∙ f))
+          (λ is. let is_r : at ≡ r = some_is (subst (λ x. leaf_of new_leaves x ≡ Some at) is f) here in one (o.steps.all.still_tells.0 told) j (subst (λ x. leaf_of leaves j ≡ Some x) is_r (sym (other j ne) ∙ e)) ∙ sym is)
+          (λ also. o.over.apart (o.steps.all.still_tells.0 told) j k at (sym (other j ne) ∙ e) (sym (other k also) ∙ f))
           (cases_eq k i))
           (cases_eq j i);
       none = λ j le. let h = o.inside in other j (λ e. (omega (arith, le, h, e))) ∙ o.over.none j le;
-      tail = λ told k le. own_bytes (o.told told) k ∙ o.over.tail (o.told told) k le;
+      tail = λ told k le. own_bytes (o.steps.all.still_tells.0 told) k ∙ o.over.tail (o.steps.all.still_tells.0 told) k le;
       within = subst (λ n. size ≤ 8192 * n) (sym as_long) o.over.within;
       few = subst (λ n. n < 2 ^ 32) (sym as_long) o.over.few;
       leaf_kind = o.over.leaf_kind;
     }
 
-    still_one : (b : ℕ) → leaf_of leaves i ≡ Some b → (label old b).epoch ≡ high old → HasLeaf new_leaves b
+    still_one : (b : ℕ) → leaf_of leaves i ≡ Some b → (old.label b).epoch ≡ old.high → HasLeaf new_leaves b
     still_one b e current = ⊎_elim
         (λ h. record { number = i; is = here ∙ ap (λ x. Some x) (sym h.0) })
-        (λ h. let lt : (label old b).epoch < high old = h.0 in absurd (omega (arith, lt, current)))
-        (subst (λ leaf. MatchOption leaf (Made (label old) (label new) r) (λ at. ((at ≡ r) × ((label old at).epoch ≡ high old)) ⊎ (((label old at).epoch < high old) × Made (label old) (label new) r))) e o.copied)
+        (λ h. let lt : (old.label b).epoch < old.high = h.0 in absurd (omega (arith, lt, current)))
+        (subst (λ leaf. MatchOption leaf (Made old new r) (λ at. ((at ≡ r) × ((old.label at).epoch ≡ old.high)) ⊎ (((old.label at).epoch < old.high) × Made old new r))) e o.copied)
 
-    pub own_grew : Grew now label stands loose high tops is_block may_leave moments left sealed_at pins_left room next grants pinned waits clearing covered keeps kind tag leaves new_leaves old new
+    pub own_grew : Grew kind tag leaves new_leaves old new
     own_grew = record {
       as_long = as_long;
       owned = λ b has. ⊎_elim
-          (λ is. let is_r : b ≡ r = some_is (subst (λ x. leaf_of new_leaves x ≡ Some b) is has.is) here in subst (λ x. HasLeaf leaves x ⊎ Made (label old) (label new) x) (sym is_r) (⊎_elim (λ e. inl (record { number = i; is = e })) (λ m. inr m) was))
+          (λ is. let is_r : b ≡ r = some_is (subst (λ x. leaf_of new_leaves x ≡ Some b) is has.is) here in subst (λ x. HasLeaf leaves x ⊎ Made old new x) (sym is_r) (⊎_elim (λ e. inl (record { number = i; is = e })) (λ m. inr m) was))
           (λ ne. inl (record { number = has.number; is = sym (other has.number ne) ∙ has.is }))
           (cases_eq has.number i);
       owns = λ b m. record { number = i; is = here ∙ ap (λ x. Some x) (sym (o.only b m)) };
@@ -172,77 +176,79 @@ module _ {S : Type 0} {now : S → Image} {label : S → ℕ → Label} {stands 
           (cases_eq has.number i);
       still = λ p n prepared. record {
         each = λ k at from to e. ⊎_elim
-            (λ is. let is_r : at ≡ r = some_is (subst (λ x. leaf_of new_leaves x ≡ Some at) is e) here in subst (λ x. IsHeld (now new) (label new) (high new) (pinned new) kind tag x) (sym is_r) o.own.held)
+            (λ is. let is_r : at ≡ r = some_is (subst (λ x. leaf_of new_leaves x ≡ Some at) is e) here in subst (λ x. IsHeld new kind tag x) (sym is_r) o.own.held)
             (λ ne. let was = prepared.each k at from to (sym (other (k / 8192) ne) ∙ e) in held_kept o.steps (ap length (same_content at was.labelled.is_live).bytes) was)
             (cases_eq (k / 8192) i);
         limit = subst (λ m. p + n ≤ 8192 * m) (sym as_long) prepared.limit;
       };
-      steps = steps_wider (λ b h. absurd h) o.steps;
+      steps = steps_wider (λ b h. h) (λ b h. absurd h) o.steps;
     }
 
 -- Bytes were put into leaf i, which is block at.
-pub record PutsOne {S : Type 0} (now : S → Image) (label : S → ℕ → Label) (stands : S → ℕ → Place → Type 0) (loose : S → ℕ → Type 0) (high : S → ℕ) (tops is_block : S → ℕ → Type 0) (may_leave : S → Image → Type 0) (moments : S → ℕ) (left : S → ℕ → Image → Type 0) (sealed_at : S → ℕ → Type 0) (pins_left room next : S → ℕ) (grants : S → Type 0) (pinned : S → ℕ → Type 0) (waits : S → ℕ → ℕ → ℕ → Type 0) (clearing : S → ℕ → ℕ → Type 0) (covered : S → ℕ → Type 0) (keeps : S → S → Type 0) (tells : S → Type 0) (kind : Kind) (tag rank size : ℕ) (leaves : List (Option ℕ)) (at place : ℕ) (piece : List ℕ) (old new : S) : Type 0 where
-  pub over : Over (now old) (label old) (stands old) (high old) (is_block old) (covered old) (tells old) kind tag rank size leaves
+pub record PutsOne (kind : Kind) (tag rank size : ℕ) (leaves : List (Option ℕ)) (at place : ℕ) (piece : List ℕ) (old new : State) : Type 0 where
+  pub over : Over old kind tag rank size leaves
   pub here : leaf_of leaves (place / 8192) ≡ Some at
   pub part : place % 8192 + length piece ≤ 8192
   pub inside : place + length piece ≤ size
-  pub long : length ((now old at).bytes) ≡ 8192
-  pub puts : PutsBytes at (put_at (place % 8192) piece ((now old at).bytes)) (now old) (now new)
-  pub labels : (b : ℕ) → label new b ≡ label old b
-  pub steps : Steps now label stands loose high tops is_block may_leave moments left sealed_at pins_left room next grants pinned waits clearing covered keeps tag (λ b. b ≡ at) old new
-  pub told : tells new → tells old
+  pub long : length ((old.now at).bytes) ≡ 8192
+  pub puts : PutsBytes at (put_at (place % 8192) piece ((old.now at).bytes)) old.now new.now
+  pub labels : (b : ℕ) → new.label b ≡ old.label b
+  pub steps : Steps tag (λ b. b ≡ at) (λ b. b ≡ at) old new
 
 pub same_leaf : (place m : ℕ) → place % 8192 + m < 8192 → ((place + m) / 8192 ≡ place / 8192) × ((place + m) % 8192 ≡ place % 8192 + m)
 same_leaf place m lt = (omega (arith, lt), omega (arith, lt))
 
-module _ {S : Type 0} {now : S → Image} {label : S → ℕ → Label} {stands : S → ℕ → Place → Type 0} {loose : S → ℕ → Type 0} {high : S → ℕ} {tops is_block : S → ℕ → Type 0} {may_leave : S → Image → Type 0} {moments : S → ℕ} {left : S → ℕ → Image → Type 0} {sealed_at : S → ℕ → Type 0} {pins_left room next : S → ℕ} {grants : S → Type 0} {pinned : S → ℕ → Type 0} {waits : S → ℕ → ℕ → ℕ → Type 0} {clearing : S → ℕ → ℕ → Type 0} {covered : S → ℕ → Type 0} {keeps : S → S → Type 0} {tells : S → Type 0} {kind : Kind} {tag rank size : ℕ} {leaves : List (Option ℕ)} {at place : ℕ} {piece : List ℕ} {old new : S}
-    (p : PutsOne now label stands loose high tops is_block may_leave moments left sealed_at pins_left room next grants pinned waits clearing covered keeps tells kind tag rank size leaves at place piece old new) where
-  put_fits : place % 8192 + length piece ≤ length ((now old at).bytes)
+module _ {kind : Kind} {tag rank size : ℕ} {leaves : List (Option ℕ)} {at place : ℕ} {piece : List ℕ} {old new : State}
+    (p : PutsOne kind tag rank size leaves at place piece old new) where
+  put_fits : place % 8192 + length piece ≤ length ((old.now at).bytes)
   put_fits = subst (λ n. place % 8192 + length piece ≤ n) (sym p.long) p.part
 
-  elsewhere : tells old → (k : ℕ) → (k / 8192 ≢ place / 8192) → byte_of (leaf_of leaves) (now new) k ≡ byte_of (leaf_of leaves) (now old) k
-  elsewhere told k ne = byte_kept (now old) (now new) (leaf_of leaves (k / 8192)) (k % 8192)
+  elsewhere : old.tells → (k : ℕ) → (k / 8192 ≢ place / 8192) → byte_of (leaf_of leaves) new.now k ≡ byte_of (leaf_of leaves) old.now k
+  elsewhere told k ne = byte_kept old.now new.now (leaf_of leaves (k / 8192)) (k % 8192)
       (λ b e. p.puts.others b (λ is. ne (p.over.apart told (k / 8192) (place / 8192) at (e ∙ ap (λ x. Some x) is) p.here)))
 
   -- in the leaf itself
-  inside : (k : ℕ) → k / 8192 ≡ place / 8192 → byte_of (leaf_of leaves) (now new) k ≡ slice_index (put_at (place % 8192) piece ((now old at).bytes)) (k % 8192)
-  inside k e = ap (λ j. byte_at (now new) (leaf_of leaves j) None (k % 8192)) e ∙ ap (λ leaf. byte_at (now new) leaf None (k % 8192)) p.here ∙ ap (λ bytes. slice_index bytes (k % 8192)) p.puts.here
+  inside : (k : ℕ) → k / 8192 ≡ place / 8192 → byte_of (leaf_of leaves) new.now k ≡ slice_index (put_at (place % 8192) piece ((old.now at).bytes)) (k % 8192)
+  inside k e = ap (λ j. byte_at new.now (leaf_of leaves j) None (k % 8192)) e ∙ ap (λ leaf. byte_at new.now leaf None (k % 8192)) p.here ∙ ap (λ bytes. slice_index bytes (k % 8192)) p.puts.here
 
-  before : (k : ℕ) → k / 8192 ≡ place / 8192 → slice_index ((now old at).bytes) (k % 8192) ≡ byte_of (leaf_of leaves) (now old) k
-  before k e = sym (ap (λ j. byte_at (now old) (leaf_of leaves j) None (k % 8192)) e ∙ ap (λ leaf. byte_at (now old) leaf None (k % 8192)) p.here)
+  before : (k : ℕ) → k / 8192 ≡ place / 8192 → slice_index ((old.now at).bytes) (k % 8192) ≡ byte_of (leaf_of leaves) old.now k
+  before k e = sym (ap (λ j. byte_at old.now (leaf_of leaves j) None (k % 8192)) e ∙ ap (λ leaf. byte_at old.now leaf None (k % 8192)) p.here)
 
-  pub put_puts : tells old → Puts (byte_of (leaf_of leaves) (now old)) (byte_of (leaf_of leaves) (now new)) place piece
+  pub put_puts : old.tells → Puts (byte_of (leaf_of leaves) old.now) (byte_of (leaf_of leaves) new.now) place piece
   put_puts told = record {
     within = λ m lt. let part = p.part in let same = same_leaf place m (omega (arith, part, lt)) in
-        inside (place + m) same.0 ∙ ap (λ k. slice_index (put_at (place % 8192) piece ((now old at).bytes)) k) same.1 ∙ put_within (place % 8192) piece ((now old at).bytes) put_fits m lt;
+        inside (place + m) same.0 ∙ ap (λ k. slice_index (put_at (place % 8192) piece ((old.now at).bytes)) k) same.1 ∙ put_within (place % 8192) piece ((old.now at).bytes) put_fits m lt;
     before = λ k lt. ⊎_elim
-        (λ e. let below : k % 8192 < place % 8192 = omega (arith, e, lt) in inside k e ∙ put_before (place % 8192) piece ((now old at).bytes) put_fits (k % 8192) below ∙ before k e)
+        (λ e. let below : k % 8192 < place % 8192 = omega (arith, e, lt) in inside k e ∙ put_before (place % 8192) piece ((old.now at).bytes) put_fits (k % 8192) below ∙ before k e)
         (λ ne. elsewhere told k ne)
         (cases_eq (k / 8192) (place / 8192));
     behind = λ k ge. ⊎_elim
-        (λ e. let above : place % 8192 + length piece ≤ k % 8192 = omega (arith, e, ge) in inside k e ∙ put_behind (place % 8192) piece ((now old at).bytes) put_fits (k % 8192) above ∙ before k e)
+        (λ e. let above : place % 8192 + length piece ≤ k % 8192 = omega (arith, e, ge) in inside k e ∙ put_behind (place % 8192) piece ((old.now at).bytes) put_fits (k % 8192) above ∙ before k e)
         (λ ne. elsewhere told k ne)
         (cases_eq (k / 8192) (place / 8192));
   }
 
-  pub put_over : Over (now new) (label new) (stands new) (high new) (is_block new) (covered new) (tells new) kind tag rank size leaves
+  pub put_over : Over new kind tag rank size leaves
   put_over = record {
-    leaf = λ j b e. leaf_kept p.steps p.told (p.over.leaf j b e);
-    apart = λ told. p.over.apart (p.told told);
+    leaf = λ j b e. leaf_kept p.steps (p.over.leaf j b e);
+    apart = λ told. p.over.apart (p.steps.all.still_tells.0 told);
     none = p.over.none;
-    tail = λ told k le. let in_size = p.inside in (put_puts (p.told told)).behind k (omega (arith, in_size, le)) ∙ p.over.tail (p.told told) k le;
+    tail = λ told k le. let in_size = p.inside in (put_puts (p.steps.all.still_tells.0 told)).behind k (omega (arith, in_size, le)) ∙ p.over.tail (p.steps.all.still_tells.0 told) k le;
     within = p.over.within;
     few = p.over.few;
     leaf_kind = p.over.leaf_kind;
   }
 
-  put_long : (b : ℕ) → length ((now new b).bytes) ≡ length ((now old b).bytes)
+  put_long : (b : ℕ) → length ((new.now b).bytes) ≡ length ((old.now b).bytes)
   put_long b = ⊎_elim
-      (λ e. subst (λ x. length ((now new x).bytes) ≡ length ((now old x).bytes)) (sym e) (ap length p.puts.here ∙ length_put_at (place % 8192) piece ((now old at).bytes) put_fits))
+      (λ e. subst (λ x. length ((new.now x).bytes) ≡ length ((old.now x).bytes)) (sym e) (ap length p.puts.here ∙ length_put_at (place % 8192) piece ((old.now at).bytes) put_fits))
       (λ ne. ap length (p.puts.others b ne))
       (cases_eq b at)
 
-  pub put_grew : Grew now label stands loose high tops is_block may_leave moments left sealed_at pins_left room next grants pinned waits clearing covered keeps kind tag leaves leaves old new
+  is_leaf : (b : ℕ) → b ≡ at → HasLeaf leaves b
+  is_leaf b e = record { number = place / 8192; is = p.here ∙ ap (λ x. Some x) (sym e) }
+
+  pub put_grew : Grew kind tag leaves leaves old new
   put_grew = record {
     as_long = refl;
     owned = λ b has. inl has;
@@ -252,41 +258,41 @@ module _ {S : Type 0} {now : S → Image} {label : S → ℕ → Label} {stands 
       each = λ k b from to e. held_kept p.steps (put_long b) (prepared.each k b from to e);
       limit = prepared.limit;
     };
-    steps = steps_wider (λ b e. record { number = place / 8192; is = p.here ∙ ap (λ x. Some x) (sym e) }) p.steps;
+    steps = steps_wider is_leaf is_leaf p.steps;
   }
 
-module _ {S : Type 0} {now : S → Image} {label : S → ℕ → Label} {stands : S → ℕ → Place → Type 0} {loose : S → ℕ → Type 0} {high : S → ℕ} {tops is_block : S → ℕ → Type 0} {may_leave : S → Image → Type 0} {moments : S → ℕ} {left : S → ℕ → Image → Type 0} {sealed_at : S → ℕ → Type 0} {pins_left room next : S → ℕ} {grants : S → Type 0} {pinned : S → ℕ → Type 0} {waits : S → ℕ → ℕ → ℕ → Type 0} {clearing : S → ℕ → ℕ → Type 0} {covered : S → ℕ → Type 0} {keeps : S → S → Type 0} {kind : Kind} {tag : ℕ} {leaves mid_leaves new_leaves : List (Option ℕ)} {a b c : S} where
-  pub grew_joins : (keeps a b → keeps b c → keeps a c) → Grew now label stands loose high tops is_block may_leave moments left sealed_at pins_left room next grants pinned waits clearing covered keeps kind tag leaves mid_leaves a b → Grew now label stands loose high tops is_block may_leave moments left sealed_at pins_left room next grants pinned waits clearing covered keeps kind tag mid_leaves new_leaves b c → Grew now label stands loose high tops is_block may_leave moments left sealed_at pins_left room next grants pinned waits clearing covered keeps kind tag leaves new_leaves a c
-  grew_joins joins first second = record {
+module _ {kind : Kind} {tag : ℕ} {leaves mid_leaves new_leaves : List (Option ℕ)} {a b c : State} where
+  pub grew_joins : KeepsAll a c → Grew kind tag leaves mid_leaves a b → Grew kind tag mid_leaves new_leaves b c → Grew kind tag leaves new_leaves a c
+  grew_joins all first second = record {
     as_long = second.as_long ∙ first.as_long;
     owned = λ at has. ⊎_elim
-        (λ h. ⊎_elim (λ was. inl was) (λ m. inr (made_first joins first.steps second.steps first.owned at m)) (first.owned at h))
-        (λ n. inr (made_second joins first.steps second.steps first.owned at n))
+        (λ h. ⊎_elim (λ was. inl was) (λ m. inr (made_first all first.steps second.steps first.owned first.owned at m)) (first.owned at h))
+        (λ n. inr (made_second all first.steps second.steps first.owned first.owned at n))
         (second.owned at has);
     owns = λ at m. ⊎_elim
-        (λ made. second.kept at (first.owns at made) ((first.steps.made at made).0 ∙ sym first.steps.same_high))
+        (λ made. second.kept at (first.owns at made) ((first.steps.made at made).labelled.0 ∙ sym first.steps.all.same_high))
         (λ made. second.owns at made)
-        (made_either joins first.steps second.steps first.owned at m);
+        (made_either all first.steps second.steps first.owned first.owned at m);
     kept = λ at has current. second.kept at (first.kept at has current)
-        (⊎_elim (λ m. (first.steps.made at m).0) (λ no. ap (λ (l : Label). l.epoch) (first.steps.labels at no) ∙ current) (cases_made (label a) (label b) at) ∙ sym first.steps.same_high);
+        (⊎_elim (λ m. (first.steps.made at m).labelled.0) (λ no. ap (λ (l : Label). l.epoch) (first.steps.others at no).label ∙ current) (cases_made a b at) ∙ sym first.steps.all.same_high);
     still = λ o n prepared. second.still o n (first.still o n prepared);
-    steps = steps_joins joins first.steps second.steps first.owned;
+    steps = steps_joins all first.steps second.steps first.owned first.owned;
   }
 
-module _ {S : Type 0} {now : S → Image} {label : S → ℕ → Label} {stands : S → ℕ → Place → Type 0} {loose : S → ℕ → Type 0} {high : S → ℕ} {tops is_block : S → ℕ → Type 0} {may_leave : S → Image → Type 0} {moments : S → ℕ} {left : S → ℕ → Image → Type 0} {sealed_at : S → ℕ → Type 0} {pins_left room next : S → ℕ} {grants : S → Type 0} {pinned : S → ℕ → Type 0} {waits : S → ℕ → ℕ → ℕ → Type 0} {clearing : S → ℕ → ℕ → Type 0} {covered : S → ℕ → Type 0} {keeps : S → S → Type 0} {kind : Kind} {tag : ℕ} {leaves : List (Option ℕ)} where
-  pub grew_none : (a : S) → keeps a a → Grew now label stands loose high tops is_block may_leave moments left sealed_at pins_left room next grants pinned waits clearing covered keeps kind tag leaves leaves a a
-  grew_none a once = record {
+module _ {kind : Kind} {tag : ℕ} {leaves : List (Option ℕ)} where
+  pub grew_none : (a : State) → KeepsAll a a → Grew kind tag leaves leaves a a
+  grew_none a all = record {
     as_long = refl;
     owned = λ at has. inl has;
     owns = λ at m. absurd (m.0 m.1);
     kept = λ at has current. has;
     still = λ o n prepared. prepared;
-    steps = steps_none a once;
+    steps = steps_none a all;
   }
 
-module _ {S : Type 0} {now : S → Image} {label : S → ℕ → Label} {stands : S → ℕ → Place → Type 0} {loose : S → ℕ → Type 0} {high : S → ℕ} {tops is_block : S → ℕ → Type 0} {may_leave : S → Image → Type 0} {moments : S → ℕ} {left : S → ℕ → Image → Type 0} {sealed_at : S → ℕ → Type 0} {pins_left room next : S → ℕ} {grants : S → Type 0} {pinned : S → ℕ → Type 0} {waits : S → ℕ → ℕ → ℕ → Type 0} {clearing : S → ℕ → ℕ → Type 0} {covered : S → ℕ → Type 0} {keeps : S → S → Type 0} {leaves new_leaves : List (Option ℕ)} {a b : S} where
-  pub grew_same : {kind other : Kind} {tag more : ℕ} → kind ≡ other → tag ≡ more → Grew now label stands loose high tops is_block may_leave moments left sealed_at pins_left room next grants pinned waits clearing covered keeps kind tag leaves new_leaves a b → Grew now label stands loose high tops is_block may_leave moments left sealed_at pins_left room next grants pinned waits clearing covered keeps other more leaves new_leaves a b
-  grew_same {kind = kind} {more = more} same_kind same_tag grew = subst (λ k. Grew now label stands loose high tops is_block may_leave moments left sealed_at pins_left room next grants pinned waits clearing covered keeps k more leaves new_leaves a b) same_kind (subst (λ t. Grew now label stands loose high tops is_block may_leave moments left sealed_at pins_left room next grants pinned waits clearing covered keeps kind t leaves new_leaves a b) same_tag grew)
+module _ {leaves new_leaves : List (Option ℕ)} {a b : State} where
+  pub grew_same : {kind other : Kind} {tag more : ℕ} → kind ≡ other → tag ≡ more → Grew kind tag leaves new_leaves a b → Grew other more leaves new_leaves a b
+  grew_same {kind = kind} {more = more} same_kind same_tag grew = subst (λ k. Grew k more leaves new_leaves a b) same_kind (subst (λ t. Grew kind t leaves new_leaves a b) same_tag grew)
 
-pub prepared_same : {now : Image} {label : ℕ → Label} {high : ℕ} {pinned : ℕ → Type 0} {kind other : Kind} {tag more : ℕ} {leaves : List (Option ℕ)} {o n : ℕ} → other ≡ kind → more ≡ tag → Prepared now label high pinned kind tag leaves o n → Prepared now label high pinned other more leaves o n
-prepared_same {now = now} {label = label} {high = high} {pinned = pinned} {kind = kind} {more = more} {leaves = leaves} {o = o} {n = n} same_kind same_tag prepared = subst (λ k. Prepared now label high pinned k more leaves o n) (sym same_kind) (subst (λ t. Prepared now label high pinned kind t leaves o n) (sym same_tag) prepared)
+pub prepared_same : {s : State} {kind other : Kind} {tag more : ℕ} {leaves : List (Option ℕ)} {o n : ℕ} → other ≡ kind → more ≡ tag → Prepared s kind tag leaves o n → Prepared s other more leaves o n
+prepared_same {s = s} {kind = kind} {more = more} {leaves = leaves} {o = o} {n = n} same_kind same_tag prepared = subst (λ k. Prepared s k more leaves o n) (sym same_kind) (subst (λ t. Prepared s kind t leaves o n) (sym same_tag) prepared)

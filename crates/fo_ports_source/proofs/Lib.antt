@@ -4,4 +4,3 @@ pub mod Puts
 pub mod Looks
 pub mod Lists
 pub mod Values
-pub mod Plain

@@ -1,18 +1,20 @@
 -- Calls that only look, one after another, and why they are refused.
-use Rattle.std.proofs.Common.{◌≡◌, ◌⊎◌, ◌+◌, ◌-◌, ◌/◌, ◌%◌, ◌^◌, ◌≤◌, ℕ, List, length, min, Option, Some, inl, inr, ⊎_elim, ap, ◌∙◌, arith}
+use Rattle.std.proofs.Common.{◌≡◌, ◌⊎◌, ◌+◌, ◌-◌, ◌/◌, ◌%◌, ◌^◌, ◌≤◌, ℕ, List, length, min, Option, Some, inl, inr, ⊎_elim, refl, ap, ◌∙◌, arith}
+use Rattle.std.proofs.lemmas.Bool.{cases_lt}
 use Rattle.fo_base.specs.Cause.{Rose}
 use Rattle.fo_image.specs.declared.types.Kind.{Kind}
-use Rattle.fo_image.specs.declared.types.Label.{Label}
-use Rattle.fo_crash.specs.declared.place.Place.{Place}
 use Rattle.fo_crash.specs.Images.{Image}
+use Rattle.fo_crash.specs.Steps.{Passes, IsOneOf}
 use Rattle.fo_ports.specs.declared.error.BlockError.{BlockError}
 use Rattle.fo_ports.specs.declared.error.BlockError.TheVariants.{Full, Damaged, Fault, Arena, Memory}
 use Rattle.fo_ports.specs.Causes.{Caused}
-use Rattle.fo_ports.specs.Sources.{Looks}
-use Rattle.fo_ports_source.specs.Source.{leaf_of, byte_of, Over, IsHeld, Prepared}
-use Rattle.fo_ports_source.specs.SourceLaws.{still_labelled}
+use Rattle.fo_ports.specs.State.{State, KeepsAll, Looks}
+use Rattle.fo_ports.specs.Sources.{SameLeaves}
+use Rattle.fo_ports_source.specs.Source.{leaf_of, leaves_of, byte_of, Over, IsHeld, Prepared}
+use Rattle.fo_ports_source.specs.SourceLaws.{still_labelled, still_epoch, was_older}
 use Rattle.fo_ports_source.proofs.Leaves.{byte_kept}
-use Rattle.fo_ports_source.proofs.Steps.{content_joins, passes_of, passes_joins}
+use Rattle.fo_ports_source.proofs.Steps.{content_joins, reach_into}
+use Rattle.fo_ports_source.proofs.Values.{values_same}
 
 -- A refusal after calls that looked has its cause, too.
 pub cause_after : (damaged earlier : ℕ → Type 0) (first mid last : ℕ) (e : BlockError) → ((b : ℕ) → damaged b → earlier b) → first ≤ mid → Caused ⊥ damaged (Rose mid last) ⊥ e → Caused ⊥ earlier (Rose first last) ⊥ e
@@ -25,64 +27,94 @@ cause_after damaged earlier first mid last (Fault which) wider le cause = rose f
 cause_after damaged earlier first mid last (Arena which) wider le cause = cause
 cause_after damaged earlier first mid last Memory wider le cause = cause
 
-module _ {S : Type 0} {now : S → Image} {label : S → ℕ → Label} {stands : S → ℕ → Place → Type 0} {loose : S → ℕ → Type 0} {may_leave : S → Image → Type 0} {moments : S → ℕ} {left : S → ℕ → Image → Type 0} {tells : S → Type 0} {sealed_at : S → ℕ → Type 0} {spare room next : S → ℕ} {grants : S → Type 0} {pinned : S → ℕ → Type 0} {waits : S → ℕ → ℕ → ℕ → Type 0} {clearing : S → ℕ → ℕ → Type 0} {covered : S → ℕ → Type 0} {keeps : S → S → Type 0} where
-  pub looks_joins : {a b c : S} → (keeps a b → keeps b c → keeps a c) → (tells a → tells b) → Looks now label stands loose may_leave moments left tells sealed_at spare room next grants pinned waits clearing covered keeps a b → Looks now label stands loose may_leave moments left tells sealed_at spare room next grants pinned waits clearing covered keeps b c → Looks now label stands loose may_leave moments left tells sealed_at spare room next grants pinned waits clearing covered keeps a c
-  looks_joins joins told first second = record {
-    memory = λ is. record { each = λ b. content_joins ((second.memory (told is)).each b) ((first.memory is).each b) };
-    known = λ b h. content_joins (second.known b ((first.blocks b).1 h)) (first.known b h);
-    adds = record { each = λ image is. first.adds.each image (second.adds.each image is) };
-    passes = passes_joins first.passes (passes_of (λ image is. first.adds.each image is) second.passes);
-    order = λ x b j. (λ w. (second.order x b j).0 ((first.order x b j).0 w), λ h. (first.order x b j).1 ((second.order x b j).1 h));
-    covers = λ b h. first.covers b (second.covers b h);
-    blocks = λ b. ((second.blocks b).0 ∙ (first.blocks b).0, λ h. (second.blocks b).1 ((first.blocks b).1 h), λ h. (second.blocks b).2 ((first.blocks b).2 h));
-    places = λ b p. (λ s. (second.places b p).0 ((first.places b p).0 s), λ l. (second.places b p).1 ((first.places b p).1 l));
-    numbers = (second.numbers.0 ∙ first.numbers.0, second.numbers.1 ∙ first.numbers.1, second.numbers.2 ∙ first.numbers.2, λ h. second.numbers.3 (first.numbers.3 h));
-    stays = joins first.stays second.stays;
-  }
+passes_joins : (a b : State) {first mid last : ℕ} {old then new : ℕ → Image → Type 0} → ((t : ℕ) → a.tops t → b.tops t) → ((image : Image) → b.may_leave image → a.may_leave image) → Passes a.tops a.may_leave first mid old then → Passes b.tops b.may_leave mid last then new → Passes a.tops a.may_leave first last old new
+passes_joins a b {first = first} {mid = mid} {last = last} tops wider p q = record {
+  later = omega (arith, p.later, q.later);
+  before = λ k image le h. p.before k image le (q.before k image (omega (arith, le, p.later)) h);
+  within = λ k image lt le h. ⊎_elim
+      (λ late. one (q.within k image late le h))
+      (λ early. p.within k image lt early (q.before k image early h))
+      (cases_lt mid k);
+}
+  where
+    one : {image : Image} → IsOneOf b.tops b.may_leave image → IsOneOf a.tops a.may_leave image
+    one is = record { other = is.other; is = wider is.other is.is; same = record { each = λ t x top r. is.same.each t x (tops t top) r } }
 
-  -- a leaf that is known keeps its bytes
-  pub known_bytes : {old new : S} → Looks now label stands loose may_leave moments left tells sealed_at spare room next grants pinned waits clearing covered keeps old new → (at : ℕ) → tells old ⊎ pinned old at → (now new at).bytes ≡ (now old at).bytes
-  known_bytes looks at = ⊎_elim (λ told. ((looks.memory told).each at).bytes) (λ held. (looks.known at held).bytes)
+pub looks_joins : {a b c : State} → KeepsAll a b → Looks a b → Looks b c → Looks a c
+looks_joins {a = a} {b = b} all first second = record {
+  memory = λ is. record { each = λ x. content_joins ((second.memory (all.still_tells.1 is)).each x) ((first.memory is).each x) };
+  known = λ x h. content_joins (second.known x ((first.stays.marks x (λ n. n)).0 h)) (first.known x h);
+  images = record { each = λ image is. first.images.each image (second.images.each image is) };
+  passes = passes_joins a b (λ t. (all.same_tops t).1) (λ image is. first.images.each image is) first.passes second.passes;
+  stays = record {
+    labels = λ x h. second.stays.labels x h ∙ first.stays.labels x h;
+    marks = λ x h. let p = first.stays.marks x h in let q = second.stays.marks x h in (λ y. q.0 (p.0 y), λ y. q.1 (p.1 y), λ y. q.2 (p.2 y));
+    places = λ told x p h i spared s. second.stays.places (all.still_tells.1 told) x p h i spared (first.stays.places told x p h i (λ u. spared ((second.covered.covered x).1 u)) s);
+    apart = λ x h i. (λ y. (first.stays.apart x h i).0 ((second.stays.apart x h i).0 y), λ y. (second.stays.apart x h i).1 ((first.stays.apart x h i).1 y));
+    instead = λ x z h i. (λ y. (first.stays.instead x z h i).0 ((second.stays.instead x z h i).0 y), λ y. (second.stays.instead x z h i).1 ((first.stays.instead x z h i).1 y));
+    waits = λ x on j h i k w. second.stays.waits x on j h i k (first.stays.waits x on j h i k w);
+  };
+  order = record { clearing = λ x j h. first.order.clearing x j (second.order.clearing x j h).1 };
+  covered = record { covered = λ x. (λ h. (first.covered.covered x).0 ((second.covered.covered x).0 h), λ h. (second.covered.covered x).1 ((first.covered.covered x).1 h)) };
+  no_wait = record { each = λ x on j h w. first.no_wait.each x on j h (second.no_wait.each x on j h w) };
+  dirty = λ x d. first.dirty x (second.dirty x d);
+  room = (second.room.0 ∙ first.room.0, second.room.1 ∙ first.room.1);
+  numbers = record { next = second.numbers.next ∙ first.numbers.next; grants = λ h. second.numbers.grants (first.numbers.grants h) };
+}
 
-  pub still_known : {old new : S} → Looks now label stands loose may_leave moments left tells sealed_at spare room next grants pinned waits clearing covered keeps old new → (tells old → tells new) → (at : ℕ) → tells old ⊎ pinned old at → tells new ⊎ pinned new at
-  still_known looks told at = ⊎_elim (λ h. inl (told h)) (λ h. inr ((looks.blocks at).1 h))
+-- a leaf that is known keeps its bytes
+pub known_bytes : {old new : State} → Looks old new → (at : ℕ) → old.tells ⊎ old.pinned at → (new.now at).bytes ≡ (old.now at).bytes
+known_bytes looks at = ⊎_elim (λ told. ((looks.memory told).each at).bytes) (λ held. (looks.known at held).bytes)
 
-  pub byte_looks : {old new : S} → Looks now label stands loose may_leave moments left tells sealed_at spare room next grants pinned waits clearing covered keeps old new → (leaves : List (Option ℕ)) (k : ℕ) → ((at : ℕ) → leaf_of leaves (k / 8192) ≡ Some at → tells old ⊎ pinned old at) → byte_of (leaf_of leaves) (now new) k ≡ byte_of (leaf_of leaves) (now old) k
-  byte_looks {old = old} {new = new} looks leaves k known = byte_kept (now old) (now new) (leaf_of leaves (k / 8192)) (k % 8192) (λ at e. known_bytes looks at (known at e))
+pub still_known : {old new : State} → Looks old new → KeepsAll old new → (at : ℕ) → old.tells ⊎ old.pinned at → new.tells ⊎ new.pinned at
+still_known looks all at = ⊎_elim (λ h. inl (all.still_tells.1 h)) (λ h. inr ((looks.stays.marks at (λ n. n)).0 h))
 
-  -- one that is held stays so
-  pub held_looks : (high : S → ℕ) {old new : S} {kind : Kind} {tag : ℕ} → Looks now label stands loose may_leave moments left tells sealed_at spare room next grants pinned waits clearing covered keeps old new → high new ≡ high old → (at : ℕ) → IsHeld (now old) (label old) (high old) (pinned old) kind tag at → IsHeld (now new) (label new) (high new) (pinned new) kind tag at
-  held_looks high looks same_high at was = record {
-    labelled = still_labelled same_high (looks.blocks at).0 was.labelled;
-    is_pinned = (looks.blocks at).1 was.is_pinned;
-    long = ap length (looks.known at was.is_pinned).bytes ∙ was.long;
-  }
+pub byte_looks : {old new : State} → Looks old new → (leaves : List (Option ℕ)) (k : ℕ) → ((at : ℕ) → leaf_of leaves (k / 8192) ≡ Some at → old.tells ⊎ old.pinned at) → byte_of (leaf_of leaves) new.now k ≡ byte_of (leaf_of leaves) old.now k
+byte_looks {old = old} {new = new} looks leaves k known = byte_kept old.now new.now (leaf_of leaves (k / 8192)) (k % 8192) (λ at e. known_bytes looks at (known at e))
 
-  pub prepared_looks : (high : S → ℕ) {old new : S} {kind : Kind} {tag : ℕ} {leaves : List (Option ℕ)} {o n : ℕ} → Looks now label stands loose may_leave moments left tells sealed_at spare room next grants pinned waits clearing covered keeps old new → high new ≡ high old → Prepared (now old) (label old) (high old) (pinned old) kind tag leaves o n → Prepared (now new) (label new) (high new) (pinned new) kind tag leaves o n
-  prepared_looks high looks same_high prepared = record {
-    each = λ k at from to e. held_looks high looks same_high at (prepared.each k at from to e);
-    limit = prepared.limit;
-  }
+-- one that is held stays so
+pub held_looks : {old new : State} {kind : Kind} {tag : ℕ} → Looks old new → KeepsAll old new → (at : ℕ) → IsHeld old kind tag at → IsHeld new kind tag at
+held_looks looks all at was = record {
+  labelled = still_labelled all.same_high (looks.stays.labels at (λ n. n)) was.labelled;
+  is_pinned = (looks.stays.marks at (λ n. n)).0 was.is_pinned;
+  long = ap length (looks.known at was.is_pinned).bytes ∙ was.long;
+}
 
-  module _ (high : S → ℕ) (is_block : S → ℕ → Type 0) {kind : Kind} {tag rank size : ℕ} {leaves : List (Option ℕ)} where
-    pub over_looks : {old new : S} → Looks now label stands loose may_leave moments left tells sealed_at spare room next grants pinned waits clearing covered keeps old new → high new ≡ high old → ((b : ℕ) → is_block old b → is_block new b) → (tells new → tells old)
-        → Over (now old) (label old) (stands old) (high old) (is_block old) (covered old) (tells old) kind tag rank size leaves
-        → Over (now new) (label new) (stands new) (high new) (is_block new) (covered new) (tells new) kind tag rank size leaves
-    over_looks {old = old} {new = new} looks same_high same_blocks told over = record {
-      leaf = λ i at e. record {
-        is_one = same_blocks at (over.leaf i at e).is_one;
-        told = λ is.
-            let was = (over.leaf i at e).told (told is) in
-            record {
-              labelled = still_labelled same_high (looks.blocks at).0 was.labelled;
-              there = (looks.places at _).0 was.there;
-              uncovered = λ h. was.uncovered (looks.covers at h);
-            };
-      };
-      apart = λ is. over.apart (told is);
-      none = over.none;
-      tail = λ is k le. byte_looks looks leaves k (λ at e. inl (told is)) ∙ over.tail (told is) k le;
-      within = over.within;
-      few = over.few;
-      leaf_kind = over.leaf_kind;
-    }
+pub prepared_looks : {old new : State} {kind : Kind} {tag : ℕ} {leaves : List (Option ℕ)} {o n : ℕ} → Looks old new → KeepsAll old new → Prepared old kind tag leaves o n → Prepared new kind tag leaves o n
+prepared_looks looks all prepared = record {
+  each = λ k at from to e. held_looks looks all at (prepared.each k at from to e);
+  limit = prepared.limit;
+}
+
+pub over_looks : {old new : State} {kind : Kind} {tag rank size : ℕ} {leaves : List (Option ℕ)} → Looks old new → KeepsAll old new → Over old kind tag rank size leaves → Over new kind tag rank size leaves
+over_looks {old = old} {new = new} {leaves = leaves} looks all over = record {
+  leaf = λ i at e. record {
+    is_one = (all.same_blocks at).1 (over.leaf i at e).is_one;
+    told = λ is.
+        let before = all.still_tells.0 is in
+        let was = (over.leaf i at e).told before in
+        let spared : new.covered at → ⊥ = λ h. was.uncovered ((looks.covered.covered at).0 h) in
+        record {
+          labelled = still_labelled all.same_high (looks.stays.labels at (λ n. n)) was.labelled;
+          there = looks.stays.places before at _ (λ n. n) (λ n. n) spared was.there;
+          uncovered = spared;
+          in_tree = λ older. reach_into new.now old.now (λ x. ⊥) 1 (λ x j h. ((looks.memory before).each x).slots j) (λ x h. absurd h) at (was.in_tree (was_older all.same_high (looks.stays.labels at (λ n. n)) older));
+        };
+  };
+  apart = λ is. over.apart (all.still_tells.0 is);
+  none = over.none;
+  tail = λ is k le. byte_looks looks leaves k (λ at e. inl (all.still_tells.0 is)) ∙ over.tail (all.still_tells.0 is) k le;
+  within = over.within;
+  few = over.few;
+  leaf_kind = over.leaf_kind;
+}
+
+-- a source that was only looked at has what it had
+pub same_looks : {old new : State} {kind : Kind} {tag size : ℕ} {leaves : List (Option ℕ)} → Looks old new → KeepsAll old new → SameLeaves old.tells (leaves_of old kind tag size leaves) (leaves_of new kind tag size leaves)
+same_looks {old = old} {new = new} {size = size} {leaves = leaves} looks all = record {
+  bytes = λ told. values_same (byte_of (leaf_of leaves) old.now) (byte_of (leaf_of leaves) new.now) size (λ k. byte_looks looks leaves k (λ at e. inl told));
+  leaves = λ told i. (refl, refl);
+  owns = λ told b. (λ h. h, λ h. h);
+  still = λ o n prepared. prepared_looks looks all prepared;
+  current = λ top. ⊎_elim (λ long. inl long) (λ leaf. inr (record { at = leaf.at; is = leaf.is; current = still_epoch all.same_high (looks.stays.labels leaf.at (λ n. n)) leaf.current })) top;
+}

@@ -1,28 +1,27 @@
 -- The calls of a plain source, one by one and one after another.
-use Rattle.std.proofs.Common.{◌≡◌, ◌≢◌, ◌⊎◌, ◌<◌, ◌≤◌, ℕ, List, [], ◌∷◌, inl, inr, ⊎_elim, sym, refl, ap, ◌∙◌, subst, arith}
-use Rattle.std.proofs.Math.Nat.{le_refl}
-use Rattle.std.proofs.lemmas.Bool.{cases_lt, cases_eq}
+use Rattle.std.proofs.Common.{◌≡◌, ◌≢◌, ◌⊎◌, ◌↔◌, ◌<◌, ℕ, List, [], ◌∷◌, inl, inr, ⊎_elim, sym, refl, ap, ◌∙◌, subst, arith}
+use Rattle.std.proofs.lemmas.Bool.{cases_eq}
 use Rattle.fo_image.specs.declared.types.Label.{Label}
-use Rattle.fo_image.specs.declared.types.State.{State}
+use Rattle.fo_image.specs.declared.types.State.{State as BlockState}
 use Rattle.fo_image.specs.declared.types.State.TheVariants.{Free, Live, Closed}
 use Rattle.fo_crash.specs.declared.place.Place.{Place}
 use Rattle.fo_image.specs.declared.types.Pointer.{Pointer}
 use Rattle.fo_image.specs.declared.types.Pointer.TheVariants.{Nil, Local, Score as Held}
 use Rattle.fo_crash.specs.declared.slot.Slot.{Slot}
 use Rattle.fo_crash.specs.Images.{Content, Image, SameContent, Reaches, target, local, walk, to_block, with_bytes, with_block}
-use Rattle.fo_crash.specs.Steps.{Passes, PutsBlock, PutsBytes, AddsBlock, AddsBytes}
+use Rattle.fo_crash.specs.Steps.{PutsBytes, AddsBytes}
 use Rattle.fo_crash.proofs.Updates.{block_other, bytes_other, bytes_slot}
-use Rattle.fo_crash.proofs.Moments.{passes_none}
-use Rattle.fo_ports.specs.Sources.{Made, Touched, Beside, Changes}
-use Rattle.fo_ports_source.specs.Steps.{Steps}
+use Rattle.fo_ports.specs.State.{State, KeepsAll, Gives, Calm, AddsNoWait, none}
+use Rattle.fo_ports.specs.Sources.{Made, Touched, IsMade, StaysMarked, Changes}
+use Rattle.fo_ports_source.specs.Steps.{Steps, Behind}
 
-same_state : (s : State) → (s ≡ Live) ⊎ (s ≢ Live)
+same_state : (s : BlockState) → (s ≡ Live) ⊎ (s ≢ Live)
 same_state Live = inl refl
 same_state Free = inr (λ e. (cc))
 same_state Closed = inr (λ e. (cc))
 
-pub cases_made : (old new : ℕ → Label) (at : ℕ) → Made old new at ⊎ (Made old new at → ⊥)
-cases_made old new at = ⊎_elim (λ was. inr (λ m. m.0 was)) (λ no. ⊎_elim (λ is. inl (no, is)) (λ not. inr (λ m. not m.1)) (same_state (new at).state)) (same_state (old at).state)
+pub cases_made : (old new : State) (at : ℕ) → Made old new at ⊎ (Made old new at → ⊥)
+cases_made old new at = ⊎_elim (λ was. inr (λ m. m.0 was)) (λ no. ⊎_elim (λ is. inl (no, is)) (λ not. inr (λ m. not m.1)) (same_state (new.label at).state)) (same_state (old.label at).state)
 
 pub content_once : (c : Content) → SameContent c c
 content_once c = record { bytes = refl; slots = λ i. refl }
@@ -47,265 +46,318 @@ walk_aside x y made same (i ∷ path) s away =
 reach_aside : (x y : Image) (made : ℕ → Type 0) (t : ℕ) → ((b j : ℕ) → (made b → ⊥) → (x b).slot j ≡ (y b).slot j) → ((b : ℕ) → made b → Reaches x (to_block t) b → ⊥) → (b : ℕ) → Reaches x (to_block t) b → Reaches y (to_block t) b
 reach_aside x y made t same apart b r = record { path = r.path; leads = ap target (sym (walk_aside x y made same r.path (to_block t) (λ front c m e. apart c m (record { path = front; leads = e })))) ∙ r.leads }
 
-reach_into : (x y : Image) (made : ℕ → Type 0) (t : ℕ) → ((b j : ℕ) → (made b → ⊥) → (x b).slot j ≡ (y b).slot j) → ((b : ℕ) → made b → Reaches x (to_block t) b → ⊥) → (b : ℕ) → Reaches y (to_block t) b → Reaches x (to_block t) b
+pub reach_into : (x y : Image) (made : ℕ → Type 0) (t : ℕ) → ((b j : ℕ) → (made b → ⊥) → (x b).slot j ≡ (y b).slot j) → ((b : ℕ) → made b → Reaches x (to_block t) b → ⊥) → (b : ℕ) → Reaches y (to_block t) b → Reaches x (to_block t) b
 reach_into x y made t same apart b r = record { path = r.path; leads = ap target (walk_aside x y made same r.path (to_block t) (λ front c m e. apart c m (record { path = front; leads = e }))) ∙ r.leads }
 
-abbrev beside_once : (T : ℕ → Type 0) {images : Image → Type 0} (image : Image) → images image → Beside T images image
-beside_once T image is = record { other = image; was = is; same = λ b h. content_once (image b) }
-
-abbrev beside_wider : {T U : ℕ → Type 0} {images : Image → Type 0} (image : Image) → ((b : ℕ) → T b → U b) → Beside T images image → Beside U images image
-beside_wider image wider beside = record { other = beside.other; was = beside.was; same = λ b h. beside.same b (λ t. h (wider b t)) }
-
-beside_joins : {T U : ℕ → Type 0} {old mid : Image → Type 0} (image : Image) → ((other : Image) → mid other → Beside T old other) → ((b : ℕ) → U b → T b) → Beside U mid image → Beside T old image
-beside_joins image first wider second =
-    let before = first second.other second.was in
-    record { other = before.other; was = before.was; same = λ b h. content_joins (second.same b (λ u. h (wider b u))) (before.same b h) }
-
-pub passes_of : {A B : Image → Type 0} {first last : ℕ} {old new : ℕ → Image → Type 0} → ((image : Image) → A image → B image) → Passes A first last old new → Passes B first last old new
-passes_of wider p = record { later = p.later; before = p.before; within = λ k image lt le h. wider image (p.within k image lt le h) }
-
-pub passes_joins : {A : Image → Type 0} {first mid last : ℕ} {old then new : ℕ → Image → Type 0} → Passes A first mid old then → Passes A mid last then new → Passes A first last old new
-passes_joins {A = A} {first = first} {mid = mid} {last = last} {new = new} p q = record {
-  later = omega (arith, p.later, q.later);
-  before = λ k image le h. p.before k image le (q.before k image (omega (arith, le, p.later)) h);
-  within = λ k image lt le h. by k image lt le h (cases_lt mid k);
-}
-  where
-    by : (k : ℕ) (image : Image) → first < k → k ≤ last → new k image → (mid < k) ⊎ (k ≤ mid) → A image
-    by k image lt le h (inr below) = p.within k image lt below (q.before k image below h)
-    by k image lt le h (inl above) = q.within k image above le h
-
 -- What a call says that gives out a block.
-pub record GivesOut {S : Type 0} (now : S → Image) (label : S → ℕ → Label) (stands : S → ℕ → Place → Type 0) (loose : S → ℕ → Type 0) (high : S → ℕ) (tops is_block : S → ℕ → Type 0) (may_leave : S → Image → Type 0) (moments : S → ℕ) (left : S → ℕ → Image → Type 0) (sealed_at : S → ℕ → Type 0) (pins_left room next : S → ℕ) (grants : S → Type 0) (pinned : S → ℕ → Type 0) (waits : S → ℕ → ℕ → ℕ → Type 0) (clearing : S → ℕ → ℕ → Type 0) (covered : S → ℕ → Type 0) (keeps : S → S → Type 0) (tag at : ℕ) (content : Content) (old new : S) : Type 0 where
-  pub kept : keeps old new
-  pub high_is : high new ≡ high old
-  pub tops_stay : (b : ℕ) → tops old b → tops new b
-  pub blocks_stay : (b : ℕ) → is_block old b → is_block new b
-  pub puts : PutsBlock at content (now old) (now new)
-  pub adds : AddsBlock (tops old) at content (may_leave old) (may_leave new)
-  pub live : (label new at).state ≡ Live
-  pub epoch : (label new at).epoch ≡ high old
-  pub tagged : (label new at).tag ≡ tag
-  pub fresh : ((p : Place) → stands old at p → ⊥) × (tops old at → ⊥) × (at ≢ 1) × ((label old at).state ≢ Live)
-  pub is_new : is_block new at × pinned new at × (covered new at → ⊥) × ((a j : ℕ) → waits new a at j → ⊥)
-  pub others : (b : ℕ) → b ≢ at → (label new b ≡ label old b) × (pinned old b → pinned new b) × (sealed_at old b → sealed_at new b) × (covered new b → covered old b)
-  pub places : (b : ℕ) (p : Place) → b ≢ at → (stands old b p → stands new b p) × (loose old b → loose new b)
-  pub order : (a b j : ℕ) → (a ≢ at → b ≢ at → waits old a b j → waits new a b j) × (clearing new b j → (b ≢ at) × clearing old b j)
-  pub passes : Passes (may_leave old) (moments old) (moments new) (left old) (left new)
-  pub pins : pins_left new ≡ pins_left old
-  pub rooms : room new ≡ room old
-  pub nexts : next new ≡ next old
-  pub granted : grants old → grants new
+pub record GivesOut (tag : ℕ) (mine : ℕ → Type 0) (at : ℕ) (content : Content) (l : Label) (old new : State) : Type 0 where
+  pub gives : Gives at content l old new
+  pub live : l.state ≡ Live
+  pub epoch : l.epoch ≡ old.high
+  pub tagged : l.tag ≡ tag
+  pub instead : (x : ℕ) → new.instead at x → mine x × ((old.label x).epoch < old.high)
+  pub all : KeepsAll old new
+  pub present : new.tells → new.may_leave new.now
+  pub active : old.tops 1
 
 -- What a call says that puts bytes into a block of the current epoch.
-pub record PutsInto {S : Type 0} (now : S → Image) (label : S → ℕ → Label) (stands : S → ℕ → Place → Type 0) (loose : S → ℕ → Type 0) (high : S → ℕ) (tops is_block : S → ℕ → Type 0) (may_leave : S → Image → Type 0) (moments : S → ℕ) (left : S → ℕ → Image → Type 0) (sealed_at : S → ℕ → Type 0) (pins_left room next : S → ℕ) (grants : S → Type 0) (pinned : S → ℕ → Type 0) (waits : S → ℕ → ℕ → ℕ → Type 0) (clearing : S → ℕ → ℕ → Type 0) (covered : S → ℕ → Type 0) (keeps : S → S → Type 0) (tag at : ℕ) (bytes : List ℕ) (beside : Image → Type 0) (old new : S) : Type 0 where
-  pub kept : keeps old new
-  pub high_is : high new ≡ high old
-  pub tops_stay : (b : ℕ) → tops old b → tops new b
-  pub blocks_stay : (b : ℕ) → is_block old b → is_block new b
-  pub current : (label old at).epoch ≡ high old
-  pub tagged : (label old at).tag ≡ tag
-  pub puts : PutsBytes at bytes (now old) (now new)
-  pub adds : AddsBytes (now old) at bytes beside (may_leave old) (may_leave new)
-  pub order : (a b j : ℕ) → (waits old a b j → waits new a b j) × (clearing new b j → clearing old b j)
-  pub covers : (b : ℕ) → covered new b → covered old b
-  pub blocks : (b : ℕ) → (label new b ≡ label old b) × (pinned old b → pinned new b) × (sealed_at old b → sealed_at new b)
-  pub places : (b : ℕ) (p : Place) → (stands old b p → stands new b p) × (loose old b → loose new b)
-  pub passes : Passes (may_leave old) (moments old) (moments new) (left old) (left new)
-  pub pins : pins_left new ≡ pins_left old
-  pub rooms : room new ≡ room old
-  pub nexts : next new ≡ next old
-  pub granted : grants old → grants new
+pub record PutsInto (tag at : ℕ) (bytes : List ℕ) (beside : Image → Type 0) (old new : State) : Type 0 where
+  pub puts : PutsBytes at bytes old.now new.now
+  pub adds : AddsBytes old.now at bytes beside old.may_leave new.may_leave
+  pub calm : Calm (λ b. b ≡ at) 0 old new
+  pub no_wait : AddsNoWait none old new
+  pub current : (old.label at).epoch ≡ old.high
+  pub tagged : (old.label at).tag ≡ tag
+  pub all : KeepsAll old new
 
-module _ {S : Type 0} {now : S → Image} {label : S → ℕ → Label} {stands : S → ℕ → Place → Type 0} {loose : S → ℕ → Type 0} {high : S → ℕ} {tops is_block : S → ℕ → Type 0} {may_leave : S → Image → Type 0} {moments : S → ℕ} {left : S → ℕ → Image → Type 0} {sealed_at : S → ℕ → Type 0} {pins_left room next : S → ℕ} {grants : S → Type 0} {pinned : S → ℕ → Type 0} {waits : S → ℕ → ℕ → ℕ → Type 0} {clearing : S → ℕ → ℕ → Type 0} {covered : S → ℕ → Type 0} {keeps : S → S → Type 0} {tag : ℕ} where
-  pub steps_wider : {mine more : ℕ → Type 0} {old new : S} → ((b : ℕ) → mine b → more b) → Steps now label stands loose high tops is_block may_leave moments left sealed_at pins_left room next grants pinned waits clearing covered keeps tag mine old new → Steps now label stands loose high tops is_block may_leave moments left sealed_at pins_left room next grants pinned waits clearing covered keeps tag more old new
-  steps_wider {mine = mine} {more = more} {old = old} {new = new} wider s =
-      let all : (b : ℕ) → Touched (label old) (label new) (high old) tag mine b → Touched (label old) (label new) (high old) tag more b = λ b. ⊎_elim (λ m. inl m) (λ h. inr (wider b h.0, h.1, h.2)) in
+abbrev behind_once : (T : ℕ → Type 0) {old new : State} (image : Image) → old.may_leave image → ((b : ℕ) → Made old new b → ⊥) → Behind T old new image
+behind_once T image is none_made = record { other = image; was = is; same = λ b h. content_once (image b); same_slots = λ b j h. refl; apart = λ t b top m. absurd (none_made b m) }
+
+module _ {tag : ℕ} where
+  pub steps_wider : {mine more inner outer : ℕ → Type 0} {old new : State} → ((b : ℕ) → mine b → more b) → ((b : ℕ) → inner b → outer b) → Steps tag mine inner old new → Steps tag more outer old new
+  steps_wider {mine = mine} {more = more} {inner = inner} {outer = outer} {old = old} {new = new} wider further s =
+      let all : (b : ℕ) → Touched old new tag inner b → Touched old new tag outer b = λ b. ⊎_elim (λ m. inl m) (λ h. inr (further b h.0, h.1, h.2)) in
+      let own : (b : ℕ) → Touched old new tag mine b → Touched old new tag more b = λ b. ⊎_elim (λ m. inl m) (λ h. inr (wider b h.0, h.1, h.2)) in
       record {
         memory = λ b h. s.memory b (λ t. h (all b t));
-        images = λ image is. let i = s.images image is in record { beside = beside_wider image all i.beside; same_slots = i.same_slots; apart = i.apart };
-        passes = passes_of (λ image b. beside_wider image all b) s.passes;
-        labels = s.labels;
-        fresh = s.fresh;
+        images = λ image is. let i = s.images image is in record { other = i.other; was = i.was; same = λ b h. i.same b (λ t. h (all b t)); same_slots = i.same_slots; apart = i.apart };
         made = s.made;
+        others = s.others;
         places = s.places;
-        covers = s.covers;
-        marks = s.marks;
-        order = s.order;
+        instead = λ b x i. ⊎_elim (λ h. inl h) (λ h. inr (h.0, wider x h.1, h.2)) (s.instead b x i);
+        covered = s.covered;
+        uncovered = s.uncovered;
+        reaches = s.reaches;
+        waits = s.waits;
+        no_wait = s.no_wait;
+        clearing = s.clearing;
+        dirty = λ b d. ⊎_elim (λ h. inl h) (λ h. inr (⊎_elim (λ t. inl (own b t)) (λ x. inr x) h)) (s.dirty b d);
+        moments = s.moments;
+        left = s.left;
+        pins = s.pins;
+        room = s.room;
         numbers = s.numbers;
-        stays = s.stays;
-        same_high = s.same_high;
-        same_tops = s.same_tops;
-        same_blocks = s.same_blocks;
+        all = s.all;
       }
 
-  pub steps_changes : {mine inner : ℕ → Type 0} {old new : S} → Steps now label stands loose high tops is_block may_leave moments left sealed_at pins_left room next grants pinned waits clearing covered keeps tag inner old new → Changes now label stands loose high tops is_block may_leave moments left sealed_at pins_left room next grants pinned waits clearing covered keeps tag mine inner old new
+  pub steps_changes : {mine inner : ℕ → Type 0} {old new : State} → Steps tag mine inner old new → Changes tag mine inner old new
   steps_changes {old = old} s = record {
     memory = s.memory;
-    images = λ image is. let i = s.images image is in record { beside = i.beside; apart = i.apart };
-    passes = s.passes;
-    labels = s.labels;
-    fresh = s.fresh;
+    images = λ image is. let i = s.images image is in record { other = i.other; was = i.was; same = i.same; slots = λ b j h. inl (i.same_slots b j h); apart = i.apart };
     made = s.made;
-    places = λ b p not_made not_mine uncovered. s.places b p not_made;
-    covers = λ b h. inl (s.covers b h);
-    marks = s.marks;
-    order = s.order;
-    numbers = (s.numbers.0, subst (λ n. n ≤ room old) (sym s.numbers.1) (le_refl (room old)), s.numbers.2, s.numbers.3);
-    stays = s.stays;
+    others = s.others;
+    places = λ told b p not_made not_mine. s.places told b p not_made;
+    instead = λ b x i. ⊎_elim (λ h. inl h) (λ h. inr (h.0, h.1)) (s.instead b x i);
+    covers = λ b. ((s.covered b).1, λ no mine is. no ((s.covered b).0 is));
+    leaves = λ told b r away. absurd (away (s.reaches told b r));
+    in_tree = λ told b not_mine r. s.reaches told b r;
+    waits = s.waits;
+    no_wait = s.no_wait;
+    clearing = s.clearing;
+    dirty = s.dirty;
+    moments = s.moments;
+    left = s.left;
+    pins = s.pins;
+    numbers = s.numbers;
   }
 
-  pub steps_none : {mine : ℕ → Type 0} (a : S) → keeps a a → Steps now label stands loose high tops is_block may_leave moments left sealed_at pins_left room next grants pinned waits clearing covered keeps tag mine a a
-  steps_none {mine = mine} a once = record {
-    memory = λ b h. content_once (now a b);
-    images = λ image is. record { beside = beside_once (Touched (label a) (label a) (high a) tag mine) image is; same_slots = λ b j h. refl; apart = λ t b top m. absurd (m.0 m.1) };
-    passes = passes_none (Beside (Touched (label a) (label a) (high a) tag mine) (may_leave a)) (moments a) (left a);
-    labels = λ b h. refl;
-    fresh = λ b m. absurd (m.0 m.1);
+  pub steps_none : {mine inner : ℕ → Type 0} (a : State) → KeepsAll a a → Steps tag mine inner a a
+  steps_none {inner = inner} a all = record {
+    memory = λ b h. content_once (a.now b);
+    images = λ image is. behind_once (Touched a a tag inner) image is (λ b m. m.0 m.1);
     made = λ b m. absurd (m.0 m.1);
-    places = λ b p h. (λ s. s, λ l. l);
-    covers = λ b h. h;
-    marks = λ b. (λ h. h, λ m h. h);
-    order = λ x b j. (λ m n w. w, λ h. (λ m. m.0 m.1, h));
-    numbers = (refl, refl, refl, λ h. h);
-    stays = once;
-    same_high = refl;
-    same_tops = λ b h. h;
-    same_blocks = λ b h. h;
+    others = λ b h. record { label = refl; marks = (λ h. h, λ h. h, λ h. h); apart = (λ h. h, λ h. h) };
+    places = λ told b p h u s. s;
+    instead = λ b x i. inl i;
+    covered = λ b. (λ h. h, λ h. h);
+    uncovered = λ b m. absurd (m.0 m.1);
+    reaches = λ told b r. r;
+    waits = λ x on j m n w. w;
+    no_wait = record { each = λ x on j h w. w };
+    clearing = λ b j h. (λ m. m.0 m.1, h);
+    dirty = λ b d. inl d;
+    moments = refl;
+    left = λ k image h. h;
+    pins = refl;
+    room = refl;
+    numbers = record { next = refl; grants = λ h. h };
+    all = all;
   }
 
-  module _ {mine more : ℕ → Type 0} {a b c : S} (joins : keeps a b → keeps b c → keeps a c) (first : Steps now label stands loose high tops is_block may_leave moments left sealed_at pins_left room next grants pinned waits clearing covered keeps tag mine a b) (second : Steps now label stands loose high tops is_block may_leave moments left sealed_at pins_left room next grants pinned waits clearing covered keeps tag more b c)
-      (of : (at : ℕ) → more at → mine at ⊎ Made (label a) (label b) at) where
-    pub made_first : (at : ℕ) → Made (label a) (label b) at → Made (label a) (label c) at
-    made_first at m = (m.0, ap (λ (l : Label). l.state) (second.labels at (λ n. n.0 m.1)) ∙ m.1)
+  module _ {mine inner more outer : ℕ → Type 0} {a b c : State} (all : KeepsAll a c) (first : Steps tag mine inner a b) (second : Steps tag more outer b c)
+      (of : (at : ℕ) → more at → mine at ⊎ Made a b at) (within : (at : ℕ) → outer at → inner at ⊎ Made a b at) where
+    pub made_first : (at : ℕ) → Made a b at → Made a c at
+    made_first at m = (m.0, ap (λ (l : Label). l.state) (second.others at (λ n. n.0 m.1)).label ∙ m.1)
 
-    pub made_second : (at : ℕ) → Made (label b) (label c) at → Made (label a) (label c) at
-    made_second at n = (λ e. n.0 (ap (λ (l : Label). l.state) (first.labels at (λ m. m.0 e)) ∙ e), n.1)
+    pub made_second : (at : ℕ) → Made b c at → Made a c at
+    made_second at n = (λ e. n.0 (ap (λ (l : Label). l.state) (first.others at (λ m. m.0 e)).label ∙ e), n.1)
 
-    pub made_either : (at : ℕ) → Made (label a) (label c) at → Made (label a) (label b) at ⊎ Made (label b) (label c) at
-    made_either at m = ⊎_elim (λ e. inl (m.0, e)) (λ n. inr (n, m.1)) (same_state (label b at).state)
+    pub made_either : (at : ℕ) → Made a c at → Made a b at ⊎ Made b c at
+    made_either at m = ⊎_elim (λ e. inl (m.0, e)) (λ n. inr (n, m.1)) (same_state (b.label at).state)
 
-    touched_first : (at : ℕ) → Touched (label a) (label b) (high a) tag mine at → Touched (label a) (label c) (high a) tag mine at
-    touched_first at = ⊎_elim (λ m. inl (made_first at m)) (λ h. inr h)
-
-    touched_second : (at : ℕ) → Touched (label b) (label c) (high b) tag more at → Touched (label a) (label c) (high a) tag mine at
-    touched_second at = ⊎_elim (λ n. inl (made_second at n))
+    -- what the second call touches, both touch
+    touched : (here there : ℕ → Type 0) → ((at : ℕ) → there at → here at ⊎ Made a b at) → (at : ℕ) → Touched b c tag there at → Touched a c tag here at
+    touched here there from at = ⊎_elim (λ n. inl (made_second at n))
         (λ h. ⊎_elim
         (λ m. inl (made_first at m))
-        (λ no. let same = sym (first.labels at no) in ⊎_elim
-        (λ own. inr (own, ap (λ (l : Label). l.epoch) same ∙ h.1 ∙ first.same_high, ap (λ (l : Label). l.tag) same ∙ h.2))
+        (λ no. let same = sym (first.others at no).label in ⊎_elim
+        (λ own. inr (own, ap (λ (l : Label). l.epoch) same ∙ h.1 ∙ first.all.same_high, ap (λ (l : Label). l.tag) same ∙ h.2))
         (λ m. inl (made_first at m))
-        (of at h.0))
-        (cases_made (label a) (label b) at))
+        (from at h.0))
+        (cases_made a b at))
 
-    beside_first : (image : Image) → Beside (Touched (label a) (label b) (high a) tag mine) (may_leave a) image → Beside (Touched (label a) (label c) (high a) tag mine) (may_leave a) image
-    beside_first image = beside_wider image touched_first
+    touched_first : (here : ℕ → Type 0) (at : ℕ) → Touched a b tag here at → Touched a c tag here at
+    touched_first here at = ⊎_elim (λ m. inl (made_first at m)) (λ h. inr h)
 
-    beside_second : (image : Image) → Beside (Touched (label b) (label c) (high b) tag more) (may_leave b) image → Beside (Touched (label a) (label c) (high a) tag mine) (may_leave a) image
-    beside_second image = beside_joins image (λ other is. beside_first other (first.images other is).beside) touched_second
+    marked : (at : ℕ) → (Made a c at → ⊥) → StaysMarked a c at
+    marked at h =
+        let p = first.others at (λ m. h (made_first at m)) in
+        let q = second.others at (λ n. h (made_second at n)) in
+        record {
+          label = q.label ∙ p.label;
+          marks = (λ x. q.marks.0 (p.marks.0 x), λ x. q.marks.1 (p.marks.1 x), λ x. q.marks.2 (p.marks.2 x));
+          apart = (λ x. p.apart.0 (q.apart.0 x), λ x. q.apart.1 (p.apart.1 x));
+        }
 
-    pub steps_joins : Steps now label stands loose high tops is_block may_leave moments left sealed_at pins_left room next grants pinned waits clearing covered keeps tag mine a c
+    is_made : (at : ℕ) → Made a c at → IsMade tag a c at
+    is_made at m = ⊎_elim
+        (λ m.
+        let was = first.made at m in
+        let q = second.others at (λ n. n.0 m.1) in
+        record {
+          was = was.was;
+          labelled = (ap (λ (l : Label). l.epoch) q.label ∙ was.labelled.0, ap (λ (l : Label). l.tag) q.label ∙ was.labelled.1);
+          is_one = (second.all.same_blocks at).1 was.is_one;
+          is_pinned = q.marks.0 was.is_pinned;
+          is_fresh = q.marks.2 was.is_fresh;
+        })
+        (λ n.
+        let is = second.made at n in
+        record {
+          was = (
+            is.was.0,
+            λ told.
+                let mid = is.was.1 (first.all.still_tells.1 told) in
+                (λ top. mid.0 ((first.all.same_tops at).1 top), λ p s. by told n mid.1 p s),
+          );
+          labelled = (is.labelled.0 ∙ first.all.same_high, is.labelled.1);
+          is_one = is.is_one;
+          is_pinned = is.is_pinned;
+          is_fresh = is.is_fresh;
+        })
+        (made_either at m)
+      where
+        by : a.tells → Made b c at → ((p : Place) → b.stands at p → ⊥) → (p : Place) → a.stands at p → ⊥
+        by told n away p s = away p (first.places told at p (λ m. n.0 m.1) (second.uncovered at n) s)
+
+    pub steps_joins : Steps tag mine inner a c
     steps_joins = record {
-      memory = λ at h. content_joins (second.memory at (λ t. h (touched_second at t))) (first.memory at (λ t. h (touched_first at t)));
+      memory = λ at h. content_joins (second.memory at (λ t. h (touched inner outer within at t))) (first.memory at (λ t. h (touched_first inner at t)));
       images = λ image is.
           let last = second.images image is in
-          let before = first.images last.beside.other last.beside.was in
+          let before = first.images last.other last.was in
           record {
-            beside = record { other = before.beside.other; was = before.beside.was; same = λ at h. content_joins (last.beside.same at (λ u. h (touched_second at u))) (before.beside.same at (λ u. h (touched_first at u))) };
+            other = before.other;
+            was = before.was;
+            same = λ at h. content_joins (last.same at (λ u. h (touched inner outer within at u))) (before.same at (λ u. h (touched_first inner at u)));
             same_slots = λ at j h. last.same_slots at j (λ n. h (made_second at n)) ∙ before.same_slots at j (λ m. h (made_first at m));
             apart = λ t at top m r. ⊎_elim
                 (λ m. before.apart t at top m r)
-                (λ n. last.apart t at (first.same_tops t top) n (reach_aside before.beside.other last.beside.other (Made (label a) (label b)) t (λ x j h. sym (before.same_slots x j h)) (λ x m. before.apart t x top m) at r))
+                (λ n. last.apart t at ((first.all.same_tops t).1 top) n (reach_aside before.other last.other (Made a b) t (λ x j h. sym (before.same_slots x j h)) (λ x m. before.apart t x top m) at r))
                 (made_either at m);
           };
-      passes = passes_joins (passes_of beside_first first.passes) (passes_of beside_second second.passes);
-      labels = λ at h. second.labels at (λ n. h (made_second at n)) ∙ first.labels at (λ m. h (made_first at m));
-      fresh = λ at m. ⊎_elim
-          (λ m. first.fresh at m)
-          (λ n. let free = second.fresh at n in (λ p s. free.0 p ((first.places at p (λ m. n.0 m.1)).0 s), λ t. free.1 (first.same_tops at t), free.2))
-          (made_either at m);
-      made = λ at m. ⊎_elim
-          (λ m. let was = first.made at m in let same = second.labels at (λ n. n.0 m.1) in (ap (λ (l : Label). l.epoch) same ∙ was.0, ap (λ (l : Label). l.tag) same ∙ was.1, second.same_blocks at was.2, (second.marks at).0 was.3))
-          (λ n. let was = second.made at n in (was.0 ∙ first.same_high, was.1, was.2, was.3))
-          (made_either at m);
-      places = λ at p h. (λ s. (second.places at p (λ n. h (made_second at n))).0 ((first.places at p (λ m. h (made_first at m))).0 s), λ l. (second.places at p (λ n. h (made_second at n))).1 ((first.places at p (λ m. h (made_first at m))).1 l));
-      covers = λ at h. first.covers at (second.covers at h);
-      marks = λ at. (λ h. (second.marks at).0 ((first.marks at).0 h), λ m h. (second.marks at).1 (λ n. m (made_second at n)) ((first.marks at).1 (λ n. m (made_first at n)) h));
-      order = λ x at j. (
-        λ m n w. (second.order x at j).0 (λ h. m (made_second x h)) (λ h. n (made_second at h)) ((first.order x at j).0 (λ h. m (made_first x h)) (λ h. n (made_first at h)) w),
-        λ h. let mid = (second.order x at j).1 h in let old = (first.order x at j).1 mid.1 in (λ m. ⊎_elim old.0 mid.0 (made_either at m), old.1),
-      );
-      numbers = (second.numbers.0 ∙ first.numbers.0, second.numbers.1 ∙ first.numbers.1, second.numbers.2 ∙ first.numbers.2, λ h. second.numbers.3 (first.numbers.3 h));
-      stays = joins first.stays second.stays;
-      same_high = second.same_high ∙ first.same_high;
-      same_tops = λ at t. second.same_tops at (first.same_tops at t);
-      same_blocks = λ at t. second.same_blocks at (first.same_blocks at t);
+      made = is_made;
+      others = marked;
+      places = λ told at p h spared s. second.places (first.all.still_tells.1 told) at p (λ n. h (made_second at n)) spared (first.places told at p (λ m. h (made_first at m)) (λ u. spared ((second.covered at).1 u)) s);
+      instead = λ at x i. ⊎_elim
+          (λ mid. ⊎_elim (λ was. inl was) (λ h. inr (made_first at h.0, h.1, h.2)) (first.instead at x mid))
+          (λ h. let own = by_older x h.1 h.2 in inr (made_second at h.0, own.0, own.1))
+          (second.instead at x i);
+      uncovered = λ at m. ⊎_elim (λ m. first.uncovered at m) (λ n h. second.uncovered at n ((first.covered at).1 h)) (made_either at m);
+      covered = λ at. (λ h. (first.covered at).0 ((second.covered at).0 h), λ h. (second.covered at).1 ((first.covered at).1 h));
+      reaches = λ told at r. second.reaches (first.all.still_tells.1 told) at (first.reaches told at r);
+      waits = λ x on j m n w. second.waits x on j (λ h. m (made_second x h)) (λ h. n (made_second on h)) (first.waits x on j (λ h. m (made_first x h)) (λ h. n (made_first on h)) w);
+      no_wait = record { each = λ x on j h w. first.no_wait.each x on j h (second.no_wait.each x on j h w) };
+      clearing = λ at j h. let mid = second.clearing at j h in let old = first.clearing at j mid.1 in (λ m. ⊎_elim old.0 mid.0 (made_either at m), old.1);
+      dirty = λ at d. ⊎_elim
+          (λ mid. ⊎_elim
+          (λ was. inl was)
+          (λ h. inr (⊎_elim (λ t. inl (touched_first mine at t)) (λ x. inr (x.0, made_first x.0 x.1, x.2 ∙ sym (second.all.same_label_blocks x.0))) h))
+          (first.dirty at mid))
+          (λ h. inr (⊎_elim (λ t. inl (touched mine more of at t)) (λ x. inr (x.0, made_second x.0 x.1, x.2)) h))
+          (second.dirty at d);
+      moments = second.moments ∙ first.moments;
+      left = λ k image h. first.left k image (second.left k image h);
+      pins = second.pins ∙ first.pins;
+      room = second.room ∙ first.room;
+      numbers = record { next = second.numbers.next ∙ first.numbers.next; grants = λ h. second.numbers.grants (first.numbers.grants h) };
+      all = all;
+    }
+      where
+        by_older : (x : ℕ) → more x → (b.label x).epoch < b.high → mine x × ((a.label x).epoch < a.high)
+        by_older x is older = ⊎_elim
+            (λ m. let now : (b.label x).epoch ≡ a.high = (first.made x m).labelled.0 in let high = first.all.same_high in absurd (omega (arith, older, now, high)))
+            (λ no. (⊎_elim (λ own. own) (λ m. absurd (no m)) (of x is), subst (λ n. (a.label x).epoch < n) first.all.same_high (subst (λ (l : Label). l.epoch < b.high) (first.others x no).label older)))
+            (cases_made a b x)
+
+  module _ {mine : ℕ → Type 0} {old new : State} {at : ℕ} {content : Content} {l : Label} (g : GivesOut tag mine at content l old new) where
+    at_made : Made old new at
+    at_made = (g.gives.was.0, ap (λ (l : Label). l.state) g.gives.label ∙ g.live)
+
+    pub made_is : (b : ℕ) → Made old new b → b ≡ at
+    made_is b m = ⊎_elim (λ e. e) (λ ne. absurd (m.0 (ap (λ (l : Label). l.state) (sym (g.gives.stays.labels b ne)) ∙ m.1))) (cases_eq b at)
+
+    not_at : (b : ℕ) → (Made old new b → ⊥) → b ≢ at
+    not_at b h e = h (subst (λ x. Made old new x) (sym e) at_made)
+
+    at_is : IsMade tag old new at
+    at_is = record {
+      was = (g.gives.was.1, g.gives.was.3);
+      labelled = (ap (λ (l : Label). l.epoch) g.gives.label ∙ g.epoch, ap (λ (l : Label). l.tag) g.gives.label ∙ g.tagged);
+      is_one = g.gives.is.0;
+      is_pinned = g.gives.is.1;
+      is_fresh = g.gives.is.2;
     }
 
-  module _ {old new : S} {at : ℕ} {content : Content} (g : GivesOut now label stands loose high tops is_block may_leave moments left sealed_at pins_left room next grants pinned waits clearing covered keeps tag at content old new) where
-    is_made : Made (label old) (label new) at
-    is_made = (g.fresh.3, g.live)
+    at_covered : new.covered at ↔ old.covered at
+    at_covered = (λ h. absurd (g.gives.is.4 h), λ h. absurd (g.gives.was.2 h))
 
-    pub made_is : (b : ℕ) → Made (label old) (label new) b → b ≡ at
-    made_is b m = ⊎_elim (λ e. e) (λ ne. absurd (m.0 (ap (λ (l : Label). l.state) (sym (g.others b ne).0) ∙ m.1))) (cases_eq b at)
+    same_slot : (x y : Image) → ((b : ℕ) → b ≢ at → SameContent (x b) (y b)) → (b j : ℕ) → (b ≡ at → ⊥) → (x b).slot j ≡ (y b).slot j
+    same_slot x y same b j ne = (same b ne).slots j
 
-    not_at : (b : ℕ) → (Made (label old) (label new) b → ⊥) → b ≢ at
-    not_at b h e = h (subst (λ x. Made (label old) (label new) x) (sym e) is_made)
-
-    pub given_out : Steps now label stands loose high tops is_block may_leave moments left sealed_at pins_left room next grants pinned waits clearing covered keeps tag (λ b. ⊥) old new
+    pub given_out : Steps tag mine (λ b. ⊥) old new
     given_out = record {
-      memory = λ b h. g.puts.others b (not_at b (λ m. h (inl m)));
-      images = λ image is. let before = g.adds.before image is in record {
-        beside = record { other = with_block image at before.0; was = before.1; same = λ b h. content_at (sym (block_other image at before.0 b (not_at b (λ m. h (inl m))))) };
+      memory = λ b h. g.gives.memory.others b (not_at b (λ m. h (inl m)));
+      images = λ image is. let before = g.gives.images.before image is in record {
+        other = with_block image at before.0;
+        was = before.1;
+        same = λ b h. content_at (sym (block_other image at before.0 b (not_at b (λ m. h (inl m)))));
         same_slots = λ b j h. ap (λ (c : Content). c.slot j) (sym (block_other image at before.0 b (not_at b h)));
-        apart = λ t b top m r. g.adds.apart image is t top (subst (λ x. Reaches image (to_block t) x) (made_is b m) (reach_into image (with_block image at before.0) (λ x. x ≡ at) t
+        apart = λ t b top m r. g.gives.images.apart image is t top (subst (λ x. Reaches image (to_block t) x) (made_is b m) (reach_into image (with_block image at before.0) (λ x. x ≡ at) t
             (λ x j ne. ap (λ (c : Content). c.slot j) (sym (block_other image at before.0 x ne)))
-            (λ x e far. g.adds.apart image is t top (subst (λ y. Reaches image (to_block t) y) e far)) b r));
+            (λ x e far. g.gives.images.apart image is t top (subst (λ y. Reaches image (to_block t) y) e far)) b r));
       };
-      passes = passes_of (λ image is. beside_once (Touched (label old) (label new) (high old) tag (λ b. ⊥)) image is) g.passes;
-      labels = λ b h. (g.others b (not_at b h)).0;
-      fresh = λ b m. let e = made_is b m in (λ p s. g.fresh.0 p (subst (λ x. stands old x p) e s), λ t. g.fresh.1 (subst (λ x. tops old x) e t), λ is. g.fresh.2 (sym e ∙ is));
-      made = λ b m. let e = sym (made_is b m) in (subst (λ x. (label new x).epoch ≡ high old) e g.epoch, subst (λ x. (label new x).tag ≡ tag) e g.tagged, subst (λ x. is_block new x) e g.is_new.0, subst (λ x. pinned new x) e g.is_new.1);
-      places = λ b p h. g.places b p (not_at b h);
-      covers = λ b h. ⊎_elim (λ e. absurd (g.is_new.2 (subst (λ x. covered new x) e h))) (λ ne. (g.others b ne).3 h) (cases_eq b at);
-      marks = λ b. (λ h. ⊎_elim (λ e. subst (λ x. pinned new x) (sym e) g.is_new.1) (λ ne. (g.others b ne).1 h) (cases_eq b at), λ m h. (g.others b (not_at b m)).2 h);
-      order = λ x b j. (λ m n w. (g.order x b j).0 (not_at x m) (not_at b n) w, λ h. let was = (g.order x b j).1 h in (λ m. was.0 (made_is b m), was.1));
-      numbers = (g.pins, g.rooms, g.nexts, g.granted);
-      stays = g.kept;
-      same_high = g.high_is;
-      same_tops = g.tops_stay;
-      same_blocks = g.blocks_stay;
+      made = λ b m. subst (λ x. IsMade tag old new x) (sym (made_is b m)) at_is;
+      others = λ b h. let ne = not_at b h in record { label = g.gives.stays.labels b ne; marks = g.gives.stays.marks b ne; apart = g.gives.stays.apart b ne (λ n. n) };
+      places = λ told b p h spared s. g.gives.stays.places told b p (not_at b h) (λ n. n) spared s;
+      instead = λ b x i. ⊎_elim
+          (λ e. let own = g.instead x (subst (λ y. new.instead y x) e i) in inr (subst (λ y. Made old new y) (sym e) at_made, own.0, own.1))
+          (λ ne. inl ((g.gives.stays.instead b x ne (λ n. n)).0 i))
+          (cases_eq b at);
+      uncovered = λ b m h. g.gives.was.2 (subst (λ x. old.covered x) (made_is b m) h);
+      covered = λ b. ⊎_elim (λ e. subst (λ x. new.covered x ↔ old.covered x) (sym e) at_covered) (λ ne. g.gives.covered b ne) (cases_eq b at);
+      reaches = λ told b r. reach_into new.now old.now (λ x. x ≡ at) 1 (same_slot new.now old.now g.gives.memory.others)
+          (λ x e far. g.gives.images.apart new.now (g.present (g.all.still_tells.1 told)) 1 g.active (subst (λ y. Reaches new.now (to_block 1) y) e far)) b r;
+      waits = λ x on j m n w. g.gives.stays.waits x on j (not_at x m) (not_at on n) (λ z. z) w;
+      no_wait = g.gives.no_wait;
+      clearing = λ b j h. let was = g.gives.order.clearing b j h in (λ m. was.0 (made_is b m), was.1);
+      dirty = λ b d. ⊎_elim
+          (λ h. inl h)
+          (λ h. inr (⊎_elim (λ e. inl (inl (subst (λ x. Made old new x) (sym e) at_made))) (λ e. inr (at, at_made, e)) h))
+          (g.gives.dirty b d);
+      moments = g.gives.uses.moments;
+      left = g.gives.uses.left;
+      pins = g.gives.uses.pins;
+      room = let is = g.gives.uses.room in omega (arith, is);
+      numbers = g.gives.numbers;
+      all = g.all;
     }
 
-  module _ {old new : S} {at : ℕ} {bytes : List ℕ} {beside : Image → Type 0} (g : PutsInto now label stands loose high tops is_block may_leave moments left sealed_at pins_left room next grants pinned waits clearing covered keeps tag at bytes beside old new) where
-    none_made : (b : ℕ) → Made (label old) (label new) b → ⊥
-    none_made b m = m.0 (ap (λ (l : Label). l.state) (sym (g.blocks b).0) ∙ m.1)
+  module _ {old new : State} {at : ℕ} {bytes : List ℕ} {beside : Image → Type 0} (g : PutsInto tag at bytes beside old new) where
+    none_made : (b : ℕ) → Made old new b → ⊥
+    none_made b m = m.0 (ap (λ (l : Label). l.state) (sym (g.calm.frame.stays.labels b (λ n. n))) ∙ m.1)
 
-    aside : (b : ℕ) → (Touched (label old) (label new) (high old) tag (λ x. x ≡ at) b → ⊥) → b ≢ at
-    aside b h e = h (inr (e, ap (λ x. (label old x).epoch) e ∙ g.current, ap (λ x. (label old x).tag) e ∙ g.tagged))
+    aside : (b : ℕ) → (Touched old new tag (λ x. x ≡ at) b → ⊥) → b ≢ at
+    aside b h e = h (inr (e, ap (λ x. (old.label x).epoch) e ∙ g.current, ap (λ x. (old.label x).tag) e ∙ g.tagged))
 
-    pub bytes_put : Steps now label stands loose high tops is_block may_leave moments left sealed_at pins_left room next grants pinned waits clearing covered keeps tag (λ b. b ≡ at) old new
+    pub bytes_put : Steps tag (λ b. b ≡ at) (λ b. b ≡ at) old new
     bytes_put = record {
       memory = λ b h. record { bytes = g.puts.others b (aside b h); slots = g.puts.slots b };
       images = λ image is. ⊎_elim
-          (λ was. record { beside = beside_once (Touched (label old) (label new) (high old) tag (λ b. b ≡ at)) image was; same_slots = λ b j h. refl; apart = λ t b top m. absurd (none_made b m) })
+          (λ was. behind_once (Touched old new tag (λ b. b ≡ at)) image was none_made)
           (λ put. record {
-            beside = record { other = with_bytes image at ((now old at).bytes); was = put.1; same = λ b h. content_at (sym (bytes_other image at ((now old at).bytes) b (aside b h))) };
-            same_slots = λ b j h. sym (bytes_slot image at ((now old at).bytes) b j);
+            other = with_bytes image at ((old.now at).bytes);
+            was = put.1;
+            same = λ b h. content_at (sym (bytes_other image at ((old.now at).bytes) b (aside b h)));
+            same_slots = λ b j h. sym (bytes_slot image at ((old.now at).bytes) b j);
             apart = λ t b top m. absurd (none_made b m);
           })
           (g.adds.each image is);
-      passes = passes_of (λ image is. beside_once (Touched (label old) (label new) (high old) tag (λ b. b ≡ at)) image is) g.passes;
-      labels = λ b h. (g.blocks b).0;
-      fresh = λ b m. absurd (none_made b m);
       made = λ b m. absurd (none_made b m);
-      places = λ b p h. g.places b p;
-      covers = g.covers;
-      marks = λ b. ((g.blocks b).1, λ m h. (g.blocks b).2 h);
-      order = λ x b j. (λ m n w. (g.order x b j).0 w, λ h. (none_made b, (g.order x b j).1 h));
-      numbers = (g.pins, g.rooms, g.nexts, g.granted);
-      stays = g.kept;
-      same_high = g.high_is;
-      same_tops = g.tops_stay;
-      same_blocks = g.blocks_stay;
+      others = λ b h. let s = g.calm.frame.stays in record { label = s.labels b (λ n. n); marks = s.marks b (λ n. n); apart = s.apart b (λ n. n) (λ n. n) };
+      places = λ told b p h spared s. g.calm.frame.stays.places told b p (λ n. n) (λ n. n) spared s;
+      instead = λ b x i. inl ((g.calm.frame.stays.instead b x (λ n. n) (λ n. n)).0 i);
+      covered = g.calm.covered.covered;
+      uncovered = λ b m. absurd (none_made b m);
+      reaches = λ told b r. reach_into new.now old.now (λ x. ⊥) 1 (λ x j h. g.puts.slots x j) (λ x h. absurd h) b r;
+      waits = λ x on j m n w. g.calm.frame.stays.waits x on j (λ z. z) (λ z. z) (λ z. z) w;
+      no_wait = g.no_wait;
+      clearing = λ b j h. (none_made b, (g.calm.order.clearing b j h).1);
+      dirty = λ b d. ⊎_elim (λ h. inl h) (λ e. inr (inl (inr (e, ap (λ x. (old.label x).epoch) e ∙ g.current, ap (λ x. (old.label x).tag) e ∙ g.tagged)))) (g.calm.frame.dirty b d);
+      moments = g.calm.frame.uses.moments;
+      left = g.calm.frame.uses.left;
+      pins = g.calm.frame.uses.pins;
+      room = let is = g.calm.frame.uses.room in omega (arith, is);
+      numbers = g.calm.frame.numbers;
+      all = g.all;
     }

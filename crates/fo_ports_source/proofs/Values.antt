@@ -18,6 +18,13 @@ values_at : (f : ℕ → ℕ) (len k : ℕ) → ((k : ℕ) → len ≤ k → f k
 values_at f len k tail (inl lt) = values_below f len k lt
 values_at f len k tail (inr past) = get_or_past (map f (range_with_len 0 len)) k 0 (omega (arith, length_values f len)) ∙ sym (tail k past)
 
+-- the same bytes at each place are the same list
+pub values_same : (f g : ℕ → ℕ) (len : ℕ) → ((k : ℕ) → g k ≡ f k) → map g (range_with_len 0 len) ≡ map f (range_with_len 0 len)
+values_same f g len same =
+    let is = length_values g len in
+    ext_get_or 0 (map g (range_with_len 0 len)) (map f (range_with_len 0 len)) (is ∙ sym (length_values f len))
+    (λ k lt. values_below g len k (omega (arith, is, lt)) ∙ same k ∙ sym (values_below f len k (omega (arith, is, lt))))
+
 pub values_resized : (f g : ℕ → ℕ) (len len' : ℕ) → ((k : ℕ) → len ≤ k → f k ≡ 0) → ((k : ℕ) → g k ≡ f k) → map g (range_with_len 0 len') ≡ resized (map f (range_with_len 0 len)) len'
 values_resized f g len len' tail same =
     let is = length_values g len' in

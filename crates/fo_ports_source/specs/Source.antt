@@ -4,10 +4,10 @@ use Rattle.fo_image.specs.declared.types.Kind.{Kind}
 use Rattle.fo_image.specs.declared.types.Kind.TheVariants.{Data, Dir}
 use Rattle.fo_image.specs.declared.types.Label.{Label}
 use Rattle.fo_image.specs.declared.types.State.TheVariants.{Live}
-use Rattle.fo_crash.specs.declared.place.Place.{Place}
-use Rattle.fo_crash.specs.Images.{Image}
+use Rattle.fo_crash.specs.Images.{Image, Reaches, to_block}
 use Rattle.fo_crash.specs.Places.{place}
-use Rattle.fo_ports.specs.Sources.{Form, byte_at}
+use Rattle.fo_ports.specs.State.{State}
+use Rattle.fo_ports.specs.Sources.{Form, Leaves, byte_at, source_bytes}
 
 -- the leaf of a number
 abbrev pub leaf_of : List (Option ℕ) → ℕ → Option ℕ
@@ -36,44 +36,69 @@ pub record HasLabel (high : ℕ) (kind : Kind) (tag : ℕ) (l : Label) : Type 0 
   pub has_tag : l.tag ≡ tag
   pub up_to : l.epoch ≤ high
 
--- What a device that tells has of a leaf. It is in no slot, so the index of its place is 0.
-pub record IsTold (label : ℕ → Label) (stands : ℕ → Place → Type 0) (high : ℕ) (covered : ℕ → Type 0) (kind : Kind) (tag rank at : ℕ) : Type 0 where
-  pub labelled : HasLabel high kind tag (label at)
-  pub there : stands at (place kind tag 0 rank)
-  pub uncovered : covered at → ⊥
+-- What a device that tells has of a leaf. The source puts it into no slot, so the index of its place is 0; and a leaf of an older epoch
+-- hangs from block 1, since no other block is ever copied.
+pub record IsTold (s : State) (kind : Kind) (tag rank at : ℕ) : Type 0 where
+  pub labelled : HasLabel s.high kind tag (s.label at)
+  pub there : s.stands at (place kind tag 0 rank)
+  pub uncovered : s.covered at → ⊥
+  pub in_tree : (s.label at).epoch < s.high → Reaches s.now (to_block 1) at
 
 -- A block may be a leaf of a source of this kind, tag and rank: over a device that tells nothing it is just a block.
-pub record IsLeaf (label : ℕ → Label) (stands : ℕ → Place → Type 0) (high : ℕ) (is_block covered : ℕ → Type 0) (tells : Type 0) (kind : Kind) (tag rank at : ℕ) : Type 0 where
-  pub is_one : is_block at
-  pub told : tells → IsTold label stands high covered kind tag rank at
+pub record IsLeaf (s : State) (kind : Kind) (tag rank at : ℕ) : Type 0 where
+  pub is_one : s.is_block at
+  pub told : s.tells → IsTold s kind tag rank at
 
 -- A source stands over these blocks: its leaves are blocks, and none lies past its end. Where the device tells they are different
 -- ones, and each byte past its end is 0.
-pub record Over (now : Image) (label : ℕ → Label) (stands : ℕ → Place → Type 0) (high : ℕ) (is_block covered : ℕ → Type 0) (tells : Type 0) (kind : Kind) (tag rank size : ℕ) (leaves : List (Option ℕ)) : Type 0 where
-  pub leaf : (i at : ℕ) → leaf_of leaves i ≡ Some at → IsLeaf label stands high is_block covered tells kind tag rank at
-  pub apart : tells → (i j at : ℕ) → leaf_of leaves i ≡ Some at → leaf_of leaves j ≡ Some at → i ≡ j
+pub record Over (s : State) (kind : Kind) (tag rank size : ℕ) (leaves : List (Option ℕ)) : Type 0 where
+  pub leaf : (i at : ℕ) → leaf_of leaves i ≡ Some at → IsLeaf s kind tag rank at
+  pub apart : s.tells → (i j at : ℕ) → leaf_of leaves i ≡ Some at → leaf_of leaves j ≡ Some at → i ≡ j
   pub none : (i : ℕ) → size ≤ 8192 * i → leaf_of leaves i ≡ None
-  pub tail : tells → (k : ℕ) → size ≤ k → byte_of (leaf_of leaves) now k ≡ 0
+  pub tail : s.tells → (k : ℕ) → size ≤ k → byte_of (leaf_of leaves) s.now k ≡ 0
   pub within : size ≤ 8192 * length leaves
   pub few : length leaves < 2 ^ 32
   pub leaf_kind : (kind ≡ Data 0) ⊎ (kind ≡ Dir 0)
 
 -- A leaf of this kind and tag was got or given out: it is pinned, and whole.
-pub record IsHeld (now : Image) (label : ℕ → Label) (high : ℕ) (pinned : ℕ → Type 0) (kind : Kind) (tag at : ℕ) : Type 0 where
-  pub labelled : HasLabel high kind tag (label at)
-  pub is_pinned : pinned at
-  pub long : length ((now at).bytes) ≡ 8192
+pub record IsHeld (s : State) (kind : Kind) (tag at : ℕ) : Type 0 where
+  pub labelled : HasLabel s.high kind tag (s.label at)
+  pub is_pinned : s.pinned at
+  pub long : length ((s.now at).bytes) ≡ 8192
 
 -- The leaves of so many bytes from an offset on are held.
-pub record Prepared (now : Image) (label : ℕ → Label) (high : ℕ) (pinned : ℕ → Type 0) (kind : Kind) (tag : ℕ) (leaves : List (Option ℕ)) (offset n : ℕ) : Type 0 where
-  pub each : (k at : ℕ) → offset ≤ k → k < offset + n → leaf_of leaves (k / 8192) ≡ Some at → IsHeld now label high pinned kind tag at
+pub record Prepared (s : State) (kind : Kind) (tag : ℕ) (leaves : List (Option ℕ)) (offset n : ℕ) : Type 0 where
+  pub each : (k at : ℕ) → offset ≤ k → k < offset + n → leaf_of leaves (k / 8192) ≡ Some at → IsHeld s kind tag at
   pub limit : offset + n ≤ 8192 * length leaves
 
 -- A leaf of the current epoch that is held.
-pub record IsOwn (now : Image) (label : ℕ → Label) (stands : ℕ → Place → Type 0) (high : ℕ) (is_block covered : ℕ → Type 0) (tells : Type 0) (pinned : ℕ → Type 0) (kind : Kind) (tag rank at : ℕ) : Type 0 where
-  pub leaf : IsLeaf label stands high is_block covered tells kind tag rank at
-  pub held : IsHeld now label high pinned kind tag at
-  pub current : (label at).epoch ≡ high
+pub record IsOwn (s : State) (kind : Kind) (tag rank at : ℕ) : Type 0 where
+  pub leaf : IsLeaf s kind tag rank at
+  pub held : IsHeld s kind tag at
+  pub current : (s.label at).epoch ≡ s.high
+
+-- There is this leaf, and it is of the current epoch.
+pub record IsCurrent (s : State) (leaf : Option ℕ) : Type 0 where
+  pub at : ℕ
+  pub is : leaf ≡ Some at
+  pub current : (s.label at).epoch ≡ s.high
+
+-- Owning a leaf takes one block less than a tree would need: the source has more leaves than one, or the one that it has is of the
+-- current epoch.
+abbrev pub IsTopCurrent : State → ℕ → List (Option ℕ) → Type 0
+IsTopCurrent s size leaves = (8192 < size) ⊎ IsCurrent s (leaf_of leaves 0)
+
+-- what a plain source has over blocks
+abbrev pub leaves_of : State → Kind → ℕ → ℕ → List (Option ℕ) → Leaves
+leaves_of s kind tag size leaves = record {
+  at = leaf_of leaves;
+  held = λ i. None;
+  named = λ score kind. ⊥;
+  bytes = source_bytes (leaf_of leaves) (λ i. None) s.now size;
+  owns = HasLeaf leaves;
+  prepared = Prepared s kind tag leaves;
+  current = IsTopCurrent s size leaves;
+}
 
 -- The bytes from an offset on are these, and all others are as they were.
 pub record Puts (old new : ℕ → ℕ) (offset : ℕ) (bytes : List ℕ) : Type 0 where

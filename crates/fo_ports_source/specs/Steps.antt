@@ -1,43 +1,49 @@
 -- What the calls of a plain source do to the blocks.
-use Rattle.std.specs.Prelude.{◌≡◌, ◌≢◌, ◌⊎◌, ℕ, List, length, Option}
+use Rattle.std.specs.Prelude.{◌≡◌, ◌⊎◌, ◌↔◌, ◌<◌, ℕ, List, length, Option}
 use Rattle.fo_image.specs.declared.types.Kind.{Kind}
-use Rattle.fo_image.specs.declared.types.Label.{Label}
 use Rattle.fo_crash.specs.declared.place.Place.{Place}
 use Rattle.fo_crash.specs.Images.{Image, SameContent, Reaches, to_block}
-use Rattle.fo_crash.specs.Steps.{Passes}
-use Rattle.fo_ports.specs.Sources.{Made, Touched, Beside}
+use Rattle.fo_ports.specs.State.{State, KeepsAll, KeepsNumbers, AddsNoWait, none}
+use Rattle.fo_ports.specs.Sources.{Made, Touched, IsMade, StaysMarked}
 use Rattle.fo_ports_source.specs.Source.{HasLeaf, Prepared}
 
 -- As `Undone` of the trait, and the slots stay but for those of blocks that were given out.
-pub record Behind (touched made tops : ℕ → Type 0) (images : Image → Type 0) (image : Image) : Type 0 where
-  pub beside : Beside touched images image
-  pub same_slots : (b j : ℕ) → (made b → ⊥) → (image b).slot j ≡ (beside.other b).slot j
-  pub apart : (t b : ℕ) → tops t → made b → Reaches beside.other (to_block t) b → ⊥
+pub record Behind (touched : ℕ → Type 0) (old new : State) (image : Image) : Type 0 where
+  pub other : Image
+  pub was : old.may_leave other
+  pub same : (b : ℕ) → (touched b → ⊥) → SameContent (image b) (other b)
+  pub same_slots : (b j : ℕ) → (Made old new b → ⊥) → (image b).slot j ≡ (other b).slot j
+  pub apart : (t b : ℕ) → old.tops t → Made old new b → Reaches other (to_block t) b → ⊥
 
--- As `Changes` of the trait, and more: places stay but for those of blocks that were given out, and nothing more is to be closed.
-pub record Steps {S : Type 0} (now : S → Image) (label : S → ℕ → Label) (stands : S → ℕ → Place → Type 0) (loose : S → ℕ → Type 0) (high : S → ℕ) (tops is_block : S → ℕ → Type 0) (may_leave : S → Image → Type 0) (moments : S → ℕ) (left : S → ℕ → Image → Type 0) (sealed_at : S → ℕ → Type 0) (pins_left room next : S → ℕ) (grants : S → Type 0) (pinned : S → ℕ → Type 0) (waits : S → ℕ → ℕ → ℕ → Type 0) (clearing : S → ℕ → ℕ → Type 0) (covered : S → ℕ → Type 0) (keeps : S → S → Type 0) (tag : ℕ) (mine : ℕ → Type 0) (old new : S) : Type 0 where
-  pub memory : (b : ℕ) → (Touched (label old) (label new) (high old) tag mine b → ⊥) → SameContent (now new b) (now old b)
-  pub images : (image : Image) → may_leave new image → Behind (Touched (label old) (label new) (high old) tag mine) (Made (label old) (label new)) (tops old) (may_leave old) image
-  pub passes : Passes (Beside (Touched (label old) (label new) (high old) tag mine) (may_leave old)) (moments old) (moments new) (left old) (left new)
-  pub labels : (b : ℕ) → (Made (label old) (label new) b → ⊥) → label new b ≡ label old b
-  pub fresh : (b : ℕ) → Made (label old) (label new) b → ((p : Place) → stands old b p → ⊥) × (tops old b → ⊥) × (b ≢ 1)
-  pub made : (b : ℕ) → Made (label old) (label new) b → ((label new b).epoch ≡ high old) × ((label new b).tag ≡ tag) × is_block new b × pinned new b
-  pub places : (b : ℕ) (p : Place) → (Made (label old) (label new) b → ⊥) → (stands old b p → stands new b p) × (loose old b → loose new b)
-  pub covers : (b : ℕ) → covered new b → covered old b
-  pub marks : (b : ℕ) → (pinned old b → pinned new b) × ((Made (label old) (label new) b → ⊥) → sealed_at old b → sealed_at new b)
-  pub order : (a b j : ℕ) → ((Made (label old) (label new) a → ⊥) → (Made (label old) (label new) b → ⊥) → waits old a b j → waits new a b j) × (clearing new b j → (Made (label old) (label new) b → ⊥) × clearing old b j)
-  pub numbers : (pins_left new ≡ pins_left old) × (room new ≡ room old) × (next new ≡ next old) × (grants old → grants new)
-  pub stays : keeps old new
-  pub same_high : high new ≡ high old
-  pub same_tops : (b : ℕ) → tops old b → tops new b
-  pub same_blocks : (b : ℕ) → is_block old b → is_block new b
+-- As `Changes` of the trait, and more: places stay but for those of blocks that were given out, what block 1 reaches it still reaches,
+-- the same blocks are to be closed, and only an older block of the source's own is one in whose place another is to come.
+pub record Steps (tag : ℕ) (mine inner : ℕ → Type 0) (old new : State) : Type 0 where
+  pub memory : (b : ℕ) → (Touched old new tag inner b → ⊥) → SameContent (new.now b) (old.now b)
+  pub images : (image : Image) → new.may_leave image → Behind (Touched old new tag inner) old new image
+  pub made : (b : ℕ) → Made old new b → IsMade tag old new b
+  pub others : (b : ℕ) → (Made old new b → ⊥) → StaysMarked old new b
+  pub places : old.tells → (b : ℕ) (p : Place) → (Made old new b → ⊥) → (new.covered b → ⊥) → old.stands b p → new.stands b p
+  pub instead : (b x : ℕ) → new.instead b x → old.instead b x ⊎ (Made old new b × mine x × ((old.label x).epoch < old.high))
+  pub covered : (b : ℕ) → new.covered b ↔ old.covered b
+  pub uncovered : (b : ℕ) → Made old new b → old.covered b → ⊥
+  pub reaches : old.tells → (b : ℕ) → Reaches old.now (to_block 1) b → Reaches new.now (to_block 1) b
+  pub waits : (a on j : ℕ) → (Made old new a → ⊥) → (Made old new on → ⊥) → old.waits a on j → new.waits a on j
+  pub no_wait : AddsNoWait none old new
+  pub clearing : (b j : ℕ) → new.clearing b j → (Made old new b → ⊥) × old.clearing b j
+  pub dirty : (b : ℕ) → new.dirty b → old.dirty b ⊎ (Touched old new tag mine b ⊎ ((x : ℕ) × Made old new x × (b ≡ new.label_block x)))
+  pub moments : new.moments ≡ old.moments
+  pub left : (k : ℕ) (image : Image) → new.left k image → old.left k image
+  pub pins : new.pins_left ≡ old.pins_left
+  pub room : new.room ≡ old.room
+  pub numbers : KeepsNumbers old new
+  pub all : KeepsAll old new
 
 -- A call on a source: its leaves are those of before or were given out, all that was given out and all that was current is a leaf,
 -- and what was prepared stays so.
-pub record Grew {S : Type 0} (now : S → Image) (label : S → ℕ → Label) (stands : S → ℕ → Place → Type 0) (loose : S → ℕ → Type 0) (high : S → ℕ) (tops is_block : S → ℕ → Type 0) (may_leave : S → Image → Type 0) (moments : S → ℕ) (left : S → ℕ → Image → Type 0) (sealed_at : S → ℕ → Type 0) (pins_left room next : S → ℕ) (grants : S → Type 0) (pinned : S → ℕ → Type 0) (waits : S → ℕ → ℕ → ℕ → Type 0) (clearing : S → ℕ → ℕ → Type 0) (covered : S → ℕ → Type 0) (keeps : S → S → Type 0) (kind : Kind) (tag : ℕ) (leaves new_leaves : List (Option ℕ)) (old new : S) : Type 0 where
+pub record Grew (kind : Kind) (tag : ℕ) (leaves new_leaves : List (Option ℕ)) (old new : State) : Type 0 where
   pub as_long : length new_leaves ≡ length leaves
-  pub owned : (b : ℕ) → HasLeaf new_leaves b → HasLeaf leaves b ⊎ Made (label old) (label new) b
-  pub owns : (b : ℕ) → Made (label old) (label new) b → HasLeaf new_leaves b
-  pub kept : (b : ℕ) → HasLeaf leaves b → (label old b).epoch ≡ high old → HasLeaf new_leaves b
-  pub still : (o n : ℕ) → Prepared (now old) (label old) (high old) (pinned old) kind tag leaves o n → Prepared (now new) (label new) (high new) (pinned new) kind tag new_leaves o n
-  pub steps : Steps now label stands loose high tops is_block may_leave moments left sealed_at pins_left room next grants pinned waits clearing covered keeps tag (HasLeaf leaves) old new
+  pub owned : (b : ℕ) → HasLeaf new_leaves b → HasLeaf leaves b ⊎ Made old new b
+  pub owns : (b : ℕ) → Made old new b → HasLeaf new_leaves b
+  pub kept : (b : ℕ) → HasLeaf leaves b → (old.label b).epoch ≡ old.high → HasLeaf new_leaves b
+  pub still : (o n : ℕ) → Prepared old kind tag leaves o n → Prepared new kind tag new_leaves o n
+  pub steps : Steps tag (HasLeaf leaves) (HasLeaf leaves) old new

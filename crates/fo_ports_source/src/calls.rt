@@ -8,29 +8,18 @@ use fo_image::{Entry, Kind, Pointer};
 use fo_ports::{BlockError, Blocks, Bytes};
 
 impl<B: Blocks> Bytes<B> for PlainSource {
-    ghost use Rattle.std.specs.Prelude.{refl, None};
+    ghost use Rattle.std.specs.Prelude.{refl};
     ghost use Rattle.fo_crash.specs.Places.{place};
-    ghost use Rattle.fo_ports.specs.Sources.{source_bytes};
-    ghost use Rattle.fo_ports_source.specs.Source.{form_of, HasLeaf, Over, Prepared};
-    ghost use Rattle.fo_ports_source.specs.SourceLaws.{only_place, source_stays, source_prepared, part_prepared};
+    ghost use Rattle.fo_ports_source.specs.Source.{form_of, leaves_of, Over};
+    ghost use Rattle.fo_ports_source.specs.SourceLaws.{only_place, source_stays, source_prepared, part_prepared, top_stays};
 
     ghost form = { λ s. form_of s.kind s.tag s.rank s.leaves.items };
 
     ghost size = { λ s. s.size };
 
-    ghost is_over = { λ s b. Over (B.now b) (B.label b) (B.stands b) (B.high b) (B.is_block b) (B.covered b) (B.tells b) s.kind s.tag s.rank s.size s.leaves.items };
+    ghost is_over = { λ s b. Over (B.state b) s.kind s.tag s.rank s.size s.leaves.items };
 
-    ghost leaf_at = { λ s b. leaf_of s.leaves.items };
-
-    ghost held_at = { λ s b i. None };
-
-    ghost named = { λ s b score kind. ⊥ };
-
-    ghost bytes = { λ s b. source_bytes (leaf_of s.leaves.items) (λ i. None) (B.now b) s.size };
-
-    ghost owns = { λ s b at. HasLeaf s.leaves.items at };
-
-    ghost prepared = { λ s b o n. Prepared (B.now b) (B.label b) (B.high b) (B.pinned b) s.kind s.tag s.leaves.items o n };
+    ghost leaves = { λ s b. leaves_of (B.state b) s.kind s.tag s.size s.leaves.items };
 
     fn len(&self) -> u64 {
         self.size
@@ -98,9 +87,11 @@ impl<B: Blocks> Bytes<B> for PlainSource {
 
     ghost live = { λ s b at over told has. let leaf = (over.leaf has.number at has.is).told told in (leaf.labelled.is_live, leaf.labelled.up_to, leaf.uncovered) };
 
-    ghost stays = { λ s a b over keeps kept. (source_stays B.now B.label B.stands B.high B.is_block B.covered B.tells B.pinned s.kind s.tag s.rank s.size s.leaves.items a b (B.keeps_all a b keeps).0 (λ at. ((B.keeps_all a b keeps).4 at).1) (B.keeps_all a b keeps).2.0 over kept, λ told. (λ i. (refl, refl), λ at. (λ h. h, λ h. h))) };
+    ghost stays = { λ s a b over keeps kept. (source_stays s.kind s.tag s.rank s.size s.leaves.items (B.state a) (B.state b) (B.keeps_all a b keeps) over kept, λ told. (λ i. (refl, refl), λ at. (λ h. h, λ h. h))) };
 
-    ghost still_prepared = { λ s a b o n over over_still keeps kept prepared. source_prepared B.now B.label B.stands B.high B.is_block B.covered B.tells B.pinned s.kind s.tag s.rank s.size s.leaves.items a b o n (B.keeps_all a b keeps).0 kept prepared };
+    ghost still_current = { λ s a b over over_still keeps kept same top. top_stays s.kind s.tag s.rank s.size s.leaves.items (B.state a) (B.state b) (B.keeps_all a b keeps) same top };
+
+    ghost still_prepared = { λ s a b o n over over_still keeps kept prepared. source_prepared s.kind s.tag s.rank s.size s.leaves.items (B.state a) (B.state b) o n (B.keeps_all a b keeps) kept prepared };
 
     ghost prepared_within = { λ s b o n p m prepared from to. (part_prepared p m prepared from to, prepared.limit) };
 }

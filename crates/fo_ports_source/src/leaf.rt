@@ -5,7 +5,7 @@ ghost use Rattle.fo_image.specs.declared.types.Kind.TheVariants.{Data, Dir};
 ghost use Rattle.fo_image.specs.declared.types.State.TheVariants.{Live};
 ghost use Rattle.fo_ports.specs.Blocks.{Reads};
 ghost use Rattle.fo_ports.specs.Causes.{Caused};
-ghost use Rattle.fo_ports.specs.Sources.{Looks};
+ghost use Rattle.fo_ports.specs.State.{Looks};
 ghost use Rattle.fo_ports_source.specs.Source.{IsLeaf, IsHeld};
 
 use fo_image::{Kind, State};
@@ -20,16 +20,17 @@ fn get_leaf<B: Blocks>(
     rank: u32,
     into: &mut [u8],
 ) -> Result<(), BlockError>
-    requires leaf { IsLeaf (B.label on.old) (B.stands on.old) (B.high on.old) (B.is_block on.old) (B.covered on.old) (B.tells on.old) kind tag rank at }
+    requires leaf { IsLeaf (B.state on.old) kind tag rank at }
     requires kind { (kind ≡ Data 0) ⊎ (kind ≡ Dir 0) }
     requires length { length into.old ≡ 8192 }
-    ensures bytes { OnOk result (Reads kind (B.now on.new at) into.new) }
-    ensures kind { OnOk result ((B.label on.new at).kind ≡ kind) }
-    ensures long { OnOk result (length ((B.now on.new at).bytes) ≡ 8192) }
-    ensures pinned { OnOk result ((0 < B.pins_left on.old) ⊎ B.pinned on.old at → B.pinned on.new at) }
-    ensures pins { B.pins_left on.old ≤ B.pins_left on.new + 1 }
-    ensures looks { Looks B.now B.label B.stands B.loose B.may_leave B.moments B.left B.tells B.sealed_at B.spare B.room B.next B.grants B.pinned B.waits B.clearing B.covered B.keeps on.old on.new }
-    ensures cause { IfErr result (Caused ⊥ (λ b. (B.tells on.old → ⊥) × B.is_block on.old b) (Rose (B.faults on.old) (B.faults on.new)) ⊥) }
+    ensures bytes { OnOk result (Reads kind ((B.state on.new).now at) into.new) }
+    ensures kind { OnOk result (((B.state on.new).label at).kind ≡ kind) }
+    ensures long { OnOk result (length (((B.state on.new).now at).bytes) ≡ 8192) }
+    ensures pinned { OnOk result ((0 < (B.state on.old).pins_left) ⊎ (B.state on.old).pinned at → (B.state on.new).pinned at) }
+    ensures pins { (B.state on.old).pins_left ≤ (B.state on.new).pins_left + 1 }
+    ensures looks { Looks (B.state on.old) (B.state on.new) }
+    ensures keeps { B.keeps on.old on.new }
+    ensures cause { IfErr result (Caused ⊥ (λ b. ((B.state on.old).tells → ⊥) × (B.state on.old).is_block b) (Rose (B.state on.old).faults (B.state on.new).faults) ⊥) }
 {
     let _ = tag;
     on.get(at, kind, rank, into)?;
@@ -46,14 +47,15 @@ pub(crate) fn copy_from<B: Blocks>(
     from: usize,
     into: &mut [u8],
 ) -> Result<(), BlockError>
-    requires leaf { IsLeaf (B.label on.old) (B.stands on.old) (B.high on.old) (B.is_block on.old) (B.covered on.old) (B.tells on.old) kind tag rank at }
+    requires leaf { IsLeaf (B.state on.old) kind tag rank at }
     requires kind { (kind ≡ Data 0) ⊎ (kind ≡ Dir 0) }
     requires part { from + length into.old ≤ 8192 }
-    ensures given { OnOk result (kind ≡ Data 0 → (i : ℕ) → i < length into.old → slice_index into.new i ≡ slice_index ((B.now on.new at).bytes) (from + i)) }
-    ensures pinned { OnOk result ((0 < B.pins_left on.old) ⊎ B.pinned on.old at → B.pinned on.new at) }
-    ensures pins { B.pins_left on.old ≤ B.pins_left on.new + 1 }
-    ensures looks { Looks B.now B.label B.stands B.loose B.may_leave B.moments B.left B.tells B.sealed_at B.spare B.room B.next B.grants B.pinned B.waits B.clearing B.covered B.keeps on.old on.new }
-    ensures cause { IfErr result (Caused ⊥ (λ b. (B.tells on.old → ⊥) × B.is_block on.old b) (Rose (B.faults on.old) (B.faults on.new)) ⊥) }
+    ensures given { OnOk result (kind ≡ Data 0 → (i : ℕ) → i < length into.old → slice_index into.new i ≡ slice_index (((B.state on.new).now at).bytes) (from + i)) }
+    ensures pinned { OnOk result ((0 < (B.state on.old).pins_left) ⊎ (B.state on.old).pinned at → (B.state on.new).pinned at) }
+    ensures pins { (B.state on.old).pins_left ≤ (B.state on.new).pins_left + 1 }
+    ensures looks { Looks (B.state on.old) (B.state on.new) }
+    ensures keeps { B.keeps on.old on.new }
+    ensures cause { IfErr result (Caused ⊥ (λ b. ((B.state on.old).tells → ⊥) × (B.state on.old).is_block b) (Rose (B.state on.old).faults (B.state on.new).faults) ⊥) }
 {
     let mut block = [0; 8192];
     get_leaf(on, at, kind, tag, rank, &mut block)?;
@@ -69,12 +71,13 @@ pub(crate) fn pin_block<B: Blocks>(
     tag: u32,
     rank: u32,
 ) -> Result<(), BlockError>
-    requires leaf { IsLeaf (B.label on.old) (B.stands on.old) (B.high on.old) (B.is_block on.old) (B.covered on.old) (B.tells on.old) kind tag rank at }
+    requires leaf { IsLeaf (B.state on.old) kind tag rank at }
     requires kind { (kind ≡ Data 0) ⊎ (kind ≡ Dir 0) }
-    ensures held { OnOk result ((0 < B.pins_left on.old) ⊎ B.pinned on.old at → IsHeld (B.now on.new) (B.label on.new) (B.high on.new) (B.pinned on.new) kind tag at) }
-    ensures pins { B.pins_left on.old ≤ B.pins_left on.new + 1 }
-    ensures looks { Looks B.now B.label B.stands B.loose B.may_leave B.moments B.left B.tells B.sealed_at B.spare B.room B.next B.grants B.pinned B.waits B.clearing B.covered B.keeps on.old on.new }
-    ensures cause { IfErr result (Caused ⊥ (λ b. (B.tells on.old → ⊥) × B.is_block on.old b) (Rose (B.faults on.old) (B.faults on.new)) ⊥) }
+    ensures held { OnOk result ((0 < (B.state on.old).pins_left) ⊎ (B.state on.old).pinned at → IsHeld (B.state on.new) kind tag at) }
+    ensures pins { (B.state on.old).pins_left ≤ (B.state on.new).pins_left + 1 }
+    ensures looks { Looks (B.state on.old) (B.state on.new) }
+    ensures keeps { B.keeps on.old on.new }
+    ensures cause { IfErr result (Caused ⊥ (λ b. ((B.state on.old).tells → ⊥) × (B.state on.old).is_block b) (Rose (B.state on.old).faults (B.state on.new).faults) ⊥) }
 {
     let mut block = [0; 8192];
     get_leaf(on, at, kind, tag, rank, &mut block)?;
@@ -87,9 +90,9 @@ pub(crate) fn pin_block<B: Blocks>(
 
 /// Whether a block is live, of this tag, and of an epoch up to the high one.
 fn has_label<B: Blocks>(on: &B, at: u32, tag: u32) -> bool
-    requires block { B.is_block on.now at }
-    ensures yes { result ≡ true → ((B.label on.now at).state ≡ Live) × ((B.label on.now at).tag ≡ tag) × ((B.label on.now at).epoch ≤ B.high on.now) }
-    ensures no { result ≡ false → (B.label on.now at).state ≡ Live → (B.label on.now at).tag ≡ tag → (B.label on.now at).epoch ≤ B.high on.now → ⊥ }
+    requires block { (B.state on.now).is_block at }
+    ensures yes { result ≡ true → (((B.state on.now).label at).state ≡ Live) × (((B.state on.now).label at).tag ≡ tag) × (((B.state on.now).label at).epoch ≤ (B.state on.now).high) }
+    ensures no { result ≡ false → ((B.state on.now).label at).state ≡ Live → ((B.state on.now).label at).tag ≡ tag → ((B.state on.now).label at).epoch ≤ (B.state on.now).high → ⊥ }
 {
     let label = on.label(at);
     matches!(label.state, State::Live) && label.tag == tag && label.epoch <= on.high()

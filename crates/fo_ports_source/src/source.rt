@@ -3,11 +3,11 @@ ghost use Rattle.std.specs.Prelude.{◌≡◌, ◌≢◌, ◌⊎◌, ◌+◌, �
 ghost use Rattle.fo_base.specs.Cause.{Rose};
 ghost use Rattle.fo_image.specs.declared.types.Kind.TheVariants.{Data};
 ghost use Rattle.fo_crash.specs.Images.{SameContent};
-ghost use Rattle.fo_crash.specs.Steps.{IsSure};
+ghost use Rattle.fo_ports.specs.State.{Looks};
 ghost use Rattle.fo_ports.specs.Blocks.{blank};
 ghost use Rattle.fo_ports.specs.Causes.{Caused};
-ghost use Rattle.fo_ports.specs.Sources.{Made, Finds, Looks};
-ghost use Rattle.fo_ports_source.specs.Source.{leaf_of, byte_of, leaves_for, Over, IsHeld, IsOwn, Prepared, Puts, IsEmpty};
+ghost use Rattle.fo_ports.specs.Sources.{Made, Finds};
+ghost use Rattle.fo_ports_source.specs.Source.{HasLeaf, IsCurrent, leaf_of, byte_of, leaves_for, Over, IsHeld, IsOwn, Prepared, Puts, IsEmpty};
 ghost use Rattle.fo_ports_source.specs.Steps.{Steps, Grew};
 
 use crate::leaf::{copy_from, pin_block};
@@ -54,21 +54,21 @@ impl PlainSource {
 
     /// Makes leaf `i` one of the current epoch, and gives its address.
     pub(crate) fn own<B: Blocks>(&mut self, on: &mut B, i: usize) -> u32
-        requires over { Over (B.now on.old) (B.label on.old) (B.stands on.old) (B.high on.old) (B.is_block on.old) (B.covered on.old) (B.tells on.old) self.old.kind self.old.tag self.old.rank self.old.size self.old.leaves.items }
+        requires over { Over (B.state on.old) self.old.kind self.old.tag self.old.rank self.old.size self.old.leaves.items }
         requires within { 8192 * i < self.old.size }
-        requires held { (at : ℕ) → leaf_of self.old.leaves.items i ≡ Some at → IsHeld (B.now on.old) (B.label on.old) (B.high on.old) (B.pinned on.old) self.old.kind self.old.tag at }
-        requires spare { 0 < B.spare on.old }
+        requires held { (at : ℕ) → leaf_of self.old.leaves.items i ≡ Some at → IsHeld (B.state on.old) self.old.kind self.old.tag at }
+        requires spare { IsCurrent (B.state on.old) (leaf_of self.old.leaves.items i) ⊎ (0 < (B.state on.old).spare) }
         ensures leaves { self.new.leaves.items ≡ slice_set self.old.leaves.items i (Some result) }
         ensures same { (self.new.kind ≡ self.old.kind) × (self.new.tag ≡ self.old.tag) × (self.new.rank ≡ self.old.rank) × (self.new.size ≡ self.old.size) }
-        ensures over { Over (B.now on.new) (B.label on.new) (B.stands on.new) (B.high on.new) (B.is_block on.new) (B.covered on.new) (B.tells on.new) self.new.kind self.new.tag self.new.rank self.new.size self.new.leaves.items }
-        ensures bytes { B.tells on.old → (k : ℕ) → byte_of (leaf_of self.new.leaves.items) (B.now on.new) k ≡ byte_of (leaf_of self.old.leaves.items) (B.now on.old) k }
-        ensures content { MatchOption (leaf_of self.old.leaves.items i) (SameContent (B.now on.new result) (blank self.old.kind)) (λ at. SameContent (B.now on.new result) (B.now on.old at)) }
-        ensures copied { MatchOption (leaf_of self.old.leaves.items i) (Made (B.label on.old) (B.label on.new) result) (λ at. ((at ≡ result) × ((B.label on.old at).epoch ≡ B.high on.old)) ⊎ (((B.label on.old at).epoch < B.high on.old) × Made (B.label on.old) (B.label on.new) result)) }
-        ensures sure { Made (B.label on.old) (B.label on.new) result → IsSure (B.now on.new) result (B.may_leave on.new) }
-        ensures own { IsOwn (B.now on.new) (B.label on.new) (B.stands on.new) (B.high on.new) (B.is_block on.new) (B.covered on.new) (B.tells on.new) (B.pinned on.new) self.old.kind self.old.tag self.old.rank result }
-        ensures steps { Steps B.now B.label B.stands B.loose B.high B.tops B.is_block B.may_leave B.moments B.left B.sealed_at B.pins_left B.room B.next B.grants B.pinned B.waits B.clearing B.covered B.keeps self.old.tag (λ b. ⊥) on.old on.new }
-        ensures grew { Grew B.now B.label B.stands B.loose B.high B.tops B.is_block B.may_leave B.moments B.left B.sealed_at B.pins_left B.room B.next B.grants B.pinned B.waits B.clearing B.covered B.keeps self.old.kind self.old.tag self.old.leaves.items self.new.leaves.items on.old on.new }
-        ensures spare { B.spare on.old ≤ B.spare on.new + 1 }
+        ensures over { Over (B.state on.new) self.new.kind self.new.tag self.new.rank self.new.size self.new.leaves.items }
+        ensures bytes { (B.state on.old).tells → (k : ℕ) → byte_of (leaf_of self.new.leaves.items) (B.state on.new).now k ≡ byte_of (leaf_of self.old.leaves.items) (B.state on.old).now k }
+        ensures content { MatchOption (leaf_of self.old.leaves.items i) (SameContent ((B.state on.new).now result) (blank self.old.kind)) (λ at. SameContent ((B.state on.new).now result) ((B.state on.old).now at)) }
+        ensures copied { MatchOption (leaf_of self.old.leaves.items i) (Made (B.state on.old) (B.state on.new) result) (λ at. ((at ≡ result) × (((B.state on.old).label at).epoch ≡ (B.state on.old).high)) ⊎ ((((B.state on.old).label at).epoch < (B.state on.old).high) × Made (B.state on.old) (B.state on.new) result)) }
+        ensures own { IsOwn (B.state on.new) self.old.kind self.old.tag self.old.rank result }
+        ensures steps { Steps self.old.tag (HasLeaf self.old.leaves.items) (λ b. ⊥) (B.state on.old) (B.state on.new) }
+        ensures grew { Grew self.old.kind self.old.tag self.old.leaves.items self.new.leaves.items (B.state on.old) (B.state on.new) }
+        ensures keeps { B.keeps on.old on.new }
+        ensures spare { ((B.state on.old).spare ≤ (B.state on.new).spare + 1) × (IsCurrent (B.state on.old) (leaf_of self.old.leaves.items i) → (B.state on.old).spare ≤ (B.state on.new).spare) }
     {
         let at = own_block(on, self.leaves[i], self.kind, self.tag, self.rank);
         self.leaves[i] = Some(at);
@@ -77,17 +77,18 @@ impl PlainSource {
 
     /// Puts bytes into one leaf.
     fn put_part<B: Blocks>(&mut self, on: &mut B, place: u64, piece: &[u8])
-        requires over { Over (B.now on.old) (B.label on.old) (B.stands on.old) (B.high on.old) (B.is_block on.old) (B.covered on.old) (B.tells on.old) self.old.kind self.old.tag self.old.rank self.old.size self.old.leaves.items }
+        requires over { Over (B.state on.old) self.old.kind self.old.tag self.old.rank self.old.size self.old.leaves.items }
         requires kind { (self.old.kind ≡ Data 0) × (self.old.rank % 32 ≢ 16) }
         requires part { (0 < length piece.now) × (place % 8192 + length piece.now ≤ 8192) }
         requires within { place + length piece.now ≤ self.old.size }
-        requires held { (at : ℕ) → leaf_of self.old.leaves.items (place / 8192) ≡ Some at → IsHeld (B.now on.old) (B.label on.old) (B.high on.old) (B.pinned on.old) self.old.kind self.old.tag at }
-        requires spare { 0 < B.spare on.old }
-        ensures puts { B.tells on.old → Puts (byte_of (leaf_of self.old.leaves.items) (B.now on.old)) (byte_of (leaf_of self.new.leaves.items) (B.now on.new)) place piece.now }
+        requires held { (at : ℕ) → leaf_of self.old.leaves.items (place / 8192) ≡ Some at → IsHeld (B.state on.old) self.old.kind self.old.tag at }
+        requires spare { 0 < (B.state on.old).spare }
+        ensures puts { (B.state on.old).tells → Puts (byte_of (leaf_of self.old.leaves.items) (B.state on.old).now) (byte_of (leaf_of self.new.leaves.items) (B.state on.new).now) place piece.now }
         ensures same { (self.new.kind ≡ self.old.kind) × (self.new.tag ≡ self.old.tag) × (self.new.rank ≡ self.old.rank) × (self.new.size ≡ self.old.size) }
-        ensures over { Over (B.now on.new) (B.label on.new) (B.stands on.new) (B.high on.new) (B.is_block on.new) (B.covered on.new) (B.tells on.new) self.new.kind self.new.tag self.new.rank self.new.size self.new.leaves.items }
-        ensures grew { Grew B.now B.label B.stands B.loose B.high B.tops B.is_block B.may_leave B.moments B.left B.sealed_at B.pins_left B.room B.next B.grants B.pinned B.waits B.clearing B.covered B.keeps self.old.kind self.old.tag self.old.leaves.items self.new.leaves.items on.old on.new }
-        ensures spare { B.spare on.old ≤ B.spare on.new + 1 }
+        ensures over { Over (B.state on.new) self.new.kind self.new.tag self.new.rank self.new.size self.new.leaves.items }
+        ensures grew { Grew self.old.kind self.old.tag self.old.leaves.items self.new.leaves.items (B.state on.old) (B.state on.new) }
+        ensures keeps { B.keeps on.old on.new }
+        ensures spare { (B.state on.old).spare ≤ (B.state on.new).spare + 1 }
     {
         let at = self.own(on, (place / LEAF) as usize);
         on.put_bytes(at, (place % LEAF) as u32, piece);
@@ -95,16 +96,17 @@ impl PlainSource {
 
     /// Puts bytes below the end.
     pub(crate) fn put<B: Blocks>(&mut self, on: &mut B, offset: u64, piece: &[u8])
-        requires over { Over (B.now on.old) (B.label on.old) (B.stands on.old) (B.high on.old) (B.is_block on.old) (B.covered on.old) (B.tells on.old) self.old.kind self.old.tag self.old.rank self.old.size self.old.leaves.items }
+        requires over { Over (B.state on.old) self.old.kind self.old.tag self.old.rank self.old.size self.old.leaves.items }
         requires kind { (self.old.kind ≡ Data 0) × (self.old.rank % 32 ≢ 16) }
         requires within { offset + length piece.now ≤ self.old.size }
-        requires prepared { Prepared (B.now on.old) (B.label on.old) (B.high on.old) (B.pinned on.old) self.old.kind self.old.tag self.old.leaves.items offset (length piece.now) }
-        requires spare { leaves_for (length piece.now) ≤ B.spare on.old }
-        ensures puts { B.tells on.old → Puts (byte_of (leaf_of self.old.leaves.items) (B.now on.old)) (byte_of (leaf_of self.new.leaves.items) (B.now on.new)) offset piece.now }
+        requires prepared { Prepared (B.state on.old) self.old.kind self.old.tag self.old.leaves.items offset (length piece.now) }
+        requires spare { leaves_for (length piece.now) ≤ (B.state on.old).spare }
+        ensures puts { (B.state on.old).tells → Puts (byte_of (leaf_of self.old.leaves.items) (B.state on.old).now) (byte_of (leaf_of self.new.leaves.items) (B.state on.new).now) offset piece.now }
         ensures same { (self.new.kind ≡ self.old.kind) × (self.new.tag ≡ self.old.tag) × (self.new.rank ≡ self.old.rank) × (self.new.size ≡ self.old.size) }
-        ensures over { Over (B.now on.new) (B.label on.new) (B.stands on.new) (B.high on.new) (B.is_block on.new) (B.covered on.new) (B.tells on.new) self.new.kind self.new.tag self.new.rank self.new.size self.new.leaves.items }
-        ensures grew { Grew B.now B.label B.stands B.loose B.high B.tops B.is_block B.may_leave B.moments B.left B.sealed_at B.pins_left B.room B.next B.grants B.pinned B.waits B.clearing B.covered B.keeps self.old.kind self.old.tag self.old.leaves.items self.new.leaves.items on.old on.new }
-        ensures spare { B.spare on.old ≤ B.spare on.new + leaves_for (length piece.now) }
+        ensures over { Over (B.state on.new) self.new.kind self.new.tag self.new.rank self.new.size self.new.leaves.items }
+        ensures grew { Grew self.old.kind self.old.tag self.old.leaves.items self.new.leaves.items (B.state on.old) (B.state on.new) }
+        ensures keeps { B.keeps on.old on.new }
+        ensures spare { (B.state on.old).spare ≤ (B.state on.new).spare + leaves_for (length piece.now) }
     {
         let mut done = 0;
         while done < piece.len() {
@@ -122,14 +124,15 @@ impl PlainSource {
         place: u64,
         into: &mut [u8],
     ) -> Result<(), BlockError>
-        requires over { Over (B.now on.old) (B.label on.old) (B.stands on.old) (B.high on.old) (B.is_block on.old) (B.covered on.old) (B.tells on.old) self.now.kind self.now.tag self.now.rank self.now.size self.now.leaves.items }
+        requires over { Over (B.state on.old) self.now.kind self.now.tag self.now.rank self.now.size self.now.leaves.items }
         requires part { place % 8192 + length into.old ≤ 8192 }
         requires within { place < self.now.size }
-        ensures given { OnOk result (self.now.kind ≡ Data 0 → (i : ℕ) → i < length into.old → slice_index into.new i ≡ byte_of (leaf_of self.now.leaves.items) (B.now on.new) (place + i)) }
-        ensures pinned { OnOk result ((at : ℕ) → leaf_of self.now.leaves.items (place / 8192) ≡ Some at → (0 < B.pins_left on.old) ⊎ B.pinned on.old at → B.pinned on.new at) }
-        ensures pins { B.pins_left on.old ≤ B.pins_left on.new + 1 }
-        ensures looks { Looks B.now B.label B.stands B.loose B.may_leave B.moments B.left B.tells B.sealed_at B.spare B.room B.next B.grants B.pinned B.waits B.clearing B.covered B.keeps on.old on.new }
-        ensures cause { IfErr result (Caused ⊥ (λ b. (B.tells on.old → ⊥) × B.is_block on.old b) (Rose (B.faults on.old) (B.faults on.new)) ⊥) }
+        ensures given { OnOk result (self.now.kind ≡ Data 0 → (i : ℕ) → i < length into.old → slice_index into.new i ≡ byte_of (leaf_of self.now.leaves.items) (B.state on.new).now (place + i)) }
+        ensures pinned { OnOk result ((at : ℕ) → leaf_of self.now.leaves.items (place / 8192) ≡ Some at → (0 < (B.state on.old).pins_left) ⊎ (B.state on.old).pinned at → (B.state on.new).pinned at) }
+        ensures pins { (B.state on.old).pins_left ≤ (B.state on.new).pins_left + 1 }
+        ensures looks { Looks (B.state on.old) (B.state on.new) }
+        ensures keeps { B.keeps on.old on.new }
+        ensures cause { IfErr result (Caused ⊥ (λ b. ((B.state on.old).tells → ⊥) × (B.state on.old).is_block b) (Rose (B.state on.old).faults (B.state on.new).faults) ⊥) }
     {
         match self.leaves[(place / LEAF) as usize] {
             None => {
@@ -150,12 +153,13 @@ impl PlainSource {
         offset: u64,
         into: &mut [u8],
     ) -> Result<(), BlockError>
-        requires over { Over (B.now on.old) (B.label on.old) (B.stands on.old) (B.high on.old) (B.is_block on.old) (B.covered on.old) (B.tells on.old) self.now.kind self.now.tag self.now.rank self.now.size self.now.leaves.items }
+        requires over { Over (B.state on.old) self.now.kind self.now.tag self.now.rank self.now.size self.now.leaves.items }
         requires within { offset + length into.old ≤ self.now.size }
-        ensures given { OnOk result (self.now.kind ≡ Data 0 → Finds (B.tells on.old) (leaves_for (length into.old)) (B.pins_left on.old) (Prepared (B.now on.old) (B.label on.old) (B.high on.old) (B.pinned on.old) self.now.kind self.now.tag self.now.leaves.items offset (length into.old)) → (i : ℕ) → i < length into.old → slice_index into.new i ≡ byte_of (leaf_of self.now.leaves.items) (B.now on.new) (offset + i)) }
-        ensures pins { B.pins_left on.old ≤ B.pins_left on.new + leaves_for (length into.old) }
-        ensures looks { Looks B.now B.label B.stands B.loose B.may_leave B.moments B.left B.tells B.sealed_at B.spare B.room B.next B.grants B.pinned B.waits B.clearing B.covered B.keeps on.old on.new }
-        ensures cause { IfErr result (Caused ⊥ (λ b. (B.tells on.old → ⊥) × B.is_block on.old b) (Rose (B.faults on.old) (B.faults on.new)) ⊥) }
+        ensures given { OnOk result (self.now.kind ≡ Data 0 → Finds (B.state on.old).tells (leaves_for (length into.old)) (B.state on.old).pins_left (Prepared (B.state on.old) self.now.kind self.now.tag self.now.leaves.items offset (length into.old)) → (i : ℕ) → i < length into.old → slice_index into.new i ≡ byte_of (leaf_of self.now.leaves.items) (B.state on.new).now (offset + i)) }
+        ensures pins { (B.state on.old).pins_left ≤ (B.state on.new).pins_left + leaves_for (length into.old) }
+        ensures looks { Looks (B.state on.old) (B.state on.new) }
+        ensures keeps { B.keeps on.old on.new }
+        ensures cause { IfErr result (Caused ⊥ (λ b. ((B.state on.old).tells → ⊥) × (B.state on.old).is_block b) (Rose (B.state on.old).faults (B.state on.new).faults) ⊥) }
     {
         let mut done = 0;
         while done < into.len() {
@@ -169,12 +173,13 @@ impl PlainSource {
 
     /// Gets, and so pins, leaf `i` where there is one, and looks at its label.
     fn pin<B: Blocks>(&self, on: &mut B, i: usize) -> Result<(), BlockError>
-        requires over { Over (B.now on.old) (B.label on.old) (B.stands on.old) (B.high on.old) (B.is_block on.old) (B.covered on.old) (B.tells on.old) self.now.kind self.now.tag self.now.rank self.now.size self.now.leaves.items }
+        requires over { Over (B.state on.old) self.now.kind self.now.tag self.now.rank self.now.size self.now.leaves.items }
         requires within { i < length self.now.leaves.items }
-        ensures held { OnOk result ((at : ℕ) → leaf_of self.now.leaves.items i ≡ Some at → (0 < B.pins_left on.old) ⊎ B.pinned on.old at → IsHeld (B.now on.new) (B.label on.new) (B.high on.new) (B.pinned on.new) self.now.kind self.now.tag at) }
-        ensures pins { B.pins_left on.old ≤ B.pins_left on.new + 1 }
-        ensures looks { Looks B.now B.label B.stands B.loose B.may_leave B.moments B.left B.tells B.sealed_at B.spare B.room B.next B.grants B.pinned B.waits B.clearing B.covered B.keeps on.old on.new }
-        ensures cause { IfErr result (Caused ⊥ (λ b. (B.tells on.old → ⊥) × B.is_block on.old b) (Rose (B.faults on.old) (B.faults on.new)) ⊥) }
+        ensures held { OnOk result ((at : ℕ) → leaf_of self.now.leaves.items i ≡ Some at → (0 < (B.state on.old).pins_left) ⊎ (B.state on.old).pinned at → IsHeld (B.state on.new) self.now.kind self.now.tag at) }
+        ensures pins { (B.state on.old).pins_left ≤ (B.state on.new).pins_left + 1 }
+        ensures looks { Looks (B.state on.old) (B.state on.new) }
+        ensures keeps { B.keeps on.old on.new }
+        ensures cause { IfErr result (Caused ⊥ (λ b. ((B.state on.old).tells → ⊥) × (B.state on.old).is_block b) (Rose (B.state on.old).faults (B.state on.new).faults) ⊥) }
     {
         match self.leaves[i] {
             None => Ok(()),
@@ -189,12 +194,13 @@ impl PlainSource {
         first: u64,
         last: u64,
     ) -> Result<(), BlockError>
-        requires over { Over (B.now on.old) (B.label on.old) (B.stands on.old) (B.high on.old) (B.is_block on.old) (B.covered on.old) (B.tells on.old) self.now.kind self.now.tag self.now.rank self.now.size self.now.leaves.items }
+        requires over { Over (B.state on.old) self.now.kind self.now.tag self.now.rank self.now.size self.now.leaves.items }
         requires within { (first ≤ last) × (last ≤ length self.now.leaves.items) }
-        ensures held { OnOk result (last ≤ B.pins_left on.old + first → (i at : ℕ) → first ≤ i → i < last → leaf_of self.now.leaves.items i ≡ Some at → IsHeld (B.now on.new) (B.label on.new) (B.high on.new) (B.pinned on.new) self.now.kind self.now.tag at) }
-        ensures pins { B.pins_left on.old + first ≤ B.pins_left on.new + last }
-        ensures looks { Looks B.now B.label B.stands B.loose B.may_leave B.moments B.left B.tells B.sealed_at B.spare B.room B.next B.grants B.pinned B.waits B.clearing B.covered B.keeps on.old on.new }
-        ensures cause { IfErr result (Caused ⊥ (λ b. (B.tells on.old → ⊥) × B.is_block on.old b) (Rose (B.faults on.old) (B.faults on.new)) ⊥) }
+        ensures held { OnOk result (last ≤ (B.state on.old).pins_left + first → (i at : ℕ) → first ≤ i → i < last → leaf_of self.now.leaves.items i ≡ Some at → IsHeld (B.state on.new) self.now.kind self.now.tag at) }
+        ensures pins { (B.state on.old).pins_left + first ≤ (B.state on.new).pins_left + last }
+        ensures looks { Looks (B.state on.old) (B.state on.new) }
+        ensures keeps { B.keeps on.old on.new }
+        ensures cause { IfErr result (Caused ⊥ (λ b. ((B.state on.old).tells → ⊥) × (B.state on.old).is_block b) (Rose (B.state on.old).faults (B.state on.new).faults) ⊥) }
     {
         for i in first..last {
             self.pin(on, i as usize)?;

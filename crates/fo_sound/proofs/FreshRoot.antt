@@ -21,7 +21,8 @@ text bytes ascii some = rw (is_utf8-from_IsUtf8 bytes (IsUtf8-from_ascii bytes a
 
 pub fresh_root_holds : (time : ℕ) → RootHolds (fresh_root time)
 fresh_root_holds time = record {
-  epoch_is = omega arith;
+  epoch_is = (omega arith, omega arith);
+  prev_epoch_is = omega arith;
   prev_is = (λ _. refl, λ _. refl);
   entries_hold = record { active_holds = (record { room = omega arith; least = λ less lt. absurd (omega (arith, lt)) }, tt) };
   meta_holds = record { active_holds = (record { room = omega arith; least = λ less lt. absurd (omega (arith, lt)) }, tt) };

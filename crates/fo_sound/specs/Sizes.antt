@@ -5,6 +5,17 @@ use Rattle.fo_image.specs.Format.{SpellsArenaHead}
 use Rattle.fo_image.specs.Place.{arena_places}
 use Rattle.fo_sound.specs.Image.{block_of}
 
+-- the numbers of blocks that a main device and an arena may have
+abbrev pub IsMainSize : ℕ → Type 0
+IsMainSize blocks = (64 ≤ blocks) × (blocks ≤ 2 ^ 20)
+
+abbrev pub IsArenaSize : ℕ → Type 0
+IsArenaSize blocks = (16 ≤ blocks) × (blocks ≤ 2 ^ 20)
+
+-- both numbers of blocks are in range
+abbrev pub InRange : ℕ → ℕ → Type 0
+InRange main arena = IsMainSize main × IsArenaSize arena
+
 -- the main device has 64 to 2^20 blocks, and the arena 16 to 2^20
 pub record HasSizes (image vault : List Block) : Type 0 where
   pub main_least : 64 ≤ length image

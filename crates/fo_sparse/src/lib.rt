@@ -9,6 +9,3 @@ mod whole;
 
 pub use plain::Plain;
 pub use whole::{resize_whole, write_whole};
-
-#[cfg(test)]
-mod tests;

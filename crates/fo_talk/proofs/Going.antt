@@ -6,8 +6,7 @@ use Rattle.nine_wire.specs.Message.{request_message}
 use Rattle.nine_wire.proofs.Laws.{stands_more}
 use Rattle.fo_links.specs.Links.{LosesFront, GainsEnd, IsAtEnd}
 use Rattle.fo_talk.specs.Filling.{FilledSome}
-use Rattle.fo_talk.specs.Conversation.{Goes, Standing, Exchange, Answers, Talks, LetsAllGo, said, output, NoMessage, IsBad}
-use Rattle.fo_world.specs.World.{Faults}
+use Rattle.fo_talk.specs.Conversation.{Goes, Position, Standing, Exchange, Answers, Talks, LetsAllGo, said, output, NoMessage, IsBad}
 use Rattle.fo_talk.specs.Ending.{Ends}
 use Rattle.fo_talk.specs.Stopping.{Stopped, end_at}
 use Rattle.fo_talk.specs.declared.end.LinkEnd.{LinkEnd}
@@ -15,12 +14,12 @@ use Rattle.fo_talk.specs.declared.end.LinkEnd.TheVariants as end
 use Rattle.fo_talk.proofs.Talking.{talks_more, talks_then, output-then}
 
 -- All that was received and what was said to it: the conversation on it stands here, and these bytes wait behind it.
-pub record Going {S : Type 0} (goes : Goes S) (clock : Option ℕ) (first now : Standing S) (left0 left held0 held : Option (List ℕ)) (waiting : List ℕ) (place : ℕ) : Type 0 where
+pub record Going {S : Type 0} (goes : Goes S) (first now : Standing S) (left0 left held0 held : Option (List ℕ)) (waiting : List ℕ) (place : ℕ) : Type 0 where
   pub received : List ℕ
   pub exchanges : List Exchange
   pub input : LosesFront received left0 left
   pub told : GainsEnd (output exchanges) held0 held
-  pub talks : Talks goes clock first received exchanges waiting now
+  pub talks : Talks goes first received exchanges waiting now
   pub place_is : place + length waiting ≡ length received
 
 loses_nothing : (left : Option (List ℕ)) → LosesFront [] left left
@@ -39,9 +38,9 @@ gains_more : (a b : List ℕ) (x y z : Option (List ℕ)) → GainsEnd a x y →
 gains_more a b None y z p q = rw (q, p) refl
 gains_more a b (Some front) y z p q = rw (q, p) (ap (λ (x : List ℕ). Some x) (append_assoc front a b))
 
-pub going_starts : {S : Type 0} (goes : Goes S) (clock : Option ℕ) (first : Standing S) (left held : Option (List ℕ)) → Going goes clock first first left left held held [] 0
+pub going_starts : {S : Type 0} (goes : Goes S) (first : Standing S) (left held : Option (List ℕ)) → Going goes first first left left held held [] 0
 unfolding Talks
-going_starts goes clock first left held = record {
+going_starts goes first left held = record {
   received = [];
   exchanges = [];
   input = loses_nothing left;
@@ -50,120 +49,120 @@ going_starts goes clock first left held = record {
   place_is = refl;
 }
 
-pub going_fills : {S : Type 0} (goes : Goes S) (clock : Option ℕ) (first now : Standing S) (left0 left left' held0 held : Option (List ℕ)) (room room' : ℕ) (waiting waiting' : List ℕ) (place n : ℕ)
-    → Going goes clock first now left0 left held0 held waiting place → FilledSome left left' room room' waiting waiting' n → Going goes clock first now left0 left' held0 held waiting' place
-going_fills goes clock first now left0 left left' held0 held room room' waiting waiting' place n g f = record {
+pub going_fills : {S : Type 0} (goes : Goes S) (first now : Standing S) (left0 left left' held0 held : Option (List ℕ)) (room room' : ℕ) (waiting waiting' : List ℕ) (place n : ℕ)
+    → Going goes first now left0 left held0 held waiting place → FilledSome left left' room room' waiting waiting' n → Going goes first now left0 left' held0 held waiting' place
+going_fills goes first now left0 left left' held0 held room room' waiting waiting' place n g f = record {
   received = g.received ++ f.came;
   exchanges = g.exchanges;
   input = loses_more g.received f.came left0 left left' g.input f.lost;
   told = g.told;
-  talks = rw f.gained (talks_more goes clock first now g.received waiting f.came g.exchanges g.talks);
+  talks = rw f.gained (talks_more goes first now g.received waiting f.came g.exchanges g.talks);
   place_is = rw f.gained (omega (arith, g.place_is, length-append waiting f.came, length-append g.received f.came));
 }
 
-pub going_answers : {S : Type 0} (goes : Goes S) (clock : Option ℕ) (first now now' : Standing S) (left0 left held0 held held' : Option (List ℕ)) (waiting : List ℕ) (place : ℕ) (x : Exchange)
-    → Going goes clock first now left0 left held0 held waiting place → Answers goes clock now waiting x now' → GainsEnd (said x.entries) held held'
-    → Going goes clock first now' left0 left held0 held' (drop x.used waiting) (place + x.used)
-going_answers goes clock first now now' left0 left held0 held held' waiting place x g a gained = record {
+pub going_answers : {S : Type 0} (goes : Goes S) (first now now' : Standing S) (left0 left held0 held held' : Option (List ℕ)) (waiting : List ℕ) (place : ℕ) (x : Exchange)
+    → Going goes first now left0 left held0 held waiting place → Answers goes now waiting x now' → GainsEnd (said x.entries) held held'
+    → Going goes first now' left0 left held0 held' (drop x.used waiting) (place + x.used)
+going_answers goes first now now' left0 left held0 held held' waiting place x g a gained = record {
   received = g.received;
   exchanges = g.exchanges ++ x ∷ [];
   input = g.input;
   told = rw (output-then g.exchanges x) (gains_more (output g.exchanges) (said x.entries) held0 held held' g.told gained);
-  talks = talks_then goes clock first now now' g.received waiting g.exchanges x g.talks a;
+  talks = talks_then goes first now now' g.received waiting g.exchanges x g.talks a;
   place_is = let within = a.stands.within in omega (arith, within, g.place_is, length-drop x.used waiting);
 }
 
 -- ---- ends
 
 -- the conversation on all that the source had
-all_talks : {S : Type 0} (goes : Goes S) (clock : Option ℕ) (first now : Standing S) (all rest : List ℕ) (held0 held : Option (List ℕ)) (waiting : List ℕ) (place : ℕ)
-    → (g : Going goes clock first now (Some all) (Some rest) held0 held waiting place) → Talks goes clock first all g.exchanges (waiting ++ rest) now × (place + length (waiting ++ rest) ≡ length all)
-all_talks goes clock first now all rest held0 held waiting place g =
+all_talks : {S : Type 0} (goes : Goes S) (first now : Standing S) (all rest : List ℕ) (held0 held : Option (List ℕ)) (waiting : List ℕ) (place : ℕ)
+    → (g : Going goes first now (Some all) (Some rest) held0 held waiting place) → Talks goes first all g.exchanges (waiting ++ rest) now × (place + length (waiting ++ rest) ≡ length all)
+all_talks goes first now all rest held0 held waiting place g =
     let all-is : all ≡ g.received ++ rest = let h = g.input in cc in (
-      rw all-is (talks_more goes clock first now g.received waiting rest g.exchanges g.talks),
+      rw all-is (talks_more goes first now g.received waiting rest g.exchanges g.talks),
       omega (arith, g.place_is, ap length all-is, length-append waiting rest, length-append g.received rest),
     )
 
-pub ends_early : {S : Type 0} (goes : Goes S) (clock : Option ℕ) (first now : Standing S) (left0 left held0 held : Option (List ℕ)) (waiting : List ℕ) (place : ℕ)
-    → Going goes clock first now left0 left held0 held waiting place → IfSome left0 (λ bytes. Stopped goes clock first bytes left held0 held now.state now.faults end.Memory)
-ends_early goes clock first now None left held0 held waiting place g = tt
-ends_early goes clock first now (Some all) None held0 held waiting place g = let h = g.input in absurd cc
-ends_early goes clock first now (Some all) (Some rest) held0 held waiting place g =
-    let t = all_talks goes clock first now all rest held0 held waiting place g in
+pub ends_early : {S : Type 0} (goes : Goes S) (first now : Standing S) (left0 left held0 held : Option (List ℕ)) (waiting : List ℕ) (place : ℕ)
+    → Going goes first now left0 left held0 held waiting place → IfSome left0 (λ bytes. Stopped goes first bytes left held0 held now.position end.Memory)
+ends_early goes first now None left held0 held waiting place g = tt
+ends_early goes first now (Some all) None held0 held waiting place g = let h = g.input in absurd cc
+ends_early goes first now (Some all) (Some rest) held0 held waiting place g =
+    let t = all_talks goes first now all rest held0 held waiting place g in
     record { limit = now.limit; stops = record { before = now; talk = record { exchanges = g.exchanges; rest = waiting ++ rest; talks = t.0 }; next = inl refl; told = g.told } }
 
-answers_more : {S : Type 0} (goes : Goes S) (clock : Option ℕ) (now now' : Standing S) (waiting rest : List ℕ) (x : Exchange) → Answers goes clock now waiting x now' → Answers goes clock now (waiting ++ rest) x now'
-answers_more goes clock now now' waiting rest x a = record { stands = stands_more now.limit waiting rest x.tag (request_message x.request) x.used a.stands; makes = a.makes; chain = a.chain; limit = a.limit }
+answers_more : {S : Type 0} (goes : Goes S) (now now' : Standing S) (waiting rest : List ℕ) (x : Exchange) → Answers goes now waiting x now' → Answers goes now (waiting ++ rest) x now'
+answers_more goes now now' waiting rest x a = record { stands = stands_more now.limit waiting rest x.tag (request_message x.request) x.used a.stands; makes = a.makes; chain = a.chain; limit = a.limit }
 
 -- a message was answered, and nothing was put
-pub ends_unput : {S : Type 0} (goes : Goes S) (clock : Option ℕ) (first now now' : Standing S) (left0 left held0 held : Option (List ℕ)) (waiting : List ℕ) (place : ℕ) (x : Exchange)
-    → Going goes clock first now left0 left held0 held waiting place → Answers goes clock now waiting x now' → IfSome left0 (λ bytes. Stopped goes clock first bytes left held0 held now'.state now'.faults end.Memory)
-ends_unput goes clock first now now' None left held0 held waiting place x g a = tt
-ends_unput goes clock first now now' (Some all) None held0 held waiting place x g a = let h = g.input in absurd cc
-ends_unput goes clock first now now' (Some all) (Some rest) held0 held waiting place x g a =
-    let t = all_talks goes clock first now all rest held0 held waiting place g in
+pub ends_unput : {S : Type 0} (goes : Goes S) (first now now' : Standing S) (left0 left held0 held : Option (List ℕ)) (waiting : List ℕ) (place : ℕ) (x : Exchange)
+    → Going goes first now left0 left held0 held waiting place → Answers goes now waiting x now' → IfSome left0 (λ bytes. Stopped goes first bytes left held0 held now'.position end.Memory)
+ends_unput goes first now now' None left held0 held waiting place x g a = tt
+ends_unput goes first now now' (Some all) None held0 held waiting place x g a = let h = g.input in absurd cc
+ends_unput goes first now now' (Some all) (Some rest) held0 held waiting place x g a =
+    let t = all_talks goes first now all rest held0 held waiting place g in
     record {
       limit = now'.limit;
-      stops = record { before = now; talk = record { exchanges = g.exchanges; rest = waiting ++ rest; talks = t.0 }; next = inr (x, answers_more goes clock now now' waiting rest x a); told = g.told };
+      stops = record { before = now; talk = record { exchanges = g.exchanges; rest = waiting ++ rest; talks = t.0 }; next = inr (x, answers_more goes now now' waiting rest x a); told = g.told };
     }
 
 -- a front of the reply was put
-pub ends_unsaid : {S : Type 0} (goes : Goes S) (clock : Option ℕ) (first now now' : Standing S) (left0 left held0 held held' : Option (List ℕ)) (waiting : List ℕ) (place n : ℕ) (x : Exchange)
-    → Going goes clock first now left0 left held0 held waiting place → Answers goes clock now waiting x now' → GainsEnd (take n (said x.entries)) held held'
-    → IfSome left0 (λ bytes. Stopped goes clock first bytes left held0 held' now'.state now'.faults end.WriteFault)
-ends_unsaid goes clock first now now' None left held0 held held' waiting place n x g a gained = tt
-ends_unsaid goes clock first now now' (Some all) None held0 held held' waiting place n x g a gained = let h = g.input in absurd cc
-ends_unsaid goes clock first now now' (Some all) (Some rest) held0 held held' waiting place n x g a gained =
-    let t = all_talks goes clock first now all rest held0 held waiting place g in
+pub ends_unsaid : {S : Type 0} (goes : Goes S) (first now now' : Standing S) (left0 left held0 held held' : Option (List ℕ)) (waiting : List ℕ) (place n : ℕ) (x : Exchange)
+    → Going goes first now left0 left held0 held waiting place → Answers goes now waiting x now' → GainsEnd (take n (said x.entries)) held held'
+    → IfSome left0 (λ bytes. Stopped goes first bytes left held0 held' now'.position end.WriteFault)
+ends_unsaid goes first now now' None left held0 held held' waiting place n x g a gained = tt
+ends_unsaid goes first now now' (Some all) None held0 held held' waiting place n x g a gained = let h = g.input in absurd cc
+ends_unsaid goes first now now' (Some all) (Some rest) held0 held held' waiting place n x g a gained =
+    let t = all_talks goes first now all rest held0 held waiting place g in
     record {
       limit = now'.limit;
       stops = record {
         before = now;
         talk = record { exchanges = g.exchanges; rest = waiting ++ rest; talks = t.0 };
         next = x;
-        answers = answers_more goes clock now now' waiting rest x a;
+        answers = answers_more goes now now' waiting rest x a;
         put = n;
         told = gains_more (output g.exchanges) (take n (said x.entries)) held0 held held' g.told gained;
       };
     }
 
-pub ends_unread : {S : Type 0} (goes : Goes S) (clock : Option ℕ) (first now : Standing S) (left0 left held0 held : Option (List ℕ)) (waiting : List ℕ) (place : ℕ)
-    → Going goes clock first now left0 left held0 held waiting place → NoMessage now.limit waiting → IfSome left0 (λ bytes. Stopped goes clock first bytes left held0 held now.state now.faults end.ReadFault)
-ends_unread goes clock first now None left held0 held waiting place g none = tt
-ends_unread goes clock first now (Some all) left held0 held waiting place g none =
+pub ends_unread : {S : Type 0} (goes : Goes S) (first now : Standing S) (left0 left held0 held : Option (List ℕ)) (waiting : List ℕ) (place : ℕ)
+    → Going goes first now left0 left held0 held waiting place → NoMessage now.limit waiting → IfSome left0 (λ bytes. Stopped goes first bytes left held0 held now.position end.ReadFault)
+ends_unread goes first now None left held0 held waiting place g none = tt
+ends_unread goes first now (Some all) left held0 held waiting place g none =
     record { limit = now.limit; stops = record { taken = g.received; lost = g.input; talk = record { exchanges = g.exchanges; rest = waiting; talks = g.talks }; none = none; told = g.told } }
 
-pub ends_bad : {S : Type 0} (goes : Goes S) (clock : Option ℕ) (first now : Standing S) (left0 left held0 held : Option (List ℕ)) (waiting : List ℕ) (place : ℕ)
-    → Going goes clock first now left0 left held0 held waiting place → ((more : List ℕ) → left ≡ Some more → IsBad now.limit (waiting ++ more))
-    → IfSome left0 (λ bytes. Stopped goes clock first bytes left held0 held now.state now.faults (end.BadMessage place))
-ends_bad goes clock first now None left held0 held waiting place g bad = tt
-ends_bad goes clock first now (Some all) None held0 held waiting place g bad = let h = g.input in absurd cc
-ends_bad goes clock first now (Some all) (Some rest) held0 held waiting place g bad =
-    let t = all_talks goes clock first now all rest held0 held waiting place g in
-    record { limit = now.limit; stops = record { talk = record { exchanges = g.exchanges; rest = waiting ++ rest; talks = t.0 }; bad = bad rest refl; place = t.1; told = g.told } }
+pub ends_bad : {S : Type 0} (goes : Goes S) (first now : Standing S) (left0 left held0 held : Option (List ℕ)) (waiting : List ℕ) (place : ℕ)
+    → Going goes first now left0 left held0 held waiting place → ((more : List ℕ) → left ≡ Some more → IsBad now.limit (waiting ++ more))
+    → IfSome left0 (λ bytes. Stopped goes first bytes left held0 held now.position (end.BadMessage place))
+ends_bad goes first now None left held0 held waiting place g bad = tt
+ends_bad goes first now (Some all) None held0 held waiting place g bad = let h = g.input in absurd cc
+ends_bad goes first now (Some all) (Some rest) held0 held waiting place g bad =
+    let t = all_talks goes first now all rest held0 held waiting place g in
+    record { limit = now.limit; stops = record { talk = record { exchanges = g.exchanges; rest = waiting ++ rest; talks = t.0 }; bad = bad rest refl; place = t.1; taken = waiting; lost = refl; told = g.told } }
 
-ends_whole : {S : Type 0} (goes : Goes S) (clock : Option ℕ) (first now : Standing S) (left0 left held0 held : Option (List ℕ)) (place : ℕ)
-    → Going goes clock first now left0 left held0 held [] place → IsAtEnd left → IfSome left0 (λ bytes. Stopped goes clock first bytes left held0 held now.state now.faults end.End)
-ends_whole goes clock first now None left held0 held place g at_end = tt
-ends_whole goes clock first now (Some all) None held0 held place g at_end = let h = g.input in absurd cc
-ends_whole goes clock first now (Some all) (Some rest) held0 held place g at_end =
-    let t = all_talks goes clock first now all rest held0 held [] place g in
-    record { limit = now.limit; stops = record { talk = record { exchanges = g.exchanges; rest = rest; talks = t.0 }; whole = at_end; read = at_end; told = g.told } }
+ends_whole : {S : Type 0} (goes : Goes S) (first now : Standing S) (left0 left held0 held : Option (List ℕ)) (place : ℕ)
+    → Going goes first now left0 left held0 held [] place → IsAtEnd left → IfSome left0 (λ bytes. Stopped goes first bytes left held0 held now.position end.End)
+ends_whole goes first now None left held0 held place g at_end = tt
+ends_whole goes first now (Some all) None held0 held place g at_end = let h = g.input in absurd cc
+ends_whole goes first now (Some all) (Some rest) held0 held place g at_end =
+    let t = all_talks goes first now all rest held0 held [] place g in
+    record { limit = now.limit; stops = record { talk = record { exchanges = g.exchanges; rest = rest; talks = t.0 }; whole = at_end; read = ap (λ (x : List ℕ). Some x) at_end; told = g.told } }
 
 at_end_is : (left : Option (List ℕ)) (rest : List ℕ) → IsAtEnd left → left ≡ Some rest → rest ≡ []
 at_end_is left rest at_end e = subst (λ (o : Option (List ℕ)). IsAtEnd o) e at_end
 
 -- the input ended, and no message waits
-pub ends_at : {S : Type 0} (goes : Goes S) (clock : Option ℕ) (first now : Standing S) (left0 left held0 held : Option (List ℕ)) (waiting : List ℕ) (place : ℕ)
-    → Going goes clock first now left0 left held0 held waiting place → NoMessage now.limit waiting → IsAtEnd left → IfSome left0 (λ bytes. Stopped goes clock first bytes left held0 held now.state now.faults (end_at waiting place))
-ends_at goes clock first now left0 left held0 held [] place g none at_end = ends_whole goes clock first now left0 left held0 held place g at_end
-ends_at goes clock first now left0 left held0 held (b ∷ bytes) place g none at_end =
-    ends_bad goes clock first now left0 left held0 held (b ∷ bytes) place g
+pub ends_at : {S : Type 0} (goes : Goes S) (first now : Standing S) (left0 left held0 held : Option (List ℕ)) (waiting : List ℕ) (place : ℕ)
+    → Going goes first now left0 left held0 held waiting place → NoMessage now.limit waiting → IsAtEnd left → IfSome left0 (λ bytes. Stopped goes first bytes left held0 held now.position (end_at waiting place))
+ends_at goes first now left0 left held0 held [] place g none at_end = ends_whole goes first now left0 left held0 held place g at_end
+ends_at goes first now left0 left held0 held (b ∷ bytes) place g none at_end =
+    ends_bad goes first now left0 left held0 held (b ∷ bytes) place g
     (λ more e. let all : (b ∷ bytes) ++ more ≡ b ∷ bytes = ap (λ (r : List ℕ). (b ∷ bytes) ++ r) (at_end_is left more at_end e) ∙ append-nil (b ∷ bytes) in
     rw all (record { some = λ h. cc; none = none }))
 
 -- and then all fids are let go
-pub ends_of : {S : Type 0} (goes : Goes S) (clock : Option ℕ) (first : Standing S) (left0 left held0 held : Option (List ℕ)) (s s' : S) (f f' : Faults) (how : LinkEnd)
-    → IfSome left0 (λ bytes. Stopped goes clock first bytes left held0 held s f how) → LetsAllGo goes clock s f s' f' → IfSome left0 (λ bytes. Ends goes clock first bytes left held0 held s' f' how)
-ends_of goes clock first None left held0 held s s' f f' how stopped gone = tt
-ends_of goes clock first (Some all) left held0 held s s' f f' how stopped gone = record { last = record { limit = stopped.limit; state = s; faults = f }; stops = stopped.stops; gone = gone }
+pub ends_of : {S : Type 0} (goes : Goes S) (first : Standing S) (left0 left held0 held : Option (List ℕ)) (from to : Position S) (how : LinkEnd)
+    → IfSome left0 (λ bytes. Stopped goes first bytes left held0 held from how) → LetsAllGo goes from to → IfSome left0 (λ bytes. Ends goes first bytes left held0 held to how)
+ends_of goes first None left held0 held from to how stopped gone = tt
+ends_of goes first (Some all) left held0 held from to how stopped gone = record { last = record { limit = stopped.limit; position = from }; stops = stopped.stops; gone = gone }

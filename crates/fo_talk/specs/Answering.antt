@@ -5,8 +5,7 @@ use Rattle.nine_wire.specs.declared.message.Request.TheVariants as request
 use Rattle.nine_wire.specs.declared.message.Reply.{Reply}
 use Rattle.nine_wire.specs.Message.{reply_message, spelling}
 use Rattle.fo_links.specs.Links.{GainsEnd}
-use Rattle.fo_world.specs.World.{Faults}
-use Rattle.fo_talk.specs.Conversation.{Goes, Standing, Entry, LetsGo, Makes, Chain, said, limit_after, agreed_size}
+use Rattle.fo_talk.specs.Conversation.{Goes, Position, Standing, Entry, LetsGo, Makes, Chain, said, limit_after, agreed_size}
 use Rattle.fo_talk.specs.declared.service.Stop.{Stop}
 use Rattle.fo_talk.specs.declared.service.Stop.TheVariants as stop
 
@@ -18,17 +17,17 @@ is_version _ = false
 abbrev pub next_limit : ℕ → Bool → Reply → ℕ
 next_limit limit asked r = if asked then agreed_size r else limit
 
--- What is let go before a request leads from one state and its counts to another.
-pub record Clears {S : Type 0} (goes : Goes S) (clock : Option ℕ) (r : Request) (s : S) (faults : Faults) (s' : S) (faults' : Faults) : Type 0 where
+-- What is let go before a request leads from here to there.
+pub record Clears {S : Type 0} (goes : Goes S) (r : Request) (from to : Position S) : Type 0 where
   pub entries : List Entry
-  pub gone : LetsGo clock r entries
-  pub chain : Chain goes s faults entries s' faults'
+  pub gone : LetsGo r entries
+  pub chain : Chain goes from entries to
 
--- A message's entries, with this reply, lead from one state and its counts to another.
-pub record Asks {S : Type 0} (goes : Goes S) (clock : Option ℕ) (s : S) (faults : Faults) (tag : ℕ) (r : Request) (reply : Reply) (s' : S) (faults' : Faults) : Type 0 where
+-- A message's entries, with this reply, lead from here to there.
+pub record Asks {S : Type 0} (goes : Goes S) (from : Position S) (tag : ℕ) (r : Request) (reply : Reply) (to : Position S) : Type 0 where
   pub entries : List Entry
-  pub makes : Makes clock tag r entries
-  pub chain : Chain goes s faults entries s' faults'
+  pub makes : Makes tag r entries
+  pub chain : Chain goes from entries to
   pub says : said entries ≡ spelling tag (reply_message reply)
   pub limits : (limit : ℕ) → limit_after limit entries ≡ next_limit limit (is_version r) reply
 
@@ -39,9 +38,9 @@ Put held held' bytes (Err stop.Output) = (n : ℕ) × GainsEnd (take n bytes) he
 Put held held' bytes (Err stop.Memory) = held' ≡ held
 
 -- The message's entries, what was put of its replies, and the limit after them.
-pub record Answered {S : Type 0} (goes : Goes S) (clock : Option ℕ) (from : Standing S) (tag : ℕ) (r : Request) (s' : S) (faults' : Faults) (held held' : Option (List ℕ)) (result : Result ℕ Stop) : Type 0 where
+pub record Answered {S : Type 0} (goes : Goes S) (from : Standing S) (tag : ℕ) (r : Request) (to : Position S) (held held' : Option (List ℕ)) (result : Result ℕ Stop) : Type 0 where
   pub entries : List Entry
-  pub makes : Makes clock tag r entries
-  pub chain : Chain goes from.state from.faults entries s' faults'
+  pub makes : Makes tag r entries
+  pub chain : Chain goes from.position entries to
   pub put : Put held held' (said entries) result
   pub limit : MatchResult result (λ limit. limit ≡ limit_after from.limit entries) (λ _. ⊤)

@@ -1,6 +1,6 @@
 -- A conversation over a stream: which entries the messages of the input make, and what is said. It
 -- speaks of lists alone, and not of buffers and pieces.
-use Rattle.std.specs.Prelude.{◌≡◌, ℕ, List, [], ◌∷◌, ◌++◌, drop, IfSome, None, Bool, true, false, if◌then◌else◌}
+use Rattle.std.specs.Prelude.{◌≡◌, ℕ, List, [], ◌∷◌, ◌++◌, drop, None, Bool, true, false, if◌then◌else◌}
 use Rattle.std.specs.declared.option.Option.{Option}
 use Rattle.std.specs.List.{flat_map}
 use Rattle.std.specs.Str.{bytes_eq}
@@ -12,6 +12,7 @@ use Rattle.nine_wire.specs.Message.{request_message, reply_message, spelling}
 use Rattle.nine_wire.specs.Stands.{Stands}
 use Rattle.nine_wire.specs.Version.{largest_message, version_text}
 use Rattle.fo_world.specs.World.{Faults}
+use Rattle.fo_links.specs.Clocks.{Readings, SaysNext, later}
 
 -- what happens to a system
 pub data Event : Type 0 where
@@ -19,6 +20,11 @@ pub data Event : Type 0 where
   Asked : (now : ℕ) → (tag : ℕ) → (request : Request) → Event
   -- at this moment the least fid is let go, as by a Tclunk
   Drop : (now : ℕ) → Event
+
+-- when it happens
+abbrev pub time_of : Event → ℕ
+time_of (Asked now tag request) = now
+time_of (Drop now) = now
 
 -- what becomes of an event
 pub data Outcome : Type 0 where
@@ -43,10 +49,6 @@ pub record Exchange : Type 0 where
 
 -- ---- which entries are made
 
--- a moment is the clock's where the clock is known to stand still
-abbrev pub IsNow : Option ℕ → ℕ → Type 0
-IsNow clock now = IfSome clock (λ seconds. now ≡ seconds)
-
 abbrev pub asked : ℕ → ℕ → Request → Reply → Faults → Faults → Entry
 asked now tag r reply before after = record { event = Asked now tag r; outcome = Replied tag reply; before = before; after = after }
 
@@ -54,21 +56,20 @@ abbrev pub let_go : ℕ → Bool → Option Reply → Faults → Faults → Entr
 let_go now more reply before after = record { event = Drop now; outcome = LetGo more reply; before = before; after = after }
 
 -- Fids are let go, one after another, until there is none.
-pub data Drops (clock : Option ℕ) : List Entry → Type 0 where
-  last : (now : ℕ) → (before after : Faults) → IsNow clock now → Drops clock (let_go now false None before after ∷ [])
-  more : (now : ℕ) → (reply : Option Reply) → (before after : Faults) → (entries : List Entry) → IsNow clock now → Drops clock entries → Drops clock (let_go now true reply before after ∷ entries)
+pub data Drops : List Entry → Type 0 where
+  last : (now : ℕ) → (before after : Faults) → Drops (let_go now false None before after ∷ [])
+  more : (now : ℕ) → (reply : Option Reply) → (before after : Faults) → (entries : List Entry) → Drops entries → Drops (let_go now true reply before after ∷ entries)
 
 -- all fids are let go before a Tversion, and none before another message
-abbrev pub LetsGo : Option ℕ → Request → List Entry → Type 0
-LetsGo clock (request.Version msize version) entries = Drops clock entries
-LetsGo clock _ entries = entries ≡ []
+abbrev pub LetsGo : Request → List Entry → Type 0
+LetsGo (request.Version msize version) entries = Drops entries
+LetsGo _ entries = entries ≡ []
 
 -- Which entries a message makes: those before it, and its own.
-pub record Makes (clock : Option ℕ) (tag : ℕ) (r : Request) (made : List Entry) : Type 0 where
+pub record Makes (tag : ℕ) (r : Request) (made : List Entry) : Type 0 where
   pub drops : List Entry
-  pub gone : LetsGo clock r drops
+  pub gone : LetsGo r drops
   pub now : ℕ
-  pub told : IsNow clock now
   pub reply : Reply
   pub before : Faults
   pub after : Faults
@@ -109,37 +110,44 @@ limit_after limit (e ∷ es) = limit_after (limit_with limit e.event e.outcome) 
 abbrev pub Goes : Type 0 → Type 1
 Goes S = S → Event → Outcome → Faults → Faults → S → Type 0
 
--- The entries follow one another, each from the state and the counts that the one before it left.
-unfoldable pub Chain : {S : Type 0} → Goes S → S → Faults → List Entry → S → Faults → Type 0
-Chain goes s faults [] s' faults' = (s' ≡ s) × (faults' ≡ faults)
-Chain {S} goes s faults (e ∷ es) s' faults' =
-    (e.before ≡ faults) × ((mid : S) × goes s e.event e.outcome e.before e.after mid × Chain goes mid e.after es s' faults')
-
--- All fids are let go, which leads from one state and its counts to another.
-pub record LetsAllGo {S : Type 0} (goes : Goes S) (clock : Option ℕ) (s : S) (faults : Faults) (s' : S) (faults' : Faults) : Type 0 where
-  pub entries : List Entry
-  pub drops : Drops clock entries
-  pub chain : Chain goes s faults entries s' faults'
-
--- where a conversation stands: the limit, the system's state, and how often its devices have failed
-pub record Standing (S : Type 0) : Type 0 where
-  pub limit : ℕ
+-- where a system stands: what the clock will say, the system's state, and how often its devices have failed
+pub record Position (S : Type 0) : Type 0 where
+  pub clock : Readings
   pub state : S
   pub faults : Faults
 
+-- The entries follow one another, each from the state and the counts that the one before it left, and each at a reading of the
+-- clock of its own.
+unfoldable pub Chain : {S : Type 0} → Goes S → Position S → List Entry → Position S → Type 0
+Chain goes from [] to = to ≡ from
+Chain {S} goes from (e ∷ es) to =
+    (e.before ≡ from.faults) × SaysNext from.clock (time_of e.event)
+    × ((mid : S) × goes from.state e.event e.outcome e.before e.after mid × Chain goes (record { clock = later from.clock; state = mid; faults = e.after }) es to)
+
+-- All fids are let go, which leads from here to there.
+pub record LetsAllGo {S : Type 0} (goes : Goes S) (from to : Position S) : Type 0 where
+  pub entries : List Entry
+  pub drops : Drops entries
+  pub chain : Chain goes from entries to
+
+-- where a conversation stands: the limit, and where the system does
+pub record Standing (S : Type 0) : Type 0 where
+  pub limit : ℕ
+  pub position : Position S
+
 -- A message stands at the front of the bytes, and its entries lead from one standing to another.
-pub record Answers {S : Type 0} (goes : Goes S) (clock : Option ℕ) (from : Standing S) (bytes : List ℕ) (x : Exchange) (to : Standing S) : Type 0 where
+pub record Answers {S : Type 0} (goes : Goes S) (from : Standing S) (bytes : List ℕ) (x : Exchange) (to : Standing S) : Type 0 where
   pub stands : Stands from.limit bytes x.tag (request_message x.request) x.used
-  pub makes : Makes clock x.tag x.request x.entries
-  pub chain : Chain goes from.state from.faults x.entries to.state to.faults
+  pub makes : Makes x.tag x.request x.entries
+  pub chain : Chain goes from.position x.entries to.position
   pub limit : to.limit ≡ limit_after from.limit x.entries
 
 -- The messages of the bytes are answered one after another, as far as these exchanges go, and `rest`
 -- are the bytes behind them.
-unfoldable pub Talks : {S : Type 0} → Goes S → Option ℕ → Standing S → List ℕ → List Exchange → List ℕ → Standing S → Type 0
-Talks goes clock from bytes [] rest to = (rest ≡ bytes) × (to ≡ from)
-Talks {S} goes clock from bytes (x ∷ xs) rest to =
-    (mid : Standing S) × Answers goes clock from bytes x mid × Talks goes clock mid (drop x.used bytes) xs rest to
+unfoldable pub Talks : {S : Type 0} → Goes S → Standing S → List ℕ → List Exchange → List ℕ → Standing S → Type 0
+Talks goes from bytes [] rest to = (rest ≡ bytes) × (to ≡ from)
+Talks {S} goes from bytes (x ∷ xs) rest to =
+    (mid : Standing S) × Answers goes from bytes x mid × Talks goes mid (drop x.used bytes) xs rest to
 
 -- ---- bytes at which a conversation stops
 

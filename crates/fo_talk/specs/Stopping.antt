@@ -1,15 +1,14 @@
 -- How the loop over the messages stops, before the last fids are let go.
 use Rattle.std.specs.Prelude.{ℕ, List, [], ◌∷◌, Option}
-use Rattle.fo_world.specs.World.{Faults}
-use Rattle.fo_talk.specs.Conversation.{Goes, Standing}
+use Rattle.fo_talk.specs.Conversation.{Goes, Position, Standing}
 use Rattle.fo_talk.specs.Ending.{Stops}
 use Rattle.fo_talk.specs.declared.end.LinkEnd.{LinkEnd}
 use Rattle.fo_talk.specs.declared.end.LinkEnd.TheVariants as end
 
--- The conversation stands in this state, with these counts, and some limit.
-pub record Stopped {S : Type 0} (goes : Goes S) (clock : Option ℕ) (first : Standing S) (bytes : List ℕ) (left' held held' : Option (List ℕ)) (s' : S) (faults' : Faults) (how : LinkEnd) : Type 0 where
+-- The system stands here, and the conversation at some limit.
+pub record Stopped {S : Type 0} (goes : Goes S) (first : Standing S) (bytes : List ℕ) (left' held held' : Option (List ℕ)) (to : Position S) (how : LinkEnd) : Type 0 where
   pub limit : ℕ
-  pub stops : Stops goes clock first bytes left' held held' (record { limit = limit; state = s'; faults = faults' }) how
+  pub stops : Stops goes first bytes left' held held' (record { limit = limit; position = to }) how
 
 -- the end where the input ended and these bytes wait behind so many
 abbrev pub end_at : List ℕ → ℕ → LinkEnd

@@ -1,4 +1,7 @@
-//! A conversation over a stream: messages in, replies out, one after another, by whatever machine answers them.
+//! A conversation over a stream: messages in, replies out, one after another, by whatever `Machine` answers them.
+//!
+//! Proved of `serve`: what is said, in which order and at which readings of the clock, is the conversation on the bytes of the
+//! input, by each of its ends. Not proved: that a wait for the input or for memory ends.
 #![tactic(auto)]
 
 mod end;
@@ -10,6 +13,3 @@ mod turns;
 pub use end::LinkEnd;
 pub use machine::Machine;
 pub use service::serve;
-
-#[cfg(test)]
-mod tests;

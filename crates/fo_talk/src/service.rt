@@ -51,15 +51,15 @@ fn answer_one<K: Sink, C: Clock, M: Machine>(
     tag: u16,
     request: Request,
     limit: u32,
-    clock: &C,
+    clock: &mut C,
     machine: &mut M,
     bytes: &mut Vec<u8>,
     out: &mut K,
 ) -> Result<u32, Stop>
     requires limit { limit ≤ largest_message }
     requires fits { RequestFits request }
-    ensures answered { Answered M.goes (C.told clock.now) (record { limit = limit; state = machine.old; faults = M.faults machine.old })
-        tag request machine.new (M.faults machine.new) (K.held out.old) (K.held out.new) result }
+    ensures answered { Answered M.goes (record { limit = limit; position = record { clock = C.coming clock.old; state = machine.old; faults = M.faults machine.old } })
+        tag request (record { clock = C.coming clock.new; state = machine.new; faults = M.faults machine.new }) (K.held out.old) (K.held out.new) result }
     ensures small { IfOk result (λ limit. limit ≤ largest_message) }
     ensures later { K.faults out.old ≤ K.faults out.new }
     ensures output { result ≡ Err Stop.Output → Rose (K.faults out.old) (K.faults out.new) }
@@ -90,11 +90,11 @@ fn converse<S: Source, K: Sink, C: Clock, M: Machine>(
     alloc: Global,
     input: &mut S,
     out: &mut K,
-    clock: &C,
+    clock: &mut C,
     machine: &mut M,
 ) -> LinkEnd
-    ensures talk { IfSome (S.left input.old) (λ bytes. Stopped M.goes (C.told clock.now) (record { limit = largest_message; state = machine.old; faults = M.faults machine.old })
-        bytes (S.left input.new) (K.held out.old) (K.held out.new) machine.new (M.faults machine.new) result) }
+    ensures talk { IfSome (S.left input.old) (λ bytes. Stopped M.goes (record { limit = largest_message; position = record { clock = C.coming clock.old; state = machine.old; faults = M.faults machine.old } })
+        bytes (S.left input.new) (K.held out.old) (K.held out.new) (record { clock = C.coming clock.new; state = machine.new; faults = M.faults machine.new }) result) }
     ensures input { result ≡ LinkEnd.ReadFault → Rose (S.faults input.old) (S.faults input.new) }
     ensures output { result ≡ LinkEnd.WriteFault → Rose (K.faults out.old) (K.faults out.new) }
     ensures input_later { S.faults input.old ≤ S.faults input.new }
@@ -134,12 +134,13 @@ pub fn serve<S: Source, K: Sink, C: Clock, M: Machine>(
     alloc: Global,
     input: &mut S,
     out: &mut K,
-    clock: &C,
+    clock: &mut C,
     machine: &mut M,
 ) -> LinkEnd
-    // What was said to a source that tells its bytes, by how it ended, and where the machine stands.
-    ensures talk { IfSome (S.left input.old) (λ bytes. Ends M.goes (C.told clock.now) (record { limit = largest_message; state = machine.old; faults = M.faults machine.old })
-        bytes (S.left input.new) (K.held out.old) (K.held out.new) machine.new (M.faults machine.new) result) }
+    // What was said to a source that tells its bytes, by how it ended, and where the machine stands. Each request is asked, and each
+    // fid is let go, at a reading of the clock of its own.
+    ensures talk { IfSome (S.left input.old) (λ bytes. Ends M.goes (record { limit = largest_message; position = record { clock = C.coming clock.old; state = machine.old; faults = M.faults machine.old } })
+        bytes (S.left input.new) (K.held out.old) (K.held out.new) (record { clock = C.coming clock.new; state = machine.new; faults = M.faults machine.new }) result) }
 
     // A fault is the end only where that count rose in this call.
     ensures input { result ≡ LinkEnd.ReadFault → Rose (S.faults input.old) (S.faults input.new) }

@@ -16,9 +16,10 @@ pub fn is_version(request: &Request) -> bool
     matches!(request, Request::Version { .. })
 }
 
-/// Lets fids go, one after another, until there is none.
-pub fn let_all_go<C: Clock, M: Machine>(clock: &C, machine: &mut M)
-    ensures { LetsAllGo M.goes (C.told clock.now) machine.old (M.faults machine.old) machine.new (M.faults machine.new) }
+/// Lets fids go, one after another, each at a reading of the clock, until there is none.
+pub fn let_all_go<C: Clock, M: Machine>(clock: &mut C, machine: &mut M)
+    ensures { LetsAllGo M.goes (record { clock = C.coming clock.old; state = machine.old; faults = M.faults machine.old })
+        (record { clock = C.coming clock.new; state = machine.new; faults = M.faults machine.new }) }
 {
     'fids: loop {
         let (more, _) = machine.drop_one(clock.now());
@@ -29,8 +30,9 @@ pub fn let_all_go<C: Clock, M: Machine>(clock: &C, machine: &mut M)
 }
 
 /// Lets all fids go before a Tversion.
-fn clear_before<C: Clock, M: Machine>(request: &Request, clock: &C, machine: &mut M)
-    ensures { Clears M.goes (C.told clock.now) request.now machine.old (M.faults machine.old) machine.new (M.faults machine.new) }
+fn clear_before<C: Clock, M: Machine>(request: &Request, clock: &mut C, machine: &mut M)
+    ensures { Clears M.goes request.now (record { clock = C.coming clock.old; state = machine.old; faults = M.faults machine.old })
+        (record { clock = C.coming clock.new; state = machine.new; faults = M.faults machine.new }) }
 {
     if is_version(request) {
         let_all_go(clock, machine);
@@ -38,9 +40,15 @@ fn clear_before<C: Clock, M: Machine>(request: &Request, clock: &C, machine: &mu
 }
 
 /// The machine's reply to a request.
-pub fn ask<C: Clock, M: Machine>(tag: u16, request: Request, clock: &C, machine: &mut M) -> Reply
+pub fn ask<C: Clock, M: Machine>(
+    tag: u16,
+    request: Request,
+    clock: &mut C,
+    machine: &mut M,
+) -> Reply
     requires { RequestFits request }
-    ensures asks { Asks M.goes (C.told clock.now) machine.old (M.faults machine.old) tag request result machine.new (M.faults machine.new) }
+    ensures asks { Asks M.goes (record { clock = C.coming clock.old; state = machine.old; faults = M.faults machine.old })
+        tag request result (record { clock = C.coming clock.new; state = machine.new; faults = M.faults machine.new }) }
     ensures fits { ReplyFits result }
     ensures small { agreed_size result ≤ largest_message }
 {

@@ -1,9 +1,9 @@
 -- How a tool ends, what it has printed then, and what the devices hold.
-use Rattle.std.specs.Prelude.{◌≡◌, ◌≢◌, ◌⊎◌, ℕ, ◌≤◌, ◌^◌, List, Option}
+use Rattle.std.specs.Prelude.{◌≡◌, ◌≢◌, ◌⊎◌, ℕ, ◌≤◌, List, Option}
 use Rattle.fo_base.specs.Cause.{Rose}
 use Rattle.fo_links.specs.Links.{GainsEnd}
 use Rattle.fo_disk.specs.Disk.{Block, Content}
-use Rattle.fo_sound.specs.Sizes.{HasSizes}
+use Rattle.fo_sound.specs.Sizes.{HasSizes, IsMainSize, InRange}
 use Rattle.fo_format.specs.Formatted.{Formats}
 use Rattle.fo_check.specs.Answer.{IsNoArena, IsNotBuilt, IsUnsound}
 use Rattle.fo_check.specs.declared.report.Report.{Report}
@@ -13,7 +13,7 @@ use Rattle.fo_tools.specs.declared.end.ToolEnd.TheVariants as end
 
 -- ---- causes
 
--- Neither count of faults falls, and a fault is the end only where that count rose.
+-- No count of faults falls, a fault is the end only where that count rose, and a size only where no device failed.
 pub record HasCauses (main main' arena arena' out out' : ℕ) (how : ToolEnd) : Type 0 where
   pub main_later : main ≤ main'
   pub arena_later : arena ≤ arena'
@@ -23,12 +23,42 @@ pub record HasCauses (main main' arena arena' out out' : ℕ) (how : ToolEnd) : 
   pub arena_read : how ≡ end.ArenaRead → Rose arena arena'
   pub arena_write : how ≡ end.ArenaWrite → Rose arena arena'
   pub output : how ≡ end.Output → Rose out out'
+  pub size : how ≡ end.Size → (main' ≡ main) × (arena' ≡ arena)
+
+-- ---- over any devices
+
+-- How flfmt may end, where so many blocks were found: for a size exactly where one is out of range, but for blocks that could not
+-- be counted; and never for what an image holds, since it looks at none.
+abbrev pub MayEndFormat : ℕ → ℕ → ToolEnd → Type 0
+MayEndFormat main arena end.Size = ¬ InRange main arena
+MayEndFormat main arena end.MainRead = Unit {0}
+MayEndFormat main arena end.ArenaRead = IsMainSize main
+MayEndFormat main arena end.NotFossil = ⊥
+MayEndFormat main arena (end.Unsound rule block) = ⊥
+MayEndFormat main arena end.NotArena = ⊥
+MayEndFormat main arena end.NotBuilt = ⊥
+MayEndFormat main arena _ = InRange main arena
+
+-- How flchk may end, where so many blocks were found: for a size exactly where one is out of range, but for reads that failed; and
+-- never for a write, since it writes nothing.
+abbrev pub MayEndCheck : ℕ → ℕ → ToolEnd → Type 0
+MayEndCheck main arena end.Size = ¬ InRange main arena
+MayEndCheck main arena end.MainRead = Unit {0}
+MayEndCheck main arena end.ArenaRead = IsMainSize main
+MayEndCheck main arena end.MainWrite = ⊥
+MayEndCheck main arena end.ArenaWrite = ⊥
+MayEndCheck main arena _ = InRange main arena
+
+-- A size is the end only where the main device, of which so many blocks were found, was asked for that number, and so was the arena
+-- if it is in range. Of both devices the calls before and after are counted.
+abbrev pub AsksSizes : ℕ → ℕ → ℕ → ℕ → ℕ → ToolEnd → Type 0
+AsksSizes size main main' arena arena' how = how ≡ end.Size → Rose main main' × (IsMainSize size → Rose arena arena')
 
 -- ---- flfmt
 
 -- The line was printed, or a front of it where the output failed; else nothing. `blocks` is the main device's number of blocks.
 abbrev pub PrintsFormat : ℕ → Option (List ℕ) → Option (List ℕ) → ToolEnd → Type 0
-PrintsFormat blocks held held' end.Ended = (64 ≤ blocks) × (blocks ≤ 2 ^ 20) × GainsEnd (format_line blocks) held held'
+PrintsFormat blocks held held' end.Ended = GainsEnd (format_line blocks) held held'
 PrintsFormat blocks held held' end.Output = PutsFront (format_line blocks) held held'
 PrintsFormat blocks held held' _ = held' ≡ held
 
@@ -42,10 +72,7 @@ EndsFormat time image vault main arena end.MainWrite = HasSizes image vault
 EndsFormat time image vault main arena end.ArenaRead = Unit {0}
 EndsFormat time image vault main arena end.ArenaWrite = HasSizes image vault
 EndsFormat time image vault main arena end.Memory = HasSizes image vault
-EndsFormat time image vault main arena end.NotFossil = ⊥
-EndsFormat time image vault main arena (end.Unsound rule block) = ⊥
-EndsFormat time image vault main arena end.NotArena = ⊥
-EndsFormat time image vault main arena end.NotBuilt = ⊥
+EndsFormat time image vault main arena _ = ⊥
 
 -- nothing was written
 abbrev pub WritesNothing : ToolEnd → Type 0

@@ -5,42 +5,29 @@ ghost use Rattle.fo_tools.specs.Ends.{end_of_main, end_of_arena};
 use fo_check::CheckError;
 use fo_disk::DiskFault;
 use fo_format::FormatError;
-use thiserror::Error;
 
 /// How a tool ends.
-#[derive(Clone, Copy, Debug, PartialEq, Eq, Error)]
+#[derive(Clone, Copy, Debug, PartialEq, Eq)]
 pub enum ToolEnd {
     /// All is done, and the line is printed.
-    #[error("ended")]
     Ended,
     /// The main device has no header or no super block.
-    #[error("not a fossil image")]
     NotFossil,
     /// The lowest rule that is broken, and a block at which it is broken.
-    #[error("unsound S{rule} at block {block}")]
     Unsound { rule: u8, block: u32 },
-    #[error("read fault on main")]
     MainRead,
     /// A write or a sync failed.
-    #[error("write fault on main")]
     MainWrite,
-    #[error("read fault on arena")]
     ArenaRead,
     /// A write or a sync failed.
-    #[error("write fault on arena")]
     ArenaWrite,
-    #[error("write fault on output")]
     Output,
     /// The main device has below 64 or above 2^20 blocks, or the arena below 16 or above 2^20.
-    #[error("size of a device out of range")]
     Size,
-    #[error("no memory")]
     Memory,
     /// Block 0 of the arena is not of its format.
-    #[error("not an arena")]
     NotArena,
     /// The image has a part that is not built yet.
-    #[error("image not built yet")]
     NotBuilt,
 }
 

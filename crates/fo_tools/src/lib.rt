@@ -1,4 +1,7 @@
 //! The tools over the two devices: `flfmt` formats them and `flchk` checks them (fossil(4)), each printing a line.
+//!
+//! Proved of each: what is printed and what the devices hold, by how it ends; the cause of each end, over any devices. Not proved:
+//! that a real device holds what was written to it.
 #![tactic(auto)]
 
 mod end;
@@ -7,6 +10,3 @@ mod tools;
 
 pub use end::ToolEnd;
 pub use tools::{flchk, flfmt};
-
-#[cfg(test)]
-mod tests;

@@ -4,7 +4,7 @@ ghost use Rattle.fo_disk.specs.Disk.{Block};
 ghost use Rattle.fo_sound.specs.Device.{Shows, IsKept};
 ghost use Rattle.fo_check.specs.Answer.{Reports};
 ghost use Rattle.fo_check.specs.declared.report.Report.{Report};
-ghost use Rattle.fo_tools.specs.Ending.{HasCauses, PrintsFormat, EndsFormat, WritesNothing, PrintsReport, EndsCheck, MayMiss};
+ghost use Rattle.fo_tools.specs.Ending.{HasCauses, PrintsFormat, EndsFormat, WritesNothing, PrintsReport, EndsCheck, MayMiss, MayEndFormat, MayEndCheck, AsksSizes};
 
 use crate::end::ToolEnd;
 use crate::line::{format_line, report_line};
@@ -23,8 +23,10 @@ pub fn flfmt<D: Disk, A: Disk, K: Sink>(
     out: &mut K,
     time: u32,
 ) -> ToolEnd
-    // What is printed, over any devices.
+    // What is printed, and which ends there are, over any devices.
     ensures prints { PrintsFormat (D.size main.new) (K.held out.old) (K.held out.new) result }
+    ensures sized { MayEndFormat (D.size main.new) (A.size arena.new) result }
+    ensures asked { AsksSizes (D.size main.new) (D.calls main.old) (D.calls main.new) (A.calls arena.old) (A.calls arena.new) result }
 
     // What quiet devices that tell what they hold have then.
     ensures ends { (image vault : List Block) → Shows (D.holds main.old) image → Shows (A.holds arena.old) vault
@@ -64,7 +66,11 @@ pub fn flchk<D: Disk, A: Disk, K: Sink>(
     ensures prints { PrintsReport (λ r. (image vault : List Block) → Shows (D.holds main.old) image → Shows (A.holds arena.old) vault → Reports image vault r)
         (K.held out.old) (K.held out.new) result }
 
-    // Why nothing is printed, over such devices; and a sound image is reported.
+    // Which ends there are, over any devices.
+    ensures sized { MayEndCheck (D.size main.new) (A.size arena.new) result }
+    ensures asked { AsksSizes (D.size main.new) (D.calls main.old) (D.calls main.new) (A.calls arena.old) (A.calls arena.new) result }
+
+    // Why nothing is printed, over devices that tell; and a sound image is reported.
     ensures ends { (image vault : List Block) → Shows (D.holds main.old) image → Shows (A.holds arena.old) vault → EndsCheck image vault result }
     ensures only { (image vault : List Block) (r : Report) → Shows (D.holds main.old) image → Shows (A.holds arena.old) vault → Reports image vault r → MayMiss result }
 

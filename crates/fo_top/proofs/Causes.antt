@@ -63,6 +63,7 @@ link_causes input input' out out' link end is later out_later read write = recor
   main_write = λ e. let no = link_not link end why.MainWrite is e in absurd cc;
   arena_read = λ e. let no = link_not link end why.ArenaRead is e in absurd cc;
   arena_write = λ e. let no = link_not link end why.ArenaWrite is e in absurd cc;
+  size = λ e. let no = link_not link end why.Size is e in absurd cc;
 }
 
 pub link_serves : (link : LinkEnd) (end : Why) → end ≡ why_of link → end ≡ why.Usage → ⊥
@@ -81,6 +82,7 @@ no_causes input out end is = record {
   main_write = λ e. let no = sym is ∙ e in absurd cc;
   arena_read = λ e. let no = sym is ∙ e in absurd cc;
   arena_write = λ e. let no = sym is ∙ e in absurd cc;
+  size = λ e. let no = sym is ∙ e in absurd cc;
 }
 
 -- ---- a tool
@@ -152,9 +154,8 @@ tool_causes main main' arena arena' out out' how end is c = record {
   main_write = λ e. c.main_write (tool_is how end why.MainWrite is e);
   arena_read = λ e. c.arena_read (tool_is how end why.ArenaRead is e);
   arena_write = λ e. c.arena_write (tool_is how end why.ArenaWrite is e);
+  size = λ e. c.size (tool_is how end why.Size is e);
 }
 
 pub tool_serves : (how : ToolEnd) (end : Why) → end ≡ tool_why how → end ≡ why.Usage → ⊥
 tool_serves how end is e = let no = tool_not how end why.Usage is e in absurd cc
-
--- ---- a run

@@ -1,7 +1,6 @@
 -- How a run ends, and what was said until then.
 use Rattle.std.specs.Prelude.{◌≡◌, ℕ, List, Option}
-use Rattle.fo_world.specs.World.{Faults}
-use Rattle.fo_talk.specs.Conversation.{Goes, Standing}
+use Rattle.fo_talk.specs.Conversation.{Goes, Position, Standing}
 use Rattle.fo_talk.specs.Ending.{Ends}
 use Rattle.fo_talk.specs.declared.end.LinkEnd.{LinkEnd}
 use Rattle.fo_talk.specs.declared.end.LinkEnd.TheVariants as ends
@@ -33,14 +32,18 @@ tool_why tool.Memory = why.Memory
 tool_why tool.NotArena = why.NotArena
 tool_why tool.NotBuilt = why.NotBuilt
 
--- What a run over these bytes has said, by how it ended: that of its one conversation, at whose end the
--- system stands somewhere.
-pub record Runs {S : Type 0} (goes : Goes S) (clock : Option ℕ) (first : Standing S) (bytes : List ℕ) (left' held held' : Option (List ℕ)) (end : Why) : Type 0 where
+-- The run ended as a conversation does, and not as a tool or for its words.
+pub record IsTalked (end : Why) : Type 0 where
   pub link : LinkEnd
   pub end_is : end ≡ why_of link
-  pub system : S
-  pub faults : Faults
-  pub talk : Ends goes clock first bytes left' held held' system faults link
+
+-- What a run over these bytes has said, by how it ended: that of its one conversation, at whose end the
+-- system stands somewhere.
+pub record Runs {S : Type 0} (goes : Goes S) (first : Standing S) (bytes : List ℕ) (left' held held' : Option (List ℕ)) (end : Why) : Type 0 where
+  pub link : LinkEnd
+  pub end_is : end ≡ why_of link
+  pub last : Position S
+  pub talk : Ends goes first bytes left' held held' last link
 
 -- the status of each end
 abbrev pub status_of : Why → ℕ

@@ -5,33 +5,37 @@ use Rattle.fo_disk.specs.Disk.{Block, Content}
 use Rattle.fo_sound.specs.Device.{Shows, IsKept}
 use Rattle.fo_check.specs.Answer.{Reports}
 use Rattle.fo_check.specs.declared.report.Report.{Report}
-use Rattle.fo_talk.specs.Conversation.{IsNow}
-use Rattle.fo_tools.specs.Ending.{PrintsFormat, EndsFormat, WritesNothing, PrintsReport, EndsCheck, MayMiss}
+use Rattle.fo_links.specs.Clocks.{Readings, SaysNext}
+use Rattle.fo_tools.specs.Ending.{PrintsFormat, EndsFormat, WritesNothing, PrintsReport, EndsCheck, MayMiss, MayEndFormat, MayEndCheck, AsksSizes}
 use Rattle.fo_tools.specs.declared.end.ToolEnd.{ToolEnd}
 use Rattle.fo_top.specs.declared.why.Why.{Why}
 use Rattle.fo_top.specs.declared.why.Why.TheVariants as why
 use Rattle.fo_top.specs.Ending.{tool_why}
 
--- what a device tells
+-- what a device tells, how many blocks it was found to have, and how many calls there were
 pub record Device : Type 0 where
+  pub size : ℕ
+  pub calls : ℕ
   pub holds : Content
   pub moments : List Content
   pub unsure : List Bool
 
-abbrev pub device : Content → List Content → List Bool → Device
-device holds moments unsure = record { holds = holds; moments = moments; unsure = unsure }
+abbrev pub device : ℕ → ℕ → Content → List Content → List Bool → Device
+device size calls holds moments unsure = record { size = size; calls = calls; holds = holds; moments = moments; unsure = unsure }
 
 -- no version of the device changed
 abbrev pub IsSame : Device → Device → Type 0
 IsSame d d' = IsKept d.holds d'.holds d.moments d'.moments d.unsure d'.unsure
 
--- `flfmt`, at a moment that is the clock's where the clock is known to stand still; the main device has so many blocks
-pub record FormatRun (clock : Option ℕ) (blocks : ℕ) (main main' arena arena' : Device) (held held' : Option (List ℕ)) (end : Why) : Type 0 where
+-- `flfmt`, at the clock's next reading
+pub record FormatRun (clock : Readings) (main main' arena arena' : Device) (held held' : Option (List ℕ)) (end : Why) : Type 0 where
   pub how : ToolEnd
   pub end_is : end ≡ tool_why how
   pub time : ℕ
-  pub now : IsNow clock time
-  pub prints : PrintsFormat blocks held held' how
+  pub now : SaysNext clock time
+  pub prints : PrintsFormat main'.size held held' how
+  pub sized : MayEndFormat main'.size arena'.size how
+  pub asked : AsksSizes main'.size main.calls main'.calls arena.calls arena'.calls how
   pub ends : (image vault : List Block) → Shows main.holds image → Shows arena.holds vault → EndsFormat time image vault main'.holds arena'.holds how
   pub main_kept : WritesNothing how → IsSame main main'
   pub arena_kept : WritesNothing how → IsSame arena arena'
@@ -40,13 +44,15 @@ pub record FormatRun (clock : Option ℕ) (blocks : ℕ) (main main' arena arena
 pub record CheckRun (main main' arena arena' : Device) (held held' : Option (List ℕ)) (end : Why) : Type 0 where
   pub how : ToolEnd
   pub end_is : end ≡ tool_why how
+  pub sized : MayEndCheck main'.size arena'.size how
+  pub asked : AsksSizes main'.size main.calls main'.calls arena.calls arena'.calls how
   pub prints : PrintsReport (λ r. (image vault : List Block) → Shows main.holds image → Shows arena.holds vault → Reports image vault r) held held' how
   pub ends : (image vault : List Block) → Shows main.holds image → Shows arena.holds vault → EndsCheck image vault how
   pub only : (image vault : List Block) (r : Report) → Shows main.holds image → Shows arena.holds vault → Reports image vault r → MayMiss how
   pub main_kept : IsSame main main'
   pub arena_kept : IsSame arena arena'
 
--- No count of faults falls, and a fault is the end only where that count rose in this call.
+-- No count of faults falls, a fault is the end only where that count rose in this call, and a size only where no device failed.
 pub record HasCauses (input input' out out' main main' arena arena' : ℕ) (end : Why) : Type 0 where
   pub input_later : input ≤ input'
   pub out_later : out ≤ out'
@@ -58,3 +64,4 @@ pub record HasCauses (input input' out out' main main' arena arena' : ℕ) (end 
   pub main_write : end ≡ why.MainWrite → Rose main main'
   pub arena_read : end ≡ why.ArenaRead → Rose arena arena'
   pub arena_write : end ≡ why.ArenaWrite → Rose arena arena'
+  pub size : end ≡ why.Size → (main' ≡ main) × (arena' ≡ arena)

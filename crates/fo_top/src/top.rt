@@ -2,7 +2,7 @@
 ghost use Rattle.std.specs.Prelude.{◌≡◌, ◌≢◌, ◌≤◌, ◌↔◌, map, IfSome, Some, None};
 ghost use Rattle.std.specs.String.{string_bytes};
 ghost use Rattle.nine_wire.specs.Version.{largest_message};
-ghost use Rattle.fo_top.specs.Ending.{Runs, status_of};
+ghost use Rattle.fo_top.specs.Ending.{Runs, IsTalked, status_of};
 ghost use Rattle.fo_top.specs.System.{empty_system, system_goes};
 ghost use Rattle.fo_top.specs.Tools.{device, FormatRun, CheckRun, HasCauses};
 ghost use Rattle.fo_top.specs.Words.{command_of};
@@ -16,16 +16,16 @@ use fo_talk::serve;
 use fo_tools::{flchk, flfmt};
 use std::alloc::Global;
 
-/// What a run gives back: the status that the program ends with, how the run ended, and the source, the sink and the devices
+/// What a run gives back: the status that the program ends with, how the run ended, and the devices, the source and the sink
 /// that it was handed.
 #[derive(Drop)]
-pub struct Done<S, K, D, A> {
+pub struct Done<D, A, S, K> {
     pub status: u8,
     pub why: Why,
-    pub input: S,
-    pub out: K,
     pub main: D,
     pub arena: A,
+    pub input: S,
+    pub out: K,
 }
 
 /// Answers the messages of one connection over an empty world of files.
@@ -33,12 +33,13 @@ fn answer_all<S: Source, K: Sink, C: Clock>(
     alloc: Global,
     input: &mut S,
     out: &mut K,
-    clock: &C,
+    clock: &mut C,
 ) -> Why
-    ensures talk { IfSome (S.left input.old) (λ bytes. Runs system_goes (C.told clock.now)
-        (record { limit = largest_message; state = empty_system; faults = record { main = 0; arena = 0 } })
+    ensures talk { IfSome (S.left input.old) (λ bytes. Runs system_goes
+        (record { limit = largest_message; position = record { clock = C.coming clock.old; state = empty_system; faults = record { main = 0; arena = 0 } } })
         bytes (S.left input.new) (K.held out.old) (K.held out.new) result) }
     ensures causes { HasCauses (S.faults input.old) (S.faults input.new) (K.faults out.old) (K.faults out.new) 0 0 0 0 result }
+    ensures talked { IsTalked result }
     ensures served { result ≢ Why.Usage }
 {
     match System::new(alloc) {
@@ -53,11 +54,11 @@ fn format_all<D: Disk, A: Disk, K: Sink, C: Clock>(
     main: &mut D,
     arena: &mut A,
     out: &mut K,
-    clock: &C,
+    clock: &mut C,
 ) -> Why
-    ensures formats { FormatRun (C.told clock.now) (D.size main.new)
-        (device (D.holds main.old) (D.moments main.old) (D.unsure main.old)) (device (D.holds main.new) (D.moments main.new) (D.unsure main.new))
-        (device (A.holds arena.old) (A.moments arena.old) (A.unsure arena.old)) (device (A.holds arena.new) (A.moments arena.new) (A.unsure arena.new))
+    ensures formats { FormatRun (C.coming clock.old)
+        (device (D.size main.old) (D.calls main.old) (D.holds main.old) (D.moments main.old) (D.unsure main.old)) (device (D.size main.new) (D.calls main.new) (D.holds main.new) (D.moments main.new) (D.unsure main.new))
+        (device (A.size arena.old) (A.calls arena.old) (A.holds arena.old) (A.moments arena.old) (A.unsure arena.old)) (device (A.size arena.new) (A.calls arena.new) (A.holds arena.new) (A.moments arena.new) (A.unsure arena.new))
         (K.held out.old) (K.held out.new) result }
     ensures causes { HasCauses 0 0 (K.faults out.old) (K.faults out.new) (D.faults main.old) (D.faults main.new) (A.faults arena.old) (A.faults arena.new) result }
     ensures served { result ≢ Why.Usage }
@@ -73,8 +74,8 @@ fn check_all<D: Disk, A: Disk, K: Sink>(
     out: &mut K,
 ) -> Why
     ensures checks { CheckRun
-        (device (D.holds main.old) (D.moments main.old) (D.unsure main.old)) (device (D.holds main.new) (D.moments main.new) (D.unsure main.new))
-        (device (A.holds arena.old) (A.moments arena.old) (A.unsure arena.old)) (device (A.holds arena.new) (A.moments arena.new) (A.unsure arena.new))
+        (device (D.size main.old) (D.calls main.old) (D.holds main.old) (D.moments main.old) (D.unsure main.old)) (device (D.size main.new) (D.calls main.new) (D.holds main.new) (D.moments main.new) (D.unsure main.new))
+        (device (A.size arena.old) (A.calls arena.old) (A.holds arena.old) (A.moments arena.old) (A.unsure arena.old)) (device (A.size arena.new) (A.calls arena.new) (A.holds arena.new) (A.moments arena.new) (A.unsure arena.new))
         (K.held out.old) (K.held out.new) result }
     ensures causes { HasCauses 0 0 (K.faults out.old) (K.faults out.new) (D.faults main.old) (D.faults main.new) (A.faults arena.old) (A.faults arena.new) result }
     ensures served { result ≢ Why.Usage }
@@ -85,35 +86,36 @@ fn check_all<D: Disk, A: Disk, K: Sink>(
 /// Runs the program over two devices (fossil(4) of the Plan 9 manual). `9p` answers one connection, messages in and replies out
 /// (section 5 of the manual), over an empty world of files, and opens no device; `flfmt` formats both devices and `flchk` checks
 /// them, and each prints a line.
-pub fn run<S: Source, K: Sink, C: Clock + Drop, D: Disk, A: Disk>(
+pub fn run<D: Disk, A: Disk, S: Source, K: Sink, C: Clock + Drop>(
     alloc: Global,
     words: &[String],
-    mut input: S,
-    mut out: K,
-    clock: C,
     mut main: D,
     mut arena: A,
-) -> Done<S, K, D, A>
+    mut input: S,
+    mut out: K,
+    mut clock: C,
+) -> Done<D, A, S, K>
     ensures status { result.status ≡ status_of result.why }
 
     // Other words read and write nothing.
     ensures usage { (result.why ≡ Why.Usage) ↔ (command_of (map string_bytes words.now) ≡ None) }
     ensures untouched { result.why ≡ Why.Usage → (result.input ≡ input) × (result.out ≡ out) × (result.main ≡ main) × (result.arena ≡ arena) }
 
-    // `9p`: what was said to a source that tells its bytes, by how the run ended. No device is opened.
-    ensures talk { command_of (map string_bytes words.now) ≡ Some Command.Serve → IfSome (S.left input) (λ bytes. Runs system_goes (C.told clock)
-        (record { limit = largest_message; state = empty_system; faults = record { main = 0; arena = 0 } })
+    // `9p`: what was said to a source that tells its bytes, by how the run ended. Over any source and any devices it ends as a
+    // conversation does, and no device is opened.
+    ensures talk { command_of (map string_bytes words.now) ≡ Some Command.Serve → IfSome (S.left input) (λ bytes. Runs system_goes
+        (record { limit = largest_message; position = record { clock = C.coming clock; state = empty_system; faults = record { main = 0; arena = 0 } } })
         bytes (S.left result.input) (K.held out) (K.held result.out) result.why) }
-    ensures serves { command_of (map string_bytes words.now) ≡ Some Command.Serve → (result.main ≡ main) × (result.arena ≡ arena) }
+    ensures serves { command_of (map string_bytes words.now) ≡ Some Command.Serve → IsTalked result.why × (result.main ≡ main) × (result.arena ≡ arena) }
 
-    // `flfmt` and `flchk`: what is printed and what the devices hold, by how the run ended. No input is read.
-    ensures formats { command_of (map string_bytes words.now) ≡ Some Command.Format → FormatRun (C.told clock) (D.size result.main)
-        (device (D.holds main) (D.moments main) (D.unsure main)) (device (D.holds result.main) (D.moments result.main) (D.unsure result.main))
-        (device (A.holds arena) (A.moments arena) (A.unsure arena)) (device (A.holds result.arena) (A.moments result.arena) (A.unsure result.arena))
+    // `flfmt` and `flchk`: what is printed, what the devices hold and which ends there are, by how the run ended. No input is read.
+    ensures formats { command_of (map string_bytes words.now) ≡ Some Command.Format → FormatRun (C.coming clock)
+        (device (D.size main) (D.calls main) (D.holds main) (D.moments main) (D.unsure main)) (device (D.size result.main) (D.calls result.main) (D.holds result.main) (D.moments result.main) (D.unsure result.main))
+        (device (A.size arena) (A.calls arena) (A.holds arena) (A.moments arena) (A.unsure arena)) (device (A.size result.arena) (A.calls result.arena) (A.holds result.arena) (A.moments result.arena) (A.unsure result.arena))
         (K.held out) (K.held result.out) result.why }
     ensures checks { command_of (map string_bytes words.now) ≡ Some Command.Check → CheckRun
-        (device (D.holds main) (D.moments main) (D.unsure main)) (device (D.holds result.main) (D.moments result.main) (D.unsure result.main))
-        (device (A.holds arena) (A.moments arena) (A.unsure arena)) (device (A.holds result.arena) (A.moments result.arena) (A.unsure result.arena))
+        (device (D.size main) (D.calls main) (D.holds main) (D.moments main) (D.unsure main)) (device (D.size result.main) (D.calls result.main) (D.holds result.main) (D.moments result.main) (D.unsure result.main))
+        (device (A.size arena) (A.calls arena) (A.holds arena) (A.moments arena) (A.unsure arena)) (device (A.size result.arena) (A.calls result.arena) (A.holds result.arena) (A.moments result.arena) (A.unsure result.arena))
         (K.held out) (K.held result.out) result.why }
     ensures unread { command_of (map string_bytes words.now) ≢ Some Command.Serve → result.input ≡ input }
 
@@ -122,16 +124,16 @@ pub fn run<S: Source, K: Sink, C: Clock + Drop, D: Disk, A: Disk>(
 {
     let why = match command_of(words) {
         None => Why::Usage,
-        Some(Command::Serve) => answer_all(alloc, &mut input, &mut out, &clock),
-        Some(Command::Format) => format_all(alloc, &mut main, &mut arena, &mut out, &clock),
+        Some(Command::Serve) => answer_all(alloc, &mut input, &mut out, &mut clock),
+        Some(Command::Format) => format_all(alloc, &mut main, &mut arena, &mut out, &mut clock),
         Some(Command::Check) => check_all(alloc, &mut main, &mut arena, &mut out),
     };
     Done {
         status: why.status(),
         why,
-        input,
-        out,
         main,
         arena,
+        input,
+        out,
     }
 }

@@ -1,55 +1,41 @@
 //! How a run ends.
 ghost use Rattle.std.specs.Prelude.{◌≡◌};
 
+use crate::text::{bad_input, fixed, unsound};
+use arrayvec::ArrayString;
 use fo_talk::LinkEnd;
 use fo_tools::ToolEnd;
-use thiserror::Error;
 
-/// How a run ended, with the text that standard error gets of it.
-#[derive(Clone, Copy, Debug, PartialEq, Eq, Error)]
+/// How a run ended.
+#[derive(Clone, Copy, Debug, PartialEq, Eq)]
 pub enum Why {
     /// The input was read to its end, or the tool did its work and printed its line.
-    #[error("ended")]
     Ended,
     /// The words are not of the program's grammar.
-    #[error("usage: fossil command main arena [options]")]
     Usage,
     /// The main device has no header or no super block.
-    #[error("not a fossil image")]
     NotFossil,
     /// The lowest rule that is broken, and a block at which it is broken.
-    #[error("unsound S{rule} at block {block}")]
     Unsound { rule: u8, block: u32 },
-    #[error("read fault on main")]
     MainRead,
     /// A write or a sync failed.
-    #[error("write fault on main")]
     MainWrite,
-    #[error("read fault on arena")]
     ArenaRead,
     /// A write or a sync failed.
-    #[error("write fault on arena")]
     ArenaWrite,
     /// The input failed.
-    #[error("read fault on input")]
     Input,
     /// The output failed.
-    #[error("write fault on output")]
     Output,
     /// The main device has below 64 or above 2^20 blocks, or the arena below 16 or above 2^20.
-    #[error("size of a device out of range")]
     Size,
     /// There is no memory.
-    #[error("no memory")]
     Memory,
     /// Behind so many bytes of the input stands no message.
-    #[error("bad input at byte {0}")]
     BadInput(u64),
     /// Block 0 of the arena is not of its format.
-    #[error("not an arena")]
     NotArena,
     /// The image has a part that is not built yet.
-    #[error("image not built yet")]
     NotBuilt,
 }
 
@@ -94,6 +80,7 @@ impl From<ToolEnd> for Why {
 
 impl Why {
     ghost use Rattle.fo_top.specs.Ending.{status_of};
+    ghost use Rattle.fo_top.specs.Texts.{text_of};
 
     /// The status that the program ends with.
     pub fn status(self) -> u8
@@ -115,6 +102,29 @@ impl Why {
             Why::BadInput(_) => 13,
             Why::NotArena => 14,
             Why::NotBuilt => 16,
+        }
+    }
+
+    /// The text that standard error gets of it.
+    pub fn text(self) -> ArrayString<64>
+        ensures { result.bytes ≡ text_of self }
+    {
+        match self {
+            Why::Ended => fixed("ended"),
+            Why::Usage => fixed("usage: fossil command main arena [options]"),
+            Why::NotFossil => fixed("not a fossil image"),
+            Why::Unsound { rule, block } => unsound(rule, block),
+            Why::MainRead => fixed("read fault on main"),
+            Why::MainWrite => fixed("write fault on main"),
+            Why::ArenaRead => fixed("read fault on arena"),
+            Why::ArenaWrite => fixed("write fault on arena"),
+            Why::Input => fixed("read fault on input"),
+            Why::Output => fixed("write fault on output"),
+            Why::Size => fixed("size of a device out of range"),
+            Why::Memory => fixed("no memory"),
+            Why::BadInput(place) => bad_input(place),
+            Why::NotArena => fixed("not an arena"),
+            Why::NotBuilt => fixed("image not built yet"),
         }
     }
 }

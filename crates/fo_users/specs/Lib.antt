@@ -2,3 +2,4 @@ pub mod Table
 pub mod Rights
 pub mod Parts
 pub mod Found
+pub mod Seen

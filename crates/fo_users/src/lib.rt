@@ -14,6 +14,3 @@ pub use laws::tables_are_found;
 pub use read::read_users;
 pub use right::Right;
 pub use table::Users;
-
-#[cfg(test)]
-mod tests;

@@ -1,16 +1,19 @@
 //! Tables of users read.
-ghost use Rattle.std.specs.Prelude.{◌≡◌, List, map, IfOk, MatchResult};
+ghost use Rattle.std.specs.Prelude.{◌≡◌, ℕ, List, map, not, ◌||◌, IfOk, OnOk, MatchResult};
 ghost use Rattle.std.specs.List.{list_all};
-ghost use Rattle.fo_users.specs.Table.{is_name_byte, is_user_name, is_known, is_apart, is_line, SpellsLine, all_differ, names_known, is_table, Spells};
+ghost use Rattle.std.specs.Str.{bytes_eq};
+ghost use Rattle.fo_users.specs.Seen.{was_seen};
+ghost use Rattle.fo_users.specs.Table.{is_name_byte, is_user_name, is_known, is_line, SpellsLine, all_differ, names_known, is_table, Spells};
 ghost use Rattle.fo_users.specs.Parts.{parts_at, members_of, leader_of, user_of, SpellsLines};
 ghost use Rattle.fo_users.specs.declared.table.User.{User};
 ghost use Rattle.fo_users.specs.declared.error.UsersError.TheVariants.{Memory as NoMemory};
 
 use crate::error::UsersError;
-use crate::table::{Members, User, Users, is_apart, is_known};
+use crate::table::{Members, User, Users, is_known};
 use fo_base::Memory;
 use fo_world::Name;
 use std::alloc::{AllocError, Global};
+use std::collections::BTreeSet;
 
 /// The parts of the bytes round a separator.
 fn parts<'a>(alloc: Global, bytes: &'a [u8], separator: u8) -> Result<Vec<&'a [u8]>, AllocError>
@@ -122,23 +125,29 @@ fn read_lines(alloc: Global, bytes: &[u8]) -> Result<Vec<User>, UsersError>
     Ok(users)
 }
 
-/// Whether the user is apart from all of these.
-fn is_apart_from(user: &User, others: &[User]) -> bool
-    ensures { result ≡ list_all (is_apart user.now) others.now }
+/// Puts a name among those that were seen, and says whether it is new.
+fn is_new<'a>(seen: &mut BTreeSet<&'a [u8]>, name: &'a [u8]) -> Result<bool, AllocError>
+    ensures answer { IfOk result (λ new. new ≡ not (was_seen seen.old name.now)) }
+    ensures seen { OnOk result ((q : List ℕ) → was_seen seen.new q ≡ (bytes_eq name.now q || was_seen seen.old q)) }
 {
-    others.iter().all(|other| is_apart(user, other))
+    Ok(seen.insert(name)?)
 }
 
 /// Whether ids differ, and names.
-fn all_differ(lines: &[User]) -> bool
-    ensures { result ≡ all_differ lines.now }
+fn all_differ(alloc: Global, lines: &[User]) -> Result<bool, AllocError>
+    ensures { IfOk result (λ b. b ≡ all_differ lines.now) }
 {
-    for (i, line) in lines.iter().enumerate() {
-        if !is_apart_from(line, &lines[i + 1..]) {
-            return false;
+    let mut ids = BTreeSet::new(alloc);
+    let mut names = BTreeSet::new(alloc);
+    for line in lines {
+        if !is_new(&mut ids, line.id.as_slice())? {
+            return Ok(false);
+        }
+        if !is_new(&mut names, line.name.as_slice())? {
+            return Ok(false);
         }
     }
-    true
+    Ok(true)
 }
 
 /// Whether all names are those of users of the table.
@@ -167,13 +176,11 @@ fn all_names_known(lines: &[User]) -> bool
 }
 
 /// Whether the lines make up a table.
-fn is_table(lines: &[User]) -> bool
-    ensures { result ≡ is_table lines.now }
+fn is_table(alloc: Global, lines: &[User]) -> Result<bool, AllocError>
+    ensures { IfOk result (λ b. b ≡ is_table lines.now) }
 {
-    all_differ(lines)
-        && all_names_known(lines)
-        && is_known(lines, b"adm")
-        && is_known(lines, b"none")
+    let apart = all_differ(alloc, lines)?;
+    Ok(apart && all_names_known(lines) && is_known(lines, b"adm") && is_known(lines, b"none"))
 }
 
 /// The table that the bytes spell.
@@ -187,7 +194,8 @@ pub fn read_users(alloc: Global, bytes: &[u8]) -> Result<Users, UsersError>
         return Err(UsersError::BadUsers);
     };
     let users = read_lines(alloc, lines)?;
-    if !is_table(users.as_slice()) {
+    let whole = is_table(alloc, users.as_slice())?;
+    if !whole {
         return Err(UsersError::BadUsers);
     }
     Ok(Users::new(users))

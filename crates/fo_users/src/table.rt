@@ -2,7 +2,7 @@
 ghost use Rattle.std.specs.Prelude.{◌≡◌};
 ghost use Rattle.std.specs.List.{list_any};
 ghost use Rattle.std.specs.Str.{bytes_eq};
-ghost use Rattle.fo_users.specs.Table.{is_known, is_apart};
+ghost use Rattle.fo_users.specs.Table.{is_known};
 ghost use Rattle.fo_users.specs.Rights.{lists, is_member, leads, is_leader, has_bit, may};
 
 use crate::right::{Right, bit_of};
@@ -75,13 +75,6 @@ pub fn is_known(lines: &[User], name: &[u8]) -> bool
     ensures { result ≡ is_known lines.now name.now }
 {
     lines.iter().any(|line| line.name.as_slice() == name)
-}
-
-/// Whether neither the ids nor the names of two users are equal.
-pub fn is_apart(line: &User, other: &User) -> bool
-    ensures { result ≡ is_apart line.now other.now }
-{
-    line.id.as_slice() != other.id.as_slice() && line.name.as_slice() != other.name.as_slice()
 }
 
 /// Whether the line is that of the group, and lists the user.

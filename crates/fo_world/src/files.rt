@@ -182,6 +182,9 @@ pub trait FileOps {
 
     ghost keeps_honest: { (a b : Self) → keeps a b → honest a → honest b };
 
+    /// Devices that tell nothing don't begin to tell.
+    ghost keeps_silent: { (a b : Self) → keeps a b → honest b → honest a };
+
     ghost keeps_largest: { (a b : Self) → keeps a b → largest b ≡ largest a };
 
     ghost keeps_whole: { (a b : Self) → keeps a b → whole b ≡ whole a };

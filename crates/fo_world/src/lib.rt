@@ -26,6 +26,3 @@ pub use text::ShortText;
 pub use trail::Trail;
 pub use tree::{Body, Names, Node, Tree, follow, is_above};
 pub use world::{Archive, Snap, World};
-
-#[cfg(test)]
-mod tests;

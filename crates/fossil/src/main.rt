@@ -1,6 +1,12 @@
 //! Fossil, an archival file server over 9P2000.
+//!
+//! `main` puts the system's own streams, files and clock into `run`, whose contract says what is done then. It has no contract of
+//! its own: nothing is proved of these streams, files and clock, nor of what standard error gets.
 #![tactic(auto)]
 
+mod standard;
+
+use crate::standard::hold_standard;
 use fo_disk::FileDisk;
 use fo_links::{ReadSource, SystemClock, WriteSink};
 use fo_top::{Done, Why, run};
@@ -26,13 +32,14 @@ fn path(alloc: Global, words: &[String], at: usize) -> Result<String, AllocError
 
 /// How the run ended.
 fn answer(rt: &HostRuntime) -> Why {
+    if let Err(why) = hold_standard(rt) {
+        return why;
+    }
     let words = match words(rt) {
         Ok(words) => words,
         Err(e) if e.kind() == ErrorKind::OutOfMemory => return Why::Memory,
         Err(_) => return Why::Usage,
     };
-    let input = ReadSource::new(rt.stdin());
-    let out = WriteSink::new(rt.stdout());
     let (Ok(main), Ok(arena)) = (
         path(rt.alloc(), words.as_slice(), 1),
         path(rt.alloc(), words.as_slice(), 2),
@@ -42,11 +49,11 @@ fn answer(rt: &HostRuntime) -> Why {
     let Done { why, .. } = run(
         rt.alloc(),
         words.as_slice(),
-        input,
-        out,
-        SystemClock::new(rt),
         FileDisk::new(rt, main),
         FileDisk::new(rt, arena),
+        ReadSource::new(rt.stdin()),
+        WriteSink::new(rt.stdout()),
+        SystemClock::new(rt),
     );
     why
 }
@@ -54,7 +61,8 @@ fn answer(rt: &HostRuntime) -> Why {
 fn main(rt: HostRuntime) -> ExitCode {
     let why = answer(&rt);
     if why != Why::Ended {
-        let _ = eprintln!(&rt; "fossil: {why}");
+        let text = why.text();
+        let _ = eprintln!(&rt; "fossil: {}", text.as_str());
     }
     ExitCode::from(why.status())
 }

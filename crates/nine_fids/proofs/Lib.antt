@@ -4,3 +4,4 @@ pub mod Errors
 pub mod Userly
 pub mod Tables
 pub mod Placing
+pub mod Seeing

@@ -1,43 +1,36 @@
 -- Calls that look, one after the other: what refuses one of them refuses the whole.
-use Rattle.std.proofs.Common.{◌≡◌, ℕ, ◌≤◌, ◌<◌, Bool, true, false, Option, Some, None, Result, Ok, Err, refl, sym, ap, subst, ◌∙◌, inl, inr, ⊎_elim, ◌⊎◌, arith}
-use Rattle.std.specs.Prelude.{is_ok, IfErr, IfOk, if◌then◌else◌}
-use Rattle.std.proofs.lemmas.Result.{IfErr-at_err}
+use Rattle.std.proofs.Common.{◌≡◌, ℕ, ◌≤◌, ◌<◌, Bool, true, Option, Some, None, Result, Ok, Err, refl, sym, inl, inr, ⊎_elim, arith}
 use Rattle.std.proofs.lemmas.Bool.{true≢false}
 use Rattle.fo_base.specs.Cause.{Rose}
 use Rattle.fo_world.specs.declared.error.FileError.{FileError}
 use Rattle.fo_world.specs.declared.error.FileError.TheVariants as error
-use Rattle.fo_world.specs.World.{World, Faults}
+use Rattle.fo_world.specs.World.{Faults}
 use Rattle.fo_world.specs.Answers.{MayFail, NotFewer}
 use Rattle.nine_fids.specs.declared.refusal.Refusal.{Refusal}
 use Rattle.nine_fids.specs.declared.refusal.Refusal.TheVariants as refusal
-use Rattle.nine_fids.specs.Refusing.{looked, told_apart, is_failure}
-use Rattle.nine_fids.specs.Rights.{found}
-use Rattle.nine_fids.specs.Looking.{MayMiss, IsRefused, Looks}
+use Rattle.nine_fids.specs.Refusing.{is_failure}
+use Rattle.nine_fids.specs.Looking.{MayMiss, IsRefused}
 
 -- ---- causes
 
-none_below : (n : ℕ) → n < 0 → ⊥
+pub none_below : (n : ℕ) → n < 0 → ⊥
 none_below n lt = omega (arith, lt)
 
 -- a call that needs no block fails as one that only looks
-pub misses : (f0 f1 : Faults) (h : Type 0) (room : Option ℕ) (granted : Bool) (x : FileError) → MayFail f0 f1 h room 0 granted x → MayMiss f0 f1 h x
+pub misses : (f0 f1 : Faults) (h : Type 0) (room : ℕ → Type 0) (granted : Bool) (x : FileError) → MayFail f0 f1 h room 0 granted x → MayMiss f0 f1 h x
 misses f0 f1 h room granted error.Full m = absurd (none_below m.1.0 m.1.2)
 misses f0 f1 h room granted x m = m
 
 -- what only looks has no want of room
-pub fails_by_missing : (f0 f1 : Faults) (h : Type 0) (room : Option ℕ) (need : ℕ) (granted : Bool) (x : FileError) → MayMiss f0 f1 h x → MayFail f0 f1 h room need granted x
+pub fails_by_missing : (f0 f1 : Faults) (h : Type 0) (room : ℕ → Type 0) (need : ℕ) (granted : Bool) (x : FileError) → MayMiss f0 f1 h x → MayFail f0 f1 h room need granted x
 fails_by_missing f0 f1 h room need granted error.Full m = absurd (true≢false (sym m.0))
 fails_by_missing f0 f1 h room need granted x m = m
 
--- want of memory is free
-pub no_memory : (f0 f1 : Faults) (h : Type 0) → MayMiss f0 f1 h error.Memory
-no_memory f0 f1 h = tt
-
-rose_before : (a b c : ℕ) → a ≤ b → Rose b c → Rose a c
+pub rose_before : (a b c : ℕ) → a ≤ b → Rose b c → Rose a c
 rose_before a b c le r = omega (arith, le, r)
 
 -- a cause since later is a cause since before
-pub fails_since : (f0 f1 f2 : Faults) (h0 h1 : Type 0) (room : Option ℕ) (need : ℕ) (granted : Bool) → NotFewer f0 f1 → (h0 → h1) → (x : FileError) → MayFail f1 f2 h1 room need granted x → MayFail f0 f2 h0 room need granted x
+pub fails_since : (f0 f1 f2 : Faults) (h0 h1 : Type 0) (room : ℕ → Type 0) (need : ℕ) (granted : Bool) → NotFewer f0 f1 → (h0 → h1) → (x : FileError) → MayFail f1 f2 h1 room need granted x → MayFail f0 f2 h0 room need granted x
 fails_since f0 f1 f2 h0 h1 room need granted n up error.MainRead m = rose_before _ _ _ n.main m
 fails_since f0 f1 f2 h0 h1 room need granted n up error.MainWrite m = rose_before _ _ _ n.main m
 fails_since f0 f1 f2 h0 h1 room need granted n up error.MainSync m = rose_before _ _ _ n.main m
@@ -70,23 +63,9 @@ pub refused_by : {A B : Type 0} (part : Result A Refusal) (whole : Result B Refu
 refused_by part whole P Q r told fails h =
     ⊎_elim (λ e. inl (told e)) (λ p. inr (p.0, p.1, fails p.0 p.2)) h
 
--- want of memory refuses anything that looks
-pub refused_by_memory : {A : Type 0} (told : Result A Refusal) (f0 f1 : Faults) (h : Type 0) (r : Refusal) → r ≡ refusal.File error.Memory → IsRefused told (MayMiss f0 f1 h) r
-refused_by_memory told f0 f1 h r e = inr (error.Memory, e, tt)
-
 -- where nothing is refused, a refusal is a failure
 pub failed_by : {A B : Type 0} (part : Result A Refusal) (x : A) (whole : Result B Refusal) (P Q : FileError → Type 0) (r : Refusal) → part ≡ Ok x → ((y : FileError) → P y → Q y) → IsRefused part P r → IsRefused whole Q r
 failed_by part x whole P Q r is fails h = refused_by part whole P Q r (λ e. absurd cc) fails h
-
--- a cause since later is one since before
-pub looks_since : {A : Type 0} (told : Result A Refusal) (f0 f1 f2 : Faults) (h0 h1 : Type 0) (r : Result A Refusal) → NotFewer f0 f1 → (h0 → h1) → Looks told (MayMiss f1 f2 h1) r → Looks told (MayMiss f0 f2 h0) r
-looks_since told f0 f1 f2 h0 h1 (Ok x) n up l = l
-looks_since told f0 f1 f2 h0 h1 (Err r) n up l = refused_by told told (MayMiss f1 f2 h1) (MayMiss f0 f2 h0) r (λ e. e) (fails_since f0 f1 f2 h0 h1 None 0 false n up) l
-
--- what is granted but for memory
-pub looks_memory : {A : Type 0} (x : A) (f0 f1 : Faults) (h : Type 0) (r : Result A Refusal) → IfOk r (λ y. y ≡ x) → IfErr r (λ e. e ≡ refusal.File error.Memory) → Looks (Ok x) (MayMiss f0 f1 h) r
-looks_memory x f0 f1 h (Ok y) is m = ap Ok (sym is)
-looks_memory x f0 f1 h (Err r) is m = inr (error.Memory, m, tt)
 
 pub ok_same : {A : Type 0} (x y : A) → (let a : Result A Refusal = Ok x in a) ≡ Ok y → x ≡ y
 ok_same x y e = cc
@@ -94,22 +73,3 @@ ok_same x y e = cc
 pub none_if : {A : Type 0} (o : Option A) → ((x : A) → o ≡ Some x → ⊥) → o ≡ None
 none_if None h = refl
 none_if (Some x) h = absurd (h x refl)
-
--- ---- what a call on files says
-
-pub seen_err : {A : Type 0} (told : Result (A × World) FileError) (f0 f1 : Faults) (h : Type 0) (room : Option ℕ) (e : FileError) → (told ≡ Err e) ⊎ MayFail f0 f1 h room 0 (is_ok told) e → IsRefused (looked told) (MayMiss f0 f1 h) (refusal.File e)
-seen_err told f0 f1 h room e p =
-    ⊎_elim (λ t. inl (ap looked t)) (λ m. inr (e, refl, misses f0 f1 h room (is_ok told) e m)) p
-
--- what is there or not is never refused
-apart_at : {A : Type 0} (told : Result A Refusal) (fails : FileError → Type 0) (r : Refusal) (b : Bool) → is_failure r ≡ b → Looks (Ok (found told)) fails (if b then Err r else Ok None) → Looks (Ok (found told)) fails (told_apart (Err r))
-apart_at told fails r b is l =
-    let P : Bool → Type 0 = λ v. Looks (Ok (found told)) fails (if v then Err r else Ok None) in
-    subst P (sym is) l
-
-pub apart_looks : {A : Type 0} (told : Result A Refusal) (f0 f1 : Faults) (h : Type 0) (r : Result A Refusal) → IfErr told (λ e. is_failure e ≡ false) → Looks told (MayMiss f0 f1 h) r → Looks (Ok (found told)) (MayMiss f0 f1 h) (told_apart r)
-apart_looks told f0 f1 h (Ok x) plain l = ap (λ t. Ok (found t)) l
-apart_looks told f0 f1 h (Err r) plain l =
-    ⊎_elim
-    (λ e. apart_at told (MayMiss f0 f1 h) r false (IfErr-at_err (λ v. is_failure v ≡ false) e plain) (ap (λ t. Ok (found t)) e))
-    (λ p. apart_at told (MayMiss f0 f1 h) r true (ap is_failure p.1 ∙ is_miss f0 f1 h p.0 p.2) (inr p)) l

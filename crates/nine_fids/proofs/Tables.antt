@@ -1,11 +1,12 @@
 -- The table of users as it is looked for.
-use Rattle.std.proofs.Common.{◌≡◌, ℕ, ◌^◌, ◌<◌, ◌≤◌, true, false, Some, None, refl, arith}
+use Rattle.std.proofs.Common.{◌≡◌, ℕ, List, ◌^◌, ◌<◌, ◌≤◌, true, false, Some, None, refl, arith}
 use Rattle.std.specs.Prelude.{nat_lt, if◌then◌else◌}
 use Rattle.std.proofs.lemmas.Bool.Decides.{nat_tests}
 use Rattle.std.specs.Prelude.{codes, Ok, Err}
 use Rattle.fo_world.specs.declared.place.View.TheVariants.{Active}
 use Rattle.fo_world.specs.Step.{root_at}
 use Rattle.fo_users.specs.Rights.{may}
+use Rattle.fo_users.specs.declared.table.User.{User}
 use Rattle.fo_users.specs.declared.right.Right.TheVariants.{Write}
 use Rattle.nine_fids.specs.declared.fid.Fid.{Fid}
 use Rattle.nine_fids.specs.declared.refusal.Refusal.{Refusal}
@@ -13,7 +14,7 @@ use Rattle.nine_fids.specs.declared.refusal.Refusal.TheVariants as refusal
 use Rattle.fo_world.specs.declared.place.Info.{Info}
 use Rattle.fo_world.specs.World.{World}
 use Rattle.nine_fids.specs.Told.{Files, bytes_at, parent_at}
-use Rattle.nine_fids.specs.Rights.{found, small_file, found_at, users_file, table_of, may_write_above}
+use Rattle.nine_fids.specs.Rights.{found, small_file, found_at, users_file, may_write_above_by}
 
 over : {A : Type 0} (m n : ℕ) (x y : A) → m < n → (if nat_lt m n then x else y) ≡ x
 over m n x y lt = let is : nat_lt m n ≡ true = grind (arith, nat_tests) in rw is refl
@@ -45,14 +46,15 @@ users_there e w dir i h k = rw (h, k) refl
 
 -- ---- the right to write above
 
-pub above_refused : (e : Files) (w : World) (f : Fid) (r : Refusal) → parent_at e w f.place ≡ Err r → may_write_above e w f ≡ Err r
-unfolding may_write_above
-above_refused e w f r h = rw h refl
+module _ (table : List User) (e : Files) (w : World) (f : Fid) where
+  pub above_refused : (r : Refusal) → parent_at e w f.place ≡ Err r → may_write_above_by table e w f ≡ Err r
+  unfolding may_write_above_by
+  above_refused r h = rw h refl
 
-pub above_denied : (e : Files) (w : World) (f : Fid) (dir : Info) → parent_at e w f.place ≡ Ok dir → may (table_of e w) f.user dir Write ≡ false → may_write_above e w f ≡ Err refusal.PermissionDenied
-unfolding may_write_above
-above_denied e w f dir h k = rw (h, k) refl
+  pub above_denied : (dir : Info) → parent_at e w f.place ≡ Ok dir → may table f.user dir Write ≡ false → may_write_above_by table e w f ≡ Err refusal.PermissionDenied
+  unfolding may_write_above_by
+  above_denied dir h k = rw (h, k) refl
 
-pub above_granted : (e : Files) (w : World) (f : Fid) (dir : Info) → parent_at e w f.place ≡ Ok dir → may (table_of e w) f.user dir Write ≡ true → may_write_above e w f ≡ Ok tt
-unfolding may_write_above
-above_granted e w f dir h k = rw (h, k) refl
+  pub above_granted : (dir : Info) → parent_at e w f.place ≡ Ok dir → may table f.user dir Write ≡ true → may_write_above_by table e w f ≡ Ok tt
+  unfolding may_write_above_by
+  above_granted dir h k = rw (h, k) refl

@@ -55,7 +55,11 @@ owns table user i = bytes_eq user i.uid || is_leader table user i.gid
 unfoldable pub may_give : List User → List ℕ → Info → List ℕ → Bool
 may_give table user i gid = (bytes_eq user i.uid && is_member table user gid) || (is_leader table user i.gid && is_leader table user gid)
 
--- the right to write in the directory that holds a fid's file
-unfoldable pub may_write_above : Files → World → Fid → Result (Unit {0}) Refusal
-may_write_above e w f =
-    and_then (parent_at e w f.place) (λ dir. refuse_if (not (may (table_of e w) f.user dir Write)) refusal.PermissionDenied (Ok tt))
+-- the right by a table to write in the directory that holds a fid's file
+unfoldable pub may_write_above_by : List User → Files → World → Fid → Result (Unit {0}) Refusal
+may_write_above_by table e w f =
+    and_then (parent_at e w f.place) (λ dir. refuse_if (not (may table f.user dir Write)) refusal.PermissionDenied (Ok tt))
+
+-- by the table of the active tree
+abbrev pub may_write_above : Files → World → Fid → Result (Unit {0}) Refusal
+may_write_above e w f = may_write_above_by (table_of e w) e w f

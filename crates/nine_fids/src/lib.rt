@@ -8,6 +8,7 @@ mod looking;
 mod mode;
 mod refusal;
 mod rights;
+mod stated;
 mod told;
 
 pub use fid::{Fid, Opened};
@@ -19,7 +20,5 @@ pub use looking::{bytes_at, info_at, named_at, next_at, parent_at};
 pub use mode::{Access, Mode};
 pub use refusal::Refusal;
 pub use rights::{may_give, may_write_above, owns, table_of, user_of};
+pub use stated::Stated;
 pub use told::{appends, is_dir, is_exclusive, put_record, qid_of, stat_of};
-
-#[cfg(test)]
-mod tests;

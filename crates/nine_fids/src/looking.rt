@@ -1,12 +1,12 @@
-//! Files looked at. No call changes the world.
-ghost use Rattle.std.specs.Prelude.{◌≡◌, IsTrue, IfOk, IfSome, Result};
+//! Files looked at.
+ghost use Rattle.std.specs.Prelude.{◌≤◌, length, IsTrue, IfOk, IfSome, Result};
 ghost use Rattle.std.specs.Option.{option_copied};
-ghost use Rattle.fo_world.specs.Fits.{WorldFits, InfoFits};
+ghost use Rattle.fo_world.specs.Fits.{InfoFits};
 ghost use Rattle.nine_fids.specs.Told as nine;
-ghost use Rattle.nine_fids.specs.Told.{served};
-ghost use Rattle.nine_fids.specs.Looking.{Looks, MayMiss};
+ghost use Rattle.nine_fids.specs.Looking.{Looks};
 
 use crate::refusal::Refusal;
+use crate::stated::Stated;
 use fo_base::Bytes;
 use fo_world::{FileOps, Info, Name, Place};
 use std::alloc::Global;
@@ -14,10 +14,8 @@ use std::alloc::Global;
 /// What is told of the file at a place.
 pub fn info_at<F: FileOps>(files: &mut F, at: &Place) -> Result<Info, Refusal>
     requires { IsTrue (F.whole files.old) }
-    ensures looks { Looks (nine.info_at (served (F.whole files.old) (F.largest files.old)) (F.world files.old) at.now)
-        (MayMiss (F.faults files.old) (F.faults files.new) (F.honest files.old)) result }
-    ensures fits { WorldFits (F.world files.old) → IfOk result InfoFits }
-    ensures world { F.world files.new ≡ F.world files.old }
+    ensures looks { Looks (⟦<F as Stated>⟧.state files.old) (⟦<F as Stated>⟧.state files.new) (λ e w. nine.info_at e w at.now) result }
+    ensures fits { IfOk result InfoFits }
     ensures keeps { F.keeps files.old files.new }
 {
     Ok(files.info(at)?)
@@ -26,10 +24,8 @@ pub fn info_at<F: FileOps>(files: &mut F, at: &Place) -> Result<Info, Refusal>
 /// What is told of the directory above a place.
 pub fn parent_at<F: FileOps>(files: &mut F, at: &Place) -> Result<Info, Refusal>
     requires { IsTrue (F.whole files.old) }
-    ensures looks { Looks (nine.parent_at (served (F.whole files.old) (F.largest files.old)) (F.world files.old) at.now)
-        (MayMiss (F.faults files.old) (F.faults files.new) (F.honest files.old)) result }
-    ensures fits { WorldFits (F.world files.old) → IfOk result InfoFits }
-    ensures world { F.world files.new ≡ F.world files.old }
+    ensures looks { Looks (⟦<F as Stated>⟧.state files.old) (⟦<F as Stated>⟧.state files.new) (λ e w. nine.parent_at e w at.now) result }
+    ensures fits { IfOk result InfoFits }
     ensures keeps { F.keeps files.old files.new }
 {
     Ok(files.parent(at)?)
@@ -38,10 +34,8 @@ pub fn parent_at<F: FileOps>(files: &mut F, at: &Place) -> Result<Info, Refusal>
 /// What is told of the file with a name in a directory.
 pub fn named_at<F: FileOps>(files: &mut F, at: &Place, name: &[u8]) -> Result<Info, Refusal>
     requires { IsTrue (F.whole files.old) }
-    ensures looks { Looks (nine.named_at (served (F.whole files.old) (F.largest files.old)) (F.world files.old) at.now name.now)
-        (MayMiss (F.faults files.old) (F.faults files.new) (F.honest files.old)) result }
-    ensures fits { WorldFits (F.world files.old) → IfOk result InfoFits }
-    ensures world { F.world files.new ≡ F.world files.old }
+    ensures looks { Looks (⟦<F as Stated>⟧.state files.old) (⟦<F as Stated>⟧.state files.new) (λ e w. nine.named_at e w at.now name.now) result }
+    ensures fits { IfOk result InfoFits }
     ensures keeps { F.keeps files.old files.new }
 {
     Ok(files.find(at, name)?)
@@ -54,10 +48,8 @@ pub fn next_at<F: FileOps>(
     after: Option<&Name>,
 ) -> Result<Option<Info>, Refusal>
     requires { IsTrue (F.whole files.old) }
-    ensures looks { Looks (nine.next_at (served (F.whole files.old) (F.largest files.old)) (F.world files.old) at.now (option_copied after.entry))
-        (MayMiss (F.faults files.old) (F.faults files.new) (F.honest files.old)) result }
-    ensures fits { WorldFits (F.world files.old) → IfOk result (λ found. IfSome found InfoFits) }
-    ensures world { F.world files.new ≡ F.world files.old }
+    ensures looks { Looks (⟦<F as Stated>⟧.state files.old) (⟦<F as Stated>⟧.state files.new) (λ e w. nine.next_at e w at.now (option_copied after.entry)) result }
+    ensures fits { IfOk result (λ found. IfSome found InfoFits) }
     ensures keeps { F.keeps files.old files.new }
 {
     Ok(files.next_name(at, after)?)
@@ -72,9 +64,8 @@ pub fn bytes_at<F: FileOps>(
     count: usize,
 ) -> Result<Bytes, Refusal>
     requires { IsTrue (F.whole files.old) }
-    ensures looks { Looks (nine.bytes_at (served (F.whole files.old) (F.largest files.old)) (F.world files.old) at.now offset count)
-        (MayMiss (F.faults files.old) (F.faults files.new) (F.honest files.old)) result }
-    ensures world { F.world files.new ≡ F.world files.old }
+    ensures looks { Looks (⟦<F as Stated>⟧.state files.old) (⟦<F as Stated>⟧.state files.new) (λ e w. nine.bytes_at e w at.now offset count) result }
+    ensures within { IfOk result (λ bytes. length bytes ≤ count) }
     ensures keeps { F.keeps files.old files.new }
 {
     let mut bytes = vec![in alloc; 0; count]?;

@@ -7,13 +7,13 @@ ghost use Rattle.fo_users.specs.Table.{is_line, standard_table};
 ghost use Rattle.fo_users.specs.Found.{table_in};
 ghost use Rattle.nine_fids.specs.declared.refusal.Refusal.TheVariants as refusal;
 ghost use Rattle.nine_fids.specs.Refusing.{told_apart};
-ghost use Rattle.nine_fids.specs.Told.{served};
 ghost use Rattle.nine_fids.specs.Rights as nine;
-ghost use Rattle.nine_fids.specs.Looking.{Looks, MayMiss};
+ghost use Rattle.nine_fids.specs.Looking.{Looks};
 
 use crate::fid::Fid;
 use crate::looking::{bytes_at, named_at, parent_at};
 use crate::refusal::Refusal;
+use crate::stated::Stated;
 use fo_base::Bytes;
 use fo_users::{Right, Users, UsersError, read_users};
 use fo_world::{FileError, FileOps, Info, Name, Place, View};
@@ -45,9 +45,7 @@ fn small_file<F: FileOps>(
     info: &Info,
 ) -> Result<Option<Bytes>, Refusal>
     requires { IsTrue (F.whole files.old) }
-    ensures looks { Looks (Ok (nine.small_file (served (F.whole files.old) (F.largest files.old)) (F.world files.old) info.now))
-        (MayMiss (F.faults files.old) (F.faults files.new) (F.honest files.old)) result }
-    ensures world { F.world files.new ≡ F.world files.old }
+    ensures looks { Looks (⟦<F as Stated>⟧.state files.old) (⟦<F as Stated>⟧.state files.new) (λ e w. Ok (nine.small_file e w info.now)) result }
     ensures keeps { F.keeps files.old files.new }
 {
     if info.length > LARGEST_TABLE {
@@ -59,9 +57,7 @@ fn small_file<F: FileOps>(
 /// What is told of the file with a name in a directory, where there is one.
 fn found_at<F: FileOps>(files: &mut F, at: &Place, name: &[u8]) -> Result<Option<Info>, Refusal>
     requires { IsTrue (F.whole files.old) }
-    ensures looks { Looks (Ok (nine.found_at (served (F.whole files.old) (F.largest files.old)) (F.world files.old) at.now name.now))
-        (MayMiss (F.faults files.old) (F.faults files.new) (F.honest files.old)) result }
-    ensures world { F.world files.new ≡ F.world files.old }
+    ensures looks { Looks (⟦<F as Stated>⟧.state files.old) (⟦<F as Stated>⟧.state files.new) (λ e w. Ok (nine.found_at e w at.now name.now)) result }
     ensures keeps { F.keeps files.old files.new }
 {
     where_there(named_at(files, at, name))
@@ -70,9 +66,7 @@ fn found_at<F: FileOps>(files: &mut F, at: &Place, name: &[u8]) -> Result<Option
 /// The bytes of /adm/users in the active tree.
 fn users_file<F: FileOps>(alloc: Global, files: &mut F) -> Result<Option<Bytes>, Refusal>
     requires { IsTrue (F.whole files.old) }
-    ensures looks { Looks (Ok (nine.users_file (served (F.whole files.old) (F.largest files.old)) (F.world files.old)))
-        (MayMiss (F.faults files.old) (F.faults files.new) (F.honest files.old)) result }
-    ensures world { F.world files.new ≡ F.world files.old }
+    ensures looks { Looks (⟦<F as Stated>⟧.state files.old) (⟦<F as Stated>⟧.state files.new) (λ e w. Ok (nine.users_file e w)) result }
     ensures keeps { F.keeps files.old files.new }
 {
     let root = Place::root(alloc, View::Active);
@@ -113,10 +107,8 @@ fn users_or_standard(alloc: Global, bytes: &Option<Bytes>) -> Result<Users, Refu
 /// The table of users: that of /adm/users in the active tree, or else the standard one.
 pub fn table_of<F: FileOps>(alloc: Global, files: &mut F) -> Result<Users, Refusal>
     requires { IsTrue (F.whole files.old) }
-    ensures looks { Looks (Ok (nine.table_of (served (F.whole files.old) (F.largest files.old)) (F.world files.old)))
-        (MayMiss (F.faults files.old) (F.faults files.new) (F.honest files.old)) result }
+    ensures looks { Looks (⟦<F as Stated>⟧.state files.old) (⟦<F as Stated>⟧.state files.new) (λ e w. Ok (nine.table_of e w)) result }
     ensures lines { IfOk result (λ users. list_all is_line users ≡ true) }
-    ensures world { F.world files.new ≡ F.world files.old }
     ensures keeps { F.keeps files.old files.new }
 {
     let bytes = users_file(alloc, files)?;
@@ -154,13 +146,10 @@ pub fn may_give(users: &Users, user: &Name, info: &Info, gid: &Name) -> bool
         || (users.leader(user, &info.gid) && users.leader(user, gid))
 }
 
-/// Refuses who may not write in the directory that holds a fid's file.
+/// Refuses who may not write, by this table, in the directory that holds a fid's file.
 pub fn may_write_above<F: FileOps>(files: &mut F, users: &Users, fid: &Fid) -> Result<(), Refusal>
-    requires whole { IsTrue (F.whole files.old) }
-    requires users { users.now ≡ nine.table_of (served (F.whole files.old) (F.largest files.old)) (F.world files.old) }
-    ensures looks { Looks (nine.may_write_above (served (F.whole files.old) (F.largest files.old)) (F.world files.old) fid.now)
-        (MayMiss (F.faults files.old) (F.faults files.new) (F.honest files.old)) result }
-    ensures world { F.world files.new ≡ F.world files.old }
+    requires { IsTrue (F.whole files.old) }
+    ensures looks { Looks (⟦<F as Stated>⟧.state files.old) (⟦<F as Stated>⟧.state files.new) (λ e w. nine.may_write_above_by users.now e w fid.now) result }
     ensures keeps { F.keeps files.old files.new }
 {
     let dir = parent_at(files, &fid.place)?;

@@ -21,6 +21,3 @@ pub use stat::stat_at;
 pub use writing::{
     put_both, put_names, put_qid, put_qids, put_string, put_u8, put_u16, put_u32, put_u64,
 };
-
-#[cfg(test)]
-mod tests;

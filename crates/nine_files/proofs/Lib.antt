@@ -1,6 +1,7 @@
 pub mod Chains
 pub mod Links
 pub mod Listing
+pub mod Making
 pub mod Opens
 pub mod Removals
 pub mod Restates

@@ -11,8 +11,11 @@ use Rattle.fo_world.specs.World.{World}
 use Rattle.nine_fids.specs.declared.refusal.Refusal.{Refusal}
 use Rattle.nine_fids.specs.declared.refusal.Refusal.TheVariants as refusal
 use Rattle.nine_fids.specs.Refusing.{and_then, refuse_if}
+use Rattle.fo_world.specs.declared.error.FileError.{FileError}
+use Rattle.nine_fids.specs.Looking.{IsRefused}
 use Rattle.nine_fids.specs.Told.{Files, next_at, record_of}
-use Rattle.nine_files.specs.Parts.{Adds, listed, next_taken, taken}
+use Rattle.nine_fids.proofs.Missing.{refused_by}
+use Rattle.nine_files.specs.Parts.{Adds, Gives, listed, next_taken, taken}
 use Rattle.nine_files.specs.Reading.{exceeds, files_above, fitting, last_name, records_of}
 use Rattle.nine_files.proofs.Links.{then_ok, past_then}
 
@@ -104,48 +107,56 @@ one_more files i (Err r) = refl
 
 -- ---- a read in progress
 
--- what has been given so far, and how the whole goes on from there
-pub record Listing (e : Files) (w : World) (at : Place) (after : Option (List ℕ)) (count : ℕ) (bytes : List ℕ) (last : Option (List ℕ)) : Type 0 where
-  pub files : List Info
-  pub bytes_so : bytes ≡ records_of files
-  pub last_so : last ≡ last_name after files
+-- how the whole goes on from what has been given so far
+pub record Listing (e : Files) (w : World) (at : Place) (after : Option (List ℕ)) (count : ℕ) (files : List Info) (bytes : List ℕ) (last : Option (List ℕ)) : Type 0 where
   pub steps : ℕ
   pub left : ℕ
   pub left_so : left + length bytes ≡ count
   pub enough : left ≤ steps
   pub goes_on : listed e w at after count ≡ and_then (next_taken e w at last count (length bytes)) (continued (files_above steps e w at) files left)
 
-none_listed : (e : Files) (w : World) (at : Place) (after : Option (List ℕ)) (count : ℕ) → Listing e w at after count [] after
-none_listed e w at after count = record {
+-- what has been given so far, over any devices
+pub record Given (honest : Type 0) (e : Files) (w : World) (at : Place) (after : Option (List ℕ)) (count : ℕ) (bytes : List ℕ) (last : Option (List ℕ)) : Type 0 where
+  pub files : List Info
+  pub bytes_so : bytes ≡ records_of files
+  pub last_so : last ≡ last_name after files
+  pub within : length bytes ≤ count
+  pub listing : honest → Listing e w at after count files bytes last
+
+none_given : (honest : Type 0) (e : Files) (w : World) (at : Place) (after : Option (List ℕ)) (count : ℕ) → Given honest e w at after count [] after
+none_given honest e w at after count = record {
   files = [];
   bytes_so = refl;
   last_so = refl;
-  steps = count;
-  left = count;
-  left_so = omega arith;
-  enough = omega arith;
-  goes_on = listed_begins e w at after count;
+  within = omega arith;
+  listing = λ h. record {
+    steps = count;
+    left = count;
+    left_so = omega arith;
+    enough = omega arith;
+    goes_on = listed_begins e w at after count;
+  };
 }
 
-pub listing_begins : (e : Files) (w : World) (at : Place) (after : Option (List ℕ)) (count : ℕ) (bytes : List ℕ) → bytes ≡ [] → Listing e w at after count bytes after
-listing_begins e w at after count bytes none = let P : List ℕ → Type 0 = λ bs. Listing e w at after count bs after in subst P (sym none) (none_listed e w at after count)
+pub given_begins : (honest : Type 0) (e : Files) (w : World) (at : Place) (after : Option (List ℕ)) (count : ℕ) (bytes : List ℕ) → bytes ≡ [] → Given honest e w at after count bytes after
+given_begins honest e w at after count bytes none = let P : List ℕ → Type 0 = λ bs. Given honest e w at after count bs after in subst P (sym none) (none_given honest e w at after count)
 
 -- the whole, from the file that is taken on
-listing_next : (e : Files) (w : World) (at : Place) (after : Option (List ℕ)) (count : ℕ) (bytes : List ℕ) (last : Option (List ℕ)) (l : Listing e w at after count bytes last) (i : Info) (s held : ℕ) →
+listing_next : (e : Files) (w : World) (at : Place) (after : Option (List ℕ)) (count : ℕ) (files : List Info) (bytes : List ℕ) (last : Option (List ℕ)) (l : Listing e w at after count files bytes last) (i : Info) (s held : ℕ) →
     next_taken e w at last count (length bytes) ≡ Ok (Some i) → l.steps ≡ suc s → (held == 0) ≡ false → l.left - length (record_of i) ≡ count - held →
-    listed e w at after count ≡ and_then (next_taken e w at (Some i.name) count held) (continued (files_above s e w at) (l.files ++ i ∷ []) (l.left - length (record_of i)))
-listing_next e w at after count bytes last l i s held told steps some left =
+    listed e w at after count ≡ and_then (next_taken e w at (Some i.name) count held) (continued (files_above s e w at) (files ++ i ∷ []) (l.left - length (record_of i)))
+listing_next e w at after count files bytes last l i s held told steps some left =
     l.goes_on
-    ∙ then_ok (next_taken e w at last count (length bytes)) (Some i) (continued (files_above l.steps e w at) l.files l.left) told
-    ∙ ap (λ n. continued (files_above n e w at) l.files l.left (Some i)) steps
-    ∙ one_more l.files i (files_above (suc s) e w at (Some i.name) (l.left - length (record_of i)))
-    ∙ above_later e w at s (Some i.name) count held (l.left - length (record_of i)) (l.files ++ i ∷ []) some left
+    ∙ then_ok (next_taken e w at last count (length bytes)) (Some i) (continued (files_above l.steps e w at) files l.left) told
+    ∙ ap (λ n. continued (files_above n e w at) files l.left (Some i)) steps
+    ∙ one_more files i (files_above (suc s) e w at (Some i.name) (l.left - length (record_of i)))
+    ∙ above_later e w at s (Some i.name) count held (l.left - length (record_of i)) (files ++ i ∷ []) some left
 
 not_zero : (n m : ℕ) → 1 ≤ m → (n + m == 0) ≡ false
 not_zero n m le = grind (arith, nat_tests)
 
-listing_taken : (e : Files) (w : World) (at : Place) (after : Option (List ℕ)) (count : ℕ) (bytes : List ℕ) (last : Option (List ℕ)) → Listing e w at after count bytes last → (i : Info) → next_taken e w at last count (length bytes) ≡ Ok (Some i) → Listing e w at after count (bytes ++ record_of i) (Some i.name)
-listing_taken e w at after count bytes last l i told =
+listing_taken : (e : Files) (w : World) (at : Place) (after : Option (List ℕ)) (count : ℕ) (files : List Info) (bytes : List ℕ) (last : Option (List ℕ)) → Listing e w at after count files bytes last → (i : Info) → next_taken e w at last count (length bytes) ≡ Ok (Some i) → Listing e w at after count (files ++ i ∷ []) (bytes ++ record_of i) (Some i.name)
+listing_taken e w at after count files bytes last l i told =
     let fits : length (record_of i) ≤ count - length bytes = taken_fits count (length bytes) (next_at e w at last) i told in
     let some : 1 ≤ length (record_of i) = record_some i in
     let len : length (bytes ++ record_of i) ≡ length bytes + length (record_of i) = length-append bytes (record_of i) in
@@ -153,30 +164,68 @@ listing_taken e w at after count bytes last l i told =
     let enough_is : l.left ≤ l.steps = l.enough in
     let more : (length (bytes ++ record_of i) == 0) ≡ false = ap (λ n. n == 0) len ∙ not_zero (length bytes) (length (record_of i)) some in
     record {
-      files = l.files ++ i ∷ [];
-      bytes_so = ap (λ bs. bs ++ record_of i) l.bytes_so ∙ flat_map_more record_of [] l.files i;
-      last_so = sym (last_more after l.files i);
       steps = l.steps - 1;
       left = l.left - length (record_of i);
       left_so = omega arith;
       enough = omega arith;
-      goes_on = listing_next e w at after count bytes last l i (l.steps - 1) (length (bytes ++ record_of i)) told (omega arith) more (omega arith);
+      goes_on = listing_next e w at after count files bytes last l i (l.steps - 1) (length (bytes ++ record_of i)) told (omega arith) more (omega arith);
     }
 
+given_taken : (honest : Type 0) (e : Files) (w : World) (at : Place) (after : Option (List ℕ)) (count : ℕ) (bytes : List ℕ) (last : Option (List ℕ)) → Given honest e w at after count bytes last → (i : Info) → (honest → next_taken e w at last count (length bytes) ≡ Ok (Some i)) → length (bytes ++ record_of i) ≤ count → Given honest e w at after count (bytes ++ record_of i) (Some i.name)
+given_taken honest e w at after count bytes last g i told within = record {
+  files = g.files ++ i ∷ [];
+  bytes_so = ap (λ bs. bs ++ record_of i) g.bytes_so ∙ flat_map_more record_of [] g.files i;
+  last_so = sym (last_more after g.files i);
+  within = within;
+  listing = λ h. listing_taken e w at after count g.files bytes last (g.listing h) i (told h);
+}
+
 -- a file more
-pub listing_more : (e : Files) (w : World) (at : Place) (after : Option (List ℕ)) (count : ℕ) (bytes new : List ℕ) (last later : Option (List ℕ)) → Listing e w at after count bytes last → (o : Option Info) → next_taken e w at last count (length bytes) ≡ Ok o → is_some o ≡ true → Adds o bytes new last later → Listing e w at after count new later
-listing_more e w at after count bytes new last later l None told some adds = absurd cc
-listing_more e w at after count bytes new last later l (Some i) told some adds =
-    let P : List ℕ → Type 0 = λ bs. Listing e w at after count bs later in
-    let Q : Option (List ℕ) → Type 0 = λ n. Listing e w at after count (bytes ++ record_of i) n in
-    subst P (sym adds.0) (subst Q (sym adds.1) (listing_taken e w at after count bytes last l i told))
+pub given_more : (honest : Type 0) (e : Files) (w : World) (at : Place) (after : Option (List ℕ)) (count : ℕ) (bytes new : List ℕ) (last later : Option (List ℕ)) → Given honest e w at after count bytes last → (o : Option Info) → (honest → next_taken e w at last count (length bytes) ≡ Ok o) → is_some o ≡ true → Adds o bytes new last later → length new ≤ count → Given honest e w at after count new later
+given_more honest e w at after count bytes new last later g None told some adds within = absurd cc
+given_more honest e w at after count bytes new last later g (Some i) told some adds within =
+    let P : List ℕ → Type 0 = λ bs. Given honest e w at after count bs later in
+    let Q : Option (List ℕ) → Type 0 = λ n. Given honest e w at after count (bytes ++ record_of i) n in
+    subst P (sym adds.0) (subst Q (sym adds.1) (given_taken honest e w at after count bytes last g i told (subst (λ bs. length bs ≤ count) adds.0 within)))
 
 -- a file more brings the end nearer
-pub listing_nearer : (e : Files) (w : World) (at : Place) (after : Option (List ℕ)) (count : ℕ) (bytes new : List ℕ) (last later : Option (List ℕ)) → Listing e w at after count bytes last → (o : Option Info) → next_taken e w at last count (length bytes) ≡ Ok o → is_some o ≡ true → Adds o bytes new last later → count - length new < count - length bytes
-listing_nearer e w at after count bytes new last later l None told some adds = absurd cc
-listing_nearer e w at after count bytes new last later l (Some i) told some adds =
-    let fits : length (record_of i) ≤ count - length bytes = taken_fits count (length bytes) (next_at e w at last) i told in
+pub given_nearer : (count : ℕ) (bytes new : List ℕ) (last later : Option (List ℕ)) (o : Option Info) → is_some o ≡ true → Adds o bytes new last later → length new ≤ count → count - length new < count - length bytes
+given_nearer count bytes new last later None some adds within = absurd cc
+given_nearer count bytes new last later (Some i) some adds within =
     let one : 1 ≤ length (record_of i) = record_some i in
     let len : length (bytes ++ record_of i) ≡ length bytes + length (record_of i) = length-append bytes (record_of i) in
     let same : length new ≡ length (bytes ++ record_of i) = ap length adds.0 in
     omega arith
+
+-- no file more
+pub given_whole : (honest : Type 0) (e : Files) (w : World) (at : Place) (after : Option (List ℕ)) (count : ℕ) (bytes new : List ℕ) (last later : Option (List ℕ)) → Given honest e w at after count bytes last → (o : Option Info) → (honest → next_taken e w at last count (length bytes) ≡ Ok o) → is_some o ≡ false → Adds o bytes new last later → Gives honest (listed e w at after count) after count new later
+given_whole honest e w at after count bytes new last later g (Some i) told some adds = absurd cc
+given_whole honest e w at after count bytes new last later g None told some adds = record {
+  files = g.files;
+  told_so = λ h. (g.listing h).goes_on ∙ then_ok (next_taken e w at last count (length bytes)) None (continued (files_above (g.listing h).steps e w at) g.files (g.listing h).left) (told h);
+  bytes_so = adds.0 ∙ g.bytes_so;
+  last_so = adds.1 ∙ g.last_so;
+  within = subst (λ bs. length bs ≤ count) (sym adds.0) g.within;
+}
+
+-- what refuses the next file refuses the whole
+pub listing_refused : (e : Files) (w : World) (at : Place) (after : Option (List ℕ)) (count : ℕ) (files : List Info) (bytes : List ℕ) (last : Option (List ℕ)) (r : Refusal) → Listing e w at after count files bytes last → next_taken e w at last count (length bytes) ≡ Err r → listed e w at after count ≡ Err r
+listing_refused e w at after count files bytes last r l told = l.goes_on ∙ ap (λ t. and_then t (continued (files_above l.steps e w at) files l.left)) told
+
+-- ---- whether the next file is taken
+
+module _ (told : Result (Option Info) Refusal) (count held : ℕ) where
+  pub none_taken : told ≡ Ok None → and_then told (taken count held) ≡ Ok None
+  none_taken h = ap (λ t. and_then t (taken count held)) h
+
+  pub some_taken : (i : Info) → told ≡ Ok (Some i) → nat_lt (count - held) (length (record_of i)) ≡ false → and_then told (taken count held) ≡ Ok (Some i)
+  some_taken i h lt = ap (λ t. and_then t (taken count held)) h ∙ rw lt refl
+
+  pub too_small : (i : Info) → told ≡ Ok (Some i) → nat_lt (count - held) (length (record_of i)) ≡ true → (held == 0) ≡ true → and_then told (taken count held) ≡ Err refusal.CountTooSmall
+  too_small i h lt first = ap (λ t. and_then t (taken count held)) h ∙ rw (lt, first) refl
+
+  pub not_taken : (i : Info) → told ≡ Ok (Some i) → nat_lt (count - held) (length (record_of i)) ≡ true → (held == 0) ≡ false → and_then told (taken count held) ≡ Ok None
+  not_taken i h lt first = ap (λ t. and_then t (taken count held)) h ∙ rw (lt, first) refl
+
+pub next_refused : (told : Result (Option Info) Refusal) (count held : ℕ) (fails : FileError → Type 0) (r : Refusal) → IsRefused told fails r → IsRefused (and_then told (taken count held)) fails r
+next_refused told count held fails r h = refused_by told (and_then told (taken count held)) fails fails r (λ e. ap (λ t. and_then t (taken count held)) e) (λ x m. m) h

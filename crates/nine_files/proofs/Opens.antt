@@ -1,10 +1,10 @@
 -- Files that may be opened and made, and OTRUNC, step by step.
-use Rattle.std.proofs.Common.{◌≡◌, ℕ, ◌⊎◌, List, true, false, not, Result, Ok, Err, refl, inl, inr, ⊎_elim}
-use Rattle.std.specs.Prelude.{is_ok}
+use Rattle.std.proofs.Common.{◌≡◌, ℕ, List, true, false, not, Result, Ok, Err, refl}
+use Rattle.std.specs.Prelude.{◌&&◌}
 use Rattle.fo_world.specs.declared.place.Info.{Info}
 use Rattle.fo_world.specs.declared.error.FileError.{FileError}
+use Rattle.fo_world.specs.declared.error.FileError.TheVariants as error
 use Rattle.fo_world.specs.World.{World}
-use Rattle.fo_world.specs.Answers as answers
 use Rattle.fo_world.specs.Step as step
 use Rattle.fo_users.specs.Rights.{may}
 use Rattle.fo_users.specs.declared.right.Right.TheVariants.{Write}
@@ -12,16 +12,14 @@ use Rattle.nine_fids.specs.declared.fid.Fid.{Fid}
 use Rattle.nine_fids.specs.declared.mode.Mode.{Mode}
 use Rattle.nine_fids.specs.declared.refusal.Refusal.{Refusal}
 use Rattle.nine_fids.specs.declared.refusal.Refusal.TheVariants as refusal
-use Rattle.nine_fids.specs.Refusing.{and_then, refuse_if, changed}
+use Rattle.nine_fids.specs.Refusing.{and_then, refuse_if, some_or, changed}
 use Rattle.nine_fids.specs.Fids.{is_open}
-use Rattle.nine_fids.specs.Told.{Files, info_at, qid_of}
+use Rattle.nine_fids.specs.Modes.{mode_of, changes, is_more}
+use Rattle.nine_fids.specs.Told.{Files, info_at, is_dir, qid_of}
 use Rattle.nine_fids.specs.Rights.{table_of}
-use Rattle.nine_fids.specs.Looking.{IsRefused}
-use Rattle.nine_files.specs.Answering.{granted_with}
 use Rattle.nine_files.specs.Granting.{admitted, admitted_new, is_held, told_qid}
-use Rattle.nine_files.specs.Opening.{allowed_mode, allowed_new, cut_info, cuts, emptied, opening_rights, truncated}
-use Rattle.nine_files.proofs.Links.{FailsSo}
-use Rattle.nine_files.proofs.Touching.{given_granted}
+use Rattle.nine_files.specs.Opening.{allowed_mode, allowed_new, cut_info, cut_need, cuts, emptied, is_bad_name, most_cut, opening_rights, truncated}
+use Rattle.nine_files.proofs.Links.{IsPlain, refuse_plain, some_plain, then_plain}
 
 -- ---- the file that may be opened
 
@@ -71,18 +69,40 @@ pub cut_not : (e : Files) (w : World) (f : Fid) (i : Info) (m : Mode) (now : ℕ
 unfolding truncated
 cut_not e w f i m now h = rw h refl
 
-pub cut_done : (e : Files) (w : World) (f : Fid) (i : Info) (m : Mode) (now : ℕ) (w' : World) → cuts i m ≡ true → step.change e.whole e.largest w f.place emptied f.user now ≡ Ok (tt, w') → told_qid (truncated e w f i m now) ≡ Ok (qid_of (cut_info i), w')
-unfolding truncated
-cut_done e w f i m now w' h k = rw (h, k) refl
+cut_given : (t : Result (Unit {0} × World) FileError) (i : Info) → (let on : Result (Info × World) Refusal = and_then (changed t) (λ p. Ok (i, p.1)) in told_qid on) ≡ and_then (changed t) (λ p. Ok (qid_of i, p.1))
+cut_given (Ok p) i = refl
+cut_given (Err x) i = refl
 
-cut_refused : (t : Result (Unit {0} × World) FileError) (i : Info) (fails : FailsSo) (x : FileError) → (t ≡ Err x) ⊎ fails (is_ok t) x → (let on : Result (Info × World) Refusal = and_then (changed t) (λ p. Ok (i, p.1)) in IsRefused (told_qid on) (fails (is_ok on)) (refusal.File x))
-cut_refused (Ok p) i fails x h = ⊎_elim (λ t. absurd cc) (λ m. inr (x, refl, m)) h
-cut_refused (Err y) i fails x h = ⊎_elim (λ t. inl cc) (λ m. inr (x, refl, m)) h
-
-pub cut_fails : (e : Files) (w : World) (f : Fid) (i : Info) (m : Mode) (now : ℕ) (fails : FailsSo) (x : FileError) → cuts i m ≡ true → (let t = step.change e.whole e.largest w f.place emptied f.user now in (t ≡ Err x) ⊎ fails (is_ok t) x) → IsRefused (told_qid (truncated e w f i m now)) (fails (is_ok (truncated e w f i m now))) (refusal.File x)
+pub cut_told : (e : Files) (w : World) (f : Fid) (i : Info) (m : Mode) (now : ℕ) → cuts i m ≡ true → told_qid (truncated e w f i m now) ≡ and_then (changed (step.change e.whole e.largest w f.place emptied f.user now)) (λ p. Ok (qid_of (cut_info i), p.1))
 unfolding truncated
-cut_fails e w f i m now fails x h k = rw h (cut_refused (step.change e.whole e.largest w f.place emptied f.user now) (cut_info i) fails x k)
+cut_told e w f i m now h = rw h (cut_given (step.change e.whole e.largest w f.place emptied f.user now) (cut_info i))
 
-pub cut_granted : (e : Files) (w : World) (f : Fid) (i : Info) (m : Mode) (now : ℕ) → cuts i m ≡ true → granted_with (truncated e w f i m now) w ≡ answers.granted_world (step.change e.whole e.largest w f.place emptied f.user now) w
-unfolding truncated
-cut_granted e w f i m now h = rw h (given_granted (step.change e.whole e.largest w f.place emptied f.user now) (cut_info i) w)
+pub no_cut_need : (e : Files) (w : World) (f : Fid) (i : Info) (m : Mode) → cuts i m ≡ false → cut_need e w f i m ≡ 0
+no_cut_need e w f i m h = rw h refl
+
+pub cut_needs : (e : Files) (w : World) (f : Fid) (i : Info) (m : Mode) → cuts i m ≡ true → step.change_need e.whole w f.place emptied ≡ cut_need e w f i m
+cut_needs e w f i m h = rw h refl
+
+pub cut_most : (f : Fid) (i : Info) (m : Mode) → cuts i m ≡ true → step.most_need f.place ≡ most_cut f i m
+cut_most f i m h = rw h refl
+
+-- ---- what refuses a mode is no failure
+
+pub mode_plain : (f : Fid) (i : Info) (mode : ℕ) → IsPlain (allowed_mode f i mode)
+unfolding allowed_mode
+mode_plain f i mode =
+    then_plain (some_or (mode_of mode) refusal.BadOpenMode) _ (some_plain (mode_of mode) refusal.BadOpenMode refl) (λ m.
+    refuse_plain (not (step.is_active f.place.view) && changes m) (refusal.File error.ReadOnly) (refuse_if (is_dir i.mode && is_more m) (refusal.File error.IsDir) (Ok m)) refl
+    (refuse_plain (is_dir i.mode && is_more m) (refusal.File error.IsDir) (Ok m) refl tt))
+
+pub new_plain : (f : Fid) (i : Info) (name : List ℕ) (perm mode : ℕ) → IsPlain (allowed_new f i name perm mode)
+unfolding allowed_new
+new_plain f i name perm mode =
+    let last : Mode → Result Mode Refusal = λ m. refuse_if (is_dir perm && is_more m) refusal.BadOpenMode (Ok m) in
+    let third : Result Mode Refusal = and_then (some_or (mode_of mode) refusal.BadOpenMode) last in
+    let second : Result Mode Refusal = refuse_if (is_bad_name name) refusal.BadName third in
+    refuse_plain (not (is_dir i.mode)) (refusal.File error.NotDir) (refuse_if (not (step.is_active f.place.view)) (refusal.File error.ReadOnly) second) refl
+    (refuse_plain (not (step.is_active f.place.view)) (refusal.File error.ReadOnly) second refl
+    (refuse_plain (is_bad_name name) refusal.BadName third refl
+    (then_plain (some_or (mode_of mode) refusal.BadOpenMode) last (some_plain (mode_of mode) refusal.BadOpenMode refl) (λ m.
+    refuse_plain (is_dir perm && is_more m) refusal.BadOpenMode (Ok m) refl tt))))

@@ -1,6 +1,6 @@
 -- Changes of a file, step by step.
-use Rattle.std.proofs.Common.{◌≡◌, ℕ, ◌≤◌, List, [], ◌∷◌, length, Bool, true, false, not, Option, Some, None, Result, Ok, Err, refl, sym, ap, ◌∙◌, inl, inr, ⊎_elim, ◌⊎◌, arith}
-use Rattle.std.specs.Prelude.{is_ok, ◌&&◌, ◌||◌, ◌==◌, nat_lt, is_some, if◌then◌else◌, codes, IfSome, IfOk}
+use Rattle.std.proofs.Common.{◌≡◌, ℕ, ◌≤◌, List, [], ◌∷◌, length, Bool, true, false, not, Option, Some, None, Result, Ok, Err, refl, sym, ap, ◌∙◌, arith}
+use Rattle.std.specs.Prelude.{◌&&◌, ◌||◌, ◌==◌, nat_lt, is_some, if◌then◌else◌, codes, IfSome, IfOk}
 use Rattle.std.specs.Str.{bytes_eq}
 use Rattle.std.specs.List.{list_all, list_any}
 use Rattle.std.proofs.lemmas.Bool.Decides.{nat_tests}
@@ -12,7 +12,6 @@ use Rattle.fo_world.specs.declared.place.Change.{Change}
 use Rattle.fo_world.specs.declared.error.FileError.{FileError}
 use Rattle.fo_world.specs.declared.error.FileError.TheVariants as error
 use Rattle.fo_world.specs.World.{World}
-use Rattle.fo_world.specs.Answers as answers
 use Rattle.fo_world.specs.Limits.{IsName, IsUser, IsChange}
 use Rattle.fo_world.specs.Step as step
 use Rattle.fo_users.specs.declared.table.User.{User}
@@ -23,14 +22,11 @@ use Rattle.nine_fids.specs.declared.refusal.Refusal.TheVariants as refusal
 use Rattle.nine_fids.specs.Refusing.{and_then, refuse_if, changed, looked}
 use Rattle.nine_fids.specs.Told.{Files, info_at, is_dir}
 use Rattle.nine_fids.specs.Rights.{table_of}
-use Rattle.nine_fids.specs.Looking.{IsRefused}
 use Rattle.nine_fids.proofs.Userly.{known_name}
-use Rattle.nine_files.specs.Answering.{granted_world}
 use Rattle.nine_files.specs.Granting.{allowed_change, changed_by, is_bad, is_bad_by}
 use Rattle.nine_files.specs.Opening.{is_bad_name}
 use Rattle.nine_files.specs.Stating.{allowed_name, changes_kind, changing_rights, is_strange, lengthens, names_badly}
-use Rattle.nine_files.proofs.Links.{FailsSo, refuse_ok, then_ok_parts}
-use Rattle.nine_files.proofs.Touching.{led_granted}
+use Rattle.nine_files.proofs.Links.{IsPlain, refuse_ok, refuse_plain, then_ok_parts}
 
 -- ---- a change that is allowed
 
@@ -131,19 +127,31 @@ known_group table (Some gid) lines h = known_name table gid lines (is_true (is_k
     is_true true k = refl
     is_true false k = absurd cc
 
-module _ (e : Files) (w : World) (f : Fid) (fixed : Bool) (c : Change) (i : Info) (good : allowed_change e w f fixed c i ≡ Ok tt) where
-  pub is_change : info_at e w f.place ≡ Ok i → IfSome c.name TextFits → IfSome c.gid IsUser → IsChange e.whole w f.place c
-  is_change there text group =
-      let parts = change_good e w f fixed c i good in
-      let named = name_allowed f c.name parts.1 in
-      record {
-        name = name_good c.name named.0 text;
-        gid = group;
-        root = λ is. no_root c.name (length f.place.trail) named.1 is;
-        kind = kind_stays e w f.place c.mode i there (no_second fixed (changes_kind c.mode i.mode) (lengthens c.length i.mode) (is_strange (table_of e w) c.gid) parts.0);
-      }
+-- what is asked of its mode
+pub kind_good : (e : Files) (w : World) (f : Fid) (fixed : Bool) (c : Change) (i : Info) → allowed_change e w f fixed c i ≡ Ok tt → info_at e w f.place ≡ Ok i → IfOk (step.reached e.whole w f.place) (λ g. IfSome c.mode (λ m. step.is_dir_mode m ≡ step.is_dir_mode g.1.mode))
+kind_good e w f fixed c i good there =
+    let parts = change_good e w f fixed c i good in
+    kind_stays e w f.place c.mode i there (no_second fixed (changes_kind c.mode i.mode) (lengthens c.length i.mode) (is_strange (table_of e w) c.gid) parts.0)
 
-if_ok_any : {A E : Type 0} (r : Result A E) (P : Type 0) → P → IfOk r (λ _. P)
+-- over any devices, but what is asked of its mode
+pub is_change : (honest : Type 0) (whole : Bool) (w : World) (f : Fid) (c : Change) → allowed_name f c.name ≡ Ok tt → IfSome c.name TextFits → IfSome c.gid IsUser
+    → (honest → IfOk (step.reached whole w f.place) (λ g. IfSome c.mode (λ m. step.is_dir_mode m ≡ step.is_dir_mode g.1.mode))) → IsChange honest whole w f.place c
+is_change honest whole w f c good text group kind =
+    let named = name_allowed f c.name good in
+    record {
+      name = name_good c.name named.0 text;
+      gid = group;
+      root = λ is. no_root c.name (length f.place.trail) named.1 is;
+      kind = kind;
+    }
+
+pub unnamed_plain : (f : Fid) (name : Option (List ℕ)) → IsPlain (allowed_name f name)
+unfolding allowed_name
+unnamed_plain f name =
+    refuse_plain (names_badly name) refusal.BadName (refuse_if (is_some name && (length f.place.trail == 0)) refusal.RenamesRoot (Ok tt)) refl
+    (refuse_plain (is_some name && (length f.place.trail == 0)) refusal.RenamesRoot (Ok tt) refl tt)
+
+pub if_ok_any : {A E : Type 0} (r : Result A E) (P : Type 0) → P → IfOk r (λ _. P)
 if_ok_any (Ok x) P p = p
 if_ok_any (Err e) P p = tt
 
@@ -152,23 +160,11 @@ group_after r table fixed c i lines good = if_ok_any r (IfSome c.gid IsUser) (kn
 
 -- ---- a change that is made
 
-change_failed : (t : Result (Unit {0} × World) FileError) (fails fails' : FailsSo) (x : FileError) → ((b : Bool) (y : FileError) → fails b y → fails' b y) → (t ≡ Err x) ⊎ fails (is_ok t) x → (let on : Result World Refusal = and_then (changed t) (λ p. Ok p.1) in IsRefused on (fails' (is_ok on)) (refusal.File x))
-change_failed (Ok p) fails fails' x up h = ⊎_elim (λ t. absurd cc) (λ m. inr (x, refl, up true x m)) h
-change_failed (Err y) fails fails' x up h = ⊎_elim (λ t. inl cc) (λ m. inr (x, refl, up false x m)) h
-
 module _ (e : Files) (w : World) (now : ℕ) (f : Fid) (fixed : Bool) (c : Change) (i : Info) where
   pub changed_refused : (r : Refusal) → allowed_change e w f fixed c i ≡ Err r → changed_by e w now f fixed c i ≡ Err r
   unfolding changed_by
   changed_refused r h = rw h refl
 
-  pub changed_done : (w' : World) → allowed_change e w f fixed c i ≡ Ok tt → step.change e.whole e.largest w f.place c f.user now ≡ Ok (tt, w') → changed_by e w now f fixed c i ≡ Ok w'
+  pub changed_told : allowed_change e w f fixed c i ≡ Ok tt → changed_by e w now f fixed c i ≡ and_then (changed (step.change e.whole e.largest w f.place c f.user now)) (λ p. Ok p.1)
   unfolding changed_by
-  changed_done w' h k = rw (h, k) refl
-
-  pub changed_fails : (x : FileError) (fails fails' : FailsSo) → allowed_change e w f fixed c i ≡ Ok tt → ((b : Bool) (y : FileError) → fails b y → fails' b y) → (let t = step.change e.whole e.largest w f.place c f.user now in (t ≡ Err x) ⊎ fails (is_ok t) x) → IsRefused (changed_by e w now f fixed c i) (fails' (is_ok (changed_by e w now f fixed c i))) (refusal.File x)
-  unfolding changed_by
-  changed_fails x fails fails' h up p = rw h (change_failed (step.change e.whole e.largest w f.place c f.user now) fails fails' x up p)
-
-  pub changed_by_granted : allowed_change e w f fixed c i ≡ Ok tt → granted_world (changed_by e w now f fixed c i) w ≡ answers.granted_world (step.change e.whole e.largest w f.place c f.user now) w
-  unfolding changed_by
-  changed_by_granted h = rw h (led_granted (step.change e.whole e.largest w f.place c f.user now) w)
+  changed_told h = rw h refl

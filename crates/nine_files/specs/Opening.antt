@@ -21,7 +21,7 @@ use Rattle.nine_fids.specs.Told.{Files, is_dir, appends}
 use Rattle.fo_users.specs.declared.table.User.{User}
 use Rattle.fo_users.specs.Rights.{may}
 use Rattle.nine_fids.specs.Modes.{mode_of, changes, is_more}
-use Rattle.nine_fids.specs.Rights.{table_of, may_write_above}
+use Rattle.nine_fids.specs.Rights.{table_of, may_write_above_by}
 
 -- ---- rights
 
@@ -36,10 +36,14 @@ may_access table user i Execute = may table user i ToExecute
 abbrev pub may_open : List User → List ℕ → Info → Mode → Bool
 may_open table user i m = may_access table user i m.access && (not m.truncate || may table user i ToWrite)
 
--- the rights to open a file so, and for ORCLOSE to write in its directory
-unfoldable pub opening_rights : Files → World → Fid → Info → Mode → Result (Unit {0}) Refusal
-opening_rights e w f i m =
-    refuse_if (not (may_open (table_of e w) f.user i m)) refusal.PermissionDenied (if m.remove then may_write_above e w f else Ok tt)
+-- the rights by a table to open a file so, and for ORCLOSE to write in its directory
+unfoldable pub opening_rights_by : List User → Files → World → Fid → Info → Mode → Result (Unit {0}) Refusal
+opening_rights_by table e w f i m =
+    refuse_if (not (may_open table f.user i m)) refusal.PermissionDenied (if m.remove then may_write_above_by table e w f else Ok tt)
+
+-- by the table of the active tree
+abbrev pub opening_rights : Files → World → Fid → Info → Mode → Result (Unit {0}) Refusal
+opening_rights e w f i m = opening_rights_by (table_of e w) e w f i m
 
 -- ---- Topen
 
@@ -64,6 +68,14 @@ unfoldable pub truncated : Files → World → Fid → Info → Mode → ℕ →
 truncated e w f i m now =
     if cuts i m then and_then (changed (step.change e.whole e.largest w f.place emptied f.user now)) (λ p. Ok (cut_info i, p.1))
     else Ok (i, w)
+
+-- the blocks that OTRUNC needs: those of emptying the file where it makes one empty, and else none
+abbrev pub cut_need : Files → World → Fid → Info → Mode → ℕ
+cut_need e w f i m = if cuts i m then step.change_need e.whole w f.place emptied else 0
+
+-- the most of them, whatever the world
+abbrev pub most_cut : Fid → Info → Mode → ℕ
+most_cut f i m = if cuts i m then step.most_need f.place else 0
 
 -- the mode that a byte says, where the file's view and its kind allow it
 unfoldable pub allowed_mode : Fid → Info → ℕ → Result Mode Refusal

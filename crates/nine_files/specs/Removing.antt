@@ -1,5 +1,5 @@
 -- Files removed (remove(5), clunk(5) of the Plan 9 manual).
-use Rattle.std.specs.Prelude.{ℕ, length, Bool, false, not, ◌==◌, Result, Ok, Err, if◌then◌else◌, true}
+use Rattle.std.specs.Prelude.{ℕ, length, Bool, false, not, ◌&&◌, ◌==◌, Result, Ok, Err, if◌then◌else◌, true}
 use Rattle.std.specs.Option.{option_map_or}
 use Rattle.fo_world.specs.declared.place.Info.{Info}
 use Rattle.fo_world.specs.declared.error.FileError.TheVariants as error
@@ -42,3 +42,17 @@ removed_there e w f now = and_then (info_at e w f.place) (λ _. removed e w f no
 abbrev pub gone : Result Info Refusal → Bool
 gone (Err (refusal.File error.Gone)) = true
 gone _ = false
+
+-- ---- the blocks that it needs
+
+-- to take the file of a fid out
+abbrev pub remove_need : Fid → ℕ
+remove_need f = step.give (step.depth_of f.place)
+
+-- at the end of a fid: only with ORCLOSE, and where the file is not gone
+abbrev pub close_need : Files → World → Fid → ℕ
+close_need e w f = if removes f && not (gone (info_at e w f.place)) then remove_need f else 0
+
+-- the most of them, whatever the world
+abbrev pub most_close : Fid → ℕ
+most_close f = if removes f then remove_need f else 0

@@ -14,7 +14,7 @@ use Rattle.nine_fids.specs.Refusing.{refuse_if}
 use Rattle.nine_fids.specs.Told.{Files, is_dir, qid_of}
 use Rattle.fo_users.specs.declared.table.User.{User}
 use Rattle.fo_users.specs.Rights.{may}
-use Rattle.nine_fids.specs.Rights.{table_of, owns, may_give, may_write_above}
+use Rattle.nine_fids.specs.Rights.{table_of, owns, may_give, may_write_above_by}
 use Rattle.nine_files.specs.Opening.{is_bad_name}
 
 -- ---- Twstat
@@ -91,7 +91,11 @@ abbrev pub may_change : List User → List ℕ → Info → Change → Bool
 may_change table user i c =
     (is_none c.length || may table user i Write) && ((is_none c.mode && is_none c.mtime) || owns table user i) && may_regroup table user i c.gid
 
--- A name needs the right to write in the directory.
-unfoldable pub changing_rights : Files → World → Fid → Info → Change → Result (Unit {0}) Refusal
-changing_rights e w f i c =
-    refuse_if (not (may_change (table_of e w) f.user i c)) refusal.PermissionDenied (if is_some c.name then may_write_above e w f else Ok tt)
+-- The same by a table, and a name needs the right to write in the directory.
+unfoldable pub changing_rights_by : List User → Files → World → Fid → Info → Change → Result (Unit {0}) Refusal
+changing_rights_by table e w f i c =
+    refuse_if (not (may_change table f.user i c)) refusal.PermissionDenied (if is_some c.name then may_write_above_by table e w f else Ok tt)
+
+-- by the table of the active tree
+abbrev pub changing_rights : Files → World → Fid → Info → Change → Result (Unit {0}) Refusal
+changing_rights e w f i c = changing_rights_by (table_of e w) e w f i c

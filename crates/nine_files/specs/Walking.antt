@@ -11,6 +11,7 @@ use Rattle.nine_fids.specs.declared.refusal.Refusal.{Refusal}
 use Rattle.nine_fids.specs.declared.refusal.Refusal.TheVariants as refusal
 use Rattle.nine_fids.specs.Refusing.{refuse_if}
 use Rattle.nine_fids.specs.Told.{Files, parent_at, named_at, is_dir, qid_of}
+use Rattle.fo_users.specs.declared.table.User.{User}
 use Rattle.fo_users.specs.Rights.{may}
 use Rattle.nine_fids.specs.Rights.{table_of}
 
@@ -22,11 +23,11 @@ stands_for_none name = bytes_eq name [] || bytes_eq name (codes ".")
 abbrev pub is_up : List ℕ → Bool
 is_up name = bytes_eq name (codes "..")
 
--- what a name leads to from a file, for a user; `..` leads to the directory above
-unfoldable pub next : Files → World → List ℕ → Info → List ℕ → Result Info Refusal
-next e w user i name =
+-- what a name leads to from a file, for a user of a table; `..` leads to the directory above
+unfoldable pub next_by : List User → Files → World → List ℕ → Info → List ℕ → Result Info Refusal
+next_by table e w user i name =
     refuse_if (not (is_dir i.mode)) (refusal.File error.NotDir) (
-    refuse_if (not (may (table_of e w) user i Execute)) refusal.PermissionDenied (
+    refuse_if (not (may table user i Execute)) refusal.PermissionDenied (
     if is_up name then parent_at e w i.place
     else refuse_if (stands_for_none name) (refusal.File error.Absent) (named_at e w i.place name)))
 
@@ -40,6 +41,10 @@ from_next go i (Ok j) = passed (qid_of j) (go j)
 from_next go i (Err r) = record { qids = []; last = i.place; stopped = Some r }
 
 -- a walk by names: the qids of the files on the way, the last place, and why it stopped before the end
-unfoldable pub walked : Files → World → List ℕ → List (List ℕ) → Info → Walked
-walked e w user [] i = record { qids = []; last = i.place; stopped = None }
-walked e w user (name ∷ names) i = from_next (walked e w user names) i (next e w user i name)
+unfoldable pub walked_by : List User → Files → World → List ℕ → List (List ℕ) → Info → Walked
+walked_by table e w user [] i = record { qids = []; last = i.place; stopped = None }
+walked_by table e w user (name ∷ names) i = from_next (walked_by table e w user names) i (next_by table e w user i name)
+
+-- by the table of the active tree
+abbrev pub walked : Files → World → List ℕ → List (List ℕ) → Info → Walked
+walked e w user names i = walked_by (table_of e w) e w user names i

@@ -15,6 +15,3 @@ pub use reading::{
 pub use removing::{remove_on_close, remove_there};
 pub use stating::{change_of, changes_fixed, is_idle, restate, settle, touches_fixed};
 pub use walking::{Walked, walk_from};
-
-#[cfg(test)]
-mod tests;

@@ -1,20 +1,17 @@
 //! Opening, creating and truncating files.
-ghost use Rattle.std.specs.Prelude.{◌≡◌, IsTrue, IfOk, Result, Ok, is_ok};
-ghost use Rattle.fo_world.specs.Answers.{MayFail};
-ghost use Rattle.fo_world.specs.Fits.{WorldFits, InfoFits};
+ghost use Rattle.std.specs.Prelude.{◌≡◌, IsTrue, IfOk, Result, Ok};
+ghost use Rattle.fo_world.specs.Fits.{InfoFits};
 ghost use Rattle.fo_world.specs.Limits.{IsUser};
-ghost use Rattle.fo_world.specs.Step as step;
-ghost use Rattle.nine_fids.specs.Told.{served, qid_of};
-ghost use Rattle.nine_fids.specs.Rights.{table_of};
-ghost use Rattle.nine_fids.specs.Looking.{Looks, MayMiss};
-ghost use Rattle.nine_files.specs.Answering.{Changes, granted_with, tried};
+ghost use Rattle.nine_fids.specs.Told.{qid_of};
+ghost use Rattle.nine_fids.specs.Looking.{Looks};
+ghost use Rattle.nine_files.specs.Answering.{Changes};
 ghost use Rattle.nine_files.specs.Granting as granting;
 ghost use Rattle.nine_files.specs.Opening as nine;
 
 use fo_users::{Right, Users};
 use fo_world::{Change, FileError, FileOps, Info, Name, Place, View};
 use nine_fids::{
-    Access, Fid, Mode, Opened, Refusal, appends, info_at, is_dir, is_exclusive, is_listed,
+    Access, Fid, Mode, Opened, Refusal, Stated, appends, info_at, is_dir, is_exclusive, is_listed,
     may_write_above, number_at, qid_of, table_of,
 };
 use nine_wire::Qid;
@@ -65,7 +62,7 @@ fn may_open(users: &Users, user: &Name, info: &Info, mode: Mode) -> bool
         && (!mode.truncate || users.may(user, info, Right::Write))
 }
 
-/// Refuses who may not open a file so.
+/// Refuses who may not, by this table, open a file so.
 fn check_rights<F: FileOps>(
     files: &mut F,
     users: &Users,
@@ -73,11 +70,8 @@ fn check_rights<F: FileOps>(
     info: &Info,
     mode: Mode,
 ) -> Result<(), Refusal>
-    requires whole { IsTrue (F.whole files.old) }
-    requires users { users.now ≡ table_of (served (F.whole files.old) (F.largest files.old)) (F.world files.old) }
-    ensures looks { Looks (nine.opening_rights (served (F.whole files.old) (F.largest files.old)) (F.world files.old) fid.now info.now mode)
-        (MayMiss (F.faults files.old) (F.faults files.new) (F.honest files.old)) result }
-    ensures world { F.world files.new ≡ F.world files.old }
+    requires { IsTrue (F.whole files.old) }
+    ensures looks { Looks (⟦<F as Stated>⟧.state files.old) (⟦<F as Stated>⟧.state files.new) (λ e w. nine.opening_rights_by users.now e w fid.now info.now mode) result }
     ensures keeps { F.keeps files.old files.new }
 {
     if !may_open(users, &fid.user, info, mode) {
@@ -142,9 +136,9 @@ pub fn admit<F: FileOps>(
     mode: u8,
 ) -> Result<(Info, Mode), Refusal>
     requires { IsTrue (F.whole files.old) }
-    ensures looks { Looks (granting.admitted (served (F.whole files.old) (F.largest files.old)) (F.world files.old) from.now exclusive.now mode)
-        (MayMiss (F.faults files.old) (F.faults files.new) (F.honest files.old)) result }
-    ensures world { F.world files.new ≡ F.world files.old }
+    ensures looks { Looks (⟦<F as Stated>⟧.state files.old) (⟦<F as Stated>⟧.state files.new) (λ e w. granting.admitted e w from.now exclusive.now mode) result }
+    ensures fits { IfOk result (λ p. InfoFits p.0) }
+    ensures allowed { IfOk result (λ p. nine.allowed_mode from.now p.0 mode ≡ Ok p.1) }
     ensures keeps { F.keeps files.old files.new }
 {
     if from.opened.is_some() {
@@ -171,10 +165,9 @@ pub fn admit_new<F: FileOps>(
     mode: u8,
 ) -> Result<(Info, Mode), Refusal>
     requires { IsTrue (F.whole files.old) }
-    ensures looks { Looks (granting.admitted_new (served (F.whole files.old) (F.largest files.old)) (F.world files.old) from.now name.now perm mode)
-        (MayMiss (F.faults files.old) (F.faults files.new) (F.honest files.old)) result }
-    ensures fits { WorldFits (F.world files.old) → IfOk result (λ p. InfoFits p.0) }
-    ensures world { F.world files.new ≡ F.world files.old }
+    ensures looks { Looks (⟦<F as Stated>⟧.state files.old) (⟦<F as Stated>⟧.state files.new) (λ e w. granting.admitted_new e w from.now name.now perm mode) result }
+    ensures fits { IfOk result (λ p. InfoFits p.0) }
+    ensures allowed { IfOk result (λ p. nine.allowed_new from.now p.0 name.now perm mode ≡ Ok p.1) }
     ensures keeps { F.keeps files.old files.new }
 {
     if from.opened.is_some() {
@@ -229,12 +222,9 @@ pub fn truncate<F: FileOps>(
 ) -> Result<Qid, Refusal>
     requires whole { IsTrue (F.whole files.old) }
     requires user { IsUser fid.now.user }
-    ensures changes { let told = nine.truncated (served (F.whole files.old) (F.largest files.old)) (F.world files.old) fid.now info.now mode now in
-        Changes (granting.told_qid told)
-        (MayFail (F.faults files.old) (F.faults files.new) (F.honest files.old) (F.room files.new) (step.change_need (F.whole files.old) (F.world files.old) fid.now.place nine.emptied) (is_ok told))
-        (F.world files.old) (F.world files.new) result }
-    ensures world { WorldFits (F.world files.old) → WorldFits (F.world files.new) }
-    ensures touches { F.touches files.old (tried (granted_with (nine.truncated (served (F.whole files.old) (F.largest files.old)) (F.world files.old) fid.now info.now mode now) (F.world files.old)) (F.world files.old) result) files.new }
+    ensures { Changes (⟦<F as Stated>⟧.state files.old) (⟦<F as Stated>⟧.state files.new)
+        (λ w n. F.touches files.old w n files.new)
+        (λ e w. granting.told_qid (nine.truncated e w fid.now info.now mode now)) (λ e w. nine.cut_need e w fid.now info.now mode) (nine.most_cut fid.now info.now mode) result }
 {
     if !cuts(info, mode) {
         return Ok(qid_of(info));

@@ -1,7 +1,5 @@
 //! Reading directories, and writing.
-ghost use Rattle.std.specs.Prelude.{◌≡◌, ◌==◌, ◌&&◌, not, IsTrue, is_ok, MatchResult, Ok, Err};
-ghost use Rattle.fo_world.specs.Answers.{MayFail};
-ghost use Rattle.fo_world.specs.Fits.{WorldFits};
+ghost use Rattle.std.specs.Prelude.{◌≡◌, ◌==◌, ◌&&◌, not, IsTrue, IfOk, IfErr, MatchResult, Ok, Err};
 ghost use Rattle.fo_world.specs.Limits.{IsUser};
 ghost use Rattle.fo_world.specs.Step as step;
 ghost use Rattle.nine_fids.specs.Refusing.{changed};
@@ -9,13 +7,13 @@ ghost use Rattle.fo_world.specs.declared.error.FileError.TheVariants as failure;
 ghost use Rattle.nine_fids.specs.declared.refusal.Refusal.TheVariants as refusal;
 ghost use Rattle.nine_fids.specs.Fids as fids;
 ghost use Rattle.nine_fids.specs.Told.{served};
-ghost use Rattle.nine_fids.specs.Looking.{IsRefused, MayMiss};
+ghost use Rattle.nine_fids.specs.Looking.{HasCause, IsRefused, MayMiss};
 ghost use Rattle.nine_files.specs.Reading as nine;
 ghost use Rattle.nine_files.specs.Parts.{listed, Gives, write_start};
-ghost use Rattle.nine_files.specs.Answering.{Changes, granted_with, tried};
+ghost use Rattle.nine_files.specs.Answering.{Changes, HadRoom};
 
 use fo_world::{FileOps, Info, Name, Place};
-use nine_fids::{Fid, Opened, Refusal, appends, next_at, put_record};
+use nine_fids::{Fid, Opened, Refusal, Stated, appends, next_at, put_record};
 use std::alloc::Global;
 
 /// What a read of a directory gives: whole records, and the name of the last file that was given, or that of before where none was.
@@ -26,22 +24,23 @@ pub struct Records {
 }
 
 impl Records {
-    ghost use Rattle.std.specs.Prelude.{◌≡◌, ◌-◌, ◌≤◌, length, not, nat_lt, IsTrue, Option, Some, None, is_some, Ok, MatchResult, if◌then◌else◌};
-    ghost use Rattle.fo_world.specs.Fits.{WorldFits, InfoFits};
+    ghost use Rattle.std.specs.Prelude.{◌≡◌, ◌-◌, ◌≤◌, length, not, nat_lt, IsTrue, Option, Some, None, is_some, Ok, IfOk, IfErr, MatchResult, if◌then◌else◌};
+    ghost use Rattle.fo_world.specs.Fits.{InfoFits};
     ghost use Rattle.fo_world.specs.declared.error.FileError.TheVariants as failure;
     ghost use Rattle.fo_world.specs.declared.place.Info.{Info};
     ghost use Rattle.nine_fids.specs.declared.refusal.Refusal.TheVariants as refusal;
     ghost use Rattle.nine_fids.specs.Told.{served, record_of};
-    ghost use Rattle.nine_fids.specs.Looking.{IsRefused, MayMiss};
+    ghost use Rattle.nine_fids.specs.Looking.{HasCause, IsRefused, MayMiss};
     ghost use Rattle.nine_files.specs.Parts.{next_taken, Adds};
 
     /// Adds the record of a file, where it stands within the count; says whether it does.
     fn add(&mut self, alloc: Global, info: Info, count: usize) -> Result<bool, Refusal>
         requires fits { InfoFits info }
         requires within { length self.old.bytes.items ≤ count }
-        ensures { MatchResult result (λ added. (added ≡ not (nat_lt (count - length self.old.bytes.items) (length (record_of info))))
+        ensures adds { MatchResult result (λ added. (added ≡ not (nat_lt (count - length self.old.bytes.items) (length (record_of info))))
             × Adds (if added then Some info else None) self.old.bytes.items self.new.bytes.items self.old.last self.new.last)
             (λ r. r ≡ refusal.File failure.Memory) }
+        ensures short { IfOk result (λ _. length self.new.bytes.items ≤ count) }
     {
         let name = info.name.copy(alloc)?;
         let start = self.bytes.len();
@@ -63,12 +62,13 @@ impl Records {
         count: usize,
     ) -> Result<bool, Refusal>
         requires whole { IsTrue (F.whole files.old) }
-        requires world { WorldFits (F.world files.old) }
         requires within { length self.old.bytes.items ≤ count }
         ensures takes { let told = next_taken (served (F.whole files.old) (F.largest files.old)) (F.world files.old) at.now self.old.last count (length self.old.bytes.items) in
-            MatchResult result (λ taken. (next : Option Info) × (told ≡ Ok next) × (taken ≡ is_some next) × Adds next self.old.bytes.items self.new.bytes.items self.old.last self.new.last)
-            (IsRefused told (MayMiss (F.faults files.old) (F.faults files.new) (F.honest files.old))) }
-        ensures world { F.world files.new ≡ F.world files.old }
+            MatchResult result (λ taken. (next : Option Info) × (F.honest files.old → told ≡ Ok next) × (taken ≡ is_some next) × Adds next self.old.bytes.items self.new.bytes.items self.old.last self.new.last)
+            (λ r. F.honest files.old → IsRefused told (MayMiss (F.faults files.old) (F.faults files.new) (F.honest files.old)) r) }
+        ensures world { F.honest files.old → F.world files.new ≡ F.world files.old }
+        ensures short { IfOk result (λ _. length self.new.bytes.items ≤ count) }
+        ensures cause { IfErr result (HasCause (⟦<F as Stated>⟧.state files.old) (⟦<F as Stated>⟧.state files.new) 0) }
         ensures keeps { F.keeps files.old files.new }
     {
         let Some(info) = next_at(files, at, self.last.as_ref())? else {
@@ -77,7 +77,7 @@ impl Records {
         if self.add(alloc, info, count)? {
             return Ok(true);
         }
-        if self.bytes.is_empty() {
+        if self.bytes.as_slice().is_empty() {
             return Err(Refusal::CountTooSmall);
         }
         Ok(false)
@@ -93,12 +93,12 @@ pub fn list_records<F: FileOps>(
     after: Option<Name>,
     count: u32,
 ) -> Result<Records, Refusal>
-    requires whole { IsTrue (F.whole files.old) }
-    requires world { WorldFits (F.world files.old) }
+    requires { IsTrue (F.whole files.old) }
     ensures lists { let told = listed (served (F.whole files.old) (F.largest files.old)) (F.world files.old) at.now after count in
-        MatchResult result (λ given. Gives told after count given.bytes.items given.last)
-        (IsRefused told (MayMiss (F.faults files.old) (F.faults files.new) (F.honest files.old))) }
-    ensures world { F.world files.new ≡ F.world files.old }
+        MatchResult result (λ given. Gives (F.honest files.old) told after count given.bytes.items given.last)
+        (λ r. F.honest files.old → IsRefused told (MayMiss (F.faults files.old) (F.faults files.new) (F.honest files.old)) r) }
+    ensures world { F.honest files.old → F.world files.new ≡ F.world files.old }
+    ensures cause { IfErr result (HasCause (⟦<F as Stated>⟧.state files.old) (⟦<F as Stated>⟧.state files.new) 0) }
     ensures keeps { F.keeps files.old files.new }
 {
     let count = count as usize;
@@ -181,11 +181,10 @@ pub fn write_bytes<F: FileOps>(
 ) -> Result<(), Refusal>
     requires whole { IsTrue (F.whole files.old) }
     requires user { IsUser fid.now.user }
-    ensures changes { let told = changed (step.write (F.whole files.old) (F.largest files.old) (F.world files.old) fid.now.place (write_start info.now offset) bytes.now fid.now.user now) in
-        Changes told (MayFail (F.faults files.old) (F.faults files.new) (F.honest files.old) (F.room files.new) (step.write_need fid.now.place bytes.now) (is_ok told))
-        (F.world files.old) (F.world files.new) result }
-    ensures world { WorldFits (F.world files.old) → WorldFits (F.world files.new) }
-    ensures touches { F.touches files.old (tried (granted_with (changed (step.write (F.whole files.old) (F.largest files.old) (F.world files.old) fid.now.place (write_start info.now offset) bytes.now fid.now.user now)) (F.world files.old)) (F.world files.old) result) files.new }
+    ensures changes { Changes (⟦<F as Stated>⟧.state files.old) (⟦<F as Stated>⟧.state files.new)
+        (λ w n. F.touches files.old w n files.new)
+        (λ e w. changed (step.write e.whole e.largest w fid.now.place (write_start info.now offset) bytes.now fid.now.user now)) (λ e w. step.write_need fid.now.place bytes.now) (step.write_need fid.now.place bytes.now) result }
+    ensures room { HadRoom (F.has_room files.old) (step.write_need fid.now.place bytes.now) result }
 {
     let offset = write_start(info, offset);
     files.write(&fid.place, offset, bytes, &fid.user, now)?;

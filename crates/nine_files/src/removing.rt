@@ -1,16 +1,13 @@
 //! Removing files.
-ghost use Rattle.std.specs.Prelude.{◌≡◌, IsTrue, is_ok};
-ghost use Rattle.fo_world.specs.Answers.{MayFail};
-ghost use Rattle.fo_world.specs.Fits.{WorldFits};
+ghost use Rattle.std.specs.Prelude.{◌≡◌, IsTrue};
 ghost use Rattle.fo_world.specs.Limits.{IsUser};
 ghost use Rattle.fo_world.specs.Step as step;
-ghost use Rattle.nine_fids.specs.Told.{served};
 ghost use Rattle.nine_files.specs.Removing as nine;
-ghost use Rattle.nine_files.specs.Answering.{Leads, granted_world, tried};
+ghost use Rattle.nine_files.specs.Answering.{HadRoom, Leads};
 ghost use Rattle.nine_files.specs.Removing.{removed_there, gone};
 
 use fo_world::{FileError, FileOps, Info, View};
-use nine_fids::{Fid, Refusal, info_at, may_write_above, table_of};
+use nine_fids::{Fid, Refusal, Stated, info_at, may_write_above, table_of};
 use std::alloc::Global;
 
 /// Whether a view is that of the active tree.
@@ -26,13 +23,11 @@ pub(crate) fn is_active(view: &View) -> bool
 /// Removes the file of a fid, which is there.
 fn remove_file<F: FileOps>(alloc: Global, files: &mut F, now: u32, fid: &Fid) -> Result<(), Refusal>
     requires whole { IsTrue (F.whole files.old) }
-    requires world { WorldFits (F.world files.old) }
     requires user { IsUser fid.now.user }
-    ensures changes { let told = nine.removed (served (F.whole files.old) (F.largest files.old)) (F.world files.old) fid.now now in
-        Leads told (MayFail (F.faults files.old) (F.faults files.new) (F.honest files.old) (F.room files.new) (step.give (step.depth_of fid.now.place)) (is_ok told))
-        (F.world files.old) (F.world files.new) result }
-    ensures world { WorldFits (F.world files.new) }
-    ensures touches { F.touches files.old (tried (granted_world (nine.removed (served (F.whole files.old) (F.largest files.old)) (F.world files.old) fid.now now) (F.world files.old)) (F.world files.old) result) files.new }
+    ensures changes { Leads (⟦<F as Stated>⟧.state files.old) (⟦<F as Stated>⟧.state files.new)
+        (λ w n. F.touches files.old w n files.new)
+        (λ e w. nine.removed e w fid.now now) (λ e w. nine.remove_need fid.now) (nine.remove_need fid.now) result }
+    ensures room { HadRoom (F.has_room files.old) (nine.remove_need fid.now) result }
 {
     if !is_active(&fid.place.view) {
         return Err(Refusal::File(FileError::ReadOnly));
@@ -55,13 +50,10 @@ pub fn remove_on_close<F: FileOps>(
     fid: &Fid,
 ) -> Result<(), Refusal>
     requires whole { IsTrue (F.whole files.old) }
-    requires world { WorldFits (F.world files.old) }
     requires user { IsUser fid.now.user }
-    ensures changes { let told = nine.closed (served (F.whole files.old) (F.largest files.old)) (F.world files.old) fid.now now in
-        Leads told (MayFail (F.faults files.old) (F.faults files.new) (F.honest files.old) (F.room files.new) (step.give (step.depth_of fid.now.place)) (is_ok told))
-        (F.world files.old) (F.world files.new) result }
-    ensures world { WorldFits (F.world files.new) }
-    ensures touches { F.touches files.old (tried (granted_world (nine.closed (served (F.whole files.old) (F.largest files.old)) (F.world files.old) fid.now now) (F.world files.old)) (F.world files.old) result) files.new }
+    ensures { Leads (⟦<F as Stated>⟧.state files.old) (⟦<F as Stated>⟧.state files.new)
+        (λ w n. F.touches files.old w n files.new)
+        (λ e w. nine.closed e w fid.now now) (λ e w. nine.close_need e w fid.now) (nine.most_close fid.now) result }
 {
     if !is_removed(fid) {
         return Ok(());
@@ -102,13 +94,11 @@ pub fn remove_there<F: FileOps>(
     fid: &Fid,
 ) -> Result<(), Refusal>
     requires whole { IsTrue (F.whole files.old) }
-    requires world { WorldFits (F.world files.old) }
     requires user { IsUser fid.now.user }
-    ensures changes { let told = removed_there (served (F.whole files.old) (F.largest files.old)) (F.world files.old) fid.now now in
-        Leads told (MayFail (F.faults files.old) (F.faults files.new) (F.honest files.old) (F.room files.new) (step.give (step.depth_of fid.now.place)) (is_ok told))
-        (F.world files.old) (F.world files.new) result }
-    ensures world { WorldFits (F.world files.new) }
-    ensures touches { F.touches files.old (tried (granted_world (removed_there (served (F.whole files.old) (F.largest files.old)) (F.world files.old) fid.now now) (F.world files.old)) (F.world files.old) result) files.new }
+    ensures changes { Leads (⟦<F as Stated>⟧.state files.old) (⟦<F as Stated>⟧.state files.new)
+        (λ w n. F.touches files.old w n files.new)
+        (λ e w. removed_there e w fid.now now) (λ e w. nine.remove_need fid.now) (nine.remove_need fid.now) result }
+    ensures room { HadRoom (F.has_room files.old) (nine.remove_need fid.now) result }
 {
     info_at(files, &fid.place)?;
     remove_file(alloc, files, now, fid)

@@ -1,14 +1,11 @@
 //! Changing what a stat record says of a file.
-ghost use Rattle.std.specs.Prelude.{◌≡◌, ◌||◌, not, IsTrue, IfOk, IfSome, Ok, Result, is_ok};
-ghost use Rattle.fo_world.specs.Answers.{MayFail};
-ghost use Rattle.fo_world.specs.Fits.{WorldFits};
+ghost use Rattle.std.specs.Prelude.{◌≡◌, ◌||◌, not, IsTrue, IfOk, IfSome, Ok, Result};
 ghost use Rattle.fo_world.specs.Limits.{IsUser};
 ghost use Rattle.fo_world.specs.Step as step;
 ghost use Rattle.nine_fields.specs.Field.{TextFits};
 ghost use Rattle.nine_fids.specs.Told.{served, info_at};
-ghost use Rattle.nine_fids.specs.Rights.{table_of};
-ghost use Rattle.nine_fids.specs.Looking.{Looks, MayMiss};
-ghost use Rattle.nine_files.specs.Answering.{Leads, granted_world, tried};
+ghost use Rattle.nine_fids.specs.Looking.{Looks};
+ghost use Rattle.nine_files.specs.Answering.{Leads};
 ghost use Rattle.nine_files.specs.Granting as granting;
 ghost use Rattle.nine_files.specs.Stating as nine;
 
@@ -16,7 +13,9 @@ use crate::opening::is_bad_name;
 use crate::removing::is_active;
 use fo_users::{Right, Users};
 use fo_world::{Change, FileError, FileOps, Info, Name};
-use nine_fids::{Fid, Refusal, info_at, is_dir, may_give, may_write_above, owns, qid_of, table_of};
+use nine_fids::{
+    Fid, Refusal, Stated, info_at, is_dir, may_give, may_write_above, owns, qid_of, table_of,
+};
 use nine_stat::Stat;
 use std::alloc::Global;
 
@@ -148,7 +147,7 @@ fn may_change(users: &Users, user: &Name, info: &Info, what: &Change) -> bool
         && regroups
 }
 
-/// Refuses who may not make a change.
+/// Refuses who may not, by this table, make a change.
 fn check_rights<F: FileOps>(
     files: &mut F,
     users: &Users,
@@ -156,11 +155,8 @@ fn check_rights<F: FileOps>(
     info: &Info,
     what: &Change,
 ) -> Result<(), Refusal>
-    requires whole { IsTrue (F.whole files.old) }
-    requires users { users.now ≡ table_of (served (F.whole files.old) (F.largest files.old)) (F.world files.old) }
-    ensures looks { Looks (nine.changing_rights (served (F.whole files.old) (F.largest files.old)) (F.world files.old) fid.now info.now what.now)
-        (MayMiss (F.faults files.old) (F.faults files.new) (F.honest files.old)) result }
-    ensures world { F.world files.new ≡ F.world files.old }
+    requires { IsTrue (F.whole files.old) }
+    ensures looks { Looks (⟦<F as Stated>⟧.state files.old) (⟦<F as Stated>⟧.state files.new) (λ e w. nine.changing_rights_by users.now e w fid.now info.now what.now) result }
     ensures keeps { F.keeps files.old files.new }
 {
     if !may_change(users, &fid.user, info, what) {
@@ -214,10 +210,9 @@ fn check_change<F: FileOps>(
     what: &Change,
 ) -> Result<(), Refusal>
     requires { IsTrue (F.whole files.old) }
-    ensures looks { Looks (granting.allowed_change (served (F.whole files.old) (F.largest files.old)) (F.world files.old) fid.now is_bad what.now info.now)
-        (MayMiss (F.faults files.old) (F.faults files.new) (F.honest files.old)) result }
+    ensures looks { Looks (⟦<F as Stated>⟧.state files.old) (⟦<F as Stated>⟧.state files.new) (λ e w. granting.allowed_change e w fid.now is_bad what.now info.now) result }
     ensures gid { IfOk result (λ _. IfSome what.now.gid IsUser) }
-    ensures world { F.world files.new ≡ F.world files.old }
+    ensures name { IfOk result (λ _. nine.allowed_name fid.now what.now.name ≡ Ok tt) }
     ensures keeps { F.keeps files.old files.new }
 {
     if !is_active(&fid.place.view) {
@@ -244,14 +239,11 @@ pub fn restate<F: FileOps>(
 ) -> Result<(), Refusal>
     requires whole { IsTrue (F.whole files.old) }
     requires user { IsUser fid.now.user }
-    requires info { info_at (served (F.whole files.old) (F.largest files.old)) (F.world files.old) fid.now.place ≡ Ok info.now }
+    requires info { F.honest files.old → info_at (served (F.whole files.old) (F.largest files.old)) (F.world files.old) fid.now.place ≡ Ok info.now }
     requires name { IfSome what.now.name TextFits }
-    ensures changes { let told = granting.changed_by (served (F.whole files.old) (F.largest files.old)) (F.world files.old) now fid.now is_bad what.now info.now in
-        Leads told
-        (MayFail (F.faults files.old) (F.faults files.new) (F.honest files.old) (F.room files.new) (step.change_need (F.whole files.old) (F.world files.old) fid.now.place what.now) (is_ok told))
-        (F.world files.old) (F.world files.new) result }
-    ensures world { WorldFits (F.world files.old) → WorldFits (F.world files.new) }
-    ensures touches { F.touches files.old (tried (granted_world (granting.changed_by (served (F.whole files.old) (F.largest files.old)) (F.world files.old) now fid.now is_bad what.now info.now) (F.world files.old)) (F.world files.old) result) files.new }
+    ensures { Leads (⟦<F as Stated>⟧.state files.old) (⟦<F as Stated>⟧.state files.new)
+        (λ w n. F.touches files.old w n files.new)
+        (λ e w. granting.changed_by e w now fid.now is_bad what.now info.now) (λ e w. step.change_need e.whole w fid.now.place what.now) (step.most_need fid.now.place) result }
 {
     check_change(alloc, files, fid, is_bad, info, what)?;
     files.change(&fid.place, what, &fid.user, now)?;
@@ -260,9 +252,8 @@ pub fn restate<F: FileOps>(
 
 /// Settles all that was changed before.
 pub fn settle<F: FileOps>(files: &mut F) -> Result<(), Refusal>
-    ensures looks { Looks (Ok tt) (MayMiss (F.faults files.old) (F.faults files.new) (F.honest files.old)) result }
+    ensures looks { Looks (⟦<F as Stated>⟧.state files.old) (⟦<F as Stated>⟧.state files.new) (λ e w. Ok tt) result }
     ensures settled { IfOk result (λ _. F.settled files.new) }
-    ensures world { F.world files.new ≡ F.world files.old }
     ensures keeps { F.keeps files.old files.new }
 {
     files.sync()?;

@@ -1,15 +1,14 @@
 //! Walking along names.
-ghost use Rattle.std.specs.Prelude.{◌≡◌, ◌==◌, IsTrue, MatchResult};
+ghost use Rattle.std.specs.Prelude.{◌≡◌, ◌==◌, IsTrue, IfOk, IfErr, MatchResult};
 ghost use Rattle.nine_fids.specs.Told.{served};
-ghost use Rattle.nine_fids.specs.Rights.{table_of};
-ghost use Rattle.nine_fids.specs.Looking.{Looks, MayMiss};
+ghost use Rattle.nine_fids.specs.Looking.{HasCause, Looks, MayMiss};
 ghost use Rattle.nine_files.specs.Walking as nine;
-ghost use Rattle.nine_files.specs.Parts.{arrived};
+ghost use Rattle.nine_files.specs.Parts.{arrived, IsPart};
 ghost use Rattle.nine_files.specs.Answering.{Misses};
 
 use fo_users::{Right, Users};
 use fo_world::{FileError, FileOps, Info, Name, Place};
-use nine_fids::{Fid, Refusal, info_at, is_dir, named_at, parent_at, qid_of, table_of};
+use nine_fids::{Fid, Refusal, Stated, info_at, is_dir, named_at, parent_at, qid_of, table_of};
 use nine_wire::Qids;
 use std::alloc::Global;
 
@@ -35,7 +34,7 @@ fn stands_for_none(name: &[u8]) -> bool
     name == b"".as_slice() || name == b".".as_slice()
 }
 
-/// What a name leads to from a file, for a user.
+/// What a name leads to from a file, for a user of this table.
 fn next<F: FileOps>(
     files: &mut F,
     users: &Users,
@@ -43,11 +42,8 @@ fn next<F: FileOps>(
     from: &Info,
     name: &[u8],
 ) -> Result<Info, Refusal>
-    requires whole { IsTrue (F.whole files.old) }
-    requires users { users.now ≡ table_of (served (F.whole files.old) (F.largest files.old)) (F.world files.old) }
-    ensures looks { Looks (nine.next (served (F.whole files.old) (F.largest files.old)) (F.world files.old) user.now from.now name.now)
-        (MayMiss (F.faults files.old) (F.faults files.new) (F.honest files.old)) result }
-    ensures world { F.world files.new ≡ F.world files.old }
+    requires { IsTrue (F.whole files.old) }
+    ensures looks { Looks (⟦<F as Stated>⟧.state files.old) (⟦<F as Stated>⟧.state files.new) (λ e w. nine.next_by users.now e w user.now from.now name.now) result }
     ensures keeps { F.keeps files.old files.new }
 {
     if !is_dir(from.mode) {
@@ -74,12 +70,13 @@ fn follow<F: FileOps>(
     names: &[Name],
     from: Info,
 ) -> Result<Walked, Refusal>
-    requires whole { IsTrue (F.whole files.old) }
-    requires users { users.now ≡ table_of (served (F.whole files.old) (F.largest files.old)) (F.world files.old) }
-    ensures comes { MatchResult result
-        (λ w. w ≡ nine.walked (served (F.whole files.old) (F.largest files.old)) (F.world files.old) user.now names.now from)
+    requires { IsTrue (F.whole files.old) }
+    ensures comes { F.honest files.old → MatchResult result
+        (λ w. w ≡ nine.walked_by users.now (served (F.whole files.old) (F.largest files.old)) (F.world files.old) user.now names.now from)
         (Misses (MayMiss (F.faults files.old) (F.faults files.new) (F.honest files.old))) }
-    ensures world { F.world files.new ≡ F.world files.old }
+    ensures part { IfOk result (IsPart names.now) }
+    ensures world { F.honest files.old → F.world files.new ≡ F.world files.old }
+    ensures cause { IfErr result (HasCause (⟦<F as Stated>⟧.state files.old) (⟦<F as Stated>⟧.state files.new) 0) }
     ensures keeps { F.keeps files.old files.new }
 {
     let mut qids = Vec::new(alloc);
@@ -118,9 +115,8 @@ pub fn walk_from<F: FileOps>(
     names: &[Name],
 ) -> Result<Walked, Refusal>
     requires { IsTrue (F.whole files.old) }
-    ensures arrives { Looks (arrived (served (F.whole files.old) (F.largest files.old)) (F.world files.old) fid.now names.now)
-        (MayMiss (F.faults files.old) (F.faults files.new) (F.honest files.old)) result }
-    ensures world { F.world files.new ≡ F.world files.old }
+    ensures arrives { Looks (⟦<F as Stated>⟧.state files.old) (⟦<F as Stated>⟧.state files.new) (λ e w. arrived e w fid.now names.now) result }
+    ensures part { IfOk result (IsPart names.now) }
     ensures keeps { F.keeps files.old files.new }
 {
     if names.is_empty() {

@@ -12,6 +12,3 @@ pub use error::{CutError, StatError};
 pub use read::read_stat;
 pub use stat::Stat;
 pub use write::write_stat;
-
-#[cfg(test)]
-mod tests;

@@ -18,6 +18,3 @@ pub use write::{write_msg, write_request};
 
 /// The most bytes that a message may have.
 pub const LARGEST_MESSAGE: u32 = 65560;
-
-#[cfg(test)]
-mod tests;

@@ -18,4 +18,4 @@ long_reads kind c bytes is reads long = ⊎_elim
     is
 
 pub returns-clause-long : goal.returns-clause-long
-returns-clause-long g c = long_reads c.args.kind (g.B.Blocks.now c.get.new.self c.args.at) c.get.new.into c.requires.kind c.in_ok-get.ensures.bytes (c.get.auto.into ∙ c.requires.length)
+returns-clause-long g c = long_reads c.args.kind ((g.B.Blocks.state c.get.new.self).now c.args.at) c.get.new.into c.requires.kind c.in_ok-get.ensures.bytes.0 (c.get.auto.into ∙ c.requires.length)

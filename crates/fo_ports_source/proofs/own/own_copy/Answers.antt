@@ -1,35 +1,26 @@
-use Rattle.std.proofs.Common.{◌∙◌, ap}
-use Rattle.fo_image.specs.declared.types.Label.{Label}
+use Rattle.std.proofs.Common.{◌<◌, refl, sym, subst}
 use Rattle.fo_ports_source.proofs.Steps.{given_out, steps_none}
 use Rattle.fo_ports_source.proofs.own.own_copy.Goals as goal
 
-pub returns-else-is_current-clause-steps : goal.returns-else-is_current-clause-steps
-returns-else-is_current-clause-steps g c =
-    let on = c.args.on.now in
-    let new = c.copy.new.self in
-    let e = c.copy.ensures in
-    let k = g.met.B.Blocks.keeps_all on new e.keeps in
-    given_out {at = c.copy.result} {content = g.B.Blocks.now on c.args.at} (record {
-      kept = e.keeps;
-      high_is = k.0;
-      tops_stay = λ b. (k.3 b).1;
-      blocks_stay = λ b. (k.4 b).1;
-      puts = e.now;
-      adds = e.adds;
-      live = ap (λ (l : Label). l.state) e.label;
-      epoch = ap (λ (l : Label). l.epoch) e.label;
-      tagged = ap (λ (l : Label). l.tag) e.label ∙ c.requires.held.labelled.has_tag;
-      fresh = e.fresh;
-      is_new = e.new;
-      others = e.others;
-      places = e.places;
-      order = e.order;
-      passes = e.passes;
-      pins = e.numbers.1;
-      rooms = e.numbers.2;
-      nexts = e.numbers.3;
-      granted = e.numbers.4;
-    })
+pub copy-requires-clause-in_tree : goal.copy-requires-clause-in_tree
+copy-requires-clause-in_tree g c = λ told. (c.requires.leaf.told told).in_tree (c.is_current.ensures.no c.if-is_current.false)
 
 pub returns-then-is_current-clause-steps : goal.returns-then-is_current-clause-steps
-returns-then-is_current-clause-steps g c = steps_none c.args.on.now (g.met.B.Blocks.keeps_at_once c.args.on.now)
+returns-then-is_current-clause-steps g c = steps_none (g.B.Blocks.state c.args.on.now) (g.met.B.Blocks.keeps_all c.args.on.now c.args.on.now (g.met.B.Blocks.keeps_at_once c.args.on.now))
+
+pub returns-else-is_current-clause-steps : goal.returns-else-is_current-clause-steps
+returns-else-is_current-clause-steps g c =
+    let on = g.B.Blocks.state c.args.on.now in
+    let new = g.B.Blocks.state c.copy.new.self in
+    let e = c.copy.ensures in
+    let older : (on.label c.args.at).epoch < on.high = c.is_current.ensures.no c.if-is_current.false in
+    given_out {at = c.copy.result} {content = on.now c.args.at} (record {
+      gives = e.gives;
+      live = refl;
+      epoch = refl;
+      tagged = c.requires.held.labelled.has_tag;
+      instead = λ x i. let same = (e.instead x).0 i in (same, subst (λ y. (on.label y).epoch < on.high) (sym same) older);
+      all = g.met.B.Blocks.keeps_all c.args.on.now c.copy.new.self e.keeps;
+      present = g.met.B.Blocks.present c.copy.new.self;
+      active = (g.met.B.Blocks.active c.args.on.now).0;
+    })

@@ -12,11 +12,11 @@ use Rattle.fo_talk.proofs.Going.{going_starts, going_fills, going_answers, ends_
 use Rattle.fo_talk.proofs.service.converse.Goals as goal
 
 pub returns-in_default-clause-talk : goal.returns-in_default-clause-talk
-returns-in_default-clause-talk g c = ends_early _ _ _ _ _ _ _ _ _ _ (going_starts g.M.Machine.goes (g.C.Clock.told c.args.clock.now) (record { limit = largest_message; state = c.args.machine.now; faults = g.M.Machine.faults c.args.machine.now }) (g.S.Source.left c.args.input.now) (g.K.Sink.held c.args.out.now))
+returns-in_default-clause-talk g c = ends_early _ _ _ _ _ _ _ _ _ (going_starts g.M.Machine.goes (record { limit = largest_message; position = record { clock = g.C.Clock.coming c.args.clock.now; state = c.args.machine.now; faults = g.M.Machine.faults c.args.machine.now } }) (g.S.Source.left c.args.input.now) (g.K.Sink.held c.args.out.now))
 
 pub messages-init : goal.messages-init
 messages-init g c = record {
-  going = rw c.in-Ok.ensures (going_starts _ _ _ _ _);
+  going = rw c.in-Ok.ensures (going_starts _ _ _ _);
   bound = rw c.in-Ok.ensures (omega arith);
   small = omega arith;
   input_later = omega arith;
@@ -27,23 +27,23 @@ pub returns-in-Err-Output-clause-talk : goal.returns-in-Err-Output-clause-talk
 returns-in-Err-Output-clause-talk g c =
     let a = rw c.in-Err-Output.field-0-is at c.in-Err-Output.ensures.answered in
     let found : Stands c.messages.limit c.messages.inbox c.in-Ok-Msg.tag (request_message c.in-Ok-Msg.request) c.in-Ok-Msg.used = rw (← c.waiting.ensures) (rw c.in-Ok-Msg.field-0-is at c.in-Ok-Msg.ensures.found) in
-    let answers = answers_of _ _ _ _ _ _ _ _ _ _ a.entries found a.makes a.chain refl in
-    ends_unsaid _ _ _ _ _ _ _ _ _ _ _ _ a.put.0 _ c.messages.invariant.going answers a.put.1
+    let answers = answers_of _ _ _ _ _ _ _ _ a.entries found a.makes a.chain refl in
+    ends_unsaid _ _ _ _ _ _ _ _ _ _ _ a.put.0 _ c.messages.invariant.going answers a.put.1
 
 pub returns-in-Err-Memory-clause-talk : goal.returns-in-Err-Memory-clause-talk
 returns-in-Err-Memory-clause-talk g c =
     let a = rw c.in-Err-Memory.field-0-is at c.in-Err-Memory.ensures.answered in
     let found : Stands c.messages.limit c.messages.inbox c.in-Ok-Msg.tag (request_message c.in-Ok-Msg.request) c.in-Ok-Msg.used = rw (← c.waiting.ensures) (rw c.in-Ok-Msg.field-0-is at c.in-Ok-Msg.ensures.found) in
-    let answers = answers_of _ _ _ _ _ _ _ _ _ _ a.entries found a.makes a.chain refl in
-    rw a.put (ends_unput _ _ _ _ _ _ _ _ _ _ _ _ c.messages.invariant.going answers)
+    let answers = answers_of _ _ _ _ _ _ _ _ a.entries found a.makes a.chain refl in
+    rw a.put (ends_unput _ _ _ _ _ _ _ _ _ _ _ c.messages.invariant.going answers)
 
 pub messages-preserved-in-Ok-Msg : goal.messages-preserved-in-Ok-Msg
 messages-preserved-in-Ok-Msg g c =
     let a = c.in-Ok-answer_one.ensures.answered in
     let found : Stands c.messages.limit c.messages.inbox c.in-Ok-Msg.tag (request_message c.in-Ok-Msg.request) c.in-Ok-Msg.used = rw (← c.waiting.ensures) (rw c.in-Ok-Msg.field-0-is at c.in-Ok-Msg.ensures.found) in
-    let answers = answers_of _ _ _ _ _ _ _ _ _ _ a.entries found a.makes a.chain a.limit in
+    let answers = answers_of _ _ _ _ _ _ _ _ a.entries found a.makes a.chain a.limit in
     record {
-      going = rw c.consume.ensures (going_answers _ _ _ _ _ _ _ _ _ _ _ _ _ c.messages.invariant.going answers a.put);
+      going = rw c.consume.ensures (going_answers _ _ _ _ _ _ _ _ _ _ _ _ c.messages.invariant.going answers a.put);
       bound = omega (arith, c.messages.invariant.bound, found.within, ap length c.consume.ensures, length-drop c.in-Ok-Msg.used c.messages.inbox);
       small = c.in-Ok-answer_one.ensures.small;
       input_later = omega arith;
@@ -56,14 +56,14 @@ returns-in-Ok-eq0-clause-talk g c =
     let filled = c.in-Ok-eq0.ensures.filled in
     let none : c.in-Ok-eq0.field-0 ≡ 0 = c.in-Ok-eq0.field-0-test in
     let still : c.fill.new.self ≡ c.messages.inbox = filled.gained ∙ ap (λ (came : List ℕ). c.messages.inbox ++ came) (nil_from_length filled.came (omega (arith, filled.count, none))) ∙ append-nil c.messages.inbox in
-    let going = going_fills _ _ _ _ _ _ _ _ _ _ _ _ _ _ _ c.messages.invariant.going filled in
-    rw (c.end_of_input.ensures, c.waiting-in-Ok-eq0.ensures) (ends_at _ _ _ _ _ _ _ _ c.fill.new.self c.messages.place going (rw still (no_message c.messages.limit c.messages.inbox part)) (filled.ended none))
+    let going = going_fills _ _ _ _ _ _ _ _ _ _ _ _ _ _ c.messages.invariant.going filled in
+    rw (c.end_of_input.ensures, c.waiting-in-Ok-eq0.ensures) (ends_at _ _ _ _ _ _ _ c.fill.new.self c.messages.place going (rw still (no_message c.messages.limit c.messages.inbox part)) (filled.ended none))
 
 pub messages-preserved : goal.messages-preserved
 messages-preserved g c =
     let filled = c.in-Ok-fill.ensures.filled in
     record {
-      going = going_fills _ _ _ _ _ _ _ _ _ _ _ _ _ _ _ c.messages.invariant.going filled;
+      going = going_fills _ _ _ _ _ _ _ _ _ _ _ _ _ _ c.messages.invariant.going filled;
       bound = omega (arith, c.messages.invariant.bound, filled.fewer, filled.count, ap length filled.gained, length-append c.messages.inbox filled.came);
       small = c.messages.invariant.small;
       input_later = omega arith;
@@ -74,15 +74,15 @@ pub returns-in-Err-fill-clause-talk : goal.returns-in-Err-fill-clause-talk
 returns-in-Err-fill-clause-talk g c =
     let part : IsPart c.messages.limit c.messages.inbox = rw (← c.waiting.ensures) (rw c.in-Ok-More.field-0-is at c.in-Ok-More.ensures.found) in
     let f = c.in-Err-fill.ensures.filled in
-    rw f.left_stays (ends_unread _ _ _ _ _ _ _ _ _ _ c.messages.invariant.going (no_message c.messages.limit c.messages.inbox part))
+    rw f.left_stays (ends_unread _ _ _ _ _ _ _ _ _ c.messages.invariant.going (no_message c.messages.limit c.messages.inbox part))
 
 pub returns-in-Ok-Bad-clause-talk : goal.returns-in-Ok-Bad-clause-talk
 returns-in-Ok-Bad-clause-talk g c =
     let never : IsFront request_message c.messages.limit c.messages.inbox (step_front (step.Bad c.in-Ok-Bad.field-0-0)) = rw (← c.waiting.ensures) (rw c.in-Ok-Bad.field-0-is at c.in-Ok-Bad.ensures.found) in
-    ends_bad _ _ _ _ _ _ _ _ _ _ c.messages.invariant.going (λ more e. still_bad c.messages.limit c.messages.inbox more c.in-Ok-Bad.field-0-0 never)
+    ends_bad _ _ _ _ _ _ _ _ _ c.messages.invariant.going (λ more e. still_bad c.messages.limit c.messages.inbox more c.in-Ok-Bad.field-0-0 never)
 
 pub returns-in-Err-clause-talk : goal.returns-in-Err-clause-talk
-returns-in-Err-clause-talk g c = ends_early _ _ _ _ _ _ _ _ _ _ c.messages.invariant.going
+returns-in-Err-clause-talk g c = ends_early _ _ _ _ _ _ _ _ _ c.messages.invariant.going
 
 pub fill-requires : goal.fill-requires
 fill-requires g c =

@@ -5,7 +5,7 @@ use Rattle.fo_talk.proofs.service.converse.Given as goal
 
 abbrev pub invariant-messages : goal.invariant-messages
 invariant-messages g l = record {
-  going : Going g.M.Machine.goes (g.C.Clock.told l.fn.clock) (record { limit = largest_message; state = l.fn.machine; faults = g.M.Machine.faults l.fn.machine }) (record { limit = l.limit; state = l.machine; faults = g.M.Machine.faults l.machine }) (g.S.Source.left l.fn.input) (g.S.Source.left l.input) (g.K.Sink.held l.fn.out) (g.K.Sink.held l.out) l.inbox l.place;
+  going : Going g.M.Machine.goes (record { limit = largest_message; position = record { clock = g.C.Clock.coming l.fn.clock; state = l.fn.machine; faults = g.M.Machine.faults l.fn.machine } }) (record { limit = l.limit; position = record { clock = g.C.Clock.coming l.clock; state = l.machine; faults = g.M.Machine.faults l.machine } }) (g.S.Source.left l.fn.input) (g.S.Source.left l.input) (g.K.Sink.held l.fn.out) (g.K.Sink.held l.out) l.inbox l.place;
   bound : l.place + length l.inbox + g.S.Source.room l.input ≡ g.S.Source.room l.fn.input;
   small : l.limit ≤ largest_message;
   input_later : g.S.Source.faults l.fn.input ≤ g.S.Source.faults l.input;

@@ -2,4 +2,4 @@ use Rattle.fo_talk.proofs.Going.{ends_of}
 use Rattle.fo_talk.proofs.service.serve.Goals as goal
 
 pub returns-clause-talk : goal.returns-clause-talk
-returns-clause-talk g c = ends_of _ _ _ _ _ _ _ _ _ _ _ _ c.converse-end.ensures.talk c.let_all_go.ensures
+returns-clause-talk g c = ends_of _ _ _ _ _ _ _ _ _ c.converse-end.ensures.talk c.let_all_go.ensures

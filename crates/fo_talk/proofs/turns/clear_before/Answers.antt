@@ -3,4 +3,4 @@ use Rattle.fo_talk.proofs.Entries.{clears_none}
 use Rattle.fo_talk.proofs.turns.clear_before.Goals as goal
 
 pub returns-else-is_version : goal.returns-else-is_version
-returns-else-is_version g c = clears_none _ _ c.args.request.now _ _ (sym c.is_version.ensures ∙ c.if-is_version.false)
+returns-else-is_version g c = clears_none _ c.args.request.now _ (sym c.is_version.ensures ∙ c.if-is_version.false)

@@ -5,6 +5,8 @@ pub returns-clause-checks : goal.returns-clause-checks
 returns-clause-checks g c = record {
   how = c.flchk.result;
   end_is = c.from.ensures;
+  sized = c.flchk.ensures.sized;
+  asked = c.flchk.ensures.asked;
   prints = c.flchk.ensures.prints;
   ends = c.flchk.ensures.ends;
   only = c.flchk.ensures.only;

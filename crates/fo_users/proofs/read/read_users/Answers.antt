@@ -20,19 +20,19 @@ returns-in_err-users-clause-only c =
     let cut = rw c.in-Some.is at ends in
     λ t s. rw (p.1) (p.2 ∙ c.in_err-users.ensures.only t (table_read c.args.bytes.now c.in-Some.lines.now t cut s))
 
-pub returns-then-not-is_table-clause-only : goal.returns-then-not-is_table-clause-only
-returns-then-not-is_table-clause-only c =
+pub returns-then-not-whole-clause-only : goal.returns-then-not-whole-clause-only
+returns-then-not-whole-clause-only c =
     let ends = strip_suffix_is Decides-eqb c.args.bytes.now (10 ∷ []) c.strip_suffix.result c.strip_suffix.ensures.cases in
     let cut = rw c.in-Some.is at ends in
     λ t s.
     let same = c.in_ok-users.ensures.only t (table_read c.args.bytes.now c.in-Some.lines.now t cut s) in
-    absurd (both_ways (is_table t) (ap is_table (sym (c.as_slice.ensures.value ∙ same)) ∙ sym c.is_table.ensures ∙ c.if-not-is_table.true) s.whole)
+    absurd (both_ways (is_table t) (ap is_table (sym (c.as_slice.ensures.value ∙ same)) ∙ sym c.in_ok-whole.ensures ∙ c.if-not-whole.true) s.whole)
 
 pub returns-clause-found : goal.returns-clause-found
 returns-clause-found c =
     let ends = strip_suffix_is Decides-eqb c.args.bytes.now (10 ∷ []) c.strip_suffix.result c.strip_suffix.ensures.cases in
     let cut = rw c.in-Some.is at ends in
-    rw c.new.ensures (table_spelled c.args.bytes.now c.in-Some.lines.now c.in_ok-users.users.items cut c.in_ok-users.ensures.found (ap is_table (sym c.as_slice.ensures.value) ∙ sym c.is_table.ensures ∙ c.if-not-is_table.false))
+    rw c.new.ensures (table_spelled c.args.bytes.now c.in-Some.lines.now c.in_ok-users.users.items cut c.in_ok-users.ensures.found (ap is_table (sym c.as_slice.ensures.value) ∙ sym c.in_ok-whole.ensures ∙ c.if-not-whole.false))
 
 pub returns-clause-only : goal.returns-clause-only
 returns-clause-only c =

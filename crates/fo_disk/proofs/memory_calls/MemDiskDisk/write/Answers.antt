@@ -1,4 +1,4 @@
-use Rattle.std.proofs.Common.{◌≡◌, ◌==◌, ◌∙◌, sym, ℕ, List, true, false, inl, inr, ap}
+use Rattle.std.proofs.Common.{◌≡◌, ◌==◌, ◌∙◌, refl, sym, ℕ, List, true, false, inl, inr, ap}
 use Rattle.std.specs.List.{list_any}
 use Rattle.fo_disk.specs.Memory.{content_of, is_listed}
 use Rattle.fo_disk.proofs.Cells.{wrote, wrote_passes, same_passes}
@@ -32,3 +32,16 @@ returns-then-listed-clause-memory c =
 
 pub returns-in-Err-clause-memory : goal.returns-in-Err-clause-memory
 returns-in-Err-clause-memory c = λ is. ap content_of c.in-Err.ensures.same
+
+pub returns-then-listed-clause-lands : goal.returns-then-listed-clause-lands
+returns-then-listed-clause-lands c =
+    let same : c.next_call-listed.result ≡ is_listed c.args.self.now = c.next_call-listed.ensures.listed ∙ ap (λ (l : List ℕ). list_any (λ n. n == c.args.self.now.calls) l) c.deref.ensures.value in
+    inl (wrote _ _ _ _ c.requires.block c.in-Ok.ensures.added, sym c.if-listed.true ∙ same, refl)
+
+pub returns-else-listed-clause-lands : goal.returns-else-listed-clause-lands
+returns-else-listed-clause-lands c =
+    let same : c.next_call-listed.result ≡ is_listed c.args.self.now = c.next_call-listed.ensures.listed ∙ ap (λ (l : List ℕ). list_any (λ n. n == c.args.self.now.calls) l) c.deref.ensures.value in
+    inl (wrote _ _ _ _ c.requires.block c.in-Ok.ensures.added, sym c.if-listed.false ∙ same, refl)
+
+pub returns-in-Err-clause-lands : goal.returns-in-Err-clause-lands
+returns-in-Err-clause-lands c = inr (ap content_of c.in-Err.ensures.same, refl, c.count_want.ensures)

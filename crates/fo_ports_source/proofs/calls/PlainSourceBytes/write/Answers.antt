@@ -8,14 +8,17 @@ use Rattle.fo_ports_source.proofs.calls.PlainSourceBytes.write.Goals as goal
 
 pub returns-clause-bytes : goal.returns-clause-bytes
 returns-clause-bytes g c = λ told.
-    let old = byte_of (leaf_of c.args.self.now.leaves.items) (g.B.Blocks.now c.args.on.now) in
-    let new = byte_of (leaf_of c.put.new.self.leaves.items) (g.B.Blocks.now c.put.new.on) in
+    let old = byte_of (leaf_of c.args.self.now.leaves.items) (g.B.Blocks.state c.args.on.now).now in
+    let new = byte_of (leaf_of c.put.new.self.leaves.items) (g.B.Blocks.state c.put.new.on).now in
     let size_is : c.put.new.self.size ≡ max c.args.self.now.size (c.args.offset + length c.args.piece.now) = omega arith in
     let some : 0 < length c.args.piece.now = search rules in
     ap (λ n. map new (range_with_len 0 n)) size_is ∙ values_written old new c.args.self.now.size c.args.offset c.args.piece.now some (c.requires.over.tail told) (c.put.ensures.puts told)
 
-pub returns-clause-still : goal.returns-clause-still
-returns-clause-still g c = λ o n prepared. prepared_same c.put.ensures.same.0 c.put.ensures.same.1 (c.put.ensures.grew.still o n prepared)
+pub returns-clause-grows : goal.returns-clause-grows
+returns-clause-grows g c = record {
+  owns = λ b. (c.put.ensures.grew.owned b, c.put.ensures.grew.owns b);
+  still = λ o n prepared. prepared_same c.put.ensures.same.0 c.put.ensures.same.1 (c.put.ensures.grew.still o n prepared);
+}
 
 pub returns-clause-changes : goal.returns-clause-changes
-returns-clause-changes g c = steps_changes c.put.ensures.grew.steps
+returns-clause-changes g c = (steps_changes c.put.ensures.grew.steps, c.put.ensures.keeps)

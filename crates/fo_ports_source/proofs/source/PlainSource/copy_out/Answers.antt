@@ -12,22 +12,22 @@ use Rattle.fo_ports_source.proofs.source.PlainSource.copy_out.Goals as goal
 pub copy_part-requires-clause-over : goal.copy_part-requires-clause-over
 copy_part-requires-clause-over g c =
     let i = c.loop-done.invariant in
-    let k = g.met.B.Blocks.keeps_all c.args.on.now c.loop-done.on i.looks.stays in
-    over_looks g.B.Blocks.high g.B.Blocks.is_block i.looks k.0 (λ b. (k.4 b).1) k.2.0 c.requires.over
+    let k = g.met.B.Blocks.keeps_all c.args.on.now c.loop-done.on i.keeps in
+    over_looks i.looks k c.requires.over
 
 pub returns-in_err-copy_part-clause-looks : goal.returns-in_err-copy_part-clause-looks
 returns-in_err-copy_part-clause-looks g c =
     let i = c.loop-done.invariant in
-    let k = g.met.B.Blocks.keeps_all c.args.on.now c.loop-done.on i.looks.stays in
-    looks_joins (g.met.B.Blocks.keeps_joins _ _ _) k.2.1 i.looks c.copy_part.ensures.looks
+    let k = g.met.B.Blocks.keeps_all c.args.on.now c.loop-done.on i.keeps in
+    looks_joins k i.looks c.copy_part.ensures.looks
 
 pub returns-in_err-copy_part-clause-cause : goal.returns-in_err-copy_part-clause-cause
 returns-in_err-copy_part-clause-cause g c =
     let on = c.args.on.now in
     let mid = c.loop-done.on in
-    let k = g.met.B.Blocks.keeps_all on mid c.loop-done.invariant.looks.stays in
-    let here : IfErr c.from_residual.result (Caused ⊥ (λ b. (g.B.Blocks.tells mid → ⊥) × g.B.Blocks.is_block mid b) (Rose (g.B.Blocks.faults mid) (g.B.Blocks.faults c.copy_part.new.on)) ⊥) = search rules in
-    later_cause c.from_residual.result (λ b. (g.B.Blocks.tells mid → ⊥) × g.B.Blocks.is_block mid b) (λ b. (g.B.Blocks.tells on → ⊥) × g.B.Blocks.is_block on b) (g.B.Blocks.faults on) (g.B.Blocks.faults mid) (g.B.Blocks.faults c.copy_part.new.on) (λ b d. (λ told. d.0 (k.2.1 told), (k.4 b).0 d.1)) k.6 here
+    let k = g.met.B.Blocks.keeps_all on mid c.loop-done.invariant.keeps in
+    let here : IfErr c.from_residual.result (Caused ⊥ (λ b. ((g.B.Blocks.state mid).tells → ⊥) × (g.B.Blocks.state mid).is_block b) (Rose (g.B.Blocks.state mid).faults (g.B.Blocks.state c.copy_part.new.on).faults) ⊥) = search rules in
+    later_cause c.from_residual.result (λ b. ((g.B.Blocks.state mid).tells → ⊥) × (g.B.Blocks.state mid).is_block b) (λ b. ((g.B.Blocks.state on).tells → ⊥) × (g.B.Blocks.state on).is_block b) (g.B.Blocks.state on).faults (g.B.Blocks.state mid).faults (g.B.Blocks.state c.copy_part.new.on).faults (λ b d. (λ told. d.0 (k.still_tells.1 told), (k.same_blocks b).0 d.1)) k.more_faults here
 
 pub loop-done-preserved : goal.loop-done-preserved
 loop-done-preserved g c =
@@ -41,8 +41,8 @@ loop-done-preserved g c =
     let sub = c.copy_part.new.into in
     let leaves = c.args.self.now.leaves.items in
     let e = c.in_ok-copy_part.ensures in
-    let k = g.met.B.Blocks.keeps_all on mid i.looks.stays in
-    let more = g.met.B.Blocks.keeps_all mid new c.copy_part.ensures.looks.stays in
+    let k = g.met.B.Blocks.keeps_all on mid i.keeps in
+    let more = g.met.B.Blocks.keeps_all mid new c.copy_part.ensures.keeps in
     let count = c.min-count.ensures in
     let lt : done < length into = omega arith in
     let fits : done + n ≤ length into = omega (arith, count, lt) in
@@ -52,22 +52,23 @@ loop-done-preserved g c =
     let same_len : length (put_mid done (done + n - done) into sub) ≡ length into = length_put_mid done (done + n - done) into sub (omega (arith, fits)) (omega (arith, sub_len)) in
     record {
       within = omega (arith, same_len, fits);
-      looks = looks_joins (g.met.B.Blocks.keeps_joins _ _ _) k.2.1 i.looks c.copy_part.ensures.looks;
-      given = λ of_data found. copied_more (byte_of (leaf_of leaves) (g.B.Blocks.now mid)) (byte_of (leaf_of leaves) (g.B.Blocks.now new)) into sub c.args.offset done n (done + n - done) back fits sub_len (i.given of_data found)
+      looks = looks_joins k i.looks c.copy_part.ensures.looks;
+      keeps = g.met.B.Blocks.keeps_joins on mid c.copy_part.new.on i.keeps c.copy_part.ensures.keeps;
+      given = λ of_data found. copied_more (byte_of (leaf_of leaves) (g.B.Blocks.state mid).now) (byte_of (leaf_of leaves) (g.B.Blocks.state new).now) into sub c.args.offset done n (done + n - done) back fits sub_len (i.given of_data found)
           (λ j below. byte_looks c.copy_part.ensures.looks leaves (c.args.offset + j) (λ at is. i.known found (c.args.offset + j) at (omega arith) (omega (arith, below)) is))
           (λ j below. e.given of_data j (omega (arith, part_len, below)));
       known = λ found x at from to is. ⊎_elim
-          (λ below. still_known c.copy_part.ensures.looks more.2.1 at (i.known found x at from below is))
+          (λ below. still_known c.copy_part.ensures.looks more at (i.known found x at from below is))
           (λ above.
           let same : x / 8192 ≡ (c.args.offset + done) / 8192 = omega (arith, above, to, count) in
           let is_here = subst (λ y. leaf_of leaves y ≡ Some at) same is in
           ⊎_elim
-          (λ told. inl (more.2.1 (k.2.1 told)))
+          (λ told. inl (more.still_tells.1 (k.still_tells.1 told)))
           (λ pins. inr (e.pinned at is_here (⊎_elim
-          (λ enough. inl (spent_left (length c.args.into.now) c.args.offset done (g.B.Blocks.pins_left on) (g.B.Blocks.pins_left mid) (omega arith) enough (subst (λ m. Spent m c.args.offset done (g.B.Blocks.pins_left on) (g.B.Blocks.pins_left mid)) c.loop-done.auto.into i.spent)))
-          (λ prepared. inr ((prepared_looks g.B.Blocks.high i.looks k.0 prepared).each (c.args.offset + done) at (omega arith) (omega arith) is_here).is_pinned)
+          (λ enough. inl (spent_left (length c.args.into.now) c.args.offset done (g.B.Blocks.state on).pins_left (g.B.Blocks.state mid).pins_left (omega arith) enough (subst (λ m. Spent m c.args.offset done (g.B.Blocks.state on).pins_left (g.B.Blocks.state mid).pins_left) c.loop-done.auto.into i.spent)))
+          (λ prepared. inr ((prepared_looks i.looks k prepared).each (c.args.offset + done) at (omega arith) (omega arith) is_here).is_pinned)
           pins)))
           found)
           (cases_lt x (c.args.offset + done));
-      spent = subst (λ m. Spent m c.args.offset (done + n) (g.B.Blocks.pins_left on) (g.B.Blocks.pins_left new)) (sym same_len) (spent_more (length into) c.args.offset done n (g.B.Blocks.pins_left on) (g.B.Blocks.pins_left mid) (g.B.Blocks.pins_left new) lt count c.copy_part.ensures.pins i.spent);
+      spent = subst (λ m. Spent m c.args.offset (done + n) (g.B.Blocks.state on).pins_left (g.B.Blocks.state new).pins_left) (sym same_len) (spent_more (length into) c.args.offset done n (g.B.Blocks.state on).pins_left (g.B.Blocks.state mid).pins_left (g.B.Blocks.state new).pins_left lt count c.copy_part.ensures.pins i.spent);
     }

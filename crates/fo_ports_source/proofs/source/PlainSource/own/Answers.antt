@@ -1,10 +1,11 @@
-use Rattle.std.proofs.Common.{◌≡◌, ◌<◌, length, Some, None, MatchOption, sym, ◌∙◌, refl, subst, arith, ◌⊎◌}
+use Rattle.std.proofs.Common.{◌≡◌, ◌<◌, length, Some, None, MatchOption, sym, ◌∙◌, refl, subst, arith, ◌⊎◌, ⊎_elim, inl, inr}
 use Rattle.std.proofs.lemmas.List.{get_or_default}
 use Rattle.std.proofs.Math.ListN.{set}
 use Rattle.fo_crash.specs.Images.{SameContent}
 use Rattle.fo_ports.specs.Blocks.{blank}
 use Rattle.fo_ports.specs.Sources.{Made}
-use Rattle.fo_ports_source.specs.Source.{leaf_of}
+use Rattle.fo_ports_source.specs.Source.{leaf_of, IsCurrent}
+use Rattle.fo_ports_source.proofs.Steps.{steps_wider}
 use Rattle.fo_ports_source.proofs.Leaves.{OwnsOne, own_bytes, own_over, own_grew}
 use Rattle.fo_ports_source.proofs.source.PlainSource.own.Given as given
 use Rattle.fo_ports_source.proofs.source.PlainSource.own.Goals as goal
@@ -25,24 +26,38 @@ own_block-at-requires-clause-held g c = λ at e.
     let few : c.args.i < length c.args.self.now.leaves.items = omega (arith, within, inside) in
     c.requires.held at (get_or_default c.args.self.now.leaves.items c.args.i None c.index.result.now few ∙ sym c.index.ensures ∙ e)
 
-one : (g : given.Over) (c : goal.After-self-1 g) → OwnsOne g.B.Blocks.now g.B.Blocks.label g.B.Blocks.stands g.B.Blocks.loose g.B.Blocks.high g.B.Blocks.tops g.B.Blocks.is_block g.B.Blocks.may_leave g.B.Blocks.moments g.B.Blocks.left g.B.Blocks.sealed_at g.B.Blocks.pins_left g.B.Blocks.room g.B.Blocks.next g.B.Blocks.grants g.B.Blocks.pinned g.B.Blocks.waits g.B.Blocks.clearing g.B.Blocks.covered g.B.Blocks.keeps g.B.Blocks.tells c.args.self.now.kind c.args.self.now.tag c.args.self.now.rank c.args.self.now.size c.args.self.now.leaves.items (set c.args.self.now.leaves.items c.args.i (Some c.own_block-at.result)) c.args.i c.own_block-at.result c.args.on.now c.own_block-at.new.on
-one g c =
+pub own_block-at-requires-clause-spare : goal.own_block-at-requires-clause-spare
+own_block-at-requires-clause-spare g c =
     let over = c.requires.over in
     let within = over.within in
     let inside = c.requires.within in
     let few : c.args.i < length c.args.self.now.leaves.items = omega (arith, within, inside) in
-    let read : c.index.result.now ≡ leaf_of c.args.self.now.leaves.items c.args.i = c.index.ensures ∙ get_or_default c.args.self.now.leaves.items c.args.i c.index.result.now None few in
+    let read : leaf_of c.args.self.now.leaves.items c.args.i ≡ c.index.result.now = get_or_default c.args.self.now.leaves.items c.args.i None c.index.result.now few ∙ sym c.index.ensures in
+    ⊎_elim (λ h. inl (subst (λ leaf. IsCurrent (g.B.Blocks.state c.args.on.now) leaf) read h)) (λ h. inr h) c.requires.spare
+
+is_read : (g : given.Over) (c : goal.After-self-1 g) → c.index.result.now ≡ leaf_of c.args.self.now.leaves.items c.args.i
+is_read g c =
+    let within = c.requires.over.within in
+    let inside = c.requires.within in
+    let few : c.args.i < length c.args.self.now.leaves.items = omega (arith, within, inside) in
+    c.index.ensures ∙ get_or_default c.args.self.now.leaves.items c.args.i c.index.result.now None few
+
+one : (g : given.Over) (c : goal.After-self-1 g) → OwnsOne c.args.self.now.kind c.args.self.now.tag c.args.self.now.rank c.args.self.now.size c.args.self.now.leaves.items (set c.args.self.now.leaves.items c.args.i (Some c.own_block-at.result)) c.args.i c.own_block-at.result (g.B.Blocks.state c.args.on.now) (g.B.Blocks.state c.own_block-at.new.on)
+one g c =
+    let old = g.B.Blocks.state c.args.on.now in
+    let new = g.B.Blocks.state c.own_block-at.new.on in
+    let r = c.own_block-at.result in
+    let read = is_read g c in
     let e = c.own_block-at.ensures in
     record {
-      over = over;
-      inside = inside;
+      over = c.requires.over;
+      inside = c.requires.within;
       set_is = refl;
-      content = subst (λ leaf. MatchOption leaf (SameContent (g.B.Blocks.now c.own_block-at.new.on c.own_block-at.result) (blank c.args.self.now.kind)) (λ at. SameContent (g.B.Blocks.now c.own_block-at.new.on c.own_block-at.result) (g.B.Blocks.now c.args.on.now at))) read e.content;
-      copied = subst (λ leaf. MatchOption leaf (Made (g.B.Blocks.label c.args.on.now) (g.B.Blocks.label c.own_block-at.new.on) c.own_block-at.result) (λ at. ((at ≡ c.own_block-at.result) × ((g.B.Blocks.label c.args.on.now at).epoch ≡ g.B.Blocks.high c.args.on.now)) ⊎ (((g.B.Blocks.label c.args.on.now at).epoch < g.B.Blocks.high c.args.on.now) × Made (g.B.Blocks.label c.args.on.now) (g.B.Blocks.label c.own_block-at.new.on) c.own_block-at.result))) read e.copied;
+      content = subst (λ leaf. MatchOption leaf (SameContent (new.now r) (blank c.args.self.now.kind)) (λ at. SameContent (new.now r) (old.now at))) read e.content;
+      copied = subst (λ leaf. MatchOption leaf (Made old new r) (λ at. ((at ≡ r) × ((old.label at).epoch ≡ old.high)) ⊎ (((old.label at).epoch < old.high) × Made old new r))) read e.copied;
       own = e.own;
-      steps = e.steps;
+      steps = steps_wider (λ x is. record { number = c.args.i; is = sym read ∙ is }) (λ b h. h) e.steps;
       only = e.only;
-      told = (g.met.B.Blocks.keeps_all c.args.on.now c.own_block-at.new.on e.steps.stays).2.0;
     }
 
 pub returns-clause-over : goal.returns-clause-over
@@ -50,6 +65,12 @@ returns-clause-over g c = own_over (one g c)
 
 pub returns-clause-bytes : goal.returns-clause-bytes
 returns-clause-bytes g c = own_bytes (one g c)
+
+pub returns-clause-steps : goal.returns-clause-steps
+returns-clause-steps g c = (one g c).steps
+
+pub returns-clause-spare : goal.returns-clause-spare
+returns-clause-spare g c = (c.own_block-at.ensures.spare.0, λ current. c.own_block-at.ensures.spare.1 (subst (λ leaf. IsCurrent (g.B.Blocks.state c.args.on.now) leaf) (sym (is_read g c)) current))
 
 pub returns-clause-grew : goal.returns-clause-grew
 returns-clause-grew g c = own_grew (one g c)

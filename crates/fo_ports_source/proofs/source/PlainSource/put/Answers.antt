@@ -16,16 +16,21 @@ loop-done-preserved g c =
     let n = c.min-count.result in
     let i = c.loop-done.invariant in
     let e = c.put_part.ensures in
-    let k = g.met.B.Blocks.keeps_all c.args.on.now c.loop-done.on i.grew.steps.stays in
+    let on = c.args.on.now in
+    let mid = c.loop-done.on in
+    let new = c.put_part.new.on in
+    let k = g.met.B.Blocks.keeps_all on mid i.keeps in
+    let keeps = g.met.B.Blocks.keeps_joins on mid new i.keeps e.keeps in
     let within : done + n ≤ length c.args.piece.now = omega arith in
     let len : done + n - done ≡ n = omega arith in
     record {
       within = within;
       over = e.over;
       same = (e.same.0 ∙ i.same.0, e.same.1 ∙ i.same.1, e.same.2 ∙ i.same.2, e.same.3 ∙ i.same.3);
-      puts = λ told. puts_more _ _ _ c.args.offset done n c.args.piece.now within (i.puts told) (rw len at (e.puts (k.2.1 told)));
-      grew = grew_joins (g.met.B.Blocks.keeps_joins _ _ _) i.grew (grew_same i.same.0 i.same.1 e.grew);
-      spent = spent_more (length c.args.piece.now) c.args.offset done n (g.B.Blocks.spare c.args.on.now) (g.B.Blocks.spare c.loop-done.on) (g.B.Blocks.spare c.put_part.new.on) (omega arith) c.min-count.ensures e.spare i.spent;
+      puts = λ told. puts_more _ _ _ c.args.offset done n c.args.piece.now within (i.puts told) (rw len at (e.puts (k.still_tells.1 told)));
+      grew = grew_joins (g.met.B.Blocks.keeps_all on new keeps) i.grew (grew_same i.same.0 i.same.1 e.grew);
+      keeps = keeps;
+      spent = spent_more (length c.args.piece.now) c.args.offset done n (g.B.Blocks.state on).spare (g.B.Blocks.state mid).spare (g.B.Blocks.state new).spare (omega arith) c.min-count.ensures e.spare i.spent;
     }
 
 pub loop-done-init : goal.loop-done-init
@@ -34,6 +39,7 @@ loop-done-init g c = record {
   over = c.requires.over;
   same = (refl, refl, refl, refl);
   puts = λ told. puts_none _ c.args.offset;
-  grew = grew_none c.args.on.now (g.met.B.Blocks.keeps_at_once c.args.on.now);
-  spent = spent_none (length c.args.piece.now) c.args.offset (g.B.Blocks.spare c.args.on.now);
+  grew = grew_none (g.B.Blocks.state c.args.on.now) (g.met.B.Blocks.keeps_all c.args.on.now c.args.on.now (g.met.B.Blocks.keeps_at_once c.args.on.now));
+  keeps = g.met.B.Blocks.keeps_at_once c.args.on.now;
+  spent = spent_none (length c.args.piece.now) c.args.offset (g.B.Blocks.state c.args.on.now).spare;
 }

@@ -1,21 +1,37 @@
-use Rattle.std.proofs.Common.{◌≡◌, ◌<◌, ◌≤◌, ◌/◌, ◌+◌, length, Some, None, sym, ◌∙◌, subst, arith}
+use Rattle.std.proofs.Common.{◌≡◌, ◌≢◌, ◌<◌, ◌≤◌, ◌/◌, ◌%◌, ◌+◌, ℕ, List, length, Some, None, sym, ◌∙◌, subst, arith}
 use Rattle.std.proofs.lemmas.List.{get_or-set_same}
+use Rattle.fo_image.specs.declared.types.Kind.{Kind}
+use Rattle.fo_image.specs.declared.types.Kind.TheVariants.{Data}
+use Rattle.fo_ports.specs.Blocks.{put_at, IsFormed}
+use Rattle.fo_ports.proofs.Lengths.{length_put_at}
 use Rattle.fo_ports_source.specs.Source.{leaf_of}
+use Rattle.fo_ports_source.specs.SourceLaws.{only_place}
 use Rattle.fo_ports_source.proofs.Steps.{bytes_put}
 use Rattle.fo_ports_source.proofs.Leaves.{PutsOne, put_puts, put_over, put_grew, grew_joins, grew_same}
 use Rattle.fo_ports_source.proofs.Puts.{puts_after}
 use Rattle.fo_ports_source.proofs.source.PlainSource.put_part.Given as given
 use Rattle.fo_ports_source.proofs.source.PlainSource.put_part.Goals as goal
 
-one : (g : given.Over) (c : goal.After-put_bytes g) → PutsOne g.B.Blocks.now g.B.Blocks.label g.B.Blocks.stands g.B.Blocks.loose g.B.Blocks.high g.B.Blocks.tops g.B.Blocks.is_block g.B.Blocks.may_leave g.B.Blocks.moments g.B.Blocks.left g.B.Blocks.sealed_at g.B.Blocks.pins_left g.B.Blocks.room g.B.Blocks.next g.B.Blocks.grants g.B.Blocks.pinned g.B.Blocks.waits g.B.Blocks.clearing g.B.Blocks.covered g.B.Blocks.keeps g.B.Blocks.tells c.own-at.new.self.kind c.own-at.new.self.tag c.own-at.new.self.rank c.own-at.new.self.size c.own-at.new.self.leaves.items c.own-at.result c.args.place c.args.piece.now c.own-at.new.on c.put_bytes.new.self
+plain_formed : (kind : Kind) (rank : ℕ) (bytes : List ℕ) → kind ≡ Data 0 → rank % 32 ≢ 16 → length bytes ≡ 8192 → IsFormed kind rank bytes
+plain_formed kind rank bytes is plain long = subst (λ k. IsFormed k rank bytes) (sym is) (long, λ e. absurd (plain e))
+
+pub put_bytes-requires-clause-formed : goal.put_bytes-requires-clause-formed
+put_bytes-requires-clause-formed g c = λ told p stands.
+    let owned = c.own-at.ensures in
+    let at_place = only_place (g.met.B.Blocks.one_place c.own-at.new.on) (owned.own.leaf.told told) p stands in
+    let old = ((g.B.Blocks.state c.own-at.new.on).now c.own-at.result).bytes in
+    let long = owned.own.held.long in
+    let part = c.requires.part.1 in
+    plain_formed p.kind p.rank (put_at (c.args.place % 8192) c.args.piece.now old) (at_place.0 ∙ c.requires.kind.0) (subst (λ r. r % 32 ≢ 16) (sym at_place.2) c.requires.kind.1)
+    (length_put_at (c.args.place % 8192) c.args.piece.now old (omega (arith, long, part)) ∙ long)
+
+one : (g : given.Over) (c : goal.After-put_bytes g) → PutsOne c.own-at.new.self.kind c.own-at.new.self.tag c.own-at.new.self.rank c.own-at.new.self.size c.own-at.new.self.leaves.items c.own-at.result c.args.place c.args.piece.now (g.B.Blocks.state c.own-at.new.on) (g.B.Blocks.state c.put_bytes.new.self)
 one g c =
     let mid = c.own-at.new.on in
     let new = c.put_bytes.new.self in
     let owned = c.own-at.ensures in
     let e = c.put_bytes.ensures in
-    let k = g.met.B.Blocks.keeps_all mid new e.keeps in
-    let over = c.requires.over in
-    let within = over.within in
+    let within = c.requires.over.within in
     let inside = c.requires.within in
     let part = c.requires.part in
     let few : c.args.place / 8192 < length c.args.self.now.leaves.items = omega (arith, within, inside, part.0) in
@@ -26,31 +42,20 @@ one g c =
       inside = subst (λ n. c.args.place + length c.args.piece.now ≤ n) (sym owned.same.3) c.requires.within;
       long = owned.own.held.long;
       puts = e.now;
-      labels = λ b. (e.blocks b).0;
+      labels = λ b. e.calm.frame.stays.labels b (λ n. n);
       steps = bytes_put {at = c.own-at.result} (record {
-        kept = e.keeps;
-        high_is = k.0;
-        tops_stay = λ b. (k.3 b).1;
-        blocks_stay = λ b. (k.4 b).1;
+        puts = e.now;
+        adds = e.images;
+        calm = e.calm;
+        no_wait = e.no_wait;
         current = owned.own.current;
         tagged = owned.own.held.labelled.has_tag ∙ sym owned.same.1;
-        puts = e.now;
-        adds = e.adds;
-        order = e.order;
-        covers = e.covers;
-        blocks = e.blocks;
-        places = e.places;
-        passes = e.passes;
-        pins = e.numbers.1;
-        rooms = e.numbers.2;
-        nexts = e.numbers.3;
-        granted = e.numbers.4;
+        all = g.met.B.Blocks.keeps_all mid new e.keeps;
       });
-      told = k.2.0;
     }
 
 pub returns-clause-puts : goal.returns-clause-puts
-returns-clause-puts g c = λ told. puts_after (c.own-at.ensures.bytes told) (put_puts (one g c) ((g.met.B.Blocks.keeps_all c.args.on.now c.own-at.new.on c.own-at.ensures.steps.stays).2.1 told))
+returns-clause-puts g c = λ told. puts_after (c.own-at.ensures.bytes told) (put_puts (one g c) ((g.met.B.Blocks.keeps_all c.args.on.now c.own-at.new.on c.own-at.ensures.keeps).still_tells.1 told))
 
 pub returns-clause-over : goal.returns-clause-over
 returns-clause-over g c = put_over (one g c)
@@ -60,4 +65,4 @@ returns-clause-grew g c =
     let on = c.args.on.now in
     let mid = c.own-at.new.on in
     let new = c.put_bytes.new.self in
-    grew_joins (g.met.B.Blocks.keeps_joins on mid new) c.own-at.ensures.grew (grew_same c.own-at.ensures.same.0 c.own-at.ensures.same.1 (put_grew (one g c)))
+    grew_joins (g.met.B.Blocks.keeps_all on new (g.met.B.Blocks.keeps_joins on mid new c.own-at.ensures.keeps c.put_bytes.ensures.keeps)) c.own-at.ensures.grew (grew_same c.own-at.ensures.same.0 c.own-at.ensures.same.1 (put_grew (one g c)))

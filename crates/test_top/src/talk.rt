@@ -1,0 +1,184 @@
+//! Conversations over sources and sinks in memory, with a machine that counts.
+ghost use Rattle.std.specs.Prelude.{◌<◌};
+
+use crate::messages::bytes;
+use fo_links::{MemClock, MemSink, MemSource, SetClock};
+use fo_talk::{LinkEnd, Machine, serve};
+use nine_wire::{Qid, Reply, Request};
+use std::alloc::Global;
+use std::process::Abort;
+use std::test::Fail;
+
+/// Counts its fids, those that were let go, and how often none was left to let go.
+#[derive(Drop)]
+struct Counter {
+    fids: u32,
+    gone: u32,
+    emptied: u32,
+}
+
+impl Machine for Counter {
+    ghost faults = { λ _. record { main = 0; arena = 0 } };
+
+    ghost fids = { λ counter. counter.fids };
+
+    ghost goes = { λ _ _ _ _ _ _. Unit {0} };
+
+    fn answer(&mut self, _now: u32, _tag: u16, request: Request) -> Reply {
+        match request {
+            Request::Version { msize, version } => Reply::Version {
+                msize: msize.min(65560),
+                version,
+            },
+            Request::Attach { .. } => {
+                self.fids = self.fids.saturating_add(1);
+                Reply::Attach {
+                    qid: Qid {
+                        kind: 0x80,
+                        vers: 0,
+                        path: 0,
+                    },
+                }
+            }
+            _ => Reply::Flush,
+        }
+    }
+
+    fn drop_one(&mut self, _now: u32) -> (bool, Option<Reply>) {
+        if self.fids == 0 {
+            self.emptied = self.emptied.saturating_add(1);
+            return (false, None);
+        }
+        self.fids -= 1;
+        self.gone = self.gone.saturating_add(1);
+        (true, None)
+    }
+}
+
+// Talks over these bytes, which come at most `step` at a time: what is said, how it ends, how many
+// fids are let go, and how often none was left.
+fn says(
+    rt: &impl Abort,
+    alloc: Global,
+    input: &str,
+    step: usize,
+    output: &str,
+    end: LinkEnd,
+    counts: (u32, u32),
+) -> Result<(), Fail>
+    requires { 0 < step }
+{
+    let mut input = MemSource::new(bytes(alloc, input)?, step, Vec::new(alloc));
+    let mut out = MemSink::new(Vec::new(alloc));
+    let mut counter = Counter {
+        fids: 0,
+        gone: 0,
+        emptied: 0,
+    };
+    let mut clock = SetClock::new(7);
+    let ended = serve(alloc, &mut input, &mut out, &mut clock, &mut counter);
+    assert_eq!(rt; ended, end);
+    assert_eq!(rt; out.bytes(), bytes(alloc, output)?.as_slice());
+    assert_eq!(rt; counter.fids, 0);
+    assert_eq!(rt; counter.gone, counts.0);
+    assert_eq!(rt; counter.emptied, counts.1);
+    Ok(())
+}
+
+#[test]
+fn ample(rt: HostRuntime) -> Result<(), Fail> {
+    says(
+        &rt,
+        rt.alloc(),
+        "V T F",
+        1,
+        "RV RT RF",
+        LinkEnd::End,
+        (1, 2),
+    )
+}
+
+#[test]
+fn rows(rt: HostRuntime) -> Result<(), Fail> {
+    for (input, output, end, counts) in [
+        // no message
+        ("", "", LinkEnd::End, (0, 1)),
+        // no fid goes before another message than Tversion
+        ("T T F", "RT RT RF", LinkEnd::End, (2, 1)),
+        // all fids go before a Tversion
+        ("V T T V T", "RV RT RT RV RT", LinkEnd::End, (3, 3)),
+        // input that ends inside a message
+        (
+            "1300000064ffff1800010006003950323030",
+            "",
+            LinkEnd::BadMessage(0),
+            (0, 1),
+        ),
+        // the same behind messages
+        ("V T 190000", "RV RT", LinkEnd::BadMessage(44), (1, 2)),
+        // a type that no message has
+        ("V 070000006a0100", "RV", LinkEnd::BadMessage(19), (0, 2)),
+        // a size below 7
+        ("V 06000000", "RV", LinkEnd::BadMessage(19), (0, 2)),
+        // a size above the msize
+        (
+            "1300000064ffff000100000600395032303030 01010000",
+            "1300000065ffff000100000600395032303030",
+            LinkEnd::BadMessage(19),
+            (0, 2),
+        ),
+    ] {
+        says(&rt, rt.alloc(), input, 9, output, end, counts)?;
+    }
+    Ok(())
+}
+
+/// Knows the moments at which it was asked, or a fid was let go, in order.
+#[derive(Drop)]
+struct Diary {
+    moments: [u32; 8],
+    count: usize,
+}
+
+impl Diary {
+    fn enter(&mut self, now: u32) {
+        if let Some(moment) = self.moments.get_mut(self.count) {
+            *moment = now;
+            self.count = self.count.saturating_add(1);
+        }
+    }
+}
+
+impl Machine for Diary {
+    ghost faults = { λ _. record { main = 0; arena = 0 } };
+
+    ghost fids = { λ _. 0 };
+
+    ghost goes = { λ _ _ _ _ _ _. Unit {0} };
+
+    fn answer(&mut self, now: u32, _tag: u16, _request: Request) -> Reply {
+        self.enter(now);
+        Reply::Flush
+    }
+
+    fn drop_one(&mut self, now: u32) -> (bool, Option<Reply>) {
+        self.enter(now);
+        (false, None)
+    }
+}
+
+/// A clock that moves is read once for each request, and once for each fid or none that is let go.
+#[test]
+fn moments(rt: HostRuntime) -> Result<(), Fail> {
+    let alloc = rt.alloc();
+    let mut input = MemSource::new(bytes(alloc, "F F V F")?, 9, Vec::new(alloc));
+    let mut out = MemSink::new(Vec::new(alloc));
+    let mut clock = MemClock::new(vec![in alloc; 5, 6, 8, 8, 11, 20]?);
+    let mut diary = Diary {
+        moments: [0; 8],
+        count: 0,
+    };
+    serve(alloc, &mut input, &mut out, &mut clock, &mut diary);
+    assert_eq!(rt; diary.moments, [5, 6, 8, 8, 11, 20, 0, 0]);
+    Ok(())
+}
