@@ -14,3 +14,6 @@ pub mod Puts
 pub mod Reading
 pub mod Removes
 pub mod Bytes
+pub mod BeginNew
+pub mod Begin
+pub mod BeginEpoch

@@ -134,7 +134,7 @@ fn root_place() -> Place
 
 /// A block that was not made yet: no slot leads to it, and it has a root's place.
 fn unmade_block() -> PlainBlock
-    ensures place { result.place ≡ root_place }
+    ensures place { (result.place ≡ root_place) × (result.epoch ≡ 0) }
     ensures marks { (result.apart ≡ false) × (result.taken ≡ false) × (result.kept ≡ false) × (result.home ≡ nowhere) }
     ensures slots { (i : ℕ) → slot_of result i ≡ blank_slot Root i }
 {
