@@ -33,10 +33,10 @@ slot_added {old} {new} {at} {i} {s} puts besides = record {
   );
 }
 
--- A block to which no slot leads is new.
-pub block_added : {old new : Image} {at : ℕ} {c : Content} → PutsBlock at c old new → at ≢ 1 → ((a i : ℕ) → target ((new a).slot i) ≢ Local at) → AddsBlock (λ t. t ≡ 1) at c (λ image. SameImage image old) (λ image. SameImage image new)
-block_added {old} {new} {at} {c} puts past within = record {
-  apart = λ image is t is_top r. reaches_within (λ b. b ≢ at) image (λ a i b e same. within a i (ap target (sym ((is.each a).slots i)) ∙ e ∙ ap Local same)) (λ b e same. let is_t : Local t ≡ Local b = e in let t_is : t ≡ b = cc in past (sym same ∙ sym t_is ∙ is_top)) r refl;
+-- A block to which no slot leads, and which is no top, is new.
+pub block_added : {old new : Image} {at : ℕ} {c : Content} (tops : ℕ → Type 0) → PutsBlock at c old new → ((t : ℕ) → tops t → t ≢ at) → ((a i : ℕ) → target ((new a).slot i) ≢ Local at) → AddsBlock tops at c (λ image. SameImage image old) (λ image. SameImage image new)
+block_added {old} {new} {at} {c} tops puts past within = record {
+  apart = λ image is t is_top r. reaches_within (λ b. b ≢ at) image (λ a i b e same. within a i (ap target (sym ((is.each a).slots i)) ∙ e ∙ ap Local same)) (λ b e same. let is_t : Local t ≡ Local b = e in let t_is : t ≡ b = cc in past t is_top (t_is ∙ same)) r refl;
   holds = λ image is. same_joins (is.each at) puts.here;
   before = λ image is. (
     old at,

@@ -1,5 +1,12 @@
 pub mod Plain
 pub mod Spell
 pub mod Sound
+pub mod Meaning
+pub mod Moves
 pub mod Props
-pub mod PlainLaws
+pub mod Parts
+pub mod Fresh
+pub mod Epochs
+pub mod Trails
+pub mod Formed
+pub mod Laws

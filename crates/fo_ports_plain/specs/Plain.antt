@@ -1,25 +1,29 @@
 -- Blocks in memory.
-use Rattle.std.specs.Prelude.{◌≡◌, ◌≢◌, ◌^◌, ◌+◌, ◌-◌, ◌<◌, ℕ, Bool, true, false, cond, nat_eq, nat_lt, ◌&&◌, List, [], ◌∷◌, length, slice_index_or, Option, Some, None}
-use Rattle.fo_image.specs.declared.types.Kind.TheVariants.{Data, Root}
+use Rattle.std.specs.Prelude.{◌≡◌, ◌≢◌, ◌⊎◌, ◌^◌, ◌+◌, ◌-◌, ◌*◌, ◌/◌, ◌<◌, ℕ, Bool, true, false, cond, nat_eq, nat_lt, ◌&&◌, List, [], ◌∷◌, length, slice_index_or, Option, Some, None}
+use Rattle.fo_image.specs.declared.types.Kind.{Kind}
+use Rattle.fo_image.specs.declared.types.Kind.TheVariants.{Data, Dir, Root}
 use Rattle.fo_image.specs.declared.types.State.{State}
 use Rattle.fo_image.specs.declared.types.State.TheVariants.{Free, Live}
 use Rattle.fo_image.specs.declared.types.Score.{Score}
 use Rattle.fo_image.specs.declared.types.Label.{Label}
 use Rattle.fo_image.specs.declared.types.Pointer.TheVariants.{Nil}
 use Rattle.fo_crash.specs.declared.slot.Slot.{Slot}
-use Rattle.fo_crash.specs.declared.slot.Slot.TheVariants.{Pointer as To}
+use Rattle.fo_crash.specs.declared.slot.Slot.TheVariants.{Pointer as To, Entry as Head, Prev}
 use Rattle.fo_crash.specs.declared.place.Place.{Place}
-use Rattle.fo_crash.specs.Images.{Content, Image, SameContent}
-use Rattle.fo_crash.specs.Places.{place, place_below, root_place}
-use Rattle.fo_crash.specs.Names.{IsInUse}
+use Rattle.fo_crash.specs.Images.{Content, Image, to_block, Reaches}
+use Rattle.fo_crash.specs.Places.{place, place_below}
 use Rattle.std.specs.Str.{bytes_eq}
-use Rattle.fo_ports.specs.Blocks.{blank}
+use Rattle.fo_ports_plain.specs.declared.home.Home.{Home}
 use Rattle.fo_ports_plain.specs.declared.block.PlainBlock.{PlainBlock}
 use Rattle.fo_ports_plain.specs.declared.held.HeldBlock.{HeldBlock}
+use Rattle.fo_ports_plain.specs.declared.wait.Wait.{Wait}
+
+abbrev pub nowhere : Home
+nowhere = record { hangs = false; source = 0; index = 0; slot = 0 }
 
 -- what stands past the end of the list of blocks
 abbrev pub no_block : PlainBlock
-no_block = record { place = place (Data 0) 0 0 0; epoch = 0; loose = false; awaited = false; bytes = []; slots = [] }
+no_block = record { place = place (Data 0) 0 0 0; epoch = 0; apart = false; origin = 0; source = 0; home = nowhere; taken = false; kept = false; bytes = []; slots = [] }
 
 abbrev pub block_at : List PlainBlock → ℕ → PlainBlock
 block_at blocks b = slice_index_or blocks b no_block
@@ -47,11 +51,54 @@ pub record Stands (blocks : List PlainBlock) (made b : ℕ) (p : Place) : Type 0
   pub was_made : b < made
   pub is : (block_at blocks b).place ≡ p
 
--- A leaf waits for an entry that is in use.
-pub record Awaits (blocks : List PlainBlock) (on j : ℕ) : Type 0 where
-  pub awaited : (block_at blocks on).awaited ≡ true
-  pub generation : ℕ
-  pub in_use : IsInUse (slot_of (block_at blocks on) j) generation
+-- the addresses of data blocks, and of those that were given out
+abbrev pub IsData : List PlainBlock → ℕ → Type 0
+IsData blocks b = (1 < b) × (b < length blocks)
+
+abbrev pub IsMade : ℕ → ℕ → Type 0
+IsMade made b = (1 < b) × (b < made)
+
+-- a block that was made and put into no slot yet; and the block in whose place it is to come
+abbrev pub IsApart : List PlainBlock → ℕ → Type 0
+IsApart blocks b = (block_at blocks b).apart ≡ true
+
+pub record Instead (blocks : List PlainBlock) (y x : ℕ) : Type 0 where
+  pub apart : (block_at blocks y).apart ≡ true
+  pub origin : (block_at blocks y).origin ≡ x
+  pub some : x ≢ 0
+
+-- block 1, and the roots that are kept
+abbrev pub IsTop : List PlainBlock → ℕ → Type 0
+IsTop blocks t = (t ≡ 1) ⊎ ((block_at blocks t).kept ≡ true)
+
+-- A slot that led to a block was taken out; this one hangs from that block, and from block 1 no more.
+pub record Covered (blocks : List PlainBlock) (b : ℕ) : Type 0 where
+  pub top : ℕ
+  pub taken : (block_at blocks top).taken ≡ true
+  pub below : Reaches (memory blocks) (to_block top) b
+  pub gone : Reaches (memory blocks) (to_block 1) b → ⊥
+
+abbrev pub is_active : Slot → Bool
+is_active (Head e) = e.active
+is_active (To p) = false
+is_active (Prev epoch at) = false
+
+abbrev pub no_wait : Wait
+no_wait = record { at = 0; on = 0; pairs = [] }
+
+abbrev pub wait_at : List Wait → ℕ → Wait
+wait_at waits n = slice_index_or waits n no_wait
+
+abbrev pub pair_of : Wait → ℕ → Bool
+pair_of wait k = slice_index_or wait.pairs k false
+
+-- Block `a` waits for an entry of block `on`: its pair is on a list of pairs.
+pub record Awaits (waits : List Wait) (a on j : ℕ) : Type 0 where
+  pub number : ℕ
+  pub within : number < length waits
+  pub is_at : (wait_at waits number).at ≡ a
+  pub is_on : (wait_at waits number).on ≡ on
+  pub pair : pair_of (wait_at waits number) (j / 2) ≡ true
 
 -- One block is put in place of another.
 pub record Updates (at : ℕ) (block : PlainBlock) (old new : List PlainBlock) : Type 0 where
@@ -63,6 +110,15 @@ pub record Updates (at : ℕ) (block : PlainBlock) (old new : List PlainBlock) :
 abbrev pub index_below : Place → ℕ → ℕ
 index_below p i = (place_below p i (To Nil)).index
 
+-- the index that counts the entries of a block among those of its source
+abbrev pub index_in : Place → ℕ
+index_in p = by p.kind
+  where
+    by : Kind → ℕ
+    by (Data level) = p.index
+    by (Dir level) = p.index
+    by Root = 0
+
 -- the block is held under this score and kind
 abbrev pub is_under : Score → ℕ → Score → ℕ → Bool
 is_under score kind other other_kind = bytes_eq score.0 other.0 && nat_eq kind other_kind
@@ -71,13 +127,3 @@ is_under score kind other other_kind = bytes_eq score.0 other.0 && nat_eq kind o
 abbrev pub held_in : List HeldBlock → Score → ℕ → Option (List ℕ)
 held_in [] score kind = None
 held_in (h ∷ held) score kind = cond (is_under h.score h.kind score kind) (Some h.bytes) (held_in held score kind)
-
--- A new device: so many blocks may be made, and block 2 is the root block of an empty tree.
-pub record IsNew (count : ℕ) (blocks : List PlainBlock) (made high spare room : ℕ) : Type 0 where
-  pub as_long : length blocks ≡ count + 3
-  pub three : made ≡ 3
-  pub first : high ≡ 1
-  pub nothing : (spare ≡ 0) × (room ≡ 0)
-  pub root : SameContent (memory blocks 2) (blank Root)
-  pub at_root : Stands blocks made 2 root_place
-  pub root_label : label_at blocks made 2 ≡ record { state = Live; kind = Root; tag = 1; epoch = 1; closing = 2 ^ 32 - 1 }

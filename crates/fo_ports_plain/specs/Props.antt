@@ -1,4 +1,4 @@
--- That a block is spelled has at most one proof.
+-- That each fact that is kept of blocks in memory has at most one proof.
 use Rattle.std.specs.Prelude.{ℕ, zero, suc, Bool, true, false, List}
 use Rattle.std.proofs.Props.{props}
 use Rattle.fo_image.specs.declared.types.Entry.{Entry}
@@ -11,7 +11,8 @@ use Rattle.fo_crash.specs.declared.slot.Slot.{Slot}
 use Rattle.fo_crash.specs.declared.slot.Slot.TheVariants.{Pointer as To, Entry as Head, Prev}
 use Rattle.fo_ports.specs.Blocks.{SlotFits, IsPointer, IsEntry, IsPrev}
 use Rattle.fo_ports_plain.specs.declared.block.PlainBlock.{PlainBlock}
-use Rattle.fo_ports_plain.specs.Sound.{Spelled}
+use Rattle.fo_ports_plain.specs.declared.wait.Wait.{Wait}
+use Rattle.fo_ports_plain.specs.Sound.{Sound, Waiting}
 
 holds_prop : (p : Pointer) → IsProp (PointerHolds p)
 holds_prop Nil = Prim.hlevel props
@@ -45,5 +46,8 @@ slot_prop Root zero s = entry_prop s
 slot_prop Root (suc zero) s = entry_prop s
 slot_prop Root (suc (suc i)) s = prev_prop s
 
-pub spelled_prop : (blocks : List PlainBlock) → IsProp (Spelled blocks)
-spelled_prop blocks = Prim.hlevel (props, slot_prop)
+pub sound_prop : (blocks : List PlainBlock) (made high root : ℕ) → IsProp (Sound blocks made high root)
+sound_prop blocks made high root = Prim.hlevel (props, slot_prop)
+
+pub waiting_prop : (blocks : List PlainBlock) (made : ℕ) (waits : List Wait) → IsProp (Waiting blocks made waits)
+waiting_prop blocks made waits = Prim.hlevel props

@@ -1,12 +1,4 @@
 //! The calls on blocks in memory.
-ghost use Rattle.std.specs.Prelude.{◌≡◌, ◌≢◌, ◌+◌, ◌-◌, ◌^◌, ◌<◌, ◌≤◌, ℕ, List, length, IfOk};
-ghost use Rattle.fo_image.specs.declared.types.Kind.{Kind};
-ghost use Rattle.fo_crash.specs.declared.place.Place.{Place};
-ghost use Rattle.fo_crash.specs.Images.{SameImage};
-ghost use Rattle.fo_crash.specs.Places.{super_place};
-ghost use Rattle.fo_ports.specs.Blocks.{blank};
-ghost use Rattle.fo_ports_plain.specs.Plain.{memory, label_at, Stands, Awaits, block_at, held_in};
-
 use crate::block::blank_block;
 use crate::held::copy_held;
 use crate::plain::PlainBlocks;
@@ -16,79 +8,19 @@ use fo_image::{Kind, Label, Pointer, Score, State};
 use fo_ports::{BlockError, Blocks};
 
 impl Blocks for PlainBlocks {
-    ghost use Rattle.std.specs.Prelude.{refl, false, true, None};
-    ghost use Rattle.std.proofs.Math.Nat.{le_refl};
-    ghost use Rattle.fo_crash.specs.Steps.{HasSuper};
-    ghost use Rattle.fo_ports_plain.specs.PlainLaws.{IsData, PlainKeeps, plain_one, plain_placed, plain_ranked, plain_labelled, plain_within, plain_small, plain_spelled, plain_live, plain_falls, plain_root, plain_super, plain_in_place, plain_uses, plain_sure, plain_doubt, plain_at_once, plain_joins, plain_blocks, plain_held};
+    ghost use Rattle.fo_ports_plain.specs.Meaning.{state_of, PlainKeeps};
+    ghost use Rattle.fo_ports_plain.specs.Parts.{parts};
 
-    ghost now = { λ s. memory s.blocks.items };
+    ghost state = { λ s. state_of (parts s) };
 
-    ghost label = { λ s. label_at s.blocks.items s.made };
-
-    ghost stands = { λ s. Stands s.blocks.items s.made };
-
-    ghost loose = { λ s b. (block_at s.blocks.items b).loose ≡ true };
-
-    ghost high = { λ s. s.high };
-
-    ghost root = { λ s. 2 };
-
-    ghost tops = { λ s t. t ≡ 1 };
-
-    ghost is_block = { λ s b. IsData s.blocks.items b };
-
-    ghost is_formed = { λ s p bytes. Unit {0} };
-
-    ghost held = { λ s score kind. held_in s.held.items score kind };
-
-    ghost next = { λ s. s.next };
-
-    ghost grants = { λ s. s.next < 2 ^ 30 };
-
-    ghost limit = { λ s c. 2 ^ 30 };
-
-    ghost may_leave = { λ s image. SameImage image (memory s.blocks.items) };
-
-    ghost moments = { λ s. 0 };
-
-    ghost left = { λ s k image. ⊥ };
-
-    ghost tells = { λ s. Unit {0} };
-
-    ghost doubt = { λ s c. ⊥ };
-
-    ghost sure_at = { λ s b. Unit {0} };
-
-    ghost sealed_at = { λ s b. Unit {0} };
-
-    ghost spare = { λ s. s.spare };
-
-    ghost pins_left = { λ s. 2 ^ 32 };
-
-    ghost room = { λ s. s.room };
-
-    ghost pinned = { λ s b. IsData s.blocks.items b };
-
-    ghost usable = { λ s. length s.blocks.items - s.made };
-
-    ghost waits = { λ s a on j. Awaits s.blocks.items on j };
-
-    ghost clearing = { λ s a j. ⊥ };
-
-    ghost covered = { λ s b. ⊥ };
-
-    ghost faults = { λ s. 0 };
-
-    ghost arena_faults = { λ s. 0 };
-
-    ghost keeps = { λ s t. PlainKeeps s.blocks.items t.blocks.items s.held.items t.held.items s.high t.high };
+    ghost keeps = { λ s t. PlainKeeps (parts s) (parts t) };
 
     fn get(&mut self, at: u32, kind: Kind, rank: u32, into: &mut [u8]) -> Result<(), BlockError> {
         let _ = rank;
-        let block = &self.blocks[at as usize];
-        if block.place.kind != kind {
+        if self.made <= at {
             return Err(BlockError::Damaged(at));
         }
+        let block = &self.blocks[at as usize];
         into.copy_from_slice(&block.bytes);
         spell_slots(kind, &block.slots, into);
         Ok(())
@@ -116,7 +48,12 @@ impl Blocks for PlainBlocks {
     }
 
     fn root(&self) -> u32 {
-        2
+        self.root
+    }
+
+    fn is_clearing(&self, at: u32, i: u32) -> bool {
+        let _ = (at, i);
+        false
     }
 
     fn number(&mut self) -> Result<Option<u32>, BlockError> {
@@ -138,11 +75,11 @@ impl Blocks for PlainBlocks {
             index: 0,
             rank,
         };
-        self.make(blank_block(place, self.high))
+        self.make(blank_block(place, self.high, self.made))
     }
 
     fn copy(&mut self, at: u32) -> u32 {
-        let block = self.blocks[at as usize].copied(self.high);
+        let block = self.blocks[at as usize].copied(at, self.high);
         self.make(block)
     }
 
@@ -151,7 +88,8 @@ impl Blocks for PlainBlocks {
     }
 
     fn put_slot(&mut self, at: u32, i: u32, slot: Slot) {
-        self.room -= 409 * self.levels_dropped(at, i, &slot);
+        self.room -= self.cost(at, i, &slot, self.room);
+        self.take_out(at, i, &slot);
         match slot.target() {
             Pointer::Local(below) => self.link(at, i, slot, below),
             _ => self.set_slot(at, i, slot),
@@ -161,15 +99,17 @@ impl Blocks for PlainBlocks {
     fn remove_slot(&mut self, at: u32, i: u32, after: Option<u32>) {
         let _ = after;
         self.room -= 1;
-        let slot = self.slot(at, i);
-        self.set_slot(at, i, slot.cleared());
+        let slot = self.slot(at, i).cleared();
+        self.take_out(at, i, &slot);
+        self.end_waits(at, i);
+        self.set_slot(at, i, slot);
     }
 
     fn wait_for(&mut self, at: u32, on: u32) {
-        let _ = at;
-        self.room -= 1;
-        if (on as usize) < self.blocks.len() {
-            self.mark_awaited(on);
+        if on < self.made {
+            self.add_wait(at, on);
+        } else {
+            self.room -= 1;
         }
     }
 
@@ -178,16 +118,20 @@ impl Blocks for PlainBlocks {
         self.room -= 1;
     }
 
+    /// No block is closed, so blocks that were taken out of the tree stay in use: where there are any, it is for want of memory that
+    /// no more can be made.
     fn reserve(&mut self, blocks: u32, pins: u32, removals: u32) -> Result<(), BlockError> {
         let _ = pins;
         if (self.blocks.len() as u32) - self.made < blocks {
-            return Err(BlockError::Full);
+            return Err(if self.queued == 0 {
+                BlockError::Full
+            } else {
+                BlockError::Memory
+            });
         }
+        self.make_room(removals)?;
         if self.spare < blocks {
             self.spare = blocks;
-        }
-        if self.room < removals {
-            self.room = removals;
         }
         Ok(())
     }
@@ -203,6 +147,7 @@ impl Blocks for PlainBlocks {
     }
 
     fn settle(&mut self) -> Result<(), BlockError> {
+        self.waits.clear();
         Ok(())
     }
 
@@ -214,57 +159,75 @@ impl Blocks for PlainBlocks {
         }
     }
 
-    ghost present = { λ b t. record { each = λ at. record { bytes = refl; slots = λ i. refl } } };
+    ghost use Rattle.fo_ports_plain.specs.Laws as law;
 
-    ghost shown = { λ b image h. absurd h };
+    ghost present = { λ b. law.present (parts b) };
 
-    ghost told = { λ b image is. tt };
+    ghost shown = { λ b. law.shown (parts b) };
 
-    ghost active = { λ b. refl };
+    ghost told = { λ b. law.told (parts b) };
 
-    ghost root_named = { λ b t. plain_root b.blocks.items b.super_at };
+    ghost active = { λ b. law.active (parts b) };
 
-    ghost one_place = { λ b. plain_one b.blocks.items b.made };
+    ghost root_named = { λ b. law.root_named (parts b) b.sound };
 
-    ghost super_stands = { λ b t. plain_super b.blocks.items b.made b.three b.super_at };
+    ghost root_is = { λ b. law.root_is (parts b) b.sound b.spared };
 
-    ghost placed = { λ b image is. plain_placed b.blocks.items b.made b.links image is };
+    ghost one_place = { λ b. law.one_place (parts b) };
 
-    ghost ranked = { λ b image is. plain_ranked b.blocks.items b.made b.links image is };
+    ghost super_stands = { λ b. law.super_stands (parts b) b.three b.sound };
 
-    ghost labelled = { λ b at p t ne is. plain_labelled b.blocks.items b.made b.spare at p b.spared ne is };
+    ghost top_stands = { λ b. law.top_stands (parts b) b.sound };
 
-    ghost within = { λ b at i below is e. plain_within b.blocks.items b.made b.spare b.spared b.links at i below e };
+    ghost placed = { λ b. law.placed (parts b) b.sound };
 
-    ghost small = { λ b at is. plain_small b.blocks.items at b.few is };
+    ghost ranked = { λ b. law.ranked (parts b) b.sound };
 
-    ghost spelled = { λ b at i is lt. plain_spelled b.blocks.items b.made b.spelled at i is lt };
+    ghost few = { λ b. law.few (parts b) b.sound };
 
-    ghost live = { λ b at t ne r. plain_live b.blocks.items b.made b.high at b.links b.aged ne r };
+    ghost formed = { λ b. law.formed (parts b) b.formed };
 
-    ghost falls = { λ b top at i below t is_top ne r e. plain_falls b.blocks.items b.made b.super_at b.three b.links top at i below is_top ne r e };
+    ghost one_spot = { λ b. law.one_spot (parts b) b.sound };
 
-    ghost old_is_sure = { λ b top at is_top ne r older. record { each = λ image is. is.each at } };
+    ghost labelled = { λ b. law.labelled (parts b) b.spared };
 
-    ghost sure = { λ b at is. plain_sure b.blocks.items at };
+    ghost within = { λ b. law.within (parts b) b.spared b.sound };
 
-    ghost super_known = { λ b. plain_doubt b.blocks.items };
+    ghost small = { λ b. law.small (parts b) b.few };
 
-    ghost one_doubt = { λ b c d h k. absurd h };
+    ghost spelled = { λ b. law.spelled (parts b) b.sound };
 
-    ghost granted = { λ b image h is. h };
+    ghost live = { λ b. law.live (parts b) b.three b.sound };
 
-    ghost waits_in_use = { λ b a on j w. plain_uses b.blocks.items on j w };
+    ghost falls = { λ b. law.falls (parts b) b.three b.sound };
 
-    ghost clears_entries = { λ b at j h. absurd h };
+    ghost old_is_sure = { λ b. law.old_is_sure (parts b) };
 
-    ghost in_place = { λ b at sealed current r image is. plain_in_place b.blocks.items at r image is };
+    ghost sure = { λ b. law.sure (parts b) };
 
-    ghost data_is_free = { λ b p bytes k r l. tt };
+    ghost in_place = { λ b at is doomed r image same. law.in_place (parts b) at is ⊥ image r same };
 
-    ghost keeps_at_once = { λ a. plain_at_once a.blocks.items a.held.items a.high };
+    ghost super_known = { λ b. law.super_known (parts b) };
 
-    ghost keeps_joins = { λ a b c p q. plain_joins p q };
+    ghost one_doubt = { λ b. law.one_doubt (parts b) };
 
-    ghost keeps_all = { λ a b k. (k.same_high, refl, (λ h. h, λ h. h), λ t. (λ h. h, λ h. h), plain_blocks k, plain_held k, le_refl 0, le_refl 0, λ p bytes. (λ h. h, λ h. h), λ c. refl) };
+    ghost limited = { λ b. law.limited (parts b) b.numbered };
+
+    ghost waits_in_use = { λ b. law.waits_in_use (parts b) b.waiting };
+
+    ghost clears_entries = { λ b at j h. law.clears_entries (parts b) at j h _ };
+
+    ghost clears_used = { λ b. law.clears_used (parts b) };
+
+    ghost none_queued = { λ b. law.none_queued (parts b) b.queue };
+
+    ghost apart_hangs = { λ b. law.apart_hangs (parts b) b.three b.sound };
+
+    ghost instead_of = { λ b. law.instead_of (parts b) };
+
+    ghost keeps_at_once = { λ a. law.keeps_at_once (parts a) };
+
+    ghost keeps_joins = { λ a b c. law.keeps_joins (parts a) (parts b) (parts c) };
+
+    ghost keeps_all = { λ a b. law.keeps_all (parts a) (parts b) };
 }

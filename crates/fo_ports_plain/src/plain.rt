@@ -1,22 +1,25 @@
 //! Blocks in memory alone: every image is what memory has.
-ghost use Rattle.std.specs.Prelude.{◌≡◌, ◌≢◌, ◌+◌, ◌-◌, ◌*◌, ◌^◌, ◌<◌, ◌≤◌, ℕ, List, ◌∷◌, Some, false, true, cond, length, IfOk, OnOk, OnErr};
-ghost use Rattle.fo_crash.specs.Images.{target, depth_of, SameImage};
-ghost use Rattle.fo_crash.specs.Places.{place_below, root_place, FitsAt};
-ghost use Rattle.fo_crash.specs.Steps.{PutsSlot, PutsBytes};
+ghost use Rattle.std.specs.Prelude.{◌≡◌, ◌≢◌, ◌+◌, ◌-◌, ◌^◌, ◌<◌, ◌≤◌, ℕ, ◌∷◌, Some, false, true, cond, length, IfOk, OnOk, OnErr};
+ghost use Rattle.std.specs.Vec.{vec_len, vec_capacity};
+ghost use Rattle.fo_crash.specs.Places.{root_place};
 ghost use Rattle.fo_image.specs.declared.types.Pointer.TheVariants.{Nil, Local};
 ghost use Rattle.fo_crash.specs.declared.slot.Slot.TheVariants.{Pointer as To};
 ghost use Rattle.fo_image.specs.declared.types.Score.{Score};
-ghost use Rattle.fo_ports.specs.Blocks.{dropped, put_at, SlotFits};
 ghost use Rattle.fo_ports_plain.specs.declared.block.PlainBlock.{PlainBlock};
-ghost use Rattle.fo_ports_plain.specs.Plain.{block_at, slot_of, memory, IsNew, label_at, Updates, held_in, is_under};
-ghost use Rattle.fo_ports_plain.specs.Sound.{Links, Spelled, IsSuper, Aged, Sound, Linked, IsSpelled};
-ghost use Rattle.fo_ports_plain.specs.Props.{spelled_prop};
+ghost use Rattle.fo_ports_plain.specs.Plain.{slot_of, held_in, is_under, nowhere};
+ghost use Rattle.fo_image.specs.declared.types.Kind.TheVariants.{Root};
+ghost use Rattle.fo_image.specs.Record.{RootRecordHolds};
+ghost use Rattle.fo_ports.specs.Blocks.{IsFormed, blank_slot};
+ghost use Rattle.fo_ports_plain.specs.Sound.{IsSuper, HangsAt, Sound, Formed, Waiting, Queue};
+ghost use Rattle.fo_ports_plain.specs.Props.{sound_prop, waiting_prop};
 
-use crate::block::{PlainBlock, blank_block, depth, index_below, no_bytes, no_slots};
+use crate::block::{PlainBlock, blank_block, no_bytes, no_entry, no_slots, nowhere};
 use crate::held::HeldBlock;
+use crate::home::Home;
+use crate::wait::Wait;
 use fo_base::Memory;
 use fo_crash::{Place, Slot};
-use fo_image::{Kind, Pointer, Score};
+use fo_image::{Kind, Pointer, Record, RootBlock, Score, Text, write_root};
 use std::alloc::Global;
 
 /// A device of blocks in memory, which are settled at once. Blocks that are taken out of the tree are not given out again.
@@ -24,41 +27,50 @@ use std::alloc::Global;
 pub struct PlainBlocks {
     pub(crate) blocks: Vec<PlainBlock>,
     pub(crate) held: Vec<HeldBlock>,
+    pub(crate) waits: Vec<Wait>,
     pub(crate) made: u32,
     pub(crate) high: u32,
+    pub(crate) root: u32,
     pub(crate) spare: u32,
     pub(crate) next: u32,
     pub(crate) room: u32,
+    pub(crate) queued: u32,
     ghost three: { 2 < made },
     ghost begun: { 0 < high },
     ghost few: { length blocks.items < 2 ^ 32 },
     ghost spared: { made + spare ≤ length blocks.items },
-    ghost super_at: { IsSuper (block_at blocks.items 1) },
-    ghost links: { Links blocks.items made },
-    ghost spelled: { Spelled blocks.items } by { spelled_prop blocks.items },
-    ghost aged: { Aged blocks.items made high },
+    ghost numbered: { next ≤ 2 ^ 30 },
+    ghost roomy: { vec_len waits + room ≤ vec_capacity waits },
+    ghost sound: { Sound blocks.items made high root } by { sound_prop blocks.items made high root },
+    ghost formed: { Formed blocks.items made },
+    ghost waiting: { Waiting blocks.items made waits.items } by { waiting_prop blocks.items made waits.items },
+    ghost queue: { Queue blocks.items queued },
 }
 
 impl PlainBlocks {
+    ghost use Rattle.fo_ports_plain.specs.Fresh.{IsFresh};
+    ghost use Rattle.fo_ports_plain.specs.Parts.{parts};
+
     /// A device of so many blocks that may be made, beside the super block and the root block of an empty tree.
     pub fn new(alloc: Global, count: u32) -> Result<PlainBlocks, Memory>
         requires { count < 2 ^ 32 - 3 }
-        ensures { IfOk result (λ b. IsNew count b.blocks.items b.made b.high b.spare b.room) }
+        ensures { IfOk result (λ b. IsFresh count (parts b)) }
     {
         let mut blocks = Vec::new(alloc);
-        blocks.resize(
-            count as usize + 3,
-            blank_block(root_place(), 1).with_index(0),
-        )?;
+        blocks.resize(count as usize + 3, unmade_block())?;
         blocks[1] = super_block();
+        blocks[2] = root_block(alloc)?;
         Ok(PlainBlocks {
             blocks,
             held: Vec::new(alloc),
+            waits: Vec::new(alloc),
             made: 3,
             high: 1,
+            root: 2,
             spare: 0,
             next: 1,
             room: 0,
+            queued: 0,
         })
     }
 
@@ -67,8 +79,7 @@ impl PlainBlocks {
         requires { length bytes.now ≡ 8192 }
         ensures held { OnOk result ((other : Score) (k : ℕ) → held_in self.new.held.items other k ≡ cond (is_under score.now kind other k) (Some bytes.now) (held_in self.old.held.items other k)) }
         ensures nothing { OnErr result (self.new.held.items ≡ self.old.held.items) }
-        ensures blocks { self.new.blocks.items ≡ self.old.blocks.items }
-        ensures numbers { (self.new.made ≡ self.old.made) × (self.new.spare ≡ self.old.spare) × (self.new.next ≡ self.old.next) × (self.new.room ≡ self.old.room) × (self.new.high ≡ self.old.high) }
+        ensures rest { parts self.new ≡ record (parts self.old) { held = self.new.held.items } }
     {
         let mut block = HeldBlock {
             score: *score,
@@ -79,126 +90,12 @@ impl PlainBlocks {
         self.held.insert(0, block)?;
         Ok(())
     }
-
-    /// Puts a block in place of another.
-    pub(crate) fn set(&mut self, at: u32, block: PlainBlock)
-        requires block { at < length self.old.blocks.items }
-        requires sound { (new : List PlainBlock) → Updates at block self.old.blocks.items new → Sound new self.old.made self.old.high }
-        ensures updates { Updates at block self.old.blocks.items self.new.blocks.items }
-        ensures held { self.new.held.items ≡ self.old.held.items }
-        ensures numbers { (self.new.made ≡ self.old.made) × (self.new.spare ≡ self.old.spare) × (self.new.next ≡ self.old.next) × (self.new.room ≡ self.old.room) × (self.new.high ≡ self.old.high) }
-    {
-        self.blocks[at as usize] = block;
-    }
-
-    /// Gives out the next block.
-    pub(crate) fn make(&mut self, block: PlainBlock) -> u32
-        requires spare { 0 < self.old.spare }
-        requires links { (i b : ℕ) → target (slot_of block i) ≡ Local b → Linked self.old.made i b block (block_at self.old.blocks.items b) }
-        requires spelled { IsSpelled block }
-        requires epoch { block.epoch ≡ self.old.high }
-        ensures at { result ≡ self.old.made }
-        ensures made { self.new.made ≡ self.old.made + 1 }
-        ensures updates { Updates self.old.made block self.old.blocks.items self.new.blocks.items }
-        ensures held { self.new.held.items ≡ self.old.held.items }
-        ensures numbers { (self.new.spare + 1 ≡ self.old.spare) × (self.new.next ≡ self.old.next) × (self.new.room ≡ self.old.room) × (self.new.high ≡ self.old.high) }
-    {
-        let at = self.made;
-        self.blocks[at as usize] = block;
-        self.made += 1;
-        self.spare -= 1;
-        at
-    }
-
-    /// Puts a slot that leads to no block of the device.
-    pub(crate) fn set_slot(&mut self, at: u32, i: u32, slot: Slot)
-        requires block { (1 < at) × (at < length self.old.blocks.items) }
-        requires slot { i < 409 }
-        requires nowhere { (b : ℕ) → target slot ≢ Local b }
-        requires fits { SlotFits (block_at self.old.blocks.items at).place.kind i slot }
-        ensures puts { PutsSlot at i slot (memory self.old.blocks.items) (memory self.new.blocks.items) }
-        ensures marks { (b : ℕ) → ((block_at self.new.blocks.items b).place ≡ (block_at self.old.blocks.items b).place) × ((block_at self.new.blocks.items b).loose ≡ (block_at self.old.blocks.items b).loose) × ((block_at self.new.blocks.items b).awaited ≡ (block_at self.old.blocks.items b).awaited) × ((block_at self.new.blocks.items b).epoch ≡ (block_at self.old.blocks.items b).epoch) }
-        ensures held { self.new.held.items ≡ self.old.held.items }
-        ensures length { length self.new.blocks.items ≡ length self.old.blocks.items }
-        ensures numbers { (self.new.made ≡ self.old.made) × (self.new.spare ≡ self.old.spare) × (self.new.next ≡ self.old.next) × (self.new.room ≡ self.old.room) × (self.new.high ≡ self.old.high) }
-    {
-        let block = self.blocks[at as usize].with_slot(i, slot);
-        self.set(at, block);
-    }
-
-    /// Puts a slot that leads to a block which stands at the place below, or whose index is still free.
-    pub(crate) fn link(&mut self, at: u32, i: u32, slot: Slot, below: u32)
-        requires block { (1 < at) × (at < length self.old.blocks.items) }
-        requires slot { i < 409 }
-        requires below { (1 < below) × (below < self.old.made) × (target slot ≡ Local below) }
-        requires fits { FitsAt ((block_at self.old.blocks.items below).loose ≡ true) ((block_at self.old.blocks.items below).place) (place_below ((block_at self.old.blocks.items at).place) i slot) }
-        requires lower { (place_below ((block_at self.old.blocks.items at).place) i slot).rank < (block_at self.old.blocks.items at).place.rank }
-        requires spelled { SlotFits (block_at self.old.blocks.items at).place.kind i slot }
-        requires ages { (block_at self.old.blocks.items below).epoch ≤ (block_at self.old.blocks.items at).epoch }
-        ensures puts { PutsSlot at i slot (memory self.old.blocks.items) (memory self.new.blocks.items) }
-        ensures here { (block_at self.new.blocks.items below).place ≡ place_below ((block_at self.old.blocks.items at).place) i slot }
-        ensures places { (b : ℕ) → b ≢ below → (block_at self.new.blocks.items b).place ≡ (block_at self.old.blocks.items b).place }
-        ensures loose { (b : ℕ) → b ≢ below → b ≢ at → (block_at self.new.blocks.items b).loose ≡ (block_at self.old.blocks.items b).loose }
-        ensures awaited { (b : ℕ) → (block_at self.new.blocks.items b).awaited ≡ (block_at self.old.blocks.items b).awaited }
-        ensures labels { (b : ℕ) → label_at self.new.blocks.items self.new.made b ≡ label_at self.old.blocks.items self.old.made b }
-        ensures held { self.new.held.items ≡ self.old.held.items }
-        ensures length { length self.new.blocks.items ≡ length self.old.blocks.items }
-        ensures numbers { (self.new.made ≡ self.old.made) × (self.new.spare ≡ self.old.spare) × (self.new.next ≡ self.old.next) × (self.new.room ≡ self.old.room) × (self.new.high ≡ self.old.high) }
-    {
-        let parent = self.blocks[at as usize].place;
-        let child = self.blocks[below as usize];
-        let index = index_below(&parent, i, child.place.index);
-        self.set(below, child.with_index(index));
-        let block = self.blocks[at as usize]
-            .with_index(parent.index)
-            .with_slot(i, slot);
-        self.set(at, block);
-    }
-
-    /// Puts bytes.
-    pub(crate) fn set_bytes(&mut self, at: u32, from: u32, bytes: &[u8])
-        requires block { at < length self.old.blocks.items }
-        requires within { from + length bytes.now ≤ length ((block_at self.old.blocks.items at).bytes) }
-        ensures puts { PutsBytes at (put_at from bytes.now ((block_at self.old.blocks.items at).bytes)) (memory self.old.blocks.items) (memory self.new.blocks.items) }
-        ensures marks { (b : ℕ) → ((block_at self.new.blocks.items b).place ≡ (block_at self.old.blocks.items b).place) × ((block_at self.new.blocks.items b).loose ≡ (block_at self.old.blocks.items b).loose) × ((block_at self.new.blocks.items b).awaited ≡ (block_at self.old.blocks.items b).awaited) × ((block_at self.new.blocks.items b).epoch ≡ (block_at self.old.blocks.items b).epoch) }
-        ensures held { self.new.held.items ≡ self.old.held.items }
-        ensures length { length self.new.blocks.items ≡ length self.old.blocks.items }
-        ensures numbers { (self.new.made ≡ self.old.made) × (self.new.spare ≡ self.old.spare) × (self.new.next ≡ self.old.next) × (self.new.room ≡ self.old.room) × (self.new.high ≡ self.old.high) }
-    {
-        let block = self.blocks[at as usize].with_bytes(from, bytes);
-        self.set(at, block);
-    }
-
-    /// Marks a block as one that a leaf waits for.
-    pub(crate) fn mark_awaited(&mut self, at: u32)
-        requires { at < length self.old.blocks.items }
-        ensures now { SameImage (memory self.new.blocks.items) (memory self.old.blocks.items) }
-        ensures marks { (b : ℕ) → ((block_at self.new.blocks.items b).place ≡ (block_at self.old.blocks.items b).place) × ((block_at self.new.blocks.items b).loose ≡ (block_at self.old.blocks.items b).loose) × ((block_at self.new.blocks.items b).epoch ≡ (block_at self.old.blocks.items b).epoch) }
-        ensures awaited { ((block_at self.new.blocks.items at).awaited ≡ true) × ((b : ℕ) → (block_at self.old.blocks.items b).awaited ≡ true → (block_at self.new.blocks.items b).awaited ≡ true) }
-        ensures held { self.new.held.items ≡ self.old.held.items }
-        ensures length { length self.new.blocks.items ≡ length self.old.blocks.items }
-        ensures numbers { (self.new.made ≡ self.old.made) × (self.new.spare ≡ self.old.spare) × (self.new.next ≡ self.old.next) × (self.new.room ≡ self.old.room) × (self.new.high ≡ self.old.high) }
-    {
-        let block = self.blocks[at as usize].with_awaited();
-        self.set(at, block);
-    }
-
-    /// How many levels a source loses where its entry is put.
-    pub(crate) fn levels_dropped(&self, at: u32, i: u32, slot: &Slot) -> u32
-        requires block { at < length self.now.blocks.items }
-        requires slots { i < 409 }
-        ensures { result ≡ dropped (slot_of (block_at self.now.blocks.items at) i) slot.now }
-    {
-        let block = &self.blocks[at as usize];
-        depth(&block.slots[i as usize]).saturating_sub(depth(slot))
-    }
 }
 
 /// Block 1, which leads to the root block at address 2.
 fn super_block() -> PlainBlock
-    ensures super_at { IsSuper result }
-    ensures loose { result.loose ≡ false }
-    ensures epoch { result.epoch ≡ 1 }
+    ensures super_at { IsSuper 2 result }
+    ensures marks { (result.origin ≡ 0) × (result.epoch ≡ 1) × (result.taken ≡ false) × (result.kept ≡ false) }
     ensures root { slot_of result 0 ≡ To (Local 2) }
     ensures others { (i : ℕ) → i ≢ 0 → slot_of result i ≡ To Nil }
 {
@@ -212,8 +109,12 @@ fn super_block() -> PlainBlock
             rank: 2145,
         },
         epoch: 1,
-        loose: false,
-        awaited: false,
+        apart: false,
+        origin: 0,
+        source: 1,
+        home: nowhere(),
+        taken: false,
+        kept: false,
         bytes: no_bytes(),
         slots,
     }
@@ -229,4 +130,73 @@ fn root_place() -> Place
         index: 0,
         rank: 2144,
     }
+}
+
+/// A block that was not made yet: no slot leads to it, and it has a root's place.
+fn unmade_block() -> PlainBlock
+    ensures place { (result.place ≡ root_place) × (result.epoch ≡ 0) }
+    ensures marks { (result.apart ≡ false) × (result.taken ≡ false) × (result.kept ≡ false) × (result.home ≡ nowhere) }
+    ensures slots { (i : ℕ) → slot_of result i ≡ blank_slot Root i }
+{
+    let mut block = blank_block(root_place(), 0, 0);
+    block.apart = false;
+    block
+}
+
+/// The root directory's own record: its name is /, and it has no times and no number.
+fn root_record(alloc: Global) -> Result<Record, Memory>
+    ensures { IfOk result RootRecordHolds }
+{
+    Ok(Record {
+        name: Text::copy_of(alloc, b"/")?,
+        number: 0,
+        slot: 0,
+        generation: 0,
+        vers: 0,
+        mode: 0,
+        atime: 0,
+        mtime: 0,
+        uid: Text::copy_of(alloc, b"adm")?,
+        gid: Text::copy_of(alloc, b"adm")?,
+        muid: Text::copy_of(alloc, b"adm")?,
+    })
+}
+
+/// The bytes of the root block of an empty tree, of epoch 1.
+fn root_bytes(alloc: Global) -> Result<[u8; 8192], Memory>
+    ensures { IfOk result (λ bytes. IsFormed Root 2144 bytes) }
+{
+    let root = RootBlock {
+        epoch: 1,
+        time: 0,
+        prev_epoch: 0,
+        prev: 0,
+        entries: no_entry(),
+        meta: no_entry(),
+        own: root_record(alloc)?,
+    };
+    let mut bytes = no_bytes();
+    write_root(&root, &mut bytes);
+    Ok(bytes)
+}
+
+/// The root block of an empty tree, at address 2.
+fn root_block(alloc: Global) -> Result<PlainBlock, Memory>
+    ensures place { IfOk result (λ b. (b.place ≡ root_place) × (b.epoch ≡ 1) × (b.source ≡ 2)) }
+    ensures marks { IfOk result (λ b. (b.apart ≡ false) × (b.origin ≡ 0) × (b.taken ≡ false) × (b.kept ≡ true)) }
+    ensures home { IfOk result (λ b. HangsAt b.home 1 0 0) }
+    ensures slots { IfOk result (λ b. (i : ℕ) → slot_of b i ≡ blank_slot Root i) }
+    ensures formed { IfOk result (λ b. IsFormed Root 2144 b.bytes) }
+{
+    let mut block = blank_block(root_place(), 1, 2);
+    block.bytes = root_bytes(alloc)?;
+    block.apart = false;
+    block.kept = true;
+    block.home = Home {
+        hangs: true,
+        source: 1,
+        index: 0,
+        slot: 0,
+    };
+    Ok(block)
 }

@@ -1,73 +1,65 @@
-use Rattle.std.proofs.Common.{◌≡◌, ◌+◌, replicate, ◌∙◌, ap, arith}
-use Rattle.fo_crash.specs.declared.place.Place.{Place}
-use Rattle.fo_ports_plain.proofs.First.{IsTop, first_sound, resized, first_updates, root_by, length_filled, first_new, content_by}
+use Rattle.std.proofs.Common.{◌≡◌, ◌+◌, ◌-◌, ◌^◌, ◌<◌, ◌≤◌, ℕ, length, refl, sym, ◌∙◌, ap, arith}
+use Rattle.fo_ports_plain.specs.declared.block.PlainBlock.{PlainBlock}
+use Rattle.fo_ports_plain.specs.Plain.{slot_of}
+use Rattle.fo_ports_plain.proofs.BeginNew.{fresh_blocks, fresh_len, unmade_empty, taken, new_none, new_sound, new_formed, new_label}
 use Rattle.fo_ports_plain.proofs.plain.PlainBlocks.new.Goals as goal
-
-pub invariant_of-result-clause-super_at : goal.invariant_of-result-clause-super_at
-invariant_of-result-clause-super_at c =
-    let n = c.args.count + 3 in
-    let x = c.with_index.result in
-    let is : c.resize.new.self.items ≡ replicate n x = resized n _ _ _ x c.new-blocks.ensures.items c.new-blocks.ensures.len c.in_ok-resize.ensures.items in
-    let up = first_updates n c.resize.new.self.items x c.super_block.result (omega arith) is in
-    let place = c.blank_block.ensures.marks.0 ∙ c.root_place.ensures in
-    let root = root_by c.blank_block.result x c.root_place.result.kind c.blank_block.ensures.content (ap (λ (p : Place). p.kind) c.root_place.ensures) place c.with_index.ensures.place c.with_index.ensures.loose (c.with_index.ensures.rest.3 ∙ c.blank_block.ensures.marks.3) c.with_index.ensures.rest.2 in
-    let top : IsTop c.super_block.result = record { super_at = c.super_block.ensures.super_at; loose = c.super_block.ensures.loose; epoch = c.super_block.ensures.epoch; root = c.super_block.ensures.root; others = c.super_block.ensures.others } in
-    (first_sound n x c.super_block.result (omega arith) root top up).super_at
-
-pub invariant_of-result-clause-links : goal.invariant_of-result-clause-links
-invariant_of-result-clause-links c =
-    let n = c.args.count + 3 in
-    let x = c.with_index.result in
-    let is : c.resize.new.self.items ≡ replicate n x = resized n _ _ _ x c.new-blocks.ensures.items c.new-blocks.ensures.len c.in_ok-resize.ensures.items in
-    let up = first_updates n c.resize.new.self.items x c.super_block.result (omega arith) is in
-    let place = c.blank_block.ensures.marks.0 ∙ c.root_place.ensures in
-    let root = root_by c.blank_block.result x c.root_place.result.kind c.blank_block.ensures.content (ap (λ (p : Place). p.kind) c.root_place.ensures) place c.with_index.ensures.place c.with_index.ensures.loose (c.with_index.ensures.rest.3 ∙ c.blank_block.ensures.marks.3) c.with_index.ensures.rest.2 in
-    let top : IsTop c.super_block.result = record { super_at = c.super_block.ensures.super_at; loose = c.super_block.ensures.loose; epoch = c.super_block.ensures.epoch; root = c.super_block.ensures.root; others = c.super_block.ensures.others } in
-    (first_sound n x c.super_block.result (omega arith) root top up).links
-
-pub invariant_of-result-clause-spelled : goal.invariant_of-result-clause-spelled
-invariant_of-result-clause-spelled c =
-    let n = c.args.count + 3 in
-    let x = c.with_index.result in
-    let is : c.resize.new.self.items ≡ replicate n x = resized n _ _ _ x c.new-blocks.ensures.items c.new-blocks.ensures.len c.in_ok-resize.ensures.items in
-    let up = first_updates n c.resize.new.self.items x c.super_block.result (omega arith) is in
-    let place = c.blank_block.ensures.marks.0 ∙ c.root_place.ensures in
-    let root = root_by c.blank_block.result x c.root_place.result.kind c.blank_block.ensures.content (ap (λ (p : Place). p.kind) c.root_place.ensures) place c.with_index.ensures.place c.with_index.ensures.loose (c.with_index.ensures.rest.3 ∙ c.blank_block.ensures.marks.3) c.with_index.ensures.rest.2 in
-    let top : IsTop c.super_block.result = record { super_at = c.super_block.ensures.super_at; loose = c.super_block.ensures.loose; epoch = c.super_block.ensures.epoch; root = c.super_block.ensures.root; others = c.super_block.ensures.others } in
-    (first_sound n x c.super_block.result (omega arith) root top up).spelled
-
-pub invariant_of-result-clause-aged : goal.invariant_of-result-clause-aged
-invariant_of-result-clause-aged c =
-    let n = c.args.count + 3 in
-    let x = c.with_index.result in
-    let is : c.resize.new.self.items ≡ replicate n x = resized n _ _ _ x c.new-blocks.ensures.items c.new-blocks.ensures.len c.in_ok-resize.ensures.items in
-    let up = first_updates n c.resize.new.self.items x c.super_block.result (omega arith) is in
-    let place = c.blank_block.ensures.marks.0 ∙ c.root_place.ensures in
-    let root = root_by c.blank_block.result x c.root_place.result.kind c.blank_block.ensures.content (ap (λ (p : Place). p.kind) c.root_place.ensures) place c.with_index.ensures.place c.with_index.ensures.loose (c.with_index.ensures.rest.3 ∙ c.blank_block.ensures.marks.3) c.with_index.ensures.rest.2 in
-    let top : IsTop c.super_block.result = record { super_at = c.super_block.ensures.super_at; loose = c.super_block.ensures.loose; epoch = c.super_block.ensures.epoch; root = c.super_block.ensures.root; others = c.super_block.ensures.others } in
-    (first_sound n x c.super_block.result (omega arith) root top up).aged
 
 pub invariant_of-result-clause-few : goal.invariant_of-result-clause-few
 invariant_of-result-clause-few c =
-    let n = c.args.count + 3 in
-    let x = c.with_index.result in
-    let is : c.resize.new.self.items ≡ replicate n x = resized n _ _ _ x c.new-blocks.ensures.items c.new-blocks.ensures.len c.in_ok-resize.ensures.items in
-    let up = first_updates n c.resize.new.self.items x c.super_block.result (omega arith) is in
-    omega (arith, up.as_long ∙ length_filled n x, c.requires)
+    let len : length c.resize.new.self.items ≡ c.args.count + 3 = sym c.resize.new.self.ok.0 ∙ c.in_ok-resize.ensures.len in
+    let n = fresh_len c.resize.new.self.items c.super_block.result c.in_ok-blocks.field-0 c.args.count len in
+    omega (arith, n, c.requires)
 
 pub invariant_of-result-clause-spared : goal.invariant_of-result-clause-spared
 invariant_of-result-clause-spared c =
-    let n = c.args.count + 3 in
-    let x = c.with_index.result in
-    let is : c.resize.new.self.items ≡ replicate n x = resized n _ _ _ x c.new-blocks.ensures.items c.new-blocks.ensures.len c.in_ok-resize.ensures.items in
-    let up = first_updates n c.resize.new.self.items x c.super_block.result (omega arith) is in
-    omega (arith, up.as_long ∙ length_filled n x, c.requires)
+    let len : length c.resize.new.self.items ≡ c.args.count + 3 = sym c.resize.new.self.ok.0 ∙ c.in_ok-resize.ensures.len in
+    let n = fresh_len c.resize.new.self.items c.super_block.result c.in_ok-blocks.field-0 c.args.count len in
+    omega (arith, n)
+
+pub invariant_of-result-clause-sound : goal.invariant_of-result-clause-sound
+invariant_of-result-clause-sound c =
+    let len : length c.resize.new.self.items ≡ c.args.count + 3 = sym c.resize.new.self.ok.0 ∙ c.in_ok-resize.ensures.len in
+    let made = fresh_blocks c.resize.new.self.items c.super_block.result c.in_ok-blocks.field-0 c.unmade_block.result c.args.count len
+      (λ k d lt. c.in_ok-resize.ensures.by_index.1 k d refl (omega (arith, c.new-blocks.ensures.len)) lt)
+      (unmade_empty c.unmade_block.result c.unmade_block.ensures.place.0 c.unmade_block.ensures.place.1 c.unmade_block.ensures.marks.0 c.unmade_block.ensures.marks.1 c.unmade_block.ensures.marks.2 c.unmade_block.ensures.marks.3 c.unmade_block.ensures.slots)
+      (record { super_at = c.super_block.ensures.super_at; epoch = c.super_block.ensures.marks.1; taken = c.super_block.ensures.marks.2; kept = c.super_block.ensures.marks.3; root = c.super_block.ensures.root; others = c.super_block.ensures.others })
+      (record { place = c.in_ok-blocks.ensures.place.0; epoch = c.in_ok-blocks.ensures.place.1; source = c.in_ok-blocks.ensures.place.2; joined = c.in_ok-blocks.ensures.marks.0; taken = c.in_ok-blocks.ensures.marks.2; kept = c.in_ok-blocks.ensures.marks.3; home = c.in_ok-blocks.ensures.home; slots = c.in_ok-blocks.ensures.slots; formed = c.in_ok-blocks.ensures.formed }) in
+    new_sound made
+
+pub invariant_of-result-clause-formed : goal.invariant_of-result-clause-formed
+invariant_of-result-clause-formed c =
+    let len : length c.resize.new.self.items ≡ c.args.count + 3 = sym c.resize.new.self.ok.0 ∙ c.in_ok-resize.ensures.len in
+    let made = fresh_blocks c.resize.new.self.items c.super_block.result c.in_ok-blocks.field-0 c.unmade_block.result c.args.count len
+      (λ k d lt. c.in_ok-resize.ensures.by_index.1 k d refl (omega (arith, c.new-blocks.ensures.len)) lt)
+      (unmade_empty c.unmade_block.result c.unmade_block.ensures.place.0 c.unmade_block.ensures.place.1 c.unmade_block.ensures.marks.0 c.unmade_block.ensures.marks.1 c.unmade_block.ensures.marks.2 c.unmade_block.ensures.marks.3 c.unmade_block.ensures.slots)
+      (record { super_at = c.super_block.ensures.super_at; epoch = c.super_block.ensures.marks.1; taken = c.super_block.ensures.marks.2; kept = c.super_block.ensures.marks.3; root = c.super_block.ensures.root; others = c.super_block.ensures.others })
+      (record { place = c.in_ok-blocks.ensures.place.0; epoch = c.in_ok-blocks.ensures.place.1; source = c.in_ok-blocks.ensures.place.2; joined = c.in_ok-blocks.ensures.marks.0; taken = c.in_ok-blocks.ensures.marks.2; kept = c.in_ok-blocks.ensures.marks.3; home = c.in_ok-blocks.ensures.home; slots = c.in_ok-blocks.ensures.slots; formed = c.in_ok-blocks.ensures.formed }) in
+    new_formed made
+
+pub invariant_of-result-clause-queue : goal.invariant_of-result-clause-queue
+invariant_of-result-clause-queue c =
+    let len : length c.resize.new.self.items ≡ c.args.count + 3 = sym c.resize.new.self.ok.0 ∙ c.in_ok-resize.ensures.len in
+    let made = fresh_blocks c.resize.new.self.items c.super_block.result c.in_ok-blocks.field-0 c.unmade_block.result c.args.count len
+      (λ k d lt. c.in_ok-resize.ensures.by_index.1 k d refl (omega (arith, c.new-blocks.ensures.len)) lt)
+      (unmade_empty c.unmade_block.result c.unmade_block.ensures.place.0 c.unmade_block.ensures.place.1 c.unmade_block.ensures.marks.0 c.unmade_block.ensures.marks.1 c.unmade_block.ensures.marks.2 c.unmade_block.ensures.marks.3 c.unmade_block.ensures.slots)
+      (record { super_at = c.super_block.ensures.super_at; epoch = c.super_block.ensures.marks.1; taken = c.super_block.ensures.marks.2; kept = c.super_block.ensures.marks.3; root = c.super_block.ensures.root; others = c.super_block.ensures.others })
+      (record { place = c.in_ok-blocks.ensures.place.0; epoch = c.in_ok-blocks.ensures.place.1; source = c.in_ok-blocks.ensures.place.2; joined = c.in_ok-blocks.ensures.marks.0; taken = c.in_ok-blocks.ensures.marks.2; kept = c.in_ok-blocks.ensures.marks.3; home = c.in_ok-blocks.ensures.home; slots = c.in_ok-blocks.ensures.slots; formed = c.in_ok-blocks.ensures.formed }) in
+    λ none. taken made
 
 pub returns : goal.returns
 returns c =
-    let n = c.args.count + 3 in
-    let x = c.with_index.result in
-    let is : c.resize.new.self.items ≡ replicate n x = resized n _ _ _ x c.new-blocks.ensures.items c.new-blocks.ensures.len c.in_ok-resize.ensures.items in
-    let up = first_updates n c.resize.new.self.items x c.super_block.result (omega arith) is in
-    let content = content_by c.blank_block.result x c.root_place.result.kind c.blank_block.ensures.content (ap (λ (p : Place). p.kind) c.root_place.ensures) c.with_index.ensures.rest.1 c.with_index.ensures.rest.2 in
-    first_new c.args.count x c.super_block.result content (c.with_index.ensures.place ∙ ap (λ (p : Place). record p { index = 0 }) (c.blank_block.ensures.marks.0 ∙ c.root_place.ensures)) (c.with_index.ensures.rest.3 ∙ c.blank_block.ensures.marks.3) up
+    let len : length c.resize.new.self.items ≡ c.args.count + 3 = sym c.resize.new.self.ok.0 ∙ c.in_ok-resize.ensures.len in
+    let made = fresh_blocks c.resize.new.self.items c.super_block.result c.in_ok-blocks.field-0 c.unmade_block.result c.args.count len
+      (λ k d lt. c.in_ok-resize.ensures.by_index.1 k d refl (omega (arith, c.new-blocks.ensures.len)) lt)
+      (unmade_empty c.unmade_block.result c.unmade_block.ensures.place.0 c.unmade_block.ensures.place.1 c.unmade_block.ensures.marks.0 c.unmade_block.ensures.marks.1 c.unmade_block.ensures.marks.2 c.unmade_block.ensures.marks.3 c.unmade_block.ensures.slots)
+      (record { super_at = c.super_block.ensures.super_at; epoch = c.super_block.ensures.marks.1; taken = c.super_block.ensures.marks.2; kept = c.super_block.ensures.marks.3; root = c.super_block.ensures.root; others = c.super_block.ensures.others })
+      (record { place = c.in_ok-blocks.ensures.place.0; epoch = c.in_ok-blocks.ensures.place.1; source = c.in_ok-blocks.ensures.place.2; joined = c.in_ok-blocks.ensures.marks.0; taken = c.in_ok-blocks.ensures.marks.2; kept = c.in_ok-blocks.ensures.marks.3; home = c.in_ok-blocks.ensures.home; slots = c.in_ok-blocks.ensures.slots; formed = c.in_ok-blocks.ensures.formed }) in
+    record {
+      as_long = fresh_len c.resize.new.self.items c.super_block.result c.in_ok-blocks.field-0 c.args.count len;
+      numbers = (refl, refl, refl, refl, refl);
+      nothing = (refl, refl);
+      none = new_none made;
+      slots = λ i. ap (λ (x : PlainBlock). slot_of x i) made.root_is ∙ made.root_of.slots i;
+      at_root = record { above = omega arith; was_made = omega arith; is = ap (λ (x : PlainBlock). x.place) made.root_is ∙ made.root_of.place };
+      root_label = new_label made;
+    }

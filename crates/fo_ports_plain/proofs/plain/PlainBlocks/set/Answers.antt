@@ -1,31 +1,26 @@
 use Rattle.std.proofs.Common.{◌+◌, ◌^◌, ◌<◌, ◌≤◌, length, arith}
-use Rattle.fo_ports_plain.proofs.Lists.{updated}
 use Rattle.fo_ports_plain.proofs.plain.PlainBlocks.set.Goals as goal
 
-pub invariant_of-self-clause-super_at : goal.invariant_of-self-clause-super_at
-invariant_of-self-clause-super_at c = (c.requires.sound _ (updated c.args.self.now.blocks.items c.args.at c.args.block c.requires.block)).super_at
+pub invariant_of-self-clause-sound : goal.invariant_of-self-clause-sound
+invariant_of-self-clause-sound c = (c.requires.well _ c.set_block.ensures).sound
 
-pub invariant_of-self-clause-links : goal.invariant_of-self-clause-links
-invariant_of-self-clause-links c = (c.requires.sound _ (updated c.args.self.now.blocks.items c.args.at c.args.block c.requires.block)).links
+pub invariant_of-self-clause-formed : goal.invariant_of-self-clause-formed
+invariant_of-self-clause-formed c = (c.requires.well _ c.set_block.ensures).formed
 
-pub invariant_of-self-clause-spelled : goal.invariant_of-self-clause-spelled
-invariant_of-self-clause-spelled c = (c.requires.sound _ (updated c.args.self.now.blocks.items c.args.at c.args.block c.requires.block)).spelled
+pub invariant_of-self-clause-waiting : goal.invariant_of-self-clause-waiting
+invariant_of-self-clause-waiting c = (c.requires.well _ c.set_block.ensures).waiting
 
-pub invariant_of-self-clause-aged : goal.invariant_of-self-clause-aged
-invariant_of-self-clause-aged c = (c.requires.sound _ (updated c.args.self.now.blocks.items c.args.at c.args.block c.requires.block)).aged
-
-pub returns-clause-updates : goal.returns-clause-updates
-returns-clause-updates c = updated c.args.self.now.blocks.items c.args.at c.args.block c.requires.block
+pub invariant_of-self-clause-queue : goal.invariant_of-self-clause-queue
+invariant_of-self-clause-queue c = (c.requires.well _ c.set_block.ensures).queue
 
 pub invariant_of-self-clause-few : goal.invariant_of-self-clause-few
 invariant_of-self-clause-few c =
-    let spared : c.args.self.now.made + c.args.self.now.spare ≤ length c.args.self.now.blocks.items = c.args.self.now.spared in
     let few : length c.args.self.now.blocks.items < 2 ^ 32 = c.args.self.now.few in
-    let up = updated c.args.self.now.blocks.items c.args.at c.args.block c.requires.block in
-    omega (arith, few, up.as_long)
+    let as_long = c.set_block.ensures.as_long in
+    omega (arith, few, as_long)
 
 pub invariant_of-self-clause-spared : goal.invariant_of-self-clause-spared
 invariant_of-self-clause-spared c =
     let spared : c.args.self.now.made + c.args.self.now.spare ≤ length c.args.self.now.blocks.items = c.args.self.now.spared in
-    let up = updated c.args.self.now.blocks.items c.args.at c.args.block c.requires.block in
-    omega (arith, spared, up.as_long)
+    let as_long = c.set_block.ensures.as_long in
+    omega (arith, spared, as_long)

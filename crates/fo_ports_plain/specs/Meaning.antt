@@ -1,0 +1,68 @@
+-- What blocks in memory are, as the calls on blocks see them.
+use Rattle.std.specs.Prelude.{◌≡◌, ◌^◌, ◌-◌, ◌<◌, ℕ, List, length}
+use Rattle.fo_crash.specs.Images.{SameImage}
+use Rattle.fo_ports.specs.State.{State}
+use Rattle.fo_ports_plain.specs.declared.block.PlainBlock.{PlainBlock}
+use Rattle.fo_ports_plain.specs.declared.held.HeldBlock.{HeldBlock}
+use Rattle.fo_ports_plain.specs.declared.wait.Wait.{Wait}
+use Rattle.fo_ports_plain.specs.Plain.{block_at, memory, label_at, Stands, IsData, IsMade, IsApart, Instead, IsTop, Covered, Awaits, held_in}
+
+-- the fields of the device
+pub record Plain : Type 0 where
+  pub blocks : List PlainBlock
+  pub held : List HeldBlock
+  pub waits : List Wait
+  pub made : ℕ
+  pub high : ℕ
+  pub root : ℕ
+  pub spare : ℕ
+  pub next : ℕ
+  pub room : ℕ
+  pub queued : ℕ
+
+-- Every image is what memory has, so all is settled, sure and sealed, no slot waits to be cleared, and no moment passes.
+abbrev pub state_of : Plain → State
+state_of p = record {
+  now = memory p.blocks;
+  label = label_at p.blocks p.made;
+  stands = Stands p.blocks p.made;
+  apart = IsApart p.blocks;
+  instead = Instead p.blocks;
+  high = p.high;
+  root = p.root;
+  tops = IsTop p.blocks;
+  is_block = IsData p.blocks;
+  held = held_in p.held;
+  next = p.next;
+  grants = p.next < 2 ^ 30;
+  limit = λ c. 2 ^ 30;
+  tells = Unit {0};
+  may_leave = λ image. SameImage image (memory p.blocks);
+  moments = 0;
+  left = λ k image. ⊥;
+  doubt = λ c. ⊥;
+  sure = λ b. Unit {0};
+  fresh = λ b. Unit {0};
+  sealed = λ b. Unit {0};
+  spare = p.spare;
+  pins_left = 2 ^ 32;
+  room = p.room;
+  pinned = IsMade p.made;
+  usable = length p.blocks - p.made;
+  label_block = λ b. 0;
+  dirty = λ b. ⊥;
+  queued = p.queued;
+  waits = Awaits p.waits;
+  clearing = λ b j. ⊥;
+  covered = Covered p.blocks;
+  faults = 0;
+  arena_faults = 0;
+}
+
+-- What every call keeps.
+pub record PlainKeeps (old new : Plain) : Type 0 where
+  pub as_long : length new.blocks ≡ length old.blocks
+  pub held : new.held ≡ old.held
+  pub high : new.high ≡ old.high
+  pub root : new.root ≡ old.root
+  pub tops : (t : ℕ) → (block_at new.blocks t).kept ≡ (block_at old.blocks t).kept
