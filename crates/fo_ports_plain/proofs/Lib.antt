@@ -6,6 +6,9 @@ pub mod Joints
 pub mod Taken
 pub mod Still
 pub mod Made
+pub mod Given
+pub mod GivenBlocks
+pub mod Waiting
 pub mod Comes
 pub mod Waits
 pub mod Memory
