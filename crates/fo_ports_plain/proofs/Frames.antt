@@ -125,10 +125,17 @@ module _ (p : Plain) (new : List PlainBlock) (waits : List Wait) (room queued : 
     at_apart = λ ne. (λ h. sym apart_at ∙ h, λ h. apart_at ∙ h);
     raised = λ x h. ⊎_elim
         (λ n. inl ((kept_instead n x).0 h))
-        (λ r. inr (raised_is r, (r.below, r.leads, ⊎_elim
-        (λ is. inr (record { apart = is; origin = ap (λ t. cond t (block_at p.blocks r.below).origin r.below) (sym is) ∙ sym r.origin ∙ h.origin; some = h.some }))
-        (λ is. inl (ap (λ t. cond t (block_at p.blocks r.below).origin r.below) (sym is) ∙ sym r.origin ∙ h.origin, λ a. never_both a is))
-        (bool (block_at p.blocks r.below).apart))))
+        (λ r. inr (
+          raised_is r,
+          (
+            r.below,
+            r.leads,
+            ⊎_elim
+                (λ is. inr (record { apart = is; origin = ap (λ t. cond t (block_at p.blocks r.below).origin r.below) (sym is) ∙ sym r.origin ∙ h.origin; some = h.some }))
+                (λ is. inl (ap (λ t. cond t (block_at p.blocks r.below).origin r.below) (sym is) ∙ sym r.origin ∙ h.origin, λ a. never_both a is))
+                (bool (block_at p.blocks r.below).apart),
+          ),
+        ))
         put.top;
     raises = λ b x is e h. ⊎_elim
         (λ n. absurd (not_raised n b e is))

@@ -78,17 +78,17 @@ record_is r more fit =
     let p2 : past_text (past_text (drop 30 (record_bytes r ++ more))) ≡ spelled (Text r.gid) ++ (spelled (Text r.muid) ++ more) = ap past_text p1 ∙ past_is r.uid (spelled (Text r.gid) ++ (spelled (Text r.muid) ++ more)) f.1.0 in
     let p3 : past_text (past_text (past_text (drop 30 (record_bytes r ++ more)))) ≡ spelled (Text r.muid) ++ more = ap past_text p2 ∙ past_is r.gid (spelled (Text r.muid) ++ more) f.1.1.0 in
     same_record (record_from (record_bytes r ++ more)) r (same_parts (record_from (record_bytes r ++ more)) r
-      (ap text_of texts ∙ text_is r.name (spelled (Text r.uid) ++ (spelled (Text r.gid) ++ (spelled (Text r.muid) ++ more))) f.0)
-      (from_be_bytes-to_be_bytes_4 r.number fit.1.0)
-      (from_be_bytes-to_be_bytes_4 r.slot fit.1.1.0)
-      (from_be_bytes-to_be_bytes_4 r.generation fit.1.1.1.0)
-      (from_be_bytes-to_be_bytes_4 r.vers fit.1.1.1.1.0)
-      (from_be_bytes-to_be_bytes_4 r.mode fit.1.1.1.1.1.0)
-      (from_be_bytes-to_be_bytes_4 r.atime fit.1.1.1.1.1.1.0)
-      (from_be_bytes-to_be_bytes_4 r.mtime fit.1.1.1.1.1.1.1.0)
-      (ap text_of p1 ∙ text_is r.uid (spelled (Text r.gid) ++ (spelled (Text r.muid) ++ more)) f.1.0)
-      (ap text_of p2 ∙ text_is r.gid (spelled (Text r.muid) ++ more) f.1.1.0)
-      (ap text_of p3 ∙ text_is r.muid more f.1.1.1.0))
+    (ap text_of texts ∙ text_is r.name (spelled (Text r.uid) ++ (spelled (Text r.gid) ++ (spelled (Text r.muid) ++ more))) f.0)
+    (from_be_bytes-to_be_bytes_4 r.number fit.1.0)
+    (from_be_bytes-to_be_bytes_4 r.slot fit.1.1.0)
+    (from_be_bytes-to_be_bytes_4 r.generation fit.1.1.1.0)
+    (from_be_bytes-to_be_bytes_4 r.vers fit.1.1.1.1.0)
+    (from_be_bytes-to_be_bytes_4 r.mode fit.1.1.1.1.1.0)
+    (from_be_bytes-to_be_bytes_4 r.atime fit.1.1.1.1.1.1.0)
+    (from_be_bytes-to_be_bytes_4 r.mtime fit.1.1.1.1.1.1.1.0)
+    (ap text_of p1 ∙ text_is r.uid (spelled (Text r.gid) ++ (spelled (Text r.muid) ++ more)) f.1.0)
+    (ap text_of p2 ∙ text_is r.gid (spelled (Text r.muid) ++ more) f.1.1.0)
+    (ap text_of p3 ∙ text_is r.muid more f.1.1.1.0))
 
 -- ---- leaves of records
 
@@ -173,7 +173,7 @@ bare_root bytes r whole is =
     let at = root_at whole r s in
     let b = bare r.epoch r.time r.own in
     let fit : AllByRecursion FieldFits (root_fields b) = fit_both (root_head r.epoch r.time 0 0) (entry_fields no_entry ++ (entry_fields no_entry ++ record_fields r.own)) (s.fit.0, (s.fit.1.0, (s.fit.1.1.0, (omega arith, (omega arith, tt)))))
-      (fit_both (entry_fields no_entry) (entry_fields no_entry ++ record_fields r.own) none_fit (fit_both (entry_fields no_entry) (record_fields r.own) none_fit at.own.fit)) in
+    (fit_both (entry_fields no_entry) (entry_fields no_entry ++ record_fields r.own) none_fit (fit_both (entry_fields no_entry) (record_fields r.own) none_fit at.own.fit)) in
     let none : EntryHolds no_entry = record { active_holds = (refl, refl, refl, refl, refl) } in
     let spells : SpellsRoot b (whole_of b) = record {
       holds = record { epoch_is = s.holds.epoch_is; prev_epoch_is = omega arith; prev_is = ((λ e. e), (λ e. e)); entries_hold = none; meta_holds = none; own_holds = s.holds.own_holds };
@@ -221,7 +221,7 @@ root_prop bytes epoch time own = Prim.hlevel (props, fits_prop)
 root_out : (bytes : List ℕ) → ∥ IsFormed Root 0 bytes ∥₁ → IsRootOf bytes (root_from bytes) (whole_of (root_from bytes))
 root_out bytes h = ∥∥₁_elim h (root_prop bytes (epoch_from bytes) (time_from bytes) (record_from (drop 104 bytes)))
     (λ f. let is : IsRootOf bytes f.1.0 f.1.1 = record { spells = f.1.2; before = f.1.3; behind = f.1.4 } in
-      subst (λ r. IsRootOf bytes r (whole_of r)) (sym (root_is bytes f.1.0 f.1.1 is)) (bare_root bytes f.1.0 f.1.1 is))
+    subst (λ r. IsRootOf bytes r (whole_of r)) (sym (root_is bytes f.1.0 f.1.1 is)) (bare_root bytes f.1.0 f.1.1 is))
 
 -- ---- blocks of each kind
 

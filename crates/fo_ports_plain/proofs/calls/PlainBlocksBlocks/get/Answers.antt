@@ -36,8 +36,7 @@ returns-clause-bytes c =
     let place = c.requires.place tt (block_at blocks c.args.at).place stands in
     let fit : (i : ℕ) → i < slot_count c.args.kind → SlotFits c.args.kind i (slot_of (block_at blocks c.args.at) i) = λ i small. subst (λ k. SlotFits k i (slot_of (block_at blocks c.args.at) i)) place.0 (self.sound.spelled c.args.at past i (subst (λ k. i < slot_count k) (sym place.0) small)) in
     let eq : c.copy_from_slice.new.self ≡ (block_at blocks c.args.at).bytes = c.copy_from_slice.ensures.after ∙ ap (λ (y : PlainBlock). y.bytes) is in
-    let beside = c.spell_slots.ensures.beside in
-    (
+    let beside = c.spell_slots.ensures.beside in (
       record { before = beside.before ∙ ap (take (slots_from c.args.kind)) eq; behind = beside.behind ∙ ap (drop (slots_to c.args.kind)) eq },
       record { fit = fit; spelled = λ i small. subst (λ (y : Slot). SpellsSlot y (take (slot_size y) (drop (slot_start c.args.kind i) c.spell_slots.new.into))) (ap (λ (y : PlainBlock). slot_of y i) is) (c.spell_slots.ensures.spelled i small) },
     )

@@ -39,10 +39,10 @@ invariant_of-self-clause-sound c =
     let root_is = block_is blocks self.root c.index.result.now (omega (arith, spared, root_lt)) c.index.ensures in
     let top_is = block_is blocks 1 c.index-2.result.now (omega (arith, spared, three)) c.index-2.ensures in
     let grown = grows blocks self.made self.high self.root c.next_root-root.result c.with_slot-top.result three (omega (arith, spared, some))
-      (c.next_root-root.ensures.block ∙ ap (λ (y : PlainBlock). record y { epoch = self.high + 1; home = nowhere; taken = false; slots = set y.slots 2 (Prev y.epoch self.root) }) root_is)
-      (c.next_root-root.ensures.here ∙ ap (λ (y : PlainBlock). Prev y.epoch self.root) root_is)
-      (c.with_slot-top.ensures.block ∙ ap (λ (y : PlainBlock). record y { slots = set y.slots 0 (To (Local self.made)) }) top_is)
-      c.with_slot-top.ensures.here in
+    (c.next_root-root.ensures.block ∙ ap (λ (y : PlainBlock). record y { epoch = self.high + 1; home = nowhere; taken = false; slots = set y.slots 2 (Prev y.epoch self.root) }) root_is)
+    (c.next_root-root.ensures.here ∙ ap (λ (y : PlainBlock). Prev y.epoch self.root) root_is)
+    (c.with_slot-top.ensures.block ∙ ap (λ (y : PlainBlock). record y { slots = set y.slots 0 (To (Local self.made)) }) top_is)
+    c.with_slot-top.ensures.here in
     (begun_well grown three well).sound
 
 pub invariant_of-self-clause-formed : goal.invariant_of-self-clause-formed
@@ -58,10 +58,10 @@ invariant_of-self-clause-formed c =
     let root_is = block_is blocks self.root c.index.result.now (omega (arith, spared, root_lt)) c.index.ensures in
     let top_is = block_is blocks 1 c.index-2.result.now (omega (arith, spared, three)) c.index-2.ensures in
     let grown = grows blocks self.made self.high self.root c.next_root-root.result c.with_slot-top.result three (omega (arith, spared, some))
-      (c.next_root-root.ensures.block ∙ ap (λ (y : PlainBlock). record y { epoch = self.high + 1; home = nowhere; taken = false; slots = set y.slots 2 (Prev y.epoch self.root) }) root_is)
-      (c.next_root-root.ensures.here ∙ ap (λ (y : PlainBlock). Prev y.epoch self.root) root_is)
-      (c.with_slot-top.ensures.block ∙ ap (λ (y : PlainBlock). record y { slots = set y.slots 0 (To (Local self.made)) }) top_is)
-      c.with_slot-top.ensures.here in
+    (c.next_root-root.ensures.block ∙ ap (λ (y : PlainBlock). record y { epoch = self.high + 1; home = nowhere; taken = false; slots = set y.slots 2 (Prev y.epoch self.root) }) root_is)
+    (c.next_root-root.ensures.here ∙ ap (λ (y : PlainBlock). Prev y.epoch self.root) root_is)
+    (c.with_slot-top.ensures.block ∙ ap (λ (y : PlainBlock). record y { slots = set y.slots 0 (To (Local self.made)) }) top_is)
+    c.with_slot-top.ensures.here in
     (begun_well grown three well).formed
 
 pub invariant_of-self-clause-waiting : goal.invariant_of-self-clause-waiting
@@ -77,10 +77,10 @@ invariant_of-self-clause-waiting c =
     let root_is = block_is blocks self.root c.index.result.now (omega (arith, spared, root_lt)) c.index.ensures in
     let top_is = block_is blocks 1 c.index-2.result.now (omega (arith, spared, three)) c.index-2.ensures in
     let grown = grows blocks self.made self.high self.root c.next_root-root.result c.with_slot-top.result three (omega (arith, spared, some))
-      (c.next_root-root.ensures.block ∙ ap (λ (y : PlainBlock). record y { epoch = self.high + 1; home = nowhere; taken = false; slots = set y.slots 2 (Prev y.epoch self.root) }) root_is)
-      (c.next_root-root.ensures.here ∙ ap (λ (y : PlainBlock). Prev y.epoch self.root) root_is)
-      (c.with_slot-top.ensures.block ∙ ap (λ (y : PlainBlock). record y { slots = set y.slots 0 (To (Local self.made)) }) top_is)
-      c.with_slot-top.ensures.here in
+    (c.next_root-root.ensures.block ∙ ap (λ (y : PlainBlock). record y { epoch = self.high + 1; home = nowhere; taken = false; slots = set y.slots 2 (Prev y.epoch self.root) }) root_is)
+    (c.next_root-root.ensures.here ∙ ap (λ (y : PlainBlock). Prev y.epoch self.root) root_is)
+    (c.with_slot-top.ensures.block ∙ ap (λ (y : PlainBlock). record y { slots = set y.slots 0 (To (Local self.made)) }) top_is)
+    c.with_slot-top.ensures.here in
     (begun_well grown three well).waiting
 
 pub invariant_of-self-clause-queue : goal.invariant_of-self-clause-queue
@@ -96,10 +96,10 @@ invariant_of-self-clause-queue c =
     let root_is = block_is blocks self.root c.index.result.now (omega (arith, spared, root_lt)) c.index.ensures in
     let top_is = block_is blocks 1 c.index-2.result.now (omega (arith, spared, three)) c.index-2.ensures in
     let grown = grows blocks self.made self.high self.root c.next_root-root.result c.with_slot-top.result three (omega (arith, spared, some))
-      (c.next_root-root.ensures.block ∙ ap (λ (y : PlainBlock). record y { epoch = self.high + 1; home = nowhere; taken = false; slots = set y.slots 2 (Prev y.epoch self.root) }) root_is)
-      (c.next_root-root.ensures.here ∙ ap (λ (y : PlainBlock). Prev y.epoch self.root) root_is)
-      (c.with_slot-top.ensures.block ∙ ap (λ (y : PlainBlock). record y { slots = set y.slots 0 (To (Local self.made)) }) top_is)
-      c.with_slot-top.ensures.here in
+    (c.next_root-root.ensures.block ∙ ap (λ (y : PlainBlock). record y { epoch = self.high + 1; home = nowhere; taken = false; slots = set y.slots 2 (Prev y.epoch self.root) }) root_is)
+    (c.next_root-root.ensures.here ∙ ap (λ (y : PlainBlock). Prev y.epoch self.root) root_is)
+    (c.with_slot-top.ensures.block ∙ ap (λ (y : PlainBlock). record y { slots = set y.slots 0 (To (Local self.made)) }) top_is)
+    c.with_slot-top.ensures.here in
     (begun_well grown three well).queue
 
 pub returns : goal.returns
@@ -115,8 +115,8 @@ returns c =
     let root_is = block_is blocks self.root c.index.result.now (omega (arith, spared, root_lt)) c.index.ensures in
     let top_is = block_is blocks 1 c.index-2.result.now (omega (arith, spared, three)) c.index-2.ensures in
     let grown = grows blocks self.made self.high self.root c.next_root-root.result c.with_slot-top.result three (omega (arith, spared, some))
-      (c.next_root-root.ensures.block ∙ ap (λ (y : PlainBlock). record y { epoch = self.high + 1; home = nowhere; taken = false; slots = set y.slots 2 (Prev y.epoch self.root) }) root_is)
-      (c.next_root-root.ensures.here ∙ ap (λ (y : PlainBlock). Prev y.epoch self.root) root_is)
-      (c.with_slot-top.ensures.block ∙ ap (λ (y : PlainBlock). record y { slots = set y.slots 0 (To (Local self.made)) }) top_is)
-      c.with_slot-top.ensures.here in
+    (c.next_root-root.ensures.block ∙ ap (λ (y : PlainBlock). record y { epoch = self.high + 1; home = nowhere; taken = false; slots = set y.slots 2 (Prev y.epoch self.root) }) root_is)
+    (c.next_root-root.ensures.here ∙ ap (λ (y : PlainBlock). Prev y.epoch self.root) root_is)
+    (c.with_slot-top.ensures.block ∙ ap (λ (y : PlainBlock). record y { slots = set y.slots 0 (To (Local self.made)) }) top_is)
+    c.with_slot-top.ensures.here in
     begins (parts self) (set (set blocks self.made c.next_root-root.result) 1 c.with_slot-top.result) grown three well (self.spare - 1) (omega (arith, some))
