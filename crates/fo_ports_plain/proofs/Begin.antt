@@ -1,9 +1,7 @@
 -- What is kept of blocks stays true where an epoch begins: a new root block comes after the old one, and block 1 leads to it.
-use Rattle.std.proofs.Common.{◌≡◌, ◌≢◌, ◌⊎◌, inl, inr, ⊎_elim, ℕ, zero, suc, ◌+◌, ◌*◌, ◌<◌, ◌≤◌, Bool, true, false, cond, nat_eq, nat_lt, List, length, refl, sym, ◌∙◌, ap, subst, arith}
+use Rattle.std.proofs.Common.{◌≡◌, ◌≢◌, ⊎_elim, ℕ, ◌+◌, ◌*◌, ◌<◌, true, false, nat_eq, List, length, refl, sym, ◌∙◌, ap, subst, arith}
 use Rattle.std.proofs.lemmas.Bool.{cases_eq}
 use Rattle.std.proofs.lemmas.Grind.{common_steps}
-use Rattle.fo_image.specs.declared.types.Kind.{Kind}
-use Rattle.fo_image.specs.declared.types.Kind.TheVariants.{Data, Dir, Root}
 use Rattle.fo_image.specs.declared.types.Pointer.TheVariants.{Nil, Local, Score as Held}
 use Rattle.fo_crash.specs.declared.place.Place.{Place}
 use Rattle.fo_crash.specs.declared.slot.Slot.{Slot}
@@ -14,8 +12,8 @@ use Rattle.fo_ports.specs.Blocks.{IsInner, IsFormed, slot_count, SlotFits}
 use Rattle.fo_ports_plain.specs.declared.home.Home.{Home}
 use Rattle.fo_ports_plain.specs.declared.block.PlainBlock.{PlainBlock}
 use Rattle.fo_ports_plain.specs.declared.wait.Wait.{Wait}
-use Rattle.fo_ports_plain.specs.Plain.{block_at, slot_of, is_active, index_in, wait_at, pair_of, nowhere}
-use Rattle.fo_ports_plain.specs.Sound.{HangsAt, InSource, Linked, Links, IsSpelled, IsSuper, IsKept, IsUnmade, IsFirst, IsStead, Sound, Formed, Waiting, Queue, Well, home_of, leads_to}
+use Rattle.fo_ports_plain.specs.Plain.{block_at, slot_of, is_active, index_in, wait_at}
+use Rattle.fo_ports_plain.specs.Sound.{HangsAt, Linked, Links, IsSpelled, IsKept, IsUnmade, IsFirst, IsStead, Sound, Well, home_of, leads_to}
 use Rattle.fo_ports_plain.proofs.Still.{Alike, alike, moved}
 
 -- The new root block: that of the next epoch, with all of the old one but its home, its mark and slot 2.

@@ -1,7 +1,6 @@
 -- What the calls on blocks see of bytes that are put.
-use Rattle.std.proofs.Common.{◌≡◌, ◌≢◌, ◌⊎◌, inl, inr, ⊎_elim, ℕ, ◌+◌, ◌<◌, true, List, length, refl, sym, ◌∙◌, ap, subst, arith}
+use Rattle.std.proofs.Common.{◌≡◌, inr, ⊎_elim, ℕ, List, refl, sym, ◌∙◌, ap, subst, arith}
 use Rattle.std.proofs.lemmas.Bool.{cases_eq}
-use Rattle.fo_image.specs.declared.types.Pointer.TheVariants.{Local}
 use Rattle.fo_crash.specs.declared.slot.Slot.{Slot}
 use Rattle.fo_crash.specs.declared.slot.Slot.TheVariants.{Pointer as To, Entry as Head, Prev}
 use Rattle.fo_crash.specs.Images.{Content, Image, SameImage, target, Reaches, to_block, with_bytes}
@@ -9,9 +8,9 @@ use Rattle.fo_crash.specs.Names.{SameUse}
 use Rattle.fo_crash.specs.Steps.{PutsBytes, AddsBytes}
 use Rattle.fo_crash.proofs.Updates.{bytes_other, bytes_here, bytes_slot}
 use Rattle.fo_crash.proofs.Reach.{same_walk}
-use Rattle.fo_ports.specs.State.{State, Stays, Uses, Frame, Calm, KeepsOrder, KeepsCovered, KeepsNumbers, none}
+use Rattle.fo_ports.specs.State.{Calm}
 use Rattle.fo_ports_plain.specs.declared.block.PlainBlock.{PlainBlock}
-use Rattle.fo_ports_plain.specs.Plain.{block_at, slot_of, memory, Stands, Instead, Covered, Updates}
+use Rattle.fo_ports_plain.specs.Plain.{block_at, slot_of, memory, Covered, Updates}
 use Rattle.fo_ports_plain.specs.Meaning.{Plain, state_of, PlainKeeps}
 use Rattle.fo_ports_plain.proofs.Lists.{part_kept}
 use Rattle.fo_ports_plain.proofs.Frames.{label_same}

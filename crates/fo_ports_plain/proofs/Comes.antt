@@ -1,5 +1,5 @@
 -- Why a slot that may be put leads to a block of its source, or to one that may come to be of it.
-use Rattle.std.proofs.Common.{◌≡◌, ◌≢◌, ◌⊎◌, inl, inr, ⊎_elim, ℕ, zero, suc, ◌+◌, ◌-◌, ◌*◌, ◌/◌, ◌^◌, ◌<◌, ◌≤◌, Bool, true, false, cond, nat_lt, List, [], length, refl, sym, ◌∙◌, ap, subst, arith}
+use Rattle.std.proofs.Common.{◌≡◌, ◌≢◌, ◌⊎◌, inl, inr, ⊎_elim, ℕ, zero, suc, ◌-◌, ◌/◌, ◌^◌, ◌<◌, ◌≤◌, Bool, true, false, cond, nat_lt, List, [], refl, sym, ◌∙◌, ap, subst, arith}
 use Rattle.std.proofs.lemmas.Bool.{cases_eq, cases_lt}
 use Rattle.std.proofs.lemmas.Grind.{common_steps}
 use Rattle.fo_image.specs.declared.types.Kind.{Kind}
@@ -12,19 +12,18 @@ use Rattle.fo_image.specs.declared.types.Pointer.TheVariants.{Nil, Local, Score 
 use Rattle.fo_crash.specs.declared.slot.Slot.{Slot}
 use Rattle.fo_crash.specs.declared.slot.Slot.TheVariants.{Pointer as To, Entry as Head, Prev}
 use Rattle.fo_crash.specs.declared.place.Place.{Place}
-use Rattle.fo_crash.specs.Images.{Image, target, walk, local, kind_of_top, depth_of}
+use Rattle.fo_crash.specs.Images.{target, walk, local, kind_of_top, depth_of}
 use Rattle.fo_crash.specs.Names.{SameUse}
 use Rattle.fo_crash.specs.Places.{place_below, FitsAt}
 use Rattle.fo_crash.proofs.Reach.{lost}
 use Rattle.fo_ports.specs.Blocks.{IsInner, IsPointer, slot_count, SlotFits, dropped, zeros}
-use Rattle.fo_ports.specs.State.{State, IsNew, IsLoose, IsRaised, Comes, MayPutSlot, led_to}
+use Rattle.fo_ports.specs.State.{IsNew, IsLoose, MayPutSlot, led_to}
 use Rattle.fo_ports_plain.specs.declared.block.PlainBlock.{PlainBlock}
-use Rattle.fo_ports_plain.specs.declared.wait.Wait.{Wait}
-use Rattle.fo_ports_plain.specs.Plain.{block_at, slot_of, memory, label_of, label_at, index_in, is_active, wait_at, pair_of, Stands, IsMade, Awaits, Instead}
-use Rattle.fo_ports_plain.specs.Sound.{HangsAt, InSource, Linked, IsSuper, IsFirst, Sound, Waiting, home_of}
+use Rattle.fo_ports_plain.specs.Plain.{block_at, slot_of, memory, label_of, label_at, index_in, is_active, wait_at, pair_of, Stands, IsMade, Awaits}
+use Rattle.fo_ports_plain.specs.Sound.{HangsAt, InSource, Linked, IsFirst, Sound, Waiting, home_of}
 use Rattle.fo_ports_plain.specs.Meaning.{Plain, state_of}
 use Rattle.fo_ports_plain.specs.Moves.{IsFree, Joins, MayLink, KeepsUse}
-use Rattle.fo_ports_plain.specs.Laws.{label_kind, epoch_made, label_made}
+use Rattle.fo_ports_plain.specs.Laws.{label_kind, epoch_made}
 use Rattle.fo_ports_plain.proofs.Fits.{fits_fixed}
 
 abbrev level : Kind → ℕ

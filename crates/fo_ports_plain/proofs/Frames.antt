@@ -1,27 +1,25 @@
 -- What the calls on blocks see of a put slot.
-use Rattle.std.proofs.Common.{◌≡◌, ◌≢◌, ◌⊎◌, ◌↔◌, inl, inr, ⊎_elim, ℕ, ◌+◌, ◌-◌, ◌*◌, ◌^◌, ◌<◌, ◌≤◌, Bool, true, false, cond, nat_lt, List, [], length, refl, sym, ◌∙◌, ap, subst, arith}
-use Rattle.std.proofs.lemmas.Bool.{cases_eq}
+use Rattle.std.proofs.Common.{◌≡◌, ◌≢◌, ◌⊎◌, ◌↔◌, inl, inr, ⊎_elim, ℕ, ◌+◌, ◌-◌, ◌^◌, ◌<◌, Bool, true, false, cond, nat_lt, List, length, refl, sym, ◌∙◌, ap, subst, arith}
 use Rattle.fo_image.specs.declared.types.Kind.{Kind}
 use Rattle.fo_image.specs.declared.types.State.TheVariants.{Free, Live}
 use Rattle.fo_image.specs.declared.types.Label.{Label}
 use Rattle.fo_image.specs.declared.types.Pointer.TheVariants.{Local}
 use Rattle.fo_crash.specs.declared.slot.Slot.{Slot}
 use Rattle.fo_crash.specs.declared.place.Place.{Place}
-use Rattle.fo_crash.specs.Images.{Content, Image, SameContent, SameImage, target, to_block, Reaches}
+use Rattle.fo_crash.specs.Images.{SameImage, target, Reaches}
 use Rattle.fo_crash.specs.Steps.{PutsSlot, Covers}
 use Rattle.fo_crash.specs.Names.{SameUse}
 use Rattle.fo_crash.specs.Places.{place_below}
 use Rattle.fo_crash.proofs.Places.{never_back}
 use Rattle.fo_ports.specs.Blocks.{IsInner}
-use Rattle.fo_ports.specs.State.{State, Stays, Uses, Frame, Hangs, KeepsNumbers, IsRaised, IsPointers, IsSecondOf}
+use Rattle.fo_ports.specs.State.{Frame, Hangs, IsRaised, IsPointers, IsSecondOf}
 use Rattle.fo_ports_plain.specs.declared.block.PlainBlock.{PlainBlock}
 use Rattle.fo_ports_plain.specs.declared.wait.Wait.{Wait}
-use Rattle.fo_ports_plain.specs.Plain.{block_at, slot_of, memory, label_at, Stands, IsMade, IsApart, Instead, Covered, Awaits, Updates}
+use Rattle.fo_ports_plain.specs.Plain.{block_at, slot_of, memory, label_at, Stands, IsMade, Instead, Covered, Awaits}
 use Rattle.fo_ports_plain.specs.Sound.{Sound}
 use Rattle.fo_ports_plain.specs.Meaning.{Plain, state_of}
-use Rattle.fo_ports_plain.specs.Moves.{IsFree, JoinsInner, JoinsOuter, Raises, Linking, Takes}
+use Rattle.fo_ports_plain.specs.Moves.{IsFree}
 use Rattle.fo_ports_plain.specs.Laws.{label_kind, placed, ranked, one_place}
-use Rattle.fo_ports_plain.proofs.Lists.{part_kept}
 use Rattle.fo_ports_plain.proofs.Taken.{Under, Marks, covers}
 use Rattle.fo_ports_plain.proofs.Comes.{loose_free, free_loose}
 

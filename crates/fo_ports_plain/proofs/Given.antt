@@ -1,5 +1,5 @@
 -- What the calls on blocks see of a block that is given out.
-use Rattle.std.proofs.Common.{◌≡◌, ◌≢◌, ◌⊎◌, ◌↔◌, inl, inr, ⊎_elim, ℕ, zero, suc, ◌+◌, ◌-◌, ◌*◌, ◌/◌, ◌^◌, ◌<◌, ◌≤◌, Bool, true, false, cond, nat_lt, List, [], ◌∷◌, length, refl, sym, ◌∙◌, ap, subst, arith}
+use Rattle.std.proofs.Common.{◌≡◌, ◌≢◌, ◌↔◌, ⊎_elim, ℕ, ◌+◌, ◌-◌, ◌/◌, ◌^◌, ◌<◌, ◌≤◌, Bool, true, false, cond, nat_lt, List, [], ◌∷◌, length, refl, sym, ◌∙◌, ap, subst, arith}
 use Rattle.std.proofs.lemmas.Bool.{cases_eq, cases_lt, lt-ltb}
 use Rattle.std.proofs.lemmas.Grind.{common_steps}
 use Rattle.fo_image.specs.declared.types.Label.{Label}
@@ -10,13 +10,12 @@ use Rattle.fo_crash.specs.declared.slot.Slot.{Slot}
 use Rattle.fo_crash.specs.Images.{Content, Image, SameContent, target, local, walk, to_block, Reaches}
 use Rattle.fo_crash.specs.Steps.{PutsBlock}
 use Rattle.fo_crash.proofs.Reach.{reaches_within}
-use Rattle.fo_ports.specs.State.{State, Gives, Stays, Uses, KeepsOrder, AddsNoWait, KeepsNumbers, none}
+use Rattle.fo_ports.specs.State.{Gives, Stays, none}
 use Rattle.fo_ports_plain.specs.declared.block.PlainBlock.{PlainBlock}
-use Rattle.fo_ports_plain.specs.Plain.{block_at, slot_of, content_of, memory, label_of, label_at, Stands, IsTop, Instead, Covered, Updates}
+use Rattle.fo_ports_plain.specs.Plain.{block_at, slot_of, content_of, memory, label_of, label_at, IsTop, Covered, Updates}
 use Rattle.fo_ports_plain.specs.Sound.{Sound, Well}
 use Rattle.fo_ports_plain.specs.Meaning.{Plain, state_of, PlainKeeps}
 use Rattle.fo_ports_plain.specs.Laws.{label_made}
-use Rattle.fo_ports_plain.proofs.Frames.{label_same}
 use Rattle.fo_ports_plain.proofs.Made.{MayMake, none_leads}
 use Rattle.fo_ports_plain.proofs.Memory.{block_added}
 

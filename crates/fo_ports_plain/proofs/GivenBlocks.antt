@@ -1,26 +1,24 @@
 -- Blocks that may be given out: one of zeros, and a copy.
-use Rattle.std.proofs.Common.{◌≡◌, ◌≢◌, inl, inr, ⊎_elim, ℕ, zero, suc, ◌+◌, ◌-◌, ◌^◌, ◌<◌, ◌≤◌, Bool, true, false, cond, nat_lt, List, [], length, refl, sym, ◌∙◌, ap, subst, arith}
+use Rattle.std.proofs.Common.{◌≡◌, inl, inr, ℕ, zero, suc, ◌-◌, ◌^◌, ◌<◌, Bool, true, false, cond, List, [], refl, sym, ◌∙◌, ap, subst, arith}
 use Rattle.std.proofs.lemmas.Bool.{lt-ltb}
 use Rattle.fo_image.specs.declared.types.Kind.{Kind}
 use Rattle.fo_image.specs.declared.types.Kind.TheVariants.{Data, Dir, Root}
-use Rattle.fo_crash.specs.declared.slot.Slot.{Slot}
-use Rattle.fo_crash.specs.declared.slot.Slot.TheVariants.{Pointer as To, Entry as Head, Prev}
+use Rattle.fo_crash.specs.declared.slot.Slot.TheVariants.{Pointer as To, Entry as Head}
 use Rattle.fo_crash.specs.declared.place.Place.{Place}
 use Rattle.fo_image.specs.declared.types.Pointer.TheVariants.{Nil}
-use Rattle.fo_image.specs.declared.types.Label.{Label}
 use Rattle.fo_image.specs.declared.types.State.TheVariants.{Live}
-use Rattle.fo_crash.specs.Images.{SameContent, SameImage, target, to_block, Reaches}
+use Rattle.fo_crash.specs.Images.{SameContent, target, to_block, Reaches}
 use Rattle.fo_meta.specs.Leaf.{IsLeaf}
 use Rattle.fo_image.specs.Field.{zeros}
 use Rattle.fo_ports.specs.Blocks.{blank, blank_slot, no_entry, zero_bytes, slot_count, SlotFits, IsEntry, IsFormed, IsLevel}
 use Rattle.fo_ports.proofs.Lengths.{length_zero_bytes}
 use Rattle.fo_ports_plain.specs.declared.home.Home.{Home}
 use Rattle.fo_ports_plain.specs.declared.block.PlainBlock.{PlainBlock}
-use Rattle.fo_ports_plain.specs.Plain.{block_at, slot_of, content_of, memory, label_of, label_at, nowhere}
-use Rattle.fo_ports_plain.specs.Sound.{Sound, Formed, IsSpelled}
+use Rattle.fo_ports_plain.specs.Plain.{block_at, content_of, memory, label_of, label_at, nowhere}
+use Rattle.fo_ports_plain.specs.Sound.{Sound, Formed}
 use Rattle.fo_ports_plain.specs.Meaning.{Plain}
 use Rattle.fo_ports_plain.specs.Laws.{formed_at, label_kind, apart_hangs}
-use Rattle.fo_ports_plain.proofs.Made.{MayMake, IsOwn, IsCopy, copied_links}
+use Rattle.fo_ports_plain.proofs.Made.{MayMake, copied_links}
 use Rattle.fo_ports_plain.proofs.Memory.{blank_nowhere}
 
 -- a block of zeros spells slots

@@ -1,19 +1,18 @@
 -- A slot that leads to a block is put, and all that is kept of blocks stays true.
-use Rattle.std.proofs.Common.{◌≡◌, ◌≢◌, ◌⊎◌, inl, inr, ⊎_elim, ℕ, zero, suc, ◌+◌, ◌*◌, ◌<◌, ◌≤◌, Bool, true, false, cond, List, length, refl, sym, ◌∙◌, ap, subst, arith}
+use Rattle.std.proofs.Common.{◌≡◌, ◌≢◌, ◌⊎◌, inl, inr, ⊎_elim, ℕ, ◌*◌, ◌<◌, ◌≤◌, Bool, true, false, cond, List, refl, sym, ◌∙◌, ap, subst, arith}
 use Rattle.std.proofs.lemmas.Bool.{cases_eq}
-use Rattle.fo_image.specs.declared.types.Kind.{Kind}
 use Rattle.fo_image.specs.declared.types.Pointer.TheVariants.{Local}
 use Rattle.fo_crash.specs.declared.slot.Slot.{Slot}
 use Rattle.fo_crash.specs.declared.place.Place.{Place}
 use Rattle.fo_crash.specs.Images.{target}
-use Rattle.fo_crash.specs.Places.{place_below, root_place}
+use Rattle.fo_crash.specs.Places.{place_below}
 use Rattle.fo_ports.specs.Blocks.{IsInner, IsFormed, slot_count, SlotFits}
 use Rattle.fo_ports_plain.specs.declared.home.Home.{Home}
 use Rattle.fo_ports_plain.specs.declared.block.PlainBlock.{PlainBlock}
 use Rattle.fo_ports_plain.specs.declared.wait.Wait.{Wait}
-use Rattle.fo_ports_plain.specs.Plain.{block_at, slot_of, index_in, is_active, wait_at, pair_of}
-use Rattle.fo_ports_plain.specs.Sound.{HangsAt, InSource, Linked, Links, IsSpelled, IsSuper, IsKept, IsUnmade, IsFirst, IsStead, Sources, Sound, Formed, IsUsed, Waiting, Queue, Well, home_of, leads_to}
-use Rattle.fo_ports_plain.specs.Moves.{IsFree, JoinsInner, JoinsOuter, Raises, Linking, Joins, MayLink, KeepsUse}
+use Rattle.fo_ports_plain.specs.Plain.{block_at, slot_of, index_in, is_active, wait_at}
+use Rattle.fo_ports_plain.specs.Sound.{HangsAt, InSource, Linked, Links, IsSpelled, IsSuper, IsKept, IsUnmade, IsFirst, IsStead, Sound, Formed, Waiting, Queue, home_of, leads_to}
+use Rattle.fo_ports_plain.specs.Moves.{IsFree, JoinsOuter, Raises, Linking, MayLink, KeepsUse}
 use Rattle.fo_ports_plain.proofs.Fits.{fits_rank, fits_firm}
 
 pub never_both : {x : Bool} → x ≡ true → x ≡ false → ⊥

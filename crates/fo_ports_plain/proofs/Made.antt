@@ -1,15 +1,14 @@
 -- What is kept of blocks stays true where one more is made.
-use Rattle.std.proofs.Common.{◌≡◌, ◌≢◌, ◌⊎◌, inl, inr, ⊎_elim, ℕ, ◌+◌, ◌*◌, ◌<◌, ◌≤◌, Bool, true, false, List, length, refl, sym, ◌∙◌, ap, subst, arith}
-use Rattle.std.proofs.lemmas.Bool.{cases_eq, cases_lt}
+use Rattle.std.proofs.Common.{◌≡◌, ◌≢◌, ◌⊎◌, inl, inr, ⊎_elim, ℕ, ◌+◌, ◌*◌, ◌<◌, ◌≤◌, true, false, List, refl, sym, ◌∙◌, ap, subst, arith}
+use Rattle.std.proofs.lemmas.Bool.{cases_eq}
 use Rattle.fo_image.specs.declared.types.Pointer.TheVariants.{Local}
-use Rattle.fo_crash.specs.declared.slot.Slot.{Slot}
 use Rattle.fo_crash.specs.Images.{target}
 use Rattle.fo_ports.specs.Blocks.{IsFormed}
 use Rattle.fo_ports_plain.specs.declared.home.Home.{Home}
 use Rattle.fo_ports_plain.specs.declared.block.PlainBlock.{PlainBlock}
 use Rattle.fo_ports_plain.specs.declared.wait.Wait.{Wait}
-use Rattle.fo_ports_plain.specs.Plain.{block_at, slot_of, is_active, wait_at, Updates, nowhere}
-use Rattle.fo_ports_plain.specs.Sound.{Linked, Links, IsSpelled, IsSuper, IsKept, IsUnmade, IsFirst, IsStead, Sound, Formed, Waiting, Queue, Well, home_of}
+use Rattle.fo_ports_plain.specs.Plain.{block_at, slot_of, is_active, wait_at, Updates}
+use Rattle.fo_ports_plain.specs.Sound.{Linked, Links, IsSpelled, IsSuper, IsKept, IsUnmade, IsFirst, IsStead, Sound, Well, home_of}
 use Rattle.fo_ports_plain.proofs.Still.{alike, moved}
 
 -- Where the source of a block that is made is from: it is the first of its own, or comes in the place of a block that is put somewhere.

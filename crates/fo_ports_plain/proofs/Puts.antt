@@ -1,5 +1,5 @@
 -- A slot was put after the block to which it led was marked.
-use Rattle.std.proofs.Common.{◌≡◌, ◌≢◌, ◌⊎◌, inl, inr, ⊎_elim, ℕ, ◌+◌, ◌<◌, ◌≤◌, Bool, true, false, cond, List, length, get_or, set, get_or-set_other, refl, sym, ◌∙◌, ap, subst, arith}
+use Rattle.std.proofs.Common.{◌≡◌, ◌≢◌, ◌⊎◌, inl, inr, ⊎_elim, ℕ, ◌<◌, true, false, cond, List, set, get_or-set_other, refl, sym, ◌∙◌, ap, subst, arith}
 use Rattle.std.proofs.lemmas.Bool.{cases_eq}
 use Rattle.fo_image.specs.declared.types.Pointer.TheVariants.{Nil, Local}
 use Rattle.fo_crash.specs.declared.slot.Slot.{Slot}
@@ -8,14 +8,13 @@ use Rattle.fo_crash.specs.declared.place.Place.{Place}
 use Rattle.fo_crash.specs.Images.{target}
 use Rattle.fo_crash.specs.Places.{place_below, FitsAt}
 use Rattle.fo_ports.specs.Blocks.{IsInner, slot_count, SlotFits}
-use Rattle.fo_ports_plain.specs.declared.home.Home.{Home}
 use Rattle.fo_ports_plain.specs.declared.block.PlainBlock.{PlainBlock}
 use Rattle.fo_ports_plain.specs.Plain.{block_at, slot_of, index_in, Updates}
 use Rattle.fo_ports_plain.specs.Sound.{HangsAt, InSource, IsFirst, home_of}
-use Rattle.fo_ports_plain.specs.Moves.{IsFree, JoinsInner, JoinsOuter, Raises, Linking, Takes, Joins, MayLink}
+use Rattle.fo_ports_plain.specs.Moves.{IsFree, Linking, Takes, MayLink}
 use Rattle.fo_ports_plain.proofs.Taken.{Marks}
 use Rattle.fo_ports_plain.proofs.Joints.{other_block}
-use Rattle.fo_ports_plain.proofs.Frames.{PutAll, Raised, NotRaised}
+use Rattle.fo_ports_plain.proofs.Frames.{PutAll}
 
 module _ {old mid : List PlainBlock} {before s : Slot} (take : Takes before s old mid) where
   home_kept : (n : ℕ) → home_of mid n ≡ home_of old n

@@ -1,5 +1,5 @@
 -- A block as it is read is of its format.
-use Rattle.std.proofs.Common.{◌≡◌, ℕ, zero, suc, List, take, drop, length, sym, ◌∙◌, subst}
+use Rattle.std.proofs.Common.{◌≡◌, ℕ, zero, suc, List, length, sym, ◌∙◌, subst}
 use Rattle.fo_image.specs.declared.types.Kind.{Kind}
 use Rattle.fo_image.specs.declared.types.Kind.TheVariants.{Data, Dir, Root}
 use Rattle.fo_ports.specs.Blocks.{IsFormed, slots_from, slots_to}

@@ -1,7 +1,7 @@
 -- A slot is cleared, and waits for its pair of entries are over.
-use Rattle.std.proofs.Common.{◌≡◌, ◌≢◌, ◌⊎◌, inl, inr, ⊎_elim, ℕ, zero, suc, ◌+◌, ◌*◌, ◌/◌, ◌<◌, ◌≤◌, Bool, true, false, List, length, refl, sym, ◌∙◌, ap, subst, arith}
+use Rattle.std.proofs.Common.{◌≡◌, ◌≢◌, ◌⊎◌, inl, inr, ⊎_elim, ℕ, zero, suc, ◌*◌, ◌/◌, ◌<◌, Bool, true, false, List, refl, sym, ◌∙◌, ap, subst, arith}
 use Rattle.std.proofs.lemmas.Bool.{cases_eq}
-use Rattle.fo_image.specs.declared.types.Pointer.TheVariants.{Nil, Local}
+use Rattle.fo_image.specs.declared.types.Pointer.TheVariants.{Local}
 use Rattle.fo_crash.specs.declared.slot.Slot.{Slot}
 use Rattle.fo_crash.specs.declared.slot.Slot.TheVariants.{Pointer as To, Entry as Head, Prev}
 use Rattle.fo_crash.specs.Images.{target}
@@ -13,7 +13,7 @@ use Rattle.fo_ports.specs.Blocks.{IsPointer, IsEntry, IsPrev, SlotFits}
 use Rattle.fo_ports.specs.State.{IsSecondOf}
 use Rattle.fo_ports_plain.specs.declared.block.PlainBlock.{PlainBlock}
 use Rattle.fo_ports_plain.specs.declared.wait.Wait.{Wait}
-use Rattle.fo_ports_plain.specs.Plain.{block_at, slot_of, is_active, wait_at, pair_of, Awaits}
+use Rattle.fo_ports_plain.specs.Plain.{block_at, slot_of, is_active, Awaits}
 use Rattle.fo_ports_plain.specs.Sound.{Waiting}
 use Rattle.fo_ports_plain.specs.Moves.{KeepsUse, EndsWaits}
 use Rattle.fo_ports_plain.specs.Laws.{in_pair}

@@ -1,5 +1,5 @@
 -- What is kept of blocks stays true where bytes are put, a slot comes to lead nowhere, or a mark is made.
-use Rattle.std.proofs.Common.{◌≡◌, ◌≢◌, ◌⊎◌, inl, inr, ⊎_elim, ℕ, ◌+◌, ◌*◌, ◌<◌, ◌≤◌, Bool, true, false, cond, nat_eq, List, length, get_or, set, get_or-set_other, refl, sym, ◌∙◌, ap, subst, arith}
+use Rattle.std.proofs.Common.{◌≡◌, ◌≢◌, ◌⊎◌, inl, inr, ⊎_elim, ℕ, ◌*◌, ◌<◌, ◌≤◌, true, false, cond, nat_eq, List, set, get_or-set_other, refl, sym, ◌∙◌, ap, subst, arith}
 use Rattle.std.proofs.lemmas.Bool.{cases_eq}
 use Rattle.std.proofs.lemmas.Grind.{common_steps}
 use Rattle.fo_image.specs.declared.types.Pointer.{Pointer}
@@ -13,8 +13,8 @@ use Rattle.fo_ports.specs.Blocks.{IsInner, IsFormed, slot_count, SlotFits}
 use Rattle.fo_ports_plain.specs.declared.home.Home.{Home}
 use Rattle.fo_ports_plain.specs.declared.block.PlainBlock.{PlainBlock}
 use Rattle.fo_ports_plain.specs.declared.wait.Wait.{Wait}
-use Rattle.fo_ports_plain.specs.Plain.{block_at, slot_of, index_in, is_active, wait_at, pair_of, IsMade, Updates}
-use Rattle.fo_ports_plain.specs.Sound.{HangsAt, InSource, Linked, Links, IsSpelled, IsFirst, Sound, Formed, Waiting, Queue, Well, home_of, leads_to}
+use Rattle.fo_ports_plain.specs.Plain.{block_at, slot_of, index_in, is_active, wait_at, IsMade, Updates}
+use Rattle.fo_ports_plain.specs.Sound.{HangsAt, Linked, IsSpelled, IsFirst, Sound, Formed, Waiting, Well, home_of, leads_to}
 use Rattle.fo_ports_plain.specs.Moves.{KeepsUse, Takes, elsewhere}
 use Rattle.fo_ports_plain.proofs.Lists.{part_kept}
 

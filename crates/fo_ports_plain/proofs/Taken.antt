@@ -1,11 +1,11 @@
 -- What hangs from slots that were taken out, after one more was put.
-use Rattle.std.proofs.Common.{◌≡◌, ◌≢◌, ◌⊎◌, inl, inr, ⊎_elim, ℕ, List, [], ◌∷◌, refl, sym, ◌∙◌, ap, subst}
+use Rattle.std.proofs.Common.{◌≡◌, ◌≢◌, ◌⊎◌, inl, inr, ⊎_elim, ℕ, List, [], ◌∷◌, refl, sym, ◌∙◌, ap}
 use Rattle.std.proofs.lemmas.Bool.{cases_eq}
 use Rattle.fo_image.specs.declared.types.Pointer.{Pointer}
 use Rattle.fo_image.specs.declared.types.Pointer.TheVariants.{Nil, Local, Score as Held}
 use Rattle.fo_crash.specs.declared.slot.Slot.{Slot}
-use Rattle.fo_crash.specs.Images.{Content, Image, target, local, walk, to_block, Reaches}
-use Rattle.fo_crash.specs.Steps.{PutsSlot, Through, Covers}
+use Rattle.fo_crash.specs.Images.{Image, target, local, walk, to_block, Reaches}
+use Rattle.fo_crash.specs.Steps.{PutsSlot, Covers}
 use Rattle.fo_crash.proofs.Reach.{lost, reaches_from, reaches_joins, reaches_same}
 use Rattle.fo_crash.proofs.Covers.{slot_reaches}
 

@@ -1,11 +1,10 @@
 -- A block begins to wait for the pairs of entries of another.
-use Rattle.std.proofs.Common.{◌≡◌, ◌≢◌, ◌⊎◌, inl, inr, ⊎_elim, ℕ, zero, suc, ◌+◌, ◌-◌, ◌*◌, ◌/◌, ◌<◌, ◌≤◌, Bool, true, false, List, [], ◌∷◌, ◌++◌, length, refl, sym, ◌∙◌, ap, subst, arith}
-use Rattle.std.proofs.lemmas.Bool.{cases_eq, cases_lt}
-use Rattle.fo_crash.specs.Names.{IsInUse}
-use Rattle.fo_ports.specs.State.{State, WaitsForPairs, AddsNoWait, Calm, none}
+use Rattle.std.proofs.Common.{◌≡◌, ◌≢◌, ◌⊎◌, inl, inr, ⊎_elim, ℕ, zero, suc, ◌+◌, ◌*◌, ◌/◌, ◌<◌, ◌≤◌, true, false, List, [], ◌∷◌, ◌++◌, length, refl, sym, ◌∙◌, ap, subst, arith}
+use Rattle.std.proofs.lemmas.Bool.{cases_lt}
+use Rattle.fo_ports.specs.State.{WaitsForPairs, AddsNoWait, Calm, none}
 use Rattle.fo_ports_plain.specs.declared.block.PlainBlock.{PlainBlock}
 use Rattle.fo_ports_plain.specs.declared.wait.Wait.{Wait}
-use Rattle.fo_ports_plain.specs.Plain.{block_at, slot_of, is_active, no_wait, wait_at, pair_of, Awaits}
+use Rattle.fo_ports_plain.specs.Plain.{block_at, slot_of, is_active, wait_at, pair_of, Awaits}
 use Rattle.fo_ports_plain.specs.Sound.{Sound, IsUsed, Waiting}
 use Rattle.fo_ports_plain.specs.Meaning.{Plain, state_of}
 use Rattle.fo_ports_plain.specs.Laws.{used_active}

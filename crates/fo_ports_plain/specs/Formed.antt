@@ -1,20 +1,18 @@
 -- That a block is of its format is known of its bytes: records are spelled in one way alone.
-use Rattle.std.proofs.Common.{◌≡◌, ℕ, zero, suc, ◌+◌, ◌-◌, ◌%◌, ◌≤◌, ◌<◌, ◌^◌, List, [], ◌∷◌, ◌++◌, length, get_or, take, drop, refl, sym, ap, subst, ◌∙◌, append_assoc, arith}
+use Rattle.std.proofs.Common.{◌≡◌, ℕ, zero, suc, ◌+◌, ◌-◌, ◌%◌, ◌<◌, ◌^◌, List, [], ◌∷◌, ◌++◌, length, get_or, take, drop, refl, sym, ap, subst, ◌∙◌, append_assoc, arith}
 use Rattle.std.proofs.Math.Logic.{∥∥₁_elim, ∥∥₁_prop}
 use Rattle.std.proofs.Props.{props}
 use Rattle.std.specs.Prelude.{codes}
-use Rattle.std.specs.Int.{w16, from_be_bytes}
 use Rattle.std.specs.List.{AllByRecursion}
 use Rattle.std.proofs.lemmas.List.{length-append, length-drop, drop-drop, take_at, drop_at}
-use Rattle.std.proofs.lemmas.Nat.{from_be_bytes-to_be_bytes_2, from_be_bytes-to_be_bytes_4}
+use Rattle.std.proofs.lemmas.Nat.{from_be_bytes-to_be_bytes_4}
 use Rattle.fo_image.specs.declared.types.Kind.{Kind}
 use Rattle.fo_image.specs.declared.types.Kind.TheVariants.{Data, Dir, Root}
 use Rattle.fo_image.specs.declared.record.Record.{Record}
 use Rattle.fo_image.specs.declared.record.RootBlock.{RootBlock}
-use Rattle.fo_image.specs.Field.{Two, Four, Field, Text, FieldFits, number, number_at, spelled, spelling, padded, zeros, Spells}
+use Rattle.fo_image.specs.Field.{Two, Four, Field, Text, FieldFits, number, number_at, spelled, spelling, padded, zeros}
 use Rattle.fo_image.specs.Format.{pointer_bytes, entry_fields, EntryHolds}
-use Rattle.fo_image.specs.Record.{RecordHolds, record_len, record_fields, RootHolds, root_head, root_fields, SpellsRoot}
-use Rattle.fo_image.proofs.PointerLemmas.{padded_whole}
+use Rattle.fo_image.specs.Record.{record_len, record_fields, root_head, root_fields, SpellsRoot}
 use Rattle.fo_image.proofs.RecordLemmas.{length-record, length-entry, fit_both, root_parts, root_spelling, root_at}
 use Rattle.fo_meta.specs.Leaf.{HasSpelling, record_bytes, records_bytes, SpellsLeaf, IsLeaf}
 use Rattle.fo_meta.proofs.Leaves.{head_at}

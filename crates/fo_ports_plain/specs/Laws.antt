@@ -1,10 +1,9 @@
 -- Why blocks in memory keep the laws.
-use Rattle.std.specs.Prelude.{◌≡◌, ◌≢◌, ◌⊎◌, ◌+◌, ◌-◌, ◌*◌, ◌/◌, ◌^◌, ◌<◌, ◌≤◌, ◌↔◌, ℕ, Bool, true, false, cond, nat_lt, nat_eq, List, length, refl}
+use Rattle.std.specs.Prelude.{◌≡◌, ◌≢◌, ◌⊎◌, ◌+◌, ◌-◌, ◌*◌, ◌/◌, ◌^◌, ◌<◌, ◌≤◌, ℕ, Bool, true, false, cond, nat_lt, nat_eq, List, length, refl}
 use Rattle.std.proofs.Common.{inl, inr, ⊎_elim, sym, ◌∙◌, ap, subst, arith}
 use Rattle.std.proofs.Math.Nat.{le_refl}
 use Rattle.std.proofs.lemmas.Grind.{common_steps}
 use Rattle.std.proofs.lemmas.Bool.{lt-ltb, cases_lt}
-use Rattle.fo_image.specs.declared.types.Score.{Score}
 use Rattle.fo_image.specs.declared.types.Label.{Label}
 use Rattle.fo_image.specs.declared.types.State.TheVariants.{Free, Live}
 use Rattle.fo_image.specs.declared.types.Kind.TheVariants.{Root}
@@ -12,18 +11,17 @@ use Rattle.fo_image.specs.declared.types.Pointer.TheVariants.{Nil, Local, Score 
 use Rattle.fo_crash.specs.declared.slot.Slot.{Slot}
 use Rattle.fo_crash.specs.declared.slot.Slot.TheVariants.{Pointer as To, Entry as Head, Prev}
 use Rattle.fo_crash.specs.declared.place.Place.{Place}
-use Rattle.fo_crash.specs.Images.{Content, Image, target, to_block, Reaches, SameContent, SameImage}
+use Rattle.fo_crash.specs.Images.{Content, Image, target, to_block, Reaches, SameContent}
 use Rattle.fo_crash.specs.Steps.{IsSure, HasSuper, IsOneOf}
 use Rattle.fo_crash.specs.Names.{IsInUse}
 use Rattle.fo_crash.specs.Places.{place_below, super_place, root_place, IsPlaced, OnePlace, RanksFall}
 use Rattle.fo_crash.specs.Spots.{FewSlots, OneSpot}
 use Rattle.fo_crash.proofs.Reach.{reaches_within, same_walk}
 use Rattle.fo_ports.specs.Blocks.{slot_count, SlotFits, IsFormed}
-use Rattle.fo_ports.specs.State.{State, KeepsAll, IsPairUsed, WaitsInUse}
+use Rattle.fo_ports.specs.State.{KeepsAll, IsPairUsed, WaitsInUse}
 use Rattle.fo_ports_plain.specs.declared.block.PlainBlock.{PlainBlock}
-use Rattle.fo_ports_plain.specs.declared.wait.Wait.{Wait}
-use Rattle.fo_ports_plain.specs.Plain.{block_at, slot_of, memory, label_of, label_at, is_active, wait_at, Stands, IsData, IsMade, IsTop}
-use Rattle.fo_ports_plain.specs.Sound.{Linked, Links, IsSuper, IsKept, Sound, Formed, Waiting, Queue, IsUsed, home_of, leads_to}
+use Rattle.fo_ports_plain.specs.Plain.{block_at, slot_of, memory, label_of, label_at, is_active, Stands, IsTop}
+use Rattle.fo_ports_plain.specs.Sound.{Sound, Formed, Waiting, Queue, leads_to}
 use Rattle.fo_ports_plain.specs.Meaning.{Plain, state_of, PlainKeeps}
 use Rattle.fo_ports_plain.specs.Trails as trails
 use Rattle.fo_ports_plain.specs.Formed.{formed_out}

@@ -1,7 +1,6 @@
 -- What stays true of blocks in memory.
-use Rattle.std.specs.Prelude.{◌≡◌, ◌≢◌, ◌⊎◌, ◌+◌, ◌*◌, ◌<◌, ◌≤◌, ℕ, Bool, true, false, nat_eq, List, length}
+use Rattle.std.specs.Prelude.{◌≡◌, ◌≢◌, ◌*◌, ◌<◌, ◌≤◌, ℕ, Bool, true, false, nat_eq, List, length}
 use Rattle.fo_image.specs.declared.types.Pointer.TheVariants.{Local}
-use Rattle.fo_image.specs.declared.types.Kind.TheVariants.{Root}
 use Rattle.fo_crash.specs.declared.slot.Slot.{Slot}
 use Rattle.fo_crash.specs.declared.slot.Slot.TheVariants.{Pointer as To}
 use Rattle.fo_crash.specs.Images.{target}

@@ -1,5 +1,5 @@
 -- Memory leads to each block at one spot: its place, and the trail of its source.
-use Rattle.std.proofs.Common.{◌≡◌, ◌≢◌, ◌⊎◌, ⊎_elim, ℕ, zero, suc, ◌+◌, ◌*◌, ◌<◌, Bool, true, false, cond, nat_eq, List, [], ◌∷◌, refl, sym, ◌∙◌, ap, subst, arith}
+use Rattle.std.proofs.Common.{◌≡◌, ⊎_elim, ℕ, zero, suc, ◌+◌, ◌*◌, ◌<◌, Bool, true, false, cond, nat_eq, List, [], ◌∷◌, refl, sym, ◌∙◌, ap, subst, arith}
 use Rattle.std.proofs.lemmas.Grind.{common_steps}
 use Rattle.fo_image.specs.declared.types.Kind.{Kind}
 use Rattle.fo_image.specs.declared.types.Kind.TheVariants.{Data, Dir, Root}
@@ -12,10 +12,9 @@ use Rattle.fo_crash.specs.Places.{super_place, root_place, place_below}
 use Rattle.fo_crash.specs.Spots.{Spot, spot_below, top_spot, spot_at, FoundAt, OneSpot}
 use Rattle.fo_crash.proofs.Reach.{lost}
 use Rattle.fo_ports.specs.Blocks.{IsInner, slot_count}
-use Rattle.fo_ports_plain.specs.declared.home.Home.{Home}
 use Rattle.fo_ports_plain.specs.declared.block.PlainBlock.{PlainBlock}
 use Rattle.fo_ports_plain.specs.Plain.{block_at, slot_of, memory, index_in, IsTop}
-use Rattle.fo_ports_plain.specs.Sound.{HangsAt, Linked, Links, IsSuper, IsKept, Sound, home_of}
+use Rattle.fo_ports_plain.specs.Sound.{HangsAt, Linked, Links, IsKept, Sound, home_of}
 
 -- The entries by which a source hangs, the last one first.
 abbrev pub IsTrail : List PlainBlock → ℕ → List ℕ → Type 0

@@ -1,4 +1,4 @@
-use Rattle.std.proofs.Common.{◌≡◌, ◌≢◌, ◌<◌, ℕ, slice_index_or}
+use Rattle.std.proofs.Common.{◌≢◌, ◌<◌, ℕ, slice_index_or}
 use Rattle.fo_crash.specs.Images.{target}
 use Rattle.fo_image.specs.declared.types.Pointer.TheVariants.{Nil, Local}
 use Rattle.fo_crash.specs.declared.slot.Slot.TheVariants.{Pointer as To}

@@ -1,8 +1,7 @@
-use Rattle.std.proofs.Common.{◌≡◌, ℕ, ◌≤◌, List, length, refl, sym, subst, ap, arith}
+use Rattle.std.proofs.Common.{refl, sym, subst, arith}
 use Rattle.std.specs.Prelude.{codes}
 use Rattle.std.specs.Str.{is_utf8, chars}
 use lib.Utf8.{encode}
-use Rattle.fo_base.specs.Text.{IsText}
 use Rattle.fo_image.specs.Record.{IsTextWithin}
 use Rattle.fo_ports_plain.proofs.plain.root_record.Goals as goal
 

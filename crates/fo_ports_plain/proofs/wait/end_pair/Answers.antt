@@ -1,4 +1,4 @@
-use Rattle.std.proofs.Common.{◌≡◌, ◌<◌, ◌≤◌, length, refl, arith}
+use Rattle.std.proofs.Common.{◌<◌, length, refl, arith}
 use Rattle.fo_ports_plain.proofs.Waits.{none_ended, one_ended, ended_by, wait_is, all_ended}
 use Rattle.fo_ports_plain.proofs.wait.end_pair.Goals as goal
 

@@ -1,4 +1,4 @@
-use Rattle.std.proofs.Common.{◌≡◌, ◌≤◌, length}
+use Rattle.std.proofs.Common.{◌≡◌}
 use Rattle.std.specs.Vec.{vec_len, vec_capacity}
 use Rattle.fo_ports_plain.proofs.Waits.{EndsUpTo}
 use Rattle.fo_ports_plain.proofs.wait.end_pair.Given as goal

@@ -1,4 +1,4 @@
-use Rattle.std.proofs.Common.{◌≡◌, ◌*◌, ◌<◌, ◌≤◌, ℕ, false, slice_index_or, length}
+use Rattle.std.proofs.Common.{◌≡◌, ◌*◌, ◌<◌, ℕ, false, slice_index_or, length}
 use Rattle.fo_image.specs.declared.types.Pointer.TheVariants.{Nil}
 use Rattle.fo_crash.specs.declared.slot.Slot.TheVariants.{Pointer as To}
 use Rattle.fo_ports_plain.specs.Plain.{is_active}

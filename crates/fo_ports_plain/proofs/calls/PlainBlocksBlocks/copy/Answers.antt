@@ -1,17 +1,14 @@
-use Rattle.std.proofs.Common.{◌≡◌, ◌+◌, ◌-◌, ◌^◌, ◌<◌, ◌≤◌, ℕ, Bool, true, false, length, refl, sym, ◌∙◌, ap, subst, inl, arith}
+use Rattle.std.proofs.Common.{◌≡◌, ◌+◌, ◌-◌, ◌^◌, ◌<◌, ◌≤◌, length, refl, sym, ◌∙◌, ap, subst, arith}
 use Rattle.fo_image.specs.declared.types.Label.{Label}
-use Rattle.fo_image.specs.declared.types.Kind.{Kind}
 use Rattle.fo_image.specs.declared.types.State.TheVariants.{Live}
-use Rattle.fo_crash.specs.Images.{SameContent}
 use Rattle.fo_ports.specs.State.{Gives}
 use Rattle.fo_ports_plain.specs.declared.block.PlainBlock.{PlainBlock}
-use Rattle.fo_ports_plain.specs.Plain.{block_at, content_of, label_at, label_of, nowhere, Updates}
+use Rattle.fo_ports_plain.specs.Plain.{block_at, content_of, label_at, Updates}
 use Rattle.fo_ports_plain.specs.Sound.{Well}
-use Rattle.fo_ports_plain.specs.Meaning.{Plain, state_of, PlainKeeps}
+use Rattle.fo_ports_plain.specs.Meaning.{state_of, PlainKeeps}
 use Rattle.fo_ports_plain.specs.Parts.{parts}
-use Rattle.fo_ports_plain.specs.Laws.{label_kind}
 use Rattle.fo_ports_plain.proofs.Lists.{block_is}
-use Rattle.fo_ports_plain.proofs.Made.{MayMake, made_well}
+use Rattle.fo_ports_plain.proofs.Made.{made_well}
 use Rattle.fo_ports_plain.proofs.Given.{gives, made_keeps}
 use Rattle.fo_ports_plain.proofs.GivenBlocks.{copied, copied_label, copy_may, joined_of}
 use Rattle.fo_ports_plain.proofs.calls.PlainBlocksBlocks.copy.Goals as goal

@@ -1,11 +1,8 @@
 use Rattle.std.proofs.Common.{rules, ◌≡◌, ℕ, ◌+◌, ◌<◌, ◌≤◌, length, take, drop, refl, sym, ◌∙◌, ap, subst, arith}
-use Rattle.fo_image.specs.declared.types.Kind.{Kind}
-use Rattle.fo_crash.specs.declared.place.Place.{Place}
 use Rattle.fo_crash.specs.declared.slot.Slot.{Slot}
 use Rattle.fo_ports.specs.Blocks.{slot_count, slot_size, slot_start, slots_from, slots_to, SlotFits, SpellsSlot, IsFormed}
 use Rattle.fo_ports_plain.specs.declared.block.PlainBlock.{PlainBlock}
 use Rattle.fo_ports_plain.specs.Plain.{block_at, slot_of, Stands}
-use Rattle.fo_ports_plain.specs.Spell.{KeepsBeside}
 use Rattle.fo_ports_plain.specs.Laws.{label_kind, formed_at}
 use Rattle.fo_ports_plain.proofs.Lists.{block_is}
 use Rattle.fo_ports_plain.proofs.Reading.{formed_read}

@@ -1,15 +1,14 @@
-use Rattle.std.proofs.Common.{◌≡◌, ◌+◌, ◌-◌, ◌^◌, ◌<◌, ◌≤◌, ℕ, length, refl, sym, ◌∙◌, ap, subst, arith}
+use Rattle.std.proofs.Common.{◌≡◌, ◌+◌, ◌-◌, ◌^◌, ◌<◌, ◌≤◌, length, sym, ap, subst, arith}
 use Rattle.fo_image.specs.declared.types.Label.{Label}
 use Rattle.fo_image.specs.declared.types.State.TheVariants.{Live}
 use Rattle.fo_crash.specs.declared.place.Place.{Place}
 use Rattle.fo_ports.specs.Blocks.{blank}
 use Rattle.fo_ports.specs.State.{Gives}
-use Rattle.fo_ports_plain.specs.declared.block.PlainBlock.{PlainBlock}
-use Rattle.fo_ports_plain.specs.Plain.{block_at, label_of}
+use Rattle.fo_ports_plain.specs.Plain.{label_of}
 use Rattle.fo_ports_plain.specs.Sound.{Well}
-use Rattle.fo_ports_plain.specs.Meaning.{Plain, state_of}
+use Rattle.fo_ports_plain.specs.Meaning.{state_of}
 use Rattle.fo_ports_plain.specs.Parts.{parts}
-use Rattle.fo_ports_plain.proofs.Made.{MayMake, made_well}
+use Rattle.fo_ports_plain.proofs.Made.{made_well}
 use Rattle.fo_ports_plain.proofs.Given.{gives}
 use Rattle.fo_ports_plain.proofs.GivenBlocks.{blank_may}
 use Rattle.fo_ports_plain.proofs.calls.PlainBlocksBlocks.new_block.Goals as goal

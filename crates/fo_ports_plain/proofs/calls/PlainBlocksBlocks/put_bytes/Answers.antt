@@ -1,9 +1,6 @@
-use Rattle.std.proofs.Common.{◌≡◌, ◌≢◌, inl, inr, ⊎_elim, ℕ, List, refl, sym, ◌∙◌, ap, subst}
-use Rattle.fo_crash.specs.Images.{Image, SameImage}
-use Rattle.fo_crash.specs.Steps.{PutsBytes}
+use Rattle.std.proofs.Common.{◌≡◌, sym, ◌∙◌, subst}
 use Rattle.fo_ports.specs.State.{Calm}
-use Rattle.fo_ports_plain.specs.Plain.{block_at, memory}
-use Rattle.fo_ports_plain.specs.Meaning.{Plain, state_of}
+use Rattle.fo_ports_plain.specs.Meaning.{state_of}
 use Rattle.fo_ports_plain.specs.Parts.{parts}
 use Rattle.fo_ports_plain.proofs.Bytes.{bytes_put, bytes_added, bytes_calm, bytes_kept, same_use}
 use Rattle.fo_ports_plain.proofs.calls.PlainBlocksBlocks.put_bytes.Goals as goal

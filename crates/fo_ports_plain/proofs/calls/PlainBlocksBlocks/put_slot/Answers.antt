@@ -1,11 +1,11 @@
-use Rattle.std.proofs.Common.{◌≡◌, ◌≢◌, ◌⊎◌, inl, inr, ⊎_elim, ℕ, ◌+◌, ◌-◌, ◌<◌, ◌≤◌, length, refl, sym, ◌∙◌, ap, subst, arith}
+use Rattle.std.proofs.Common.{◌≡◌, ◌⊎◌, inl, inr, ◌+◌, ◌-◌, ◌<◌, ◌≤◌, sym, ◌∙◌, ap, subst, arith}
 use Rattle.fo_image.specs.declared.types.Pointer.TheVariants.{Local}
-use Rattle.fo_crash.specs.Images.{target, to_block, Reaches}
+use Rattle.fo_crash.specs.Images.{target}
 use Rattle.fo_crash.specs.declared.place.Place.{Place}
 use Rattle.fo_ports.specs.Blocks.{cost, slot_count, SlotFits}
 use Rattle.fo_ports_plain.specs.declared.block.PlainBlock.{PlainBlock}
 use Rattle.fo_ports.specs.State.{Frame, Hangs}
-use Rattle.fo_ports_plain.specs.Plain.{block_at, slot_of, label_at, Covered}
+use Rattle.fo_ports_plain.specs.Plain.{block_at, slot_of, label_at}
 use Rattle.fo_ports_plain.specs.Moves.{MayLink, KeepsUse}
 use Rattle.fo_ports_plain.specs.Meaning.{Plain, state_of}
 use Rattle.fo_ports_plain.specs.Parts.{parts}

@@ -1,10 +1,10 @@
-use Rattle.std.proofs.Common.{◌≡◌, ◌≢◌, ◌⊎◌, inl, inr, ⊎_elim, ℕ, ◌+◌, ◌-◌, ◌<◌, ◌≤◌, set, length, refl, sym, ◌∙◌, ap, subst, arith}
+use Rattle.std.proofs.Common.{◌≡◌, inl, ◌+◌, ◌-◌, ◌<◌, set, sym, ◌∙◌, ap, subst, arith}
 use Rattle.fo_crash.specs.declared.place.Place.{Place}
-use Rattle.fo_crash.specs.Images.{SameImage, target}
+use Rattle.fo_crash.specs.Images.{SameImage}
 use Rattle.fo_crash.specs.Steps.{cleared, HasBytes}
 use Rattle.fo_ports.specs.Blocks.{slot_count, SlotFits}
 use Rattle.fo_ports.specs.State.{Frame, Hangs, AddsNoWait, none}
-use Rattle.fo_ports_plain.specs.Plain.{block_at, slot_of, memory, label_at, Covered, Updates}
+use Rattle.fo_ports_plain.specs.Plain.{block_at, slot_of, memory, label_at, Updates}
 use Rattle.fo_crash.proofs.Reach.{lost}
 use Rattle.fo_ports_plain.specs.declared.block.PlainBlock.{PlainBlock}
 use Rattle.fo_ports_plain.specs.Laws.{label_kind}

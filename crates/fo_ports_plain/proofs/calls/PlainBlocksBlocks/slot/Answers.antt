@@ -1,8 +1,7 @@
-use Rattle.std.proofs.Common.{◌<◌, ◌≤◌, arith}
+use Rattle.std.proofs.Common.{◌<◌, arith}
 use Rattle.fo_ports.specs.Blocks.{slot_count}
 use Rattle.fo_ports_plain.specs.Plain.{label_at}
 use Rattle.fo_ports_plain.proofs.Comes.{few_slots}
-use Rattle.fo_ports_plain.proofs.Removes as removes
 use Rattle.fo_ports_plain.proofs.calls.PlainBlocksBlocks.slot.Goals as goal
 
 pub bounds-block-i : goal.bounds-block-i

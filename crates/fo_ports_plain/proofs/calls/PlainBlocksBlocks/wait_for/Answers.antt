@@ -1,6 +1,6 @@
-use Rattle.std.proofs.Common.{◌≡◌, ◌+◌, ◌-◌, ◌*◌, ◌<◌, ◌≤◌, ℕ, List, [], ◌∷◌, ◌++◌, refl, sym, ◌∙◌, ap, subst, arith}
+use Rattle.std.proofs.Common.{◌≡◌, ◌-◌, [], ◌∷◌, ◌++◌, sym, ◌∙◌, ap, subst}
 use Rattle.fo_ports.specs.State.{WaitsForPairs, AddsNoWait, Calm, none}
-use Rattle.fo_ports_plain.specs.Meaning.{Plain, state_of}
+use Rattle.fo_ports_plain.specs.Meaning.{state_of}
 use Rattle.fo_ports_plain.specs.Parts.{parts}
 use Rattle.fo_ports_plain.proofs.Waiting.{waits_for, wait_calm, none_waits}
 use Rattle.fo_ports_plain.proofs.calls.PlainBlocksBlocks.wait_for.Goals as goal

@@ -1,6 +1,6 @@
-use Rattle.std.proofs.Common.{◌≡◌, ◌+◌, ◌-◌, ◌*◌, ◌<◌, ◌≤◌, ap, subst, sym, ◌∙◌, arith}
+use Rattle.std.proofs.Common.{◌≡◌, ◌+◌, ◌-◌, ◌*◌, ◌≤◌, ap, ◌∙◌, arith}
 use Rattle.fo_crash.specs.Images.{depth_of, target}
-use Rattle.fo_ports.specs.Blocks.{cost, ends, dropped}
+use Rattle.fo_ports.specs.Blocks.{ends, dropped}
 use Rattle.fo_ports_plain.specs.declared.block.PlainBlock.{PlainBlock}
 use Rattle.fo_ports_plain.specs.Plain.{block_at, slot_of}
 use Rattle.fo_ports_plain.proofs.Lists.{block_is}

@@ -1,6 +1,4 @@
-use Rattle.std.proofs.Common.{◌≡◌, ◌+◌, ◌<◌, ◌≤◌, true, false, length, sym, ◌∙◌, subst, arith}
-use Rattle.fo_ports_plain.specs.declared.block.PlainBlock.{PlainBlock}
-use Rattle.fo_ports_plain.specs.Plain.{block_at}
+use Rattle.std.proofs.Common.{◌≡◌, ◌+◌, ◌<◌, ◌≤◌, true, length, sym, subst, arith}
 use Rattle.fo_ports_plain.specs.Moves.{IsFree}
 use Rattle.fo_ports_plain.proofs.Lists.{block_is}
 use Rattle.fo_ports_plain.proofs.plain.PlainBlocks.link.Goals as goal

@@ -1,9 +1,5 @@
-use Rattle.std.proofs.Common.{◌≡◌, ◌⊎◌, ◌+◌, ◌^◌, ◌<◌, ◌≤◌, cond, length, refl, sym, ◌∙◌, ap, subst, arith}
-use Rattle.fo_crash.specs.declared.place.Place.{Place}
-use Rattle.fo_ports_plain.specs.declared.block.PlainBlock.{PlainBlock}
-use Rattle.fo_ports_plain.specs.Plain.{block_at, index_in}
+use Rattle.std.proofs.Common.{◌+◌, ◌^◌, ◌<◌, ◌≤◌, length, subst, arith}
 use Rattle.fo_ports_plain.specs.Moves.{PutsLink}
-use Rattle.fo_ports_plain.proofs.Lists.{block_is}
 use Rattle.fo_ports_plain.proofs.Linked.{link_sound, link_formed, link_waiting, link_queue}
 use Rattle.fo_ports_plain.proofs.Joints.{raise_linking}
 use Rattle.fo_ports_plain.proofs.plain.PlainBlocks.raise.Goals as goal

@@ -1,7 +1,7 @@
-use Rattle.std.proofs.Common.{◌≡◌, ◌+◌, ◌<◌, ◌≤◌, length, ◌∙◌, ap, subst, arith}
+use Rattle.std.proofs.Common.{◌+◌, ◌<◌, ◌≤◌, length, ◌∙◌, ap, subst, arith}
 use Rattle.fo_ports.specs.Blocks.{put_at}
 use Rattle.fo_ports_plain.specs.declared.block.PlainBlock.{PlainBlock}
-use Rattle.fo_ports_plain.specs.Plain.{block_at, Updates}
+use Rattle.fo_ports_plain.specs.Plain.{Updates}
 use Rattle.fo_ports_plain.proofs.Lists.{block_is}
 use Rattle.fo_ports_plain.proofs.Still.{bytes_well}
 use Rattle.fo_ports_plain.proofs.plain.PlainBlocks.set_bytes.Goals as goal
