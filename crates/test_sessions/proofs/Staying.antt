@@ -10,6 +10,6 @@ answered_stays told Q w w' (Ok x) stays h = (seen told w w' x stays h).1
 answered_stays told Q w w' (Err e) stays h = h.1
 
 -- the same for bytes that are put into place
-pub filled_stays : {A : Type 0} (told : Result (A × World) FileError) (given : ℕ → A) (P Q : ℕ → Type 0) (fails : FileError → Type 0) (R : Type 0) (w w' : World) (r : Result ℕ FileError) → Stays w told → MatchResult r (λ n. (told ≡ Ok (given n, w')) × P n × Q n) (λ e. fails e × (w' ≡ w) × R) → w' ≡ w
-filled_stays told given P Q fails R w w' (Ok n) stays h = (seen told w w' (given n) stays h.0).1
-filled_stays told given P Q fails R w w' (Err e) stays h = h.1
+pub filled_stays : {A : Type 0} (told : Result (A × World) FileError) (given : ℕ → A) (fails : FileError → Type 0) (w w' : World) (r : Result ℕ FileError) → Stays w told → MatchResult r (λ n. told ≡ Ok (given n, w')) (λ e. fails e × (w' ≡ w)) → w' ≡ w
+filled_stays told given fails w w' (Ok n) stays h = (seen told w w' (given n) stays h).1
+filled_stays told given fails w w' (Err e) stays h = h.1

@@ -9,4 +9,4 @@ use Rattle.test_sessions.proofs.session.watched.WatchedFileOps.read.Goals as goa
 pub returns-clause-keeps : goal.returns-clause-keeps
 returns-clause-keeps c =
     let w = kept c.args.self.now.files in
-    filled_stays (step.read true w c.args.at.now c.args.offset (length c.args.into.now)) (λ n. take n c.read.new.into) _ _ _ _ w (kept c.read.new.self) c.read.result (read_stays true w c.args.at.now c.args.offset (length c.args.into.now)) c.read.ensures.answer
+    filled_stays (step.read true w c.args.at.now c.args.offset (length c.args.into.now)) (λ n. take n c.read.new.into) _ w (kept c.read.new.self) c.read.result (read_stays true w c.args.at.now c.args.offset (length c.args.into.now)) (c.read.ensures.answer tt)
