@@ -6,6 +6,7 @@ ghost use Rattle.fo_sound.specs.Image.{block_of, is_zero, label_bytes};
 ghost use Rattle.fo_image.specs.Usable.{is_usable};
 ghost use Rattle.fo_sound.specs.Sound.{root_label};
 
+use fo_base::LABELS;
 use fo_image::{Label, Super, first_data, is_usable, label_place, read_label};
 use fo_sound::root_label;
 
@@ -116,9 +117,9 @@ impl Table {
             return;
         }
         self.add_rest(2 + n, block);
-        for place in 0..585 {
+        for place in 0..LABELS {
             let from = 14 * place as usize;
-            self.add_label(s, blocks, 585 * n + place, &block[from..from + 14]);
+            self.add_label(s, blocks, LABELS * n + place, &block[from..from + 14]);
         }
     }
 }

@@ -12,8 +12,9 @@ use Rattle.std.proofs.lemmas.List.Splits.{join_with_byte-slice_split}
 use Rattle.fo_base.specs.Text.{is_text, has_zero}
 use Rattle.fo_console.specs.Command.{Said, sync, snap, epoch, low, cancel, df, check, halt, unhalt, create, remove, stat, users}
 use Rattle.fo_console.specs.Line.{is_part, IsCommand, Says}
-use Rattle.fo_console.specs.Reading.{parts_at, is_some_text, number_of, perm_of, path_of, alone, with_one, with_two, with_four, command_of, is_line}
-use Rattle.fo_console.proofs.Cutting.{lacks, cut_joined, parts_lack, both_pass, all_pass}
+use Rattle.fo_base.specs.Parts.{parts_at}
+use Rattle.fo_console.specs.Reading.{is_some_text, number_of, perm_of, path_of, alone, with_one, with_two, with_four, command_of, is_line}
+use Rattle.fo_base.proofs.Cutting.{lacks, cut_joined, parts_lack, both_pass, all_pass}
 use Rattle.fo_console.proofs.WordLemmas.{number_here, number_says, perm_read, perm_says, path_read, path_says}
 
 -- ---- what is said is read

@@ -1,4 +1,3 @@
-pub mod Cutting
 pub mod WordLemmas
 pub mod Commands
 pub mod ReplyLemmas

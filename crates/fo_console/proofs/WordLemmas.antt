@@ -17,8 +17,9 @@ use Rattle.std.proofs.lemmas.List.Folds.{list_all-map}
 use Rattle.std.proofs.lemmas.List.Splits.{join_with_byte-slice_split}
 use Rattle.std.proofs.lemmas.Str.Parse.{without_leading_plus_none}
 use Rattle.fo_console.specs.Line.{is_part, IsPath, is_octal, is_octal_word, IsPerm}
-use Rattle.fo_console.specs.Reading.{parts_at, is_some_text, is_number, number_of, octal_of, perm_of, names_of, path_of}
-use Rattle.fo_console.proofs.Cutting.{lacks, cut_joined, parts_lack, both_pass, all_pass}
+use Rattle.fo_base.specs.Parts.{parts_at}
+use Rattle.fo_console.specs.Reading.{is_some_text, is_number, number_of, octal_of, perm_of, names_of, path_of}
+use Rattle.fo_base.proofs.Cutting.{lacks, cut_joined, parts_lack, both_pass, all_pass}
 
 -- ---- numbers
 

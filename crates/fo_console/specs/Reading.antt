@@ -1,6 +1,7 @@
 -- What the readers of a line's words give.
+use Rattle.fo_base.specs.Parts.{parts_at}
 use Rattle.std.specs.Prelude.{ℕ, ◌+◌, ◌^◌, List, [], ◌∷◌, length, Bool, true, false, ◌==◌, ◌&&◌, not, nat_le, nat_lt, Option, Some, None, option_and_then, codes, if◌then◌else◌}
-use Rattle.std.specs.List.{list_all, slice_split}
+use Rattle.std.specs.List.{list_all}
 use Rattle.std.specs.Option.{option_map}
 use Rattle.std.specs.Str.{bytes_eq}
 use Rattle.std.specs.Str.Parse.{digits_value}
@@ -8,10 +9,6 @@ use Rattle.std.specs.Fmt.{decimal}
 use Rattle.fo_base.specs.Text.{is_text}
 use Rattle.fo_console.specs.Command.{Said, sync, snap, epoch, low, cancel, df, check, halt, unhalt, create, remove, stat, users}
 use Rattle.fo_console.specs.Line.{is_octal_word}
-
--- the parts round this byte
-abbrev pub parts_at : ℕ → List ℕ → List (List ℕ)
-parts_at separator bytes = slice_split (λ b. b == separator) bytes
 
 abbrev pub is_some_text : List ℕ → Bool
 is_some_text text = not (length text == 0)

@@ -3,15 +3,13 @@ ghost use Rattle.std.specs.Prelude.{◌≡◌, map, IfOk};
 ghost use Rattle.std.specs.List.{list_all};
 ghost use Rattle.std.specs.Option.{option_map};
 ghost use Rattle.fo_console.specs.Line.{is_octal, is_octal_word};
-ghost use Rattle.fo_console.specs.Reading.{parts_at, is_some_text, is_number, number_of, octal_of, perm_of, names_of, path_of};
+ghost use Rattle.fo_base.specs.Parts.{parts_at};
+ghost use Rattle.fo_console.specs.Reading.{is_some_text, is_number, number_of, octal_of, perm_of, names_of, path_of};
 
 use fo_base::Memory;
-use fo_world::Name;
+use fo_world::{DMDIR, Name};
 use itoa::Buffer;
 use std::alloc::{AllocError, Global};
-
-/// The bit of a directory's permissions.
-const DMDIR: u32 = 0x8000_0000;
 
 /// The words of a line: its parts round each space.
 pub fn words<'a>(alloc: Global, line: &'a str) -> Result<Vec<&'a str>, AllocError>

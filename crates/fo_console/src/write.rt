@@ -4,17 +4,17 @@ ghost use Rattle.fo_console.specs.Reply.{mode_text, stat_line, snap_line, epoch_
 
 use crate::answer::Answer;
 use fo_base::Memory;
-use fo_world::Info;
+use fo_world::{DMAPPEND, DMDIR, DMEXCL, DMTMP, Info};
 use std::alloc::Global;
 
 /// A file's mode: the letters of its flags, and its permissions in octal.
 fn mode_text(alloc: Global, mode: u32) -> Result<String, Memory>
     ensures { IfOk result (λ s. string_bytes s ≡ mode_text mode) }
 {
-    let directory = if mode & 0x8000_0000 != 0 { "d" } else { "" };
-    let append = if mode & 0x4000_0000 != 0 { "a" } else { "" };
-    let exclusive = if mode & 0x2000_0000 != 0 { "l" } else { "" };
-    let temporary = if mode & 0x0400_0000 != 0 { "t" } else { "" };
+    let directory = if mode & DMDIR != 0 { "d" } else { "" };
+    let append = if mode & DMAPPEND != 0 { "a" } else { "" };
+    let exclusive = if mode & DMEXCL != 0 { "l" } else { "" };
+    let temporary = if mode & DMTMP != 0 { "t" } else { "" };
     let bits = mode % 512;
     Ok(format!(in alloc; "{directory}{append}{exclusive}{temporary}{bits:o}")?)
 }

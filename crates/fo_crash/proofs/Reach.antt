@@ -96,3 +96,20 @@ reaches_same {image} {s} {t} {b} same r = record { path = r.path; leads = go r.p
     go : (path : List ℕ) → target (walk image s path) ≡ Local b → target (walk image t path) ≡ Local b
     go [] e = sym same ∙ e
     go (i ∷ path) e = ap (λ p. target (walk image ((local image p).slot i) path)) (sym same) ∙ e
+
+-- Two images with the same slots but in some blocks are walked alike by paths that lead to none of these in the first.
+walk_aside : (x y : Image) (made : ℕ → Type 0) → ((b j : ℕ) → (made b → ⊥) → (x b).slot j ≡ (y b).slot j) → (path : List ℕ) (s : Slot) → ((front : List ℕ) (b : ℕ) → made b → target (walk x s front) ≢ Local b) → walk x s path ≡ walk y s path
+walk_aside x y made same [] s away = refl
+walk_aside x y made same (i ∷ path) s away =
+    walk_aside x y made same path ((local x (target s)).slot i) (λ front b m. away (i ∷ front) b m) ∙ ap (λ u. walk y u path) (one (target s) (λ b m. away [] b m))
+  where
+    one : (p : Pointer) → ((b : ℕ) → made b → p ≢ Local b) → (local x p).slot i ≡ (local y p).slot i
+    one Nil h = refl
+    one (Local at) h = same at i (λ m. h at m refl)
+    one (Held score) h = refl
+
+pub reach_aside : (x y : Image) (made : ℕ → Type 0) (t : ℕ) → ((b j : ℕ) → (made b → ⊥) → (x b).slot j ≡ (y b).slot j) → ((b : ℕ) → made b → Reaches x (to_block t) b → ⊥) → (b : ℕ) → Reaches x (to_block t) b → Reaches y (to_block t) b
+reach_aside x y made t same apart b r = record { path = r.path; leads = ap target (sym (walk_aside x y made same r.path (to_block t) (λ front c m e. apart c m (record { path = front; leads = e })))) ∙ r.leads }
+
+pub reach_into : (x y : Image) (made : ℕ → Type 0) (t : ℕ) → ((b j : ℕ) → (made b → ⊥) → (x b).slot j ≡ (y b).slot j) → ((b : ℕ) → made b → Reaches x (to_block t) b → ⊥) → (b : ℕ) → Reaches y (to_block t) b → Reaches x (to_block t) b
+reach_into x y made t same apart b r = record { path = r.path; leads = ap target (walk_aside x y made same r.path (to_block t) (λ front c m e. apart c m (record { path = front; leads = e }))) ∙ r.leads }

@@ -4,6 +4,7 @@ ghost use Rattle.fo_crash.specs.Images.{kind_of_top};
 ghost use Rattle.fo_crash.specs.Places.{place, place_below, tag_of_top, rank_of_top};
 
 use crate::{Place, Slot};
+use fo_base::POINTERS;
 use fo_image::{Entry, Kind, Pointer};
 
 impl Slot {
@@ -82,7 +83,7 @@ impl Place {
         Place {
             kind,
             tag: self.tag,
-            index: 409 * self.index + i as u64,
+            index: POINTERS as u64 * self.index + i as u64,
             rank: self.rank.saturating_sub(1),
         }
     }

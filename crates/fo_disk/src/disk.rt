@@ -6,9 +6,6 @@ ghost use Rattle.fo_disk.specs.Disk.{Content, versions_of, IsContent, IsNewest, 
 
 use thiserror::Error;
 
-/// The bytes of a block.
-pub const BLOCK: usize = 8192;
-
 /// The device failed.
 #[derive(Clone, Copy, Debug, PartialEq, Eq, Error)]
 #[error("the device failed")]

@@ -20,7 +20,8 @@ mod memory_calls;
 mod sure;
 mod sure_calls;
 
-pub use disk::{BLOCK, Disk, DiskFault, Failed};
+pub use disk::{Disk, DiskFault, Failed};
 pub use file::FileDisk;
+pub use fo_base::BLOCK;
 pub use memory::MemDisk;
 pub use sure::SureDisk;

@@ -10,6 +10,7 @@ ghost use Rattle.fo_image.specs.Format.{arena_head_fields, SpellsArenaHead, is_a
 use crate::parts::{Part, is_spelled, score_at, u16_at, u32_at, write_parts};
 use crate::pointers::is_score;
 use crate::types::{ArenaHead, ArenaLine, Bad};
+use fo_base::BLOCK;
 
 fn parts_of_arena_head(head: ArenaHead) -> [Part<'static>; 3]
     ensures spelled { parts_bytes result ≡ spelling (arena_head_fields head) }
@@ -64,7 +65,7 @@ fn is_arena_kind(kind: u8) -> bool
 fn is_arena_line(line: &ArenaLine) -> bool
     ensures { IsTrue result ↔ ArenaLineHolds line.now }
 {
-    is_score(line.score) && is_arena_kind(line.kind) && line.len <= 8192
+    is_score(line.score) && is_arena_kind(line.kind) && line.len <= BLOCK as u16
 }
 
 fn parts_of_arena_line(line: ArenaLine) -> [Part<'static>; 4]

@@ -10,6 +10,7 @@ ghost use Rattle.fo_image.specs.Format.{header_fields, SpellsHeader, has_code, l
 use crate::labels::is_epoch;
 use crate::parts::{Part, is_spelled, score_at, u16_at, u32_at, write_parts};
 use crate::types::{Bad, Header, Score, Super};
+use fo_base::BLOCK;
 
 fn parts_of_header(header: Header) -> [Part<'static>; 3]
     ensures spelled { parts_bytes result ≡ spelling (header_fields header) }
@@ -17,7 +18,7 @@ fn parts_of_header(header: Header) -> [Part<'static>; 3]
 {
     [
         Part::Bytes(b"FOSSILHD"),
-        Part::Four(8192),
+        Part::Four(BLOCK as u32),
         Part::Four(header.blocks),
     ]
 }

@@ -9,19 +9,20 @@ ghost use Rattle.fo_image.specs.Format.{IsDepth, flag_bits, EntryHolds, SpellsEn
 use crate::parts::{Part, is_spelled, u32_at, u64_at, write_parts};
 use crate::pointers::{bytes_of, is_pointer, read_pointer};
 use crate::types::{Bad, Entry, Pointer};
+use fo_base::{BLOCK, POINTERS};
 
 /// The least depth of a tree of blocks that has room for so many bytes.
 pub fn least_depth(size: u64) -> u8
     ensures is_least { IsDepth size result }
     ensures only { (depth : ℕ) → IsDepth size depth → depth ≡ result }
 {
-    let leaves = size.div_ceil(8192);
+    let leaves = size.div_ceil(BLOCK as u64);
     let mut held: u64 = 1;
     for depth in 0..6 {
         if leaves <= held {
             return depth;
         }
-        held *= 409;
+        held *= POINTERS as u64;
     }
     6
 }

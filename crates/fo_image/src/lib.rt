@@ -24,12 +24,10 @@ mod types;
 pub use arena::{read_arena_head, read_arena_line, write_arena_head, write_arena_line};
 pub use blocks::{read_header, read_super, write_header, write_super};
 pub use entries::{is_entry, least_depth, read_entry, write_entry};
-pub use fo_base::Bytes as Text;
+pub use fo_base::{BLOCK, Bytes as Text};
 pub use labels::{is_usable, read_label, write_label};
 pub use parts::{Part, is_spelled, is_zero, score_at, u16_at, u32_at, u64_at, write_parts};
-pub use places::{
-    BLOCK, arena_places, first_data, label_blocks, label_place, line_place, stored_block,
-};
+pub use places::{arena_places, first_data, label_blocks, label_place, line_place, stored_block};
 pub use pointers::{is_pointer, is_score, read_pointer, write_pointer};
 pub use record::{Record, RecordError, RootBlock};
 pub use records::{is_record, read_record, record_len, write_record};

@@ -2,14 +2,13 @@
 ghost use Rattle.std.specs.Prelude.{◌≡◌, ◌^◌, ◌<◌};
 ghost use Rattle.fo_image.specs.Place.{label_blocks, first_data, label_block, label_byte, arena_places, line_block, line_byte, stored_block};
 
-/// The bytes of a block.
-pub const BLOCK: usize = 8192;
+use fo_base::{LABELS, LINES};
 
 /// The number of blocks of the label table of a device of so many blocks.
 pub fn label_blocks(blocks: u32) -> u32
     ensures { result ≡ label_blocks blocks }
 {
-    blocks.div_ceil(585)
+    blocks.div_ceil(LABELS)
 }
 
 /// The address of the first data block of a device of so many blocks.
@@ -24,7 +23,7 @@ pub fn label_place(address: u32) -> (u32, usize)
     ensures block { result.0 ≡ label_block address }
     ensures byte { result.1 ≡ label_byte address }
 {
-    (2 + address / 585, 14 * (address % 585) as usize)
+    (2 + address / LABELS, 14 * (address % LABELS) as usize)
 }
 
 /// The number of places of an arena of so many blocks.
@@ -32,7 +31,7 @@ pub fn arena_places(blocks: u32) -> u32
     ensures { result ≡ arena_places blocks }
 {
     let after_head = blocks.saturating_sub(1);
-    after_head - after_head.div_ceil(342)
+    after_head - after_head.div_ceil(LINES + 1)
 }
 
 /// The block of the arena that has the line of a place, and the line's first byte in it.
@@ -41,7 +40,10 @@ pub fn line_place(place: u32) -> (u32, usize)
     ensures block { result.0 ≡ line_block place }
     ensures byte { result.1 ≡ line_byte place }
 {
-    (1 + 342 * (place / 341), 24 * (place % 341) as usize)
+    (
+        1 + (LINES + 1) * (place / LINES),
+        24 * (place % LINES) as usize,
+    )
 }
 
 /// The block of the arena that has the bytes of a place.
@@ -49,5 +51,5 @@ pub fn stored_block(place: u32) -> u32
     requires { place < 2 ^ 31 }
     ensures { result ≡ stored_block place }
 {
-    2 + 342 * (place / 341) + place % 341
+    2 + (LINES + 1) * (place / LINES) + place % LINES
 }

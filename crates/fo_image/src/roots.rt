@@ -9,10 +9,10 @@ ghost use Rattle.fo_image.specs.Record.{RootRecordHolds, RootHolds, SpellsRoot, 
 use crate::entries::{entry_of, is_entry, write_entry};
 use crate::labels::is_epoch;
 use crate::parts::{Part, u16_at, u32_at, write_parts};
-use crate::places::BLOCK;
 use crate::record::{Record, RecordError, RootBlock};
 use crate::records::{is_record, record_len, record_of, write_record};
 use crate::types::Bad;
+use fo_base::BLOCK;
 use std::alloc::{AllocError, Global};
 
 fn head_of(epoch: u32, time: u32, prev_epoch: u32, prev: u32) -> [Part<'static>; 5]

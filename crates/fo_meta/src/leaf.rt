@@ -46,10 +46,10 @@ fn write_head(leaf: &mut [u8], count: u16, used: u16)
 }
 
 /// A leaf of no records.
-pub fn empty_leaf() -> [u8; 8192]
+pub fn empty_leaf() -> [u8; BLOCK]
     ensures { SpellsLeaf [] result }
 {
-    [0; 8192]
+    [0; BLOCK]
 }
 
 /// The first record of the leaf that has this name, if one has it.

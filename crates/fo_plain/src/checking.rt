@@ -6,10 +6,10 @@ ghost use Rattle.fo_world.specs.Step as step;
 
 use crate::plain::PlainFiles;
 use fo_base::Bytes;
-use fo_world::{Body, Change, FileError, Place, View, follow};
-
-/// The largest size of a file in bytes.
-const LARGEST: u64 = 1099511627776;
+use fo_world::{
+    Body, Change, DMDIR, FileError, MOST_ABOVE, MOST_BYTES, MOST_NAMES, MOST_NUMBERS, Place, View,
+    follow,
+};
 
 impl PlainFiles {
     ghost use Rattle.std.specs.Prelude.{◌≡◌, ◌⊎◌, ◌^◌, ◌<◌, ◌≤◌, ◌+◌, length, true, IfOk, OnOk, MatchResult, Ok, Err, if◌then◌else◌};
@@ -41,7 +41,7 @@ impl PlainFiles {
         if bytes.len() == 0 {
             return Ok(false);
         }
-        if offset > LARGEST || bytes.len() as u64 > LARGEST - offset {
+        if offset > MOST_BYTES || bytes.len() as u64 > MOST_BYTES - offset {
             return Err(FileError::TooBig);
         }
         if self.world.halted {
@@ -80,13 +80,13 @@ impl PlainFiles {
         if self.world.halted {
             return Err(FileError::Halted);
         }
-        if mode >= 2147483648 && at.trail.as_slice().len() >= 64 {
+        if mode >= DMDIR && at.trail.as_slice().len() >= MOST_ABOVE {
             return Err(FileError::TooDeep);
         }
-        if names.len() >= 1048576 {
+        if names.len() >= MOST_NAMES {
             return Err(FileError::DirFull);
         }
-        if self.world.next >= 1073741824 {
+        if self.world.next >= MOST_NUMBERS {
             return Err(FileError::NoNumbers);
         }
         Ok(())
@@ -200,7 +200,7 @@ fn exceeds(len: Option<u64>) -> bool
 {
     match len {
         None => false,
-        Some(len) => len > LARGEST,
+        Some(len) => len > MOST_BYTES,
     }
 }
 

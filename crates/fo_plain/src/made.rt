@@ -6,7 +6,7 @@ ghost use Rattle.fo_plain.specs.Kept.{empty_world};
 use crate::dated::adm;
 use fo_base::Bytes;
 use fo_sparse::Plain;
-use fo_world::{Body, Names, Node, Tree, World};
+use fo_world::{Body, DMDIR, Names, Node, Tree, World};
 use std::alloc::{AllocError, Global};
 
 /// A new node.
@@ -21,7 +21,7 @@ pub(crate) fn new_node(
 ) -> Result<Node, AllocError>
     ensures { IfOk result (λ n. n ≡ new_node number mode who.now uid.now gid.now now) }
 {
-    let body = if mode >= 2147483648 {
+    let body = if mode >= DMDIR {
         Body::Dir(Names::new(alloc))
     } else {
         Body::File(Plain::new(alloc))

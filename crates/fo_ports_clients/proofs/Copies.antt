@@ -11,24 +11,10 @@ use Rattle.fo_crash.specs.declared.slot.Slot.TheVariants.{Pointer as To, Entry a
 use Rattle.fo_crash.specs.declared.place.Place.{Place}
 use Rattle.fo_crash.specs.Images.{Image, note, target, local, walk, to_block, depth_of, Reaches}
 use Rattle.fo_crash.specs.Places.{OnePlace}
-use Rattle.fo_crash.proofs.Reach.{reaches_on}
+use Rattle.fo_crash.proofs.Reach.{reaches_on, reach_aside}
 use Rattle.fo_ports.specs.Blocks.{dropped, zeros}
 use Rattle.fo_ports.specs.State.{State, KeepsAll, Gives, Frame, Hangs, Comes, MayPutSlot, led_to}
 use Rattle.fo_ports_clients.proofs.Tree.{Tree, led_place, led_falls, led_brings}
-
--- Two images with the same slots but in some blocks are walked alike by paths that lead to none of these in the first.
-walk_aside : (x y : Image) (made : ℕ → Type 0) → ((b j : ℕ) → (made b → ⊥) → (x b).slot j ≡ (y b).slot j) → (path : List ℕ) (s : Slot) → ((front : List ℕ) (b : ℕ) → made b → target (walk x s front) ≢ Local b) → walk x s path ≡ walk y s path
-walk_aside x y made same [] s away = refl
-walk_aside x y made same (i ∷ path) s away =
-    walk_aside x y made same path ((local x (target s)).slot i) (λ front b m. away (i ∷ front) b m) ∙ ap (λ u. walk y u path) (one (target s) (λ b m. away [] b m))
-  where
-    one : (p : Pointer) → ((b : ℕ) → made b → p ≢ Local b) → (local x p).slot i ≡ (local y p).slot i
-    one Nil h = refl
-    one (Local at) h = same at i (λ m. h at m refl)
-    one (Held score) h = refl
-
-pub reach_aside : (x y : Image) (made : ℕ → Type 0) (t : ℕ) → ((b j : ℕ) → (made b → ⊥) → (x b).slot j ≡ (y b).slot j) → ((b : ℕ) → made b → Reaches x (to_block t) b → ⊥) → (b : ℕ) → Reaches x (to_block t) b → Reaches y (to_block t) b
-reach_aside x y made t same apart b r = record { path = r.path; leads = ap target (sym (walk_aside x y made same r.path (to_block t) (λ front c m e. apart c m (record { path = front; leads = e })))) ∙ r.leads }
 
 -- where no level goes, a slot led where it leads
 pub led_here : (now : Image) (old new : Slot) → dropped old new ≡ 0 → led_to now old new ≡ target old

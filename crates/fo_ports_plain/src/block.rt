@@ -9,6 +9,7 @@ ghost use Rattle.fo_ports_plain.specs.Plain.{content_of, slot_of, index_below, i
 ghost use Rattle.fo_ports_plain.specs.Moves.{IsFree, elsewhere};
 
 use crate::home::Home;
+use fo_base::{BLOCK, POINTERS};
 use fo_crash::{Place, Slot};
 use fo_image::{Entry, Kind, Pointer};
 
@@ -26,8 +27,8 @@ pub struct PlainBlock {
     pub(crate) home: Home,
     pub(crate) taken: bool,
     pub(crate) kept: bool,
-    pub(crate) bytes: [u8; 8192],
-    pub(crate) slots: [Slot; 409],
+    pub(crate) bytes: [u8; BLOCK],
+    pub(crate) slots: [Slot; POINTERS],
 }
 
 impl PlainBlock {
@@ -210,7 +211,7 @@ pub(crate) fn index_below(place: &Place, i: u32, own: u64) -> u64
 fn line_up(index: u64, i: u32) -> Option<u64>
     ensures { MatchOption result (2 ^ 64 ≤ 409 * index + i) (λ n. n ≡ 409 * index + i) }
 {
-    409u64.checked_mul(index)?.checked_add(i as u64)
+    (POINTERS as u64).checked_mul(index)?.checked_add(i as u64)
 }
 
 /// The depth of the source that an entry names.
@@ -257,7 +258,7 @@ fn repeated<T: Copy, const N: usize>(item: T) -> [T; N]
 }
 
 /// The slots of an entry leaf of zeros.
-fn entry_slots() -> [Slot; 409]
+fn entry_slots() -> [Slot; POINTERS]
     ensures { (i : ℕ) → slice_index_or result i (To Nil) ≡ blank_slot (Dir 0) i }
 {
     let mut slots = no_slots();
@@ -268,7 +269,7 @@ fn entry_slots() -> [Slot; 409]
 }
 
 /// The slots of a root block of zeros.
-fn root_slots() -> [Slot; 409]
+fn root_slots() -> [Slot; POINTERS]
     ensures { (i : ℕ) → slice_index_or result i (To Nil) ≡ blank_slot Root i }
 {
     let mut slots = no_slots();
@@ -279,14 +280,14 @@ fn root_slots() -> [Slot; 409]
 }
 
 /// Slots that lead nowhere.
-pub(crate) fn no_slots() -> [Slot; 409]
+pub(crate) fn no_slots() -> [Slot; POINTERS]
     ensures { (i : ℕ) → slice_index_or result i (To Nil) ≡ To Nil }
 {
     repeated(Slot::Pointer(Pointer::Nil))
 }
 
 /// The slots of a block of zeros.
-fn blank_slots(kind: Kind) -> [Slot; 409]
+fn blank_slots(kind: Kind) -> [Slot; POINTERS]
     ensures { (i : ℕ) → slice_index_or result i (To Nil) ≡ blank_slot kind i }
 {
     match kind {
@@ -297,10 +298,10 @@ fn blank_slots(kind: Kind) -> [Slot; 409]
 }
 
 /// The bytes of a block of zeros.
-pub(crate) fn no_bytes() -> [u8; 8192]
+pub(crate) fn no_bytes() -> [u8; BLOCK]
     ensures { result ≡ zero_bytes }
 {
-    [0; 8192]
+    [0; BLOCK]
 }
 
 /// A block of zeros, which is apart, and the first of its source.

@@ -2,6 +2,7 @@
 ghost use Rattle.std.specs.Prelude.{◌≡◌, Some, None, true, false, length};
 ghost use Rattle.fo_ports_plain.specs.Plain.{held_in, is_under};
 
+use fo_base::BLOCK;
 use fo_image::Score;
 
 /// A block that is held, in its full length.
@@ -9,7 +10,7 @@ use fo_image::Score;
 pub struct HeldBlock {
     pub(crate) score: Score,
     pub(crate) kind: u8,
-    pub(crate) bytes: [u8; 8192],
+    pub(crate) bytes: [u8; BLOCK],
 }
 
 /// Copies the block that is held under this score and kind; false where none is.

@@ -4,6 +4,7 @@ use crate::home::Home;
 use crate::links::{Joint, hang, put_link, set_block};
 use crate::plain::PlainBlocks;
 use crate::wait::{Wait, end_pair, used_pairs};
+use fo_base::POINTERS;
 use fo_crash::Slot;
 use fo_image::Pointer;
 use fo_ports::BlockError;
@@ -217,7 +218,7 @@ impl PlainBlocks {
     {
         let old = &self.blocks[at as usize].slots[i as usize];
         let levels = depth(old).saturating_sub(depth(slot));
-        409 * levels + ends(&old.target(), &slot.target())
+        POINTERS as u32 * levels + ends(&old.target(), &slot.target())
     }
 
     /// Ends all waits, since all is settled, and makes room for so many removals and waits.

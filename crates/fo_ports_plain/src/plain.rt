@@ -17,7 +17,7 @@ use crate::block::{PlainBlock, blank_block, no_bytes, no_entry, no_slots, nowher
 use crate::held::HeldBlock;
 use crate::home::Home;
 use crate::wait::Wait;
-use fo_base::Memory;
+use fo_base::{BLOCK, Memory};
 use fo_crash::{Place, Slot};
 use fo_image::{Kind, Pointer, Record, RootBlock, Score, Text, write_root};
 use std::alloc::Global;
@@ -163,7 +163,7 @@ fn root_record(alloc: Global) -> Result<Record, Memory>
 }
 
 /// The bytes of the root block of an empty tree, of epoch 1.
-fn root_bytes(alloc: Global) -> Result<[u8; 8192], Memory>
+fn root_bytes(alloc: Global) -> Result<[u8; BLOCK], Memory>
     ensures { IfOk result (λ bytes. IsFormed Root 2144 bytes) }
 {
     let root = RootBlock {

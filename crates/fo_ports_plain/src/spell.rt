@@ -7,6 +7,7 @@ ghost use Rattle.fo_ports.specs.Blocks.{slot_count, slot_start, slot_size, slots
 ghost use Rattle.fo_ports_plain.specs.Spell.{HasSpelling, KeepsBeside};
 
 use crate::block::put_part;
+use fo_base::POINTERS;
 use fo_crash::Slot;
 use fo_image::{Kind, write_entry, write_pointer};
 
@@ -17,7 +18,7 @@ fn slot_count(kind: Kind) -> usize
     match kind {
         Kind::Data(0) => 0,
         Kind::Dir(0) => 204,
-        Kind::Data(_) | Kind::Dir(_) => 409,
+        Kind::Data(_) | Kind::Dir(_) => POINTERS,
         Kind::Root => 3,
     }
 }

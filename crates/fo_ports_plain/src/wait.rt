@@ -6,14 +6,18 @@ ghost use Rattle.fo_crash.specs.declared.slot.Slot.TheVariants.{Pointer as To};
 ghost use Rattle.fo_ports_plain.specs.Plain.{is_active};
 ghost use Rattle.fo_ports_plain.specs.Moves.{EndsWaits};
 
+use fo_base::POINTERS;
 use fo_crash::Slot;
+
+// A leaf of entries is divided into so many pairs; the last one has one entry alone.
+const PAIRS: usize = 205;
 
 /// What is put into block `at` waits for these pairs of entries of block `on`.
 #[derive(Clone, Copy)]
 pub struct Wait {
     pub(crate) at: u32,
     pub(crate) on: u32,
-    pub(crate) pairs: [bool; 205],
+    pub(crate) pairs: [bool; PAIRS],
 }
 
 impl Wait {
@@ -42,11 +46,11 @@ fn is_active(slot: &Slot) -> bool
 }
 
 /// The pairs of entries whose first is in use.
-pub(crate) fn used_pairs(slots: &[Slot; 409]) -> [bool; 205]
+pub(crate) fn used_pairs(slots: &[Slot; POINTERS]) -> [bool; PAIRS]
     ensures { (k : ℕ) → slice_index_or result k false ≡ is_active (slice_index_or slots.now (2 * k) (To Nil)) }
 {
-    let mut pairs = [false; 205];
-    for k in 0..205usize {
+    let mut pairs = [false; PAIRS];
+    for k in 0..PAIRS {
         pairs[k] = is_active(&slots[2 * k]);
     }
     pairs

@@ -2,5 +2,4 @@ pub mod Steps
 pub mod Leaves
 pub mod Puts
 pub mod Looks
-pub mod Lists
 pub mod Values

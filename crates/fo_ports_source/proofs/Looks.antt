@@ -13,7 +13,8 @@ use Rattle.fo_ports.specs.Sources.{SameLeaves}
 use Rattle.fo_ports_source.specs.Source.{leaf_of, leaves_of, byte_of, Over, IsHeld, Prepared}
 use Rattle.fo_ports_source.specs.SourceLaws.{still_labelled, still_epoch, was_older}
 use Rattle.fo_ports_source.proofs.Leaves.{byte_kept}
-use Rattle.fo_ports_source.proofs.Steps.{content_joins, reach_into}
+use Rattle.fo_crash.proofs.Reach.{reach_into}
+use Rattle.fo_ports_source.proofs.Steps.{content_joins}
 use Rattle.fo_ports_source.proofs.Values.{values_same}
 
 -- A refusal after calls that looked has its cause, too.

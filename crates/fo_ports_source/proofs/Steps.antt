@@ -10,6 +10,7 @@ use Rattle.fo_image.specs.declared.types.Pointer.TheVariants.{Nil, Local, Score 
 use Rattle.fo_crash.specs.declared.slot.Slot.{Slot}
 use Rattle.fo_crash.specs.Images.{Content, Image, SameContent, Reaches, target, local, walk, to_block, with_bytes, with_block}
 use Rattle.fo_crash.specs.Steps.{PutsBytes, AddsBytes}
+use Rattle.fo_crash.proofs.Reach.{reach_aside}
 use Rattle.fo_crash.proofs.Updates.{block_other, bytes_other, bytes_slot}
 use Rattle.fo_ports.specs.State.{State, KeepsAll, Gives, Calm, AddsNoWait, none}
 use Rattle.fo_ports.specs.Sources.{Made, Touched, IsMade, StaysMarked, Changes}
@@ -31,23 +32,6 @@ content_joins p q = record { bytes = p.bytes ∙ q.bytes; slots = λ i. p.slots 
 
 content_at : {a b : Content} → a ≡ b → SameContent a b
 content_at e = record { bytes = ap (λ (c : Content). c.bytes) e; slots = λ i. ap (λ (c : Content). c.slot i) e }
-
--- Two images with the same slots but in some blocks are walked alike by paths that lead to none of these in the first.
-walk_aside : (x y : Image) (made : ℕ → Type 0) → ((b j : ℕ) → (made b → ⊥) → (x b).slot j ≡ (y b).slot j) → (path : List ℕ) (s : Slot) → ((front : List ℕ) (b : ℕ) → made b → target (walk x s front) ≢ Local b) → walk x s path ≡ walk y s path
-walk_aside x y made same [] s away = refl
-walk_aside x y made same (i ∷ path) s away =
-    walk_aside x y made same path ((local x (target s)).slot i) (λ front b m. away (i ∷ front) b m) ∙ ap (λ u. walk y u path) (one (target s) (λ b m. away [] b m))
-  where
-    one : (p : Pointer) → ((b : ℕ) → made b → p ≢ Local b) → (local x p).slot i ≡ (local y p).slot i
-    one Nil h = refl
-    one (Local at) h = same at i (λ m. h at m refl)
-    one (Held score) h = refl
-
-reach_aside : (x y : Image) (made : ℕ → Type 0) (t : ℕ) → ((b j : ℕ) → (made b → ⊥) → (x b).slot j ≡ (y b).slot j) → ((b : ℕ) → made b → Reaches x (to_block t) b → ⊥) → (b : ℕ) → Reaches x (to_block t) b → Reaches y (to_block t) b
-reach_aside x y made t same apart b r = record { path = r.path; leads = ap target (sym (walk_aside x y made same r.path (to_block t) (λ front c m e. apart c m (record { path = front; leads = e })))) ∙ r.leads }
-
-pub reach_into : (x y : Image) (made : ℕ → Type 0) (t : ℕ) → ((b j : ℕ) → (made b → ⊥) → (x b).slot j ≡ (y b).slot j) → ((b : ℕ) → made b → Reaches x (to_block t) b → ⊥) → (b : ℕ) → Reaches y (to_block t) b → Reaches x (to_block t) b
-reach_into x y made t same apart b r = record { path = r.path; leads = ap target (walk_aside x y made same r.path (to_block t) (λ front c m e. apart c m (record { path = front; leads = e }))) ∙ r.leads }
 
 -- What a call says that gives out a block.
 pub record GivesOut (tag : ℕ) (mine : ℕ → Type 0) (at : ℕ) (content : Content) (l : Label) (old new : State) : Type 0 where

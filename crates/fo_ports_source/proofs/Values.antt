@@ -6,7 +6,7 @@ use Rattle.std.proofs.lemmas.List.{length-take, length-drop, get_or-take, get_or
 use Rattle.std.proofs.lemmas.List.FromFn.{length-map-range_with_len, get_or-map-range_with_len}
 use Rattle.fo_sparse.specs.Written.{written, resized}
 use Rattle.fo_ports_source.specs.Source.{Puts}
-use Rattle.fo_ports_source.proofs.Lists.{is_resized, is_written}
+use Rattle.fo_sparse.proofs.Lists.{is_resized, is_written}
 
 pub length_values : (f : ℕ → ℕ) (len : ℕ) → length (map f (range_with_len 0 len)) ≡ len
 length_values f len = length-map-range_with_len f 0 len

@@ -8,6 +8,7 @@ ghost use Rattle.fo_ports.specs.Causes.{Caused};
 ghost use Rattle.fo_ports.specs.State.{Looks};
 ghost use Rattle.fo_ports_source.specs.Source.{IsLeaf, IsHeld};
 
+use fo_base::BLOCK;
 use fo_image::{Kind, State};
 use fo_ports::{BlockError, Blocks};
 
@@ -57,7 +58,7 @@ pub(crate) fn copy_from<B: Blocks>(
     ensures keeps { B.keeps on.old on.new }
     ensures cause { IfErr result (Caused ⊥ (λ b. ((B.state on.old).tells → ⊥) × (B.state on.old).is_block b) (Rose (B.state on.old).faults (B.state on.new).faults) ⊥) }
 {
-    let mut block = [0; 8192];
+    let mut block = [0; BLOCK];
     get_leaf(on, at, kind, tag, rank, &mut block)?;
     into.copy_from_slice(&block[from..from + into.len()]);
     Ok(())
@@ -79,7 +80,7 @@ pub(crate) fn pin_block<B: Blocks>(
     ensures keeps { B.keeps on.old on.new }
     ensures cause { IfErr result (Caused ⊥ (λ b. ((B.state on.old).tells → ⊥) × (B.state on.old).is_block b) (Rose (B.state on.old).faults (B.state on.new).faults) ⊥) }
 {
-    let mut block = [0; 8192];
+    let mut block = [0; BLOCK];
     get_leaf(on, at, kind, tag, rank, &mut block)?;
     if has_label(on, at, tag) {
         Ok(())

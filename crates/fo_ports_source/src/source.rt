@@ -12,13 +12,13 @@ ghost use Rattle.fo_ports_source.specs.Steps.{Steps, Grew};
 
 use crate::leaf::{copy_from, pin_block};
 use crate::own::own_block;
-use fo_base::Memory;
+use fo_base::{BLOCK, Memory};
 use fo_image::Kind;
 use fo_ports::{BlockError, Blocks};
 use std::alloc::Global;
 
 /// How many bytes a leaf has.
-pub(crate) const LEAF: u64 = 8192;
+pub(crate) const LEAF: u64 = BLOCK as u64;
 
 /// A source that keeps the addresses of its leaves in a list. Its leaves are in no slot, and its entry has a nil top.
 #[derive(Drop)]

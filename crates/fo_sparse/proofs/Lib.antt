@@ -1,3 +1,3 @@
 mod Puts
-mod Lists
+pub mod Lists
 mod Bytes

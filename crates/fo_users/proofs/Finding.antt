@@ -10,9 +10,10 @@ use Rattle.std.proofs.lemmas.Slice.Eq.{bytes_eq-Decides}
 use Rattle.std.proofs.lemmas.List.Folds.{list_all-append}
 use Rattle.fo_users.specs.declared.table.User.{User}
 use Rattle.fo_users.specs.Table.{is_line, line_text, is_table, table_text, Spells}
-use Rattle.fo_users.specs.Parts.{parts_at, user_of}
+use Rattle.fo_base.specs.Parts.{parts_at}
+use Rattle.fo_users.specs.Parts.{user_of}
 use Rattle.fo_users.specs.Found.{lines_of, users_of, spelled_by, table_in}
-use Rattle.fo_users.proofs.Cutting.{lacks, cut_joined}
+use Rattle.fo_base.proofs.Cutting.{lacks, cut_joined}
 use Rattle.fo_users.proofs.Lines.{line_read, lines_lack}
 
 -- the lines with an empty part behind the last newline

@@ -1,4 +1,3 @@
-pub mod Cutting
 pub mod Lines
 pub mod Finding
 pub mod Differing

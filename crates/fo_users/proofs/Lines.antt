@@ -9,8 +9,9 @@ use Rattle.std.proofs.lemmas.List.Folds.{list_all-append}
 use Rattle.std.proofs.lemmas.List.Sums.{AllPass-from_list_all}
 use Rattle.fo_users.specs.declared.table.User.{User}
 use Rattle.fo_users.specs.Table.{is_name_byte, is_user_name, is_line, line_text, members_text, SpellsLine, is_table, table_text, Spells}
-use Rattle.fo_users.specs.Parts.{parts_at, members_of, leader_of, user_of, SpellsLines}
-use Rattle.fo_users.proofs.Cutting.{lacks, cut_joined, joined_lacks, all_pass}
+use Rattle.fo_base.specs.Parts.{parts_at}
+use Rattle.fo_users.specs.Parts.{members_of, leader_of, user_of, SpellsLines}
+use Rattle.fo_base.proofs.Cutting.{lacks, cut_joined, joined_lacks, all_pass}
 
 -- ---- names
 

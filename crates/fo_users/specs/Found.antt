@@ -5,7 +5,8 @@ use Rattle.std.specs.Option.{option_map}
 use Rattle.std.specs.Str.{bytes_eq}
 use Rattle.fo_users.specs.declared.table.User.{User}
 use Rattle.fo_users.specs.Table.{is_line, is_table, table_text, Spells}
-use Rattle.fo_users.specs.Parts.{parts_at, user_of}
+use Rattle.fo_base.specs.Parts.{parts_at}
+use Rattle.fo_users.specs.Parts.{user_of}
 
 -- the lines that newlines end: all parts round them but the last
 abbrev pub lines_of : List ℕ → List (List ℕ)

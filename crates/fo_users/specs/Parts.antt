@@ -1,12 +1,9 @@
 -- Lines and their fields, as they are cut.
-use Rattle.std.specs.Prelude.{◌≡◌, ℕ, List, [], ◌∷◌, ◌==◌, true, map, Option, Some, None}
-use Rattle.std.specs.List.{slice_split, list_all}
+use Rattle.fo_base.specs.Parts.{parts_at}
+use Rattle.std.specs.Prelude.{◌≡◌, ℕ, List, [], ◌∷◌, true, map, Option, Some, None}
+use Rattle.std.specs.List.{list_all}
 use Rattle.fo_users.specs.declared.table.User.{User}
 use Rattle.fo_users.specs.Table.{is_line, line_text}
-
--- the parts round this byte
-abbrev pub parts_at : ℕ → List ℕ → List (List ℕ)
-parts_at separator bytes = slice_split (λ b. b == separator) bytes
 
 -- no bytes are no members
 abbrev pub members_of : List ℕ → List (List ℕ)

@@ -4,7 +4,8 @@ ghost use Rattle.std.specs.List.{list_all};
 ghost use Rattle.std.specs.Str.{bytes_eq};
 ghost use Rattle.fo_users.specs.Seen.{was_seen};
 ghost use Rattle.fo_users.specs.Table.{is_name_byte, is_user_name, is_known, is_line, SpellsLine, all_differ, names_known, is_table, Spells};
-ghost use Rattle.fo_users.specs.Parts.{parts_at, members_of, leader_of, user_of, SpellsLines};
+ghost use Rattle.fo_base.specs.Parts.{parts_at};
+ghost use Rattle.fo_users.specs.Parts.{members_of, leader_of, user_of, SpellsLines};
 ghost use Rattle.fo_users.specs.declared.table.User.{User};
 ghost use Rattle.fo_users.specs.declared.error.UsersError.TheVariants.{Memory as NoMemory};
 

@@ -9,6 +9,7 @@ mod error;
 mod fields;
 mod files;
 mod laws;
+mod limits;
 mod place;
 mod text;
 mod trail;
@@ -21,6 +22,9 @@ pub use files::FileOps;
 pub use fo_base::Bytes as Name;
 pub use fo_sparse::Plain;
 pub use laws::{changes_stay_local, infos_are_within_limits, worlds_stay_within_limits};
+pub use limits::{
+    DMAPPEND, DMDIR, DMEXCL, DMTMP, MOST_ABOVE, MOST_BYTES, MOST_NAMES, MOST_NUMBERS,
+};
 pub use place::{Change, Info, Place, View};
 pub use text::ShortText;
 pub use trail::Trail;

@@ -5,7 +5,7 @@ ghost use Rattle.nine_stat.specs.Stat.{IsRecord};
 ghost use Rattle.nine_fids.specs.Told as nine;
 
 use fo_base::Memory;
-use fo_world::Info;
+use fo_world::{DMAPPEND, DMDIR, DMEXCL, Info};
 use nine_stat::{Stat, write_stat};
 use nine_wire::Qid;
 
@@ -54,19 +54,19 @@ pub fn put_record(info: Info, out: &mut Vec<u8>) -> Result<(), Memory>
 pub fn is_dir(mode: u32) -> bool
     ensures { result ≡ nine.is_dir mode }
 {
-    mode >= 0x8000_0000
+    mode >= DMDIR
 }
 
 /// Whether a mode has DMAPPEND.
 pub fn appends(mode: u32) -> bool
     ensures { result ≡ nine.appends mode }
 {
-    mode & 0x4000_0000 != 0
+    mode & DMAPPEND != 0
 }
 
 /// Whether a mode has DMEXCL.
 pub fn is_exclusive(mode: u32) -> bool
     ensures { result ≡ nine.is_exclusive mode }
 {
-    mode & 0x2000_0000 != 0
+    mode & DMEXCL != 0
 }

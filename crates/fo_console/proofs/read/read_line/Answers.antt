@@ -2,7 +2,8 @@ use Rattle.std.proofs.Common.{map, sym, ap, ◌∙◌}
 use Rattle.std.specs.Option.{option_map}
 use Rattle.std.proofs.lemmas.Bool.{both_ways}
 use Rattle.fo_console.specs.Command.{said}
-use Rattle.fo_console.specs.Reading.{parts_at, command_of, is_line}
+use Rattle.fo_base.specs.Parts.{parts_at}
+use Rattle.fo_console.specs.Reading.{command_of, is_line}
 use Rattle.fo_console.proofs.WordLemmas.{texts_cut}
 use Rattle.fo_console.proofs.Commands.{line_cut, line_says, line_is, line_parts, line_text, said_same}
 use Rattle.fo_console.proofs.read.read_line.Goals as goal
