@@ -1,0 +1,144 @@
+-- What an arena keeps, before and after a run.
+use Rattle.std.proofs.Common.{◌≡◌, ◌≢◌, inl, ℕ, ◌-◌, ◌<◌, ◌≤◌, ◌^◌, Bool, List, [], ◌∷◌, length, get_or, drop, refl, sym, ◌∙◌, ap, subst, arith, length-drop}
+use Rattle.std.specs.Prelude.{Some, Result, Ok, Err, MatchResult}
+use Rattle.std.proofs.lemmas.List.{get_or-drop, length-map}
+use Rattle.std.specs.BTreeMap.{BTreeMap, get}
+use Rattle.fo_disk.specs.Disk.{Content, IsNewest, Since}
+use Rattle.fo_disk.proofs.Moments.{started}
+use Rattle.fo_image.specs.declared.types.ArenaLine.{ArenaLine}
+use Rattle.fo_image.specs.Place.{arena_places}
+use Rattle.venti_store.specs.Held.{Name, line_at, name_of, Recovers, IsArenaOf}
+use Rattle.venti_store.specs.Kept.{waits, settled_count, AllFit, AreDue, KeepsIn}
+use Rattle.venti_store.specs.Settling.{Run, IsRun, Goes, Waits, Ends}
+use Rattle.venti_store.specs.Names.{name_cmp}
+use Rattle.venti_store.specs.declared.shelf.Shelf.{Shelf}
+use Rattle.venti_store.specs.declared.waiting.Waiting.{Waiting}
+use Rattle.venti_store.specs.Arena.{Settled}
+use Rattle.venti_store.proofs.Settled.{recovers}
+
+-- no two lines have one name where each name has its place
+pub apart : (lines : List ArenaLine) (places : BTreeMap Name ℕ) → ((place : ℕ) → place < length lines → get name_cmp places (name_of (line_at lines place)) ≡ Some place)
+    → (one other : ℕ) → one < other → other < length lines → name_of (line_at lines one) ≢ name_of (line_at lines other)
+apart lines places found one other lt used same =
+    let e : Some one ≡ Some other = sym (found one (omega (arith, lt, used))) ∙ ap (get name_cmp places) same ∙ found other used in
+    let is : one ≡ other = cc in
+    omega (arith, lt, is)
+
+-- what is known of an arena in memory
+pub record InMemory (size : ℕ) (lines : List ArenaLine) (waiting : List (List ℕ)) : Type 0 where
+  pub least : 16 ≤ size
+  pub most : size ≤ 2 ^ 20
+  pub places : length lines ≤ arena_places size
+  pub few : length waiting ≤ length lines
+  pub apart : (one other : ℕ) → one < other → other < length lines → name_of (line_at lines one) ≢ name_of (line_at lines other)
+
+module _ {size : ℕ} {lines : List ArenaLine} {waiting : List (List ℕ)} (m : InMemory size lines waiting) where
+  is_run : {stored : List (List ℕ)} {synced : ℕ} {unsure : List Bool} {holds : Content} (moments : List Content) → KeepsIn size lines waiting stored synced unsure holds → IsRun (record { size = size; synced = synced; settled = settled_count lines waiting; lines = lines; stored = stored; before = moments })
+  is_run moments k = record {
+    least = m.least;
+    most = m.most;
+    places = m.places;
+    apart = m.apart;
+    lens = k.lens;
+    order = k.order;
+    within = omega arith;
+  }
+
+  -- a run begins
+  pub begins : {stored : List (List ℕ)} {synced device : ℕ} {unsure : List Bool} {holds : Content} {moments : List Content} → KeepsIn size lines waiting stored synced unsure holds → IsNewest device holds moments
+      → Goes (record { size = size; synced = synced; settled = settled_count lines waiting; lines = lines; stored = stored; before = moments }) unsure holds moments
+  begins {stored} {synced} {device} {unsure} {holds} {moments} k newest = record {
+    is_run = is_run moments k;
+    since = started _ newest (λ told. recovers _ holds (is_run moments k) k.told k.fits);
+    told = k.told;
+    some = k.some;
+    fits = k.fits;
+    due = k.due;
+  }
+
+  pub run_waits : {stored : List (List ℕ)} {synced : ℕ} {unsure : List Bool} {holds : Content} (moments : List Content) → KeepsIn size lines waiting stored synced unsure holds
+      → Waits (record { size = size; synced = synced; settled = settled_count lines waiting; lines = lines; stored = stored; before = moments }) waiting
+  run_waits {stored} moments k = record {
+    all = omega (arith, m.few);
+    each = λ i lt. sym (ap (λ (ws : List (List ℕ)). get_or ws i []) k.wait ∙ get_or-drop (settled_count lines waiting) stored i []);
+  }
+
+  -- it ends, with all that waited still waiting, or with none
+  pub still_keeps : {stored : List (List ℕ)} {synced : ℕ} {unsure flags : List Bool} {holds now : Content} {before moments : List Content} → KeepsIn size lines waiting stored synced unsure holds
+      → Goes (record { size = size; synced = synced; settled = settled_count lines waiting; lines = lines; stored = stored; before = before }) flags now moments → KeepsIn size lines waiting stored synced flags now
+  still_keeps k g = record { told = g.told; some = g.some; count = k.count; lens = k.lens; wait = k.wait; order = k.order; fits = g.fits; due = g.due }
+
+  pub now_keeps : {stored none : List (List ℕ)} {synced : ℕ} {unsure flags : List Bool} {holds now : Content} {before moments : List Content} → KeepsIn size lines waiting stored synced unsure holds → none ≡ []
+      → Goes (record { size = size; synced = synced; settled = length lines; lines = lines; stored = stored; before = before }) flags now moments → KeepsIn size lines none stored synced flags now
+  now_keeps {stored} {none} {synced} {unsure} {flags} {holds} {now} k is g = subst (λ (ws : List (List ℕ)). KeepsIn size lines ws stored synced flags now) (sym is) (record {
+    told = g.told;
+    some = g.some;
+    count = k.count;
+    lens = k.lens;
+    wait = sym (all_dropped stored (length lines - 0) (omega (arith, k.count)));
+    order = omega (arith, k.order);
+    fits = subst (λ (n : ℕ). AllFit size synced n lines stored now) (let e : length lines ≡ length lines - 0 = omega arith in e) g.fits;
+    due = subst (λ (n : ℕ). AreDue size n (length lines) flags now) (let e : length lines ≡ length lines - 0 = omega arith in e) g.due;
+  })
+    where
+      all_dropped : (xs : List (List ℕ)) (n : ℕ) → length xs ≤ n → drop n xs ≡ []
+      all_dropped xs n le = nil (drop n xs) (omega (arith, length-drop n xs, le))
+        where
+          nil : (ys : List (List ℕ)) → length ys ≡ 0 → ys ≡ []
+          nil [] is = refl
+          nil (y ∷ ys) is = absurd (omega (arith, is))
+
+pub in_memory : (s : Shelf) → InMemory s.blocks s.index.lines.items (waits s.pending.items)
+in_memory s = record {
+  least = s.least;
+  most = s.most;
+  places = s.places;
+  few = omega (arith, s.few, length-map s.pending.items (λ (w : Waiting). w.bytes.items));
+  apart = apart s.index.lines.items s.index.places s.index.found;
+}
+
+abbrev pub run_of : Shelf → List (List ℕ) → ℕ → List Content → Run
+run_of s stored synced before = record { size = s.blocks; synced = synced; settled = settled_count s.index.lines.items (waits s.pending.items); lines = s.index.lines.items; stored = stored; before = before }
+
+pub first_is : (s : Shelf) (first : ℕ) → first ≡ length s.index.lines.items - length s.pending.items → settled_count s.index.lines.items (waits s.pending.items) ≡ first
+first_is s first is = omega (arith, is, length-map s.pending.items (λ (w : Waiting). w.bytes.items))
+
+-- the end of a run whose head is written
+module _ {run : Run} {unsure : List Bool} {holds : Content} {moments : List Content} (r : IsRun run) (e : Ends run unsure holds moments) where
+  pub settled : Settled run.lines run.stored holds
+  settled = record {
+    quiet = e.quiet;
+    each = λ image is.
+        let whole : Run = record run { synced = length run.lines; settled = length run.lines } in
+        let w : IsRun whole = record { least = r.least; most = r.most; places = r.places; apart = r.apart; lens = r.lens; order = omega arith; within = omega arith } in
+        let (used, from, to, of) = recovers whole holds w e.told e.fits image is in
+        let all : used ≡ length run.lines = omega (arith, from, to) in
+        subst (λ (n : ℕ). IsArenaOf n run.lines run.stored image) all of;
+  }
+
+pub head_since : {E : Type 0} (run : Run) (unsure : List Bool) (holds : Content) {moments : List Content} (result : Result Unit E) → MatchResult result (λ _. Ends run unsure holds moments) (λ _. Goes run unsure holds moments) → Since run.before moments (Recovers run.synced run.lines run.stored)
+head_since run unsure holds (Ok u) e = e.since
+head_since run unsure holds (Err f) g = g.since
+
+pub head_keeps : {E : Type 0} {size synced : ℕ} {lines : List ArenaLine} {waiting stored : List (List ℕ)} {unsure : List Bool} {holds : Content} (flags : List Bool) (now : Content) (before moments : List Content) (result : Result Unit E) → InMemory size lines waiting → waiting ≡ [] → KeepsIn size lines waiting stored synced unsure holds
+    → MatchResult result (λ _. Ends (record { size = size; synced = synced; settled = settled_count lines waiting; lines = lines; stored = stored; before = before }) flags now moments) (λ _. Goes (record { size = size; synced = synced; settled = settled_count lines waiting; lines = lines; stored = stored; before = before }) flags now moments)
+    → MatchResult result (λ _. KeepsIn size lines waiting stored (length stored) flags now × Settled lines stored now) (λ _. KeepsIn size lines waiting stored synced flags now)
+head_keeps {E} {size} {synced} {lines} {waiting} {stored} {unsure} {holds} flags now before moments (Ok u) m none k e =
+    let same : settled_count lines waiting ≡ length lines = omega (arith, ap length none) in
+    let all : length stored ≡ length lines = k.count in (
+      record {
+        told = e.told;
+        some = λ at lt. let one = e.quiet.each at (omega (arith, lt, e.told)) in omega (arith, one);
+        count = k.count;
+        lens = k.lens;
+        wait = k.wait;
+        order = omega (arith, same, all);
+        fits = subst (λ (n : ℕ). AllFit size n (settled_count lines waiting) lines stored now) (sym all) (subst (λ (n : ℕ). AllFit size (length lines) n lines stored now) (sym same) e.fits);
+        due = λ at lt flag. inl (e.quiet.each at (omega (arith, lt, e.told)));
+      },
+      settled (is_run m before k) e,
+    )
+head_keeps flags now before moments (Err f) m none k g = still_keeps m k g
+
+pub whole_is : (s : Shelf) → s.pending.items ≡ [] → settled_count s.index.lines.items (waits s.pending.items) ≡ length s.index.lines.items
+whole_is s none = omega (arith, ap length none, length-map s.pending.items (λ (w : Waiting). w.bytes.items))

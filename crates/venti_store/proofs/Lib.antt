@@ -1,0 +1,9 @@
+mod Names
+mod Settled
+mod Bytes
+mod LineBlocks
+mod Lines
+mod Synced
+mod Keeping
+mod Puts
+mod Openings

@@ -1,0 +1,78 @@
+-- The writes of blocks of the index.
+use Rattle.std.proofs.Common.{◌≡◌, inr, ⊎_elim, ℕ, ◌+◌, ◌*◌, ◌/◌, ◌<◌, ◌≤◌, Bool, false, List, length, set, sym, ap, subst, arith}
+use Rattle.std.proofs.lemmas.Bool.{cases_lt}
+use Rattle.fo_disk.specs.Disk.{Block, Content, Adds}
+use Rattle.fo_image.specs.Place.{line_block, stored_block}
+use Rattle.venti_store.specs.Held.{HasLine, HasBytes}
+use Rattle.fo_image.specs.declared.types.ArenaLine.{ArenaLine}
+use Rattle.venti_store.specs.Kept.{IsDue}
+use Rattle.venti_store.specs.Settling.{Run, IsRun, IsDone, WroteBytes, WroteLines}
+use Rattle.venti_store.proofs.Settled.{Adding, line_within, done_here, done_other}
+
+-- the block of the index of the next group
+pub record NextLines (run : Run) (group at : ℕ) (block : Block) : Type 0 where
+  pub some : run.settled < length run.lines
+  pub from : run.settled / 341 ≤ group
+  pub to : 341 * group < length run.lines
+  pub at_is : at ≡ 1 + 342 * group
+  pub has : (place : ℕ) → place / 341 ≡ group → place < length run.lines → HasLine run.lines place block
+
+module _ {run : Run} {group at : ℕ} {block : Block} (n : NextLines run group at block) (r : IsRun run) where
+  inside : at < run.size
+  inside = let lt = line_within run.size (341 * group) (omega (arith, n.to, r.places)) in omega (arith, lt, n.at_is)
+
+  due : IsDue run.settled (length run.lines) at
+  due = ⊎_elim
+      (λ lt. inr (run.settled, omega arith, n.some, inr (omega (arith, lt, n.from, n.at_is))))
+      (λ ge. inr (341 * group, ge, n.to, inr (omega (arith, n.at_is))))
+      (cases_lt (341 * group) run.settled)
+
+  group_of : (place : ℕ) → line_block place ≡ at → place / 341 ≡ group
+  group_of place is = omega (arith, is, n.at_is)
+
+  not_stored : (place : ℕ) → stored_block place ≡ at → ⊥
+  not_stored place is = omega (arith, is, n.at_is)
+
+  pub adding_lines : {unsure flags : List Bool} {failed : Bool} {holds now : Content} → flags ≡ set unsure at failed → Adding run unsure flags failed holds now at block
+  adding_lines flag = record {
+    within = inside;
+    fits = record {
+      head = λ zero. absurd (omega (arith, zero, n.at_is));
+      line = λ place lt is. n.has place (group_of place is) (omega (arith, lt, r.within));
+      bytes = λ place lt is. absurd (not_stored place is);
+    };
+    due = due;
+    flag = flag;
+  }
+
+  pub lines_wrote : {unsure flags : List Bool} {holds now : Content} → length holds ≡ run.size → WroteLines run (341 * group) unsure holds → Adds at block holds now → flags ≡ set unsure at false → WroteLines run (341 * (group + 1)) flags now
+  lines_wrote {unsure} {flags} {holds} {now} told wrote w flag = record {
+    each = λ place from to used. ⊎_elim
+        (λ lt. done_other false (line_block place) (HasLine run.lines place) (λ is. let same = group_of place is in omega (arith, lt, same)) w flag (wrote.each place from lt used))
+        (λ ge.
+        let here : at ≡ line_block place = omega (arith, ge, to, n.at_is) in
+        subst (λ (k : ℕ). IsDone flags now k (HasLine run.lines place)) here (done_here unsure (HasLine run.lines place) (subst (λ (k : ℕ). at < k) (sym told) inside) w flag (n.has place (group_of place (sym here)) used)))
+        (cases_lt place (341 * group));
+  }
+
+-- the bytes stay
+pub bytes_stay : {run : Run} {unsure flags : List Bool} {holds now : Content} {at : ℕ} {block : Block} (group : ℕ) (upto : ℕ) → at ≡ 1 + 342 * group → WroteBytes run upto unsure holds → Adds at block holds now → flags ≡ set unsure at false → WroteBytes run upto flags now
+bytes_stay {run} group upto at_is wrote w flag = record {
+  each = λ place from to. done_other false (stored_block place) (HasBytes run.lines run.stored place) (λ is. omega (arith, is, at_is)) w flag (wrote.each place from to);
+}
+
+pub no_lines : (run : Run) {upto : ℕ} {unsure : List Bool} {holds : Content} → upto ≤ run.settled → WroteLines run upto unsure holds
+no_lines run le = record { each = λ place from to used. absurd (omega (arith, from, to, le)) }
+
+pub all_lines : (run : Run) {upto : ℕ} {unsure : List Bool} {holds : Content} → length run.lines ≤ upto → WroteLines run upto unsure holds → WroteLines run (length run.lines) unsure holds
+all_lines run le wrote = record { each = λ place from to used. wrote.each place from (omega (arith, to, le)) used }
+
+pub next_lines : {run : Run} {lines : List ArenaLine} {group at first : ℕ} {block : Block} → run.lines ≡ lines → run.settled ≡ first → first < length lines → first / 341 ≤ group → 341 * group < length lines → at ≡ 1 + 342 * group
+    → ((place : ℕ) → place / 341 ≡ group → place < length lines → HasLine lines place block) → NextLines run group at block
+next_lines {run} {lines} {group} {at} {first} {block} lines_is first_is some from to at_is has = record {
+  some = omega (arith, some, first_is, ap length lines_is);
+  from = subst (λ (n : ℕ). n / 341 ≤ group) (sym first_is) from;
+  to = omega (arith, to, ap length lines_is);
+  at_is = at_is;
+  has = λ place same used. subst (λ (ls : List ArenaLine). HasLine ls place block) (sym lines_is) (has place same (omega (arith, used, ap length lines_is)));
+}

@@ -1,0 +1,132 @@
+-- What an open arena keeps, and what its calls do.
+use Rattle.std.specs.Prelude.{◌≡◌, ◌≢◌, ◌⊎◌, ℕ, ◌<◌, ◌≤◌, Bool, List, [], ◌∷◌, ◌++◌, length, Option, Some, None, Result, IfErr}
+use Rattle.fo_base.specs.Cause.{Rose}
+use Rattle.fo_disk.specs.Disk.{Block, Content, IsImage, IsQuiet}
+use Rattle.fo_image.specs.declared.types.ArenaLine.{ArenaLine}
+use Rattle.fo_image.specs.Format.{IsScore}
+use Rattle.fo_image.specs.Place.{arena_places, stored_block}
+use Rattle.sha1.specs.Sha1.{sha1}
+use Rattle.venti_store.specs.Held.{stored_at, HasName, IsNamed, IsHeld, IsArenaOf}
+use Rattle.venti_store.specs.Kept.{waits, settled_count, KeepsIn}
+use Rattle.venti_store.specs.declared.shelf.Shelf.{Shelf}
+use Rattle.venti_store.specs.declared.error.ArenaError.{ArenaError}
+use Rattle.venti_store.specs.declared.error.ArenaError.TheVariants as why
+
+-- the lines of the used places
+abbrev pub lines_of : Shelf → List ArenaLine
+lines_of shelf = shelf.index.lines.items
+
+-- The device tells what it holds, and the used places have these bytes, of which the first `synced` were held when a sync last answered Ok.
+abbrev pub Keeps : Shelf → List (List ℕ) → ℕ → List Bool → Content → Type 0
+Keeps shelf stored synced unsure holds = KeepsIn shelf.blocks shelf.index.lines.items (waits shelf.pending.items) stored synced unsure holds
+
+-- The device is quiet, and each image of it is an arena of just these used places.
+pub record Settled (lines : List ArenaLine) (stored : List (List ℕ)) (holds : Content) : Type 0 where
+  pub quiet : IsQuiet holds
+  pub each : (image : List Block) → IsImage holds image → IsArenaOf (length lines) lines stored image
+
+-- the line of a block that is put
+abbrev pub line_for : ℕ → List ℕ → ArenaLine
+line_for kind bytes = record { score = record { 0 = sha1 bytes }; kind = kind; len = length bytes }
+
+-- A block that is held takes no place. Another one takes the next.
+pub record PutsLine (kind : ℕ) (bytes : List ℕ) (lines now : List ArenaLine) : Type 0 where
+  pub held : IsNamed lines (sha1 bytes) kind → now ≡ lines
+  pub new : ¬ IsNamed lines (sha1 bytes) kind → now ≡ lines ++ line_for kind bytes ∷ []
+
+pub record PutsBytes (kind : ℕ) (bytes : List ℕ) (lines : List ArenaLine) (stored now : List (List ℕ)) : Type 0 where
+  pub held : IsNamed lines (sha1 bytes) kind → (now ≡ stored) × IsHeld lines stored (sha1 bytes) kind bytes
+  pub new : ¬ IsNamed lines (sha1 bytes) kind → now ≡ stored ++ bytes ∷ []
+
+-- The bytes are in memory: those of the empty block, and of a block that waits to be settled.
+abbrev pub IsAtHand : Shelf → List ℕ → ℕ → Type 0
+IsAtHand shelf score kind = (score ≡ sha1 []) ⊎ ((place : ℕ) × HasName (lines_of shelf) score kind place × (settled_count (lines_of shelf) (waits shelf.pending.items) ≤ place))
+
+-- This block of the device is that of a place with this score and kind.
+abbrev pub IsPlaceOf : List ArenaLine → List ℕ → ℕ → ℕ → Type 0
+IsPlaceOf lines score kind at = (place : ℕ) × HasName lines score kind place × (at ≡ stored_block place)
+
+-- The bytes of the place with this score and kind don't hash to the score.
+abbrev pub IsDamaged : List ArenaLine → List (List ℕ) → List ℕ → ℕ → Type 0
+IsDamaged lines stored score kind = (place : ℕ) × HasName lines score kind place × (sha1 (stored_at stored place) ≢ score)
+
+-- ---- a look at a held block
+
+-- The bytes hash to the score, and there is none exactly where the index has none.
+abbrev pub Finds : List ArenaLine → List ℕ → ℕ → Option (List ℕ) → Type 0
+Finds lines score kind (Some bytes) = IsNamed lines score kind × (sha1 bytes ≡ score)
+Finds lines score kind None = ¬ IsNamed lines score kind
+
+abbrev pub FindsHeld : List ArenaLine → List (List ℕ) → List ℕ → ℕ → Option (List ℕ) → Type 0
+FindsHeld lines stored score kind (Some bytes) = IsHeld lines stored score kind bytes
+FindsHeld lines stored score kind None = Unit {0}
+
+-- why a block is not found
+abbrev pub LookRefuses : List ArenaLine → List ℕ → ℕ → ArenaError → Type 0
+LookRefuses lines score kind (why.Damaged at) = IsPlaceOf lines score kind at
+LookRefuses lines score kind why.ArenaRead = IsNamed lines score kind
+LookRefuses lines score kind why.Memory = Unit {0}
+LookRefuses lines score kind _ = ⊥
+
+-- Why no block is got: `Absent` exactly where none is held.
+abbrev pub GetRefuses : List ArenaLine → List ℕ → ℕ → ArenaError → Type 0
+GetRefuses lines score kind why.Absent = ¬ IsNamed lines score kind
+GetRefuses lines score kind e = LookRefuses lines score kind e
+
+-- Why a block is not put: `BadScore` before all else, exactly where the score has no spelling in an archive; `ArenaFull` exactly
+-- where the block is not held and no place is left; `Collision` with the block that is held and the other one.
+abbrev pub PutCause : ℕ → List ArenaLine → ℕ → List ℕ → ArenaError → Type 0
+PutCause blocks lines kind bytes why.ArenaFull = ¬ IsNamed lines (sha1 bytes) kind × (length lines ≡ arena_places blocks)
+PutCause blocks lines kind bytes why.ArenaWrite = ¬ IsNamed lines (sha1 bytes) kind × (length lines < arena_places blocks)
+PutCause blocks lines kind bytes why.ArenaSync = ¬ IsNamed lines (sha1 bytes) kind × (length lines < arena_places blocks)
+PutCause blocks lines kind bytes (why.Collision held other) = IsNamed lines (sha1 bytes) kind × (sha1 held.items ≡ sha1 bytes) × (held.items ≢ bytes) × (other.items ≡ bytes)
+PutCause blocks lines kind bytes e = LookRefuses lines (sha1 bytes) kind e
+
+abbrev pub PutRefuses : ℕ → List ArenaLine → ℕ → List ℕ → ArenaError → Type 0
+PutRefuses blocks lines kind bytes why.BadScore = ¬ IsScore (sha1 bytes)
+PutRefuses blocks lines kind bytes e = IsScore (sha1 bytes) × PutCause blocks lines kind bytes e
+
+-- what is so of the bytes on a device that tells what it holds
+abbrev pub RefusesHeld : List ArenaLine → List (List ℕ) → List ℕ → ℕ → ArenaError → Type 0
+RefusesHeld lines stored score kind (why.Damaged at) = IsDamaged lines stored score kind
+RefusesHeld lines stored score kind (why.Collision held other) = IsHeld lines stored score kind held.items
+RefusesHeld lines stored score kind _ = Unit {0}
+
+-- ---- faults
+
+abbrev pub Blames : ℕ → ℕ → ArenaError → Type 0
+Blames before now why.ArenaRead = Rose before now
+Blames before now why.ArenaWrite = Rose before now
+Blames before now why.ArenaSync = Rose before now
+Blames before now _ = Unit {0}
+
+-- The count of faults never falls, and a fault is answered only where it rose.
+pub record HasCauses {T : Type 0} (before now : ℕ) (result : Result T ArenaError) : Type 0 where
+  pub later : before ≤ now
+  pub failed : IfErr result (Blames before now)
+
+-- ---- refusals of single steps
+
+abbrev pub IsMemory : ArenaError → Type 0
+IsMemory why.Memory = Unit {0}
+IsMemory _ = ⊥
+
+abbrev pub IsReadOrMemory : ArenaError → Type 0
+IsReadOrMemory why.ArenaRead = Unit {0}
+IsReadOrMemory e = IsMemory e
+
+abbrev pub IsWriteOrSync : ArenaError → Type 0
+IsWriteOrSync why.ArenaWrite = Unit {0}
+IsWriteOrSync why.ArenaSync = Unit {0}
+IsWriteOrSync _ = ⊥
+
+abbrev pub IsCollision : List ℕ → List ℕ → ArenaError → Type 0
+IsCollision held bytes (why.Collision one other) = (one.items ≡ held) × (held ≢ bytes) × (other.items ≡ bytes)
+IsCollision held bytes e = IsMemory e
+
+-- why a block that is not held is not put
+abbrev pub AppendRefuses : ℕ → List ArenaLine → ArenaError → Type 0
+AppendRefuses blocks lines why.ArenaFull = length lines ≡ arena_places blocks
+AppendRefuses blocks lines why.ArenaWrite = length lines < arena_places blocks
+AppendRefuses blocks lines why.ArenaSync = length lines < arena_places blocks
+AppendRefuses blocks lines e = IsMemory e

@@ -1,0 +1,60 @@
+//! Reads of held blocks.
+ghost use Rattle.std.specs.Prelude.{◌≡◌, ◌≢◌, ◌<◌, ◌≤◌, ◌^◌, ℕ, length, take, IfOk, IfErr, MatchResult, OnOk};
+ghost use Rattle.std.specs.List.{Contains};
+ghost use Rattle.fo_disk.specs.Disk.{Block, versions_of};
+ghost use Rattle.fo_image.specs.Place.{stored_block};
+ghost use Rattle.fo_sound.specs.Device.{IsKept};
+ghost use Rattle.venti_store.specs.Arena.{IsReadOrMemory, IsMemory, IsCollision, HasCauses};
+
+use crate::ArenaError;
+use fo_disk::{BLOCK, Disk};
+use fo_image::stored_block;
+use std::alloc::Global;
+
+/// A copy of these bytes.
+pub(crate) fn copy_of(alloc: Global, bytes: &[u8]) -> Result<Vec<u8>, ArenaError>
+    ensures copied { IfOk result (λ v. v.items ≡ bytes.now) }
+    ensures memory { IfErr result IsMemory }
+{
+    match bytes.to_vec(alloc) {
+        Ok(copy) => Ok(copy),
+        Err(_) => Err(ArenaError::Memory),
+    }
+}
+
+/// The bytes of a place, as the device has them.
+pub(crate) fn read_stored<A: Disk>(
+    alloc: Global,
+    device: &mut A,
+    place: u32,
+    len: u16,
+) -> Result<Vec<u8>, ArenaError>
+    requires place { place < 2 ^ 31 }
+    requires block { stored_block place < A.size device.old }
+    requires len { len ≤ 8192 }
+    ensures read { IfOk result (λ v. stored_block place < length (A.holds device.old) → (block : Block) × Contains (versions_of (A.holds device.old) (stored_block place)) block × (v.items ≡ take len block)) }
+    ensures kept { IsKept (A.holds device.old) (A.holds device.new) (A.moments device.old) (A.moments device.new) (A.unsure device.old) (A.unsure device.new) }
+    ensures size { A.size device.new ≡ A.size device.old }
+    ensures cause { HasCauses (A.faults device.old) (A.faults device.new) result }
+    ensures fault { IfErr result IsReadOrMemory }
+{
+    let mut block = [0; BLOCK];
+    let Ok(()) = device.read(stored_block(place), &mut block) else {
+        return Err(ArenaError::ArenaRead);
+    };
+    match block[..len as usize].to_vec(alloc) {
+        Ok(bytes) => Ok(bytes),
+        Err(_) => Err(ArenaError::Memory),
+    }
+}
+
+/// Refuses bytes that are not those of the held block, with both.
+pub(crate) fn compare(alloc: Global, held: Vec<u8>, bytes: &[u8]) -> Result<(), ArenaError>
+    ensures { MatchResult result (λ _. held.items ≡ bytes.now) (IsCollision held.items bytes.now) }
+{
+    if held.as_slice() == bytes {
+        return Ok(());
+    }
+    let other = copy_of(alloc, bytes)?;
+    Err(ArenaError::Collision(held, other))
+}
