@@ -3,3 +3,4 @@ pub mod Kept
 pub mod Pending
 pub mod Slots
 pub mod Steps
+pub mod Work

@@ -5,8 +5,10 @@
 //! the path from the top of the first tree down to where it goes on.
 //!
 //! Proved: a block that a step closes is the next of all that is left to close, a reading brings it nearer, a step waits or finds
-//! the queue empty exactly where it has to, and a push adds what its tree has. The caller reads the blocks that a step asks for, and
-//! tells whether a block is settled. Want of memory may be answered by `new` and `reserve` alone.
+//! the queue empty exactly where it has to, and a push adds what its tree has. Whatever blocks hold, also where one reads differently
+//! each time, a step that closes or reads lowers the work that is left, and at most five readings follow one another. The caller
+//! reads the blocks that a step asks for, and tells whether a block is settled. Want of memory may be answered by `new` and `reserve`
+//! alone.
 //!
 //! Not proved: that blocks hold what the caller says of them.
 #![tactic(auto)]

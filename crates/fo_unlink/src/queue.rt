@@ -3,6 +3,7 @@ ghost use Rattle.std.specs.Prelude.{◌≡◌, ◌≢◌, ◌↔◌, ◌+◌, �
 ghost use Rattle.fo_unlink.specs.Closing.{Tree};
 ghost use Rattle.fo_unlink.specs.Pending.{IsRemoval, left, closes_of, wanted, first_removal, start_level, closed, entered};
 ghost use Rattle.fo_unlink.specs.Steps.{Answers, unasked};
+ghost use Rattle.fo_unlink.specs.Work.{work, work_of, readings, Lowers};
 ghost use Rattle.fo_unlink.specs.declared.removal.Step.TheVariants.{Closes, Reads, Waits, Empty};
 
 use crate::removal::{Removal, Step};
@@ -38,7 +39,8 @@ impl Model for Queue {
 impl Queue {
     /// A queue with room for so many removals, and none in it.
     pub fn new(alloc: Global, room: u32) -> Result<Queue, Memory>
-        ensures { IfOk result (λ q. q ≡ record { removals = []; way = []; asked = false; room = room }) }
+        ensures empty { IfOk result (λ q. q ≡ record { removals = []; way = []; asked = false; room = room }) }
+        ensures work { IfOk result (λ q. work q ≡ 0) }
     {
         let removals = VecDeque::with_capacity(alloc, room as usize)?;
         Ok(Queue {
@@ -56,6 +58,7 @@ impl Queue {
         ensures made { MatchResult result
             (λ _. self.new ≡ record self.old { room = max self.old.room n })
             (λ _. self.new ≡ self.old) }
+        ensures work { work self.new ≡ work self.old }
     {
         if n <= self.room {
             return Ok(());
@@ -75,6 +78,7 @@ impl Queue {
         requires removal { IsRemoval r }
         ensures queued { self.new ≡ record self.old { removals = self.old.removals ++ r ∷ []; room = self.old.room - 1 } }
         ensures left { (tree : Tree) → left tree self.new ≡ left tree self.old ++ closes_of tree r }
+        ensures work { work self.new ≡ work self.old + work_of r }
     {
         self.room -= 1;
         self.removals.push_back_reserved(r);
@@ -94,9 +98,10 @@ impl Queue {
         self.removals.len() as u32
     }
 
-    /// Takes back what was asked for, as where the block could not be read: the next step asks again.
+    /// Takes back what was asked for, as where the block could not be read: the next step asks again, which is one reading more.
     pub fn ask_again(&mut self)
-        ensures { self.new ≡ unasked self.old }
+        ensures unasked { self.new ≡ unasked self.old }
+        ensures work { work self.new ≡ work self.old + readings (wanted self.old) }
     {
         self.asked = false;
     }
@@ -111,13 +116,15 @@ impl Queue {
         ensures empty { (result ≡ Empty) ↔ (self.old.removals ≡ []) }
         ensures waits { (result ≡ Waits) ↔ ((self.old.removals ≢ []) × (settled ≡ false)) }
         ensures answer { Answers settled self.old block.now self.new result }
+        ensures lowers { Lowers self.old self.new result }
     {
         self.advance(settled, block)
     }
 
     fn advance(&mut self, settled: bool, block: &[u8]) -> Step
         requires { IsSome (wanted self.old) → length block.now ≡ 8192 }
-        ensures { Answers settled self.old block.now self.new result }
+        ensures answer { Answers settled self.old block.now self.new result }
+        ensures lowers { Lowers self.old self.new result }
     {
         let Some(first) = self.first() else {
             return Step::Empty;
