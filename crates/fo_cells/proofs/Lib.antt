@@ -1,0 +1,12 @@
+pub mod Standing
+pub mod Read
+pub mod Keeping
+pub mod Writing
+pub mod Settling
+pub mod Putting
+pub mod Giving
+pub mod Closing
+pub mod Firing
+pub mod Laws
+pub mod Calls
+pub mod Buffering

@@ -1,0 +1,5 @@
+pub mod Known
+pub mod Writes
+pub mod Device
+pub mod Buffers
+pub mod Kept

@@ -1,0 +1,38 @@
+//! A device with its buffers.
+ghost use Rattle.fo_cells.specs.Kept.{AreKept};
+
+use crate::buffers::Buffers;
+use fo_disk::{Disk, Failed};
+
+/// A device with the buffers of its blocks. At every moment the invariant holds over both.
+#[derive(Drop)]
+pub struct Buffered<D: Disk> {
+    pub(crate) main: D,
+    pub(crate) buffers: Buffers,
+    ghost kept: { AreKept buffers.all.items (D.holds main) },
+}
+
+impl<D: Disk> Buffered<D> {
+    ghost use Rattle.std.specs.Prelude.{◌<◌, true, length, map, slice_index_or, []};
+    ghost use Rattle.fo_crash.specs.Steps.{AddsNothing};
+    ghost use Rattle.fo_cells.specs.Known.{Images};
+    ghost use Rattle.fo_cells.specs.Device.{MayWrite, known};
+    ghost use Rattle.fo_cells.specs.Buffers.{mind_of, bytes_in};
+    ghost use Rattle.fo_cells.specs.Kept.{bare};
+
+    /// The device.
+    pub fn close(self) -> D {
+        self.main
+    }
+
+    /// Writes a block with what memory has. No image is added, whatever the device answers.
+    pub fn flush(&mut self, at: u32) -> Result<(), Failed>
+        requires block { at < D.size self.old.main }
+        requires within { at < length self.old.buffers.all.items }
+        requires told { at < length (D.holds self.old.main) }
+        requires may { MayWrite (mind_of bare self.old.buffers.all.items) (D.holds self.old.main) at (slice_index_or (map bytes_in self.old.buffers.all.items) at []) true }
+        ensures adds { AddsNothing (Images (known (mind_of bare self.old.buffers.all.items) (D.holds self.old.main))) (Images (known (mind_of bare self.new.buffers.all.items) (D.holds self.new.main))) }
+    {
+        self.buffers.flush(&mut self.main, at)
+    }
+}

@@ -1,0 +1,22 @@
+//! The calls of a device, as steps of what a cache knows.
+ghost use Rattle.std.specs.Prelude.{◌≡◌, ◌<◌, Bool, length, is_err, not};
+ghost use Rattle.fo_cells.specs.Device.{Mind, MayWrite, Stepped, Fits, wrote, after_sync};
+
+use fo_disk::{Disk, Failed};
+
+/// Writes a block with what memory has, or with some of its slots as they are on the device. Whatever the device answers, no image is
+/// added, and the invariant is kept.
+pub fn write_block<D: Disk>(disk: &mut D, at: u32, bytes: &[u8]) -> Result<(), Failed>
+    requires block { at < D.size disk.old }
+    requires length { length bytes.now ≡ 8192 }
+    ensures step { (m : Mind) (is_complete : Bool) → at < length (D.holds disk.old) → MayWrite m (D.holds disk.old) at bytes.now is_complete → Stepped m (wrote at (not (is_err result)) is_complete m) (D.holds disk.old) (D.holds disk.new) }
+{
+    disk.write(at, bytes)
+}
+
+/// Settles what was written.
+pub fn settle<D: Disk>(disk: &mut D) -> Result<(), Failed>
+    ensures step { (m : Mind) → Fits m (D.unsure disk.old) (D.holds disk.old) → Stepped m (after_sync result m) (D.holds disk.old) (D.holds disk.new) }
+{
+    disk.sync()
+}

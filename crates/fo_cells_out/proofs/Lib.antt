@@ -1,0 +1,10 @@
+pub mod Queue
+pub mod Parents
+pub mod Takeout
+pub mod Steps
+pub mod Dividing
+pub mod Shapes
+pub mod MadePuts
+pub mod Origins
+pub mod Asked
+pub mod Lost
