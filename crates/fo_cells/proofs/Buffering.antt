@@ -5,7 +5,10 @@ use Rattle.std.proofs.lemmas.List.{length-map, map-set}
 use Rattle.std.proofs.lemmas.Grind.{common_steps}
 use Rattle.fo_cells.specs.declared.buffers.Buffer.{Buffer}
 use Rattle.fo_cells.specs.Device.{Mind, wrote}
-use Rattle.fo_cells.specs.Buffers.{mind_of, note, bytes_in, newborn_in, complete_in}
+use Rattle.std.specs.Prelude.{not}
+use Rattle.std.specs.List.{list_all, Contains}
+use Rattle.fo_cells.specs.Buffers.{mind_of, note, bytes_in, newborn_in, complete_in, is_newborn}
+use Rattle.fo_cells.proofs.Standing.{among_cases}
 
 nat_eq_here : (a b : ℕ) → a ≡ b → nat_eq a b ≡ true
 nat_eq_here a b e = grind (arith, common_steps)
@@ -43,3 +46,23 @@ flushed rest all at y ok lt bytes newborn complete = λ i. record (wrote at ok t
         (λ e. ap (λ k. get_or (set (map complete_in all) at (complete_in y)) k false) e ∙ get_or-set_same (map complete_in all) at (complete_in y) false (omega (arith, lt, length-map all complete_in)) ∙ complete ∙ sym (and_true ok) ∙ ap (λ v. cond v (ok && true) (get_or (map complete_in all) b false)) (sym (nat_eq_here b at e)))
         (λ ne. get_or-set_other (map complete_in all) at b (complete_in y) false ne ∙ ap (λ v. cond v (ok && true) (get_or (map complete_in all) b false)) (sym (nat_eq_other b at ne)))
         (cases_eq b at)
+
+-- what was tested of each target
+pub all_grown : (all : List Buffer) (targets : List ℕ) → list_all (λ t. not (is_newborn all t)) targets ≡ true → (t : ℕ) → Contains targets t → is_newborn all t ≡ false
+all_grown all [] e t (k, lt, is) = absurd (omega arith)
+all_grown all (x ∷ xs) e t h = ⊎_elim
+    (λ first. flip (is_newborn all t) (ap (λ y. not (is_newborn all y)) (sym first) ∙ both_left (not (is_newborn all x)) (list_all (λ t. not (is_newborn all t)) xs) e))
+    (λ more. all_grown all xs (both_right (not (is_newborn all x)) (list_all (λ t. not (is_newborn all t)) xs) e) t more)
+    (among_cases x xs t h)
+  where
+    flip : (b : Bool) → not b ≡ true → b ≡ false
+    flip true e = absurd (cc)
+    flip false e = refl
+
+    both_left : (a b : Bool) → (a && b) ≡ true → a ≡ true
+    both_left true b e = refl
+    both_left false b e = absurd (cc)
+
+    both_right : (a b : Bool) → (a && b) ≡ true → b ≡ true
+    both_right true b e = e
+    both_right false b e = absurd (cc)

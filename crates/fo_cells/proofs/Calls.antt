@@ -1,17 +1,17 @@
 -- A write and a sync of the device are steps of what is known.
-use Rattle.std.proofs.Common.{◌≡◌, ◌≢◌, ◌⊎◌, inl, inr, ⊎_elim, ℕ, suc, ◌-◌, ◌<◌, Bool, true, false, cond, not, ◌&&◌, nat_eq, List, [], ◌∷◌, ◌++◌, map, length, drop, get_or, refl, sym, ◌∙◌, ap, subst, arith}
+use Rattle.std.proofs.Common.{◌≡◌, ◌≢◌, ◌⊎◌, inl, inr, ⊎_elim, ℕ, suc, ◌-◌, ◌<◌, Bool, true, false, cond, not, ◌&&◌, nat_eq, List, [], ◌∷◌, ◌++◌, map, length, drop, get_or, set, length-set, get_or-set_other, get_or-set_same, refl, sym, ◌∙◌, ap, subst, arith}
 use Rattle.std.proofs.lemmas.Bool.{cases_eq, cases_lt}
 use Rattle.std.proofs.lemmas.List.{get_or_push, length_push, get_or_past}
 use Rattle.std.proofs.lemmas.Grind.{common_steps}
 use Rattle.std.specs.List.{Contains}
-use Rattle.fo_disk.specs.Disk.{Block, Versions, versions_of, latest_of, newest, Adds}
+use Rattle.fo_disk.specs.Disk.{Block, Versions, versions_of, latest_of, newest, Adds, IsContent}
 use Rattle.fo_disk.specs.Disk.{Content as Holds, Settles as DiskSettles}
 use Rattle.fo_disk.proofs.Images.{adds-other, adds-here, contains-drop, contains-one}
 use Rattle.fo_image.specs.declared.types.Pointer.TheVariants.{Local}
 use Rattle.fo_crash.specs.Images.{Content, target}
 use Rattle.fo_cells.specs.Known.{Clear, IsClear, IsSince, MayName}
 use Rattle.fo_cells.specs.Writes.{Writes, Syncs, Born}
-use Rattle.fo_cells.specs.Device.{Clearing, Mind, since_of, known, noted, wrote, synced, MayWrite, Fits, Stepped, after_sync}
+use Rattle.fo_cells.specs.Device.{Clearing, Mind, since_of, known, noted, wrote, synced, MayWrite, MayWriteOver, Fits, Stepped, after_sync}
 use Rattle.fo_cells.proofs.Writing.{write_adds, write_keeps}
 use Rattle.fo_cells.proofs.Settling.{sync_adds, sync_keeps}
 use Rattle.fo_disk.proofs.Images.{appends-adds}
@@ -310,21 +310,111 @@ module _ {m : Mind} {unsure : List Bool} {old new : Holds} (y : DiskSettles unsu
         };
   }
 
--- WHAT A CALL OF THE DEVICE ANSWERS
-by_write : {m next : Mind} {at : ℕ} {f : Content} {old new : Holds} → Writes at f (known m old) (known next new) → Stepped m next old new
-by_write w = record { adds = write_adds w; keeps = λ kept. write_keeps w kept }
+-- WHAT IS KNOWN OF FAILED WRITES
+both_left : (a b : Bool) → (a && b) ≡ true → a ≡ true
+both_left true b e = refl
+both_left false b e = absurd (cc)
 
-pub write_steps : {E : Type 0} (result : Result Unit E) (m : Mind) (at : ℕ) (bytes : Block) (is_complete : Bool) (old new : Holds) → DiskWrites at bytes result old new → at < length old → MayWrite m old at bytes is_complete → Stepped m (wrote at (not (is_err result)) is_complete m) old new
-write_steps (Ok x) m at bytes is_complete old new w here may = by_write (landed true w here may)
-write_steps (Err e) m at bytes is_complete old new w here may = ⊎_elim
-    (λ same. subst (λ h. Stepped m (wrote at false is_complete m) old h) (sym same) (by_write (lost may)))
-    (λ appends. by_write (landed false (appends-adds appends) here may))
+-- the flag of the last write of a block
+flag_here : (unsure : List Bool) (at : ℕ) → get_or (set unsure at false) at false ≡ false
+flag_here unsure at = ⊎_elim
+    (λ lt. get_or-set_same unsure at false false lt)
+    (λ le. get_or_past (set unsure at false) at false (omega (arith, le, length-set unsure at false)))
+    (cases_lt at (length unsure))
+
+fits_flags : (ok is_complete : Bool) (m : Mind) (unsure : List Bool) (old : Holds) (at : ℕ) → at < length old → Fits m unsure old → ((b : ℕ) → (wrote at ok is_complete m).complete b ≡ true → get_or (set unsure at (not ok)) b false ≡ false) × ((b : ℕ) → (wrote at ok is_complete m).complete b ≡ true → b < length old)
+fits_flags ok is_complete m unsure old at here fits = (
+  λ b e. ⊎_elim
+      (λ is. subst (λ y. get_or (set unsure at (not ok)) y false ≡ false) (sym is) (subst (λ v. get_or (set unsure at (not v)) at false ≡ false) (sym (both_left ok is_complete (ap (λ v. cond v (ok && is_complete) (m.complete b)) (sym (nat_eq_here b at is)) ∙ e))) (flag_here unsure at)))
+      (λ ne. get_or-set_other unsure at b (not ok) false ne ∙ fits.sure b (ap (λ v. cond v (ok && is_complete) (m.complete b)) (sym (nat_eq_other b at ne)) ∙ e))
+      (cases_eq b at),
+  λ b e. ⊎_elim
+      (λ is. subst (λ y. y < length old) (sym is) here)
+      (λ ne. fits.within b (ap (λ v. cond v (ok && is_complete) (m.complete b)) (sym (nat_eq_other b at ne)) ∙ e))
+      (cases_eq b at),
+)
+
+leaf_kept : (at : ℕ) (ok : Bool) (c : Clearing) → (noted at ok c).leaf ≡ c.leaf
+leaf_kept at ok c = by (ok && nat_eq c.leaf at)
+  where
+    by : (v : Bool) → (cond v (record c { wrote = true }) c).leaf ≡ c.leaf
+    by true = refl
+    by false = refl
+
+fits_leaves : (at : ℕ) (ok : Bool) (m : Mind) (n : ℕ) → ((c : Clearing) → Contains m.clears c → c.leaf < n) → (c : Clearing) → Contains (map (noted at ok) m.clears) c → c.leaf < n
+fits_leaves at ok m n all c h = let (d, among, is) = among_map (noted at ok) m.clears c h in subst (λ k. k < n) (sym (leaf_kept at ok d) ∙ ap (λ (x : Clearing). x.leaf) is) (all d among)
+
+-- after a write that landed
+fits_landed : (ok is_complete : Bool) {m : Mind} {unsure : List Bool} {at : ℕ} {bytes : Block} {old new : Holds} → Adds at bytes old new → at < length old → Fits m unsure old → Fits (wrote at ok is_complete m) (set unsure at (not ok)) new
+fits_landed ok is_complete {m} {unsure} {at} {bytes} {old} {new} w here fits =
+    let flags = fits_flags ok is_complete m unsure old at here fits in
+    let count : length new ≡ length old = ap length w.is ∙ length-set old at _ in record {
+      sure = flags.0;
+      within = λ b e. subst (λ n. b < n) (sym count) (flags.1 b e);
+      some = λ b lt. ⊎_elim
+          (λ is. subst (λ y. 0 < length (versions_of new y)) (sym is) (subst (λ (vs : Versions). 0 < length vs) (sym (adds-here w here)) (more (drop w.gone (versions_of old at)))))
+          (λ ne. subst (λ (vs : Versions). 0 < length vs) (sym (adds-other w b ne)) (fits.some b (subst (λ n. b < n) count lt)))
+          (cases_eq b at);
+      leaves = λ c h. subst (λ n. c.leaf < n) (sym count) (fits_leaves at ok m (length old) fits.leaves c h);
+    }
+  where
+    more : (vs : Versions) → 0 < length (vs ++ bytes ∷ [])
+    more vs = omega (arith, length_push vs bytes)
+
+fits_lost : (is_complete : Bool) {m : Mind} {unsure : List Bool} (at : ℕ) {old : Holds} → at < length old → Fits m unsure old → Fits (wrote at false is_complete m) (set unsure at true) old
+fits_lost is_complete {m} {unsure} at {old} here fits =
+    let flags = fits_flags false is_complete m unsure old at here fits in record {
+      sure = flags.0;
+      within = flags.1;
+      some = fits.some;
+      leaves = λ c h. fits_leaves at false m (length old) fits.leaves c h;
+    }
+
+fits_settled : {m : Mind} {unsure : List Bool} {old new : Holds} → DiskSettles unsure old new → Fits m unsure old → Fits (synced m) unsure new
+fits_settled {m} {unsure} {old} {new} y fits = record {
+  sure = λ b e. absurd (cc);
+  within = λ b e. absurd (cc);
+  some = λ b lt. let inside : b < length old = omega (arith, lt, y.count) in subst (λ (vs : Versions). 0 < length vs) (sym (y.each b inside)) (either (get_or unsure b false) b (fits.some b inside));
+  leaves = λ c h. subst (λ n. c.leaf < n) (sym y.count) (fits.leaves c h);
+}
+  where
+    either : (v : Bool) (b : ℕ) → 0 < length (versions_of old b) → 0 < length (cond v (versions_of old b) (newest (versions_of old b)))
+    either true b some = some
+    either false b some = subst (λ (vs : Versions). 0 < length vs) (sym (newest_one (versions_of old b) some)) (omega arith)
+
+-- WHAT A CALL OF THE DEVICE ANSWERS
+pub write_steps : {E : Type 0} (result : Result Unit E) (m : Mind) (unsure : List Bool) (at : ℕ) (bytes : Block) (is_complete : Bool) (old new : Holds) → DiskWrites at bytes result old new → at < length old → MayWrite m old at bytes is_complete → Stepped m (wrote at (not (is_err result)) is_complete m) unsure (set unsure at (is_err result)) old new
+write_steps (Ok x) m unsure at bytes is_complete old new w here may = let s = landed true w here may in record { adds = write_adds s; keeps = λ kept. write_keeps s kept; fits = λ f. fits_landed true is_complete w here f }
+write_steps (Err e) m unsure at bytes is_complete old new w here may = ⊎_elim
+    (λ same. let s = lost may in subst (λ h. Stepped m (wrote at false is_complete m) unsure (set unsure at true) old h) (sym same) (record { adds = write_adds s; keeps = λ kept. write_keeps s kept; fits = λ f. fits_lost is_complete at here f }))
+    (λ appends. let s = landed false (appends-adds appends) here may in record { adds = write_adds s; keeps = λ kept. write_keeps s kept; fits = λ f. fits_landed false is_complete (appends-adds appends) here f })
     w
 
--- nothing changes
-still : (m : Mind) (old : Holds) → Stepped m m old old
-still m old = record { adds = record { each = λ image h. h }; keeps = λ kept. kept }
+pub sync_steps : {E : Type 0} (result : Result Unit E) (m : Mind) (unsure : List Bool) (old new : Holds) → DiskSyncs unsure result old new → Fits m unsure old → Stepped m (after_sync result m) unsure unsure old new
+sync_steps (Ok x) m unsure old new y fits = let s = settled y fits in record { adds = sync_adds s; keeps = λ kept. sync_keeps s kept; fits = λ f. fits_settled y f }
+sync_steps (Err e) m unsure old new y fits = subst (λ h. Stepped m m unsure unsure old h) (sym y) (record { adds = record { each = λ image h. h }; keeps = λ kept. kept; fits = λ f. f })
 
-pub sync_steps : {E : Type 0} (result : Result Unit E) (m : Mind) (unsure : List Bool) (old new : Holds) → DiskSyncs unsure result old new → Fits m unsure old → Stepped m (after_sync result m) old new
-sync_steps (Ok x) m unsure old new y fits = let s = settled y fits in record { adds = sync_adds s; keeps = λ kept. sync_keeps s kept }
-sync_steps (Err e) m unsure old new y fits = subst (λ h. Stepped m m old h) (sym y) (still m old)
+-- As many blocks are told of after a write.
+pub held_write : {E : Type 0} (result : Result Unit E) (at : ℕ) (bytes : Block) (old new : Holds) → DiskWrites at bytes result old new → length new ≡ length old
+held_write (Ok x) at bytes old new w = ap length w.is ∙ length-set old at _
+held_write (Err e) at bytes old new w = ⊎_elim (λ same. ap length same) (λ appends. ap length appends.is ∙ length-set old at _) w
+
+-- What is to be named was settled whole: the block may be written.
+pub may_write : {m : Mind} {holds : Holds} {at : ℕ} {bytes : Block} {targets : List ℕ} → MayWriteOver m holds at bytes targets → ((t : ℕ) → Contains targets t → m.newborn t ≡ false) → MayWrite m holds at bytes true
+may_write {m} {holds} {at} {bytes} {targets} may grown = record {
+  bytes_are = may.bytes_are;
+  block_bytes = may.block_bytes;
+  complete_is = λ e. may.complete_is;
+  apart = may.apart;
+  slots = λ born i. inl (ap (λ (c : Content). c.slot i) may.complete_is, λ t e. named i t (ap (λ (c : Content). target (c.slot i)) (sym may.complete_is) ∙ e));
+  names = λ born whole i t e. named i t e;
+  over = may.over;
+}
+  where
+    named : (i t : ℕ) → target ((m.memory at).slot i) ≡ Local t → (t ≢ 1) × MayName (known m holds) t
+    named i t e = let among = may.leads i t e in ((may.labels t among).0, record { settled = grown t among; labels = (may.labels t among).1 })
+
+-- A disk that tells what it holds tells of each of its blocks.
+pub told_block : (size : ℕ) (holds : Holds) → (holds ≡ []) ⊎ IsContent size holds → 0 < length holds → (at : ℕ) → at < size → at < length holds
+told_block size holds (inl none) told at lt = let e : length holds ≡ 0 = ap length none in absurd (omega (arith, e, told))
+told_block size holds (inr content) told at lt = omega (arith, content.count, lt)

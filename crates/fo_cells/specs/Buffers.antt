@@ -12,6 +12,9 @@ newborn_in x = x.newborn
 abbrev pub complete_in : Buffer → Bool
 complete_in x = x.complete
 
+abbrev pub is_newborn : List Buffer → ℕ → Bool
+is_newborn all at = slice_index_or (map newborn_in all) at false
+
 -- `rest` has what isn't kept in buffers
 abbrev pub mind_of : Mind → List Buffer → Mind
 mind_of rest all = record rest {

@@ -7,7 +7,7 @@ use Rattle.fo_image.specs.declared.types.Label.{Label}
 use Rattle.fo_image.specs.declared.types.Pointer.TheVariants.{Local}
 use Rattle.fo_crash.specs.Images.{Content, Image, target}
 use Rattle.fo_crash.specs.Steps.{AddsNothing}
-use Rattle.fo_cells.specs.Known.{Known, Wait, Clear, Top, IsWait, MayName, Images, IsKept}
+use Rattle.fo_cells.specs.Known.{Known, Wait, Clear, Top, IsWait, MayName, LabelFits, Images, IsKept}
 use Rattle.fo_cells.specs.Writes.{FormSlot}
 
 -- a slot that waits; `wrote` says whether the leaf was written since, by a write that answered Ok
@@ -74,10 +74,15 @@ pub record MayWrite (m : Mind) (holds : Holds) (at : ℕ) (bytes : Block) (is_co
   -- it waits for nothing
   pub over : (on j : ℕ) → IsWait m.waits at on j → ⊥
 
--- No image is added, and the invariant is kept.
-pub record Stepped (m next : Mind) (old new : Holds) : Type 0 where
-  pub adds : AddsNothing (Images (known m old)) (Images (known next new))
-  pub keeps : IsKept (known m old) → IsKept (known next new)
+-- The same, but for whether the blocks that memory names were settled whole: these stand in this list, and have labels that fit.
+pub record MayWriteOver (m : Mind) (holds : Holds) (at : ℕ) (bytes : Block) (targets : List ℕ) : Type 0 where
+  pub bytes_are : (m.read at bytes).bytes ≡ (m.memory at).bytes
+  pub block_bytes : (m.read at bytes).bytes ≡ bytes
+  pub complete_is : m.read at bytes ≡ m.memory at
+  pub apart : (b : ℕ) → m.label_block b ≢ at
+  pub leads : (i t : ℕ) → target ((m.memory at).slot i) ≡ Local t → Contains targets t
+  pub labels : (t : ℕ) → Contains targets t → (t ≢ 1) × ((l : Label) → Contains ((known m holds).labels t) l → LabelFits m.low (m.label t) l)
+  pub over : (on j : ℕ) → IsWait m.waits at on j → ⊥
 
 -- What was written whole since the last sync had a last write that answered Ok, and each block has a version.
 pub record Fits (m : Mind) (unsure : List Bool) (holds : Holds) : Type 0 where
@@ -85,6 +90,12 @@ pub record Fits (m : Mind) (unsure : List Bool) (holds : Holds) : Type 0 where
   pub within : (b : ℕ) → m.complete b ≡ true → b < length holds
   pub some : (b : ℕ) → b < length holds → 0 < length (versions_of holds b)
   pub leaves : (c : Clearing) → Contains m.clears c → c.leaf < length holds
+
+-- No image is added, the invariant is kept, and so is what is known of the device's failed writes.
+pub record Stepped (m next : Mind) (unsure after : List Bool) (old new : Holds) : Type 0 where
+  pub adds : AddsNothing (Images (known m old)) (Images (known next new))
+  pub keeps : IsKept (known m old) → IsKept (known next new)
+  pub fits : Fits m unsure old → Fits next after new
 
 -- the mind after a sync that was answered
 abbrev pub after_sync : {E : Type 0} → Result Unit E → Mind → Mind

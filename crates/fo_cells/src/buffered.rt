@@ -4,16 +4,17 @@ ghost use Rattle.fo_cells.specs.Kept.{AreKept};
 use crate::buffers::Buffers;
 use fo_disk::{Disk, Failed};
 
-/// A device with the buffers of its blocks. At every moment the invariant holds over both.
+/// A device with the buffers of its blocks. At every moment the invariant holds over both, where the device tells what it holds.
 #[derive(Drop)]
 pub struct Buffered<D: Disk> {
     pub(crate) main: D,
     pub(crate) buffers: Buffers,
-    ghost kept: { AreKept buffers.all.items (D.holds main) },
+    ghost kept: { AreKept buffers.all.items (D.unsure main) (D.holds main) },
 }
 
 impl<D: Disk> Buffered<D> {
     ghost use Rattle.std.specs.Prelude.{◌<◌, true, length, map, slice_index_or, []};
+    ghost use Rattle.fo_base.specs.Cause.{HasCause};
     ghost use Rattle.fo_crash.specs.Steps.{AddsNothing};
     ghost use Rattle.fo_cells.specs.Known.{Images};
     ghost use Rattle.fo_cells.specs.Device.{MayWrite, known};
@@ -29,9 +30,9 @@ impl<D: Disk> Buffered<D> {
     pub fn flush(&mut self, at: u32) -> Result<(), Failed>
         requires block { at < D.size self.old.main }
         requires within { at < length self.old.buffers.all.items }
-        requires told { at < length (D.holds self.old.main) }
-        requires may { MayWrite (mind_of bare self.old.buffers.all.items) (D.holds self.old.main) at (slice_index_or (map bytes_in self.old.buffers.all.items) at []) true }
-        ensures adds { AddsNothing (Images (known (mind_of bare self.old.buffers.all.items) (D.holds self.old.main))) (Images (known (mind_of bare self.new.buffers.all.items) (D.holds self.new.main))) }
+        requires may { 0 < length (D.holds self.old.main) → MayWrite (mind_of bare self.old.buffers.all.items) (D.holds self.old.main) at (slice_index_or (map bytes_in self.old.buffers.all.items) at []) true }
+        ensures adds { 0 < length (D.holds self.old.main) → AddsNothing (Images (known (mind_of bare self.old.buffers.all.items) (D.holds self.old.main))) (Images (known (mind_of bare self.new.buffers.all.items) (D.holds self.new.main))) }
+        ensures cause { HasCause (D.faults self.old.main) (D.faults self.new.main) result }
     {
         self.buffers.flush(&mut self.main, at)
     }

@@ -1,22 +1,32 @@
 //! The calls of a device, as steps of what a cache knows.
-ghost use Rattle.std.specs.Prelude.{◌≡◌, ◌<◌, Bool, length, is_err, not};
+ghost use Rattle.std.specs.Prelude.{◌≡◌, ◌<◌, Bool, length, is_err, not, slice_set};
+ghost use Rattle.fo_base.specs.Cause.{HasCause};
+ghost use Rattle.fo_disk.specs.Disk.{Writes, Syncs, Passes};
 ghost use Rattle.fo_cells.specs.Device.{Mind, MayWrite, Stepped, Fits, wrote, after_sync};
 
 use fo_disk::{Disk, Failed};
 
 /// Writes a block with what memory has, or with some of its slots as they are on the device. Whatever the device answers, no image is
-/// added, and the invariant is kept.
+/// added, and the invariant is kept. It fails only where the device fails.
 pub fn write_block<D: Disk>(disk: &mut D, at: u32, bytes: &[u8]) -> Result<(), Failed>
     requires block { at < D.size disk.old }
     requires length { length bytes.now ≡ 8192 }
-    ensures step { (m : Mind) (is_complete : Bool) → at < length (D.holds disk.old) → MayWrite m (D.holds disk.old) at bytes.now is_complete → Stepped m (wrote at (not (is_err result)) is_complete m) (D.holds disk.old) (D.holds disk.new) }
+    ensures step { (m : Mind) (is_complete : Bool) → at < length (D.holds disk.old) → MayWrite m (D.holds disk.old) at bytes.now is_complete → Stepped m (wrote at (not (is_err result)) is_complete m) (D.unsure disk.old) (D.unsure disk.new) (D.holds disk.old) (D.holds disk.new) }
+    ensures holds { Writes at bytes.now result (D.holds disk.old) (D.holds disk.new) }
+    ensures moments { Passes (D.holds disk.old) (D.holds disk.new) (D.moments disk.old) (D.moments disk.new) }
+    ensures size { D.size disk.new ≡ D.size disk.old }
+    ensures cause { HasCause (D.faults disk.old) (D.faults disk.new) result }
 {
     disk.write(at, bytes)
 }
 
-/// Settles what was written.
+/// Settles what was written. It fails only where the device fails, and then nothing counts as settled.
 pub fn settle<D: Disk>(disk: &mut D) -> Result<(), Failed>
-    ensures step { (m : Mind) → Fits m (D.unsure disk.old) (D.holds disk.old) → Stepped m (after_sync result m) (D.holds disk.old) (D.holds disk.new) }
+    ensures step { (m : Mind) → Fits m (D.unsure disk.old) (D.holds disk.old) → Stepped m (after_sync result m) (D.unsure disk.old) (D.unsure disk.new) (D.holds disk.old) (D.holds disk.new) }
+    ensures holds { Syncs (D.unsure disk.old) result (D.holds disk.old) (D.holds disk.new) }
+    ensures moments { Passes (D.holds disk.old) (D.holds disk.new) (D.moments disk.old) (D.moments disk.new) }
+    ensures size { D.size disk.new ≡ D.size disk.old }
+    ensures cause { HasCause (D.faults disk.old) (D.faults disk.new) result }
 {
     disk.sync()
 }

@@ -1,5 +1,8 @@
+use Rattle.std.proofs.Common.{List, Bool, sym, subst}
+use Rattle.fo_cells.specs.Device.{Mind, Stepped, wrote}
+use Rattle.std.specs.Prelude.{not, is_err}
 use Rattle.fo_cells.proofs.Calls.{write_steps}
 use Rattle.fo_cells.proofs.device.write_block.Goals as goal
 
-pub returns : goal.returns
-returns g c = record { step = λ m is_complete within may. write_steps c.write.result m c.args.at c.args.bytes.now is_complete (g.D.Disk.holds c.args.disk.now) (g.D.Disk.holds c.write.new.self) c.write.ensures.holds within may }
+pub returns-clause-step : goal.returns-clause-step
+returns-clause-step g c = λ m is_complete within may. subst (λ (u : List Bool). Stepped m (wrote c.args.at (not (is_err c.write.result)) is_complete m) (g.D.Disk.unsure c.args.disk.now) u (g.D.Disk.holds c.args.disk.now) (g.D.Disk.holds c.write.new.self)) (sym c.write.ensures.unsure) (write_steps c.write.result m (g.D.Disk.unsure c.args.disk.now) c.args.at c.args.bytes.now is_complete (g.D.Disk.holds c.args.disk.now) (g.D.Disk.holds c.write.new.self) c.write.ensures.holds within may)
