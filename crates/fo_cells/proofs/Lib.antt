@@ -7,6 +7,10 @@ pub mod Putting
 pub mod Giving
 pub mod Closing
 pub mod Firing
+pub mod Filling
+pub mod Bytes
+pub mod Waiting
 pub mod Laws
+pub mod Super
 pub mod Calls
 pub mod Buffering

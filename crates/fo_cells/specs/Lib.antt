@@ -1,5 +1,6 @@
 pub mod Known
 pub mod Writes
+pub mod Calls
 pub mod Device
 pub mod Buffers
 pub mod Kept
