@@ -20,7 +20,7 @@ pub struct Arena<A: Disk> {
 }
 
 impl<A: Disk> Arena<A> {
-    ghost use Rattle.std.specs.Prelude.{◌≤◌, ℕ, List, [], length, MatchResult, OnOk, IfErr};
+    ghost use Rattle.std.specs.Prelude.{IfOk, ◌/◌, ◌+◌, ◌≤◌, ℕ, List, [], length, MatchResult, OnOk, IfErr};
     ghost use Rattle.fo_base.specs.Cause.{HasCause};
     ghost use Rattle.fo_disk.specs.Disk.{Block, Since};
     ghost use Rattle.fo_sound.specs.Device.{Shows, IsKept};
@@ -30,12 +30,14 @@ impl<A: Disk> Arena<A> {
     ghost use Rattle.venti_store.specs.Arena.{lines_of, Keeps, Settled};
     ghost use Rattle.venti_store.specs.Opening.{Opens, OpenRefuses, OpenBlames};
 
-    /// Opens the arena of a device, whose blocks of the index are read once each. A refusal hands the device back.
+    /// Opens the arena of a device. A refusal hands the device back.
     pub fn open(alloc: Global, device: A) -> Result<Arena<A>, ArenaOpen<A>>
         // Of a quiet device that tells what it holds, just what is held. `NotArena` comes exactly where it is none.
         ensures answer { (vault : List Block) → Shows (A.holds device) vault
             → MatchResult result (λ a. Opens vault a.shelf (A.unsure a.device) (A.holds a.device)) (λ e. OpenRefuses vault e.why) }
 
+        // Its blocks are counted, and block 0 and each block of the index with a used line are read, once each. None is written.
+        ensures reads { IfOk result (λ a. A.calls a.device ≤ A.calls device + 2 + (length (lines_of a.shelf) + 340) / 341) }
         ensures kept { MatchResult result (λ a. IsKept (A.holds device) (A.holds a.device) (A.moments device) (A.moments a.device) (A.unsure device) (A.unsure a.device))
             (λ e. IsKept (A.holds device) (A.holds e.device) (A.moments device) (A.moments e.device) (A.unsure device) (A.unsure e.device)) }
         ensures later { MatchResult result (λ a. A.faults device ≤ A.faults a.device) (λ e. A.faults device ≤ A.faults e.device) }

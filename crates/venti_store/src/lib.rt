@@ -7,14 +7,14 @@
 //!
 //! Proved over any device: a put answers the hash of the bytes, and takes a place exactly where the block is not held; the cause of
 //! each refusal, with a fault only where the device's count rose; a refused call changes neither what is held nor how many places
-//! are used; a block at hand costs no call of the device.
+//! are used; a block at hand costs no call of the device; an opening reads each block of the index at most once, and writes none.
 //!
 //! Proved over a device that tells what it holds: a get gives just what is held, and `Damaged` comes exactly where the bytes of the
 //! place don't hash to its score; a collision names the block that is held; each image of each moment is an arena in which what the
 //! last sync held is held; after a sync that answers Ok the device is quiet, and its image holds just what is held. Of a quiet one:
 //! an opening holds just what it holds, and is refused as no arena exactly where it is none.
 //!
-//! Not proved: that an opening reads each block of the index once (its loop does), and any speed.
+//! Not proved: what is held on a device that tells nothing, as a file, and any speed.
 #![tactic(auto)]
 
 mod arena;

@@ -1,5 +1,5 @@
 //! The opening of an arena: its head and the lines of its used places are read, each block of the index once.
-ghost use Rattle.std.specs.Prelude.{◌≡◌, ◌+◌, ◌*◌, ◌^◌, ◌<◌, ◌≤◌, ℕ, List, [], length, min, OnOk, IfOk, IfErr, MatchResult};
+ghost use Rattle.std.specs.Prelude.{◌≡◌, ◌+◌, ◌*◌, ◌/◌, ◌^◌, ◌<◌, ◌≤◌, ℕ, List, [], length, min, OnOk, IfOk, IfErr, MatchResult};
 ghost use Rattle.fo_base.specs.Cause.{HasCause};
 ghost use Rattle.fo_disk.specs.Disk.{Block};
 ghost use Rattle.fo_image.specs.Place.{arena_places};
@@ -23,6 +23,7 @@ const GROUP: u32 = 341;
 fn count<A: Disk>(device: &mut A) -> Result<u32, ArenaWhy>
     ensures size { IfOk result (λ n. (A.size device.new ≡ n) × (16 ≤ n) × (n ≤ 2 ^ 20)) }
     ensures shown { (vault : List Block) → Shows (A.holds device.old) vault → MatchResult result (λ n. length vault ≡ n) (OpenRefuses vault) }
+    ensures calls { OnOk result (A.calls device.new ≤ A.calls device.old + 1) }
     ensures kept { IsKept (A.holds device.old) (A.holds device.new) (A.moments device.old) (A.moments device.new) (A.unsure device.old) (A.unsure device.new) }
     ensures cause { HasOpenCauses (A.faults device.old) (A.faults device.new) result }
 {
@@ -41,6 +42,7 @@ fn read<A: Disk>(device: &mut A, at: u32, into: &mut [u8]) -> Result<(), Failed>
     requires length { length into.old ≡ 8192 }
     ensures shown { (vault : List Block) → Shows (A.holds device.old) vault → OnOk result (into.new ≡ block_of vault at) }
     ensures size { A.size device.new ≡ A.size device.old }
+    ensures calls { OnOk result (A.calls device.new ≤ A.calls device.old + 1) }
     ensures kept { IsKept (A.holds device.old) (A.holds device.new) (A.moments device.old) (A.moments device.new) (A.unsure device.old) (A.unsure device.new) }
     ensures cause { HasCause (A.faults device.old) (A.faults device.new) result }
 {
@@ -53,6 +55,7 @@ fn read_head<A: Disk>(device: &mut A, blocks: u32) -> Result<u32, ArenaWhy>
     requires least { 16 ≤ blocks }
     ensures shown { (vault : List Block) → length vault ≡ blocks → Shows (A.holds device.old) vault → MatchResult result (UsedIs vault) (HeadRefuses vault) }
     ensures places { IfOk result (λ used. used ≤ arena_places blocks) }
+    ensures calls { OnOk result (A.calls device.new ≤ A.calls device.old + 1) }
     ensures size { A.size device.new ≡ A.size device.old }
     ensures kept { IsKept (A.holds device.old) (A.holds device.new) (A.moments device.old) (A.moments device.new) (A.unsure device.old) (A.unsure device.new) }
     ensures cause { HasOpenCauses (A.faults device.old) (A.faults device.new) result }
@@ -111,6 +114,7 @@ fn read_index<A: Disk>(alloc: Global, device: &mut A, used: u32) -> Result<Index
     requires places { used ≤ arena_places (A.size device.old) }
     ensures lines { (vault : List Block) → Shows (A.holds device.old) vault → MatchResult result (λ i. ReadLines used i.lines.items vault) (LinesRefuse used vault) }
     ensures count { IfOk result (λ i. length i.lines.items ≡ used) }
+    ensures calls { OnOk result (A.calls device.new ≤ A.calls device.old + (used + 340) / 341) }
     ensures size { A.size device.new ≡ A.size device.old }
     ensures kept { IsKept (A.holds device.old) (A.holds device.new) (A.moments device.old) (A.moments device.new) (A.unsure device.old) (A.unsure device.new) }
     ensures cause { HasOpenCauses (A.faults device.old) (A.faults device.new) result }
@@ -131,6 +135,7 @@ pub(crate) fn read_shelf<A: Disk>(alloc: Global, device: &mut A) -> Result<Shelf
     ensures answer { (vault : List Block) → Shows (A.holds device.old) vault → MatchResult result (λ s. IsIndexed (length (lines_of s)) (lines_of s) vault) (OpenRefuses vault) }
     ensures size { IfOk result (λ s. A.size device.new ≡ s.blocks) }
     ensures none { IfOk result (λ s. s.pending.items ≡ []) }
+    ensures calls { IfOk result (λ s. A.calls device.new ≤ A.calls device.old + 2 + (length (lines_of s) + 340) / 341) }
     ensures kept { IsKept (A.holds device.old) (A.holds device.new) (A.moments device.old) (A.moments device.new) (A.unsure device.old) (A.unsure device.new) }
     ensures cause { HasOpenCauses (A.faults device.old) (A.faults device.new) result }
 {

@@ -1,4 +1,4 @@
-use Rattle.std.proofs.Common.{◌≡◌, ◌*◌, ◌≤◌, List, length, min}
+use Rattle.std.proofs.Common.{◌+◌, ◌≡◌, ◌*◌, ◌≤◌, List, length, min}
 use Rattle.fo_disk.specs.Disk.{Block}
 use Rattle.fo_sound.specs.Device.{Shows, IsKept}
 use Rattle.venti_store.specs.Opening.{ReadLines}
@@ -8,6 +8,7 @@ abbrev pub invariant-loop-group : goal.invariant-loop-group
 invariant-loop-group g l = record {
   size : g.A.Disk.size l.device ≡ g.A.Disk.size l.fn.device;
   kept : IsKept (g.A.Disk.holds l.fn.device) (g.A.Disk.holds l.device) (g.A.Disk.moments l.fn.device) (g.A.Disk.moments l.device) (g.A.Disk.unsure l.fn.device) (g.A.Disk.unsure l.device);
+  calls : g.A.Disk.calls l.device ≤ g.A.Disk.calls l.fn.device + l.group;
   later : g.A.Disk.faults l.fn.device ≤ g.A.Disk.faults l.device;
   long : length l.block ≡ 8192;
   count : length l.index.lines.items ≡ min l.used (341 * l.group);
