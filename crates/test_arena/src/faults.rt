@@ -1,0 +1,43 @@
+//! Each call of the device fails in turn.
+use crate::blocks::{HEAD, HELLO, disk, holds, opened, score};
+use fo_disk::MemDisk;
+use std::alloc::Global;
+use std::test::Fail;
+use venti_store::Arena;
+
+/// Puts a block and settles it.
+fn settles(arena: &mut Arena<MemDisk>, bytes: &[u8; 5]) -> bool {
+    arena.put(0, bytes).is_ok() && arena.sync().is_ok()
+}
+
+/// Whether both blocks are held.
+fn has_both(alloc: Global, mut arena: Arena<MemDisk>) -> Result<bool, Fail> {
+    let world = score("7c211433f02071597741e6ff5a8ea34789abbf43")?;
+    Ok(
+        holds(alloc, &mut arena, &score(HELLO)?, 0, b"hello")?
+            && holds(alloc, &mut arena, &world, 0, b"world")?,
+    )
+}
+
+/// Puts two blocks, each once more where it fails, and opens the arena again: whether one failed, and both are held.
+fn loses_nothing(alloc: Global, mut arena: Arena<MemDisk>) -> Result<bool, Fail> {
+    let hello = settles(&mut arena, b"hello");
+    let again = hello || settles(&mut arena, b"hello");
+    let world = settles(&mut arena, b"world");
+    let then = world || settles(&mut arena, b"world");
+    Ok(again && then && !(hello && world) && has_both(alloc, opened(alloc, arena.close())?)?)
+}
+
+/// An opened arena of which the call of this number fails.
+fn failing(alloc: Global, call: u64) -> Result<Arena<MemDisk>, Fail> {
+    opened(alloc, disk(alloc, HEAD, vec![in alloc; call]?)?)
+}
+
+/// Both syncs have five calls: the block, its line, a sync, the head, and a sync.
+#[test]
+fn each(rt: HostRuntime) -> Result<(), Fail> {
+    for call in 5..15 {
+        assert!(rt; loses_nothing(rt.alloc(), failing(rt.alloc(), call)?)?);
+    }
+    Ok(())
+}
