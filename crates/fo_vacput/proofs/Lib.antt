@@ -1,0 +1,4 @@
+mod Entries
+mod Names
+mod Roots
+mod Tails
