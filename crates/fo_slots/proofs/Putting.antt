@@ -1,0 +1,129 @@
+-- Slots and other bytes are put, and the slots that are meant.
+use Rattle.std.proofs.Common.{◌≡◌, ◌≢◌, ◌⊎◌, inl, inr, ⊎_elim, ℕ, zero, suc, ◌+◌, ◌<◌, ◌≤◌, ◌++◌, nat_lt, true, false, List, take, drop, length, refl, sym, ◌∙◌, ap, subst, arith}
+use Rattle.std.proofs.lemmas.Bool.{cases_eq, cases_lt, lt-ltb, le-ltb}
+use Rattle.std.proofs.lemmas.List.{take_at, drop_at, drop-drop, length-take}
+use Rattle.fo_image.specs.declared.types.Kind.{Kind}
+use Rattle.fo_image.specs.declared.types.Kind.TheVariants.{Data, Dir, Root}
+use Rattle.fo_crash.specs.declared.slot.Slot.{Slot}
+use Rattle.fo_crash.specs.declared.slot.Slot.TheVariants.{Pointer as To, Entry as Head, Prev}
+use Rattle.fo_crash.specs.Images.{Content}
+use Rattle.fo_ports.specs.Blocks.{slot_count, slot_start, slot_size, slots_from, slots_to, SlotFits, SpellsSlot, IsFormed, ReadsSlots, MayPut, put_at}
+use Rattle.fo_slots.specs.Read.{width, slot_bytes, slot_from, slot_at, read, IsSlot, IsInRange, HasSpelling, HasNumbers, IsMeant, KeepsBeside, PutsInto}
+use Rattle.fo_slots.proofs.Beside.{within, apart, kept, wider}
+use Rattle.fo_slots.proofs.Meaning.{meant, size_is}
+
+-- ---- slots that are meant
+
+pub at_is : (kind : Kind) (bytes : List ℕ) (i : ℕ) → i < slot_count kind → slot_at kind bytes i ≡ slot_from kind i (slot_bytes kind i bytes)
+at_is kind bytes i lt = let test : nat_lt i (slot_count kind) ≡ true = lt-ltb _ _ lt in rw test refl
+
+same_slot : (kind : Kind) (j : ℕ) (old new : List ℕ) → (j < slot_count kind → slot_bytes kind j new ≡ slot_bytes kind j old) → slot_at kind new j ≡ slot_at kind old j
+same_slot kind j old new same = ⊎_elim
+    (λ lt. at_is kind new j lt ∙ ap (slot_from kind j) (same lt) ∙ sym (at_is kind old j lt))
+    (λ ge. let test : nat_lt j (slot_count kind) ≡ false = le-ltb _ _ ge in rw test refl)
+    (cases_lt j (slot_count kind))
+
+-- a slot that is spelled is the one that is meant
+is_meant : (kind : Kind) (bytes : List ℕ) (i : ℕ) (s : Slot) → i < slot_count kind → IsInRange s → IsSlot kind bytes i s → slot_at kind bytes i ≡ s
+is_meant kind bytes i s lt range is = at_is kind bytes i lt ∙ meant kind i s (slot_bytes kind i bytes) is.fits range is.spelled
+
+pub reads_slots : (kind : Kind) (bytes : List ℕ) → ((i : ℕ) → i < slot_count kind → IsSlot kind bytes i (slot_at kind bytes i)) → ReadsSlots kind (read kind bytes) bytes
+reads_slots kind bytes each = record {
+  fit = λ i lt. (each i lt).fits;
+  spelled = λ i lt. subst (λ n. SpellsSlot (slot_at kind bytes i) (take n (drop (slot_start kind i) bytes))) (sym (size_is kind i (slot_at kind bytes i) (each i lt).fits)) (each i lt).spelled;
+}
+
+pub slot_read : (kind : Kind) (c : Content) (bytes : List ℕ) (i : ℕ) → ReadsSlots kind c bytes → i < slot_count kind → IsSlot kind bytes i (c.slot i)
+slot_read kind c bytes i reads lt = record {
+  fits = reads.fit i lt;
+  spelled = subst (λ n. SpellsSlot (c.slot i) (take n (drop (slot_start kind i) bytes))) (size_is kind i (c.slot i) (reads.fit i lt)) (reads.spelled i lt);
+}
+
+pub only : (kind : Kind) (c : Content) (bytes : List ℕ) → HasNumbers kind c → ReadsSlots kind c bytes → IsMeant kind c bytes
+only kind c bytes range reads = record {
+  same = same;
+  reads = reads_slots kind bytes (λ i lt. subst (IsSlot kind bytes i) (sym (same i lt)) (slot_read kind c bytes i reads lt));
+}
+  where
+    same : (i : ℕ) → i < slot_count kind → slot_at kind bytes i ≡ c.slot i
+    same i lt = is_meant kind bytes i (c.slot i) lt (range.each i lt) (slot_read kind c bytes i reads lt)
+
+-- one more slot is spelled
+pub one_more : (kind : Kind) (bytes : List ℕ) (i : ℕ) (s : Slot) → ((j : ℕ) → j < i → IsSlot kind bytes j (slot_at kind bytes j)) → s ≡ slot_at kind bytes i → IsSlot kind bytes i s → (j : ℕ) → j < i + 1 → IsSlot kind bytes j (slot_at kind bytes j)
+one_more kind bytes i s so_far is here j less = ⊎_elim
+    (λ e. subst (λ k. IsSlot kind bytes k (slot_at kind bytes k)) (sym e) (subst (IsSlot kind bytes i) is here))
+    (λ ne. so_far j (omega (arith, less, ne)))
+    (cases_eq j i)
+
+-- ---- a slot is put
+
+formed_read : (kind : Kind) (rank : ℕ) (old new : List ℕ) → KeepsBeside (slots_from kind) (slots_to kind) old new → length new ≡ 8192 → IsFormed kind rank old → IsFormed kind rank new
+formed_read (Data zero) rank old new beside len formed = subst (λ x. IsFormed (Data 0) rank x) (sym beside.behind) formed
+formed_read (Data (suc level)) rank old new beside len formed = len
+formed_read (Dir level) rank old new beside len formed = len
+formed_read Root rank old new beside len formed = (len, (formed.1.0, formed.1.1, formed.1.2, formed.1.3 ∙ sym beside.before, formed.1.4 ∙ sym beside.behind))
+
+pub has_spelling : (kind : Kind) (i : ℕ) (s : Slot) → SlotFits kind i s → HasSpelling s
+has_spelling (Data level) i (To p) fits = fits
+has_spelling (Data level) i (Head e) fits = absurd fits
+has_spelling (Data level) i (Prev epoch at) fits = tt
+has_spelling (Dir zero) i (To p) fits = absurd fits
+has_spelling (Dir zero) i (Head e) fits = fits.0
+has_spelling (Dir zero) i (Prev epoch at) fits = tt
+has_spelling (Dir (suc level)) i (To p) fits = fits
+has_spelling (Dir (suc level)) i (Head e) fits = absurd fits
+has_spelling (Dir (suc level)) i (Prev epoch at) fits = tt
+has_spelling Root zero (To p) fits = absurd fits
+has_spelling Root zero (Head e) fits = fits.0
+has_spelling Root zero (Prev epoch at) fits = tt
+has_spelling Root (suc zero) (To p) fits = absurd fits
+has_spelling Root (suc zero) (Head e) fits = fits.0
+has_spelling Root (suc zero) (Prev epoch at) fits = tt
+has_spelling Root (suc (suc i)) (To p) fits = absurd fits
+has_spelling Root (suc (suc i)) (Head e) fits = absurd fits
+has_spelling Root (suc (suc i)) (Prev epoch at) fits = tt
+
+pub fits_within : (kind : Kind) (i : ℕ) (s : Slot) → i < slot_count kind → SlotFits kind i s → slot_start kind i + slot_size s ≤ 8192
+fits_within kind i s lt fits =
+    let w = within kind i lt in
+    omega (arith, w.up_to, w.in_block, size_is kind i s fits)
+
+module _ (kind : Kind) (i : ℕ) (s : Slot) (old new : List ℕ) (lt : i < slot_count kind) (fits : SlotFits kind i s) (range : IsInRange s)
+    (spelled : SpellsSlot s (take (slot_size s) (drop (slot_start kind i) new))) (beside : KeepsBeside (slot_start kind i) (slot_start kind i + slot_size s) old new) where
+  size : slot_size s ≡ width kind i
+  size = size_is kind i s fits
+
+  is_slot : IsSlot kind new i s
+  is_slot = record { fits = fits; spelled = subst (λ n. SpellsSlot s (take n (drop (slot_start kind i) new))) size spelled }
+
+  part : KeepsBeside (slot_start kind i) (slot_start kind i + width kind i) old new
+  part = subst (λ n. KeepsBeside (slot_start kind i) (slot_start kind i + n) old new) size beside
+
+  bytes_stay : (j : ℕ) → j ≢ i → j < slot_count kind → slot_bytes kind j new ≡ slot_bytes kind j old
+  bytes_stay j ne lj = kept (slot_start kind j) (width kind j) part (apart kind j i lj lt ne)
+
+  here_is : slot_at kind new i ≡ s
+  here_is = is_meant kind new i s lt range is_slot
+
+  other_is : (j : ℕ) → j ≢ i → slot_at kind new j ≡ slot_at kind old j
+  other_is j ne = same_slot kind j old new (bytes_stay j ne)
+
+  reads_on : ReadsSlots kind (read kind old) old → ReadsSlots kind (read kind new) new
+  reads_on reads = reads_slots kind new (λ j lj. ⊎_elim
+      (λ is. subst (λ k. IsSlot kind new k (slot_at kind new k)) (sym is) (subst (IsSlot kind new i) (sym here_is) is_slot))
+      (λ ne.
+      let was = slot_read kind (read kind old) old j reads lj in
+      subst (IsSlot kind new j) (sym (other_is j ne)) (record { fits = was.fits; spelled = subst (SpellsSlot (slot_at kind old j)) (sym (bytes_stay j ne lj)) was.spelled }))
+      (cases_eq j i))
+
+  wide : KeepsBeside (slots_from kind) (slots_to kind) old new
+  wide = let w = within kind i lt in wider (slots_from kind) (slots_to kind) w.after w.up_to part
+
+  pub puts_into : length new ≡ 8192 → PutsInto kind i s old new
+  puts_into len = record {
+    here = here_is;
+    others = other_is;
+    beside = wide;
+    slots = reads_on;
+    formed = λ rank formed. formed_read kind rank old new wide len formed;
+  }
