@@ -1,3 +1,4 @@
+pub mod Answering
 pub mod Beside
 pub mod Meaning
 pub mod Putting

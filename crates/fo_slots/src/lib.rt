@@ -4,6 +4,8 @@
 //! before. The content that bytes mean is these bytes, with the slots that they spell.
 #![tactic(auto)]
 
+mod records;
 mod slots;
 
+pub use records::{has_record, has_root_record};
 pub use slots::{has_slots, put_slot_into, read_slot, slot_count, slot_of, spelled_is_meant};
