@@ -139,12 +139,20 @@ size_is Root zero s fits = entry_size s fits
 size_is Root (suc zero) s fits = entry_size s fits
 size_is Root (suc (suc i)) s fits = prev_size s fits
 
+pub fits_take : (n : ℕ) (bytes : List ℕ) → ((i : ℕ) → get_or bytes i 0 < 256) → (i : ℕ) → get_or (take n bytes) i 0 < 256
+fits_take n bytes fits i = ⊎_elim
+    (λ (lt : i < n). rw (get_or-take n bytes i 0 lt) (fits i))
+    (λ (ge : n ≤ i). rw (get_or_past (take n bytes) i 0 (omega (arith, length-take n bytes, ge))) (omega arith))
+    (cases_lt i n)
+
+pub fits_drop : (n : ℕ) (bytes : List ℕ) → ((i : ℕ) → get_or bytes i 0 < 256) → (i : ℕ) → get_or (drop n bytes) i 0 < 256
+fits_drop n bytes fits i = rw get_or-drop (fits (n + i))
+
 -- two numbers as they are spelled
 pub numbers_spelled : (bytes : List ℕ) → length bytes ≡ 8 → ((i : ℕ) → get_or bytes i 0 < 256) → bytes ≡ number Four (number_at Four 0 bytes) ++ number Four (number_at Four 4 bytes)
 unfolding number_at
 numbers_spelled bytes len fits =
-    let front : (i : ℕ) → get_or (take 4 bytes) i 0 < 256 = λ i. ⊎_elim (λ (lt : i < 4). rw (get_or-take 4 bytes i 0 lt) (fits i)) (λ (ge : 4 ≤ i). rw (get_or_past (take 4 bytes) i 0 (omega (arith, length-take 4 bytes, ge))) (omega arith)) (cases_lt i 4) in
-    let first : number Four (number_at Four 0 bytes) ≡ take 4 bytes = be_bytes_4 (take 4 bytes) _ (omega (arith, length-take 4 bytes)) (λ i. front i) refl in
+    let first : number Four (number_at Four 0 bytes) ≡ take 4 bytes = be_bytes_4 (take 4 bytes) _ (omega (arith, length-take 4 bytes)) (fits_take 4 bytes fits) refl in
     let short : take 4 (drop 4 bytes) ≡ drop 4 bytes = take_all 4 (drop 4 bytes) (omega (arith, length-drop 4 bytes)) in
     let second : number Four (number_at Four 4 bytes) ≡ drop 4 bytes = rw short (be_bytes_4 (drop 4 bytes) _ (omega (arith, length-drop 4 bytes)) (λ i. rw get_or-drop (fits (4 + i))) refl) in
     sym (take-append-drop 4 bytes) ∙ ap (λ xs. xs ++ drop 4 bytes) (sym first) ∙ ap (λ xs. number Four (number_at Four 0 bytes) ++ xs) (sym second)

@@ -127,3 +127,23 @@ module _ (kind : Kind) (i : ℕ) (s : Slot) (old new : List ℕ) (lt : i < slot_
     slots = reads_on;
     formed = λ rank formed. formed_read kind rank old new wide len formed;
   }
+
+-- ---- bytes are put that spell no slot
+
+beside_slots : (kind : Kind) (from end j : ℕ) → MayPut kind from end → j < slot_count kind → (slot_start kind j + width kind j ≤ from) ⊎ (end ≤ slot_start kind j)
+beside_slots (Data level) from end j may lt = let w = within (Data level) j lt in inl (omega (arith, w.up_to, may))
+beside_slots (Dir level) from end j may lt = let w = within (Dir level) j lt in inl (omega (arith, w.up_to, may))
+beside_slots Root from end j may lt =
+    let w = within Root j lt in
+    ⊎_elim (λ le. inr (omega (arith, le, w.after))) (λ rest. ⊎_elim (λ mid. inr (omega (arith, mid.1, w.after))) (λ far. inl (omega (arith, far, w.up_to))) rest) may
+
+slot_stays : (kind : Kind) (from end : ℕ) (old new : List ℕ) → MayPut kind from end → KeepsBeside from end old new → (j : ℕ) → j < slot_count kind → slot_bytes kind j new ≡ slot_bytes kind j old
+slot_stays kind from end old new may beside j lt = kept (slot_start kind j) (width kind j) beside (beside_slots kind from end j may lt)
+
+pub bytes_put : (kind : Kind) (from end : ℕ) (old new : List ℕ) → MayPut kind from end → KeepsBeside from end old new → (j : ℕ) → slot_at kind new j ≡ slot_at kind old j
+bytes_put kind from end old new may beside j = same_slot kind j old new (slot_stays kind from end old new may beside j)
+
+pub reads_put : (kind : Kind) (from end : ℕ) (old new : List ℕ) → MayPut kind from end → KeepsBeside from end old new → ReadsSlots kind (read kind old) old → ReadsSlots kind (read kind new) new
+reads_put kind from end old new may beside reads = reads_slots kind new (λ j lt.
+    let was = slot_read kind (read kind old) old j reads lt in
+    subst (IsSlot kind new j) (sym (bytes_put kind from end old new may beside j)) (record { fits = was.fits; spelled = subst (SpellsSlot (slot_at kind old j)) (sym (slot_stays kind from end old new may beside j lt)) was.spelled }))

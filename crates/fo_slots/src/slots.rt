@@ -9,6 +9,7 @@ ghost use Rattle.fo_slots.specs.Read.{pointer_from, entry_from, prev_from, slot_
 ghost use Rattle.fo_image.specs.declared.types.Kind.{Kind};
 ghost use Rattle.fo_crash.specs.Images.{Content};
 
+use crate::bytes::{part, put_part};
 use fo_crash::Slot;
 use fo_image::{Kind, Pointer, read_entry, read_pointer, u32_at, write_entry, write_pointer};
 
@@ -53,15 +54,6 @@ fn width(kind: Kind, i: usize) -> usize
             _ => 8,
         },
     }
-}
-
-/// So many bytes from a place on.
-fn part(bytes: &[u8], from: usize, len: usize) -> &[u8]
-    requires { from + len ≤ length bytes.now }
-    ensures is { result.now ≡ take len (drop from bytes.now) }
-    ensures len { length result.now ≡ len }
-{
-    &bytes[from..from + len]
 }
 
 fn pointer_slot(bytes: &[u8]) -> Slot
@@ -140,14 +132,6 @@ pub fn slot_of(kind: Kind, bytes: &[u8], i: usize) -> Slot
         Some(slot) => slot,
         None => Slot::Pointer(Pointer::Nil),
     }
-}
-
-/// Copies bytes into a part.
-fn put_part(into: &mut [u8], from: usize, bytes: &[u8])
-    requires { from + length bytes.now ≤ length into.old }
-    ensures { into.new ≡ put_at from bytes.now into.old }
-{
-    into[from..from + bytes.len()].copy_from_slice(bytes);
 }
 
 /// The two numbers of the root block before.
