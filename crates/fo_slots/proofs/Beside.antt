@@ -64,4 +64,3 @@ wider {from} {to} {old} {new} f t lf lt keeps = record {
 
     later : (xs : List ℕ) → drop t xs ≡ drop (t - to) (drop to xs)
     later xs = ap (λ n. drop n xs) (sym far) ∙ sym (drop-drop (t - to) to xs)
-

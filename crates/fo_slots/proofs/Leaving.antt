@@ -1,5 +1,5 @@
 -- A walk along the records of a leaf.
-use Rattle.std.proofs.Common.{◌≡◌, ℕ, ◌+◌, ◌-◌, ◌≤◌, ◌<◌, true, false, eqb, List, [], ◌∷◌, ◌++◌, length, get_or, take, drop, refl, sym, ap, subst, ◌∙◌, append_assoc, arith}
+use Rattle.std.proofs.Common.{◌≡◌, ℕ, ◌+◌, ◌-◌, ◌≤◌, ◌<◌, true, false, eqb, List, [], ◌∷◌, ◌++◌, length, get_or, take, drop, refl, sym, ap, subst, ◌∙◌, arith}
 use Rattle.std.specs.Str.{bytes_eq}
 use Rattle.std.specs.List.{list_all, AllByRecursion}
 use Rattle.std.proofs.lemmas.List.{append-nil, length-append, length-take, length-drop, take-append-drop, take-take, drop-drop, drop-take, take_at, take_all, drop_all}
@@ -12,7 +12,7 @@ use Rattle.fo_image.proofs.Padding.{zeros-from_all, all-zeros}
 use Rattle.fo_image.proofs.PointerLemmas.{padded_whole}
 use Rattle.fo_image.proofs.RecordLemmas.{length-record, record_whole, spells_itself}
 use Rattle.fo_meta.specs.Leaf.{HasSpelling, record_bytes, records_bytes, SpellsLeaf, IsLeaf, is_named}
-use Rattle.fo_meta.proofs.Leaves.{Walks, Here, here_is, walk_none, walk_more, head_at, record_at_is}
+use Rattle.fo_meta.proofs.Leaves.{Walks, here_is, walk_more}
 use Rattle.fo_slots.specs.Formed.{IsRecord, RecordTo, RunsTo, EndsAt}
 use Rattle.fo_slots.proofs.Meaning.{fits_take, fits_drop}
 
@@ -65,7 +65,7 @@ runs_more leaf n at end runs to =
       count = length-append rs (r ∷ []) ∙ ap (λ k. k + 1) runs.count;
       each = each-more rs r runs.each to.spelled;
       here = ap (λ k. take k (drop 4 leaf)) size ∙ take-both (length (records_bytes rs)) (record_len r) (drop 4 leaf) ∙ ap (λ xs. xs ++ take (record_len r) (drop (length (records_bytes rs)) (drop 4 leaf))) runs.here
-      ∙ ap (λ xs. records_bytes rs ++ take (record_len r) xs) place ∙ ap (λ xs. records_bytes rs ++ xs) to.here ∙ sym (records-append rs r);
+          ∙ ap (λ xs. records_bytes rs ++ take (record_len r) xs) place ∙ ap (λ xs. records_bytes rs ++ xs) to.here ∙ sym (records-append rs r);
       at_is = omega (arith, to.end_is, runs.at_is, size);
       within = to.within;
     }
@@ -113,7 +113,7 @@ leaf_made leaf end len fits runs used none =
         each = runs.each;
         room = omega (arith, runs.within, runs.at_is, len);
         bytes_are = head_two leaf (omega (arith, len)) fits ∙ ap (λ k. number Two k ++ (number Two (number_at Two 2 leaf) ++ drop 4 leaf)) (sym runs.count) ∙ ap (λ k. number Two (length rs) ++ (number Two k ++ drop 4 leaf)) used_is
-        ∙ ap (λ xs. number Two (length rs) ++ (number Two size ++ xs)) body;
+            ∙ ap (λ xs. number Two (length rs) ++ (number Two size ++ xs)) body;
       };
     }
 

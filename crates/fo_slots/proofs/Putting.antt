@@ -1,14 +1,15 @@
 -- Slots and other bytes are put, and the slots that are meant.
-use Rattle.std.proofs.Common.{◌≡◌, ◌≢◌, ◌⊎◌, inl, inr, ⊎_elim, ℕ, zero, suc, ◌+◌, ◌<◌, ◌≤◌, ◌++◌, nat_lt, true, false, List, take, drop, length, refl, sym, ◌∙◌, ap, subst, arith}
+use Rattle.std.proofs.Common.{◌≡◌, ◌≢◌, ◌⊎◌, inl, inr, ⊎_elim, ℕ, zero, suc, ◌+◌, ◌<◌, ◌≤◌, nat_lt, true, false, List, take, drop, length, refl, sym, ◌∙◌, ap, subst, arith, ◌++◌, ◌-◌}
 use Rattle.std.proofs.lemmas.Bool.{cases_eq, cases_lt, lt-ltb, le-ltb}
-use Rattle.std.proofs.lemmas.List.{take_at, drop_at, drop-drop, length-take}
+use Rattle.std.proofs.lemmas.List.{take_at, drop_at, drop-drop, drop-take, take-take, length-take, length-drop, length-append, take-append-drop}
 use Rattle.fo_image.specs.declared.types.Kind.{Kind}
 use Rattle.fo_image.specs.declared.types.Kind.TheVariants.{Data, Dir, Root}
+use Rattle.fo_image.specs.Field.{zeros}
 use Rattle.fo_crash.specs.declared.slot.Slot.{Slot}
 use Rattle.fo_crash.specs.declared.slot.Slot.TheVariants.{Pointer as To, Entry as Head, Prev}
 use Rattle.fo_crash.specs.Images.{Content}
-use Rattle.fo_ports.specs.Blocks.{slot_count, slot_start, slot_size, slots_from, slots_to, SlotFits, SpellsSlot, IsFormed, ReadsSlots, MayPut, put_at}
-use Rattle.fo_slots.specs.Read.{width, slot_bytes, slot_from, slot_at, read, IsSlot, IsInRange, HasSpelling, HasNumbers, IsMeant, KeepsBeside, PutsInto}
+use Rattle.fo_ports.specs.Blocks.{slot_count, slot_start, slot_size, slots_from, slots_to, SlotFits, SpellsSlot, IsFormed, Reads, ReadsSlots, MayPut}
+use Rattle.fo_slots.specs.Read.{width, slot_bytes, slot_from, slot_at, blanked, read, IsSlot, IsInRange, HasSpelling, HasNumbers, IsMeant, KeepsBeside, PutsInto}
 use Rattle.fo_slots.proofs.Beside.{within, apart, kept, wider}
 use Rattle.fo_slots.proofs.Meaning.{meant, size_is}
 
@@ -55,9 +56,47 @@ one_more kind bytes i s so_far is here j less = ⊎_elim
     (λ ne. so_far j (omega (arith, less, ne)))
     (cases_eq j i)
 
+-- ---- bytes beside slots
+
+same_blanked : (kind : Kind) (old new : List ℕ) → KeepsBeside (slots_from kind) (slots_to kind) old new → blanked kind new ≡ blanked kind old
+same_blanked kind old new beside = ap (λ xs. xs ++ (zeros (slots_to kind - slots_from kind) ++ drop (slots_to kind) new)) beside.before ∙ ap (λ xs. take (slots_from kind) old ++ (zeros (slots_to kind - slots_from kind) ++ xs)) beside.behind
+
+record Bounds (kind : Kind) : Type 0 where
+  in_order : slots_from kind ≤ slots_to kind
+  in_block : slots_to kind ≤ 8192
+
+bounds : (kind : Kind) → Bounds kind
+bounds (Data zero) = record { in_order = omega arith; in_block = omega arith }
+bounds (Data (suc level)) = record { in_order = omega arith; in_block = omega arith }
+bounds (Dir zero) = record { in_order = omega arith; in_block = omega arith }
+bounds (Dir (suc level)) = record { in_order = omega arith; in_block = omega arith }
+bounds Root = record { in_order = omega arith; in_block = omega arith }
+
+length-zeros : (n : ℕ) → length (zeros n) ≡ n
+unfolding zeros
+length-zeros zero = refl
+length-zeros (suc n) = ap suc (length-zeros n)
+
+blanked_beside : (kind : Kind) (bytes : List ℕ) → length bytes ≡ 8192 → KeepsBeside (slots_from kind) (slots_to kind) bytes (blanked kind bytes)
+blanked_beside kind bytes len =
+    let b = bounds kind in
+    let from = slots_from kind in
+    let to = slots_to kind in
+    let front : length (take from bytes) ≡ from = omega (arith, length-take from bytes, b.in_order, b.in_block, len) in
+    let far : from + (to - from) ≡ to = omega (arith, b.in_order) in
+    let mid = zeros (to - from) ++ drop to bytes in
+    record {
+      before = take_at (take from bytes) mid from front;
+      behind = ap (λ n. drop n (blanked kind bytes)) (sym far) ∙ sym (drop-drop (to - from) from (blanked kind bytes)) ∙ ap (drop (to - from)) (drop_at (take from bytes) mid from front) ∙ drop_at (zeros (to - from)) (drop to bytes) (to - from) (length-zeros (to - from));
+    }
+
+-- bytes mean a content as which they are read
+pub reads_as : (kind : Kind) (bytes : List ℕ) → length bytes ≡ 8192 → Reads kind (read kind bytes) bytes
+reads_as kind bytes len = let beside = blanked_beside kind bytes len in record { before = sym beside.before; behind = sym beside.behind }
+
 -- ---- a slot is put
 
-formed_read : (kind : Kind) (rank : ℕ) (old new : List ℕ) → KeepsBeside (slots_from kind) (slots_to kind) old new → length new ≡ 8192 → IsFormed kind rank old → IsFormed kind rank new
+pub formed_read : (kind : Kind) (rank : ℕ) (old new : List ℕ) → KeepsBeside (slots_from kind) (slots_to kind) old new → length new ≡ 8192 → IsFormed kind rank old → IsFormed kind rank new
 formed_read (Data zero) rank old new beside len formed = subst (λ x. IsFormed (Data 0) rank x) (sym beside.behind) formed
 formed_read (Data (suc level)) rank old new beside len formed = len
 formed_read (Dir level) rank old new beside len formed = len
@@ -123,6 +162,7 @@ module _ (kind : Kind) (i : ℕ) (s : Slot) (old new : List ℕ) (lt : i < slot_
   puts_into len = record {
     here = here_is;
     others = other_is;
+    bytes = same_blanked kind old new wide;
     beside = wide;
     slots = reads_on;
     formed = λ rank formed. formed_read kind rank old new wide len formed;
@@ -147,3 +187,11 @@ pub reads_put : (kind : Kind) (from end : ℕ) (old new : List ℕ) → MayPut k
 reads_put kind from end old new may beside reads = reads_slots kind new (λ j lt.
     let was = slot_read kind (read kind old) old j reads lt in
     subst (IsSlot kind new j) (sym (bytes_put kind from end old new may beside j)) (record { fits = was.fits; spelled = subst (SpellsSlot (slot_at kind old j)) (sym (slot_stays kind from end old new may beside j lt)) was.spelled }))
+
+-- what is read of other bytes beside slots
+pub formed_blanked : (kind : Kind) (rank : ℕ) (bytes : List ℕ) → length bytes ≡ 8192 → (IsFormed kind rank bytes → IsFormed kind rank (blanked kind bytes)) × (IsFormed kind rank (blanked kind bytes) → IsFormed kind rank bytes)
+formed_blanked kind rank bytes len =
+    let b = blanked_beside kind bytes len in
+    let bound = bounds kind in
+    let whole : length (blanked kind bytes) ≡ 8192 = omega (arith, length-append (take (slots_from kind) bytes) (zeros (slots_to kind - slots_from kind) ++ drop (slots_to kind) bytes), length-append (zeros (slots_to kind - slots_from kind)) (drop (slots_to kind) bytes), length-zeros (slots_to kind - slots_from kind), length-take (slots_from kind) bytes, length-drop (slots_to kind) bytes, bound.in_order, bound.in_block, len) in
+    (λ f. formed_read kind rank bytes (blanked kind bytes) b whole f, λ f. formed_read kind rank (blanked kind bytes) bytes (record { before = sym b.before; behind = sym b.behind }) len f)

@@ -1,18 +1,18 @@
 -- A root block, but for its slots.
-use Rattle.std.proofs.Common.{◌≡◌, ℕ, ◌+◌, ◌-◌, ◌<◌, ◌≤◌, ◌^◌, true, eqb, List, [], ◌∷◌, ◌++◌, length, take, drop, refl, sym, ap, subst, ◌∙◌, append_assoc, arith}
+use Rattle.std.proofs.Common.{◌≡◌, ℕ, ◌+◌, ◌-◌, ◌<◌, ◌≤◌, ◌^◌, true, eqb, List, [], ◌++◌, length, take, drop, refl, sym, ap, subst, ◌∙◌, arith}
 use Rattle.std.specs.Prelude.{codes}
 use Rattle.std.specs.List.{AllByRecursion, list_all}
-use Rattle.std.proofs.lemmas.List.{length-append, length-take, length-drop, drop-drop, take_at, drop_at, take-append-drop, drop_all}
+use Rattle.std.proofs.lemmas.List.{length-append, length-take, length-drop, drop-drop, take_at, drop_at, take-append-drop}
 use Rattle.std.proofs.lemmas.Nat.{from_be_bytes-to_be_bytes_4}
 use Rattle.fo_image.specs.declared.record.Record.{Record}
 use Rattle.fo_image.specs.declared.record.RootBlock.{RootBlock}
 use Rattle.fo_image.specs.Field.{Two, Four, FieldFits, number, number_at, spelling, padded, zeros}
-use Rattle.fo_image.specs.Format.{pointer_bytes, entry_fields, EntryHolds, IsEpoch}
-use Rattle.fo_image.specs.Record.{RecordHolds, RootRecordHolds, SpellsRecord, record_len, record_fields, root_head, root_fields, SpellsRoot}
+use Rattle.fo_image.specs.Format.{pointer_bytes, entry_fields, EntryHolds}
+use Rattle.fo_image.specs.Record.{RecordHolds, SpellsRecord, record_len, record_fields, root_head, root_fields, SpellsRoot}
 use Rattle.fo_image.proofs.Padding.{zeros-from_all, all-zeros}
 use Rattle.fo_image.proofs.PointerLemmas.{padded_whole}
 use Rattle.fo_image.proofs.RecordLemmas.{length-record, length-entry, fit_both, root_parts, root_spelling, root_at, record_whole, spells_itself}
-use Rattle.fo_meta.specs.Leaf.{HasSpelling, record_bytes}
+use Rattle.fo_meta.specs.Leaf.{record_bytes}
 use Rattle.fo_meta.proofs.Leaves.{record_at_is}
 use Rattle.fo_ports.specs.Blocks.{no_entry}
 use Rattle.fo_slots.specs.Formed.{IsRootRecord, IsRootHead, IsRootTail, IsRootBeside}

@@ -1,5 +1,5 @@
 -- What the bytes of a block mean, by its kind.
-use Rattle.std.specs.Prelude.{◌≡◌, ◌==◌, ◌||◌, ◌≢◌, ◌+◌, ◌^◌, ◌<◌, ℕ, zero, suc, Bool, cond, nat_lt, List, take, drop, slice_index_or}
+use Rattle.std.specs.Prelude.{◌≡◌, ◌==◌, ◌||◌, ◌≢◌, ◌^◌, ◌<◌, ℕ, zero, suc, cond, nat_lt, List, take, drop, slice_index_or, ◌++◌, ◌-◌}
 use Rattle.std.specs.List.{list_all}
 use Rattle.fo_image.specs.declared.types.Kind.{Kind}
 use Rattle.fo_image.specs.declared.types.Kind.TheVariants.{Data, Dir, Root}
@@ -7,7 +7,7 @@ use Rattle.fo_image.specs.declared.types.Pointer.{Pointer}
 use Rattle.fo_image.specs.declared.types.Pointer.TheVariants.{Nil, Local, Score as Held}
 use Rattle.fo_image.specs.declared.types.Entry.{Entry}
 use Rattle.fo_image.specs.Format.{PointerHolds, EntryHolds}
-use Rattle.fo_image.specs.Field.{Four, Eight, number_at}
+use Rattle.fo_image.specs.Field.{Four, Eight, number_at, zeros}
 use Rattle.fo_crash.specs.declared.slot.Slot.{Slot}
 use Rattle.fo_crash.specs.declared.slot.Slot.TheVariants.{Pointer as To, Entry as Head, Prev}
 use Rattle.fo_crash.specs.Images.{Content}
@@ -62,9 +62,13 @@ slot_bytes kind i bytes = take (width kind i) (drop (slot_start kind i) bytes)
 abbrev pub slot_at : Kind → List ℕ → ℕ → Slot
 slot_at kind bytes i = cond (nat_lt i (slot_count kind)) (slot_from kind i (slot_bytes kind i bytes)) (To Nil)
 
+-- the bytes of a block, with zeros where slots are spelled
+abbrev pub blanked : Kind → List ℕ → List ℕ
+blanked kind bytes = take (slots_from kind) bytes ++ (zeros (slots_to kind - slots_from kind) ++ drop (slots_to kind) bytes)
+
 -- The content that the bytes of a block of this kind mean. Where they spell no slot, a slot means nothing.
 abbrev pub read : Kind → List ℕ → Content
-read kind bytes = record { bytes = bytes; slot = slot_at kind bytes }
+read kind bytes = record { bytes = blanked kind bytes; slot = slot_at kind bytes }
 
 -- the numbers of a slot are of 32 bits, where no format says so
 abbrev pub IsInRange : Slot → Type 0
@@ -86,6 +90,7 @@ pub record KeepsBeside (from to : ℕ) (old new : List ℕ) : Type 0 where
 pub record PutsInto (kind : Kind) (i : ℕ) (s : Slot) (old new : List ℕ) : Type 0 where
   pub here : (read kind new).slot i ≡ s
   pub others : (j : ℕ) → j ≢ i → (read kind new).slot j ≡ (read kind old).slot j
+  pub bytes : (read kind new).bytes ≡ (read kind old).bytes
   pub beside : KeepsBeside (slots_from kind) (slots_to kind) old new
   pub slots : ReadsSlots kind (read kind old) old → ReadsSlots kind (read kind new) new
   pub formed : (rank : ℕ) → IsFormed kind rank old → IsFormed kind rank new

@@ -1,7 +1,7 @@
 //! The slots of a block, read from its bytes and put into them, and whether the bytes are of the format of their kind.
 //!
 //! A block of each kind has its slots at fixed places: pointers, entries, or the two entries of a root block and the root block
-//! before. The content that bytes mean is these bytes, with the slots that they spell (`read` of specs/Read.antt).
+//! before. The content that bytes mean has the slots that they spell, and these bytes beside them (`read` of specs/Read.antt).
 //!
 //! Proved: a slot is read exactly where its bytes spell one, and then it is the one that they mean; a slot that is put is read
 //! again, and no other changes; other bytes that are put change no slot; and a block is told to be of its format exactly where it is
@@ -20,4 +20,6 @@ mod slots;
 
 pub use bytes::put_bytes_into;
 pub use formed::is_formed;
-pub use slots::{has_slots, put_slot_into, read_slot, slot_count, slot_of, spelled_is_meant};
+pub use slots::{
+    has_slots, put_slot_into, read_is_read, read_slot, slot_count, slot_of, spelled_is_meant,
+};

@@ -4,7 +4,7 @@ ghost use Rattle.fo_image.specs.declared.types.Pointer.TheVariants.{Nil};
 ghost use Rattle.fo_image.specs.Field.{Four, number};
 ghost use Rattle.fo_crash.specs.declared.slot.Slot.{Slot};
 ghost use Rattle.fo_crash.specs.declared.slot.Slot.TheVariants.{Pointer as To, Entry as Head};
-ghost use Rattle.fo_ports.specs.Blocks.{slot_count, slot_start, slot_size, SlotFits, SpellsSlot, IsPointer, IsEntry, IsPrev, IsFormed, put_at, ReadsSlots};
+ghost use Rattle.fo_ports.specs.Blocks.{slot_count, slot_start, slot_size, SlotFits, SpellsSlot, IsPointer, IsEntry, IsPrev, IsFormed, put_at, ReadsSlots, Reads};
 ghost use Rattle.fo_slots.specs.Read.{pointer_from, entry_from, prev_from, slot_from, slot_bytes, width, read, IsSlot, IsInRange, HasSpelling, HasNumbers, IsMeant, KeepsBeside, PutsInto};
 ghost use Rattle.fo_image.specs.declared.types.Kind.{Kind};
 ghost use Rattle.fo_crash.specs.Images.{Content};
@@ -177,8 +177,12 @@ pub fn put_slot_into(kind: Kind, i: usize, slot: &Slot, bytes: &mut [u8])
     spell_slot(slot, slot_start(kind, i), bytes);
 }
 
+/// Bytes are read as the content that they mean, and are of their format where what is read of it is.
+pub fn read_is_read()
+    ensures { (kind : Kind) (bytes : List ℕ) → length bytes ≡ 8192 → Reads kind (read kind bytes) bytes × ((rank : ℕ) → IsFormed kind rank bytes ↔ IsFormed kind rank ((read kind bytes).bytes)) }
+{}
+
 /// Bytes that spell the slots of a content mean those slots, and no others.
 pub fn spelled_is_meant()
     ensures { (kind : Kind) (c : Content) (bytes : List ℕ) → HasNumbers kind c → ReadsSlots kind c bytes → IsMeant kind c bytes }
-{
-}
+{}

@@ -1,4 +1,4 @@
-use Rattle.std.proofs.Common.{◌≡◌, ◌+◌, ◌∙◌, ℕ, List, length, eqb, sym, ap, subst, arith}
+use Rattle.std.proofs.Common.{◌+◌, ◌∙◌, eqb, sym, ap, subst, arith}
 use Rattle.std.specs.List.{list_all}
 use Rattle.std.proofs.lemmas.List.{take_rest}
 use Rattle.fo_meta.proofs.Leaves.{head_at}
@@ -7,15 +7,21 @@ use Rattle.fo_slots.proofs.Leaving.{leaf_made, leaf_zeros}
 use Rattle.fo_slots.proofs.leaf.is_leaf.Goals as goal
 
 pub returns-in_default : goal.returns-in_default
-returns-in_default c = (λ h. absurd (cc), λ l.
-    let head = head_at c.args.leaf.now l.records l.spells in
-    absurd (c.in_default.ensures.only l.records l.spells (sym (c.u16_at-count.ensures ∙ head.count))))
+returns-in_default c = (
+  λ h. absurd (cc),
+  λ l.
+      let head = head_at c.args.leaf.now l.records l.spells in
+      absurd (c.in_default.ensures.only l.records l.spells (sym (c.u16_at-count.ensures ∙ head.count))),
+)
 
 pub returns-then-end-used : goal.returns-then-end-used
-returns-then-end-used c = (λ h. absurd (cc), λ l.
-    let head = head_at c.args.leaf.now l.records l.spells in
-    let ends = c.in-Some.ensures.only l.records l.spells (sym (c.u16_at-count.ensures ∙ head.count)) in
-    absurd (c.if-end-used.true (ends.at_is ∙ ap (λ n. 4 + n) (sym (c.u16_at-used.ensures ∙ head.used)))))
+returns-then-end-used c = (
+  λ h. absurd (cc),
+  λ l.
+      let head = head_at c.args.leaf.now l.records l.spells in
+      let ends = c.in-Some.ensures.only l.records l.spells (sym (c.u16_at-count.ensures ∙ head.count)) in
+      absurd (c.if-end-used.true (ends.at_is ∙ ap (λ n. 4 + n) (sym (c.u16_at-used.ensures ∙ head.used)))),
+)
 
 pub returns : goal.returns
 returns c =

@@ -1,4 +1,4 @@
-use Rattle.std.proofs.Common.{◌≡◌, ◌+◌, ◌≤◌, length, Some, sym, ap, subst, ◌∙◌, IsTrue, arith}
+use Rattle.std.proofs.Common.{◌+◌, ◌≤◌, length, Some, sym, ap, subst, ◌∙◌, IsTrue, arith}
 use Rattle.fo_meta.proofs.Leaves.{record_at_is}
 use Rattle.fo_slots.specs.Formed.{IsRecord}
 use Rattle.fo_slots.proofs.Leaving.{record_found, record_told}

@@ -1,5 +1,4 @@
-use Rattle.std.proofs.Common.{◌≡◌, ◌+◌, ◌<◌, [], length, arith}
-use Rattle.fo_image.specs.Record.{record_len}
+use Rattle.std.proofs.Common.{◌<◌, [], length, arith}
 use Rattle.fo_meta.proofs.Leaves.{here_is}
 use Rattle.fo_slots.proofs.Leaving.{runs_more, walks_on}
 use Rattle.fo_slots.proofs.leaf.records_end.Goals as goal

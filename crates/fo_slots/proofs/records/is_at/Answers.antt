@@ -1,4 +1,4 @@
-use Rattle.std.proofs.Common.{◌≡◌, ◌∙◌, sym, length, arith}
+use Rattle.std.proofs.Common.{◌≡◌, ◌∙◌, length, arith}
 use Rattle.fo_image.specs.Record.{RecordHolds, record_len, record_fields}
 use Rattle.fo_image.proofs.RecordLemmas.{record_whole}
 use Rattle.fo_slots.specs.Seen.{as_record}

@@ -4,9 +4,12 @@ use Rattle.fo_slots.proofs.Rooting.{epoch_told, head_made, head_spelled}
 use Rattle.fo_slots.proofs.root.is_head.Goals as goal
 
 pub returns-then-not-is_epoch : goal.returns-then-not-is_epoch
-returns-then-not-is_epoch c = (λ h. absurd (cc), λ is.
-    let yes : IsTrue c.is_epoch.result = c.is_epoch.ensures.1 (subst IsEpoch (sym (c.u32_at-epoch.ensures ∙ epoch_told c.args.head.now is)) is.is_epoch) in
-    absurd (cc))
+returns-then-not-is_epoch c = (
+  λ h. absurd (cc),
+  λ is.
+      let yes : IsTrue c.is_epoch.result = c.is_epoch.ensures.1 (subst IsEpoch (sym (c.u32_at-epoch.ensures ∙ epoch_told c.args.head.now is)) is.is_epoch) in
+      absurd (cc),
+)
 
 pub returns : goal.returns
 returns c = (

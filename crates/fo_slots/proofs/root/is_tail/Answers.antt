@@ -1,19 +1,24 @@
-use Rattle.std.proofs.Common.{◌≡◌, ◌≤◌, ◌∙◌, IsTrue, List, ℕ, length, take, drop, sym, ap, subst, arith}
-use Rattle.fo_image.specs.Record.{record_len}
+use Rattle.std.proofs.Common.{◌≤◌, ◌∙◌, IsTrue, length, take, drop, sym, ap, arith}
 use Rattle.fo_slots.proofs.Rooting.{tail_made, tail_at, own_told, rest_told}
 use Rattle.fo_slots.proofs.root.is_tail.Goals as goal
 
 pub returns-then-tail-len : goal.returns-then-tail-len
-returns-then-tail-len c = (λ h. absurd (cc), λ is.
-    let at = tail_at c.args.tail.now is in
-    absurd (omega (arith, at.len, at.within, c.u16_at-len.ensures, c.if-tail-len.true)))
+returns-then-tail-len c = (
+  λ h. absurd (cc),
+  λ is.
+      let at = tail_at c.args.tail.now is in
+      absurd (omega (arith, at.len, at.within, c.u16_at-len.ensures, c.if-tail-len.true)),
+)
 
 pub returns-then-not-has_root_record : goal.returns-then-not-has_root_record
-returns-then-not-has_root_record c = (λ h. absurd (cc), λ is.
-    let at = tail_at c.args.tail.now is in
-    let len = c.u16_at-len.ensures ∙ at.len in
-    let yes : IsTrue c.has_root_record.result = c.has_root_record.ensures.1 (own_told c.args.tail.now c.split_at.result.0.now is (c.split_at.ensures.front ∙ ap (λ n. take n c.args.tail.now) len)) in
-    absurd (cc))
+returns-then-not-has_root_record c = (
+  λ h. absurd (cc),
+  λ is.
+      let at = tail_at c.args.tail.now is in
+      let len = c.u16_at-len.ensures ∙ at.len in
+      let yes : IsTrue c.has_root_record.result = c.has_root_record.ensures.1 (own_told c.args.tail.now c.split_at.result.0.now is (c.split_at.ensures.front ∙ ap (λ n. take n c.args.tail.now) len)) in
+      absurd (cc),
+)
 
 pub returns : goal.returns
 returns c =

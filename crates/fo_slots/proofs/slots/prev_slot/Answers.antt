@@ -1,4 +1,4 @@
-use Rattle.std.proofs.Common.{sym, ap, arith, refl, ◌∙◌}
+use Rattle.std.proofs.Common.{arith, refl}
 use Rattle.fo_slots.proofs.Meaning.{numbers_spelled}
 use Rattle.fo_slots.proofs.slots.prev_slot.Goals as goal
 

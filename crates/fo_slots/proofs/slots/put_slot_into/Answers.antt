@@ -1,7 +1,5 @@
-use Rattle.std.proofs.Common.{◌≡◌, length, arith, subst}
-use Rattle.fo_crash.specs.declared.slot.Slot.{Slot}
-use Rattle.fo_ports.specs.Blocks.{SpellsSlot, slot_size}
-use Rattle.fo_slots.proofs.Putting.{has_spelling, fits_within, puts_into}
+use Rattle.std.proofs.Common.{◌≡◌, length, arith}
+use Rattle.fo_slots.proofs.Putting.{puts_into}
 use Rattle.fo_slots.proofs.slots.put_slot_into.Goals as goal
 
 pub returns : goal.returns
