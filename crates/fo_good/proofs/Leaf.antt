@@ -61,7 +61,7 @@ record_texts : (r : Record) (more : List ℕ) → HasSpelling r → Texts (drop 
 record_texts r more s = texts_are (drop 30 (record_bytes r ++ more)) r.name r.uid r.gid r.muid more s.fit.1.1.1.1.1.1.1.1.0 s.fit.1.1.1.1.1.1.1.1.1.0 s.fit.1.1.1.1.1.1.1.1.1.1.0 s.fit.1.1.1.1.1.1.1.1.1.1.1.0
     (regroup (spelled (Text r.name)) (spelled (Text r.uid)) (spelled (Text r.gid)) (spelled (Text r.muid)) more)
 
-record Numbers (bytes : List ℕ) (r : Record) : Type 0 where
+pub record Numbers (bytes : List ℕ) (r : Record) : Type 0 where
   number : number_at Four 2 bytes ≡ r.number
   slot : number_at Four 6 bytes ≡ r.slot
   generation : number_at Four 10 bytes ≡ r.generation
@@ -69,9 +69,9 @@ record Numbers (bytes : List ℕ) (r : Record) : Type 0 where
   mode : number_at Four 18 bytes ≡ r.mode
   atime : number_at Four 22 bytes ≡ r.atime
   mtime : number_at Four 26 bytes ≡ r.mtime
-  len : number_at Two 0 bytes ≡ record_len r
+  pub len : number_at Two 0 bytes ≡ record_len r
 
-record_numbers : (r : Record) (more : List ℕ) → HasSpelling r → Numbers (record_bytes r ++ more) r
+pub record_numbers : (r : Record) (more : List ℕ) → HasSpelling r → Numbers (record_bytes r ++ more) r
 unfolding number_at
 record_numbers r more s = record {
   number = from_be_bytes-to_be_bytes_4 r.number s.fit.1.0;
