@@ -12,5 +12,7 @@ pub mod Bytes
 pub mod Waiting
 pub mod Laws
 pub mod Super
+pub mod Safe
+pub mod SafeSteps
 pub mod Calls
 pub mod Buffering

@@ -69,7 +69,7 @@ module _ {at i leaf : ℕ} {old new : Known} (w : Awaits at i leaf old new) wher
 
 -- MORE WAITS
 module _ {old new : Known} (w : WaitsMore old new) where
-  more_fewer : Fewer old new
+  pub more_fewer : Fewer old new
   more_fewer = record {
     memory = w.same.memory;
     stood = λ b c h. subst (λ (cs : List Content). Contains cs c) (same_seen old new w.same.memory w.device.newborn w.device.late w.device.versions b) h;

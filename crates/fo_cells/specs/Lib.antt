@@ -1,6 +1,7 @@
 pub mod Known
 pub mod Writes
 pub mod Calls
+pub mod Safe
 pub mod Device
 pub mod Buffers
 pub mod Kept
