@@ -45,13 +45,13 @@ among_push (z ∷ xs) x y h = ⊎_elim
     (λ more. ⊎_elim (λ was. inl (next_among z y xs was)) (λ is. inr is) (among_push xs x y more))
     (among_cases z (xs ++ x ∷ []) y h)
 
-latest_push : (versions : Versions) (b : Block) → latest_of (versions ++ b ∷ []) ≡ b
+pub latest_push : (versions : Versions) (b : Block) → latest_of (versions ++ b ∷ []) ≡ b
 latest_push versions b = get_or_push versions b [] _ (omega (arith, length_push versions b))
 
-nat_eq_here : (a b : ℕ) → a ≡ b → nat_eq a b ≡ true
+pub nat_eq_here : (a b : ℕ) → a ≡ b → nat_eq a b ≡ true
 nat_eq_here a b e = grind (arith, common_steps)
 
-nat_eq_other : (a b : ℕ) → a ≢ b → nat_eq a b ≡ false
+pub nat_eq_other : (a b : ℕ) → a ≢ b → nat_eq a b ≡ false
 nat_eq_other a b ne = grind (arith, common_steps)
 
 -- THE VERSIONS AFTER A WRITE THAT LANDED
@@ -220,7 +220,7 @@ lost {m} {at} {bytes} {is_complete} {old} may = record {
         nothing (k, lt, is) = omega arith
 
 -- A SYNC THAT ANSWERS OK
-newest_one : (versions : Versions) → 0 < length versions → newest versions ≡ latest_of versions ∷ []
+pub newest_one : (versions : Versions) → 0 < length versions → newest versions ≡ latest_of versions ∷ []
 newest_one [] some = absurd (omega arith)
 newest_one (v ∷ []) some = refl
 newest_one (v ∷ w ∷ versions) some = further v (newest_one (w ∷ versions) (omega arith))
@@ -311,12 +311,12 @@ module _ {m : Mind} {unsure : List Bool} {old new : Holds} (y : DiskSettles unsu
   }
 
 -- WHAT IS KNOWN OF FAILED WRITES
-both_left : (a b : Bool) → (a && b) ≡ true → a ≡ true
+pub both_left : (a b : Bool) → (a && b) ≡ true → a ≡ true
 both_left true b e = refl
 both_left false b e = absurd (cc)
 
 -- the flag of the last write of a block
-flag_here : (unsure : List Bool) (at : ℕ) → get_or (set unsure at false) at false ≡ false
+pub flag_here : (unsure : List Bool) (at : ℕ) → get_or (set unsure at false) at false ≡ false
 flag_here unsure at = ⊎_elim
     (λ lt. get_or-set_same unsure at false false lt)
     (λ le. get_or_past (set unsure at false) at false (omega (arith, le, length-set unsure at false)))

@@ -14,5 +14,7 @@ pub mod Laws
 pub mod Super
 pub mod Safe
 pub mod SafeSteps
+pub mod SafeCalls
 pub mod Calls
+pub mod Flags
 pub mod Buffering

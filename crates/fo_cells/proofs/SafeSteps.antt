@@ -1,5 +1,5 @@
 -- Each step keeps the whole invariant.
-use Rattle.std.proofs.Common.{◌≡◌, ◌≢◌, ◌⊎◌, inl, inr, ⊎_elim, ℕ, ◌<◌, ◌≤◌, true, false, List, refl, sym, ◌∙◌, ap, subst, arith}
+use Rattle.std.proofs.Common.{◌≡◌, ◌≢◌, ◌⊎◌, inl, inr, ⊎_elim, ℕ, ◌<◌, ◌≤◌, true, false, List, [], refl, sym, ◌∙◌, ap, subst, arith}
 use Rattle.std.proofs.lemmas.Bool.{cases_eq}
 use Rattle.std.specs.List.{Contains}
 use Rattle.fo_image.specs.declared.types.Label.{Label}
@@ -17,7 +17,7 @@ use Rattle.fo_cells.specs.Calls.{PutsInto, Awaits, WaitsMore, SuperStays}
 use Rattle.fo_cells.specs.Safe.{IsSet, IsLive, IsSafe, KeepsSafe, IsCurrent, MayWait, MayClear}
 use Rattle.fo_cells.proofs.Standing.{not_both, at_b, stands_by, stands_top, stands_below}
 use Rattle.fo_cells.proofs.Keeping.{stands_fewer}
-use Rattle.fo_cells.proofs.Settling.{Fewer, may_fewer, labels_fewer, sync_fewer, ends_fewer, label_keeps, sync_keeps, settles_keeps, settled_still}
+use Rattle.fo_cells.proofs.Settling.{Fewer, may_fewer, labels_fewer, sync_fewer, ends_fewer, label_keeps, sync_keeps, settled_still, end_keeps}
 use Rattle.fo_cells.proofs.Writing.{write_keeps}
 
 -- A WRITE OF A BLOCK: of the active epoch, or of block 1 with what memory has
@@ -96,10 +96,10 @@ module _ {old new : Known} (device : SameDevice old new) (label : new.label ≡ 
   supers_same same = record { memory = same; versions = λ c h. inl (subst (λ (cs : List Content). Contains cs c) (at_b 1 device.versions) h) }
 
 -- THE END OF A WAIT
-pub end_safe : {old new : Known} {high : ℕ} → Ends old new → (IsKept old → IsKept new) → ((leaf on j : ℕ) → IsWait new.waits leaf on j → IsWait old.waits leaf on j) → KeepsSafe old new high
-end_safe {old} {new} {high} w keeps waits =
+pub end_safe : {old new : Known} {high : ℕ} → Ends old new → ((leaf on j : ℕ) → IsWait new.waits leaf on j → IsWait old.waits leaf on j) → KeepsSafe old new high
+end_safe {old} {new} {high} w waits =
     let clears : (b i leaf : ℕ) → IsClear new.clears b i leaf → IsClear old.clears b i leaf = λ b i leaf h. subst (λ (cs : List Clear). IsClear cs b i leaf) w.clears h in record {
-      kept = keeps;
+      kept = λ k. end_keeps w k;
       stands = stands_fewer (λ t h. subst (λ (ts : List Top). Contains ts t) w.same.tops h) (may_fewer (ends_fewer w));
       label = λ b q st. ap (λ (l : Label). l.epoch) (at_b b w.same.label);
       set = λ b q ne st young set. set_still w.device w.same.label clears b (same_if (sym (at_b b w.same.memory))) set;
@@ -112,11 +112,11 @@ end_safe {old} {new} {high} w keeps waits =
     }
 
 -- BYTES ARE PUT
-pub bytes_safe : {at : ℕ} {bytes : List ℕ} {old new : Known} {high : ℕ} → PutsInto at bytes old new → (IsKept old → IsKept new) → IsCurrent old high at → at ≢ 1 → KeepsSafe old new high
-bytes_safe {at} {bytes} {old} {new} {high} u keeps current other =
+pub bytes_safe : {at : ℕ} {bytes : List ℕ} {old new : Known} {high : ℕ} → PutsInto at bytes old new → IsCurrent old high at → at ≢ 1 → KeepsSafe old new high
+bytes_safe {at} {bytes} {old} {new} {high} u current other =
     let clears : (b i leaf : ℕ) → IsClear new.clears b i leaf → IsClear old.clears b i leaf = λ b i leaf h. subst (λ (cs : List Clear). IsClear cs b i leaf) u.clears h in
     let same : (b : ℕ) → b ≢ at → SameContent (old.memory b) (new.memory b) = λ b ne. record { bytes = sym (u.memory.others b ne); slots = λ j. sym (u.memory.slots b j) } in record {
-      kept = keeps;
+      kept = λ k. Rattle.fo_cells.proofs.Bytes.bytes_keeps u k;
       stands = stands_fewer (λ t h. subst (λ (ts : List Top). Contains ts t) u.tops h) (Rattle.fo_cells.proofs.Bytes.may_bytes u);
       label = λ b q st. ap (λ (l : Label). l.epoch) (at_b b u.label);
       set = λ b q ne st young set. set_still u.device u.label clears b (same b (λ e. current.young q other (subst (λ y. Stands old y q) e st) (subst (λ y. (old.label y).epoch < high) e young))) set;
@@ -141,7 +141,7 @@ put_safe {at} {i} {s} {old} {new} {high} u was current other epoch brings =
           (λ before. inl before)
           (λ n. inr (
           let led : target s ≡ Local b = ap target (sym n.2) ∙ e in
-          let top = (brings.each b (record { path = Rattle.std.proofs.Common.[]; leads = led })).1 in
+          let top = (brings.each b (record { path = []; leads = led })).1 in
           subst (λ (l : Label). l.epoch ≤ (new.label a).epoch) (sym (at_b b u.label)) (subst (λ k. (old.label b).epoch ≤ k) (sym (ap (λ (l : Label). l.epoch) (at_b a u.label) ∙ ap (λ y. (old.label y).epoch) n.0 ∙ epoch)) top)))
           (Rattle.fo_cells.proofs.Putting.may_put u a j x m);
       live = λ b ne r. ⊎_elim

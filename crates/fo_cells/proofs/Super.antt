@@ -237,14 +237,17 @@ module _ {d : Content} {old new : Known} (t : TriesSuper d old new) where
           r)
           h
 
+  pub super_stands : (b : ℕ) (q : Place) → Stands new b q → Stands old b q
+  super_stands = stands_by (λ x h. stands_top x (subst (λ (ts : List Top). Contains ts x) t.same.tops h)) (λ a j x p b st may e. ⊎_elim
+      (λ was. stands_below j x b st was e)
+      (λ n. subst (λ (y : Slot). Stands old b (place_below p j y)) (sym n.1) (t.fits p j b (subst (λ y. Stands old y p) n.0 st) (ap target (sym n.1) ∙ e)).0)
+      (may_tried a j x may))
+
   -- The invariant is kept.
   pub super_keeps : IsKept old → IsKept new
   super_keeps kept =
       let steps : Steps old new = record {
-        stands = stands_by (λ x h. stands_top x (subst (λ (ts : List Top). Contains ts x) t.same.tops h)) (λ a j x p b st may e. ⊎_elim
-            (λ was. stands_below j x b st was e)
-            (λ n. subst (λ (y : Slot). Stands old b (place_below p j y)) (sym n.1) (t.fits p j b (subst (λ y. Stands old y p) n.0 st) (ap target (sym n.1) ∙ e)).0)
-            (may_tried a j x may));
+        stands = super_stands;
         falls = λ a j b x p st may e. ⊎_elim
             (λ was. kept.falls a j b x p st was e)
             (λ n. subst (λ (y : Slot). (place_below p j y).rank < p.rank) (sym n.1) (t.fits p j b (subst (λ y. Stands old y p) n.0 st) (ap target (sym n.1) ∙ e)).1)
@@ -286,7 +289,7 @@ module _ {d : Content} {old new : Known} (t : CountsSuper d old new) where
         };
   }
 
-  may_counted : (a j : ℕ) (x : Slot) → MaySlot new a j x → MaySlot old a j x
+  pub may_counted : (a j : ℕ) (x : Slot) → MaySlot new a j x → MaySlot old a j x
   may_counted a j x h = ⊎_elim
       (λ e. subst (λ y. MaySlot old y j x) (sym e) (here (subst (λ y. MaySlot new y j x) e h)))
       (λ ne. may_other t.same a j x ne h)
@@ -301,10 +304,13 @@ module _ {d : Content} {old new : Known} (t : CountsSuper d old new) where
           r)
           h
 
+  pub counts_stands : (b : ℕ) (q : Place) → Stands new b q → Stands old b q
+  counts_stands = stands_by (λ x h. stands_top x (subst (λ (ts : List Top). Contains ts x) t.same.tops h)) (λ a j x p b st may e. stands_below j x b st (may_counted a j x may) e)
+
   pub counts_keeps : IsKept old → IsKept new
   counts_keeps kept =
       let steps : Steps old new = record {
-        stands = stands_by (λ x h. stands_top x (subst (λ (ts : List Top). Contains ts x) t.same.tops h)) (λ a j x p b st may e. stands_below j x b st (may_counted a j x may) e);
+        stands = counts_stands;
         falls = λ a j b x p st may e. kept.falls a j b x p st (may_counted a j x may) e;
         label = t.same.label;
         low = t.same.low;
