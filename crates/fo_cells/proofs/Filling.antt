@@ -126,3 +126,9 @@ fills_fire {at} {i} {leaf} {old} {new} slots now before fills r same adds = reco
             (cell at i b j)))
         (λ x. fire_fill r image (mid image other) m (slot_bytes image at i ((other at).slot i)) (slot_other image at i ((other at).slot i)) (slot_here image at i ((other at).slot i) ∙ x.1 ∙ ap cleared same))
         (c.each at i)
+
+-- One slot is cleared.
+pub fill_one : {at i leaf : ℕ} {old new : Known} → Fires at i leaf old new → (image other : Image) → Images new image → IsCleared (Cell at i) old.memory image other → Images old other
+fill_one {at} {i} {leaf} {old} {new} r image other m c =
+    let fills = fills_fire (λ b j. ⊥) old.memory (Images old) (record { each = λ x y is k. images_same old x y is k.bytes (λ b j. ⊎_elim (λ same. same) (λ n. absurd n.0) (k.each b j)) }) r refl (Rattle.fo_cells.proofs.Firing.fire_adds r) in
+    fills.each image other m (record { bytes = c.bytes; each = λ b j. ⊎_elim (λ same. inl same) (λ n. inr (inr n.0, n.1)) (c.each b j) })

@@ -10,11 +10,12 @@ pub mod Firing
 pub mod Filling
 pub mod Bytes
 pub mod Waiting
-pub mod Laws
+pub mod Known
 pub mod Super
 pub mod Safe
 pub mod SafeSteps
 pub mod SafeCalls
+pub mod Removing
 pub mod Calls
 pub mod Flags
 pub mod Buffering

@@ -13,7 +13,7 @@ use Rattle.fo_crash.specs.Steps.{IsSure, HasSuper}
 use Rattle.fo_cells.specs.Known.{Known, MaySlot, Remains, Stands, seen}
 use Rattle.fo_cells.specs.Safe.{IsSet, IsLive, IsSafe, KeepsSafe}
 use Rattle.fo_cells.proofs.Standing.{seen_is, stands_below}
-use Rattle.fo_cells.proofs.Laws.{sure}
+use Rattle.fo_cells.proofs.Known.{sure}
 use Rattle.fo_cells.proofs.Super.{super_known, supers_still}
 
 pub safe_step : {old new : Known} {high : ℕ} {doubt : Content → Type 0} → KeepsSafe old new high → IsSafe old high doubt → IsSafe new high doubt

@@ -17,7 +17,7 @@ use Rattle.fo_cells.specs.Calls.{SameButSuper, TriesSuper, CountsSuper, HasSuper
 use Rattle.fo_cells.specs.Safe.{IsSet, IsLive, IsSafe}
 use Rattle.fo_cells.proofs.Standing.{at_b, stands_below}
 use Rattle.fo_cells.proofs.Giving.{stands_new, stood, may_there, may_here, give_adds, give_keeps}
-use Rattle.fo_cells.proofs.Laws.{memory_may}
+use Rattle.fo_cells.proofs.Known.{memory_may}
 use Rattle.fo_cells.proofs.Super.{supers_still, may_other, super_stands, super_keeps, super_doubt, counts_stands, counts_keeps, counts_doubt}
 
 -- Two images that are the same but for one block are walked alike from where no path leads to it.

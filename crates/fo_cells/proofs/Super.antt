@@ -20,13 +20,13 @@ use Rattle.fo_cells.specs.Calls.{SameButSuper, TriesSuper, CountsSuper, HasSuper
 use Rattle.fo_cells.proofs.Standing.{seen_is, seen_born, written_is, written_born, first_among, next_among, among_cases, not_both, at_b, stands_by, stands_top, stands_below}
 use Rattle.fo_cells.proofs.Keeping.{Steps, kept_by, may_name_still}
 use Rattle.fo_cells.proofs.Giving.{chosen, chosen_here, chosen_other}
-use Rattle.fo_cells.proofs.Laws.{memory_may}
+use Rattle.fo_cells.proofs.Known.{memory_may}
 
 -- THE SAME SUPER BLOCKS
-whole_same : (k : Known) {c d : Content} → SameContent c d → IsWholeSuper k d → IsWholeSuper k c
+pub whole_same : (k : Known) {c d : Content} → SameContent c d → IsWholeSuper k d → IsWholeSuper k c
 whole_same k same whole = ⊎_elim (λ m. inl (same_joins same m)) (λ v. inr (v.0, v.1, same_joins same v.2)) whole
 
-super_fewer : {old new : Known} → SuperStays old new → (c : Content) → IsWholeSuper new c → IsWholeSuper old c
+pub super_fewer : {old new : Known} → SuperStays old new → (c : Content) → IsWholeSuper new c → IsWholeSuper old c
 super_fewer stays c whole = ⊎_elim
     (λ m. inl (same_joins m stays.memory))
     (λ v. ⊎_elim (λ was. inr (v.0, was, v.2)) (λ is. inl (same_joins v.2 is)) (stays.versions v.0 v.1))

@@ -3,6 +3,7 @@ pub mod Writes
 pub mod Calls
 pub mod Safe
 pub mod Flags
+pub mod Laws
 pub mod Device
 pub mod Buffers
 pub mod Kept

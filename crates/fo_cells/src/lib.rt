@@ -16,7 +16,12 @@ mod buffered;
 mod buffers;
 mod device;
 mod flush;
+mod laws;
 
 pub use buffered::Buffered;
 pub use buffers::{Buffer, Buffers};
 pub use device::{settle, write_block};
+pub use laws::{
+    blocks_are_safe, device_steps_are_safe, images_are_known, puts_are_safe, supers_are_safe,
+    waits_are_safe,
+};

@@ -1,0 +1,16 @@
+use Rattle.fo_cells.proofs.Known.{one_place, placed, ranked}
+use Rattle.fo_cells.proofs.Super.{memory_remains}
+use Rattle.fo_cells.proofs.Safe.{old_sure, safe_super}
+use Rattle.fo_cells.proofs.Flags.{all_settled}
+use Rattle.fo_cells.proofs.Removing.{shown}
+use Rattle.fo_cells.proofs.laws.images_are_known.Goals as goal
+
+pub returns : goal.returns
+returns c = record {
+  shown = λ high doubts k image labels tops safe left stand. shown tops safe.kept safe.settled left stand;
+  memory = λ k. memory_remains k;
+  places = λ high doubts k image safe r. (one_place safe.kept, placed k image r.cells, ranked safe.kept image r.cells);
+  older = λ high b p doubts k safe ne st young. old_sure safe b p ne st young;
+  super_known = λ high doubts k safe. safe_super safe;
+  settled = λ m f unsure holds fits none born unclear. all_settled fits none born unclear;
+}
