@@ -19,6 +19,7 @@ use Rattle.fo_cells.proofs.Super.{super_known, supers_still}
 pub safe_step : {old new : Known} {high : ℕ} {doubt : Content → Type 0} → KeepsSafe old new high → IsSafe old high doubt → IsSafe new high doubt
 safe_step {old} {new} {high} {doubt} k safe = record {
   kept = k.kept safe.kept;
+  top = k.top safe.top;
   old = λ b p ne st young. let was = k.stands b p st in
       let before : (old.label b).epoch < high = subst (λ n. n < high) (k.label b p was) young in
       k.set b p ne was before (safe.old b p ne was before);

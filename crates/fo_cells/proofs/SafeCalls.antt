@@ -8,14 +8,14 @@ use Rattle.fo_image.specs.declared.types.Pointer.TheVariants.{Nil, Local, Score 
 use Rattle.fo_crash.specs.declared.slot.Slot.{Slot}
 use Rattle.fo_crash.specs.declared.place.Place.{Place}
 use Rattle.fo_crash.specs.Images.{Content, Image, SameContent, Reaches, target, local, walk, to_block}
-use Rattle.fo_crash.specs.Places.{place_below}
+use Rattle.fo_crash.specs.Places.{super_place, place_below}
 use Rattle.fo_crash.proofs.Sure.{same_joins, same_back, same_if}
 use Rattle.fo_crash.proofs.Reach.{same_walk}
-use Rattle.fo_cells.specs.Known.{Known, Wait, Clear, IsWait, IsClear, IsKept, MaySlot, Stands}
+use Rattle.fo_cells.specs.Known.{Known, Top, Wait, Clear, IsWait, IsClear, IsKept, MaySlot, Stands}
 use Rattle.fo_cells.specs.Writes.{Gives}
 use Rattle.fo_cells.specs.Calls.{SameButSuper, TriesSuper, CountsSuper, HasSupers}
-use Rattle.fo_cells.specs.Safe.{IsSet, IsLive, IsSafe}
-use Rattle.fo_cells.proofs.Standing.{at_b, stands_below}
+use Rattle.fo_cells.specs.Safe.{super_top, IsSet, IsLive, IsSafe}
+use Rattle.fo_cells.proofs.Standing.{at_b, stands_below, stands_top}
 use Rattle.fo_cells.proofs.Giving.{stands_new, stood, may_there, may_here, give_adds, give_keeps}
 use Rattle.fo_cells.proofs.Known.{memory_may}
 use Rattle.fo_cells.proofs.Super.{supers_still, may_other, super_stands, super_keeps, super_doubt, counts_stands, counts_keeps, counts_doubt}
@@ -33,9 +33,10 @@ walk_beside old new at same (i ∷ path) s never =
     one (Local a) h = (same a (λ e. h (ap (λ y. Local y) e))).slots i
 
 -- A BLOCK IS GIVEN OUT, of the high epoch
-pub give_safe : {at : ℕ} {c : Content} {p : Place} {old new : Known} {high : ℕ} {doubt : Content → Type 0} → Gives at c p old new → at ≢ 1 → (new.label at).epoch ≡ high → ((i t : ℕ) → target (c.slot i) ≡ Local t → (old.label t).epoch ≤ high) → ((q : Place) × Stands old 1 q) → ((leaf on j : ℕ) → IsWait new.waits leaf on j → IsWait old.waits leaf on j) → IsSafe old high doubt → IsSafe new high doubt
+pub give_safe : {at : ℕ} {c : Content} {p : Place} {old new : Known} {high : ℕ} {doubt : Content → Type 0} → Gives at c p old new → at ≢ 1 → (new.label at).epoch ≡ high → ((i t : ℕ) → target (c.slot i) ≡ Local t → (old.label t).epoch ≤ high) → (Contains old.tops super_top → Contains new.tops super_top) → ((leaf on j : ℕ) → IsWait new.waits leaf on j → IsWait old.waits leaf on j) → IsSafe old high doubt → IsSafe new high doubt
 give_safe {at} {c} {p} {old} {new} {high} {doubt} g other epoch below top waits safe = record {
   kept = give_keeps g safe.kept;
+  top = top safe.top;
   old = λ b q ne st young. ⊎_elim
       (λ was. let away = stood g b q was in
       let set = safe.old b q ne was (subst (λ (l : Label). l.epoch < high) (g.label b away) young) in record {
@@ -87,7 +88,7 @@ give_safe {at} {c} {p} {old} {new} {high} {doubt} g other epoch below top waits 
 }
   where
     never : (rest : List ℕ) → target (walk new.memory (to_block 1) rest) ≡ Local at → ⊥
-    never rest e = (give_adds g (λ t. t ≡ 1) (λ t is. subst (λ y. (q : Place) × Stands old y q) (sym is) top)).apart new.memory (memory_may new) 1 refl (record { path = rest; leads = e })
+    never rest e = (give_adds g (λ t. t ≡ 1) (λ t is. subst (λ y. (q : Place) × Stands old y q) (sym is) (super_place, stands_top super_top safe.top))).apart new.memory (memory_may new) 1 refl (record { path = rest; leads = e })
 
 -- all but block 1 stays
 set_beside : {old new : Known} → SameButSuper old new → (b : ℕ) → b ≢ 1 → IsSet old b → IsSet new b
@@ -101,6 +102,7 @@ set_beside {old} {new} w b ne set = record {
 super_safe : {old new : Known} {high : ℕ} {before after : Content → Type 0} → SameButSuper old new → IsKept new → ((b : ℕ) (q : Place) → Stands new b q → Stands old b q) → ((b : ℕ) → b ≢ 1 → Reaches new.memory (to_block 1) b → IsLive high (old.label b)) → HasSupers new after → IsSafe old high before → IsSafe new high after
 super_safe {old} {new} {high} {before} {after} w kept stands live supers safe = record {
   kept = kept;
+  top = subst (λ (ts : List Top). Contains ts super_top) (sym w.tops) safe.top;
   old = λ b q ne st young. set_beside w b ne (safe.old b q ne (stands b q st) (subst (λ (l : Label). l.epoch < high) (at_b b w.label) young));
   epochs = λ a i b s q ne st may e. subst (λ (l : Label). l.epoch ≤ (new.label a).epoch) (sym (at_b b w.label)) (subst (λ (l : Label). (old.label b).epoch ≤ l.epoch) (sym (at_b a w.label)) (safe.epochs a i b s q ne (stands a q st) (may_other w a i s ne may) e));
   live = λ b ne r. subst (λ (l : Label). IsLive high l) (sym (at_b b w.label)) (live b ne r);

@@ -13,7 +13,7 @@ use Rattle.fo_crash.specs.Places.{IsPlaced, OnePlace, RanksFall}
 use Rattle.fo_cells.specs.Known.{Known, Top, IsWait, IsClear, IsKept, IsLeft, Remains, Stands}
 use Rattle.fo_cells.specs.Writes.{Writes, WritesLabels, Syncs, Ends, Puts, Gives, Relabels, Fires}
 use Rattle.fo_cells.specs.Calls.{PutsInto, Awaits, WaitsMore, IsSetLeaf, TriesSuper, CountsSuper}
-use Rattle.fo_cells.specs.Safe.{IsLive, IsSafe, IsCurrent, MayWait, MayClear}
+use Rattle.fo_cells.specs.Safe.{super_top, IsLive, IsSafe, IsCurrent, MayWait, MayClear}
 use Rattle.fo_cells.specs.Device.{Mind, known}
 use Rattle.fo_cells.specs.Flags.{Flags, FlagsFit, IsUnmarked}
 
@@ -24,6 +24,10 @@ Safe k high doubts = IsSafe k high (λ c. Contains doubts c)
 -- No wait is new.
 abbrev pub NoWait : Known → Known → Type 0
 NoWait old new = (leaf on j : ℕ) → IsWait new.waits leaf on j → IsWait old.waits leaf on j
+
+-- Block 1 stays a top.
+abbrev pub KeepsTop : Known → Known → Type 0
+KeepsTop old new = Contains old.tops super_top → Contains new.tops super_top
 
 -- A step of the device adds no image, and keeps the invariant.
 abbrev pub IsQuiet : Known → Known → Type 0
@@ -42,7 +46,7 @@ abbrev pub EndIsSafe : Type 0
 EndIsSafe = (old new : Known) → Ends old new → NoWait old new → IsQuiet old new
 
 abbrev pub SlotIsSafe : Type 0
-SlotIsSafe = (at i high : ℕ) (s : Slot) (doubts : List Content) (old new : Known) → Puts at i s old new → IsCurrent old high at → at ≢ 1 → (old.label at).epoch ≡ high → Brings old.memory s (λ b. IsLive high (old.label b)) → Safe old high doubts → AddsSlot old.memory at i s (λ image. Unit {0}) (Remains old) (Remains new) × Safe new high doubts
+SlotIsSafe = (at i high : ℕ) (s : Slot) (doubts : List Content) (old new : Known) → Puts at i s old new → KeepsTop old new → IsCurrent old high at → at ≢ 1 → (old.label at).epoch ≡ high → Brings old.memory s (λ b. IsLive high (old.label b)) → Safe old high doubts → AddsSlot old.memory at i s (λ image. Unit {0}) (Remains old) (Remains new) × Safe new high doubts
 
 abbrev pub BytesAreSafe : Type 0
 BytesAreSafe = (at high : ℕ) (bytes : List ℕ) (doubts : List Content) (old new : Known) → PutsInto at bytes old new → IsCurrent old high at → at ≢ 1 → Safe old high doubts → AddsBytes old.memory at ((new.memory at).bytes) (λ image. (on j : ℕ) → IsWait old.waits at on j → ((leaf : ℕ) → IsClear old.clears on j leaf → ⊥) → SameUse ((image on).slot j) ((old.memory on).slot j)) (Remains old) (Remains new) × Safe new high doubts
@@ -52,7 +56,7 @@ AwaitIsSafe = (at i leaf high : ℕ) (doubts : List Content) (old new : Known) �
 
 -- A slot is cleared at once, where the leaf is set: so is every image's.
 abbrev pub RemovalIsSafe : Type 0
-RemovalIsSafe = (at i leaf high : ℕ) (doubts : List Content) (old new : Known) → Puts at i (cleared ((old.memory at).slot i)) old new → IsSetLeaf new leaf → IsCurrent old high at → at ≢ 1 → (old.label at).epoch ≡ high → Safe old high doubts → AddsSlot old.memory at i (cleared ((old.memory at).slot i)) (λ image. (image leaf).bytes ≡ (old.memory leaf).bytes) (Remains old) (Remains new) × HasBytes old.memory leaf (Remains new) × Safe new high doubts
+RemovalIsSafe = (at i leaf high : ℕ) (doubts : List Content) (old new : Known) → Puts at i (cleared ((old.memory at).slot i)) old new → IsSetLeaf new leaf → KeepsTop old new → IsCurrent old high at → at ≢ 1 → (old.label at).epoch ≡ high → Safe old high doubts → AddsSlot old.memory at i (cleared ((old.memory at).slot i)) (λ image. (image leaf).bytes ≡ (old.memory leaf).bytes) (Remains old) (Remains new) × HasBytes old.memory leaf (Remains new) × Safe new high doubts
 
 abbrev pub WaitIsSafe : Type 0
 WaitIsSafe = (high : ℕ) (doubts : List Content) (old new : Known) → WaitsMore old new → ((leaf on j : ℕ) → IsWait new.waits leaf on j → IsWait old.waits leaf on j ⊎ MayWait old leaf on) → Safe old high doubts → AddsNothing (Remains old) (Remains new) × Safe new high doubts
@@ -62,7 +66,7 @@ abbrev pub ClearingIsSafe : Type 0
 ClearingIsSafe = (at i leaf : ℕ) (old new : Known) → Fires at i leaf old new → at ≢ 1 → NoWait old new → IsQuiet old new × Fills (λ b j. (b ≡ at) × (j ≡ i)) old.memory (Remains old) (Remains new)
 
 abbrev pub GivingIsSafe : Type 0
-GivingIsSafe = (at high : ℕ) (c : Content) (p q : Place) (tops : List ℕ) (doubts : List Content) (old new : Known) → Gives at c p old new → at ≢ 1 → (new.label at).epoch ≡ high → ((i t : ℕ) → target (c.slot i) ≡ Local t → (old.label t).epoch ≤ high) → Stands old 1 q → ((t : ℕ) → Contains tops t → (r : Place) × Stands old t r) → NoWait old new → Safe old high doubts → AddsBlock (λ t. Contains tops t) at c (Remains old) (Remains new) × Safe new high doubts
+GivingIsSafe = (at high : ℕ) (c : Content) (p : Place) (tops : List ℕ) (doubts : List Content) (old new : Known) → Gives at c p old new → at ≢ 1 → (new.label at).epoch ≡ high → ((i t : ℕ) → target (c.slot i) ≡ Local t → (old.label t).epoch ≤ high) → KeepsTop old new → ((t : ℕ) → Contains tops t → (r : Place) × Stands old t r) → NoWait old new → Safe old high doubts → AddsBlock (λ t. Contains tops t) at c (Remains old) (Remains new) × Safe new high doubts
 
 -- A block is closed that isn't in the tree of memory.
 abbrev pub ClosingIsSafe : Type 0

@@ -8,7 +8,8 @@ use Rattle.fo_image.specs.declared.types.State.TheVariants.{Live}
 use Rattle.fo_crash.specs.declared.slot.Slot.{Slot}
 use Rattle.fo_crash.specs.declared.place.Place.{Place}
 use Rattle.fo_crash.specs.Images.{Content, SameContent, Reaches, target, to_block}
-use Rattle.fo_cells.specs.Known.{Known, IsWait, IsClear, IsKept, MaySlot, Stands}
+use Rattle.fo_crash.specs.Places.{super_place}
+use Rattle.fo_cells.specs.Known.{Known, Top, IsWait, IsClear, IsKept, MaySlot, Stands}
 use Rattle.fo_cells.specs.Calls.{HasSupers, SuperStays}
 
 -- All that may be on the device of a block is what memory has, and no slot of it waits.
@@ -29,8 +30,14 @@ MayWait k leaf on = (k.newborn leaf ≡ false) × (leaf ≢ 1) × (on ≢ 1) × 
 abbrev pub MayClear : Known → ℕ → ℕ → ℕ → Type 0
 MayClear k high at leaf = (k.newborn at ≡ false) × (at ≢ 1) × (leaf ≢ 1) × ((k.label at).kind ≡ Dir 0) × ((k.label at).epoch ≡ high)
 
+-- block 1, at its place
+abbrev pub super_top : Top
+super_top = record { at = 1; place = super_place }
+
 pub record IsSafe (k : Known) (high : ℕ) (doubt : Content → Type 0) : Type 0 where
   pub kept : IsKept k
+  -- block 1 is a top, so that what is said of what stands is said of what hangs from it
+  pub top : Contains k.tops super_top
   -- an older block that stands somewhere is set
   pub old : (b : ℕ) (p : Place) → b ≢ 1 → Stands k b p → (k.label b).epoch < high → IsSet k b
   -- along each slot that may be there epochs don't rise
@@ -46,6 +53,7 @@ pub record IsSafe (k : Known) (high : ℕ) (doubt : Content → Type 0) : Type 0
 -- A step after which nothing stands anew.
 pub record KeepsSafe (old new : Known) (high : ℕ) : Type 0 where
   pub kept : IsKept old → IsKept new
+  pub top : Contains old.tops super_top → Contains new.tops super_top
   pub stands : (b : ℕ) (q : Place) → Stands new b q → Stands old b q
   -- labels of what stands keep kind and epoch
   pub label : (b : ℕ) (q : Place) → Stands old b q → ((new.label b).epoch ≡ (old.label b).epoch)

@@ -12,6 +12,6 @@ use Rattle.fo_cells.proofs.laws.blocks_are_safe.Goals as goal
 
 pub returns : goal.returns
 returns c = record {
-  given = λ at high d p q tops doubts old new g other epoch below top stand waits safe. (remains_block other (give_adds g (λ t. Contains tops t) stand) (give_super g other), give_safe g other epoch below (q, top) waits safe);
+  given = λ at high d p tops doubts old new g other epoch below top stand waits safe. (remains_block other (give_adds g (λ t. Contains tops t) stand) (give_super g other), give_safe g other epoch below top waits safe);
   closed = λ b l old new r outside unclear. let k : KeepsSafe old new 0 = close_safe r outside unclear in (remains_nothing (close_adds r) k.supers, λ high doubts safe. safe_step (close_safe r outside unclear) safe);
 }
