@@ -119,11 +119,11 @@ fills_fire {at} {i} {leaf} {old} {new} slots now before fills r same adds = reco
     in_mid : (image other : Image) → Images new image → IsCleared (OrCell slots at i) now image other → Images old (mid image other)
     in_mid image other m c = ⊎_elim
         (λ is. images_same old image (mid image other) (adds.each image m)
-            (λ b. slot_bytes image at i ((other at).slot i) b)
-            (λ b j. ⊎_elim
-            (λ e. subst (λ y. (with_slot image at i ((other at).slot i) y).slot j ≡ (image y).slot j) (sym e.0) (subst (λ n. (with_slot image at i ((other at).slot i) at).slot n ≡ (image at).slot n) (sym e.1) (slot_here image at i ((other at).slot i) ∙ is)))
-            (λ ne. slot_other image at i ((other at).slot i) b j ne)
-            (cell at i b j)))
+        (λ b. slot_bytes image at i ((other at).slot i) b)
+        (λ b j. ⊎_elim
+        (λ e. subst (λ y. (with_slot image at i ((other at).slot i) y).slot j ≡ (image y).slot j) (sym e.0) (subst (λ n. (with_slot image at i ((other at).slot i) at).slot n ≡ (image at).slot n) (sym e.1) (slot_here image at i ((other at).slot i) ∙ is)))
+        (λ ne. slot_other image at i ((other at).slot i) b j ne)
+        (cell at i b j)))
         (λ x. fire_fill r image (mid image other) m (slot_bytes image at i ((other at).slot i)) (slot_other image at i ((other at).slot i)) (slot_here image at i ((other at).slot i) ∙ x.1 ∙ ap cleared same))
         (c.each at i)
 

@@ -219,7 +219,7 @@ module _ {d : Content} {old new : Known} (t : TriesSuper d old new) where
       (λ is. inr is)
       (t.versions c (subst (λ (cs : List Content). Contains cs c) (written_is new 1 (at_b 1 t.same.newborn ∙ t.same.settled)) h))
 
-  may_tried : (a j : ℕ) (x : Slot) → MaySlot new a j x → MaySlot old a j x ⊎ ((a ≡ 1) × (x ≡ d.slot j))
+  pub may_tried : (a j : ℕ) (x : Slot) → MaySlot new a j x → MaySlot old a j x ⊎ ((a ≡ 1) × (x ≡ d.slot j))
   may_tried a j x h = ⊎_elim
       (λ e. ⊎_elim (λ was. inl (subst (λ y. MaySlot old y j x) (sym e) was)) (λ is. inr (e, is)) (here (subst (λ y. MaySlot new y j x) e h)))
       (λ ne. inl (may_other t.same a j x ne h))
@@ -256,12 +256,12 @@ module _ {d : Content} {old new : Known} (t : TriesSuper d old new) where
         low = t.same.low;
         named = λ a j b c p st h e.
             let n = ⊎_elim
-                (λ is. ⊎_elim
-                (λ was. kept.named a j b c p st (subst (λ y. Contains (written old y) c) (sym is) was) e)
-                (λ new_is. let f = t.fits p j b (subst (λ y. Stands old y p) is st) (ap (λ (x : Content). target (x.slot j)) (sym new_is) ∙ e) in (f.2, f.3))
-                (version_case c (subst (λ y. Contains (written new y) c) is h)))
-                (λ ne. kept.named a j b c p st (written_other t.same a c ne h) e)
-                (cases_eq a 1) in (
+            (λ is. ⊎_elim
+            (λ was. kept.named a j b c p st (subst (λ y. Contains (written old y) c) (sym is) was) e)
+            (λ new_is. let f = t.fits p j b (subst (λ y. Stands old y p) is st) (ap (λ (x : Content). target (x.slot j)) (sym new_is) ∙ e) in (f.2, f.3))
+            (version_case c (subst (λ y. Contains (written new y) c) is h)))
+            (λ ne. kept.named a j b c p st (written_other t.same a c ne h) e)
+            (cases_eq a 1) in (
               n.0,
               may_name_still old new b t.same.label t.same.low (at_b b t.same.newborn ∙ n.1.settled) (λ l is. n.1.labels l (subst (λ (g : ℕ → List Label). Contains (g b) l) t.same.labels is)),
             );
@@ -281,9 +281,9 @@ module _ {d : Content} {old new : Known} (t : CountsSuper d old new) where
   counts_adds = record {
     each = λ image r.
         let same : SameContent (image 1) d = ⊎_elim
-            (λ m. same_joins m (same_if t.here))
-            (λ v. same_joins v.2 (same_if (t.quiet v.0 (t.versions v.0 v.1))))
-            r.super in record {
+        (λ m. same_joins m (same_if t.here))
+        (λ v. same_joins v.2 (same_if (t.quiet v.0 (t.versions v.0 v.1))))
+        r.super in record {
           cells = back t.same image image r.cells false (λ b ne. same_content (image b)) (λ i. inl (record { content = d; among = d_seen; is = sym (same.slots i) })) (λ f. absurd (cc)) (λ f. record { content = d; among = d_seen; is = sym same.bytes });
           super = inr (d, t.some, same);
         };
@@ -316,9 +316,9 @@ module _ {d : Content} {old new : Known} (t : CountsSuper d old new) where
         low = t.same.low;
         named = λ a j b c p st h e.
             let n = kept.named a j b c p st (⊎_elim
-                (λ is. subst (λ y. Contains (written old y) c) (sym is) (subst (λ (cs : List Content). Contains cs c) (sym (written_is old 1 t.same.settled)) (t.versions c (subst (λ (cs : List Content). Contains cs c) (written_is new 1 (at_b 1 t.same.newborn ∙ t.same.settled)) (subst (λ y. Contains (written new y) c) is h)))))
-                (λ ne. written_other t.same a c ne h)
-                (cases_eq a 1)) e in (
+            (λ is. subst (λ y. Contains (written old y) c) (sym is) (subst (λ (cs : List Content). Contains cs c) (sym (written_is old 1 t.same.settled)) (t.versions c (subst (λ (cs : List Content). Contains cs c) (written_is new 1 (at_b 1 t.same.newborn ∙ t.same.settled)) (subst (λ y. Contains (written new y) c) is h)))))
+            (λ ne. written_other t.same a c ne h)
+            (cases_eq a 1)) e in (
               n.0,
               may_name_still old new b t.same.label t.same.low (at_b b t.same.newborn ∙ n.1.settled) (λ l is. n.1.labels l (subst (λ (g : ℕ → List Label). Contains (g b) l) t.same.labels is)),
             );

@@ -46,7 +46,12 @@ impl Buffers {
 
     /// Writes a block, where all blocks that its slots lead to were settled whole since they were given out; else it answers false,
     /// and does nothing.
-    pub fn flush_ready<D: Disk>(&mut self, disk: &mut D, at: u32, targets: &[u32]) -> Result<bool, Failed>
+    pub fn flush_ready<D: Disk>(
+        &mut self,
+        disk: &mut D,
+        at: u32,
+        targets: &[u32],
+    ) -> Result<bool, Failed>
         requires block { at < D.size disk.old }
         requires within { at < length self.old.all.items }
         ensures step { (rest : Mind) → (result ≡ Ok false → ⊥) → at < length (D.holds disk.old) → MayWriteOver (mind_of rest self.old.all.items) (D.holds disk.old) at (slice_index_or (map bytes_in self.old.all.items) at []) targets.now → Stepped (mind_of rest self.old.all.items) (mind_of (note at (not (is_err result)) rest) self.new.all.items) (D.unsure disk.old) (D.unsure disk.new) (D.holds disk.old) (D.holds disk.new) }

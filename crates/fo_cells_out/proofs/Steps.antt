@@ -11,12 +11,16 @@ use Rattle.fo_crash.specs.Images.{Content, Image, target}
 use Rattle.fo_crash.specs.Places.{place_below}
 use Rattle.fo_crash.specs.Steps.{cleared}
 use Rattle.fo_cells.specs.Known.{Known, Clear, Top, IsClear, MaySlot, IsKept, Stands}
+use Rattle.fo_cells.specs.Calls.{PutsInto, Awaits, WaitsMore, TriesSuper}
 use Rattle.fo_cells.specs.Writes.{Writes, WritesLabels, Syncs, Ends, Puts, Relabels, Gives, Fires}
 use Rattle.fo_cells_out.specs.Removals.{Pending, AreBehind, IsCovered}
-use Rattle.fo_cells_out.specs.Parents.{Tree, Points, Over, IsUnwritten, Parents, IsTree, IsForest, Moves, Takes, Stays, Awaits, making, view}
+use Rattle.fo_cells_out.specs.Parents.{Tree, Points, Over, IsUnwritten, Parents, IsTree, IsForest, Moves, Takes, Stays, making, view}
 use Rattle.fo_cells.proofs.Standing.{at_b, stands_by, stands_top, stands_below}
 use Rattle.fo_cells.proofs.Keeping.{stands_fewer}
 use Rattle.fo_cells.proofs.Settling.{Fewer, may_fewer, sync_fewer, labels_fewer, ends_fewer, same_seen}
+use Rattle.fo_cells.proofs.Bytes.{may_bytes}
+use Rattle.fo_cells.proofs.Waiting.{more_fewer}
+use Rattle.fo_cells.proofs.Super.{super_stands, may_tried}
 use Rattle.fo_cells.proofs.Putting.{may_put, stands_put}
 use Rattle.fo_cells_out.proofs.Parents.{parents_taken}
 
@@ -320,22 +324,64 @@ cleared_leads (Prev epoch at) b e = absurd (cc)
 
 pub await_stays : {at i leaf : ℕ} {old new : Known} (t : Tree) → Awaits at i leaf old new → (t.Made at → ⊥) → Stays old new t
 await_stays {at} {i} {leaf} {old} {new} t w linked = record {
-  slots = λ a j. ap (λ (m : Image). (m a).slot j) w.memory;
-  stands = stands_by (λ x h. stands_top x (subst (λ (ts : List Top). Contains ts x) w.tops h)) (λ a j s p b st may e. stands_below j s b st (back a j b s may e) e);
+  slots = λ a j. ap (λ (m : Image). (m a).slot j) w.same.memory;
+  stands = stands_by (λ x h. stands_top x (subst (λ (ts : List Top). Contains ts x) w.same.tops h)) (λ a j s p b st may e. stands_below j s b st (back a j b s may e) e);
   may = back;
   unwritten = λ a is m. record {
     newborn = at_b a w.device.newborn ∙ m.newborn;
     late = λ c k. m.late c (subst (λ (xs : List Content). Contains xs c) (at_b a w.device.late) k);
     clears = λ j l k. ⊎_elim (λ was. m.clears j l was) (λ n. linked (subst (λ y. t.Made y) n.0 is)) (w.clears a j l k);
   };
-  tops = λ y k. subst (λ (ts : List Top). Contains ts y) w.tops k;
+  tops = λ y k. subst (λ (ts : List Top). Contains ts y) w.same.tops k;
 }
   where
     back : (a j b : ℕ) (s : Slot) → MaySlot new a j s → target s ≡ Local b → MaySlot old a j s
     back a j b s may e = ⊎_elim
-        (λ has. inl (record { content = has.content; among = subst (λ (cs : List Content). Contains cs has.content) (same_seen old new w.memory w.device.newborn w.device.late w.device.versions a) has.among; is = has.is }))
+        (λ has. inl (record { content = has.content; among = subst (λ (cs : List Content). Contains cs has.content) (same_seen old new w.same.memory w.device.newborn w.device.late w.device.versions a) has.among; is = has.is }))
         (λ x. inr (⊎_elim
-        (λ is. inl (is ∙ ap (λ (m : Image). (m a).slot j) w.memory))
+        (λ is. inl (is ∙ ap (λ (m : Image). (m a).slot j) w.same.memory))
         (λ c. absurd (cleared_leads ((new.memory a).slot j) b (ap target (sym c.2) ∙ e)))
         x))
         may
+
+-- OTHER BYTES
+pub bytes_stays : {at : ℕ} {bytes : List ℕ} {old new : Known} (t : Tree) → PutsInto at bytes old new → Stays old new t
+bytes_stays {at} {bytes} {old} {new} t u = record {
+  slots = u.memory.slots;
+  stands = stands_by (λ x h. stands_top x (subst (λ (ts : List Top). Contains ts x) u.tops h)) (λ a j s p b st may e. stands_below j s b st (may_bytes u a j s may) e);
+  may = λ a j b s may e. may_bytes u a j s may;
+  unwritten = λ a is m. record {
+    newborn = at_b a u.device.newborn ∙ m.newborn;
+    late = λ c k. m.late c (subst (λ (xs : List Content). Contains xs c) (at_b a u.device.late) k);
+    clears = λ j l k. m.clears j l (subst (λ (cs : List Clear). IsClear cs a j l) u.clears k);
+  };
+  tops = λ y k. subst (λ (ts : List Top). Contains ts y) u.tops k;
+}
+
+-- MORE WAITS
+pub more_stays : {old new : Known} (t : Tree) → WaitsMore old new → Stays old new t
+more_stays {old} {new} t w = fewer_stays t (more_fewer w) w.same.tops (λ a is m. record {
+  newborn = at_b a w.device.newborn ∙ m.newborn;
+  late = λ c k. m.late c (subst (λ (xs : List Content). Contains xs c) (at_b a w.device.late) k);
+  clears = λ j leaf k. m.clears j leaf (subst (λ (cs : List Clear). IsClear cs a j leaf) w.clears k);
+})
+
+-- A SUPER BLOCK IS TRIED whose slots lead where those of memory lead, as for a new limit of file numbers
+pub number_stays : {d : Content} {old new : Known} (t : Tree) → TriesSuper d old new → ((i : ℕ) → d.slot i ≡ (old.memory 1).slot i) → Stays old new t
+number_stays {d} {old} {new} t w same = record {
+  slots = λ a j. ⊎_elim
+      (λ e. subst (λ y. (new.memory y).slot j ≡ (old.memory y).slot j) (sym e) (ap (λ (c : Content). c.slot j) w.here))
+      (λ ne. ap (λ (c : Content). c.slot j) (w.same.memory a ne))
+      (cases_eq a 1);
+  stands = super_stands w;
+  may = λ a j b s may e. ⊎_elim
+      (λ was. was)
+      (λ n. inr (inl (n.1 ∙ same j ∙ ap (λ y. (old.memory y).slot j) (sym n.0))))
+      (may_tried w a j s may);
+  unwritten = λ a is m. record {
+    newborn = at_b a w.same.newborn ∙ m.newborn;
+    late = λ c k. m.late c (subst (λ (xs : List Content). Contains xs c) (at_b a w.same.late) k);
+    clears = λ j leaf k. m.clears j leaf (subst (λ (cs : List Clear). IsClear cs a j leaf) w.same.clears k);
+  };
+  tops = λ y k. subst (λ (ts : List Top). Contains ts y) w.same.tops k;
+}

@@ -7,7 +7,6 @@ use Rattle.fo_crash.specs.declared.place.Place.{Place}
 use Rattle.fo_crash.specs.Images.{Content, target}
 use Rattle.fo_cells.specs.Known.{Known, Top, IsClear, MaySlot, Stands}
 use Rattle.fo_cells_out.specs.Removals.{Pending, AreBehind, IsCovered}
-use Rattle.fo_cells.specs.Writes.{SameDevice}
 
 -- How the blocks that stand are divided.
 pub record Tree : Type 1 where
@@ -304,13 +303,6 @@ lost_once t x = record t { Within = λ b. t.Within b × (b ≢ x); Covered = λ 
 -- The same, seen from fewer tops: for what is queued at an epoch, from block 1, what was made, and the roots of epochs from that one on.
 abbrev pub view : Known → List Top → Known
 view k ts = record k { tops = ts }
-
--- Slot i of `at` begins to wait for a leaf: it may be cleared.
-pub record Awaits (at i leaf : ℕ) (old new : Known) : Type 0 where
-  pub memory : new.memory ≡ old.memory
-  pub tops : new.tops ≡ old.tops
-  pub device : SameDevice old new
-  pub clears : (b j l : ℕ) → IsClear new.clears b j l → IsClear old.clears b j l ⊎ ((b ≡ at) × (j ≡ i) × (l ≡ leaf))
 
 -- A NEW BLOCK: slot i of `at` led nowhere, and leads to a made block now, which comes into the tree with all that hangs from it (`Linked`).
 pub record Links (at i : ℕ) (s : Slot) (old new : Known) (t : Tree) (Linked : ℕ → Type 0) (y : ℕ) : Type 0 where
