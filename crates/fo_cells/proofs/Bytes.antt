@@ -1,11 +1,10 @@
 -- Bytes are put: images grow by the bytes of this block, and the invariant is kept.
-use Rattle.std.proofs.Common.{◌≡◌, ◌≢◌, ◌⊎◌, inl, inr, ⊎_elim, ℕ, Bool, true, false, List, sym, ◌∙◌, ap, subst}
+use Rattle.std.proofs.Common.{◌≡◌, ◌⊎◌, inl, inr, ⊎_elim, ℕ, Bool, true, false, List, sym, ◌∙◌, ap, subst}
 use Rattle.std.proofs.lemmas.Bool.{cases_eq}
 use Rattle.std.specs.List.{Contains}
 use Rattle.fo_image.specs.declared.types.Label.{Label}
-use Rattle.fo_image.specs.declared.types.Pointer.TheVariants.{Local}
 use Rattle.fo_crash.specs.declared.slot.Slot.{Slot}
-use Rattle.fo_crash.specs.Images.{Content, Image, target}
+use Rattle.fo_crash.specs.Images.{Content, Image}
 use Rattle.fo_crash.specs.Steps.{AddsNothing, AddsBytes, cleared}
 use Rattle.fo_crash.specs.Names.{SameUse}
 use Rattle.fo_crash.specs.Forms.{MayLeave, IsCleared, Written}

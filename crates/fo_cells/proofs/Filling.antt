@@ -1,16 +1,13 @@
 -- Slots that waited are cleared: each image that is left would, with any of them cleared, be one of before.
-use Rattle.std.proofs.Common.{◌≡◌, ◌≢◌, ◌⊎◌, inl, inr, ⊎_elim, ℕ, Bool, true, List, refl, sym, ◌∙◌, ap, subst}
-use Rattle.std.proofs.lemmas.Bool.{cases_eq}
-use Rattle.std.specs.List.{Contains}
+use Rattle.std.proofs.Common.{◌≡◌, ◌≢◌, ◌⊎◌, inl, inr, ⊎_elim, ℕ, List, refl, sym, ◌∙◌, ap, subst}
 use Rattle.fo_crash.specs.declared.slot.Slot.{Slot}
-use Rattle.fo_crash.specs.Images.{Content, Image, with_slot}
+use Rattle.fo_crash.specs.Images.{Image, with_slot}
 use Rattle.fo_crash.specs.Steps.{AddsNothing, IsCleared, Fills, cleared}
 use Rattle.fo_crash.specs.Names.{SameUse}
-use Rattle.fo_crash.specs.Forms.{MayLeave}
 use Rattle.fo_crash.specs.Forms.{IsCleared as Cleared}
 use Rattle.fo_crash.proofs.Equal.{bool_cases}
 use Rattle.fo_crash.proofs.Updates.{slot_bytes, slot_other, slot_here}
-use Rattle.fo_cells.specs.Known.{Known, HasSlot, HasBytes, IsWait, IsSince, Images, seen, waiting}
+use Rattle.fo_cells.specs.Known.{Known, HasSlot, HasBytes, IsSince, Images, seen, waiting}
 use Rattle.fo_cells.specs.Writes.{Fires}
 use Rattle.fo_cells.proofs.Standing.{cell}
 

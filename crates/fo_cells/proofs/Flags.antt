@@ -1,22 +1,22 @@
 -- Flags say what they should over each write and each sync, whatever the device answers; and where there is none, memory is settled.
-use Rattle.std.proofs.Common.{◌≡◌, ◌≢◌, ◌⊎◌, inl, inr, ⊎_elim, ℕ, zero, suc, ◌-◌, ◌<◌, Bool, true, false, cond, not, ◌&&◌, nat_eq, List, [], ◌∷◌, ◌++◌, map, length, drop, get_or, set, length-set, get_or-set_other, get_or-set_same, refl, sym, ◌∙◌, ap, subst, arith}
+use Rattle.std.proofs.Common.{◌≡◌, ◌≢◌, ⊎_elim, ℕ, zero, suc, ◌<◌, Bool, true, false, cond, not, ◌&&◌, nat_eq, List, [], ◌∷◌, length, drop, get_or, set, length-set, get_or-set_other, refl, sym, ◌∙◌, ap, subst, arith}
 use Rattle.std.proofs.lemmas.Bool.{cases_eq, cases_lt}
-use Rattle.std.proofs.lemmas.List.{get_or_push, length_push, get_or_past}
+use Rattle.std.proofs.lemmas.List.{length_push, get_or_past}
 use Rattle.std.specs.Prelude.{Result, Ok, Err, is_err}
 use Rattle.std.specs.List.{Contains}
-use Rattle.fo_disk.specs.Disk.{Block, Versions, versions_of, latest_of, newest, Adds, IsSettled}
-use Rattle.fo_disk.specs.Disk.{Content as Holds, Settles as DiskSettles, Writes as DiskWrites, Syncs as DiskSyncs}
+use Rattle.fo_disk.specs.Disk.{Block, Versions, versions_of, latest_of, newest, Adds}
+use Rattle.fo_disk.specs.Disk.{Content as Holds, Writes as DiskWrites, Syncs as DiskSyncs}
 use Rattle.fo_disk.proofs.Images.{adds-other, adds-here, appends-adds}
-use Rattle.fo_crash.specs.Images.{Content, SameContent}
+use Rattle.fo_crash.specs.Images.{Content}
 use Rattle.fo_crash.specs.Steps.{AllAre}
 use Rattle.fo_crash.proofs.Sure.{same_if}
-use Rattle.fo_cells.specs.Known.{Clear, IsClear, Remains, seen}
+use Rattle.fo_cells.specs.Known.{IsClear, Remains}
 use Rattle.fo_cells.specs.Device.{Mind, known, wrote, after_sync}
 use Rattle.fo_cells.specs.Flags.{Flags, FlagsFit, IsUnmarked, marked, after_sync_flags}
 use Rattle.fo_cells.specs.Safe.{IsSet}
 use Rattle.fo_cells.proofs.Standing.{seen_is}
 use Rattle.fo_cells.proofs.Settling.{quiet_all}
-use Rattle.fo_cells.proofs.Calls.{among_map, latest_push, nat_eq_here, nat_eq_other, flag_here, newest_one, both_left}
+use Rattle.fo_cells.proofs.Calls.{among_map, latest_push, nat_eq_here, nat_eq_other, flag_here, newest_one}
 
 -- the two parts of a test
 both_right : (a b : Bool) → (a && b) ≡ true → b ≡ true

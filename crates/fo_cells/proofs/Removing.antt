@@ -5,10 +5,10 @@ use Rattle.fo_image.specs.declared.types.Label.{Label}
 use Rattle.fo_image.specs.declared.types.Pointer.TheVariants.{Local}
 use Rattle.fo_crash.specs.declared.slot.Slot.{Slot}
 use Rattle.fo_crash.specs.declared.place.Place.{Place}
-use Rattle.fo_crash.specs.Images.{Content, Image, SameContent, target, to_block}
+use Rattle.fo_crash.specs.Images.{Content, Image, to_block}
 use Rattle.fo_crash.specs.Steps.{AddsNothing, AddsSlot, Brings, Fills, HasBytes, IsOneOf, cleared}
 use Rattle.fo_crash.proofs.Reach.{lost}
-use Rattle.fo_crash.proofs.Sure.{same_content, same_if}
+use Rattle.fo_crash.proofs.Sure.{same_if}
 use Rattle.fo_cells.specs.Known.{Known, Wait, Clear, IsWait, IsClear, IsSince, IsKept, IsLeft, Images, Remains, Stands}
 use Rattle.fo_cells.specs.Writes.{Puts, Gives, Relabels, Fires}
 use Rattle.fo_cells.specs.Calls.{IsSetLeaf, SuperStays}
@@ -16,7 +16,6 @@ use Rattle.fo_cells.specs.Safe.{IsLive}
 use Rattle.fo_cells.proofs.Standing.{at_b}
 use Rattle.fo_cells.proofs.Settling.{Fewer, fewer_adds, same_seen}
 use Rattle.fo_cells.proofs.Putting.{put_adds}
-use Rattle.fo_cells.proofs.Firing.{fire_adds}
 use Rattle.fo_cells.proofs.Filling.{fill_one}
 use Rattle.fo_cells.proofs.Waiting.{cleared_leads, leaf_set}
 use Rattle.fo_cells.proofs.Super.{remains_slot, super_fewer, whole_same}
@@ -64,8 +63,8 @@ one_fill {at} {i} {leaf} {old} {new} r other stays = record {
 }
 
 -- EVERY IMAGE OF THE DEVICE is one of these, as far as paths from the tops lead.
-pub shown : {k : Known} {image : Image} {labels : ℕ → Label} (tops : List ℕ) → IsKept k → k.newborn 1 ≡ false → IsLeft k image labels → ((t : ℕ) → Contains tops t → (p : Place) × Stands k t p × (k.newborn t ≡ false)) → IsOneOf (λ t. Contains tops t) (Remains k) image
-shown {k} {image} {labels} tops kept settled left stand = record {
+pub shown_from : {k : Known} {image : Image} {labels : ℕ → Label} (tops : ℕ → Type 0) → IsKept k → k.newborn 1 ≡ false → IsLeft k image labels → ((t : ℕ) → tops t → (p : Place) × Stands k t p × (k.newborn t ≡ false)) → IsOneOf tops (Remains k) image
+shown_from {k} {image} {labels} tops kept settled left stand = record {
   other = rebuilt k image;
   is = record {
     cells = rebuilt_may kept left.each;
@@ -84,3 +83,6 @@ shown {k} {image} {labels} tops kept settled left stand = record {
   where
     same_local : (a b : ℕ) → Local a ≡ Local b → a ≡ b
     same_local a b e = cc
+
+pub shown : {k : Known} {image : Image} {labels : ℕ → Label} (tops : List ℕ) → IsKept k → k.newborn 1 ≡ false → IsLeft k image labels → ((t : ℕ) → Contains tops t → (p : Place) × Stands k t p × (k.newborn t ≡ false)) → IsOneOf (λ t. Contains tops t) (Remains k) image
+shown tops kept settled left stand = shown_from (λ t. Contains tops t) kept settled left stand

@@ -1,16 +1,13 @@
 -- The whole invariant is kept by each step after which nothing stands anew; and what it gives.
-use Rattle.std.proofs.Common.{◌≡◌, ◌≢◌, ◌⊎◌, inl, inr, ⊎_elim, ℕ, ◌<◌, ◌≤◌, false, List, refl, sym, ◌∙◌, ap, subst, arith}
+use Rattle.std.proofs.Common.{◌≡◌, ◌≢◌, inl, inr, ⊎_elim, ℕ, ◌<◌, ◌≤◌, List, refl, sym, ◌∙◌, ap, subst}
 use Rattle.std.specs.List.{Contains}
-use Rattle.fo_image.specs.declared.types.Kind.TheVariants.{Dir}
 use Rattle.fo_image.specs.declared.types.Label.{Label}
-use Rattle.fo_image.specs.declared.types.State.TheVariants.{Live}
 use Rattle.fo_image.specs.declared.types.Pointer.TheVariants.{Local}
-use Rattle.fo_crash.specs.declared.slot.Slot.{Slot}
 use Rattle.fo_crash.specs.declared.place.Place.{Place}
-use Rattle.fo_crash.specs.Images.{Content, Image, SameContent, Reaches, target, to_block}
+use Rattle.fo_crash.specs.Images.{Content, target}
 use Rattle.fo_crash.specs.Places.{place_below}
-use Rattle.fo_crash.specs.Steps.{IsSure, HasSuper}
-use Rattle.fo_cells.specs.Known.{Known, MaySlot, Remains, Stands, seen}
+use Rattle.fo_crash.specs.Steps.{AllAre, IsSure, HasSuper}
+use Rattle.fo_cells.specs.Known.{Known, Remains, Stands}
 use Rattle.fo_cells.specs.Safe.{IsSet, IsLive, IsSafe, KeepsSafe}
 use Rattle.fo_cells.proofs.Standing.{seen_is, stands_below}
 use Rattle.fo_cells.proofs.Known.{sure}
@@ -65,3 +62,7 @@ safe_super safe = super_known safe.supers
 -- `falls`: in memory a block is of no later epoch than the one above it
 pub memory_falls : {k : Known} {high : ℕ} {doubt : Content → Type 0} → IsSafe k high doubt → (a i b : ℕ) (p : Place) → a ≢ 1 → Stands k a p → target ((k.memory a).slot i) ≡ Local b → (k.label b).epoch ≤ (k.label a).epoch
 memory_falls {k} safe a i b p ne st e = safe.epochs a i b ((k.memory a).slot i) p ne st (inr (inl refl)) e
+
+-- Where each block is set, memory is the only image.
+pub all_set : {k : Known} → ((b : ℕ) → IsSet k b) → AllAre k.memory (Remains k)
+all_set set = record { each = λ image r. record { each = λ b. (set_sure (set b)).each image r } }

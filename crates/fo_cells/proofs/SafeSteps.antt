@@ -1,23 +1,21 @@
 -- Each step keeps the whole invariant.
-use Rattle.std.proofs.Common.{◌≡◌, ◌≢◌, ◌⊎◌, inl, inr, ⊎_elim, ℕ, ◌<◌, ◌≤◌, true, false, List, [], refl, sym, ◌∙◌, ap, subst, arith}
-use Rattle.std.proofs.lemmas.Bool.{cases_eq}
+use Rattle.std.proofs.Common.{◌≡◌, ◌≢◌, ◌⊎◌, inl, inr, ⊎_elim, ℕ, ◌<◌, ◌≤◌, List, [], sym, ◌∙◌, ap, subst, arith}
 use Rattle.std.specs.List.{Contains}
 use Rattle.fo_image.specs.declared.types.Label.{Label}
 use Rattle.fo_image.specs.declared.types.Pointer.TheVariants.{Local}
 use Rattle.fo_crash.specs.declared.slot.Slot.{Slot}
-use Rattle.fo_crash.specs.declared.place.Place.{Place}
 use Rattle.fo_crash.specs.Images.{Content, Image, SameContent, Reaches, target, to_block}
 use Rattle.fo_crash.specs.Steps.{Brings, cleared}
-use Rattle.fo_crash.proofs.Sure.{same_content, same_joins, same_back, same_if}
+use Rattle.fo_crash.proofs.Sure.{same_joins, same_back, same_if}
 use Rattle.fo_crash.proofs.Covers.{slot_reaches, bytes_reach}
 use Rattle.fo_crash.proofs.Reach.{lost}
-use Rattle.fo_cells.specs.Known.{Known, Wait, Clear, Top, IsWait, IsClear, MaySlot, IsKept, Stands}
-use Rattle.fo_cells.specs.Writes.{SameMind, SameDevice, Writes, WritesLabels, Syncs, Ends, Puts, Relabels, Fires}
+use Rattle.fo_cells.specs.Known.{Known, Wait, Clear, Top, IsWait, IsClear, IsKept, Stands}
+use Rattle.fo_cells.specs.Writes.{SameDevice, Writes, WritesLabels, Syncs, Ends, Puts, Relabels, Fires}
 use Rattle.fo_cells.specs.Calls.{PutsInto, Awaits, WaitsMore, SuperStays}
-use Rattle.fo_cells.specs.Safe.{super_top, IsSet, IsLive, IsSafe, KeepsSafe, IsCurrent, MayWait, MayClear}
-use Rattle.fo_cells.proofs.Standing.{not_both, at_b, stands_by, stands_top, stands_below}
+use Rattle.fo_cells.specs.Safe.{super_top, IsSet, IsLive, KeepsSafe, IsCurrent, MayWait, MayClear}
+use Rattle.fo_cells.proofs.Standing.{at_b, stands_by, stands_top, stands_below}
 use Rattle.fo_cells.proofs.Keeping.{stands_fewer}
-use Rattle.fo_cells.proofs.Settling.{Fewer, may_fewer, labels_fewer, sync_fewer, ends_fewer, label_keeps, sync_keeps, settled_still, end_keeps}
+use Rattle.fo_cells.proofs.Settling.{may_fewer, labels_fewer, sync_fewer, ends_fewer, label_keeps, sync_keeps, settled_still, end_keeps}
 use Rattle.fo_cells.proofs.Writing.{write_keeps}
 
 -- A WRITE OF A BLOCK: of the active epoch, or of block 1 with what memory has

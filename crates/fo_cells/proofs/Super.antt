@@ -4,10 +4,9 @@ use Rattle.std.proofs.lemmas.Bool.{cases_eq}
 use Rattle.std.specs.Prelude.{not}
 use Rattle.std.specs.List.{Contains}
 use Rattle.fo_image.specs.declared.types.Label.{Label}
-use Rattle.fo_image.specs.declared.types.Pointer.TheVariants.{Local}
 use Rattle.fo_crash.specs.declared.slot.Slot.{Slot}
 use Rattle.fo_crash.specs.declared.place.Place.{Place}
-use Rattle.fo_crash.specs.Images.{Content, Image, SameContent, target, with_slot, with_bytes, with_block}
+use Rattle.fo_crash.specs.Images.{Content, Image, SameContent, target, with_slot, with_block}
 use Rattle.fo_crash.specs.Places.{place_below}
 use Rattle.fo_crash.specs.Steps.{AddsNothing, AddsSlot, AddsBytes, AddsBlock, AddsSuper, HasSuper, cleared}
 use Rattle.fo_crash.specs.Names.{SameUse}
@@ -17,7 +16,7 @@ use Rattle.fo_crash.proofs.Updates.{slot_bytes, slot_other, bytes_other, block_o
 use Rattle.fo_crash.proofs.Equal.{bool_cases}
 use Rattle.fo_cells.specs.Known.{Known, Wait, Clear, Top, HasSlot, HasBytes, IsWait, IsClear, IsSince, MaySlot, Images, IsWholeSuper, Remains, IsKept, Stands, seen, written, waiting}
 use Rattle.fo_cells.specs.Calls.{SameButSuper, TriesSuper, CountsSuper, HasSupers, SuperStays}
-use Rattle.fo_cells.proofs.Standing.{seen_is, seen_born, written_is, written_born, first_among, next_among, among_cases, not_both, at_b, stands_by, stands_top, stands_below}
+use Rattle.fo_cells.proofs.Standing.{seen_is, seen_born, written_is, written_born, first_among, next_among, among_cases, at_b, stands_by, stands_top, stands_below}
 use Rattle.fo_cells.proofs.Keeping.{Steps, kept_by, may_name_still}
 use Rattle.fo_cells.proofs.Giving.{chosen, chosen_here, chosen_other}
 use Rattle.fo_cells.proofs.Known.{memory_may}

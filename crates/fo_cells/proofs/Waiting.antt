@@ -1,17 +1,16 @@
 -- A slot begins to wait for a leaf, and leaves wait for more.
-use Rattle.std.proofs.Common.{◌≡◌, ◌⊎◌, inl, inr, ⊎_elim, ℕ, List, sym, ◌∙◌, ap, subst}
+use Rattle.std.proofs.Common.{◌≡◌, inl, inr, ⊎_elim, ℕ, List, sym, ◌∙◌, ap, subst}
 use Rattle.std.specs.List.{Contains}
 use Rattle.fo_image.specs.declared.types.Label.{Label}
 use Rattle.fo_image.specs.declared.types.Pointer.TheVariants.{Local}
 use Rattle.fo_crash.specs.declared.slot.Slot.{Slot}
 use Rattle.fo_crash.specs.declared.slot.Slot.TheVariants.{Pointer as To, Entry as Head, Prev}
-use Rattle.fo_crash.specs.declared.place.Place.{Place}
 use Rattle.fo_crash.specs.Images.{Content, Image, target}
 use Rattle.fo_crash.specs.Steps.{AddsNothing, AddsSlot, HasBytes as AllHave, cleared}
 use Rattle.fo_crash.specs.Forms.{MayLeave, Begins}
 use Rattle.fo_crash.proofs.Forms.{begins_form}
 use Rattle.fo_crash.proofs.Equal.{bool_cases}
-use Rattle.fo_cells.specs.Known.{Known, Wait, Clear, Top, HasSlot, HasBytes, IsWait, IsClear, IsSince, MaySlot, Images, IsKept, Stands, seen, waiting}
+use Rattle.fo_cells.specs.Known.{Known, Wait, Clear, Top, HasSlot, HasBytes, IsWait, IsClear, IsSince, MaySlot, Images, IsKept, seen, waiting}
 use Rattle.fo_cells.specs.Calls.{Awaits, WaitsMore, IsSetLeaf}
 use Rattle.fo_cells.proofs.Standing.{at_b, stands_by, stands_top, stands_below}
 use Rattle.fo_cells.proofs.Keeping.{Steps, kept_by, may_name_still}

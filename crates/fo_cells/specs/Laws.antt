@@ -10,7 +10,7 @@ use Rattle.fo_crash.specs.Images.{Content, Image, SameContent, Reaches, target, 
 use Rattle.fo_crash.specs.Steps.{AddsNothing, AddsSlot, AddsBytes, AddsBlock, AddsSuper, Brings, Fills, HasBytes, HasSuper, IsSure, IsOneOf, AllAre, cleared}
 use Rattle.fo_crash.specs.Names.{SameUse}
 use Rattle.fo_crash.specs.Places.{IsPlaced, OnePlace, RanksFall}
-use Rattle.fo_cells.specs.Known.{Known, Top, IsWait, IsClear, IsKept, IsLeft, Remains, Stands}
+use Rattle.fo_cells.specs.Known.{Known, IsWait, IsClear, IsLeft, Remains, Stands}
 use Rattle.fo_cells.specs.Writes.{Writes, WritesLabels, Syncs, Ends, Puts, Gives, Relabels, Fires}
 use Rattle.fo_cells.specs.Calls.{PutsInto, Awaits, WaitsMore, IsSetLeaf, TriesSuper, CountsSuper}
 use Rattle.fo_cells.specs.Safe.{super_top, IsLive, IsSafe, IsCurrent, MayWait, MayClear}

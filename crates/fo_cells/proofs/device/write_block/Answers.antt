@@ -1,5 +1,5 @@
 use Rattle.std.proofs.Common.{List, Bool, sym, subst}
-use Rattle.fo_cells.specs.Device.{Mind, Stepped, wrote}
+use Rattle.fo_cells.specs.Device.{Stepped, wrote}
 use Rattle.std.specs.Prelude.{not, is_err}
 use Rattle.fo_cells.proofs.Calls.{write_steps}
 use Rattle.fo_cells.proofs.device.write_block.Goals as goal

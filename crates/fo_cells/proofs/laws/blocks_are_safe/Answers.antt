@@ -1,6 +1,4 @@
-use Rattle.std.proofs.Common.{sym, inl, ap, subst, List}
 use Rattle.std.specs.List.{Contains}
-use Rattle.fo_crash.specs.Images.{Content}
 use Rattle.fo_cells.specs.Safe.{KeepsSafe}
 use Rattle.fo_cells.proofs.Giving.{give_adds}
 use Rattle.fo_cells.proofs.Removing.{close_adds, give_super}

@@ -1,4 +1,3 @@
-use Rattle.std.proofs.Common.{refl}
 use Rattle.fo_cells.specs.Safe.{KeepsSafe}
 use Rattle.fo_cells.proofs.Waiting.{await_adds, more_adds}
 use Rattle.fo_cells.proofs.Firing.{fire_adds}

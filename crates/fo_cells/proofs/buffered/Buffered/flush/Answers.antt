@@ -1,4 +1,4 @@
-use Rattle.std.proofs.Common.{◌<◌, length, sym, subst}
+use Rattle.std.proofs.Common.{◌<◌, subst}
 use Rattle.fo_cells.specs.Kept.{bare}
 use Rattle.fo_cells.proofs.Calls.{told_block}
 use Rattle.fo_cells.proofs.buffered.Buffered.flush.Goals as goal

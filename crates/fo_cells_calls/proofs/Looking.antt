@@ -1,0 +1,33 @@
+-- A call that only looks, as the trait says it.
+use Rattle.std.proofs.Common.{◌≡◌, refl, false}
+use Rattle.fo_crash.proofs.Sure.{same_content}
+use Rattle.fo_cells.specs.Known.{Known, IsKept}
+use Rattle.fo_cells.proofs.Removing.{shown_from}
+use Rattle.fo_cells_calls.specs.State.{Rest, Looked, state_of}
+use Rattle.fo_ports.specs.State.{Looks}
+
+pub looks : {k : Known} (x y : Rest) → IsKept k → k.newborn 1 ≡ false → Looked k x y → Looks (state_of k x) (state_of k y)
+looks {k} x y kept settled l = record {
+  memory = λ told. record { each = λ b. same_content (k.memory b) };
+  known = λ b pinned. same_content (k.memory b);
+  images = record { each = λ image h. (l.tells h.0, h.1) };
+  passes = record {
+    later = l.later;
+    before = λ n image le h. l.before n image le h;
+    within = λ n image lt le h. let (told, (labels, left)) = l.within n image lt le h in let o = shown_from x.tops kept settled left l.tops in record { other = o.other; is = (told, o.is); same = o.same };
+  };
+  stays = record {
+    labels = λ b unmade. refl;
+    marks = λ b unmade. l.marks b;
+    places = λ told b p unmade unput uncovered st. (l.still st.0, st.1);
+    apart = λ b unmade unput. l.apart b;
+    instead = λ b a unmade unput. l.instead b a;
+    waits = λ a on j ua uo po w. w;
+  };
+  order = record { clearing = λ b j c. (λ none. none, c) };
+  covered = record { covered = l.covered };
+  no_wait = record { each = λ a on j but w. w };
+  dirty = l.dirty;
+  room = l.room;
+  numbers = record { next = l.numbers.0; grants = l.numbers.1 };
+}
