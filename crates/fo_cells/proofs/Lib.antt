@@ -16,6 +16,7 @@ pub mod Safe
 pub mod SafeSteps
 pub mod SafeCalls
 pub mod Removing
+pub mod Indexing
 pub mod Calls
 pub mod Flags
 pub mod Buffering

@@ -2,11 +2,13 @@
 use Rattle.std.specs.Prelude.{◌≡◌, ◌≢◌, ◌⊎◌, ◌<◌, ℕ, true, false, List}
 use Rattle.std.specs.List.{Contains}
 use Rattle.fo_image.specs.declared.types.Pointer.TheVariants.{Local}
+use Rattle.fo_image.specs.Usable.{is_usable}
+use Rattle.fo_crash.specs.declared.slot.Slot.{Slot}
 use Rattle.fo_crash.specs.declared.place.Place.{Place}
 use Rattle.fo_crash.specs.Images.{Content, SameContent, target}
 use Rattle.fo_crash.specs.Places.{place_below}
 use Rattle.fo_crash.specs.Steps.{PutsBytes}
-use Rattle.fo_cells.specs.Known.{Known, HasBytes, IsWait, IsClear, IsSince, MayName, Stands, seen}
+use Rattle.fo_cells.specs.Known.{Known, Top, MaySlot, HasBytes, IsWait, IsClear, IsSince, MayName, Stands, seen}
 use Rattle.fo_cells.specs.Writes.{SameMind, SameDevice}
 
 -- Bytes that spell no slot are put in memory.
@@ -83,3 +85,16 @@ pub record HasSupers (k : Known) (doubt : Content → Type 0) : Type 0 where
 pub record SuperStays (old new : Known) : Type 0 where
   pub memory : SameContent (new.memory 1) (old.memory 1)
   pub versions : (c : Content) → Contains (new.versions 1) c → Contains (old.versions 1) c ⊎ SameContent c (old.memory 1)
+
+-- A block that was made gets the place at which it is put, before it is: no slot leads to it, and none of its own leads on.
+pub record Indexes (at : ℕ) (q : Place) (old new : Known) : Type 0 where
+  pub memory : new.memory ≡ old.memory
+  pub device : SameDevice old new
+  pub label : new.label ≡ old.label
+  pub low : new.low ≡ old.low
+  pub waits : new.waits ≡ old.waits
+  pub clears : new.clears ≡ old.clears
+  pub tops : (t : Top) → Contains new.tops t → (Contains old.tops t × (t.at ≢ at)) ⊎ ((t.at ≡ at) × (t.place ≡ q))
+  pub unled : (a i : ℕ) (s : Slot) (p : Place) → Stands old a p → MaySlot old a i s → target s ≡ Local at → ⊥
+  pub empty : (i b : ℕ) (s : Slot) → MaySlot old at i s → target s ≡ Local b → ⊥
+  pub fits : ((old.label at).kind ≡ q.kind) × ((old.label at).tag ≡ q.tag) × (is_usable old.low (old.label at) ≡ false)

@@ -12,7 +12,7 @@ use Rattle.fo_crash.specs.Names.{SameUse}
 use Rattle.fo_crash.specs.Places.{IsPlaced, OnePlace, RanksFall}
 use Rattle.fo_cells.specs.Known.{Known, IsWait, IsClear, IsLeft, Remains, Stands}
 use Rattle.fo_cells.specs.Writes.{Writes, WritesLabels, Syncs, Ends, Puts, Gives, Relabels, Fires}
-use Rattle.fo_cells.specs.Calls.{PutsInto, Awaits, WaitsMore, IsSetLeaf, TriesSuper, CountsSuper}
+use Rattle.fo_cells.specs.Calls.{PutsInto, Awaits, WaitsMore, IsSetLeaf, TriesSuper, CountsSuper, Indexes}
 use Rattle.fo_cells.specs.Safe.{super_top, IsLive, IsSafe, IsCurrent, MayWait, MayClear}
 use Rattle.fo_cells.specs.Device.{Mind, known}
 use Rattle.fo_cells.specs.Flags.{Flags, FlagsFit, IsUnmarked}
@@ -68,6 +68,10 @@ ClearingIsSafe = (at i leaf : ℕ) (old new : Known) → Fires at i leaf old new
 abbrev pub GivingIsSafe : Type 0
 GivingIsSafe = (at high : ℕ) (c : Content) (p : Place) (tops : List ℕ) (doubts : List Content) (old new : Known) → Gives at c p old new → at ≢ 1 → (new.label at).epoch ≡ high → ((i t : ℕ) → target (c.slot i) ≡ Local t → (old.label t).epoch ≤ high) → KeepsTop old new → ((t : ℕ) → Contains tops t → (r : Place) × Stands old t r) → NoWait old new → Safe old high doubts → AddsBlock (λ t. Contains tops t) at c (Remains old) (Remains new) × Safe new high doubts
 
+-- A block that was made gets its place.
+abbrev pub IndexingIsSafe : Type 0
+IndexingIsSafe = (at high : ℕ) (q : Place) (doubts : List Content) (old new : Known) → Indexes at q old new → KeepsTop old new → (old.label at).epoch ≡ high → ((leaf on j : ℕ) → IsWait old.waits leaf on j → (leaf ≢ at) × (on ≢ at)) → Safe old high doubts → AddsNothing (Remains old) (Remains new) × Safe new high doubts
+
 -- A block is closed that isn't in the tree of memory.
 abbrev pub ClosingIsSafe : Type 0
 ClosingIsSafe = (b : ℕ) (l : Label) (old new : Known) → Relabels b l old new → (Reaches old.memory (to_block 1) b → ⊥) → ((i leaf : ℕ) → IsClear old.clears b i leaf → ⊥) → IsQuiet old new
@@ -78,6 +82,10 @@ SuperIsSafe = (d : Content) (high : ℕ) (doubts : List Content) (old new : Know
 -- A super block that was tried, and is alone on the device, counts.
 abbrev pub CountingIsSafe : Type 0
 CountingIsSafe = (d : Content) (high : ℕ) (old new : Known) → CountsSuper d old new → ((b : ℕ) → b ≢ 1 → Reaches new.memory (to_block 1) b → IsLive high (old.label b)) → IsSafe old high (λ c. SameContent c d) → AddsNothing (Remains old) (Remains new) × IsSafe new high (λ c. ⊥)
+
+-- A doubt is overruled: block 1 was written anew with what memory has, and settled.
+abbrev pub OverrulingIsSafe : Type 0
+OverrulingIsSafe = (high : ℕ) (doubts : List Content) (k : Known) → ((c : Content) → Contains (k.versions 1) c → SameContent c (k.memory 1)) → Safe k high doubts → IsSafe k high (λ c. ⊥)
 
 -- WHAT THE INVARIANT GIVES
 -- Every image of the device is one of these, as far as paths from tops lead that were settled whole.

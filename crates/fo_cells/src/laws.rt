@@ -1,5 +1,5 @@
 //! Laws of the steps. Each function does nothing: its contract is the law, so that the law is proved with the crate.
-ghost use Rattle.fo_cells.specs.Laws.{WriteIsSafe, LabelIsSafe, SyncIsSafe, EndIsSafe, SlotIsSafe, BytesAreSafe, AwaitIsSafe, RemovalIsSafe, WaitIsSafe, ClearingIsSafe, GivingIsSafe, ClosingIsSafe, SuperIsSafe, CountingIsSafe, ImagesAreShown, MemoryIsLeft, PlacesHold, OlderIsSure, SuperIsKnown, AllIsSettled};
+ghost use Rattle.fo_cells.specs.Laws.{WriteIsSafe, LabelIsSafe, SyncIsSafe, EndIsSafe, SlotIsSafe, BytesAreSafe, AwaitIsSafe, RemovalIsSafe, WaitIsSafe, ClearingIsSafe, GivingIsSafe, IndexingIsSafe, ClosingIsSafe, SuperIsSafe, CountingIsSafe, OverrulingIsSafe, ImagesAreShown, MemoryIsLeft, PlacesHold, OlderIsSure, SuperIsKnown, AllIsSettled};
 
 /// A write of a block or of a block of labels, a sync, and the end of a wait add no image, and keep the invariant.
 pub fn device_steps_are_safe()
@@ -28,6 +28,7 @@ pub fn waits_are_safe()
 /// keeps a label that fits.
 pub fn blocks_are_safe()
     ensures given { GivingIsSafe }
+    ensures indexed { IndexingIsSafe }
     ensures closed { ClosingIsSafe }
 {}
 
@@ -35,6 +36,7 @@ pub fn blocks_are_safe()
 pub fn supers_are_safe()
     ensures tried { SuperIsSafe }
     ensures counts { CountingIsSafe }
+    ensures overruled { OverrulingIsSafe }
 {}
 
 /// What the images are.
