@@ -1,3 +1,4 @@
 pub mod Images
 pub mod Looking
 pub mod Filling
+pub mod Reading

@@ -1,18 +1,23 @@
 -- Each method of `Blocks`, as a step of a cache: what it adds to the images.
-use Rattle.std.specs.Prelude.{◌≡◌, ◌≢◌, ◌⊎◌, ◌≤◌, ℕ, List}
+use Rattle.fo_image.specs.declared.types.Pointer.TheVariants.{Local}
+use Rattle.std.specs.List.{Contains}
+use Rattle.std.specs.Prelude.{◌≡◌, ◌≢◌, ◌⊎◌, ◌<◌, ◌≤◌, ℕ, List}
 use Rattle.fo_image.specs.declared.types.Label.{Label}
 use Rattle.fo_crash.specs.declared.slot.Slot.{Slot}
 use Rattle.fo_crash.specs.declared.place.Place.{Place}
-use Rattle.fo_crash.specs.Images.{Content, SameContent, Reaches, to_block}
-use Rattle.fo_crash.specs.Steps.{AddsNothing, AddsSlot, AddsBytes, AddsBlock, AddsSuper, Brings, Fills, HasBytes, AllAre, PutsBlock, cleared}
+use Rattle.fo_crash.specs.Images.{Content, SameContent, Reaches, to_block, Image, target}
+use Rattle.fo_crash.specs.Steps.{AddsNothing, AddsSlot, AddsBytes, AddsBlock, AddsSuper, Brings, Fills, HasBytes, HasSuper, IsSure, IsOneOf, AllAre, PutsBlock, cleared}
+use Rattle.fo_image.specs.declared.types.Kind.TheVariants.{Dir}
+use Rattle.fo_image.specs.declared.types.State.TheVariants.{Live}
+use Rattle.fo_crash.specs.Places.{super_place, IsPlaced, OnePlace, RanksFall}
 use Rattle.fo_crash.specs.Names.{SameUse}
 use Rattle.fo_cells.specs.Known.{Known, IsWait, IsClear, Stands}
 use Rattle.fo_cells.specs.Writes.{Writes, WritesLabels, Syncs, Ends, Puts, Gives, Relabels, Fires}
 use Rattle.fo_cells.specs.Calls.{PutsInto, Awaits, WaitsMore, IsSetLeaf, TriesSuper}
 use Rattle.fo_cells.specs.Safe.{IsLive, IsCurrent, MayWait, MayClear, IsSet}
 use Rattle.fo_cells.specs.Laws.{Safe, KeepsTop, NoWait}
-use Rattle.fo_cells_calls.specs.State.{Rest, Looked, OthersWait, RaisesLimit, state_of}
-use Rattle.fo_ports.specs.State.{Looks, WasCleared}
+use Rattle.fo_cells_calls.specs.State.{Rest, Looked, Reads, OthersWait, RaisesLimit, state_of}
+use Rattle.fo_ports.specs.State.{Looks, WasCleared, State, IsPairUsed}
 
 -- `get`
 abbrev pub GetLooks : Known → Rest → Rest → Type 0
@@ -62,3 +67,24 @@ ClosingRests old new x y = (y.tells → x.tells) → (b : ℕ) (l : Label) → R
 -- `settle`, answered Ok: the clause `all`
 abbrev pub SettleLeaves : Known → Rest → Type 0
 SettleLeaves k x = ((b : ℕ) → IsSet k b) → AllAre (state_of k x).now (state_of k x).may_leave
+
+-- LAWS of the trait that hold of what is read off a cache
+pub record TraitLaws (s : State) : Type 0 where
+  pub present : s.tells → s.may_leave s.now
+  pub shown : (image : Image) → s.left s.moments image → IsOneOf s.tops s.may_leave image
+  pub told : (image : Image) → s.may_leave image → s.tells
+  pub one_place : OnePlace s.stands
+  pub super_stands : s.tells → s.stands 1 super_place
+  pub placed : (image : Image) → s.may_leave image → IsPlaced s.stands image
+  pub ranked : (image : Image) → s.may_leave image → RanksFall s.stands image
+  pub labelled : (at : ℕ) (p : Place) → s.tells → at ≢ 1 → s.stands at p → s.is_block at × ((s.label at).kind ≡ p.kind) × ((s.label at).tag ≡ p.tag)
+  pub live : (at : ℕ) → s.tells → at ≢ 1 → Reaches s.now (to_block 1) at → ((s.label at).state ≡ Live) × ((s.label at).epoch ≤ s.high) × (s.covered at → ⊥)
+  pub falls : (t at i below : ℕ) → s.tells → s.tops t → at ≢ 1 → Reaches s.now (to_block t) at → target ((s.now at).slot i) ≡ Local below → (s.label below).epoch ≤ (s.label at).epoch
+  pub old_is_sure : (t at : ℕ) → s.tops t → at ≢ 1 → Reaches s.now (to_block t) at → (s.label at).epoch < s.high → IsSure s.now at s.may_leave
+  pub sure : (at : ℕ) → s.sure at ⊎ s.fresh at → IsSure s.now at s.may_leave
+  pub super_known : HasSuper s.now s.doubt s.may_leave
+  pub waits_in_use : (a on j : ℕ) → s.waits a on j → IsPairUsed s.now on j
+  pub clears_entries : (at j : ℕ) → s.clearing at j → ((s.label at).kind ≡ Dir 0) × ((s.label at).epoch ≡ s.high)
+
+abbrev pub LawsHold : Known → Rest → Type 0
+LawsHold k x = (doubts : List Content) → Reads k x doubts → TraitLaws (state_of k x)

@@ -1,10 +1,14 @@
 -- The state of `Blocks`, read off what a cache knows.
-use Rattle.std.specs.Prelude.{◌≡◌, ◌↔◌, ◌<◌, ◌≤◌, ℕ, List, Option, false}
+use Rattle.std.specs.List.{Contains}
+use Rattle.std.specs.Prelude.{◌≡◌, ◌↔◌, ◌<◌, ◌≤◌, ℕ, List, Option, false, ◌≢◌, true}
 use Rattle.fo_image.specs.declared.types.Label.{Label}
 use Rattle.fo_image.specs.declared.types.Score.{Score}
 use Rattle.fo_crash.specs.declared.place.Place.{Place}
-use Rattle.fo_crash.specs.Images.{Content, Image, SameContent}
+use Rattle.fo_crash.specs.Images.{Content, Image, SameContent, Reaches, to_block}
 use Rattle.fo_cells.specs.Known.{Known, IsWait, IsClear, IsLeft, Remains, Stands}
+use Rattle.fo_image.specs.declared.types.Kind.TheVariants.{Dir}
+use Rattle.fo_cells.specs.Laws.{Safe}
+use Rattle.fo_cells.specs.Safe.{IsSet}
 use Rattle.fo_ports.specs.State.{State, IsPairUsed}
 
 -- what a state has beside what is known of each block
@@ -101,3 +105,22 @@ pub record OthersWait (at i : ℕ) (old new : Known) : Type 0 where
 pub record RaisesLimit (d : Content) (k : Known) (x y : Rest) : Type 0 where
   pub slots : (i : ℕ) → d.slot i ≡ (k.memory 1).slot i
   pub limit : (c : Content) → SameContent c d → x.limit (k.memory 1) ≤ y.limit c
+
+-- Nothing of a block is on the device or may come there, and no slot of it waits.
+pub record IsFresh (k : Known) (b : ℕ) : Type 0 where
+  pub newborn : k.newborn b ≡ true
+  pub late : (c : Content) → Contains (k.late b) c → ⊥
+  pub clears : (i leaf : ℕ) → IsClear k.clears b i leaf → ⊥
+
+-- How the rest of a state is read off a cache.
+pub record Reads (k : Known) (x : Rest) (doubts : List Content) : Type 0 where
+  pub safe : x.tells → Safe k x.high doubts
+  pub tops : (t : ℕ) → x.tops t → x.tells → (p : Place) × Stands k t p × (k.newborn t ≡ false)
+  pub blocks : (b : ℕ) (p : Place) → b ≢ 1 → x.tells → Stands k b p → x.is_block b
+  pub covered : (b : ℕ) → x.tells → x.covered b → Reaches k.memory (to_block 1) b → ⊥
+  pub sure : (b : ℕ) → x.sure b → IsSet k b
+  pub fresh : (b : ℕ) → x.fresh b → IsFresh k b
+  pub doubt : (c : Content) → Contains doubts c → x.doubt c
+  pub left : (image : Image) → x.left x.moments image → x.tells × ((labels : ℕ → Label) × IsLeft k image labels)
+  pub settled : k.newborn 1 ≡ false
+  pub waits : (at i leaf : ℕ) → IsClear k.clears at i leaf → ((k.label at).kind ≡ Dir 0) × ((k.label at).epoch ≡ x.high)

@@ -1,7 +1,7 @@
 //! Laws of the calls. Each function does nothing: its contract is the law, so that the law is proved with the crate.
 ghost use Rattle.fo_cells.specs.Known.{Known};
 ghost use Rattle.fo_cells_calls.specs.State.{Rest};
-ghost use Rattle.fo_cells_calls.specs.Laws.{GetLooks, PutBytesAdds, PutSlotAdds, RemoveSlotAdds, RemoveSlotWaits, WaitForAdds, GivesAdds, NumberAdds, WriteRests, DeviceRests, ClearingRests, ClosingRests, SettleLeaves};
+ghost use Rattle.fo_cells_calls.specs.Laws.{GetLooks, PutBytesAdds, PutSlotAdds, RemoveSlotAdds, RemoveSlotWaits, WaitForAdds, GivesAdds, NumberAdds, WriteRests, DeviceRests, ClearingRests, ClosingRests, SettleLeaves, LawsHold};
 
 /// What a cache knows of its blocks, and what it keeps elsewhere.
 pub trait Cells {
@@ -51,4 +51,9 @@ pub fn device_rests<C: Cells>(_old: &C, _new: &C)
 /// `settle`, answered Ok.
 pub fn settles<C: Cells>(_cells: &C)
     ensures all { SettleLeaves (C.known _cells.now) (C.rest _cells.now) }
+{}
+
+/// Laws of the trait of blocks.
+pub fn holds_laws<C: Cells>(_cells: &C)
+    ensures laws { LawsHold (C.known _cells.now) (C.rest _cells.now) }
 {}

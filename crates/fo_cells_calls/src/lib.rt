@@ -12,4 +12,4 @@
 
 mod laws;
 
-pub use laws::{Cells, device_rests, gives, looks, numbers, puts, removes, settles};
+pub use laws::{Cells, device_rests, gives, holds_laws, looks, numbers, puts, removes, settles};
