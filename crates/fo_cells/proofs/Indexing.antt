@@ -1,6 +1,5 @@
 -- A block that was made gets its index; and a doubt that is overruled.
-use Rattle.std.proofs.Common.{◌≡◌, ◌≢◌, ◌⊎◌, inl, inr, ⊎_elim, ℕ, ◌<◌, ◌≤◌, false, List, [], ◌∷◌, refl, sym, ◌∙◌, ap, subst, arith}
-use Rattle.std.proofs.lemmas.Bool.{cases_eq}
+use Rattle.std.proofs.Common.{◌≡◌, ◌≢◌, ◌⊎◌, inl, inr, ⊎_elim, ℕ, ◌<◌, ◌≤◌, false, List, [], ◌∷◌, sym, ◌∙◌, ap, subst, arith}
 use Rattle.std.specs.List.{Contains}
 use Rattle.fo_image.specs.declared.types.Label.{Label}
 use Rattle.fo_image.specs.declared.types.Pointer.TheVariants.{Local}
@@ -9,10 +8,10 @@ use Rattle.fo_crash.specs.declared.slot.Slot.{Slot}
 use Rattle.fo_crash.specs.declared.place.Place.{Place}
 use Rattle.fo_crash.specs.Images.{Content, Image, SameContent, Reaches, target, to_block}
 use Rattle.fo_crash.specs.Places.{place_below}
-use Rattle.fo_crash.specs.Steps.{AddsNothing, cleared}
+use Rattle.fo_crash.specs.Steps.{AddsNothing}
 use Rattle.fo_crash.proofs.Sure.{same_joins, same_if}
-use Rattle.fo_cells.specs.Known.{Known, Wait, Clear, IsWait, IsClear, IsSince, MaySlot, Images, Remains, IsKept, Leads, Stands, written}
-use Rattle.fo_cells.specs.Calls.{Indexes, HasSupers}
+use Rattle.fo_cells.specs.Known.{Known, Wait, Clear, IsWait, IsClear, IsSince, MaySlot, Remains, IsKept, Leads, Stands, written}
+use Rattle.fo_cells.specs.Calls.{Indexes}
 use Rattle.fo_cells.specs.Safe.{super_top, IsLive, IsSafe}
 use Rattle.fo_cells.proofs.Standing.{at_b, stands_top, stands_below, written_may}
 use Rattle.fo_cells.proofs.Keeping.{may_name_still}
@@ -84,9 +83,9 @@ module _ {at : ℕ} {q : Place} {old new : Known} (x : Indexes at q old new) whe
     named = λ a i t c p st h e.
         let was : Contains (written old a) c = subst (λ (cs : List Content). Contains cs c) (same_written old new x.device.newborn x.device.late x.device.versions a) h in
         let n = ⊎_elim
-            (λ there. kept.named a i t c p there.0 was e)
-            (λ is. absurd (x.empty i t (c.slot i) (subst (λ y. MaySlot old y i (c.slot i)) is.0 (written_may old a i c was)) e))
-            (stands_index a p st) in (
+        (λ there. kept.named a i t c p there.0 was e)
+        (λ is. absurd (x.empty i t (c.slot i) (subst (λ y. MaySlot old y i (c.slot i)) is.0 (written_may old a i c was)) e))
+        (stands_index a p st) in (
           n.0,
           may_name_still old new t x.label x.low (at_b t x.device.newborn ∙ n.1.settled) (λ l k. n.1.labels l (subst (λ (g : ℕ → List Label). Contains (g t) l) x.device.labels k)),
         );
