@@ -10,7 +10,7 @@ ghost use Rattle.fo_crash.specs.Steps.{AddsSlot, AddsBytes, AddsNothing, AddsSup
 ghost use Rattle.fo_crash.specs.Names.{SameUse};
 ghost use Rattle.fo_crash.specs.Places.{place, super_place, root_place, IsPlaced, OnePlace, RanksFall};
 ghost use Rattle.fo_crash.specs.Spots.{FewSlots, OneSpot};
-ghost use Rattle.fo_ports.specs.Blocks.{slot_count, IsLevel, IsFormed, blank, SlotFits, Reads, ReadsSlots, MayPut, put_at, zeros, dropped, cost, OnChain};
+ghost use Rattle.fo_ports.specs.Blocks.{slot_count, IsLevel, IsFormed, IsRanked, blank, SlotFits, Reads, ReadsSlots, MayPut, put_at, zeros, dropped, cost, OnChain};
 ghost use Rattle.fo_ports.specs.State.{State, KeepsAll, none, Stays, KeepsOrder, KeepsCovered, Uses, KeepsNumbers, Frame, Calm, Gives, Looks, Numbers, Rests, MayPutSlot, MayRemoveSlot, Hangs, IsDoomed, IsPointers, IsPairUsed, AddsNoWait, WaitsForPairs, WaitsInUse};
 ghost use Rattle.fo_ports.specs.Causes.{Caused, IsFull};
 
@@ -35,7 +35,7 @@ pub trait Blocks {
     ghost keeps: { Self → Self → Type 0 };
 
     /// Copies a block of this kind and rank, as it was last put, and pins it while pins are left. A pinned block is had again without
-    /// fail. A block that has a label of another kind, or whose bytes are not of the format, is damaged; over a device that tells
+    /// fail, where what memory has of it is of the format that the rank asks for. A block that has a label of another kind, or whose bytes are not of the format, is damaged; over a device that tells
     /// what it holds, no block that stands at a place is.
     fn get(&mut self, at: u32, kind: Kind, rank: u32, into: &mut [u8]) -> Result<(), BlockError>
         requires block { (state self.old).is_block at }
@@ -46,7 +46,7 @@ pub trait Blocks {
         ensures names { OnOk result ((i below : ℕ) → i < slot_count kind → target (((state self.new).now at).slot i) ≡ Local below → (state self.new).is_block below) }
         ensures nothing { OnErr result (into.new ≡ into.old) }
         ensures pinned { OnOk result (0 < (state self.old).pins_left → (state self.new).pinned at) }
-        ensures again { (state self.old).pinned at → ((state self.old).label at).kind ≡ kind → IsOk result × ((state self.new).pins_left ≡ (state self.old).pins_left) }
+        ensures again { (state self.old).pinned at → ((state self.old).label at).kind ≡ kind → IsRanked kind rank (((state self.old).now at).bytes) → IsOk result × ((state self.new).pins_left ≡ (state self.old).pins_left) }
         ensures pins { (state self.old).pins_left ≤ (state self.new).pins_left + 1 }
         ensures looks { Looks (state self.old) (state self.new) }
         ensures cause { IfErr result (Caused ⊥ (λ b. (b ≡ at) × ((state self.old).tells → (p : Place) → (state self.old).stands at p → ⊥)) (Rose (state self.old).faults (state self.new).faults) ⊥) }
@@ -137,6 +137,7 @@ pub trait Blocks {
         requires spelled { (i < slot_count ((state self.old).label at).kind) × SlotFits ((state self.old).label at).kind i slot }
         requires settled { (state self.old).clearing at i → ⊥ }
         requires same_use { (a : ℕ) → (state self.old).waits a at i → SameUse slot (((state self.old).now at).slot i) }
+        requires leads { (b : ℕ) → target slot ≡ Local b → (state self.old).is_block b × (b ≢ at) }
         requires may { (state self.old).tells → MayPutSlot (state self.old) at i slot }
         requires room { cost (((state self.old).now at).slot i) slot ≤ (state self.old).room }
         requires tops { (n x : ℕ) → n < dropped (((state self.old).now at).slot i) slot → target (walk (state self.old).now (((state self.old).now at).slot i) (zeros n)) ≡ Local x → (state self.old).pinned x }

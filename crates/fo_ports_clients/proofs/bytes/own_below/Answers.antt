@@ -36,6 +36,20 @@ put_slot-requires-clause-spelled g c =
     let fits = led_fits (s.label at).kind c.args.i old_slot c.args.below copy c.requires.leads (g.met.B.Blocks.small mid copy gives.is.0) (g.met.B.Blocks.spelled on at c.args.i c.requires.at_pinned c.requires.slots) in
     subst (λ (l : Label). (c.args.i < slot_count l.kind) × SlotFits l.kind c.args.i c.led.result) (sym label) (c.requires.slots, subst (λ (x : Slot). SlotFits (s.label at).kind c.args.i x) (sym led_is) fits)
 
+pub put_slot-requires-clause-leads : goal.put_slot-requires-clause-leads
+put_slot-requires-clause-leads g c = λ b e.
+    let on = c.args.on.now in
+    let s = g.B.Blocks.state on in
+    let at = c.args.at in
+    let copy = c.copy-copy.result in
+    let gives = c.copy-copy.ensures.gives in
+    let old_slot = (s.now at).slot c.args.i in
+    let at_ne : at ≢ copy = apart_by (λ x. (s.label x).state) at copy (λ e. gives.was.0 (sym e ∙ c.requires.at_live)) in
+    let led_is : c.led.result ≡ led old_slot copy = c.led.ensures ∙ ap (λ (x : Slot). led x copy) c.slot-slot.ensures in
+    let to : target c.led.result ≡ Local copy = ap target led_is ∙ led_target old_slot c.args.below copy c.requires.leads in
+    let here : b ≡ copy = local_eq (sym e ∙ to) in
+    (subst (g.B.Blocks.state c.copy-copy.new.self).is_block (sym here) gives.is.0, λ same. at_ne (sym same ∙ here))
+
 pub put_slot-requires-clause-same_use : goal.put_slot-requires-clause-same_use
 put_slot-requires-clause-same_use g c = λ a w.
     let on = c.args.on.now in

@@ -1,7 +1,7 @@
 use Rattle.std.proofs.Common.{◌≡◌, inl, inr, ⊎_elim, ◌+◌, ◌*◌, ◌/◌, ◌<◌, ◌≤◌, ℕ, [], ◌∷◌, length, sym, ◌∙◌, ap, subst, arith}
 use Rattle.fo_image.specs.declared.types.Kind.{Kind}
 use Rattle.fo_image.specs.declared.types.Label.{Label}
-use Rattle.fo_image.specs.declared.types.Pointer.TheVariants.{Nil}
+use Rattle.fo_image.specs.declared.types.Pointer.TheVariants.{Nil, Local}
 use Rattle.fo_crash.specs.declared.slot.Slot.{Slot}
 use Rattle.fo_crash.specs.declared.slot.Slot.TheVariants.{Entry as Head}
 use Rattle.fo_crash.specs.declared.place.Place.{Place}
@@ -22,6 +22,11 @@ put_slot-requires-clause-same_use g c = λ a w.
     (λ own. absurd (c.requires.free own.0 own.1))
     (λ pair. let odd = pair.1 in absurd (omega (arith, even, odd)))
     (g.met.B.Blocks.waits_in_use c.args.on.now a c.args.entries c.args.i w)
+
+pub put_slot-requires-clause-leads : goal.put_slot-requires-clause-leads
+put_slot-requires-clause-leads g c = λ b e.
+    let none : Nil ≡ Local b = sym c.requires.empty ∙ e in
+    absurd (cc)
 
 pub put_slot-requires-clause-may : goal.put_slot-requires-clause-may
 put_slot-requires-clause-may g c = λ told.
