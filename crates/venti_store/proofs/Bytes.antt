@@ -16,9 +16,6 @@ no_line_block p q is = omega (arith, is)
 pub same_place : (p q : ℕ) → stored_block p ≡ stored_block q → p ≡ q
 same_place p q is = omega (arith, is)
 
-pub none_wrote : (run : Run) {upto : ℕ} {unsure : List Bool} {holds : Content} → run.settled ≡ upto → WroteBytes run upto unsure holds
-none_wrote run is = record { each = λ place from to. absurd (omega (arith, from, to, is)) }
-
 -- the block of the next place that waits
 pub record Next (run : Run) (waiting : List (List ℕ)) (i at : ℕ) (block : Block) : Type 0 where
   pub waits : Waits run waiting

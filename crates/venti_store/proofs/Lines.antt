@@ -61,12 +61,6 @@ bytes_stay {run} group upto at_is wrote w flag = record {
   each = λ place from to. done_other false (stored_block place) (HasBytes run.lines run.stored place) (λ is. omega (arith, is, at_is)) w flag (wrote.each place from to);
 }
 
-pub no_lines : (run : Run) {upto : ℕ} {unsure : List Bool} {holds : Content} → upto ≤ run.settled → WroteLines run upto unsure holds
-no_lines run le = record { each = λ place from to used. absurd (omega (arith, from, to, le)) }
-
-pub all_lines : (run : Run) {upto : ℕ} {unsure : List Bool} {holds : Content} → length run.lines ≤ upto → WroteLines run upto unsure holds → WroteLines run (length run.lines) unsure holds
-all_lines run le wrote = record { each = λ place from to used. wrote.each place from (omega (arith, to, le)) used }
-
 pub next_lines : {run : Run} {lines : List ArenaLine} {group at first : ℕ} {block : Block} → run.lines ≡ lines → run.settled ≡ first → first < length lines → first / 341 ≤ group → 341 * group < length lines → at ≡ 1 + 342 * group
     → ((place : ℕ) → place / 341 ≡ group → place < length lines → HasLine lines place block) → NextLines run group at block
 next_lines {run} {lines} {group} {at} {first} {block} lines_is first_is some from to at_is has = record {

@@ -76,13 +76,6 @@ module _ {upto : ℕ} {lines : List ArenaLine} {vault : List Block} {bytes : Lis
   refuse_line why.ArenaRead lt h = absurd h
   refuse_line why.Memory lt h = tt
 
-pub no_lines_read : (lines : List ArenaLine) (vault : List Block) → lines ≡ [] → ReadLines 0 lines vault
-no_lines_read lines vault is = record {
-  count = ap length is;
-  line = λ place lt. absurd (omega (arith, lt));
-  only = λ place line lt spelled. absurd (omega (arith, lt));
-}
-
 -- ---- what is kept once the lines are read
 
 stored_from : List Block → ℕ → List ArenaLine → List (List ℕ)

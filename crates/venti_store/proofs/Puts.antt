@@ -201,9 +201,6 @@ hand_waits s {score} {kind} {place} hand some named = ⊎_elim
     (λ (other, has, le). let same : other ≡ place = one_place s has named in omega (arith, le, same))
     hand
 
-pub hand_named : (s : Shelf) {score : List ℕ} {kind : ℕ} → IsAtHand s score kind → IsNamed s.index.lines.items score kind
-hand_named s hand = ⊎_elim (λ empty. inl empty) (λ (place, has, le). inr (place, has)) hand
-
 pub hand_at : (s : Shelf) {score other : List ℕ} (kind : ℕ) → score ≡ other → IsAtHand s score kind → IsAtHand s other kind
 hand_at s kind is hand = subst (λ (x : List ℕ). IsAtHand s x kind) is hand
 

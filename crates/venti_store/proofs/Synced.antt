@@ -143,10 +143,6 @@ adding_head {run} r whole spelled flag = record {
   flag = flag;
 }
 
--- where none waits, all is settled
-pub already : {run : Run} {unsure : List Bool} {holds : Content} {moments : List Content} → run.settled ≡ length run.lines → Goes run unsure holds moments → Goes (all_settled run) unsure holds moments
-already {run} {unsure} {holds} {moments} is g = subst (λ (n : ℕ). Goes (record run { settled = n }) unsure holds moments) is g
-
 pub whole_head : (run : Run) {blocks used : ℕ} {block : Block} → run.size ≡ blocks → length run.lines ≡ used → SpellsArenaHead (record { blocks = blocks; used = used }) block → IsWholeHead run block
 whole_head run {blocks} {used} {block} size lines spelled =
     subst (λ (n : ℕ). SpellsArenaHead (record { blocks = n; used = length run.lines }) block) (sym size) (subst (λ (n : ℕ). SpellsArenaHead (record { blocks = blocks; used = n }) block) (sym lines) spelled)

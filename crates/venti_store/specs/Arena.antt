@@ -1,5 +1,5 @@
 -- What an open arena keeps, and what its calls do.
-use Rattle.std.specs.Prelude.{◌≡◌, ◌≢◌, ◌⊎◌, ℕ, ◌<◌, ◌≤◌, Bool, List, [], ◌∷◌, ◌++◌, length, Option, Some, None, Result, IfErr}
+use Rattle.std.specs.Prelude.{◌≡◌, ◌≢◌, ◌⊎◌, ℕ, ◌<◌, ◌≤◌, Bool, List, [], ◌∷◌, ◌++◌, length, Result, IfErr}
 use Rattle.fo_base.specs.Cause.{Rose}
 use Rattle.fo_disk.specs.Disk.{Block, Content, IsImage, IsQuiet}
 use Rattle.fo_image.specs.declared.types.ArenaLine.{ArenaLine}
@@ -51,15 +51,6 @@ abbrev pub IsDamaged : List ArenaLine → List (List ℕ) → List ℕ → ℕ �
 IsDamaged lines stored score kind = (place : ℕ) × HasName lines score kind place × (sha1 (stored_at stored place) ≢ score)
 
 -- ---- a look at a held block
-
--- The bytes hash to the score, and there is none exactly where the index has none.
-abbrev pub Finds : List ArenaLine → List ℕ → ℕ → Option (List ℕ) → Type 0
-Finds lines score kind (Some bytes) = IsNamed lines score kind × (sha1 bytes ≡ score)
-Finds lines score kind None = ¬ IsNamed lines score kind
-
-abbrev pub FindsHeld : List ArenaLine → List (List ℕ) → List ℕ → ℕ → Option (List ℕ) → Type 0
-FindsHeld lines stored score kind (Some bytes) = IsHeld lines stored score kind bytes
-FindsHeld lines stored score kind None = Unit {0}
 
 -- why a block is not found
 abbrev pub LookRefuses : List ArenaLine → List ℕ → ℕ → ArenaError → Type 0
