@@ -1,30 +1,28 @@
 -- Laws of the trait, read off what a cache knows.
-use Rattle.std.proofs.Common.{◌≡◌, ◌≢◌, ◌⊎◌, inl, inr, ⊎_elim, ℕ, ◌<◌, ◌≤◌, List, true, false, ◌∷◌, refl, sym, ◌∙◌, ap, subst}
+use Rattle.std.proofs.Common.{inl, inr, ⊎_elim, ℕ, List, sym, subst}
 use Rattle.std.specs.List.{Contains}
-use Rattle.fo_image.specs.declared.types.Pointer.TheVariants.{Local}
 use Rattle.fo_crash.specs.declared.place.Place.{Place}
-use Rattle.fo_crash.specs.Images.{Content, Image, Reaches, target, to_block}
-use Rattle.fo_crash.specs.Steps.{IsSure, IsOneOf}
-use Rattle.fo_crash.proofs.Sure.{same_content, same_if}
-use Rattle.fo_cells.specs.Known.{Known, Remains, Stands, seen}
+use Rattle.fo_crash.specs.Images.{Content, Reaches, to_block}
+use Rattle.fo_crash.specs.Steps.{IsSure}
+use Rattle.fo_crash.proofs.Sure.{same_if}
+use Rattle.fo_cells.specs.Known.{Known, Remains, Stands}
 use Rattle.fo_cells.specs.Safe.{IsSafe, super_top}
-use Rattle.fo_cells.specs.Laws.{Safe}
 use Rattle.fo_cells.proofs.Standing.{seen_born, among_cases, stands_top}
-use Rattle.fo_cells.proofs.Known.{one_place, placed, ranked, sure}
+use Rattle.fo_cells.proofs.Known.{placed, ranked, sure}
 use Rattle.fo_cells.proofs.Removing.{shown_from}
 use Rattle.fo_cells.proofs.Safe.{set_sure, old_sure, safe_super, memory_falls}
 use Rattle.fo_cells.proofs.Super.{memory_remains}
 use Rattle.fo_cells_calls.specs.State.{Rest, Reads, IsFresh, state_of}
 use Rattle.fo_cells_calls.specs.Laws.{TraitLaws}
-use Rattle.fo_cells_calls.proofs.Images.{told_sure, told_supers}
+use Rattle.fo_cells_calls.proofs.Images.{told_sure}
 
 -- a block that is fresh is in every image what memory has
 pub fresh_sure : {k : Known} {b : ℕ} → IsFresh k b → IsSure k.memory b (Remains k)
 fresh_sure {k} {b} f =
     let all = sure k b (λ c h. ⊎_elim
-        (λ first. same_if (sym first))
-        (λ more. absurd (f.late c more))
-        (among_cases (k.memory b) (k.late b) c (subst (λ (cs : List Content). Contains cs c) (seen_born k b f.newborn) h))) f.clears in
+    (λ first. same_if (sym first))
+    (λ more. absurd (f.late c more))
+    (among_cases (k.memory b) (k.late b) c (subst (λ (cs : List Content). Contains cs c) (seen_born k b f.newborn) h))) f.clears in
     record { each = λ image r. all.each image r.cells }
 
 -- what memory reaches from a block that stands, stands

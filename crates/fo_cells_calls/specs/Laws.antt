@@ -1,6 +1,5 @@
 -- Each method of `Blocks`, as a step of a cache: what it adds to the images.
 use Rattle.fo_image.specs.declared.types.Pointer.TheVariants.{Local}
-use Rattle.std.specs.List.{Contains}
 use Rattle.std.specs.Prelude.{◌≡◌, ◌≢◌, ◌⊎◌, ◌<◌, ◌≤◌, ℕ, List}
 use Rattle.fo_image.specs.declared.types.Label.{Label}
 use Rattle.fo_crash.specs.declared.slot.Slot.{Slot}
