@@ -19,11 +19,11 @@ use Rattle.fo_cells.proofs.Settling.{quiet_all}
 use Rattle.fo_cells.proofs.Calls.{among_map, latest_push, nat_eq_here, nat_eq_other, flag_here, newest_one}
 
 -- the two parts of a test
-both_right : (a b : Bool) → (a && b) ≡ true → b ≡ true
+pub both_right : (a b : Bool) → (a && b) ≡ true → b ≡ true
 both_right true b e = e
 both_right false b e = absurd (cc)
 
-turn : (b : Bool) → not b ≡ false → b ≡ true
+pub turn : (b : Bool) → not b ≡ false → b ≡ true
 turn true e = refl
 turn false e = absurd (cc)
 
@@ -32,10 +32,10 @@ none_of true e f = absurd (cc)
 none_of false e f = absurd (cc)
 
 -- a flag of this block, and of another
-flag_at : (at b : ℕ) (x y : Bool) {v : Bool} → b ≡ at → cond (nat_eq b at) x y ≡ v → x ≡ v
+pub flag_at : (at b : ℕ) (x y : Bool) {v : Bool} → b ≡ at → cond (nat_eq b at) x y ≡ v → x ≡ v
 flag_at at b x y e h = ap (λ k. cond k x y) (sym (nat_eq_here b at e)) ∙ h
 
-flag_off : (at b : ℕ) (x y : Bool) {v : Bool} → b ≢ at → cond (nat_eq b at) x y ≡ v → y ≡ v
+pub flag_off : (at b : ℕ) (x y : Bool) {v : Bool} → b ≢ at → cond (nat_eq b at) x y ≡ v → y ≡ v
 flag_off at b x y ne h = ap (λ k. cond k x y) (sym (nat_eq_other b at ne)) ∙ h
 
 sure_after : (ok : Bool) (at : ℕ) (f : Flags) (unsure : List Bool) → ((b : ℕ) → f.wrote b ≡ true → get_or unsure b false ≡ false) → (b : ℕ) → cond (nat_eq b at) ok (f.wrote b) ≡ true → get_or (set unsure at (not ok)) b false ≡ false
@@ -125,7 +125,7 @@ flags_sync (Ok x) m f unsure old new y fits = record {
     one b lt false is sound false flag = ap (λ (vs : Versions). length vs) (newest_same (versions_of old b) (fits.settled b lt is sound)) ∙ fits.settled b lt is sound
 
 -- WHERE A BLOCK HAS NO FLAG
-one_latest : (versions : Versions) → length versions ≡ 1 → (x : Block) → Contains versions x → x ≡ latest_of versions
+pub one_latest : (versions : Versions) → length versions ≡ 1 → (x : Block) → Contains versions x → x ≡ latest_of versions
 one_latest [] e x h = absurd (omega (arith, e))
 one_latest (v ∷ []) e x (zero, lt, is) = sym is
 one_latest (v ∷ []) e x (suc k, lt, is) = absurd (omega (arith, lt))

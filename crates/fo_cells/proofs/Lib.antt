@@ -19,4 +19,5 @@ pub mod Removing
 pub mod Indexing
 pub mod Calls
 pub mod Flags
+pub mod Labels
 pub mod Buffering

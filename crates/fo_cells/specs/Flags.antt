@@ -36,3 +36,7 @@ pub record IsUnmarked (f : Flags) (b : ℕ) : Type 0 where
   pub clean : f.dirty b ≡ false
   pub unwritten : f.wrote b ≡ false
   pub sound : f.failed b ≡ false
+
+-- Where a block of labels is not dirty, its last version has each label as memory has it.
+pub record LabelsFit (m : Mind) (f : Flags) (holds : Holds) : Type 0 where
+  pub clean : (t : ℕ) → m.label_block t < length holds → f.dirty (m.label_block t) ≡ false → m.label_in t (latest_of (versions_of holds (m.label_block t))) ≡ m.label t

@@ -10,12 +10,12 @@ use Rattle.fo_crash.specs.Images.{Content, Image, SameContent, Reaches, target, 
 use Rattle.fo_crash.specs.Steps.{AddsNothing, AddsSlot, AddsBytes, AddsBlock, AddsSuper, Brings, Fills, HasBytes, HasSuper, IsSure, IsOneOf, AllAre, cleared}
 use Rattle.fo_crash.specs.Names.{SameUse}
 use Rattle.fo_crash.specs.Places.{IsPlaced, OnePlace, RanksFall}
-use Rattle.fo_cells.specs.Known.{Known, IsWait, IsClear, IsLeft, Remains, Stands}
+use Rattle.fo_cells.specs.Known.{Known, IsWait, IsClear, IsLeft, Remains, Stands, IsKept, MayName}
 use Rattle.fo_cells.specs.Writes.{Writes, WritesLabels, Syncs, Ends, Puts, Gives, Relabels, Fires}
 use Rattle.fo_cells.specs.Calls.{PutsInto, Awaits, WaitsMore, IsSetLeaf, TriesSuper, CountsSuper, Indexes}
 use Rattle.fo_cells.specs.Safe.{super_top, IsLive, IsSafe, IsCurrent, MayWait, MayClear}
 use Rattle.fo_cells.specs.Device.{Mind, known}
-use Rattle.fo_cells.specs.Flags.{Flags, FlagsFit, IsUnmarked}
+use Rattle.fo_cells.specs.Flags.{Flags, FlagsFit, LabelsFit, IsUnmarked}
 
 -- the doubt, where there is one
 abbrev pub Safe : Known → ℕ → List Content → Type 0
@@ -107,3 +107,7 @@ SuperIsKnown = (high : ℕ) (doubts : List Content) (k : Known) → Safe k high 
 -- Where no block has a flag, none is newborn, and no slot waits, memory is the only image.
 abbrev pub AllIsSettled : Type 0
 AllIsSettled = (m : Mind) (f : Flags) (unsure : List Bool) (holds : Holds) → FlagsFit m f unsure holds → ((b : ℕ) → IsUnmarked f b) → ((b : ℕ) → m.newborn b ≡ false) → ((b i leaf : ℕ) → IsClear (known m holds).clears b i leaf → ⊥) → AllAre m.memory (Remains (known m holds))
+
+-- A block that stands somewhere and was settled whole since it was given out may be named, where its block of labels has no flag.
+abbrev pub LabelIsNamed : Type 0
+LabelIsNamed = (m : Mind) (f : Flags) (unsure : List Bool) (holds : Holds) (t : ℕ) (p : Place) → FlagsFit m f unsure holds → LabelsFit m f holds → IsKept (known m holds) → t ≢ 1 → Stands (known m holds) t p → m.newborn t ≡ false → IsUnmarked f (m.label_block t) → MayName (known m holds) t

@@ -1,8 +1,17 @@
 use Rattle.std.proofs.Common.{List, Bool, sym, subst}
 use Rattle.fo_cells.specs.Device.{Stepped, wrote}
 use Rattle.std.specs.Prelude.{not, is_err}
+use Rattle.fo_cells.specs.Flags.{FlagsFit, marked}
 use Rattle.fo_cells.proofs.Calls.{write_steps}
+use Rattle.fo_cells.proofs.Flags.{flags_write}
+use Rattle.fo_cells.proofs.Labels.{labels_write}
 use Rattle.fo_cells.proofs.device.write_block.Goals as goal
 
 pub returns-clause-step : goal.returns-clause-step
 returns-clause-step g c = λ m is_complete within may. subst (λ (u : List Bool). Stepped m (wrote c.args.at (not (is_err c.write.result)) is_complete m) (g.D.Disk.unsure c.args.disk.now) u (g.D.Disk.holds c.args.disk.now) (g.D.Disk.holds c.write.new.self)) (sym c.write.ensures.unsure) (write_steps c.write.result m (g.D.Disk.unsure c.args.disk.now) c.args.at c.args.bytes.now is_complete (g.D.Disk.holds c.args.disk.now) (g.D.Disk.holds c.write.new.self) c.write.ensures.holds within may)
+
+pub returns-clause-flags : goal.returns-clause-flags
+returns-clause-flags g c = λ m f is_complete within complete fits. subst (λ (u : List Bool). FlagsFit (wrote c.args.at (not (is_err c.write.result)) is_complete m) (marked c.args.at (not (is_err c.write.result)) is_complete f) u (g.D.Disk.holds c.write.new.self)) (sym c.write.ensures.unsure) (flags_write c.write.result m f (g.D.Disk.unsure c.args.disk.now) c.args.at c.args.bytes.now is_complete (g.D.Disk.holds c.args.disk.now) (g.D.Disk.holds c.write.new.self) c.write.ensures.holds within complete fits)
+
+pub returns-clause-labels : goal.returns-clause-labels
+returns-clause-labels g c = λ m f is_complete within spells fits. labels_write c.write.result m f c.args.at c.args.bytes.now is_complete (g.D.Disk.holds c.args.disk.now) (g.D.Disk.holds c.write.new.self) c.write.ensures.holds within spells fits

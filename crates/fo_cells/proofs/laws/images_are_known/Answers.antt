@@ -1,6 +1,7 @@
 use Rattle.fo_cells.proofs.Known.{one_place, placed, ranked}
 use Rattle.fo_cells.proofs.Super.{memory_remains}
 use Rattle.fo_cells.proofs.Safe.{old_sure, safe_super}
+use Rattle.fo_cells.proofs.Labels.{set_label_named}
 use Rattle.fo_cells.proofs.Flags.{all_settled}
 use Rattle.fo_cells.proofs.Removing.{shown}
 use Rattle.fo_cells.proofs.laws.images_are_known.Goals as goal
@@ -12,5 +13,6 @@ returns c = record {
   places = λ high doubts k image safe r. (one_place safe.kept, placed k image r.cells, ranked safe.kept image r.cells);
   older = λ high b p doubts k safe ne st young. old_sure safe b p ne st young;
   super_known = λ high doubts k safe. safe_super safe;
+  named = λ m f unsure holds t p fits labels kept ne st born none. set_label_named fits labels kept ne st born none;
   settled = λ m f unsure holds fits none born unclear. all_settled fits none born unclear;
 }
