@@ -1,0 +1,4 @@
+pub mod Slots
+pub mod Looks
+pub mod Walk
+pub mod Exits

@@ -1,0 +1,102 @@
+//! One step down from a block of pointers.
+ghost use Rattle.std.specs.Prelude.{◌≡◌, ◌⊎◌, ◌+◌, ◌*◌, ◌<◌, ◌≤◌, ℕ, Bool, length, take, drop, Some, None, IfOk, OnOk, IfErr};
+ghost use Rattle.fo_base.specs.Cause.{Rose};
+ghost use Rattle.fo_image.specs.declared.types.Pointer.{Pointer};
+ghost use Rattle.fo_image.specs.declared.types.Pointer.TheVariants.{Local};
+ghost use Rattle.fo_image.specs.Format.{SpellsPointer, kind_code};
+ghost use Rattle.fo_crash.specs.Images.{target};
+ghost use Rattle.fo_ports.specs.Blocks.{IsInner};
+ghost use Rattle.fo_ports.specs.Causes.{Caused};
+ghost use Rattle.fo_ports.specs.State.{Looks};
+ghost use Rattle.fo_tree_read.specs.Tree.{kind_at, score_of, score_in, StandsAs, IsGot, Failed};
+
+use fo_base::BLOCK;
+use fo_image::{Kind, Pointer, Score, is_zero, read_pointer, score_at};
+use fo_ports::{BlockError, Blocks};
+
+/// The kind of a block of a source at this level.
+pub(crate) fn kind_at(dir: bool, level: u8) -> Kind
+    ensures { result ≡ kind_at dir level }
+{
+    if dir {
+        Kind::Dir(level)
+    } else {
+        Kind::Data(level)
+    }
+}
+
+/// The number by which the kind of a block of a source is known where it is held.
+pub(crate) fn kind_number(dir: bool, level: u8) -> u8
+    requires { level ≤ 4 }
+    ensures { result ≡ kind_code (kind_at dir level) }
+{
+    if dir { 8 + level } else { level }
+}
+
+/// The pointer in slot `i` of a block of pointers.
+pub(crate) fn pointer_below<B: Blocks>(
+    on: &mut B,
+    at: u32,
+    kind: Kind,
+    rank: u32,
+    i: u32,
+) -> Result<Pointer, BlockError>
+    requires block { (B.state on.old).is_block at }
+    requires inner { IsInner kind }
+    requires told { (B.state on.old).tells → StandsAs (B.state on.old) kind rank at }
+    requires slot { i < 409 }
+    ensures found { IfOk result (λ p. p ≡ target (((B.state on.new).now at).slot i)) }
+    ensures block { IfOk result (λ p. (b : ℕ) → p ≡ Local b → (B.state on.new).is_block b) }
+    ensures got { OnOk result ((0 < (B.state on.old).pins_left) ⊎ (B.state on.old).pinned at → IsGot (B.state on.new) kind at) }
+    ensures pins { (B.state on.old).pins_left ≤ (B.state on.new).pins_left + 1 }
+    ensures again { IsGot (B.state on.old) kind at → (B.state on.old).pins_left ≤ (B.state on.new).pins_left }
+    ensures looks { Looks (B.state on.old) (B.state on.new) }
+    ensures keeps { B.keeps on.old on.new }
+    ensures cause { IfErr result (Failed (B.state on.old) (B.state on.new)) }
+{
+    let mut block = [0; BLOCK];
+    on.get(at, kind, rank, &mut block)?;
+    Ok(pointer_in(&block, i as usize))
+}
+
+/// The pointer in slot `i` of a block of pointers that is held.
+pub(crate) fn held_below<B: Blocks>(
+    on: &mut B,
+    score: &Score,
+    kind: u8,
+    i: u32,
+) -> Result<Pointer, BlockError>
+    requires slot { i < 409 }
+    ensures found { IfOk result (λ p. p ≡ score_in ((B.state on.old).held score.now kind) i) }
+    ensures pins { (B.state on.old).pins_left ≤ (B.state on.new).pins_left }
+    ensures looks { Looks (B.state on.old) (B.state on.new) }
+    ensures keeps { B.keeps on.old on.new }
+    ensures cause { IfErr result (Caused ⊥ (λ b. (b ≡ 1) × ((B.state on.old).held score.now kind ≡ None)) ⊥ (Rose (B.state on.old).arena_faults (B.state on.new).arena_faults)) }
+{
+    let mut block = [0; BLOCK];
+    on.fetch(score, kind, &mut block)?;
+    Ok(score_in(&block, i as usize))
+}
+
+/// Pointer `i` of a block.
+fn pointer_in(block: &[u8], i: usize) -> Pointer
+    requires slot { i < 409 }
+    requires length { length block.now ≡ 8192 }
+    ensures { (p : Pointer) → SpellsPointer p (take 20 (drop (20 * i) block.now)) → p ≡ result }
+{
+    read_pointer(&block[20 * i..20 * i + 20])
+}
+
+/// Score `i` of a block.
+fn score_in(block: &[u8], i: usize) -> Pointer
+    requires slot { i < 409 }
+    requires length { length block.now ≡ 8192 }
+    ensures { result ≡ score_of (take 20 (drop (20 * i) block.now)) }
+{
+    let score = score_at(block, 20 * i);
+    if is_zero(&score.0[..16]) {
+        Pointer::Nil
+    } else {
+        Pointer::Score(score)
+    }
+}
