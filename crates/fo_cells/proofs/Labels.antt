@@ -1,14 +1,13 @@
 -- Labels on the device: where a block of labels has no flag, each of its labels is memory's, and what it labels may be named.
-use Rattle.std.proofs.Common.{◌≡◌, ◌≢◌, ⊎_elim, ℕ, ◌<◌, Bool, true, false, cond, not, ◌&&◌, nat_eq, List, [], ◌∷◌, ◌++◌, length, drop, get_or, set, length-set, refl, sym, ◌∙◌, ap, subst, arith}
+use Rattle.std.proofs.Common.{◌≡◌, ◌≢◌, ⊎_elim, ℕ, ◌<◌, Bool, true, false, cond, not, ◌&&◌, List, [], length, drop, get_or, length-set, refl, sym, ◌∙◌, ap, subst, arith}
 use Rattle.std.proofs.lemmas.Bool.{cases_eq, cases_lt}
 use Rattle.std.proofs.lemmas.List.{get_or_past}
 use Rattle.std.specs.Prelude.{Result, Ok, Err, is_err}
 use Rattle.std.specs.List.{Contains}
 use Rattle.fo_disk.specs.Disk.{Block, Versions, versions_of, latest_of, newest, Adds}
-use Rattle.fo_disk.specs.Disk.{Content as Holds, Settles as DiskSettles, Writes as DiskWrites, Syncs as DiskSyncs}
+use Rattle.fo_disk.specs.Disk.{Content as Holds, Writes as DiskWrites, Syncs as DiskSyncs}
 use Rattle.fo_disk.proofs.Images.{adds-other, adds-here, appends-adds}
 use Rattle.fo_image.specs.declared.types.Label.{Label}
-use Rattle.fo_image.specs.Usable.{is_usable}
 use Rattle.fo_crash.specs.declared.place.Place.{Place}
 use Rattle.fo_cells.specs.Known.{IsKept, MayName, LabelFits, Stands}
 use Rattle.fo_cells.specs.Device.{Mind, known, wrote, after_sync}

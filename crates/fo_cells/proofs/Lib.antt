@@ -17,6 +17,7 @@ pub mod SafeSteps
 pub mod SafeCalls
 pub mod Removing
 pub mod Indexing
+pub mod Still
 pub mod Calls
 pub mod Flags
 pub mod Labels

@@ -111,3 +111,7 @@ AllIsSettled = (m : Mind) (f : Flags) (unsure : List Bool) (holds : Holds) → F
 -- A block that stands somewhere and was settled whole since it was given out may be named, where its block of labels has no flag.
 abbrev pub LabelIsNamed : Type 0
 LabelIsNamed = (m : Mind) (f : Flags) (unsure : List Bool) (holds : Holds) (t : ℕ) (p : Place) → FlagsFit m f unsure holds → LabelsFit m f holds → IsKept (known m holds) → t ≢ 1 → Stands (known m holds) t p → m.newborn t ≡ false → IsUnmarked f (m.label_block t) → MayName (known m holds) t
+
+-- Blocks stand where they stood, where bytes are put and where leaves wait for more.
+abbrev pub PlacesStay : Type 0
+PlacesStay = (at : ℕ) (bytes : List ℕ) (old new : Known) → PutsInto at bytes old new ⊎ WaitsMore old new → (b : ℕ) (q : Place) → Stands old b q → Stands new b q
