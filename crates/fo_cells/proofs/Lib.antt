@@ -18,6 +18,7 @@ pub mod SafeCalls
 pub mod Removing
 pub mod Indexing
 pub mod Still
+pub mod Clearing
 pub mod Calls
 pub mod Flags
 pub mod Labels

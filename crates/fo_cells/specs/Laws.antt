@@ -115,3 +115,7 @@ LabelIsNamed = (m : Mind) (f : Flags) (unsure : List Bool) (holds : Holds) (t : 
 -- Blocks stand where they stood, where bytes are put and where leaves wait for more.
 abbrev pub PlacesStay : Type 0
 PlacesStay = (at : ℕ) (bytes : List ℕ) (old new : Known) → PutsInto at bytes old new ⊎ WaitsMore old new → (b : ℕ) (q : Place) → Stands old b q → Stands new b q
+
+-- After slots that waited were cleared (`slots`), one more is; with each of them cleared, an image that is left would be one of the first.
+abbrev pub ClearingsJoin : Type 0
+ClearingsJoin = (at i leaf : ℕ) (cleared_before : List (ℕ × ℕ)) (first old new : Known) → Fires at i leaf old new → at ≢ 1 → NoWait old new → (first.memory at).slot i ≡ (old.memory at).slot i → Fills (λ b j. Contains cleared_before (b, j)) first.memory (Remains first) (Remains old) → Fills (λ b j. Contains cleared_before (b, j) ⊎ ((b ≡ at) × (j ≡ i))) first.memory (Remains first) (Remains new)

@@ -1,5 +1,5 @@
 //! Laws of the steps. Each function does nothing: its contract is the law, so that the law is proved with the crate.
-ghost use Rattle.fo_cells.specs.Laws.{WriteIsSafe, LabelIsSafe, SyncIsSafe, EndIsSafe, SlotIsSafe, BytesAreSafe, AwaitIsSafe, RemovalIsSafe, WaitIsSafe, ClearingIsSafe, GivingIsSafe, IndexingIsSafe, ClosingIsSafe, SuperIsSafe, CountingIsSafe, OverrulingIsSafe, ImagesAreShown, MemoryIsLeft, PlacesHold, OlderIsSure, SuperIsKnown, AllIsSettled, LabelIsNamed, PlacesStay};
+ghost use Rattle.fo_cells.specs.Laws.{WriteIsSafe, LabelIsSafe, SyncIsSafe, EndIsSafe, SlotIsSafe, BytesAreSafe, AwaitIsSafe, RemovalIsSafe, WaitIsSafe, ClearingIsSafe, GivingIsSafe, IndexingIsSafe, ClosingIsSafe, SuperIsSafe, CountingIsSafe, OverrulingIsSafe, ImagesAreShown, MemoryIsLeft, PlacesHold, OlderIsSure, SuperIsKnown, AllIsSettled, LabelIsNamed, PlacesStay, ClearingsJoin};
 
 /// A write of a block or of a block of labels, a sync, and the end of a wait add no image, and keep the invariant.
 pub fn device_steps_are_safe()
@@ -21,6 +21,7 @@ pub fn puts_are_safe()
 pub fn waits_are_safe()
     ensures begins { AwaitIsSafe }
     ensures cleared { ClearingIsSafe }
+    ensures joined { ClearingsJoin }
     ensures more { WaitIsSafe }
 {}
 
