@@ -165,11 +165,15 @@ pub record Looks (old new : State) : Type 0 where
   pub room : (new.spare ≡ old.spare) × (new.room ≡ old.room)
   pub numbers : KeepsNumbers old new
 
+-- In memory the block hangs from a top, or from a block that is apart. One that older versions alone lead to hangs from none.
+abbrev pub IsRooted : State → ℕ → Type 0
+IsRooted s b = (t : ℕ) × (s.tops t ⊎ s.apart t) × Reaches s.now (to_block t) b
+
 -- A call for a file number leaves all but block 1 as it is.
 pub record Numbers (old new : State) : Type 0 where
   pub label : (b : ℕ) → new.label b ≡ old.label b
   pub marks : (b : ℕ) → (old.pinned b → new.pinned b) × (old.sealed b → new.sealed b)
-  pub places : old.tells → (b : ℕ) (p : Place) → old.stands b p → new.stands b p
+  pub places : old.tells → (b : ℕ) (p : Place) → IsRooted old b → old.stands b p → new.stands b p
   pub apart : (b : ℕ) → new.apart b ↔ old.apart b
   pub instead : (b x : ℕ) → new.instead b x ↔ old.instead b x
   pub waits : (a on j : ℕ) → old.waits a on j → new.waits a on j
@@ -187,14 +191,14 @@ IsPointers s b = IsInner (s.label b).kind
 abbrev pub IsDoomed : State → ℕ → Type 0
 IsDoomed s b = s.covered b ⊎ ((at : ℕ) × (j : ℕ) × s.clearing at j × Reaches s.now ((s.now at).slot j) b)
 
--- A block that is not doomed stays, but for slots that waited.
+-- A block that is not doomed stays, but for slots that waited. It keeps its place where it hangs in memory.
 pub record StaysUndoomed (old new : State) (b : ℕ) : Type 0 where
   pub bytes : (new.now b).bytes ≡ (old.now b).bytes
   pub slots : (j : ℕ) → ((new.now b).slot j ≡ (old.now b).slot j) ⊎ (old.clearing b j × ((new.now b).slot j ≡ cleared ((old.now b).slot j)))
   pub label : new.label b ≡ old.label b
   pub sealed : old.sealed b → new.sealed b
   pub uncovered : new.covered b → ⊥
-  pub places : (p : Place) → old.stands b p → new.stands b p
+  pub places : IsRooted old b → (p : Place) → old.stands b p → new.stands b p
 
 -- a slot waited, and was cleared
 abbrev pub WasCleared : (old new : State) → ℕ → ℕ → Type 0
