@@ -2,6 +2,8 @@
 //! and the removals that wait (`fo_unlink`). Beside them stand files that tell nothing of what they hold and answer whatever fits
 //! (`CarelessFiles`): so the contract of files can be kept by a silent disk, and promises no more there.
 //!
+//! `blocks` tests blocks in memory (`fo_ports_plain`).
+//!
 //! Bytes that are wanted were worked out by hand from docs/FORMATS.md. Nothing here is said of any caller.
 #![tactic(auto)]
 
@@ -9,6 +11,8 @@ mod careless;
 
 pub use careless::CarelessFiles;
 
+#[cfg(test)]
+mod blocks;
 #[cfg(test)]
 mod crash;
 #[cfg(test)]
