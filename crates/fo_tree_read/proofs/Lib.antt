@@ -2,3 +2,4 @@ pub mod Slots
 pub mod Looks
 pub mod Walk
 pub mod Exits
+pub mod Copies

@@ -5,10 +5,11 @@
 //!
 //! Proved, over any blocks and any device: a walk finds the pointer that memory has at its end, where the device tells or pins are left
 //! for the way; it takes a pin a step at most, and none for a block that was got on the way before; blocks under scores are fetched;
-//! each refusal has its cause. Not said: that the source is whole, or that a leaf has its format.
+//! each refusal has its cause. `copy_part` gives the bytes of one leaf. Not said: that the source is whole.
 #![tactic(auto)]
 
 mod below;
+mod copy;
 mod leaf;
 mod tree;
 
