@@ -3,3 +3,5 @@ pub mod Looks
 pub mod Walk
 pub mod Exits
 pub mod Copies
+pub mod Passed
+pub mod Parts

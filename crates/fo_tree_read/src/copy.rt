@@ -16,7 +16,7 @@ use fo_image::{Kind, Pointer, Score};
 use fo_ports::{BlockError, Blocks};
 
 /// How many bytes a leaf has.
-const LEAF: u64 = BLOCK as u64;
+pub(crate) const LEAF: u64 = BLOCK as u64;
 
 /// Copies bytes of a leaf that stands on the device.
 fn copy_local<B: Blocks>(
