@@ -91,15 +91,3 @@ module _ (old mid new : State) (t : Tree) (i : ℕ) (leaf : Pointer)
       (λ same. let le = again (got_before j next same) in omega (arith, p, le, same))
       (λ ne. omega (arith, p, one, ne, next.from, next.to))
       (cases_eq j i)
-
--- a byte of a leaf
-pub nil_byte : (s : State) (kind : Kind) (leaf : Pointer) (k v : ℕ) → leaf ≡ Nil → v ≡ 0 → v ≡ byte_at s.now (address_of leaf) (held_of s kind leaf) k
-nil_byte s kind leaf k v is e = subst (λ (p : Pointer). v ≡ byte_at s.now (address_of p) (held_of s kind p) k) (sym is) e
-
-pub local_byte : (s : State) (kind : Kind) (leaf : Pointer) (at k v : ℕ) → leaf ≡ Local at → v ≡ slice_index ((s.now at).bytes) k → v ≡ byte_at s.now (address_of leaf) (held_of s kind leaf) k
-local_byte s kind leaf at k v is e = subst (λ (p : Pointer). v ≡ byte_at s.now (address_of p) (held_of s kind p) k) (sym is) e
-
-pub held_byte : (s new : State) (kind : Kind) (code : ℕ) (leaf : Pointer) (score : Score) (bytes : List ℕ) (k v : ℕ) → KeepsAll s new → leaf ≡ Held score → code ≡ kind_code kind → s.held score code ≡ Some bytes → v ≡ slice_index bytes k → v ≡ byte_at new.now (address_of leaf) (held_of new kind leaf) k
-held_byte s new kind code leaf score bytes k v all is same held e =
-    let here : new.held score (kind_code kind) ≡ Some bytes = all.same_held score (kind_code kind) ∙ ap (λ c. s.held score c) (sym same) ∙ held in
-    subst (λ (p : Pointer). v ≡ byte_at new.now (address_of p) (held_of new kind p) k) (sym is) (subst (λ (h : Option (List ℕ)). v ≡ byte_at new.now None h k) (sym here) e)
