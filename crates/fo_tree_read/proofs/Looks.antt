@@ -7,7 +7,7 @@ use Rattle.fo_crash.specs.Images.{Image, Content, SameContent}
 use Rattle.fo_crash.specs.Steps.{Passes, IsOneOf}
 use Rattle.fo_ports.specs.declared.error.BlockError.{BlockError}
 use Rattle.fo_ports.specs.declared.error.BlockError.TheVariants.{Full, Damaged, Fault, Arena, Memory}
-use Rattle.fo_ports.specs.State.{State, KeepsAll, Looks, Calm, AddsNoWait, none}
+use Rattle.fo_ports.specs.State.{State, KeepsAll, Looks}
 use Rattle.fo_ports.specs.Sources.{Lacks}
 use Rattle.fo_tree_read.specs.Tree.{Failed, Refused}
 
