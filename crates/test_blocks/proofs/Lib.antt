@@ -1,1 +1,2 @@
+pub mod Causing
 mod Named

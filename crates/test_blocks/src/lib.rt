@@ -1,15 +1,18 @@
 //! Tests of what stands over blocks, by public names: slots and places (`fo_crash`), the leaves of a directory's records (`fo_meta`),
-//! and the removals that wait (`fo_unlink`). Beside them stand files that tell nothing of what they hold and answer whatever fits
-//! (`CarelessFiles`): so the contract of files can be kept by a silent disk, and promises no more there.
+//! the removals that wait (`fo_unlink`), slots in bytes (`fo_slots`), blocks in memory (`fo_ports_plain`).
 //!
-//! `blocks` tests blocks in memory (`fo_ports_plain`).
+//! Beside them stand files that tell nothing of what they hold and answer whatever fits (`CarelessFiles`): so the contract of files can
+//! be kept by a silent disk, and promises no more there. `put_byte` changes a byte of a block over any blocks, also those of a device
+//! that tells nothing, and each of its refusals has its cause.
 //!
 //! Bytes that are wanted were worked out by hand from docs/FORMATS.md. Nothing here is said of any caller.
 #![tactic(auto)]
 
 mod careless;
+mod change;
 
 pub use careless::CarelessFiles;
+pub use change::put_byte;
 
 #[cfg(test)]
 mod blocks;
@@ -17,5 +20,7 @@ mod blocks;
 mod crash;
 #[cfg(test)]
 mod meta;
+#[cfg(test)]
+mod slots;
 #[cfg(test)]
 mod unlink;
