@@ -5,3 +5,4 @@ pub mod Userly
 pub mod Tables
 pub mod Placing
 pub mod Seeing
+pub mod Spelling

@@ -4,6 +4,7 @@
 
 mod fid;
 mod fids;
+mod known_users;
 mod looking;
 mod mode;
 mod refusal;
@@ -16,6 +17,7 @@ pub use fids::{
     MOST_FIDS, NOFID, fid_of, in_use, is_listed, known, least, number_at, put_fid, release,
     release_all, remove_fid,
 };
+pub use known_users::KnownUsers;
 pub use looking::{bytes_at, info_at, named_at, next_at, parent_at};
 pub use mode::{Access, Mode};
 pub use refusal::Refusal;

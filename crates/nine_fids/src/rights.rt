@@ -1,22 +1,23 @@
 //! Who may do what.
-ghost use Rattle.std.specs.Prelude.{◌≡◌, true, IsTrue, Option, Ok, IfOk, IfErr, MatchResult, unwrap_or, option_and_then};
+ghost use Rattle.std.specs.Prelude.{◌≡◌, ◌≤◌, ◌^◌, length, true, IsTrue, Option, Ok, IfOk, IfErr, IfSome};
 ghost use Rattle.std.specs.List.{list_all};
 ghost use Rattle.fo_world.specs.Limits.{IsUser};
 ghost use Rattle.fo_world.specs.declared.error.FileError.TheVariants as failure;
-ghost use Rattle.fo_users.specs.Table.{is_line, standard_table};
-ghost use Rattle.fo_users.specs.Found.{table_in};
+ghost use Rattle.fo_users.specs.Table.{is_line};
 ghost use Rattle.nine_fids.specs.declared.refusal.Refusal.TheVariants as refusal;
 ghost use Rattle.nine_fids.specs.Refusing.{told_apart};
 ghost use Rattle.nine_fids.specs.Rights as nine;
 ghost use Rattle.nine_fids.specs.Looking.{Looks};
+ghost use Rattle.nine_fids.specs.Spelled.{IsSpelled, table_lent};
 
 use crate::fid::Fid;
+use crate::known_users::KnownUsers;
 use crate::looking::{bytes_at, named_at, parent_at};
 use crate::refusal::Refusal;
 use crate::stated::Stated;
 use fo_base::Bytes;
-use fo_users::{Right, Users, UsersError, read_users};
-use fo_world::{FileError, FileOps, Info, Name, Place, View};
+use fo_users::{Right, Users};
+use fo_world::{FileOps, Info, Name, Place, View};
 use std::alloc::Global;
 
 /// The most bytes that a table of users has.
@@ -46,6 +47,7 @@ fn small_file<F: FileOps>(
 ) -> Result<Option<Bytes>, Refusal>
     requires { IsTrue (F.whole files.old) }
     ensures looks { Looks (⟦<F as Stated>⟧.state files.old) (⟦<F as Stated>⟧.state files.new) (λ e w. Ok (nine.small_file e w info.now)) result }
+    ensures within { IfOk result (λ found. IfSome found (λ bytes. length bytes ≤ 2 ^ 16)) }
     ensures keeps { F.keeps files.old files.new }
 {
     if info.length > LARGEST_TABLE {
@@ -67,6 +69,7 @@ fn found_at<F: FileOps>(files: &mut F, at: &Place, name: &[u8]) -> Result<Option
 fn users_file<F: FileOps>(alloc: Global, files: &mut F) -> Result<Option<Bytes>, Refusal>
     requires { IsTrue (F.whole files.old) }
     ensures looks { Looks (⟦<F as Stated>⟧.state files.old) (⟦<F as Stated>⟧.state files.new) (λ e w. Ok (nine.users_file e w)) result }
+    ensures within { IfOk result (λ found. IfSome found (λ bytes. length bytes ≤ 2 ^ 16)) }
     ensures keeps { F.keeps files.old files.new }
 {
     let root = Place::root(alloc, View::Active);
@@ -79,40 +82,22 @@ fn users_file<F: FileOps>(alloc: Global, files: &mut F) -> Result<Option<Bytes>,
     small_file(alloc, files, &file)
 }
 
-/// The table that the bytes spell, or else the standard one.
-fn users_in(alloc: Global, bytes: &[u8]) -> Result<Users, Refusal>
-    ensures users { IfOk result (λ users. users ≡ unwrap_or (table_in bytes.now) standard_table) }
-    ensures lines { IfOk result (λ users. list_all is_line users ≡ true) }
-    ensures memory { IfErr result (λ r. r ≡ refusal.File failure.Memory) }
-{
-    match read_users(alloc, bytes) {
-        Ok(users) => Ok(users),
-        Err(UsersError::BadUsers) => Ok(Users::standard(alloc)?),
-        Err(UsersError::Memory) => Err(Refusal::File(FileError::Memory)),
-    }
-}
-
-/// The same, where there may be no bytes.
-fn users_or_standard(alloc: Global, bytes: &Option<Bytes>) -> Result<Users, Refusal>
-    ensures users { IfOk result (λ users. users ≡ unwrap_or (option_and_then table_in bytes.now) standard_table) }
-    ensures lines { IfOk result (λ users. list_all is_line users ≡ true) }
-    ensures memory { IfErr result (λ r. r ≡ refusal.File failure.Memory) }
-{
-    match bytes {
-        Some(bytes) => users_in(alloc, bytes.as_slice()),
-        None => Ok(Users::standard(alloc)?),
-    }
-}
-
-/// The table of users: that of /adm/users in the active tree, or else the standard one.
-pub fn table_of<F: FileOps>(alloc: Global, files: &mut F) -> Result<Users, Refusal>
+/// The table of users: that of /adm/users in the active tree, or else the standard one. The file is read once, and parsed where its
+/// bytes are not those that are known.
+pub fn table_of<'a, F: FileOps>(
+    alloc: Global,
+    files: &mut F,
+    known_users: &'a mut KnownUsers,
+) -> Result<&'a Users, Refusal>
     requires { IsTrue (F.whole files.old) }
-    ensures looks { Looks (⟦<F as Stated>⟧.state files.old) (⟦<F as Stated>⟧.state files.new) (λ e w. Ok (nine.table_of e w)) result }
-    ensures lines { IfOk result (λ users. list_all is_line users ≡ true) }
+    ensures looks { Looks (⟦<F as Stated>⟧.state files.old) (⟦<F as Stated>⟧.state files.new) (λ e w. Ok (nine.table_of e w)) (table_lent result) }
+    ensures spelled { IfOk result (λ users. IsSpelled users.now) }
+    ensures lines { IfOk result (λ users. list_all is_line users.now ≡ true) }
     ensures keeps { F.keeps files.old files.new }
 {
-    let bytes = users_file(alloc, files)?;
-    users_or_standard(alloc, &bytes)
+    let found = users_file(alloc, files)?;
+    let bytes = found.unwrap_or(Bytes::new(Vec::new(alloc)));
+    known_users.of(alloc, bytes)
 }
 
 /// The user who attaches under this name.

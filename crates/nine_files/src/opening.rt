@@ -11,8 +11,8 @@ ghost use Rattle.nine_files.specs.Opening as nine;
 use fo_users::{Right, Users};
 use fo_world::{Change, FileError, FileOps, Info, Name, Place, View};
 use nine_fids::{
-    Access, Fid, Mode, Opened, Refusal, Stated, appends, info_at, is_dir, is_exclusive, is_listed,
-    may_write_above, number_at, qid_of, table_of,
+    Access, Fid, KnownUsers, Mode, Opened, Refusal, Stated, appends, info_at, is_dir, is_exclusive,
+    is_listed, may_write_above, number_at, qid_of, table_of,
 };
 use nine_wire::Qid;
 use std::alloc::Global;
@@ -131,6 +131,7 @@ fn is_held(from: &Fid, info: &Info, exclusive: &[u32]) -> bool
 pub fn admit<F: FileOps>(
     alloc: Global,
     files: &mut F,
+    known_users: &mut KnownUsers,
     from: &Fid,
     exclusive: &[u32],
     mode: u8,
@@ -146,8 +147,8 @@ pub fn admit<F: FileOps>(
     }
     let info = info_at(files, &from.place)?;
     let mode = allowed_mode(from, &info, mode)?;
-    let users = table_of(alloc, files)?;
-    check_rights(files, &users, from, &info, mode)?;
+    let users = table_of(alloc, files, known_users)?;
+    check_rights(files, users, from, &info, mode)?;
     if is_held(from, &info, exclusive) {
         return Err(Refusal::ExclusivelyOpen);
     }
@@ -159,6 +160,7 @@ pub fn admit<F: FileOps>(
 pub fn admit_new<F: FileOps>(
     alloc: Global,
     files: &mut F,
+    known_users: &mut KnownUsers,
     from: &Fid,
     name: &[u8],
     perm: u32,
@@ -175,7 +177,7 @@ pub fn admit_new<F: FileOps>(
     }
     let above = info_at(files, &from.place)?;
     let mode = allowed_new(from, &above, name, perm, mode)?;
-    let users = table_of(alloc, files)?;
+    let users = table_of(alloc, files, known_users)?;
     if !users.may(&from.user, &above, Right::Write) {
         return Err(Refusal::PermissionDenied);
     }

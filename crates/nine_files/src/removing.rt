@@ -7,7 +7,7 @@ ghost use Rattle.nine_files.specs.Answering.{HadRoom, Leads};
 ghost use Rattle.nine_files.specs.Removing.{removed_there, gone};
 
 use fo_world::{FileError, FileOps, Info, View};
-use nine_fids::{Fid, Refusal, Stated, info_at, may_write_above, table_of};
+use nine_fids::{Fid, KnownUsers, Refusal, Stated, info_at, may_write_above, table_of};
 use std::alloc::Global;
 
 /// Whether a view is that of the active tree.
@@ -21,7 +21,13 @@ pub(crate) fn is_active(view: &View) -> bool
 }
 
 /// Removes the file of a fid, which is there.
-fn remove_file<F: FileOps>(alloc: Global, files: &mut F, now: u32, fid: &Fid) -> Result<(), Refusal>
+fn remove_file<F: FileOps>(
+    alloc: Global,
+    files: &mut F,
+    known_users: &mut KnownUsers,
+    now: u32,
+    fid: &Fid,
+) -> Result<(), Refusal>
     requires whole { IsTrue (F.whole files.old) }
     requires user { IsUser fid.now.user }
     ensures changes { Leads (⟦<F as Stated>⟧.state files.old) (⟦<F as Stated>⟧.state files.new)
@@ -35,8 +41,8 @@ fn remove_file<F: FileOps>(alloc: Global, files: &mut F, now: u32, fid: &Fid) ->
     if fid.place.trail.as_slice().is_empty() {
         return Err(Refusal::RemovesRoot);
     }
-    let users = table_of(alloc, files)?;
-    may_write_above(files, &users, fid)?;
+    let users = table_of(alloc, files, known_users)?;
+    may_write_above(files, users, fid)?;
     files.remove(&fid.place, &fid.user, now)?;
     Ok(())
 }
@@ -46,6 +52,7 @@ fn remove_file<F: FileOps>(alloc: Global, files: &mut F, now: u32, fid: &Fid) ->
 pub fn remove_on_close<F: FileOps>(
     alloc: Global,
     files: &mut F,
+    known_users: &mut KnownUsers,
     now: u32,
     fid: &Fid,
 ) -> Result<(), Refusal>
@@ -63,7 +70,7 @@ pub fn remove_on_close<F: FileOps>(
         return Ok(());
     }
     looked?;
-    remove_file(alloc, files, now, fid)
+    remove_file(alloc, files, known_users, now, fid)
 }
 
 /// Whether a file is gone.
@@ -90,6 +97,7 @@ fn is_removed(fid: &Fid) -> bool
 pub fn remove_there<F: FileOps>(
     alloc: Global,
     files: &mut F,
+    known_users: &mut KnownUsers,
     now: u32,
     fid: &Fid,
 ) -> Result<(), Refusal>
@@ -101,5 +109,5 @@ pub fn remove_there<F: FileOps>(
     ensures room { HadRoom (F.has_room files.old) (nine.remove_need fid.now) result }
 {
     info_at(files, &fid.place)?;
-    remove_file(alloc, files, now, fid)
+    remove_file(alloc, files, known_users, now, fid)
 }

@@ -14,7 +14,8 @@ use crate::removing::is_active;
 use fo_users::{Right, Users};
 use fo_world::{Change, FileError, FileOps, Info, Name};
 use nine_fids::{
-    Fid, Refusal, Stated, info_at, is_dir, may_give, may_write_above, owns, qid_of, table_of,
+    Fid, KnownUsers, Refusal, Stated, info_at, is_dir, may_give, may_write_above, owns, qid_of,
+    table_of,
 };
 use nine_stat::Stat;
 use std::alloc::Global;
@@ -204,6 +205,7 @@ pub fn is_idle(fixed: bool, what: &Change) -> bool
 fn check_change<F: FileOps>(
     alloc: Global,
     files: &mut F,
+    known_users: &mut KnownUsers,
     fid: &Fid,
     is_bad: bool,
     info: &Info,
@@ -218,12 +220,12 @@ fn check_change<F: FileOps>(
     if !is_active(&fid.place.view) {
         return Err(Refusal::File(FileError::ReadOnly));
     }
-    let users = table_of(alloc, files)?;
-    if is_bad_stat(&users, is_bad, what, info) {
+    let users = table_of(alloc, files, known_users)?;
+    if is_bad_stat(users, is_bad, what, info) {
         return Err(Refusal::BadStat);
     }
     check_name(fid, &what.name)?;
-    check_rights(files, &users, fid, info, what)
+    check_rights(files, users, fid, info, what)
 }
 
 /// Makes all changes of the file of a fid, or none. `info` is what is told of the file now, and `is_bad` says that a field that can't
@@ -231,6 +233,7 @@ fn check_change<F: FileOps>(
 pub fn restate<F: FileOps>(
     alloc: Global,
     files: &mut F,
+    known_users: &mut KnownUsers,
     now: u32,
     fid: &Fid,
     is_bad: bool,
@@ -245,7 +248,7 @@ pub fn restate<F: FileOps>(
         (λ w n. F.touches files.old w n files.new)
         (λ e w. granting.changed_by e w now fid.now is_bad what.now info.now) (λ e w. step.change_need e.whole w fid.now.place what.now) (step.most_need fid.now.place) result }
 {
-    check_change(alloc, files, fid, is_bad, info, what)?;
+    check_change(alloc, files, known_users, fid, is_bad, info, what)?;
     files.change(&fid.place, what, &fid.user, now)?;
     Ok(())
 }

@@ -8,7 +8,9 @@ ghost use Rattle.nine_files.specs.Answering.{Misses};
 
 use fo_users::{Right, Users};
 use fo_world::{FileError, FileOps, Info, Name, Place};
-use nine_fids::{Fid, Refusal, Stated, info_at, is_dir, named_at, parent_at, qid_of, table_of};
+use nine_fids::{
+    Fid, KnownUsers, Refusal, Stated, info_at, is_dir, named_at, parent_at, qid_of, table_of,
+};
 use nine_wire::Qids;
 use std::alloc::Global;
 
@@ -111,6 +113,7 @@ fn follow<F: FileOps>(
 pub fn walk_from<F: FileOps>(
     alloc: Global,
     files: &mut F,
+    known_users: &mut KnownUsers,
     fid: &Fid,
     names: &[Name],
 ) -> Result<Walked, Refusal>
@@ -127,6 +130,6 @@ pub fn walk_from<F: FileOps>(
         });
     }
     let start = info_at(files, &fid.place)?;
-    let users = table_of(alloc, files)?;
-    follow(alloc, files, &users, &fid.user, names, start)
+    let users = table_of(alloc, files, known_users)?;
+    follow(alloc, files, users, &fid.user, names, start)
 }

@@ -1,21 +1,18 @@
 -- The end of a fid as a session answers it, and the least fid.
-use Rattle.std.proofs.Common.{◌≡◌, ℕ, List, Bool, true, false, Option, Some, None, Result, Ok, Err, [], ◌∷◌, ◌==◌, refl, sym, ap, ◌∙◌, subst, ⊎_elim, arith}
+use Rattle.std.proofs.Common.{◌≡◌, ℕ, List, Bool, true, false, Option, Some, None, Result, Ok, Err, [], ◌∷◌, ◌==◌, refl, ap, subst, ⊎_elim, arith}
 use Rattle.std.specs.Prelude.{is_ok, nat_lt, if◌then◌else◌, IfErr}
 use Rattle.std.proofs.lemmas.Bool.Decides.{nat_tests}
 use Rattle.std.proofs.lemmas.Bool.{eq-eqb}
 use Rattle.nine_wire.specs.declared.message.Reply.{Reply}
-use Rattle.nine_wire.specs.declared.message.Reply.TheVariants as reply
 use Rattle.fo_world.specs.declared.error.FileError.{FileError}
 use Rattle.fo_world.specs.World.{World}
 use Rattle.nine_fids.specs.declared.fid.Fid.{Fid}
 use Rattle.nine_fids.specs.declared.refusal.Refusal.{Refusal}
-use Rattle.nine_fids.specs.declared.refusal.Refusal.TheVariants as refusal
-use Rattle.nine_fids.specs.Refusing.{refusal_text}
 use Rattle.nine_fids.specs.Fids.{State, fid_of, clunked, least, lesser}
 use Rattle.nine_fids.specs.Looking.{FilesState, HasCause, IsRefused}
 use Rattle.nine_files.specs.Answering.{FailsBy, HadRoom, tried}
 use Rattle.nine_files.specs.Removing.{close_need, most_close}
-use Rattle.nine_session.specs.Attempting.{Attempted, Attempts, error_of, let_go, state}
+use Rattle.nine_session.specs.Attempting.{Attempted, Attempts, error_of, let_go}
 use Rattle.nine_session.specs.Removing.{clunk_fid}
 use Rattle.nine_session.specs.Session as session
 use Rattle.nine_session.specs.Session.{IsDropped, IsEnded, Kept, LetsGo, Told, Touches, granted_world, in_files, kept_of}

@@ -8,13 +8,13 @@ use Rattle.nine_wire.specs.declared.message.Reply.TheVariants as reply
 use Rattle.fo_world.specs.declared.error.FileError.{FileError}
 use Rattle.fo_world.specs.declared.error.FileError.TheVariants as error
 use Rattle.fo_world.specs.World.{World}
-use Rattle.fo_world.specs.Answers.{MayFail, is_fault}
+use Rattle.fo_world.specs.Answers.{is_fault}
 use Rattle.nine_fids.specs.declared.refusal.Refusal.{Refusal}
 use Rattle.nine_fids.specs.declared.refusal.Refusal.TheVariants as refusal
 use Rattle.nine_fids.specs.Refusing.{and_then, is_failure, refusal_text, some_or}
-use Rattle.nine_fids.specs.Fids.{State, restarted, version_of}
+use Rattle.nine_fids.specs.Fids.{State, restarted}
 use Rattle.nine_fids.specs.Told.{Files}
-use Rattle.nine_fids.specs.Looking.{FilesState, HasCause, IsRefused, MayMiss}
+use Rattle.nine_fids.specs.Looking.{FilesState, HasCause, MayMiss}
 use Rattle.nine_fids.proofs.Missing.{refused_by, fails_by_missing}
 use Rattle.nine_fids.proofs.Seeing.{plain_cause}
 use Rattle.nine_files.specs.Answering.{FailsBy, HadRoom, tried}

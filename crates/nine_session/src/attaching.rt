@@ -8,7 +8,7 @@ ghost use Rattle.nine_session.specs.Attempting.{agreed_size, kept, Looked};
 use crate::session::Session;
 use fo_world::{FileError, FileOps, Name, Place, View};
 use nine_fids::{
-    Fid, MOST_FIDS, NOFID, Refusal, Stated, in_use, info_at, qid_of, table_of, user_of,
+    Fid, KnownUsers, MOST_FIDS, NOFID, Refusal, Stated, in_use, info_at, qid_of, table_of, user_of,
 };
 use nine_wire::{Ename, LARGEST_MESSAGE, Reply};
 
@@ -139,6 +139,7 @@ impl Session {
     pub(crate) fn attach<F: FileOps>(
         &mut self,
         files: &mut F,
+        known_users: &mut KnownUsers,
         fid: u32,
         afid: u32,
         uname: &Name,
@@ -166,8 +167,8 @@ impl Session {
         };
         let place = Place::root(self.alloc, view);
         let info = info_at(files, &place)?;
-        let users = table_of(self.alloc, files)?;
-        let user = user_of(self.alloc, &users, uname)?;
+        let users = table_of(self.alloc, files, known_users)?;
+        let user = user_of(self.alloc, users, uname)?;
         self.fids.push(Fid {
             number: fid,
             user,

@@ -11,7 +11,7 @@ ghost use Rattle.nine_session.specs.Opening as nine;
 
 use crate::session::Session;
 use fo_world::{FileOps, Name};
-use nine_fids::{Fid, Refusal, Stated, is_exclusive, number_at, put_fid, qid_of};
+use nine_fids::{Fid, KnownUsers, Refusal, Stated, is_exclusive, number_at, put_fid, qid_of};
 use nine_files::{admit, admit_new, new_mode, open_fid, truncate};
 use nine_wire::Reply;
 
@@ -46,6 +46,7 @@ impl Session {
     pub(crate) fn open<F: FileOps>(
         &mut self,
         files: &mut F,
+        known_users: &mut KnownUsers,
         exclusive: &mut Vec<u32>,
         now: u32,
         fid: u32,
@@ -61,7 +62,14 @@ impl Session {
     {
         let msize = self.version()?;
         let from = self.fid(fid)?;
-        let (info, mode) = admit(self.alloc, files, from, exclusive.as_slice(), mode)?;
+        let (info, mode) = admit(
+            self.alloc,
+            files,
+            known_users,
+            from,
+            exclusive.as_slice(),
+            mode,
+        )?;
         let user = from.user.copy(self.alloc)?;
         let place = from.place.copy(self.alloc)?;
         exclusive.reserve(1)?;
@@ -78,6 +86,7 @@ impl Session {
     pub(crate) fn create<F: FileOps>(
         &mut self,
         files: &mut F,
+        known_users: &mut KnownUsers,
         exclusive: &mut Vec<u32>,
         now: u32,
         fid: u32,
@@ -96,7 +105,15 @@ impl Session {
     {
         let msize = self.version()?;
         let from = self.fid(fid)?;
-        let (above, mode) = admit_new(self.alloc, files, from, name.as_slice(), perm, mode)?;
+        let (above, mode) = admit_new(
+            self.alloc,
+            files,
+            known_users,
+            from,
+            name.as_slice(),
+            perm,
+            mode,
+        )?;
         let user = from.user.copy(self.alloc)?;
         exclusive.reserve(1)?;
         let perm = new_mode(perm, above.mode);

@@ -10,7 +10,7 @@ ghost use Rattle.nine_session.specs.Removing as nine;
 
 use crate::session::Session;
 use fo_world::FileOps;
-use nine_fids::{Fid, Refusal, Stated, fid_of};
+use nine_fids::{Fid, KnownUsers, Refusal, Stated, fid_of};
 use nine_files::{remove_on_close, remove_there};
 use nine_wire::Reply;
 
@@ -28,6 +28,7 @@ impl Session {
     pub(crate) fn clunk_fid<F: FileOps>(
         &mut self,
         files: &mut F,
+        known_users: &mut KnownUsers,
         exclusive: &mut Vec<u32>,
         now: u32,
         number: u32,
@@ -44,7 +45,7 @@ impl Session {
         let Some(fid) = fid_of(self.fids.as_slice(), number) else {
             return Err(Refusal::UnknownFid);
         };
-        let removed = remove_on_close(self.alloc, files, now, fid);
+        let removed = remove_on_close(self.alloc, files, known_users, now, fid);
         self.let_go(exclusive, number);
         removed?;
         Ok(Reply::Clunk)
@@ -54,6 +55,7 @@ impl Session {
     pub(crate) fn clunk<F: FileOps>(
         &mut self,
         files: &mut F,
+        known_users: &mut KnownUsers,
         exclusive: &mut Vec<u32>,
         now: u32,
         fid: u32,
@@ -68,13 +70,14 @@ impl Session {
     {
         self.version()?;
         self.fid(fid)?;
-        self.clunk_fid(files, exclusive, now, fid)
+        self.clunk_fid(files, known_users, exclusive, now, fid)
     }
 
     /// Tremove.
     pub(crate) fn remove<F: FileOps>(
         &mut self,
         files: &mut F,
+        known_users: &mut KnownUsers,
         exclusive: &mut Vec<u32>,
         now: u32,
         fid: u32,
@@ -89,7 +92,7 @@ impl Session {
     {
         self.version()?;
         let from = self.fid(fid)?;
-        let removed = remove_there(self.alloc, files, now, from);
+        let removed = remove_there(self.alloc, files, known_users, now, from);
         self.let_go(exclusive, fid);
         removed?;
         Ok(Reply::Remove)

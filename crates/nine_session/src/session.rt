@@ -3,17 +3,21 @@ ghost use Rattle.std.specs.Prelude.{◌≡◌};
 ghost use Rattle.nine_session.specs.Attempting.{error_of};
 
 use fo_world::FileOps;
-use nine_fids::{Fid, Refusal, Stated, fid_of, known, least, release, release_all, remove_fid};
+use nine_fids::{
+    Fid, KnownUsers, Refusal, Stated, fid_of, known, least, release, release_all, remove_fid,
+};
 use nine_wire::{Reply, Request};
 use std::alloc::Global;
 use std::marker::Model;
+use std::mem;
 
-/// A session: the message size, where a version is agreed to, and its fids.
+/// A session: the message size, where a version is agreed to, its fids, and the table of users as it was last read.
 #[derive(Drop)]
 pub struct Session {
     pub(crate) alloc: Global,
     pub(crate) msize: Option<u32>,
     pub(crate) fids: Vec<Fid>,
+    known_users: KnownUsers,
 }
 
 impl Model for Session {
@@ -57,6 +61,7 @@ impl Session {
             alloc,
             msize: None,
             fids: Vec::new(alloc),
+            known_users: KnownUsers::new(alloc),
         }
     }
 
@@ -101,6 +106,7 @@ impl Session {
     fn attempt<F: FileOps>(
         &mut self,
         files: &mut F,
+        known_users: &mut KnownUsers,
         exclusive: &mut Vec<u32>,
         now: u32,
         request: Request,
@@ -120,22 +126,28 @@ impl Session {
                 afid,
                 uname,
                 aname,
-            } => self.attach(files, fid, afid, &uname, &aname),
+            } => self.attach(files, known_users, fid, afid, &uname, &aname),
             Request::Flush { .. } => self.flush(),
-            Request::Walk { fid, newfid, names } => self.walk(files, fid, newfid, &names),
-            Request::Open { fid, mode } => self.open(files, exclusive, now, fid, mode),
+            Request::Walk { fid, newfid, names } => self.walk(
+                files,
+                known_users,
+                fid,
+                newfid,
+                &names,
+            ),
+            Request::Open { fid, mode } => self.open(files, known_users, exclusive, now, fid, mode),
             Request::Create {
                 fid,
                 name,
                 perm,
                 mode,
-            } => self.create(files, exclusive, now, fid, &name, perm, mode),
+            } => self.create(files, known_users, exclusive, now, fid, &name, perm, mode),
             Request::Read { fid, offset, count } => self.read(files, fid, offset, count),
             Request::Write { fid, offset, bytes } => self.write(files, now, fid, offset, &bytes),
-            Request::Clunk { fid } => self.clunk(files, exclusive, now, fid),
-            Request::Remove { fid } => self.remove(files, exclusive, now, fid),
+            Request::Clunk { fid } => self.clunk(files, known_users, exclusive, now, fid),
+            Request::Remove { fid } => self.remove(files, known_users, exclusive, now, fid),
             Request::Stat { fid } => self.stat(files, fid),
-            Request::Wstat { fid, stat } => self.wstat(files, now, fid, &stat),
+            Request::Wstat { fid, stat } => self.wstat(files, known_users, now, fid, &stat),
         }
     }
 
@@ -163,7 +175,10 @@ impl Session {
         // Once a Twstat that touches nothing is answered Rwstat, all that was changed is settled.
         ensures settled { AsksSync request → result ≡ reply.Wstat → F.settled files.new }
     {
-        match self.attempt(files, exclusive, now, request) {
+        let mut known_users = self.take_users();
+        let attempted = self.attempt(files, &mut known_users, exclusive, now, request);
+        self.put_users(known_users);
+        match attempted {
             Ok(reply) => reply,
             Err(refusal) => refusal.reply(),
         }
@@ -185,8 +200,24 @@ impl Session {
             self.restart(exclusive, None);
             return (false, None);
         };
-        let clunked = self.clunk_fid(files, exclusive, now, number);
+        let mut known_users = self.take_users();
+        let clunked = self.clunk_fid(files, &mut known_users, exclusive, now, number);
+        self.put_users(known_users);
         (true, error_of(clunked))
+    }
+
+    /// Takes the known users out, for a call that uses the rest of the session too.
+    fn take_users(&mut self) -> KnownUsers
+        ensures { self.new ≡ self.old }
+    {
+        mem::replace(&mut self.known_users, KnownUsers::new(self.alloc))
+    }
+
+    /// Puts the known users back.
+    fn put_users(&mut self, known_users: KnownUsers)
+        ensures { self.new ≡ self.old }
+    {
+        self.known_users = known_users;
     }
 
     /// The least number of a fid.

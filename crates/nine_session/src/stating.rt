@@ -11,7 +11,7 @@ ghost use Rattle.nine_session.specs.Stating as nine;
 use crate::session::Session;
 use fo_base::Bytes;
 use fo_world::{FileError, FileOps};
-use nine_fids::{Refusal, Stated, info_at, put_record};
+use nine_fids::{KnownUsers, Refusal, Stated, info_at, put_record};
 use nine_files::{change_of, changes_fixed, is_idle, restate, settle, touches_fixed};
 use nine_stat::{Stat, read_stat};
 use nine_wire::Reply;
@@ -57,6 +57,7 @@ impl Session {
     pub(crate) fn wstat<F: FileOps>(
         &self,
         files: &mut F,
+        known_users: &mut KnownUsers,
         now: u32,
         fid: u32,
         stat: &Bytes,
@@ -81,7 +82,16 @@ impl Session {
             settle(files)?;
             return Ok(Reply::Wstat);
         }
-        restate(self.alloc, files, now, from, is_bad, &info, &what)?;
+        restate(
+            self.alloc,
+            files,
+            known_users,
+            now,
+            from,
+            is_bad,
+            &info,
+            &what,
+        )?;
         Ok(Reply::Wstat)
     }
 

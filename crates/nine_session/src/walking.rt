@@ -9,7 +9,7 @@ ghost use Rattle.nine_session.specs.Walking as nine;
 
 use crate::session::Session;
 use fo_world::{FileOps, Name};
-use nine_fids::{Fid, MOST_FIDS, Refusal, Stated, in_use, put_fid};
+use nine_fids::{Fid, KnownUsers, MOST_FIDS, Refusal, Stated, in_use, put_fid};
 use nine_files::{Walked, walk_from};
 use nine_wire::{Names, Reply};
 
@@ -46,6 +46,7 @@ impl Session {
     pub(crate) fn walk<F: FileOps>(
         &mut self,
         files: &mut F,
+        known_users: &mut KnownUsers,
         fid: u32,
         newfid: u32,
         names: &Names,
@@ -60,7 +61,7 @@ impl Session {
         let names = names.as_slice();
         let from = self.walked_fid(fid, newfid, names)?;
         let user = from.user.copy(self.alloc)?;
-        let walked = walk_from(self.alloc, files, from, names)?;
+        let walked = walk_from(self.alloc, files, known_users, from, names)?;
         self.finish_walk(user, fid, newfid, walked)
     }
 

@@ -6,8 +6,8 @@ use fo_base::is_text;
 use fo_plain::PlainFiles;
 use fo_world::{FileError, FileOps, Info, Name, Place, Trail, View};
 use nine_fids::{
-    Access, Fid, Mode, Refusal, bytes_at, in_use, info_at, known, least, may_write_above, named_at,
-    next_at, parent_at, put_record, remove_fid, table_of, user_of,
+    Access, Fid, KnownUsers, Mode, Refusal, bytes_at, in_use, info_at, known, least,
+    may_write_above, named_at, next_at, parent_at, put_record, remove_fid, table_of, user_of,
 };
 use nine_wire::Reply;
 use std::alloc::Global;
@@ -119,9 +119,10 @@ fn reads(rt: &impl Abort, alloc: Global, files: &mut PlainFiles) -> Result<(), F
 
 /// The user who attaches under a name.
 fn attached(alloc: Global, files: &mut PlainFiles, text: &[u8]) -> Result<Name, Refusal> {
-    let users = table_of(alloc, files)?;
+    let mut known_users = KnownUsers::new(alloc);
+    let users = table_of(alloc, files, &mut known_users)?;
     let name = Name::copy_of(alloc, text)?;
-    user_of(alloc, &users, &name)
+    user_of(alloc, users, &name)
 }
 
 fn attaches(
@@ -140,8 +141,9 @@ fn attaches(
 fn writes_above<F: FileOps>(alloc: Global, files: &mut F, fid: &Fid) -> Result<(), Refusal>
     requires { IsTrue (F.whole files.old) }
 {
-    let users = table_of(alloc, files)?;
-    may_write_above(files, &users, fid)
+    let mut known_users = KnownUsers::new(alloc);
+    let users = table_of(alloc, files, &mut known_users)?;
+    may_write_above(files, users, fid)
 }
 
 /// A fid of a user, at the table.

@@ -5,7 +5,7 @@ ghost use Rattle.fo_world.specs.Limits.{IsName, IsUser};
 use fo_base::is_text;
 use fo_plain::PlainFiles;
 use fo_world::{Change, FileError, FileOps, Info, Name, Place, Trail, View};
-use nine_fids::{Access, Fid, Opened, Refusal, info_at};
+use nine_fids::{Access, Fid, KnownUsers, Opened, Refusal, info_at};
 use nine_files::{
     admit, admit_new, list_records, read_to, remove_on_close, remove_there, restate, settle,
     start_of, truncate, walk_from, write_bytes,
@@ -90,7 +90,13 @@ fn walks(rt: &impl Abort, alloc: Global) -> Result<(), Fail> {
     let mut files = two_files(alloc)?;
     let root = fid(alloc, &[], None)?;
     let names = [name(alloc, b"g")?];
-    let walked = walk_from(alloc, &mut files, &root, &names)?;
+    let walked = walk_from(
+        alloc,
+        &mut files,
+        &mut KnownUsers::new(alloc),
+        &root,
+        &names,
+    )?;
     assert_eq!(rt; walked.last.trail.as_slice(), [2].as_slice());
     assert!(rt; walked.stopped.is_none());
     Ok(())
@@ -148,7 +154,7 @@ fn written(alloc: Global, files: &mut PlainFiles) -> Result<u64, Refusal> {
 /// Opens `f` with OTRUNC: its qid then.
 fn cut(alloc: Global, files: &mut PlainFiles) -> Result<Qid, Refusal> {
     let fid = fid(alloc, &[1], None)?;
-    let (info, mode) = admit(alloc, files, &fid, &[], 0x11)?;
+    let (info, mode) = admit(alloc, files, &mut KnownUsers::new(alloc), &fid, &[], 0x11)?;
     truncate(files, &fid, &info, mode, 4)
 }
 
@@ -157,7 +163,15 @@ fn opens(rt: &impl Abort, alloc: Global) -> Result<(), Fail> {
     assert_eq!(rt; written(alloc, &mut files)?, 3);
     assert_eq!(rt; cut(alloc, &mut files)?.vers, 2);
     let root = fid(alloc, &[], None)?;
-    let (above, _) = admit_new(alloc, &mut files, &root, b"h", 0o644, 0)?;
+    let (above, _) = admit_new(
+        alloc,
+        &mut files,
+        &mut KnownUsers::new(alloc),
+        &root,
+        b"h",
+        0o644,
+        0,
+    )?;
     assert_eq!(rt; above.path, 0);
     Ok(())
 }
@@ -174,7 +188,16 @@ fn set_mode(alloc: Global, files: &mut PlainFiles, fid: &Fid) -> Result<(), Refu
         name: None,
         gid: None,
     };
-    restate(alloc, files, 5, fid, false, &info, &what)
+    restate(
+        alloc,
+        files,
+        &mut KnownUsers::new(alloc),
+        5,
+        fid,
+        false,
+        &info,
+        &what,
+    )
 }
 
 /// Changes the mode of `f`, and settles that.
@@ -204,13 +227,13 @@ fn changes(rt: &impl Abort, alloc: Global) -> Result<(), Fail> {
 /// Removes `f`.
 fn remove_one(alloc: Global, files: &mut PlainFiles) -> Result<(), Refusal> {
     let fid = fid(alloc, &[1], None)?;
-    remove_there(alloc, files, 6, &fid)
+    remove_there(alloc, files, &mut KnownUsers::new(alloc), 6, &fid)
 }
 
 /// Clunks a fid of `g` that was opened with ORCLOSE.
 fn close_other(alloc: Global, files: &mut PlainFiles) -> Result<(), Refusal> {
     let fid = fid(alloc, &[2], Some(opened(true, 0, None)))?;
-    remove_on_close(alloc, files, 7, &fid)
+    remove_on_close(alloc, files, &mut KnownUsers::new(alloc), 7, &fid)
 }
 
 fn is_gone(

@@ -50,10 +50,10 @@ returns-in_err-check_rights-clause-looks g c =
     let shut : is_open c.args.from.now ≡ false = sym c.is_some.ensures ∙ c.if-is_some.false in
     let i = c.in_ok-info.info in
     let m = c.in_ok-mode.mode in
-    rw (p.1, p.2) (refused_after _ _ _ (λ e w. opening_rights_by c.in_ok-users.users e w c.args.from.now i m) _ c.in_err-check_rights.field-0.0 (follows _ _ (met.keeps_whole _ _ j) (met.keeps_largest _ _ j) (met.keeps_faults _ _ j) (met.keeps_honest _ _ j))
+    rw (p.1, p.2) (refused_after _ _ _ (λ e w. opening_rights_by c.in_ok-users.users.now e w c.args.from.now i m) _ c.in_err-check_rights.field-0.0 (follows _ _ (met.keeps_whole _ _ j) (met.keeps_largest _ _ j) (met.keeps_faults _ _ j) (met.keeps_honest _ _ j))
     (λ h. c.table_of.ensures.looks.world (met.keeps_honest _ _ k h) ∙ c.info_at.ensures.looks.world h)
     (λ h denied.
-    let table : table_of e w ≡ c.in_ok-users.users = ok_same _ _ (told_at _ _ (λ e w. Ok (table_of e w)) _ _ _ _ (met.keeps_whole _ _ k) (met.keeps_largest _ _ k) (c.info_at.ensures.looks.world h) c.in_ok-users.ensures.looks (met.keeps_honest _ _ k h)) in
+    let table : table_of e w ≡ c.in_ok-users.users.now = ok_same _ _ (told_at _ _ (λ e w. Ok (table_of e w)) _ _ _ _ (met.keeps_whole _ _ k) (met.keeps_largest _ _ k) (c.info_at.ensures.looks.world h) c.in_ok-users.ensures.looks (met.keeps_honest _ _ k h)) in
     admitted_no_right e w c.args.from.now c.args.exclusive.now c.args.mode i m c.in_err-check_rights.field-0.0 shut (c.in_ok-info.ensures.looks.answer h) (sym c.allowed_mode.ensures ∙ c.in_ok-mode.was)
     (ap (λ t. opening_rights_by t e w c.args.from.now i m) table ∙ denied))
     c.in_err-check_rights.ensures.looks)
@@ -72,9 +72,9 @@ returns-then-is_held-clause-looks g c =
     looks_denied _ _ _ _ (λ h.
     let seen = c.info_at.ensures.looks.world h in
     let same = c.table_of.ensures.looks.world (met.keeps_honest _ _ k h) ∙ seen in
-    let table : table_of e w ≡ c.in_ok-users.users = ok_same _ _ (told_at _ _ (λ e w. Ok (table_of e w)) _ _ _ _ (met.keeps_whole _ _ k) (met.keeps_largest _ _ k) (c.info_at.ensures.looks.world h) c.in_ok-users.ensures.looks (met.keeps_honest _ _ k h)) in
+    let table : table_of e w ≡ c.in_ok-users.users.now = ok_same _ _ (told_at _ _ (λ e w. Ok (table_of e w)) _ _ _ _ (met.keeps_whole _ _ k) (met.keeps_largest _ _ k) (c.info_at.ensures.looks.world h) c.in_ok-users.ensures.looks (met.keeps_honest _ _ k h)) in
     let granted : opening_rights e w c.args.from.now i m ≡ Ok tt = ap (λ t. opening_rights_by t e w c.args.from.now i m) table
-    ∙ told_at _ _ (λ e w. opening_rights_by c.in_ok-users.users e w c.args.from.now i m) _ _ _ _ (met.keeps_whole _ _ j) (met.keeps_largest _ _ j) same c.in_ok-check_rights.ensures.looks (met.keeps_honest _ _ j h) in
+    ∙ told_at _ _ (λ e w. opening_rights_by c.in_ok-users.users.now e w c.args.from.now i m) _ _ _ _ (met.keeps_whole _ _ j) (met.keeps_largest _ _ j) same c.in_ok-check_rights.ensures.looks (met.keeps_honest _ _ j h) in
     let held : is_held c.args.from.now i c.args.exclusive.now ≡ true = sym c.is_held.ensures ∙ c.if-is_held.true in
     admitted_there e w c.args.from.now c.args.exclusive.now c.args.mode i m shut (c.in_ok-info.ensures.looks.answer h) (sym c.allowed_mode.ensures ∙ c.in_ok-mode.was) granted
     ∙ ap (λ b. refuse_if b refusal.ExclusivelyOpen (Ok (i, m))) held)
@@ -94,9 +94,9 @@ returns-clause-looks g c =
     looks_ok _ _ _ _ (λ h.
     let seen = c.info_at.ensures.looks.world h in
     let same = c.table_of.ensures.looks.world (met.keeps_honest _ _ k h) ∙ seen in
-    let table : table_of e w ≡ c.in_ok-users.users = ok_same _ _ (told_at _ _ (λ e w. Ok (table_of e w)) _ _ _ _ (met.keeps_whole _ _ k) (met.keeps_largest _ _ k) (c.info_at.ensures.looks.world h) c.in_ok-users.ensures.looks (met.keeps_honest _ _ k h)) in
+    let table : table_of e w ≡ c.in_ok-users.users.now = ok_same _ _ (told_at _ _ (λ e w. Ok (table_of e w)) _ _ _ _ (met.keeps_whole _ _ k) (met.keeps_largest _ _ k) (c.info_at.ensures.looks.world h) c.in_ok-users.ensures.looks (met.keeps_honest _ _ k h)) in
     let granted : opening_rights e w c.args.from.now i m ≡ Ok tt = ap (λ t. opening_rights_by t e w c.args.from.now i m) table
-    ∙ told_at _ _ (λ e w. opening_rights_by c.in_ok-users.users e w c.args.from.now i m) _ _ _ _ (met.keeps_whole _ _ j) (met.keeps_largest _ _ j) same c.in_ok-check_rights.ensures.looks (met.keeps_honest _ _ j h) in
+    ∙ told_at _ _ (λ e w. opening_rights_by c.in_ok-users.users.now e w c.args.from.now i m) _ _ _ _ (met.keeps_whole _ _ j) (met.keeps_largest _ _ j) same c.in_ok-check_rights.ensures.looks (met.keeps_honest _ _ j h) in
     let held : is_held c.args.from.now i c.args.exclusive.now ≡ false = sym c.is_held.ensures ∙ c.if-is_held.false in
     admitted_there e w c.args.from.now c.args.exclusive.now c.args.mode i m shut (c.in_ok-info.ensures.looks.answer h) (sym c.allowed_mode.ensures ∙ c.in_ok-mode.was) granted
     ∙ ap (λ b. refuse_if b refusal.ExclusivelyOpen (Ok (i, m))) held)

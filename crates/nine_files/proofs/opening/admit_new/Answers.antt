@@ -47,7 +47,7 @@ returns-then-not-may-clause-looks g c =
     let k = c.info_at.ensures.keeps in
     let shut : is_open c.args.from.now ≡ false = sym c.is_some.ensures ∙ c.if-is_some.false in
     looks_denied _ _ _ _ (λ h.
-    let table : table_of e w ≡ c.in_ok-users.users = ok_same _ _ (told_at _ _ (λ e w. Ok (table_of e w)) _ _ _ _ (met.keeps_whole _ _ k) (met.keeps_largest _ _ k) (c.info_at.ensures.looks.world h) c.in_ok-users.ensures.looks (met.keeps_honest _ _ k h)) in
+    let table : table_of e w ≡ c.in_ok-users.users.now = ok_same _ _ (told_at _ _ (λ e w. Ok (table_of e w)) _ _ _ _ (met.keeps_whole _ _ k) (met.keeps_largest _ _ k) (c.info_at.ensures.looks.world h) c.in_ok-users.ensures.looks (met.keeps_honest _ _ k h)) in
     let right : may (table_of e w) c.args.from.now.user c.in_ok-above.above Write ≡ false = rw table (sym c.may.ensures ∙ c.if-not-may.true) in
     new_there e w c.args.from.now c.args.name.now c.args.perm c.args.mode c.in_ok-above.above c.in_ok-mode.mode shut (c.in_ok-above.ensures.looks.answer h) (sym c.allowed_new.ensures ∙ c.in_ok-mode.was)
     ∙ ap (λ b. refuse_if (not b) refusal.PermissionDenied (Ok (c.in_ok-above.above, c.in_ok-mode.mode))) right)
@@ -62,7 +62,7 @@ returns-clause-looks g c =
     let k = c.info_at.ensures.keeps in
     let shut : is_open c.args.from.now ≡ false = sym c.is_some.ensures ∙ c.if-is_some.false in
     looks_ok _ _ _ _ (λ h.
-    let table : table_of e w ≡ c.in_ok-users.users = ok_same _ _ (told_at _ _ (λ e w. Ok (table_of e w)) _ _ _ _ (met.keeps_whole _ _ k) (met.keeps_largest _ _ k) (c.info_at.ensures.looks.world h) c.in_ok-users.ensures.looks (met.keeps_honest _ _ k h)) in
+    let table : table_of e w ≡ c.in_ok-users.users.now = ok_same _ _ (told_at _ _ (λ e w. Ok (table_of e w)) _ _ _ _ (met.keeps_whole _ _ k) (met.keeps_largest _ _ k) (c.info_at.ensures.looks.world h) c.in_ok-users.ensures.looks (met.keeps_honest _ _ k h)) in
     let right : may (table_of e w) c.args.from.now.user c.in_ok-above.above Write ≡ true = rw table (sym c.may.ensures ∙ c.if-not-may.false) in
     new_there e w c.args.from.now c.args.name.now c.args.perm c.args.mode c.in_ok-above.above c.in_ok-mode.mode shut (c.in_ok-above.ensures.looks.answer h) (sym c.allowed_new.ensures ∙ c.in_ok-mode.was)
     ∙ ap (λ b. refuse_if (not b) refusal.PermissionDenied (Ok (c.in_ok-above.above, c.in_ok-mode.mode))) right)

@@ -47,12 +47,12 @@ returns-in_err-may_write_above-clause-changes g c =
     let root : (length c.args.fid.now.place.trail == 0) ≡ false = rw (← c.as_slice.ensures) (sym c.is_empty.ensures ∙ c.if-is_empty.false) in
     let active = sym c.is_active.ensures ∙ c.if-not-is_active.false in
     let r = c.in_err-may_write_above.field-0.0 in
-    rw (p.1, p.2) (leads_looked _ _ _ (λ e w. may_write_above_by c.in_ok-users.users e w c.args.fid.now) _ _ _ r
+    rw (p.1, p.2) (leads_looked _ _ _ (λ e w. may_write_above_by c.in_ok-users.users.now e w c.args.fid.now) _ _ _ r
     (λ h denied.
-    let table : table_of e w ≡ c.in_ok-users.users = ok_same _ _ (c.in_ok-users.ensures.looks.answer h) in
+    let table : table_of e w ≡ c.in_ok-users.users.now = ok_same _ _ (c.in_ok-users.ensures.looks.answer h) in
     removed_above e w c.args.fid.now c.args.now r active root (ap (λ t. may_write_above_by t e w c.args.fid.now) table ∙ denied))
     (λ w n. met.touches_more _ _ w 0 n (omega arith) (met.keeps_touches _ _ w j))
-    (looks_after _ _ _ _ (λ e w. may_write_above_by c.in_ok-users.users e w c.args.fid.now) (Err r) (follows _ _ (met.keeps_whole _ _ k) (met.keeps_largest _ _ k) (met.keeps_faults _ _ k) (met.keeps_honest _ _ k)) c.table_of.ensures.looks.world (λ h. refl) c.in_err-may_write_above.ensures.looks))
+    (looks_after _ _ _ _ (λ e w. may_write_above_by c.in_ok-users.users.now e w c.args.fid.now) (Err r) (follows _ _ (met.keeps_whole _ _ k) (met.keeps_largest _ _ k) (met.keeps_faults _ _ k) (met.keeps_honest _ _ k)) c.table_of.ensures.looks.world (λ h. refl) c.in_err-may_write_above.ensures.looks))
 
 pub returns-in_err-remove-clause-changes : goal.returns-in_err-remove-clause-changes
 returns-in_err-remove-clause-changes g c =
@@ -72,9 +72,9 @@ returns-in_err-remove-clause-changes g c =
     rw (p.1, p.2)
     (leads_as _ _ _ (led removes) _ need _ _ _ _
     (λ h.
-    let table : table_of e w ≡ c.in_ok-users.users = ok_same _ _ (c.in_ok-users.ensures.looks.answer h) in
+    let table : table_of e w ≡ c.in_ok-users.users.now = ok_same _ _ (c.in_ok-users.ensures.looks.answer h) in
     let above = ap (λ t. may_write_above_by t e w c.args.fid.now) table
-    ∙ told_at _ _ (λ e w. may_write_above_by c.in_ok-users.users e w c.args.fid.now) _ _ _ _ (met.keeps_whole _ _ k) (met.keeps_largest _ _ k) (c.table_of.ensures.looks.world h) c.in_ok-may_write_above.ensures.looks (met.keeps_honest _ _ k h) in
+    ∙ told_at _ _ (λ e w. may_write_above_by c.in_ok-users.users.now e w c.args.fid.now) _ _ _ _ (met.keeps_whole _ _ k) (met.keeps_largest _ _ k) (c.table_of.ensures.looks.world h) c.in_ok-may_write_above.ensures.looks (met.keeps_honest _ _ k h) in
     sym (removed_told e w c.args.fid.now c.args.now active root above))
     (λ h. refl) refl
     (leads_after _ b _ _ (λ w n. g.F.FileOps.touches mid w n c.remove.new.self) (led removes) need _ _ (follows _ _ (met.keeps_whole _ _ j) (met.keeps_largest _ _ j) (met.keeps_faults _ _ j) (met.keeps_honest _ _ j))
@@ -97,9 +97,9 @@ returns-clause-changes g c =
     let need = λ (e : Files) (w : World). remove_need c.args.fid.now in
     (leads_as _ _ _ (led removes) _ need _ _ _ _
     (λ h.
-    let table : table_of e w ≡ c.in_ok-users.users = ok_same _ _ (c.in_ok-users.ensures.looks.answer h) in
+    let table : table_of e w ≡ c.in_ok-users.users.now = ok_same _ _ (c.in_ok-users.ensures.looks.answer h) in
     let above = ap (λ t. may_write_above_by t e w c.args.fid.now) table
-    ∙ told_at _ _ (λ e w. may_write_above_by c.in_ok-users.users e w c.args.fid.now) _ _ _ _ (met.keeps_whole _ _ k) (met.keeps_largest _ _ k) (c.table_of.ensures.looks.world h) c.in_ok-may_write_above.ensures.looks (met.keeps_honest _ _ k h) in
+    ∙ told_at _ _ (λ e w. may_write_above_by c.in_ok-users.users.now e w c.args.fid.now) _ _ _ _ (met.keeps_whole _ _ k) (met.keeps_largest _ _ k) (c.table_of.ensures.looks.world h) c.in_ok-may_write_above.ensures.looks (met.keeps_honest _ _ k h) in
     sym (removed_told e w c.args.fid.now c.args.now active root above))
     (λ h. refl) refl
     (leads_after _ b _ _ (λ w n. g.F.FileOps.touches mid w n c.remove.new.self) (led removes) need _ _ (follows _ _ (met.keeps_whole _ _ j) (met.keeps_largest _ _ j) (met.keeps_faults _ _ j) (met.keeps_honest _ _ j))

@@ -25,7 +25,7 @@ returns-then-is_bad_stat-clause-looks g c =
     let e = served (g.F.FileOps.whole f) (g.F.FileOps.largest f) in
     let w = g.F.FileOps.world f in
     looks_denied _ _ _ _ (λ h.
-    let table : table_of e w ≡ c.in_ok-users.users = ok_same _ _ (c.in_ok-users.ensures.looks.answer h) in
+    let table : table_of e w ≡ c.in_ok-users.users.now = ok_same _ _ (c.in_ok-users.ensures.looks.answer h) in
     let bad : is_bad e w c.args.is_bad c.args.what.now c.args.info.now ≡ true = rw table (sym c.is_bad_stat.ensures ∙ c.if-is_bad_stat.true) in
     change_bad e w c.args.fid.now c.args.is_bad c.args.what.now c.args.info.now (sym c.is_active.ensures ∙ c.if-not-is_active.false) bad)
     c.table_of.ensures.looks.world tt
@@ -39,7 +39,7 @@ returns-in_err-check_name-clause-looks g c =
     let r = c.in_err-check_name.field-0.0 in
     let denied = sym c.check_name.ensures ∙ c.in_err-check_name.was in
     rw (p.1, p.2) (looks_plain _ _ _ r (λ h.
-    let table : table_of e w ≡ c.in_ok-users.users = ok_same _ _ (c.in_ok-users.ensures.looks.answer h) in
+    let table : table_of e w ≡ c.in_ok-users.users.now = ok_same _ _ (c.in_ok-users.ensures.looks.answer h) in
     let bad : is_bad e w c.args.is_bad c.args.what.now c.args.info.now ≡ false = rw table (sym c.is_bad_stat.ensures ∙ c.if-is_bad_stat.false) in
     change_unnamed e w c.args.fid.now c.args.is_bad c.args.what.now c.args.info.now r (sym c.is_active.ensures ∙ c.if-not-is_active.false) bad denied)
     c.table_of.ensures.looks.world (plain_at _ _ (unnamed_plain c.args.fid.now c.args.what.now.name) denied))
@@ -51,9 +51,9 @@ returns-clause-looks g c =
     let w = g.F.FileOps.world f in
     let met = g.met.F.FileOps in
     let k = c.table_of.ensures.keeps in
-    looks_after _ _ _ _ (λ e w. changing_rights_by c.in_ok-users.users e w c.args.fid.now c.args.info.now c.args.what.now) _ (follows _ _ (met.keeps_whole _ _ k) (met.keeps_largest _ _ k) (met.keeps_faults _ _ k) (met.keeps_honest _ _ k)) c.table_of.ensures.looks.world
+    looks_after _ _ _ _ (λ e w. changing_rights_by c.in_ok-users.users.now e w c.args.fid.now c.args.info.now c.args.what.now) _ (follows _ _ (met.keeps_whole _ _ k) (met.keeps_largest _ _ k) (met.keeps_faults _ _ k) (met.keeps_honest _ _ k)) c.table_of.ensures.looks.world
     (λ h.
-    let table : table_of e w ≡ c.in_ok-users.users = ok_same _ _ (c.in_ok-users.ensures.looks.answer h) in
+    let table : table_of e w ≡ c.in_ok-users.users.now = ok_same _ _ (c.in_ok-users.ensures.looks.answer h) in
     let bad : is_bad e w c.args.is_bad c.args.what.now c.args.info.now ≡ false = rw table (sym c.is_bad_stat.ensures ∙ c.if-is_bad_stat.false) in
     ap (λ t. changing_rights_by t e w c.args.fid.now c.args.info.now c.args.what.now) (sym table)
     ∙ sym (change_last e w c.args.fid.now c.args.is_bad c.args.what.now c.args.info.now (sym c.is_active.ensures ∙ c.if-not-is_active.false) bad (sym c.check_name.ensures ∙ c.in_ok-check_name.was)))
@@ -61,7 +61,7 @@ returns-clause-looks g c =
 
 pub returns-clause-gid : goal.returns-clause-gid
 returns-clause-gid g c =
-    group_after c.check_rights.result c.in_ok-users.users c.args.is_bad c.args.what.now c.args.info.now c.in_ok-users.ensures.lines (sym c.is_bad_stat.ensures ∙ c.if-is_bad_stat.false)
+    group_after c.check_rights.result c.in_ok-users.users.now c.args.is_bad c.args.what.now c.args.info.now c.in_ok-users.ensures.lines (sym c.is_bad_stat.ensures ∙ c.if-is_bad_stat.false)
 
 pub returns-clause-name : goal.returns-clause-name
 returns-clause-name g c =

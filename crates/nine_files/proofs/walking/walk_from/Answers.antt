@@ -30,7 +30,7 @@ returns-clause-arrives g c =
     let user = c.args.fid.now.user in
     let names = c.args.names.now in
     let start = c.in_ok-start.start in
-    let users = c.in_ok-users.users in
+    let users = c.in_ok-users.users.now in
     let some : (length names == 0) ≡ false = sym c.is_empty.ensures ∙ c.if-is_empty.false in
     looks_walked _ (state_of (g.F.FileOps.whole later) (g.F.FileOps.largest later) (g.F.FileOps.world later) (g.F.FileOps.faults later) (g.F.FileOps.honest later) (g.F.FileOps.has_room later)) _ _ (walked_by users e w user names start) _ (follows _ _ (met.keeps_whole _ _ j) (met.keeps_largest _ _ j) (met.keeps_faults _ _ j) (met.keeps_honest _ _ j))
     (λ h. c.table_of.ensures.looks.world (met.keeps_honest _ _ k h) ∙ c.info_at.ensures.looks.world h)

@@ -96,7 +96,7 @@ returns-clause-looked g c = λ x.
     let tree : tree_of c.args.aname.now ≡ Some c.in-Some.view = rw (← c.as_slice-2.ensures) (sym c.in-Some.ensures) in
     granted _ _ _ _ _ _ (λ h.
     let looks = rw c.root-place.ensures at c.in_ok-info.ensures.looks.answer h in
-    let table : table_of e w ≡ c.in_ok-users.users = ok_same _ _ (told_at _ _ (λ e w. Ok (table_of e w)) _ _ _ _ (met.keeps_whole _ _ k) (met.keeps_largest _ _ k) (c.info_at.ensures.looks.world h) c.in_ok-users.ensures.looks (met.keeps_honest _ _ k h)) in
+    let table : table_of e w ≡ c.in_ok-users.users.now = ok_same _ _ (told_at _ _ (λ e w. Ok (table_of e w)) _ _ _ _ (met.keeps_whole _ _ k) (met.keeps_largest _ _ k) (c.info_at.ensures.looks.world h) c.in_ok-users.ensures.looks (met.keeps_honest _ _ k h)) in
     let same : g.F.FileOps.world c.table_of.new.files ≡ w = c.table_of.ensures.looks.world (met.keeps_honest _ _ k h) ∙ c.info_at.ensures.looks.world h in
     rw (attach_granted e z c.args.fid c.args.afid c.args.uname.now c.args.aname.now q room c.in-Some.view c.in_ok-info.info tree looks, c.qid_of.ensures, same, c.in_ok-push.ensures.items, c.root-place.ensures, c.in_ok-user.ensures.user, ← table, ← c.self.view_is) refl)
 

@@ -1,22 +1,16 @@
-use Rattle.std.proofs.Common.{refl, Ok}
-use Rattle.std.specs.Prelude.{IfOk}
+use Rattle.std.proofs.Common.{refl}
 use Rattle.fo_world.specs.Step as step
 use Rattle.nine_wire.specs.declared.message.Request.TheVariants as request
-use Rattle.nine_fids.specs.Fids.{State, known}
+use Rattle.nine_fids.specs.Fids.{known}
 use Rattle.nine_fids.specs.Looking.{FilesState}
-use Rattle.nine_fids.specs.Told.{served}
-use Rattle.nine_files.specs.Granting.{admitted}
-use Rattle.nine_files.specs.Removing.{close_need, remove_need}
 use Rattle.nine_files.specs.Stating.{change_of}
 use Rattle.nine_files.proofs.Making.{state_of}
 use Rattle.nine_session.specs.Attaching as attaching
-use Rattle.nine_session.specs.Opening as opening
 use Rattle.nine_session.specs.Reading as reading
-use Rattle.nine_session.specs.Removing as removing
 use Rattle.nine_session.specs.Stating as stating
 use Rattle.nine_session.specs.Walking as walking
 use Rattle.nine_session.specs.Attempting.{kept}
-use Rattle.nine_session.specs.Session.{need_at, opening_need}
+use Rattle.nine_session.specs.Session.{need_at}
 use Rattle.nine_session.proofs.Records.{record_there}
 use Rattle.nine_session.proofs.Trying.{auth_over, changes_over, flush_over, looks_over, version_over, wrote}
 use Rattle.nine_session.proofs.session.Session.attempt.Goals as goal

@@ -17,14 +17,17 @@ returns g c =
     let f' = c.clunk_fid-clunked.new.files in
     let w = g.F.FileOps.world f in
     let z : State = state c.args.self.now c.args.exclusive.now.items w in
+    let same = c.take_users-known_users.ensures in
+    let attempted = rw same at c.clunk_fid-clunked.ensures.attempted in
+    let gone = rw same at c.clunk_fid-clunked.ensures.gone in
     let p = c.in-Some.ensures in
     let fid = p.0 in
     let found : fid_of c.in-Some.number z.session.fids ≡ Some fid = rw p.2 (least_found z.session.fids fid p.1) in
-    rw (p.1, c.error_of.ensures)
+    rw (p.1, c.error_of.ensures, c.put_users.ensures)
     (record {
       drops = (
         refl,
         lets_go _ _ (λ w n. g.F.FileOps.touches f w n f') (kept c.args.self.now c.args.exclusive.now.items) _ c.args.now fid c.clunk_fid-clunked.result
-            (ap kept_of (c.clunk_fid-clunked.ensures.gone w ∙ gone_fid z c.in-Some.number fid found)) (c.clunk_fid-clunked.ensures.attempted fid found),
+            (ap kept_of (gone w ∙ gone_fid z c.in-Some.number fid found)) (attempted fid found),
       );
     })

@@ -4,7 +4,7 @@ use Rattle.fo_users.specs.Found.{table_in}
 use Rattle.fo_users.specs.Table.{standard_table}
 use Rattle.fo_users.proofs.Finding.{found_table, spelled_table}
 use Rattle.nine_fids.proofs.Missing.{none_if}
-use Rattle.nine_fids.proofs.rights.users_in.Goals as goal
+use Rattle.nine_fids.proofs.known_users.users_in.Goals as goal
 
 pub returns-in-Ok-clause-users : goal.returns-in-Ok-clause-users
 returns-in-Ok-clause-users c =
