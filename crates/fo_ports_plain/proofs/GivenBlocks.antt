@@ -1,5 +1,5 @@
 -- Blocks that may be given out: one of zeros, and a copy.
-use Rattle.std.proofs.Common.{◌≡◌, inl, inr, ℕ, zero, suc, ◌-◌, ◌^◌, ◌<◌, Bool, true, false, cond, List, [], refl, sym, ◌∙◌, ap, subst, arith}
+use Rattle.std.proofs.Common.{◌≡◌, inl, inr, ℕ, zero, suc, ◌-◌, ◌^◌, ◌<◌, Bool, true, false, cond, List, [], drop, replicate, refl, sym, ◌∙◌, ap, subst, arith}
 use Rattle.std.proofs.lemmas.Bool.{lt-ltb}
 use Rattle.fo_image.specs.declared.types.Kind.{Kind}
 use Rattle.fo_image.specs.declared.types.Kind.TheVariants.{Data, Dir, Root}
@@ -10,7 +10,7 @@ use Rattle.fo_image.specs.declared.types.State.TheVariants.{Live}
 use Rattle.fo_crash.specs.Images.{SameContent, target, to_block, Reaches}
 use Rattle.fo_meta.specs.Leaf.{IsLeaf}
 use Rattle.fo_image.specs.Field.{zeros}
-use Rattle.fo_ports.specs.Blocks.{blank, blank_slot, no_entry, zero_bytes, slot_count, SlotFits, IsEntry, IsFormed, IsLevel}
+use Rattle.fo_ports.specs.Blocks.{blank, blank_slot, no_entry, zero_bytes, slot_count, slots_to, SlotFits, IsEntry, AreZeros, IsFormed, IsLevel}
 use Rattle.fo_ports.proofs.Lengths.{length_zero_bytes}
 use Rattle.fo_ports_plain.specs.declared.home.Home.{Home}
 use Rattle.fo_ports_plain.specs.declared.block.PlainBlock.{PlainBlock}
@@ -35,11 +35,22 @@ zero_leaf : IsLeaf zero_bytes
 unfolding zero_bytes zeros
 zero_leaf = record { records = []; spells = record { each = tt; room = omega arith; bytes_are = refl } }
 
--- zeros are a leaf without records
+-- a part of zeros is one
+zeros_behind : (n m : ℕ) → AreZeros (drop m (replicate n 0))
+zeros_behind zero zero = refl
+zeros_behind zero (suc m) = refl
+zeros_behind (suc n) zero = zeros_behind n zero
+zeros_behind (suc n) (suc m) = zeros_behind n m
+
+no_tail : (m : ℕ) → AreZeros (drop m zero_bytes)
+unfolding zero_bytes
+no_tail m = zeros_behind 8192 m
+
+-- zeros are a leaf without records, and have zeros behind what spells slots
 pub blank_formed : (kind : Kind) (rank : ℕ) → IsLevel kind → IsFormed kind rank zero_bytes
 blank_formed (Data zero) rank is = (length_zero_bytes, λ _. zero_leaf)
-blank_formed (Data (suc level)) rank is = length_zero_bytes
-blank_formed (Dir level) rank is = length_zero_bytes
+blank_formed (Data (suc level)) rank is = (length_zero_bytes, no_tail (slots_to (Data (suc level))))
+blank_formed (Dir level) rank is = (length_zero_bytes, no_tail (slots_to (Dir level)))
 blank_formed Root rank is = absurd is
 
 pub blank_may : (blocks : List PlainBlock) (made high : ℕ) (place : Place) {block : PlainBlock} → IsLevel place.kind → (block.place ≡ place) × (block.epoch ≡ high) × (block.source ≡ made) → (block.apart ≡ true) × (block.origin ≡ 0) × (block.taken ≡ false) × (block.kept ≡ false) × (block.home ≡ nowhere) → SameContent (content_of block) (blank place.kind) → block.bytes ≡ zero_bytes → MayMake blocks made high block

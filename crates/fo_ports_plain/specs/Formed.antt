@@ -16,7 +16,7 @@ use Rattle.fo_image.specs.Record.{record_len, record_fields, root_head, root_fie
 use Rattle.fo_image.proofs.RecordLemmas.{length-record, length-entry, fit_both, root_parts, root_spelling, root_at}
 use Rattle.fo_meta.specs.Leaf.{HasSpelling, record_bytes, records_bytes, SpellsLeaf, IsLeaf}
 use Rattle.fo_meta.proofs.Leaves.{head_at}
-use Rattle.fo_ports.specs.Blocks.{IsFormed, no_entry}
+use Rattle.fo_ports.specs.Blocks.{AreZeros, IsFormed, no_entry, slots_to}
 
 -- ---- the one record that bytes can begin with
 
@@ -223,13 +223,13 @@ root_out bytes h = ∥∥₁_elim h (root_prop bytes (epoch_from bytes) (time_fr
 
 -- ---- blocks of each kind
 
-long_out : (bytes : List ℕ) → ∥ length bytes ≡ 8192 ∥₁ → length bytes ≡ 8192
-long_out bytes h = ∥∥₁_elim h (Prim.hlevel props) (λ e. e)
+zeros_out : (bytes more : List ℕ) → ∥ (length bytes ≡ 8192) × AreZeros more ∥₁ → (length bytes ≡ 8192) × AreZeros more
+zeros_out bytes more h = ∥∥₁_elim h (Prim.hlevel props) (λ e. e)
 
 pub formed_out : (kind : Kind) (rank : ℕ) (bytes : List ℕ) → ∥ IsFormed kind rank bytes ∥₁ → IsFormed kind rank bytes
 formed_out (Data zero) rank bytes h = (∥∥₁_elim h (Prim.hlevel props) (λ f. f.0), λ e. leaf_out bytes (∥∥₁_elim h ∥∥₁_prop (λ f. ∣ f.1 e ∣₁)))
-formed_out (Data (suc level)) rank bytes h = long_out bytes h
-formed_out (Dir level) rank bytes h = long_out bytes h
+formed_out (Data (suc level)) rank bytes h = zeros_out bytes (drop (slots_to (Data (suc level))) bytes) h
+formed_out (Dir level) rank bytes h = zeros_out bytes (drop (slots_to (Dir level)) bytes) h
 formed_out Root rank bytes h =
     let is = root_out bytes h in
     (∥∥₁_elim h (Prim.hlevel props) (λ f. f.0), (root_from bytes, whole_of (root_from bytes), is.spells, is.before, is.behind))

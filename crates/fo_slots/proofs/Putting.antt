@@ -1,7 +1,8 @@
 -- Slots and other bytes are put, and the slots that are meant.
-use Rattle.std.proofs.Common.{◌≡◌, ◌≢◌, ◌⊎◌, inl, inr, ⊎_elim, ℕ, zero, suc, ◌+◌, ◌<◌, ◌≤◌, nat_lt, true, false, List, take, drop, length, refl, sym, ◌∙◌, ap, subst, arith, ◌++◌, ◌-◌}
+use Rattle.std.proofs.Common.{◌≡◌, ◌==◌, ◌≢◌, ◌⊎◌, inl, inr, ⊎_elim, ℕ, zero, suc, ◌+◌, ◌<◌, ◌≤◌, nat_lt, true, false, List, take, drop, length, refl, sym, ◌∙◌, ap, subst, arith, ◌++◌, ◌-◌}
+use Rattle.std.specs.List.{list_all}
 use Rattle.std.proofs.lemmas.Bool.{cases_eq, cases_lt, lt-ltb, le-ltb}
-use Rattle.std.proofs.lemmas.List.{take_at, drop_at, drop-drop, drop-take, take-take, length-take, length-drop, length-append, take-append-drop}
+use Rattle.std.proofs.lemmas.List.{take_at, drop_at, drop-drop, length-take, length-drop, length-append}
 use Rattle.fo_image.specs.declared.types.Kind.{Kind}
 use Rattle.fo_image.specs.declared.types.Kind.TheVariants.{Data, Dir, Root}
 use Rattle.fo_image.specs.Field.{zeros}
@@ -98,8 +99,8 @@ reads_as kind bytes len = let beside = blanked_beside kind bytes len in record {
 
 pub formed_read : (kind : Kind) (rank : ℕ) (old new : List ℕ) → KeepsBeside (slots_from kind) (slots_to kind) old new → length new ≡ 8192 → IsFormed kind rank old → IsFormed kind rank new
 formed_read (Data zero) rank old new beside len formed = subst (λ x. IsFormed (Data 0) rank x) (sym beside.behind) formed
-formed_read (Data (suc level)) rank old new beside len formed = len
-formed_read (Dir level) rank old new beside len formed = len
+formed_read (Data (suc level)) rank old new beside len formed = (len, ap (list_all (λ b. b == 0)) beside.behind ∙ formed.1)
+formed_read (Dir level) rank old new beside len formed = (len, ap (list_all (λ b. b == 0)) beside.behind ∙ formed.1)
 formed_read Root rank old new beside len formed = (len, (formed.1.0, formed.1.1, formed.1.2, formed.1.3 ∙ sym beside.before, formed.1.4 ∙ sym beside.behind))
 
 pub has_spelling : (kind : Kind) (i : ℕ) (s : Slot) → SlotFits kind i s → HasSpelling s
@@ -171,8 +172,9 @@ module _ (kind : Kind) (i : ℕ) (s : Slot) (old new : List ℕ) (lt : i < slot_
 -- ---- bytes are put that spell no slot
 
 beside_slots : (kind : Kind) (from end j : ℕ) → MayPut kind from end → j < slot_count kind → (slot_start kind j + width kind j ≤ from) ⊎ (end ≤ slot_start kind j)
-beside_slots (Data level) from end j may lt = let w = within (Data level) j lt in inl (omega (arith, w.up_to, may))
-beside_slots (Dir level) from end j may lt = let w = within (Dir level) j lt in inl (omega (arith, w.up_to, may))
+beside_slots (Data zero) from end j may lt = let w = within (Data 0) j lt in inl (omega (arith, w.up_to, may))
+beside_slots (Data (suc level)) from end j may lt = absurd may
+beside_slots (Dir level) from end j may lt = absurd may
 beside_slots Root from end j may lt =
     let w = within Root j lt in
     ⊎_elim (λ le. inr (omega (arith, le, w.after))) (λ rest. ⊎_elim (λ mid. inr (omega (arith, mid.1, w.after))) (λ far. inl (omega (arith, far, w.up_to))) rest) may
