@@ -10,7 +10,7 @@ use Rattle.fo_image.specs.declared.types.Pointer.TheVariants.{Nil, Local, Score 
 use Rattle.fo_crash.specs.declared.slot.Slot.{Slot}
 use Rattle.fo_crash.specs.Images.{Content, Image, SameContent, Reaches, target, local, walk, to_block, with_bytes, with_block}
 use Rattle.fo_crash.specs.Steps.{PutsBytes, AddsBytes}
-use Rattle.fo_crash.proofs.Reach.{reach_aside}
+use Rattle.fo_crash.proofs.Reach.{reach_aside, reach_into}
 use Rattle.fo_crash.proofs.Updates.{block_other, bytes_other, bytes_slot}
 use Rattle.fo_ports.specs.State.{State, KeepsAll, Gives, Calm, AddsNoWait, none}
 use Rattle.fo_ports.specs.Sources.{Made, Touched, IsMade, StaysMarked, Changes}
