@@ -2,6 +2,3 @@ pub mod Slots
 pub mod Looks
 pub mod Walk
 pub mod Exits
-pub mod Copies
-pub mod Passed
-pub mod Parts
