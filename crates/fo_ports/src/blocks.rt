@@ -46,7 +46,8 @@ pub trait Blocks {
         ensures names { OnOk result ((i below : ℕ) → i < slot_count kind → target (((state self.new).now at).slot i) ≡ Local below → (state self.new).is_block below) }
         ensures nothing { OnErr result (into.new ≡ into.old) }
         ensures pinned { OnOk result (0 < (state self.old).pins_left → (state self.new).pinned at) }
-        ensures again { (state self.old).pinned at → ((state self.old).label at).kind ≡ kind → IsRanked kind rank (((state self.old).now at).bytes) → IsOk result × ((state self.new).pins_left ≡ (state self.old).pins_left) }
+        ensures again { (state self.old).pinned at → ((state self.old).label at).kind ≡ kind → IsRanked kind rank (((state self.old).now at).bytes) → IsOk result }
+        ensures no_pin { (state self.old).pinned at → ((state self.old).label at).kind ≡ kind → (state self.new).pins_left ≡ (state self.old).pins_left }
         ensures pins { (state self.old).pins_left ≤ (state self.new).pins_left + 1 }
         ensures looks { Looks (state self.old) (state self.new) }
         ensures cause { IfErr result (Caused ⊥ (λ b. (b ≡ at) × ((state self.old).tells → (p : Place) → (state self.old).stands at p → ⊥)) (Rose (state self.old).faults (state self.new).faults) ⊥) }

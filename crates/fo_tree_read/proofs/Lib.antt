@@ -2,3 +2,6 @@ pub mod Slots
 pub mod Looks
 pub mod Walk
 pub mod Exits
+pub mod Copies
+pub mod Passed
+pub mod Parts

@@ -7,7 +7,7 @@ use Rattle.fo_crash.specs.Images.{Image, Content, SameContent}
 use Rattle.fo_crash.specs.Steps.{Passes, IsOneOf}
 use Rattle.fo_ports.specs.declared.error.BlockError.{BlockError}
 use Rattle.fo_ports.specs.declared.error.BlockError.TheVariants.{Full, Damaged, Fault, Arena, Memory}
-use Rattle.fo_ports.specs.State.{State, KeepsAll, Looks, Calm, AddsNoWait, none}
+use Rattle.fo_ports.specs.State.{State, KeepsAll, Looks}
 use Rattle.fo_ports.specs.Sources.{Lacks}
 use Rattle.fo_tree_read.specs.Tree.{Failed, Refused}
 
@@ -47,26 +47,6 @@ looks_joins {a = a} {b = b} all first second = record {
   dirty = λ x d. first.dirty x (second.dirty x d);
   room = (second.room.0 ∙ first.room.0, second.room.1 ∙ first.room.1);
   numbers = record { next = second.numbers.next ∙ first.numbers.next; grants = λ h. second.numbers.grants (first.numbers.grants h) };
-}
-
--- a call that changes no block only looks
-pub calm_looks : (a b : State) → ((at : ℕ) → SameContent (b.now at) (a.now at)) → ((image : Image) → b.may_leave image → a.may_leave image) → AddsNoWait none a b → Calm none 0 a b → Looks a b
-calm_looks a b same images no_wait calm = record {
-  memory = λ told. record { each = same };
-  known = λ x h. same x;
-  images = record { each = images };
-  passes = record {
-    later = omega (arith, calm.frame.uses.moments);
-    before = λ k image le h. calm.frame.uses.left k image h;
-    within = λ k image lt le h. absurd (omega (arith, lt, le, calm.frame.uses.moments));
-  };
-  stays = calm.frame.stays;
-  order = calm.order;
-  covered = calm.covered;
-  no_wait = no_wait;
-  dirty = λ x d. ⊎_elim (λ h. h) (λ h. absurd h) (calm.frame.dirty x d);
-  room = (omega (arith, calm.frame.uses.spare), omega (arith, calm.frame.uses.room));
-  numbers = calm.frame.numbers;
 }
 
 pub rose_later : (a b c : ℕ) → a ≤ b → Rose b c → Rose a c

@@ -147,12 +147,6 @@ pub record Took (old new : State) (t : Tree) (n k : ℕ) : Type 0 where
   pub pins : old.pins_left ≤ new.pins_left + n
   pub near : (j : ℕ) → IsNear old t n j k → old.pins_left + above n j ≤ new.pins_left + above n k
 
-pub walked_none : (s : State) (t : Tree) (k : ℕ) → Walked s s t zero k (λ q. t.top ≡ q)
-walked_none s t k = record { found = λ is. refl; way = λ pins. tt }
-
-pub took_none : (s : State) (t : Tree) (k : ℕ) → Took s s t zero k
-took_none s t k = record { pins = omega arith; near = λ j near. omega arith }
-
 -- a walk that was refused above
 pub took_less : {old mid : State} {t : Tree} {n k : ℕ} → Took old mid t n (k / 409) → Took old mid t (suc n) k
 took_less took = record {
