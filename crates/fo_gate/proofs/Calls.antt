@@ -94,17 +94,20 @@ module _ {S E O : Type 0} (turns : S → E → O → S → Type 0) (low high : S
         is ∙ (λ k. ((h.6 k).0, (0, Out) ∷ rest (h.6 k).1)) ∙ (λ k. (with_state (with_ticket v t) log (sym same k), (0, Out) ∷ [])),
       )
 
-  pub fulls : (b : S) (k : ℕ) (v : View S E O) (t count : ℕ) (log : List (Entry E O)) (a : S) (x : Slot S E O) (m n : Me (Slot S E O) (View S E O)) → StartsWith log v.seen → IsLegalFrom turns low high v.opening log a → count ≡ length log
-      → m ≡ (with_state (with_ticket v t) log a, (0, x) ∷ []) → (n ≡ (at_rest m.0, rest m.1)) × IsPlaced m.0 → 4611686018427387904 ≤ count → count ≤ 4611686018427387904 → IsViewOf turns low high b k v
-      → IsFull v n.0 × IsViewOf turns low high b k n.0
-  fulls b k v t count log a x m n saw legal len e is most least_most knows =
+  pub knows_at_rest : (b : S) (k : ℕ) (v : View S E O) (t : ℕ) (log : List (Entry E O)) (a : S) (x : Slot S E O) (m n : Me (Slot S E O) (View S E O)) → IsLegalFrom turns low high v.opening log a
+      → m ≡ (with_state (with_ticket v t) log a, (0, x) ∷ []) → (n ≡ (at_rest m.0, rest m.1)) × IsPlaced m.0 → IsViewOf turns low high b k v → IsViewOf turns low high b k n.0
+  knows_at_rest b k v t log a x m n legal e is knows =
       let w : View S E O = at_rest (with_state (with_ticket v t) log a) in
       let same : n.0 ≡ w = ap (λ p. p.0) is.0 ∙ ap (λ (p : Me (Slot S E O) (View S E O)). at_rest p.0) e in
       let placed : IsPlaced w = subst (λ (u : View S E O). IsPlaced u) (ap (λ p. p.0) e) is.1 in
-      subst (λ (u : View S E O). IsFull v u × IsViewOf turns low high b k u) (sym same) (
-        record { frame = no_call v w refl refl saw knows.placed; whole = (let l = len in omega arith) },
-        record { opening = knows.opening; seats = knows.seats; legal = (a, legal b knows.opening); placed = placed },
-      )
+      subst (λ (u : View S E O). IsViewOf turns low high b k u) (sym same) (record { opening = knows.opening; seats = knows.seats; legal = (a, legal b knows.opening); placed = placed })
+
+  pub fulls : (b : S) (k : ℕ) (v : View S E O) (t count : ℕ) (log : List (Entry E O)) (a : S) (x : Slot S E O) (m n : Me (Slot S E O) (View S E O)) → StartsWith log v.seen → count ≡ length log
+      → m ≡ (with_state (with_ticket v t) log a, (0, x) ∷ []) → (n ≡ (at_rest m.0, rest m.1)) × IsPlaced m.0 → 4611686018427387904 ≤ count → count ≤ 4611686018427387904 → IsViewOf turns low high b k v → IsFull v n.0
+  fulls b k v t count log a x m n saw len e is most least_most knows =
+      let w : View S E O = at_rest (with_state (with_ticket v t) log a) in
+      let same : n.0 ≡ w = ap (λ p. p.0) is.0 ∙ ap (λ (p : Me (Slot S E O) (View S E O)). at_rest p.0) e in
+      subst (λ (u : View S E O). IsFull v u) (sym same) (record { frame = no_call v w refl refl saw knows.placed; whole = (let l = len in omega arith) })
 
   abbrev pub turned_view : View S E O → ℕ → List (Entry E O) → S → Snapshot E → Snapshot O → Snapshot S → View S E O
   turned_view v t log a e o z = with_turn (with_state (with_ticket v t) log a) (entry (least v.numbers) e.value o.value (low z.value) (high z.value)) z.value

@@ -1,7 +1,7 @@
 use Rattle.std.proofs.Common.{◌<◌, ℕ, length, [], ◌∷◌, sym, ap, ◌∙◌, subst, refl, arith}
 use Rattle.fo_gate.specs.History.{epochs_word}
 use Rattle.fo_gate.proofs.Keeps.{commits, posts, passes}
-use Rattle.fo_gate.proofs.Calls.{puts, puts_as, lies, fulls, commits_as, posts_as, calls_as, turned_at, call_of, longer_by_one}
+use Rattle.fo_gate.proofs.Calls.{puts, puts_as, lies, fulls, knows_at_rest, commits_as, posts_as, calls_as, turned_at, call_of, longer_by_one}
 use Rattle.fo_gate.proofs.gate.Gate.turn.Goals as goal
 
 pub fetch_add-requires : goal.fetch_add-requires
@@ -19,14 +19,14 @@ returns-then-made-ge-MOST_TURNS-clause-seat g c =
     let h = c.enter-state.ensures.holds in
     let x = c.exchange-left.ensures in
     let m = puts _ _ _ _ _ h.7 x.3 in
-    record { gate = c.fetch_add.ensures.0 ∙ x.0 ∙ c.enter-state.ensures.seat ∙ c.requires.gate; knows = (fulls g.S.Turned.turns g.S.Turned.low g.S.Turned.high _ _ c.args.seat.now.inner.me.0 h.1 _ h.0 _ _ _ _ h.2 h.3 h.4 m c.fetch_add.ensures.2 c.if-made-ge-MOST_TURNS.true h.5 c.requires.knows).1 }
+    record { gate = c.fetch_add.ensures.0 ∙ x.0 ∙ c.enter-state.ensures.seat ∙ c.requires.gate; knows = knows_at_rest g.S.Turned.turns g.S.Turned.low g.S.Turned.high _ _ c.args.seat.now.inner.me.0 _ h.0 _ _ _ _ h.3 m c.fetch_add.ensures.2 c.requires.knows }
 
 pub returns-then-made-ge-MOST_TURNS-clause-full : goal.returns-then-made-ge-MOST_TURNS-clause-full
 returns-then-made-ge-MOST_TURNS-clause-full g c =
     let h = c.enter-state.ensures.holds in
     let x = c.exchange-left.ensures in
     let m = puts _ _ _ _ _ h.7 x.3 in
-    (refl, (fulls g.S.Turned.turns g.S.Turned.low g.S.Turned.high _ _ c.args.seat.now.inner.me.0 h.1 _ h.0 _ _ _ _ h.2 h.3 h.4 m c.fetch_add.ensures.2 c.if-made-ge-MOST_TURNS.true h.5 c.requires.knows).0)
+    (refl, fulls g.S.Turned.turns g.S.Turned.low g.S.Turned.high _ _ c.args.seat.now.inner.me.0 _ _ h.0 _ _ _ _ h.2 h.4 m c.fetch_add.ensures.2 c.if-made-ge-MOST_TURNS.true h.5 c.requires.knows)
 
 pub fetch_add-requires-2 : goal.fetch_add-requires-2
 fetch_add-requires-2 g c =
@@ -38,7 +38,7 @@ fetch_add-requires-2 g c =
       (let w = c.args.self.now.sized.0 in omega arith),
       commits _ _ _ c.args.self.now.table.shared.key _ _ _ _ _ _ _ (ap (λ p. p.1) m) (ap (λ p. p.0.holds) m)
           (turned_at g.S.Turned.turns g.S.Turned.low g.S.Turned.high _ _ _ _ _ _ _ k.event k.outcome k.state c.play-outcome.ensures.turned)
-          (let few : c.enter-state.result.1 < 4611686018427387904 = c.if-made-ge-MOST_TURNS.false in let l = ap (λ p. length p.0.seen) m in let k = h.4 in omega arith),
+          (let few = c.if-made-ge-MOST_TURNS.false in let l = ap (λ p. length p.0.seen) m in let k = h.4 in omega arith),
     )
 
 pub store-requires : goal.store-requires
@@ -105,7 +105,7 @@ returns-clause-seat g c =
     record {
       gate = c.fetch_add-3.ensures.0 ∙ w.0 ∙ z.0 ∙ y.0 ∙ x.0 ∙ c.enter-state.ensures.seat ∙ c.requires.gate;
       knows = (calls_as g.S.Turned.turns g.S.Turned.low g.S.Turned.high c.args.self.now.table.shared.key.state.value c.args.self.now.seats c.args.seat.now.inner.me.0 h.1 _ h.0 _ k.asked k.answered k.after _ _ _ h.2 h.3 h.4
-          (turned_at g.S.Turned.turns g.S.Turned.low g.S.Turned.high _ _ _ _ _ _ _ k.event k.outcome k.state c.play-outcome.ensures.turned) q c.fetch_add-3.ensures.2 c.if-made-ge-MOST_TURNS.false c.requires.knows).1;
+          (turned_at g.S.Turned.turns g.S.Turned.low g.S.Turned.high _ _ _ _ _ _ _ k.event k.outcome k.state c.play-outcome.ensures.turned) q c.fetch_add-3.ensures.2 (let few = c.if-made-ge-MOST_TURNS.false in omega arith) c.requires.knows).1;
     }
 
 pub returns-clause-call : goal.returns-clause-call
@@ -122,4 +122,4 @@ returns-clause-call g c =
     let q = puts _ _ _ _ _ o w.3 in
     call_of g.S.Turned.turns g.S.Turned.low g.S.Turned.high c.args.self.now.table.shared.key.state.value c.args.seat.now.inner.me.0 c.fetch_add-3.new.seat.me.0 k.asked k.answered _ _ _ k.event k.outcome
     (calls_as g.S.Turned.turns g.S.Turned.low g.S.Turned.high c.args.self.now.table.shared.key.state.value c.args.self.now.seats c.args.seat.now.inner.me.0 h.1 _ h.0 _ k.asked k.answered k.after _ _ _ h.2 h.3 h.4
-    (turned_at g.S.Turned.turns g.S.Turned.low g.S.Turned.high _ _ _ _ _ _ _ k.event k.outcome k.state c.play-outcome.ensures.turned) q c.fetch_add-3.ensures.2 c.if-made-ge-MOST_TURNS.false c.requires.knows).0
+    (turned_at g.S.Turned.turns g.S.Turned.low g.S.Turned.high _ _ _ _ _ _ _ k.event k.outcome k.state c.play-outcome.ensures.turned) q c.fetch_add-3.ensures.2 (let few = c.if-made-ge-MOST_TURNS.false in omega arith) c.requires.knows).0
