@@ -29,7 +29,7 @@ entry_at bytes e s = subst (λ b. EntryAt b e) (sym s.bytes_are) (record {
   score = ap (take 20) (append_assoc e.score.0 _ _) ∙ take_at e.score.0 _ 20 s.fit.1.1.1.1.1.1.1.1.0;
 })
 
-length-fields : (e : VacEntry) → length e.score.0 ≡ 20 → length (spelling (vac_entry_fields e)) ≡ 40
+pub length-fields : (e : VacEntry) → length e.score.0 ≡ 20 → length (spelling (vac_entry_fields e)) ≡ 40
 length-fields e h = let n = ap length (append-nil e.score.0) ∙ h in omega (arith, n)
 
 pub entry_len : (bytes : List ℕ) (e : VacEntry) → Spells 40 vac_entry_fields VacEntryHolds e bytes → length bytes ≡ 40

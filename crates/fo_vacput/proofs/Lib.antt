@@ -2,3 +2,4 @@ mod Entries
 mod Names
 mod Roots
 mod Tails
+mod Tops

@@ -55,7 +55,7 @@ fn parts_of(entry: VacEntry) -> [Part<'static>; 9]
 }
 
 /// The only entry that these bytes can spell.
-fn entry_of(bytes: &[u8]) -> VacEntry
+pub fn entry_of(bytes: &[u8]) -> VacEntry
     requires { length bytes.now ≡ 40 }
     ensures { (e : VacEntry) → SpellsVacEntry e bytes.now → result ≡ e }
 {

@@ -1,5 +1,8 @@
 //! What an archive holds beside blocks of data, pointers and records.
-use fo_image::Score;
+ghost use Rattle.std.specs.Prelude.{◌≡◌};
+
+use fo_image::{Record, Score};
+use std::alloc::AllocError;
 use thiserror::Error;
 
 /// The bytes are not of the archived form that was asked for.
@@ -31,6 +34,33 @@ pub struct VacRoot {
     pub time: u32,
     pub top: Score,
     pub prev: Option<Score>,
+}
+
+/// The top block of an archive: the two sources of the root directory, and the root directory's record.
+#[derive(Debug, Drop)]
+pub struct VacTop {
+    pub entries: VacEntry,
+    pub meta: VacEntry,
+    pub own: Record,
+}
+
+/// Why no top block was read.
+#[derive(Clone, Copy, Debug, PartialEq, Eq, Error)]
+pub enum VacTopError {
+    #[error("not an archived form")]
+    Bad,
+    #[error("no memory")]
+    Memory,
+}
+
+impl From<AllocError> for VacTopError {
+    ghost use Rattle.fo_vacput.specs.declared.types.VacTopError.TheVariants.{Memory};
+
+    ghost from_gives = { λ _ e. e ≡ Memory };
+
+    fn from(_: AllocError) -> VacTopError {
+        VacTopError::Memory
+    }
 }
 
 /// What the arena leaves out at the end of a block.
