@@ -1,0 +1,4 @@
+pub mod Cause
+pub mod Known
+pub mod Lower
+pub mod Names

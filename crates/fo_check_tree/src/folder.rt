@@ -1,0 +1,254 @@
+//! Leaves of entries, and directories.
+ghost use Rattle.std.specs.Prelude.{◌≡◌, ◌+◌, ◌*◌, ◌<◌, ◌≤◌, length, OnOk};
+ghost use Rattle.fo_sound.specs.Device.{IsKept};
+ghost use Rattle.fo_check_tree.specs.Cause.{HasCauses};
+
+use crate::blocks::follow_all;
+use crate::error::TreeError;
+use crate::names::{Named, Number, same_name, same_pair, without_pair};
+use crate::walk::{Folder, Holder, Holds, Step, Walk};
+use fo_disk::Disk;
+use fo_image::{Entry, Pointer, is_zero, read_entry};
+use fo_rules::has_pair;
+use std::alloc::{AllocError, Global};
+
+const NO_ENTRY: Entry = Entry {
+    generation: 0,
+    active: false,
+    dir: false,
+    depth: 0,
+    tag: 0,
+    size: 0,
+    top: Pointer::Nil,
+};
+
+/// An entry that is of at most four levels. Another is not followed.
+pub(crate) fn shallow(walk: &mut Walk, block: u32, entry: &Entry) -> Entry
+    ensures blocks { walk.new.blocks ≡ walk.old.blocks }
+    ensures left { walk.new.labels.left ≡ walk.old.labels.left }
+    ensures steps { length walk.new.steps.items ≤ length walk.old.steps.items }
+    ensures folders { length walk.new.folders.items ≤ length walk.old.folders.items }
+{
+    if entry.depth <= 4 {
+        *entry
+    } else {
+        walk.note(5, block);
+        NO_ENTRY
+    }
+}
+
+/// An entry of a leaf. One that is not of the format is not followed.
+fn entry_at(walk: &mut Walk, here: Holder, block: &[u8], i: usize) -> Entry
+    requires length { length block.now ≡ 8192 }
+    requires place { i < 204 }
+    ensures blocks { walk.new.blocks ≡ walk.old.blocks }
+    ensures left { walk.new.labels.left ≡ walk.old.labels.left }
+    ensures steps { length walk.new.steps.items ≤ length walk.old.steps.items }
+    ensures folders { length walk.new.folders.items ≤ length walk.old.folders.items }
+{
+    match read_entry(&block[40 * i..40 * i + 40]) {
+        Ok(entry) => shallow(walk, here.block, &entry),
+        Err(_) => {
+            walk.note(5, here.block);
+            NO_ENTRY
+        }
+    }
+}
+
+/// The pairs of a leaf of entries.
+pub(crate) fn add_entries(
+    walk: &mut Walk,
+    index: u64,
+    here: Holder,
+    block: &[u8],
+    depth: u32,
+    named: bool,
+) -> Result<(), AllocError>
+    requires { length block.now ≡ 8192 }
+    ensures blocks { OnOk result (walk.new.blocks ≡ walk.old.blocks) }
+    ensures left { OnOk result (walk.new.labels.left ≡ walk.old.labels.left) }
+    ensures steps { OnOk result (length walk.new.steps.items ≤ length walk.old.steps.items + 204) }
+    ensures folders { OnOk result (length walk.new.folders.items ≤ length walk.old.folders.items + 204) }
+{
+    if !is_zero(&block[8160..]) {
+        walk.note(5, here.block);
+    }
+    for k in 0..102 {
+        let first = entry_at(walk, here, block, 2 * k);
+        let second = entry_at(walk, here, block, 2 * k + 1);
+        let of = find_pair(
+            walk,
+            index.saturating_mul(102).saturating_add(k as u64),
+            &first,
+            &second,
+        );
+        add_pair(
+            walk,
+            here,
+            &first,
+            &second,
+            depth.saturating_add(1),
+            named && of,
+        )?;
+    }
+    Ok(())
+}
+
+/// Whether a record of the directory in course names this pair and is its own.
+fn find_pair(walk: &mut Walk, slot: u64, first: &Entry, second: &Entry) -> bool
+    ensures blocks { walk.new.blocks ≡ walk.old.blocks }
+    ensures left { walk.new.labels.left ≡ walk.old.labels.left }
+    ensures steps { length walk.new.steps.items ≤ length walk.old.steps.items }
+    ensures folders { length walk.new.folders.items ≤ length walk.old.folders.items }
+{
+    let at = walk
+        .named
+        .partition_point(|n| u64::from(n.listed.slot) < slot);
+    if at < walk.named.len() && u64::from(walk.named[at].listed.slot) == slot {
+        let fits = has_pair(&walk.named[at].listed, first, second);
+        walk.named[at].found = fits;
+        fits
+    } else {
+        false
+    }
+}
+
+/// A pair of entries: a directory, or sources of their own.
+fn add_pair(
+    walk: &mut Walk,
+    here: Holder,
+    first: &Entry,
+    second: &Entry,
+    depth: u32,
+    named: bool,
+) -> Result<(), AllocError>
+    ensures blocks { OnOk result (walk.new.blocks ≡ walk.old.blocks) }
+    ensures left { OnOk result (walk.new.labels.left ≡ walk.old.labels.left) }
+    ensures steps { OnOk result (length walk.new.steps.items ≤ length walk.old.steps.items + 2) }
+    ensures folders { OnOk result (length walk.new.folders.items ≤ length walk.old.folders.items + 2) }
+{
+    let together = first.active && first.dir && second.active && !second.dir;
+    if first.active && first.dir {
+        let records = if together { Some(*second) } else { None };
+        add_folder(walk, here, first, records, depth, named)?;
+    } else if first.active {
+        walk.steps.push(Step::top(first, Holds::Bytes, here))?;
+    }
+    if second.active && second.dir {
+        add_folder(walk, here, second, None, depth, false)?;
+    } else if second.active && !together {
+        let mut alone = Step::top(second, Holds::Records, here);
+        alone.size = 0;
+        walk.steps.push(alone)?;
+    }
+    Ok(())
+}
+
+fn add_folder(
+    walk: &mut Walk,
+    here: Holder,
+    entries: &Entry,
+    records: Option<Entry>,
+    depth: u32,
+    named: bool,
+) -> Result<(), AllocError>
+    ensures blocks { OnOk result (walk.new.blocks ≡ walk.old.blocks) }
+    ensures left { OnOk result (walk.new.labels.left ≡ walk.old.labels.left) }
+    ensures steps { OnOk result (length walk.new.steps.items ≤ length walk.old.steps.items) }
+    ensures folders { OnOk result (length walk.new.folders.items ≤ length walk.old.folders.items + 1) }
+{
+    if 64 < depth {
+        walk.note(8, here.block);
+    }
+    walk.folders.push(Folder {
+        entries: *entries,
+        records,
+        holder: here,
+        depth,
+        named,
+    })?;
+    Ok(())
+}
+
+/// The records of a directory, and the rules that they have to keep by themselves.
+fn list<D: Disk>(
+    alloc: Global,
+    main: &mut D,
+    walk: &mut Walk,
+    folder: &Folder,
+) -> Result<(), TreeError>
+    requires size { D.size main.old ≡ walk.old.blocks }
+    ensures blocks { OnOk result (walk.new.blocks ≡ walk.old.blocks) }
+    ensures budget { OnOk result (205 * walk.new.labels.left + length walk.new.folders.items ≤ 205 * walk.old.labels.left + length walk.old.folders.items) }
+    ensures size { D.size main.new ≡ D.size main.old }
+    ensures kept { IsKept (D.holds main.old) (D.holds main.new) (D.moments main.old) (D.moments main.new) (D.unsure main.old) (D.unsure main.new) }
+    ensures cause { HasCauses (D.faults main.old) (D.faults main.new) result }
+{
+    let Some(records) = folder.records else {
+        return Ok(());
+    };
+    let top = Step::top(&records, Holds::Records, folder.holder);
+    if walk.steps.push(top).is_err() {
+        return Err(TreeError::Memory);
+    }
+    follow_all(alloc, main, walk, folder.depth, false)?;
+    if let Some(leaf) = same_name(&mut walk.named) {
+        walk.note(5, leaf);
+    }
+    let twice = same_pair(&mut walk.named);
+    if !folder.named {
+        return Ok(());
+    }
+    if let Some(leaf) = twice {
+        walk.note(6, leaf);
+    }
+    match add_numbers(&walk.named, &mut walk.numbers) {
+        Ok(()) => Ok(()),
+        Err(_) => Err(TreeError::Memory),
+    }
+}
+
+/// The numbers of these records, each with its leaf.
+fn add_numbers(named: &[Named], numbers: &mut Vec<Number>) -> Result<(), AllocError> {
+    for n in named {
+        numbers.push(Number {
+            number: n.listed.number,
+            leaf: n.leaf,
+        })?;
+    }
+    Ok(())
+}
+
+/// Walks a directory: its records, and then its entries with what hangs from them.
+pub(crate) fn walk_folder<D: Disk>(
+    alloc: Global,
+    main: &mut D,
+    walk: &mut Walk,
+    folder: &Folder,
+) -> Result<(), TreeError>
+    requires size { D.size main.old ≡ walk.old.blocks }
+    ensures blocks { OnOk result (walk.new.blocks ≡ walk.old.blocks) }
+    ensures budget { OnOk result (205 * walk.new.labels.left + length walk.new.folders.items ≤ 205 * walk.old.labels.left + length walk.old.folders.items) }
+    ensures size { D.size main.new ≡ D.size main.old }
+    ensures kept { IsKept (D.holds main.old) (D.holds main.new) (D.moments main.old) (D.moments main.new) (D.unsure main.old) (D.unsure main.new) }
+    ensures cause { HasCauses (D.faults main.old) (D.faults main.new) result }
+{
+    walk.named = Vec::new(alloc);
+    list(alloc, main, walk, folder)?;
+    let holds = if folder.entries.dir {
+        Holds::Entries
+    } else {
+        Holds::Bytes
+    };
+    let top = Step::top(&folder.entries, holds, folder.holder);
+    if walk.steps.push(top).is_err() {
+        return Err(TreeError::Memory);
+    }
+    follow_all(alloc, main, walk, folder.depth, folder.named)?;
+    if folder.named {
+        if let Some(leaf) = without_pair(&walk.named, folder.entries.size) {
+            walk.note(6, leaf);
+        }
+    }
+    Ok(())
+}

@@ -1,0 +1,21 @@
+//! Reads of the device.
+ghost use Rattle.std.specs.Prelude.{◌≡◌, ◌<◌, length};
+ghost use Rattle.fo_sound.specs.Device.{IsKept};
+ghost use Rattle.fo_check_tree.specs.Cause.{HasCauses};
+
+use crate::error::TreeError;
+use fo_disk::Disk;
+
+/// The bytes of a block.
+pub(crate) fn read<D: Disk>(main: &mut D, at: u32, into: &mut [u8]) -> Result<(), TreeError>
+    requires block { at < D.size main.old }
+    requires length { length into.old ≡ 8192 }
+    ensures size { D.size main.new ≡ D.size main.old }
+    ensures kept { IsKept (D.holds main.old) (D.holds main.new) (D.moments main.old) (D.moments main.new) (D.unsure main.old) (D.unsure main.new) }
+    ensures cause { HasCauses (D.faults main.old) (D.faults main.new) result }
+{
+    match main.read(at, into) {
+        Ok(()) => Ok(()),
+        Err(_) => Err(TreeError::Read),
+    }
+}

@@ -1,0 +1,115 @@
+//! The check of the tree of one root.
+ghost use Rattle.std.specs.Prelude.{◌≡◌, ◌^◌, ◌≤◌, ◌↔◌, IsTrue, OnOk};
+ghost use Rattle.fo_sound.specs.Sound.{HasRootEntries};
+ghost use Rattle.fo_sound.specs.Device.{IsKept};
+ghost use Rattle.fo_check_tree.specs.Cause.{HasCauses};
+
+use crate::broken::Broken;
+use crate::error::TreeError;
+use crate::folder::{shallow, walk_folder};
+use crate::labels::Labels;
+use crate::names::{no_file, same_number};
+use crate::walk::{Folder, Holder, Walk};
+use fo_disk::Disk;
+use fo_image::{RootBlock, Super};
+use fo_sound::root_label;
+use std::alloc::{AllocError, Global};
+
+/// What is known of the devices before their tree is checked: the number of blocks, and the super block.
+#[derive(Clone, Copy)]
+pub struct Setting {
+    pub blocks: u32,
+    pub s: Super,
+}
+
+/// What was found: the lowest rule that is broken, how many blocks are used, and how many are leaked.
+#[derive(Clone, Copy, Debug, PartialEq, Eq)]
+pub struct Found {
+    pub broken: Option<Broken>,
+    pub used: u32,
+    pub leaked: u32,
+}
+
+/// Whether the entries of the root directory are those of a root.
+fn has_root_entries(root: &RootBlock) -> bool
+    ensures { IsTrue result ↔ HasRootEntries root.now }
+{
+    let (entries, meta) = (root.entries, root.meta);
+    entries.active && entries.dir && entries.tag == 32 && meta.active && !meta.dir && meta.tag == 33
+}
+
+/// Checks the label table and the active tree, whose root block was read.
+pub fn check_tree<D: Disk>(
+    alloc: Global,
+    main: &mut D,
+    setting: Setting,
+    root: &RootBlock,
+) -> Result<Found, TreeError>
+    requires size { D.size main.old ≡ setting.blocks }
+    requires least { 64 ≤ setting.blocks }
+    requires most { setting.blocks ≤ 2 ^ 20 }
+    ensures size { D.size main.new ≡ D.size main.old }
+    ensures kept { IsKept (D.holds main.old) (D.holds main.new) (D.moments main.old) (D.moments main.new) (D.unsure main.old) (D.unsure main.new) }
+    ensures cause { HasCauses (D.faults main.old) (D.faults main.new) result }
+{
+    let s = setting.s;
+    let labels = Labels::read(alloc, main, setting.blocks)?;
+    let mut walk = Walk {
+        blocks: setting.blocks,
+        epoch: s.high,
+        active: true,
+        labels,
+        noted: None,
+        steps: Vec::new(alloc),
+        folders: Vec::new(alloc),
+        named: Vec::new(alloc),
+        numbers: Vec::new(alloc),
+    };
+    if start(&mut walk, &s, root).is_err() {
+        return Err(TreeError::Memory);
+    }
+    while let Some(folder) = walk.folders.pop() {
+        walk_folder(alloc, main, &mut walk, &folder)?;
+    }
+    check_numbers(&mut walk, s.numbers);
+    Ok(Found {
+        broken: walk.noted,
+        used: walk.labels.used(),
+        leaked: walk.labels.leaked(s.low),
+    })
+}
+
+/// The numbers of all files that names lead to.
+fn check_numbers(walk: &mut Walk, limit: u32) {
+    if let Some(leaf) = no_file(&walk.numbers, limit) {
+        walk.note(8, leaf);
+    }
+    if let Some(leaf) = same_number(&mut walk.numbers) {
+        walk.note(8, leaf);
+    }
+}
+
+/// Begins at the root block.
+fn start(walk: &mut Walk, s: &Super, root: &RootBlock) -> Result<(), AllocError>
+    ensures blocks { OnOk result (walk.new.blocks ≡ walk.old.blocks) }
+{
+    let active = s.active;
+    let _ = walk.labels.reach(active);
+    let entries = shallow(walk, active, &root.entries);
+    let records = shallow(walk, active, &root.meta);
+    if !has_root_entries(root) {
+        walk.note(6, active);
+    }
+    let holder = Holder {
+        block: active,
+        label: root_label(s),
+    };
+    walk.folders.push(Folder {
+        entries,
+        records: Some(records),
+        holder,
+        depth: 0,
+        named: true,
+    })?;
+    Ok(())
+}
