@@ -1,5 +1,5 @@
 -- Sources of bytes over blocks: what is read through leaves, and what the calls on a source do to the blocks.
-use Rattle.std.specs.Prelude.{◌≡◌, ◌≢◌, ◌⊎◌, ◌+◌, ◌*◌, ◌/◌, ◌%◌, ◌^◌, ◌<◌, ◌≤◌, ◌↔◌, ℕ, Bool, true, false, cond, nat_le, List, length, map, slice_index, Option, Some, None, MatchOption}
+use Rattle.std.specs.Prelude.{◌≡◌, ◌≢◌, ◌⊎◌, ◌+◌, ◌-◌, ◌*◌, ◌/◌, ◌%◌, ◌^◌, ◌<◌, ◌≤◌, ◌↔◌, ℕ, Bool, true, false, cond, nat_le, List, length, map, take, slice_index, Option, Some, None, MatchOption}
 use Rattle.std.specs.List.{range_with_len}
 use Rattle.fo_image.specs.declared.types.Kind.{Kind}
 use Rattle.fo_image.specs.declared.types.Score.{Score}
@@ -7,7 +7,8 @@ use Rattle.fo_image.specs.declared.types.Kind.TheVariants.{Data, Dir, Root}
 use Rattle.fo_image.specs.declared.types.State.TheVariants.{Live}
 use Rattle.fo_crash.specs.declared.place.Place.{Place}
 use Rattle.fo_crash.specs.Images.{Image, SameContent, Reaches, to_block}
-use Rattle.fo_ports.specs.Blocks.{blank}
+use Rattle.fo_sparse.specs.Written.{resized}
+use Rattle.fo_ports.specs.Blocks.{blank, zero_bytes}
 use Rattle.fo_ports.specs.State.{State, KeepsNumbers, AddsNoWait, none}
 
 -- What stays of a source: the kind, tag and rank of its leaves, the generation of its entry, and the length up to which it can grow.
@@ -180,14 +181,46 @@ pub record Grows (old_on new_on : State) (old new : Leaves) : Type 0 where
   pub owns : (b : ℕ) → (new.owns b → old.owns b ⊎ Made old_on new_on b) × (Made old_on new_on b → new.owns b)
   pub still : (o n : ℕ) → old.prepared o n → new.prepared o n
 
--- Leaf i is owned: at this address, of the current epoch, pinned and whole; it is what was there, or was given out.
-pub record Owned (form : Form) (i at : ℕ) (old_on new_on : State) (old new : Leaves) : Type 0 where
+-- A source of data that holds no records, whose bytes are put by `write`.
+abbrev pub IsPlain : Form → Type 0
+IsPlain form = (form.kind ≡ Data 0) × (form.rank % 32 ≢ 16)
+
+-- A plain source ends within leaf j: what stands behind its end there is zeroed before the source grows.
+abbrev pub EndsWithin : Form → (size j : ℕ) → Type 0
+EndsWithin form size j = IsPlain form × (8192 * j < size) × (size < 8192 * (j + 1))
+
+-- The bytes of leaf j are what they were; but where the source ended within the leaf, zeros stand behind that end.
+pub record IsCut (form : Form) (size j : ℕ) (now was : List ℕ) : Type 0 where
+  pub whole : (EndsWithin form size j → ⊥) → now ≡ was
+  pub cut : EndsWithin form size j → now ≡ resized (take (size - 8192 * j) was) 8192
+
+-- A leaf stays at its address; or it is held as it was, and where that was zeros it may be nothing now.
+pub record StaysLeaf (old new : Leaves) (j : ℕ) : Type 0 where
+  pub at : new.at j ≡ old.at j
+  pub held : (new.held j ≡ old.held j) ⊎ ((old.held j ≡ Some zero_bytes) × (new.held j ≡ None))
+
+-- The last leaf of a source that grows was given out: it was of an older epoch, or held under a score with the source's end within it.
+-- It has what it had, with zeros behind that end.
+pub record Renewed (form : Form) (size j : ℕ) (old_on new_on : State) (old new : Leaves) : Type 0 where
+  pub last : (8192 * j < size) × (size ≤ 8192 * (j + 1))
+  pub block : ℕ
+  pub is : (new.at j ≡ Some block) × (new.held j ≡ None)
+  pub made : Made old_on new_on block
+  pub content : MatchOption (old.at j) (MatchOption (old.held j) ⊥ (λ bytes. EndsWithin form size j × IsCut form size j ((new_on.now block).bytes) bytes)) (λ b. ((old_on.label b).epoch < old_on.high) × IsCut form size j ((new_on.now block).bytes) ((old_on.now b).bytes) × ((k : ℕ) → (new_on.now block).slot k ≡ (old_on.now b).slot k))
+
+-- Leaf i is owned: at this address, of the current epoch, pinned and whole; it is what was there, or was given out. The other leaves
+-- stay, but for the last one where the source grows.
+pub record Owned (form : Form) (size i at : ℕ) (old_on new_on : State) (old new : Leaves) : Type 0 where
   pub is : new.at i ≡ Some at
-  pub others : old_on.tells → (j : ℕ) → j ≢ i → (new.at j ≡ old.at j) × (new.held j ≡ old.held j)
-  pub content : MatchOption (old.at i) (MatchOption (old.held i) (SameContent (new_on.now at) (blank form.kind)) (λ bytes. (new_on.now at).bytes ≡ bytes)) (λ b. SameContent (new_on.now at) (old_on.now b))
+  pub others : old_on.tells → (j : ℕ) → j ≢ i → StaysLeaf old new j ⊎ ((size < 8192 * (i + 1)) × Renewed form size j old_on new_on old new)
+  pub content : MatchOption (old.at i) (MatchOption (old.held i) (SameContent (new_on.now at) (blank form.kind)) (λ bytes. IsCut form size i ((new_on.now at).bytes) bytes)) (λ b. IsCut form size i ((new_on.now at).bytes) ((old_on.now b).bytes) × ((k : ℕ) → (new_on.now at).slot k ≡ (old_on.now b).slot k))
   pub copied : MatchOption (old.at i) (Made old_on new_on at) (λ b. ((b ≡ at) × ((old_on.label b).epoch ≡ old_on.high)) ⊎ (((old_on.label b).epoch < old_on.high) × Made old_on new_on at))
   pub label : ((new_on.label at).state ≡ Live) × ((new_on.label at).kind ≡ form.kind) × ((new_on.label at).tag ≡ form.tag) × ((new_on.label at).epoch ≡ new_on.high)
   pub ready : new.owns at × new_on.pinned at × (length ((new_on.now at).bytes) ≡ 8192)
+
+-- Beside its blocks that are no leaves, a source that grows to the end of leaf i changes the leaf within which it ended.
+abbrev pub MayZero : Form → (size i : ℕ) → State → Leaves → ℕ → Type 0
+MayZero form size i on leaves b = (leaves.owns b × ((on.label b).kind ≢ form.kind)) ⊎ ((j : ℕ) × EndsWithin form size j × (size < 8192 * (i + 1)) × (leaves.at j ≡ Some b))
 
 -- What a source stands on stays in place.
 pub record Undisturbed (leaves : Leaves) (size : ℕ) (old new : State) : Type 0 where

@@ -1,5 +1,5 @@
 //! Sources of bytes over blocks.
-ghost use Rattle.std.specs.Prelude.{◌≡◌, ◌≢◌, ◌⊎◌, ◌↔◌, ◌+◌, ◌-◌, ◌*◌, ◌%◌, ◌<◌, ◌≤◌, ℕ, true, List, length, take, drop, min, max, IfOk, OnOk, IfErr, IfSome, Option, Some};
+ghost use Rattle.std.specs.Prelude.{◌≡◌, ◌≢◌, ◌⊎◌, ◌↔◌, ◌+◌, ◌-◌, ◌*◌, ◌%◌, ◌<◌, ◌≤◌, ℕ, true, List, length, take, drop, min, max, IfOk, OnOk, IfErr, IfSome, Option, Some, None};
 ghost use Rattle.fo_base.specs.Cause.{Rose};
 ghost use Rattle.fo_sparse.specs.Written.{written, resized};
 ghost use Rattle.fo_image.specs.declared.types.State.TheVariants.{Live};
@@ -7,7 +7,7 @@ ghost use Rattle.fo_image.specs.declared.types.Kind.TheVariants.{Data};
 ghost use Rattle.fo_crash.specs.declared.place.Place.{Place};
 ghost use Rattle.fo_ports.specs.Causes.{Caused};
 ghost use Rattle.fo_ports.specs.State.{Looks};
-ghost use Rattle.fo_ports.specs.Sources.{Form, Leaves, is_dir, source_bytes, Lacks, depth_for, most_for, most_to_own, IsEnough, most_cleared, Finds, IsReady, StaysReady, Changes, SameLeaves, Grows, Owned, Undisturbed};
+ghost use Rattle.fo_ports.specs.Sources.{Form, Leaves, is_dir, source_bytes, Lacks, depth_for, most_for, most_to_own, IsEnough, most_cleared, Finds, IsReady, StaysReady, Changes, SameLeaves, Grows, IsPlain, Owned, MayZero, Undisturbed};
 
 use crate::blocks::Blocks;
 use crate::error::BlockError;
@@ -85,7 +85,7 @@ pub trait Bytes<B: Blocks> {
     /// first. Of a source of data that holds no records.
     fn write(&mut self, on: &mut B, offset: u64, piece: &[u8])
         requires over { is_over self.old on.old }
-        requires kind { ((form self.old).kind ≡ Data 0) × ((form self.old).rank % 32 ≢ 16) }
+        requires kind { IsPlain (form self.old) }
         requires prepared { (leaves self.old on.old).prepared offset (length piece.now) }
         requires spare { most_for (max (size self.old) (offset + length piece.now)) (length piece.now) ≤ (B.state on.old).spare }
         requires room { most_cleared (size self.old) (offset + length piece.now) ≤ (B.state on.old).room }
@@ -98,25 +98,29 @@ pub trait Bytes<B: Blocks> {
         ensures changes { Changes (form self.old).tag (leaves self.old on.old).owns (leaves self.old on.old).owns (B.state on.old) (B.state on.new) × B.keeps on.old on.new };
 
     /// Makes leaf `i` one of the current epoch, and gives its address: an older leaf is copied, so is one that is held under its
-    /// score, and a missing one is added. No other leaf changes. Where the source ends before the leaf does, it now ends there.
+    /// score, and a missing one is added. Where the source ends before the leaf does, it now ends there. Then the leaf that was the last
+    /// is copied where it is older, and zeroed behind the end of data; no other leaf changes.
     fn own_leaf(&mut self, on: &mut B, i: u32) -> u32
         requires over { is_over self.old on.old }
         requires prepared { (leaves self.old on.old).prepared (8192 * i) 8192 }
         requires spare { IsEnough (leaves self.old on.old).current (size self.old) i (B.state on.old).spare }
         requires room { most_cleared (size self.old) (8192 * (i + 1)) ≤ (B.state on.old).room }
-        ensures owned { Owned (form self.old) i result (B.state on.old) (B.state on.new) (leaves self.old on.old) (leaves self.new on.new) }
+        ensures owned { Owned (form self.old) (size self.old) i result (B.state on.old) (B.state on.new) (leaves self.old on.old) (leaves self.new on.new) }
         ensures size { size self.new ≡ max (size self.old) (8192 * (i + 1)) }
-        ensures bytes { (B.state on.old).tells → ((size self.old % 8192 ≡ 0) ⊎ (8192 * (i + 1) ≤ size self.old)) → (leaves self.new on.new).bytes ≡ resized (leaves self.old on.old).bytes (max (size self.old) (8192 * (i + 1))) }
+        ensures bytes { (B.state on.old).tells → IsPlain (form self.old) ⊎ ((size self.old % 8192 ≡ 0) ⊎ (8192 * (i + 1) ≤ size self.old)) → (leaves self.new on.new).bytes ≡ resized (leaves self.old on.old).bytes (max (size self.old) (8192 * (i + 1))) }
         ensures over { is_over self.new on.new × (form self.new ≡ form self.old) }
         ensures grows { Grows (B.state on.old) (B.state on.new) (leaves self.old on.old) (leaves self.new on.new) }
         ensures spare { ((B.state on.old).spare ≤ (B.state on.new).spare + most_to_own (size self.old) i) × ((leaves self.old on.old).current → (B.state on.old).spare + 1 ≤ (B.state on.new).spare + most_to_own (size self.old) i) }
         ensures current { (leaves self.new on.new).current }
         ensures room { (B.state on.old).room ≤ (B.state on.new).room + most_cleared (size self.old) (8192 * (i + 1)) }
-        ensures changes { Changes (form self.old).tag (leaves self.old on.old).owns (λ b. (leaves self.old on.old).owns b × (((B.state on.old).label b).kind ≢ (form self.old).kind)) (B.state on.old) (B.state on.new) × B.keeps on.old on.new };
+        ensures changes { Changes (form self.old).tag (leaves self.old on.old).owns (MayZero (form self.old) (size self.old) i (B.state on.old) (leaves self.old on.old)) (B.state on.old) (B.state on.new) × B.keeps on.old on.new };
 
     // LAWS
     /// The bytes are those of the leaves in memory.
     ghost bytes_are: { (s : Self) (b : B) → is_over s b → (leaves s b).bytes ≡ source_bytes (leaves s b).at (leaves s b).held (B.state b).now (size s) };
+
+    /// A source of entries or of records has no leaf under a score: archived forms of these are others, and come into no active tree.
+    ghost none_held: { (s : Self) (b : B) (i : ℕ) → is_over s b → (B.state b).tells → (IsPlain (form s) → ⊥) → (leaves s b).held i ≡ None };
 
     ghost in_limit: { (s : Self) (b : B) → is_over s b → size s ≤ (form s).limit };
 
