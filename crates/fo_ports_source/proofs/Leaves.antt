@@ -16,7 +16,10 @@ use Rattle.fo_ports_source.specs.SourceLaws.{still_labelled, was_older}
 use Rattle.fo_ports_source.specs.Steps.{Steps, Grew}
 use Rattle.fo_ports_source.proofs.Steps.{cases_made, steps_none, steps_wider, steps_joins, made_first, made_second, made_either}
 
-some_is : {a b : ℕ} {leaf : Option ℕ} → leaf ≡ Some a → leaf ≡ Some b → a ≡ b
+pub never : {leaf : Option ℕ} {a : ℕ} → leaf ≡ Some a → leaf ≡ None → ⊥
+never e f = cc
+
+pub some_is : {a b : ℕ} {leaf : Option ℕ} → leaf ≡ Some a → leaf ≡ Some b → a ≡ b
 some_is e f = cc
 
 zero_at : (k : ℕ) → slice_index zero_bytes k ≡ 0
@@ -57,7 +60,7 @@ byte_owned : (now new_now : Image) (kind : Kind) (leaf : Option ℕ) (r k : ℕ)
 byte_owned now new_now kind None r k same = ap (λ bytes. slice_index bytes k) same.bytes ∙ zero_at k
 byte_owned now new_now kind (Some at) r k same = ap (λ bytes. slice_index bytes k) same.bytes
 
-leaf_was : (old new : State) (r : ℕ) (leaf : Option ℕ) → MatchOption leaf (Made old new r) (λ at. ((at ≡ r) × ((old.label at).epoch ≡ old.high)) ⊎ (((old.label at).epoch < old.high) × Made old new r)) → (leaf ≡ Some r) ⊎ Made old new r
+pub leaf_was : (old new : State) (r : ℕ) (leaf : Option ℕ) → MatchOption leaf (Made old new r) (λ at. ((at ≡ r) × ((old.label at).epoch ≡ old.high)) ⊎ (((old.label at).epoch < old.high) × Made old new r)) → (leaf ≡ Some r) ⊎ Made old new r
 leaf_was old new r None m = inr m
 leaf_was old new r (Some at) m = ⊎_elim (λ h. inl (ap (λ x. Some x) h.0)) (λ h. inr h.1) m
 
@@ -162,7 +165,13 @@ module _ {kind : Kind} {tag rank size : ℕ} where
         (λ h. let lt : (old.label b).epoch < old.high = h.0 in absurd (omega (arith, lt, current)))
         (subst (λ leaf. MatchOption leaf (Made old new r) (λ at. ((at ≡ r) × ((old.label at).epoch ≡ old.high)) ⊎ (((old.label at).epoch < old.high) × Made old new r))) e o.copied)
 
-    pub own_grew : Grew kind tag leaves new_leaves old new
+    still_held : (j at : ℕ) → leaf_of new_leaves j ≡ Some at → (leaf_of leaves j ≡ Some at → IsHeld old kind tag at) → IsHeld new kind tag at
+    still_held j at e held = ⊎_elim
+        (λ is. let is_r : at ≡ r = some_is (subst (λ x. leaf_of new_leaves x ≡ Some at) is e) here in subst (λ x. IsHeld new kind tag x) (sym is_r) o.own.held)
+        (λ ne. let was = held (sym (other j ne) ∙ e) in held_kept o.steps (ap length (same_content at was.labelled.is_live).bytes) was)
+        (cases_eq j i)
+
+    pub own_grew : Grew kind tag size leaves new_leaves old new
     own_grew = record {
       as_long = as_long;
       owned = λ b has. ⊎_elim
@@ -175,10 +184,8 @@ module _ {kind : Kind} {tag rank size : ℕ} where
           (λ ne. record { number = has.number; is = other has.number ne ∙ has.is })
           (cases_eq has.number i);
       still = λ p n prepared. record {
-        each = λ k at from to e. ⊎_elim
-            (λ is. let is_r : at ≡ r = some_is (subst (λ x. leaf_of new_leaves x ≡ Some at) is e) here in subst (λ x. IsHeld new kind tag x) (sym is_r) o.own.held)
-            (λ ne. let was = prepared.each k at from to (sym (other (k / 8192) ne) ∙ e) in held_kept o.steps (ap length (same_content at was.labelled.is_live).bytes) was)
-            (cases_eq (k / 8192) i);
+        each = λ k at from to e. still_held (k / 8192) at e (λ was. prepared.each k at from to was);
+        last = λ at past e. still_held (size / 8192) at e (λ was. prepared.last at past was);
         limit = subst (λ m. p + n ≤ 8192 * m) (sym as_long) prepared.limit;
       };
       steps = steps_wider (λ b h. h) (λ b h. absurd h) o.steps;
@@ -248,7 +255,7 @@ module _ {kind : Kind} {tag rank size : ℕ} {leaves : List (Option ℕ)} {at pl
   is_leaf : (b : ℕ) → b ≡ at → HasLeaf leaves b
   is_leaf b e = record { number = place / 8192; is = p.here ∙ ap (λ x. Some x) (sym e) }
 
-  pub put_grew : Grew kind tag leaves leaves old new
+  pub put_grew : Grew kind tag size leaves leaves old new
   put_grew = record {
     as_long = refl;
     owned = λ b has. inl has;
@@ -256,13 +263,14 @@ module _ {kind : Kind} {tag rank size : ℕ} {leaves : List (Option ℕ)} {at pl
     kept = λ b has current. has;
     still = λ o n prepared. record {
       each = λ k b from to e. held_kept p.steps (put_long b) (prepared.each k b from to e);
+      last = λ b past e. held_kept p.steps (put_long b) (prepared.last b past e);
       limit = prepared.limit;
     };
     steps = steps_wider is_leaf is_leaf p.steps;
   }
 
-module _ {kind : Kind} {tag : ℕ} {leaves mid_leaves new_leaves : List (Option ℕ)} {a b c : State} where
-  pub grew_joins : KeepsAll a c → Grew kind tag leaves mid_leaves a b → Grew kind tag mid_leaves new_leaves b c → Grew kind tag leaves new_leaves a c
+module _ {kind : Kind} {tag size : ℕ} {leaves mid_leaves new_leaves : List (Option ℕ)} {a b c : State} where
+  pub grew_joins : KeepsAll a c → Grew kind tag size leaves mid_leaves a b → Grew kind tag size mid_leaves new_leaves b c → Grew kind tag size leaves new_leaves a c
   grew_joins all first second = record {
     as_long = second.as_long ∙ first.as_long;
     owned = λ at has. ⊎_elim
@@ -279,8 +287,8 @@ module _ {kind : Kind} {tag : ℕ} {leaves mid_leaves new_leaves : List (Option 
     steps = steps_joins all first.steps second.steps first.owned first.owned;
   }
 
-module _ {kind : Kind} {tag : ℕ} {leaves : List (Option ℕ)} where
-  pub grew_none : (a : State) → KeepsAll a a → Grew kind tag leaves leaves a a
+module _ {kind : Kind} {tag size : ℕ} {leaves : List (Option ℕ)} where
+  pub grew_none : (a : State) → KeepsAll a a → Grew kind tag size leaves leaves a a
   grew_none a all = record {
     as_long = refl;
     owned = λ at has. inl has;
@@ -291,8 +299,31 @@ module _ {kind : Kind} {tag : ℕ} {leaves : List (Option ℕ)} where
   }
 
 module _ {leaves new_leaves : List (Option ℕ)} {a b : State} where
-  pub grew_same : {kind other : Kind} {tag more : ℕ} → kind ≡ other → tag ≡ more → Grew kind tag leaves new_leaves a b → Grew other more leaves new_leaves a b
-  grew_same {kind = kind} {more = more} same_kind same_tag grew = subst (λ k. Grew k more leaves new_leaves a b) same_kind (subst (λ t. Grew kind t leaves new_leaves a b) same_tag grew)
+  pub grew_same : {kind other : Kind} {tag more size end : ℕ} → kind ≡ other → tag ≡ more → size ≡ end → Grew kind tag size leaves new_leaves a b → Grew other more end leaves new_leaves a b
+  grew_same {kind = kind} {tag = tag} {more = more} {end = end} same_kind same_tag same_size grew = subst (λ k. Grew k more end leaves new_leaves a b) same_kind (subst (λ t. Grew kind t end leaves new_leaves a b) same_tag (subst (λ n. Grew kind tag n leaves new_leaves a b) same_size grew))
 
-pub prepared_same : {s : State} {kind other : Kind} {tag more : ℕ} {leaves : List (Option ℕ)} {o n : ℕ} → other ≡ kind → more ≡ tag → Prepared s kind tag leaves o n → Prepared s other more leaves o n
-prepared_same {s = s} {kind = kind} {more = more} {leaves = leaves} {o = o} {n = n} same_kind same_tag prepared = subst (λ k. Prepared s k more leaves o n) (sym same_kind) (subst (λ t. Prepared s kind t leaves o n) (sym same_tag) prepared)
+pub prepared_same : {s : State} {kind other : Kind} {tag more size end : ℕ} {leaves : List (Option ℕ)} {o n : ℕ} → other ≡ kind → more ≡ tag → end ≡ size → Prepared s kind tag size leaves o n → Prepared s other more end leaves o n
+prepared_same {s = s} {kind = kind} {tag = tag} {more = more} {end = end} {leaves = leaves} {o = o} {n = n} same_kind same_tag same_size prepared = subst (λ k. Prepared s k more end leaves o n) (sym same_kind) (subst (λ t. Prepared s kind t end leaves o n) (sym same_tag) (subst (λ m. Prepared s kind tag m leaves o n) (sym same_size) prepared))
+
+module _ {s : State} {kind : Kind} {tag rank size end : ℕ} {leaves : List (Option ℕ)} (over : Over s kind tag rank size leaves) (longer : size ≤ end) where
+  -- the source is given a later end
+  pub over_raised : end ≤ 8192 * length leaves → Over s kind tag rank end leaves
+  over_raised within = record {
+    leaf = over.leaf;
+    apart = over.apart;
+    none = λ i le. over.none i (omega (arith, longer, le));
+    tail = λ told k le. over.tail told k (omega (arith, longer, le));
+    within = within;
+    few = over.few;
+    leaf_kind = over.leaf_kind;
+  }
+
+  pub prepared_raised : {o n : ℕ} → Prepared s kind tag size leaves o n → Prepared s kind tag end leaves o n
+  prepared_raised prepared = record {
+    each = prepared.each;
+    last = λ at past e. ⊎_elim
+        (λ same. prepared.last at (omega (arith, longer, past)) (subst (λ j. leaf_of leaves j ≡ Some at) same e))
+        (λ ne. let none : leaf_of leaves (end / 8192) ≡ None = over.none (end / 8192) (omega (arith, longer, ne)) in absurd (never e none))
+        (cases_eq (end / 8192) (size / 8192));
+    limit = prepared.limit;
+  }

@@ -3,3 +3,4 @@ pub mod Leaves
 pub mod Puts
 pub mod Looks
 pub mod Values
+pub mod Grows

@@ -81,9 +81,10 @@ held_looks looks all at was = record {
   long = ap length (looks.known at was.is_pinned).bytes ∙ was.long;
 }
 
-pub prepared_looks : {old new : State} {kind : Kind} {tag : ℕ} {leaves : List (Option ℕ)} {o n : ℕ} → Looks old new → KeepsAll old new → Prepared old kind tag leaves o n → Prepared new kind tag leaves o n
+pub prepared_looks : {old new : State} {kind : Kind} {tag size : ℕ} {leaves : List (Option ℕ)} {o n : ℕ} → Looks old new → KeepsAll old new → Prepared old kind tag size leaves o n → Prepared new kind tag size leaves o n
 prepared_looks looks all prepared = record {
   each = λ k at from to e. held_looks looks all at (prepared.each k at from to e);
+  last = λ at past e. held_looks looks all at (prepared.last at past e);
   limit = prepared.limit;
 }
 

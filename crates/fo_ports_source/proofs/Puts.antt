@@ -1,5 +1,5 @@
 -- Bytes that are put one part after another, and how much is spent.
-use Rattle.std.proofs.Common.{◌≡◌, ◌*◌, ◌^◌, ℕ, ◌+◌, ◌-◌, ◌/◌, ◌%◌, ◌<◌, ◌≤◌, ◌⊎◌, List, [], ◌++◌, length, min, take, drop, Result, Ok, Err, IfErr, slice_index, refl, sym, ◌∙◌, ap, arith, inl, inr, ⊎_elim}
+use Rattle.std.proofs.Common.{◌≡◌, ◌*◌, ◌^◌, ℕ, ◌+◌, ◌-◌, ◌/◌, ◌%◌, ◌<◌, ◌≤◌, ◌⊎◌, List, [], ◌++◌, length, min, take, drop, Result, Ok, Err, IfErr, OnOk, slice_index, refl, sym, ◌∙◌, ap, arith, inl, inr, ⊎_elim}
 use Rattle.std.proofs.lemmas.Bool.{cases_lt}
 use Rattle.std.proofs.lemmas.List.{length-take-le, get_or-take, get_or-drop, length-drop, get_or_append_left, get_or-append_right}
 use Rattle.std.proofs.lemmas.Slice.{take-put_mid}
@@ -100,11 +100,16 @@ pub later_cause : {T : Type 0} (r : Result T BlockError) (damaged earlier : ℕ 
 later_cause (Ok x) damaged earlier first mid last wider le cause = cause
 later_cause (Err e) damaged earlier first mid last wider le cause = cause_after damaged earlier first mid last e wider le cause
 
+-- what follows where a call doesn't fail
+pub then_ok : {T : Type 0} (r : Result T BlockError) (P Q : Type 0) → (P → Q) → OnOk r P → OnOk r Q
+then_ok (Ok x) P Q then is = then is
+then_ok (Err e) P Q then is = is
+
 -- a source needs no more than the trait allows
-pub few_leaves : (end n : ℕ) → leaves_for n ≤ most_for end n
+pub few_leaves : (end n : ℕ) → leaves_for n + 1 ≤ most_for end n
 few_leaves end n = by n (depth_for end)
   where
-    by : (n depth : ℕ) → n / 8192 + 2 ≤ n / 8192 + n / 2 ^ 21 + 3 * (depth + 1)
+    by : (n depth : ℕ) → n / 8192 + 2 + 1 ≤ n / 8192 + n / 2 ^ 21 + 3 * (depth + 1)
     by n depth = omega arith
 
 pub length_put_mid : (a k : ℕ) (xs ys : List ℕ) → a + k ≤ length xs → length ys ≡ k → length (put_mid a k xs ys) ≡ length xs

@@ -1,14 +1,11 @@
 -- The calls of a plain source, one by one and one after another.
-use Rattle.std.proofs.Common.{◌≡◌, ◌≢◌, ◌⊎◌, ◌↔◌, ◌<◌, ℕ, List, [], ◌∷◌, inl, inr, ⊎_elim, sym, refl, ap, ◌∙◌, subst, arith}
+use Rattle.std.proofs.Common.{◌≡◌, ◌≢◌, ◌⊎◌, ◌↔◌, ◌<◌, ℕ, List, inl, inr, ⊎_elim, sym, refl, ap, ◌∙◌, subst, arith}
 use Rattle.std.proofs.lemmas.Bool.{cases_eq}
 use Rattle.fo_image.specs.declared.types.Label.{Label}
 use Rattle.fo_image.specs.declared.types.State.{State as BlockState}
 use Rattle.fo_image.specs.declared.types.State.TheVariants.{Free, Live, Closed}
 use Rattle.fo_crash.specs.declared.place.Place.{Place}
-use Rattle.fo_image.specs.declared.types.Pointer.{Pointer}
-use Rattle.fo_image.specs.declared.types.Pointer.TheVariants.{Nil, Local, Score as Held}
-use Rattle.fo_crash.specs.declared.slot.Slot.{Slot}
-use Rattle.fo_crash.specs.Images.{Content, Image, SameContent, Reaches, target, local, walk, to_block, with_bytes, with_block}
+use Rattle.fo_crash.specs.Images.{Content, Image, SameContent, Reaches, to_block, with_bytes, with_block}
 use Rattle.fo_crash.specs.Steps.{PutsBytes, AddsBytes}
 use Rattle.fo_crash.proofs.Reach.{reach_aside, reach_into}
 use Rattle.fo_crash.proofs.Updates.{block_other, bytes_other, bytes_slot}

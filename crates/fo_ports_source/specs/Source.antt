@@ -66,9 +66,10 @@ pub record IsHeld (s : State) (kind : Kind) (tag at : ℕ) : Type 0 where
   pub is_pinned : s.pinned at
   pub long : length ((s.now at).bytes) ≡ 8192
 
--- The leaves of so many bytes from an offset on are held.
-pub record Prepared (s : State) (kind : Kind) (tag : ℕ) (leaves : List (Option ℕ)) (offset n : ℕ) : Type 0 where
+-- The leaves of so many bytes from an offset on are held, and so is the last leaf of a source that ends before them.
+pub record Prepared (s : State) (kind : Kind) (tag size : ℕ) (leaves : List (Option ℕ)) (offset n : ℕ) : Type 0 where
   pub each : (k at : ℕ) → offset ≤ k → k < offset + n → leaf_of leaves (k / 8192) ≡ Some at → IsHeld s kind tag at
+  pub last : (at : ℕ) → size < offset + n → leaf_of leaves (size / 8192) ≡ Some at → IsHeld s kind tag at
   pub limit : offset + n ≤ 8192 * length leaves
 
 -- A leaf of the current epoch that is held.
@@ -96,7 +97,7 @@ leaves_of s kind tag size leaves = record {
   named = λ score kind. ⊥;
   bytes = source_bytes (leaf_of leaves) (λ i. None) s.now size;
   owns = HasLeaf leaves;
-  prepared = Prepared s kind tag leaves;
+  prepared = Prepared s kind tag size leaves;
   current = IsTopCurrent s size leaves;
 }
 

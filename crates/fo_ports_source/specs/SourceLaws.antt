@@ -7,7 +7,7 @@ use Rattle.fo_crash.specs.declared.place.Place.{Place}
 use Rattle.fo_crash.specs.Places.{place, OnePlace}
 use Rattle.fo_ports.specs.State.{State, KeepsAll}
 use Rattle.fo_ports.specs.Sources.{StaysInPlace, IsReady, StaysReady, Undisturbed, byte_at}
-use Rattle.fo_ports_source.specs.Source.{leaf_of, leaves_of, HasLeaf, HasLabel, IsTold, Over, Prepared, IsTopCurrent}
+use Rattle.fo_ports_source.specs.Source.{leaf_of, leaves_of, HasLeaf, HasLabel, IsTold, Over, IsHeld, Prepared, IsTopCurrent}
 
 -- a leaf stands at its place alone
 pub only_place : {s : State} {kind : Kind} {tag rank at : ℕ} → OnePlace s.stands → IsTold s kind tag rank at → (p : Place) → s.stands at p → (p.kind ≡ kind) × (p.tag ≡ tag) × (p.rank ≡ rank)
@@ -58,24 +58,28 @@ module _ (kind : Kind) (tag rank size : ℕ) (leaves : List (Option ℕ)) (a b :
     leaf_kind = over.leaf_kind;
   }
 
-  pub source_prepared : (o n : ℕ) → KeepsAll a b → ((at : ℕ) → IsReady tag a at → StaysReady a b at) → Prepared a kind tag leaves o n → Prepared b kind tag leaves o n
+  pub source_prepared : (o n : ℕ) → KeepsAll a b → ((at : ℕ) → IsReady tag a at → StaysReady a b at) → Prepared a kind tag size leaves o n → Prepared b kind tag size leaves o n
   source_prepared o n all stays prepared = record {
-    each = λ k at from to e.
-        let was = prepared.each k at from to e in
-        let kept = stays at (record { is_pinned = was.is_pinned; live = was.labelled.is_live; tagged = was.labelled.has_tag }) in
-        record {
-          labelled = still_labelled all.same_high kept.same_label was.labelled;
-          is_pinned = kept.is_pinned;
-          long = kept.same_length ∙ was.long;
-        };
+    each = λ k at from to e. still_held at (prepared.each k at from to e);
+    last = λ at past e. still_held at (prepared.last at past e);
     limit = prepared.limit;
   }
+    where
+      still_held : (at : ℕ) → IsHeld a kind tag at → IsHeld b kind tag at
+      still_held at was =
+          let kept = stays at (record { is_pinned = was.is_pinned; live = was.labelled.is_live; tagged = was.labelled.has_tag }) in
+          record {
+            labelled = still_labelled all.same_high kept.same_label was.labelled;
+            is_pinned = kept.is_pinned;
+            long = kept.same_length ∙ was.long;
+          }
 
   pub top_stays : KeepsAll a b → ((at : ℕ) → HasLeaf leaves at → b.label at ≡ a.label at) → IsTopCurrent a size leaves → IsTopCurrent b size leaves
   top_stays all same top = ⊎_elim (λ long. inl long) (λ leaf. inr (record { at = leaf.at; is = leaf.is; current = still_epoch all.same_high (same leaf.at (record { number = 0; is = leaf.is })) leaf.current })) top
 
-pub part_prepared : {s : State} {kind : Kind} {tag : ℕ} {leaves : List (Option ℕ)} {o n : ℕ} (p m : ℕ) → Prepared s kind tag leaves o n → o ≤ p → p + m ≤ o + n → Prepared s kind tag leaves p m
+pub part_prepared : {s : State} {kind : Kind} {tag size : ℕ} {leaves : List (Option ℕ)} {o n : ℕ} (p m : ℕ) → Prepared s kind tag size leaves o n → o ≤ p → p + m ≤ o + n → Prepared s kind tag size leaves p m
 part_prepared {leaves = leaves} {o = o} {n = n} p m prepared from to = record {
   each = λ k at above below e. prepared.each k at (omega (arith, from, above)) (omega (arith, below, to)) e;
+  last = λ at past e. prepared.last at (omega (arith, past, to)) e;
   limit = let end = prepared.limit in omega (arith, end, to);
 }

@@ -1,11 +1,12 @@
 -- What the calls of a plain source do to the blocks.
-use Rattle.std.specs.Prelude.{◌≡◌, ◌⊎◌, ◌↔◌, ◌<◌, ℕ, List, length, Option}
+use Rattle.std.specs.Prelude.{◌≡◌, ◌≢◌, ◌⊎◌, ◌↔◌, ◌/◌, ◌<◌, ℕ, List, length, Option, Some, None, MatchOption}
 use Rattle.fo_image.specs.declared.types.Kind.{Kind}
 use Rattle.fo_crash.specs.declared.place.Place.{Place}
 use Rattle.fo_crash.specs.Images.{Image, SameContent, Reaches, to_block}
 use Rattle.fo_ports.specs.State.{State, KeepsAll, KeepsNumbers, AddsNoWait, none}
-use Rattle.fo_ports.specs.Sources.{Made, Touched, IsMade, StaysMarked}
-use Rattle.fo_ports_source.specs.Source.{HasLeaf, Prepared}
+use Rattle.fo_ports.specs.Blocks.{put_at}
+use Rattle.fo_ports.specs.Sources.{Form, Made, Touched, IsMade, StaysMarked, EndsWithin, IsCut}
+use Rattle.fo_ports_source.specs.Source.{leaf_of, HasLeaf, Prepared}
 
 -- As `Undone` of the trait, and the slots stay but for those of blocks that were given out.
 pub record Behind (touched : ℕ → Type 0) (old new : State) (image : Image) : Type 0 where
@@ -40,10 +41,33 @@ pub record Steps (tag : ℕ) (mine inner : ℕ → Type 0) (old new : State) : T
 
 -- A call on a source: its leaves are those of before or were given out, all that was given out and all that was current is a leaf,
 -- and what was prepared stays so.
-pub record Grew (kind : Kind) (tag : ℕ) (leaves new_leaves : List (Option ℕ)) (old new : State) : Type 0 where
+pub record Grew (kind : Kind) (tag size : ℕ) (leaves new_leaves : List (Option ℕ)) (old new : State) : Type 0 where
   pub as_long : length new_leaves ≡ length leaves
   pub owned : (b : ℕ) → HasLeaf new_leaves b → HasLeaf leaves b ⊎ Made old new b
   pub owns : (b : ℕ) → Made old new b → HasLeaf new_leaves b
   pub kept : (b : ℕ) → HasLeaf leaves b → (old.label b).epoch ≡ old.high → HasLeaf new_leaves b
-  pub still : (o n : ℕ) → Prepared old kind tag leaves o n → Prepared new kind tag new_leaves o n
+  pub still : (o n : ℕ) → Prepared old kind tag size leaves o n → Prepared new kind tag size new_leaves o n
   pub steps : Steps tag (HasLeaf leaves) (HasLeaf leaves) old new
+
+-- A leaf was owned, and has this piece in the place of its bytes from there on.
+pub record PutsOwn (old new : State) (was at from : ℕ) (piece : List ℕ) : Type 0 where
+  pub bytes : (new.now at).bytes ≡ put_at from piece ((old.now was).bytes)
+  pub slots : (k : ℕ) → (new.now at).slot k ≡ (old.now was).slot k
+  pub copied : (was ≡ at) ⊎ (((old.label was).epoch < old.high) × Made old new at)
+
+-- The leaf of a source's end stays, or is a copy; it has what it had, with zeros behind the end of data.
+pub record Cuts (form : Form) (size : ℕ) (new_leaf : Option ℕ) (was : ℕ) (old new : State) : Type 0 where
+  pub block : ℕ
+  pub is : new_leaf ≡ Some block
+  pub bytes : IsCut form size (size / 8192) ((new.now block).bytes) ((old.now was).bytes)
+  pub slots : (k : ℕ) → (new.now block).slot k ≡ (old.now was).slot k
+  pub copied : (was ≡ block) ⊎ (((old.label was).epoch < old.high) × Made old new block)
+
+-- A source grows: its leaves stay, but for that of its end.
+pub record Longer (form : Form) (size : ℕ) (leaves new_leaves : List (Option ℕ)) (old new : State) : Type 0 where
+  pub others : (j : ℕ) → j ≢ size / 8192 → leaf_of new_leaves j ≡ leaf_of leaves j
+  pub last : MatchOption (leaf_of leaves (size / 8192)) (leaf_of new_leaves (size / 8192) ≡ None) (λ was. Cuts form size (leaf_of new_leaves (size / 8192)) was old new)
+
+-- the leaf within which a plain source ends
+abbrev pub IsEnd : Form → ℕ → List (Option ℕ) → ℕ → Type 0
+IsEnd form size leaves b = EndsWithin form size (size / 8192) × (leaf_of leaves (size / 8192) ≡ Some b)

@@ -53,8 +53,7 @@ impl<B: Blocks> Bytes<B> for PlainSource {
     }
 
     fn prepare(&mut self, on: &mut B, offset: u64, len: u64) -> Result<(), BlockError> {
-        let last = (offset + len).div_ceil(LEAF);
-        self.pin_all(on, offset / LEAF, last)?;
+        self.pin_for(on, offset, len)?;
         Ok(())
     }
 
@@ -67,11 +66,16 @@ impl<B: Blocks> Bytes<B> for PlainSource {
     }
 
     fn own_leaf(&mut self, on: &mut B, i: u32) -> u32 {
-        self.size = self.size.max(LEAF * (i as u64 + 1));
-        self.own(on, i as usize)
+        if self.size < LEAF * (i as u64 + 1) {
+            self.own_next(on, i as usize)
+        } else {
+            self.own(on, i as usize)
+        }
     }
 
     ghost bytes_are = { λ s b over. refl };
+
+    ghost none_held = { λ s b i over told not_plain. refl };
 
     ghost in_limit = { λ s b over. over.within };
 

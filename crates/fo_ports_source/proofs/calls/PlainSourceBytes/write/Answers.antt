@@ -1,7 +1,7 @@
 use Rattle.std.proofs.Common.{rules, ◌≡◌, ◌+◌, ◌<◌, map, max, length, ap, ◌∙◌, arith}
 use Rattle.std.specs.List.{range_with_len}
 use Rattle.fo_ports_source.specs.Source.{leaf_of, byte_of}
-use Rattle.fo_ports_source.proofs.Leaves.{prepared_same}
+use Rattle.fo_ports_source.proofs.Leaves.{prepared_same, prepared_raised}
 use Rattle.fo_ports_source.proofs.Steps.{steps_changes}
 use Rattle.fo_ports_source.proofs.Values.{values_written}
 use Rattle.fo_ports_source.proofs.calls.PlainSourceBytes.write.Goals as goal
@@ -17,7 +17,7 @@ returns-clause-bytes g c = λ told.
 pub returns-clause-grows : goal.returns-clause-grows
 returns-clause-grows g c = record {
   owns = λ b. (c.put.ensures.grew.owned b, c.put.ensures.grew.owns b);
-  still = λ o n prepared. prepared_same c.put.ensures.same.0 c.put.ensures.same.1 (c.put.ensures.grew.still o n prepared);
+  still = λ o n prepared. prepared_same c.put.ensures.same.0 c.put.ensures.same.1 c.put.ensures.same.3 (c.put.ensures.grew.still o n (prepared_raised {end = c.max-self.result} c.requires.over (omega arith) prepared));
 }
 
 pub returns-clause-changes : goal.returns-clause-changes

@@ -7,7 +7,7 @@ use Rattle.fo_ports_source.proofs.source.PlainSource.copy_out.Given as goal
 
 abbrev pub invariant-loop-done : goal.invariant-loop-done
 invariant-loop-done g l =
-    let found = Finds (g.B.Blocks.state l.initial.on).tells (leaves_for (length l.initial.into)) (g.B.Blocks.state l.initial.on).pins_left (Prepared (g.B.Blocks.state l.initial.on) l.self.kind l.self.tag l.self.leaves.items l.offset (length l.initial.into)) in
+    let found = Finds (g.B.Blocks.state l.initial.on).tells (leaves_for (length l.initial.into)) (g.B.Blocks.state l.initial.on).pins_left (Prepared (g.B.Blocks.state l.initial.on) l.self.kind l.self.tag l.self.size l.self.leaves.items l.offset (length l.initial.into)) in
     record {
       within : l.done ≤ length l.into;
       looks : Looks (g.B.Blocks.state l.initial.on) (g.B.Blocks.state l.on);

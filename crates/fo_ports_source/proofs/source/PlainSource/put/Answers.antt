@@ -8,7 +8,7 @@ put_part-requires-clause-held g c = λ at e.
     let i = c.loop-done.invariant in
     let done = c.loop-done.done in
     let within : c.args.offset + done < c.args.offset + length c.args.piece.now = omega arith in
-    (prepared_same i.same.0 i.same.1 (i.grew.still c.args.offset (length c.args.piece.now) c.requires.prepared)).each (c.args.offset + done) at (omega arith) within e
+    (prepared_same i.same.0 i.same.1 i.same.3 (i.grew.still c.args.offset (length c.args.piece.now) c.requires.prepared)).each (c.args.offset + done) at (omega arith) within e
 
 pub loop-done-preserved : goal.loop-done-preserved
 loop-done-preserved g c =
@@ -28,9 +28,9 @@ loop-done-preserved g c =
       over = e.over;
       same = (e.same.0 ∙ i.same.0, e.same.1 ∙ i.same.1, e.same.2 ∙ i.same.2, e.same.3 ∙ i.same.3);
       puts = λ told. puts_more _ _ _ c.args.offset done n c.args.piece.now within (i.puts told) (rw len at (e.puts (k.still_tells.1 told)));
-      grew = grew_joins (g.met.B.Blocks.keeps_all on new keeps) i.grew (grew_same i.same.0 i.same.1 e.grew);
+      grew = grew_joins (g.met.B.Blocks.keeps_all on new keeps) i.grew (grew_same i.same.0 i.same.1 i.same.3 e.grew);
       keeps = keeps;
-      spent = spent_more (length c.args.piece.now) c.args.offset done n (g.B.Blocks.state on).spare (g.B.Blocks.state mid).spare (g.B.Blocks.state new).spare (omega arith) c.min-count.ensures e.spare i.spent;
+      spent = spent_more (length c.args.piece.now) c.args.offset done n (g.B.Blocks.state on).spare (g.B.Blocks.state mid).spare (g.B.Blocks.state new).spare (omega arith) c.min-count.ensures e.spare.0 i.spent;
     }
 
 pub loop-done-init : goal.loop-done-init

@@ -9,7 +9,7 @@ invariant-loop-done g l = record {
   over : Over (g.B.Blocks.state l.on) l.self.kind l.self.tag l.self.rank l.self.size l.self.leaves.items;
   same : (l.self.kind ≡ l.initial.self.kind) × (l.self.tag ≡ l.initial.self.tag) × (l.self.rank ≡ l.initial.self.rank) × (l.self.size ≡ l.initial.self.size);
   puts : (g.B.Blocks.state l.initial.on).tells → Puts (byte_of (leaf_of l.initial.self.leaves.items) (g.B.Blocks.state l.initial.on).now) (byte_of (leaf_of l.self.leaves.items) (g.B.Blocks.state l.on).now) l.offset (take l.done l.piece);
-  grew : Grew l.initial.self.kind l.initial.self.tag l.initial.self.leaves.items l.self.leaves.items (g.B.Blocks.state l.initial.on) (g.B.Blocks.state l.on);
+  grew : Grew l.initial.self.kind l.initial.self.tag l.initial.self.size l.initial.self.leaves.items l.self.leaves.items (g.B.Blocks.state l.initial.on) (g.B.Blocks.state l.on);
   keeps : g.B.Blocks.keeps l.initial.on l.on;
   spent : Spent (length l.piece) l.offset l.done (g.B.Blocks.state l.initial.on).spare (g.B.Blocks.state l.on).spare;
 }
