@@ -147,6 +147,14 @@ module _ (mid new : State) (t : Tree) (before offset done n len : ℕ) (few : t.
           (λ leaf. inr (inr ((offset + done - 1) / 8192, next h.0 leaf, ⊎_elim (λ out. omega (arith, out, first_last, enough)) (λ walk. let le = walk.1 in omega (arith, le, first_last, enough)) h.1)))
           (known (offset + done - 1) (let lt = h.0 in omega (arith, lt)) (let lt = h.0 in omega (arith, lt)))
 
+  -- the leaf before was got, and there were pins enough
+  pub has_next : most t.depth len ≤ before → (0 < done → LeafWay mid t ((offset + done - 1) / 8192)) → HasLeafPins mid t ((offset + done) / 8192)
+  has_next enough got = by been.is
+    where
+      by : ((done ≡ 0) × (before ≤ mid.pins_left)) ⊎ ((0 < done) × ((before + passed t.depth (offset / 8192) ≤ t.depth + 1 + passed t.depth ((offset + done - 1) / 8192)) ⊎ (LeafWay mid t ((offset + done - 1) / 8192) × (before + passed t.depth (offset / 8192) ≤ mid.pins_left + (t.depth + 1) + passed t.depth ((offset + done - 1) / 8192))))) → HasLeafPins mid t ((offset + done) / 8192)
+      by (inl h) = let le = h.1 in inl (omega (arith, le, enough))
+      by (inr h) = inr ((offset + done - 1) / 8192, next h.0 (got h.0), ⊎_elim (λ out. omega (arith, out, first_last, enough)) (λ walk. let le = walk.1 in omega (arith, le, first_last, enough)) h.1)
+
 pub pins_last : (new : State) (t : Tree) (before offset len : ℕ) → t.depth ≤ 4 → HasPassed new t before offset len → before ≤ new.pins_left + most t.depth len
 pins_last new t before offset len few been = by been.is
   where

@@ -87,9 +87,9 @@ place_down true tag index rank level i s = refl
 place_down false tag index rank level i s = refl
 
 -- a block so many steps below the top stands at a place of its kind and rank
-record IsDown (s : State) (t : Tree) (n at : ℕ) : Type 0 where
-  index : ℕ
-  stands : s.stands at (place (kind_down t n) t.tag index (t.rank + (t.depth - n)))
+pub record IsDown (s : State) (t : Tree) (n at : ℕ) : Type 0 where
+  pub index : ℕ
+  pub stands : s.stands at (place (kind_down t n) t.tag index (t.rank + (t.depth - n)))
 
 module _ (s : State) (t : Tree) (placed : IsPlaced s.stands s.now) where
   down_one : (n a i at : ℕ) → suc n ≤ t.depth → IsDown s t n a → target ((s.now a).slot i) ≡ Local at → IsDown s t (suc n) at
@@ -113,7 +113,7 @@ module _ (s : State) (t : Tree) (placed : IsPlaced s.stands s.now) where
   down_from n i at (Local a) within above e = down_one n a i at within (above a refl) e
   down_from n i at (Held score) within above e = absurd (held_apart (s.held score (kind_code (kind_down t n))) i at e)
 
-  is_down : Hangs s t → s.tells → (n k at : ℕ) → n ≤ t.depth → block_at s t n k ≡ Local at → IsDown s t n at
+  pub is_down : Hangs s t → s.tells → (n k at : ℕ) → n ≤ t.depth → block_at s t n k ≡ Local at → IsDown s t n at
   is_down hangs told zero k at within e =
       let all : t.depth - zero ≡ t.depth = omega arith in
       record { index = 0; stands = subst (λ l. s.stands at (place (kind_at t.dir l) t.tag 0 (t.rank + l))) (sym all) (hangs.told told at e).0 }

@@ -30,9 +30,9 @@ IsLeafFound s t i = s.tells ⊎ HasLeafPins s t i
 abbrev pub most : ℕ → ℕ → ℕ
 most depth n = n / 8192 + n / 2 ^ 21 + 3 * (depth + 1)
 
--- The ways to these bytes were got, and their leaves.
+-- The ways to these bytes were got, as far as the source has them, and their leaves.
 pub record Prepared (s : State) (t : Tree) (offset n : ℕ) : Type 0 where
-  pub each : (k : ℕ) → offset ≤ k → k < offset + n → LeafWay s t (k / 8192)
+  pub each : (k : ℕ) → offset ≤ k → k < offset + n → k < t.size → LeafWay s t (k / 8192)
 
 -- A walk over bytes has come to this place: the pins that it took are those of the ways to the leaves that it passed, or there were
 -- fewer.

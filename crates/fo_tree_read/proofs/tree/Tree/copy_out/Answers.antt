@@ -83,7 +83,7 @@ loop-done-preserved g c =
     (λ told. inl (k.still_tells.1 told))
     (λ pins. ⊎_elim
     (λ enough. found_next mid new t old.pins_left c.args.offset done n (length c.args.into.now) c.requires.hangs.few some part inside c.copy_part.ensures.pins c.copy_part.ensures.near i.been enough (i.known found))
-    (λ prepared. found_prepared mid t ((c.args.offset + done) / 8192) (leaf_way_looks k i.looks (prepared.each (c.args.offset + done) (omega arith) (omega (arith, lt, long)))))
+    (λ prepared. found_prepared mid t ((c.args.offset + done) / 8192) (leaf_way_looks k i.looks (prepared.each (c.args.offset + done) (omega arith) (omega (arith, lt, long)) (omega (arith, lt, long, c.requires.within)))))
     pins)
     found in
     record {
