@@ -1,0 +1,13 @@
+//! Sources of bytes in trees of pointer blocks, over any blocks: they are read, and the ways to their leaves are prepared.
+//!
+//! The *way* to a leaf goes from the top down, by slots that are the digits of the leaf's number to base 409. It is *prepared* once its
+//! blocks are pinned, their labels were looked at, and what stands under scores was fetched and is *kept*.
+#![tactic(auto)]
+
+mod calls;
+mod keep;
+mod pins;
+mod place;
+mod ways;
+
+pub use ways::{Kept, Ways};
