@@ -12,12 +12,10 @@ ghost use Rattle.venti_store.specs.Opening.{ReadLines, OpenRefuses, UsedIs, Head
 use crate::error::ArenaWhy;
 use crate::index::Index;
 use crate::shelf::Shelf;
+use fo_base::LINES;
 use fo_disk::{BLOCK, Disk, Failed};
 use fo_image::{arena_places, read_arena_head, read_arena_line};
 use std::alloc::Global;
-
-/// How many places have their lines in one block of the index.
-const GROUP: u32 = 341;
 
 /// The number of blocks, which is in range.
 fn count<A: Disk>(device: &mut A) -> Result<u32, ArenaWhy>
@@ -102,7 +100,7 @@ fn add_group(index: &mut Index, block: &[u8], group: u32, used: u32) -> Result<(
     ensures count { OnOk result (length index.new.lines.items ≡ min used (341 * (group + 1))) }
     ensures cause { IfErr result IsNoFault }
 {
-    for n in 0..GROUP.min(used - GROUP * group) as usize {
+    for n in 0..LINES.min(used - LINES * group) as usize {
         add_line(index, &block[24 * n..24 * n + 24])?;
     }
     Ok(())
@@ -121,8 +119,8 @@ fn read_index<A: Disk>(alloc: Global, device: &mut A, used: u32) -> Result<Index
 {
     let mut index = Index::new(alloc);
     let mut block = [0; BLOCK];
-    for group in 0..used.div_ceil(GROUP) {
-        let Ok(()) = read(device, 1 + (GROUP + 1) * group, &mut block) else {
+    for group in 0..used.div_ceil(LINES) {
+        let Ok(()) = read(device, 1 + (LINES + 1) * group, &mut block) else {
             return Err(ArenaWhy::ArenaRead);
         };
         add_group(&mut index, &block, group, used)?;

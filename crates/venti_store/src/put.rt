@@ -1,32 +1,15 @@
 //! The calls that put and get blocks.
-ghost use Rattle.std.specs.Prelude.{◌≡◌, ◌↔◌, ◌==◌, IsTrue, length};
-ghost use Rattle.std.specs.List.{list_all};
-ghost use Rattle.fo_image.specs.Format.{IsScore};
-
 use crate::read::{compare, copy_of, read_stored};
 use crate::{Arena, ArenaError};
 use fo_disk::{Disk, DiskFault};
-use fo_image::{ArenaLine, Score, stored_block};
+use fo_image::{ArenaLine, Score, is_score, stored_block};
 use sha1::Sha1;
 
 /// How many blocks may wait in memory.
 const MOST_WAITING: usize = 512;
 
-fn is_zero(bytes: &[u8]) -> bool
-    ensures { result ≡ list_all (λ b. b == 0) bytes.now }
-{
-    bytes.iter().all(|b| *b == 0)
-}
-
-/// Whether the score does not begin with sixteen zeros.
-fn is_score(score: Score) -> bool
-    ensures { IsTrue result ↔ IsScore score.0 }
-{
-    !is_zero(&score.0[..16])
-}
-
 impl<A: Disk> Arena<A> {
-    ghost use Rattle.std.specs.Prelude.{◌≡◌, ◌<◌, ◌≤◌, ◌++◌, ◌∷◌, ℕ, List, [], true, length, MatchResult, MatchOption, OnOk, OnErr, IfOk, IfErr};
+    ghost use Rattle.std.specs.Prelude.{◌≡◌, ◌<◌, ◌≤◌, ◌++◌, ◌∷◌, ℕ, List, [], true, length, MatchResult, MatchOption, OnOk, OnErr, IfOk, IfErr, IfSome};
     ghost use Rattle.fo_disk.specs.Disk.{Since};
     ghost use Rattle.fo_image.specs.Format.{IsScore, is_arena_kind};
     ghost use Rattle.fo_image.specs.Place.{arena_places};
@@ -40,6 +23,7 @@ impl<A: Disk> Arena<A> {
     fn read_place(&mut self, place: u32) -> Result<Vec<u8>, ArenaError>
         requires { place < length (lines_of self.old.shelf) }
         ensures read { (stored : List (List ℕ)) (synced : ℕ) → Keeps self.old.shelf stored synced (A.unsure self.old.device) (A.holds self.old.device) → IfOk result (λ v. v.items ≡ stored_at stored place) }
+        ensures short { IfOk result (λ v. length v.items ≤ 8192) }
         ensures at_hand { settled_count (lines_of self.old.shelf) (waits self.old.shelf.pending.items) ≤ place → A.calls self.new.device ≡ A.calls self.old.device }
         ensures shelf { self.new.shelf ≡ self.old.shelf }
         ensures kept { IsKept (A.holds self.old.device) (A.holds self.new.device) (A.moments self.old.device) (A.moments self.new.device) (A.unsure self.old.device) (A.unsure self.new.device) }
@@ -59,6 +43,7 @@ impl<A: Disk> Arena<A> {
     /// The bytes that are held under a score and a kind, which hash to the score.
     fn look(&mut self, score: &Score, kind: u8) -> Result<Option<Vec<u8>>, ArenaError>
         ensures finds { MatchResult result (λ found. MatchOption found (¬ IsNamed (lines_of self.old.shelf) score.now.0 kind) (λ v. IsNamed (lines_of self.old.shelf) score.now.0 kind × (sha1 v.items ≡ score.now.0))) (LookRefuses (lines_of self.old.shelf) score.now.0 kind) }
+        ensures short { IfOk result (λ found. IfSome found (λ v. length v.items ≤ 8192)) }
         ensures held { (stored : List (List ℕ)) (synced : ℕ) → Keeps self.old.shelf stored synced (A.unsure self.old.device) (A.holds self.old.device)
             → MatchResult result (λ found. MatchOption found (Unit {0}) (λ v. IsHeld (lines_of self.old.shelf) stored score.now.0 kind v.items)) (RefusesHeld (lines_of self.old.shelf) stored score.now.0 kind) }
         ensures at_hand { IsAtHand self.old.shelf score.now.0 kind → A.calls self.new.device ≡ A.calls self.old.device }
@@ -180,6 +165,7 @@ impl<A: Disk> Arena<A> {
     /// Gets the block that is held under a score and a kind. Where it fails, `into` is unchanged.
     pub fn get(&mut self, score: &Score, kind: u8, into: &mut Vec<u8>) -> Result<(), ArenaError>
         ensures got { OnOk result ((sha1 into.new.items ≡ score.now.0) × IsNamed (lines_of self.old.shelf) score.now.0 kind) }
+        ensures short { OnOk result (length into.new.items ≤ 8192) }
         ensures refused { IfErr result (GetRefuses (lines_of self.old.shelf) score.now.0 kind) }
         ensures nothing { OnErr result (into.new.items ≡ into.old.items) }
 

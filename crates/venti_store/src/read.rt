@@ -16,7 +16,7 @@ pub(crate) fn copy_of(alloc: Global, bytes: &[u8]) -> Result<Vec<u8>, ArenaError
     ensures copied { IfOk result (λ v. v.items ≡ bytes.now) }
     ensures memory { IfErr result IsMemory }
 {
-    match bytes.to_vec(alloc) {
+    match Vec::from_slice(alloc, bytes) {
         Ok(copy) => Ok(copy),
         Err(_) => Err(ArenaError::Memory),
     }
@@ -33,6 +33,7 @@ pub(crate) fn read_stored<A: Disk>(
     requires block { stored_block place < A.size device.old }
     requires len { len ≤ 8192 }
     ensures read { IfOk result (λ v. stored_block place < length (A.holds device.old) → (block : Block) × Contains (versions_of (A.holds device.old) (stored_block place)) block × (v.items ≡ take len block)) }
+    ensures short { IfOk result (λ v. length v.items ≤ 8192) }
     ensures kept { IsKept (A.holds device.old) (A.holds device.new) (A.moments device.old) (A.moments device.new) (A.unsure device.old) (A.unsure device.new) }
     ensures size { A.size device.new ≡ A.size device.old }
     ensures cause { HasCauses (A.faults device.old) (A.faults device.new) result }
@@ -42,7 +43,7 @@ pub(crate) fn read_stored<A: Disk>(
     let Ok(()) = device.read(stored_block(place), &mut block) else {
         return Err(ArenaError::ArenaRead);
     };
-    match block[..len as usize].to_vec(alloc) {
+    match Vec::from_slice(alloc, &block[..len as usize]) {
         Ok(bytes) => Ok(bytes),
         Err(_) => Err(ArenaError::Memory),
     }

@@ -18,7 +18,7 @@ impl Waiting {
         ensures { IfOk result (λ w. w.bytes.items ≡ bytes.now) }
     {
         Ok(Waiting {
-            bytes: bytes.to_vec(alloc)?,
+            bytes: Vec::from_slice(alloc, bytes)?,
         })
     }
 }

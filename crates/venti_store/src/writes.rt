@@ -11,11 +11,9 @@ ghost use Rattle.venti_store.specs.Kept.{waits, IsLater};
 ghost use Rattle.venti_store.specs.Settling.{Run, Goes, WroteBytes, WroteLines, Waits, Ends, all_settled};
 
 use crate::waiting::Waiting;
+use fo_base::LINES;
 use fo_disk::{BLOCK, Disk, DiskFault};
 use fo_image::{ArenaHead, ArenaLine, stored_block, write_arena_head, write_arena_line};
-
-/// How many places have their lines in one block of the index.
-const GROUP: u32 = 341;
 
 /// A block that begins with these bytes, and has zeros behind them.
 fn padded(bytes: &[u8]) -> [u8; BLOCK]
@@ -55,8 +53,8 @@ fn lines_of_group(lines: &[ArenaLine], group: u32) -> [u8; BLOCK]
     ensures { (place : ℕ) → place / 341 ≡ group → place < length lines.now → HasLine lines.now place result }
 {
     let mut block = [0; BLOCK];
-    let first = (group * GROUP) as usize;
-    for place in first..lines.len().min(first + GROUP as usize) {
+    let first = (group * LINES) as usize;
+    for place in first..lines.len().min(first + LINES as usize) {
         let at = 24 * (place - first);
         write_arena_line(&lines[place], &mut block[at..at + 24]);
     }
@@ -79,9 +77,9 @@ fn write_lines<A: Disk>(device: &mut A, first: u32, lines: &[ArenaLine]) -> Resu
     ensures fault { IfErr result (λ e. e ≡ Write) }
 {
     let used = lines.len() as u32;
-    for group in first / GROUP..used.div_ceil(GROUP) {
+    for group in first / LINES..used.div_ceil(LINES) {
         let block = lines_of_group(lines, group);
-        let Ok(()) = device.write(1 + (GROUP + 1) * group, &block) else {
+        let Ok(()) = device.write(1 + (LINES + 1) * group, &block) else {
             return Err(DiskFault::Write);
         };
     }
