@@ -1,0 +1,12 @@
+//! Laws of what an arena holds. Each function does nothing: its contract is the law, so that the law is proved with the crate.
+ghost use Rattle.fo_vac_open.specs.Laws.{HeldIs, StaysInArena};
+
+/// The function that reads an arena gives just what is held.
+pub fn what_is_held_is_read()
+    ensures { HeldIs }
+{}
+
+/// No archive leads to a block of a main device.
+pub fn archives_stay_in_the_arena()
+    ensures { StaysInArena }
+{}
