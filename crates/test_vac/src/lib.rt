@@ -9,3 +9,5 @@ mod cut;
 mod entry;
 #[cfg(test)]
 mod root;
+#[cfg(test)]
+mod top;
