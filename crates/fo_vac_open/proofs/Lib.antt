@@ -1,3 +1,4 @@
 mod Held
 mod Once
 mod Opening
+mod Stored

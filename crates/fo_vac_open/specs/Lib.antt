@@ -1,4 +1,5 @@
 pub mod Held
 pub mod Laws
 pub mod Open
+pub mod Stored
 pub mod Tree

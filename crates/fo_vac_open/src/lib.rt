@@ -9,7 +9,7 @@
 //! that tells what it holds: an archive that is held is found, or the answer is damage, a fault or want of memory; `BadVac` comes
 //! only where the root that is held is not of its format, or its top block is not held or not of its format.
 //!
-//! Of the definitions: the function that reads an arena gives what is held, and no archive leads to a block of a main device. That
+//! Of the definitions: the functions that read an arena give what is held, and no archive leads to a block of a main device. That
 //! the tree of an archive is that of the snapshot is to be proved of the archiver.
 #![tactic(auto)]
 
@@ -17,6 +17,6 @@ mod laws;
 mod open;
 mod types;
 
-pub use laws::{archives_stay_in_the_arena, what_is_held_is_read};
+pub use laws::{archives_stay_in_the_arena, what_is_held_is_read, what_is_stored_is_read};
 pub use open::open_archive;
 pub use types::{Archived, VacError};
