@@ -1,0 +1,9 @@
+//! Tests of archives in an arena (`fo_vac_open`), by their public names.
+//!
+//! Bytes that are put were worked out by hand from docs/FORMATS.md.
+#![tactic(auto)]
+
+#[cfg(test)]
+mod blocks;
+#[cfg(test)]
+mod opens;
