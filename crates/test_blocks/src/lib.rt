@@ -1,5 +1,6 @@
 //! Tests of what stands over blocks, by public names: slots and places (`fo_crash`), the leaves of a directory's records (`fo_meta`),
-//! the removals that wait (`fo_unlink`), slots in bytes (`fo_slots`), blocks in memory (`fo_ports_plain`).
+//! the removals that wait (`fo_unlink`), slots in bytes (`fo_slots`), blocks in memory (`fo_ports_plain`), and
+//! sources of bytes over them (`fo_ports_source`).
 //!
 //! Beside them stand files that tell nothing of what they hold and answer whatever fits (`CarelessFiles`): so the contract of files can
 //! be kept by a silent disk, and promises no more there. `put_byte` changes a byte of a block over any blocks, also those of a device
@@ -22,5 +23,7 @@ mod crash;
 mod meta;
 #[cfg(test)]
 mod slots;
+#[cfg(test)]
+mod sources;
 #[cfg(test)]
 mod unlink;
