@@ -1,2 +1,9 @@
+pub mod Blanks
 pub mod Causing
+pub mod Fetching
+pub mod Giving
+pub mod Joining
+pub mod Listing
 mod Named
+pub mod Untold
+pub mod Updating

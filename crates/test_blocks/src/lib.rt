@@ -3,17 +3,26 @@
 //! sources of bytes over them (`fo_ports_source`).
 //!
 //! Beside them stand files that tell nothing of what they hold and answer whatever fits (`CarelessFiles`): so the contract of files can
-//! be kept by a silent disk, and promises no more there. `put_byte` changes a byte of a block over any blocks, also those of a device
-//! that tells nothing, and each of its refusals has its cause.
+//! be kept by a silent disk, and promises no more there. Blocks that tell nothing (`CarelessBlocks`) keep each clause and law of the
+//! contract of blocks: what was given out is in memory for good, nothing is ever closed, and no slot waits to be cleared. So they show
+//! nothing of blocks that are read from a device, of buffers that run out, or of slots that wait. `put_byte` changes a byte of a block
+//! over any blocks, also those of a device that tells nothing, and each of its refusals has its cause.
+//! `fetch_twice` says over any blocks that what was fetched is fetched again, the same; so no blocks over an arena in a file, which may
+//! read differently each time, can keep the contract of `fetch`.
 //!
 //! Bytes that are wanted were worked out by hand from docs/FORMATS.md. Nothing here is said of any caller.
 #![tactic(auto)]
 
 mod careless;
 mod change;
+mod fetched;
+mod silent;
+mod silent_calls;
 
 pub use careless::CarelessFiles;
 pub use change::put_byte;
+pub use fetched::fetch_twice;
+pub use silent::CarelessBlocks;
 
 #[cfg(test)]
 mod blocks;
@@ -21,6 +30,8 @@ mod blocks;
 mod crash;
 #[cfg(test)]
 mod meta;
+#[cfg(test)]
+mod silence;
 #[cfg(test)]
 mod slots;
 #[cfg(test)]
