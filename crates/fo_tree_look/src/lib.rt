@@ -2,12 +2,17 @@
 //!
 //! The *way* to a leaf goes from the top down, by slots that are the digits of the leaf's number to base 409. It is *prepared* once its
 //! blocks are pinned, their labels were looked at, and what stands under scores was fetched and is *kept*.
+//!
+//! Proved, over any blocks and any device: `len`, `entry`, `read`, `leaf` and `prepare` keep the clauses that `Bytes` asks of them, and
+//! `holds` and `stays` its laws. Nothing here changes a block.
 #![tactic(auto)]
 
 mod calls;
 mod keep;
+mod laws;
 mod pins;
 mod place;
 mod ways;
 
+pub use laws::{holds, stays};
 pub use ways::{Kept, Ways};
