@@ -1,2 +1,4 @@
+mod Levels
 mod Marking
 mod Orders
+mod Scanning

@@ -1,14 +1,16 @@
 -- The list of blocks that are not free: a look for an address, a block that is marked, one block more.
-use Rattle.std.proofs.Common.{◌≡◌, ◌≢◌, ⊎_elim, ℕ, ◌+◌, ◌<◌, true, false, not, cond, ltb, List, [], ◌∷◌, ◌++◌, length, get_or, set, get_or-set_same, get_or-set_other, length-set, refl, sym, subst, Result, Ok, Err, arith}
-use Rattle.std.specs.List.{All}
+use Rattle.std.proofs.Common.{◌≡◌, ◌≢◌, ⊎_elim, ℕ, ◌+◌, ◌<◌, true, false, not, cond, ltb, List, [], ◌∷◌, ◌++◌, length, get_or, set, get_or-set_same, get_or-set_other, length-set, refl, sym, ap, ◌∙◌, subst, Result, Ok, Err, arith}
+use Rattle.std.specs.List.{All, Any}
 use Rattle.std.specs.List.Sorted.{IsNonDecreasingBy, IsPartitionPoint}
 use Rattle.std.specs.Prelude.{is_ok, is_err, if◌then◌else◌}
 use Rattle.std.proofs.lemmas.Bool.{cases_eq, cases_lt, false≢true}
 use Rattle.std.proofs.lemmas.List.Quantifiers.{all_pairs_push}
 use Rattle.std.proofs.lemmas.List.Sums.{sum_by-set, sum_by_push}
 use borrow.Author.Tests.{ltb-true, ltb-false}
+use Rattle.fo_image.specs.declared.types.Label.{Label}
+use Rattle.std.proofs.lemmas.List.{get_or_default}
 use Rattle.fo_check_tree.specs.declared.labels.Known.{Known}
-use Rattle.fo_check_tree.specs.Known.{Ascend, IsBelow, IsAt, unreached}
+use Rattle.fo_check_tree.specs.Known.{Ascend, IsBelow, IsAt, IsKnown, unreached}
 
 pub rising : (known : List Known) → Ascend known → IsNonDecreasingBy (λ k. k.address) known
 rising known up i j d le lt = ⊎_elim (λ same. rw same (omega arith)) (λ apart. let less = up i j d (omega arith) lt in omega arith) (cases_eq i j)
@@ -66,3 +68,16 @@ all_reached known address at up here is k d lt same = ⊎_elim
 pub is_pushed : {A E X : Type 0} (r : Result A E) (xs ys zs : List X) → is_err r ≡ false → zs ≡ (if is_ok r then ys else xs) → zs ≡ ys
 is_pushed (Ok x) xs ys zs ok is = is
 is_pushed (Err x) xs ys zs ok is = absurd (false≢true (sym ok))
+
+-- A block has one label.
+pub only_label : (known : List Known) (address : ℕ) (l m : Label) → Ascend known → Any (IsKnown address l) known → Any (IsKnown address m) known → l ≡ m
+only_label known address l m up a b = ⊎_elim
+    (λ same. sym a.4.label_is ∙ ap (λ (k : Known). k.label) (sym a.3) ∙ ap (λ (n : ℕ). (get_or known n a.1).label) same ∙ ap (λ (k : Known). k.label) (get_or_default known b.0 a.1 b.1 b.2 ∙ b.3) ∙ b.4.label_is)
+    (λ apart. ⊎_elim
+    (λ before. let less = up a.0 b.0 b.1 before b.2 in absurd (omega (arith, at a a.1, at a b.1, at b b.1)))
+    (λ from. let less = up b.0 a.0 a.1 (omega arith) a.2 in absurd (omega (arith, at a a.1, at b a.1)))
+    (cases_lt a.0 b.0))
+    (cases_eq a.0 b.0)
+  where
+    at : {n : Label} (c : Any (IsKnown address n) known) (d : Known) → (get_or known c.0 d).address ≡ address
+    at c d = ap (λ (k : Known). k.address) (get_or_default known c.0 d c.1 c.2 ∙ c.3) ∙ c.4.address_is

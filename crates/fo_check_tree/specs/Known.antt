@@ -5,6 +5,10 @@ use Rattle.fo_image.specs.Usable.{is_usable}
 use Rattle.fo_image.specs.declared.types.Label.{Label}
 use Rattle.fo_check_tree.specs.declared.labels.Known.{Known}
 
+-- a block that was not reached
+abbrev pub fresh : ℕ → Label → Known
+fresh address label = record { address = address; label = label; reached = false }
+
 -- Each address is below those after it.
 abbrev pub Ascend : List Known → Type 0
 Ascend = AllPairs (λ k m. k.address < m.address)

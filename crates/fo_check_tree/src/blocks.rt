@@ -1,7 +1,9 @@
 //! The blocks of sources, one pointer after another.
-ghost use Rattle.std.specs.Prelude.{◌≡◌, ◌+◌, ◌*◌, ◌<◌, ◌≤◌, length, IfErr, IfOk, OnOk};
+ghost use Rattle.std.specs.Prelude.{◌≡◌, ◌+◌, ◌*◌, ◌<◌, ◌≤◌, length, IfErr, IfOk, MatchResult, OnOk};
 ghost use Rattle.fo_sound.specs.Device.{IsKept};
 ghost use Rattle.fo_check_tree.specs.Cause.{HasCauses};
+ghost use Rattle.fo_check_tree.specs.Lower.{level};
+ghost use Rattle.fo_check_tree.specs.Steps.{IsAllowed, RefusesStep};
 ghost use Rattle.fo_check_tree.specs.declared.error.TreeError.TheVariants.{Read as ReadFault};
 
 use crate::error::TreeError;
@@ -19,6 +21,7 @@ use std::alloc::{AllocError, Global};
 fn label_of(walk: &Walk, step: &Step, address: u32) -> Result<Label, TreeError>
     ensures within { IfOk result (λ _. address < walk.now.blocks) }
     ensures cause { IfErr result (λ e. e ≡ ReadFault → ⊥) }
+    ensures answer { MatchResult result (IsAllowed walk.now step.now address) (RefusesStep walk.now step.now address) }
 {
     if address < first_data(walk.blocks) || walk.blocks <= address {
         return Err(TreeError::Label(step.holder.block));
@@ -30,10 +33,11 @@ fn label_of(walk: &Walk, step: &Step, address: u32) -> Result<Label, TreeError>
         rank: 0,
     };
     match walk.labels.label(address) {
+        None => Err(TreeError::Label(address)),
         Some(label) if may_have(&label, &step.holder.label, &place, walk.epoch, walk.active) => {
             Ok(label)
         }
-        _ => Err(TreeError::Label(address)),
+        Some(_) => Err(TreeError::Label(address)),
     }
 }
 
@@ -48,6 +52,7 @@ pub(crate) fn follow_all<D: Disk>(
     requires size { D.size main.old ≡ walk.old.blocks }
     ensures blocks { OnOk result (walk.new.blocks ≡ walk.old.blocks) }
     ensures budget { OnOk result (205 * walk.new.labels.left + length walk.new.folders.items ≤ 205 * walk.old.labels.left + length walk.old.folders.items) }
+    ensures level { OnOk result (level walk.new.noted ≤ level walk.old.noted) }
     ensures size { D.size main.new ≡ D.size main.old }
     ensures kept { IsKept (D.holds main.old) (D.holds main.new) (D.moments main.old) (D.moments main.new) (D.unsure main.old) (D.unsure main.new) }
     ensures cause { HasCauses (D.faults main.old) (D.faults main.new) result }
@@ -88,6 +93,7 @@ fn enter<D: Disk>(
     ensures left { OnOk result (walk.new.labels.left ≡ walk.old.labels.left) }
     ensures steps { OnOk result (length walk.new.steps.items ≤ length walk.old.steps.items + 409) }
     ensures folders { OnOk result (length walk.new.folders.items ≤ length walk.old.folders.items + 204) }
+    ensures level { OnOk result (level walk.new.noted ≤ level walk.old.noted) }
     ensures size { D.size main.new ≡ D.size main.old }
     ensures kept { IsKept (D.holds main.old) (D.holds main.new) (D.moments main.old) (D.moments main.new) (D.unsure main.old) (D.unsure main.new) }
     ensures cause { HasCauses (D.faults main.old) (D.faults main.new) result }
@@ -118,6 +124,7 @@ fn add_block(
     ensures left { OnOk result (walk.new.labels.left ≡ walk.old.labels.left) }
     ensures steps { OnOk result (length walk.new.steps.items ≤ length walk.old.steps.items + 409) }
     ensures folders { OnOk result (length walk.new.folders.items ≤ length walk.old.folders.items + 204) }
+    ensures level { OnOk result (level walk.new.noted ≤ level walk.old.noted) }
 {
     match step.kind {
         Kind::Data(0) => add_records(alloc, walk, step, here, block),
@@ -141,6 +148,7 @@ fn add_pointers(
     ensures left { OnOk result (walk.new.labels.left ≡ walk.old.labels.left) }
     ensures steps { OnOk result (length walk.new.steps.items ≤ length walk.old.steps.items + 409) }
     ensures folders { OnOk result (length walk.new.folders.items ≤ length walk.old.folders.items) }
+    ensures level { OnOk result (level walk.new.noted ≤ level walk.old.noted) }
 {
     if !is_zero(&block[8180..]) {
         walk.note(5, here.block);
@@ -173,6 +181,7 @@ fn add_records(
     ensures left { OnOk result (walk.new.labels.left ≡ walk.old.labels.left) }
     ensures steps { OnOk result (length walk.new.steps.items ≤ length walk.old.steps.items) }
     ensures folders { OnOk result (length walk.new.folders.items ≤ length walk.old.folders.items) }
+    ensures level { OnOk result (level walk.new.noted ≤ level walk.old.noted) }
 {
     let Some(records) = read_leaf(alloc, block)? else {
         walk.note(5, here.block);

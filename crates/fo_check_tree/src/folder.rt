@@ -2,6 +2,7 @@
 ghost use Rattle.std.specs.Prelude.{◌≡◌, ◌+◌, ◌*◌, ◌<◌, ◌≤◌, length, OnOk};
 ghost use Rattle.fo_sound.specs.Device.{IsKept};
 ghost use Rattle.fo_check_tree.specs.Cause.{HasCauses};
+ghost use Rattle.fo_check_tree.specs.Lower.{level};
 
 use crate::blocks::follow_all;
 use crate::error::TreeError;
@@ -28,6 +29,8 @@ pub(crate) fn shallow(walk: &mut Walk, block: u32, entry: &Entry) -> Entry
     ensures left { walk.new.labels.left ≡ walk.old.labels.left }
     ensures steps { length walk.new.steps.items ≤ length walk.old.steps.items }
     ensures folders { length walk.new.folders.items ≤ length walk.old.folders.items }
+    ensures level { level walk.new.noted ≤ level walk.old.noted }
+    ensures deep { 4 < entry.now.depth → level walk.new.noted ≤ 5 }
 {
     if entry.depth <= 4 {
         *entry
@@ -45,6 +48,7 @@ fn entry_at(walk: &mut Walk, here: Holder, block: &[u8], i: usize) -> Entry
     ensures left { walk.new.labels.left ≡ walk.old.labels.left }
     ensures steps { length walk.new.steps.items ≤ length walk.old.steps.items }
     ensures folders { length walk.new.folders.items ≤ length walk.old.folders.items }
+    ensures level { level walk.new.noted ≤ level walk.old.noted }
 {
     match read_entry(&block[40 * i..40 * i + 40]) {
         Ok(entry) => shallow(walk, here.block, &entry),
@@ -69,6 +73,7 @@ pub(crate) fn add_entries(
     ensures left { OnOk result (walk.new.labels.left ≡ walk.old.labels.left) }
     ensures steps { OnOk result (length walk.new.steps.items ≤ length walk.old.steps.items + 204) }
     ensures folders { OnOk result (length walk.new.folders.items ≤ length walk.old.folders.items + 204) }
+    ensures level { OnOk result (level walk.new.noted ≤ level walk.old.noted) }
 {
     if !is_zero(&block[8160..]) {
         walk.note(5, here.block);
@@ -100,6 +105,7 @@ fn find_pair(walk: &mut Walk, slot: u64, first: &Entry, second: &Entry) -> bool
     ensures left { walk.new.labels.left ≡ walk.old.labels.left }
     ensures steps { length walk.new.steps.items ≤ length walk.old.steps.items }
     ensures folders { length walk.new.folders.items ≤ length walk.old.folders.items }
+    ensures level { level walk.new.noted ≤ level walk.old.noted }
 {
     let at = walk
         .named
@@ -126,6 +132,7 @@ fn add_pair(
     ensures left { OnOk result (walk.new.labels.left ≡ walk.old.labels.left) }
     ensures steps { OnOk result (length walk.new.steps.items ≤ length walk.old.steps.items + 2) }
     ensures folders { OnOk result (length walk.new.folders.items ≤ length walk.old.folders.items + 2) }
+    ensures level { OnOk result (level walk.new.noted ≤ level walk.old.noted) }
 {
     let together = first.active && first.dir && second.active && !second.dir;
     if first.active && first.dir {
@@ -156,6 +163,7 @@ fn add_folder(
     ensures left { OnOk result (walk.new.labels.left ≡ walk.old.labels.left) }
     ensures steps { OnOk result (length walk.new.steps.items ≤ length walk.old.steps.items) }
     ensures folders { OnOk result (length walk.new.folders.items ≤ length walk.old.folders.items + 1) }
+    ensures level { OnOk result (level walk.new.noted ≤ level walk.old.noted) }
 {
     if 64 < depth {
         walk.note(8, here.block);
@@ -180,6 +188,7 @@ fn list<D: Disk>(
     requires size { D.size main.old ≡ walk.old.blocks }
     ensures blocks { OnOk result (walk.new.blocks ≡ walk.old.blocks) }
     ensures budget { OnOk result (205 * walk.new.labels.left + length walk.new.folders.items ≤ 205 * walk.old.labels.left + length walk.old.folders.items) }
+    ensures level { OnOk result (level walk.new.noted ≤ level walk.old.noted) }
     ensures size { D.size main.new ≡ D.size main.old }
     ensures kept { IsKept (D.holds main.old) (D.holds main.new) (D.moments main.old) (D.moments main.new) (D.unsure main.old) (D.unsure main.new) }
     ensures cause { HasCauses (D.faults main.old) (D.faults main.new) result }
@@ -229,6 +238,7 @@ pub(crate) fn walk_folder<D: Disk>(
     requires size { D.size main.old ≡ walk.old.blocks }
     ensures blocks { OnOk result (walk.new.blocks ≡ walk.old.blocks) }
     ensures budget { OnOk result (205 * walk.new.labels.left + length walk.new.folders.items ≤ 205 * walk.old.labels.left + length walk.old.folders.items) }
+    ensures level { OnOk result (level walk.new.noted ≤ level walk.old.noted) }
     ensures size { D.size main.new ≡ D.size main.old }
     ensures kept { IsKept (D.holds main.old) (D.holds main.new) (D.moments main.old) (D.moments main.new) (D.unsure main.old) (D.unsure main.new) }
     ensures cause { HasCauses (D.faults main.old) (D.faults main.new) result }

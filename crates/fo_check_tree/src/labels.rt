@@ -1,11 +1,15 @@
 //! The labels of the blocks that are not free, and which of them were reached.
-ghost use Rattle.std.specs.Prelude.{◌≡◌, ◌≢◌, ◌+◌, ◌*◌, ◌^◌, ◌<◌, ◌≤◌, length, IfErr, OnOk, IsTrue, MatchBool, MatchOption};
+ghost use Rattle.std.specs.Prelude.{ℕ, List, MatchResult, [], ◌∷◌, ◌++◌, ◌↔◌, ◌≡◌, ◌≢◌, ◌+◌, ◌*◌, ◌^◌, ◌<◌, ◌≤◌, length, IfErr, OnOk, IsTrue, MatchBool, MatchOption};
 ghost use Rattle.std.specs.List.{All, Any};
 ghost use Rattle.fo_image.specs.Place.{label_blocks};
-ghost use Rattle.fo_sound.specs.Device.{IsKept};
+ghost use Rattle.fo_disk.specs.Disk.{Block};
+ghost use Rattle.fo_sound.specs.Device.{Shows, IsKept};
+ghost use Rattle.fo_sound.specs.Image.{block_of, label_bytes};
+ghost use Rattle.fo_check_tree.specs.Table.{IsScanned, RefusesTable};
 ghost use Rattle.fo_check_tree.specs.Cause.{HasCauses};
-ghost use Rattle.fo_check_tree.specs.Known.{Ascend, IsBelow, unreached, reached, leaked, IsAt, IsKnown, Marks, MarksNone};
-ghost use Rattle.fo_check_tree.specs.declared.error.TreeError.TheVariants.{Read as ReadFault};
+ghost use Rattle.fo_check_tree.specs.Known.{Ascend, IsBelow, fresh, unreached, reached, leaked, IsAt, IsKnown, Marks, MarksNone};
+ghost use Rattle.fo_check_tree.specs.declared.error.TreeError.TheVariants.{Read as ReadFault, Memory as NoMemory};
+ghost use Rattle.fo_image.specs.declared.types.State.TheVariants.{Free};
 
 use crate::error::TreeError;
 use crate::reads::read;
@@ -26,12 +30,22 @@ pub(crate) struct Known {
 /// The blocks that are not free, by their addresses.
 #[derive(Drop)]
 pub(crate) struct Labels {
-    known: Vec<Known>,
+    pub(crate) known: Vec<Known>,
     /// How many of them may still be reached.
     pub(crate) left: usize,
     ghost ascending: { Ascend known.items },
     ghost counted: { left ≡ unreached known.items },
     ghost few: { length known.items ≤ 2 ^ 20 },
+}
+
+/// Whether a block with this label is free.
+fn is_free(label: &Label) -> bool
+    ensures { IsTrue result ↔ (label.now.state ≡ Free) }
+{
+    match label.state {
+        State::Free => true,
+        State::Live | State::Closed => false,
+    }
 }
 
 impl Labels {
@@ -44,6 +58,7 @@ impl Labels {
         requires size { D.size main.old ≡ blocks }
         requires least { 64 ≤ blocks }
         requires most { blocks ≤ 2 ^ 20 }
+        ensures table { (image : List Block) → length image ≡ blocks → Shows (D.holds main.old) image → MatchResult result (λ l. IsScanned image (label_blocks blocks) (585 * label_blocks blocks) l.known.items) (RefusesTable image) }
         ensures size { D.size main.new ≡ D.size main.old }
         ensures kept { IsKept (D.holds main.old) (D.holds main.new) (D.moments main.old) (D.moments main.new) (D.unsure main.old) (D.unsure main.new) }
         ensures cause { HasCauses (D.faults main.old) (D.faults main.new) result }
@@ -67,6 +82,8 @@ impl Labels {
         requires most { blocks ≤ 2 ^ 20 }
         requires below { IsBelow (585 * n) self.old.known.items }
         ensures below { OnOk result (IsBelow (585 * (n + 1)) self.new.known.items) }
+        ensures table { (image : List Block) → length image ≡ blocks → block.now ≡ block_of image (2 + n) → IsScanned image n (585 * n) self.old.known.items
+            → MatchResult result (λ _. IsScanned image (n + 1) (585 * (n + 1)) self.new.known.items) (RefusesTable image) }
         ensures cause { IfErr result (λ e. e ≡ ReadFault → ⊥) }
     {
         if is_zero(block) {
@@ -86,8 +103,11 @@ impl Labels {
     fn add_label(&mut self, blocks: u32, address: u32, bytes: &[u8]) -> Result<(), TreeError>
         requires length { length bytes.now ≡ 14 }
         requires most { blocks ≤ 2 ^ 20 }
+        requires place { address < 585 * label_blocks blocks }
         requires below { IsBelow address self.old.known.items }
         ensures below { OnOk result (IsBelow (address + 1) self.new.known.items) }
+        ensures table { (image : List Block) (seen : ℕ) → length image ≡ blocks → bytes.now ≡ label_bytes image address → IsScanned image seen address self.old.known.items
+            → MatchResult result (λ _. IsScanned image seen (address + 1) self.new.known.items) (RefusesTable image) }
         ensures cause { IfErr result (λ e. e ≡ ReadFault → ⊥) }
     {
         if address < first_data(blocks) || blocks <= address {
@@ -96,20 +116,29 @@ impl Labels {
             }
             return Err(TreeError::Label(label_place(address).0));
         }
-        let Ok(label) = read_label(bytes) else {
-            return Err(TreeError::Label(address));
-        };
-        if label.state != State::Free {
-            let known = Known {
-                address,
-                label,
-                reached: false,
-            };
-            if self.known.push(known).is_err() {
-                return Err(TreeError::Memory);
-            }
-            self.left += 1;
+        match read_label(bytes) {
+            Err(_) => Err(TreeError::Label(address)),
+            Ok(label) if is_free(&label) => Ok(()),
+            Ok(label) => self.add_known(address, label),
         }
+    }
+
+    /// One block more, which was not reached.
+    fn add_known(&mut self, address: u32, label: Label) -> Result<(), TreeError>
+        requires below { IsBelow address self.old.known.items }
+        requires most { address < 2 ^ 20 }
+        ensures added { OnOk result (self.new.known.items ≡ self.old.known.items ++ fresh address label ∷ []) }
+        ensures memory { IfErr result (λ e. e ≡ NoMemory) }
+    {
+        let known = Known {
+            address,
+            label,
+            reached: false,
+        };
+        if self.known.push(known).is_err() {
+            return Err(TreeError::Memory);
+        }
+        self.left += 1;
         Ok(())
     }
 

@@ -1,8 +1,10 @@
 //! The check of the tree of one root.
-ghost use Rattle.std.specs.Prelude.{◌≡◌, ◌^◌, ◌≤◌, ◌↔◌, IsTrue, OnOk};
-ghost use Rattle.fo_sound.specs.Sound.{HasRootEntries};
-ghost use Rattle.fo_sound.specs.Device.{IsKept};
+ghost use Rattle.std.specs.Prelude.{◌≡◌, ◌^◌, ◌≤◌, ◌↔◌, List, length, IsTrue, IfOk, OnOk};
+ghost use Rattle.fo_disk.specs.Disk.{Block};
+ghost use Rattle.fo_sound.specs.Sound.{HasTable, HasRootEntries};
+ghost use Rattle.fo_sound.specs.Device.{Shows, IsKept};
 ghost use Rattle.fo_check_tree.specs.Cause.{HasCauses};
+ghost use Rattle.fo_check_tree.specs.Lower.{level, JudgesRoot};
 
 use crate::broken::Broken;
 use crate::error::TreeError;
@@ -48,6 +50,8 @@ pub fn check_tree<D: Disk>(
     requires size { D.size main.old ≡ setting.blocks }
     requires least { 64 ≤ setting.blocks }
     requires most { setting.blocks ≤ 2 ^ 20 }
+    ensures table { (image : List Block) → length image ≡ setting.blocks → Shows (D.holds main.old) image → OnOk result (HasTable image) }
+    ensures root { IfOk result (λ found. JudgesRoot root.now found.broken) }
     ensures size { D.size main.new ≡ D.size main.old }
     ensures kept { IsKept (D.holds main.old) (D.holds main.new) (D.moments main.old) (D.moments main.new) (D.unsure main.old) (D.unsure main.new) }
     ensures cause { HasCauses (D.faults main.old) (D.faults main.new) result }
@@ -80,7 +84,9 @@ pub fn check_tree<D: Disk>(
 }
 
 /// The numbers of all files that names lead to.
-fn check_numbers(walk: &mut Walk, limit: u32) {
+fn check_numbers(walk: &mut Walk, limit: u32)
+    ensures { level walk.new.noted ≤ level walk.old.noted }
+{
     if let Some(leaf) = no_file(&walk.numbers, limit) {
         walk.note(8, leaf);
     }
@@ -89,17 +95,28 @@ fn check_numbers(walk: &mut Walk, limit: u32) {
     }
 }
 
+/// Notes entries that are not those of a root.
+fn note_entries(walk: &mut Walk, block: u32, root: &RootBlock)
+    ensures blocks { walk.new.blocks ≡ walk.old.blocks }
+    ensures level { level walk.new.noted ≤ level walk.old.noted }
+    ensures entries { ¬ HasRootEntries root.now → level walk.new.noted ≤ 6 }
+{
+    if has_root_entries(root) {
+        return;
+    }
+    walk.note(6, block);
+}
+
 /// Begins at the root block.
 fn start(walk: &mut Walk, s: &Super, root: &RootBlock) -> Result<(), AllocError>
     ensures blocks { OnOk result (walk.new.blocks ≡ walk.old.blocks) }
+    ensures judged { OnOk result (JudgesRoot root.now walk.new.noted) }
 {
     let active = s.active;
     let _ = walk.labels.reach(active);
     let entries = shallow(walk, active, &root.entries);
     let records = shallow(walk, active, &root.meta);
-    if !has_root_entries(root) {
-        walk.note(6, active);
-    }
+    note_entries(walk, active, root);
     let holder = Holder {
         block: active,
         label: root_label(s),

@@ -1,6 +1,6 @@
 //! What a walk through a tree has to do, and what it has seen.
 ghost use Rattle.std.specs.Prelude.{◌≡◌, ◌≤◌, length};
-ghost use Rattle.fo_check_tree.specs.Lower.{lower};
+ghost use Rattle.fo_check_tree.specs.Lower.{lower, level};
 
 use crate::broken::{Broken, lower};
 use crate::labels::Labels;
@@ -88,6 +88,8 @@ pub(crate) struct Walk {
 impl Walk {
     pub(crate) fn note(&mut self, rule: u8, block: u32)
         ensures noted { self.new.noted ≡ lower self.old.noted rule block }
+        ensures level { level self.new.noted ≤ level self.old.noted }
+        ensures at { level self.new.noted ≤ rule }
         ensures blocks { self.new.blocks ≡ self.old.blocks }
         ensures left { self.new.labels.left ≡ self.old.labels.left }
         ensures steps { length self.new.steps.items ≡ length self.old.steps.items }

@@ -1,10 +1,12 @@
 use Rattle.std.proofs.Common.{◌≡◌, ◌+◌, ◌*◌, ◌≤◌, length}
 use Rattle.fo_sound.specs.Device.{IsKept}
+use Rattle.fo_check_tree.specs.Lower.{level}
 use Rattle.fo_check_tree.proofs.blocks.follow_all.Given as goal
 
 abbrev pub invariant-loop-step : goal.invariant-loop-step
 invariant-loop-step g l = record {
   blocks : l.walk.blocks ≡ l.fn.walk.blocks;
+  low : level l.walk.noted ≤ level l.fn.walk.noted;
   size : g.D.Disk.size l.main ≡ l.walk.blocks;
   same : g.D.Disk.size l.main ≡ g.D.Disk.size l.fn.main;
   kept : IsKept (g.D.Disk.holds l.fn.main) (g.D.Disk.holds l.main) (g.D.Disk.moments l.fn.main) (g.D.Disk.moments l.main) (g.D.Disk.unsure l.fn.main) (g.D.Disk.unsure l.main);

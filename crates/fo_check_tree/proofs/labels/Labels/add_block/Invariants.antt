@@ -1,6 +1,12 @@
-use Rattle.std.proofs.Common.{◌+◌, ◌*◌}
+use Rattle.std.proofs.Common.{◌≡◌, ◌+◌, ◌*◌, List, length}
+use Rattle.fo_disk.specs.Disk.{Block}
+use Rattle.fo_sound.specs.Image.{block_of}
 use Rattle.fo_check_tree.specs.Known.{IsBelow}
+use Rattle.fo_check_tree.specs.Table.{IsScanned}
 use Rattle.fo_check_tree.proofs.labels.Labels.add_block.Given as goal
 
 abbrev pub invariant-loop-place : goal.invariant-loop-place
-invariant-loop-place l = IsBelow (585 * l.n + l.place) l.self.known.items
+invariant-loop-place l = record {
+  below : IsBelow (585 * l.n + l.place) l.self.known.items;
+  table : (image : List Block) → length image ≡ l.blocks → l.block ≡ block_of image (2 + l.n) → IsScanned image l.n (585 * l.n) l.fn.self.known.items → IsScanned image (l.n + 1) (585 * l.n + l.place) l.self.known.items;
+}

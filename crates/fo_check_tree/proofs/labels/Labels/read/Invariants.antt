@@ -1,6 +1,8 @@
-use Rattle.std.proofs.Common.{◌≡◌, ◌*◌, ◌≤◌, length}
-use Rattle.fo_sound.specs.Device.{IsKept}
+use Rattle.std.proofs.Common.{◌≡◌, ◌*◌, ◌≤◌, List, length}
+use Rattle.fo_disk.specs.Disk.{Block}
+use Rattle.fo_sound.specs.Device.{Shows, IsKept}
 use Rattle.fo_check_tree.specs.Known.{IsBelow}
+use Rattle.fo_check_tree.specs.Table.{IsScanned}
 use Rattle.fo_check_tree.proofs.labels.Labels.read.Given as goal
 
 abbrev pub invariant-loop-n : goal.invariant-loop-n
@@ -10,4 +12,5 @@ invariant-loop-n g l = record {
   later : g.D.Disk.faults l.fn.main ≤ g.D.Disk.faults l.main;
   long : length l.block ≡ 8192;
   below : IsBelow (585 * l.n) l.labels.known.items;
+  table : (image : List Block) → length image ≡ l.blocks → Shows (g.D.Disk.holds l.fn.main) image → IsScanned image l.n (585 * l.n) l.labels.known.items;
 }
