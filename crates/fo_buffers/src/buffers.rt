@@ -55,6 +55,13 @@ impl Buffers {
         })
     }
 
+    /// How many calls that take one more buffer or pin need no memory.
+    pub fn room(&self) -> usize
+        ensures { result ≡ self.now.room }
+    {
+        self.room
+    }
+
     /// Makes room for so many calls that take one more buffer or pin. This alone may want memory, and then nothing changes.
     pub fn reserve(&mut self, alloc: Global, room: usize) -> Result<(), Memory>
         ensures ok { OnOk result (self.new ≡ record self.old { room = max self.old.room room }) }

@@ -1,0 +1,5 @@
+pub mod Flags
+pub mod Inside
+pub mod Keeps
+pub mod Marks
+pub mod Turns
