@@ -12,7 +12,7 @@ use Rattle.fo_ports.specs.Blocks.{blank, put_at}
 use Rattle.fo_ports.proofs.Lengths.{length_put_at}
 use Rattle.fo_ports.specs.State.{State, KeepsAll}
 use Rattle.fo_ports.specs.Sources.{Form, Made, EndsWithin, IsCut, StaysLeaf, Renewed, Owned}
-use Rattle.fo_ports_source.specs.Source.{leaf_of, leaves_of, form_of, HasLeaf, Over, IsOwn}
+use Rattle.fo_ports_source.specs.Source.{leaf_of, leaves_of, form_of, HasLeaf, Over, IsOwn, Puts}
 use Rattle.fo_ports_source.specs.Steps.{Steps, PutsOwn, Cuts, Longer, IsEnd}
 use Rattle.fo_ports_source.proofs.Steps.{made_first, made_second, steps_joins}
 use Rattle.fo_ports_source.proofs.Leaves.{never, put_before, put_within}
@@ -48,6 +48,18 @@ part_zero from m zeros zero k = ⊎_elim
     (λ lt. get_or-take m (drop from zeros) k 0 lt ∙ get_or-drop from zeros k 0 ∙ zero (from + k))
     (λ ge. get_or_past (take m (drop from zeros)) k 0 (omega (arith, length-take m (drop from zeros), ge)))
     (cases_lt k m)
+
+-- zeros that are put where there were zeros
+pub puts_zeros : (f g : ℕ → ℕ) (from : ℕ) (zeros : List ℕ) → ((k : ℕ) → slice_index zeros k ≡ 0) → ((k : ℕ) → from ≤ k → f k ≡ 0) → Puts f g from zeros → (k : ℕ) → g k ≡ f k
+puts_zeros f g from zeros zero tail puts k = ⊎_elim
+    (λ lt. puts.before k lt)
+    (λ ge. ⊎_elim
+    (λ lt.
+    let back : from + (k - from) ≡ k = omega (arith, ge) in
+    ap g (sym back) ∙ puts.within (k - from) (omega (arith, lt, ge)) ∙ zero (k - from) ∙ sym (tail k ge))
+    (λ past. puts.behind k past)
+    (cases_lt k (from + length zeros)))
+    (cases_lt k from)
 
 -- What is said of a leaf that was owned.
 pub record OwnsLeaf (kind : Kind) (tag rank : ℕ) (leaves new_leaves : List (Option ℕ)) (i at : ℕ) (old new : State) : Type 0 where
