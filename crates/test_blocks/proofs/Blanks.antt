@@ -1,5 +1,5 @@
 -- Zeros are a block that leads nowhere.
-use Rattle.std.proofs.Common.{◌≡◌, ◌==◌, ◌⊎◌, inl, inr, ⊎_elim, ℕ, zero, suc, ◌+◌, ◌-◌, ◌*◌, ◌<◌, ◌≤◌, nat_lt, cond, true, false, List, [], ◌∷◌, ◌++◌, take, drop, length, replicate, refl, sym, ◌∙◌, ap, subst, arith}
+use Rattle.std.proofs.Common.{◌≡◌, ⊎_elim, ℕ, zero, suc, ◌+◌, ◌-◌, ◌*◌, ◌<◌, ◌≤◌, nat_lt, cond, true, false, List, ◌++◌, take, drop, replicate, refl, sym, ◌∙◌, ap, subst, arith}
 use Rattle.std.specs.List.{AllByRecursion}
 use Rattle.std.proofs.lemmas.Bool.{cases_lt, lt-ltb, le-ltb}
 use Rattle.std.proofs.lemmas.List.{take-replicate, drop-replicate, replicate-append-replicate}
@@ -8,14 +8,13 @@ use Rattle.fo_image.specs.declared.types.Kind.TheVariants.{Data, Dir, Root}
 use Rattle.fo_image.specs.declared.types.Pointer.TheVariants.{Nil, Local}
 use Rattle.fo_image.specs.Field.{FieldFits, zeros}
 use Rattle.fo_image.specs.Format.{SpellsPointer, SpellsEntry, entry_fields}
-use Rattle.fo_crash.specs.declared.slot.Slot.{Slot}
 use Rattle.fo_crash.specs.declared.slot.Slot.TheVariants.{Pointer as To, Entry as Head}
 use Rattle.fo_crash.specs.Images.{SameContent, target}
 use Rattle.fo_ports.specs.Blocks.{AreZeros, IsEntry, IsLevel, ReadsSlots, SlotFits, SpellsSlot, blank, blank_slot, no_entry, slot_count, slot_size, slot_start, slots_to, zero_bytes}
 use Rattle.fo_ports.proofs.Lengths.{length_zero_bytes}
 use Rattle.fo_slots.specs.Read.{HasNumbers, IsInRange, IsMeant, blanked, read}
 use Rattle.test_blocks.specs.Silent.{Good, HasZeros}
-use Rattle.test_blocks.proofs.Updating.{past_slots, plain}
+use Rattle.test_blocks.proofs.Updating.{past_slots}
 
 zero_is : zero_bytes ≡ replicate 8192 0
 unfolding zero_bytes

@@ -1,5 +1,5 @@
 -- A block is given out by blocks that tell nothing.
-use Rattle.std.proofs.Common.{◌≡◌, ◌≢◌, ◌⊎◌, inl, inr, ⊎_elim, ℕ, ◌+◌, ◌-◌, ◌*◌, ◌/◌, ◌^◌, ◌<◌, ◌≤◌, Bool, true, false, zero, suc, List, [], ◌∷◌, ◌++◌, length, get_or, refl, sym, ◌∙◌, ap, subst, arith}
+use Rattle.std.proofs.Common.{◌≡◌, ◌≢◌, ⊎_elim, ℕ, ◌+◌, ◌*◌, ◌/◌, ◌<◌, ◌≤◌, Bool, true, false, zero, suc, List, [], ◌∷◌, ◌++◌, length, get_or, refl, sym, ◌∙◌, ap, subst, arith}
 use Rattle.std.proofs.lemmas.Bool.{cases_eq}
 use Rattle.std.proofs.lemmas.List.{length-append}
 use Rattle.fo_image.specs.declared.types.Label.{Label}
@@ -8,7 +8,7 @@ use Rattle.fo_image.specs.declared.types.Kind.TheVariants.{Data}
 use Rattle.fo_crash.specs.Images.{Content, SameContent}
 use Rattle.fo_ports.specs.State.{Gives}
 use Rattle.test_blocks.specs.declared.silent.Block.{Block}
-use Rattle.test_blocks.specs.Silent.{Silent, no_block, block_at, content_of, memory, Updates, Good, Sound, Waiting, Listed, is_active, state_of}
+use Rattle.test_blocks.specs.Silent.{Silent, no_block, block_at, content_of, memory, Updates, Good, Sound, Waiting, is_active, state_of}
 use Rattle.test_blocks.proofs.Updating.{past_end, past_slots}
 
 push_here : (xs : List Block) (x d : Block) → get_or (xs ++ x ∷ []) (length xs) d ≡ x

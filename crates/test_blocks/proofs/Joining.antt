@@ -1,18 +1,17 @@
 -- A slot is put by blocks that tell nothing.
-use Rattle.std.proofs.Common.{◌≡◌, ◌≢◌, ◌⊎◌, ◌↔◌, inl, inr, ⊎_elim, ℕ, ◌+◌, ◌-◌, ◌*◌, ◌/◌, ◌<◌, ◌≤◌, Bool, true, false, zero, suc, List, length, refl, sym, ◌∙◌, ap, subst, arith}
+use Rattle.std.proofs.Common.{◌≡◌, ◌≢◌, ◌⊎◌, inl, inr, ⊎_elim, ℕ, ◌+◌, ◌-◌, ◌*◌, ◌/◌, ◌<◌, Bool, true, false, zero, suc, List, length, refl, sym, ◌∙◌, ap, subst, arith}
 use Rattle.std.specs.Prelude.{None}
-use Rattle.std.proofs.lemmas.Bool.{cases_eq}
-use Rattle.fo_image.specs.declared.types.Pointer.TheVariants.{Nil, Local}
+use Rattle.fo_image.specs.declared.types.Pointer.TheVariants.{Local}
 use Rattle.fo_crash.specs.declared.slot.Slot.{Slot}
 use Rattle.fo_crash.specs.declared.slot.Slot.TheVariants.{Pointer as To, Entry as Head, Prev}
 use Rattle.fo_crash.specs.Images.{target}
 use Rattle.fo_crash.specs.Names.{SameUse}
 use Rattle.fo_crash.specs.Steps.{PutsSlot, cleared}
-use Rattle.fo_ports.specs.State.{Stays, Frame, Calm, Hangs, IsSecondOf, none}
+use Rattle.fo_ports.specs.State.{Frame, Hangs, IsSecondOf}
 use Rattle.fo_slots.specs.Read.{read}
 use Rattle.test_blocks.specs.declared.silent.Block.{Block}
 use Rattle.test_blocks.specs.declared.silent.Wait.{Wait}
-use Rattle.test_blocks.specs.Silent.{Silent, block_at, content_of, memory, Updates, SameBytes, SameMarks, Joins, Rises, Listed, Awaits, Waiting, is_active, state_of}
+use Rattle.test_blocks.specs.Silent.{Silent, block_at, memory, Updates, SameBytes, Joins, Rises, Listed, Awaits, Waiting, is_active, state_of}
 use Rattle.test_blocks.proofs.Updating.{part_kept}
 
 -- ---- one block is put, and what it leads to is marked

@@ -1,5 +1,5 @@
 -- What is asked where the device tells, of blocks that tell nothing.
-use Rattle.std.proofs.Common.{◌≡◌, ℕ}
+use Rattle.std.proofs.Common.{ℕ}
 use Rattle.test_blocks.specs.Change.{StandsOnce}
 use Rattle.test_blocks.specs.Silent.{Silent, state_of}
 

@@ -1,20 +1,19 @@
 -- Why blocks that tell nothing keep the laws.
-use Rattle.std.specs.Prelude.{◌≡◌, ◌≢◌, ◌⊎◌, ◌+◌, ◌-◌, ◌*◌, ◌/◌, ◌^◌, ◌<◌, ◌≤◌, ℕ, zero, suc, Bool, true, false, List, length, refl}
-use Rattle.std.proofs.Common.{inl, inr, ⊎_elim, sym, ◌∙◌, ap, subst, arith}
-use Rattle.fo_image.specs.declared.types.Label.{Label}
+use Rattle.std.specs.Prelude.{◌≡◌, ◌⊎◌, ◌+◌, ◌-◌, ◌*◌, ◌/◌, ◌^◌, ◌<◌, ◌≤◌, ℕ, zero, suc, true, length, refl}
+use Rattle.std.proofs.Common.{inl, inr, ⊎_elim, sym, ◌∙◌, subst, arith}
 use Rattle.fo_image.specs.declared.types.State.TheVariants.{Live}
 use Rattle.fo_image.specs.declared.types.Kind.TheVariants.{Root}
 use Rattle.fo_image.specs.declared.types.Pointer.TheVariants.{Local}
 use Rattle.fo_crash.specs.declared.slot.Slot.{Slot}
 use Rattle.fo_crash.specs.declared.slot.Slot.TheVariants.{Pointer as To, Entry as Head, Prev}
-use Rattle.fo_crash.specs.Images.{Content, target}
+use Rattle.fo_crash.specs.Images.{target}
 use Rattle.fo_crash.specs.Steps.{IsSure, HasSuper}
 use Rattle.fo_crash.specs.Names.{IsInUse}
 use Rattle.fo_crash.specs.Places.{OnePlace}
 use Rattle.fo_crash.specs.Spots.{OneSpot}
 use Rattle.fo_ports.specs.Blocks.{slot_count, SlotFits}
 use Rattle.fo_ports.specs.State.{KeepsAll, IsPairUsed}
-use Rattle.test_blocks.specs.Silent.{Silent, state_of, SilentKeeps, Sound, Waiting, Listed, is_active, memory}
+use Rattle.test_blocks.specs.Silent.{Silent, state_of, SilentKeeps, Sound, Waiting, is_active, memory}
 
 pub active : (p : Silent) → (state_of p).tops 1 × ((state_of p).is_block 1 → ⊥)
 active p = (refl, λ h. let lt : 1 < 1 = h.0 in omega (arith, lt))

@@ -1,4 +1,4 @@
-use Rattle.std.proofs.Common.{◌≡◌, ⊎_elim, length, sym, ap, subst, ◌∙◌}
+use Rattle.std.proofs.Common.{⊎_elim, length, sym, ap, subst, ◌∙◌}
 use Rattle.std.proofs.lemmas.Bool.{cases_eq}
 use Rattle.fo_image.specs.declared.types.Label.{Label}
 use Rattle.fo_ports.proofs.Lengths.{length_zero_bytes}

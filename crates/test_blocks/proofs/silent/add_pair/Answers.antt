@@ -1,4 +1,4 @@
-use Rattle.std.proofs.Common.{◌≡◌, ◌⊎◌, inl, inr, ⊎_elim, true, List, sym, subst}
+use Rattle.std.proofs.Common.{inl, inr, ⊎_elim, List, sym, subst}
 use Rattle.test_blocks.specs.declared.silent.Wait.{Wait}
 use Rattle.test_blocks.specs.Silent.{Listed}
 use Rattle.test_blocks.proofs.Listing.{listed_more, listed_last, listed_split}

@@ -1,5 +1,5 @@
-use Rattle.std.proofs.Common.{◌≡◌, ◌+◌, ◌<◌, ◌≤◌, refl, arith}
-use Rattle.test_blocks.proofs.Listing.{pairs_more, pairs_none}
+use Rattle.std.proofs.Common.{refl, arith}
+use Rattle.test_blocks.proofs.Listing.{pairs_none}
 use Rattle.test_blocks.proofs.silent.add_pairs.Goals as goal
 
 pub loop-pair-init : goal.loop-pair-init

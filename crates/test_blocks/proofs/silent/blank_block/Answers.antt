@@ -1,4 +1,4 @@
-use Rattle.std.proofs.Common.{◌≡◌, ℕ, List, sym, subst}
+use Rattle.std.proofs.Common.{ℕ, List, sym, subst}
 use Rattle.fo_crash.specs.Images.{SameContent}
 use Rattle.fo_ports.specs.Blocks.{blank, zero_bytes}
 use Rattle.fo_slots.specs.Read.{read}

@@ -1,4 +1,4 @@
-use Rattle.std.proofs.Common.{◌≡◌, true, false, ℕ, List, sym, subst}
+use Rattle.std.proofs.Common.{◌≡◌, true, sym, subst}
 use Rattle.fo_image.specs.declared.types.Kind.{Kind}
 use Rattle.fo_ports.specs.Blocks.{IsFormed, IsRanked}
 use Rattle.fo_slots.specs.Read.{blanked}

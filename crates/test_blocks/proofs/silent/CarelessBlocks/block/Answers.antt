@@ -1,4 +1,4 @@
-use Rattle.std.proofs.Common.{◌≡◌, sym, subst}
+use Rattle.std.proofs.Common.{sym, subst}
 use Rattle.test_blocks.specs.declared.silent.Block.{Block}
 use Rattle.test_blocks.specs.Silent.{Good}
 use Rattle.test_blocks.proofs.Updating.{block_is}

@@ -1,7 +1,6 @@
-use Rattle.std.proofs.Common.{◌≡◌, ℕ, ◌*◌, true, length, refl, sym, ap, subst, ◌∙◌}
+use Rattle.std.proofs.Common.{◌*◌, ap, ◌∙◌}
 use Rattle.fo_image.specs.declared.types.Label.{Label}
 use Rattle.fo_slots.specs.Read.{read}
-use Rattle.test_blocks.specs.declared.silent.Block.{Block}
 use Rattle.test_blocks.specs.Silent.{block_at, is_active}
 use Rattle.test_blocks.proofs.Updating.{slot_used, slot_put}
 use Rattle.test_blocks.proofs.Joining.{joins, puts_then}

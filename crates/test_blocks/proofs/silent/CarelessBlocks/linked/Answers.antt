@@ -1,7 +1,7 @@
-use Rattle.std.proofs.Common.{◌≡◌, ℕ, length, refl, sym, ap, subst, ◌∙◌}
+use Rattle.std.proofs.Common.{refl, sym, ap, subst}
 use Rattle.fo_slots.specs.Read.{PutsInto}
 use Rattle.test_blocks.specs.declared.silent.Block.{Block}
-use Rattle.test_blocks.specs.Silent.{Good, Rises, block_at}
+use Rattle.test_blocks.specs.Silent.{Rises}
 use Rattle.test_blocks.proofs.Updating.{slot_good, good_like}
 use Rattle.test_blocks.proofs.silent.CarelessBlocks.linked.Goals as goal
 

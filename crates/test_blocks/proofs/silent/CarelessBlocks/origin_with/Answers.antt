@@ -1,4 +1,4 @@
-use Rattle.std.proofs.Common.{◌≡◌, ℕ, inr, sym, subst, ◌∙◌}
+use Rattle.std.proofs.Common.{◌≡◌, inr, sym, subst, ◌∙◌}
 use Rattle.fo_image.specs.declared.types.Pointer.TheVariants.{Local}
 use Rattle.test_blocks.specs.Silent.{IsOver}
 use Rattle.test_blocks.proofs.silent.CarelessBlocks.origin_with.Goals as goal

@@ -1,8 +1,8 @@
-use Rattle.std.proofs.Common.{◌≡◌, ℕ, ◌+◌, ◌≤◌, length, refl, sym, ap, subst, ◌∙◌, arith}
+use Rattle.std.proofs.Common.{◌≡◌, ℕ, ◌+◌, length, refl, sym, ap, subst, ◌∙◌, arith}
 use Rattle.fo_ports.specs.Blocks.{MayPut, put_at}
 use Rattle.fo_slots.specs.Read.{read}
 use Rattle.test_blocks.specs.declared.silent.Block.{Block}
-use Rattle.test_blocks.specs.Silent.{Good, block_at, content_of}
+use Rattle.test_blocks.specs.Silent.{block_at, content_of}
 use Rattle.test_blocks.proofs.Updating.{is_data, plain_kind, bytes_good, bytes_put, marks_of, good_like}
 use Rattle.test_blocks.proofs.silent.CarelessBlocks.set_bytes.Goals as goal
 

@@ -1,12 +1,6 @@
-use Rattle.std.proofs.Common.{◌≡◌, ◌⊎◌, ℕ, ◌+◌, ◌≤◌, List, refl, sym, ap, subst, ◌∙◌, arith}
-use Rattle.fo_image.specs.declared.types.Pointer.TheVariants.{Local}
-use Rattle.fo_crash.specs.declared.slot.Slot.{Slot}
-use Rattle.fo_crash.specs.Images.{target}
-use Rattle.fo_crash.specs.Steps.{PutsSlot}
-use Rattle.fo_ports.specs.Blocks.{cost}
-use Rattle.fo_ports.specs.State.{Frame, Hangs}
-use Rattle.test_blocks.specs.declared.silent.Block.{Block}
-use Rattle.test_blocks.specs.Silent.{Silent, memory, state_of}
+use Rattle.std.proofs.Common.{◌≡◌, refl, sym, ap, subst, ◌∙◌}
+use Rattle.fo_ports.specs.State.{Hangs}
+use Rattle.test_blocks.specs.Silent.{Silent, state_of}
 use Rattle.test_blocks.specs.SilentParts.{parts}
 use Rattle.test_blocks.proofs.Joining.{hangs}
 use Rattle.test_blocks.proofs.silent_calls.CarelessBlocksBlocks.put_slot.Goals as goal

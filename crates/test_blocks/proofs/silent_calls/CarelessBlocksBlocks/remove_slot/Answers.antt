@@ -1,12 +1,10 @@
-use Rattle.std.proofs.Common.{◌≡◌, ◌⊎◌, inl, ⊎_elim, ℕ, ◌+◌, ◌*◌, ◌<◌, ◌≤◌, List, length, refl, sym, ap, subst, ◌∙◌, arith}
-use Rattle.fo_image.specs.declared.types.Pointer.TheVariants.{Local}
+use Rattle.std.proofs.Common.{◌≡◌, inl, ⊎_elim, List, sym, ap, subst, ◌∙◌}
 use Rattle.fo_crash.specs.declared.slot.Slot.{Slot}
 use Rattle.fo_crash.specs.Images.{target}
-use Rattle.fo_crash.specs.Steps.{PutsSlot, HasBytes, cleared}
-use Rattle.fo_ports.specs.Blocks.{SlotFits, slot_count}
+use Rattle.fo_crash.specs.Steps.{cleared}
 use Rattle.fo_ports.specs.State.{Frame, Hangs}
 use Rattle.test_blocks.specs.declared.silent.Block.{Block}
-use Rattle.test_blocks.specs.Silent.{Silent, Joins, block_at, memory, state_of}
+use Rattle.test_blocks.specs.Silent.{Silent, Joins, memory, state_of}
 use Rattle.test_blocks.specs.SilentParts.{parts}
 use Rattle.test_blocks.proofs.Joining.{frame, hangs, still_waits, cleared_nowhere}
 use Rattle.test_blocks.proofs.silent_calls.CarelessBlocksBlocks.remove_slot.Goals as goal

@@ -1,8 +1,6 @@
-use Rattle.std.proofs.Common.{◌≡◌, ◌⊎◌, ⊎_elim, ◌+◌, ◌*◌, ◌/◌, refl, sym, subst, arith}
-use Rattle.fo_ports.specs.State.{Calm, none}
-use Rattle.test_blocks.specs.Silent.{Silent, Listed, memory, state_of}
+use Rattle.std.proofs.Common.{◌≡◌, ⊎_elim, ◌+◌, ◌*◌, ◌/◌, sym, subst, arith}
+use Rattle.test_blocks.specs.Silent.{Listed, memory}
 use Rattle.test_blocks.specs.SilentLaws.{used_active}
-use Rattle.test_blocks.specs.SilentParts.{parts}
 use Rattle.test_blocks.proofs.silent_calls.CarelessBlocksBlocks.wait_for.Goals as goal
 
 pub returns-clause-waits : goal.returns-clause-waits
