@@ -18,6 +18,10 @@ number_of n = n.number
 abbrev pub holder_of : Number → ℕ
 holder_of n = n.leaf
 
+-- a record's number, with its leaf
+abbrev pub number_in : Named → Number
+number_in n = record { number = n.listed.number; leaf = n.leaf }
+
 -- No two elements have one key.
 pub record Differ {X K : Type 0} (key : X → K) (xs : List X) : Type 0 where
   pub each : (i j : ℕ) (d : X) → i < j → j < length xs → key (slice_index_or xs i d) ≢ key (slice_index_or xs j d)

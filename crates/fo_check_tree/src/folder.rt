@@ -1,8 +1,9 @@
 //! Leaves of entries, and directories.
-ghost use Rattle.std.specs.Prelude.{◌≡◌, ◌+◌, ◌*◌, ◌<◌, ◌≤◌, length, OnOk};
+ghost use Rattle.std.specs.Prelude.{◌≡◌, ◌+◌, ◌*◌, ◌<◌, ◌≤◌, false, length, map, ◌++◌, OnOk};
 ghost use Rattle.fo_sound.specs.Device.{IsKept};
 ghost use Rattle.fo_check_tree.specs.Cause.{HasCauses};
 ghost use Rattle.fo_check_tree.specs.Lower.{level};
+ghost use Rattle.fo_check_tree.specs.Names.{number_in};
 
 use crate::blocks::follow_all;
 use crate::error::TreeError;
@@ -30,6 +31,9 @@ pub(crate) fn shallow(walk: &mut Walk, block: u32, entry: &Entry) -> Entry
     ensures steps { length walk.new.steps.items ≤ length walk.old.steps.items }
     ensures folders { length walk.new.folders.items ≤ length walk.old.folders.items }
     ensures level { level walk.new.noted ≤ level walk.old.noted }
+    ensures entry { entry.now.depth ≤ 4 → result ≡ entry.now }
+    ensures quiet { entry.now.depth ≤ 4 → walk.new.noted ≡ walk.old.noted }
+    ensures none { 4 < entry.now.depth → result.active ≡ false }
     ensures deep { 4 < entry.now.depth → level walk.new.noted ≤ 5 }
 {
     if entry.depth <= 4 {
@@ -218,7 +222,9 @@ fn list<D: Disk>(
 }
 
 /// The numbers of these records, each with its leaf.
-fn add_numbers(named: &[Named], numbers: &mut Vec<Number>) -> Result<(), AllocError> {
+fn add_numbers(named: &[Named], numbers: &mut Vec<Number>) -> Result<(), AllocError>
+    ensures { OnOk result (numbers.new.items ≡ numbers.old.items ++ map number_in named.now) }
+{
     for n in named {
         numbers.push(Number {
             number: n.listed.number,

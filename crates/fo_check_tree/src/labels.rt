@@ -1,5 +1,5 @@
 //! The labels of the blocks that are not free, and which of them were reached.
-ghost use Rattle.std.specs.Prelude.{ℕ, List, MatchResult, [], ◌∷◌, ◌++◌, ◌↔◌, ◌≡◌, ◌≢◌, ◌+◌, ◌*◌, ◌^◌, ◌<◌, ◌≤◌, length, IfErr, OnOk, IsTrue, MatchBool, MatchOption};
+ghost use Rattle.std.specs.Prelude.{◌≡◌, ◌≢◌, ℕ, ◌+◌, ◌*◌, ◌^◌, ◌<◌, ◌≤◌, ◌↔◌, List, [], ◌∷◌, ◌++◌, length, IfErr, OnOk, IsTrue, MatchBool, MatchOption, MatchResult};
 ghost use Rattle.std.specs.List.{All, Any};
 ghost use Rattle.fo_image.specs.Place.{label_blocks};
 ghost use Rattle.fo_disk.specs.Disk.{Block};
