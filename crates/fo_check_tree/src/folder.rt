@@ -1,5 +1,7 @@
 //! Leaves of entries, and directories.
-ghost use Rattle.std.specs.Prelude.{◌≡◌, ◌+◌, ◌*◌, ◌<◌, ◌≤◌, false, length, map, ◌++◌, OnOk};
+ghost use Rattle.std.specs.Prelude.{◌≡◌, ◌+◌, ◌*◌, ◌<◌, ◌≤◌, false, length, take, drop, map, ◌++◌, OnOk};
+ghost use Rattle.fo_image.specs.declared.types.Entry.{Entry};
+ghost use Rattle.fo_image.specs.Format.{SpellsEntry};
 ghost use Rattle.fo_sound.specs.Device.{IsKept};
 ghost use Rattle.fo_check_tree.specs.Cause.{HasCauses};
 ghost use Rattle.fo_check_tree.specs.Lower.{level};
@@ -48,6 +50,8 @@ pub(crate) fn shallow(walk: &mut Walk, block: u32, entry: &Entry) -> Entry
 fn entry_at(walk: &mut Walk, here: Holder, block: &[u8], i: usize) -> Entry
     requires length { length block.now ≡ 8192 }
     requires place { i < 204 }
+    ensures found { (e : Entry) → SpellsEntry e (take 40 (drop (40 * i) block.now)) → e.depth ≤ 4 → result ≡ e }
+    ensures none { ((e : Entry) → SpellsEntry e (take 40 (drop (40 * i) block.now)) → 4 < e.depth) → (result.active ≡ false) × (level walk.new.noted ≤ 5) }
     ensures blocks { walk.new.blocks ≡ walk.old.blocks }
     ensures left { walk.new.labels.left ≡ walk.old.labels.left }
     ensures steps { length walk.new.steps.items ≤ length walk.old.steps.items }
