@@ -1,0 +1,9 @@
+//! Tests of the crates below the block cache, by their public names: buffers (`fo_buffers`) and the order of writing (`fo_order`).
+//!
+//! What is wanted follows from docs/CACHE.md. Nothing here is said of any caller.
+#![tactic(auto)]
+
+#[cfg(test)]
+mod buffers;
+#[cfg(test)]
+mod order;
