@@ -13,7 +13,7 @@ use Rattle.fo_ports.specs.Causes.{Caused}
 use Rattle.fo_ports.specs.State.{State, KeepsAll, Looks}
 use Rattle.fo_tree_read.specs.declared.tree.Tree.{Tree}
 use Rattle.fo_tree_read.specs.Tree.{score_in, below, address_of, Got, Names, Refused}
-use Rattle.fo_tree_read.proofs.Looks.{rose_later}
+use Rattle.fo_looks.proofs.Looks.{rose_later}
 
 pub looks_none : (a : State) → Looks a a
 looks_none a = record {

@@ -9,48 +9,8 @@ use Rattle.fo_ports.specs.declared.error.BlockError.{BlockError}
 use Rattle.fo_ports.specs.declared.error.BlockError.TheVariants.{Full, Damaged, Fault, Arena, Memory}
 use Rattle.fo_ports.specs.State.{State, KeepsAll, Looks}
 use Rattle.fo_ports.specs.Sources.{Lacks}
+use Rattle.fo_looks.proofs.Looks.{rose_later}
 use Rattle.fo_tree_read.specs.Tree.{Failed, Refused}
-
-content_joins : {a b c : Content} → SameContent a b → SameContent b c → SameContent a c
-content_joins p q = record { bytes = p.bytes ∙ q.bytes; slots = λ i. p.slots i ∙ q.slots i }
-
-passes_joins : (a b : State) {first mid last : ℕ} {old then new : ℕ → Image → Type 0} → ((t : ℕ) → a.tops t → b.tops t) → ((image : Image) → b.may_leave image → a.may_leave image) → Passes a.tops a.may_leave first mid old then → Passes b.tops b.may_leave mid last then new → Passes a.tops a.may_leave first last old new
-passes_joins a b {first = first} {mid = mid} {last = last} tops wider p q = record {
-  later = omega (arith, p.later, q.later);
-  before = λ k image le h. p.before k image le (q.before k image (omega (arith, le, p.later)) h);
-  within = λ k image lt le h. ⊎_elim
-      (λ late. one (q.within k image late le h))
-      (λ early. p.within k image lt early (q.before k image early h))
-      (cases_lt mid k);
-}
-  where
-    one : {image : Image} → IsOneOf b.tops b.may_leave image → IsOneOf a.tops a.may_leave image
-    one is = record { other = is.other; is = wider is.other is.is; same = record { each = λ t x top r. is.same.each t x (tops t top) r } }
-
-pub looks_joins : {a b c : State} → KeepsAll a b → Looks a b → Looks b c → Looks a c
-looks_joins {a = a} {b = b} all first second = record {
-  memory = λ is. record { each = λ x. content_joins ((second.memory (all.still_tells.1 is)).each x) ((first.memory is).each x) };
-  known = λ x h. content_joins (second.known x ((first.stays.marks x (λ n. n)).0 h)) (first.known x h);
-  images = record { each = λ image is. first.images.each image (second.images.each image is) };
-  passes = passes_joins a b (λ t. (all.same_tops t).1) (λ image is. first.images.each image is) first.passes second.passes;
-  stays = record {
-    labels = λ x h. second.stays.labels x h ∙ first.stays.labels x h;
-    marks = λ x h. let p = first.stays.marks x h in let q = second.stays.marks x h in (λ y. q.0 (p.0 y), λ y. q.1 (p.1 y), λ y. q.2 (p.2 y));
-    places = λ told x p h i spared s. second.stays.places (all.still_tells.1 told) x p h i spared (first.stays.places told x p h i (λ u. spared ((second.covered.covered x).1 u)) s);
-    apart = λ x h i. (λ y. (first.stays.apart x h i).0 ((second.stays.apart x h i).0 y), λ y. (second.stays.apart x h i).1 ((first.stays.apart x h i).1 y));
-    instead = λ x z h i. (λ y. (first.stays.instead x z h i).0 ((second.stays.instead x z h i).0 y), λ y. (second.stays.instead x z h i).1 ((first.stays.instead x z h i).1 y));
-    waits = λ x on j h i k w. second.stays.waits x on j h i k (first.stays.waits x on j h i k w);
-  };
-  order = record { clearing = λ x j h. first.order.clearing x j (second.order.clearing x j h).1 };
-  covered = record { covered = λ x. (λ h. (first.covered.covered x).0 ((second.covered.covered x).0 h), λ h. (second.covered.covered x).1 ((first.covered.covered x).1 h)) };
-  no_wait = record { each = λ x on j h w. first.no_wait.each x on j h (second.no_wait.each x on j h w) };
-  dirty = λ x d. first.dirty x (second.dirty x d);
-  room = (second.room.0 ∙ first.room.0, second.room.1 ∙ first.room.1);
-  numbers = record { next = second.numbers.next ∙ first.numbers.next; grants = λ h. second.numbers.grants (first.numbers.grants h) };
-}
-
-pub rose_later : (a b c : ℕ) → a ≤ b → Rose b c → Rose a c
-rose_later a b c le r = let r' : min (b + 1) (2 ^ 64 - 1) ≤ c = r in omega (arith, le, r')
 
 lacks_same : {named earlier : Score → ℕ → Type 0} {a b : State} → KeepsAll a b → ((score : Score) (kind : ℕ) → named score kind → earlier score kind) → Lacks named b.held → Lacks earlier a.held
 lacks_same all wider l = (l.0, l.1, wider l.0 l.1 l.2, sym (all.same_held l.0 l.1) ∙ l.3)

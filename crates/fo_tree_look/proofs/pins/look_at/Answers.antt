@@ -1,6 +1,7 @@
 use Rattle.std.proofs.Common.{rules, IfErr, arith}
 use Rattle.fo_tree_read.specs.Tree.{Refused, Names}
-use Rattle.fo_tree_read.proofs.Looks.{looks_joins, any_refused_later}
+use Rattle.fo_looks.proofs.Looks.{looks_joins}
+use Rattle.fo_tree_read.proofs.Looks.{any_refused_later}
 use Rattle.fo_tree_read.proofs.Walk.{names_looks}
 use Rattle.fo_tree_look.proofs.Shown.{over_looks, extends_none}
 use Rattle.fo_tree_look.proofs.Down.{found_got, walk_again, found_ready}

@@ -1,7 +1,8 @@
 use Rattle.std.proofs.Common.{rules, ◌≡◌, ◌⊎◌, ◌+◌, ◌-◌, ◌/◌, ◌%◌, ◌<◌, ◌≤◌, suc, None, IfErr, inl, sym, ap, ◌∙◌, subst, arith}
 use Rattle.fo_image.specs.declared.types.Pointer.{Pointer}
 use Rattle.fo_tree_read.specs.Tree.{block_at, address_of, below, kind_down, Got, Way, above, Failed}
-use Rattle.fo_tree_read.proofs.Looks.{looks_joins, any_failed_later}
+use Rattle.fo_looks.proofs.Looks.{looks_joins}
+use Rattle.fo_tree_read.proofs.Looks.{any_failed_later}
 use Rattle.fo_tree_read.proofs.Walk.{Walked, Took, took_less, took_more, walked_more, hangs_looks}
 use Rattle.fo_tree_read.proofs.Exits.{looks_none, address_local, none_below, none_got, block_some}
 use Rattle.fo_tree_read.proofs.tree.Tree.+address_at.Goals as goal

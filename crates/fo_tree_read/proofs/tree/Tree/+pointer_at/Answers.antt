@@ -2,7 +2,8 @@ use Rattle.std.proofs.Common.{rules, ◌≡◌, ◌⊎◌, ◌+◌, ◌-◌, ◌
 use Rattle.fo_image.specs.declared.types.Pointer.{Pointer}
 use Rattle.fo_image.specs.declared.types.Pointer.TheVariants.{Nil}
 use Rattle.fo_tree_read.specs.Tree.{block_at, below, score_in, kind_down, Got, Way, above, Failed, Names}
-use Rattle.fo_tree_read.proofs.Looks.{looks_joins, any_failed_later, any_failed_refused}
+use Rattle.fo_looks.proofs.Looks.{looks_joins}
+use Rattle.fo_tree_read.proofs.Looks.{any_failed_later, any_failed_refused}
 use Rattle.fo_tree_read.proofs.Walk.{Walked, Took, took_less, took_more, walked_more, hangs_looks, told_same}
 use Rattle.fo_tree_read.proofs.Exits.{looks_none, nil_got, held_got, any_held_refused}
 use Rattle.fo_tree_read.proofs.tree.Tree.+pointer_at.Goals as goal

@@ -5,7 +5,8 @@ use borrow.Rule.Slice.PartMut.{put_mid}
 use Rattle.fo_ports.specs.Sources.{Finds}
 use Rattle.fo_tree_read.specs.Tree.{byte, Refused, Names}
 use Rattle.fo_tree_read.specs.Reading.{LeafWay, IsLeafFound, HasPassed, most, Prepared}
-use Rattle.fo_tree_read.proofs.Looks.{looks_joins, any_refused_later}
+use Rattle.fo_looks.proofs.Looks.{looks_joins}
+use Rattle.fo_tree_read.proofs.Looks.{any_refused_later}
 use Rattle.fo_tree_read.proofs.Walk.{hangs_looks, names_looks}
 use Rattle.fo_tree_read.proofs.Parts.{copied_more, length_put_mid}
 use Rattle.fo_tree_read.proofs.Passed.{leaf_way_looks, byte_looks, pins_here, passed_more, found_next, found_prepared, pins_last}

@@ -1,6 +1,7 @@
 use Rattle.std.proofs.Common.{rules, ◌/◌, IfErr, inl, ◌∙◌, arith}
 use Rattle.fo_tree_read.specs.Tree.{Refused, Names}
-use Rattle.fo_tree_read.proofs.Looks.{looks_joins, any_refused_later}
+use Rattle.fo_looks.proofs.Looks.{looks_joins}
+use Rattle.fo_tree_read.proofs.Looks.{any_refused_later}
 use Rattle.fo_tree_read.proofs.Walk.{hangs_looks, names_looks}
 use Rattle.fo_tree_read.proofs.Copies.{WalksToLeaf, next_near, leaf_is, leaf_way, leaf_near, byte_here}
 use Rattle.fo_tree_read.proofs.tree.Tree.copy_part.Goals as goal

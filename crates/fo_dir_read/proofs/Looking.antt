@@ -1,0 +1,73 @@
+-- Why a look at a leaf was refused.
+use Rattle.std.proofs.Common.{◌≡◌, ◌⊎◌, ◌+◌, ◌*◌, ◌<◌, ◌≤◌, ℕ, Bool, true, false, List, [], ◌∷◌, find, Option, Some, None, MatchOption, refl, inl, inr, ⊎_elim, sym, ◌∙◌, subst, arith}
+use Rattle.std.specs.List.{list_any}
+use Rattle.fo_image.specs.declared.record.Record.{Record}
+use Rattle.fo_meta.specs.Leaf.{SpellsLeaf, is_named}
+use Rattle.fo_crash.specs.Images.{Image, SameImage}
+use Rattle.fo_ports.specs.Sources.{Leaves}
+use Rattle.fo_dir_read.specs.Names.{HasRecords, LacksBelow, Finds}
+use Rattle.fo_base.specs.Cause.{Rose}
+use Rattle.fo_crash.specs.declared.place.Place.{Place}
+use Rattle.fo_ports.specs.declared.error.BlockError.{BlockError}
+use Rattle.fo_ports.specs.declared.error.BlockError.TheVariants.{Full, Damaged, Fault, Arena, Memory}
+use Rattle.fo_ports.specs.State.{State, KeepsAll}
+use Rattle.fo_ports.specs.Causes.{Caused}
+use Rattle.fo_looks.proofs.Looks.{rose_later}
+
+-- A look at a block after another look, where the block stands if the device tells: its cause is one of both looks together.
+pub looked_later : (a b c : State) (at : ℕ) → KeepsAll a b → a.is_block at → (a.tells → (p : Place) × b.stands at p) → (why : BlockError)
+    → Caused ⊥ (λ x. (x ≡ at) × (b.tells → (p : Place) → b.stands at p → ⊥)) (Rose b.faults c.faults) ⊥ why → Caused ⊥ (λ x. (a.tells → ⊥) × a.is_block x) (Rose a.faults c.faults) ⊥ why
+looked_later a b c at all block stands Full cause = cause
+looked_later a b c at all block stands (Damaged x) cause = (λ told. let s = stands told in cause.1 (all.still_tells.1 told) s.0 s.1, subst a.is_block (sym cause.0) block)
+looked_later a b c at all block stands (Fault which) cause = rose_later a.faults b.faults c.faults all.more_faults cause
+looked_later a b c at all block stands (Arena which) cause = cause
+looked_later a b c at all block stands Memory cause = cause
+
+decide : (b : Bool) → (b ≡ true) ⊎ (b ≡ false)
+decide true = inl refl
+decide false = inr refl
+
+-- where no first record passes, none does
+pub none_any : (p : Record → Bool) (rs : List Record) → None ≡ find p rs → list_any p rs ≡ false
+none_any p [] none = refl
+none_any p (r ∷ rs) none = ⊎_elim (λ e. absurd (found e)) (λ e. rw e (none_any p rs (none ∙ passed e))) (decide (p r))
+  where
+    first : p r ≡ true → find p (r ∷ rs) ≡ Some r
+    first e = rw e refl
+
+    found : p r ≡ true → ⊥
+    found e = let is : None ≡ Some r = none ∙ first e in absurd (cc)
+
+    passed : p r ≡ false → find p (r ∷ rs) ≡ find p rs
+    passed e = rw e refl
+
+-- the records of a leaf, before and after a look
+pub records_back : {now next : Image} {x y : Leaves} {i : ℕ} {rs : List Record} → SameImage next now → y.at i ≡ x.at i → HasRecords next y i rs → HasRecords now x i rs
+records_back {now = now} {next = next} {x = x} {i = i} {rs = rs} same there h = record { is = back (x.at i) (subst (λ o. MatchOption o (rs ≡ []) (λ b. SpellsLeaf rs ((next b).bytes))) there h.is) }
+  where
+    back : (o : Option ℕ) → MatchOption o (rs ≡ []) (λ b. SpellsLeaf rs ((next b).bytes)) → MatchOption o (rs ≡ []) (λ b. SpellsLeaf rs ((now b).bytes))
+    back None e = e
+    back (Some b) spells = subst (λ bytes. SpellsLeaf rs bytes) ((same.each b).bytes) spells
+
+-- leaves without the name, before and after a look
+pub lacks_on : {now next : Image} {x y : Leaves} {name : List ℕ} {i : ℕ} → SameImage next now → ((j : ℕ) → y.at j ≡ x.at j) → LacksBelow now x name i → LacksBelow next y name i
+lacks_on same there lacks = record { each = λ j rs lt h. lacks.each j rs lt (records_back same (there j) h) }
+
+-- one more leaf that hasn't the name
+pub lacks_more : {now : Image} {x : Leaves} {name : List ℕ} {i : ℕ} {found : Option Record} → found ≡ None → LacksBelow now x name i → Finds now x name i found → LacksBelow now x name (i + 1)
+lacks_more {now = now} {x = x} {name = name} {i = i} is lacks finds = record { each = λ j rs lt h. ⊎_elim (λ before. lacks.each j rs before h) (λ here. none_any (is_named name) rs (sym is ∙ finds.each rs (subst (λ k. HasRecords now x k rs) here h))) (last j lt) }
+  where
+    last : (j : ℕ) → j < i + 1 → (j < i) ⊎ (j ≡ i)
+    last j lt = grind (arith, lt)
+
+-- A refusal after a look has its cause, too.
+pub caused_later : (a b c : State) → KeepsAll a b → (why : BlockError) → Caused ⊥ (λ x. (b.tells → ⊥) × b.is_block x) (Rose b.faults c.faults) ⊥ why → Caused ⊥ (λ x. (a.tells → ⊥) × a.is_block x) (Rose a.faults c.faults) ⊥ why
+caused_later a b c all Full cause = cause
+caused_later a b c all (Damaged x) cause = (λ told. cause.0 (all.still_tells.1 told), (all.same_blocks x).0 cause.1)
+caused_later a b c all (Fault which) cause = rose_later a.faults b.faults c.faults all.more_faults cause
+caused_later a b c all (Arena which) cause = cause
+caused_later a b c all Memory cause = cause
+
+-- the pins of one more leaf
+pub pins_more : (i most before between after : ℕ) → before ≤ between + i * most → between ≤ after + most → before ≤ after + (i + 1) * most
+pins_more i most before between after first second = omega (arith, first, second)

@@ -1,0 +1,6 @@
+//! Calls on blocks that only look, one after another.
+//!
+//! No code: lemmas over `Looks` and `SameLeaves` of `fo_ports`, for all that reads through several calls. What only looks joins with what
+//! only looks; a source whose blocks were only looked at is undisturbed, so it stays (the law `stays` of `Bytes`); and a fault
+//! that a later call had is one of the whole.
+#![tactic(auto)]

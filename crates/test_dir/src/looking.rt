@@ -1,0 +1,46 @@
+//! Directories that are looked at.
+ghost use Rattle.std.specs.Prelude.{IfOk};
+ghost use Rattle.fo_image.specs.declared.types.Kind.TheVariants.{Data};
+ghost use Rattle.fo_ports_source.specs.Source.{IsEmpty};
+
+use fo_base::Memory;
+use fo_dir_read::lookup;
+use fo_image::Kind;
+use fo_ports::{Blocks, Bytes};
+use fo_ports_plain::PlainBlocks;
+use fo_ports_source::PlainSource;
+use std::alloc::Global;
+use std::test::Fail;
+
+/// The rank of the records of a directory.
+const RANK: u32 = 2064;
+
+/// An empty source of records of up to four leaves.
+fn source(alloc: Global) -> Result<PlainSource, Memory>
+    ensures { IfOk result (λ s. IsEmpty s.kind s.tag s.rank s.size s.leaves.items (Data 0) 33 2064 4) }
+{
+    PlainSource::new(alloc, Kind::Data(0), 33, RANK, 4)
+}
+
+/// A directory without a leaf has no name.
+#[test]
+fn ample(rt: HostRuntime) -> Result<(), Fail> {
+    let mut records = source(rt.alloc())?;
+    let mut on = PlainBlocks::new(rt.alloc(), 20)?;
+    let found = lookup(rt.alloc(), &mut records, &mut on, RANK, b"f")?;
+    assert!(rt; found.is_none());
+    Ok(())
+}
+
+/// Nor has one with two empty leaves.
+#[test]
+fn empty(rt: HostRuntime) -> Result<(), Fail> {
+    let mut records = source(rt.alloc())?;
+    let mut on = PlainBlocks::new(rt.alloc(), 40)?;
+    on.reserve(40, 40, 0)?;
+    records.prepare(&mut on, 8192, 8192)?;
+    records.own_leaf(&mut on, 1);
+    let found = lookup(rt.alloc(), &mut records, &mut on, RANK, b"f")?;
+    assert!(rt; found.is_none());
+    Ok(())
+}
