@@ -1,14 +1,17 @@
 //! A directory is looked at, over any blocks and any source of bytes.
 //!
-//! The names of a directory stand in a source of records, whose leaves are those of `fo_meta`. `lookup` finds the record of a name and
-//! the leaf in which it stands.
+//! A directory has two sources: one of records, whose leaves are those of `fo_meta`, and one of entries, a *pair* for each name.
+//! `lookup` finds the record of a name, and `free_pair` the least pair that may be taken.
 //!
-//! Proved, over any blocks and any source: `lookup` only looks, takes at most the pins that reading each leaf takes, and refuses by its
-//! causes alone; a damaged block is answered only where the device doesn't tell what it holds. Where it tells, it gives the first
-//! record of the name that memory has, or says that no leaf has one. Not said: that names differ; who changes directories keeps
-//! that. Not there yet: listing, free pairs of entries, and all changes.
+//! Proved, over any blocks and any source: both only look, take at most the pins that reading each leaf takes, and refuse by their
+//! causes alone; a damaged block is answered only where the device doesn't tell what it holds. Where it tells, `lookup` gives the
+//! first record of the name that memory has, or says that no leaf has one; and `free_pair` gives the least pair of which no entry is in
+//! use in memory or waits to be cleared. Not said: that names differ; who changes directories keeps that. Not there yet: listing,
+//! and all changes.
 #![tactic(auto)]
 
+mod entries;
 mod records;
 
+pub use entries::free_pair;
 pub use records::{Found, lookup};

@@ -1,10 +1,10 @@
 //! Directories that are looked at.
 ghost use Rattle.std.specs.Prelude.{IfOk};
-ghost use Rattle.fo_image.specs.declared.types.Kind.TheVariants.{Data};
+ghost use Rattle.fo_image.specs.declared.types.Kind.TheVariants.{Data, Dir};
 ghost use Rattle.fo_ports_source.specs.Source.{IsEmpty};
 
 use fo_base::Memory;
-use fo_dir_read::lookup;
+use fo_dir_read::{free_pair, lookup};
 use fo_image::Kind;
 use fo_ports::{Blocks, Bytes};
 use fo_ports_plain::PlainBlocks;
@@ -20,6 +20,13 @@ fn source(alloc: Global) -> Result<PlainSource, Memory>
     ensures { IfOk result (λ s. IsEmpty s.kind s.tag s.rank s.size s.leaves.items (Data 0) 33 2064 4) }
 {
     PlainSource::new(alloc, Kind::Data(0), 33, RANK, 4)
+}
+
+/// An empty source of entries of up to four leaves.
+fn entries(alloc: Global) -> Result<PlainSource, Memory>
+    ensures { IfOk result (λ s. IsEmpty s.kind s.tag s.rank s.size s.leaves.items (Dir 0) 32 2048 4) }
+{
+    PlainSource::new(alloc, Kind::Dir(0), 32, 2048, 4)
 }
 
 /// A directory without a leaf has no name.
@@ -42,5 +49,18 @@ fn empty(rt: HostRuntime) -> Result<(), Fail> {
     records.own_leaf(&mut on, 1);
     let found = lookup(rt.alloc(), &mut records, &mut on, RANK, b"f")?;
     assert!(rt; found.is_none());
+    Ok(())
+}
+
+/// The first pair is free where there is no leaf, and where no entry of the first leaf is in use.
+#[test]
+fn free(rt: HostRuntime) -> Result<(), Fail> {
+    let mut entries = entries(rt.alloc())?;
+    let mut on = PlainBlocks::new(rt.alloc(), 40)?;
+    on.reserve(40, 40, 0)?;
+    assert_eq!(rt; free_pair(&mut entries, &mut on, 2048)?, 0);
+    entries.prepare(&mut on, 0, 8192)?;
+    entries.own_leaf(&mut on, 0);
+    assert_eq!(rt; free_pair(&mut entries, &mut on, 2048)?, 0);
     Ok(())
 }

@@ -1,0 +1,160 @@
+//! The pairs of entries of a directory.
+ghost use Rattle.std.specs.Prelude.{◌≡◌, ◌+◌, ◌*◌, ◌^◌, ◌<◌, ◌≤◌, ◌↔◌, ℕ, true, false, length, take, drop, IfOk, OnOk, IfErr, IfSome, IsTrue, Option, Some, None, MatchOption};
+ghost use Rattle.fo_base.specs.Cause.{Rose};
+ghost use Rattle.fo_image.specs.declared.types.Entry.{Entry};
+ghost use Rattle.fo_image.specs.declared.types.Kind.TheVariants.{Dir};
+ghost use Rattle.fo_image.specs.Format.{SpellsEntry};
+ghost use Rattle.fo_crash.specs.declared.slot.Slot.{Slot};
+ghost use Rattle.fo_crash.specs.Names.{IsInUse};
+ghost use Rattle.fo_ports.specs.Blocks.{ReadsSlots, SlotFits, SpellsSlot, slot_size};
+ghost use Rattle.fo_ports.specs.Causes.{Caused};
+ghost use Rattle.fo_ports.specs.State.{Looks};
+ghost use Rattle.fo_ports.specs.Sources.{SameLeaves, depth_for};
+ghost use Rattle.fo_dir_read.specs.Names.{leaf_count};
+ghost use Rattle.fo_dir_read.specs.Pairs.{OfEntries, IsTaken, PairTaken, FreeIn, FreeAt, IsFree, AreTaken};
+
+use fo_base::BLOCK;
+use fo_image::{Kind, read_entry};
+use fo_ports::{BlockError, Blocks, Bytes};
+
+/// How many pairs a leaf of entries has.
+const PAIRS: u32 = 102;
+
+/// Whether entry `j` of a leaf is in use.
+fn is_active(leaf: &[u8], j: u32) -> bool
+    requires length { length leaf.now ≡ 8192 }
+    requires within { j < 204 }
+    ensures in_use { (e : Entry) → SpellsEntry e (take 40 (drop (40 * j) leaf.now)) → result ≡ e.active }
+{
+    let from = 40 * j as usize;
+    match read_entry(&leaf[from..from + 40]) {
+        Ok(entry) => entry.active,
+        Err(_) => false,
+    }
+}
+
+/// Whether entry `j` of a leaf that was read is taken.
+fn is_taken<B: Blocks>(on: &B, at: u32, leaf: &[u8], j: u32) -> bool
+    requires length { length leaf.now ≡ 8192 }
+    requires within { j < 204 }
+    requires reads { ReadsSlots (Dir 0) ((B.state on.now).now at) leaf.now }
+    ensures { IsTrue result ↔ IsTaken (B.state on.now) at j }
+{
+    is_active(leaf, j) || on.is_clearing(at, j)
+}
+
+/// Whether one of the entries of a pair of a leaf that was read is taken.
+fn is_pair_taken<B: Blocks>(on: &B, at: u32, leaf: &[u8], p: u32) -> bool
+    requires length { length leaf.now ≡ 8192 }
+    requires within { p < 102 }
+    requires reads { ReadsSlots (Dir 0) ((B.state on.now).now at) leaf.now }
+    ensures { IsTrue result ↔ PairTaken (B.state on.now) at p }
+{
+    is_taken(on, at, leaf, 2 * p) || is_taken(on, at, leaf, 2 * p + 1)
+}
+
+/// The least free pair of a leaf that was read.
+fn free_in<B: Blocks>(on: &B, at: u32, leaf: &[u8]) -> Option<u32>
+    requires length { length leaf.now ≡ 8192 }
+    requires reads { ReadsSlots (Dir 0) ((B.state on.now).now at) leaf.now }
+    ensures { FreeIn (B.state on.now) at result }
+{
+    for p in 0..PAIRS {
+        if !is_pair_taken(on, at, leaf, p) {
+            return Some(p);
+        }
+    }
+    None
+}
+
+/// Copies leaf `i` of the entries, and gives the block in which it stands; None where there is none.
+fn get_entries<B: Blocks, S: Bytes<B>>(
+    entries: &mut S,
+    on: &mut B,
+    rank: u32,
+    i: u32,
+    into: &mut [u8],
+) -> Result<Option<u32>, BlockError>
+    requires over { S.is_over entries.old on.old }
+    requires form { OfEntries (S.form entries.old) rank }
+    requires length { length into.old ≡ 8192 }
+    ensures shows { IfOk result (λ at. (B.state on.old).tells → (S.leaves entries.new on.new).at i ≡ at) }
+    ensures reads { IfOk result (λ at. IfSome at (λ b. ReadsSlots (Dir 0) ((B.state on.new).now b) into.new)) }
+    ensures over { S.is_over entries.new on.new }
+    ensures same { (S.form entries.new ≡ S.form entries.old) × (S.size entries.new ≡ S.size entries.old) × SameLeaves (B.state on.old).tells (S.leaves entries.old on.old) (S.leaves entries.new on.new) }
+    ensures pins { (B.state on.old).pins_left ≤ (B.state on.new).pins_left + (depth_for (S.size entries.old) + 1) }
+    ensures looks { Looks (B.state on.old) (B.state on.new) }
+    ensures keeps { B.keeps on.old on.new }
+    ensures cause { IfErr result (Caused ⊥ (λ b. ((B.state on.old).tells → ⊥) × (B.state on.old).is_block b) (Rose (B.state on.old).faults (B.state on.new).faults) ⊥) }
+{
+    let Some(at) = entries.leaf(on, i)? else {
+        return Ok(None);
+    };
+    match on.get(at, Kind::Dir(0), rank, into) {
+        Ok(()) => Ok(Some(at)),
+        Err(why) => Err(why),
+    }
+}
+
+/// The least free pair of leaf `i`, where it has one.
+fn free_at<B: Blocks, S: Bytes<B>>(
+    entries: &mut S,
+    on: &mut B,
+    rank: u32,
+    i: u32,
+) -> Result<Option<u32>, BlockError>
+    requires over { S.is_over entries.old on.old }
+    requires form { OfEntries (S.form entries.old) rank }
+    ensures free { IfOk result (λ p. (B.state on.old).tells → FreeAt (B.state on.new) (S.leaves entries.new on.new) i p) }
+    ensures within { IfOk result (λ p. IfSome p (λ n. n < 102)) }
+    ensures over { S.is_over entries.new on.new }
+    ensures same { (S.form entries.new ≡ S.form entries.old) × (S.size entries.new ≡ S.size entries.old) × SameLeaves (B.state on.old).tells (S.leaves entries.old on.old) (S.leaves entries.new on.new) }
+    ensures pins { (B.state on.old).pins_left ≤ (B.state on.new).pins_left + (depth_for (S.size entries.old) + 1) }
+    ensures looks { Looks (B.state on.old) (B.state on.new) }
+    ensures keeps { B.keeps on.old on.new }
+    ensures cause { IfErr result (Caused ⊥ (λ b. ((B.state on.old).tells → ⊥) × (B.state on.old).is_block b) (Rose (B.state on.old).faults (B.state on.new).faults) ⊥) }
+{
+    let mut leaf = [0; BLOCK];
+    match get_entries(entries, on, rank, i, &mut leaf)? {
+        None => Ok(Some(0)),
+        Some(at) => Ok(free_in(on, at, &leaf)),
+    }
+}
+
+/// How many leaves a source of entries has.
+fn count_of<B: Blocks, S: Bytes<B>>(entries: &S, on: &B) -> u32
+    requires over { S.is_over entries.now on.now }
+    requires short { (S.form entries.now).limit ≤ 2 ^ 38 }
+    ensures is { result ≡ leaf_count (S.size entries.now) }
+    ensures few { result ≤ 33554432 }
+{
+    let _ = on;
+    entries.len().div_ceil(BLOCK as u64) as u32
+}
+
+/// The least pair of entries that may be taken: behind the last leaf where each pair of a leaf is taken.
+pub fn free_pair<B: Blocks, S: Bytes<B>>(
+    entries: &mut S,
+    on: &mut B,
+    rank: u32,
+) -> Result<u32, BlockError>
+    requires over { S.is_over entries.old on.old }
+    requires form { OfEntries (S.form entries.old) rank }
+    ensures free { IfOk result (λ k. (B.state on.old).tells → IsFree (B.state on.new) (S.leaves entries.new on.new) (S.size entries.new) k × AreTaken (B.state on.new) (S.leaves entries.new on.new) k) }
+    ensures over { S.is_over entries.new on.new }
+    ensures same { (S.form entries.new ≡ S.form entries.old) × (S.size entries.new ≡ S.size entries.old) × SameLeaves (B.state on.old).tells (S.leaves entries.old on.old) (S.leaves entries.new on.new) }
+    ensures pins { (B.state on.old).pins_left ≤ (B.state on.new).pins_left + leaf_count (S.size entries.old) * (depth_for (S.size entries.old) + 1) }
+    ensures looks { Looks (B.state on.old) (B.state on.new) }
+    ensures keeps { B.keeps on.old on.new }
+    ensures cause { IfErr result (Caused ⊥ (λ b. ((B.state on.old).tells → ⊥) × (B.state on.old).is_block b) (Rose (B.state on.old).faults (B.state on.new).faults) ⊥) }
+{
+    let count = count_of(entries, on);
+    for i in 0..count {
+        match free_at(entries, on, rank, i) {
+            Ok(Some(p)) => return Ok(PAIRS * i + p),
+            Ok(None) => {}
+            Err(why) => return Err(why),
+        }
+    }
+    Ok(PAIRS * count)
+}
