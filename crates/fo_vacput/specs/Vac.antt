@@ -2,7 +2,7 @@
 use Rattle.std.specs.Prelude.{◌≡◌, ℕ, ◌+◌, ◌*◌, ◌/◌, ◌%◌, ◌^◌, ◌<◌, Bool, true, false, List, [], ◌∷◌, ◌++◌, codes, decimal, replicate, Option, Some, None, if◌then◌else◌}
 use Rattle.fo_image.specs.declared.types.Score.{Score}
 use Rattle.fo_image.specs.Field.{One, Two, Four, Field, Number, Fixed, padded, Spells}
-use Rattle.fo_image.specs.Format.{IsScore, IsDepth, flag_bits, last_bytes}
+use Rattle.fo_image.specs.Format.{IsEpoch, IsScore, IsDepth, flag_bits, last_bytes}
 use Rattle.fo_vacput.specs.declared.types.BadVac.{BadVac}
 use Rattle.fo_vacput.specs.declared.types.VacEntry.{VacEntry}
 use Rattle.fo_vacput.specs.declared.types.VacRoot.{VacRoot}
@@ -41,7 +41,7 @@ PrevHolds None = Unit {0}
 PrevHolds (Some score) = IsScore score.0
 
 pub record VacRootHolds (r : VacRoot) : Type 0 where
-  pub epoch_fits : r.epoch < 2 ^ 32
+  pub epoch_is : IsEpoch r.epoch
   pub time_fits : r.time < 2 ^ 32
   pub top_is : IsScore r.top.0
   pub prev_is : PrevHolds r.prev

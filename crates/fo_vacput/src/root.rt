@@ -4,13 +4,20 @@ ghost use Rattle.fo_image.specs.declared.types.Score.{Score};
 ghost use Rattle.std.specs.List.{AllByRecursion};
 ghost use Rattle.fo_image.specs.Field.{FieldFits, Reads, padded, spelling};
 ghost use Rattle.fo_image.specs.Part.{parts_bytes};
-ghost use Rattle.fo_image.specs.Format.{last_bytes};
+ghost use Rattle.fo_image.specs.Format.{IsEpoch, last_bytes};
 ghost use Rattle.fo_vacput.specs.declared.types.VacRoot.{VacRoot};
 ghost use Rattle.fo_vacput.specs.Vac.{PrevHolds, VacRootHolds, SpellsVacRoot, vac_root_fields, name_text, kind_text, bad_vac};
 
 use crate::name::{name_of, text_of, times_of};
 use crate::types::{BadVac, VacRoot};
 use fo_image::{Part, Score, is_score, is_spelled, is_zero, score_at, write_parts};
+
+/// Whether the number is one of an epoch.
+fn is_epoch(epoch: u32) -> bool
+    ensures { IsTrue result ↔ IsEpoch epoch }
+{
+    1 <= epoch && epoch < 1 << 31
+}
 
 /// Whether there is no root before this one, or one that a score names.
 fn is_prev(prev: Option<Score>) -> bool
@@ -26,8 +33,8 @@ fn is_prev(prev: Option<Score>) -> bool
 pub fn is_vac_root(root: &VacRoot) -> bool
     ensures { IsTrue result ↔ VacRootHolds root.now }
 {
-    let (_epoch, _time) = (root.epoch, root.time);
-    is_score(root.top) && is_prev(root.prev)
+    let _time = root.time;
+    is_epoch(root.epoch) && is_score(root.top) && is_prev(root.prev)
 }
 
 fn prev_bytes(prev: Option<Score>) -> [u8; 20]

@@ -10,7 +10,7 @@ const FIRST: VacRoot = VacRoot {
 };
 
 const LAST: VacRoot = VacRoot {
-    epoch: 4294967295,
+    epoch: 2147483647,
     time: 0,
     top: Score([0x22; 20]),
     prev: Some(Score([0x33; 20])),
@@ -63,19 +63,21 @@ fn read_short() -> Result<VacRoot, BadVac> {
 #[test]
 fn roots_have_their_bytes(rt: HostRuntime) {
     assert!(rt; written(&FIRST) == Some(bytes_of(b"epoch 12 time 3456", 0)));
-    assert!(rt; written(&LAST) == Some(bytes_of(b"epoch 4294967295 time 0", 0x33)));
+    assert!(rt; written(&LAST) == Some(bytes_of(b"epoch 2147483647 time 0", 0x33)));
 }
 
 #[test]
 fn bytes_give_their_roots(rt: HostRuntime) {
     assert!(rt; read(b"epoch 12 time 3456") == Ok(FIRST));
-    assert!(rt; read_vac_root(&bytes_of(b"epoch 4294967295 time 0", 0x33)) == Ok(LAST));
+    assert!(rt; read_vac_root(&bytes_of(b"epoch 2147483647 time 0", 0x33)) == Ok(LAST));
 }
 
 #[test]
 fn other_names_are_refused(rt: HostRuntime) {
     assert!(rt; read(b"epoch 012 time 3456") == Err(BadVac));
     assert!(rt; read(b"epoch +12 time 3456") == Err(BadVac));
+    assert!(rt; read(b"epoch 0 time 3456") == Err(BadVac));
+    assert!(rt; read(b"epoch 2147483648 time 0") == Err(BadVac));
     assert!(rt; read(b"epoch 4294967296 time 0") == Err(BadVac));
     assert!(rt; read(b"epoch 12 time 3456 ") == Err(BadVac));
     assert!(rt; read(b"epoch  time 3456") == Err(BadVac));
