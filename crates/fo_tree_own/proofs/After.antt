@@ -1,0 +1,391 @@
+-- What is there once a block was given out and put.
+use Rattle.std.proofs.Common.{◌≡◌, ◌≢◌, ◌⊎◌, ◌↔◌, ◌+◌, ◌*◌, ◌<◌, ℕ, suc, List, [], ◌∷◌, ◌++◌, length, inl, inr, ⊎_elim, refl, sym, ◌∙◌, ap, subst, arith}
+use Rattle.std.proofs.lemmas.Bool.{cases_eq}
+use Rattle.fo_image.specs.declared.types.Label.{Label}
+use Rattle.fo_image.specs.declared.types.Pointer.{Pointer}
+use Rattle.fo_image.specs.declared.types.Pointer.TheVariants.{Nil, Local, Score as Held}
+use Rattle.fo_crash.specs.declared.slot.Slot.{Slot}
+use Rattle.fo_crash.specs.declared.slot.Slot.TheVariants.{Pointer as To}
+use Rattle.fo_crash.specs.declared.place.Place.{Place}
+use Rattle.fo_crash.specs.Images.{Content, Image, Reaches, target, local, walk, to_block, with_slot, with_block}
+use Rattle.fo_crash.specs.Steps.{PutsSlot, AddsSlot, Covers}
+use Rattle.fo_crash.specs.Places.{place, super_place}
+use Rattle.fo_crash.proofs.Reach.{lost, reaches_on, reaches_joins, reaches_same, reach_into}
+use Rattle.fo_crash.proofs.Updates.{slot_bytes, slot_other, block_other}
+use Rattle.fo_ports.specs.State.{State, KeepsAll, Frame, Hangs, KeepsOrder, AddsNoWait, IsPointers, none}
+use Rattle.fo_ports.specs.Sources.{Made, Touched, Undone, IsMade, StaysMarked, Changes}
+use Rattle.fo_tree_read.specs.declared.tree.Tree.{Tree}
+use Rattle.fo_tree_read.specs.Tree.{kind_at}
+use Rattle.fo_tree_own.specs.Step.{HangsApart, IsOwn, IsBehind, OnlyCovers, Links}
+use Rattle.fo_tree_own.proofs.Link.{Laws, Linking, local_eq, at_ne, at_pinned, at_place, top_ne, reaches_mid, unwaited}
+use Rattle.fo_tree_own.proofs.May.{there, place_is}
+
+-- A block was given out and put, where the slot led there.
+pub record Linked (t : Tree) (level k at i n : ℕ) (was : Pointer) (c : Content) (l : Label) (result : ℕ) (beside : Image → Type 0) (s m u : State) : Type 0 where
+  pub link : Linking t level k at i c l result s m
+  pub kind : l.kind ≡ kind_at t.dir level
+  pub tagged : l.tag ≡ t.tag
+  pub long : length c.bytes ≡ 8192
+  pub leads : target ((m.now at).slot i) ≡ was
+  pub alike : (j : ℕ) → target ((m.now result).slot j) ≡ target ((local m.now was).slot j)
+  pub other : (y : ℕ) → was ≡ Local y → y ≢ at
+  pub raised : (y : ℕ) → m.instead result y → was ≡ Local y
+  pub in_tree : s.tells → (y : ℕ) → was ≡ Local y → Reaches m.now (to_block 1) y
+  pub not_apart : s.tells → (w : ℕ) → s.apart w → was ≢ Local w
+  pub no_one : s.tells → Reaches m.now ((m.now at).slot i) 1 → ⊥
+  pub fresh : was ≡ Local result → ⊥
+  pub no_cost : n ≡ 0
+  -- what the put says
+  pub puts : PutsSlot at i (To (Local result)) m.now u.now
+  pub images : AddsSlot m.now at i (To (Local result)) beside m.may_leave u.may_leave
+  pub frame : Frame (λ b. b ≡ at) (λ b. (b ≡ at) ⊎ (Local result ≡ Local b)) n m u
+  pub hangs : Hangs at i (To (Local result)) m u
+  pub order : KeepsOrder none m u
+  pub no_wait : AddsNoWait none m u
+  pub covers : m.tells → Covers (IsPointers m) ((m.now at).slot i) m.now u.now m.covered u.covered
+  pub all : KeepsAll m u
+  pub whole : KeepsAll s u
+  pub laws : Laws u
+
+module _ {t : Tree} {level k at i n : ℕ} {was : Pointer} {c : Content} {l : Label} {result : ℕ} {beside : Image → Type 0} {s m u : State} (x : Linked t level k at i n was c l result beside s m u) where
+  ne : at ≢ result
+  ne = at_ne x.link
+
+  told_mid : s.tells → m.tells
+  told_mid told = x.link.all.still_tells.1 told
+
+  told_end : s.tells → u.tells
+  told_end told = x.whole.still_tells.1 told
+
+  -- A path comes to the same block in both, or to the two that changed places.
+  abbrev Leads : Slot → Slot → Type 0
+  Leads p q = (target q ≡ target p) ⊎ ((target p ≡ was) × (target q ≡ Local result))
+
+  at_slot : (a j : ℕ) → Leads ((m.now a).slot j) ((u.now a).slot j)
+  at_slot a j = ⊎_elim
+      (λ here. ⊎_elim
+      (λ own. inr (
+        ap (λ y. target ((m.now y).slot j)) here ∙ ap (λ y. target ((m.now at).slot y)) own ∙ x.leads,
+        ap (λ y. target ((u.now y).slot j)) here ∙ ap (λ y. target ((u.now at).slot y)) own ∙ ap target x.puts.here,
+      ))
+      (λ aside. inl (ap target (x.puts.others a j (inr aside))))
+      (cases_eq j i))
+      (λ apart. inl (ap target (x.puts.others a j (inl apart))))
+      (cases_eq a at)
+
+  alike_end : (j : ℕ) → target ((u.now result).slot j) ≡ target ((local m.now was).slot j)
+  alike_end j = ap target (x.puts.others result j (inl (λ e. ne (sym e)))) ∙ x.alike j
+
+  from_one : (j : ℕ) (p : Pointer) → Leads ((local m.now p).slot j) ((local u.now p).slot j)
+  from_one j Nil = inl refl
+  from_one j (Local a) = at_slot a j
+  from_one j (Held score) = inl refl
+
+  one_on : (j : ℕ) (p q : Pointer) → (q ≡ p) ⊎ ((p ≡ was) × (q ≡ Local result)) → Leads ((local m.now p).slot j) ((local u.now q).slot j)
+  one_on j p q (inl e) = subst (λ y. Leads ((local m.now p).slot j) ((local u.now y).slot j)) (sym e) (from_one j p)
+  one_on j p q (inr h) = inl (ap (λ y. target ((local u.now y).slot j)) h.1 ∙ alike_end j ∙ ap (λ y. target ((local m.now y).slot j)) (sym h.0))
+
+  walks_on : (path : List ℕ) (p q : Slot) → Leads p q → Leads (walk m.now p path) (walk u.now q path)
+  walks_on [] p q h = h
+  walks_on (j ∷ path) p q h = walks_on path ((local m.now (target p)).slot j) ((local u.now (target q)).slot j) (one_on j (target p) (target q) h)
+
+  reaches_end : (w b : ℕ) → (was ≡ Local b → ⊥) → Reaches m.now (to_block w) b → Reaches u.now (to_block w) b
+  reaches_end w b not r = ⊎_elim
+      (λ e. record { path = r.path; leads = e ∙ r.leads })
+      (λ h. absurd (not (sym h.0 ∙ r.leads)))
+      (walks_on r.path (to_block w) (to_block w) (inl refl))
+
+  reached_end : s.tells → (b : ℕ) → (was ≡ Local b → ⊥) → Reaches s.now (to_block 1) b → Reaches u.now (to_block 1) b
+  reached_end told b not r = reaches_end 1 b not (reaches_mid x.link told 1 b super_place (x.link.laws.super_stands told) r)
+
+  -- what hung below the slot hangs still in the tree, but for the block itself
+  below_tree : s.tells → (b : ℕ) (p : Pointer) → was ≡ p → Reaches m.now ((m.now at).slot i) b → Reaches m.now (to_block 1) b
+  below_tree told b Nil e r = absurd (lost m.now r.path ((m.now at).slot i) (λ y f. let none : Nil ≡ Local y = sym (x.leads ∙ e) ∙ f in cc) b r.leads)
+  below_tree told b (Held score) e r = absurd (lost m.now r.path ((m.now at).slot i) (λ y f. let none : Held score ≡ Local y = sym (x.leads ∙ e) ∙ f in cc) b r.leads)
+  below_tree told b (Local y) e r = reaches_joins (x.in_tree told y e) (reaches_same {t = to_block y} (x.leads ∙ e) r)
+
+  only_covers : s.tells → OnlyCovers was s u
+  only_covers told = record {
+    still = λ b h. (x.covers (told_mid told)).still b (back_covered b h);
+    only = λ b no not h. (x.covers (told_mid told)).only b (λ g. no (from_covered b g))
+        (λ r. (x.laws.live b (told_end told) (λ e. x.no_one told (subst (λ y. Reaches m.now ((m.now at).slot i) y) e r)) (reaches_end 1 b not (below_tree told b was refl r))).2 h) h;
+  }
+    where
+      back_covered : (b : ℕ) → s.covered b → m.covered b
+      back_covered b h = (x.link.gives.covered b (λ e. x.link.gives.was.2 (subst (λ y. s.covered y) e h))).1 h
+
+      from_covered : (b : ℕ) → m.covered b → s.covered b
+      from_covered b g = (x.link.gives.covered b (λ e. x.link.gives.is.4 (subst (λ y. m.covered y) e g))).0 g
+
+  label_end : (b : ℕ) → b ≢ result → u.label b ≡ s.label b
+  label_end b apart = x.frame.stays.labels b (λ h. h) ∙ x.link.gives.stays.labels b apart
+
+  result_end : u.label result ≡ l
+  result_end = x.frame.stays.labels result (λ h. h) ∙ x.link.gives.label
+
+  made_end : Made s u result
+  made_end = (x.link.gives.was.0, ap (λ (q : Label). q.state) result_end ∙ x.link.is_live)
+
+  made_is : (b : ℕ) → Made s u b → b ≡ result
+  made_is b made = ⊎_elim (λ e. e) (λ apart. absurd (made.0 (ap (λ (q : Label). q.state) (sym (label_end b apart)) ∙ made.1))) (cases_eq b result)
+
+  not_made : (b : ℕ) → (Made s u b → ⊥) → b ≢ result
+  not_made b h e = h (subst (λ y. Made s u y) (sym e) made_end)
+
+  slots_end : (b j : ℕ) → b ≢ result → (b ≢ at) ⊎ (j ≢ i) → (u.now b).slot j ≡ (s.now b).slot j
+  slots_end b j apart h = x.puts.others b j h ∙ (x.link.gives.memory.others b apart).slots j
+
+  bytes_end : (b : ℕ) → b ≢ result → (u.now b).bytes ≡ (s.now b).bytes
+  bytes_end b apart = x.puts.bytes b ∙ (x.link.gives.memory.others b apart).bytes
+
+  leads_end : target ((u.now at).slot i) ≡ Local result
+  leads_end = ap target x.puts.here
+
+  instead_end : (b y : ℕ) → u.instead b y → s.instead b y
+  instead_end b y h = ⊎_elim
+      (λ own. absurd ((x.hangs.put result refl).1 y (subst (λ z. u.instead z y) own h)))
+      (λ apart. (x.link.gives.stays.instead b y apart (λ z. z)).0 (⊎_elim
+      (λ here. subst (λ z. m.instead z y) (sym here) (⊎_elim
+      (λ mid. mid)
+      (λ raised. absurd (⊎_elim
+      (λ e. e.1 (subst (λ z. m.apart z) (local_eq raised.1.1) x.link.gives.is.3))
+      (λ mid. raised.0.0.1 i y (x.leads ∙ x.raised y (subst (λ z. m.instead z y) (sym (local_eq raised.1.1)) mid)))
+      raised.1.2))
+      (x.hangs.raised y (subst (λ z. u.instead z y) here h))))
+      (λ away. (x.frame.stays.instead b y (λ z. z) (λ g. ⊎_elim away (λ e. apart (sym (local_eq e))) g)).0 h)
+      (cases_eq b at)))
+      (cases_eq b result)
+
+  waits_end : (a b j : ℕ) → b ≢ result → a ≢ result → (b ≢ at) ⊎ (j < 409) → s.waits a b j → u.waits a b j
+  waits_end a b j apart sep which w =
+      let mid = x.link.gives.stays.waits a b j sep apart (λ z. z) w in
+      ⊎_elim
+      (λ here. ⊎_elim (λ away. absurd (away here)) (λ lt. absurd (unwaited x.link a j lt (subst (λ y. m.waits a y j) here mid))) which)
+      (λ away. x.hangs.waits a b j (inl away) mid)
+      (cases_eq b at)
+
+  behind : (image : Image) → u.may_leave image → IsBehind at i result s u image
+  behind image is = ⊎_elim
+      (λ mid.
+      let d = x.link.gives.images.before image mid in
+      record {
+        other = with_block image result d.0;
+        was = d.1;
+        bytes = λ b apart. ap (λ (y : Content). y.bytes) (sym (block_other image result d.0 b apart));
+        slots = λ b j apart h. ap (λ (y : Content). y.slot j) (sym (block_other image result d.0 b apart));
+        here = inl (ap (λ (y : Content). y.slot i) (sym (block_other image result d.0 at ne)));
+        apart = λ top is_top r. unreached image mid d.0 top is_top r;
+      })
+      (λ put.
+      let between = with_slot image at i ((m.now at).slot i) in
+      let d = x.link.gives.images.before between put.1 in
+      record {
+        other = with_block between result d.0;
+        was = d.1;
+        bytes = λ b apart. sym (slot_bytes image at i ((m.now at).slot i) b) ∙ ap (λ (y : Content). y.bytes) (sym (block_other between result d.0 b apart));
+        slots = λ b j apart h. sym (slot_other image at i ((m.now at).slot i) b j h) ∙ ap (λ (y : Content). y.slot j) (sym (block_other between result d.0 b apart));
+        here = inr (put.0 ∙ sym x.puts.here);
+        apart = λ top is_top r. unreached between put.1 d.0 top is_top r;
+      })
+      (x.images.each image is)
+    where
+      unreached : (before : Image) → m.may_leave before → (d : Content) (top : ℕ) → s.tops top → Reaches (with_block before result d) (to_block top) result → ⊥
+      unreached before mid d top is_top r = x.link.gives.images.apart before mid top is_top (reach_into before (with_block before result d) (λ y. y ≡ result) top
+          (λ y j apart. ap (λ (z : Content). z.slot j) (sym (block_other before result d y apart)))
+          (λ y e far. x.link.gives.images.apart before mid top is_top (subst (λ z. Reaches before (to_block top) z) e far)) result r)
+
+  -- ---- the two blocks are current
+
+  at_marks : u.pinned at
+  at_marks = (x.frame.stays.marks at (λ h. h)).0 (at_pinned x.link)
+
+  spared : s.tells → (s.covered at → ⊥) → (was ≡ Local at → ⊥) → u.covered at → ⊥
+  spared told free other h = (only_covers told).only at free other h
+
+  not_was : was ≡ Local at → ⊥
+  not_was e = x.other at e refl
+
+  at_stands : s.tells → u.stands at (place (kind_at t.dir (suc level)) t.tag k (t.rank + suc level))
+  at_stands told = x.hangs.at_place (told_mid told) (place (kind_at t.dir (suc level)) t.tag k (t.rank + suc level)) (spared told (x.link.above.told told).uncovered not_was) (at_place x.link told)
+
+  places_end : s.tells → (b : ℕ) (p : Place) → b ≢ result → (u.covered b → ⊥) → s.stands b p → u.stands b p
+  places_end told b p apart free stands =
+      let mid = x.link.gives.stays.places told b p apart (λ h. h) (λ h. free ((x.covers (told_mid told)).still b h)) stands in
+      ⊎_elim
+      (λ here. subst (λ y. u.stands y p) (sym here) (x.hangs.at_place (told_mid told) p (λ h. free (subst (λ y. u.covered y) (sym here) h)) (subst (λ y. m.stands y p) here mid)))
+      (λ away. x.frame.stays.places (told_mid told) b p (λ h. h) (λ g. ⊎_elim away (λ e. apart (sym (local_eq e))) g) free mid)
+      (cases_eq b at)
+
+  apart_same : (b : ℕ) → b ≢ result → u.apart b ↔ s.apart b
+  apart_same b apart =
+      let first = x.link.gives.stays.apart b apart (λ h. h) in
+      ⊎_elim
+      (λ here. let last = x.hangs.at_apart (λ e. ne (sym (local_eq e))) in (
+        λ h. first.0 (subst (λ y. m.apart y) (sym here) (last.0 (subst (λ y. u.apart y) here h))),
+        λ h. subst (λ y. u.apart y) (sym here) (last.1 (subst (λ y. m.apart y) here (first.1 h))),
+      ))
+      (λ away. let last = x.frame.stays.apart b (λ h. h) (λ g. ⊎_elim away (λ e. apart (sym (local_eq e))) g) in (λ h. first.0 (last.0 h), λ h. last.1 (first.1 h)))
+      (cases_eq b at)
+
+  at_holder : s.tells → Reaches u.now (to_block 1) at ⊎ HangsApart u at
+  at_holder told = ⊎_elim
+      (λ r. inl (reached_end told at not_was r))
+      (λ h.
+      let apart = top_ne x.link told h in
+      let no = (only_covers told).only h.top h.uncovered (x.not_apart told h.top h.is_apart) in
+      inr (record {
+        top = h.top;
+        is_apart = (apart_same h.top apart).1 h.is_apart;
+        place = h.place;
+        stands = places_end told h.top h.place apart no h.stands;
+        uncovered = no;
+        reaches = reaches_end h.top at not_was (reaches_mid x.link told h.top at h.place h.stands h.reaches);
+      }))
+      (x.link.above.told told).holder
+
+  above_end : IsOwn u t (suc level) k at
+  above_end = record {
+    is_pinned = at_marks;
+    live = ap (λ (q : Label). q.state) (label_end at ne) ∙ x.link.above.live;
+    has_kind = ap (λ (q : Label). q.kind) (label_end at ne) ∙ x.link.above.has_kind;
+    tagged = ap (λ (q : Label). q.tag) (label_end at ne) ∙ x.link.above.tagged;
+    current = ap (λ (q : Label). q.epoch) (label_end at ne) ∙ x.link.above.current ∙ sym x.whole.same_high;
+    long = ap length (bytes_end at ne) ∙ x.link.above.long;
+    told = λ now. let told = x.whole.still_tells.0 now in record { stands = at_stands told; uncovered = spared told (x.link.above.told told).uncovered not_was; holder = at_holder told };
+  }
+
+  own_holder : s.tells → Reaches u.now (to_block 1) result ⊎ HangsApart u result
+  own_holder told = ⊎_elim
+      (λ r. inl (reaches_on i r leads_end))
+      (λ h. inr (record { top = h.top; is_apart = h.is_apart; place = h.place; stands = h.stands; uncovered = h.uncovered; reaches = reaches_on i h.reaches leads_end }))
+      (at_holder told)
+
+  own_stands : s.tells → u.stands result (there t level k i)
+  own_stands told =
+      let p = place (kind_at t.dir (suc level)) t.tag k (t.rank + suc level) in
+      subst (λ q. u.stands result q) (place_is x.link told p (at_place x.link told)) (x.hangs.place (told_mid told) result p (at_place x.link told) refl)
+
+  own_end : IsOwn u t level (409 * k + i) result
+  own_end = record {
+    is_pinned = (x.frame.stays.marks result (λ h. h)).0 x.link.gives.is.1;
+    live = ap (λ (q : Label). q.state) result_end ∙ x.link.is_live;
+    has_kind = ap (λ (q : Label). q.kind) result_end ∙ x.kind;
+    tagged = ap (λ (q : Label). q.tag) result_end ∙ x.tagged;
+    current = ap (λ (q : Label). q.epoch) result_end ∙ x.link.is_current ∙ sym x.whole.same_high;
+    long = ap length (x.puts.bytes result ∙ x.link.gives.memory.here.bytes) ∙ x.long;
+    told = λ now. let told = x.whole.still_tells.0 now in record { stands = own_stands told; uncovered = (only_covers told).only result x.link.gives.was.2 x.fresh; holder = own_holder told };
+  }
+
+  -- ---- all that changed
+
+  touches : (b : ℕ) → (Touched s u t.tag (λ y. y ≡ at) b → ⊥) → (b ≢ at) × (b ≢ result)
+  touches b not = (
+    λ e. not (inr (e, ap (λ y. (s.label y).epoch) e ∙ x.link.above.current, ap (λ y. (s.label y).tag) e ∙ x.link.above.tagged)),
+    λ e. not (inl (subst (λ y. Made s u y) (sym e) made_end)),
+  )
+
+  undone : (image : Image) → u.may_leave image → Undone (Touched s u t.tag (λ y. y ≡ at)) s u image
+  undone image is =
+      let b = behind image is in
+      record {
+        other = b.other;
+        was = b.was;
+        same = λ y not. let away = touches y not in record { bytes = b.bytes y away.1; slots = λ j. b.slots y j away.1 (inl away.0) };
+        slots = λ y j not. let apart = not_made y not in
+            ⊎_elim
+            (λ here. ⊎_elim
+            (λ own. subst (λ z. ((image z).slot j ≡ (b.other z).slot j) ⊎ ((image z).slot j ≡ (u.now z).slot j)) (sym here) (subst (λ z. ((image at).slot z ≡ (b.other at).slot z) ⊎ ((image at).slot z ≡ (u.now at).slot z)) (sym own) b.here))
+            (λ aside. inl (b.slots y j apart (inr aside)))
+            (cases_eq j i))
+            (λ away. inl (b.slots y j apart (inl away)))
+            (cases_eq y at);
+        apart = λ top y is_top made r. b.apart top is_top (subst (λ z. Reaches b.other (to_block top) z) (made_is y made) r);
+      }
+
+  is_made : IsMade t.tag s u result
+  is_made = record {
+    was = (x.link.gives.was.1, x.link.gives.was.3);
+    labelled = (ap (λ (q : Label). q.epoch) result_end ∙ x.link.is_current, ap (λ (q : Label). q.tag) result_end ∙ x.tagged);
+    is_one = (x.all.same_blocks result).1 x.link.gives.is.0;
+    is_pinned = (x.frame.stays.marks result (λ h. h)).0 x.link.gives.is.1;
+    is_fresh = (x.frame.stays.marks result (λ h. h)).2 x.link.gives.is.2;
+  }
+
+  marked : (b : ℕ) → (Made s u b → ⊥) → StaysMarked s u b
+  marked b not =
+      let apart = not_made b not in
+      let first = x.link.gives.stays.marks b apart in
+      let last = x.frame.stays.marks b (λ h. h) in
+      record {
+        label = label_end b apart;
+        marks = (λ h. last.0 (first.0 h), λ h. last.1 (first.1 h), λ h. last.2 (first.2 h));
+        apart = apart_same b apart;
+      }
+
+  abbrev Mine : ℕ → Type 0
+  Mine b = (b ≡ at) ⊎ (was ≡ Local b)
+
+  leaves_end : s.tells → (b : ℕ) → Reaches s.now (to_block 1) b → (Reaches u.now (to_block 1) b → ⊥) → u.covered b
+  leaves_end told b r gone =
+      let mid = reaches_mid x.link told 1 b super_place (x.link.laws.super_stands told) r in
+      ⊎_elim
+      (λ e. absurd (gone (record { path = mid.path; leads = e ∙ mid.leads })))
+      (λ h. (x.covers (told_mid told)).leaves b (record {
+        path = [];
+        leads = x.leads ∙ sym h.0 ∙ mid.leads;
+        within = λ front j rest y e. absurd (no_front front j rest e);
+      }) mid gone)
+      (walks_on mid.path (to_block 1) (to_block 1) (inl refl))
+    where
+      no_front : (front : List ℕ) (j : ℕ) (rest : List ℕ) → [] ≡ front ++ (j ∷ rest) → ⊥
+      no_front [] j rest e = cc
+      no_front (y ∷ front) j rest e = cc
+
+  changes_end : OnlyCovers was s u → ((a j : ℕ) → s.waits a at j → j < 409) → Changes t.tag Mine (λ b. b ≡ at) s u
+  changes_end only few = record {
+    memory = λ b not. let away = touches b not in record { bytes = bytes_end b away.1; slots = λ j. slots_end b j away.1 (inl away.0) };
+    images = undone;
+    made = λ b made. subst (λ y. IsMade t.tag s u y) (sym (made_is b made)) is_made;
+    others = marked;
+    places = λ told b p not mine no stands. places_end told b p (not_made b not) no stands;
+    instead = λ b y h. inl (instead_end b y h);
+    covers = λ b. (only.still b, λ no mine h. only.only b no (λ e. mine (inr e)) h);
+    leaves = leaves_end;
+    in_tree = λ told b mine r. reached_end told b (λ e. mine (inr e)) r;
+    waits = λ a b j not_a not_b w. waits_end a b j (not_made b not_b) (not_made a not_a) (which a b j w) w;
+    no_wait = record { each = λ a b j h w. x.link.gives.no_wait.each a b j h (x.no_wait.each a b j h w) };
+    clearing = λ b j h. let mid = x.link.gives.order.clearing b j (x.order.clearing b j h).1 in (λ made. mid.0 (made_is b made), mid.1);
+    dirty = λ b d. ⊎_elim
+        (λ mid. ⊎_elim
+        (λ old. inl old)
+        (λ h. inr (⊎_elim (λ e. inl (inl (subst (λ y. Made s u y) (sym e) made_end))) (λ e. inr (result, made_end, e ∙ sym (x.all.same_label_blocks result))) h))
+        (x.link.gives.dirty b mid))
+        (λ e. inr (inl (inr (inl e, ap (λ y. (s.label y).epoch) e ∙ x.link.above.current, ap (λ y. (s.label y).tag) e ∙ x.link.above.tagged))))
+        (x.frame.dirty b d);
+    moments = x.frame.uses.moments ∙ x.link.gives.uses.moments;
+    left = λ n image h. x.link.gives.uses.left n image (x.frame.uses.left n image h);
+    pins = x.frame.uses.pins ∙ x.link.gives.uses.pins;
+    numbers = record { next = x.frame.numbers.next ∙ x.link.gives.numbers.next; grants = λ h. x.frame.numbers.grants (x.link.gives.numbers.grants h) };
+  }
+    where
+      which : (a b j : ℕ) → s.waits a b j → (b ≢ at) ⊎ (j < 409)
+      which a b j w = ⊎_elim (λ here. inr (few a j (subst (λ y. s.waits a y j) here w))) (λ away. inl away) (cases_eq b at)
+
+  pub links : Links t level k at i was result s u
+  links = record {
+    made = made_end;
+    own = own_end;
+    above = above_end;
+    leads = leads_end;
+    slots = slots_end;
+    bytes = bytes_end;
+    labels = label_end;
+    images = behind;
+    instead = instead_end;
+    reached = reached_end;
+    covers = only_covers;
+    waits = waits_end;
+    spare = let first = x.link.gives.uses.spare in let last = x.frame.uses.spare in omega (arith, first, last);
+    room = let first = x.link.gives.uses.room in let last = x.frame.uses.room in let none = x.no_cost in omega (arith, first, last, none);
+    changes = changes_end;
+  }

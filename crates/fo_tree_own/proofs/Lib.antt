@@ -1,0 +1,4 @@
+pub mod Link
+pub mod May
+pub mod After
+pub mod Here
