@@ -4,7 +4,7 @@ use Rattle.fo_image.specs.declared.types.Pointer.TheVariants.{Local}
 use Rattle.fo_crash.specs.Images.{Reaches, target, to_block}
 use Rattle.fo_crash.specs.Places.{super_place}
 use Rattle.fo_crash.proofs.Reach.{reaches_same}
-use Rattle.fo_tree_own.proofs.Link.{local_eq, reaches_mid, back, unwaited, may_spell, may_settled, may_lead, may_cost, none_dropped}
+use Rattle.fo_tree_own.proofs.Link.{at_current, local_eq, reaches_mid, back, unwaited, may_spell, may_settled, may_lead, may_cost, none_dropped}
 use Rattle.fo_tree_own.proofs.May.{Copying, there, may_put, copy_shown, below_ne, at_below, leads_on, copied_in_tree, below_stands, never_one, copy_alike}
 use Rattle.fo_tree_own.proofs.After.{links}
 use Rattle.fo_tree_own.proofs.below.copy_below.Goals as goal
@@ -41,6 +41,36 @@ put_slot-requires-clause-spelled g c =
       place = e.place;
     } in
     may_spell x.link
+
+pub put_slot-requires-clause-current : goal.put_slot-requires-clause-current
+put_slot-requires-clause-current g c =
+    let on = c.args.on.now in
+    let mid = c.copy-copy.new.self in
+    let s = g.B.Blocks.state on in
+    let m = g.B.Blocks.state mid in
+    let t = c.args.tree.now in
+    let i = c.args.k % 409 in
+    let few : i < 409 = omega arith in
+    let e = c.copy-copy.ensures in
+    let x : Copying t c.args.level (c.args.k / 409) c.args.above i c.args.below (record (s.label c.args.below) { state = Live; epoch = s.high; closing = 2 ^ 32 - 1 }) c.copy-copy.result s m = record {
+      link = record {
+        gives = e.gives;
+        all = g.met.B.Blocks.keeps_all on mid e.keeps;
+        above = c.requires.above;
+        few = few;
+        laws = record { present = g.met.B.Blocks.present on; active = (g.met.B.Blocks.active on).0; not_one = (g.met.B.Blocks.active on).1; one = g.met.B.Blocks.one_place on; super_stands = g.met.B.Blocks.super_stands on; placed = λ told. g.met.B.Blocks.placed on s.now (g.met.B.Blocks.present on told); ranked = λ told. g.met.B.Blocks.ranked on s.now (g.met.B.Blocks.present on told); live = λ y told ne r. g.met.B.Blocks.live on y told ne r; clears = g.met.B.Blocks.clears_entries on; in_use = g.met.B.Blocks.waits_in_use on; within = g.met.B.Blocks.within on; spelled = g.met.B.Blocks.spelled on; apart_hangs = λ told w is r. g.met.B.Blocks.apart_hangs on s.now 1 w is (g.met.B.Blocks.present on told) (g.met.B.Blocks.active on).0 r; small = g.met.B.Blocks.small on };
+        later = record { present = g.met.B.Blocks.present mid; active = (g.met.B.Blocks.active mid).0; not_one = (g.met.B.Blocks.active mid).1; one = g.met.B.Blocks.one_place mid; super_stands = g.met.B.Blocks.super_stands mid; placed = λ told. g.met.B.Blocks.placed mid m.now (g.met.B.Blocks.present mid told); ranked = λ told. g.met.B.Blocks.ranked mid m.now (g.met.B.Blocks.present mid told); live = λ y told ne r. g.met.B.Blocks.live mid y told ne r; clears = g.met.B.Blocks.clears_entries mid; in_use = g.met.B.Blocks.waits_in_use mid; within = g.met.B.Blocks.within mid; spelled = g.met.B.Blocks.spelled mid; apart_hangs = λ told w is r. g.met.B.Blocks.apart_hangs mid m.now 1 w is (g.met.B.Blocks.present mid told) (g.met.B.Blocks.active mid).0 r; small = g.met.B.Blocks.small mid };
+        is_live = refl;
+        is_current = refl;
+      };
+      leads = c.requires.leads;
+      was_live = c.requires.below.live;
+      older = c.requires.older;
+      told = c.requires.told;
+      instead = e.instead;
+      place = e.place;
+    } in
+    at_current x.link
 
 pub put_slot-requires-clause-settled : goal.put_slot-requires-clause-settled
 put_slot-requires-clause-settled g c =

@@ -6,7 +6,7 @@ use Rattle.fo_crash.proofs.Reach.{lost}
 use Rattle.fo_ports.specs.Blocks.{blank, IsLevel}
 use Rattle.fo_ports.proofs.Lengths.{length_zero_bytes}
 use Rattle.fo_tree_read.specs.Tree.{kind_at}
-use Rattle.fo_tree_own.proofs.Link.{unwaited, may_spell, may_settled, may_lead, may_cost, none_dropped}
+use Rattle.fo_tree_own.proofs.Link.{at_current, unwaited, may_spell, may_settled, may_lead, may_cost, none_dropped}
 use Rattle.fo_tree_own.proofs.May.{Making, may_put, new_shown, leads_none, slot_none, made_leads, nil_leads, level_of}
 use Rattle.fo_tree_own.proofs.After.{links}
 use Rattle.fo_tree_own.proofs.below.new_below.Goals as goal
@@ -41,6 +41,34 @@ put_slot-requires-clause-spelled g c =
       place = λ told. subst (λ q. m.stands c.new_block-made.result (place q t.tag 0 (t.rank + c.args.level))) c.kind_at-kind.ensures (e.place told);
     } in
     may_spell x.link
+
+pub put_slot-requires-clause-current : goal.put_slot-requires-clause-current
+put_slot-requires-clause-current g c =
+    let on = c.args.on.now in
+    let mid = c.new_block-made.new.self in
+    let s = g.B.Blocks.state on in
+    let m = g.B.Blocks.state mid in
+    let t = c.args.tree.now in
+    let i = c.args.k % 409 in
+    let few : i < 409 = omega arith in
+    let e = c.new_block-made.ensures in
+    let x : Making t c.args.level (c.args.k / 409) c.args.above i (record { state = Live; kind = kind_at t.dir c.args.level; tag = t.tag; epoch = s.high; closing = 2 ^ 32 - 1 }) c.new_block-made.result s m = record {
+      link = record {
+        gives = subst (λ q. Gives c.new_block-made.result (blank q) (record { state = Live; kind = q; tag = t.tag; epoch = s.high; closing = 2 ^ 32 - 1 }) s m) c.kind_at-kind.ensures e.gives;
+        all = g.met.B.Blocks.keeps_all on mid e.keeps;
+        above = c.requires.above;
+        few = few;
+        laws = record { present = g.met.B.Blocks.present on; active = (g.met.B.Blocks.active on).0; not_one = (g.met.B.Blocks.active on).1; one = g.met.B.Blocks.one_place on; super_stands = g.met.B.Blocks.super_stands on; placed = λ told. g.met.B.Blocks.placed on s.now (g.met.B.Blocks.present on told); ranked = λ told. g.met.B.Blocks.ranked on s.now (g.met.B.Blocks.present on told); live = λ y told ne r. g.met.B.Blocks.live on y told ne r; clears = g.met.B.Blocks.clears_entries on; in_use = g.met.B.Blocks.waits_in_use on; within = g.met.B.Blocks.within on; spelled = g.met.B.Blocks.spelled on; apart_hangs = λ told w is r. g.met.B.Blocks.apart_hangs on s.now 1 w is (g.met.B.Blocks.present on told) (g.met.B.Blocks.active on).0 r; small = g.met.B.Blocks.small on };
+        later = record { present = g.met.B.Blocks.present mid; active = (g.met.B.Blocks.active mid).0; not_one = (g.met.B.Blocks.active mid).1; one = g.met.B.Blocks.one_place mid; super_stands = g.met.B.Blocks.super_stands mid; placed = λ told. g.met.B.Blocks.placed mid m.now (g.met.B.Blocks.present mid told); ranked = λ told. g.met.B.Blocks.ranked mid m.now (g.met.B.Blocks.present mid told); live = λ y told ne r. g.met.B.Blocks.live mid y told ne r; clears = g.met.B.Blocks.clears_entries mid; in_use = g.met.B.Blocks.waits_in_use mid; within = g.met.B.Blocks.within mid; spelled = g.met.B.Blocks.spelled mid; apart_hangs = λ told w is r. g.met.B.Blocks.apart_hangs mid m.now 1 w is (g.met.B.Blocks.present mid told) (g.met.B.Blocks.active mid).0 r; small = g.met.B.Blocks.small mid };
+        is_live = refl;
+        is_current = refl;
+      };
+      leads = c.requires.leads;
+      low = let small = c.ranges.k.fits in omega (arith, small);
+      instead = e.instead;
+      place = λ told. subst (λ q. m.stands c.new_block-made.result (place q t.tag 0 (t.rank + c.args.level))) c.kind_at-kind.ensures (e.place told);
+    } in
+    at_current x.link
 
 pub put_slot-requires-clause-settled : goal.put_slot-requires-clause-settled
 put_slot-requires-clause-settled g c =
