@@ -1,6 +1,6 @@
 -- What is there once a block was given out and put.
-use Rattle.std.proofs.Common.{◌≡◌, ◌≢◌, ◌⊎◌, ◌↔◌, ◌+◌, ◌*◌, ◌<◌, ℕ, suc, List, [], ◌∷◌, ◌++◌, length, inl, inr, ⊎_elim, refl, sym, ◌∙◌, ap, subst, arith}
-use Rattle.std.proofs.lemmas.Bool.{cases_eq}
+use Rattle.std.proofs.Common.{◌≡◌, ◌≢◌, ◌⊎◌, ◌↔◌, ◌+◌, ◌*◌, ℕ, suc, List, [], ◌∷◌, ◌++◌, length, inl, inr, ⊎_elim, refl, sym, ◌∙◌, ap, subst, arith}
+use Rattle.std.proofs.lemmas.Bool.{cases_eq, cases_lt}
 use Rattle.fo_image.specs.declared.types.Label.{Label}
 use Rattle.fo_image.specs.declared.types.Pointer.{Pointer}
 use Rattle.fo_image.specs.declared.types.Pointer.TheVariants.{Nil, Local, Score as Held}
@@ -156,11 +156,20 @@ module _ {t : Tree} {level k at i n : ℕ} {was : Pointer} {c : Content} {l : La
       (cases_eq b at)))
       (cases_eq b result)
 
-  waits_end : (a b j : ℕ) → b ≢ result → a ≢ result → (b ≢ at) ⊎ (j < 409) → s.waits a b j → u.waits a b j
+  waits_end : (a b j : ℕ) → b ≢ result → a ≢ result → (b ≢ at) ⊎ (j ≢ 409) → s.waits a b j → u.waits a b j
   waits_end a b j apart sep which w =
       let mid = x.link.gives.stays.waits a b j sep apart (λ z. z) w in
       ⊎_elim
-      (λ here. ⊎_elim (λ away. absurd (away here)) (λ lt. absurd (unwaited x.link a j lt (subst (λ y. m.waits a y j) here mid))) which)
+      (λ here. ⊎_elim
+      (λ away. absurd (away here))
+      (λ other. ⊎_elim
+      (λ lt. absurd (unwaited x.link a j lt (subst (λ y. m.waits a y j) here mid)))
+      (λ ge. x.hangs.waits a b j (inr (inl (
+        λ e. let few = x.link.few in absurd (omega (arith, few, ge, e)),
+        λ pair. let few = x.link.few in let first = pair.1 in let second = pair.2 in other (omega (arith, few, ge, first, second)),
+      ))) mid)
+      (cases_lt j 409))
+      which)
       (λ away. x.hangs.waits a b j (inl away) mid)
       (cases_eq b at)
 
@@ -341,7 +350,7 @@ module _ {t : Tree} {level k at i n : ℕ} {was : Pointer} {c : Content} {l : La
       no_front [] j rest e = cc
       no_front (y ∷ front) j rest e = cc
 
-  changes_end : OnlyCovers was s u → ((a j : ℕ) → s.waits a at j → j < 409) → Changes t.tag Mine (λ b. b ≡ at) s u
+  changes_end : OnlyCovers was s u → ((a : ℕ) → s.waits a at 409 → ⊥) → Changes t.tag Mine (λ b. b ≡ at) s u
   changes_end only few = record {
     memory = λ b not. let away = touches b not in record { bytes = bytes_end b away.1; slots = λ j. slots_end b j away.1 (inl away.0) };
     images = undone;
@@ -368,8 +377,8 @@ module _ {t : Tree} {level k at i n : ℕ} {was : Pointer} {c : Content} {l : La
     numbers = record { next = x.frame.numbers.next ∙ x.link.gives.numbers.next; grants = λ h. x.frame.numbers.grants (x.link.gives.numbers.grants h) };
   }
     where
-      which : (a b j : ℕ) → s.waits a b j → (b ≢ at) ⊎ (j < 409)
-      which a b j w = ⊎_elim (λ here. inr (few a j (subst (λ y. s.waits a y j) here w))) (λ away. inl away) (cases_eq b at)
+      which : (a b j : ℕ) → s.waits a b j → (b ≢ at) ⊎ (j ≢ 409)
+      which a b j w = ⊎_elim (λ here. inr (λ e. few a (subst (λ z. s.waits a at z) e (subst (λ y. s.waits a y j) here w)))) (λ away. inl away) (cases_eq b at)
 
   pub links : Links t level k at i was result s u
   links = record {

@@ -1,5 +1,5 @@
 -- One step down a way: the block below a slot of a current block is made current.
-use Rattle.std.specs.Prelude.{◌≡◌, ◌≢◌, ◌⊎◌, ◌+◌, ◌*◌, ◌<◌, ℕ, suc, length}
+use Rattle.std.specs.Prelude.{◌≡◌, ◌≢◌, ◌⊎◌, ◌+◌, ◌*◌, ℕ, suc, length}
 use Rattle.fo_image.specs.declared.types.State.TheVariants.{Live}
 use Rattle.fo_image.specs.declared.types.Pointer.{Pointer}
 use Rattle.fo_image.specs.declared.types.Pointer.TheVariants.{Local}
@@ -70,7 +70,8 @@ pub record Links (t : Tree) (level k at i : ℕ) (was : Pointer) (result : ℕ) 
   pub instead : (b x : ℕ) → new.instead b x → old.instead b x
   pub reached : old.tells → (b : ℕ) → (was ≡ Local b → ⊥) → Reaches old.now (to_block 1) b → Reaches new.now (to_block 1) b
   pub covers : old.tells → OnlyCovers was old new
-  pub waits : (a on j : ℕ) → on ≢ result → a ≢ result → (on ≢ at) ⊎ (j < 409) → old.waits a on j → new.waits a on j
+  pub waits : (a on j : ℕ) → on ≢ result → a ≢ result → (on ≢ at) ⊎ (j ≢ 409) → old.waits a on j → new.waits a on j
   pub spare : new.spare + 1 ≡ old.spare
   pub room : new.room ≡ old.room
-  pub changes : OnlyCovers was old new → ((a j : ℕ) → old.waits a at j → j < 409) → Changes t.tag (λ b. (b ≡ at) ⊎ (was ≡ Local b)) (λ b. b ≡ at) old new
+  -- A put says what is to be closed only where the device tells, and nothing of who waits for what stands behind the last slot.
+  pub changes : OnlyCovers was old new → ((a : ℕ) → old.waits a at 409 → ⊥) → Changes t.tag (λ b. (b ≡ at) ⊎ (was ≡ Local b)) (λ b. b ≡ at) old new
