@@ -1,4 +1,6 @@
+mod Adding
 mod Levels
 mod Marking
 mod Orders
 mod Scanning
+mod Slots

@@ -1,8 +1,15 @@
 //! The blocks of sources, one pointer after another.
-ghost use Rattle.std.specs.Prelude.{◌≡◌, ◌+◌, ◌*◌, ◌<◌, ◌≤◌, length, IfErr, IfOk, MatchResult, OnOk};
-ghost use Rattle.fo_sound.specs.Device.{IsKept};
+ghost use Rattle.std.specs.Prelude.{◌≡◌, ℕ, ◌+◌, ◌*◌, ◌<◌, ◌≤◌, List, [], ◌++◌, length, drop, IfErr, IfOk, MatchResult, OnOk};
+ghost use Rattle.fo_crash.specs.Images.{Content, Image};
+ghost use Rattle.fo_good.specs.Means.{HasPointer};
+ghost use Rattle.fo_disk.specs.Disk.{Block};
+ghost use Rattle.fo_meta.specs.Leaf.{IsLeaf};
+ghost use Rattle.fo_sound.specs.Image.{block_of, is_zero};
+ghost use Rattle.fo_sound.specs.Device.{Shows, IsKept};
 ghost use Rattle.fo_check_tree.specs.Cause.{HasCauses};
-ghost use Rattle.fo_check_tree.specs.Lower.{level};
+ghost use Rattle.fo_check_tree.specs.Follows.{Follows, Reaches};
+ghost use Rattle.fo_check_tree.specs.Lower.{lower, level};
+ghost use Rattle.fo_check_tree.specs.Slots.{unless, steps_by, steps_below, steps_of, HasSlots};
 ghost use Rattle.fo_check_tree.specs.Steps.{IsAllowed, RefusesStep};
 ghost use Rattle.fo_check_tree.specs.declared.error.TreeError.TheVariants.{Read as ReadFault};
 
@@ -13,7 +20,7 @@ use crate::reads::read;
 use crate::walk::{Holder, Holds, Step, Walk};
 use fo_crash::Place;
 use fo_disk::{BLOCK, Disk};
-use fo_image::{Kind, Label, Pointer, first_data, is_zero, read_pointer};
+use fo_image::{Kind, Label, Pointer, first_data, read_pointer};
 use fo_rules::{may_have, read_leaf};
 use std::alloc::{AllocError, Global};
 
@@ -50,6 +57,7 @@ pub(crate) fn follow_all<D: Disk>(
     named: bool,
 ) -> Result<(), TreeError>
     requires size { D.size main.old ≡ walk.old.blocks }
+    ensures done { OnOk result (walk.new.steps.items ≡ []) }
     ensures blocks { OnOk result (walk.new.blocks ≡ walk.old.blocks) }
     ensures budget { OnOk result (205 * walk.new.labels.left + length walk.new.folders.items ≤ 205 * walk.old.labels.left + length walk.old.folders.items) }
     ensures level { OnOk result (level walk.new.noted ≤ level walk.old.noted) }
@@ -58,24 +66,72 @@ pub(crate) fn follow_all<D: Disk>(
     ensures cause { HasCauses (D.faults main.old) (D.faults main.new) result }
 {
     while let Some(step) = walk.steps.pop() {
-        match step.pointer {
-            Pointer::Nil => {}
-            Pointer::Score(_) => walk.note(9, step.holder.block),
-            Pointer::Local(address) => {
-                let label = label_of(walk, &step, address)?;
-                if walk.labels.reach(address) {
-                    let here = Holder {
-                        block: address,
-                        label,
-                    };
-                    enter(alloc, main, walk, &step, here, depth, named)?;
-                } else {
-                    walk.note(7, address);
-                }
-            }
-        }
+        follow(alloc, main, walk, &step, depth, named)?;
     }
     Ok(())
+}
+
+/// Follows one pointer.
+fn follow<D: Disk>(
+    alloc: Global,
+    main: &mut D,
+    walk: &mut Walk,
+    step: &Step,
+    depth: u32,
+    named: bool,
+) -> Result<(), TreeError>
+    requires size { D.size main.old ≡ walk.old.blocks }
+    ensures follows { (device : List Block) (image : Image) → Shows (D.holds main.old) device → OnOk result (Follows device image step.now walk.old walk.new) }
+    ensures blocks { OnOk result (walk.new.blocks ≡ walk.old.blocks) }
+    ensures tree { OnOk result ((walk.new.epoch ≡ walk.old.epoch) × (walk.new.active ≡ walk.old.active)) }
+    ensures left { OnOk result (410 * walk.new.labels.left + length walk.new.steps.items ≤ 410 * walk.old.labels.left + length walk.old.steps.items) }
+    ensures budget { OnOk result (205 * walk.new.labels.left + length walk.new.folders.items ≤ 205 * walk.old.labels.left + length walk.old.folders.items) }
+    ensures level { OnOk result (level walk.new.noted ≤ level walk.old.noted) }
+    ensures size { D.size main.new ≡ D.size main.old }
+    ensures kept { IsKept (D.holds main.old) (D.holds main.new) (D.moments main.old) (D.moments main.new) (D.unsure main.old) (D.unsure main.new) }
+    ensures cause { HasCauses (D.faults main.old) (D.faults main.new) result }
+{
+    match step.pointer {
+        Pointer::Nil => Ok(()),
+        Pointer::Score(_) => {
+            walk.note(9, step.holder.block);
+            Ok(())
+        }
+        Pointer::Local(address) => follow_local(alloc, main, walk, step, address, depth, named),
+    }
+}
+
+/// Follows a pointer to a block.
+fn follow_local<D: Disk>(
+    alloc: Global,
+    main: &mut D,
+    walk: &mut Walk,
+    step: &Step,
+    address: u32,
+    depth: u32,
+    named: bool,
+) -> Result<(), TreeError>
+    requires size { D.size main.old ≡ walk.old.blocks }
+    ensures reaches { (device : List Block) (image : Image) → Shows (D.holds main.old) device → OnOk result (Reaches device image step.now address walk.old walk.new) }
+    ensures blocks { OnOk result (walk.new.blocks ≡ walk.old.blocks) }
+    ensures tree { OnOk result ((walk.new.epoch ≡ walk.old.epoch) × (walk.new.active ≡ walk.old.active)) }
+    ensures left { OnOk result (410 * walk.new.labels.left + length walk.new.steps.items ≤ 410 * walk.old.labels.left + length walk.old.steps.items) }
+    ensures budget { OnOk result (205 * walk.new.labels.left + length walk.new.folders.items ≤ 205 * walk.old.labels.left + length walk.old.folders.items) }
+    ensures level { OnOk result (level walk.new.noted ≤ level walk.old.noted) }
+    ensures size { D.size main.new ≡ D.size main.old }
+    ensures kept { IsKept (D.holds main.old) (D.holds main.new) (D.moments main.old) (D.moments main.new) (D.unsure main.old) (D.unsure main.new) }
+    ensures cause { HasCauses (D.faults main.old) (D.faults main.new) result }
+{
+    let label = label_of(walk, step, address)?;
+    if !walk.labels.reach(address) {
+        walk.note(7, address);
+        return Ok(());
+    }
+    let here = Holder {
+        block: address,
+        label,
+    };
+    enter(alloc, main, walk, step, here, depth, named)
 }
 
 /// Reads a block that was reached, unless it holds a file's bytes.
@@ -89,7 +145,11 @@ fn enter<D: Disk>(
     named: bool,
 ) -> Result<(), TreeError>
     requires block { here.block < D.size main.old }
+    ensures pushed { (device : List Block) (c : Content) → Shows (D.holds main.old) device → HasSlots step.now.kind c (block_of device here.block)
+        → OnOk result (walk.new.steps.items ≡ walk.old.steps.items ++ steps_of step.now here c step.now.kind) }
     ensures blocks { OnOk result (walk.new.blocks ≡ walk.old.blocks) }
+    ensures tree { OnOk result ((walk.new.epoch ≡ walk.old.epoch) × (walk.new.active ≡ walk.old.active)) }
+    ensures labels { OnOk result (walk.new.labels ≡ walk.old.labels) }
     ensures left { OnOk result (walk.new.labels.left ≡ walk.old.labels.left) }
     ensures steps { OnOk result (length walk.new.steps.items ≤ length walk.old.steps.items + 409) }
     ensures folders { OnOk result (length walk.new.folders.items ≤ length walk.old.folders.items + 204) }
@@ -120,8 +180,10 @@ fn add_block(
     named: bool,
 ) -> Result<(), AllocError>
     requires { length block.now ≡ 8192 }
+    ensures pushed { (c : Content) → HasSlots step.now.kind c block.now → OnOk result (walk.new.steps.items ≡ walk.old.steps.items ++ steps_of step.now here c step.now.kind) }
     ensures blocks { OnOk result (walk.new.blocks ≡ walk.old.blocks) }
-    ensures left { OnOk result (walk.new.labels.left ≡ walk.old.labels.left) }
+    ensures tree { OnOk result ((walk.new.epoch ≡ walk.old.epoch) × (walk.new.active ≡ walk.old.active)) }
+    ensures labels { OnOk result (walk.new.labels ≡ walk.old.labels) }
     ensures steps { OnOk result (length walk.new.steps.items ≤ length walk.old.steps.items + 409) }
     ensures folders { OnOk result (length walk.new.folders.items ≤ length walk.old.folders.items + 204) }
     ensures level { OnOk result (level walk.new.noted ≤ level walk.old.noted) }
@@ -144,26 +206,49 @@ fn add_pointers(
     block: &[u8],
 ) -> Result<(), AllocError>
     requires { length block.now ≡ 8192 }
+    ensures pushed { (c : Content) → ((i : ℕ) → i < 409 → HasPointer c block.now i) → OnOk result (walk.new.steps.items ≡ walk.old.steps.items ++ steps_below step.now kind here c 409) }
+    ensures noted { OnOk result (walk.new.noted ≡ unless (is_zero (drop 8180 block.now)) 5 here.block walk.old.noted) }
     ensures blocks { OnOk result (walk.new.blocks ≡ walk.old.blocks) }
-    ensures left { OnOk result (walk.new.labels.left ≡ walk.old.labels.left) }
+    ensures tree { OnOk result ((walk.new.epoch ≡ walk.old.epoch) × (walk.new.active ≡ walk.old.active)) }
+    ensures labels { OnOk result (walk.new.labels ≡ walk.old.labels) }
     ensures steps { OnOk result (length walk.new.steps.items ≤ length walk.old.steps.items + 409) }
-    ensures folders { OnOk result (length walk.new.folders.items ≤ length walk.old.folders.items) }
+    ensures folders { OnOk result (walk.new.folders.items ≡ walk.old.folders.items) }
     ensures level { OnOk result (level walk.new.noted ≤ level walk.old.noted) }
 {
-    if !is_zero(&block[8180..]) {
-        walk.note(5, here.block);
-    }
+    walk.note_rest(here.block, &block[8180..]);
     for i in 0..409 {
         let pointer = read_pointer(&block[20 * i..20 * i + 20]);
-        if pointer != Pointer::Nil {
-            walk.steps.push(Step {
-                pointer,
-                kind,
-                index: step.index.saturating_mul(409).saturating_add(i as u64),
-                holder: here,
-                ..*step
-            })?;
-        }
+        add_pointer(walk, step, kind, here, i, pointer)?;
+    }
+    Ok(())
+}
+
+/// The pointer in slot `i` of a block, unless it leads nowhere.
+fn add_pointer(
+    walk: &mut Walk,
+    step: &Step,
+    kind: Kind,
+    here: Holder,
+    i: usize,
+    pointer: Pointer,
+) -> Result<(), AllocError>
+    ensures pushed { OnOk result (walk.new.steps.items ≡ walk.old.steps.items ++ steps_by step.now kind here i pointer) }
+    ensures noted { walk.new.noted ≡ walk.old.noted }
+    ensures blocks { walk.new.blocks ≡ walk.old.blocks }
+    ensures tree { (walk.new.epoch ≡ walk.old.epoch) × (walk.new.active ≡ walk.old.active) }
+    ensures labels { walk.new.labels ≡ walk.old.labels }
+    ensures steps { OnOk result (length walk.new.steps.items ≤ length walk.old.steps.items + 1) }
+    ensures folders { walk.new.folders.items ≡ walk.old.folders.items }
+{
+    match pointer {
+        Pointer::Nil => {}
+        Pointer::Local(_) | Pointer::Score(_) => walk.steps.push(Step {
+            pointer,
+            kind,
+            index: step.index.saturating_mul(409).saturating_add(i as u64),
+            holder: here,
+            ..*step
+        })?,
     }
     Ok(())
 }
@@ -178,9 +263,12 @@ fn add_records(
 ) -> Result<(), AllocError>
     requires { length block.now ≡ 8192 }
     ensures blocks { OnOk result (walk.new.blocks ≡ walk.old.blocks) }
-    ensures left { OnOk result (walk.new.labels.left ≡ walk.old.labels.left) }
-    ensures steps { OnOk result (length walk.new.steps.items ≤ length walk.old.steps.items) }
-    ensures folders { OnOk result (length walk.new.folders.items ≤ length walk.old.folders.items) }
+    ensures tree { OnOk result ((walk.new.epoch ≡ walk.old.epoch) × (walk.new.active ≡ walk.old.active)) }
+    ensures labels { OnOk result (walk.new.labels ≡ walk.old.labels) }
+    ensures steps { OnOk result (walk.new.steps.items ≡ walk.old.steps.items) }
+    ensures folders { OnOk result (walk.new.folders.items ≡ walk.old.folders.items) }
+    ensures format { ¬ IsLeaf block.now → OnOk result (walk.new.noted ≡ lower walk.old.noted 5 here.block) }
+    ensures quiet { IsLeaf block.now → OnOk result (walk.new.noted ≡ walk.old.noted) }
     ensures level { OnOk result (level walk.new.noted ≤ level walk.old.noted) }
 {
     let Some(records) = read_leaf(alloc, block)? else {

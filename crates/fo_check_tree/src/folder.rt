@@ -1,10 +1,13 @@
 //! Leaves of entries, and directories.
-ghost use Rattle.std.specs.Prelude.{◌≡◌, ◌+◌, ◌*◌, ◌<◌, ◌≤◌, false, length, take, drop, map, ◌++◌, OnOk};
+ghost use Rattle.std.specs.Prelude.{◌≡◌, ℕ, ◌+◌, ◌-◌, ◌*◌, ◌^◌, ◌<◌, ◌≤◌, not, ◌&&◌, None, cond, min, true, false, length, take, drop, map, [], ◌∷◌, ◌++◌, OnOk};
 ghost use Rattle.fo_image.specs.declared.types.Entry.{Entry};
 ghost use Rattle.fo_image.specs.Format.{SpellsEntry};
+ghost use Rattle.fo_crash.specs.Images.{Content};
+ghost use Rattle.fo_sound.specs.Image.{is_zero};
 ghost use Rattle.fo_sound.specs.Device.{IsKept};
 ghost use Rattle.fo_check_tree.specs.Cause.{HasCauses};
-ghost use Rattle.fo_check_tree.specs.Lower.{level};
+ghost use Rattle.fo_check_tree.specs.Lower.{lower, level};
+ghost use Rattle.fo_check_tree.specs.Slots.{no_entry, entry_of, HasSlot, steps_by_pairs, AddsFolders, pair_steps, first_steps, second_steps, pair_folders, is_folder, is_source, records_of, folders_by};
 ghost use Rattle.fo_check_tree.specs.Names.{number_in};
 
 use crate::blocks::follow_all;
@@ -12,7 +15,7 @@ use crate::error::TreeError;
 use crate::names::{Named, Number, same_name, same_pair, without_pair};
 use crate::walk::{Folder, Holder, Holds, Step, Walk};
 use fo_disk::Disk;
-use fo_image::{Entry, Pointer, is_zero, read_entry};
+use fo_image::{Entry, Pointer, read_entry};
 use fo_rules::has_pair;
 use std::alloc::{AllocError, Global};
 
@@ -29,13 +32,14 @@ const NO_ENTRY: Entry = Entry {
 /// An entry that is of at most four levels. Another is not followed.
 pub(crate) fn shallow(walk: &mut Walk, block: u32, entry: &Entry) -> Entry
     ensures blocks { walk.new.blocks ≡ walk.old.blocks }
-    ensures left { walk.new.labels.left ≡ walk.old.labels.left }
-    ensures steps { length walk.new.steps.items ≤ length walk.old.steps.items }
-    ensures folders { length walk.new.folders.items ≤ length walk.old.folders.items }
+    ensures tree { (walk.new.epoch ≡ walk.old.epoch) × (walk.new.active ≡ walk.old.active) }
+    ensures labels { walk.new.labels ≡ walk.old.labels }
+    ensures steps { walk.new.steps.items ≡ walk.old.steps.items }
+    ensures folders { walk.new.folders.items ≡ walk.old.folders.items }
     ensures level { level walk.new.noted ≤ level walk.old.noted }
     ensures entry { entry.now.depth ≤ 4 → result ≡ entry.now }
     ensures quiet { entry.now.depth ≤ 4 → walk.new.noted ≡ walk.old.noted }
-    ensures none { 4 < entry.now.depth → result.active ≡ false }
+    ensures none { 4 < entry.now.depth → result ≡ no_entry }
     ensures deep { 4 < entry.now.depth → level walk.new.noted ≤ 5 }
 {
     if entry.depth <= 4 {
@@ -51,11 +55,13 @@ fn entry_at(walk: &mut Walk, here: Holder, block: &[u8], i: usize) -> Entry
     requires length { length block.now ≡ 8192 }
     requires place { i < 204 }
     ensures found { (e : Entry) → SpellsEntry e (take 40 (drop (40 * i) block.now)) → e.depth ≤ 4 → result ≡ e }
-    ensures none { ((e : Entry) → SpellsEntry e (take 40 (drop (40 * i) block.now)) → 4 < e.depth) → (result.active ≡ false) × (level walk.new.noted ≤ 5) }
+    ensures is { (c : Content) → HasSlot c block.now i → result ≡ entry_of (c.slot i) }
+    ensures none { ((e : Entry) → SpellsEntry e (take 40 (drop (40 * i) block.now)) → 4 < e.depth) → (result ≡ no_entry) × (level walk.new.noted ≤ 5) }
     ensures blocks { walk.new.blocks ≡ walk.old.blocks }
-    ensures left { walk.new.labels.left ≡ walk.old.labels.left }
-    ensures steps { length walk.new.steps.items ≤ length walk.old.steps.items }
-    ensures folders { length walk.new.folders.items ≤ length walk.old.folders.items }
+    ensures tree { (walk.new.epoch ≡ walk.old.epoch) × (walk.new.active ≡ walk.old.active) }
+    ensures labels { walk.new.labels ≡ walk.old.labels }
+    ensures steps { walk.new.steps.items ≡ walk.old.steps.items }
+    ensures folders { walk.new.folders.items ≡ walk.old.folders.items }
     ensures level { level walk.new.noted ≤ level walk.old.noted }
 {
     match read_entry(&block[40 * i..40 * i + 40]) {
@@ -77,15 +83,18 @@ pub(crate) fn add_entries(
     named: bool,
 ) -> Result<(), AllocError>
     requires { length block.now ≡ 8192 }
+    ensures pushed { (c : Content) → ((i : ℕ) → i < 204 → HasSlot c block.now i) → OnOk result (walk.new.steps.items ≡ walk.old.steps.items ++ steps_by_pairs here c 102) }
+    ensures put { (c : Content) → ((i : ℕ) → i < 204 → HasSlot c block.now i) → OnOk result (AddsFolders here c (min (depth + 1) (2 ^ 32 - 1)) named 102 walk.old.folders.items walk.new.folders.items) }
+    ensures rest { is_zero (drop 8160 block.now) ≡ false → OnOk result (level walk.new.noted ≤ 5) }
     ensures blocks { OnOk result (walk.new.blocks ≡ walk.old.blocks) }
-    ensures left { OnOk result (walk.new.labels.left ≡ walk.old.labels.left) }
+    ensures tree { OnOk result ((walk.new.epoch ≡ walk.old.epoch) × (walk.new.active ≡ walk.old.active)) }
+    ensures labels { OnOk result (walk.new.labels ≡ walk.old.labels) }
     ensures steps { OnOk result (length walk.new.steps.items ≤ length walk.old.steps.items + 204) }
     ensures folders { OnOk result (length walk.new.folders.items ≤ length walk.old.folders.items + 204) }
     ensures level { OnOk result (level walk.new.noted ≤ level walk.old.noted) }
 {
-    if !is_zero(&block[8160..]) {
-        walk.note(5, here.block);
-    }
+    walk.note_rest(here.block, &block[8160..]);
+    let below = depth.saturating_add(1);
     for k in 0..102 {
         let first = entry_at(walk, here, block, 2 * k);
         let second = entry_at(walk, here, block, 2 * k + 1);
@@ -95,14 +104,8 @@ pub(crate) fn add_entries(
             &first,
             &second,
         );
-        add_pair(
-            walk,
-            here,
-            &first,
-            &second,
-            depth.saturating_add(1),
-            named && of,
-        )?;
+        let leads = is_both(named, of);
+        add_pair(walk, here, &first, &second, below, leads)?;
     }
     Ok(())
 }
@@ -110,9 +113,10 @@ pub(crate) fn add_entries(
 /// Whether a record of the directory in course names this pair and is its own.
 fn find_pair(walk: &mut Walk, slot: u64, first: &Entry, second: &Entry) -> bool
     ensures blocks { walk.new.blocks ≡ walk.old.blocks }
-    ensures left { walk.new.labels.left ≡ walk.old.labels.left }
-    ensures steps { length walk.new.steps.items ≤ length walk.old.steps.items }
-    ensures folders { length walk.new.folders.items ≤ length walk.old.folders.items }
+    ensures tree { (walk.new.epoch ≡ walk.old.epoch) × (walk.new.active ≡ walk.old.active) }
+    ensures labels { walk.new.labels ≡ walk.old.labels }
+    ensures steps { walk.new.steps.items ≡ walk.old.steps.items }
+    ensures folders { walk.new.folders.items ≡ walk.old.folders.items }
     ensures level { level walk.new.noted ≤ level walk.old.noted }
 {
     let at = walk
@@ -136,53 +140,154 @@ fn add_pair(
     depth: u32,
     named: bool,
 ) -> Result<(), AllocError>
+    ensures pushed { OnOk result (walk.new.steps.items ≡ walk.old.steps.items ++ pair_steps here first.now second.now) }
+    ensures put { OnOk result (walk.new.folders.items ≡ walk.old.folders.items ++ pair_folders here first.now second.now depth named) }
     ensures blocks { OnOk result (walk.new.blocks ≡ walk.old.blocks) }
-    ensures left { OnOk result (walk.new.labels.left ≡ walk.old.labels.left) }
+    ensures tree { OnOk result ((walk.new.epoch ≡ walk.old.epoch) × (walk.new.active ≡ walk.old.active)) }
+    ensures labels { OnOk result (walk.new.labels ≡ walk.old.labels) }
     ensures steps { OnOk result (length walk.new.steps.items ≤ length walk.old.steps.items + 2) }
     ensures folders { OnOk result (length walk.new.folders.items ≤ length walk.old.folders.items + 2) }
     ensures level { OnOk result (level walk.new.noted ≤ level walk.old.noted) }
 {
-    let together = first.active && first.dir && second.active && !second.dir;
-    if first.active && first.dir {
-        let records = if together { Some(*second) } else { None };
-        add_folder(walk, here, first, records, depth, named)?;
-    } else if first.active {
-        walk.steps.push(Step::top(first, Holds::Bytes, here))?;
-    }
-    if second.active && second.dir {
-        add_folder(walk, here, second, None, depth, false)?;
-    } else if second.active && !together {
-        let mut alone = Step::top(second, Holds::Records, here);
-        alone.size = 0;
-        walk.steps.push(alone)?;
-    }
+    let records = records_of(first, second);
+    add_first(walk, here, first, records, depth, named)?;
+    add_second(walk, here, first, second, depth)?;
     Ok(())
 }
 
-fn add_folder(
+/// The first entry of a pair.
+fn add_first(
     walk: &mut Walk,
     here: Holder,
-    entries: &Entry,
+    entry: &Entry,
     records: Option<Entry>,
     depth: u32,
     named: bool,
 ) -> Result<(), AllocError>
+    ensures pushed { OnOk result (walk.new.steps.items ≡ walk.old.steps.items ++ first_steps here entry.now) }
+    ensures put { OnOk result (walk.new.folders.items ≡ walk.old.folders.items ++ folders_by here entry.now records depth named) }
     ensures blocks { OnOk result (walk.new.blocks ≡ walk.old.blocks) }
-    ensures left { OnOk result (walk.new.labels.left ≡ walk.old.labels.left) }
-    ensures steps { OnOk result (length walk.new.steps.items ≤ length walk.old.steps.items) }
+    ensures tree { OnOk result ((walk.new.epoch ≡ walk.old.epoch) × (walk.new.active ≡ walk.old.active)) }
+    ensures labels { OnOk result (walk.new.labels ≡ walk.old.labels) }
+    ensures steps { OnOk result (length walk.new.steps.items ≤ length walk.old.steps.items + 1) }
     ensures folders { OnOk result (length walk.new.folders.items ≤ length walk.old.folders.items + 1) }
     ensures level { OnOk result (level walk.new.noted ≤ level walk.old.noted) }
 {
-    if 64 < depth {
-        walk.note(8, here.block);
+    add_entry(walk, here, entry, records, depth, named)?;
+    let step = Step::top(entry, Holds::Bytes, here);
+    let source = is_source(entry);
+    add_source(walk, step, source)?;
+    Ok(())
+}
+
+/// The second entry of a pair.
+fn add_second(
+    walk: &mut Walk,
+    here: Holder,
+    first: &Entry,
+    second: &Entry,
+    depth: u32,
+) -> Result<(), AllocError>
+    ensures pushed { OnOk result (walk.new.steps.items ≡ walk.old.steps.items ++ second_steps here (is_folder first.now) second.now) }
+    ensures put { OnOk result (walk.new.folders.items ≡ walk.old.folders.items ++ folders_by here second.now None depth false) }
+    ensures blocks { OnOk result (walk.new.blocks ≡ walk.old.blocks) }
+    ensures tree { OnOk result ((walk.new.epoch ≡ walk.old.epoch) × (walk.new.active ≡ walk.old.active)) }
+    ensures labels { OnOk result (walk.new.labels ≡ walk.old.labels) }
+    ensures steps { OnOk result (length walk.new.steps.items ≤ length walk.old.steps.items + 1) }
+    ensures folders { OnOk result (length walk.new.folders.items ≤ length walk.old.folders.items + 1) }
+    ensures level { OnOk result (level walk.new.noted ≤ level walk.old.noted) }
+{
+    add_entry(walk, here, second, None, depth, false)?;
+    let step = Step::unlisted(second, here);
+    let alone = is_alone(first, second);
+    add_source(walk, step, alone)?;
+    Ok(())
+}
+
+/// Whether the second entry of a pair names a source that no directory has.
+fn is_alone(first: &Entry, second: &Entry) -> bool
+    ensures { result ≡ is_source second.now && not (is_folder first.now) }
+{
+    is_source(second) && !is_folder(first)
+}
+
+/// Whether names lead to a leaf of entries, and to a pair in it.
+fn is_both(named: bool, found: bool) -> bool
+    ensures { result ≡ named && found }
+{
+    named && found
+}
+
+/// Whether an entry names a source of entries.
+fn is_folder(entry: &Entry) -> bool
+    ensures { result ≡ is_folder entry.now }
+{
+    entry.active && entry.dir
+}
+
+/// Whether an entry names a source of bytes or records.
+fn is_source(entry: &Entry) -> bool
+    ensures { result ≡ is_source entry.now }
+{
+    entry.active && !entry.dir
+}
+
+/// The second entry of a pair, where the pair is a directory.
+fn records_of(first: &Entry, second: &Entry) -> Option<Entry>
+    ensures { result ≡ records_of first.now second.now }
+{
+    if is_folder(first) && is_source(second) {
+        Some(*second)
+    } else {
+        None
     }
-    walk.folders.push(Folder {
-        entries: *entries,
-        records,
-        holder: here,
-        depth,
-        named,
-    })?;
+}
+
+/// A step, where it is to be made.
+fn add_source(walk: &mut Walk, step: Step, is: bool) -> Result<(), AllocError>
+    ensures pushed { OnOk result (walk.new.steps.items ≡ walk.old.steps.items ++ cond is (step ∷ []) []) }
+    ensures steps { OnOk result (length walk.new.steps.items ≤ length walk.old.steps.items + 1) }
+    ensures noted { walk.new.noted ≡ walk.old.noted }
+    ensures blocks { walk.new.blocks ≡ walk.old.blocks }
+    ensures tree { (walk.new.epoch ≡ walk.old.epoch) × (walk.new.active ≡ walk.old.active) }
+    ensures labels { walk.new.labels ≡ walk.old.labels }
+    ensures folders { walk.new.folders.items ≡ walk.old.folders.items }
+{
+    if is {
+        walk.steps.push(step)?;
+    }
+    Ok(())
+}
+
+/// The source of an entry, where that names a source of entries.
+fn add_entry(
+    walk: &mut Walk,
+    here: Holder,
+    entry: &Entry,
+    records: Option<Entry>,
+    depth: u32,
+    named: bool,
+) -> Result<(), AllocError>
+    ensures put { OnOk result (walk.new.folders.items ≡ walk.old.folders.items ++ folders_by here entry.now records depth named) }
+    ensures folders { OnOk result (length walk.new.folders.items ≤ length walk.old.folders.items + 1) }
+    ensures deep { is_folder entry.now ≡ true → 64 < depth → OnOk result (walk.new.noted ≡ lower walk.old.noted 8 here.block) }
+    ensures quiet { depth ≤ 64 → walk.new.noted ≡ walk.old.noted }
+    ensures level { level walk.new.noted ≤ level walk.old.noted }
+    ensures blocks { walk.new.blocks ≡ walk.old.blocks }
+    ensures tree { (walk.new.epoch ≡ walk.old.epoch) × (walk.new.active ≡ walk.old.active) }
+    ensures labels { walk.new.labels ≡ walk.old.labels }
+    ensures steps { walk.new.steps.items ≡ walk.old.steps.items }
+{
+    if is_folder(entry) {
+        walk.note_depth(here.block, depth);
+        walk.folders.push(Folder {
+            entries: *entry,
+            records,
+            holder: here,
+            depth,
+            named,
+        })?;
+    }
     Ok(())
 }
 

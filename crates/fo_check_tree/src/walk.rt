@@ -1,11 +1,14 @@
 //! What a walk through a tree has to do, and what it has seen.
-ghost use Rattle.std.specs.Prelude.{◌≡◌, ◌≤◌, length};
+ghost use Rattle.std.specs.Prelude.{◌≡◌, ◌<◌, ◌≤◌};
+ghost use Rattle.fo_sound.specs.Image.{is_zero};
 ghost use Rattle.fo_check_tree.specs.Lower.{lower, level};
+ghost use Rattle.fo_check_tree.specs.Slots.{unless, top_step};
+ghost use Rattle.fo_check_tree.specs.declared.walk.Holds.TheVariants.{Records};
 
 use crate::broken::{Broken, lower};
 use crate::labels::Labels;
 use crate::names::{Named, Number};
-use fo_image::{Entry, Kind, Label, Pointer};
+use fo_image::{Entry, Kind, Label, Pointer, is_zero};
 
 /// The block that holds a pointer or an entry, and its label.
 #[derive(Clone, Copy)]
@@ -37,7 +40,9 @@ pub(crate) struct Step {
 
 impl Step {
     /// To the top of the source of an entry.
-    pub(crate) fn top(entry: &Entry, holds: Holds, holder: Holder) -> Step {
+    pub(crate) fn top(entry: &Entry, holds: Holds, holder: Holder) -> Step
+        ensures { result ≡ top_step entry.now holds holder }
+    {
         let kind = if entry.dir {
             Kind::Dir(entry.depth)
         } else {
@@ -52,6 +57,15 @@ impl Step {
             holds,
             holder,
         }
+    }
+
+    /// To the top of a source of records of which none is listed.
+    pub(crate) fn unlisted(entry: &Entry, holder: Holder) -> Step
+        ensures { result ≡ record (top_step entry.now Records holder) { size = 0 } }
+    {
+        let mut step = Step::top(entry, Holds::Records, holder);
+        step.size = 0;
+        step
     }
 }
 
@@ -90,11 +104,44 @@ impl Walk {
         ensures noted { self.new.noted ≡ lower self.old.noted rule block }
         ensures level { level self.new.noted ≤ level self.old.noted }
         ensures at { level self.new.noted ≤ rule }
+        ensures same { self.new ≡ record self.old { noted = self.new.noted } }
         ensures blocks { self.new.blocks ≡ self.old.blocks }
-        ensures left { self.new.labels.left ≡ self.old.labels.left }
-        ensures steps { length self.new.steps.items ≡ length self.old.steps.items }
-        ensures folders { length self.new.folders.items ≡ length self.old.folders.items }
+        ensures tree { (self.new.epoch ≡ self.old.epoch) × (self.new.active ≡ self.old.active) }
+        ensures labels { self.new.labels ≡ self.old.labels }
+        ensures steps { self.new.steps.items ≡ self.old.steps.items }
+        ensures folders { self.new.folders.items ≡ self.old.folders.items }
     {
         self.noted = lower(self.noted, rule, block);
+    }
+
+    /// A source of entries has at most 64 others above it.
+    pub(crate) fn note_depth(&mut self, block: u32, depth: u32)
+        ensures deep { 64 < depth → self.new.noted ≡ lower self.old.noted 8 block }
+        ensures quiet { depth ≤ 64 → self.new.noted ≡ self.old.noted }
+        ensures level { level self.new.noted ≤ level self.old.noted }
+        ensures blocks { self.new.blocks ≡ self.old.blocks }
+        ensures tree { (self.new.epoch ≡ self.old.epoch) × (self.new.active ≡ self.old.active) }
+        ensures labels { self.new.labels ≡ self.old.labels }
+        ensures steps { self.new.steps.items ≡ self.old.steps.items }
+        ensures folders { self.new.folders.items ≡ self.old.folders.items }
+    {
+        if 64 < depth {
+            self.note(8, block);
+        }
+    }
+
+    /// The bytes behind the slots of a block have to be zeros.
+    pub(crate) fn note_rest(&mut self, block: u32, rest: &[u8])
+        ensures noted { self.new.noted ≡ unless (is_zero rest.now) 5 block self.old.noted }
+        ensures level { level self.new.noted ≤ level self.old.noted }
+        ensures blocks { self.new.blocks ≡ self.old.blocks }
+        ensures tree { (self.new.epoch ≡ self.old.epoch) × (self.new.active ≡ self.old.active) }
+        ensures labels { self.new.labels ≡ self.old.labels }
+        ensures steps { self.new.steps.items ≡ self.old.steps.items }
+        ensures folders { self.new.folders.items ≡ self.old.folders.items }
+    {
+        if !is_zero(rest) {
+            self.note(5, block);
+        }
     }
 }

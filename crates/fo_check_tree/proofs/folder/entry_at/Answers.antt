@@ -1,6 +1,8 @@
 use Rattle.std.proofs.Common.{◌≡◌, ℕ, ◌+◌, ◌-◌, ◌*◌, ◌≤◌, List, refl, take, drop, sym, ◌∙◌, ap, subst, arith}
 use Rattle.fo_image.specs.declared.types.Entry.{Entry}
 use Rattle.fo_image.specs.Format.{SpellsEntry}
+use Rattle.fo_check_tree.specs.Slots.{no_entry}
+use Rattle.fo_check_tree.proofs.Slots.{as_slot}
 use Rattle.fo_check_tree.proofs.folder.entry_at.Goals as goal
 
 part : (i : ℕ) (block : List ℕ) → take (40 * i + 40 - 40 * i) (drop (40 * i) block) ≡ take 40 (drop (40 * i) block)
@@ -21,3 +23,9 @@ returns-in-Err-clause-found c e spelled low = absurd (c.in-Err.ensures.refused.1
 
 pub returns-in-Err-clause-none : goal.returns-in-Err-clause-none
 returns-in-Err-clause-none c deep = (refl, c.note.ensures.at)
+
+pub returns-in-Ok-clause-is : goal.returns-in-Ok-clause-is
+returns-in-Ok-clause-is c c' h = as_slot c' c.args.block.now c.args.i c.shallow.result (returns-in-Ok-clause-found c) (λ deep. (returns-in-Ok-clause-none c deep).0) h
+
+pub returns-in-Err-clause-is : goal.returns-in-Err-clause-is
+returns-in-Err-clause-is c c' h = as_slot c' c.args.block.now c.args.i no_entry (returns-in-Err-clause-found c) (λ deep. (returns-in-Err-clause-none c deep).0) h

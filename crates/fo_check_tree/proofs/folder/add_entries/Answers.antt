@@ -1,0 +1,58 @@
+use Rattle.std.proofs.Common.{◌≡◌, ℕ, ◌+◌, ◌-◌, ◌*◌, ◌^◌, ◌<◌, ◌≤◌, List, ◌++◌, length, take, drop, ◌∙◌, ap, subst, arith}
+use Rattle.std.specs.Prelude.{min}
+use Rattle.fo_sound.specs.Image.{is_zero}
+use Rattle.fo_check_tree.specs.declared.walk.Step.{Step}
+use Rattle.fo_check_tree.specs.declared.walk.Folder.{Folder}
+use Rattle.fo_check_tree.specs.Lower.{level}
+use Rattle.fo_check_tree.specs.Slots.{steps_by_pairs, pair_steps, pair_folders, AddsFolders}
+use Rattle.fo_check_tree.proofs.Slots.{pairs_first, pairs_more, folders_first, folders_more, low_unless, rest_is}
+use Rattle.fo_check_tree.proofs.folder.add_entries.Goals as goal
+
+pub loop-k-init : goal.loop-k-init
+loop-k-init c = record {
+  pushed = λ c' each. rw c.note_rest.ensures.steps (pairs_first c.args.here c' c.args.walk.now.steps.items);
+  put = λ c' each. rw c.note_rest.ensures.folders (folders_first c.args.here c' (min (c.args.depth + 1) (2 ^ 32 - 1)) c.args.named c.args.walk.now.folders.items);
+  rest = λ no. rw c.note_rest.ensures.noted (low_unless (is_zero (take (length c.args.block.now - 8160) (drop 8160 c.args.block.now))) c.args.here.block c.args.walk.now.noted (ap is_zero (rest_is 8160 c.args.block.now) ∙ no));
+  blocks = c.note_rest.ensures.blocks;
+  tree = c.note_rest.ensures.tree;
+  low = c.note_rest.ensures.level;
+  labels = c.note_rest.ensures.labels;
+  steps = rw c.note_rest.ensures.steps (omega arith);
+  folders = rw c.note_rest.ensures.folders (omega arith);
+}
+
+pub loop-k-preserved : goal.loop-k-preserved
+loop-k-preserved c =
+    let steps : c.find_pair-of.new.walk.steps.items ≡ c.loop-k.walk.steps.items = c.find_pair-of.ensures.steps ∙ c.entry_at-second.ensures.steps ∙ c.entry_at-first.ensures.steps in
+    let folders : c.find_pair-of.new.walk.folders.items ≡ c.loop-k.walk.folders.items = c.find_pair-of.ensures.folders ∙ c.entry_at-second.ensures.folders ∙ c.entry_at-first.ensures.folders in
+    let many = ap (λ (s : List Step). length s) steps in
+    let many' = ap (λ (s : List Folder). length s) folders in
+    let less : c.loop-k.k < 102 = c.loop-k-test.true in
+    let low : level c.add_pair.new.walk.noted ≤ level c.loop-k.walk.noted = omega (arith, c.entry_at-first.ensures.level, c.entry_at-second.ensures.level, c.find_pair-of.ensures.level, c.in_ok-add_pair.ensures.level) in
+    record {
+      pushed = λ c' each. pairs_more c.args.here c' c.args.walk.now.steps.items c.loop-k.walk.steps.items c.add_pair.new.walk.steps.items c.loop-k.k c.entry_at-first.result c.entry_at-second.result
+          (c.entry_at-first.ensures.is c' (each (2 * c.loop-k.k) (omega (arith, less)))) (c.entry_at-second.ensures.is c' (each (2 * c.loop-k.k + 1) (omega (arith, less))))
+          (c.loop-k.invariant.pushed c' each) (c.in_ok-add_pair.ensures.pushed ∙ ap (λ (s : List Step). s ++ pair_steps c.args.here c.entry_at-first.result c.entry_at-second.result) steps);
+      put = λ c' each. folders_more c.args.here c' (min (c.args.depth + 1) (2 ^ 32 - 1)) c.saturating_add-below.result c.args.named c.find_pair-of.result c.is_both-leads.result
+          c.args.walk.now.folders.items c.loop-k.walk.folders.items c.add_pair.new.walk.folders.items c.loop-k.k c.entry_at-first.result c.entry_at-second.result
+          c.saturating_add-below.ensures c.is_both-leads.ensures
+          (c.entry_at-first.ensures.is c' (each (2 * c.loop-k.k) (omega (arith, less)))) (c.entry_at-second.ensures.is c' (each (2 * c.loop-k.k + 1) (omega (arith, less))))
+          (c.loop-k.invariant.put c' each) (c.in_ok-add_pair.ensures.put ∙ ap (λ (s : List Folder). s ++ pair_folders c.args.here c.entry_at-first.result c.entry_at-second.result c.saturating_add-below.result c.is_both-leads.result) folders);
+      rest = λ no. let before = c.loop-k.invariant.rest no in omega (arith, low, before);
+      blocks = c.in_ok-add_pair.ensures.blocks ∙ c.find_pair-of.ensures.blocks ∙ c.entry_at-second.ensures.blocks ∙ c.entry_at-first.ensures.blocks ∙ c.loop-k.invariant.blocks;
+      tree = (c.in_ok-add_pair.ensures.tree.0 ∙ c.find_pair-of.ensures.tree.0 ∙ c.entry_at-second.ensures.tree.0 ∙ c.entry_at-first.ensures.tree.0 ∙ c.loop-k.invariant.tree.0, c.in_ok-add_pair.ensures.tree.1 ∙ c.find_pair-of.ensures.tree.1 ∙ c.entry_at-second.ensures.tree.1 ∙ c.entry_at-first.ensures.tree.1 ∙ c.loop-k.invariant.tree.1);
+      low = omega (arith, low, c.loop-k.invariant.low);
+      labels = c.in_ok-add_pair.ensures.labels ∙ c.find_pair-of.ensures.labels ∙ c.entry_at-second.ensures.labels ∙ c.entry_at-first.ensures.labels ∙ c.loop-k.invariant.labels;
+      steps = omega (arith, many, c.in_ok-add_pair.ensures.steps, c.loop-k.invariant.steps);
+      folders = omega (arith, many', c.in_ok-add_pair.ensures.folders, c.loop-k.invariant.folders);
+    }
+
+pub returns-clause-pushed : goal.returns-clause-pushed
+returns-clause-pushed c c' each =
+    let end : c.loop-k.k ≡ 102 = omega (arith, c.loop-k-test.false, c.loop-k.auto.k-end) in
+    subst (λ (n : ℕ). c.loop-k.walk.steps.items ≡ c.args.walk.now.steps.items ++ steps_by_pairs c.args.here c' n) end (c.loop-k.invariant.pushed c' each)
+
+pub returns-clause-put : goal.returns-clause-put
+returns-clause-put c c' each =
+    let end : c.loop-k.k ≡ 102 = omega (arith, c.loop-k-test.false, c.loop-k.auto.k-end) in
+    subst (λ (n : ℕ). AddsFolders c.args.here c' (min (c.args.depth + 1) (2 ^ 32 - 1)) c.args.named n c.args.walk.now.folders.items c.loop-k.walk.folders.items) end (c.loop-k.invariant.put c' each)

@@ -1,0 +1,15 @@
+use Rattle.std.proofs.Common.{Bool, List, [], ◌∷◌, ◌++◌, ◌∙◌, ap}
+use Rattle.std.specs.Prelude.{cond}
+use Rattle.fo_check_tree.specs.declared.walk.Step.{Step}
+use Rattle.fo_check_tree.specs.Slots.{is_source}
+use Rattle.fo_check_tree.proofs.folder.add_first.Goals as goal
+
+pub returns-clause-pushed : goal.returns-clause-pushed
+returns-clause-pushed c =
+    c.in_ok-add_source.ensures.pushed
+    ∙ ap (λ (s : List Step). s ++ cond c.is_source-source.result (c.top-step.result ∷ []) []) c.add_entry.ensures.steps
+    ∙ ap (λ (t : Bool). c.args.walk.now.steps.items ++ cond t (c.top-step.result ∷ []) []) c.is_source-source.ensures
+    ∙ ap (λ (s : Step). c.args.walk.now.steps.items ++ cond (is_source c.args.entry.now) (s ∷ []) []) c.top-step.ensures
+
+pub returns-clause-put : goal.returns-clause-put
+returns-clause-put c = c.add_source.ensures.folders ∙ c.in_ok-add_entry.ensures.put

@@ -1,0 +1,18 @@
+use Rattle.std.proofs.Common.{Option, List, ◌++◌, false, None, ◌∙◌, ap, append_assoc}
+use Rattle.fo_image.specs.declared.types.Entry.{Entry}
+use Rattle.fo_check_tree.specs.declared.walk.Step.{Step}
+use Rattle.fo_check_tree.specs.declared.walk.Folder.{Folder}
+use Rattle.fo_check_tree.specs.Slots.{first_steps, second_steps, is_folder, folders_by, records_of}
+use Rattle.fo_check_tree.proofs.folder.add_pair.Goals as goal
+
+pub returns-clause-pushed : goal.returns-clause-pushed
+returns-clause-pushed c =
+    c.in_ok-add_second.ensures.pushed
+    ∙ ap (λ (s : List Step). s ++ second_steps c.args.here (is_folder c.args.first.now) c.args.second.now) c.in_ok-add_first.ensures.pushed
+    ∙ append_assoc c.args.walk.now.steps.items (first_steps c.args.here c.args.first.now) (second_steps c.args.here (is_folder c.args.first.now) c.args.second.now)
+
+pub returns-clause-put : goal.returns-clause-put
+returns-clause-put c =
+    c.in_ok-add_second.ensures.put
+    ∙ ap (λ (s : List Folder). s ++ folders_by c.args.here c.args.second.now None c.args.depth false) (c.in_ok-add_first.ensures.put ∙ ap (λ (o : Option Entry). c.args.walk.now.folders.items ++ folders_by c.args.here c.args.first.now o c.args.depth c.args.named) c.records_of-records.ensures)
+    ∙ append_assoc c.args.walk.now.folders.items (folders_by c.args.here c.args.first.now (records_of c.args.first.now c.args.second.now) c.args.depth c.args.named) (folders_by c.args.here c.args.second.now None c.args.depth false)

@@ -1,0 +1,15 @@
+use Rattle.std.proofs.Common.{Bool, List, [], ◌∷◌, ◌++◌, ◌∙◌, ap}
+use Rattle.std.specs.Prelude.{cond, not, ◌&&◌}
+use Rattle.fo_check_tree.specs.declared.walk.Step.{Step}
+use Rattle.fo_check_tree.specs.Slots.{is_source, is_folder}
+use Rattle.fo_check_tree.proofs.folder.add_second.Goals as goal
+
+pub returns-clause-pushed : goal.returns-clause-pushed
+returns-clause-pushed c =
+    c.in_ok-add_source.ensures.pushed
+    ∙ ap (λ (s : List Step). s ++ cond c.is_alone-alone.result (c.unlisted-step.result ∷ []) []) c.add_entry.ensures.steps
+    ∙ ap (λ (t : Bool). c.args.walk.now.steps.items ++ cond t (c.unlisted-step.result ∷ []) []) c.is_alone-alone.ensures
+    ∙ ap (λ (s : Step). c.args.walk.now.steps.items ++ cond (is_source c.args.second.now && not (is_folder c.args.first.now)) (s ∷ []) []) c.unlisted-step.ensures
+
+pub returns-clause-put : goal.returns-clause-put
+returns-clause-put c = c.add_source.ensures.folders ∙ c.in_ok-add_entry.ensures.put
