@@ -70,6 +70,10 @@ most_cleared size end = cond (nat_le end size) 0 (409 * depth_for size)
 abbrev pub Finds : (tells : Type 0) (needed left : ℕ) (prepared : Type 0) → Type 0
 Finds tells needed left prepared = tells ⊎ ((needed ≤ left) ⊎ prepared)
 
+-- Each leaf that has some of these bytes stands on the device.
+abbrev pub AreLocal : (leaves : ℕ → Option ℕ) → (size offset n : ℕ) → Type 0
+AreLocal leaves size offset n = (k : ℕ) → offset ≤ k → k < offset + n → k < size → (b : ℕ) × (leaves (k / 8192) ≡ Some b)
+
 -- A block stays in place: its slots where it is no leaf of entries, how long it is, its label and its places stay, it hangs from block 1
 -- where it did, no removal is to close it that was not, and nothing more was made to come in its place.
 pub record StaysInPlace (old new : State) (at : ℕ) : Type 0 where

@@ -36,7 +36,7 @@ pub record State : Type 1 where
   pub next : ℕ
   pub grants : Type 0
   pub limit : Content → ℕ
-  -- the device tells what it holds
+  -- the devices tell what they hold, that of the arena too
   pub tells : Type 0
   -- every image that a crash may leave, now or after whatever is flushed later
   pub may_leave : Image → Type 0
@@ -183,6 +183,13 @@ pub record Numbers (old new : State) : Type 0 where
   pub dirty : (b : ℕ) → new.dirty b → old.dirty b
   pub room : (new.spare ≡ old.spare) × (new.pins_left ≡ old.pins_left) × (new.room ≡ old.room) × (new.next ≡ old.next)
 
+-- A block hangs from one that was made and put into no slot yet, and, as far as the device tells, not from block 1.
+pub record IsUnlinked (s : State) (b : ℕ) : Type 0 where
+  pub maker : ℕ
+  pub apart : s.apart maker
+  pub hangs : Reaches s.now (to_block maker) b
+  pub free : s.tells → Reaches s.now (to_block 1) b → ⊥
+
 -- a block of pointers
 abbrev pub IsPointers : State → ℕ → Type 0
 IsPointers s b = IsInner (s.label b).kind
@@ -191,10 +198,19 @@ IsPointers s b = IsInner (s.label b).kind
 abbrev pub IsDoomed : State → ℕ → Type 0
 IsDoomed s b = s.covered b ⊎ ((at : ℕ) × (j : ℕ) × s.clearing at j × Reaches s.now ((s.now at).slot j) b)
 
+-- A slot stays, and waits on where it waited; or it waited, and was cleared.
+abbrev pub KeepsSlot : (old new : State) → ℕ → ℕ → Type 0
+KeepsSlot old new b j = (((new.now b).slot j ≡ (old.now b).slot j) × (old.clearing b j → new.clearing b j)) ⊎ (old.clearing b j × ((new.now b).slot j ≡ cleared ((old.now b).slot j)))
+
+-- Memory keeps a block, but for slots that waited.
+pub record StaysKnown (old new : State) (b : ℕ) : Type 0 where
+  pub bytes : (new.now b).bytes ≡ (old.now b).bytes
+  pub slots : (j : ℕ) → KeepsSlot old new b j
+
 -- A block that is not doomed stays, but for slots that waited. It keeps its place where it hangs in memory.
 pub record StaysUndoomed (old new : State) (b : ℕ) : Type 0 where
   pub bytes : (new.now b).bytes ≡ (old.now b).bytes
-  pub slots : (j : ℕ) → ((new.now b).slot j ≡ (old.now b).slot j) ⊎ (old.clearing b j × ((new.now b).slot j ≡ cleared ((old.now b).slot j)))
+  pub slots : (j : ℕ) → KeepsSlot old new b j
   pub label : new.label b ≡ old.label b
   pub sealed : old.sealed b → new.sealed b
   pub uncovered : new.covered b → ⊥

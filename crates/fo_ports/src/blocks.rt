@@ -11,7 +11,7 @@ ghost use Rattle.fo_crash.specs.Names.{SameUse};
 ghost use Rattle.fo_crash.specs.Places.{place, super_place, root_place, IsPlaced, OnePlace, RanksFall};
 ghost use Rattle.fo_crash.specs.Spots.{FewSlots, OneSpot};
 ghost use Rattle.fo_ports.specs.Blocks.{slot_count, IsLevel, IsFormed, IsRanked, blank, SlotFits, Reads, ReadsSlots, MayPut, put_at, zeros, dropped, cost, OnChain};
-ghost use Rattle.fo_ports.specs.State.{State, KeepsAll, none, Stays, KeepsOrder, KeepsCovered, Uses, KeepsNumbers, Frame, Calm, Gives, Looks, Numbers, Rests, MayPutSlot, MayRemoveSlot, Hangs, IsDoomed, IsPointers, IsPairUsed, AddsNoWait, WaitsForPairs, WaitsInUse};
+ghost use Rattle.fo_ports.specs.State.{State, KeepsAll, none, Stays, KeepsOrder, KeepsCovered, Uses, KeepsNumbers, Frame, Calm, Gives, Looks, Numbers, Rests, StaysKnown, IsUnlinked, MayPutSlot, MayRemoveSlot, Hangs, IsDoomed, IsPointers, IsPairUsed, AddsNoWait, WaitsForPairs, WaitsInUse};
 ghost use Rattle.fo_ports.specs.Causes.{Caused, IsFull};
 
 use crate::error::BlockError;
@@ -175,6 +175,7 @@ pub trait Blocks {
     fn wait_for(&mut self, at: u32, on: u32)
         requires pinned { (state self.old).pinned at }
         requires current { ((state self.old).label at).epoch ≡ (state self.old).high }
+        requires entries { (state self.old).pinned on × (((state self.old).label on).kind ≡ Dir 0) }
         requires room { 0 < (state self.old).room }
         requires lower { (state self.old).tells → (state self.old).sealed at × ((p q : Place) → (state self.old).stands at p → (state self.old).stands on q → q.rank < p.rank) }
         ensures waits { WaitsForPairs at on (state self.old) (state self.new) × AddsNoWait (λ a. a ≡ at) (state self.old) (state self.new) }
@@ -215,29 +216,31 @@ pub trait Blocks {
     fn is_sure(&self, at: u32) -> bool
         ensures { IsTrue result ↔ (state self.now).sure at };
 
-    /// Settles everything, and clears the slots that wait.
+    /// Settles everything but what was made and is put into no slot yet, and clears the slots that wait.
     fn settle(&mut self) -> Result<(), BlockError>
         requires apart { (state self.old).tells → (y x : ℕ) → (state self.old).instead y x → IsDoomed (state self.old) x → ⊥ }
         ensures all { OnOk result (AllAre (state self.new).now (state self.new).may_leave) }
         ensures none { OnOk result ((b j : ℕ) → (state self.new).clearing b j → ⊥) }
-        ensures clean { OnOk result ((b : ℕ) → (state self.new).dirty b → ⊥) }
+        ensures clean { OnOk result ((b : ℕ) → (state self.new).dirty b → IsUnlinked (state self.new) b) }
         ensures sealed { OnOk result ((state self.old).tells → (b : ℕ) → (state self.new).sure b × (Reaches (state self.new).now (to_block 1) b → (state self.new).sealed b)) }
         ensures rests { Rests (state self.old) (state self.new) }
+        ensures known { (b : ℕ) → (state self.old).pinned b → StaysKnown (state self.old) (state self.new) b }
         ensures blocks { (b : ℕ) → ((state self.new).label b ≡ (state self.old).label b) × ((state self.old).pinned b → (state self.new).pinned b) × ((state self.old).sealed b → (state self.new).sealed b) }
         ensures room { ((state self.new).spare ≡ (state self.old).spare) × ((state self.new).pins_left ≡ (state self.old).pins_left) × ((state self.new).room ≡ (state self.old).room) }
         ensures cause { IfErr result (Caused ⊥ (λ b. ⊥) (Rose (state self.old).faults (state self.new).faults) ⊥) }
         ensures keeps { keeps self.old self.new };
 
-    /// A block that is held under a score, grown to its full length. Damaged(1) where none is held.
+    /// A block that is held under a score, grown to its full length. Damaged(1) where none is held; over a device that tells nothing
+    /// whoever reads twice may find another.
     fn fetch(&mut self, score: &Score, kind: u8, into: &mut [u8]) -> Result<(), BlockError>
         requires length { length into.old ≡ 8192 }
-        ensures bytes { OnOk result ((state self.old).held score.now kind ≡ Some into.new) }
+        ensures bytes { OnOk result ((state self.old).tells → (state self.old).held score.now kind ≡ Some into.new) }
         ensures nothing { OnErr result (into.new ≡ into.old) }
         ensures now { SameImage (state self.new).now (state self.old).now }
         ensures images { AddsNothing (state self.old).may_leave (state self.new).may_leave }
         ensures calm { Calm none 0 (state self.old) (state self.new) }
         ensures no_wait { AddsNoWait none (state self.old) (state self.new) }
-        ensures cause { IfErr result (Caused ⊥ (λ b. (b ≡ 1) × ((state self.old).held score.now kind ≡ None)) ⊥ (Rose (state self.old).arena_faults (state self.new).arena_faults)) }
+        ensures cause { IfErr result (Caused ⊥ (λ b. (b ≡ 1) × ((state self.old).tells → (state self.old).held score.now kind ≡ None)) ⊥ (Rose (state self.old).arena_faults (state self.new).arena_faults)) }
         ensures keeps { keeps self.old self.new };
 
     // LAWS
@@ -314,10 +317,16 @@ pub trait Blocks {
     /// What is waited for is in use, or the second of a pair whose first is.
     ghost waits_in_use: { (b : Self) (a on j : ℕ) → (state b).waits a on j → IsPairUsed (state b).now on j };
 
+    /// Only slots of leaves of entries are waited for.
+    ghost waits_within: { (b : Self) (a on j : ℕ) → (state b).waits a on j → ((state b).label on).kind ≡ Dir 0 };
+
     /// Only slots of leaves of entries of the current epoch wait to be cleared, and where the device tells the first of their pair is in use.
     ghost clears_entries: { (b : Self) (at j : ℕ) → (state b).clearing at j → (((state b).label at).kind ≡ Dir 0) × (((state b).label at).epoch ≡ (state b).high) };
 
     ghost clears_used: { (b : Self) → (state b).tells → WaitsInUse (state b) };
+
+    /// What is to be closed is known only where the device tells.
+    ghost covers_told: { (b : Self) (at : ℕ) → (state b).covered at → (state b).tells };
 
     /// Where no removal is queued, nothing is to be closed.
     ghost none_queued: { (b : Self) (at : ℕ) → (state b).queued ≡ 0 → (state b).covered at → ⊥ };

@@ -7,7 +7,7 @@ ghost use Rattle.fo_image.specs.declared.types.Kind.TheVariants.{Data};
 ghost use Rattle.fo_crash.specs.declared.place.Place.{Place};
 ghost use Rattle.fo_ports.specs.Causes.{Caused};
 ghost use Rattle.fo_ports.specs.State.{Looks};
-ghost use Rattle.fo_ports.specs.Sources.{Form, Leaves, is_dir, source_bytes, Lacks, depth_for, most_for, most_to_own, IsEnough, most_cleared, Finds, IsReady, StaysReady, Changes, SameLeaves, Grows, IsPlain, Owned, MayZero, Undisturbed};
+ghost use Rattle.fo_ports.specs.Sources.{Form, Leaves, is_dir, source_bytes, Lacks, depth_for, most_for, most_to_own, IsEnough, most_cleared, Finds, AreLocal, IsReady, StaysReady, Changes, SameLeaves, Grows, IsPlain, Owned, MayZero, Undisturbed};
 
 use crate::blocks::Blocks;
 use crate::error::BlockError;
@@ -46,17 +46,17 @@ pub trait Bytes<B: Blocks> {
 
     /// Copies the bytes from the offset on to the front of the slice, as many as there are and fit, and says how many. Where it is
     /// refused the front of the slice may have been changed. Of a source of entries nothing is said of the bytes given, since its
-    /// leaves are read by `leaf` and slot by slot.
+    /// leaves are read by `leaf` and slot by slot; nor of a leaf under a score where the device tells nothing.
     fn read(&mut self, on: &mut B, offset: u64, into: &mut [u8]) -> Result<usize, BlockError>
         requires over { is_over self.old on.old }
         ensures count { IfOk result (λ n. n ≡ min (length into.old) (size self.old - offset)) }
-        ensures given { IfOk result (λ n. (form self.old).kind ≡ Data 0 → Finds (B.state on.old).tells (most_for (size self.old) (length into.old)) (B.state on.old).pins_left ((leaves self.old on.old).prepared offset (length into.old)) → take n into.new ≡ take (length into.old) (drop offset (leaves self.new on.new).bytes)) }
+        ensures given { IfOk result (λ n. (form self.old).kind ≡ Data 0 → Finds (B.state on.old).tells (most_for (size self.old) (length into.old)) (B.state on.old).pins_left ((leaves self.old on.old).prepared offset (length into.old)) → (B.state on.old).tells ⊎ AreLocal (leaves self.new on.new).at (size self.old) offset (length into.old) → take n into.new ≡ take (length into.old) (drop offset (leaves self.new on.new).bytes)) }
         ensures behind { IfOk result (λ n. drop n into.new ≡ drop n into.old) }
         ensures over { is_over self.new on.new }
         ensures same { (form self.new ≡ form self.old) × (size self.new ≡ size self.old) × SameLeaves (B.state on.old).tells (leaves self.old on.old) (leaves self.new on.new) }
         ensures pins { (B.state on.old).pins_left ≤ (B.state on.new).pins_left + most_for (size self.old) (length into.old) }
         ensures looks { Looks (B.state on.old) (B.state on.new) × B.keeps on.old on.new }
-        ensures cause { IfErr result (Caused ⊥ (λ b. (((B.state on.old).tells → ⊥) × (B.state on.old).is_block b) ⊎ ((b ≡ 1) × Lacks (leaves self.old on.old).named (B.state on.old).held)) (Rose (B.state on.old).faults (B.state on.new).faults) (Rose (B.state on.old).arena_faults (B.state on.new).arena_faults)) };
+        ensures cause { IfErr result (Caused ⊥ (λ b. (((B.state on.old).tells → ⊥) × (B.state on.old).is_block b) ⊎ ((b ≡ 1) × ((B.state on.old).tells → Lacks (leaves self.old on.old).named (B.state on.old).held))) (Rose (B.state on.old).faults (B.state on.new).faults) (Rose (B.state on.old).arena_faults (B.state on.new).arena_faults)) };
 
     /// The address of leaf `i`; None exactly where no local leaf stands.
     fn leaf(&mut self, on: &mut B, i: u32) -> Result<Option<u32>, BlockError>
@@ -79,7 +79,7 @@ pub trait Bytes<B: Blocks> {
         ensures same { (form self.new ≡ form self.old) × (size self.new ≡ size self.old) × SameLeaves (B.state on.old).tells (leaves self.old on.old) (leaves self.new on.new) }
         ensures pins { (B.state on.old).pins_left ≤ (B.state on.new).pins_left + most_for (max (size self.old) (offset + len)) len }
         ensures looks { Looks (B.state on.old) (B.state on.new) × B.keeps on.old on.new }
-        ensures cause { IfErr result (Caused ⊥ (λ b. (((B.state on.old).tells → ⊥) × (B.state on.old).is_block b) ⊎ ((b ≡ 1) × Lacks (leaves self.old on.old).named (B.state on.old).held)) (Rose (B.state on.old).faults (B.state on.new).faults) (Rose (B.state on.old).arena_faults (B.state on.new).arena_faults)) };
+        ensures cause { IfErr result (Caused ⊥ (λ b. (((B.state on.old).tells → ⊥) × (B.state on.old).is_block b) ⊎ ((b ≡ 1) × ((B.state on.old).tells → Lacks (leaves self.old on.old).named (B.state on.old).held))) (Rose (B.state on.old).faults (B.state on.new).faults) (Rose (B.state on.old).arena_faults (B.state on.new).arena_faults)) };
 
     /// Puts the piece in the place of the bytes from the offset on, with zeros between the end and it. Older blocks are copied
     /// first. Of a source of data that holds no records.
