@@ -8,7 +8,7 @@ use Rattle.fo_ports_source.proofs.Values.{values_given}
 use Rattle.fo_ports_source.proofs.calls.PlainSourceBytes.read.Goals as goal
 
 pub returns-then-left-eq0-clause-given : goal.returns-then-left-eq0-clause-given
-returns-then-left-eq0-clause-given g c = λ of_data found.
+returns-then-left-eq0-clause-given g c = λ of_data found known.
     values_given (byte_of (leaf_of c.args.self.now.leaves.items) (g.B.Blocks.state c.args.on.now).now) c.args.self.now.size c.args.offset (length c.args.into.now) [] (omega arith) (λ i lt. absurd (omega (arith, lt)))
 
 pub returns-in_err-copy_out-clause-over : goal.returns-in_err-copy_out-clause-over
@@ -18,7 +18,7 @@ returns-in_err-copy_out-clause-over g c =
     over_looks looks k c.requires.over
 
 pub returns-clause-given : goal.returns-clause-given
-returns-clause-given g c = λ of_data found.
+returns-clause-given g c = λ of_data found known.
     let n = c.min-count.result in
     let short : length (take n c.args.into.now) ≤ length c.args.into.now = omega (arith, length-take n c.args.into.now) in
     let long : length c.copy_out.new.into ≡ n = c.copy_out.auto.into ∙ (omega (arith, length-take n c.args.into.now)) in
