@@ -1,5 +1,5 @@
 -- Leaves and their bytes, one after another.
-use Rattle.std.proofs.Common.{◌≡◌, ◌⊎◌, ◌+◌, ◌-◌, ◌*◌, ◌/◌, ◌%◌, ◌^◌, ◌<◌, ◌≤◌, ℕ, cond, inl, inr, ⊎_elim, sym, ap, ◌∙◌, subst, arith}
+use Rattle.std.proofs.Common.{◌≡◌, ◌⊎◌, ◌+◌, ◌-◌, ◌*◌, ◌/◌, ◌%◌, ◌^◌, ◌<◌, ◌≤◌, ℕ, Bool, true, false, nat_lt, Some, None, cond, inl, inr, ⊎_elim, sym, ap, ◌∙◌, subst, arith}
 use Rattle.std.proofs.lemmas.Bool.{lt-ltb, cases_eq}
 use Rattle.fo_image.specs.declared.types.Pointer.{Pointer}
 use Rattle.fo_image.specs.declared.types.Pointer.TheVariants.{Nil, Local}
@@ -7,8 +7,9 @@ use Rattle.fo_crash.specs.Places.{IsPlaced}
 use Rattle.fo_ports.specs.State.{State, KeepsAll, Looks}
 use Rattle.fo_ports.specs.Sources.{byte_at}
 use Rattle.fo_tree_read.specs.declared.tree.Tree.{Tree}
-use Rattle.fo_tree_read.specs.Tree.{kind_at, block_at, leaf_at, address_of, held_of, byte, Hangs, StandsAs, Got, Way, IsNear, above, HasPins, IsFound}
-use Rattle.fo_tree_read.specs.Reading.{LeafWay, passed, IsNext, HasLeafPins, IsLeafFound}
+use Rattle.fo_tree_read.specs.Tree.{kind_at, block_at, leaf_at, address, address_of, Agrees, held_of, byte, Hangs, StandsAs, Got, Way, IsNear, above, HasPins, IsFound}
+use Rattle.fo_tree_read.specs.Reading.{LeafWay, passed, IsNext, HasLeafPins, IsLeafFound, IsLocal}
+use Rattle.fo_tree_read.proofs.Exits.{address_local, agrees_on, agrees_got, got_agrees, local_agrees}
 use Rattle.fo_tree_read.proofs.Walk.{tree_stands, way_same, told_same, way_looks, got_looks}
 
 -- a leaf stands at a place of the kind and rank of leaves
@@ -27,6 +28,17 @@ byte_here s t leaf place x inside room part is =
     let byte_of : Pointer → ℕ → ℕ = λ p k. byte_at s.now (address_of p) (held_of s (kind_at t.dir 0) p) k in
     sym (ap (λ k. byte_of (leaf_at s t k) ((place + x) % 8192)) here ∙ ap (λ k. byte_of (leaf_at s t (place / 8192)) k) at ∙ ap (λ (p : Pointer). byte_of p (place % 8192 + x)) (found ∙ sym is))
 
+-- a leaf that has an address
+pub address_leaf : (s : State) (t : Tree) (i b : ℕ) → address s t i ≡ Some b → block_at s t t.depth i ≡ Local b
+address_leaf s t i b e = by (nat_lt i (409 ^ t.depth)) e
+  where
+    none_some : None ≡ Some b → ⊥
+    none_some e = cc
+
+    by : (few : Bool) → address_of (cond few (block_at s t t.depth i) Nil) ≡ Some b → block_at s t t.depth i ≡ Local b
+    by true e = address_local b (block_at s t t.depth i) (sym e)
+    by false e = absurd (none_some e)
+
 pub next_near : {s : State} {t : Tree} {j i : ℕ} → IsNext s t j i → IsNear s t t.depth j i
 next_near next = record { from = next.from; to = next.to; way = next.way.way }
 
@@ -41,7 +53,7 @@ leaf_found s t i is = ⊎_elim (λ told. inl told) (λ pins. inr (leaf_has_pins 
 
 -- The walk to leaf i, and then the leaf.
 pub record WalksToLeaf (old mid : State) (t : Tree) (i : ℕ) (leaf : Pointer) : Type 0 where
-  pub found : IsFound old t t.depth i → leaf ≡ block_at mid t t.depth i
+  pub found : IsFound old t t.depth i → Agrees old.tells leaf (block_at mid t t.depth i)
   pub way : HasPins old t t.depth i → Way mid t t.depth i
 
 module _ (old mid new : State) (t : Tree) (i : ℕ) (leaf : Pointer)
@@ -54,7 +66,7 @@ module _ (old mid new : State) (t : Tree) (i : ℕ) (leaf : Pointer)
       let here : Got mid (kind_at t.dir 0) (block_at mid t t.depth j) = subst (λ (p : Pointer). Got mid (kind_at t.dir 0) p) (sym (way_same all looks t t.depth j next.way.way)) (got_looks looks (kind_at t.dir 0) (block_at old t t.depth j) next.way.leaf) in
       let there : Got mid (kind_at t.dir 0) (block_at mid t t.depth i) = subst (λ k. Got mid (kind_at t.dir 0) (block_at mid t t.depth k)) same here in
       let has : HasPins old t t.depth i = inr (j, next_near next, subst (λ k. above t.depth k ≤ old.pins_left + above t.depth j) same (omega arith)) in
-      subst (λ (p : Pointer). Got mid (kind_at t.dir 0) p) (sym (walk.found (inr has))) there
+      agrees_got mid (kind_at t.dir 0) (walk.found (inr has)) there
 
   enough : HasLeafPins old t i → (0 < mid.pins_left) ⊎ Got mid (kind_at t.dir 0) leaf
   enough has = ⊎_elim
@@ -65,20 +77,27 @@ module _ (old mid new : State) (t : Tree) (i : ℕ) (leaf : Pointer)
       (cases_eq h.0 i))
       has
 
-  pub leaf_is : IsLeafFound old t i → leaf ≡ block_at new t t.depth i
+  pub leaf_is : IsLeafFound old t i → Agrees old.tells leaf (block_at new t t.depth i)
   leaf_is is =
-      walk.found (leaf_found old t i is)
-      ∙ sym (⊎_elim
+      agrees_on (walk.found (leaf_found old t i is))
+      (sym (⊎_elim
       (λ told. told_same more more_looks (all.still_tells.1 told) t t.depth i)
       (λ has. way_same more more_looks t t.depth i (walk.way (leaf_has_pins old t i has)))
-      is)
+      is))
+
+  -- where the device tells, or the leaf stands on it, it is the one
+  pub leaf_local : IsLeafFound old t i → IsLocal new t i → (b : ℕ) × (leaf ≡ Local b)
+  leaf_local is local = (local.0, local_agrees (leaf_is is) (address_leaf new t i local.0 local.1))
+
+  pub leaf_known : IsLeafFound old t i → old.tells ⊎ IsLocal new t i → leaf ≡ block_at new t t.depth i
+  leaf_known is known = ⊎_elim (λ told. (leaf_is is).0 told) (λ local. let e = address_leaf new t i local.0 local.1 in local_agrees (leaf_is is) e ∙ sym e) known
 
   pub leaf_way : ((0 < mid.pins_left) ⊎ Got mid (kind_at t.dir 0) leaf → Got new (kind_at t.dir 0) leaf) → HasLeafPins old t i → LeafWay new t i
   leaf_way got has =
       let way = walk.way (leaf_has_pins old t i has) in
       record {
         way = way_looks more more_looks t t.depth i way;
-        leaf = subst (λ (p : Pointer). Got new (kind_at t.dir 0) p) (leaf_is (inr has)) (got (enough has));
+        leaf = got_agrees new (kind_at t.dir 0) (leaf_is (inr has)) (got (enough has));
       }
 
   pub leaf_near : mid.pins_left ≤ new.pins_left + 1 → (Got mid (kind_at t.dir 0) leaf → mid.pins_left ≤ new.pins_left) → (j : ℕ) → IsNext old t j i → old.pins_left + passed t.depth j ≤ new.pins_left + passed t.depth i

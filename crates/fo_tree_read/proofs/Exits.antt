@@ -12,7 +12,7 @@ use Rattle.fo_ports.specs.declared.error.BlockError.TheVariants.{Full, Damaged, 
 use Rattle.fo_ports.specs.Causes.{Caused}
 use Rattle.fo_ports.specs.State.{State, KeepsAll, Looks}
 use Rattle.fo_tree_read.specs.declared.tree.Tree.{Tree}
-use Rattle.fo_tree_read.specs.Tree.{score_in, below, address_of, Got, Names, Refused}
+use Rattle.fo_tree_read.specs.Tree.{score_of, score_in, below, address_of, Agrees, Got, Names, Refused}
 use Rattle.fo_looks.proofs.Looks.{rose_later}
 
 pub looks_none : (a : State) → Looks a a
@@ -66,26 +66,60 @@ pub block_some : (s : State) (q : Pointer) (a : Option ℕ) → a ≡ address_of
 block_some s q None e is = tt
 block_some s q (Some at) e is = is at (address_local at q e)
 
+-- ---- pointers that are known to be others
+
+pub agrees_same : {tells : Type 0} {p q : Pointer} → p ≡ q → Agrees tells p q
+agrees_same e = (λ told. e, ap (λ (p : Pointer). address_of p) e)
+
+pub agrees_on : {tells : Type 0} {p q r : Pointer} → Agrees tells p q → q ≡ r → Agrees tells p r
+agrees_on f e = (λ told. f.0 told ∙ e, f.1 ∙ ap (λ (p : Pointer). address_of p) e)
+
+pub agrees_local : {tells : Type 0} {p q : Pointer} {at : ℕ} → Agrees tells p q → p ≡ Local at → q ≡ Local at
+agrees_local {q = q} {at = at} f e = address_local at q (sym (ap (λ (x : Pointer). address_of x) e) ∙ f.1)
+
+pub local_agrees : {tells : Type 0} {p q : Pointer} {at : ℕ} → Agrees tells p q → q ≡ Local at → p ≡ Local at
+local_agrees {p = p} {at = at} f e = address_local at p (sym (ap (λ (x : Pointer). address_of x) e) ∙ sym f.1)
+
+pub agrees_got : {tells : Type 0} {p q : Pointer} (s : State) (kind : Kind) → Agrees tells p q → Got s kind q → Got s kind p
+agrees_got s kind f got at e = got at (agrees_local f e)
+
+pub got_agrees : {tells : Type 0} {p q : Pointer} (s : State) (kind : Kind) → Agrees tells p q → Got s kind p → Got s kind q
+got_agrees s kind f got at e = got at (local_agrees f e)
+
+pub agrees_none : {tells : Type 0} {p q : Pointer} → Agrees tells p q → None ≡ address_of p → None ≡ address_of q
+agrees_none f none = none ∙ f.1
+
+pub nil_none : {p : Pointer} → p ≡ Nil → None ≡ address_of p
+nil_none e = sym (ap (λ (x : Pointer). address_of x) e)
+
+pub held_score_none : {p : Pointer} {score : Score} → p ≡ Held score → None ≡ address_of p
+held_score_none e = sym (ap (λ (x : Pointer). address_of x) e)
+
+pub score_bytes_none : (bytes : List ℕ) → None ≡ address_of (score_of bytes)
+score_bytes_none bytes = score_none (list_all (λ b. b == 0) (take 16 bytes)) bytes
+
+-- below a pointer to nothing there is nothing
+pub nil_agrees : {tells : Type 0} (s : State) (kind : Kind) (p q : Pointer) (i : ℕ) → Agrees tells p q → p ≡ Nil → Agrees tells Nil (below s kind q i)
+nil_agrees s kind p q i f e = (λ told. ap (λ (x : Pointer). below s kind x i) (sym (sym (f.0 told) ∙ e)), none_below s kind q i (agrees_none f (nil_none e)))
+
+-- below a score there is a score, or nothing
+pub held_agrees : {tells : Type 0} (s : State) (kind : Kind) (p q r : Pointer) (i : ℕ) (score : Score) → Agrees tells p q → p ≡ Held score → (tells → r ≡ below s kind (Held score) i) → None ≡ address_of r → Agrees tells r (below s kind q i)
+held_agrees s kind p q r i score f e is none = (λ told. is told ∙ ap (λ (x : Pointer). below s kind x i) (sym (sym (f.0 told) ∙ e)), sym none ∙ none_below s kind q i (agrees_none f (held_score_none e)))
+
 -- a score that is not held
-held_refused : (old mid new : State) (t : Tree) (score : Score) (kind : ℕ) → KeepsAll old mid → Names old t score kind → (e : BlockError) → Caused ⊥ (λ b. (b ≡ 1) × (mid.held score kind ≡ None)) ⊥ (Rose mid.arena_faults new.arena_faults) e → Refused old new (Names old t) e
+held_refused : (old mid new : State) (t : Tree) (score : Score) (kind : ℕ) → KeepsAll old mid → Names old t score kind → (e : BlockError) → Caused ⊥ (λ b. (b ≡ 1) × (mid.tells → mid.held score kind ≡ None)) ⊥ (Rose mid.arena_faults new.arena_faults) e → Refused old new (Names old t) e
 held_refused old mid new t score kind all names Full cause = cause
-held_refused old mid new t score kind all names (Damaged at) cause = inr (cause.0, (score, kind, names, sym (all.same_held score kind) ∙ cause.1))
+held_refused old mid new t score kind all names (Damaged at) cause = inr (cause.0, λ told. (score, kind, names, sym (all.same_held score kind) ∙ cause.1 (all.still_tells.1 told)))
 held_refused old mid new t score kind all names (Fault which) cause = absurd cause
 held_refused old mid new t score kind all names (Arena which) cause = rose_later old.arena_faults mid.arena_faults new.arena_faults all.more_arena_faults cause
 held_refused old mid new t score kind all names Memory cause = cause
 
-pub any_held_refused : {T : Type 0} (old mid new : State) (t : Tree) (score : Score) (kind : ℕ) → KeepsAll old mid → Names old t score kind → (r : Result T BlockError) → IfErr r (Caused ⊥ (λ b. (b ≡ 1) × (mid.held score kind ≡ None)) ⊥ (Rose mid.arena_faults new.arena_faults)) → IfErr r (Refused old new (Names old t))
+pub any_held_refused : {T : Type 0} (old mid new : State) (t : Tree) (score : Score) (kind : ℕ) → KeepsAll old mid → Names old t score kind → (r : Result T BlockError) → IfErr r (Caused ⊥ (λ b. (b ≡ 1) × (mid.tells → mid.held score kind ≡ None)) ⊥ (Rose mid.arena_faults new.arena_faults)) → IfErr r (Refused old new (Names old t))
 any_held_refused old mid new t score kind all names (Ok x) cause = cause
 any_held_refused old mid new t score kind all names (Err e) cause = held_refused old mid new t score kind all names e cause
 
-nil_local : (at : ℕ) → Nil ≡ Local at → ⊥
-nil_local at e = cc
-
 held_local : (score : Score) (at : ℕ) → Held score ≡ Local at → ⊥
 held_local score at e = cc
-
-pub nil_got : (s : State) (kind : Kind) (q : Pointer) → q ≡ Nil → Got s kind q
-nil_got s kind q nil at e = absurd (nil_local at (sym nil ∙ e))
 
 pub held_got : (s : State) (kind : Kind) (q : Pointer) (score : Score) → q ≡ Held score → Got s kind q
 held_got s kind q score held at e = absurd (held_local score at (sym held ∙ e))

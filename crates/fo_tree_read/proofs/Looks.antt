@@ -1,13 +1,9 @@
 -- Calls that only look, one after another, and why they are refused.
-use Rattle.std.proofs.Common.{◌+◌, ◌-◌, ◌^◌, ◌≤◌, ℕ, min, Result, Ok, Err, IfErr, inl, inr, ⊎_elim, sym, ◌∙◌, arith}
-use Rattle.std.proofs.lemmas.Bool.{cases_lt}
-use Rattle.fo_base.specs.Cause.{Rose}
+use Rattle.std.proofs.Common.{ℕ, Result, Ok, Err, IfErr, inl, inr, ⊎_elim, sym, ◌∙◌}
 use Rattle.fo_image.specs.declared.types.Score.{Score}
-use Rattle.fo_crash.specs.Images.{Image, Content, SameContent}
-use Rattle.fo_crash.specs.Steps.{Passes, IsOneOf}
 use Rattle.fo_ports.specs.declared.error.BlockError.{BlockError}
 use Rattle.fo_ports.specs.declared.error.BlockError.TheVariants.{Full, Damaged, Fault, Arena, Memory}
-use Rattle.fo_ports.specs.State.{State, KeepsAll, Looks}
+use Rattle.fo_ports.specs.State.{State, KeepsAll}
 use Rattle.fo_ports.specs.Sources.{Lacks}
 use Rattle.fo_looks.proofs.Looks.{rose_later}
 use Rattle.fo_tree_read.specs.Tree.{Failed, Refused}
@@ -20,7 +16,7 @@ refused_later : (a b c : State) (named earlier : Score → ℕ → Type 0) → K
 refused_later a b c named earlier all wider Full cause = cause
 refused_later a b c named earlier all wider (Damaged at) cause = ⊎_elim
     (λ d. inl (λ told. d.0 (all.still_tells.1 told), (all.same_blocks at).0 d.1))
-    (λ d. inr (d.0, lacks_same all wider d.1))
+    (λ d. inr (d.0, λ told. lacks_same all wider (d.1 (all.still_tells.1 told))))
     cause
 refused_later a b c named earlier all wider (Fault which) cause = rose_later a.faults b.faults c.faults all.more_faults cause
 refused_later a b c named earlier all wider (Arena which) cause = rose_later a.arena_faults b.arena_faults c.arena_faults all.more_arena_faults cause

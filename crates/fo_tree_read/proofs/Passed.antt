@@ -9,7 +9,7 @@ use Rattle.fo_image.specs.Format.{kind_code}
 use Rattle.fo_ports.specs.State.{State, KeepsAll, Looks}
 use Rattle.fo_ports.specs.Sources.{byte_at}
 use Rattle.fo_tree_read.specs.declared.tree.Tree.{Tree}
-use Rattle.fo_tree_read.specs.Tree.{kind_at, block_at, leaf_at, address_of, held_of, byte, Got, above}
+use Rattle.fo_tree_read.specs.Tree.{kind_at, block_at, leaf_at, address, address_of, held_of, byte, Got, above}
 use Rattle.fo_tree_read.specs.Reading.{LeafWay, passed, IsNext, HasLeafPins, IsLeafFound, most, Prepared, HasPassed}
 use Rattle.fo_tree_read.proofs.Walk.{way_same, told_same, way_looks, got_looks}
 
@@ -78,6 +78,11 @@ byte_looks a b t k all looks known =
     by : (test : Bool) (at : ℕ) → cond test (block_at a t t.depth (k / 8192)) Nil ≡ Local at → (b.now at).bytes ≡ (a.now at).bytes
     by true at e = at_leaf at e
     by false at e = nil_local at e
+
+pub address_looks : (a b : State) (t : Tree) (i : ℕ) → KeepsAll a b → Looks a b → a.tells ⊎ LeafWay a t i → address b t i ≡ address a t i
+address_looks a b t i all looks known =
+    ap (λ (p : Pointer). address_of (cond (nat_lt i (409 ^ t.depth)) p Nil))
+    (⊎_elim (λ told. told_same all looks told t t.depth i) (λ leaf. way_same all looks t t.depth i leaf.way) known)
 
 -- ---- one leaf after another
 

@@ -1,8 +1,8 @@
 -- Leaves that are read one after another.
-use Rattle.std.specs.Prelude.{◌≡◌, ◌⊎◌, ◌+◌, ◌-◌, ◌*◌, ◌/◌, ◌^◌, ◌<◌, ◌≤◌, ℕ}
+use Rattle.std.specs.Prelude.{◌≡◌, ◌⊎◌, ◌+◌, ◌-◌, ◌*◌, ◌/◌, ◌^◌, ◌<◌, ◌≤◌, ℕ, Some}
 use Rattle.fo_ports.specs.State.{State}
 use Rattle.fo_tree_read.specs.declared.tree.Tree.{Tree}
-use Rattle.fo_tree_read.specs.Tree.{kind_at, block_at, Got, Way, above}
+use Rattle.fo_tree_read.specs.Tree.{kind_at, block_at, address, Got, Way, above}
 
 -- The blocks on the way to leaf i were got, and the leaf itself.
 pub record LeafWay (s : State) (t : Tree) (i : ℕ) : Type 0 where
@@ -25,6 +25,10 @@ HasLeafPins s t i = (t.depth + 1 ≤ s.pins_left) ⊎ ((j : ℕ) × IsNext s t j
 
 abbrev pub IsLeafFound : State → Tree → ℕ → Type 0
 IsLeafFound s t i = s.tells ⊎ HasLeafPins s t i
+
+-- Leaf i stands on the device.
+abbrev pub IsLocal : State → Tree → ℕ → Type 0
+IsLocal s t i = (b : ℕ) × (address s t i ≡ Some b)
 
 -- how many pins it takes at most to read so many bytes of a source of this depth
 abbrev pub most : ℕ → ℕ → ℕ

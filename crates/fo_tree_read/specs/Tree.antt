@@ -53,6 +53,10 @@ address_of Nil = None
 address_of (Local at) = Some at
 address_of (Held score) = None
 
+-- A pointer is known to be another: it is the same where the device tells, and names the same block of the device over any.
+abbrev pub Agrees : Type 0 → Pointer → Pointer → Type 0
+Agrees tells p q = (tells → p ≡ q) × (address_of p ≡ address_of q)
+
 -- the bytes that are held where a pointer is a score
 abbrev pub held_of : State → Kind → Pointer → Option (List ℕ)
 held_of s kind Nil = None
@@ -133,9 +137,10 @@ HasPins s t n k = (n ≤ s.pins_left) ⊎ ((j : ℕ) × IsNear s t n j k × (abo
 abbrev pub IsFound : State → Tree → ℕ → ℕ → Type 0
 IsFound s t n k = s.tells ⊎ HasPins s t n k
 
--- Why reading is refused: the device failed, a block is damaged, which over a device that tells none is, or a score is not held.
+-- Why reading is refused: the device failed, a block is damaged, which over a device that tells none is, or a score is not held, as
+-- far as the device tells.
 abbrev pub Refused : (old new : State) → (named : Score → ℕ → Type 0) → BlockError → Type 0
-Refused old new named = Caused ⊥ (λ b. ((old.tells → ⊥) × old.is_block b) ⊎ ((b ≡ 1) × Lacks named old.held)) (Rose old.faults new.faults) (Rose old.arena_faults new.arena_faults)
+Refused old new named = Caused ⊥ (λ b. ((old.tells → ⊥) × old.is_block b) ⊎ ((b ≡ 1) × (old.tells → Lacks named old.held))) (Rose old.faults new.faults) (Rose old.arena_faults new.arena_faults)
 
 -- Why a look at blocks of the device is refused.
 abbrev pub Failed : (old new : State) → BlockError → Type 0

@@ -8,7 +8,7 @@ ghost use Rattle.fo_crash.specs.Images.{target};
 ghost use Rattle.fo_ports.specs.Blocks.{IsInner};
 ghost use Rattle.fo_ports.specs.Causes.{Caused};
 ghost use Rattle.fo_ports.specs.State.{Looks};
-ghost use Rattle.fo_tree_read.specs.Tree.{kind_at, score_of, score_in, StandsAs, IsGot, Failed};
+ghost use Rattle.fo_tree_read.specs.Tree.{kind_at, address_of, score_of, score_in, StandsAs, IsGot, Failed};
 
 use fo_base::BLOCK;
 use fo_image::{Kind, Pointer, Score, is_zero, read_pointer, score_at};
@@ -67,11 +67,12 @@ pub(crate) fn held_below<B: Blocks>(
     i: u32,
 ) -> Result<Pointer, BlockError>
     requires slot { i < 409 }
-    ensures found { IfOk result (λ p. p ≡ score_in ((B.state on.old).held score.now kind) i) }
+    ensures found { IfOk result (λ p. (B.state on.old).tells → p ≡ score_in ((B.state on.old).held score.now kind) i) }
+    ensures none { IfOk result (λ p. None ≡ address_of p) }
     ensures pins { (B.state on.old).pins_left ≤ (B.state on.new).pins_left }
     ensures looks { Looks (B.state on.old) (B.state on.new) }
     ensures keeps { B.keeps on.old on.new }
-    ensures cause { IfErr result (Caused ⊥ (λ b. (b ≡ 1) × ((B.state on.old).held score.now kind ≡ None)) ⊥ (Rose (B.state on.old).arena_faults (B.state on.new).arena_faults)) }
+    ensures cause { IfErr result (Caused ⊥ (λ b. (b ≡ 1) × ((B.state on.old).tells → (B.state on.old).held score.now kind ≡ None)) ⊥ (Rose (B.state on.old).arena_faults (B.state on.new).arena_faults)) }
 {
     let mut block = [0; BLOCK];
     on.fetch(score, kind, &mut block)?;
@@ -87,8 +88,8 @@ fn pointer_in(block: &[u8], i: usize) -> Pointer
     read_pointer(&block[20 * i..20 * i + 20])
 }
 
-/// Score `i` of a block.
-fn score_in(block: &[u8], i: usize) -> Pointer
+/// The pointer in slot `i` of a block of pointers that is held: a score, or nil.
+pub fn score_in(block: &[u8], i: usize) -> Pointer
     requires slot { i < 409 }
     requires length { length block.now ≡ 8192 }
     ensures { result ≡ score_of (take 20 (drop (20 * i) block.now)) }

@@ -7,7 +7,7 @@ ghost use Rattle.fo_ports.specs.Causes.{Caused};
 ghost use Rattle.fo_ports.specs.State.{Looks};
 ghost use Rattle.fo_ports.specs.Sources.{byte_at};
 ghost use Rattle.fo_tree_read.specs.Tree.{kind_at, address_of, held_of, block_at, byte, Hangs, StandsAs, IsGot, Got, Failed, Refused, Names};
-ghost use Rattle.fo_tree_read.specs.Reading.{LeafWay, passed, IsNext, HasLeafPins, IsLeafFound};
+ghost use Rattle.fo_tree_read.specs.Reading.{LeafWay, passed, IsNext, HasLeafPins, IsLeafFound, IsLocal};
 
 use crate::below::{kind_at, kind_number};
 use crate::tree::Tree;
@@ -53,11 +53,11 @@ fn copy_held<B: Blocks>(
     into: &mut [u8],
 ) -> Result<(), BlockError>
     requires part { from + length into.old ≤ 8192 }
-    ensures given { OnOk result ((bytes : List ℕ) × ((B.state on.old).held score.now kind ≡ Some bytes) × ((i : ℕ) → i < length into.old → slice_index into.new i ≡ slice_index bytes (from + i))) }
+    ensures given { OnOk result ((B.state on.old).tells → (bytes : List ℕ) × ((B.state on.old).held score.now kind ≡ Some bytes) × ((i : ℕ) → i < length into.old → slice_index into.new i ≡ slice_index bytes (from + i))) }
     ensures pins { (B.state on.old).pins_left ≤ (B.state on.new).pins_left }
     ensures looks { Looks (B.state on.old) (B.state on.new) }
     ensures keeps { B.keeps on.old on.new }
-    ensures cause { IfErr result (Caused ⊥ (λ b. (b ≡ 1) × ((B.state on.old).held score.now kind ≡ None)) ⊥ (Rose (B.state on.old).arena_faults (B.state on.new).arena_faults)) }
+    ensures cause { IfErr result (Caused ⊥ (λ b. (b ≡ 1) × ((B.state on.old).tells → (B.state on.old).held score.now kind ≡ None)) ⊥ (Rose (B.state on.old).arena_faults (B.state on.new).arena_faults)) }
 {
     let mut block = [0; BLOCK];
     on.fetch(score, kind, &mut block)?;
@@ -78,7 +78,7 @@ impl Tree {
         requires block { (b : ℕ) → leaf ≡ Local b → (B.state on.old).is_block b }
         requires there { (B.state on.old).tells → (k : ℕ) × (leaf ≡ block_at (B.state on.old) self.now self.now.depth k) }
         requires part { from + length into.old ≤ 8192 }
-        ensures given { OnOk result (self.now.dir ≡ false → (i : ℕ) → i < length into.old → slice_index into.new i ≡ byte_at (B.state on.new).now (address_of leaf) (held_of (B.state on.new) (kind_at self.now.dir 0) leaf) (from + i)) }
+        ensures given { OnOk result (self.now.dir ≡ false → (B.state on.old).tells ⊎ ((b : ℕ) × (leaf ≡ Local b)) → (i : ℕ) → i < length into.old → slice_index into.new i ≡ byte_at (B.state on.new).now (address_of leaf) (held_of (B.state on.new) (kind_at self.now.dir 0) leaf) (from + i)) }
         ensures got { OnOk result ((0 < (B.state on.old).pins_left) ⊎ Got (B.state on.old) (kind_at self.now.dir 0) leaf → Got (B.state on.new) (kind_at self.now.dir 0) leaf) }
         ensures pins { (B.state on.old).pins_left ≤ (B.state on.new).pins_left + 1 }
         ensures again { Got (B.state on.old) (kind_at self.now.dir 0) leaf → (B.state on.old).pins_left ≤ (B.state on.new).pins_left }
@@ -112,7 +112,7 @@ impl Tree {
         requires hangs { Hangs (B.state on.old) self.now }
         requires part { place % 8192 + length into.old ≤ 8192 }
         requires within { place < self.now.size }
-        ensures given { OnOk result (self.now.dir ≡ false → IsLeafFound (B.state on.old) self.now (place / 8192) → (i : ℕ) → i < length into.old → slice_index into.new i ≡ byte (B.state on.new) self.now (place + i)) }
+        ensures given { OnOk result (self.now.dir ≡ false → IsLeafFound (B.state on.old) self.now (place / 8192) → (B.state on.old).tells ⊎ IsLocal (B.state on.new) self.now (place / 8192) → (i : ℕ) → i < length into.old → slice_index into.new i ≡ byte (B.state on.new) self.now (place + i)) }
         ensures way { OnOk result (HasLeafPins (B.state on.old) self.now (place / 8192) → LeafWay (B.state on.new) self.now (place / 8192)) }
         ensures pins { (B.state on.old).pins_left ≤ (B.state on.new).pins_left + self.now.depth + 1 }
         ensures near { (j : ℕ) → IsNext (B.state on.old) self.now j (place / 8192) → (B.state on.old).pins_left + passed self.now.depth j ≤ (B.state on.new).pins_left + passed self.now.depth (place / 8192) }

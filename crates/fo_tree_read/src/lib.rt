@@ -5,7 +5,8 @@
 //!
 //! Proved, over any blocks and any device: `read` gives the bytes that memory reads through the leaves, zeros where there is none, where
 //! the device tells, or pins are left for the ways to them, or these were got; each block takes one pin at most. Blocks under scores are
-//! fetched. `leaf`, `address_at` and `pointer_at` find a block, and each refusal has its cause. Not said: that the source is whole.
+//! fetched; as a device that tells nothing may hold another block the next time, nothing is said over it of what stands below a score.
+//! `leaf`, `address_at` and `pointer_at` find a block, and each refusal has its cause. Not said: that the source is whole.
 #![tactic(auto)]
 
 mod below;
@@ -14,4 +15,5 @@ mod leaf;
 mod read;
 mod tree;
 
+pub use below::score_in;
 pub use tree::Tree;

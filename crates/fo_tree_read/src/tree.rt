@@ -2,7 +2,7 @@
 ghost use Rattle.std.specs.Prelude.{◌≡◌, ◌⊎◌, ◌+◌, ◌-◌, ◌*◌, ◌<◌, ◌≤◌, ℕ, Some, IfOk, OnOk, IfErr, IfSome};
 ghost use Rattle.fo_image.specs.declared.types.Pointer.TheVariants.{Local};
 ghost use Rattle.fo_ports.specs.State.{Looks};
-ghost use Rattle.fo_tree_read.specs.Tree.{Hangs, block_at, address_of, Way, HasPins, IsFound, IsNear, above, kind_down, below, Got, Names, Refused, Failed};
+ghost use Rattle.fo_tree_read.specs.Tree.{Hangs, block_at, address_of, Agrees, Way, HasPins, IsFound, IsNear, above, kind_down, below, Got, Names, Refused, Failed};
 
 use crate::below::{held_below, kind_at, kind_number, pointer_below};
 use fo_image::{Kind, Pointer};
@@ -59,7 +59,7 @@ impl Tree {
     pub fn pointer_at<B: Blocks>(&self, on: &mut B, down: u8, k: u64) -> Result<Pointer, BlockError>
         requires hangs { Hangs (B.state on.old) self.now }
         requires down { down ≤ self.now.depth }
-        ensures found { IfOk result (λ p. IsFound (B.state on.old) self.now down k → p ≡ block_at (B.state on.new) self.now down k) }
+        ensures found { IfOk result (λ p. IsFound (B.state on.old) self.now down k → Agrees (B.state on.old).tells p (block_at (B.state on.new) self.now down k)) }
         ensures block { IfOk result (λ p. (b : ℕ) → p ≡ Local b → (B.state on.new).is_block b) }
         ensures way { OnOk result (HasPins (B.state on.old) self.now down k → Way (B.state on.new) self.now down k) }
         ensures pins { (B.state on.old).pins_left ≤ (B.state on.new).pins_left + down }
@@ -87,7 +87,13 @@ impl Tree {
     }
 
     /// The pointer in slot `i` of a block of pointers so many steps below the top.
-    fn step<B: Blocks>(&self, on: &mut B, at: u32, down: u8, i: u32) -> Result<Pointer, BlockError>
+    pub fn step<B: Blocks>(
+        &self,
+        on: &mut B,
+        at: u32,
+        down: u8,
+        i: u32,
+    ) -> Result<Pointer, BlockError>
         requires hangs { Hangs (B.state on.old) self.now }
         requires down { down < self.now.depth }
         requires block { (B.state on.old).is_block at }

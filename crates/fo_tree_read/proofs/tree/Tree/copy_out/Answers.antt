@@ -1,15 +1,15 @@
-use Rattle.std.proofs.Common.{rules, take, drop, IfErr, ◌≡◌, ◌<◌, ◌≤◌, ◌+◌, ◌-◌, ◌/◌, ◌%◌, length, ◌∙◌, subst, inl, inr, ⊎_elim, arith}
+use Rattle.std.proofs.Common.{rules, take, drop, IfErr, ◌⊎◌, ◌≡◌, ◌<◌, ◌≤◌, ◌+◌, ◌-◌, ◌/◌, ◌%◌, length, sym, ◌∙◌, subst, inl, inr, ⊎_elim, arith}
 use Rattle.std.proofs.lemmas.Bool.{cases_lt}
 use Rattle.std.proofs.lemmas.List.{length-take-le, length-drop}
 use borrow.Rule.Slice.PartMut.{put_mid}
 use Rattle.fo_ports.specs.Sources.{Finds}
 use Rattle.fo_tree_read.specs.Tree.{byte, Refused, Names}
-use Rattle.fo_tree_read.specs.Reading.{LeafWay, IsLeafFound, HasPassed, most, Prepared}
+use Rattle.fo_tree_read.specs.Reading.{LeafWay, IsLeafFound, HasPassed, IsLocal, most, Prepared}
 use Rattle.fo_looks.proofs.Looks.{looks_joins}
 use Rattle.fo_tree_read.proofs.Looks.{any_refused_later}
 use Rattle.fo_tree_read.proofs.Walk.{hangs_looks, names_looks}
 use Rattle.fo_tree_read.proofs.Parts.{copied_more, length_put_mid}
-use Rattle.fo_tree_read.proofs.Passed.{leaf_way_looks, byte_looks, pins_here, passed_more, found_next, found_prepared, pins_last}
+use Rattle.fo_tree_read.proofs.Passed.{leaf_way_looks, byte_looks, address_looks, pins_here, passed_more, found_next, found_prepared, pins_last}
 use Rattle.fo_tree_read.proofs.tree.Tree.copy_out.Goals as goal
 
 pub loop-done-init : goal.loop-done-init
@@ -17,7 +17,7 @@ loop-done-init g c = record {
   within = omega arith;
   looks = search rules;
   keeps = g.met.B.Blocks.keeps_at_once c.args.on.now;
-  given = λ of_data found i lt. absurd (omega (arith, lt));
+  given = λ of_data found i lt known. absurd (omega (arith, lt));
   known = λ found k from to. absurd (omega (arith, from, to));
   been = record { is = inl (omega arith, omega arith) };
 }
@@ -91,9 +91,13 @@ loop-done-preserved g c =
       within = omega (arith, same_len, fits);
       looks = looks_joins k i.looks more_looks;
       keeps = g.met.B.Blocks.keeps_joins on c.loop-done.on c.copy_part.new.on i.keeps c.copy_part.ensures.keeps;
-      given = λ of_data found. copied_more (byte mid t) (byte new t) into sub c.args.offset done n (done + n - done) back fits sub_len (i.given of_data found)
+      given = λ of_data found. copied_more (byte mid t) (byte new t) into sub c.args.offset done n (done + n - done) back fits sub_len
+          (λ j. old.tells ⊎ IsLocal new t ((c.args.offset + j) / 8192))
+          (λ j below is. i.given of_data found j below (⊎_elim (λ told. inl told) (λ local. inr (local.0, sym (address_looks mid new t ((c.args.offset + j) / 8192) more more_looks (i.known found (c.args.offset + j) (omega arith) (omega (arith, below)))) ∙ local.1)) is))
           (λ j below. byte_looks mid new t (c.args.offset + j) more more_looks (i.known found (c.args.offset + j) (omega arith) (omega (arith, below))))
-          (λ j below. e.given of_data (leaf_found found) j (omega (arith, part_len, below)));
+          (λ j below is.
+          let same : (c.args.offset + (done + j)) / 8192 ≡ (c.args.offset + done) / 8192 = omega (arith, below, part) in
+          e.given of_data (leaf_found found) (⊎_elim (λ told. inl (k.still_tells.1 told)) (λ local. inr (subst (λ y. IsLocal new t y) same local)) is) j (omega (arith, part_len, below)));
       known = λ found x from to. ⊎_elim
           (λ below. ⊎_elim (λ told. inl (more.still_tells.1 told)) (λ leaf. inr (leaf_way_looks more more_looks leaf)) (i.known found x from below))
           (λ above.
@@ -107,7 +111,7 @@ loop-done-preserved g c =
     }
 
 pub returns-clause-given : goal.returns-clause-given
-returns-clause-given g c = λ of_data found i lt. c.loop-done.invariant.given of_data found i (omega (arith, lt, c.loop-done.auto.into))
+returns-clause-given g c = λ of_data found i lt known. c.loop-done.invariant.given of_data found i (omega (arith, lt, c.loop-done.auto.into)) known
 
 pub returns-clause-pins : goal.returns-clause-pins
 returns-clause-pins g c =

@@ -1,9 +1,9 @@
-use Rattle.std.proofs.Common.{rules, ◌/◌, IfErr, inl, ◌∙◌, arith}
+use Rattle.std.proofs.Common.{rules, ◌/◌, IfErr, inl, inr, ⊎_elim, ◌∙◌, arith}
 use Rattle.fo_tree_read.specs.Tree.{Refused, Names}
 use Rattle.fo_looks.proofs.Looks.{looks_joins}
 use Rattle.fo_tree_read.proofs.Looks.{any_refused_later}
 use Rattle.fo_tree_read.proofs.Walk.{hangs_looks, names_looks}
-use Rattle.fo_tree_read.proofs.Copies.{WalksToLeaf, next_near, leaf_is, leaf_way, leaf_near, byte_here}
+use Rattle.fo_tree_read.proofs.Copies.{WalksToLeaf, next_near, leaf_local, leaf_known, leaf_way, leaf_near, byte_here}
 use Rattle.fo_tree_read.proofs.tree.Tree.copy_part.Goals as goal
 
 pub returns-in_err-leaf-clause-near : goal.returns-in_err-leaf-clause-near
@@ -16,7 +16,9 @@ copy_leaf-requires-clause-hangs g c =
 
 pub copy_leaf-requires-clause-there : goal.copy_leaf-requires-clause-there
 copy_leaf-requires-clause-there g c =
-    λ told. (c.args.place / 8192, c.in_ok-leaf.ensures.found (inl ((g.met.B.Blocks.keeps_all c.args.on.now c.pointer_at.new.on c.pointer_at.ensures.keeps).still_tells.0 told)))
+    λ told.
+    let before = (g.met.B.Blocks.keeps_all c.args.on.now c.pointer_at.new.on c.pointer_at.ensures.keeps).still_tells.0 told in
+    (c.args.place / 8192, (c.in_ok-leaf.ensures.found (inl before)).0 before)
 
 pub returns-clause-given : goal.returns-clause-given
 returns-clause-given g c =
@@ -32,7 +34,9 @@ returns-clause-given g c =
     let more_looks = c.copy_leaf.ensures.looks in
     let walk : WalksToLeaf old mid t i leaf = record { found = c.in_ok-leaf.ensures.found; way = c.in_ok-leaf.ensures.way } in
     let part = c.requires.part in
-    λ of_data is x lt. c.in_ok-copy_leaf.ensures.given of_data x lt ∙ byte_here new t leaf c.args.place x c.requires.within c.requires.hangs.room (omega (arith, part, lt)) (leaf_is old mid new t i leaf all looks more more_looks walk c.pointer_at.ensures.pins c.pointer_at.ensures.near is)
+    λ of_data is known x lt.
+    let there = ⊎_elim (λ told. inl (all.still_tells.1 told)) (λ local. inr (leaf_local old mid new t i leaf all looks more more_looks walk c.pointer_at.ensures.pins c.pointer_at.ensures.near is local)) known in
+    c.in_ok-copy_leaf.ensures.given of_data there x lt ∙ byte_here new t leaf c.args.place x c.requires.within c.requires.hangs.room (omega (arith, part, lt)) (leaf_known old mid new t i leaf all looks more more_looks walk c.pointer_at.ensures.pins c.pointer_at.ensures.near is known)
 
 pub returns-clause-way : goal.returns-clause-way
 returns-clause-way g c =

@@ -1,4 +1,4 @@
-use Rattle.std.proofs.Common.{◌≡◌, ◌-◌, ◌≤◌, [], min, length, take, drop, ◌∙◌, inl, inr, ⊎_elim, arith}
+use Rattle.std.proofs.Common.{◌≡◌, ◌+◌, ◌-◌, ◌≤◌, [], min, length, take, drop, ◌∙◌, inl, inr, ⊎_elim, arith}
 use Rattle.std.proofs.lemmas.List.{take_at, length-take}
 use Rattle.fo_tree_read.specs.Tree.{byte}
 use Rattle.fo_tree_read.proofs.Exits.{looks_none}
@@ -7,7 +7,7 @@ use Rattle.fo_tree_read.proofs.Passed.{part_prepared}
 use Rattle.fo_tree_read.proofs.tree.Tree.read.Goals as goal
 
 pub returns-then-left-eq0-clause-given : goal.returns-then-left-eq0-clause-given
-returns-then-left-eq0-clause-given g c = λ of_data found.
+returns-then-left-eq0-clause-given g c = λ of_data found known.
     values_given (byte (g.B.Blocks.state c.args.on.now) c.args.self.now) c.args.self.now.size c.args.offset (length c.args.into.now) [] (omega arith) (λ i lt. absurd (omega (arith, lt)))
 
 pub returns-then-left-eq0-clause-looks : goal.returns-then-left-eq0-clause-looks
@@ -28,7 +28,7 @@ returns-clause-pins g c =
     omega (arith, p, short)
 
 pub returns-clause-given : goal.returns-clause-given
-returns-clause-given g c = λ of_data found.
+returns-clause-given g c = λ of_data found known.
     let n = c.min-count.result in
     let short : length (take n c.args.into.now) ≤ length c.args.into.now = omega (arith, length-take n c.args.into.now) in
     let long : length c.copy_out.new.into ≡ n = c.copy_out.auto.into ∙ (omega (arith, length-take n c.args.into.now)) in
@@ -43,4 +43,5 @@ returns-clause-given g c = λ of_data found.
     (λ prepared. inr (part_prepared c.args.offset (length (take n c.args.into.now)) prepared (omega arith) (omega (arith, short))))
     pins))
     found)
-    i (omega (arith, lt, long, length-take n c.args.into.now)))
+    i (omega (arith, lt, long, length-take n c.args.into.now))
+    (⊎_elim (λ told. inl told) (λ local. inr (local (c.args.offset + i) (omega arith) (omega (arith, lt, long, short, length-take n c.args.into.now)) (omega (arith, lt, is)))) known))
