@@ -1,5 +1,5 @@
-pub mod Shown
 pub mod Held
+pub mod Shown
 pub mod Down
 pub mod Places
 pub mod Still

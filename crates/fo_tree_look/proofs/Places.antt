@@ -1,5 +1,5 @@
 -- Where the blocks of a source stand, and what follows for its leaves.
-use Rattle.std.proofs.Common.{◌≡◌, ◌+◌, ◌-◌, ◌*◌, ◌/◌, ◌%◌, ◌^◌, ◌<◌, ◌≤◌, ℕ, zero, suc, Bool, true, false, cond, nat_lt, Some, None, refl, ap, subst, arith}
+use Rattle.std.proofs.Common.{◌≡◌, ◌+◌, ◌-◌, ◌*◌, ◌/◌, ◌%◌, ◌^◌, ◌<◌, ◌≤◌, ℕ, zero, suc, Bool, true, false, cond, nat_lt, List, Some, None, refl, ap, ◌∙◌, subst, arith}
 use Rattle.std.proofs.lemmas.Bool.{ltb-true}
 use Rattle.std.proofs.Math.Nat.{pow-succ'}
 use Rattle.fo_image.specs.declared.types.Score.{Score}
@@ -14,7 +14,9 @@ use Rattle.fo_ports.specs.State.{State}
 use Rattle.fo_tree_read.specs.declared.tree.Tree.{Tree}
 use Rattle.fo_tree_read.specs.Tree.{kind_at, kind_down, below, block_at, address_of, held_of, Hangs}
 use Rattle.fo_tree_read.proofs.Walk.{held_apart, is_down}
-use Rattle.fo_tree_look.specs.Source.{HasBlock, NoneHeld, address_here, held_here}
+use Rattle.fo_tree_look.specs.declared.ways.Kept.{Kept}
+use Rattle.fo_tree_look.specs.Source.{HasBlock, NoneHeld, AllHeld, address_here, held_here}
+use Rattle.fo_tree_look.proofs.Held.{seen_leaf}
 
 -- ---- which leaf was found
 
@@ -43,8 +45,8 @@ pub here_owned : {s : State} {t : Tree} {i at : ℕ} → IsHere s t i at → Has
 here_owned {t = t} {i = i} here = record { down = t.depth; index = i; within = omega arith; is = here.is }
 
 -- no leaf under a score
-pub none_here : (s : State) (t : Tree) → NoneHeld s t → (i : ℕ) → held_here s t i ≡ None
-none_here s t none i = by (nat_lt (8192 * i) t.size) (nat_lt i (409 ^ t.depth)) (block_at s t t.depth i) (none i)
+pub none_here : (s : State) (t : Tree) (kept : List Kept) → AllHeld s kept → s.tells → NoneHeld s t → (i : ℕ) → held_here s t kept i ≡ None
+none_here s t kept held told none i = seen_leaf s t kept held told i ∙ by (nat_lt (8192 * i) t.size) (nat_lt i (409 ^ t.depth)) (block_at s t t.depth i) (none i)
   where
     by : (inside few : Bool) (p : Pointer) → ((score : Score) → p ≡ Held score → ⊥) → cond inside (held_of s (kind_at t.dir 0) (cond few p Nil)) None ≡ None
     by true true Nil none = refl

@@ -1,8 +1,8 @@
 -- What a source has stays where it is only looked at.
 use Rattle.std.specs.List.{range_with_len}
-use Rattle.std.proofs.Common.{◌≡◌, ◌+◌, ◌-◌, ◌*◌, ◌/◌, ◌%◌, ◌^◌, ◌<◌, ◌≤◌, ℕ, zero, suc, Bool, true, false, cond, nat_lt, List, [], ◌∷◌, map, drop, Option, Some, None, slice_index, length, ◌++◌, inl, inr, ⊎_elim, refl, sym, ap, ◌∙◌, subst, arith}
+use Rattle.std.proofs.Common.{◌≡◌, ◌+◌, ◌-◌, ◌*◌, ◌/◌, ◌%◌, ◌^◌, ◌<◌, ◌≤◌, ℕ, zero, suc, Bool, true, false, cond, nat_lt, List, [], ◌∷◌, map, min, take, drop, Option, Some, None, slice_index, length, ◌++◌, inl, inr, ⊎_elim, refl, sym, ap, ◌∙◌, subst, arith}
 use Rattle.std.proofs.lemmas.Bool.{lt-ltb, le-ltb}
-use Rattle.std.proofs.lemmas.List.{ext_get_or, append-nil, append_assoc, length-drop}
+use Rattle.std.proofs.lemmas.List.{ext_get_or, append-nil, append_assoc, length-drop, length-take, get_or-take, get_or-drop}
 use Rattle.std.proofs.lemmas.List.FromFn.{length-map-range_with_len, get_or-map-range_with_len}
 use Rattle.fo_image.specs.declared.types.Kind.{Kind}
 use Rattle.fo_image.specs.declared.types.Kind.TheVariants.{Data, Dir, Root}
@@ -16,13 +16,15 @@ use Rattle.fo_crash.specs.Images.{Content, Reaches, target, to_block}
 use Rattle.fo_crash.proofs.Reach.{same_walk}
 use Rattle.fo_ports.specs.Blocks.{Reads}
 use Rattle.fo_ports.specs.State.{State, KeepsAll, Looks}
-use Rattle.fo_ports.specs.Sources.{byte_at, source_bytes, depth_for, most_for, Finds, SameLeaves}
+use Rattle.fo_ports.specs.Sources.{byte_at, source_bytes, depth_for, most_for, Finds, AreLocal, SameLeaves}
 use Rattle.fo_tree_read.specs.declared.tree.Tree.{Tree}
-use Rattle.fo_tree_read.specs.Tree.{kind_at, kind_down, block_at, leaf_at, address_of, held_of, address, held_leaf, bytes, IsGot, Got, IsFound}
+use Rattle.fo_tree_read.specs.Tree.{kind_at, kind_down, score_in, below, block_at, leaf_at, address_of, held_of, address, held_leaf, bytes, IsGot, Got, IsFound}
 use Rattle.fo_tree_read.specs.Reading.{LeafWay, most, Prepared as AllGot}
-use Rattle.fo_tree_read.proofs.Walk.{told_same, way_same, hangs_looks}
+use Rattle.fo_tree_read.proofs.Parts.{values_given}
+use Rattle.fo_tree_read.proofs.Walk.{told_same, hangs_looks}
 use Rattle.fo_tree_look.specs.declared.ways.Kept.{Kept}
-use Rattle.fo_tree_look.specs.Source.{HasBlock, IsTold, Over, NoneHeld, address_here, held_here, IsPrepared, IsKept, AllHeld, Extends, Ready, WayReady, WayGot, Prepared, IsTopCurrent, leaves_of}
+use Rattle.fo_tree_look.specs.Source.{HasBlock, IsTold, Over, NoneHeld, address_here, find_kept, or_held, seen, held_here, IsPrepared, IsKept, AllHeld, Extends, Ready, WayReady, WayGot, Prepared, IsTopCurrent, leaves_of}
+use Rattle.fo_tree_look.proofs.Held.{find_more, seen_block, held_plain, seen_leaf, seen_address, address_got}
 
 -- ---- bytes
 
@@ -41,22 +43,51 @@ cond_true b x y e = ap (λ c. cond c x y) e
 pub address_below : (s : State) (t : Tree) (i : ℕ) → 8192 * i < t.size → address_here s t i ≡ address s t i
 address_below s t i lt = cond_true (nat_lt (8192 * i) t.size) (address s t i) None (lt-ltb (8192 * i) t.size lt)
 
-pub held_below : (s : State) (t : Tree) (i : ℕ) → 8192 * i < t.size → held_here s t i ≡ held_leaf s t i
+pub held_below : (s : State) (t : Tree) (i : ℕ) → 8192 * i < t.size → held_plain s t i ≡ held_leaf s t i
 held_below s t i lt = cond_true (nat_lt (8192 * i) t.size) (held_leaf s t i) None (lt-ltb (8192 * i) t.size lt)
 
 pub address_past : (s : State) (t : Tree) (i : ℕ) → t.size ≤ 8192 * i → address_here s t i ≡ None
 address_past s t i le = ap (λ b. cond b (address s t i) None) (le-ltb (8192 * i) t.size le)
 
 -- the bytes are those that the tree reads
-pub bytes_here : (s : State) (t : Tree) → source_bytes (address_here s t) (held_here s t) s.now t.size ≡ bytes s t
-bytes_here s t = values_same
-    (λ k. byte_at s.now (address_here s t (k / 8192)) (held_here s t (k / 8192)) (k % 8192))
+pub bytes_here : (s : State) (t : Tree) (kept : List Kept) → AllHeld s kept → s.tells → source_bytes (address_here s t) (held_here s t kept) s.now t.size ≡ bytes s t
+bytes_here s t kept held told = values_same
+    (λ k. byte_at s.now (address_here s t (k / 8192)) (held_here s t kept (k / 8192)) (k % 8192))
     (λ k. byte_at s.now (address s t (k / 8192)) (held_leaf s t (k / 8192)) (k % 8192))
     t.size
     (λ k lt.
     let below : 8192 * (k / 8192) < t.size = omega (arith, lt) in
-    ap (λ (a : Option ℕ). byte_at s.now a (held_here s t (k / 8192)) (k % 8192)) (address_below s t (k / 8192) below)
-    ∙ ap (λ (h : Option (List ℕ)). byte_at s.now (address s t (k / 8192)) h (k % 8192)) (held_below s t (k / 8192) below))
+    ap (λ (a : Option ℕ). byte_at s.now a (held_here s t kept (k / 8192)) (k % 8192)) (address_below s t (k / 8192) below)
+    ∙ ap (λ (h : Option (List ℕ)). byte_at s.now (address s t (k / 8192)) h (k % 8192)) (seen_leaf s t kept held told (k / 8192) ∙ held_below s t (k / 8192) below))
+
+-- a part of two such lists that agree there
+part_same : (f g : ℕ → ℕ) (len offset n : ℕ) → ((k : ℕ) → offset ≤ k → k < offset + n → k < len → g k ≡ f k) → take n (drop offset (map g (range_with_len 0 len))) ≡ take n (drop offset (map f (range_with_len 0 len)))
+part_same f g len offset n same =
+    let whole : List ℕ = map g (range_with_len 0 len) in
+    let is : length (take n (drop offset whole)) ≡ min n (len - offset) = omega (arith, length-take n (drop offset whole), length-drop offset whole, length-map-range_with_len g 0 len) in
+    values_given f len offset n (take n (drop offset whole)) is
+    (λ i lt.
+    let near : i < n = omega (arith, lt, is) in
+    let far : offset + i < len = omega (arith, lt, is) in
+    get_or-take n (drop offset whole) i 0 near
+    ∙ get_or-drop offset whole i 0
+    ∙ get_or-map-range_with_len g 0 len (offset + i) (offset + i) 0 far (omega arith)
+    ∙ same (offset + i) (omega arith) (omega (arith, near)) far)
+
+-- bytes of leaves that stand on the device
+pub part_here : (s : State) (t : Tree) (kept : List Kept) (offset n : ℕ) → AreLocal (address_here s t) t.size offset n → take n (drop offset (bytes s t)) ≡ take n (drop offset (source_bytes (address_here s t) (held_here s t kept) s.now t.size))
+part_here s t kept offset n local = part_same
+    (λ k. byte_at s.now (address_here s t (k / 8192)) (held_here s t kept (k / 8192)) (k % 8192))
+    (λ k. byte_at s.now (address s t (k / 8192)) (held_leaf s t (k / 8192)) (k % 8192))
+    t.size offset n
+    (λ k from to lt.
+    let below : 8192 * (k / 8192) < t.size = omega (arith, lt) in
+    let is = local k from to lt in
+    ap (λ (a : Option ℕ). byte_at s.now a (held_leaf s t (k / 8192)) (k % 8192)) (sym (address_below s t (k / 8192) below) ∙ is.1)
+    ∙ sym (ap (λ (a : Option ℕ). byte_at s.now a (held_here s t kept (k / 8192)) (k % 8192)) is.1))
+
+pub tree_local : (s : State) (t : Tree) (offset n : ℕ) → AreLocal (address_here s t) t.size offset n → AreLocal (address s t) t.size offset n
+tree_local s t offset n local k from to lt = let is = local k from to lt in (is.0, sym (address_below s t (k / 8192) (omega (arith, lt))) ∙ is.1)
 
 -- ---- what a device that tells has
 
@@ -72,8 +103,8 @@ module _ (a b : State) (t : Tree) (all : KeepsAll a b) (looks : Looks a b) (told
   held_of_same (Local at) = refl
   held_of_same (Held score) = all.same_held score (kind_code (kind_at t.dir 0))
 
-  pub held_same : (i : ℕ) → held_here b t i ≡ held_here a t i
-  held_same i =
+  plain_same : (i : ℕ) → held_plain b t i ≡ held_plain a t i
+  plain_same i =
       ap (λ (p : Pointer). cond (nat_lt (8192 * i) t.size) (held_of b (kind_at t.dir 0) p) None) (leaf_same i)
       ∙ ap (λ (h : Option (List ℕ)). cond (nat_lt (8192 * i) t.size) h None) (held_of_same (leaf_at a t i))
 
@@ -82,15 +113,26 @@ module _ (a b : State) (t : Tree) (all : KeepsAll a b) (looks : Looks a b) (told
   byte_same None (Some xs) k = refl
   byte_same None None k = refl
 
-  pub bytes_same : source_bytes (address_here b t) (held_here b t) b.now t.size ≡ source_bytes (address_here a t) (held_here a t) a.now t.size
-  bytes_same = values_same
-      (λ k. byte_at b.now (address_here b t (k / 8192)) (held_here b t (k / 8192)) (k % 8192))
-      (λ k. byte_at a.now (address_here a t (k / 8192)) (held_here a t (k / 8192)) (k % 8192))
-      t.size
-      (λ k lt.
-      ap (λ (x : Option ℕ). byte_at b.now x (held_here b t (k / 8192)) (k % 8192)) (address_same (k / 8192))
-      ∙ ap (λ (h : Option (List ℕ)). byte_at b.now (address_here a t (k / 8192)) h (k % 8192)) (held_same (k / 8192))
-      ∙ byte_same (address_here a t (k / 8192)) (held_here a t (k / 8192)) (k % 8192))
+  module _ (kept more : List Kept) (held : AllHeld a kept) (still : AllHeld b more) where
+    told_still : b.tells
+    told_still = all.still_tells.1 told
+
+    pub held_same : (i : ℕ) → held_here b t more i ≡ held_here a t kept i
+    held_same i = seen_leaf b t more still told_still i ∙ plain_same i ∙ sym (seen_leaf a t kept held told i)
+
+    pub bytes_same : source_bytes (address_here b t) (held_here b t more) b.now t.size ≡ source_bytes (address_here a t) (held_here a t kept) a.now t.size
+    bytes_same = values_same
+        (λ k. byte_at b.now (address_here b t (k / 8192)) (held_here b t more (k / 8192)) (k % 8192))
+        (λ k. byte_at a.now (address_here a t (k / 8192)) (held_here a t kept (k / 8192)) (k % 8192))
+        t.size
+        (λ k lt.
+        ap (λ (x : Option ℕ). byte_at b.now x (held_here b t more (k / 8192)) (k % 8192)) (address_same (k / 8192))
+        ∙ ap (λ (h : Option (List ℕ)). byte_at b.now (address_here a t (k / 8192)) h (k % 8192)) (held_same (k / 8192))
+        ∙ byte_same (address_here a t (k / 8192)) (held_here a t kept (k / 8192)) (k % 8192))
+
+    -- what is seen on the way to a block
+    pub seen_same : (n k : ℕ) → block_at (seen b more) t n k ≡ block_at (seen a kept) t n k
+    seen_same n k = seen_block b more still told_still t n k ∙ told_same all looks told t n k ∙ sym (seen_block a kept held told t n k)
 
   pub blocks_back : (at : ℕ) → HasBlock b t at → HasBlock a t at
   blocks_back at has = record { down = has.down; index = has.index; within = has.within; is = sym (told_same all looks told t has.down has.index) ∙ has.is }
@@ -112,6 +154,7 @@ module _ (a b : State) (t : Tree) (all : KeepsAll a b) (looks : Looks a b) (told
         up_to = omega (arith, epoch, high, up);
         uncovered = λ c. is.uncovered ((looks.covered.covered at).0 c);
         in_tree = λ older. reaches_on at (is.in_tree (omega (arith, epoch, high, older)));
+        alone = λ y h. is.alone y ((looks.stays.instead y at (λ n. n) (λ n. n)).0 h);
       }
 
   pub unheld_on : NoneHeld a t → NoneHeld b t
@@ -119,7 +162,7 @@ module _ (a b : State) (t : Tree) (all : KeepsAll a b) (looks : Looks a b) (told
 
 pub held_on : {a b : State} → KeepsAll a b → (kept : List Kept) → AllHeld a kept → AllHeld b kept
 held_on all [] held = tt
-held_on all (x ∷ rest) held = (all.same_held x.score x.kind ∙ held.0, held_on all rest held.1)
+held_on all (x ∷ rest) held = (λ told. all.same_held x.score x.kind ∙ held.0 (all.still_tells.0 told), held_on all rest held.1)
 
 -- a source that was looked at stands over the blocks
 pub over_looks : {a b : State} {t : Tree} {kept : List Kept} {limit : ℕ} → KeepsAll a b → Looks a b → Over a t kept limit → Over b t kept limit
@@ -164,12 +207,24 @@ ready_block s t kept down (Held score) ready at e = absurd (held_local score at 
 
 pub ready_got : (s : State) (t : Tree) (kept : List Kept) (n k : ℕ) → WayReady s t kept n k → WayGot s t n k
 ready_got s t kept zero k ready = (tt, ready_block s t kept zero t.top ready)
-ready_got s t kept (suc n) k ready = let above = ready_got s t kept n (k / 409) ready.0 in ((above.0, above.1), ready_block s t kept (suc n) (block_at s t (suc n) k) ready.1)
+ready_got s t kept (suc n) k ready =
+    let above = ready_got s t kept n (k / 409) ready.0 in
+    ((above.0, above.1), address_got s (kind_down t (suc n)) (sym (seen_address s kept t (suc n) k)) (ready_block s t kept (suc n) (block_at (seen s kept) t (suc n) k) ready.1))
+
+-- the last block of a way
+pub top_ready : (s : State) (t : Tree) (kept : List Kept) (n k : ℕ) → WayReady s t kept n k → Ready s t kept n (block_at (seen s kept) t n k)
+top_ready s t kept zero k ready = ready
+top_ready s t kept (suc n) k ready = ready.1
 
 module _ (a b : State) (t : Tree) (kept more : List Kept) (all : KeepsAll a b) (looks : Looks a b) (grown : Extends b kept more) where
-  kept_on : (xs ys : List Kept) (score : Score) (kind : ℕ) → IsKept xs score kind → IsKept (xs ++ ys) score kind
-  kept_on [] ys score kind is = absurd is
-  kept_on (x ∷ rest) ys score kind is = ⊎_elim (λ here. inl here) (λ later. inr (kept_on rest ys score kind later)) is
+  found_on : (score : Score) (kind : ℕ) (bytes : List ℕ) → find_kept kept score kind ≡ Some bytes → find_kept more score kind ≡ Some bytes
+  found_on score kind bytes e = subst (λ (xs : List Kept). find_kept xs score kind ≡ Some bytes) (sym grown.is) (find_more kept grown.more score kind bytes e)
+
+  pub kept_on : (score : Score) (kind : ℕ) → IsKept kept score kind → IsKept more score kind
+  kept_on score kind is = (is.0, found_on score kind is.0 is.1)
+
+  held_same_kept : (score : Score) (kind : ℕ) → IsKept kept score kind → (seen b more).held score kind ≡ (seen a kept).held score kind
+  held_same_kept score kind is = ap (λ f. or_held f (b.held score kind)) (found_on score kind is.0 is.1) ∙ sym (ap (λ f. or_held f (a.held score kind)) is.1)
 
   block_on : (down at : ℕ) → IsPrepared a (kind_down t down) t.tag at → IsPrepared b (kind_down t down) t.tag at
   block_on down at is =
@@ -189,14 +244,30 @@ module _ (a b : State) (t : Tree) (kept more : List Kept) (all : KeepsAll a b) (
   pub ready_on : (down : ℕ) (p : Pointer) → Ready a t kept down p → Ready b t more down p
   ready_on down Nil is = is
   ready_on down (Local at) is = block_on down at is
-  ready_on down (Held score) is = (subst (λ (xs : List Kept). IsKept xs score (kind_code (kind_down t down))) (sym grown.is) (kept_on kept grown.more score (kind_code (kind_down t down)) is.0), is.1)
+  ready_on down (Held score) is = (kept_on score (kind_code (kind_down t down)) is.0, is.1)
 
-  block_same : (n k : ℕ) → WayReady a t kept n (k / 409) → block_at b t (suc n) k ≡ block_at a t (suc n) k
-  block_same n k way = let got = ready_got a t kept n (k / 409) way in way_same all looks t (suc n) k (got.0, got.1)
+  -- where a block leads that was prepared
+  below_on : (down : ℕ) (p : Pointer) (i : ℕ) → Ready a t kept down p → below (seen b more) (kind_down t down) p i ≡ below (seen a kept) (kind_down t down) p i
+  below_on down Nil i is = refl
+  below_on down (Local at) i is = ap (λ (s : Slot). target s) ((looks.known at is.is_pinned).slots i)
+  below_on down (Held score) i is = ap (λ h. score_in h i) (held_same_kept score (kind_code (kind_down t down)) is.0)
+
+  step_same : (n k : ℕ) → block_at (seen b more) t n (k / 409) ≡ block_at (seen a kept) t n (k / 409) → Ready a t kept n (block_at (seen a kept) t n (k / 409)) → block_at (seen b more) t (suc n) k ≡ block_at (seen a kept) t (suc n) k
+  step_same n k above is =
+      ap (λ (p : Pointer). below (seen b more) (kind_down t n) p (k % 409)) above
+      ∙ below_on n (block_at (seen a kept) t n (k / 409)) (k % 409) is
+
+  -- the same blocks are seen on a way that was prepared
+  pub way_seen : (n k : ℕ) → WayReady a t kept n k → block_at (seen b more) t n k ≡ block_at (seen a kept) t n k
+  way_seen zero k way = refl
+  way_seen (suc n) k way = step_same n k (way_seen n (k / 409) way.0) (top_ready a t kept n (k / 409) way.0)
+
+  pub block_same : (n k : ℕ) → WayReady a t kept n (k / 409) → block_at (seen b more) t (suc n) k ≡ block_at (seen a kept) t (suc n) k
+  block_same n k way = step_same n k (way_seen n (k / 409) way) (top_ready a t kept n (k / 409) way)
 
   pub way_on : (n k : ℕ) → (way : WayReady a t kept n k) → WayReady b t more n k
   way_on zero k way = ready_on zero t.top way
-  way_on (suc n) k way = (way_on n (k / 409) way.0, subst (λ (p : Pointer). Ready b t more (suc n) p) (sym (block_same n k way.0)) (ready_on (suc n) (block_at a t (suc n) k) way.1))
+  way_on (suc n) k way = (way_on n (k / 409) way.0, subst (λ (p : Pointer). Ready b t more (suc n) p) (sym (block_same n k way.0)) (ready_on (suc n) (block_at (seen a kept) t (suc n) k) way.1))
 
   pub prepared_on : (limit o n : ℕ) → Prepared a t kept limit o n → Prepared b t more limit o n
   prepared_on limit o n was = record {
@@ -213,10 +284,10 @@ module _ (a b : State) (t : Tree) (kept more : List Kept) (all : KeepsAll a b) (
   }
 
   -- a source was only looked at
-  pub same_leaves : (limit : ℕ) → SameLeaves a.tells (leaves_of a t kept limit) (leaves_of b t more limit)
-  same_leaves limit = record {
-    bytes = λ told. bytes_same a b t all looks told;
-    leaves = λ told i. (address_same a b t all looks told i, held_same a b t all looks told i);
+  pub same_leaves : AllHeld a kept → (limit : ℕ) → SameLeaves a.tells (leaves_of a t kept limit) (leaves_of b t more limit)
+  same_leaves held limit = record {
+    bytes = λ told. bytes_same a b t all looks told kept more held grown.held;
+    leaves = λ told i. (address_same a b t all looks told i, held_same a b t all looks told kept more held grown.held i);
     owns = λ told at. (blocks_back a b t all looks told at, blocks_on a b t all looks told at);
     still = prepared_on limit;
     current = current_on;

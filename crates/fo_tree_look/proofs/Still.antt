@@ -17,8 +17,9 @@ use Rattle.fo_tree_read.specs.declared.tree.Tree.{Tree}
 use Rattle.fo_tree_read.specs.Tree.{kind_at, kind_down, score_in, below, block_at, leaf_at, address_of, held_of}
 use Rattle.fo_tree_read.proofs.Walk.{is_down}
 use Rattle.fo_tree_look.specs.declared.ways.Kept.{Kept}
-use Rattle.fo_tree_look.specs.Source.{HasBlock, IsTold, Over, address_here, held_here, IsPrepared, Ready, WayReady, Prepared, IsTopCurrent, leaves_of}
-use Rattle.fo_tree_look.proofs.Shown.{held_on}
+use Rattle.fo_tree_look.specs.Source.{HasBlock, IsTold, Over, address_here, find_kept, or_held, seen, held_here, IsPrepared, Ready, WayReady, Prepared, IsTopCurrent, leaves_of}
+use Rattle.fo_tree_look.proofs.Held.{seen_leaf}
+use Rattle.fo_tree_look.proofs.Shown.{held_on, top_ready}
 
 -- a part of what is prepared is prepared
 pub part_prepared : {s : State} {t : Tree} {kept : List Kept} {limit o n : ℕ} (p m : ℕ) → Prepared s t kept limit o n → o ≤ p → p + m ≤ o + n → Prepared s t kept limit p m
@@ -79,21 +80,17 @@ module _ (t : Tree) (kept : List Kept) (a b : State) (all : KeepsAll a b)
   ready_known : (down : ℕ) (p : Pointer) → down < t.depth → Ready a t kept down p → (at : ℕ) → p ≡ Local at → (j : ℕ) → (b.now at).slot j ≡ (a.now at).slot j
   ready_known down p lt was at e = slots_stay at down lt (subst (λ (q : Pointer). Ready a t kept down q) e was)
 
-  way_top : (n k : ℕ) → WayReady a t kept n k → Ready a t kept n (block_at a t n k)
-  way_top zero k way = way
-  way_top (suc n) k way = way.1
-
-  way_same : (n k : ℕ) → n ≤ t.depth → WayReady a t kept n k → block_at b t n k ≡ block_at a t n k
+  way_same : (n k : ℕ) → n ≤ t.depth → WayReady a t kept n k → block_at (seen b kept) t n k ≡ block_at (seen a kept) t n k
   way_same zero k le way = refl
   way_same (suc n) k le way =
-      ap (λ (x : Pointer). below b (kind_down t n) x (k % 409)) (way_same n (k / 409) (omega (arith, le)) way.0)
-      ∙ below_stays a b (kind_down t n) (block_at a t n (k / 409)) (k % 409) all.same_held (ready_known n (block_at a t n (k / 409)) (omega (arith, le)) (way_top n (k / 409) way.0))
+      ap (λ (x : Pointer). below (seen b kept) (kind_down t n) x (k % 409)) (way_same n (k / 409) (omega (arith, le)) way.0)
+      ∙ below_stays (seen a kept) (seen b kept) (kind_down t n) (block_at (seen a kept) t n (k / 409)) (k % 409) (λ score kind. ap (λ h. or_held (find_kept kept score kind) h) (all.same_held score kind)) (ready_known n (block_at (seen a kept) t n (k / 409)) (omega (arith, le)) (top_ready a t kept n (k / 409) way.0))
 
   way_ready : (n k : ℕ) → n ≤ t.depth → WayReady a t kept n k → WayReady b t kept n k
   way_ready zero k le way = pointer_ready zero t.top way
   way_ready (suc n) k le way = (
     way_ready n (k / 409) (omega (arith, le)) way.0,
-    subst (λ (p : Pointer). Ready b t kept (suc n) p) (sym (way_same (suc n) k le way)) (pointer_ready (suc n) (block_at a t (suc n) k) way.1),
+    subst (λ (p : Pointer). Ready b t kept (suc n) p) (sym (way_same (suc n) k le way)) (pointer_ready (suc n) (block_at (seen a kept) t (suc n) k) way.1),
   )
 
   pub source_prepared : (limit o n : ℕ) → Prepared a t kept limit o n → Prepared b t kept limit o n
@@ -156,10 +153,12 @@ module _ (a b : State) (t : Tree) (kept : List Kept) (limit : ℕ) (all : KeepsA
   held_of_kept (Local at) = refl
   held_of_kept (Held score) = all.same_held score (kind_code (kind_at t.dir 0))
 
-  pub held_kept : (i : ℕ) → held_here b t i ≡ held_here a t i
+  pub held_kept : (i : ℕ) → held_here b t kept i ≡ held_here a t kept i
   held_kept i =
-      ap (λ (p : Pointer). cond (nat_lt (8192 * i) t.size) (held_of b (kind_at t.dir 0) p) None) (leaf_kept i)
+      seen_leaf b t kept (held_on all kept over.held) (all.still_tells.1 told) i
+      ∙ ap (λ (p : Pointer). cond (nat_lt (8192 * i) t.size) (held_of b (kind_at t.dir 0) p) None) (leaf_kept i)
       ∙ ap (λ (h : Option (List ℕ)). cond (nat_lt (8192 * i) t.size) h None) (held_of_kept (leaf_at a t i))
+      ∙ sym (seen_leaf a t kept over.held told i)
 
   pub blocks_back : (at : ℕ) → HasBlock b t at → HasBlock a t at
   blocks_back at has = record { down = has.down; index = has.index; within = has.within; is = sym (block_kept has.down has.index has.within) ∙ has.is }
@@ -180,6 +179,7 @@ module _ (a b : State) (t : Tree) (kept : List Kept) (limit : ℕ) (all : KeepsA
         up_to = omega (arith, epoch, high, up);
         uncovered = place.uncovered is.uncovered;
         in_tree = λ older. place.in_tree (is.in_tree (omega (arith, epoch, high, older)));
+        alone = λ y h. is.alone y (place.instead y h);
       }
 
   pub over_told : Over b t kept limit

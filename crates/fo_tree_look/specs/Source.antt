@@ -25,19 +25,39 @@ pub record HasBlock (s : State) (t : Tree) (at : ℕ) : Type 0 where
 abbrev pub form_of : Tree → ℕ → ℕ → Form
 form_of t generation limit = record { kind = kind_at t.dir 0; tag = t.tag; rank = t.rank; generation = generation; limit = limit }
 
--- the address of leaf i, and the bytes of one that is named by its score; nothing at the end and past it
+-- This is a block under this score and kind.
+abbrev pub is_same : Kept → Score → ℕ → Bool
+is_same x score kind = nat_eq x.kind kind && bytes_eq x.score.0 score.0
+
+-- the bytes that are kept under a score and kind
+abbrev pub find_kept : List Kept → Score → ℕ → Option (List ℕ)
+find_kept [] score kind = None
+find_kept (x ∷ rest) score kind = cond (is_same x score kind) (Some x.bytes) (find_kept rest score kind)
+
+abbrev pub or_held : Option (List ℕ) → Option (List ℕ) → Option (List ℕ)
+or_held None held = held
+or_held (Some bytes) held = Some bytes
+
+-- Blocks as a source sees them: what was kept is what is held, over any device.
+abbrev pub seen : State → List Kept → State
+seen s kept = record s { held = λ score kind. or_held (find_kept kept score kind) (s.held score kind) }
+
+-- the address of leaf i, and the bytes of one that is named by its score, as they were kept or as they are held; nothing at the end and
+-- past it
 abbrev pub address_here : State → Tree → ℕ → Option ℕ
 address_here s t i = cond (nat_lt (8192 * i) t.size) (address s t i) None
 
-abbrev pub held_here : State → Tree → ℕ → Option (List ℕ)
-held_here s t i = cond (nat_lt (8192 * i) t.size) (held_leaf s t i) None
+abbrev pub held_here : State → Tree → List Kept → ℕ → Option (List ℕ)
+held_here s t kept i = cond (nat_lt (8192 * i) t.size) (held_leaf (seen s kept) t i) None
 
--- What a device that tells has of a block of the source. One of an older epoch hangs from block 1, since no other is ever copied.
+-- What a device that tells has of a block of the source. One of an older epoch hangs from block 1, since no other is ever copied; and
+-- no block was made to come in its place.
 pub record IsTold (s : State) (at : ℕ) : Type 0 where
   pub live : (s.label at).state ≡ Live
   pub up_to : (s.label at).epoch ≤ s.high
   pub uncovered : s.covered at → ⊥
   pub in_tree : (s.label at).epoch < s.high → Reaches s.now (to_block 1) at
+  pub alone : (y : ℕ) → s.instead y at → ⊥
 
 -- The leaves hold neither entries nor records.
 abbrev pub IsPlainTree : Tree → Type 0
@@ -47,10 +67,10 @@ IsPlainTree t = (kind_at t.dir 0 ≡ Data 0) × (t.rank % 32 ≢ 16)
 abbrev pub NoneHeld : State → Tree → Type 0
 NoneHeld s t = (i : ℕ) (score : Score) → block_at s t t.depth i ≡ Held score → ⊥
 
--- What is kept is what is held.
+-- What is kept is what is held, as far as the device tells.
 abbrev pub AllHeld : State → List Kept → Type 0
 AllHeld s [] = Unit {0}
-AllHeld s (x ∷ rest) = (s.held x.score x.kind ≡ Some x.bytes) × AllHeld s rest
+AllHeld s (x ∷ rest) = (s.tells → s.held x.score x.kind ≡ Some x.bytes) × AllHeld s rest
 
 -- What was kept still is, and all that is kept is what is held.
 pub record Extends (s : State) (old new : List Kept) : Type 0 where
@@ -85,14 +105,9 @@ pub record IsPrepared (s : State) (kind : Kind) (tag at : ℕ) : Type 0 where
   pub up_to : (s.label at).epoch ≤ s.high
   pub long : length ((s.now at).bytes) ≡ 8192
 
--- This is a block under this score and kind.
-abbrev pub is_same : Kept → Score → ℕ → Bool
-is_same x score kind = nat_eq x.kind kind && bytes_eq x.score.0 score.0
-
--- What is held under this score and kind is kept.
+-- A block is kept under this score and kind.
 abbrev pub IsKept : List Kept → Score → ℕ → Type 0
-IsKept [] score kind = ⊥
-IsKept (x ∷ rest) score kind = ((x.score ≡ score) × (x.kind ≡ kind)) ⊎ IsKept rest score kind
+IsKept kept score kind = (bytes : List ℕ) × (find_kept kept score kind ≡ Some bytes)
 
 -- What a pointer names so many steps below the top is prepared. No leaf of entries or records under a score is.
 abbrev pub Ready : State → Tree → List Kept → ℕ → Pointer → Type 0
@@ -103,11 +118,19 @@ Ready s t kept down (Held score) = IsKept kept score (kind_code (kind_down t dow
 -- Block k of those so many steps below the top is prepared, and so are all above it.
 abbrev pub WayReady : State → Tree → List Kept → ℕ → ℕ → Type 0
 WayReady s t kept zero k = Ready s t kept zero t.top
-WayReady s t kept (suc n) k = WayReady s t kept n (k / 409) × Ready s t kept (suc n) (block_at s t (suc n) k)
+WayReady s t kept (suc n) k = WayReady s t kept n (k / 409) × Ready s t kept (suc n) (block_at (seen s kept) t (suc n) k)
 
 -- Block k of those so many steps below the top was got, and so were all above it.
 abbrev pub WayGot : State → Tree → ℕ → ℕ → Type 0
 WayGot s t n k = Way s t n k × Got s (kind_down t n) (block_at s t n k)
+
+-- A walk went so many steps down and looked at each block: it came to this pointer, which is block k where the device tells or the way
+-- was got.
+pub record Looked (old new : State) (t : Tree) (kept : List Kept) (n k : ℕ) (p : Pointer) : Type 0 where
+  pub found : old.tells ⊎ WayGot old t n k → p ≡ block_at (seen new kept) t n k
+  pub ready : WayGot old t n k → WayReady new t kept n k
+  pub is_one : (b : ℕ) → p ≡ Local b → new.is_block b
+  pub is_kept : (score : Score) → p ≡ Held score → IsKept kept score (kind_code (kind_down t n))
 
 -- The ways to bytes that the source has are prepared.
 pub record WaysReady (s : State) (t : Tree) (kept : List Kept) (offset n : ℕ) : Type 0 where
@@ -129,9 +152,9 @@ pub record IsTopCurrent (s : State) (t : Tree) : Type 0 where
 abbrev pub leaves_of : State → Tree → List Kept → ℕ → Leaves
 leaves_of s t kept limit = record {
   at = address_here s t;
-  held = held_here s t;
+  held = held_here s t kept;
   named = Names s t;
-  bytes = source_bytes (address_here s t) (held_here s t) s.now t.size;
+  bytes = source_bytes (address_here s t) (held_here s t kept) s.now t.size;
   owns = HasBlock s t;
   prepared = Prepared s t kept limit;
   current = IsTopCurrent s t;

@@ -2,7 +2,7 @@
 ghost use Rattle.std.specs.Prelude.{◌≡◌, ◌⊎◌, ◌+◌, ◌-◌, ◌*◌, ◌≤◌, ◌<◌, ℕ, true, length, take, drop, min, max, IfOk, OnOk, IfErr, IfSome};
 ghost use Rattle.fo_image.specs.declared.types.Kind.TheVariants.{Data};
 ghost use Rattle.fo_ports.specs.State.{Looks};
-ghost use Rattle.fo_ports.specs.Sources.{is_dir, Finds, most_for, depth_for, SameLeaves};
+ghost use Rattle.fo_ports.specs.Sources.{is_dir, Finds, AreLocal, most_for, depth_for, SameLeaves};
 ghost use Rattle.fo_tree_read.specs.Tree.{kind_at, Failed, Refused, Names};
 ghost use Rattle.fo_tree_look.specs.Source.{Over, form_of, leaves_of};
 
@@ -38,7 +38,8 @@ impl Ways {
     }
 
     /// Copies the bytes from the offset on to the front of the slice, as many as there are and fit, and says how many. Where it is
-    /// refused the front of the slice may have been changed. Of a source of entries nothing is said of the bytes given.
+    /// refused the front of the slice may have been changed. Of a source of entries nothing is said of the bytes given; nor
+    /// of a leaf under a score where the device tells nothing.
     pub fn read<B: Blocks>(
         &self,
         on: &mut B,
@@ -47,7 +48,7 @@ impl Ways {
     ) -> Result<usize, BlockError>
         requires over { Over (B.state on.old) self.now.tree self.now.kept.items self.now.limit }
         ensures count { IfOk result (λ n. n ≡ min (length into.old) (self.now.tree.size - offset)) }
-        ensures given { IfOk result (λ n. kind_at self.now.tree.dir 0 ≡ Data 0 → Finds (B.state on.old).tells (most_for self.now.tree.size (length into.old)) (B.state on.old).pins_left ((leaves_of (B.state on.old) self.now.tree self.now.kept.items self.now.limit).prepared offset (length into.old)) → take n into.new ≡ take (length into.old) (drop offset (leaves_of (B.state on.new) self.now.tree self.now.kept.items self.now.limit).bytes)) }
+        ensures given { IfOk result (λ n. kind_at self.now.tree.dir 0 ≡ Data 0 → Finds (B.state on.old).tells (most_for self.now.tree.size (length into.old)) (B.state on.old).pins_left ((leaves_of (B.state on.old) self.now.tree self.now.kept.items self.now.limit).prepared offset (length into.old)) → (B.state on.old).tells ⊎ AreLocal (leaves_of (B.state on.new) self.now.tree self.now.kept.items self.now.limit).at self.now.tree.size offset (length into.old) → take n into.new ≡ take (length into.old) (drop offset (leaves_of (B.state on.new) self.now.tree self.now.kept.items self.now.limit).bytes)) }
         ensures behind { IfOk result (λ n. drop n into.new ≡ drop n into.old) }
         ensures over { Over (B.state on.new) self.now.tree self.now.kept.items self.now.limit }
         ensures same { SameLeaves (B.state on.old).tells (leaves_of (B.state on.old) self.now.tree self.now.kept.items self.now.limit) (leaves_of (B.state on.new) self.now.tree self.now.kept.items self.now.limit) }

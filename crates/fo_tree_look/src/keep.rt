@@ -1,15 +1,17 @@
 //! Blocks under scores are kept as they were fetched.
-ghost use Rattle.std.specs.Prelude.{◌≡◌, ◌≤◌, ◌++◌, ◌∷◌, [], true, Some, None, OnOk, OnErr, IfErr};
+ghost use Rattle.std.specs.Prelude.{◌≡◌, ◌<◌, ◌≤◌, ◌++◌, ◌∷◌, [], true, Some, None, OnOk, OnErr, IfErr};
 ghost use Rattle.std.specs.List.{list_any};
 ghost use Rattle.fo_base.specs.Cause.{Rose};
 ghost use Rattle.fo_ports.specs.Causes.{Caused};
 ghost use Rattle.fo_ports.specs.State.{Looks};
-ghost use Rattle.fo_tree_look.specs.Source.{is_same, IsKept, AllHeld, Extends};
+ghost use Rattle.fo_tree_read.specs.Tree.{score_in};
+ghost use Rattle.fo_tree_look.specs.Source.{is_same, find_kept, IsKept, AllHeld, Extends};
 
 use crate::ways::Kept;
 use fo_base::{BLOCK, Memory};
-use fo_image::Score;
+use fo_image::{Pointer, Score};
 use fo_ports::{BlockError, Blocks};
+use fo_tree_read::score_in;
 
 /// Fetches a block under a score, and keeps it.
 pub(crate) fn keep<B: Blocks>(
@@ -24,7 +26,7 @@ pub(crate) fn keep<B: Blocks>(
     ensures more { Extends (B.state on.new) kept.old.items kept.new.items }
     ensures looks { Looks (B.state on.old) (B.state on.new) }
     ensures keeps { B.keeps on.old on.new }
-    ensures cause { IfErr result (Caused ⊥ (λ b. (b ≡ 1) × ((B.state on.old).held score.now kind ≡ None)) ⊥ (Rose (B.state on.old).arena_faults (B.state on.new).arena_faults)) }
+    ensures cause { IfErr result (Caused ⊥ (λ b. (b ≡ 1) × ((B.state on.old).tells → (B.state on.old).held score.now kind ≡ None)) ⊥ (Rose (B.state on.old).arena_faults (B.state on.new).arena_faults)) }
 {
     if is_kept(kept, score, kind) {
         return Ok(());
@@ -40,6 +42,31 @@ pub(crate) fn keep<B: Blocks>(
         },
     )?;
     Ok(())
+}
+
+/// The pointer in slot `i` of a block of pointers that is kept; nil where none is.
+pub(crate) fn kept_pointer(kept: &[Kept], score: &Score, kind: u8, i: u32) -> Pointer
+    requires slot { i < 409 }
+    ensures { result ≡ score_in (find_kept kept.now score.now kind) i }
+{
+    for block in kept {
+        if is_same(block, score, kind) {
+            return score_in(&block.bytes, i as usize);
+        }
+    }
+    Pointer::Nil
+}
+
+/// The bytes that are kept under a score and kind.
+pub fn kept_bytes(kept: &[Kept], score: &Score, kind: u8) -> Option<[u8; BLOCK]>
+    ensures { result ≡ find_kept kept.now score.now kind }
+{
+    for block in kept {
+        if is_same(block, score, kind) {
+            return Some(block.bytes);
+        }
+    }
+    None
 }
 
 /// Whether a block is kept.

@@ -14,5 +14,6 @@ mod pins;
 mod place;
 mod ways;
 
+pub use keep::kept_bytes;
 pub use laws::{holds, stays};
 pub use ways::{Kept, Ways};

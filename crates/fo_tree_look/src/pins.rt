@@ -1,15 +1,16 @@
 //! The ways to leaves are prepared.
 ghost use Rattle.std.specs.Prelude.{◌≡◌, ◌≢◌, ◌⊎◌, ◌+◌, ◌-◌, ◌*◌, ◌/◌, ◌%◌, ◌≤◌, ◌<◌, ℕ, length, IfOk, OnOk, IfErr, IsTrue, true};
+ghost use Rattle.fo_image.specs.declared.types.Score.{Score};
 ghost use Rattle.fo_image.specs.declared.types.State.TheVariants.{Live};
 ghost use Rattle.fo_image.specs.declared.types.Pointer.TheVariants.{Local, Score as Held};
 ghost use Rattle.fo_image.specs.Format.{kind_code};
 ghost use Rattle.fo_crash.specs.declared.place.Place.{Place};
 ghost use Rattle.fo_ports.specs.State.{Looks};
-ghost use Rattle.fo_tree_read.specs.Tree.{Hangs, kind_at, kind_down, block_at, StandsAs, Got, Failed, Refused, Names};
+ghost use Rattle.fo_tree_read.specs.Tree.{Hangs, kind_at, kind_down, below, block_at, StandsAs, Got, Failed, Refused, Names};
 ghost use Rattle.fo_tree_read.specs.Reading.{passed, most, IsNext, HasLeafPins};
-ghost use Rattle.fo_tree_look.specs.Source.{IsPlainTree, HasLabel, IsPrepared, Extends, Ready, WayReady, WayGot, WaysReady, Over};
+ghost use Rattle.fo_tree_look.specs.Source.{IsPlainTree, HasLabel, IsPrepared, IsKept, Extends, Ready, WayReady, WayGot, Looked, WaysReady, Over, seen};
 
-use crate::keep::keep;
+use crate::keep::{keep, kept_pointer};
 use crate::place::{LEAF, SLOTS, is_plain, kind_at, kind_number};
 use crate::ways::Kept;
 use fo_base::BLOCK;
@@ -67,17 +68,17 @@ fn prepare_leaf<B: Blocks>(
     Ok(())
 }
 
-/// Looks at block `k` of those so many steps below the top, and at all above it.
+/// Looks at block `k` of those so many steps below the top, and at all above it, and gives where it is.
 fn look_down<B: Blocks>(
     tree: &Tree,
     kept: &mut Vec<Kept>,
     on: &mut B,
     down: u8,
     k: u64,
-) -> Result<(), BlockError>
+) -> Result<Pointer, BlockError>
     requires over { (limit : ℕ) × Over (B.state on.old) tree.now kept.old.items limit }
     requires down { down ≤ tree.now.depth }
-    ensures ready { OnOk result (WayGot (B.state on.old) tree.now down k → WayReady (B.state on.new) tree.now kept.new.items down k) }
+    ensures looked { IfOk result (λ p. Looked (B.state on.old) (B.state on.new) tree.now kept.new.items down k p) }
     ensures pins { WayGot (B.state on.old) tree.now down k → (B.state on.old).pins_left ≤ (B.state on.new).pins_left }
     ensures more { Extends (B.state on.new) kept.old.items kept.new.items }
     ensures looks { Looks (B.state on.old) (B.state on.new) }
@@ -85,34 +86,48 @@ fn look_down<B: Blocks>(
     ensures cause { IfErr result (Refused (B.state on.old) (B.state on.new) (Names (B.state on.old) tree.now)) }
 {
     if down == 0 {
-        look_at(tree, kept, on, 0, k)?;
-        return Ok(());
+        look_into(tree, kept, on, 0, tree.top)?;
+        return Ok(tree.top);
     }
-    look_down(tree, kept, on, down - 1, k / SLOTS)?;
-    look_at(tree, kept, on, down, k)?;
-    Ok(())
+    let above = look_down(tree, kept, on, down - 1, k / SLOTS)?;
+    let pointer = look_below(tree, kept, on, down - 1, above, (k % SLOTS) as u32)?;
+    look_into(tree, kept, on, down, pointer)?;
+    Ok(pointer)
 }
 
-/// Looks at block `k` of those so many steps below the top.
-fn look_at<B: Blocks>(
+/// The pointer in slot `i` of the block that a pointer names, which was looked at.
+fn look_below<B: Blocks>(
     tree: &Tree,
-    kept: &mut Vec<Kept>,
+    kept: &[Kept],
     on: &mut B,
     down: u8,
-    k: u64,
-) -> Result<(), BlockError>
-    requires over { (limit : ℕ) × Over (B.state on.old) tree.now kept.old.items limit }
-    requires down { down ≤ tree.now.depth }
-    ensures ready { OnOk result (WayGot (B.state on.old) tree.now down k → Ready (B.state on.new) tree.now kept.new.items down (block_at (B.state on.new) tree.now down k)) }
-    ensures pins { WayGot (B.state on.old) tree.now down k → (B.state on.old).pins_left ≤ (B.state on.new).pins_left }
-    ensures more { Extends (B.state on.new) kept.old.items kept.new.items }
+    above: Pointer,
+    i: u32,
+) -> Result<Pointer, BlockError>
+    requires hangs { Hangs (B.state on.old) tree.now }
+    requires down { down < tree.now.depth }
+    requires block { (b : ℕ) → above ≡ Local b → (B.state on.old).is_block b }
+    requires there { (B.state on.old).tells → (k : ℕ) × (above ≡ block_at (B.state on.old) tree.now down k) }
+    requires kept { (score : Score) → above ≡ Held score → IsKept kept.now score (kind_code (kind_down tree.now down)) }
+    requires slot { i < 409 }
+    ensures found { IfOk result (λ p. p ≡ below (seen (B.state on.new) kept.now) (kind_down tree.now down) above i) }
+    ensures block { IfOk result (λ p. (b : ℕ) → p ≡ Local b → (B.state on.new).is_block b) }
+    ensures pins { Got (B.state on.old) (kind_down tree.now down) above → (B.state on.old).pins_left ≤ (B.state on.new).pins_left }
     ensures looks { Looks (B.state on.old) (B.state on.new) }
     ensures keeps { B.keeps on.old on.new }
-    ensures cause { IfErr result (Refused (B.state on.old) (B.state on.new) (Names (B.state on.old) tree.now)) }
+    ensures cause { IfErr result (Failed (B.state on.old) (B.state on.new)) }
 {
-    let pointer = tree.pointer_at(on, down, k)?;
-    look_into(tree, kept, on, down, pointer)?;
-    Ok(())
+    match above {
+        Pointer::Nil => Ok(Pointer::Nil),
+        Pointer::Local(at) => {
+            let pointer = tree.step(on, at, down, i)?;
+            Ok(pointer)
+        }
+        Pointer::Score(score) => {
+            let kind = kind_number(tree.dir, tree.depth - down);
+            Ok(kept_pointer(kept, &score, kind, i))
+        }
+    }
 }
 
 /// Looks at the block that a pointer names so many steps below the top.

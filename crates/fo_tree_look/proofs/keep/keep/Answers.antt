@@ -36,5 +36,5 @@ returns-clause-more g c =
       more = x ∷ [];
       is = c.in_ok-add.ensures.added;
       held = subst (λ (xs : List Kept). AllHeld s xs) (sym c.in_ok-add.ensures.added)
-          (held_last s kept x (held_on all kept c.requires.held) (all.same_held c.args.score.now c.args.kind ∙ c.in_ok-fetch.ensures.bytes));
+          (held_last s kept x (held_on all kept c.requires.held) (λ told. all.same_held c.args.score.now c.args.kind ∙ c.in_ok-fetch.ensures.bytes (all.still_tells.0 told)));
     }

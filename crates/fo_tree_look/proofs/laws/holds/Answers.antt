@@ -4,7 +4,7 @@ use Rattle.fo_tree_look.proofs.Places.{is_here, here_owned, none_here, leaf_ther
 use Rattle.fo_tree_look.proofs.laws.holds.Goals as goal
 
 pub returns-clause-none_held : goal.returns-clause-none_held
-returns-clause-none_held g c = λ i told other. none_here (g.B.Blocks.state c.args.on.now) c.args.source.now.tree (c.requires.over.unheld told other) i
+returns-clause-none_held g c = λ i told other. none_here (g.B.Blocks.state c.args.on.now) c.args.source.now.tree c.args.source.now.kept.items c.requires.over.held told (c.requires.over.unheld told other) i
 
 pub returns-clause-apart : goal.returns-clause-apart
 returns-clause-apart g c = λ i j at told e f.

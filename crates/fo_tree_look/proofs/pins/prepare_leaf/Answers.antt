@@ -82,4 +82,4 @@ returns-clause-ready g c = λ has.
     let d = g.B.Blocks.state c.look_down.new.on in
     let t = c.args.tree.now in
     let i = c.args.place / 8192 in
-    c.in_ok-look_down.ensures.ready (leaf_way_got a b d t i c.copy_part.ensures.pins c.copy_part.ensures.near c.in_ok-copy_part.ensures.way c.look_down.ensures.pins (c.in_ok-copy_part.ensures.way has))
+    c.in_ok-look_down.ensures.looked.ready (leaf_way_got a b d t i c.copy_part.ensures.pins c.copy_part.ensures.near c.in_ok-copy_part.ensures.way c.look_down.ensures.pins (c.in_ok-copy_part.ensures.way has))

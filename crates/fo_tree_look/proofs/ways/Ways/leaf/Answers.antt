@@ -11,7 +11,7 @@ returns-in_err-found-clause-same g c =
     let b = g.B.Blocks.state c.leaf.new.on in
     let s = c.args.self.now in
     let all = g.met.B.Blocks.keeps_all c.args.on.now c.leaf.new.on c.leaf.ensures.keeps in
-    same_leaves a b s.tree s.kept.items s.kept.items all c.leaf.ensures.looks (extends_none all s.kept.items c.requires.over.held) s.limit
+    same_leaves a b s.tree s.kept.items s.kept.items all c.leaf.ensures.looks (extends_none all s.kept.items c.requires.over.held) c.requires.over.held s.limit
 
 pub returns-clause-at : goal.returns-clause-at
 returns-clause-at g c = λ finds.
@@ -30,4 +30,4 @@ returns-clause-same g c =
     let b = g.B.Blocks.state c.leaf.new.on in
     let s = c.args.self.now in
     let all = g.met.B.Blocks.keeps_all c.args.on.now c.leaf.new.on c.leaf.ensures.keeps in
-    same_leaves a b s.tree s.kept.items s.kept.items all c.leaf.ensures.looks (extends_none all s.kept.items c.requires.over.held) s.limit
+    same_leaves a b s.tree s.kept.items s.kept.items all c.leaf.ensures.looks (extends_none all s.kept.items c.requires.over.held) c.requires.over.held s.limit
