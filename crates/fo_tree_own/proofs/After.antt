@@ -1,6 +1,6 @@
 -- What is there once a block was given out and put.
 use Rattle.std.proofs.Common.{◌≡◌, ◌≢◌, ◌⊎◌, ◌↔◌, ◌+◌, ◌*◌, ℕ, suc, List, [], ◌∷◌, ◌++◌, length, inl, inr, ⊎_elim, refl, sym, ◌∙◌, ap, subst, arith}
-use Rattle.std.proofs.lemmas.Bool.{cases_eq, cases_lt}
+use Rattle.std.proofs.lemmas.Bool.{cases_eq}
 use Rattle.fo_image.specs.declared.types.Label.{Label}
 use Rattle.fo_image.specs.declared.types.Pointer.{Pointer}
 use Rattle.fo_image.specs.declared.types.Pointer.TheVariants.{Nil, Local, Score as Held}
@@ -104,8 +104,8 @@ module _ {t : Tree} {level k at i n : ℕ} {was : Pointer} {c : Content} {l : La
   below_tree told b (Held score) e r = absurd (lost m.now r.path ((m.now at).slot i) (λ y f. let none : Held score ≡ Local y = sym (x.leads ∙ e) ∙ f in cc) b r.leads)
   below_tree told b (Local y) e r = reaches_joins (x.in_tree told y e) (reaches_same {t = to_block y} (x.leads ∙ e) r)
 
-  only_covers : s.tells → OnlyCovers was s u
-  only_covers told = record {
+  told_covers : s.tells → OnlyCovers was s u
+  told_covers told = record {
     still = λ b h. (x.covers (told_mid told)).still b (back_covered b h);
     only = λ b no not h. (x.covers (told_mid told)).only b (λ g. no (from_covered b g))
         (λ r. (x.laws.live b (told_end told) (λ e. x.no_one told (subst (λ y. Reaches m.now ((m.now at).slot i) y) e r)) (reaches_end 1 b not (below_tree told b was refl r))).2 h) h;
@@ -116,6 +116,13 @@ module _ {t : Tree} {level k at i n : ℕ} {was : Pointer} {c : Content} {l : La
 
       from_covered : (b : ℕ) → m.covered b → s.covered b
       from_covered b g = (x.link.gives.covered b (λ e. x.link.gives.is.4 (subst (λ y. m.covered y) e g))).0 g
+
+  -- what is to be closed is known only where the device tells
+  only_covers : OnlyCovers was s u
+  only_covers = record {
+    still = λ b h. (told_covers (x.link.laws.covers_told b h)).still b h;
+    only = λ b no not h. (told_covers (x.whole.still_tells.0 (x.laws.covers_told b h))).only b no not h;
+  }
 
   label_end : (b : ℕ) → b ≢ result → u.label b ≡ s.label b
   label_end b apart = x.frame.stays.labels b (λ h. h) ∙ x.link.gives.stays.labels b apart
@@ -156,20 +163,11 @@ module _ {t : Tree} {level k at i n : ℕ} {was : Pointer} {c : Content} {l : La
       (cases_eq b at)))
       (cases_eq b result)
 
-  waits_end : (a b j : ℕ) → b ≢ result → a ≢ result → (b ≢ at) ⊎ (j ≢ 409) → s.waits a b j → u.waits a b j
-  waits_end a b j apart sep which w =
+  waits_end : (a b j : ℕ) → b ≢ result → a ≢ result → s.waits a b j → u.waits a b j
+  waits_end a b j apart sep w =
       let mid = x.link.gives.stays.waits a b j sep apart (λ z. z) w in
       ⊎_elim
-      (λ here. ⊎_elim
-      (λ away. absurd (away here))
-      (λ other. ⊎_elim
-      (λ lt. absurd (unwaited x.link a j lt (subst (λ y. m.waits a y j) here mid)))
-      (λ ge. x.hangs.waits a b j (inr (inl (
-        λ e. let few = x.link.few in absurd (omega (arith, few, ge, e)),
-        λ pair. let few = x.link.few in let first = pair.1 in let second = pair.2 in other (omega (arith, few, ge, first, second)),
-      ))) mid)
-      (cases_lt j 409))
-      which)
+      (λ here. absurd (unwaited x.link a j (subst (λ y. m.waits a y j) here mid)))
       (λ away. x.hangs.waits a b j (inl away) mid)
       (cases_eq b at)
 
@@ -209,7 +207,7 @@ module _ {t : Tree} {level k at i n : ℕ} {was : Pointer} {c : Content} {l : La
   at_marks = (x.frame.stays.marks at (λ h. h)).0 (at_pinned x.link)
 
   spared : s.tells → (s.covered at → ⊥) → (was ≡ Local at → ⊥) → u.covered at → ⊥
-  spared told free other h = (only_covers told).only at free other h
+  spared told free other h = only_covers.only at free other h
 
   not_was : was ≡ Local at → ⊥
   not_was e = x.other at e refl
@@ -241,7 +239,7 @@ module _ {t : Tree} {level k at i n : ℕ} {was : Pointer} {c : Content} {l : La
       (λ r. inl (reached_end told at not_was r))
       (λ h.
       let apart = top_ne x.link told h in
-      let no = (only_covers told).only h.top h.uncovered (x.not_apart told h.top h.is_apart) in
+      let no = only_covers.only h.top h.uncovered (x.not_apart told h.top h.is_apart) in
       inr (record {
         top = h.top;
         is_apart = (apart_same h.top apart).1 h.is_apart;
@@ -282,7 +280,7 @@ module _ {t : Tree} {level k at i n : ℕ} {was : Pointer} {c : Content} {l : La
     tagged = ap (λ (q : Label). q.tag) result_end ∙ x.tagged;
     current = ap (λ (q : Label). q.epoch) result_end ∙ x.link.is_current ∙ sym x.whole.same_high;
     long = ap length (x.puts.bytes result ∙ x.link.gives.memory.here.bytes) ∙ x.long;
-    told = λ now. let told = x.whole.still_tells.0 now in record { stands = own_stands told; uncovered = (only_covers told).only result x.link.gives.was.2 x.fresh; holder = own_holder told };
+    told = λ now. let told = x.whole.still_tells.0 now in record { stands = own_stands told; uncovered = only_covers.only result x.link.gives.was.2 x.fresh; holder = own_holder told };
   }
 
   -- ---- all that changed
@@ -350,18 +348,18 @@ module _ {t : Tree} {level k at i n : ℕ} {was : Pointer} {c : Content} {l : La
       no_front [] j rest e = cc
       no_front (y ∷ front) j rest e = cc
 
-  changes_end : OnlyCovers was s u → ((a : ℕ) → s.waits a at 409 → ⊥) → Changes t.tag Mine (λ b. b ≡ at) s u
-  changes_end only few = record {
+  changes_end : Changes t.tag Mine (λ b. b ≡ at) s u
+  changes_end = record {
     memory = λ b not. let away = touches b not in record { bytes = bytes_end b away.1; slots = λ j. slots_end b j away.1 (inl away.0) };
     images = undone;
     made = λ b made. subst (λ y. IsMade t.tag s u y) (sym (made_is b made)) is_made;
     others = marked;
     places = λ told b p not mine no stands. places_end told b p (not_made b not) no stands;
     instead = λ b y h. inl (instead_end b y h);
-    covers = λ b. (only.still b, λ no mine h. only.only b no (λ e. mine (inr e)) h);
+    covers = λ b. (only_covers.still b, λ no mine h. only_covers.only b no (λ e. mine (inr e)) h);
     leaves = leaves_end;
     in_tree = λ told b mine r. reached_end told b (λ e. mine (inr e)) r;
-    waits = λ a b j not_a not_b w. waits_end a b j (not_made b not_b) (not_made a not_a) (which a b j w) w;
+    waits = λ a b j not_a not_b w. waits_end a b j (not_made b not_b) (not_made a not_a) w;
     no_wait = record { each = λ a b j h w. x.link.gives.no_wait.each a b j h (x.no_wait.each a b j h w) };
     clearing = λ b j h. let mid = x.link.gives.order.clearing b j (x.order.clearing b j h).1 in (λ made. mid.0 (made_is b made), mid.1);
     dirty = λ b d. ⊎_elim
@@ -376,9 +374,6 @@ module _ {t : Tree} {level k at i n : ℕ} {was : Pointer} {c : Content} {l : La
     pins = x.frame.uses.pins ∙ x.link.gives.uses.pins;
     numbers = record { next = x.frame.numbers.next ∙ x.link.gives.numbers.next; grants = λ h. x.frame.numbers.grants (x.link.gives.numbers.grants h) };
   }
-    where
-      which : (a b j : ℕ) → s.waits a b j → (b ≢ at) ⊎ (j ≢ 409)
-      which a b j w = ⊎_elim (λ here. inr (λ e. few a (subst (λ z. s.waits a at z) e (subst (λ y. s.waits a y j) here w)))) (λ away. inl away) (cases_eq b at)
 
   pub links : Links t level k at i was result s u
   links = record {

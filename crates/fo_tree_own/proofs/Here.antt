@@ -7,11 +7,11 @@ use Rattle.fo_crash.proofs.Reach.{reaches_on}
 use Rattle.fo_ports.specs.State.{State}
 use Rattle.fo_tree_read.specs.declared.tree.Tree.{Tree}
 use Rattle.fo_tree_read.specs.Tree.{kind_at}
-use Rattle.fo_tree_look.specs.Source.{IsPrepared}
-use Rattle.fo_tree_own.specs.Step.{IsOwn, IsAlone}
+use Rattle.fo_tree_look.specs.Source.{IsPrepared, IsTold}
+use Rattle.fo_tree_own.specs.Step.{IsOwn}
 use Rattle.fo_tree_own.proofs.Link.{Laws, inner_below}
 
-pub here_own : (s : State) (t : Tree) (level k at i below : ℕ) → Laws s → IsOwn s t (suc level) k at → target ((s.now at).slot i) ≡ Local below → IsPrepared s (kind_at t.dir level) t.tag below → (s.tells → IsAlone s below) → (s.label below).epoch ≡ s.high → IsOwn s t level (409 * k + i) below
+pub here_own : (s : State) (t : Tree) (level k at i below : ℕ) → Laws s → IsOwn s t (suc level) k at → target ((s.now at).slot i) ≡ Local below → IsPrepared s (kind_at t.dir level) t.tag below → (s.tells → IsTold s below) → (s.label below).epoch ≡ s.high → IsOwn s t level (409 * k + i) below
 here_own s t level k at i below laws above leads is told current = record {
   is_pinned = is.is_pinned;
   live = is.live;
@@ -21,7 +21,7 @@ here_own s t level k at i below laws above leads is told current = record {
   long = is.long;
   told = λ now. record {
     stands = subst (λ q. s.stands below q) (inner_below t.dir level t.tag k t.rank i ((s.now at).slot i)) ((laws.placed now).each at i below (place (kind_at t.dir (suc level)) t.tag k (t.rank + suc level)) (above.told now).stands leads);
-    uncovered = (told now).is_told.uncovered;
+    uncovered = (told now).uncovered;
     holder = ⊎_elim
         (λ r. inl (reaches_on i r leads))
         (λ h. inr (record { top = h.top; is_apart = h.is_apart; place = h.place; stands = h.stands; uncovered = h.uncovered; reaches = reaches_on i h.reaches leads }))

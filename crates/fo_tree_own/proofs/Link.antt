@@ -11,11 +11,10 @@ use Rattle.fo_crash.specs.declared.slot.Slot.TheVariants.{Pointer as To, Entry a
 use Rattle.fo_crash.specs.declared.place.Place.{Place}
 use Rattle.fo_crash.specs.Images.{Content, Reaches, target, to_block}
 use Rattle.fo_crash.specs.Places.{place, place_below, super_place, IsPlaced, OnePlace, RanksFall}
-use Rattle.fo_crash.specs.Names.{IsInUse}
 use Rattle.fo_crash.proofs.Places.{stands_below}
 use Rattle.fo_crash.proofs.Reach.{reach_aside, reach_into}
 use Rattle.fo_ports.specs.Blocks.{slot_count, SlotFits, cost, dropped, blank_slot}
-use Rattle.fo_ports.specs.State.{State, KeepsAll, Gives, IsPairUsed, IsHeld}
+use Rattle.fo_ports.specs.State.{State, KeepsAll, Gives, IsHeld}
 use Rattle.fo_tree_read.specs.declared.tree.Tree.{Tree}
 use Rattle.fo_tree_read.specs.Tree.{kind_at}
 use Rattle.fo_tree_own.specs.Step.{HangsApart, IsOwn}
@@ -75,7 +74,8 @@ pub record Laws (s : State) : Type 0 where
   pub ranked : s.tells → RanksFall s.stands s.now
   pub live : (at : ℕ) → s.tells → at ≢ 1 → Reaches s.now (to_block 1) at → ((s.label at).state ≡ Live) × ((s.label at).epoch ≤ s.high) × (s.covered at → ⊥)
   pub clears : (at j : ℕ) → s.clearing at j → ((s.label at).kind ≡ Dir 0) × ((s.label at).epoch ≡ s.high)
-  pub in_use : (a on j : ℕ) → s.waits a on j → IsPairUsed s.now on j
+  pub waits_within : (a on j : ℕ) → s.waits a on j → (s.label on).kind ≡ Dir 0
+  pub covers_told : (at : ℕ) → s.covered at → s.tells
   pub within : (at i below : ℕ) → s.pinned at → target ((s.now at).slot i) ≡ Local below → s.is_block below
   pub spelled : (at i : ℕ) → s.pinned at → i < slot_count (s.label at).kind → SlotFits (s.label at).kind i ((s.now at).slot i)
   pub apart_hangs : s.tells → (w : ℕ) → s.apart w → Reaches s.now (to_block 1) w → ⊥
@@ -150,14 +150,8 @@ module _ {t : Tree} {level k at i : ℕ} {c : Content} {l : Label} {result : ℕ
   held told = ⊎_elim (λ r. inl r) (λ h. inr (h.top, h.is_apart, h.reaches)) (held_on told)
 
   -- no entry stands in a block of pointers
-  pub unused : (j g : ℕ) → j < 409 → IsInUse ((m.now at).slot j) g → ⊥
-  unused j g lt used = subst (λ q. IsInUse q g) (slot_to j lt) used
-
-  pub unwaited : (a j : ℕ) → j < 409 → m.waits a at j → ⊥
-  unwaited a j lt w = ⊎_elim
-      (λ own. unused j own.0 lt own.1)
-      (λ pair. let is = pair.1 in unused (2 * pair.0) pair.2.0 (omega (arith, is, lt)) pair.2.1)
-      (x.later.in_use a at j w)
+  pub unwaited : (a j : ℕ) → m.waits a at j → ⊥
+  unwaited a j w = not_entries t.dir level (sym at_kind ∙ x.later.waits_within a at j w)
 
   -- what a put asks over any device
   pub may_spell : (i < slot_count (m.label at).kind) × SlotFits (m.label at).kind i (To (Local result))

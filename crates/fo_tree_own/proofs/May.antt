@@ -15,7 +15,7 @@ use Rattle.fo_ports.specs.Blocks.{blank, IsLevel, zeros}
 use Rattle.fo_ports.specs.State.{State, Comes, IsLoose, LeavesNone, MayPutSlot}
 use Rattle.fo_tree_read.specs.declared.tree.Tree.{Tree}
 use Rattle.fo_tree_read.specs.Tree.{kind_at}
-use Rattle.fo_tree_own.specs.Step.{IsAlone}
+use Rattle.fo_tree_look.specs.Source.{IsTold}
 use Rattle.fo_tree_own.proofs.Link.{Linking, local_eq, inner_below, blank_leads, at_ne, at_place, same, none_dropped, result_label, reaches_mid, back, held}
 
 -- the place of the block to be put
@@ -71,7 +71,7 @@ pub record Copying (t : Tree) (level k at i below : ℕ) (l : Label) (result : �
   pub leads : target ((s.now at).slot i) ≡ Local below
   pub was_live : (s.label below).state ≡ Live
   pub older : (s.label below).epoch < s.high
-  pub told : s.tells → IsAlone s below
+  pub told : s.tells → IsTold s below
   pub instead : (y : ℕ) → m.instead result y ↔ (y ≡ below)
   pub place : s.tells → (p : Place) → s.stands below p → m.stands result p
 
@@ -89,7 +89,7 @@ module _ {t : Tree} {level k at i below : ℕ} {l : Label} {result : ℕ} {s m :
   leads_on = ap target (same x.link i) ∙ x.leads
 
   pub copied_in_tree : s.tells → Reaches s.now (to_block 1) below
-  copied_in_tree told = (x.told told).is_told.in_tree x.older
+  copied_in_tree told = (x.told told).in_tree x.older
 
   pub below_stands : s.tells → s.stands below (there t level k i)
   below_stands told = subst (λ q. s.stands below q) (inner_below t.dir level t.tag k t.rank i ((s.now at).slot i)) ((x.link.laws.placed told).each at i below (place (kind_at t.dir (suc level)) t.tag k (t.rank + suc level)) (x.link.above.told told).stands x.leads)

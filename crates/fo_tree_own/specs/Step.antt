@@ -10,7 +10,6 @@ use Rattle.fo_ports.specs.State.{State}
 use Rattle.fo_ports.specs.Sources.{Made, Changes}
 use Rattle.fo_tree_read.specs.declared.tree.Tree.{Tree}
 use Rattle.fo_tree_read.specs.Tree.{kind_at}
-use Rattle.fo_tree_look.specs.Source.{IsTold}
 
 -- A block hangs from one that was made and put into no slot yet, which stands at a place and is not to be closed.
 pub record HangsApart (s : State) (at : ℕ) : Type 0 where
@@ -36,11 +35,6 @@ pub record IsOwn (s : State) (t : Tree) (level k at : ℕ) : Type 0 where
   pub current : (s.label at).epoch ≡ s.high
   pub long : length ((s.now at).bytes) ≡ 8192
   pub told : s.tells → OwnTold s t level k at
-
--- What a device that tells has of a block of a source: no block was made to come in its place.
-pub record IsAlone (s : State) (at : ℕ) : Type 0 where
-  pub is_told : IsTold s at
-  pub alone : (y : ℕ) → s.instead y at → ⊥
 
 -- An image is one of before, but for a block that was given out, and for one slot, which is that of the image of before, or is what memory
 -- has now. No path from a top led to the block.
@@ -69,9 +63,8 @@ pub record Links (t : Tree) (level k at i : ℕ) (was : Pointer) (result : ℕ) 
   pub images : (image : Image) → new.may_leave image → IsBehind at i result old new image
   pub instead : (b x : ℕ) → new.instead b x → old.instead b x
   pub reached : old.tells → (b : ℕ) → (was ≡ Local b → ⊥) → Reaches old.now (to_block 1) b → Reaches new.now (to_block 1) b
-  pub covers : old.tells → OnlyCovers was old new
-  pub waits : (a on j : ℕ) → on ≢ result → a ≢ result → (on ≢ at) ⊎ (j ≢ 409) → old.waits a on j → new.waits a on j
+  pub covers : OnlyCovers was old new
+  pub waits : (a on j : ℕ) → on ≢ result → a ≢ result → old.waits a on j → new.waits a on j
   pub spare : new.spare + 1 ≡ old.spare
   pub room : new.room ≡ old.room
-  -- A put says what is to be closed only where the device tells, and nothing of who waits for what stands behind the last slot.
-  pub changes : OnlyCovers was old new → ((a : ℕ) → old.waits a at 409 → ⊥) → Changes t.tag (λ b. (b ≡ at) ⊎ (was ≡ Local b)) (λ b. b ≡ at) old new
+  pub changes : Changes t.tag (λ b. (b ≡ at) ⊎ (was ≡ Local b)) (λ b. b ≡ at) old new
