@@ -258,6 +258,12 @@ module _ {old new : List PlainBlock} {made high root queued : ℕ} {waits : List
       (λ ne. ap (λ (z : PlainBlock). is_active (slot_of z (2 * k))) (g.others b (λ e. omega (arith, lt, e)) ne) ∙ used)
       (cases_eq b 1)
 
+  kind_was : (b : ℕ) → b < made → (block_at new b).place.kind ≡ (block_at old b).place.kind
+  kind_was b lt = ⊎_elim
+      (λ e. ap (λ y. (block_at new y).place.kind) e ∙ ap (λ (p : Place). p.kind) g.top.same.place ∙ ap (λ y. (block_at old y).place.kind) (sym e))
+      (λ ne. ap (λ (z : PlainBlock). z.place.kind) (g.others b (λ e. omega (arith, lt, e)) ne))
+      (cases_eq b 1)
+
   pub begun_well : Well new (made + 1) (high + 1) made waits queued
   begun_well = record {
     sound = begun_sound;
@@ -268,6 +274,6 @@ module _ {old new : List PlainBlock} {made high root queued : ℕ} {waits : List
     waiting = λ n k lt is.
         let w = well.waiting n k lt is in
         let small = w.was_made in
-        record { was_made = omega (arith, small); used = used_was (wait_at waits n).on k small w.used };
+        record { was_made = omega (arith, small); entries = kind_was (wait_at waits n).on small ∙ w.entries; used = used_was (wait_at waits n).on k small w.used };
     queue = λ none. three_cases (λ b. (block_at new b).taken ≡ false) g.next.taken (g.top.taken ∙ well.queue none 1) (λ b n m. ap (λ (z : PlainBlock). z.taken) (g.others b n m) ∙ well.queue none b);
   }

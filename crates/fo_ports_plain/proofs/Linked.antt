@@ -433,6 +433,7 @@ module _ {old new : List PlainBlock} {made high root at i below : ℕ} {s : Slot
       let was = waiting n k lt is in
       record {
         was_made = was.was_made;
+        entries = (l.kinds (wait_at waits n).on).0 ∙ was.entries;
         used = ⊎_elim
             (λ on_is. ⊎_elim
             (λ i_is. ap is_active (ap (λ x. slot_of (block_at new x) (2 * k)) on_is ∙ ap (λ x. slot_of (block_at new at) x) (sym i_is) ∙ l.put) ∙ keeps.each n k lt on_is i_is is)

@@ -197,7 +197,7 @@ module _ {old new : List PlainBlock} {made high root queued : ℕ} {waits : List
     waiting = λ n k lt is.
         let w = well.waiting n k lt is in
         let small = w.was_made in
-        record { was_made = omega (arith, small); used = ap (λ (z : PlainBlock). is_active (slot_of z (2 * k))) (was (wait_at waits n).on small) ∙ w.used };
+        record { was_made = omega (arith, small); entries = ap (λ (z : PlainBlock). z.place.kind) (was (wait_at waits n).on small) ∙ w.entries; used = ap (λ (z : PlainBlock). is_active (slot_of z (2 * k))) (was (wait_at waits n).on small) ∙ w.used };
     queue = λ none b. ⊎_elim
         (λ e. ap (λ y. (block_at new y).taken) e ∙ ap (λ (z : PlainBlock). z.taken) up.here ∙ may.taken)
         (λ ne. ap (λ (z : PlainBlock). z.taken) (up.others b ne) ∙ well.queue none b)

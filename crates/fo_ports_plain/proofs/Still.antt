@@ -140,7 +140,7 @@ bytes_well {old} {new} {made} {high} {root} {queued} {at} {waits} {bytes} up for
       (λ e. subst (λ z. ∥ IsFormed (block_at new z).place.kind (block_at new z).place.rank (block_at new z).bytes ∥₁) (sym e) (subst (λ (z : PlainBlock). ∥ IsFormed z.place.kind z.place.rank z.bytes ∥₁) (sym up.here) ∣ formed ∣₁))
       (λ ne. subst (λ (z : PlainBlock). ∥ IsFormed z.place.kind z.place.rank z.bytes ∥₁) (sym (up.others b ne)) (well.formed b past lt))
       (cases_eq b at);
-  waiting = λ n k lt is. let w = well.waiting n k lt is in record { was_made = w.was_made; used = ap is_active (slots (wait_at waits n).on (2 * k)) ∙ w.used };
+  waiting = λ n k lt is. let w = well.waiting n k lt is in record { was_made = w.was_made; entries = ap (λ (p : Place). p.kind) (same (wait_at waits n).on).place ∙ w.entries; used = ap is_active (slots (wait_at waits n).on (2 * k)) ∙ w.used };
   queue = λ none b. taken b ∙ well.queue none b;
 }
   where
@@ -162,6 +162,7 @@ slot_well {old} {new} {made} {high} {root} {queued} {at} {i} {waits} s up here i
       let w = well.waiting n k lt is in
       record {
         was_made = w.was_made;
+        entries = ap (λ (p : Place). p.kind) (same (wait_at waits n).on).place ∙ w.entries;
         used = ⊎_elim
             (λ on_is. ⊎_elim
             (λ i_is. ap is_active (ap (λ x. slot_of (block_at new x) (2 * k)) on_is ∙ ap (λ x. slot_of (block_at new at) x) (sym i_is) ∙ here) ∙ use_kept.each n k lt on_is i_is is)
@@ -226,7 +227,7 @@ taken_formed {old} {new} {made} {x} up formed b past lt =
 pub taken_waiting : {old new : List PlainBlock} {made x : ℕ} (waits : List Wait) → Updates x (record (block_at old x) { taken = true }) old new → Waiting old made waits → Waiting new made waits
 taken_waiting {old} {new} {made} {x} waits up waiting n k lt is =
     let w = waiting n k lt is in
-    record { was_made = w.was_made; used = ap is_active (part_kept (λ (z : PlainBlock). slot_of z (2 * k)) up refl (wait_at waits n).on) ∙ w.used }
+    record { was_made = w.was_made; entries = part_kept (λ (z : PlainBlock). z.place.kind) up refl (wait_at waits n).on ∙ w.entries; used = ap is_active (part_kept (λ (z : PlainBlock). slot_of z (2 * k)) up refl (wait_at waits n).on) ∙ w.used }
 
 -- One block more is marked.
 pub one_taken : {old new : List PlainBlock} {x : ℕ} {before s : Slot} → Updates x (record (block_at old x) { taken = true }) old new → target before ≡ Local x → target s ≢ target before → Takes before s old new

@@ -1,11 +1,13 @@
 -- A block begins to wait for the pairs of entries of another.
-use Rattle.std.proofs.Common.{◌≡◌, ◌≢◌, ◌⊎◌, inl, inr, ⊎_elim, ℕ, zero, suc, ◌+◌, ◌*◌, ◌/◌, ◌<◌, ◌≤◌, true, false, List, [], ◌∷◌, ◌++◌, length, refl, sym, ◌∙◌, ap, subst, arith}
+use Rattle.std.proofs.Common.{◌≡◌, ◌≢◌, ◌⊎◌, inl, inr, ⊎_elim, ℕ, zero, suc, ◌+◌, ◌*◌, ◌/◌, ◌<◌, true, List, [], ◌∷◌, ◌++◌, length, refl, sym, ◌∙◌, ap, subst, arith}
 use Rattle.std.proofs.lemmas.Bool.{cases_lt}
 use Rattle.fo_ports.specs.State.{WaitsForPairs, AddsNoWait, Calm, none}
+use Rattle.fo_image.specs.declared.types.Kind.TheVariants.{Dir}
 use Rattle.fo_ports_plain.specs.declared.block.PlainBlock.{PlainBlock}
 use Rattle.fo_ports_plain.specs.declared.wait.Wait.{Wait}
 use Rattle.fo_ports_plain.specs.Plain.{block_at, slot_of, is_active, wait_at, pair_of, Awaits}
-use Rattle.fo_ports_plain.specs.Sound.{Sound, IsUsed, Waiting}
+use Rattle.fo_ports_plain.specs.Moves.{EndsWaits}
+use Rattle.fo_ports_plain.specs.Sound.{IsUsed, Waiting}
 use Rattle.fo_ports_plain.specs.Meaning.{Plain, state_of}
 use Rattle.fo_ports_plain.specs.Laws.{used_active}
 
@@ -31,10 +33,10 @@ which waits w n lt = ⊎_elim
     (cases_lt n (length waits))
 
 -- what is waited for is in use, also of the new wait
-pub waiting_more : {blocks : List PlainBlock} {made : ℕ} (waits : List Wait) (w : Wait) → Waiting blocks made waits → w.on < made → ((k : ℕ) → pair_of w k ≡ is_active (slot_of (block_at blocks w.on) (2 * k))) → Waiting blocks made (waits ++ w ∷ [])
-waiting_more {blocks} {made} waits w waiting lt pairs n k small is = ⊎_elim
+pub waiting_more : {blocks : List PlainBlock} {made : ℕ} (waits : List Wait) (w : Wait) → Waiting blocks made waits → w.on < made → (block_at blocks w.on).place.kind ≡ Dir 0 → ((k : ℕ) → pair_of w k ≡ is_active (slot_of (block_at blocks w.on) (2 * k))) → Waiting blocks made (waits ++ w ∷ [])
+waiting_more {blocks} {made} waits w waiting lt entries pairs n k small is = ⊎_elim
     (λ h. subst (λ z. IsUsed blocks made z k) (sym h.1) (waiting n k h.0 (ap (λ z. pair_of z k) (sym h.1) ∙ is)))
-    (λ e. subst (λ z. IsUsed blocks made z k) (sym e) (record { was_made = lt; used = sym (pairs k) ∙ ap (λ z. pair_of z k) (sym e) ∙ is }))
+    (λ e. subst (λ z. IsUsed blocks made z k) (sym e) (record { was_made = lt; entries = entries; used = sym (pairs k) ∙ ap (λ z. pair_of z k) (sym e) ∙ is }))
     (which waits w n small)
 
 half : (k : ℕ) → (2 * k) / 2 ≡ k
@@ -108,9 +110,13 @@ module _ (p : Plain) (w : Wait) (at on room : ℕ) (is_at : w.at ≡ at) (is_on 
     covered = record { covered = λ b. (λ h. h, λ h. h) };
   }
 
--- No entry of a block that was not made is in use, so nothing waits for it.
-pub none_waits : (p : Plain) (at on room : ℕ) → Sound p.blocks p.made p.high p.root → p.made ≤ on → WaitsForPairs at on (state_of p) (state_of (record p { room = room })) × AddsNoWait (λ a. a ≡ at) (state_of p) (state_of (record p { room = room }))
-none_waits p at on room sound le = (
-  record { each = λ k g is _. let no : true ≡ false = sym (used_active (slot_of (block_at p.blocks on) (2 * k)) g is) ∙ (sound.rest on le).unused (2 * k) in absurd (cc) },
-  record { each = λ a o j ne k. k },
-)
+-- what is left of the waits is for what is in use
+pub ended_waiting : {blocks : List PlainBlock} {made at i : ℕ} {old new : List Wait} → EndsWaits at i old new → Waiting blocks made old → Waiting blocks made new
+ended_waiting {blocks} {made} {old = old} {new = new} ends waiting n k lt is =
+    let on_is : (wait_at new n).on ≡ (wait_at old n).on = (ends.same n).1 in
+    let w = waiting n k (subst (λ m. n < m) ends.as_long lt) (ends.fewer n k is) in
+    record {
+      was_made = subst (λ x. x < made) (sym on_is) w.was_made;
+      entries = ap (λ x. (block_at blocks x).place.kind) on_is ∙ w.entries;
+      used = ap (λ x. is_active (slot_of (block_at blocks x) (2 * k))) on_is ∙ w.used;
+    }

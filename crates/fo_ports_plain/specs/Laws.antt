@@ -6,7 +6,7 @@ use Rattle.std.proofs.lemmas.Grind.{common_steps}
 use Rattle.std.proofs.lemmas.Bool.{lt-ltb, cases_lt}
 use Rattle.fo_image.specs.declared.types.Label.{Label}
 use Rattle.fo_image.specs.declared.types.State.TheVariants.{Free, Live}
-use Rattle.fo_image.specs.declared.types.Kind.TheVariants.{Root}
+use Rattle.fo_image.specs.declared.types.Kind.TheVariants.{Dir, Root}
 use Rattle.fo_image.specs.declared.types.Pointer.TheVariants.{Nil, Local, Score as Held}
 use Rattle.fo_crash.specs.declared.slot.Slot.{Slot}
 use Rattle.fo_crash.specs.declared.slot.Slot.TheVariants.{Pointer as To, Entry as Head, Prev}
@@ -222,6 +222,9 @@ waits_in_use p waiting a on j w =
     (λ e. inl (subst (λ k. (g : ℕ) × IsInUse (slot_of (block_at p.blocks on) k) g) (sym e) is))
     (λ e. inr (j / 2, e, is))
     (in_pair j)
+
+pub waits_within : (p : Plain) → Waiting p.blocks p.made p.waits → (a on j : ℕ) → (state_of p).waits a on j → ((state_of p).label on).kind ≡ Dir 0
+waits_within p waiting a on j w = (label_kind p.blocks p.made on).0 ∙ ap (λ x. (block_at p.blocks x).place.kind) (sym w.is_on) ∙ (waiting w.number (j / 2) w.within w.pair).entries
 
 pub clears_entries : (p : Plain) (at j : ℕ) → (state_of p).clearing at j → (A : Type 0) → A
 clears_entries p at j h A = absurd h

@@ -1,6 +1,7 @@
 -- What stays true of blocks in memory.
 use Rattle.std.specs.Prelude.{◌≡◌, ◌≢◌, ◌*◌, ◌<◌, ◌≤◌, ℕ, Bool, true, false, nat_eq, List, length}
 use Rattle.fo_image.specs.declared.types.Pointer.TheVariants.{Local}
+use Rattle.fo_image.specs.declared.types.Kind.TheVariants.{Dir}
 use Rattle.fo_crash.specs.declared.slot.Slot.{Slot}
 use Rattle.fo_crash.specs.declared.slot.Slot.TheVariants.{Pointer as To}
 use Rattle.fo_crash.specs.Images.{target}
@@ -109,9 +110,10 @@ pub record Sound (blocks : List PlainBlock) (made high root : ℕ) : Type 0 wher
 abbrev pub Formed : List PlainBlock → ℕ → Type 0
 Formed blocks made = (b : ℕ) → 1 < b → b < made → ∥ IsFormed (block_at blocks b).place.kind (block_at blocks b).place.rank (block_at blocks b).bytes ∥₁
 
--- What is waited for was made, and is in use.
+-- What is waited for was made, is a leaf of entries, and is in use.
 pub record IsUsed (blocks : List PlainBlock) (made : ℕ) (wait : Wait) (k : ℕ) : Type 0 where
   pub was_made : wait.on < made
+  pub entries : (block_at blocks wait.on).place.kind ≡ Dir 0
   pub used : is_active (slot_of (block_at blocks wait.on) (2 * k)) ≡ true
 
 abbrev pub Waiting : List PlainBlock → ℕ → List Wait → Type 0

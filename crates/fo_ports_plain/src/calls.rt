@@ -106,11 +106,7 @@ impl Blocks for PlainBlocks {
     }
 
     fn wait_for(&mut self, at: u32, on: u32) {
-        if on < self.made {
-            self.add_wait(at, on);
-        } else {
-            self.room -= 1;
-        }
+        self.add_wait(at, on);
     }
 
     fn retire(&mut self, at: u32, epoch: u32, after: u32) {
@@ -215,9 +211,13 @@ impl Blocks for PlainBlocks {
 
     ghost waits_in_use = { λ b. law.waits_in_use (parts b) b.waiting };
 
+    ghost waits_within = { λ b. law.waits_within (parts b) b.waiting };
+
     ghost clears_entries = { λ b at j h. law.clears_entries (parts b) at j h _ };
 
     ghost clears_used = { λ b. law.clears_used (parts b) };
+
+    ghost covers_told = { λ b at h. tt };
 
     ghost none_queued = { λ b. law.none_queued (parts b) b.queue };
 

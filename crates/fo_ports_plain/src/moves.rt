@@ -12,6 +12,7 @@ use fo_ports::BlockError;
 impl PlainBlocks {
     ghost use Rattle.std.specs.Prelude.{◌≡◌, ◌≢◌, ◌⊎◌, ◌+◌, ◌*◌, ◌^◌, ◌<◌, ℕ, cond, List, ◌++◌, ◌∷◌, [], length, slice_set, ◌≤◌, OnOk, IfErr};
     ghost use Rattle.fo_image.specs.declared.types.Pointer.TheVariants.{Local};
+    ghost use Rattle.fo_image.specs.declared.types.Kind.TheVariants.{Dir};
     ghost use Rattle.fo_ports.specs.declared.error.BlockError.TheVariants.{Memory};
     ghost use Rattle.fo_crash.specs.Images.{target};
     ghost use Rattle.fo_crash.specs.Steps.{cleared};
@@ -188,6 +189,7 @@ impl PlainBlocks {
     /// Block `at` waits for the pairs of entries of a block that was made.
     pub(crate) fn add_wait(&mut self, at: u32, on: u32)
         requires made { on < self.old.made }
+        requires entries { (block_at self.old.blocks.items on).place.kind ≡ Dir 0 }
         requires room { 0 < self.old.room }
         ensures room { self.new.room + 1 ≡ self.old.room }
         ensures waits { (wait : Wait) × (self.new.waits.items ≡ self.old.waits.items ++ wait ∷ []) × (wait.at ≡ at) × (wait.on ≡ on) × ((k : ℕ) → pair_of wait k ≡ is_active (slot_of (block_at self.old.blocks.items on) (2 * k))) }

@@ -17,7 +17,7 @@ invariant_of-self-clause-waiting c =
     let is = block_is blocks c.args.on c.index.result.now (omega (arith, spared, lt)) c.index.ensures in
     let w : Wait = record { at = c.args.at; on = c.args.on; pairs = c.used_pairs-pairs.result } in
     let pairs : (k : ℕ) → pair_of w k ≡ is_active (slot_of (block_at blocks c.args.on) (2 * k)) = λ k. c.used_pairs-pairs.ensures k ∙ ap (λ (y : PlainBlock). is_active (slot_of y (2 * k))) is in
-    subst (λ ws. Waiting blocks self.made ws) (sym c.push_reserved.ensures.items) (waiting_more self.waits.items w self.waiting lt pairs)
+    subst (λ ws. Waiting blocks self.made ws) (sym c.push_reserved.ensures.items) (waiting_more self.waits.items w self.waiting lt c.requires.entries pairs)
 
 pub invariant_of-self-clause-roomy : goal.invariant_of-self-clause-roomy
 invariant_of-self-clause-roomy c =
