@@ -10,7 +10,7 @@ use Rattle.fo_image.specs.Format.{ActiveHolds}
 use Rattle.fo_crash.specs.declared.slot.Slot.{Slot}
 use Rattle.fo_crash.specs.declared.slot.Slot.TheVariants.{Pointer as To, Entry as Head, Prev}
 use Rattle.fo_crash.specs.Images.{Image, target, depth_of, to_block, Reaches}
-use Rattle.fo_crash.specs.Steps.{AddsBytes, AddsNothing, Covers, PutsBytes}
+use Rattle.fo_crash.specs.Steps.{AddsBytes, AddsNothing, Covers, PutsBytes, cleared}
 use Rattle.fo_crash.specs.Names.{InAll, IsInUse}
 use Rattle.fo_crash.specs.Places.{OnePlace}
 use Rattle.fo_crash.specs.declared.place.Place.{Place}
@@ -103,7 +103,7 @@ place_is b p q one before now = one.each b q p now before
 pub plain_formed : (kind : Kind) (rank : ℕ) (bytes : List ℕ) → kind ≡ Data 0 → rank % 32 ≢ 16 → length bytes ≡ 8192 → IsFormed kind rank bytes
 plain_formed kind rank bytes is plain long = subst (λ (k : Kind). IsFormed k rank bytes) (sym is) (long, λ e. absurd (plain e))
 
-nil_local : {a : ℕ} {p : Pointer} → p ≡ Nil → p ≡ Local a → ⊥
+pub nil_local : {a : ℕ} {p : Pointer} → p ≡ Nil → p ≡ Local a → ⊥
 nil_local nil e = cc
 
 -- A slot that leads nowhere may be put where nothing hangs.
@@ -130,6 +130,18 @@ may_remove {s = s} at i kind linked quiet uncovered reached = record {
   holder = inl reached;
   keeps = λ c e. reaches_on i reached e;
 }
+
+-- After a put of a slot that leads nowhere no block more comes in the place of another.
+pub nil_instead : {at i n : ℕ} {slot : Slot} {put : ℕ → Type 0} {old new : State} → Frame (λ b. b ≡ at) put n old new → Hangs at i slot old new → ((b : ℕ) → target slot ≢ Local b) → ((b : ℕ) → put b → (b ≡ at) ⊎ (target slot ≡ Local b)) → (y x : ℕ) → new.instead y x → old.instead y x
+nil_instead {at = at} {old = old} {new = new} frame hangs nowhere is_put y x is = ⊎_elim
+    (λ here. subst (λ z. old.instead z x) (sym here) (⊎_elim (λ was. was) (λ raised. absurd (nowhere raised.1.0 raised.1.1)) (hangs.raised x (subst (λ z. new.instead z x) here is))))
+    (λ other. (frame.stays.instead y x (λ n. n) (λ p. ⊎_elim other (nowhere y) (is_put y p))).0 is)
+    (cases_eq y at)
+
+pub cleared_nowhere : (s : Slot) (b : ℕ) → target (cleared s) ≢ Local b
+cleared_nowhere (To p) b e = cc
+cleared_nowhere (Head x) b e = cc
+cleared_nowhere (Prev epoch at) b e = cc
 
 -- What leads nowhere and has no depth costs no removal to replace.
 pub nil_cost : (old new : Slot) → depth_of old ≡ 0 → target old ≡ Nil → cost old new ≡ 0

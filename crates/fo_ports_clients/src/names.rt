@@ -33,6 +33,7 @@ pub fn add_name<B: Blocks>(
     requires leaf_place { (B.state on.old).tells → (p : Place) → (B.state on.old).stands leaf p → (p.kind ≡ Data 0) × (p.rank % 32 ≢ 16) }
     requires entries_pinned { (B.state on.old).pinned entries }
     requires entries_current { ((B.state on.old).label entries).epoch ≡ (B.state on.old).high }
+    requires entries_kind { ((B.state on.old).label entries).kind ≡ Dir 0 }
     requires lower { (B.state on.old).tells → StandsBelow (B.state on.old).stands entries leaf }
     requires uncovered { ((B.state on.old).covered leaf → ⊥) × ((B.state on.old).covered entries → ⊥) }
     requires held { (B.state on.old).tells → IsHeld (B.state on.old) entries }
@@ -52,6 +53,7 @@ pub fn add_name<B: Blocks>(
     ensures blocks { (b : ℕ) → ((B.state on.new).label b ≡ (B.state on.old).label b) × ((B.state on.old).pinned b → (B.state on.new).pinned b) }
     ensures order { (b j : ℕ) → (B.state on.new).clearing b j → (B.state on.old).clearing b j }
     ensures place { (B.state on.old).tells → (p : Place) → (B.state on.old).stands leaf p → (B.state on.new).stands leaf p }
+    ensures instead { (y x : ℕ) → (B.state on.new).instead y x → (B.state on.old).instead y x }
     ensures room { (B.state on.new).room + 1 ≡ (B.state on.old).room }
     ensures keeps { B.keeps on.old on.new }
 {
@@ -85,6 +87,7 @@ pub fn remove_name<B: Blocks>(on: &mut B, leaf: u32, entries: u32, i: u32)
     ensures name { ((B.state on.new).now leaf).bytes ≡ put_at i (0 ∷ []) (((B.state on.old).now leaf).bytes) }
     ensures entry { (((B.state on.new).now entries).slot i ≡ cleared (((B.state on.old).now entries).slot i)) ⊎ (B.state on.new).clearing entries i }
     ensures blocks { (b : ℕ) → ((B.state on.new).label b ≡ (B.state on.old).label b) × ((B.state on.old).pinned b → (B.state on.new).pinned b) }
+    ensures instead { (y x : ℕ) → (B.state on.new).instead y x → (B.state on.old).instead y x }
     ensures room { (B.state on.new).room + 1 ≡ (B.state on.old).room }
     ensures keeps { B.keeps on.old on.new }
 {

@@ -11,7 +11,7 @@ use Rattle.fo_crash.proofs.Names.{free_entry_put, leaf_put}
 use Rattle.fo_ports.specs.Blocks.{MayPut, put_at}
 use Rattle.fo_ports.proofs.Lengths.{length_put_at}
 use Rattle.fo_ports_clients.specs.Leaf.{Lists}
-use Rattle.fo_ports_clients.proofs.Leaf.{put_lists, bytes_beside, still_all, free_is_empty, never_drops, few_slots, place_is, plain_formed, may_put_nil, nil_cost, nil_places, still_uncovered}
+use Rattle.fo_ports_clients.proofs.Leaf.{put_lists, bytes_beside, still_all, free_is_empty, never_drops, few_slots, place_is, plain_formed, may_put_nil, nil_cost, nil_places, still_uncovered, nil_local, nil_instead}
 use Rattle.fo_ports_clients.proofs.names.add_name.Given as given
 use Rattle.fo_ports_clients.proofs.names.add_name.Goals as goal
 
@@ -169,3 +169,9 @@ returns-clause-place g c = λ told p stands.
     put.frame.stays.places later c.args.leaf p (λ n. n) (λ n. n) (λ h. spared ((put.covered.covered c.args.leaf).0 h))
     (wait.frame.stays.places between c.args.leaf p (λ n. n) (λ n. n) spared
     (nil_places told c.put_slot.ensures.frame c.put_slot.ensures.hangs covers c.requires.empty empty.0 c.args.leaf p c.requires.uncovered.0 stands))
+
+pub returns-clause-instead : goal.returns-clause-instead
+returns-clause-instead g c = λ y x is.
+    let wait = c.wait_for.ensures.calm.frame.stays in
+    let put = c.put_bytes.ensures.calm.frame.stays in
+    nil_instead c.put_slot.ensures.frame c.put_slot.ensures.hangs (λ b e. nil_local c.requires.empty e) (λ b h. h) y x ((wait.instead y x (λ n. n) (λ n. n)).0 ((put.instead y x (λ n. n) (λ n. n)).0 is))

@@ -8,7 +8,7 @@ use Rattle.fo_crash.proofs.Covers.{bytes_reach}
 use Rattle.fo_ports.specs.Blocks.{MayPut, put_at}
 use Rattle.fo_ports.proofs.Lengths.{length_put_at}
 use Rattle.fo_ports_clients.specs.Leaf.{Lists}
-use Rattle.fo_ports_clients.proofs.Leaf.{put_lists, gone, bytes_beside, few_slots, plain_formed, may_remove, bytes_reached}
+use Rattle.fo_ports_clients.proofs.Leaf.{put_lists, gone, bytes_beside, few_slots, plain_formed, may_remove, bytes_reached, nil_instead, cleared_nowhere}
 use Rattle.fo_ports_clients.proofs.names.remove_name.Goals as goal
 
 pub put_bytes-requires-clause-within : goal.put_bytes-requires-clause-within
@@ -62,3 +62,9 @@ returns-clause-fit g c =
     ap (λ (xs : List ℕ). get_or xs c.args.i 0) c.put_bytes.ensures.now.here ∙ gone ((s.now c.args.leaf).bytes) c.args.i 0 lt in
     entry_cleared Lists c.args.leaf c.args.entries all c.remove_slot.ensures.images
     (λ n lists. let e : 0 ≡ n = sym none ∙ lists.0 in let p : 0 < n = lists.1 in omega arith)
+
+pub returns-clause-instead : goal.returns-clause-instead
+returns-clause-instead g c = λ y x is.
+    let put = c.put_bytes.ensures.calm.frame.stays in
+    let slot = ((g.B.Blocks.state c.put_bytes.new.self).now c.args.entries).slot c.args.i in
+    (put.instead y x (λ n. n) (λ n. n)).0 (nil_instead c.remove_slot.ensures.frame c.remove_slot.ensures.hangs (cleared_nowhere slot) (λ b h. inl h) y x is)
