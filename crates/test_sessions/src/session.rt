@@ -8,13 +8,14 @@ mod watched;
 use fo_base::Memory;
 use fo_plain::PlainFiles;
 use fo_world::FileOps;
+use hex::decode;
 use nine_session::Session;
 use nine_wire::{Request, Step, read_msg, write_msg};
 use rows::{
     AFTER, AGAIN, AMPLE, BEGIN, CHANGES, CLOSED, DIRECTORIES, FILE, MODES, RIGHTS, USERS, VERSIONS,
     WALKS, WRITES,
 };
-use std::alloc::{AllocError, Global};
+use std::alloc::Global;
 use std::process::Abort;
 use std::test::Fail;
 use watched::Watched;
@@ -22,23 +23,17 @@ use watched::Watched;
 /// The number of a session, what is asked, and the bytes of the message and of its reply, in hexadecimal.
 type Row = (u8, &'static str, &'static str, &'static str);
 
-fn digit(c: u8) -> u8 {
-    match c {
-        b'0'..=b'9' => c - b'0',
-        b'a'..=b'f' => c - b'a' + 10,
-        _ => 0,
-    }
+/// Adds the bytes of a word of hexadecimal.
+fn append(alloc: Global, word: &str, bytes: &mut Vec<u8>) -> Result<(), Fail> {
+    bytes.extend_from_slice(decode(alloc, word)?.as_slice())?;
+    Ok(())
 }
 
 /// The bytes of these words of hexadecimal.
-fn bytes(alloc: Global, text: &str) -> Result<Vec<u8>, AllocError> {
+fn bytes(alloc: Global, text: &str) -> Result<Vec<u8>, Fail> {
     let mut bytes = Vec::new(alloc);
     for word in text.split_whitespace() {
-        for pair in word.as_bytes().chunks(2) {
-            if let [high, low] = pair {
-                bytes.push(digit(*high).wrapping_mul(16).wrapping_add(digit(*low)))?;
-            }
-        }
+        append(alloc, word, &mut bytes)?;
     }
     Ok(bytes)
 }

@@ -1,5 +1,7 @@
 //! Messages in hexadecimal, for the tests of a conversation and of a run.
-use std::alloc::{AllocError, Global};
+use hex::decode;
+use std::alloc::Global;
+use std::test::Fail;
 
 // A Tversion of 65560 bytes and 9P2000, a Tattach of glenda with fid 0, a Tstat of it, a Tcreate of `f` in it for reading and writing
 // and with ORCLOSE, a Twalk from it to `f`, a Tflush, and what is replied to each but the walk.
@@ -26,14 +28,6 @@ const RC: &str = "180000007302000000000000010000000000000000000100";
 
 const RF: &str = "070000006d0100";
 
-fn digit(c: u8) -> u8 {
-    match c {
-        b'0'..=b'9' => c - b'0',
-        b'a'..=b'f' => c - b'a' + 10,
-        _ => 0,
-    }
-}
-
 // What a word stands for in hexadecimal: the name of one above, or itself.
 fn hex_of(word: &str) -> &str {
     match word {
@@ -52,15 +46,17 @@ fn hex_of(word: &str) -> &str {
     }
 }
 
+/// Adds the bytes of a word.
+fn append(alloc: Global, word: &str, bytes: &mut Vec<u8>) -> Result<(), Fail> {
+    bytes.extend_from_slice(decode(alloc, hex_of(word))?.as_slice())?;
+    Ok(())
+}
+
 /// The bytes of these words, each the name of a message or hexadecimal.
-pub fn bytes(alloc: Global, text: &str) -> Result<Vec<u8>, AllocError> {
+pub fn bytes(alloc: Global, text: &str) -> Result<Vec<u8>, Fail> {
     let mut bytes = Vec::new(alloc);
     for word in text.split_whitespace() {
-        for pair in hex_of(word).as_bytes().chunks(2) {
-            if let [high, low] = pair {
-                bytes.push(digit(*high).wrapping_mul(16).wrapping_add(digit(*low)))?;
-            }
-        }
+        append(alloc, word, &mut bytes)?;
     }
     Ok(bytes)
 }
