@@ -9,7 +9,8 @@ use Rattle.fo_crash.specs.Images.{Content, SameContent}
 use Rattle.fo_ports.specs.State.{Gives}
 use Rattle.test_blocks.specs.declared.silent.Block.{Block}
 use Rattle.test_blocks.specs.Silent.{Silent, no_block, block_at, content_of, memory, Updates, Good, Sound, Waiting, is_active, state_of}
-use Rattle.test_blocks.proofs.Updating.{past_end, past_slots}
+use Rattle.test_blocks.specs.SilentLaws.{past_end}
+use Rattle.test_blocks.proofs.Updating.{past_slots}
 
 push_here : (xs : List Block) (x d : Block) → get_or (xs ++ x ∷ []) (length xs) d ≡ x
 push_here [] x d = refl

@@ -25,11 +25,6 @@ any_default (x ∷ xs) (suc k) d e lt = any_default xs k d e (omega arith)
 pub block_is : (blocks : List Block) (at : ℕ) (k : Block) → at < length blocks → k ≡ get_or blocks at k → k ≡ block_at blocks at
 block_is blocks at k lt here = here ∙ any_default blocks at k no_block lt
 
-pub past_end : (xs : List Block) (d : Block) (b : ℕ) → length xs ≤ b → get_or xs b d ≡ d
-past_end [] d b le = refl
-past_end (x ∷ xs) d zero le = absurd (omega (arith, le))
-past_end (x ∷ xs) d (suc b) le = past_end xs d b (omega (arith, le))
-
 -- past the last slot there is no pointer
 pub past_slots : (kind : Kind) (bytes : List ℕ) (j : ℕ) → slot_count kind ≤ j → (read kind bytes).slot j ≡ To Nil
 past_slots kind bytes j ge = let test : nat_lt j (slot_count kind) ≡ false = le-ltb _ _ ge in rw test refl

@@ -7,7 +7,7 @@ use Rattle.fo_image.specs.declared.types.Pointer.TheVariants.{Local}
 use Rattle.fo_crash.specs.declared.slot.Slot.{Slot}
 use Rattle.fo_crash.specs.declared.slot.Slot.TheVariants.{Pointer as To, Entry as Head, Prev}
 use Rattle.fo_crash.specs.Images.{Content, Image, target}
-use Rattle.fo_ports.specs.Blocks.{AreZeros, IsFormed, IsInner, IsLevel, Reads, ReadsSlots, slots_to, zero_bytes}
+use Rattle.fo_ports.specs.Blocks.{AreZeros, IsFormed, IsInner, IsLevel, Reads, ReadsSlots, slots_to}
 use Rattle.fo_ports.specs.State.{State}
 use Rattle.fo_slots.specs.Read.{read}
 use Rattle.test_blocks.specs.declared.silent.Block.{Block}
@@ -149,7 +149,7 @@ abbrev pub is_other : ℕ → ℕ → Wait → Bool
 is_other on pair w = not (w.on == on) || not (w.pair == pair)
 
 -- Nothing is told, so no image is left, nothing stands, and nothing is to be closed. No slot waits to be cleared, and none is written.
--- Under each score there are zeros.
+-- What is held under a score is said where the device tells alone, so nothing is.
 abbrev pub state_of : Silent → State
 state_of p = record {
   now = memory p.blocks;
@@ -161,7 +161,7 @@ state_of p = record {
   root = 2;
   tops = λ t. t ≡ 1;
   is_block = IsData p.count;
-  held = λ score kind. Some zero_bytes;
+  held = λ score kind. None;
   next = p.next;
   grants = p.next < 2 ^ 30;
   limit = λ c. 2 ^ 30;

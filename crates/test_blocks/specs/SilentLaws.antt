@@ -1,9 +1,12 @@
 -- Why blocks that tell nothing keep the laws.
-use Rattle.std.specs.Prelude.{◌≡◌, ◌⊎◌, ◌+◌, ◌-◌, ◌*◌, ◌/◌, ◌^◌, ◌<◌, ◌≤◌, ℕ, zero, suc, true, length, refl}
-use Rattle.std.proofs.Common.{inl, inr, ⊎_elim, sym, ◌∙◌, subst, arith}
+use Rattle.std.specs.Prelude.{◌≡◌, ◌⊎◌, ◌+◌, ◌-◌, ◌*◌, ◌/◌, ◌^◌, ◌<◌, ◌≤◌, ℕ, zero, suc, Bool, true, false, cond, nat_lt, List, [], ◌∷◌, length, refl}
+use Rattle.std.proofs.Common.{inl, inr, ⊎_elim, get_or, sym, ◌∙◌, subst, arith}
+use Rattle.std.proofs.lemmas.Bool.{cases_lt}
 use Rattle.fo_image.specs.declared.types.State.TheVariants.{Live}
-use Rattle.fo_image.specs.declared.types.Kind.TheVariants.{Root}
-use Rattle.fo_image.specs.declared.types.Pointer.TheVariants.{Local}
+use Rattle.fo_image.specs.declared.types.Kind.{Kind}
+use Rattle.fo_image.specs.declared.types.Kind.TheVariants.{Data, Dir, Root}
+use Rattle.fo_image.specs.declared.types.Pointer.{Pointer}
+use Rattle.fo_image.specs.declared.types.Pointer.TheVariants.{Nil, Local}
 use Rattle.fo_crash.specs.declared.slot.Slot.{Slot}
 use Rattle.fo_crash.specs.declared.slot.Slot.TheVariants.{Pointer as To, Entry as Head, Prev}
 use Rattle.fo_crash.specs.Images.{target}
@@ -11,9 +14,11 @@ use Rattle.fo_crash.specs.Steps.{IsSure, HasSuper}
 use Rattle.fo_crash.specs.Names.{IsInUse}
 use Rattle.fo_crash.specs.Places.{OnePlace}
 use Rattle.fo_crash.specs.Spots.{OneSpot}
-use Rattle.fo_ports.specs.Blocks.{slot_count, SlotFits}
+use Rattle.fo_ports.specs.Blocks.{slot_count, IsLevel, SlotFits}
 use Rattle.fo_ports.specs.State.{KeepsAll, IsPairUsed}
-use Rattle.test_blocks.specs.Silent.{Silent, state_of, SilentKeeps, Sound, Waiting, is_active, memory}
+use Rattle.fo_slots.specs.Read.{read, pointer_from, slot_bytes}
+use Rattle.test_blocks.specs.declared.silent.Block.{Block}
+use Rattle.test_blocks.specs.Silent.{Silent, no_block, block_at, state_of, SilentKeeps, Sound, Waiting, is_active, memory}
 
 pub active : (p : Silent) → (state_of p).tops 1 × ((state_of p).is_block 1 → ⊥)
 active p = (refl, λ h. let lt : 1 < 1 = h.0 in omega (arith, lt))
@@ -67,6 +72,31 @@ waits_in_use p waiting a on j w =
     (λ e. inl (subst (λ n. (g : ℕ) × IsInUse ((memory p.blocks on).slot n) g) (sym e) used))
     (λ e. inr (j / 2, e, used))
     (halves j)
+
+no_pointer : (t : Bool) (p : Pointer) → is_active (cond t (To p) (To Nil)) ≡ true → ⊥
+no_pointer true p h = cc
+no_pointer false p h = cc
+
+-- An entry in use stands in a leaf of entries: no root block is given out.
+entry_kind : (kind : Kind) (bytes : List ℕ) (j : ℕ) → IsLevel kind → is_active ((read kind bytes).slot j) ≡ true → kind ≡ Dir 0
+entry_kind (Data level) bytes j l h = absurd (no_pointer (nat_lt j (slot_count (Data level))) (pointer_from (slot_bytes (Data level) j bytes)) h)
+entry_kind (Dir zero) bytes j l h = refl
+entry_kind (Dir (suc level)) bytes j l h = absurd (no_pointer (nat_lt j (slot_count (Dir (suc level)))) (pointer_from (slot_bytes (Dir (suc level)) j bytes)) h)
+entry_kind Root bytes j l h = absurd l
+
+pub past_end : (xs : List Block) (d : Block) (b : ℕ) → length xs ≤ b → get_or xs b d ≡ d
+past_end [] d b le = refl
+past_end (x ∷ xs) d zero le = absurd (omega (arith, le))
+past_end (x ∷ xs) d (suc b) le = past_end xs d b (omega (arith, le))
+
+pub waits_within : (p : Silent) → Sound p.count p.blocks → Waiting p.blocks p.waits → (a on j : ℕ) → (state_of p).waits a on j → ((state_of p).label on).kind ≡ Dir 0
+waits_within p sound waiting a on j w = entry_kind (block_at p.blocks on).label.kind (block_at p.blocks on).bytes (2 * (j / 2)) level (waiting.used a on (j / 2) w)
+  where
+    level : IsLevel (block_at p.blocks on).label.kind
+    level = ⊎_elim
+        (λ lt. (sound.each on lt).level)
+        (λ le. subst (λ (z : Block). IsLevel z.label.kind) (sym (past_end p.blocks no_block on le)) (omega arith))
+        (cases_lt on (length p.blocks))
 
 pub keeps_at_once : (p : Silent) → SilentKeeps p p
 keeps_at_once p = record { count = refl; high = refl }

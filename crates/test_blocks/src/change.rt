@@ -2,6 +2,7 @@
 ghost use Rattle.std.specs.Prelude.{◌≡◌, ◌≢◌, ◌%◌, ◌<◌, ℕ, OnOk, IfErr, IfOk, true};
 ghost use Rattle.fo_base.specs.Cause.{Rose};
 ghost use Rattle.fo_ports.specs.Causes.{Caused};
+ghost use Rattle.fo_ports.specs.State.{IsUnlinked};
 ghost use Rattle.test_blocks.specs.Change.{StandsOnce, StandsSo, IsHad, IsApartFromAll};
 
 use fo_image::Kind;
@@ -36,7 +37,7 @@ fn put<B: Blocks>(blocks: &mut B, at: u32, rank: u32, from: u32, byte: u8) -> Re
     requires stands { StandsSo (B.state blocks.old) at rank }
     requires plain { rank % 32 ≢ 16 }
     requires within { from < 8192 }
-    ensures clean { OnOk result ((b : ℕ) → (B.state blocks.new).dirty b → ⊥) }
+    ensures clean { OnOk result ((b : ℕ) → (B.state blocks.new).dirty b → IsUnlinked (B.state blocks.new) b) }
     ensures cause { IfErr result (Caused ⊥ (λ b. ⊥) (Rose (B.state blocks.old).faults (B.state blocks.new).faults) ⊥) }
     ensures keeps { B.keeps blocks.old blocks.new }
 {
@@ -59,7 +60,7 @@ pub fn put_byte<B: Blocks>(
     requires stands { StandsOnce (B.state blocks.old) at rank }
     requires plain { rank % 32 ≢ 16 }
     requires within { from < 8192 }
-    ensures clean { IfOk result (λ done. done ≡ true → (b : ℕ) → (B.state blocks.new).dirty b → ⊥) }
+    ensures clean { IfOk result (λ done. done ≡ true → (b : ℕ) → (B.state blocks.new).dirty b → IsUnlinked (B.state blocks.new) b) }
     ensures cause { IfErr result (Caused ⊥ (λ b. (B.state blocks.old).tells → ⊥) (Rose (B.state blocks.old).faults (B.state blocks.new).faults) ⊥) }
     ensures keeps { B.keeps blocks.old blocks.new }
 {

@@ -4,11 +4,11 @@
 //!
 //! Beside them stand files that tell nothing of what they hold and answer whatever fits (`CarelessFiles`): so the contract of files can
 //! be kept by a silent disk, and promises no more there. Blocks that tell nothing (`CarelessBlocks`) keep each clause and law of the
-//! contract of blocks: what was given out is in memory for good, nothing is ever closed, and no slot waits to be cleared. So they show
-//! nothing of blocks that are read from a device, of buffers that run out, or of slots that wait. `put_byte` changes a byte of a block
-//! over any blocks, also those of a device that tells nothing, and each of its refusals has its cause.
-//! `fetch_twice` says over any blocks that what was fetched is fetched again, the same; so no blocks over an arena in a file, which may
-//! read differently each time, can keep the contract of `fetch`.
+//! contract of blocks: what was given out is in memory for good, nothing is ever closed, no slot waits to be cleared, and every other
+//! fetch finds nothing, as an arena in a file may read differently each time. So they show nothing of blocks that are read from a
+//! device, of buffers that run out, or of slots that wait. `put_byte` changes a byte of a block over any blocks, also those of a device
+//! that tells nothing, and each of its refusals has its cause. `fetch_twice` says that what was fetched is fetched again, the same,
+//! where the device tells; over `CarelessBlocks` it isn't.
 //!
 //! Bytes that are wanted were worked out by hand from docs/FORMATS.md. Nothing here is said of any caller.
 #![tactic(auto)]

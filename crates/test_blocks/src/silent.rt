@@ -46,8 +46,9 @@ pub struct Wait {
 ///
 /// What was given out is in memory for good, pinned and never written: so `get` has these, and any other is damaged. No image is left,
 /// nothing stands, nothing is to be closed, and no slot waits to be cleared: a removal clears at once, and all is settled always.
-/// Blocks are given out by address up to `count`, whose room is taken at the start; the root has the label of a block of data. Pairs that are waited for stand in a list until
-/// they are removed, or until room is made.
+/// Blocks are given out by address up to `count`, whose room is taken at the start; the root has the label of a block of data. Pairs
+/// that are waited for stand in a list until they are removed, or until room is made. The arena reads differently each time: every
+/// other fetch finds nothing (`lacks`), and the others find zeros.
 #[derive(Drop)]
 pub struct CarelessBlocks {
     pub(crate) blocks: Vec<Block>,
@@ -56,6 +57,7 @@ pub struct CarelessBlocks {
     pub(crate) high: u32,
     pub(crate) next: u32,
     pub(crate) room: u32,
+    pub(crate) lacks: bool,
     ghost begun: { 2 < length blocks.items },
     ghost few: { length blocks.items ≤ count },
     ghost small: { count < 2 ^ 32 - 1 },
@@ -319,6 +321,7 @@ impl CarelessBlocks {
             high: 1,
             next: 1,
             room: 0,
+            lacks: false,
         })
     }
 

@@ -123,6 +123,10 @@ impl Blocks for CarelessBlocks {
     }
 
     fn fetch(&mut self, _: &Score, _: u8, into: &mut [u8]) -> Result<(), BlockError> {
+        self.lacks = !self.lacks;
+        if !self.lacks {
+            return Err(BlockError::Damaged(1));
+        }
         into.copy_from_slice(&no_bytes());
         Ok(())
     }
@@ -183,9 +187,13 @@ impl Blocks for CarelessBlocks {
 
     ghost waits_in_use = { λ b. law.waits_in_use (parts b) b.waiting };
 
+    ghost waits_within = { λ b. law.waits_within (parts b) b.sound b.waiting };
+
     ghost clears_entries = { λ b at j h. absurd h };
 
     ghost clears_used = { λ b t. absurd t };
+
+    ghost covers_told = { λ b at h. h };
 
     ghost none_queued = { λ b at q h. h };
 
