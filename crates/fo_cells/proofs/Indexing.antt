@@ -35,7 +35,7 @@ module _ {at : ℕ} {q : Place} {old new : Known} (x : Indexes at q old new) whe
     versions = λ c h. inl (subst (λ (cs : List Content). Contains cs c) (at_b 1 x.device.versions) h);
   })
 
-  may_index : (a i : ℕ) (s : Slot) → MaySlot new a i s → MaySlot old a i s
+  pub may_index : (a i : ℕ) (s : Slot) → MaySlot new a i s → MaySlot old a i s
   may_index a i s h = may_fewer index_fewer a i s h
 
   -- A block stands where it stood, or is this one at its place.

@@ -32,9 +32,9 @@ walk_beside old new at same (i ∷ path) s never =
     one (Held x) h = refl
     one (Local a) h = (same a (λ e. h (ap (λ y. Local y) e))).slots i
 
--- A BLOCK IS GIVEN OUT, of the high epoch
-pub give_safe : {at : ℕ} {c : Content} {p : Place} {old new : Known} {high : ℕ} {doubt : Content → Type 0} → Gives at c p old new → at ≢ 1 → (new.label at).epoch ≡ high → ((i t : ℕ) → target (c.slot i) ≡ Local t → (old.label t).epoch ≤ high) → (Contains old.tops super_top → Contains new.tops super_top) → ((leaf on j : ℕ) → IsWait new.waits leaf on j → IsWait old.waits leaf on j) → IsSafe old high doubt → IsSafe new high doubt
-give_safe {at} {c} {p} {old} {new} {high} {doubt} g other epoch below top waits safe = record {
+-- A BLOCK IS GIVEN OUT, of the high epoch or, the root of a snapshot's new tree, of the next
+pub give_over : {at : ℕ} {c : Content} {p : Place} {old new : Known} {high : ℕ} {doubt : Content → Type 0} → Gives at c p old new → at ≢ 1 → high ≤ (new.label at).epoch → ((i t : ℕ) → target (c.slot i) ≡ Local t → (old.label t).epoch ≤ (new.label at).epoch) → (Contains old.tops super_top → Contains new.tops super_top) → ((leaf on j : ℕ) → IsWait new.waits leaf on j → IsWait old.waits leaf on j) → IsSafe old high doubt → IsSafe new high doubt
+give_over {at} {c} {p} {old} {new} {high} {doubt} g other up below top waits safe = record {
   kept = give_keeps g safe.kept;
   top = top safe.top;
   old = λ b q ne st young. ⊎_elim
@@ -44,7 +44,7 @@ give_safe {at} {c} {p} {old} {new} {high} {doubt} g other epoch below top waits 
         versions = λ d h. same_joins (set.versions d (subst (λ (cs : List Content). Contains cs d) (at_b b g.versions) h)) (same_back (g.memory.others b away));
         clears = λ i leaf h. set.clears i leaf (g.clears b i leaf h).0;
       })
-      (λ n. let e : (new.label b).epoch ≡ high = ap (λ y. (new.label y).epoch) n.0 ∙ epoch in absurd (omega (arith, e, young)))
+      (λ n. let e : (new.label b).epoch ≡ (new.label at).epoch = ap (λ y. (new.label y).epoch) n.0 in absurd (omega (arith, e, young, up)))
       (stands_new g b q st);
   epochs = λ a i b s q ne st may e. ⊎_elim
       (λ was. let away = stood g a q was in
@@ -54,7 +54,7 @@ give_safe {at} {c} {p} {old} {new} {high} {doubt} g other epoch below top waits 
       (λ n. let is : s ≡ c.slot i = may_here g i s (subst (λ y. MaySlot new y i s) n.0 may) in
       let led : target (c.slot i) ≡ Local b = ap target (sym is) ∙ e in
       let b_away = stood g b (place_below p i (c.slot i)) (g.fits i b led) in
-      subst (λ (l : Label). l.epoch ≤ (new.label a).epoch) (sym (g.label b b_away)) (subst (λ k. (old.label b).epoch ≤ k) (sym (ap (λ y. (new.label y).epoch) n.0 ∙ epoch)) (below i b led)))
+      subst (λ (l : Label). l.epoch ≤ (new.label a).epoch) (sym (g.label b b_away)) (subst (λ k. (old.label b).epoch ≤ k) (sym (ap (λ y. (new.label y).epoch) n.0)) (below i b led)))
       (stands_new g a q st);
   live = λ b ne r.
       let was : Reaches old.memory (to_block 1) b = record { path = r.path; leads = ap target (sym (walk_beside old.memory new.memory at g.memory.others r.path (to_block 1) never)) ∙ r.leads } in
@@ -90,8 +90,11 @@ give_safe {at} {c} {p} {old} {new} {high} {doubt} g other epoch below top waits 
     never : (rest : List ℕ) → target (walk new.memory (to_block 1) rest) ≡ Local at → ⊥
     never rest e = (give_adds g (λ t. t ≡ 1) (λ t is. subst (λ y. (q : Place) × Stands old y q) (sym is) (super_place, stands_top super_top safe.top))).apart new.memory (memory_may new) 1 refl (record { path = rest; leads = e })
 
+pub give_safe : {at : ℕ} {c : Content} {p : Place} {old new : Known} {high : ℕ} {doubt : Content → Type 0} → Gives at c p old new → at ≢ 1 → (new.label at).epoch ≡ high → ((i t : ℕ) → target (c.slot i) ≡ Local t → (old.label t).epoch ≤ high) → (Contains old.tops super_top → Contains new.tops super_top) → ((leaf on j : ℕ) → IsWait new.waits leaf on j → IsWait old.waits leaf on j) → IsSafe old high doubt → IsSafe new high doubt
+give_safe {at} {c} {p} {old} {new} {high} {doubt} g other epoch below top waits safe = give_over g other (subst (λ n. high ≤ n) (sym epoch) (omega arith)) (λ i t e. subst (λ n. (old.label t).epoch ≤ n) (sym epoch) (below i t e)) top waits safe
+
 -- all but block 1 stays
-set_beside : {old new : Known} → SameButSuper old new → (b : ℕ) → b ≢ 1 → IsSet old b → IsSet new b
+pub set_beside : {old new : Known} → SameButSuper old new → (b : ℕ) → b ≢ 1 → IsSet old b → IsSet new b
 set_beside {old} {new} w b ne set = record {
   newborn = at_b b w.newborn ∙ set.newborn;
   versions = λ c h. same_joins (set.versions c (w.versions b c ne h)) (same_if (sym (w.memory b ne)));

@@ -212,7 +212,7 @@ module _ {d : Content} {old new : Known} (t : TriesSuper d old new) where
             super = inl same;
           }
 
-  version_case : (c : Content) → Contains (written new 1) c → Contains (written old 1) c ⊎ (c ≡ d)
+  pub version_case : (c : Content) → Contains (written new 1) c → Contains (written old 1) c ⊎ (c ≡ d)
   version_case c h = ⊎_elim
       (λ was. inl (subst (λ (cs : List Content). Contains cs c) (sym (written_is old 1 t.same.settled)) was))
       (λ is. inr is)

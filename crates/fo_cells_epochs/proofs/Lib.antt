@@ -1,0 +1,5 @@
+pub mod Trees
+pub mod TreeSteps
+pub mod Made
+pub mod Snapshots
+pub mod Epochs
