@@ -35,7 +35,7 @@ map_among f (y ∷ xs) x h = ⊎_elim
     (among_cases y xs x h)
 
 -- what a longer list has
-among_push : {X : Type 0} (xs : List X) (x y : X) → Contains (xs ++ x ∷ []) y → Contains xs y ⊎ (y ≡ x)
+pub among_push : {X : Type 0} (xs : List X) (x y : X) → Contains (xs ++ x ∷ []) y → Contains xs y ⊎ (y ≡ x)
 among_push [] x y h = ⊎_elim (λ e. inr (sym e)) (λ none. absurd (nothing none)) (among_cases x [] y h)
   where
     nothing : Contains [] y → ⊥

@@ -21,7 +21,7 @@ use Rattle.fo_cells.proofs.Known.{memory_may}
 use Rattle.fo_cells.proofs.Super.{supers_still, may_other, super_stands, super_keeps, super_doubt, counts_stands, counts_keeps, counts_doubt}
 
 -- Two images that are the same but for one block are walked alike from where no path leads to it.
-walk_beside : (old new : Image) (at : ℕ) → ((b : ℕ) → b ≢ at → SameContent (new b) (old b)) → (path : List ℕ) (s : Slot) → ((rest : List ℕ) → target (walk new s rest) ≡ Local at → ⊥) → walk new s path ≡ walk old s path
+pub walk_beside : (old new : Image) (at : ℕ) → ((b : ℕ) → b ≢ at → SameContent (new b) (old b)) → (path : List ℕ) (s : Slot) → ((rest : List ℕ) → target (walk new s rest) ≡ Local at → ⊥) → walk new s path ≡ walk old s path
 walk_beside old new at same [] s never = refl
 walk_beside old new at same (i ∷ path) s never =
     walk_beside old new at same path ((local new (target s)).slot i) (λ rest e. never (i ∷ rest) e)

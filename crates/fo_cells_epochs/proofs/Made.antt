@@ -26,7 +26,7 @@ made_top at p = record { at = at; place = p }
 
 module _ {at : ℕ} {c : Content} {p : Place} {old new : Known} {high : ℕ} {active : List Top} {roots : List Root} (g : Gives at c p old new) (h : HasTrees old high active roots) (fits : (i t : ℕ) → target (c.slot i) ≡ Local t → Stands (view old active) t (place_below p i (c.slot i))) where
   -- it is a top of the active trees
-  given_view : Gives at c p (view old active) (view new (made_top at p ∷ active))
+  pub given_view : Gives at c p (view old active) (view new (made_top at p ∷ active))
   given_view = record {
     nowhere = λ q st. g.nowhere q (active_stands h at q st);
     memory = g.memory;
@@ -47,7 +47,7 @@ module _ {at : ℕ} {c : Content} {p : Place} {old new : Known} {high : ℕ} {ac
     falls = g.falls;
   }
 
-  given_tree : (r : Root) → Contains roots r → (b : ℕ) (q : Place) → Stands (tree_of new r) b q → Stands (tree_of old r) b q
+  pub given_tree : (r : Root) → Contains roots r → (b : ℕ) (q : Place) → Stands (tree_of new r) b q → Stands (tree_of old r) b q
   given_tree r among = stands_by (λ t is. stands_top t is) (λ a i x q b st m e. stands_below i x b st (may_there g a i x (stood g a q (tree_stands h r among a q st)) m) e)
 
   written_there : (a : ℕ) → a ≢ at → written new a ≡ written old a
