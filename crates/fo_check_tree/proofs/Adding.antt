@@ -1,6 +1,11 @@
 -- The steps by the slots of a block, by its kind, and what a step leaves.
-use Rattle.std.proofs.Common.{◌≡◌, ℕ, zero, suc, ◌-◌, ◌<◌, List, ◌++◌, sym, subst, Result, Ok, Err, arith}
-use Rattle.std.specs.Prelude.{OnOk}
+use Rattle.std.proofs.Common.{◌≡◌, ℕ, zero, suc, ◌-◌, ◌<◌, Bool, true, false, leb, List, ◌++◌, Option, Some, None, refl, sym, subst, Result, Ok, Err, arith}
+use Rattle.std.specs.Prelude.{OnOk, is_err, if◌then◌else◌}
+use Rattle.std.proofs.lemmas.Bool.{false≢true}
+use Rattle.fo_check_tree.specs.declared.broken.Broken.{Broken}
+use Rattle.fo_check_tree.specs.Lower.{lower}
+use Rattle.fo_check_tree.specs.Notes.{NotesAt}
+use Rattle.fo_check_tree.specs.Notes.NotesAt.{same as note_same, format as note_format, deep as note_deep}
 use Rattle.fo_disk.specs.Disk.{Block}
 use Rattle.fo_image.specs.declared.types.Kind.{Kind}
 use Rattle.fo_image.specs.declared.types.Kind.TheVariants.{Data, Dir}
@@ -12,10 +17,10 @@ use Rattle.fo_check_tree.specs.declared.labels.Labels.{Labels}
 use Rattle.fo_check_tree.specs.declared.walk.Holder.{Holder}
 use Rattle.fo_check_tree.specs.declared.walk.Step.{Step}
 use Rattle.fo_check_tree.specs.declared.walk.Walk.{Walk}
-use Rattle.fo_check_tree.specs.Follows.{Reaches}
+use Rattle.fo_check_tree.specs.Follows.{Reaches, Puts}
 use Rattle.fo_check_tree.specs.Follows.Reaches.{enters}
 use Rattle.fo_check_tree.specs.Known.{Marks}
-use Rattle.fo_check_tree.specs.Slots.{HasSlots, steps_below, steps_of}
+use Rattle.fo_check_tree.specs.Slots.{unless, HasSlots, steps_below, steps_of}
 use Rattle.fo_check_tree.specs.Steps.{IsAllowed}
 
 module _ {A E : Type 0} (r : Result A E) (step : Step) (here : Holder) (c : Content) (bytes : Block) (old new : List Step) where
@@ -37,9 +42,34 @@ pub on_ok : {A E : Type 0} (r : Result A E) (P Q : Type 0) → (P → Q) → OnO
 on_ok (Ok x) P Q f h = f h
 on_ok (Err e) P Q f h = h
 
-pub reaches_by : {A E : Type 0} (r : Result A E) (device : List Block) (image : Image) (step : Step) (at : ℕ) (old new : Walk) (label : Label) (marked : Labels) → IsAllowed old step at label → Marks at old.labels.known.items marked.known.items
+pub on_ok_is : {A E : Type 0} (r : Result A E) (P : Type 0) → is_err r ≡ false → OnOk r P → P
+on_ok_is (Ok x) P ok h = h
+on_ok_is (Err e) P ok h = absurd (false≢true (sym ok))
+
+pub reaches_by : {A E : Type 0} (r : Result A E) (device : List Block) (image : Image) (depth : ℕ) (named : Bool) (step : Step) (at : ℕ) (old new : Walk) (label : Label) (marked : Labels) → IsAllowed old step at label → Marks at old.labels.known.items marked.known.items
     → OnOk r (new.labels ≡ marked)
     → (HasSlots step.kind (image at) (block_of device at) → OnOk r (new.steps.items ≡ old.steps.items ++ steps_of step (record { block = at; label = label }) (image at) step.kind))
-    → OnOk r (Reaches device image step at old new)
-reaches_by (Ok x) device image step at old new label marked allowed marks same pushed = enters label allowed (subst (λ (l : Labels). Marks at old.labels.known.items l.known.items) (sym same) marks) pushed
-reaches_by (Err e) device image step at old new label marked allowed marks same pushed = same
+    → (HasSlots step.kind (image at) (block_of device at) → OnOk r (Puts (record { block = at; label = label }) (image at) depth named step.kind old.folders.items new.folders.items))
+    → OnOk r (NotesAt at old.noted new.noted)
+    → OnOk r (Reaches device image depth named step at old new)
+reaches_by (Ok x) device image depth named step at old new label marked allowed marks same pushed put notes = enters label allowed (subst (λ (l : Labels). Marks at old.labels.known.items l.known.items) (sym same) marks) pushed put notes
+reaches_by (Err e) device image depth named step at old new label marked allowed marks same pushed put notes = same
+
+-- ---- what a block says by itself
+
+by_choice : {X : Type 0} (P : X → Type 0) (t : Bool) (x y : X) → P x → P y → P (if t then x else y)
+by_choice P true x y a b = a
+by_choice P false x y a b = b
+
+pub then_notes : {block : ℕ} {a b c : Option Broken} → NotesAt block a b → NotesAt block b c → NotesAt block a c
+then_notes {block} {a} {b} {c} first (note_same is) = subst (λ (o : Option Broken). NotesAt block a o) (sym is) first
+then_notes {block} {a} {b} {c} first (note_format is) = note_format is
+then_notes {block} {a} {b} {c} first (note_deep is) = note_deep is
+
+notes_format : (block : ℕ) (noted : Option Broken) → NotesAt block noted (lower noted 5 block)
+notes_format block None = note_format refl
+notes_format block (Some b) = by_choice (λ (o : Option Broken). NotesAt block (Some b) o) (leb b.rule 5) (Some b) (Some (record { rule = 5; block = block })) (note_same refl) (note_format refl)
+
+pub notes_unless : (t : Bool) (block : ℕ) (noted new : Option Broken) → new ≡ unless t 5 block noted → NotesAt block noted new
+notes_unless true block noted new is = note_same is
+notes_unless false block noted new is = subst (λ (o : Option Broken). NotesAt block noted o) (sym is) (notes_format block noted)

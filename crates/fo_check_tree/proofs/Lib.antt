@@ -1,6 +1,17 @@
 mod Adding
+mod Counting
+mod Ending
+mod Going
 mod Levels
 mod Marking
+mod Noting
 mod Orders
+mod Paths
+mod Reaching
 mod Scanning
 mod Slots
+mod Spelled
+mod Sprouting
+mod Starting
+mod Stepping
+mod Waiting

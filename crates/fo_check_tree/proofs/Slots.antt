@@ -21,11 +21,11 @@ use Rattle.fo_check_tree.specs.Slots.HasSlot.{entry, other}
 use Rattle.fo_check_tree.specs.Slots.AreFolders.{none, more}
 
 module _ (step : Step) (kind : Kind) (here : Holder) (c : Content) where
-  none_below : steps_below step kind here c zero ≡ []
+  pub none_below : steps_below step kind here c zero ≡ []
   unfolding steps_below
   none_below = refl
 
-  one_below : (n : ℕ) → steps_below step kind here c (suc n) ≡ steps_below step kind here c n ++ steps_by step kind here n (target (c.slot n))
+  pub one_below : (n : ℕ) → steps_below step kind here c (suc n) ≡ steps_below step kind here c n ++ steps_by step kind here n (target (c.slot n))
   unfolding steps_below
   one_below n = refl
 
@@ -60,11 +60,11 @@ as_slot c bytes i e found absent (other is deep) = absent deep ∙ sym (ap entry
 -- ---- pairs of entries, one pair more
 
 module _ (here : Holder) (c : Content) where
-  no_pairs : steps_by_pairs here c zero ≡ []
+  pub no_pairs : steps_by_pairs here c zero ≡ []
   unfolding steps_by_pairs
   no_pairs = refl
 
-  one_pair : (k : ℕ) → steps_by_pairs here c (suc k) ≡ steps_by_pairs here c k ++ pair_steps here (entry_of (c.slot (2 * k))) (entry_of (c.slot (2 * k + 1)))
+  pub one_pair : (k : ℕ) → steps_by_pairs here c (suc k) ≡ steps_by_pairs here c k ++ pair_steps here (entry_of (c.slot (2 * k))) (entry_of (c.slot (2 * k + 1)))
   unfolding steps_by_pairs
   one_pair k = refl
 

@@ -1,8 +1,11 @@
+pub mod Answer
 pub mod Cause
 pub mod Follows
 pub mod Known
 pub mod Lower
 pub mod Names
+pub mod Notes
 pub mod Slots
 pub mod Steps
 pub mod Table
+pub mod Walking

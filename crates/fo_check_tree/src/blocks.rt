@@ -1,13 +1,19 @@
 //! The blocks of sources, one pointer after another.
 ghost use Rattle.std.specs.Prelude.{◌≡◌, ℕ, ◌+◌, ◌*◌, ◌<◌, ◌≤◌, List, [], ◌++◌, length, drop, IfErr, IfOk, MatchResult, OnOk};
-ghost use Rattle.fo_crash.specs.Images.{Content, Image};
+ghost use Rattle.fo_crash.specs.Images.{Arena, Content, Image};
 ghost use Rattle.fo_good.specs.Means.{HasPointer};
 ghost use Rattle.fo_disk.specs.Disk.{Block};
 ghost use Rattle.fo_meta.specs.Leaf.{IsLeaf};
 ghost use Rattle.fo_sound.specs.Image.{block_of, is_zero};
 ghost use Rattle.fo_sound.specs.Device.{Shows, IsKept};
 ghost use Rattle.fo_check_tree.specs.Cause.{HasCauses};
-ghost use Rattle.fo_check_tree.specs.Follows.{Follows, Reaches};
+ghost use Rattle.fo_good.specs.Sound.{Kept};
+ghost use Rattle.fo_image.specs.declared.types.Super.{Super};
+ghost use Rattle.fo_image.specs.declared.types.Pointer.TheVariants.{Local};
+ghost use Rattle.fo_check_tree.specs.Answer.{RefusesTree};
+ghost use Rattle.fo_check_tree.specs.Follows.{Follows, Reaches, Puts, RefusesFollow, NotLabel};
+ghost use Rattle.fo_check_tree.specs.Notes.{NotesAt};
+ghost use Rattle.fo_check_tree.specs.Walking.{Walking};
 ghost use Rattle.fo_check_tree.specs.Lower.{lower, level};
 ghost use Rattle.fo_check_tree.specs.Slots.{unless, steps_by, steps_below, steps_of, HasSlots};
 ghost use Rattle.fo_check_tree.specs.Steps.{IsAllowed, RefusesStep};
@@ -57,6 +63,8 @@ pub(crate) fn follow_all<D: Disk>(
     named: bool,
 ) -> Result<(), TreeError>
     requires size { D.size main.old ≡ walk.old.blocks }
+    ensures walks { (arena : Arena) (device : List Block) (image : Image) (s : Super) (k : Kept) (rest : List Step) → Shows (D.holds main.old) device → Walking arena device image s k rest walk.old
+        → MatchResult result (λ _. Walking arena device image s k rest walk.new) (RefusesTree arena device image k) }
     ensures done { OnOk result (walk.new.steps.items ≡ []) }
     ensures blocks { OnOk result (walk.new.blocks ≡ walk.old.blocks) }
     ensures budget { OnOk result (205 * walk.new.labels.left + length walk.new.folders.items ≤ 205 * walk.old.labels.left + length walk.old.folders.items) }
@@ -81,7 +89,8 @@ fn follow<D: Disk>(
     named: bool,
 ) -> Result<(), TreeError>
     requires size { D.size main.old ≡ walk.old.blocks }
-    ensures follows { (device : List Block) (image : Image) → Shows (D.holds main.old) device → OnOk result (Follows device image step.now walk.old walk.new) }
+    ensures follows { (device : List Block) (image : Image) → Shows (D.holds main.old) device → OnOk result (Follows device image depth named step.now walk.old walk.new) }
+    ensures refuses { IfErr result (RefusesFollow walk.old step.now) }
     ensures blocks { OnOk result (walk.new.blocks ≡ walk.old.blocks) }
     ensures tree { OnOk result ((walk.new.epoch ≡ walk.old.epoch) × (walk.new.active ≡ walk.old.active)) }
     ensures left { OnOk result (410 * walk.new.labels.left + length walk.new.steps.items ≤ 410 * walk.old.labels.left + length walk.old.steps.items) }
@@ -112,7 +121,8 @@ fn follow_local<D: Disk>(
     named: bool,
 ) -> Result<(), TreeError>
     requires size { D.size main.old ≡ walk.old.blocks }
-    ensures reaches { (device : List Block) (image : Image) → Shows (D.holds main.old) device → OnOk result (Reaches device image step.now address walk.old walk.new) }
+    ensures reaches { (device : List Block) (image : Image) → Shows (D.holds main.old) device → OnOk result (Reaches device image depth named step.now address walk.old walk.new) }
+    ensures refuses { step.now.pointer ≡ Local address → IfErr result (RefusesFollow walk.old step.now) }
     ensures blocks { OnOk result (walk.new.blocks ≡ walk.old.blocks) }
     ensures tree { OnOk result ((walk.new.epoch ≡ walk.old.epoch) × (walk.new.active ≡ walk.old.active)) }
     ensures left { OnOk result (410 * walk.new.labels.left + length walk.new.steps.items ≤ 410 * walk.old.labels.left + length walk.old.steps.items) }
@@ -147,6 +157,10 @@ fn enter<D: Disk>(
     requires block { here.block < D.size main.old }
     ensures pushed { (device : List Block) (c : Content) → Shows (D.holds main.old) device → HasSlots step.now.kind c (block_of device here.block)
         → OnOk result (walk.new.steps.items ≡ walk.old.steps.items ++ steps_of step.now here c step.now.kind) }
+    ensures put { (device : List Block) (c : Content) → Shows (D.holds main.old) device → HasSlots step.now.kind c (block_of device here.block)
+        → OnOk result (Puts here c depth named step.now.kind walk.old.folders.items walk.new.folders.items) }
+    ensures notes { OnOk result (NotesAt here.block walk.old.noted walk.new.noted) }
+    ensures refuses { IfErr result NotLabel }
     ensures blocks { OnOk result (walk.new.blocks ≡ walk.old.blocks) }
     ensures tree { OnOk result ((walk.new.epoch ≡ walk.old.epoch) × (walk.new.active ≡ walk.old.active)) }
     ensures labels { OnOk result (walk.new.labels ≡ walk.old.labels) }
@@ -181,6 +195,8 @@ fn add_block(
 ) -> Result<(), AllocError>
     requires { length block.now ≡ 8192 }
     ensures pushed { (c : Content) → HasSlots step.now.kind c block.now → OnOk result (walk.new.steps.items ≡ walk.old.steps.items ++ steps_of step.now here c step.now.kind) }
+    ensures put { (c : Content) → HasSlots step.now.kind c block.now → OnOk result (Puts here c depth named step.now.kind walk.old.folders.items walk.new.folders.items) }
+    ensures notes { OnOk result (NotesAt here.block walk.old.noted walk.new.noted) }
     ensures blocks { OnOk result (walk.new.blocks ≡ walk.old.blocks) }
     ensures tree { OnOk result ((walk.new.epoch ≡ walk.old.epoch) × (walk.new.active ≡ walk.old.active)) }
     ensures labels { OnOk result (walk.new.labels ≡ walk.old.labels) }
@@ -269,6 +285,7 @@ fn add_records(
     ensures folders { OnOk result (walk.new.folders.items ≡ walk.old.folders.items) }
     ensures format { ¬ IsLeaf block.now → OnOk result (walk.new.noted ≡ lower walk.old.noted 5 here.block) }
     ensures quiet { IsLeaf block.now → OnOk result (walk.new.noted ≡ walk.old.noted) }
+    ensures notes { OnOk result (NotesAt here.block walk.old.noted walk.new.noted) }
     ensures level { OnOk result (level walk.new.noted ≤ level walk.old.noted) }
 {
     let Some(records) = read_leaf(alloc, block)? else {

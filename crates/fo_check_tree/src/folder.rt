@@ -1,14 +1,21 @@
 //! Leaves of entries, and directories.
-ghost use Rattle.std.specs.Prelude.{◌≡◌, ℕ, ◌+◌, ◌-◌, ◌*◌, ◌^◌, ◌<◌, ◌≤◌, not, ◌&&◌, None, cond, min, true, false, length, take, drop, map, [], ◌∷◌, ◌++◌, OnOk};
+ghost use Rattle.std.specs.Prelude.{◌≡◌, ℕ, List, MatchResult, ◌+◌, ◌-◌, ◌*◌, ◌^◌, ◌<◌, ◌≤◌, not, ◌&&◌, None, cond, min, true, false, length, take, drop, map, [], ◌∷◌, ◌++◌, OnOk};
 ghost use Rattle.fo_image.specs.declared.types.Entry.{Entry};
 ghost use Rattle.fo_image.specs.Format.{SpellsEntry};
-ghost use Rattle.fo_crash.specs.Images.{Content};
+ghost use Rattle.fo_crash.specs.Images.{Arena, Content, Image};
+ghost use Rattle.fo_disk.specs.Disk.{Block};
+ghost use Rattle.fo_good.specs.Sound.{Kept};
+ghost use Rattle.fo_image.specs.declared.types.Super.{Super};
 ghost use Rattle.fo_sound.specs.Image.{is_zero};
-ghost use Rattle.fo_sound.specs.Device.{IsKept};
+ghost use Rattle.fo_sound.specs.Device.{Shows, IsKept};
+ghost use Rattle.fo_check_tree.specs.declared.walk.Holds.TheVariants.{Bytes};
+ghost use Rattle.fo_check_tree.specs.Answer.{RefusesTree};
+ghost use Rattle.fo_check_tree.specs.Walking.{Walking, tops};
 ghost use Rattle.fo_check_tree.specs.Cause.{HasCauses};
 ghost use Rattle.fo_check_tree.specs.Lower.{lower, level};
-ghost use Rattle.fo_check_tree.specs.Slots.{no_entry, entry_of, HasSlot, steps_by_pairs, AddsFolders, pair_steps, first_steps, second_steps, pair_folders, is_folder, is_source, records_of, folders_by};
+ghost use Rattle.fo_check_tree.specs.Slots.{no_entry, top_step, entry_of, HasSlot, steps_by_pairs, AddsFolders, pair_steps, first_steps, second_steps, pair_folders, is_folder, is_source, records_of, folders_by};
 ghost use Rattle.fo_check_tree.specs.Names.{number_in};
+ghost use Rattle.fo_check_tree.specs.Notes.{NotesAt};
 
 use crate::blocks::follow_all;
 use crate::error::TreeError;
@@ -41,6 +48,7 @@ pub(crate) fn shallow(walk: &mut Walk, block: u32, entry: &Entry) -> Entry
     ensures quiet { entry.now.depth ≤ 4 → walk.new.noted ≡ walk.old.noted }
     ensures none { 4 < entry.now.depth → result ≡ no_entry }
     ensures deep { 4 < entry.now.depth → level walk.new.noted ≤ 5 }
+    ensures notes { NotesAt block walk.old.noted walk.new.noted }
 {
     if entry.depth <= 4 {
         *entry
@@ -57,6 +65,7 @@ fn entry_at(walk: &mut Walk, here: Holder, block: &[u8], i: usize) -> Entry
     ensures found { (e : Entry) → SpellsEntry e (take 40 (drop (40 * i) block.now)) → e.depth ≤ 4 → result ≡ e }
     ensures is { (c : Content) → HasSlot c block.now i → result ≡ entry_of (c.slot i) }
     ensures none { ((e : Entry) → SpellsEntry e (take 40 (drop (40 * i) block.now)) → 4 < e.depth) → (result ≡ no_entry) × (level walk.new.noted ≤ 5) }
+    ensures notes { NotesAt here.block walk.old.noted walk.new.noted }
     ensures blocks { walk.new.blocks ≡ walk.old.blocks }
     ensures tree { (walk.new.epoch ≡ walk.old.epoch) × (walk.new.active ≡ walk.old.active) }
     ensures labels { walk.new.labels ≡ walk.old.labels }
@@ -86,6 +95,7 @@ pub(crate) fn add_entries(
     ensures pushed { (c : Content) → ((i : ℕ) → i < 204 → HasSlot c block.now i) → OnOk result (walk.new.steps.items ≡ walk.old.steps.items ++ steps_by_pairs here c 102) }
     ensures put { (c : Content) → ((i : ℕ) → i < 204 → HasSlot c block.now i) → OnOk result (AddsFolders here c (min (depth + 1) (2 ^ 32 - 1)) named 102 walk.old.folders.items walk.new.folders.items) }
     ensures rest { is_zero (drop 8160 block.now) ≡ false → OnOk result (level walk.new.noted ≤ 5) }
+    ensures notes { OnOk result (NotesAt here.block walk.old.noted walk.new.noted) }
     ensures blocks { OnOk result (walk.new.blocks ≡ walk.old.blocks) }
     ensures tree { OnOk result ((walk.new.epoch ≡ walk.old.epoch) × (walk.new.active ≡ walk.old.active)) }
     ensures labels { OnOk result (walk.new.labels ≡ walk.old.labels) }
@@ -112,6 +122,7 @@ pub(crate) fn add_entries(
 
 /// Whether a record of the directory in course names this pair and is its own.
 fn find_pair(walk: &mut Walk, slot: u64, first: &Entry, second: &Entry) -> bool
+    ensures noted { walk.new.noted ≡ walk.old.noted }
     ensures blocks { walk.new.blocks ≡ walk.old.blocks }
     ensures tree { (walk.new.epoch ≡ walk.old.epoch) × (walk.new.active ≡ walk.old.active) }
     ensures labels { walk.new.labels ≡ walk.old.labels }
@@ -142,6 +153,7 @@ fn add_pair(
 ) -> Result<(), AllocError>
     ensures pushed { OnOk result (walk.new.steps.items ≡ walk.old.steps.items ++ pair_steps here first.now second.now) }
     ensures put { OnOk result (walk.new.folders.items ≡ walk.old.folders.items ++ pair_folders here first.now second.now depth named) }
+    ensures notes { OnOk result (NotesAt here.block walk.old.noted walk.new.noted) }
     ensures blocks { OnOk result (walk.new.blocks ≡ walk.old.blocks) }
     ensures tree { OnOk result ((walk.new.epoch ≡ walk.old.epoch) × (walk.new.active ≡ walk.old.active)) }
     ensures labels { OnOk result (walk.new.labels ≡ walk.old.labels) }
@@ -166,6 +178,7 @@ fn add_first(
 ) -> Result<(), AllocError>
     ensures pushed { OnOk result (walk.new.steps.items ≡ walk.old.steps.items ++ first_steps here entry.now) }
     ensures put { OnOk result (walk.new.folders.items ≡ walk.old.folders.items ++ folders_by here entry.now records depth named) }
+    ensures notes { OnOk result (NotesAt here.block walk.old.noted walk.new.noted) }
     ensures blocks { OnOk result (walk.new.blocks ≡ walk.old.blocks) }
     ensures tree { OnOk result ((walk.new.epoch ≡ walk.old.epoch) × (walk.new.active ≡ walk.old.active)) }
     ensures labels { OnOk result (walk.new.labels ≡ walk.old.labels) }
@@ -190,6 +203,7 @@ fn add_second(
 ) -> Result<(), AllocError>
     ensures pushed { OnOk result (walk.new.steps.items ≡ walk.old.steps.items ++ second_steps here (is_folder first.now) second.now) }
     ensures put { OnOk result (walk.new.folders.items ≡ walk.old.folders.items ++ folders_by here second.now None depth false) }
+    ensures notes { OnOk result (NotesAt here.block walk.old.noted walk.new.noted) }
     ensures blocks { OnOk result (walk.new.blocks ≡ walk.old.blocks) }
     ensures tree { OnOk result ((walk.new.epoch ≡ walk.old.epoch) × (walk.new.active ≡ walk.old.active)) }
     ensures labels { OnOk result (walk.new.labels ≡ walk.old.labels) }
@@ -269,6 +283,7 @@ fn add_entry(
     named: bool,
 ) -> Result<(), AllocError>
     ensures put { OnOk result (walk.new.folders.items ≡ walk.old.folders.items ++ folders_by here entry.now records depth named) }
+    ensures notes { OnOk result (NotesAt here.block walk.old.noted walk.new.noted) }
     ensures folders { OnOk result (length walk.new.folders.items ≤ length walk.old.folders.items + 1) }
     ensures deep { is_folder entry.now ≡ true → 64 < depth → OnOk result (walk.new.noted ≡ lower walk.old.noted 8 here.block) }
     ensures quiet { depth ≤ 64 → walk.new.noted ≡ walk.old.noted }
@@ -299,6 +314,8 @@ fn list<D: Disk>(
     folder: &Folder,
 ) -> Result<(), TreeError>
     requires size { D.size main.old ≡ walk.old.blocks }
+    ensures walks { (arena : Arena) (device : List Block) (image : Image) (s : Super) (k : Kept) → Shows (D.holds main.old) device → Walking arena device image s k (tops folder.now) walk.old
+        → MatchResult result (λ _. Walking arena device image s k (top_step folder.now.entries Bytes folder.now.holder ∷ []) walk.new) (RefusesTree arena device image k) }
     ensures blocks { OnOk result (walk.new.blocks ≡ walk.old.blocks) }
     ensures budget { OnOk result (205 * walk.new.labels.left + length walk.new.folders.items ≤ 205 * walk.old.labels.left + length walk.old.folders.items) }
     ensures level { OnOk result (level walk.new.noted ≤ level walk.old.noted) }
@@ -314,16 +331,13 @@ fn list<D: Disk>(
         return Err(TreeError::Memory);
     }
     follow_all(alloc, main, walk, folder.depth, false)?;
-    if let Some(leaf) = same_name(&mut walk.named) {
-        walk.note(5, leaf);
-    }
+    let named_twice = same_name(&mut walk.named);
+    walk.note_leaf(5, named_twice);
     let twice = same_pair(&mut walk.named);
     if !folder.named {
         return Ok(());
     }
-    if let Some(leaf) = twice {
-        walk.note(6, leaf);
-    }
+    walk.note_leaf(6, twice);
     match add_numbers(&walk.named, &mut walk.numbers) {
         Ok(()) => Ok(()),
         Err(_) => Err(TreeError::Memory),
@@ -351,6 +365,9 @@ pub(crate) fn walk_folder<D: Disk>(
     folder: &Folder,
 ) -> Result<(), TreeError>
     requires size { D.size main.old ≡ walk.old.blocks }
+    ensures walks { (arena : Arena) (device : List Block) (image : Image) (s : Super) (k : Kept) → Shows (D.holds main.old) device → Walking arena device image s k (tops folder.now) walk.old
+        → MatchResult result (λ _. Walking arena device image s k [] walk.new) (RefusesTree arena device image k) }
+    ensures done { OnOk result (walk.new.steps.items ≡ []) }
     ensures blocks { OnOk result (walk.new.blocks ≡ walk.old.blocks) }
     ensures budget { OnOk result (205 * walk.new.labels.left + length walk.new.folders.items ≤ 205 * walk.old.labels.left + length walk.old.folders.items) }
     ensures level { OnOk result (level walk.new.noted ≤ level walk.old.noted) }
@@ -370,10 +387,10 @@ pub(crate) fn walk_folder<D: Disk>(
         return Err(TreeError::Memory);
     }
     follow_all(alloc, main, walk, folder.depth, folder.named)?;
-    if folder.named {
-        if let Some(leaf) = without_pair(&walk.named, folder.entries.size) {
-            walk.note(6, leaf);
-        }
+    if !folder.named {
+        return Ok(());
     }
+    let alone = without_pair(&walk.named, folder.entries.size);
+    walk.note_leaf(6, alone);
     Ok(())
 }

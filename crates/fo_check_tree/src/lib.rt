@@ -1,17 +1,20 @@
 //! The check of a whole tree: every block that a root leads to, then the names of each directory.
 //!
 //! Proved of the whole: over any device `check_tree` ends and writes nothing, and says that a read failed only where the device's count
-//! of faults rose. Want of memory is answered without a cause. Over a quiet device that tells, what is found says that the label table
-//! is sound. Over any device a rule no higher than 5 is named where an entry of the root is of more than four levels, and one no higher
-//! than 6 where its entries are not those of a root.
+//! of faults rose. Want of memory is answered without a cause. Over any device a rule no higher than 5 is named where an entry of the
+//! root is of more than four levels, and one no higher than 6 where its entries are not those of a root.
 //!
-//! **What else a report or a refusal says of the image is not proved yet**: that rests on the tests of `test_check_tree`.
+//! Over a quiet device that tells, a report says that the label table is sound and that each block to which a path from the root leads
+//! has a label that may stand at its place (S4). It says how many blocks are reached so, and how many are leaked. Unless a rule no higher
+//! than 7 is named, no block is at two places; unless one no higher than 9 is, no pointer is a score. Where rule 7 or 9 is named it is
+//! broken at that block. What is refused breaks S4 at that block.
+//!
+//! **What else a report says of the image is not proved yet**: names, pairs and numbers, and at which block rule 5, 6 or 8 is broken. That
+//! rests on the tests of `test_check_tree`.
 //!
 //! Proved of its parts: of two rules that are broken the lower is noted, and none is forgotten; names, pairs and numbers are answered to
 //! differ exactly where they do; a record is without its pair, a number that of no file, and the root's entries are not those of a root
-//! exactly where that is so; the table is read to its end or refused at a block where it is broken; a block is found, and its label,
-//! exactly where it is one of those that are not free, and is reached once; a step to a block is refused exactly where its label may not
-//! stand there; those that were reached, and those that leaked, are counted.
+//! exactly where that is so.
 #![tactic(auto)]
 
 mod blocks;

@@ -1,5 +1,10 @@
 //! The check of the tree of one root.
-ghost use Rattle.std.specs.Prelude.{◌≡◌, ◌^◌, ◌≤◌, ◌↔◌, List, length, IsTrue, IfOk, OnOk};
+ghost use Rattle.std.specs.Prelude.{◌≡◌, ◌^◌, ◌≤◌, ◌↔◌, List, [], length, IsTrue, IfOk, OnOk, MatchResult};
+ghost use Rattle.fo_crash.specs.Images.{Arena, Image};
+ghost use Rattle.fo_good.specs.Sound.{Kept};
+ghost use Rattle.fo_check_tree.specs.Answer.{HoldsAny, IsWalked, RefusesCheck};
+ghost use Rattle.fo_check_tree.specs.Notes.{Lowers};
+ghost use Rattle.fo_check_tree.specs.Walking.{IsUnbegun, Walking};
 ghost use Rattle.fo_disk.specs.Disk.{Block};
 ghost use Rattle.fo_sound.specs.Sound.{HasTable, HasRootEntries};
 ghost use Rattle.fo_sound.specs.Device.{Shows, IsKept};
@@ -51,6 +56,8 @@ pub fn check_tree<D: Disk>(
     requires least { 64 ≤ setting.blocks }
     requires most { setting.blocks ≤ 2 ^ 20 }
     ensures table { (image : List Block) → length image ≡ setting.blocks → Shows (D.holds main.old) image → OnOk result (HasTable image) }
+    ensures walked { (arena : Arena) (device : List Block) (image : Image) (k : Kept) → length device ≡ setting.blocks → Shows (D.holds main.old) device → k.root ≡ root.now → HoldsAny arena device image setting.s k
+        → MatchResult result (IsWalked arena device image setting.s k) (RefusesCheck arena device image k) }
     ensures root { IfOk result (λ found. JudgesRoot root.now found.broken) }
     ensures size { D.size main.new ≡ D.size main.old }
     ensures kept { IsKept (D.holds main.old) (D.holds main.new) (D.moments main.old) (D.moments main.new) (D.unsure main.old) (D.unsure main.new) }
@@ -85,19 +92,27 @@ pub fn check_tree<D: Disk>(
 
 /// The numbers of all files that names lead to.
 fn check_numbers(walk: &mut Walk, limit: u32)
-    ensures { level walk.new.noted ≤ level walk.old.noted }
+    ensures lowers { Lowers walk.old.noted walk.new.noted }
+    ensures blocks { walk.new.blocks ≡ walk.old.blocks }
+    ensures tree { (walk.new.epoch ≡ walk.old.epoch) × (walk.new.active ≡ walk.old.active) }
+    ensures labels { walk.new.labels ≡ walk.old.labels }
+    ensures steps { walk.new.steps.items ≡ walk.old.steps.items }
+    ensures folders { walk.new.folders.items ≡ walk.old.folders.items }
 {
-    if let Some(leaf) = no_file(&walk.numbers, limit) {
-        walk.note(8, leaf);
-    }
-    if let Some(leaf) = same_number(&mut walk.numbers) {
-        walk.note(8, leaf);
-    }
+    let outside = no_file(&walk.numbers, limit);
+    walk.note_leaf(8, outside);
+    let twice = same_number(&mut walk.numbers);
+    walk.note_leaf(8, twice);
 }
 
 /// Notes entries that are not those of a root.
 fn note_entries(walk: &mut Walk, block: u32, root: &RootBlock)
+    ensures lowers { Lowers walk.old.noted walk.new.noted }
     ensures blocks { walk.new.blocks ≡ walk.old.blocks }
+    ensures tree { (walk.new.epoch ≡ walk.old.epoch) × (walk.new.active ≡ walk.old.active) }
+    ensures labels { walk.new.labels ≡ walk.old.labels }
+    ensures steps { walk.new.steps.items ≡ walk.old.steps.items }
+    ensures folders { walk.new.folders.items ≡ walk.old.folders.items }
     ensures level { level walk.new.noted ≤ level walk.old.noted }
     ensures entries { ¬ HasRootEntries root.now → level walk.new.noted ≤ 6 }
 {
@@ -109,6 +124,8 @@ fn note_entries(walk: &mut Walk, block: u32, root: &RootBlock)
 
 /// Begins at the root block.
 fn start(walk: &mut Walk, s: &Super, root: &RootBlock) -> Result<(), AllocError>
+    ensures begun { (arena : Arena) (device : List Block) (image : Image) (k : Kept) → k.root ≡ root.now → HoldsAny arena device image s.now k → IsUnbegun device s.now walk.old
+        → OnOk result (Walking arena device image s.now k [] walk.new × (walk.new.steps.items ≡ [])) }
     ensures blocks { OnOk result (walk.new.blocks ≡ walk.old.blocks) }
     ensures judged { OnOk result (JudgesRoot root.now walk.new.noted) }
 {

@@ -2,6 +2,7 @@
 ghost use Rattle.std.specs.Prelude.{◌≡◌, ◌<◌, ◌≤◌};
 ghost use Rattle.fo_sound.specs.Image.{is_zero};
 ghost use Rattle.fo_check_tree.specs.Lower.{lower, level};
+ghost use Rattle.fo_check_tree.specs.Notes.{NotesLeaf};
 ghost use Rattle.fo_check_tree.specs.Slots.{unless, top_step};
 ghost use Rattle.fo_check_tree.specs.declared.walk.Holds.TheVariants.{Records};
 
@@ -112,6 +113,21 @@ impl Walk {
         ensures folders { self.new.folders.items ≡ self.old.folders.items }
     {
         self.noted = lower(self.noted, rule, block);
+    }
+
+    /// Notes a rule that is broken at this leaf, if any.
+    pub(crate) fn note_leaf(&mut self, rule: u8, leaf: Option<u32>)
+        ensures noted { NotesLeaf rule leaf self.old.noted self.new.noted }
+        ensures level { level self.new.noted ≤ level self.old.noted }
+        ensures blocks { self.new.blocks ≡ self.old.blocks }
+        ensures tree { (self.new.epoch ≡ self.old.epoch) × (self.new.active ≡ self.old.active) }
+        ensures labels { self.new.labels ≡ self.old.labels }
+        ensures steps { self.new.steps.items ≡ self.old.steps.items }
+        ensures folders { self.new.folders.items ≡ self.old.folders.items }
+    {
+        if let Some(block) = leaf {
+            self.note(rule, block);
+        }
     }
 
     /// A source of entries has at most 64 others above it.

@@ -1,5 +1,8 @@
-use Rattle.std.proofs.Common.{arith}
-use Rattle.fo_check_tree.proofs.Adding.{data_adds, dir_adds}
+use Rattle.std.proofs.Common.{◌≡◌, drop, arith}
+use Rattle.fo_sound.specs.Image.{is_zero}
+use Rattle.fo_check_tree.specs.Notes.{NotesAt}
+use Rattle.fo_check_tree.specs.Slots.{unless}
+use Rattle.fo_check_tree.proofs.Adding.{data_adds, dir_adds, on_ok, notes_unless}
 use Rattle.fo_check_tree.proofs.blocks.add_block.Goals as goal
 
 pub returns-in-Data-clause-pushed : goal.returns-in-Data-clause-pushed
@@ -7,3 +10,15 @@ returns-in-Data-clause-pushed c c' = data_adds c.add_pointers.result c.args.step
 
 pub returns-in-Dir-clause-pushed : goal.returns-in-Dir-clause-pushed
 returns-in-Dir-clause-pushed c c' = dir_adds c.add_pointers-in-Dir.result c.args.step.now c.args.here c' c.args.block.now c.args.walk.now.steps.items c.add_pointers-in-Dir.new.walk.steps.items c.in-Dir.level c.args.step.now.kind c.in-Dir.is (grind (arith, c.in-Dir.level-test)) (c.add_pointers-in-Dir.ensures.pushed c')
+
+pub returns-in-Data-clause-notes : goal.returns-in-Data-clause-notes
+returns-in-Data-clause-notes c =
+    let rest = is_zero (drop 8180 c.args.block.now) in
+    on_ok c.add_pointers.result (c.add_pointers.new.walk.noted ≡ unless rest 5 c.args.here.block c.args.walk.now.noted) (NotesAt c.args.here.block c.args.walk.now.noted c.add_pointers.new.walk.noted)
+    (λ is. notes_unless rest c.args.here.block c.args.walk.now.noted c.add_pointers.new.walk.noted is) c.add_pointers.ensures.noted
+
+pub returns-in-Dir-clause-notes : goal.returns-in-Dir-clause-notes
+returns-in-Dir-clause-notes c =
+    let rest = is_zero (drop 8180 c.args.block.now) in
+    on_ok c.add_pointers-in-Dir.result (c.add_pointers-in-Dir.new.walk.noted ≡ unless rest 5 c.args.here.block c.args.walk.now.noted) (NotesAt c.args.here.block c.args.walk.now.noted c.add_pointers-in-Dir.new.walk.noted)
+    (λ is. notes_unless rest c.args.here.block c.args.walk.now.noted c.add_pointers-in-Dir.new.walk.noted is) c.add_pointers-in-Dir.ensures.noted

@@ -10,5 +10,5 @@ returns-in-Score-clause-follows g c device image shows = held c.in-Score.field-0
 
 pub returns-in-Local-clause-follows : goal.returns-in-Local-clause-follows
 returns-in-Local-clause-follows g c device image shows =
-    on_ok c.follow_local.result (Reaches device image c.args.step.now c.in-Local.address c.args.walk.now c.follow_local.new.walk) (Follows device image c.args.step.now c.args.walk.now c.follow_local.new.walk)
+    on_ok c.follow_local.result (Reaches device image c.args.depth c.args.named c.args.step.now c.in-Local.address c.args.walk.now c.follow_local.new.walk) (Follows device image c.args.depth c.args.named c.args.step.now c.args.walk.now c.follow_local.new.walk)
     (λ r. local c.in-Local.address c.in-Local.is r) (c.follow_local.ensures.reaches device image shows)

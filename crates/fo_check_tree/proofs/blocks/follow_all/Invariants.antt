@@ -1,10 +1,17 @@
-use Rattle.std.proofs.Common.{◌≡◌, ◌+◌, ◌*◌, ◌≤◌, length}
-use Rattle.fo_sound.specs.Device.{IsKept}
+use Rattle.std.proofs.Common.{◌≡◌, ◌+◌, ◌*◌, ◌≤◌, List, length}
+use Rattle.fo_crash.specs.Images.{Image, Arena}
+use Rattle.fo_disk.specs.Disk.{Block}
+use Rattle.fo_good.specs.Sound.{Kept}
+use Rattle.fo_image.specs.declared.types.Super.{Super}
+use Rattle.fo_sound.specs.Device.{Shows, IsKept}
+use Rattle.fo_check_tree.specs.declared.walk.Step.{Step}
+use Rattle.fo_check_tree.specs.Walking.{Walking}
 use Rattle.fo_check_tree.specs.Lower.{level}
 use Rattle.fo_check_tree.proofs.blocks.follow_all.Given as goal
 
 abbrev pub invariant-loop-step : goal.invariant-loop-step
 invariant-loop-step g l = record {
+  walks : (arena : Arena) (device : List Block) (image : Image) (s : Super) (k : Kept) (rest : List Step) → Shows (g.D.Disk.holds l.fn.main) device → Walking arena device image s k rest l.fn.walk → Walking arena device image s k rest l.walk;
   blocks : l.walk.blocks ≡ l.fn.walk.blocks;
   low : level l.walk.noted ≤ level l.fn.walk.noted;
   size : g.D.Disk.size l.main ≡ l.walk.blocks;

@@ -5,6 +5,8 @@ use Rattle.fo_check_tree.specs.declared.walk.Step.{Step}
 use Rattle.fo_check_tree.specs.declared.walk.Folder.{Folder}
 use Rattle.fo_check_tree.specs.Lower.{level}
 use Rattle.fo_check_tree.specs.Slots.{steps_by_pairs, pair_steps, pair_folders, AddsFolders}
+use Rattle.fo_check_tree.specs.Notes.NotesAt.{same as note_same}
+use Rattle.fo_check_tree.proofs.Adding.{then_notes, notes_unless}
 use Rattle.fo_check_tree.proofs.Slots.{pairs_first, pairs_more, folders_first, folders_more, low_unless, rest_is}
 use Rattle.fo_check_tree.proofs.folder.add_entries.Goals as goal
 
@@ -13,6 +15,7 @@ loop-k-init c = record {
   pushed = λ c' each. rw c.note_rest.ensures.steps (pairs_first c.args.here c' c.args.walk.now.steps.items);
   put = λ c' each. rw c.note_rest.ensures.folders (folders_first c.args.here c' (min (c.args.depth + 1) (2 ^ 32 - 1)) c.args.named c.args.walk.now.folders.items);
   rest = λ no. rw c.note_rest.ensures.noted (low_unless (is_zero (take (length c.args.block.now - 8160) (drop 8160 c.args.block.now))) c.args.here.block c.args.walk.now.noted (ap is_zero (rest_is 8160 c.args.block.now) ∙ no));
+  notes = notes_unless (is_zero (take (length c.args.block.now - 8160) (drop 8160 c.args.block.now))) c.args.here.block c.args.walk.now.noted c.note_rest.new.self.noted c.note_rest.ensures.noted;
   blocks = c.note_rest.ensures.blocks;
   tree = c.note_rest.ensures.tree;
   low = c.note_rest.ensures.level;
@@ -39,6 +42,7 @@ loop-k-preserved c =
           (c.entry_at-first.ensures.is c' (each (2 * c.loop-k.k) (omega (arith, less)))) (c.entry_at-second.ensures.is c' (each (2 * c.loop-k.k + 1) (omega (arith, less))))
           (c.loop-k.invariant.put c' each) (c.in_ok-add_pair.ensures.put ∙ ap (λ (s : List Folder). s ++ pair_folders c.args.here c.entry_at-first.result c.entry_at-second.result c.saturating_add-below.result c.is_both-leads.result) folders);
       rest = λ no. let before = c.loop-k.invariant.rest no in omega (arith, low, before);
+      notes = then_notes c.loop-k.invariant.notes (then_notes c.entry_at-first.ensures.notes (then_notes c.entry_at-second.ensures.notes (then_notes (note_same c.find_pair-of.ensures.noted) c.in_ok-add_pair.ensures.notes)));
       blocks = c.in_ok-add_pair.ensures.blocks ∙ c.find_pair-of.ensures.blocks ∙ c.entry_at-second.ensures.blocks ∙ c.entry_at-first.ensures.blocks ∙ c.loop-k.invariant.blocks;
       tree = (c.in_ok-add_pair.ensures.tree.0 ∙ c.find_pair-of.ensures.tree.0 ∙ c.entry_at-second.ensures.tree.0 ∙ c.entry_at-first.ensures.tree.0 ∙ c.loop-k.invariant.tree.0, c.in_ok-add_pair.ensures.tree.1 ∙ c.find_pair-of.ensures.tree.1 ∙ c.entry_at-second.ensures.tree.1 ∙ c.entry_at-first.ensures.tree.1 ∙ c.loop-k.invariant.tree.1);
       low = omega (arith, low, c.loop-k.invariant.low);

@@ -3,6 +3,7 @@ use Rattle.std.specs.Prelude.{min}
 use Rattle.fo_crash.specs.Images.{Content}
 use Rattle.fo_sound.specs.Image.{is_zero}
 use Rattle.fo_check_tree.specs.Lower.{level}
+use Rattle.fo_check_tree.specs.Notes.{NotesAt}
 use Rattle.fo_check_tree.specs.Slots.{HasSlot, steps_by_pairs, AddsFolders}
 use Rattle.fo_check_tree.proofs.folder.add_entries.Given as goal
 
@@ -11,6 +12,7 @@ invariant-loop-k l = record {
   pushed : (c : Content) → ((i : ℕ) → i < 204 → HasSlot c l.block i) → l.walk.steps.items ≡ l.fn.walk.steps.items ++ steps_by_pairs l.here c l.k;
   put : (c : Content) → ((i : ℕ) → i < 204 → HasSlot c l.block i) → AddsFolders l.here c (min (l.depth + 1) (2 ^ 32 - 1)) l.named l.k l.fn.walk.folders.items l.walk.folders.items;
   rest : is_zero (drop 8160 l.block) ≡ false → level l.walk.noted ≤ 5;
+  notes : NotesAt l.here.block l.fn.walk.noted l.walk.noted;
   blocks : l.walk.blocks ≡ l.fn.walk.blocks;
   tree : (l.walk.epoch ≡ l.fn.walk.epoch) × (l.walk.active ≡ l.fn.walk.active);
   low : level l.walk.noted ≤ level l.fn.walk.noted;

@@ -1,9 +1,79 @@
-use Rattle.fo_check_tree.proofs.Scanning.{table_whole}
+use Rattle.std.proofs.Common.{◌≡◌, ℕ, ◌-◌, true, None, take, List, [], ◌∷◌, ◌++◌, append-nil, length, refl, sym, ap, ◌∙◌, subst, rules, arith}
+use Rattle.std.proofs.lemmas.Result.{err_from_is_err_and}
+use Rattle.fo_disk.specs.Disk.{Content}
+use Rattle.fo_sound.specs.Device.{Shows}
+use Rattle.fo_check_tree.specs.declared.walk.Walk.{Walk}
+use Rattle.fo_check_tree.specs.Walking.{IsUnbegun, Walking, tops}
+use Rattle.fo_check_tree.proofs.Adding.{on_ok_is}
+use Rattle.fo_check_tree.proofs.Ending.{walked, refuses_table, refuses_tree}
 use Rattle.fo_check_tree.proofs.Levels.{judges_later}
+use Rattle.fo_check_tree.proofs.Scanning.{table_whole}
+use Rattle.fo_check_tree.proofs.Starting.{read_table, read_unreached}
+use Rattle.fo_check_tree.proofs.Stepping.{opened, emptied, walking_like}
 use Rattle.fo_check_tree.proofs.tree.check_tree.Goals as goal
 
 pub returns-clause-table : goal.returns-clause-table
 returns-clause-table g c image len shows = table_whole c.args.setting.blocks len (c.in_ok-labels.ensures.table image len shows)
 
 pub returns-clause-root : goal.returns-clause-root
-returns-clause-root g c = judges_later c.check_numbers.ensures c.loop-folder.invariant.judged
+returns-clause-root g c = judges_later c.check_numbers.ensures.lowers.low c.loop-folder.invariant.judged
+
+pub returns-in_err-labels-clause-walked : goal.returns-in_err-labels-clause-walked
+returns-in_err-labels-clause-walked g c arena device image k len shows is holds =
+    let p = err_from_is_err_and c.from_residual.result c.from_residual.ensures.1 in
+    rw (p.1, p.2) (refuses_table arena device image k c.in_err-labels.field-0.0 (c.in_err-labels.ensures.table device len shows))
+
+pub loop-folder-init : goal.loop-folder-init
+loop-folder-init g c = record {
+  size = search rules;
+  walks = λ arena device image k len shows is holds.
+      let scan = c.in_ok-labels.ensures.table device len shows in
+      let start : Walk = record { blocks = c.args.setting.blocks; epoch = c.args.setting.s.high; active = true; labels = c.in_ok-labels.labels; noted = None; steps = c.new.result; folders = c.new-2.result; named = c.new-3.result; numbers = c.new-4.result } in
+      let u : IsUnbegun device c.args.setting.s start = record {
+        size = sym len;
+        tree = (refl, refl);
+        table = read_table device c.in_ok-labels.labels.known.items c.args.setting.blocks len scan c.in_ok-labels.labels.ascending;
+        unreached = read_unreached device c.in_ok-labels.labels.known.items c.args.setting.blocks len scan c.in_ok-labels.labels.ascending;
+        nothing = (c.new.ensures.items, c.new-2.ensures.items, refl);
+      } in
+      on_ok_is c.start.result _ (sym c.is_err.ensures.value ∙ c.if-is_err.false) (c.start.ensures.begun arena device image k is holds u);
+  judged = search rules;
+  same = search rules;
+  kept = search rules;
+  later = search rules;
+}
+
+pub loop-folder-preserved : goal.loop-folder-preserved
+loop-folder-preserved g c = record {
+  size = search rules;
+  walks = λ arena device image k len shows is holds.
+      let s = c.args.setting.s in
+      let before = c.loop-folder.invariant.walks arena device image k len shows is holds in
+      let old : Walk = record c.loop-folder.walk { folders = c.pop.new.self } in
+      let open' : Walking arena device image s k (tops c.in-Some.folder) old = opened arena device image s k c.loop-folder.walk old (record { blocks = refl; epoch = refl; active = refl; labels = refl; noted = refl }) c.in-Some.folder c.in-Some.ensures.items refl before.0 in
+      (c.in_ok-walk_folder.ensures.walks arena device image s k (subst (λ (h : Content). Shows h device) (sym c.loop-folder.invariant.kept.same_versions) shows) open', c.in_ok-walk_folder.ensures.done);
+  judged = judges_later c.in_ok-walk_folder.ensures.level c.loop-folder.invariant.judged;
+  same = search rules;
+  kept = search rules;
+  later = search rules;
+}
+
+pub returns-in_err-walk_folder-clause-walked : goal.returns-in_err-walk_folder-clause-walked
+returns-in_err-walk_folder-clause-walked g c arena device image k len shows is holds =
+    let p = err_from_is_err_and c.from_residual-in_err-walk_folder.result c.from_residual-in_err-walk_folder.ensures.1 in
+    let s = c.args.setting.s in
+    let before = c.loop-folder.invariant.walks arena device image k len shows is holds in
+    let old : Walk = record c.loop-folder.walk { folders = c.pop.new.self } in
+    let open' : Walking arena device image s k (tops c.in-Some.folder) old = opened arena device image s k c.loop-folder.walk old (record { blocks = refl; epoch = refl; active = refl; labels = refl; noted = refl }) c.in-Some.folder c.in-Some.ensures.items refl before.0 in
+    rw (p.1, p.2) (refuses_tree arena device image k c.in_err-walk_folder.field-0.0 (c.in_err-walk_folder.ensures.walks arena device image s k (subst (λ (h : Content). Shows h device) (sym c.loop-folder.invariant.kept.same_versions) shows) open'))
+
+pub returns-clause-walked : goal.returns-clause-walked
+returns-clause-walked g c arena device image k len shows is holds =
+    let s = c.args.setting.s in
+    let before = c.loop-folder.invariant.walks arena device image k len shows is holds in
+    let end : Walk = record c.loop-folder.walk { folders = c.pop.new.self } in
+    let none : c.pop.new.self.items ≡ [] = c.pop.ensures.rest ∙ ap (λ (n : ℕ). take (n - 1) c.loop-folder.walk.folders.items) c.in_default.ensures.cases.0 in
+    let empty : Walking arena device image s k [] end = emptied arena device image s k c.loop-folder.walk end (record { blocks = refl; epoch = refl; active = refl; labels = refl; noted = refl }) [] refl (sym (append-nil c.pop.new.self.items) ∙ sym c.in_default.ensures.items) before.0 in
+    let n = c.check_numbers.ensures in
+    walked arena device image s k c.check_numbers.new.walk _ (n.steps ∙ before.1) (n.folders ∙ none) refl c.used.ensures c.leaked.ensures
+    (walking_like arena device image s k [] end c.check_numbers.new.walk (record { blocks = n.blocks; epoch = n.tree.0; active = n.tree.1; labels = n.labels; steps = n.steps; folders = n.folders }) n.lowers empty)

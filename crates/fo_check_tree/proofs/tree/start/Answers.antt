@@ -1,4 +1,9 @@
-use Rattle.std.proofs.Common.{arith}
+use Rattle.std.proofs.Common.{◌≡◌, List, [], ◌∷◌, ◌++◌, Some, true, refl, sym, ap, ◌∙◌, subst, arith}
+use Rattle.fo_image.specs.declared.record.RootBlock.{RootBlock}
+use Rattle.fo_image.specs.declared.types.Label.{Label}
+use Rattle.fo_check_tree.specs.declared.walk.Folder.{Folder}
+use Rattle.fo_check_tree.proofs.Noting.{lowers_then, lowers_at}
+use Rattle.fo_check_tree.proofs.Starting.{IsEntryOf, begun}
 use Rattle.fo_check_tree.proofs.tree.start.Goals as goal
 
 pub returns-clause-judged : goal.returns-clause-judged
@@ -7,3 +12,27 @@ returns-clause-judged c = record {
   second = λ deep. let low = c.shallow-records.ensures.deep deep in omega arith;
   entries = λ no. let low = c.note_entries.ensures.entries no in omega arith;
 }
+
+pub returns-clause-begun : goal.returns-clause-begun
+returns-clause-begun c arena device image k is holds u =
+    let s = c.args.s.now in
+    let old = c.args.walk.now in
+    let e = c.shallow-entries.result in
+    let r = c.shallow-records.result in
+    let we : IsEntryOf k.root.entries e = subst (λ (x : RootBlock). IsEntryOf x.entries e) (sym is) (record { shallow = c.shallow-entries.ensures.entry; deep = c.shallow-entries.ensures.none }) in
+    let wr : IsEntryOf k.root.meta r = subst (λ (x : RootBlock). IsEntryOf x.meta r) (sym is) (record { shallow = c.shallow-records.ensures.entry; deep = c.shallow-records.ensures.none }) in
+    let low = lowers_then old.noted c.shallow-records.new.walk.noted c.note_entries.new.walk.noted
+    (lowers_then old.noted c.shallow-entries.new.walk.noted c.shallow-records.new.walk.noted
+    (lowers_at s.active old.noted c.shallow-entries.new.walk.noted c.shallow-entries.ensures.level c.shallow-entries.ensures.notes)
+    (lowers_at s.active c.shallow-entries.new.walk.noted c.shallow-records.new.walk.noted c.shallow-records.ensures.level c.shallow-records.ensures.notes))
+    c.note_entries.ensures.lowers in
+    begun arena device image s k holds old _ u c.reach.result c.reach.new.self
+    (c.note_entries.ensures.labels ∙ c.shallow-records.ensures.labels ∙ c.shallow-entries.ensures.labels)
+    c.reach.ensures.marks low
+    (c.note_entries.ensures.blocks ∙ c.shallow-records.ensures.blocks ∙ c.shallow-entries.ensures.blocks)
+    (c.note_entries.ensures.tree.0 ∙ c.shallow-records.ensures.tree.0 ∙ c.shallow-entries.ensures.tree.0, c.note_entries.ensures.tree.1 ∙ c.shallow-records.ensures.tree.1 ∙ c.shallow-entries.ensures.tree.1)
+    (c.note_entries.ensures.steps ∙ c.shallow-records.ensures.steps ∙ c.shallow-entries.ensures.steps)
+    e r we wr
+    (c.in_ok-push.ensures.items
+    ∙ ap (λ (fs : List Folder). fs ++ record { entries = e; records = Some r; holder = record { block = s.active; label = c.root_label.result }; depth = 0; named = true } ∷ []) (c.note_entries.ensures.folders ∙ c.shallow-records.ensures.folders ∙ c.shallow-entries.ensures.folders)
+    ∙ ap (λ (l : Label). old.folders.items ++ record { entries = e; records = Some r; holder = record { block = s.active; label = l }; depth = 0; named = true } ∷ []) c.root_label.ensures)

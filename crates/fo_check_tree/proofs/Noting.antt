@@ -1,0 +1,41 @@
+-- What was noted falls, and keeps the rules of the walk.
+use Rattle.std.proofs.Common.{◌≡◌, ◌≢◌, ◌⊎◌, ⊎_elim, ℕ, ◌≤◌, Bool, true, false, leb, Option, Some, None, refl, sym, ap, ◌∙◌, subst, arith}
+use Rattle.std.specs.Prelude.{if◌then◌else◌}
+use Rattle.fo_check_tree.specs.declared.broken.Broken.{Broken}
+use Rattle.fo_check_tree.specs.Lower.{lower, level}
+use Rattle.fo_check_tree.specs.Notes.{NotesAt, NotesLeaf, Lowers}
+use Rattle.fo_check_tree.specs.Notes.NotesAt.{same as note_same, format as note_format, deep as note_deep}
+
+is_some : (x b : Broken) → Some x ≡ Some b → x ≡ b
+is_some x b e = cc
+
+other_rule : (rule block : ℕ) (b : Broken) → rule ≢ 7 → rule ≢ 9 → Some (record { rule = rule; block = block }) ≡ Some b → (b.rule ≡ 7) ⊎ (b.rule ≡ 9) → ⊥
+other_rule rule block b isnt isnt' e r =
+    let is : rule ≡ b.rule = ap (λ (x : Broken). x.rule) (is_some (record { rule = rule; block = block }) b e) in
+    ⊎_elim (λ seven. isnt (is ∙ seven)) (λ nine. isnt' (is ∙ nine)) r
+
+by_test : (t : Bool) (o : Broken) (rule block : ℕ) (b : Broken) → rule ≢ 7 → rule ≢ 9 → (if t then Some o else Some (record { rule = rule; block = block })) ≡ Some b → (b.rule ≡ 7) ⊎ (b.rule ≡ 9) → Some o ≡ Some b
+by_test true o rule block b isnt isnt' e r = e
+by_test false o rule block b isnt isnt' e r = absurd (other_rule rule block b isnt isnt' e r)
+
+lower_some : (noted : Option Broken) (rule block : ℕ) (b : Broken) → rule ≢ 7 → rule ≢ 9 → lower noted rule block ≡ Some b → (b.rule ≡ 7) ⊎ (b.rule ≡ 9) → noted ≡ Some b
+lower_some None rule block b isnt isnt' e r = absurd (other_rule rule block b isnt isnt' e r)
+lower_some (Some o) rule block b isnt isnt' e r = by_test (leb o.rule rule) o rule block b isnt isnt' e r
+
+pub lowers_same : (old new : Option Broken) → new ≡ old → Lowers old new
+lowers_same old new is = record { low = subst (λ (o : Option Broken). level o ≤ level old) (sym is) (omega arith); same = λ b e r. sym is ∙ e }
+
+pub lowers_then : (a b c : Option Broken) → Lowers a b → Lowers b c → Lowers a c
+lowers_then a b c v w = record { low = omega (arith, v.low, w.low); same = λ x e r. v.same x (w.same x e r) r }
+
+pub lowers_lower : (old new : Option Broken) (rule block : ℕ) → rule ≢ 7 → rule ≢ 9 → level new ≤ level old → new ≡ lower old rule block → Lowers old new
+lowers_lower old new rule block isnt isnt' low is = record { low = low; same = λ b e r. lower_some old rule block b isnt isnt' (sym is ∙ e) r }
+
+pub lowers_leaf : (old new : Option Broken) (rule : ℕ) (leaf : Option ℕ) → rule ≢ 7 → rule ≢ 9 → level new ≤ level old → NotesLeaf rule leaf old new → Lowers old new
+lowers_leaf old new rule None isnt isnt' low is = lowers_same old new is
+lowers_leaf old new rule (Some block) isnt isnt' low is = lowers_lower old new rule block isnt isnt' low is
+
+pub lowers_at : (block : ℕ) (old new : Option Broken) → level new ≤ level old → NotesAt block old new → Lowers old new
+lowers_at block old new low (note_same is) = lowers_same old new is
+lowers_at block old new low (note_format is) = record { low = low; same = λ b e r. absurd (other_rule 5 block b (λ h. omega (arith, h)) (λ h. omega (arith, h)) (sym is ∙ e) r) }
+lowers_at block old new low (note_deep is) = record { low = low; same = λ b e r. absurd (other_rule 8 block b (λ h. omega (arith, h)) (λ h. omega (arith, h)) (sym is ∙ e) r) }

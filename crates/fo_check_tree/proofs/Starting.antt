@@ -1,0 +1,217 @@
+-- The walk at its root.
+use Rattle.std.proofs.Common.{◌≡◌, ◌≢◌, ◌⊎◌, ⊎_elim, inl, inr, ℕ, zero, suc, ◌+◌, ◌*◌, ◌<◌, ◌≤◌, Bool, true, false, List, [], ◌∷◌, ◌++◌, append-nil, length, get_or, Option, Some, None, refl, sym, ap, ◌∙◌, subst, arith}
+use Rattle.std.specs.Prelude.{MatchBool, MatchOption}
+use Rattle.std.specs.List.{All, Any}
+use Rattle.std.proofs.lemmas.Bool.{false≢true}
+use Rattle.fo_disk.specs.Disk.{Block}
+use Rattle.fo_image.specs.declared.types.Kind.{Kind}
+use Rattle.fo_image.specs.declared.types.Kind.TheVariants.{Data, Dir, Root}
+use Rattle.fo_image.specs.declared.types.State.TheVariants.{Free, Live}
+use Rattle.fo_image.specs.declared.types.Label.{Label}
+use Rattle.fo_image.specs.declared.types.Entry.{Entry}
+use Rattle.fo_image.specs.declared.types.Super.{Super}
+use Rattle.fo_image.specs.declared.types.Pointer.{Pointer}
+use Rattle.fo_image.specs.declared.types.Pointer.TheVariants.{Nil, Local}
+use Rattle.fo_image.specs.Place.{label_blocks}
+use Rattle.fo_crash.specs.declared.slot.Slot.{Slot}
+use Rattle.fo_crash.specs.declared.slot.Slot.TheVariants.{Pointer as To, Entry as Head, Prev}
+use Rattle.fo_crash.specs.Images.{Image, Arena, target, kind_below}
+use Rattle.fo_sound.specs.Image.{IsDataBlock, HasLabel}
+use Rattle.fo_sound.specs.Sound.{root_label}
+use Rattle.fo_good.specs.Sound.{Kept}
+use Rattle.fo_check_tree.specs.declared.broken.Broken.{Broken}
+use Rattle.fo_check_tree.specs.declared.labels.Known.{Known}
+use Rattle.fo_check_tree.specs.declared.labels.Labels.{Labels}
+use Rattle.fo_check_tree.specs.declared.walk.Folder.{Folder}
+use Rattle.fo_check_tree.specs.declared.walk.Holder.{Holder}
+use Rattle.fo_check_tree.specs.declared.walk.Holds.{Holds}
+use Rattle.fo_check_tree.specs.declared.walk.Holds.TheVariants.{Bytes, Records}
+use Rattle.fo_check_tree.specs.declared.walk.Step.{Step}
+use Rattle.fo_check_tree.specs.declared.walk.Walk.{Walk}
+use Rattle.fo_check_tree.specs.Answer.{IsShallow, HoldsAny, IsNamed}
+use Rattle.fo_check_tree.specs.Known.{Ascend, IsKnown, Marks, MarksNone}
+use Rattle.fo_check_tree.specs.Notes.{Lowers}
+use Rattle.fo_check_tree.specs.Slots.{no_entry, top_step}
+use Rattle.fo_check_tree.specs.Table.{IsRight, IsScanned}
+use Rattle.fo_check_tree.specs.Walking.{IsIn, Reached, IsTaken, IsTable, HasPath, IsStepOf, tag_below, one, Fits, tops, all_tops, IsDone, Goes, IsUnbegun, Walking}
+use Rattle.fo_check_tree.specs.Walking.IsDone.{nowhere, left}
+use Rattle.fo_check_tree.proofs.Going.{named_lowers}
+use Rattle.fo_check_tree.proofs.Reaching.{same_label, reached_cases, reached_new, table_kept}
+use Rattle.fo_check_tree.proofs.Spelled.{only_has}
+use Rattle.fo_check_tree.proofs.Sprouting.{top_not_root}
+use Rattle.fo_check_tree.proofs.Waiting.{one_here, one_block, one_slot, one_most, one_is}
+
+-- ---- the table that was read
+
+module _ (device : List Block) (known : List Known) (blocks : ℕ) (len : length device ≡ blocks) (w : IsScanned device (label_blocks blocks) (585 * label_blocks blocks) known) (up : Ascend known) where
+  pub read_table : IsTable device known
+  read_table = record {
+    right = λ i d lt. let r = w.right i d lt in record { place = r.place; has = r.has; used = r.used };
+    listed = λ at l place has used.
+        let x = w.labels at (omega (arith, place.to, len)) place in
+        let same : x.label ≡ l = only_has device at x.label l x.has has in
+        subst (λ (m : Label). Any (IsKnown at m) known) same (x.listed (λ free. used (ap (λ (m : Label). m.state) (sym same) ∙ free)));
+    up = up;
+  }
+
+  pub read_unreached : All (λ (m : Known). m.reached ≡ false) known
+  read_unreached i d lt = (w.right i d lt).fresh
+
+-- ---- the root
+
+-- an entry of the root, or none where that is too deep
+pub record IsEntryOf (given e : Entry) : Type 0 where
+  pub shallow : given.depth ≤ 4 → e ≡ given
+  pub deep : 4 < given.depth → e ≡ no_entry
+
+module _ (arena : Arena) (device : List Block) (image : Image) (s : Super) (k : Kept) (holds : HoldsAny arena device image s k) where
+  has_root : HasLabel device k.at (root_label s)
+  has_root = subst (λ (a : ℕ). HasLabel device a (root_label s)) (sym holds.at) holds.active.label
+
+  place_root : IsDataBlock (length device) k.at
+  place_root = subst (λ (a : ℕ). IsDataBlock (length device) a) (sym holds.at) holds.active.place
+
+  live_free : Live ≡ Free → ⊥
+  live_free e = cc
+
+  abbrev here : Holder
+  here = record { block = s.active; label = root_label s }
+
+  here_is : here ≡ record { block = k.at; label = root_label s }
+  here_is = ap (λ (a : ℕ). record { block = a; label = root_label s }) (sym holds.at)
+
+  step_by : (i : ℕ) (given e : Entry) (h : Holds) → IsShallow (image k.at) i given → IsEntryOf given e → IsStepOf device image k.at (root_label s) i (top_step e h here)
+  step_by i given e h slot w = ⊎_elim
+      (λ low. subst (λ (x : Entry). IsStepOf device image k.at (root_label s) i (top_step x h here)) (sym (w.shallow low.1)) (record {
+        has = has_root;
+        holder = here_is;
+        pointer = sym (ap target low.0);
+        kind = λ some. sym (ap (λ (x : Slot). kind_below Root x) low.0);
+        tag = λ some. sym (ap (λ (x : Slot). tag_below Root 1 x) low.0);
+        not_root = top_not_root given.dir given.depth;
+      }))
+      (λ high. subst (λ (x : Entry). IsStepOf device image k.at (root_label s) i (top_step x h here)) (sym (w.deep high.1)) (record {
+        has = has_root;
+        holder = here_is;
+        pointer = sym (ap target high.0);
+        kind = λ some. absurd (some refl);
+        tag = λ some. absurd (some refl);
+        not_root = λ e'. cc;
+      }))
+      slot
+
+  abbrev two : ℕ → ℕ → ℕ
+  two b j = one k.at 0 b j + one k.at 1 b j
+
+  two_first : two k.at 0 ≡ 1
+  two_first = omega (arith, one_here k.at 0, one_slot k.at 1 k.at 0 (λ e. omega (arith, e)))
+
+  two_second : two k.at 1 ≡ 1
+  two_second = omega (arith, one_here k.at 1, one_slot k.at 0 k.at 1 (λ e. omega (arith, e)))
+
+  two_few : (b j : ℕ) → two b j ≤ 1
+  two_few b zero = omega (arith, one_most k.at 0 b zero, one_slot k.at 1 b zero (λ e. omega (arith, e)))
+  two_few b (suc j) = omega (arith, one_most k.at 1 b (suc j), one_slot k.at 0 b (suc j) (λ e. omega (arith, e)))
+
+  two_at : (b j : ℕ) → 1 ≤ two b j → b ≡ k.at
+  two_at b zero some = (one_is k.at 0 b zero (omega (arith, some, one_slot k.at 1 b zero (λ e. omega (arith, e))))).0
+  two_at b (suc j) some = (one_is k.at 1 b (suc j) (omega (arith, some, one_slot k.at 0 b (suc j) (λ e. omega (arith, e))))).0
+
+  -- all other slots of the root lead nowhere
+  others_nil : (j : ℕ) → 2 ≤ j → target ((image k.at).slot j) ≡ Nil
+  others_nil zero le = absurd (omega (arith, le))
+  others_nil (suc zero) le = absurd (omega (arith, le))
+  others_nil (suc (suc zero)) le = ap target holds.before
+  others_nil (suc (suc (suc j))) le = holds.ends.each (suc (suc (suc j))) (omega arith)
+
+  module _ (old new : Walk) (u : IsUnbegun device s old) where
+    listed : Any (IsKnown k.at (root_label s)) old.labels.known.items
+    listed = u.table.listed k.at (root_label s) place_root has_root live_free
+
+    marked : (t : Bool) → MatchBool t (Marks s.active old.labels.known.items new.labels.known.items) (MarksNone s.active old.labels.known.items new.labels.known.items) → Marks k.at old.labels.known.items new.labels.known.items
+    marked true m = subst (λ (a : ℕ). Marks a old.labels.known.items new.labels.known.items) (sym holds.at) m
+    marked false m =
+        let a = listed in
+        let yes : (get_or old.labels.known.items a.0 a.1).reached ≡ true = m.none a.0 a.1 a.2 (ap (λ (x : Known). x.address) a.3 ∙ a.4.address_is ∙ holds.at) in
+        absurd (false≢true (sym (u.unreached a.0 a.1 a.2) ∙ yes))
+
+    module _ (marks : Marks k.at old.labels.known.items new.labels.known.items) (low : Lowers old.noted new.noted) where
+      root_reached : Reached new.labels.known.items k.at (root_label s)
+      root_reached = reached_new old.labels.known.items new.labels.known.items k.at u.table.up marks (root_label s) listed
+
+      only_root : (b : ℕ) (l : Label) → Reached new.labels.known.items b l → b ≡ k.at
+      only_root b l r = ⊎_elim
+          (λ same. same)
+          (λ before. absurd (false≢true (sym (u.unreached before.0 before.1 before.2) ∙ ap (λ (x : Known). x.reached) before.3 ∙ before.4.reached_is)))
+          (reached_cases old.labels.known.items new.labels.known.items k.at u.table.up marks b l r)
+
+      table : IsTable device new.labels.known.items
+      table = table_kept old.labels.known.items new.labels.known.items k.at u.table.up marks device u.table
+
+      only_label' : (b : ℕ) (l : Label) → Reached new.labels.known.items b l → root_label s ≡ l
+      only_label' b l r = same_label new.labels.known.items k.at (root_label s) l table.up root_reached (subst (λ (a : ℕ). Reached new.labels.known.items a l) (only_root b l r) r)
+
+      -- a slot that is not left leads nowhere
+      gone_nil : (b j : ℕ) (l : Label) → Reached new.labels.known.items b l → two b j ≡ 0 → target ((image b).slot j) ≡ Nil
+      gone_nil b zero l r gone = absurd (omega (arith, gone, ap (λ (a : ℕ). two a zero) (only_root b l r), two_first))
+      gone_nil b (suc zero) l r gone = absurd (omega (arith, gone, ap (λ (a : ℕ). two a 1) (only_root b l r), two_second))
+      gone_nil b (suc (suc j)) l r gone = ap (λ (a : ℕ). target ((image a).slot (suc (suc j)))) (only_root b l r) ∙ others_nil (suc (suc j)) (omega arith)
+
+      nil_local : {a : ℕ} → Nil ≡ Local a → ⊥
+      nil_local e = cc
+
+      done_root : (j : ℕ) → IsDone image k new.labels.known.items new.noted (λ b i. 0 + 0 + two b i) k.at (root_label s) j
+      done_root zero = left (omega (arith, two_first))
+      done_root (suc zero) = left (omega (arith, two_second))
+      done_root (suc (suc j)) = nowhere (others_nil (suc (suc j)) (omega arith))
+
+      goes : Goes arena device image s k new.labels.known.items new.noted (λ b j. 0 + 0 + two b j)
+      goes = record {
+        table = table;
+        root = root_reached;
+        holders = λ b j some. (root_label s, subst (λ (a : ℕ). Reached new.labels.known.items a (root_label s)) (sym (two_at b j (omega (arith, some)))) root_reached);
+        few = λ b j. omega (arith, two_few b j);
+        done = λ b l j r. subst (λ (a : ℕ). IsDone image k new.labels.known.items new.noted (λ c i. 0 + 0 + two c i) a l j) (sym (only_root b l r))
+            (subst (λ (m : Label). IsDone image k new.labels.known.items new.noted (λ c i. 0 + 0 + two c i) k.at m j) (only_label' b l r) (done_root j));
+        paths = λ b l r. subst (λ (a : ℕ). HasPath arena image k a l) (sym (only_root b l r)) (subst (λ (m : Label). HasPath arena image k k.at m) (only_label' b l r)
+            (record { path = []; leads = refl; kind = refl; tag = refl; link = refl }));
+        parents = λ b l r. inl (only_root b l r);
+        once = λ quiet a i b j below l m ra rb za zb ta tb. absurd (nil_local (sym (gone_nil a i l ra (omega (arith, za))) ∙ ta));
+        top = λ quiet a i l ra za ta. nil_local (sym (gone_nil a i l ra (omega (arith, za))) ∙ ta);
+        notes = named_lowers arena image k old.noted new.noted low (subst (λ (o : Option Broken). MatchOption o (Unit {0}) (IsNamed arena image k)) (sym u.nothing.2) tt);
+      }
+
+    pub begun : (t : Bool) (l : Labels) → new.labels ≡ l → MatchBool t (Marks s.active old.labels.known.items l.known.items) (MarksNone s.active old.labels.known.items l.known.items) → Lowers old.noted new.noted
+        → new.blocks ≡ old.blocks → (new.epoch ≡ old.epoch) × (new.active ≡ old.active) → new.steps.items ≡ old.steps.items → (e r : Entry) → IsEntryOf k.root.entries e → IsEntryOf k.root.meta r
+        → new.folders.items ≡ old.folders.items ++ record { entries = e; records = Some r; holder = record { block = s.active; label = root_label s }; depth = 0; named = true } ∷ []
+        → Walking arena device image s k [] new × (new.steps.items ≡ [])
+    begun t l labels found low size tree steps e r we wr folders =
+        let m = subst (λ (x : Labels). MatchBool t (Marks s.active old.labels.known.items x.known.items) (MarksNone s.active old.labels.known.items x.known.items)) (sym labels) found in
+        let f : Folder = record { entries = e; records = Some r; holder = record { block = s.active; label = root_label s }; depth = 0; named = true } in
+        let first = step_by 0 k.root.entries e Bytes holds.entries we in
+        let second = step_by 1 k.root.meta r Records holds.meta wr in
+        let fits : Fits device image (top_step e Bytes (record { block = s.active; label = root_label s }) ∷ top_step r Records (record { block = s.active; label = root_label s }) ∷ []) two = record {
+          at = k.at;
+          label = root_label s;
+          slot = 0;
+          is = first;
+          others = one k.at 1;
+          rest = record { at = k.at; label = root_label s; slot = 1; is = second; others = λ b j. 0; rest = record { each = λ b j. refl }; sum = λ b j. omega arith };
+          sum = λ b j. refl;
+        } in
+        let one_folder : new.folders.items ≡ f ∷ [] = folders ∙ ap (λ (fs : List Folder). fs ++ f ∷ []) u.nothing.1 in
+        let no_steps : new.steps.items ≡ [] = steps ∙ u.nothing.0 in (
+          record {
+            holds = holds;
+            size = size ∙ u.size;
+            tree = (tree.0 ∙ u.tree.0 ∙ sym holds.active.epoch, tree.1 ∙ u.tree.1);
+            others = λ b j. 0;
+            steps = λ b j. 0;
+            folders = two;
+            others_fit = record { each = λ b j. refl };
+            steps_fit = subst (λ (xs : List Step). Fits device image xs (λ b j. 0)) (sym no_steps) (record { each = λ b j. refl });
+            folders_fit = subst (λ (fs : List Folder). Fits device image (all_tops fs) two) (sym one_folder) fits;
+            goes = goes (marked t m) low;
+          },
+          no_steps,
+        )

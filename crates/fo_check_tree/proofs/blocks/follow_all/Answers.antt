@@ -1,0 +1,42 @@
+use Rattle.std.proofs.Common.{◌≡◌, ◌+◌, ◌*◌, ◌∷◌, ◌++◌, append-nil, List, length, refl, sym, ◌∙◌, subst, arith}
+use Rattle.std.proofs.lemmas.Result.{err_from_is_err_and}
+use Rattle.fo_disk.specs.Disk.{Block, Content}
+use Rattle.fo_sound.specs.Device.{Shows}
+use Rattle.fo_check_tree.specs.declared.walk.Step.{Step}
+use Rattle.fo_check_tree.specs.declared.walk.Walk.{Walk}
+use Rattle.fo_check_tree.specs.Walking.{Walking}
+use Rattle.fo_check_tree.proofs.Stepping.{popped, followed, refused, emptied}
+use Rattle.fo_check_tree.proofs.blocks.follow_all.Goals as goal
+
+pub loop-step-preserved : goal.loop-step-preserved
+loop-step-preserved g c = record {
+  walks = λ arena device image s k rest shows w.
+      let old : Walk = record c.loop-step.walk { steps = c.pop.new.self } in
+      let before : Walking arena device image s k rest c.loop-step.walk = c.loop-step.invariant.walks arena device image s k rest shows w in
+      let left : Walking arena device image s k (c.in-Some.step ∷ rest) old = popped arena device image s k c.loop-step.walk old (record { blocks = refl; epoch = refl; active = refl; labels = refl; noted = refl }) rest c.in-Some.step c.in-Some.ensures.items refl before in
+      followed arena device image s k rest c.in-Some.step old c.follow.new.walk left c.args.depth c.args.named c.in_ok-follow.ensures.blocks c.in_ok-follow.ensures.tree c.in_ok-follow.ensures.level
+      (c.in_ok-follow.ensures.follows device image (subst (λ (h : Content). Shows h device) (sym c.loop-step.invariant.kept.same_versions) shows));
+  blocks = c.in_ok-follow.ensures.blocks ∙ c.loop-step.invariant.blocks;
+  low = omega (arith, c.in_ok-follow.ensures.level, c.loop-step.invariant.low);
+  size = c.follow.ensures.size ∙ c.loop-step.invariant.size ∙ sym c.in_ok-follow.ensures.blocks;
+  same = c.follow.ensures.size ∙ c.loop-step.invariant.same;
+  kept = record {
+    same_versions = c.follow.ensures.kept.same_versions ∙ c.loop-step.invariant.kept.same_versions;
+    same_moments = c.follow.ensures.kept.same_moments ∙ c.loop-step.invariant.kept.same_moments;
+    same_flags = c.follow.ensures.kept.same_flags ∙ c.loop-step.invariant.kept.same_flags;
+  };
+  later = omega (arith, c.follow.ensures.cause.later, c.loop-step.invariant.later);
+  budget = omega (arith, c.in_ok-follow.ensures.budget, c.loop-step.invariant.budget);
+}
+
+pub returns-in_err-follow-clause-walks : goal.returns-in_err-follow-clause-walks
+returns-in_err-follow-clause-walks g c arena device image s k rest shows w =
+    let p = err_from_is_err_and c.from_residual.result c.from_residual.ensures.1 in
+    let old : Walk = record c.loop-step.walk { steps = c.pop.new.self } in
+    let before : Walking arena device image s k rest c.loop-step.walk = c.loop-step.invariant.walks arena device image s k rest shows w in
+    let left : Walking arena device image s k (c.in-Some.step ∷ rest) old = popped arena device image s k c.loop-step.walk old (record { blocks = refl; epoch = refl; active = refl; labels = refl; noted = refl }) rest c.in-Some.step c.in-Some.ensures.items refl before in
+    rw (p.1, p.2) (refused arena device image s k rest c.in-Some.step old old left c.in_err-follow.field-0.0 c.in_err-follow.ensures.refuses)
+
+pub returns-clause-walks : goal.returns-clause-walks
+returns-clause-walks g c arena device image s k rest shows w =
+    emptied arena device image s k c.loop-step.walk (record c.loop-step.walk { steps = c.pop.new.self }) (record { blocks = refl; epoch = refl; active = refl; labels = refl; noted = refl }) rest (sym (append-nil c.pop.new.self.items) ∙ sym c.in_default.ensures.items) refl (c.loop-step.invariant.walks arena device image s k rest shows w)

@@ -1,0 +1,62 @@
+use Rattle.std.proofs.Common.{◌≡◌, ℕ, List, [], ◌∷◌, ◌++◌, refl, sym, ap, ◌∙◌, subst, arith}
+use Rattle.std.proofs.lemmas.Result.{err_from_is_err_and}
+use Rattle.fo_disk.specs.Disk.{Content}
+use Rattle.fo_sound.specs.Device.{Shows}
+use Rattle.fo_check_tree.specs.declared.walk.Holds.TheVariants.{Bytes}
+use Rattle.fo_check_tree.specs.declared.walk.Step.{Step}
+use Rattle.fo_check_tree.specs.Slots.{top_step}
+use Rattle.fo_check_tree.specs.Walking.{Walking, tops}
+use Rattle.fo_check_tree.proofs.Marking.{is_pushed}
+use Rattle.fo_check_tree.proofs.Noting.{lowers_leaf}
+use Rattle.fo_check_tree.proofs.Stepping.{emptied, pushed, walking_like}
+use Rattle.fo_check_tree.proofs.folder.walk_folder.Goals as goal
+
+pub returns-in_err-list-clause-walks : goal.returns-in_err-list-clause-walks
+returns-in_err-list-clause-walks g c arena device image s k shows w =
+    let p = err_from_is_err_and c.from_residual.result c.from_residual.ensures.1 in
+    let f = c.args.folder.now in
+    let fresh = emptied arena device image s k c.args.walk.now (record c.args.walk.now { named = c.new.result }) (record { blocks = refl; epoch = refl; active = refl; labels = refl; noted = refl }) (tops f) refl refl w in
+    rw (p.1, p.2) (c.in_err-list.ensures.walks arena device image s k shows fresh)
+
+pub returns-in_err-follow_all-clause-walks : goal.returns-in_err-follow_all-clause-walks
+returns-in_err-follow_all-clause-walks g c arena device image s k shows w =
+    let p = err_from_is_err_and c.from_residual-in_err-follow_all.result c.from_residual-in_err-follow_all.ensures.1 in
+    let f = c.args.folder.now in
+    let a : Step = top_step f.entries Bytes f.holder in
+    let fresh = emptied arena device image s k c.args.walk.now (record c.args.walk.now { named = c.new.result }) (record { blocks = refl; epoch = refl; active = refl; labels = refl; noted = refl }) (tops f) refl refl w in
+    let listed : Walking arena device image s k (a ∷ []) c.list.new.walk = c.in_ok-list.ensures.walks arena device image s k shows fresh in
+    let items : c.push.new.self.items ≡ c.list.new.walk.steps.items ++ top_step f.entries c.if-folder.holds f.holder ∷ [] =
+    is_pushed c.push.result c.list.new.walk.steps.items (c.list.new.walk.steps.items ++ c.top-top.result ∷ []) c.push.new.self.items (sym c.is_err.ensures.value ∙ c.if-is_err.false) c.push.ensures.items
+    ∙ ap (λ (x : Step). c.list.new.walk.steps.items ++ x ∷ []) c.top-top.ensures in
+    let next : Walking arena device image s k [] (record c.list.new.walk { steps = c.push.new.self }) = pushed arena device image s k c.list.new.walk (record c.list.new.walk { steps = c.push.new.self }) (record { blocks = refl; epoch = refl; active = refl; labels = refl; noted = refl }) [] f.entries f.holder Bytes c.if-folder.holds items refl listed in
+    let still : Shows (g.D.Disk.holds c.list.new.main) device = subst (λ (h : Content). Shows h device) (sym c.list.ensures.kept.same_versions) shows in
+    rw (p.1, p.2) (c.in_err-follow_all.ensures.walks arena device image s k [] still next)
+
+pub returns-then-not-folder-clause-walks : goal.returns-then-not-folder-clause-walks
+returns-then-not-folder-clause-walks g c arena device image s k shows w =
+    let f = c.args.folder.now in
+    let a : Step = top_step f.entries Bytes f.holder in
+    let fresh = emptied arena device image s k c.args.walk.now (record c.args.walk.now { named = c.new.result }) (record { blocks = refl; epoch = refl; active = refl; labels = refl; noted = refl }) (tops f) refl refl w in
+    let listed : Walking arena device image s k (a ∷ []) c.list.new.walk = c.in_ok-list.ensures.walks arena device image s k shows fresh in
+    let items : c.push.new.self.items ≡ c.list.new.walk.steps.items ++ top_step f.entries c.if-folder.holds f.holder ∷ [] =
+    is_pushed c.push.result c.list.new.walk.steps.items (c.list.new.walk.steps.items ++ c.top-top.result ∷ []) c.push.new.self.items (sym c.is_err.ensures.value ∙ c.if-is_err.false) c.push.ensures.items
+    ∙ ap (λ (x : Step). c.list.new.walk.steps.items ++ x ∷ []) c.top-top.ensures in
+    let next : Walking arena device image s k [] (record c.list.new.walk { steps = c.push.new.self }) = pushed arena device image s k c.list.new.walk (record c.list.new.walk { steps = c.push.new.self }) (record { blocks = refl; epoch = refl; active = refl; labels = refl; noted = refl }) [] f.entries f.holder Bytes c.if-folder.holds items refl listed in
+    let still : Shows (g.D.Disk.holds c.list.new.main) device = subst (λ (h : Content). Shows h device) (sym c.list.ensures.kept.same_versions) shows in
+    c.in_ok-follow_all.ensures.walks arena device image s k [] still next
+
+pub returns-clause-walks : goal.returns-clause-walks
+returns-clause-walks g c arena device image s k shows w =
+    let f = c.args.folder.now in
+    let a : Step = top_step f.entries Bytes f.holder in
+    let fresh = emptied arena device image s k c.args.walk.now (record c.args.walk.now { named = c.new.result }) (record { blocks = refl; epoch = refl; active = refl; labels = refl; noted = refl }) (tops f) refl refl w in
+    let listed : Walking arena device image s k (a ∷ []) c.list.new.walk = c.in_ok-list.ensures.walks arena device image s k shows fresh in
+    let items : c.push.new.self.items ≡ c.list.new.walk.steps.items ++ top_step f.entries c.if-folder.holds f.holder ∷ [] =
+    is_pushed c.push.result c.list.new.walk.steps.items (c.list.new.walk.steps.items ++ c.top-top.result ∷ []) c.push.new.self.items (sym c.is_err.ensures.value ∙ c.if-is_err.false) c.push.ensures.items
+    ∙ ap (λ (x : Step). c.list.new.walk.steps.items ++ x ∷ []) c.top-top.ensures in
+    let next : Walking arena device image s k [] (record c.list.new.walk { steps = c.push.new.self }) = pushed arena device image s k c.list.new.walk (record c.list.new.walk { steps = c.push.new.self }) (record { blocks = refl; epoch = refl; active = refl; labels = refl; noted = refl }) [] f.entries f.holder Bytes c.if-folder.holds items refl listed in
+    let still : Shows (g.D.Disk.holds c.list.new.main) device = subst (λ (h : Content). Shows h device) (sym c.list.ensures.kept.same_versions) shows in
+    walking_like arena device image s k [] c.follow_all.new.walk c.note_leaf.new.self
+    (record { blocks = c.note_leaf.ensures.blocks; epoch = c.note_leaf.ensures.tree.0; active = c.note_leaf.ensures.tree.1; labels = c.note_leaf.ensures.labels; steps = c.note_leaf.ensures.steps; folders = c.note_leaf.ensures.folders })
+    (lowers_leaf c.follow_all.new.walk.noted c.note_leaf.new.self.noted 6 c.without_pair-alone.result (λ e. omega (arith, e)) (λ e. omega (arith, e)) c.note_leaf.ensures.level c.note_leaf.ensures.noted)
+    (c.in_ok-follow_all.ensures.walks arena device image s k [] still next)

@@ -1,0 +1,87 @@
+-- What the check of a tree answers of the walk through it: which blocks paths from the root lead to, and at which block a rule is broken.
+use Rattle.std.specs.Prelude.{◌≡◌, ◌⊎◌, ℕ, ◌<◌, ◌≤◌, true, List, [], ◌∷◌, ◌++◌, length, Option, MatchOption, MatchResult}
+use Rattle.fo_disk.specs.Disk.{Block}
+use Rattle.fo_image.specs.declared.types.Kind.{Kind}
+use Rattle.fo_image.specs.declared.types.Entry.{Entry}
+use Rattle.fo_image.specs.declared.types.Label.{Label}
+use Rattle.fo_image.specs.declared.types.Super.{Super}
+use Rattle.fo_image.specs.declared.types.Score.{Score}
+use Rattle.fo_image.specs.declared.types.Pointer.TheVariants.{Nil, Local, Score as Held}
+use Rattle.fo_crash.specs.declared.slot.Slot.TheVariants.{Pointer as To, Entry as Head, Prev}
+use Rattle.fo_crash.specs.Images.{Content, Image, Arena, target, nothing}
+use Rattle.fo_sound.specs.Image.{block_of, IsDataBlock, HasLabel}
+use Rattle.fo_sound.specs.Sound.{HasActiveRoot}
+use Rattle.fo_good.specs.Means.{EndsAt}
+use Rattle.fo_good.specs.Trees.{HasLabelBelow, HasTreeLabels, HasNoScores, IsTree, LeadsTo, at_path, place_of}
+use Rattle.fo_good.specs.Sound.{Kept}
+use Rattle.fo_good.specs.Lost.{IsUsed, IsLeaked, AreSoMany}
+use Rattle.fo_check_tree.specs.declared.broken.Broken.{Broken}
+use Rattle.fo_check_tree.specs.declared.error.TreeError.{TreeError}
+use Rattle.fo_check_tree.specs.declared.error.TreeError.TheVariants.{Label as BadLabel, Read, Memory}
+use Rattle.fo_check_tree.specs.declared.tree.Found.{Found}
+use Rattle.fo_check_tree.specs.Lower.{level}
+use Rattle.fo_check_tree.specs.Slots.{HasSlots}
+use Rattle.fo_check_tree.specs.Table.{BreaksTable}
+
+-- ---- a device's content, whatever its blocks hold
+
+-- The active root's slots are its entries, but for one that is too deep.
+abbrev pub IsShallow : Content → ℕ → Entry → Type 0
+IsShallow c i e = ((c.slot i ≡ Head e) × (e.depth ≤ 4)) ⊎ ((c.slot i ≡ To Nil) × (4 < e.depth))
+
+-- The image of the device with its active root, over an empty arena.
+pub record HoldsAny (arena : Arena) (device : List Block) (image : Image) (s : Super) (k : Kept) : Type 0 where
+  pub empty : (kind : Kind) (score : Score) → arena kind score ≡ nothing
+  pub active : HasActiveRoot device s k.root
+  pub at : k.at ≡ s.active
+  pub bytes : (at : ℕ) → (image at).bytes ≡ block_of device at
+  pub slots : (at : ℕ) (label : Label) → IsDataBlock (length device) at → HasLabel device at label → HasSlots label.kind (image at) (block_of device at)
+  pub entries : IsShallow (image k.at) 0 k.root.entries
+  pub meta : IsShallow (image k.at) 1 k.root.meta
+  pub before : (image k.at).slot 2 ≡ Prev k.root.prev_epoch k.root.prev
+  pub ends : EndsAt 3 (image k.at)
+
+-- ---- rules that are broken, each with the block that is named
+
+-- S4: a block of the tree with a label that it may not have; the block that holds the pointer where that leads to no data block
+pub data BreaksLabels (arena : Arena) (device : List Block) (image : Image) (k : Kept) : ℕ → Type 0 where
+  outside : (path : List ℕ) (i at below : ℕ) → LeadsTo arena image k.at path at → LeadsTo arena image k.at (path ++ i ∷ []) below → ¬ IsDataBlock (length device) below → BreaksLabels arena device image k at
+  label : (path : List ℕ) (i at below : ℕ) (above : Label) → LeadsTo arena image k.at path at → HasLabel device at above → LeadsTo arena image k.at (path ++ i ∷ []) below → IsDataBlock (length device) below
+      → ¬ HasLabelBelow device k.root.epoch true (place_of arena image k.at (path ++ i ∷ [])) above below → BreaksLabels arena device image k below
+
+-- S7: a block to which two paths lead
+pub data BreaksOnce (arena : Arena) (image : Image) (k : Kept) : ℕ → Type 0 where
+  twice : (p q : List ℕ) (at : ℕ) → LeadsTo arena image k.at p at → LeadsTo arena image k.at q at → ¬ (p ≡ q) → BreaksOnce arena image k at
+
+-- S9: a block that holds a score
+pub data BreaksScores (arena : Arena) (image : Image) (k : Kept) : ℕ → Type 0 where
+  score : (path : List ℕ) (i at : ℕ) (held : Score) → LeadsTo arena image k.at path at → target ((at_path arena image k.at (path ++ i ∷ [])).slot) ≡ Held held → BreaksScores arena image k at
+
+-- A rule of the walk that is named is broken at that block.
+pub record IsNamed (arena : Arena) (image : Image) (k : Kept) (b : Broken) : Type 0 where
+  pub once : b.rule ≡ 7 → BreaksOnce arena image k b.block
+  pub scores : b.rule ≡ 9 → BreaksScores arena image k b.block
+
+-- ---- the walk
+
+-- Every block that a path from the root leads to has a label that may stand at its place. Unless a rule no higher than 7 is named, no
+-- block is at two places; unless one no higher than 9 is, no pointer is a score. The numbers are those of the tree.
+pub record IsWalked (arena : Arena) (device : List Block) (image : Image) (s : Super) (k : Kept) (found : Found) : Type 0 where
+  pub labels : HasTreeLabels arena device image k.at k.root.epoch true
+  pub once : 7 < level found.broken → IsTree arena image k.at
+  pub scores : 9 < level found.broken → HasNoScores arena image k.at
+  pub named : MatchOption found.broken (Unit {0}) (IsNamed arena image k)
+  pub used : AreSoMany (length device) (IsUsed arena image k []) found.used
+  pub leaked : AreSoMany (length device) (IsLeaked arena device image s k []) found.leaked
+
+-- Why a tree was not walked to its end: S4 is broken at that block.
+abbrev pub RefusesTree : Arena → List Block → Image → Kept → TreeError → Type 0
+RefusesTree arena device image k (BadLabel at) = BreaksLabels arena device image k at
+RefusesTree arena device image k Read = Unit {0}
+RefusesTree arena device image k Memory = Unit {0}
+
+-- The same of the label table and the tree.
+abbrev pub RefusesCheck : Arena → List Block → Image → Kept → TreeError → Type 0
+RefusesCheck arena device image k (BadLabel at) = BreaksTable device at ⊎ BreaksLabels arena device image k at
+RefusesCheck arena device image k Read = Unit {0}
+RefusesCheck arena device image k Memory = Unit {0}
