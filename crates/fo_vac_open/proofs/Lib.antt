@@ -1,4 +1,5 @@
-mod Held
+pub mod Entries
+pub mod Held
 mod Once
 mod Opening
 mod Stored

@@ -15,9 +15,9 @@ impl<A: Disk> Arena<A> {
     ghost use Rattle.fo_image.specs.Place.{arena_places};
     ghost use Rattle.fo_sound.specs.Device.{IsKept};
     ghost use Rattle.sha1.specs.Sha1.{sha1};
-    ghost use Rattle.venti_store.specs.Held.{stored_at, IsNamed, IsHeld, Recovers};
+    ghost use Rattle.venti_store.specs.Held.{stored_at, HasName, IsNamed, IsHeld, Recovers};
     ghost use Rattle.venti_store.specs.Kept.{waits, settled_count};
-    ghost use Rattle.venti_store.specs.Arena.{lines_of, Keeps, IsAtHand, line_for, PutsLine, PutsBytes, LookRefuses, GetRefuses, PutRefuses, RefusesHeld, AppendRefuses, IsReadOrMemory, IsWriteOrSync, HasCauses};
+    ghost use Rattle.venti_store.specs.Arena.{lines_of, Keeps, IsAtHand, IsPlaceOf, line_for, PutsLine, PutsBytes, LookRefuses, GetRefuses, PutRefuses, RefusesHeld, AppendRefuses, IsReadOrMemory, IsWriteOrSync, HasCauses};
 
     /// The bytes of a place in use.
     fn read_place(&mut self, place: u32) -> Result<Vec<u8>, ArenaError>
@@ -185,6 +185,16 @@ impl<A: Disk> Arena<A> {
                 Ok(())
             }
             None => Err(ArenaError::Absent),
+        }
+    }
+
+    /// The device's block of the place that has a score and a kind; none where no place has them, as for the empty block.
+    pub fn block_of(&self, score: &Score, kind: u8) -> Option<u32>
+        ensures { MatchOption result ((place : ℕ) → ¬ HasName (lines_of self.now.shelf) score.now.0 kind place) (IsPlaceOf (lines_of self.now.shelf) score.now.0 kind) }
+    {
+        match self.shelf.index.place(score, kind) {
+            Some(place) => Some(stored_block(place)),
+            None => None,
         }
     }
 }

@@ -1,0 +1,5 @@
+mod Ways
+pub mod Blocks
+mod Walks
+mod Leaves
+mod Parts
