@@ -7,27 +7,31 @@ use Rattle.fo_image.specs.declared.types.Pointer.TheVariants.{Nil, Local, Score 
 use Rattle.fo_crash.specs.declared.slot.Slot.{Slot}
 use Rattle.fo_crash.specs.declared.slot.Slot.TheVariants.{Pointer as To}
 use Rattle.fo_crash.specs.declared.place.Place.{Place}
-use Rattle.fo_crash.specs.Images.{Content, Image, Reaches, target, local, walk, to_block, with_slot, with_block}
+use Rattle.fo_crash.specs.Images.{Image, Reaches, target, local, walk, to_block, with_slot}
 use Rattle.fo_crash.specs.Steps.{PutsSlot, AddsSlot, Covers}
 use Rattle.fo_crash.specs.Places.{place, super_place}
 use Rattle.fo_crash.proofs.Reach.{lost, reaches_on, reaches_joins, reaches_same, reach_into}
-use Rattle.fo_crash.proofs.Updates.{slot_bytes, slot_other, block_other}
+use Rattle.fo_crash.proofs.Updates.{slot_bytes, slot_other}
 use Rattle.fo_ports.specs.State.{State, KeepsAll, Frame, Hangs, KeepsOrder, AddsNoWait, IsPointers, none}
 use Rattle.fo_ports.specs.Sources.{Made, Touched, Undone, IsMade, StaysMarked, Changes}
 use Rattle.fo_tree_read.specs.declared.tree.Tree.{Tree}
 use Rattle.fo_tree_read.specs.Tree.{kind_at}
-use Rattle.fo_tree_own.specs.Step.{HangsApart, IsOwn, IsBehind, OnlyCovers, Links}
-use Rattle.fo_tree_own.proofs.Link.{Laws, Linking, local_eq, at_ne, at_pinned, at_place, top_ne, reaches_mid, unwaited}
+use Rattle.fo_tree_own.specs.Step.{HangsApart, IsOwn, IsBeside, IsBehind, OnlyCovers, Links}
+use Rattle.fo_tree_own.proofs.Link.{Laws, Linking, local_eq, at_ne, at_pinned, at_place, top_ne, reaches_mid, back, unwaited}
 use Rattle.fo_tree_own.proofs.May.{there, place_is}
 
+-- A pointer that leads to no block.
+abbrev pub IsNone : Pointer → Type 0
+IsNone p = (b : ℕ) → p ≢ Local b
+
 -- A block was given out and put, where the slot led there.
-pub record Linked (t : Tree) (level k at i n : ℕ) (was : Pointer) (c : Content) (l : Label) (result : ℕ) (beside : Image → Type 0) (s m u : State) : Type 0 where
-  pub link : Linking t level k at i c l result s m
+pub record Linked (t : Tree) (level k at i n : ℕ) (was : Pointer) (l : Label) (result : ℕ) (beside : Image → Type 0) (s m u : State) : Type 0 where
+  pub link : Linking t level k at i l result s m
   pub kind : l.kind ≡ kind_at t.dir level
   pub tagged : l.tag ≡ t.tag
-  pub long : length c.bytes ≡ 8192
+  pub long : length ((m.now result).bytes) ≡ 8192
   pub leads : target ((m.now at).slot i) ≡ was
-  pub alike : (j : ℕ) → target ((m.now result).slot j) ≡ target ((local m.now was).slot j)
+  pub alike : (j : ℕ) → (target ((m.now result).slot j) ≡ target ((local m.now was).slot j)) ⊎ (IsNone (target ((m.now result).slot j)) × IsNone (target ((local m.now was).slot j)))
   pub other : (y : ℕ) → was ≡ Local y → y ≢ at
   pub raised : (y : ℕ) → m.instead result y → was ≡ Local y
   pub in_tree : s.tells → (y : ℕ) → was ≡ Local y → Reaches m.now (to_block 1) y
@@ -47,7 +51,7 @@ pub record Linked (t : Tree) (level k at i n : ℕ) (was : Pointer) (c : Content
   pub whole : KeepsAll s u
   pub laws : Laws u
 
-module _ {t : Tree} {level k at i n : ℕ} {was : Pointer} {c : Content} {l : Label} {result : ℕ} {beside : Image → Type 0} {s m u : State} (x : Linked t level k at i n was c l result beside s m u) where
+module _ {t : Tree} {level k at i n : ℕ} {was : Pointer} {l : Label} {result : ℕ} {beside : Image → Type 0} {s m u : State} (x : Linked t level k at i n was l result beside s m u) where
   ne : at ≢ result
   ne = at_ne x.link
 
@@ -57,24 +61,27 @@ module _ {t : Tree} {level k at i n : ℕ} {was : Pointer} {c : Content} {l : La
   told_end : s.tells → u.tells
   told_end told = x.whole.still_tells.1 told
 
-  -- A path comes to the same block in both, or to the two that changed places.
+  -- A path comes to the same block in both, to the two that changed places, or to none.
   abbrev Leads : Slot → Slot → Type 0
-  Leads p q = (target q ≡ target p) ⊎ ((target p ≡ was) × (target q ≡ Local result))
+  Leads p q = (target q ≡ target p) ⊎ (((target p ≡ was) × (target q ≡ Local result)) ⊎ (IsNone (target p) × IsNone (target q)))
 
   at_slot : (a j : ℕ) → Leads ((m.now a).slot j) ((u.now a).slot j)
   at_slot a j = ⊎_elim
       (λ here. ⊎_elim
-      (λ own. inr (
+      (λ own. inr (inl (
         ap (λ y. target ((m.now y).slot j)) here ∙ ap (λ y. target ((m.now at).slot y)) own ∙ x.leads,
         ap (λ y. target ((u.now y).slot j)) here ∙ ap (λ y. target ((u.now at).slot y)) own ∙ ap target x.puts.here,
-      ))
+      )))
       (λ aside. inl (ap target (x.puts.others a j (inr aside))))
       (cases_eq j i))
       (λ apart. inl (ap target (x.puts.others a j (inl apart))))
       (cases_eq a at)
 
-  alike_end : (j : ℕ) → target ((u.now result).slot j) ≡ target ((local m.now was).slot j)
-  alike_end j = ap target (x.puts.others result j (inl (λ e. ne (sym e)))) ∙ x.alike j
+  same_end : (j : ℕ) → (u.now result).slot j ≡ (m.now result).slot j
+  same_end j = x.puts.others result j (inl (λ e. ne (sym e)))
+
+  alike_end : (j : ℕ) → Leads ((local m.now was).slot j) ((u.now result).slot j)
+  alike_end j = subst (λ (y : Slot). Leads ((local m.now was).slot j) y) (sym (same_end j)) (⊎_elim (λ e. inl e) (λ none. inr (inr (none.1, none.0))) (x.alike j))
 
   from_one : (j : ℕ) (p : Pointer) → Leads ((local m.now p).slot j) ((local u.now p).slot j)
   from_one j Nil = inl refl
@@ -83,16 +90,18 @@ module _ {t : Tree} {level k at i n : ℕ} {was : Pointer} {c : Content} {l : La
 
   one_on : (j : ℕ) (p q : Pointer) → (q ≡ p) ⊎ ((p ≡ was) × (q ≡ Local result)) → Leads ((local m.now p).slot j) ((local u.now q).slot j)
   one_on j p q (inl e) = subst (λ y. Leads ((local m.now p).slot j) ((local u.now y).slot j)) (sym e) (from_one j p)
-  one_on j p q (inr h) = inl (ap (λ y. target ((local u.now y).slot j)) h.1 ∙ alike_end j ∙ ap (λ y. target ((local m.now y).slot j)) (sym h.0))
+  one_on j p q (inr h) = subst (λ y. Leads ((local m.now p).slot j) ((local u.now y).slot j)) (sym h.1) (subst (λ y. Leads ((local m.now y).slot j) ((u.now result).slot j)) (sym h.0) (alike_end j))
 
   walks_on : (path : List ℕ) (p q : Slot) → Leads p q → Leads (walk m.now p path) (walk u.now q path)
   walks_on [] p q h = h
-  walks_on (j ∷ path) p q h = walks_on path ((local m.now (target p)).slot j) ((local u.now (target q)).slot j) (one_on j (target p) (target q) h)
+  walks_on (j ∷ path) p q (inl e) = walks_on path ((local m.now (target p)).slot j) ((local u.now (target q)).slot j) (one_on j (target p) (target q) (inl e))
+  walks_on (j ∷ path) p q (inr (inl h)) = walks_on path ((local m.now (target p)).slot j) ((local u.now (target q)).slot j) (one_on j (target p) (target q) (inr h))
+  walks_on (j ∷ path) p q (inr (inr none)) = inr (inr (lost m.now (j ∷ path) p none.0, lost u.now (j ∷ path) q none.1))
 
   reaches_end : (w b : ℕ) → (was ≡ Local b → ⊥) → Reaches m.now (to_block w) b → Reaches u.now (to_block w) b
   reaches_end w b not r = ⊎_elim
       (λ e. record { path = r.path; leads = e ∙ r.leads })
-      (λ h. absurd (not (sym h.0 ∙ r.leads)))
+      (λ h. ⊎_elim (λ swapped. absurd (not (sym swapped.0 ∙ r.leads))) (λ none. absurd (none.0 b r.leads)) h)
       (walks_on r.path (to_block w) (to_block w) (inl refl))
 
   reached_end : s.tells → (b : ℕ) → (was ≡ Local b → ⊥) → Reaches s.now (to_block 1) b → Reaches u.now (to_block 1) b
@@ -107,15 +116,15 @@ module _ {t : Tree} {level k at i n : ℕ} {was : Pointer} {c : Content} {l : La
   told_covers : s.tells → OnlyCovers was s u
   told_covers told = record {
     still = λ b h. (x.covers (told_mid told)).still b (back_covered b h);
-    only = λ b no not h. (x.covers (told_mid told)).only b (λ g. no (from_covered b g))
+    only = λ b no not h. (x.covers (told_mid told)).only b (λ g. from_covered b no g)
         (λ r. (x.laws.live b (told_end told) (λ e. x.no_one told (subst (λ y. Reaches m.now ((m.now at).slot i) y) e r)) (reaches_end 1 b not (below_tree told b was refl r))).2 h) h;
   }
     where
       back_covered : (b : ℕ) → s.covered b → m.covered b
-      back_covered b h = (x.link.gives.covered b (λ e. x.link.gives.was.2 (subst (λ y. s.covered y) e h))).1 h
+      back_covered b h = x.link.came.still b (λ e. x.link.came.was.2 (subst (λ y. s.covered y) e h)) h
 
-      from_covered : (b : ℕ) → m.covered b → s.covered b
-      from_covered b g = (x.link.gives.covered b (λ e. x.link.gives.is.4 (subst (λ y. m.covered y) e g))).0 g
+      from_covered : (b : ℕ) → (s.covered b → ⊥) → m.covered b → ⊥
+      from_covered b free g = x.link.came.only b (λ e. x.link.came.is.4 (subst (λ y. m.covered y) e g)) free g
 
   -- what is to be closed is known only where the device tells
   only_covers : OnlyCovers was s u
@@ -125,13 +134,13 @@ module _ {t : Tree} {level k at i n : ℕ} {was : Pointer} {c : Content} {l : La
   }
 
   label_end : (b : ℕ) → b ≢ result → u.label b ≡ s.label b
-  label_end b apart = x.frame.stays.labels b (λ h. h) ∙ x.link.gives.stays.labels b apart
+  label_end b apart = x.frame.stays.labels b (λ h. h) ∙ x.link.came.stays.labels b apart
 
   result_end : u.label result ≡ l
-  result_end = x.frame.stays.labels result (λ h. h) ∙ x.link.gives.label
+  result_end = x.frame.stays.labels result (λ h. h) ∙ x.link.came.label
 
   made_end : Made s u result
-  made_end = (x.link.gives.was.0, ap (λ (q : Label). q.state) result_end ∙ x.link.is_live)
+  made_end = (x.link.came.was.0, ap (λ (q : Label). q.state) result_end ∙ x.link.is_live)
 
   made_is : (b : ℕ) → Made s u b → b ≡ result
   made_is b made = ⊎_elim (λ e. e) (λ apart. absurd (made.0 (ap (λ (q : Label). q.state) (sym (label_end b apart)) ∙ made.1))) (cases_eq b result)
@@ -140,10 +149,10 @@ module _ {t : Tree} {level k at i n : ℕ} {was : Pointer} {c : Content} {l : La
   not_made b h e = h (subst (λ y. Made s u y) (sym e) made_end)
 
   slots_end : (b j : ℕ) → b ≢ result → (b ≢ at) ⊎ (j ≢ i) → (u.now b).slot j ≡ (s.now b).slot j
-  slots_end b j apart h = x.puts.others b j h ∙ (x.link.gives.memory.others b apart).slots j
+  slots_end b j apart h = x.puts.others b j h ∙ (x.link.came.others b apart).slots j
 
   bytes_end : (b : ℕ) → b ≢ result → (u.now b).bytes ≡ (s.now b).bytes
-  bytes_end b apart = x.puts.bytes b ∙ (x.link.gives.memory.others b apart).bytes
+  bytes_end b apart = x.puts.bytes b ∙ (x.link.came.others b apart).bytes
 
   leads_end : target ((u.now at).slot i) ≡ Local result
   leads_end = ap target x.puts.here
@@ -151,11 +160,11 @@ module _ {t : Tree} {level k at i n : ℕ} {was : Pointer} {c : Content} {l : La
   instead_end : (b y : ℕ) → u.instead b y → s.instead b y
   instead_end b y h = ⊎_elim
       (λ own. absurd ((x.hangs.put result refl).1 y (subst (λ z. u.instead z y) own h)))
-      (λ apart. (x.link.gives.stays.instead b y apart (λ z. z)).0 (⊎_elim
+      (λ apart. (x.link.came.stays.instead b y apart (λ z. z)).0 (⊎_elim
       (λ here. subst (λ z. m.instead z y) (sym here) (⊎_elim
       (λ mid. mid)
       (λ raised. absurd (⊎_elim
-      (λ e. e.1 (subst (λ z. m.apart z) (local_eq raised.1.1) x.link.gives.is.3))
+      (λ e. e.1 (subst (λ z. m.apart z) (local_eq raised.1.1) x.link.came.is.3))
       (λ mid. raised.0.0.1 i y (x.leads ∙ x.raised y (subst (λ z. m.instead z y) (sym (local_eq raised.1.1)) mid)))
       raised.1.2))
       (x.hangs.raised y (subst (λ z. u.instead z y) here h))))
@@ -165,7 +174,7 @@ module _ {t : Tree} {level k at i n : ℕ} {was : Pointer} {c : Content} {l : La
 
   waits_end : (a b j : ℕ) → b ≢ result → a ≢ result → s.waits a b j → u.waits a b j
   waits_end a b j apart sep w =
-      let mid = x.link.gives.stays.waits a b j sep apart (λ z. z) w in
+      let mid = x.link.came.stays.waits a b j sep apart (λ z. z) w in
       ⊎_elim
       (λ here. absurd (unwaited x.link a j (subst (λ y. m.waits a y j) here mid)))
       (λ away. x.hangs.waits a b j (inl away) mid)
@@ -174,32 +183,32 @@ module _ {t : Tree} {level k at i n : ℕ} {was : Pointer} {c : Content} {l : La
   behind : (image : Image) → u.may_leave image → IsBehind at i result s u image
   behind image is = ⊎_elim
       (λ mid.
-      let d = x.link.gives.images.before image mid in
+      let d = x.link.came.before image mid in
       record {
-        other = with_block image result d.0;
-        was = d.1;
-        bytes = λ b apart. ap (λ (y : Content). y.bytes) (sym (block_other image result d.0 b apart));
-        slots = λ b j apart h. ap (λ (y : Content). y.slot j) (sym (block_other image result d.0 b apart));
-        here = inl (ap (λ (y : Content). y.slot i) (sym (block_other image result d.0 at ne)));
-        apart = λ top is_top r. unreached image mid d.0 top is_top r;
+        other = d.other;
+        was = d.was;
+        bytes = λ b apart. (d.same b apart).bytes;
+        slots = λ b j apart h. (d.same b apart).slots j;
+        here = inl ((d.same at ne).slots i);
+        apart = λ top is_top r. unreached image mid d top is_top r;
       })
       (λ put.
       let between = with_slot image at i ((m.now at).slot i) in
-      let d = x.link.gives.images.before between put.1 in
+      let d = x.link.came.before between put.1 in
       record {
-        other = with_block between result d.0;
-        was = d.1;
-        bytes = λ b apart. sym (slot_bytes image at i ((m.now at).slot i) b) ∙ ap (λ (y : Content). y.bytes) (sym (block_other between result d.0 b apart));
-        slots = λ b j apart h. sym (slot_other image at i ((m.now at).slot i) b j h) ∙ ap (λ (y : Content). y.slot j) (sym (block_other between result d.0 b apart));
+        other = d.other;
+        was = d.was;
+        bytes = λ b apart. sym (slot_bytes image at i ((m.now at).slot i) b) ∙ (d.same b apart).bytes;
+        slots = λ b j apart h. sym (slot_other image at i ((m.now at).slot i) b j h) ∙ (d.same b apart).slots j;
         here = inr (put.0 ∙ sym x.puts.here);
-        apart = λ top is_top r. unreached between put.1 d.0 top is_top r;
+        apart = λ top is_top r. unreached between put.1 d top is_top r;
       })
       (x.images.each image is)
     where
-      unreached : (before : Image) → m.may_leave before → (d : Content) (top : ℕ) → s.tops top → Reaches (with_block before result d) (to_block top) result → ⊥
-      unreached before mid d top is_top r = x.link.gives.images.apart before mid top is_top (reach_into before (with_block before result d) (λ y. y ≡ result) top
-          (λ y j apart. ap (λ (z : Content). z.slot j) (sym (block_other before result d y apart)))
-          (λ y e far. x.link.gives.images.apart before mid top is_top (subst (λ z. Reaches before (to_block top) z) e far)) result r)
+      unreached : (before : Image) → m.may_leave before → (d : IsBeside result s before) (top : ℕ) → s.tops top → Reaches d.other (to_block top) result → ⊥
+      unreached before mid d top is_top r = x.link.came.unreached before mid top is_top (reach_into before d.other (λ y. y ≡ result) top
+          (λ y j apart. (d.same y apart).slots j)
+          (λ y e far. x.link.came.unreached before mid top is_top (subst (λ z. Reaches before (to_block top) z) e far)) result r)
 
   -- ---- the two blocks are current
 
@@ -217,7 +226,7 @@ module _ {t : Tree} {level k at i n : ℕ} {was : Pointer} {c : Content} {l : La
 
   places_end : s.tells → (b : ℕ) (p : Place) → b ≢ result → (u.covered b → ⊥) → s.stands b p → u.stands b p
   places_end told b p apart free stands =
-      let mid = x.link.gives.stays.places told b p apart (λ h. h) (λ h. free ((x.covers (told_mid told)).still b h)) stands in
+      let mid = x.link.came.stays.places told b p apart (λ h. h) (λ h. free ((x.covers (told_mid told)).still b h)) stands in
       ⊎_elim
       (λ here. subst (λ y. u.stands y p) (sym here) (x.hangs.at_place (told_mid told) p (λ h. free (subst (λ y. u.covered y) (sym here) h)) (subst (λ y. m.stands y p) here mid)))
       (λ away. x.frame.stays.places (told_mid told) b p (λ h. h) (λ g. ⊎_elim away (λ e. apart (sym (local_eq e))) g) free mid)
@@ -225,7 +234,7 @@ module _ {t : Tree} {level k at i n : ℕ} {was : Pointer} {c : Content} {l : La
 
   apart_same : (b : ℕ) → b ≢ result → u.apart b ↔ s.apart b
   apart_same b apart =
-      let first = x.link.gives.stays.apart b apart (λ h. h) in
+      let first = x.link.came.stays.apart b apart (λ h. h) in
       ⊎_elim
       (λ here. let last = x.hangs.at_apart (λ e. ne (sym (local_eq e))) in (
         λ h. first.0 (subst (λ y. m.apart y) (sym here) (last.0 (subst (λ y. u.apart y) here h))),
@@ -274,13 +283,13 @@ module _ {t : Tree} {level k at i n : ℕ} {was : Pointer} {c : Content} {l : La
 
   own_end : IsOwn u t level (409 * k + i) result
   own_end = record {
-    is_pinned = (x.frame.stays.marks result (λ h. h)).0 x.link.gives.is.1;
+    is_pinned = (x.frame.stays.marks result (λ h. h)).0 x.link.came.is.1;
     live = ap (λ (q : Label). q.state) result_end ∙ x.link.is_live;
     has_kind = ap (λ (q : Label). q.kind) result_end ∙ x.kind;
     tagged = ap (λ (q : Label). q.tag) result_end ∙ x.tagged;
     current = ap (λ (q : Label). q.epoch) result_end ∙ x.link.is_current ∙ sym x.whole.same_high;
-    long = ap length (x.puts.bytes result ∙ x.link.gives.memory.here.bytes) ∙ x.long;
-    told = λ now. let told = x.whole.still_tells.0 now in record { stands = own_stands told; uncovered = only_covers.only result x.link.gives.was.2 x.fresh; holder = own_holder told };
+    long = ap length (x.puts.bytes result) ∙ x.long;
+    told = λ now. let told = x.whole.still_tells.0 now in record { stands = own_stands told; uncovered = only_covers.only result x.link.came.was.2 x.fresh; holder = own_holder told };
   }
 
   -- ---- all that changed
@@ -311,17 +320,17 @@ module _ {t : Tree} {level k at i n : ℕ} {was : Pointer} {c : Content} {l : La
 
   is_made : IsMade t.tag s u result
   is_made = record {
-    was = (x.link.gives.was.1, x.link.gives.was.3);
+    was = (x.link.came.was.1, x.link.came.was.3);
     labelled = (ap (λ (q : Label). q.epoch) result_end ∙ x.link.is_current, ap (λ (q : Label). q.tag) result_end ∙ x.tagged);
-    is_one = (x.all.same_blocks result).1 x.link.gives.is.0;
-    is_pinned = (x.frame.stays.marks result (λ h. h)).0 x.link.gives.is.1;
-    is_fresh = (x.frame.stays.marks result (λ h. h)).2 x.link.gives.is.2;
+    is_one = (x.all.same_blocks result).1 x.link.came.is.0;
+    is_pinned = (x.frame.stays.marks result (λ h. h)).0 x.link.came.is.1;
+    is_fresh = (x.frame.stays.marks result (λ h. h)).2 x.link.came.is.2;
   }
 
   marked : (b : ℕ) → (Made s u b → ⊥) → StaysMarked s u b
   marked b not =
       let apart = not_made b not in
-      let first = x.link.gives.stays.marks b apart in
+      let first = x.link.came.stays.marks b apart in
       let last = x.frame.stays.marks b (λ h. h) in
       record {
         label = label_end b apart;
@@ -337,11 +346,14 @@ module _ {t : Tree} {level k at i n : ℕ} {was : Pointer} {c : Content} {l : La
       let mid = reaches_mid x.link told 1 b super_place (x.link.laws.super_stands told) r in
       ⊎_elim
       (λ e. absurd (gone (record { path = mid.path; leads = e ∙ mid.leads })))
-      (λ h. (x.covers (told_mid told)).leaves b (record {
+      (λ h. ⊎_elim
+      (λ swapped. (x.covers (told_mid told)).leaves b (record {
         path = [];
-        leads = x.leads ∙ sym h.0 ∙ mid.leads;
+        leads = x.leads ∙ sym swapped.0 ∙ mid.leads;
         within = λ front j rest y e. absurd (no_front front j rest e);
       }) mid gone)
+      (λ none. absurd (none.0 b mid.leads))
+      h)
       (walks_on mid.path (to_block 1) (to_block 1) (inl refl))
     where
       no_front : (front : List ℕ) (j : ℕ) (rest : List ℕ) → [] ≡ front ++ (j ∷ rest) → ⊥
@@ -360,19 +372,19 @@ module _ {t : Tree} {level k at i n : ℕ} {was : Pointer} {c : Content} {l : La
     leaves = leaves_end;
     in_tree = λ told b mine r. reached_end told b (λ e. mine (inr e)) r;
     waits = λ a b j not_a not_b w. waits_end a b j (not_made b not_b) (not_made a not_a) w;
-    no_wait = record { each = λ a b j h w. x.link.gives.no_wait.each a b j h (x.no_wait.each a b j h w) };
-    clearing = λ b j h. let mid = x.link.gives.order.clearing b j (x.order.clearing b j h).1 in (λ made. mid.0 (made_is b made), mid.1);
+    no_wait = record { each = λ a b j h w. x.link.came.no_wait.each a b j h (x.no_wait.each a b j h w) };
+    clearing = λ b j h. let mid = x.link.came.order.clearing b j (x.order.clearing b j h).1 in (λ made. mid.0 (made_is b made), mid.1);
     dirty = λ b d. ⊎_elim
         (λ mid. ⊎_elim
         (λ old. inl old)
         (λ h. inr (⊎_elim (λ e. inl (inl (subst (λ y. Made s u y) (sym e) made_end))) (λ e. inr (result, made_end, e ∙ sym (x.all.same_label_blocks result))) h))
-        (x.link.gives.dirty b mid))
+        (x.link.came.dirty b mid))
         (λ e. inr (inl (inr (inl e, ap (λ y. (s.label y).epoch) e ∙ x.link.above.current, ap (λ y. (s.label y).tag) e ∙ x.link.above.tagged))))
         (x.frame.dirty b d);
-    moments = x.frame.uses.moments ∙ x.link.gives.uses.moments;
-    left = λ n image h. x.link.gives.uses.left n image (x.frame.uses.left n image h);
-    pins = x.frame.uses.pins ∙ x.link.gives.uses.pins;
-    numbers = record { next = x.frame.numbers.next ∙ x.link.gives.numbers.next; grants = λ h. x.frame.numbers.grants (x.link.gives.numbers.grants h) };
+    moments = x.frame.uses.moments ∙ x.link.came.uses.moments;
+    left = λ n image h. x.link.came.uses.left n image (x.frame.uses.left n image h);
+    pins = x.frame.uses.pins ∙ x.link.came.uses.pins;
+    numbers = record { next = x.frame.numbers.next ∙ x.link.came.numbers.next; grants = λ h. x.frame.numbers.grants (x.link.came.numbers.grants h) };
   }
 
   pub links : Links t level k at i was result s u
@@ -387,9 +399,10 @@ module _ {t : Tree} {level k at i n : ℕ} {was : Pointer} {c : Content} {l : La
     images = behind;
     instead = instead_end;
     reached = reached_end;
+    in_tree = λ told b e. back x.link told 1 b super_place (x.link.laws.super_stands told) (x.in_tree told b e);
     covers = only_covers;
     waits = waits_end;
-    spare = let first = x.link.gives.uses.spare in let last = x.frame.uses.spare in omega (arith, first, last);
-    room = let first = x.link.gives.uses.room in let last = x.frame.uses.room in let none = x.no_cost in omega (arith, first, last, none);
+    spare = let first = x.link.came.uses.spare in let last = x.frame.uses.spare in omega (arith, first, last);
+    room = let first = x.link.came.uses.room in let last = x.frame.uses.room in let none = x.no_cost in omega (arith, first, last, none);
     changes = changes_end;
   }

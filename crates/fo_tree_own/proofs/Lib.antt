@@ -2,3 +2,4 @@ pub mod Link
 pub mod May
 pub mod After
 pub mod Here
+pub mod Filling

@@ -9,15 +9,16 @@ use Rattle.fo_image.specs.Format.{PointerHolds}
 use Rattle.fo_crash.specs.declared.slot.Slot.{Slot}
 use Rattle.fo_crash.specs.declared.slot.Slot.TheVariants.{Pointer as To, Entry as Head, Prev}
 use Rattle.fo_crash.specs.declared.place.Place.{Place}
-use Rattle.fo_crash.specs.Images.{Content, Reaches, target, to_block}
+use Rattle.fo_crash.specs.Images.{Content, Image, SameContent, Reaches, target, to_block, with_block}
 use Rattle.fo_crash.specs.Places.{place, place_below, super_place, IsPlaced, OnePlace, RanksFall}
 use Rattle.fo_crash.proofs.Places.{stands_below}
 use Rattle.fo_crash.proofs.Reach.{reach_aside, reach_into}
+use Rattle.fo_crash.proofs.Updates.{block_other}
 use Rattle.fo_ports.specs.Blocks.{slot_count, SlotFits, cost, dropped, blank_slot}
-use Rattle.fo_ports.specs.State.{State, KeepsAll, Gives, IsHeld}
+use Rattle.fo_ports.specs.State.{State, KeepsAll, none, Stays, KeepsOrder, AddsNoWait, Uses, KeepsNumbers, Gives, IsHeld}
 use Rattle.fo_tree_read.specs.declared.tree.Tree.{Tree}
 use Rattle.fo_tree_read.specs.Tree.{kind_at}
-use Rattle.fo_tree_own.specs.Step.{HangsApart, IsOwn}
+use Rattle.fo_tree_own.specs.Step.{HangsApart, IsOwn, IsBeside, Filled}
 
 -- ---- blocks of pointers
 
@@ -81,9 +82,91 @@ pub record Laws (s : State) : Type 0 where
   pub apart_hangs : s.tells → (w : ℕ) → s.apart w → Reaches s.now (to_block 1) w → ⊥
   pub small : (at : ℕ) → s.is_block at → at < 2 ^ 32 - 1
 
+-- A block was given out, and may have been filled: no path from a top leads to it in any image, and each image is one of before, but for
+-- this block.
+pub record Came (l : Label) (result : ℕ) (s m : State) : Type 0 where
+  pub others : (b : ℕ) → b ≢ result → SameContent (m.now b) (s.now b)
+  pub unreached : (image : Image) → m.may_leave image → (t : ℕ) → s.tops t → Reaches image (to_block t) result → ⊥
+  pub before : (image : Image) → m.may_leave image → IsBeside result s image
+  pub label : m.label result ≡ l
+  pub was : ((s.label result).state ≢ Live) × (result ≢ 1) × (s.covered result → ⊥) × (s.tells → (s.tops result → ⊥) × ((p : Place) → s.stands result p → ⊥))
+  pub is : m.is_block result × m.pinned result × m.fresh result × m.apart result × (m.covered result → ⊥) × ((a j : ℕ) → m.waits a result j → ⊥)
+  pub stays : Stays (λ b. b ≡ result) none s m
+  pub order : KeepsOrder (λ b. b ≡ result) s m
+  pub still : (b : ℕ) → b ≢ result → s.covered b → m.covered b
+  pub only : (b : ℕ) → b ≢ result → (s.covered b → ⊥) → m.covered b → ⊥
+  pub no_wait : AddsNoWait none s m
+  pub dirty : (b : ℕ) → m.dirty b → s.dirty b ⊎ ((b ≡ result) ⊎ (b ≡ m.label_block result))
+  pub uses : Uses 1 0 s m
+  pub numbers : KeepsNumbers s m
+
+pub came : {result : ℕ} {c : Content} {l : Label} {s m : State} → Gives result c l s m → Came l result s m
+came {result = result} {s = s} {m = m} gives = record {
+  others = gives.memory.others;
+  unreached = gives.images.apart;
+  before = λ image is. let d = gives.images.before image is in record { other = with_block image result d.0; was = d.1; same = λ b ne. beside image d.0 b ne };
+  label = gives.label;
+  was = gives.was;
+  is = gives.is;
+  stays = gives.stays;
+  order = gives.order;
+  still = λ b ne. (gives.covered b ne).1;
+  only = λ b ne no h. no ((gives.covered b ne).0 h);
+  no_wait = gives.no_wait;
+  dirty = gives.dirty;
+  uses = gives.uses;
+  numbers = gives.numbers;
+}
+  where
+    beside : (image : Image) (d : Content) (b : ℕ) → b ≢ result → SameContent (image b) (with_block image result d b)
+    beside image d b ne = let e = block_other image result d b ne in record { bytes = ap (λ (y : Content). y.bytes) (sym e); slots = λ j. ap (λ (y : Content). y.slot j) (sym e) }
+
+same_joins : {a b c : Content} → SameContent a b → SameContent b c → SameContent a c
+same_joins p q = record { bytes = p.bytes ∙ q.bytes; slots = λ i. p.slots i ∙ q.slots i }
+
+-- what came and was filled has come
+pub came_filled : {result : ℕ} {l : Label} {s m u : State} → KeepsAll s m → KeepsAll m u → Came l result s m → Filled result m u → Came l result s u
+came_filled {result = result} first all x f = record {
+  others = λ b ne. same_joins (f.others b ne) (x.others b ne);
+  unreached = λ image is t top r.
+      let d = f.images image is in
+      x.unreached d.other d.was t top (reach_into d.other image (λ y. y ≡ result) t (λ b j ne. sym ((d.same b ne).slots j)) (λ b e far. x.unreached d.other d.was t top (subst (λ y. Reaches d.other (to_block t) y) e far)) result r);
+  before = λ image is.
+      let d = f.images image is in
+      let e = x.before d.other d.was in
+      record { other = e.other; was = e.was; same = λ b ne. same_joins (d.same b ne) (e.same b ne) };
+  label = f.labels result ∙ x.label;
+  was = x.was;
+  is = ((all.same_blocks result).1 x.is.0, (f.marks result).0 x.is.1, (f.marks result).2 x.is.2, (f.apart result).1 x.is.3, f.only result x.is.4, λ a j w. x.is.5 a j (f.no_wait.each a result j (λ n. n) w));
+  stays = record {
+    labels = λ b ne. f.labels b ∙ x.stays.labels b ne;
+    marks = λ b ne. let p = x.stays.marks b ne in let q = f.marks b in (λ h. q.0 (p.0 h), λ h. q.1 (p.1 h), λ h. q.2 (p.2 h));
+    places = λ told b p ne n free stands. f.places (first.still_tells.1 told) b p free (x.stays.places told b p ne n (λ h. free (f.still b h)) stands);
+    apart = λ b ne n. let p = x.stays.apart b ne n in (λ h. p.0 ((f.apart b).0 h), λ h. (f.apart b).1 (p.1 h));
+    instead = λ b y ne n. let p = x.stays.instead b y ne n in (λ h. p.0 ((f.instead b y).0 h), λ h. (f.instead b y).1 (p.1 h));
+    waits = λ a on j ne other n w. f.waits a on j other (x.stays.waits a on j ne other n w);
+  };
+  order = record { clearing = λ b j h. x.order.clearing b j (f.order.clearing b j h).1 };
+  still = λ b ne h. f.still b (x.still b ne h);
+  only = λ b ne no h. f.only b (x.only b ne no) h;
+  no_wait = record { each = λ a on j n w. x.no_wait.each a on j n (f.no_wait.each a on j n w) };
+  dirty = λ b d. ⊎_elim
+      (λ mid. ⊎_elim (λ old. inl old) (λ h. inr (⊎_elim (λ e. inl e) (λ e. inr (e ∙ sym (all.same_label_blocks result))) h)) (x.dirty b mid))
+      (λ e. inr (inl e))
+      (f.dirty b d);
+  uses = record {
+    spare = let p = x.uses.spare in let q = f.uses.spare in omega (arith, p, q);
+    room = let p = x.uses.room in let q = f.uses.room in omega (arith, p, q);
+    pins = f.uses.pins ∙ x.uses.pins;
+    moments = f.uses.moments ∙ x.uses.moments;
+    left = λ n image h. x.uses.left n image (f.uses.left n image h);
+  };
+  numbers = record { next = f.numbers.next ∙ x.numbers.next; grants = λ h. f.numbers.grants (x.numbers.grants h) };
+}
+
 -- A block was given out, to be put below slot i of a current block.
-pub record Linking (t : Tree) (level k at i : ℕ) (c : Content) (l : Label) (result : ℕ) (s m : State) : Type 0 where
-  pub gives : Gives result c l s m
+pub record Linking (t : Tree) (level k at i : ℕ) (l : Label) (result : ℕ) (s m : State) : Type 0 where
+  pub came : Came l result s m
   pub all : KeepsAll s m
   pub above : IsOwn s t (suc level) k at
   pub few : i < 409
@@ -92,45 +175,45 @@ pub record Linking (t : Tree) (level k at i : ℕ) (c : Content) (l : Label) (re
   pub is_live : l.state ≡ Live
   pub is_current : l.epoch ≡ s.high
 
-module _ {t : Tree} {level k at i : ℕ} {c : Content} {l : Label} {result : ℕ} {s m : State} (x : Linking t level k at i c l result s m) where
+module _ {t : Tree} {level k at i : ℕ} {l : Label} {result : ℕ} {s m : State} (x : Linking t level k at i l result s m) where
   pub at_ne : at ≢ result
-  at_ne e = x.gives.was.0 (ap (λ b. (s.label b).state) (sym e) ∙ x.above.live)
+  at_ne e = x.came.was.0 (ap (λ b. (s.label b).state) (sym e) ∙ x.above.live)
 
   pub at_label : m.label at ≡ s.label at
-  at_label = x.gives.stays.labels at at_ne
+  at_label = x.came.stays.labels at at_ne
 
   pub at_kind : (m.label at).kind ≡ kind_at t.dir (suc level)
   at_kind = ap (λ (q : Label). q.kind) at_label ∙ x.above.has_kind
 
   pub at_pinned : m.pinned at
-  at_pinned = (x.gives.stays.marks at at_ne).0 x.above.is_pinned
+  at_pinned = (x.came.stays.marks at at_ne).0 x.above.is_pinned
 
   pub at_current : (m.label at).epoch ≡ m.high
   at_current = ap (λ (q : Label). q.epoch) at_label ∙ x.above.current ∙ sym x.all.same_high
 
   pub same : (j : ℕ) → (m.now at).slot j ≡ (s.now at).slot j
-  same j = (x.gives.memory.others at at_ne).slots j
+  same j = (x.came.others at at_ne).slots j
 
   pub slot_to : (j : ℕ) → j < 409 → (m.now at).slot j ≡ To (target ((m.now at).slot j))
   slot_to j lt = is_pointer t.dir level j ((m.now at).slot j) (subst (λ q. SlotFits q j ((m.now at).slot j)) at_kind (x.later.spelled at j at_pinned (subst (λ q. j < slot_count q) (sym at_kind) (subst (λ n. j < n) (sym (inner_slots t.dir level)) lt))))
 
   pub at_place : s.tells → m.stands at (place (kind_at t.dir (suc level)) t.tag k (t.rank + suc level))
-  at_place told = x.gives.stays.places told at (place (kind_at t.dir (suc level)) t.tag k (t.rank + suc level)) at_ne (λ h. h) (λ h. (x.above.told told).uncovered ((x.gives.covered at at_ne).0 h)) (x.above.told told).stands
+  at_place told = x.came.stays.places told at (place (kind_at t.dir (suc level)) t.tag k (t.rank + suc level)) at_ne (λ h. h) (x.came.only at at_ne (x.above.told told).uncovered) (x.above.told told).stands
 
   -- what stands leads not to the block that was given out
   pub away : s.tells → (w : ℕ) (p : Place) → s.stands w p → Reaches s.now (to_block w) result → ⊥
   away told w p stands r =
       let q = stands_below p (x.laws.placed told) (x.laws.ranked told) stands r in
-      (x.gives.was.3 told).1 q.0 q.1
+      (x.came.was.3 told).1 q.0 q.1
 
   pub reaches_mid : s.tells → (w b : ℕ) (p : Place) → s.stands w p → Reaches s.now (to_block w) b → Reaches m.now (to_block w) b
-  reaches_mid told w b p stands r = reach_aside s.now m.now (λ y. y ≡ result) w (λ y j ne. sym ((x.gives.memory.others y ne).slots j)) (λ y e far. away told w p stands (subst (λ z. Reaches s.now (to_block w) z) e far)) b r
+  reaches_mid told w b p stands r = reach_aside s.now m.now (λ y. y ≡ result) w (λ y j ne. sym ((x.came.others y ne).slots j)) (λ y e far. away told w p stands (subst (λ z. Reaches s.now (to_block w) z) e far)) b r
 
   pub back : s.tells → (w b : ℕ) (p : Place) → s.stands w p → Reaches m.now (to_block w) b → Reaches s.now (to_block w) b
-  back told w b p stands r = reach_into s.now m.now (λ y. y ≡ result) w (λ y j ne. sym ((x.gives.memory.others y ne).slots j)) (λ y e far. away told w p stands (subst (λ z. Reaches s.now (to_block w) z) e far)) b r
+  back told w b p stands r = reach_into s.now m.now (λ y. y ≡ result) w (λ y j ne. sym ((x.came.others y ne).slots j)) (λ y e far. away told w p stands (subst (λ z. Reaches s.now (to_block w) z) e far)) b r
 
   pub top_ne : s.tells → (h : HangsApart s at) → h.top ≢ result
-  top_ne told h e = (x.gives.was.3 told).1 h.place (subst (λ y. s.stands y h.place) e h.stands)
+  top_ne told h e = (x.came.was.3 told).1 h.place (subst (λ y. s.stands y h.place) e h.stands)
 
   -- where the block above hangs from, once the other was given out
   pub held_on : s.tells → Reaches m.now (to_block 1) at ⊎ HangsApart m at
@@ -138,10 +221,10 @@ module _ {t : Tree} {level k at i : ℕ} {c : Content} {l : Label} {result : ℕ
       (λ r. inl (reaches_mid told 1 at super_place (x.laws.super_stands told) r))
       (λ h. inr (record {
         top = h.top;
-        is_apart = (x.gives.stays.apart h.top (top_ne told h) (λ n. n)).1 h.is_apart;
+        is_apart = (x.came.stays.apart h.top (top_ne told h) (λ n. n)).1 h.is_apart;
         place = h.place;
-        stands = x.gives.stays.places told h.top h.place (top_ne told h) (λ n. n) (λ g. h.uncovered ((x.gives.covered h.top (top_ne told h)).0 g)) h.stands;
-        uncovered = λ g. h.uncovered ((x.gives.covered h.top (top_ne told h)).0 g);
+        stands = x.came.stays.places told h.top h.place (top_ne told h) (λ n. n) (x.came.only h.top (top_ne told h) h.uncovered) h.stands;
+        uncovered = x.came.only h.top (top_ne told h) h.uncovered;
         reaches = reaches_mid told h.top at h.place h.stands h.reaches;
       }))
       (x.above.told told).holder
@@ -155,13 +238,13 @@ module _ {t : Tree} {level k at i : ℕ} {c : Content} {l : Label} {result : ℕ
 
   -- what a put asks over any device
   pub may_spell : (i < slot_count (m.label at).kind) × SlotFits (m.label at).kind i (To (Local result))
-  may_spell = subst (λ q. (i < slot_count q) × SlotFits q i (To (Local result))) (sym at_kind) (subst (λ n. i < n) (sym (inner_slots t.dir level)) x.few, pointer_fits t.dir level i (Local result) (x.later.small result x.gives.is.0))
+  may_spell = subst (λ q. (i < slot_count q) × SlotFits q i (To (Local result))) (sym at_kind) (subst (λ n. i < n) (sym (inner_slots t.dir level)) x.few, pointer_fits t.dir level i (Local result) (x.later.small result x.came.is.0))
 
   pub may_settled : m.clearing at i → ⊥
   may_settled h = not_entries t.dir level (sym at_kind ∙ (x.later.clears at i h).0)
 
   pub may_lead : (b : ℕ) → Local result ≡ Local b → m.is_block b × (b ≢ at)
-  may_lead b e = (subst (λ y. m.is_block y) (local_eq e) x.gives.is.0, λ h. at_ne (sym (local_eq e ∙ h)))
+  may_lead b e = (subst (λ y. m.is_block y) (local_eq e) x.came.is.0, λ h. at_ne (sym (local_eq e ∙ h)))
 
   pub none_dropped : dropped ((m.now at).slot i) (To (Local result)) ≡ 0
   none_dropped = ap (λ q. dropped q (To (Local result))) (slot_to i x.few)
@@ -170,4 +253,4 @@ module _ {t : Tree} {level k at i : ℕ} {c : Content} {l : Label} {result : ℕ
   may_cost = ap (λ q. cost q (To (Local result))) (slot_to i x.few) ∙ cost_none (target ((m.now at).slot i)) result
 
   pub result_label : ((m.label result).state ≡ Live) × ((m.label result).epoch ≡ m.high)
-  result_label = (ap (λ (q : Label). q.state) x.gives.label ∙ x.is_live, ap (λ (q : Label). q.epoch) x.gives.label ∙ x.is_current ∙ sym x.all.same_high)
+  result_label = (ap (λ (q : Label). q.state) x.came.label ∙ x.is_live, ap (λ (q : Label). q.epoch) x.came.label ∙ x.is_current ∙ sym x.all.same_high)

@@ -2,21 +2,22 @@
 use Rattle.std.proofs.Common.{◌≡◌, ◌≢◌, ◌⊎◌, ◌↔◌, ◌+◌, ◌*◌, ◌^◌, ◌<◌, ◌≤◌, ℕ, suc, Bool, true, false, List, [], ◌∷◌, inl, inr, ⊎_elim, refl, sym, ◌∙◌, ap, subst, arith}
 use Rattle.std.proofs.lemmas.Bool.{cases_eq}
 use Rattle.fo_image.specs.declared.types.Label.{Label}
+use Rattle.fo_image.specs.declared.types.Score.{Score}
 use Rattle.fo_image.specs.declared.types.State.TheVariants.{Live}
-use Rattle.fo_image.specs.declared.types.Pointer.TheVariants.{Nil, Local}
+use Rattle.fo_image.specs.declared.types.Pointer.TheVariants.{Nil, Local, Score as Held}
 use Rattle.fo_crash.specs.declared.slot.Slot.TheVariants.{Pointer as To}
 use Rattle.fo_crash.specs.declared.place.Place.{Place}
-use Rattle.fo_crash.specs.Images.{Content, Reaches, target, local, walk, to_block}
+use Rattle.fo_crash.specs.Images.{SameContent, Reaches, target, local, walk, to_block}
 use Rattle.fo_crash.specs.Steps.{Brings}
 use Rattle.fo_crash.specs.Places.{place, place_below, super_place, FitsAt}
 use Rattle.fo_crash.proofs.Places.{stands_below, never_above}
 use Rattle.fo_crash.proofs.Reach.{lost, reaches_joins, reaches_itself}
-use Rattle.fo_ports.specs.Blocks.{blank, IsLevel, zeros}
+use Rattle.fo_ports.specs.Blocks.{IsLevel, zeros}
 use Rattle.fo_ports.specs.State.{State, Comes, IsLoose, LeavesNone, MayPutSlot}
 use Rattle.fo_tree_read.specs.declared.tree.Tree.{Tree}
 use Rattle.fo_tree_read.specs.Tree.{kind_at}
 use Rattle.fo_tree_look.specs.Source.{IsTold}
-use Rattle.fo_tree_own.proofs.Link.{Linking, local_eq, inner_below, blank_leads, at_ne, at_place, same, none_dropped, result_label, reaches_mid, back, held}
+use Rattle.fo_tree_own.proofs.Link.{Linking, local_eq, inner_below, at_ne, at_place, same, none_dropped, result_label, reaches_mid, back, held}
 
 -- the place of the block to be put
 abbrev pub there : Tree → ℕ → ℕ → ℕ → Place
@@ -30,7 +31,7 @@ pub record Shown (t : Tree) (level k at i result : ℕ) (m : State) : Type 0 whe
   pub leaves : LeavesNone m ((m.now at).slot i) (To (Local result))
   pub keeps : (c : ℕ) → target ((m.now at).slot i) ≡ Local c → (Local result ≡ Local c) ⊎ Reaches m.now (to_block 1) c
 
-module _ {t : Tree} {level k at i : ℕ} {c : Content} {l : Label} {result : ℕ} {s m : State} (x : Linking t level k at i c l result s m) where
+module _ {t : Tree} {level k at i : ℕ} {l : Label} {result : ℕ} {s m : State} (x : Linking t level k at i l result s m) where
   pub place_is : s.tells → (p : Place) → m.stands at p → place_below p i (To (Local result)) ≡ there t level k i
   place_is told p stands = ap (λ q. place_below q i (To (Local result))) (x.later.one.each at p (place (kind_at t.dir (suc level)) t.tag k (t.rank + suc level)) stands (at_place x told)) ∙ inner_below t.dir level t.tag k t.rank i (To (Local result))
 
@@ -59,7 +60,7 @@ module _ {t : Tree} {level k at i : ℕ} {c : Content} {l : Label} {result : ℕ
     };
     comes = λ b e. subst (λ y. Comes m at i ((m.now at).slot i) (To (Local result)) y) (local_eq e) shown.comes;
     leaves = shown.leaves;
-    uncovered = λ h. (x.above.told told).uncovered ((x.gives.covered at (at_ne x)).0 h);
+    uncovered = x.came.only at (at_ne x) (x.above.told told).uncovered;
     first = λ inner first y e. (result, refl);
     holder = held x told;
     keeps = shown.keeps;
@@ -67,7 +68,8 @@ module _ {t : Tree} {level k at i : ℕ} {c : Content} {l : Label} {result : ℕ
 
 -- An older block was copied, which hangs from the slot.
 pub record Copying (t : Tree) (level k at i below : ℕ) (l : Label) (result : ℕ) (s m : State) : Type 0 where
-  pub link : Linking t level k at i (s.now below) l result s m
+  pub link : Linking t level k at i l result s m
+  pub here : SameContent (m.now result) (s.now below)
   pub leads : target ((s.now at).slot i) ≡ Local below
   pub was_live : (s.label below).state ≡ Live
   pub older : (s.label below).epoch < s.high
@@ -77,7 +79,7 @@ pub record Copying (t : Tree) (level k at i below : ℕ) (l : Label) (result : �
 
 module _ {t : Tree} {level k at i below : ℕ} {l : Label} {result : ℕ} {s m : State} (x : Copying t level k at i below l result s m) where
   pub below_ne : below ≢ result
-  below_ne e = x.link.gives.was.0 (ap (λ b. (s.label b).state) (sym e) ∙ x.was_live)
+  below_ne e = x.link.came.was.0 (ap (λ b. (s.label b).state) (sym e) ∙ x.was_live)
 
   pub at_below : at ≢ below
   at_below e =
@@ -107,7 +109,7 @@ module _ {t : Tree} {level k at i below : ℕ} {l : Label} {result : ℕ} {s m :
       q.2
 
   pub copy_alike : (j : ℕ) → (m.now result).slot j ≡ (m.now below).slot j
-  copy_alike j = x.link.gives.memory.here.slots j ∙ sym ((x.link.gives.memory.others below below_ne).slots j)
+  copy_alike j = x.here.slots j ∙ sym ((x.link.came.others below below_ne).slots j)
 
   -- what is below the slot but the block itself is below the copy
   past : (b j : ℕ) (path : List ℕ) → target (walk m.now ((m.now at).slot i) (j ∷ path)) ≡ Local b → target (walk m.now ((m.now below).slot j) path) ≡ Local b
@@ -120,24 +122,24 @@ module _ {t : Tree} {level k at i below : ℕ} {l : Label} {result : ℕ} {s m :
   brought told b [] e =
       let is = result_label x.link in
       let up : (m.label result).epoch ≤ m.high = let same = is.1 in omega (arith, same) in
-      subst (λ y. ((m.label y).state ≡ Live) × ((m.label y).epoch ≤ m.high) × (m.covered y → ⊥)) (local_eq e) (is.0, up, x.link.gives.is.4)
+      subst (λ y. ((m.label y).state ≡ Live) × ((m.label y).epoch ≤ m.high) × (m.covered y → ⊥)) (local_eq e) (is.0, up, x.link.came.is.4)
   brought told b (j ∷ path) e =
       let near : Reaches m.now (to_block below) b = record { path = j ∷ path; leads = ap (λ q. target (walk m.now q path)) (sym (copy_alike j)) ∙ e } in
       let was : Reaches s.now (to_block below) b = back x.link told below b (there t level k i) (below_stands told) near in
       let apart : b ≢ 1 = λ f. never_one told (subst (λ y. Reaches s.now (to_block below) y) f was) in
       let is = x.link.laws.live b told apart (reaches_joins (copied_in_tree told) was) in
-      let ne : b ≢ result = λ f. x.link.gives.was.0 (ap (λ y. (s.label y).state) (sym f) ∙ is.0) in
-      let label = x.link.gives.stays.labels b ne in (
+      let ne : b ≢ result = λ f. x.link.came.was.0 (ap (λ y. (s.label y).state) (sym f) ∙ is.0) in
+      let label = x.link.came.stays.labels b ne in (
         ap (λ (q : Label). q.state) label ∙ is.0,
         subst (λ n. (m.label b).epoch ≤ n) (sym x.link.all.same_high) (subst (λ (q : Label). q.epoch ≤ s.high) (sym label) is.1),
-        λ h. is.2 ((x.link.gives.covered b ne).0 h),
+        x.link.came.only b ne is.2,
       )
 
   quiet : (b : ℕ) (path : List ℕ) (j : ℕ) → m.clearing b j → target (walk m.now ((m.now at).slot i) path) ≡ Local b → Reaches m.now (To (Local result)) b
   quiet b [] j waits e =
       let is : below ≡ b = local_eq (sym leads_on ∙ e) in
       let young : (m.label below).epoch ≡ m.high = ap (λ y. (m.label y).epoch) is ∙ (x.link.later.clears b j waits).1 in
-      let label : (m.label below).epoch ≡ (s.label below).epoch = ap (λ (q : Label). q.epoch) (x.link.gives.stays.labels below below_ne) in
+      let label : (m.label below).epoch ≡ (s.label below).epoch = ap (λ (q : Label). q.epoch) (x.link.came.stays.labels below below_ne) in
       let high = x.link.all.same_high in
       let older = x.older in
       absurd (omega (arith, young, label, high, older))
@@ -148,7 +150,7 @@ module _ {t : Tree} {level k at i below : ℕ} {l : Label} {result : ℕ} {s m :
       let here : z ≡ below = local_eq (sym e ∙ leads_on) in
       ⊎_elim
       (λ own. inr (subst (λ w. Reaches m.now (To (Local result)) w) (sym own) (reaches_itself m.now result)))
-      (λ other. absurd ((x.told told).alone y (subst (λ w. s.instead y w) here ((x.link.gives.stays.instead y z other (λ h. h)).0 is))))
+      (λ other. absurd ((x.told told).alone y (subst (λ w. s.instead y w) here ((x.link.came.stays.instead y z other (λ h. h)).0 is))))
       (cases_eq y result)
   instead_of told y z (j ∷ path) is e = inl (under z j path e)
 
@@ -164,10 +166,11 @@ module _ {t : Tree} {level k at i below : ℕ} {l : Label} {result : ℕ} {s m :
     keeps = λ b e. inr (subst (λ y. Reaches m.now (to_block 1) y) (local_eq (sym leads_on ∙ e)) (reaches_mid x.link told 1 below super_place (x.link.laws.super_stands told) (copied_in_tree told)));
   }
 
--- A new block was given out, for a slot that leads nowhere.
+-- A block that leads to no block was given out, for a slot that leads to none.
 pub record Making (t : Tree) (level k at i : ℕ) (l : Label) (result : ℕ) (s m : State) : Type 0 where
-  pub link : Linking t level k at i (blank (kind_at t.dir level)) l result s m
-  pub leads : target ((s.now at).slot i) ≡ Nil
+  pub link : Linking t level k at i l result s m
+  pub leads : (b : ℕ) → target ((s.now at).slot i) ≢ Local b
+  pub bare : (j b : ℕ) → target ((m.now result).slot j) ≢ Local b
   pub low : 409 * k + i < 2 ^ 64
   pub instead : (y : ℕ) → m.instead result y → ⊥
   pub place : s.tells → m.stands result (place (kind_at t.dir level) t.tag 0 (t.rank + level))
@@ -180,25 +183,22 @@ level_of false level lt = omega (arith, lt)
 pub nil_leads : (c : ℕ) → Nil ≢ Local c
 nil_leads c e = cc
 
+pub held_leads : (score : Score) (c : ℕ) → Held score ≢ Local c
+held_leads score c e = cc
+
 module _ {t : Tree} {level k at i : ℕ} {l : Label} {result : ℕ} {s m : State} (x : Making t level k at i l result s m) where
-  pub leads_none : target ((m.now at).slot i) ≡ Nil
-  leads_none = ap target (same x.link i) ∙ x.leads
-
   pub slot_none : (b : ℕ) → target ((m.now at).slot i) ≢ Local b
-  slot_none b e = nil_leads b (sym leads_none ∙ e)
-
-  pub made_leads : (j : ℕ) → target ((m.now result).slot j) ≡ Nil
-  made_leads j = ap target (x.link.gives.memory.here.slots j) ∙ blank_leads t.dir level j
+  slot_none b e = x.leads b (sym (ap target (same x.link i)) ∙ e)
 
   loose : IsLoose m result
-  loose = ((x.link.gives.is.3, x.instead), λ j b e. nil_leads b (sym (made_leads j) ∙ e))
+  loose = ((x.link.came.is.3, x.instead), x.bare)
 
   new_brings : (b : ℕ) (path : List ℕ) → target (walk m.now (To (Local result)) path) ≡ Local b → ((m.label b).state ≡ Live) × ((m.label b).epoch ≤ m.high) × (m.covered b → ⊥)
   new_brings b [] e =
       let is = result_label x.link in
       let up : (m.label result).epoch ≤ m.high = let same = is.1 in omega (arith, same) in
-      subst (λ y. ((m.label y).state ≡ Live) × ((m.label y).epoch ≤ m.high) × (m.covered y → ⊥)) (local_eq e) (is.0, up, x.link.gives.is.4)
-  new_brings b (j ∷ path) e = absurd (lost m.now path ((m.now result).slot j) (λ y f. nil_leads y (sym (made_leads j) ∙ f)) b e)
+      subst (λ y. ((m.label y).state ≡ Live) × ((m.label y).epoch ≤ m.high) × (m.covered y → ⊥)) (local_eq e) (is.0, up, x.link.came.is.4)
+  new_brings b (j ∷ path) e = absurd (lost m.now path ((m.now result).slot j) (x.bare j) b e)
 
   pub new_shown : s.tells → Shown t level k at i result m
   new_shown told = record {

@@ -13,7 +13,7 @@ use fo_ports::Blocks;
 use fo_tree_read::Tree;
 
 /// How many pointers a block has.
-const SLOTS: u64 = 409;
+pub(crate) const SLOTS: u64 = 409;
 
 /// Copies the older block `k` of a level, and leads the slot above to the copy.
 fn copy_below<B: Blocks>(tree: &Tree, on: &mut B, above: u32, level: u8, k: u64, below: u32) -> u32
@@ -63,7 +63,7 @@ pub fn own_below<B: Blocks>(
 }
 
 /// Whether a block is of the current epoch.
-fn is_current<B: Blocks>(on: &B, at: u32) -> bool
+pub fn is_current<B: Blocks>(on: &B, at: u32) -> bool
     requires block { (B.state on.now).is_block at }
     requires up_to { ((B.state on.now).label at).epoch ≤ (B.state on.now).high }
     ensures yes { result ≡ true → ((B.state on.now).label at).epoch ≡ (B.state on.now).high }
@@ -94,7 +94,7 @@ pub fn new_below<B: Blocks>(tree: &Tree, on: &mut B, above: u32, level: u8, k: u
 }
 
 /// The kind of a block of a source at this level.
-fn kind_at(dir: bool, level: u8) -> Kind
+pub fn kind_at(dir: bool, level: u8) -> Kind
     ensures { result ≡ kind_at dir level }
 {
     if dir {

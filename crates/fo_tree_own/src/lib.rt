@@ -4,10 +4,15 @@
 //! slot of a current block is itself current, or is older and copied, or is none and made new; and the slot is led to what came.
 //!
 //! Proved, over any blocks and any device, for one step: the block that came is current, pinned, whole and at its place, and so is still
-//! the block above; it has what was there, or zeros. No other block changes, in memory and in every image; nothing is lost that hung from
-//! block 1, and what was copied is to be closed where it leaves. What is under a score is not made current here.
+//! the block above; it has what was there, what was kept under a score, or zeros. No other block changes, in memory and in every image;
+//! nothing is lost that hung from block 1, and what was copied is to be closed where it leaves. Not said: what a whole way changes.
 #![tactic(auto)]
 
 mod below;
+mod block;
+mod fill;
+mod kept;
 
-pub use below::{new_below, own_below};
+pub use below::{is_current, kind_at, new_below, own_below};
+pub use block::own_block;
+pub use kept::{fill_kept, kept_below};

@@ -1,10 +1,10 @@
-use Rattle.std.proofs.Common.{◌-◌, ◌/◌, ◌%◌, ◌^◌, ◌<◌, refl, sym, ◌∙◌, ap, subst, arith}
+use Rattle.std.proofs.Common.{length, inl, ◌-◌, ◌/◌, ◌%◌, ◌^◌, ◌<◌, refl, sym, ◌∙◌, ap, subst, arith}
 use Rattle.fo_image.specs.declared.types.State.TheVariants.{Live}
 use Rattle.fo_image.specs.declared.types.Pointer.TheVariants.{Local}
 use Rattle.fo_crash.specs.Images.{Reaches, target, to_block}
 use Rattle.fo_crash.specs.Places.{super_place}
 use Rattle.fo_crash.proofs.Reach.{reaches_same}
-use Rattle.fo_tree_own.proofs.Link.{at_current, local_eq, reaches_mid, back, unwaited, may_spell, may_settled, may_lead, may_cost, none_dropped}
+use Rattle.fo_tree_own.proofs.Link.{came, at_current, local_eq, reaches_mid, back, unwaited, may_spell, may_settled, may_lead, may_cost, none_dropped}
 use Rattle.fo_tree_own.proofs.May.{Copying, there, may_put, copy_shown, below_ne, at_below, leads_on, copied_in_tree, below_stands, never_one, copy_alike}
 use Rattle.fo_tree_own.proofs.After.{links}
 use Rattle.fo_tree_own.proofs.below.copy_below.Goals as goal
@@ -24,7 +24,7 @@ put_slot-requires-clause-spelled g c =
     let e = c.copy-copy.ensures in
     let x : Copying t c.args.level (c.args.k / 409) c.args.above i c.args.below (record (s.label c.args.below) { state = Live; epoch = s.high; closing = 2 ^ 32 - 1 }) c.copy-copy.result s m = record {
       link = record {
-        gives = e.gives;
+        came = came e.gives;
         all = g.met.B.Blocks.keeps_all on mid e.keeps;
         above = c.requires.above;
         few = few;
@@ -33,6 +33,7 @@ put_slot-requires-clause-spelled g c =
         is_live = refl;
         is_current = refl;
       };
+      here = e.gives.memory.here;
       leads = c.requires.leads;
       was_live = c.requires.below.live;
       older = c.requires.older;
@@ -54,7 +55,7 @@ put_slot-requires-clause-current g c =
     let e = c.copy-copy.ensures in
     let x : Copying t c.args.level (c.args.k / 409) c.args.above i c.args.below (record (s.label c.args.below) { state = Live; epoch = s.high; closing = 2 ^ 32 - 1 }) c.copy-copy.result s m = record {
       link = record {
-        gives = e.gives;
+        came = came e.gives;
         all = g.met.B.Blocks.keeps_all on mid e.keeps;
         above = c.requires.above;
         few = few;
@@ -63,6 +64,7 @@ put_slot-requires-clause-current g c =
         is_live = refl;
         is_current = refl;
       };
+      here = e.gives.memory.here;
       leads = c.requires.leads;
       was_live = c.requires.below.live;
       older = c.requires.older;
@@ -84,7 +86,7 @@ put_slot-requires-clause-settled g c =
     let e = c.copy-copy.ensures in
     let x : Copying t c.args.level (c.args.k / 409) c.args.above i c.args.below (record (s.label c.args.below) { state = Live; epoch = s.high; closing = 2 ^ 32 - 1 }) c.copy-copy.result s m = record {
       link = record {
-        gives = e.gives;
+        came = came e.gives;
         all = g.met.B.Blocks.keeps_all on mid e.keeps;
         above = c.requires.above;
         few = few;
@@ -93,6 +95,7 @@ put_slot-requires-clause-settled g c =
         is_live = refl;
         is_current = refl;
       };
+      here = e.gives.memory.here;
       leads = c.requires.leads;
       was_live = c.requires.below.live;
       older = c.requires.older;
@@ -114,7 +117,7 @@ put_slot-requires-clause-same_use g c = λ a w.
     let e = c.copy-copy.ensures in
     let x : Copying t c.args.level (c.args.k / 409) c.args.above i c.args.below (record (s.label c.args.below) { state = Live; epoch = s.high; closing = 2 ^ 32 - 1 }) c.copy-copy.result s m = record {
       link = record {
-        gives = e.gives;
+        came = came e.gives;
         all = g.met.B.Blocks.keeps_all on mid e.keeps;
         above = c.requires.above;
         few = few;
@@ -123,6 +126,7 @@ put_slot-requires-clause-same_use g c = λ a w.
         is_live = refl;
         is_current = refl;
       };
+      here = e.gives.memory.here;
       leads = c.requires.leads;
       was_live = c.requires.below.live;
       older = c.requires.older;
@@ -144,7 +148,7 @@ put_slot-requires-clause-leads g c =
     let e = c.copy-copy.ensures in
     let x : Copying t c.args.level (c.args.k / 409) c.args.above i c.args.below (record (s.label c.args.below) { state = Live; epoch = s.high; closing = 2 ^ 32 - 1 }) c.copy-copy.result s m = record {
       link = record {
-        gives = e.gives;
+        came = came e.gives;
         all = g.met.B.Blocks.keeps_all on mid e.keeps;
         above = c.requires.above;
         few = few;
@@ -153,6 +157,7 @@ put_slot-requires-clause-leads g c =
         is_live = refl;
         is_current = refl;
       };
+      here = e.gives.memory.here;
       leads = c.requires.leads;
       was_live = c.requires.below.live;
       older = c.requires.older;
@@ -174,7 +179,7 @@ put_slot-requires-clause-may g c = λ now.
     let e = c.copy-copy.ensures in
     let x : Copying t c.args.level (c.args.k / 409) c.args.above i c.args.below (record (s.label c.args.below) { state = Live; epoch = s.high; closing = 2 ^ 32 - 1 }) c.copy-copy.result s m = record {
       link = record {
-        gives = e.gives;
+        came = came e.gives;
         all = g.met.B.Blocks.keeps_all on mid e.keeps;
         above = c.requires.above;
         few = few;
@@ -183,6 +188,7 @@ put_slot-requires-clause-may g c = λ now.
         is_live = refl;
         is_current = refl;
       };
+      here = e.gives.memory.here;
       leads = c.requires.leads;
       was_live = c.requires.below.live;
       older = c.requires.older;
@@ -204,7 +210,7 @@ put_slot-requires-clause-room g c =
     let e = c.copy-copy.ensures in
     let x : Copying t c.args.level (c.args.k / 409) c.args.above i c.args.below (record (s.label c.args.below) { state = Live; epoch = s.high; closing = 2 ^ 32 - 1 }) c.copy-copy.result s m = record {
       link = record {
-        gives = e.gives;
+        came = came e.gives;
         all = g.met.B.Blocks.keeps_all on mid e.keeps;
         above = c.requires.above;
         few = few;
@@ -213,6 +219,7 @@ put_slot-requires-clause-room g c =
         is_live = refl;
         is_current = refl;
       };
+      here = e.gives.memory.here;
       leads = c.requires.leads;
       was_live = c.requires.below.live;
       older = c.requires.older;
@@ -234,7 +241,7 @@ put_slot-requires-clause-tops g c = λ n y lt h.
     let e = c.copy-copy.ensures in
     let x : Copying t c.args.level (c.args.k / 409) c.args.above i c.args.below (record (s.label c.args.below) { state = Live; epoch = s.high; closing = 2 ^ 32 - 1 }) c.copy-copy.result s m = record {
       link = record {
-        gives = e.gives;
+        came = came e.gives;
         all = g.met.B.Blocks.keeps_all on mid e.keeps;
         above = c.requires.above;
         few = few;
@@ -243,6 +250,7 @@ put_slot-requires-clause-tops g c = λ n y lt h.
         is_live = refl;
         is_current = refl;
       };
+      here = e.gives.memory.here;
       leads = c.requires.leads;
       was_live = c.requires.below.live;
       older = c.requires.older;
@@ -264,7 +272,7 @@ returns-clause-links g c =
     let e = c.copy-copy.ensures in
     let x : Copying t c.args.level (c.args.k / 409) c.args.above i c.args.below (record (s.label c.args.below) { state = Live; epoch = s.high; closing = 2 ^ 32 - 1 }) c.copy-copy.result s m = record {
       link = record {
-        gives = e.gives;
+        came = came e.gives;
         all = g.met.B.Blocks.keeps_all on mid e.keeps;
         above = c.requires.above;
         few = few;
@@ -273,6 +281,7 @@ returns-clause-links g c =
         is_live = refl;
         is_current = refl;
       };
+      here = e.gives.memory.here;
       leads = c.requires.leads;
       was_live = c.requires.below.live;
       older = c.requires.older;
@@ -288,9 +297,9 @@ returns-clause-links g c =
       link = x.link;
       kind = c.requires.below.has_kind;
       tagged = c.requires.below.tagged;
-      long = c.requires.below.long;
+      long = ap length e.gives.memory.here.bytes ∙ c.requires.below.long;
       leads = leads_on x;
-      alike = λ j. ap target (copy_alike x j);
+      alike = λ j. inl (ap target (copy_alike x j));
       other = λ y h same. at_below x (sym same ∙ sym (local_eq h));
       raised = λ y h. ap (λ z. Local z) (sym ((e.instead y).0 h));
       in_tree = λ told y h. subst (λ z. Reaches m.now (to_block 1) z) (local_eq h) (reaches_mid x.link told 1 c.args.below super_place (x.link.laws.super_stands told) (copied_in_tree x told));

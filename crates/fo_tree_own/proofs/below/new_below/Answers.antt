@@ -1,13 +1,15 @@
-use Rattle.std.proofs.Common.{◌+◌, ◌-◌, ◌/◌, ◌%◌, ◌^◌, ◌<◌, refl, sym, subst, arith}
+use Rattle.std.proofs.Common.{◌≡◌, ◌+◌, ◌-◌, ◌/◌, ◌%◌, ◌^◌, ◌<◌, ℕ, length, inl, refl, sym, ap, ◌∙◌, subst, arith}
 use Rattle.fo_image.specs.declared.types.State.TheVariants.{Live}
+use Rattle.fo_image.specs.declared.types.Pointer.TheVariants.{Nil}
+use Rattle.fo_crash.specs.Images.{target}
 use Rattle.fo_crash.specs.Places.{place}
 use Rattle.fo_ports.specs.State.{Gives}
 use Rattle.fo_crash.proofs.Reach.{lost}
 use Rattle.fo_ports.specs.Blocks.{blank, IsLevel}
 use Rattle.fo_ports.proofs.Lengths.{length_zero_bytes}
 use Rattle.fo_tree_read.specs.Tree.{kind_at}
-use Rattle.fo_tree_own.proofs.Link.{at_current, unwaited, may_spell, may_settled, may_lead, may_cost, none_dropped}
-use Rattle.fo_tree_own.proofs.May.{Making, may_put, new_shown, leads_none, slot_none, made_leads, nil_leads, level_of}
+use Rattle.fo_tree_own.proofs.Link.{came, blank_leads, same, at_current, unwaited, may_spell, may_settled, may_lead, may_cost, none_dropped}
+use Rattle.fo_tree_own.proofs.May.{Making, may_put, new_shown, slot_none, nil_leads, level_of}
 use Rattle.fo_tree_own.proofs.After.{links}
 use Rattle.fo_tree_own.proofs.below.new_below.Goals as goal
 
@@ -24,9 +26,11 @@ put_slot-requires-clause-spelled g c =
     let i = c.args.k % 409 in
     let few : i < 409 = omega arith in
     let e = c.new_block-made.ensures in
+    let gives = subst (λ q. Gives c.new_block-made.result (blank q) (record { state = Live; kind = q; tag = t.tag; epoch = s.high; closing = 2 ^ 32 - 1 }) s m) c.kind_at-kind.ensures e.gives in
+    let bare : (j : ℕ) → target ((m.now c.new_block-made.result).slot j) ≡ Nil = λ j. ap target (gives.memory.here.slots j) ∙ blank_leads t.dir c.args.level j in
     let x : Making t c.args.level (c.args.k / 409) c.args.above i (record { state = Live; kind = kind_at t.dir c.args.level; tag = t.tag; epoch = s.high; closing = 2 ^ 32 - 1 }) c.new_block-made.result s m = record {
       link = record {
-        gives = subst (λ q. Gives c.new_block-made.result (blank q) (record { state = Live; kind = q; tag = t.tag; epoch = s.high; closing = 2 ^ 32 - 1 }) s m) c.kind_at-kind.ensures e.gives;
+        came = came gives;
         all = g.met.B.Blocks.keeps_all on mid e.keeps;
         above = c.requires.above;
         few = few;
@@ -35,7 +39,8 @@ put_slot-requires-clause-spelled g c =
         is_live = refl;
         is_current = refl;
       };
-      leads = c.requires.leads;
+      leads = λ b h. nil_leads b (sym c.requires.leads ∙ h);
+      bare = λ j b h. nil_leads b (sym (bare j) ∙ h);
       low = let small = c.ranges.k.fits in omega (arith, small);
       instead = e.instead;
       place = λ told. subst (λ q. m.stands c.new_block-made.result (place q t.tag 0 (t.rank + c.args.level))) c.kind_at-kind.ensures (e.place told);
@@ -52,9 +57,11 @@ put_slot-requires-clause-current g c =
     let i = c.args.k % 409 in
     let few : i < 409 = omega arith in
     let e = c.new_block-made.ensures in
+    let gives = subst (λ q. Gives c.new_block-made.result (blank q) (record { state = Live; kind = q; tag = t.tag; epoch = s.high; closing = 2 ^ 32 - 1 }) s m) c.kind_at-kind.ensures e.gives in
+    let bare : (j : ℕ) → target ((m.now c.new_block-made.result).slot j) ≡ Nil = λ j. ap target (gives.memory.here.slots j) ∙ blank_leads t.dir c.args.level j in
     let x : Making t c.args.level (c.args.k / 409) c.args.above i (record { state = Live; kind = kind_at t.dir c.args.level; tag = t.tag; epoch = s.high; closing = 2 ^ 32 - 1 }) c.new_block-made.result s m = record {
       link = record {
-        gives = subst (λ q. Gives c.new_block-made.result (blank q) (record { state = Live; kind = q; tag = t.tag; epoch = s.high; closing = 2 ^ 32 - 1 }) s m) c.kind_at-kind.ensures e.gives;
+        came = came gives;
         all = g.met.B.Blocks.keeps_all on mid e.keeps;
         above = c.requires.above;
         few = few;
@@ -63,7 +70,8 @@ put_slot-requires-clause-current g c =
         is_live = refl;
         is_current = refl;
       };
-      leads = c.requires.leads;
+      leads = λ b h. nil_leads b (sym c.requires.leads ∙ h);
+      bare = λ j b h. nil_leads b (sym (bare j) ∙ h);
       low = let small = c.ranges.k.fits in omega (arith, small);
       instead = e.instead;
       place = λ told. subst (λ q. m.stands c.new_block-made.result (place q t.tag 0 (t.rank + c.args.level))) c.kind_at-kind.ensures (e.place told);
@@ -80,9 +88,11 @@ put_slot-requires-clause-settled g c =
     let i = c.args.k % 409 in
     let few : i < 409 = omega arith in
     let e = c.new_block-made.ensures in
+    let gives = subst (λ q. Gives c.new_block-made.result (blank q) (record { state = Live; kind = q; tag = t.tag; epoch = s.high; closing = 2 ^ 32 - 1 }) s m) c.kind_at-kind.ensures e.gives in
+    let bare : (j : ℕ) → target ((m.now c.new_block-made.result).slot j) ≡ Nil = λ j. ap target (gives.memory.here.slots j) ∙ blank_leads t.dir c.args.level j in
     let x : Making t c.args.level (c.args.k / 409) c.args.above i (record { state = Live; kind = kind_at t.dir c.args.level; tag = t.tag; epoch = s.high; closing = 2 ^ 32 - 1 }) c.new_block-made.result s m = record {
       link = record {
-        gives = subst (λ q. Gives c.new_block-made.result (blank q) (record { state = Live; kind = q; tag = t.tag; epoch = s.high; closing = 2 ^ 32 - 1 }) s m) c.kind_at-kind.ensures e.gives;
+        came = came gives;
         all = g.met.B.Blocks.keeps_all on mid e.keeps;
         above = c.requires.above;
         few = few;
@@ -91,7 +101,8 @@ put_slot-requires-clause-settled g c =
         is_live = refl;
         is_current = refl;
       };
-      leads = c.requires.leads;
+      leads = λ b h. nil_leads b (sym c.requires.leads ∙ h);
+      bare = λ j b h. nil_leads b (sym (bare j) ∙ h);
       low = let small = c.ranges.k.fits in omega (arith, small);
       instead = e.instead;
       place = λ told. subst (λ q. m.stands c.new_block-made.result (place q t.tag 0 (t.rank + c.args.level))) c.kind_at-kind.ensures (e.place told);
@@ -108,9 +119,11 @@ put_slot-requires-clause-same_use g c = λ a w.
     let i = c.args.k % 409 in
     let few : i < 409 = omega arith in
     let e = c.new_block-made.ensures in
+    let gives = subst (λ q. Gives c.new_block-made.result (blank q) (record { state = Live; kind = q; tag = t.tag; epoch = s.high; closing = 2 ^ 32 - 1 }) s m) c.kind_at-kind.ensures e.gives in
+    let bare : (j : ℕ) → target ((m.now c.new_block-made.result).slot j) ≡ Nil = λ j. ap target (gives.memory.here.slots j) ∙ blank_leads t.dir c.args.level j in
     let x : Making t c.args.level (c.args.k / 409) c.args.above i (record { state = Live; kind = kind_at t.dir c.args.level; tag = t.tag; epoch = s.high; closing = 2 ^ 32 - 1 }) c.new_block-made.result s m = record {
       link = record {
-        gives = subst (λ q. Gives c.new_block-made.result (blank q) (record { state = Live; kind = q; tag = t.tag; epoch = s.high; closing = 2 ^ 32 - 1 }) s m) c.kind_at-kind.ensures e.gives;
+        came = came gives;
         all = g.met.B.Blocks.keeps_all on mid e.keeps;
         above = c.requires.above;
         few = few;
@@ -119,7 +132,8 @@ put_slot-requires-clause-same_use g c = λ a w.
         is_live = refl;
         is_current = refl;
       };
-      leads = c.requires.leads;
+      leads = λ b h. nil_leads b (sym c.requires.leads ∙ h);
+      bare = λ j b h. nil_leads b (sym (bare j) ∙ h);
       low = let small = c.ranges.k.fits in omega (arith, small);
       instead = e.instead;
       place = λ told. subst (λ q. m.stands c.new_block-made.result (place q t.tag 0 (t.rank + c.args.level))) c.kind_at-kind.ensures (e.place told);
@@ -136,9 +150,11 @@ put_slot-requires-clause-leads g c =
     let i = c.args.k % 409 in
     let few : i < 409 = omega arith in
     let e = c.new_block-made.ensures in
+    let gives = subst (λ q. Gives c.new_block-made.result (blank q) (record { state = Live; kind = q; tag = t.tag; epoch = s.high; closing = 2 ^ 32 - 1 }) s m) c.kind_at-kind.ensures e.gives in
+    let bare : (j : ℕ) → target ((m.now c.new_block-made.result).slot j) ≡ Nil = λ j. ap target (gives.memory.here.slots j) ∙ blank_leads t.dir c.args.level j in
     let x : Making t c.args.level (c.args.k / 409) c.args.above i (record { state = Live; kind = kind_at t.dir c.args.level; tag = t.tag; epoch = s.high; closing = 2 ^ 32 - 1 }) c.new_block-made.result s m = record {
       link = record {
-        gives = subst (λ q. Gives c.new_block-made.result (blank q) (record { state = Live; kind = q; tag = t.tag; epoch = s.high; closing = 2 ^ 32 - 1 }) s m) c.kind_at-kind.ensures e.gives;
+        came = came gives;
         all = g.met.B.Blocks.keeps_all on mid e.keeps;
         above = c.requires.above;
         few = few;
@@ -147,7 +163,8 @@ put_slot-requires-clause-leads g c =
         is_live = refl;
         is_current = refl;
       };
-      leads = c.requires.leads;
+      leads = λ b h. nil_leads b (sym c.requires.leads ∙ h);
+      bare = λ j b h. nil_leads b (sym (bare j) ∙ h);
       low = let small = c.ranges.k.fits in omega (arith, small);
       instead = e.instead;
       place = λ told. subst (λ q. m.stands c.new_block-made.result (place q t.tag 0 (t.rank + c.args.level))) c.kind_at-kind.ensures (e.place told);
@@ -164,9 +181,11 @@ put_slot-requires-clause-may g c = λ now.
     let i = c.args.k % 409 in
     let few : i < 409 = omega arith in
     let e = c.new_block-made.ensures in
+    let gives = subst (λ q. Gives c.new_block-made.result (blank q) (record { state = Live; kind = q; tag = t.tag; epoch = s.high; closing = 2 ^ 32 - 1 }) s m) c.kind_at-kind.ensures e.gives in
+    let bare : (j : ℕ) → target ((m.now c.new_block-made.result).slot j) ≡ Nil = λ j. ap target (gives.memory.here.slots j) ∙ blank_leads t.dir c.args.level j in
     let x : Making t c.args.level (c.args.k / 409) c.args.above i (record { state = Live; kind = kind_at t.dir c.args.level; tag = t.tag; epoch = s.high; closing = 2 ^ 32 - 1 }) c.new_block-made.result s m = record {
       link = record {
-        gives = subst (λ q. Gives c.new_block-made.result (blank q) (record { state = Live; kind = q; tag = t.tag; epoch = s.high; closing = 2 ^ 32 - 1 }) s m) c.kind_at-kind.ensures e.gives;
+        came = came gives;
         all = g.met.B.Blocks.keeps_all on mid e.keeps;
         above = c.requires.above;
         few = few;
@@ -175,7 +194,8 @@ put_slot-requires-clause-may g c = λ now.
         is_live = refl;
         is_current = refl;
       };
-      leads = c.requires.leads;
+      leads = λ b h. nil_leads b (sym c.requires.leads ∙ h);
+      bare = λ j b h. nil_leads b (sym (bare j) ∙ h);
       low = let small = c.ranges.k.fits in omega (arith, small);
       instead = e.instead;
       place = λ told. subst (λ q. m.stands c.new_block-made.result (place q t.tag 0 (t.rank + c.args.level))) c.kind_at-kind.ensures (e.place told);
@@ -192,9 +212,11 @@ put_slot-requires-clause-room g c =
     let i = c.args.k % 409 in
     let few : i < 409 = omega arith in
     let e = c.new_block-made.ensures in
+    let gives = subst (λ q. Gives c.new_block-made.result (blank q) (record { state = Live; kind = q; tag = t.tag; epoch = s.high; closing = 2 ^ 32 - 1 }) s m) c.kind_at-kind.ensures e.gives in
+    let bare : (j : ℕ) → target ((m.now c.new_block-made.result).slot j) ≡ Nil = λ j. ap target (gives.memory.here.slots j) ∙ blank_leads t.dir c.args.level j in
     let x : Making t c.args.level (c.args.k / 409) c.args.above i (record { state = Live; kind = kind_at t.dir c.args.level; tag = t.tag; epoch = s.high; closing = 2 ^ 32 - 1 }) c.new_block-made.result s m = record {
       link = record {
-        gives = subst (λ q. Gives c.new_block-made.result (blank q) (record { state = Live; kind = q; tag = t.tag; epoch = s.high; closing = 2 ^ 32 - 1 }) s m) c.kind_at-kind.ensures e.gives;
+        came = came gives;
         all = g.met.B.Blocks.keeps_all on mid e.keeps;
         above = c.requires.above;
         few = few;
@@ -203,7 +225,8 @@ put_slot-requires-clause-room g c =
         is_live = refl;
         is_current = refl;
       };
-      leads = c.requires.leads;
+      leads = λ b h. nil_leads b (sym c.requires.leads ∙ h);
+      bare = λ j b h. nil_leads b (sym (bare j) ∙ h);
       low = let small = c.ranges.k.fits in omega (arith, small);
       instead = e.instead;
       place = λ told. subst (λ q. m.stands c.new_block-made.result (place q t.tag 0 (t.rank + c.args.level))) c.kind_at-kind.ensures (e.place told);
@@ -220,9 +243,11 @@ put_slot-requires-clause-tops g c = λ n y lt h.
     let i = c.args.k % 409 in
     let few : i < 409 = omega arith in
     let e = c.new_block-made.ensures in
+    let gives = subst (λ q. Gives c.new_block-made.result (blank q) (record { state = Live; kind = q; tag = t.tag; epoch = s.high; closing = 2 ^ 32 - 1 }) s m) c.kind_at-kind.ensures e.gives in
+    let bare : (j : ℕ) → target ((m.now c.new_block-made.result).slot j) ≡ Nil = λ j. ap target (gives.memory.here.slots j) ∙ blank_leads t.dir c.args.level j in
     let x : Making t c.args.level (c.args.k / 409) c.args.above i (record { state = Live; kind = kind_at t.dir c.args.level; tag = t.tag; epoch = s.high; closing = 2 ^ 32 - 1 }) c.new_block-made.result s m = record {
       link = record {
-        gives = subst (λ q. Gives c.new_block-made.result (blank q) (record { state = Live; kind = q; tag = t.tag; epoch = s.high; closing = 2 ^ 32 - 1 }) s m) c.kind_at-kind.ensures e.gives;
+        came = came gives;
         all = g.met.B.Blocks.keeps_all on mid e.keeps;
         above = c.requires.above;
         few = few;
@@ -231,7 +256,8 @@ put_slot-requires-clause-tops g c = λ n y lt h.
         is_live = refl;
         is_current = refl;
       };
-      leads = c.requires.leads;
+      leads = λ b h. nil_leads b (sym c.requires.leads ∙ h);
+      bare = λ j b h. nil_leads b (sym (bare j) ∙ h);
       low = let small = c.ranges.k.fits in omega (arith, small);
       instead = e.instead;
       place = λ told. subst (λ q. m.stands c.new_block-made.result (place q t.tag 0 (t.rank + c.args.level))) c.kind_at-kind.ensures (e.place told);
@@ -248,9 +274,11 @@ returns-clause-links g c =
     let i = c.args.k % 409 in
     let few : i < 409 = omega arith in
     let e = c.new_block-made.ensures in
+    let gives = subst (λ q. Gives c.new_block-made.result (blank q) (record { state = Live; kind = q; tag = t.tag; epoch = s.high; closing = 2 ^ 32 - 1 }) s m) c.kind_at-kind.ensures e.gives in
+    let bare : (j : ℕ) → target ((m.now c.new_block-made.result).slot j) ≡ Nil = λ j. ap target (gives.memory.here.slots j) ∙ blank_leads t.dir c.args.level j in
     let x : Making t c.args.level (c.args.k / 409) c.args.above i (record { state = Live; kind = kind_at t.dir c.args.level; tag = t.tag; epoch = s.high; closing = 2 ^ 32 - 1 }) c.new_block-made.result s m = record {
       link = record {
-        gives = subst (λ q. Gives c.new_block-made.result (blank q) (record { state = Live; kind = q; tag = t.tag; epoch = s.high; closing = 2 ^ 32 - 1 }) s m) c.kind_at-kind.ensures e.gives;
+        came = came gives;
         all = g.met.B.Blocks.keeps_all on mid e.keeps;
         above = c.requires.above;
         few = few;
@@ -259,7 +287,8 @@ returns-clause-links g c =
         is_live = refl;
         is_current = refl;
       };
-      leads = c.requires.leads;
+      leads = λ b h. nil_leads b (sym c.requires.leads ∙ h);
+      bare = λ j b h. nil_leads b (sym (bare j) ∙ h);
       low = let small = c.ranges.k.fits in omega (arith, small);
       instead = e.instead;
       place = λ told. subst (λ q. m.stands c.new_block-made.result (place q t.tag 0 (t.rank + c.args.level))) c.kind_at-kind.ensures (e.place told);
@@ -272,9 +301,9 @@ returns-clause-links g c =
       link = x.link;
       kind = refl;
       tagged = refl;
-      long = length_zero_bytes;
-      leads = leads_none x;
-      alike = λ j. made_leads x j;
+      long = ap length gives.memory.here.bytes ∙ length_zero_bytes;
+      leads = ap target (same x.link i) ∙ c.requires.leads;
+      alike = λ j. inl (bare j);
       other = λ y h. absurd (nil_leads y h);
       raised = λ y h. absurd (e.instead y h);
       in_tree = λ told y h. absurd (nil_leads y h);
