@@ -39,8 +39,3 @@ pub record Finds (now : Image) (leaves : Leaves) (name : List ℕ) (i : ℕ) (fo
   pub each : (rs : List Record) → HasRecords now leaves i rs → found ≡ find (is_named name) rs
   pub records : List Record
   pub has : HasRecords now leaves i records
-
--- What a look at a leaf gave: whether a block stands there, and its bytes.
-abbrev pub Shows : Image → Leaves → ℕ → Option ℕ → List ℕ → Type 0
-Shows now leaves i None bytes = leaves.at i ≡ None
-Shows now leaves i (Some b) bytes = (leaves.at i ≡ Some b) × (bytes ≡ (now b).bytes)

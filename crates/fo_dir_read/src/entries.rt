@@ -13,6 +13,7 @@ ghost use Rattle.fo_ports.specs.Sources.{SameLeaves, depth_for};
 ghost use Rattle.fo_dir_read.specs.Names.{leaf_count};
 ghost use Rattle.fo_dir_read.specs.Pairs.{OfEntries, IsTaken, PairTaken, FreeIn, FreeAt, IsFree, AreTaken};
 
+use crate::leaves::{count_of, get_leaf};
 use fo_base::BLOCK;
 use fo_image::{Kind, read_entry};
 use fo_ports::{BlockError, Blocks, Bytes};
@@ -67,35 +68,6 @@ fn free_in<B: Blocks>(on: &B, at: u32, leaf: &[u8]) -> Option<u32>
     None
 }
 
-/// Copies leaf `i` of the entries, and gives the block in which it stands; None where there is none.
-fn get_entries<B: Blocks, S: Bytes<B>>(
-    entries: &mut S,
-    on: &mut B,
-    rank: u32,
-    i: u32,
-    into: &mut [u8],
-) -> Result<Option<u32>, BlockError>
-    requires over { S.is_over entries.old on.old }
-    requires form { OfEntries (S.form entries.old) rank }
-    requires length { length into.old ≡ 8192 }
-    ensures shows { IfOk result (λ at. (B.state on.old).tells → (S.leaves entries.new on.new).at i ≡ at) }
-    ensures reads { IfOk result (λ at. IfSome at (λ b. ReadsSlots (Dir 0) ((B.state on.new).now b) into.new)) }
-    ensures over { S.is_over entries.new on.new }
-    ensures same { (S.form entries.new ≡ S.form entries.old) × (S.size entries.new ≡ S.size entries.old) × SameLeaves (B.state on.old).tells (S.leaves entries.old on.old) (S.leaves entries.new on.new) }
-    ensures pins { (B.state on.old).pins_left ≤ (B.state on.new).pins_left + (depth_for (S.size entries.old) + 1) }
-    ensures looks { Looks (B.state on.old) (B.state on.new) }
-    ensures keeps { B.keeps on.old on.new }
-    ensures cause { IfErr result (Caused ⊥ (λ b. ((B.state on.old).tells → ⊥) × (B.state on.old).is_block b) (Rose (B.state on.old).faults (B.state on.new).faults) ⊥) }
-{
-    let Some(at) = entries.leaf(on, i)? else {
-        return Ok(None);
-    };
-    match on.get(at, Kind::Dir(0), rank, into) {
-        Ok(()) => Ok(Some(at)),
-        Err(why) => Err(why),
-    }
-}
-
 /// The least free pair of leaf `i`, where it has one.
 fn free_at<B: Blocks, S: Bytes<B>>(
     entries: &mut S,
@@ -115,21 +87,10 @@ fn free_at<B: Blocks, S: Bytes<B>>(
     ensures cause { IfErr result (Caused ⊥ (λ b. ((B.state on.old).tells → ⊥) × (B.state on.old).is_block b) (Rose (B.state on.old).faults (B.state on.new).faults) ⊥) }
 {
     let mut leaf = [0; BLOCK];
-    match get_entries(entries, on, rank, i, &mut leaf)? {
+    match get_leaf(entries, on, Kind::Dir(0), rank, i, &mut leaf)? {
         None => Ok(Some(0)),
         Some(at) => Ok(free_in(on, at, &leaf)),
     }
-}
-
-/// How many leaves a source of entries has.
-fn count_of<B: Blocks, S: Bytes<B>>(entries: &S, on: &B) -> u32
-    requires over { S.is_over entries.now on.now }
-    requires short { (S.form entries.now).limit ≤ 2 ^ 38 }
-    ensures is { result ≡ leaf_count (S.size entries.now) }
-    ensures few { result ≤ 33554432 }
-{
-    let _ = on;
-    entries.len().div_ceil(BLOCK as u64) as u32
 }
 
 /// The least pair of entries that may be taken: behind the last leaf where each pair of a leaf is taken.

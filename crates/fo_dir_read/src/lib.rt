@@ -11,7 +11,9 @@
 #![tactic(auto)]
 
 mod entries;
+mod leaves;
 mod records;
 
 pub use entries::free_pair;
+pub use leaves::{count_of, get_leaf};
 pub use records::{Found, lookup};

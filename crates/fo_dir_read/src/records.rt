@@ -7,8 +7,9 @@ ghost use Rattle.fo_ports.specs.declared.error.BlockError.TheVariants.{Memory};
 ghost use Rattle.fo_ports.specs.Causes.{Caused};
 ghost use Rattle.fo_ports.specs.State.{Looks};
 ghost use Rattle.fo_ports.specs.Sources.{SameLeaves, depth_for};
-ghost use Rattle.fo_dir_read.specs.Names.{OfRecords, LacksBelow, IsFound, Finds, Shows, leaf_count};
+ghost use Rattle.fo_dir_read.specs.Names.{OfRecords, LacksBelow, IsFound, Finds, leaf_count};
 
+use crate::leaves::{count_of, get_leaf};
 use fo_base::BLOCK;
 use fo_image::{Kind, Record};
 use fo_meta::find;
@@ -20,35 +21,6 @@ use std::alloc::Global;
 pub struct Found {
     pub leaf: u32,
     pub record: Record,
-}
-
-/// Copies leaf `i` of the records, and gives the block in which it stands; None where there is none.
-fn get_leaf<B: Blocks, S: Bytes<B>>(
-    records: &mut S,
-    on: &mut B,
-    rank: u32,
-    i: u32,
-    into: &mut [u8],
-) -> Result<Option<u32>, BlockError>
-    requires over { S.is_over records.old on.old }
-    requires form { OfRecords (S.form records.old) rank }
-    requires length { length into.old ≡ 8192 }
-    ensures shows { IfOk result (λ at. (B.state on.old).tells → Shows (B.state on.new).now (S.leaves records.new on.new) i at into.new) }
-    ensures leaf { IfOk result (λ at. IfSome at (λ b. IsLeaf into.new)) }
-    ensures over { S.is_over records.new on.new }
-    ensures same { (S.form records.new ≡ S.form records.old) × (S.size records.new ≡ S.size records.old) × SameLeaves (B.state on.old).tells (S.leaves records.old on.old) (S.leaves records.new on.new) }
-    ensures pins { (B.state on.old).pins_left ≤ (B.state on.new).pins_left + (depth_for (S.size records.old) + 1) }
-    ensures looks { Looks (B.state on.old) (B.state on.new) }
-    ensures keeps { B.keeps on.old on.new }
-    ensures cause { IfErr result (Caused ⊥ (λ b. ((B.state on.old).tells → ⊥) × (B.state on.old).is_block b) (Rose (B.state on.old).faults (B.state on.new).faults) ⊥) }
-{
-    let Some(at) = records.leaf(on, i)? else {
-        return Ok(None);
-    };
-    match on.get(at, Kind::Data(0), rank, into) {
-        Ok(()) => Ok(Some(at)),
-        Err(why) => Err(why),
-    }
 }
 
 /// The first record of this name in a leaf, if one has it.
@@ -83,20 +55,10 @@ fn look_in<B: Blocks, S: Bytes<B>>(
     ensures cause { IfErr result (Caused ⊥ (λ b. ((B.state on.old).tells → ⊥) × (B.state on.old).is_block b) (Rose (B.state on.old).faults (B.state on.new).faults) ⊥) }
 {
     let mut leaf = [0; BLOCK];
-    match get_leaf(records, on, rank, i, &mut leaf)? {
+    match get_leaf(records, on, Kind::Data(0), rank, i, &mut leaf)? {
         None => Ok(None),
         Some(_) => find_in(alloc, &leaf, name),
     }
-}
-
-/// How many leaves a source has.
-fn count_of<B: Blocks, S: Bytes<B>>(source: &S, on: &B) -> u32
-    requires over { S.is_over source.now on.now }
-    requires short { (S.form source.now).limit ≤ 2 ^ 40 }
-    ensures { result ≡ leaf_count (S.size source.now) }
-{
-    let _ = on;
-    source.len().div_ceil(BLOCK as u64) as u32
 }
 
 /// The first record of this name and its leaf, or None where no record has the name.

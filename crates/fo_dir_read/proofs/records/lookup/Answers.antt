@@ -13,7 +13,7 @@ returns-in-Ok-Some-clause-found g c = λ told.
     let f = c.in-Ok-Some.ensures.found still in
     let same = c.look_in.ensures.same in
     record {
-      within = subst (λ n. c.loop-i.i < n) (c.count_of-count.ensures ∙ ap leaf_count (sym (same.1 ∙ v.1.1))) c.loop-i-test.true;
+      within = subst (λ n. c.loop-i.i < n) (c.count_of-count.ensures.is ∙ ap leaf_count (sym (same.1 ∙ v.1.1))) c.loop-i-test.true;
       before = lacks_on (c.look_in.ensures.looks.memory still) (λ j. (same.2.leaves still j).0) (v.5 told);
       records = f.records;
       has = f.has;

@@ -3,8 +3,8 @@ use Rattle.fo_ports.specs.State.{Looks}
 use Rattle.fo_ports.specs.Sources.{SameLeaves}
 use Rattle.fo_looks.proofs.Looks.{looks_joins, looks_undisturbed, same_leaves_joins, source_looks, ready_looks}
 use Rattle.fo_dir_read.proofs.Looking.{looked_later}
-use Rattle.fo_dir_read.proofs.records.get_leaf.Given as given
-use Rattle.fo_dir_read.proofs.records.get_leaf.Goals as goal
+use Rattle.fo_dir_read.proofs.leaves.get_leaf.Given as given
+use Rattle.fo_dir_read.proofs.leaves.get_leaf.Goals as goal
 
 -- a source stays over a look at a block
 still : (g : given.Over) (s : _) (a b : _) → g.S.Bytes.is_over s a → g.B.Blocks.keeps a b → Looks (g.B.Blocks.state a) (g.B.Blocks.state b)
@@ -21,7 +21,7 @@ pub returns-in-Ok-clause-shows : goal.returns-in-Ok-clause-shows
 returns-in-Ok-clause-shows g c = λ told.
     let all = g.met.B.Blocks.keeps_all c.args.on.now c.leaf.new.on c.leaf.ensures.looks.1 in
     let there = still g c.leaf.new.self c.leaf.new.on c.get.new.self c.leaf.ensures.over c.get.ensures.keeps c.get.ensures.looks in
-    ((there.1.leaves (all.still_tells.1 told) c.args.i).0 ∙ sym (c.in_ok-at.ensures.at (inl told)) ∙ c.in-Some.is, c.in-Ok.ensures.bytes.0.behind)
+    (there.1.leaves (all.still_tells.1 told) c.args.i).0 ∙ sym (c.in_ok-at.ensures.at (inl told)) ∙ c.in-Some.is
 
 pub returns-in-Ok-clause-over : goal.returns-in-Ok-clause-over
 returns-in-Ok-clause-over g c = (still g c.leaf.new.self c.leaf.new.on c.get.new.self c.leaf.ensures.over c.get.ensures.keeps c.get.ensures.looks).0
