@@ -1,16 +1,17 @@
 -- Why a pair of entries is taken.
-use Rattle.std.proofs.Common.{◌≡◌, ◌+◌, ◌*◌, ◌/◌, ◌%◌, ◌<◌, ◌≤◌, ◌⊎◌, ℕ, Bool, true, List, take, drop, Option, Some, None, MatchOption, refl, inl, inr, ⊎_elim, sym, subst, ◌∙◌, arith}
+use Rattle.std.proofs.Common.{◌≡◌, ◌+◌, ◌*◌, ◌/◌, ◌%◌, ◌<◌, ◌≤◌, ◌⊎◌, ℕ, Bool, true, List, take, drop, Option, Some, None, MatchOption, refl, inl, inr, ⊎_elim, sym, ap, subst, ◌∙◌, arith}
 use Rattle.fo_image.specs.declared.types.Entry.{Entry}
 use Rattle.fo_image.specs.declared.types.Kind.TheVariants.{Dir}
 use Rattle.fo_image.specs.Format.{SpellsEntry}
 use Rattle.fo_crash.specs.declared.slot.Slot.{Slot}
 use Rattle.fo_crash.specs.declared.slot.Slot.TheVariants.{Pointer as To, Entry as Head, Prev}
 use Rattle.fo_crash.specs.Names.{IsInUse}
-use Rattle.fo_ports.specs.Blocks.{SlotFits, SpellsSlot, slot_size, slot_start}
+use Rattle.fo_crash.specs.Images.{Image}
+use Rattle.fo_ports.specs.Blocks.{no_entry, ReadsSlots, SlotFits, SpellsSlot, slot_size, slot_start}
 use Rattle.fo_crash.specs.Images.{SameImage}
 use Rattle.fo_ports.specs.State.{State, WaitsInUse}
 use Rattle.fo_ports.specs.Sources.{Leaves}
-use Rattle.fo_dir_read.specs.Pairs.{PairTaken, TakenBelow, FreeIn, FreeAt, IsFree, AreTaken}
+use Rattle.fo_dir_read.specs.Pairs.{PairTaken, TakenBelow, FreeIn, FreeAt, IsFree, AreTaken, IsPair}
 
 -- An entry that is spelled is in use exactly where it is active.
 pub record IsActive (s : Slot) (active : Bool) : Type 0 where
@@ -21,6 +22,26 @@ pub slot_active : (s : Slot) (leaf : List ℕ) (j : ℕ) (active : Bool) → Slo
 slot_active (Head e) leaf j active fits spells reads = record { used = λ a. (e.generation, (sym (reads e spells) ∙ a, refl)); is = λ g u. reads e spells ∙ u.0 }
 slot_active (To p) leaf j active fits spells reads = absurd fits
 slot_active (Prev epoch at) leaf j active fits spells reads = absurd fits
+
+slot_is : (s : Slot) (leaf : List ℕ) (j : ℕ) (e : Entry) → SlotFits (Dir 0) j s → SpellsSlot s (take (slot_size s) (drop (slot_start (Dir 0) j) leaf)) → ((x : Entry) → SpellsEntry x (take 40 (drop (40 * j) leaf)) → e ≡ x) → s ≡ Head e
+slot_is (Head x) leaf j e fits spells reads = ap Head (sym (reads x spells))
+slot_is (To p) leaf j e fits spells reads = absurd fits
+slot_is (Prev epoch at) leaf j e fits spells reads = absurd fits
+
+-- the entries of a pair whose leaf was read
+pub pair_is : (now : Image) (x : Leaves) (k b : ℕ) (first second : Entry) (leaf : List ℕ) → x.at (k / 102) ≡ Some b → ReadsSlots (Dir 0) (now b) leaf
+    → ((e : Entry) → SpellsEntry e (take 40 (drop (40 * (2 * (k % 102))) leaf)) → first ≡ e) → ((e : Entry) → SpellsEntry e (take 40 (drop (40 * (2 * (k % 102) + 1)) leaf)) → second ≡ e) → IsPair now x k first second
+pair_is now x k b first second leaf there reads one two = record {
+  is = subst (λ o. MatchOption o ((first ≡ no_entry) × (second ≡ no_entry)) (λ c. ((now c).slot (2 * (k % 102)) ≡ Head first) × ((now c).slot (2 * (k % 102) + 1) ≡ Head second))) (sym there)
+      (slot_is ((now b).slot (2 * (k % 102))) leaf (2 * (k % 102)) first (reads.fit (2 * (k % 102)) first_in) (reads.spelled (2 * (k % 102)) first_in) one,
+       slot_is ((now b).slot (2 * (k % 102) + 1)) leaf (2 * (k % 102) + 1) second (reads.fit (2 * (k % 102) + 1) second_in) (reads.spelled (2 * (k % 102) + 1) second_in) two);
+}
+  where
+    first_in : 2 * (k % 102) < 204
+    first_in = omega arith
+
+    second_in : 2 * (k % 102) + 1 < 204
+    second_in = omega arith
 
 pub taken_more : {s : State} {b p : ℕ} → TakenBelow s b p → PairTaken s b p → TakenBelow s b (p + 1)
 taken_more {s = s} {b = b} {p = p} below taken = record { each = λ q lt. ⊎_elim (λ before. below.each q before) (λ here. subst (λ k. PairTaken s b k) (sym here) taken) (last q lt) }

@@ -1,5 +1,5 @@
 -- The names of a directory, as memory has them.
-use Rattle.std.specs.Prelude.{◌≡◌, ◌+◌, ◌/◌, ◌%◌, ◌^◌, ◌<◌, ◌≤◌, ℕ, List, [], false, find, Option, Some, None, MatchOption}
+use Rattle.std.specs.Prelude.{◌≡◌, ◌+◌, ◌/◌, ◌%◌, ◌^◌, ◌<◌, ◌≤◌, ℕ, zero, suc, List, [], ◌++◌, false, find, Option, Some, None, MatchOption}
 use Rattle.std.specs.List.{list_any}
 use Rattle.fo_image.specs.declared.record.Record.{Record}
 use Rattle.fo_image.specs.declared.types.Kind.TheVariants.{Data}
@@ -39,3 +39,14 @@ pub record Finds (now : Image) (leaves : Leaves) (name : List ℕ) (i : ℕ) (fo
   pub each : (rs : List Record) → HasRecords now leaves i rs → found ≡ find (is_named name) rs
   pub records : List Record
   pub has : HasRecords now leaves i records
+
+-- the records of so many leaves, one leaf after the other
+abbrev pub joined : (ℕ → List Record) → ℕ → List Record
+joined rows zero = []
+joined rows (suc n) = joined rows n ++ rows n
+
+-- These are the records of the leaves below this one, in the order of the leaves.
+pub record AreRecords (now : Image) (leaves : Leaves) (count : ℕ) (rs : List Record) : Type 0 where
+  pub rows : ℕ → List Record
+  pub each : (i : ℕ) → i < count → HasRecords now leaves i (rows i)
+  pub all : rs ≡ joined rows count

@@ -1,7 +1,11 @@
 -- The pairs of entries of a directory, as memory has them.
 use Rattle.std.specs.Prelude.{◌≡◌, ◌⊎◌, ◌+◌, ◌*◌, ◌/◌, ◌%◌, ◌^◌, ◌<◌, ◌≤◌, ℕ, Option, Some, None, MatchOption}
 use Rattle.fo_image.specs.declared.types.Kind.TheVariants.{Dir}
+use Rattle.fo_image.specs.declared.types.Entry.{Entry}
+use Rattle.fo_crash.specs.declared.slot.Slot.TheVariants.{Entry as Head}
+use Rattle.fo_crash.specs.Images.{Image}
 use Rattle.fo_crash.specs.Names.{IsInUse}
+use Rattle.fo_ports.specs.Blocks.{no_entry}
 use Rattle.fo_ports.specs.State.{State}
 use Rattle.fo_ports.specs.Sources.{Form, Leaves}
 use Rattle.fo_dir_read.specs.Names.{leaf_count}
@@ -40,3 +44,7 @@ pub record IsFree (s : State) (leaves : Leaves) (size k : ℕ) : Type 0 where
 -- Each pair below this one stands in a leaf, and is taken.
 pub record AreTaken (s : State) (leaves : Leaves) (k : ℕ) : Type 0 where
   pub each : (j : ℕ) → j < k → (b : ℕ) × (leaves.at (j / 102) ≡ Some b) × PairTaken s b (j % 102)
+
+-- Pair k has these entries in memory: those of its leaf, or two that name nothing where no leaf stands.
+pub record IsPair (now : Image) (leaves : Leaves) (k : ℕ) (first second : Entry) : Type 0 where
+  pub is : MatchOption (leaves.at (k / 102)) ((first ≡ no_entry) × (second ≡ no_entry)) (λ b. ((now b).slot (2 * (k % 102)) ≡ Head first) × ((now b).slot (2 * (k % 102) + 1) ≡ Head second))

@@ -3,7 +3,7 @@ ghost use Rattle.std.specs.Prelude.{◌≡◌, ◌+◌, ◌*◌, ◌^◌, ◌<�
 ghost use Rattle.fo_base.specs.Cause.{Rose};
 ghost use Rattle.fo_image.specs.declared.types.Entry.{Entry};
 ghost use Rattle.fo_image.specs.declared.types.Kind.TheVariants.{Dir};
-ghost use Rattle.fo_image.specs.Format.{SpellsEntry};
+ghost use Rattle.fo_image.specs.Format.{EntryHolds, SpellsEntry};
 ghost use Rattle.fo_crash.specs.declared.slot.Slot.{Slot};
 ghost use Rattle.fo_crash.specs.Names.{IsInUse};
 ghost use Rattle.fo_ports.specs.Blocks.{ReadsSlots, SlotFits, SpellsSlot, slot_size};
@@ -11,15 +11,40 @@ ghost use Rattle.fo_ports.specs.Causes.{Caused};
 ghost use Rattle.fo_ports.specs.State.{Looks};
 ghost use Rattle.fo_ports.specs.Sources.{SameLeaves, depth_for};
 ghost use Rattle.fo_dir_read.specs.Names.{leaf_count};
-ghost use Rattle.fo_dir_read.specs.Pairs.{OfEntries, IsTaken, PairTaken, FreeIn, FreeAt, IsFree, AreTaken};
+ghost use Rattle.fo_dir_read.specs.Pairs.{OfEntries, IsTaken, PairTaken, FreeIn, FreeAt, IsFree, AreTaken, IsPair};
 
 use crate::leaves::{count_of, get_leaf};
 use fo_base::BLOCK;
-use fo_image::{Kind, read_entry};
+use fo_image::{Entry, Kind, Pointer, read_entry};
 use fo_ports::{BlockError, Blocks, Bytes};
 
 /// How many pairs a leaf of entries has.
 const PAIRS: u32 = 102;
+
+/// An entry that names nothing.
+const NONE: Entry = Entry {
+    generation: 0,
+    active: false,
+    dir: false,
+    depth: 0,
+    tag: 0,
+    size: 0,
+    top: Pointer::Nil,
+};
+
+/// Entry `j` of a leaf; one that names nothing where none is spelled.
+fn entry_in(leaf: &[u8], j: u32) -> Entry
+    requires length { length leaf.now ≡ 8192 }
+    requires within { j < 204 }
+    ensures is { (e : Entry) → SpellsEntry e (take 40 (drop (40 * j) leaf.now)) → result ≡ e }
+    ensures holds { EntryHolds result }
+{
+    let from = 40 * j as usize;
+    match read_entry(&leaf[from..from + 40]) {
+        Ok(entry) => entry,
+        Err(_) => NONE,
+    }
+}
 
 /// Whether entry `j` of a leaf is in use.
 fn is_active(leaf: &[u8], j: u32) -> bool
@@ -27,11 +52,7 @@ fn is_active(leaf: &[u8], j: u32) -> bool
     requires within { j < 204 }
     ensures in_use { (e : Entry) → SpellsEntry e (take 40 (drop (40 * j) leaf.now)) → result ≡ e.active }
 {
-    let from = 40 * j as usize;
-    match read_entry(&leaf[from..from + 40]) {
-        Ok(entry) => entry.active,
-        Err(_) => false,
-    }
+    entry_in(leaf, j).active
 }
 
 /// Whether entry `j` of a leaf that was read is taken.
@@ -118,4 +139,32 @@ pub fn free_pair<B: Blocks, S: Bytes<B>>(
         }
     }
     Ok(PAIRS * count)
+}
+
+/// The two entries of pair `k`, which name nothing where no leaf stands.
+pub fn pair<B: Blocks, S: Bytes<B>>(
+    entries: &mut S,
+    on: &mut B,
+    rank: u32,
+    k: u32,
+) -> Result<(Entry, Entry), BlockError>
+    requires over { S.is_over entries.old on.old }
+    requires form { OfEntries (S.form entries.old) rank }
+    ensures pair { IfOk result (λ two. (B.state on.old).tells → IsPair (B.state on.new).now (S.leaves entries.new on.new) k two.0 two.1) }
+    ensures holds { IfOk result (λ two. EntryHolds two.0 × EntryHolds two.1) }
+    ensures over { S.is_over entries.new on.new }
+    ensures same { (S.form entries.new ≡ S.form entries.old) × (S.size entries.new ≡ S.size entries.old) × SameLeaves (B.state on.old).tells (S.leaves entries.old on.old) (S.leaves entries.new on.new) }
+    ensures pins { (B.state on.old).pins_left ≤ (B.state on.new).pins_left + (depth_for (S.size entries.old) + 1) }
+    ensures looks { Looks (B.state on.old) (B.state on.new) }
+    ensures keeps { B.keeps on.old on.new }
+    ensures cause { IfErr result (Caused ⊥ (λ b. ((B.state on.old).tells → ⊥) × (B.state on.old).is_block b) (Rose (B.state on.old).faults (B.state on.new).faults) ⊥) }
+{
+    let mut leaf = [0; BLOCK];
+    match get_leaf(entries, on, Kind::Dir(0), rank, k / PAIRS, &mut leaf)? {
+        None => Ok((NONE, NONE)),
+        Some(_) => {
+            let j = 2 * (k % PAIRS);
+            Ok((entry_in(&leaf, j), entry_in(&leaf, j + 1)))
+        }
+    }
 }

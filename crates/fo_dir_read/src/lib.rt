@@ -14,6 +14,6 @@ mod entries;
 mod leaves;
 mod records;
 
-pub use entries::free_pair;
+pub use entries::{free_pair, pair};
 pub use leaves::{count_of, get_leaf};
 pub use records::{Found, lookup};
