@@ -32,9 +32,10 @@ slot_is (Prev epoch at) leaf j e fits spells reads = absurd fits
 pub pair_is : (now : Image) (x : Leaves) (k b : ℕ) (first second : Entry) (leaf : List ℕ) → x.at (k / 102) ≡ Some b → ReadsSlots (Dir 0) (now b) leaf
     → ((e : Entry) → SpellsEntry e (take 40 (drop (40 * (2 * (k % 102))) leaf)) → first ≡ e) → ((e : Entry) → SpellsEntry e (take 40 (drop (40 * (2 * (k % 102) + 1)) leaf)) → second ≡ e) → IsPair now x k first second
 pair_is now x k b first second leaf there reads one two = record {
-  is = subst (λ o. MatchOption o ((first ≡ no_entry) × (second ≡ no_entry)) (λ c. ((now c).slot (2 * (k % 102)) ≡ Head first) × ((now c).slot (2 * (k % 102) + 1) ≡ Head second))) (sym there)
-      (slot_is ((now b).slot (2 * (k % 102))) leaf (2 * (k % 102)) first (reads.fit (2 * (k % 102)) first_in) (reads.spelled (2 * (k % 102)) first_in) one,
-       slot_is ((now b).slot (2 * (k % 102) + 1)) leaf (2 * (k % 102) + 1) second (reads.fit (2 * (k % 102) + 1) second_in) (reads.spelled (2 * (k % 102) + 1) second_in) two);
+  is = subst (λ o. MatchOption o ((first ≡ no_entry) × (second ≡ no_entry)) (λ c. ((now c).slot (2 * (k % 102)) ≡ Head first) × ((now c).slot (2 * (k % 102) + 1) ≡ Head second))) (sym there) (
+    slot_is ((now b).slot (2 * (k % 102))) leaf (2 * (k % 102)) first (reads.fit (2 * (k % 102)) first_in) (reads.spelled (2 * (k % 102)) first_in) one,
+    slot_is ((now b).slot (2 * (k % 102) + 1)) leaf (2 * (k % 102) + 1) second (reads.fit (2 * (k % 102) + 1) second_in) (reads.spelled (2 * (k % 102) + 1) second_in) two,
+  );
 }
   where
     first_in : 2 * (k % 102) < 204

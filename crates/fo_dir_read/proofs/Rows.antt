@@ -1,5 +1,5 @@
 -- The records of several leaves, one leaf after the other.
-use Rattle.std.proofs.Common.{◌≡◌, ◌≢◌, ◌⊎◌, ◌+◌, ◌<◌, ◌≤◌, ℕ, zero, suc, Bool, true, false, List, [], ◌++◌, Option, refl, ⊎_elim, sym, ap, ◌∙◌, subst, arith, add-one}
+use Rattle.std.proofs.Common.{◌≡◌, ◌≢◌, ◌+◌, ◌<◌, ℕ, zero, suc, Bool, List, [], ◌++◌, refl, ⊎_elim, sym, ap, ◌∙◌, subst, arith, add-one}
 use Rattle.std.proofs.Math.Bool.{cond}
 use Rattle.std.proofs.Math.Dec.{eqb}
 use Rattle.std.proofs.lemmas.Bool.Decides.{eqb_tells}
