@@ -4,7 +4,8 @@ ghost use Rattle.fo_image.specs.declared.types.Kind.TheVariants.{Data, Dir};
 ghost use Rattle.fo_ports_source.specs.Source.{IsEmpty};
 
 use fo_base::Memory;
-use fo_dir_read::{free_pair, lookup};
+use fo_dir_list::{count, leaf_for, next};
+use fo_dir_read::{free_pair, lookup, pair};
 use fo_image::Kind;
 use fo_ports::{Blocks, Bytes};
 use fo_ports_plain::PlainBlocks;
@@ -39,6 +40,18 @@ fn ample(rt: HostRuntime) -> Result<(), Fail> {
     Ok(())
 }
 
+/// So no name comes next, and a record goes into the first leaf.
+#[test]
+fn ample_list(rt: HostRuntime) -> Result<(), Fail> {
+    let mut records = source(rt.alloc())?;
+    let mut on = PlainBlocks::new(rt.alloc(), 20)?;
+    let found = next(rt.alloc(), &mut records, &mut on, RANK, b"")?;
+    assert!(rt; found.is_none());
+    assert_eq!(rt; count(&mut records, &mut on, RANK)?, 0);
+    assert_eq!(rt; leaf_for(&mut records, &mut on, RANK, 40)?, 0);
+    Ok(())
+}
+
 /// Nor has one with two empty leaves.
 #[test]
 fn empty(rt: HostRuntime) -> Result<(), Fail> {
@@ -62,5 +75,16 @@ fn free(rt: HostRuntime) -> Result<(), Fail> {
     entries.prepare(&mut on, 0, 8192)?;
     entries.own_leaf(&mut on, 0);
     assert_eq!(rt; free_pair(&mut entries, &mut on, 2048)?, 0);
+    Ok(())
+}
+
+/// A pair of a leaf that is not there names nothing.
+#[test]
+fn no_pair(rt: HostRuntime) -> Result<(), Fail> {
+    let mut entries = entries(rt.alloc())?;
+    let mut on = PlainBlocks::new(rt.alloc(), 40)?;
+    let (first, second) = pair(&mut entries, &mut on, 2048, 7)?;
+    assert!(rt; !first.active);
+    assert!(rt; !second.active);
     Ok(())
 }

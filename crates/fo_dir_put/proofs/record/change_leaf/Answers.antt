@@ -1,0 +1,42 @@
+use Rattle.std.proofs.Common.{◌≡◌, ◌+◌, ◌≤◌, ℕ, inl, length, List, sym, ◌∙◌, ap, subst, arith}
+use Rattle.fo_crash.specs.declared.place.Place.{Place}
+use Rattle.fo_crash.specs.Images.{Image}
+use Rattle.fo_crash.specs.Steps.{AddsBytes, PutsBytes}
+use Rattle.fo_crash.specs.Names.{SameUse}
+use Rattle.fo_crash.proofs.Names.{leaf_put}
+use Rattle.fo_ports.specs.Blocks.{IsFormed}
+use Rattle.fo_dir_put.specs.Names.{ListsIn}
+use Rattle.fo_dir_put.proofs.Calms.{bytes_calm}
+use Rattle.fo_dir_put.proofs.Leaves.{leaf_long, whole_put, leaf_formed, bytes_beside, bytes_reached}
+use Rattle.fo_dir_put.proofs.record.change_leaf.Goals as goal
+
+pub put_bytes-requires-clause-within : goal.put_bytes-requires-clause-within
+put_bytes-requires-clause-within g c =
+    let long = leaf_long c.requires.bytes in
+    let same = c.requires.owned.whole in
+    omega (arith, long, same)
+
+pub put_bytes-requires-clause-formed : goal.put_bytes-requires-clause-formed
+put_bytes-requires-clause-formed g c = λ told p stands.
+    let s = g.B.Blocks.state c.args.on.now in
+    let place = c.requires.owned.placed told in
+    let one : p ≡ place.0 = (g.met.B.Blocks.one_place c.args.on.now).each c.args.leaf p place.0 stands place.1 in
+    subst (λ xs. IsFormed p.kind p.rank xs) (sym (whole_put c.args.bytes.now ((s.now c.args.leaf).bytes) (leaf_long c.requires.bytes) c.requires.owned.whole))
+    (leaf_formed p.kind p.rank c.args.bytes.now (ap (λ (x : Place). x.kind) one ∙ place.2) c.requires.bytes)
+
+pub returns-clause-puts : goal.returns-clause-puts
+returns-clause-puts g c =
+    let s = g.B.Blocks.state c.args.on.now in
+    let v = g.B.Blocks.state c.put_bytes.new.self in
+    subst (λ xs. PutsBytes c.args.leaf xs s.now v.now) (whole_put c.args.bytes.now ((s.now c.args.leaf).bytes) (leaf_long c.requires.bytes) c.requires.owned.whole) c.put_bytes.ensures.now
+
+pub returns-clause-fit : goal.returns-clause-fit
+returns-clause-fit g c = λ n entries kept all.
+    let s = g.B.Blocks.state c.args.on.now in
+    let v = g.B.Blocks.state c.put_bytes.new.self in
+    let whole = whole_put c.args.bytes.now ((s.now c.args.leaf).bytes) (leaf_long c.requires.bytes) c.requires.owned.whole in
+    let adds = subst (λ xs. AddsBytes s.now c.args.leaf xs (λ (image : Image). (on j : ℕ) → s.waits c.args.leaf on j → (s.clearing on j → ⊥) → SameUse ((image on).slot j) ((s.now on).slot j)) s.may_leave v.may_leave) whole c.put_bytes.ensures.images in
+    record { are = leaf_put (ListsIn n) c.args.leaf entries {waits = λ j. ⊥} all.are (bytes_beside adds (λ image h j w. absurd w)) (λ j g' lists. inl (kept.each j g' lists)) }
+
+pub returns-clause-calm : goal.returns-clause-calm
+returns-clause-calm g c = bytes_calm c.put_bytes.ensures.calm (λ b r. bytes_reached c.put_bytes.ensures.now r)

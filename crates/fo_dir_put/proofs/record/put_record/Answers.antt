@@ -1,0 +1,58 @@
+use Rattle.std.proofs.Common.{◌≡◌, ◌+◌, ◌≤◌, ◌<◌, ℕ, length, List, sym, ◌∙◌, ap, subst, arith}
+use Rattle.fo_crash.specs.declared.place.Place.{Place}
+use Rattle.fo_crash.specs.Images.{Image}
+use Rattle.fo_crash.specs.Steps.{AddsBytes}
+use Rattle.fo_crash.specs.Names.{SameUse}
+use Rattle.fo_crash.proofs.Names.{leaf_put}
+use Rattle.fo_ports.specs.Blocks.{IsFormed, put_at}
+use Rattle.fo_dir_put.specs.Names.{ListsIn}
+use Rattle.fo_dir_put.proofs.Calms.{calm_joins, bytes_calm}
+use Rattle.fo_dir_put.proofs.Leaves.{leaf_long, whole_put, leaf_formed, bytes_beside, still_all, bytes_reached, same_reached, puts_later, backed_later}
+use Rattle.fo_dir_put.proofs.record.put_record.Goals as goal
+
+pub put_bytes-requires-clause-within : goal.put_bytes-requires-clause-within
+put_bytes-requires-clause-within g c =
+    let long = leaf_long c.requires.bytes in
+    let same = ap (λ (xs : List ℕ). length xs) ((c.wait_for.ensures.now.each c.args.leaf).bytes) ∙ c.requires.owned.whole in
+    omega (arith, long, same)
+
+pub put_bytes-requires-clause-formed : goal.put_bytes-requires-clause-formed
+put_bytes-requires-clause-formed g c = λ told p stands.
+    let before = (g.met.B.Blocks.keeps_all c.args.on.now c.wait_for.new.self c.wait_for.ensures.keeps).still_tells.0 told in
+    let u = g.B.Blocks.state c.wait_for.new.self in
+    let place = c.requires.owned.placed before in
+    let spared : u.covered c.args.leaf → ⊥ = λ h. c.requires.owned.uncovered ((c.wait_for.ensures.calm.covered.covered c.args.leaf).0 h) in
+    let there = c.wait_for.ensures.calm.frame.stays.places before c.args.leaf place.0 (λ n. n) (λ n. n) spared place.1 in
+    let one : p ≡ place.0 = (g.met.B.Blocks.one_place c.wait_for.new.self).each c.args.leaf p place.0 stands there in
+    let long = leaf_long c.requires.bytes in
+    let same = ap (λ (xs : List ℕ). length xs) ((c.wait_for.ensures.now.each c.args.leaf).bytes) ∙ c.requires.owned.whole in
+    subst (λ xs. IsFormed p.kind p.rank xs) (sym (whole_put c.args.bytes.now ((u.now c.args.leaf).bytes) long same))
+    (leaf_formed p.kind p.rank c.args.bytes.now (ap (λ (x : Place). x.kind) one ∙ place.2) c.requires.bytes)
+
+pub returns-clause-puts : goal.returns-clause-puts
+returns-clause-puts g c =
+    let u = g.B.Blocks.state c.wait_for.new.self in
+    let long = leaf_long c.requires.bytes in
+    let same = ap (λ (xs : List ℕ). length xs) ((c.wait_for.ensures.now.each c.args.leaf).bytes) ∙ c.requires.owned.whole in
+    puts_later c.wait_for.ensures.now c.put_bytes.ensures.now (whole_put c.args.bytes.now ((u.now c.args.leaf).bytes) long same)
+
+pub returns-clause-fit : goal.returns-clause-fit
+returns-clause-fit g c = λ n backed all.
+    let s = g.B.Blocks.state c.args.on.now in
+    let u = g.B.Blocks.state c.wait_for.new.self in
+    let v = g.B.Blocks.state c.put_bytes.new.self in
+    let long = leaf_long c.requires.bytes in
+    let same = ap (λ (xs : List ℕ). length xs) ((c.wait_for.ensures.now.each c.args.leaf).bytes) ∙ c.requires.owned.whole in
+    let whole = whole_put c.args.bytes.now ((u.now c.args.leaf).bytes) long same in
+    let adds = subst (λ xs. AddsBytes u.now c.args.leaf xs (λ (image : Image). (on j : ℕ) → u.waits c.args.leaf on j → (u.clearing on j → ⊥) → SameUse ((image on).slot j) ((u.now on).slot j)) u.may_leave v.may_leave) whole c.put_bytes.ensures.images in
+    record {
+      are = leaf_put (ListsIn n) c.args.leaf c.args.entries {waits = λ j. u.waits c.args.leaf c.args.entries j × (u.clearing c.args.entries j → ⊥)} (still_all all.are c.wait_for.ensures.images)
+          (bytes_beside adds (λ image h j w. h c.args.entries j w.0 w.1))
+          (backed_later backed c.wait_for.ensures.now c.wait_for.ensures.waits.0 (λ b j h. (c.wait_for.ensures.calm.order.clearing b j h).1));
+    }
+
+pub returns-clause-calm : goal.returns-clause-calm
+returns-clause-calm g c =
+    calm_joins (g.met.B.Blocks.keeps_all c.args.on.now c.wait_for.new.self c.wait_for.ensures.keeps)
+    (bytes_calm c.wait_for.ensures.calm (λ b r. same_reached c.wait_for.ensures.now r))
+    (bytes_calm c.put_bytes.ensures.calm (λ b r. bytes_reached c.put_bytes.ensures.now r))

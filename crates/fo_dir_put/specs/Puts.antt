@@ -1,0 +1,84 @@
+-- What is asked of leaves that are put into, and what stays.
+use Rattle.std.specs.Prelude.{◌≡◌, ◌≢◌, ◌⊎◌, ◌+◌, ◌*◌, ◌<◌, ℕ, List, length}
+use Rattle.fo_image.specs.declared.types.Entry.{Entry}
+use Rattle.fo_image.specs.declared.types.Kind.TheVariants.{Data, Dir}
+use Rattle.fo_image.specs.declared.types.Pointer.TheVariants.{Nil}
+use Rattle.fo_crash.specs.declared.place.Place.{Place}
+use Rattle.fo_crash.specs.declared.slot.Slot.TheVariants.{Entry as Head}
+use Rattle.fo_crash.specs.Images.{Reaches, to_block}
+use Rattle.fo_crash.specs.Names.{IsInUse}
+use Rattle.fo_ports.specs.Blocks.{SlotFits}
+use Rattle.fo_ports.specs.State.{State, KeepsOrder, AddsNoWait, none}
+
+-- A leaf of entries that is owned, and linked where the device tells.
+pub record IsOwnedEntries (s : State) (at : ℕ) : Type 0 where
+  pub is_pinned : s.pinned at
+  pub current : (s.label at).epoch ≡ s.high
+  pub leaf_kind : (s.label at).kind ≡ Dir 0
+  pub linked : s.tells → Reaches s.now (to_block 1) at
+  pub uncovered : s.covered at → ⊥
+
+-- Nobody uses entry j, it waits for no clearing, and nobody waits for it.
+pub record IsUnused (s : State) (at j : ℕ) : Type 0 where
+  pub free : (generation : ℕ) → IsInUse ((s.now at).slot j) generation → ⊥
+  pub settled : s.clearing at j → ⊥
+  pub alone : (a : ℕ) → s.waits a at j → ⊥
+
+-- An entry is in use, or waits to be cleared.
+abbrev pub IsTakenEntry : State → ℕ → ℕ → Type 0
+IsTakenEntry s at j = ((generation : ℕ) × IsInUse ((s.now at).slot j) generation) ⊎ s.clearing at j
+
+-- An entry that can be spelled, and leads nowhere yet.
+pub record IsNewEntry (e : Entry) : Type 0 where
+  pub fits : SlotFits (Dir 0) 0 (Head e)
+  pub empty : e.top ≡ Nil
+
+-- Labels, pins and places stay, no slot begins to wait to be cleared, and nothing more is to be closed.
+pub record StaysCalm (old new : State) : Type 0 where
+  pub labels : (b : ℕ) → new.label b ≡ old.label b
+  pub marks : (b : ℕ) → (old.pinned b → new.pinned b) × (old.sealed b → new.sealed b)
+  pub places : old.tells → (b : ℕ) (p : Place) → (old.covered b → ⊥) → old.stands b p → new.stands b p
+  pub order : KeepsOrder none old new
+  pub uncovered : (b : ℕ) → (old.covered b → ⊥) → new.covered b → ⊥
+  pub linked : old.tells → (b : ℕ) → Reaches old.now (to_block 1) b → Reaches new.now (to_block 1) b
+  pub left : (new.spare ≡ old.spare) × (new.pins_left ≡ old.pins_left)
+
+-- In memory these two entries are put, and all else stays.
+pub record PutsPair (at p : ℕ) (first second : Entry) (old new : State) : Type 0 where
+  pub bytes : (b : ℕ) → (new.now b).bytes ≡ (old.now b).bytes
+  pub first_is : (new.now at).slot (2 * p) ≡ Head first
+  pub second_is : (new.now at).slot (2 * p + 1) ≡ Head second
+  pub others : (b j : ℕ) → (b ≢ at) ⊎ ((j ≢ 2 * p) × (j ≢ 2 * p + 1)) → (new.now b).slot j ≡ (old.now b).slot j
+
+-- A leaf of records that is owned.
+pub record IsOwnedRecords (s : State) (at : ℕ) : Type 0 where
+  pub is_pinned : s.pinned at
+  pub current : (s.label at).epoch ≡ s.high
+  pub leaf_kind : (s.label at).kind ≡ Data 0
+  pub whole : length ((s.now at).bytes) ≡ 8192
+  pub uncovered : s.covered at → ⊥
+  pub placed : s.tells → (p : Place) × s.stands at p × (p.kind ≡ Data 0)
+
+-- The leaf of records hung from block 1 when all was last settled, and the leaf of entries stands below it in rank.
+pub record IsInPlace (s : State) (leaf entries : ℕ) : Type 0 where
+  pub is_sealed : s.sealed leaf
+  pub upper : Place
+  pub lower : Place
+  pub upper_stands : s.stands leaf upper
+  pub lower_stands : s.stands entries lower
+  pub falls : lower.rank < upper.rank
+
+-- In memory these two entries and the bytes of this leaf are put, and all else stays.
+pub record PutsName (leaf at p : ℕ) (first second : Entry) (bytes : List ℕ) (old new : State) : Type 0 where
+  pub here : (new.now leaf).bytes ≡ bytes
+  pub first_is : (new.now at).slot (2 * p) ≡ Head first
+  pub second_is : (new.now at).slot (2 * p + 1) ≡ Head second
+  pub other_bytes : (b : ℕ) → b ≢ leaf → (new.now b).bytes ≡ (old.now b).bytes
+  pub other_slots : (b j : ℕ) → (b ≢ at) ⊎ ((j ≢ 2 * p) × (j ≢ 2 * p + 1)) → (new.now b).slot j ≡ (old.now b).slot j
+
+-- An entry of a leaf that hung from block 1 when all was last settled may be cleared: nothing is still to come in the place of another
+-- block, and no slot below the entry waits to be cleared.
+pub record MayClear (s : State) (at j : ℕ) : Type 0 where
+  pub is_sealed : s.sealed at
+  pub none_comes : (y x : ℕ) → s.instead y x → ⊥
+  pub quiet : (b i : ℕ) → s.clearing b i → Reaches s.now ((s.now at).slot j) b → ⊥

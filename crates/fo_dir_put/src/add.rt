@@ -1,0 +1,58 @@
+//! A name is added, and its entry cleared.
+ghost use Rattle.std.specs.Prelude.{◌≡◌, ◌⊎◌, ◌+◌, ◌*◌, ◌<◌, ℕ, true};
+ghost use Rattle.fo_crash.specs.Steps.{cleared};
+ghost use Rattle.fo_meta.specs.Leaf.{IsLeaf};
+ghost use Rattle.fo_dir_put.specs.Names.{ListsIn, AllFit, AddsOne, Lacks};
+ghost use Rattle.fo_dir_put.specs.Puts.{IsOwnedEntries, IsOwnedRecords, IsInPlace, IsUnused, IsNewEntry, MayClear, StaysCalm, PutsName};
+
+use crate::pair::put_pair;
+use crate::record::put_record;
+use fo_image::Entry;
+use fo_ports::Blocks;
+
+/// Adds a name: the entries of its pair, and then the bytes of the leaf with its record.
+pub fn add_name<B: Blocks>(
+    on: &mut B,
+    leaf: u32,
+    entries: u32,
+    p: u32,
+    first: Entry,
+    second: Entry,
+    bytes: &[u8],
+)
+    requires owned { IsOwnedRecords (B.state on.old) leaf }
+    requires entries { IsOwnedEntries (B.state on.old) entries }
+    requires lower { (B.state on.old).tells → IsInPlace (B.state on.old) leaf entries }
+    requires within { p < 102 }
+    requires first_unused { IsUnused (B.state on.old) entries (2 * p) }
+    requires second_unused { IsUnused (B.state on.old) entries (2 * p + 1) }
+    requires new { IsNewEntry first × IsNewEntry second }
+    requires active { first.active ≡ true }
+    requires room { 0 < (B.state on.old).room }
+    requires bytes { IsLeaf bytes.now }
+    ensures puts { PutsName leaf entries p first second bytes.now (B.state on.old) (B.state on.new) }
+    ensures fit { (n : ℕ) → AddsOne n p first.generation bytes.now (((B.state on.old).now leaf).bytes) → AllFit n leaf entries (B.state on.old).may_leave → AllFit n leaf entries (B.state on.new).may_leave }
+    ensures calm { StaysCalm (B.state on.old) (B.state on.new) }
+    ensures room { (B.state on.new).room + 1 ≡ (B.state on.old).room }
+    ensures keeps { B.keeps on.old on.new }
+{
+    put_pair(on, entries, p, first, second);
+    put_record(on, leaf, entries, bytes);
+}
+
+/// Clears an entry which no record of a leaf in memory names, once the leaf is settled as it is now.
+pub fn clear_entry<B: Blocks>(on: &mut B, leaf: u32, entries: u32, j: u32)
+    requires owned { IsOwnedRecords (B.state on.old) leaf }
+    requires entries { IsOwnedEntries (B.state on.old) entries }
+    requires within { j < 204 }
+    requires settled { (B.state on.old).clearing entries j → ⊥ }
+    requires may { (B.state on.old).tells → MayClear (B.state on.old) entries j }
+    requires room { 0 < (B.state on.old).room }
+    ensures entry { (((B.state on.new).now entries).slot j ≡ cleared (((B.state on.old).now entries).slot j)) ⊎ (B.state on.new).clearing entries j }
+    ensures fit { (n : ℕ) → Lacks n j (((B.state on.old).now leaf).bytes) → AllFit n leaf entries (B.state on.old).may_leave → AllFit n leaf entries (B.state on.new).may_leave }
+    ensures order { (b i : ℕ) → (B.state on.new).clearing b i → (B.state on.old).clearing b i ⊎ ((b ≡ entries) × (i ≡ j)) }
+    ensures room { (B.state on.new).room + 1 ≡ (B.state on.old).room }
+    ensures keeps { B.keeps on.old on.new }
+{
+    on.remove_slot(entries, j, Some(leaf));
+}

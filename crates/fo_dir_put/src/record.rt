@@ -1,0 +1,40 @@
+//! The records of a leaf.
+ghost use Rattle.std.specs.Prelude.{◌≡◌, ◌+◌, ◌<◌, ◌≤◌, ℕ, length};
+ghost use Rattle.fo_image.specs.declared.types.Kind.TheVariants.{Data};
+ghost use Rattle.fo_crash.specs.declared.place.Place.{Place};
+ghost use Rattle.fo_crash.specs.Steps.{PutsBytes};
+ghost use Rattle.fo_meta.specs.Leaf.{IsLeaf};
+ghost use Rattle.fo_dir_put.specs.Names.{AllFit, AreBacked, AreKept};
+ghost use Rattle.fo_dir_put.specs.Puts.{IsOwnedEntries, IsOwnedRecords, IsInPlace, StaysCalm};
+
+use fo_ports::Blocks;
+
+/// Puts the bytes of a leaf of records, after it was made to wait for the entries of a leaf of entries.
+pub fn put_record<B: Blocks>(on: &mut B, leaf: u32, entries: u32, bytes: &[u8])
+    requires owned { IsOwnedRecords (B.state on.old) leaf }
+    requires entries { IsOwnedEntries (B.state on.old) entries }
+    requires lower { (B.state on.old).tells → IsInPlace (B.state on.old) leaf entries }
+    requires room { 0 < (B.state on.old).room }
+    requires bytes { IsLeaf bytes.now }
+    ensures puts { PutsBytes leaf bytes.now (B.state on.old).now (B.state on.new).now }
+    ensures fit { (n : ℕ) → AreBacked n leaf entries bytes.now (B.state on.old) → AllFit n leaf entries (B.state on.old).may_leave → AllFit n leaf entries (B.state on.new).may_leave }
+    ensures calm { StaysCalm (B.state on.old) (B.state on.new) }
+    ensures room { (B.state on.new).room + 1 ≡ (B.state on.old).room }
+    ensures keeps { B.keeps on.old on.new }
+{
+    on.wait_for(leaf, entries);
+    on.put_bytes(leaf, 0, bytes);
+}
+
+/// Puts the bytes of a leaf of records whose records all stood there before: some are taken out, or other fields of them changed.
+pub fn change_leaf<B: Blocks>(on: &mut B, leaf: u32, bytes: &[u8])
+    requires owned { IsOwnedRecords (B.state on.old) leaf }
+    requires bytes { IsLeaf bytes.now }
+    ensures puts { PutsBytes leaf bytes.now (B.state on.old).now (B.state on.new).now }
+    ensures fit { (n entries : ℕ) → AreKept n bytes.now (((B.state on.old).now leaf).bytes) → AllFit n leaf entries (B.state on.old).may_leave → AllFit n leaf entries (B.state on.new).may_leave }
+    ensures calm { StaysCalm (B.state on.old) (B.state on.new) }
+    ensures room { (B.state on.new).room ≡ (B.state on.old).room }
+    ensures keeps { B.keeps on.old on.new }
+{
+    on.put_bytes(leaf, 0, bytes);
+}
