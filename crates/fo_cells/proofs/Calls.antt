@@ -186,7 +186,7 @@ module _ (ok : Bool) {m : Mind} {at : ℕ} {bytes : Block} {is_complete : Bool} 
   }
 
 -- THE VERSIONS AFTER A WRITE THAT DID NOT LAND
-never : (a : Bool) → (a && false) ≡ false
+pub never : (a : Bool) → (a && false) ≡ false
 never true = refl
 never false = refl
 
@@ -345,7 +345,7 @@ fits_leaves : (at : ℕ) (ok : Bool) (m : Mind) (n : ℕ) → ((c : Clearing) �
 fits_leaves at ok m n all c h = let (d, among, is) = among_map (noted at ok) m.clears c h in subst (λ k. k < n) (sym (leaf_kept at ok d) ∙ ap (λ (x : Clearing). x.leaf) is) (all d among)
 
 -- after a write that landed
-fits_landed : (ok is_complete : Bool) {m : Mind} {unsure : List Bool} {at : ℕ} {bytes : Block} {old new : Holds} → Adds at bytes old new → at < length old → Fits m unsure old → Fits (wrote at ok is_complete m) (set unsure at (not ok)) new
+pub fits_landed : (ok is_complete : Bool) {m : Mind} {unsure : List Bool} {at : ℕ} {bytes : Block} {old new : Holds} → Adds at bytes old new → at < length old → Fits m unsure old → Fits (wrote at ok is_complete m) (set unsure at (not ok)) new
 fits_landed ok is_complete {m} {unsure} {at} {bytes} {old} {new} w here fits =
     let flags = fits_flags ok is_complete m unsure old at here fits in
     let count : length new ≡ length old = ap length w.is ∙ length-set old at _ in record {
@@ -361,7 +361,7 @@ fits_landed ok is_complete {m} {unsure} {at} {bytes} {old} {new} w here fits =
     more : (vs : Versions) → 0 < length (vs ++ bytes ∷ [])
     more vs = omega (arith, length_push vs bytes)
 
-fits_lost : (is_complete : Bool) {m : Mind} {unsure : List Bool} (at : ℕ) {old : Holds} → at < length old → Fits m unsure old → Fits (wrote at false is_complete m) (set unsure at true) old
+pub fits_lost : (is_complete : Bool) {m : Mind} {unsure : List Bool} (at : ℕ) {old : Holds} → at < length old → Fits m unsure old → Fits (wrote at false is_complete m) (set unsure at true) old
 fits_lost is_complete {m} {unsure} at {old} here fits =
     let flags = fits_flags false is_complete m unsure old at here fits in record {
       sure = flags.0;
@@ -370,7 +370,7 @@ fits_lost is_complete {m} {unsure} at {old} here fits =
       leaves = λ c h. fits_leaves at false m (length old) fits.leaves c h;
     }
 
-fits_settled : {m : Mind} {unsure : List Bool} {old new : Holds} → DiskSettles unsure old new → Fits m unsure old → Fits (synced m) unsure new
+pub fits_settled : {m : Mind} {unsure : List Bool} {old new : Holds} → DiskSettles unsure old new → Fits m unsure old → Fits (synced m) unsure new
 fits_settled {m} {unsure} {old} {new} y fits = record {
   sure = λ b e. absurd (cc);
   within = λ b e. absurd (cc);
@@ -393,6 +393,33 @@ write_steps (Err e) m unsure at bytes is_complete old new w here may = ⊎_elim
 pub sync_steps : {E : Type 0} (result : Result Unit E) (m : Mind) (unsure : List Bool) (old new : Holds) → DiskSyncs unsure result old new → Fits m unsure old → Stepped m (after_sync result m) unsure unsure old new
 sync_steps (Ok x) m unsure old new y fits = let s = settled y fits in record { adds = sync_adds s; keeps = λ kept. sync_keeps s kept; fits = λ f. fits_settled y f }
 sync_steps (Err e) m unsure old new y fits = subst (λ h. Stepped m m unsure unsure old h) (sym y) (record { adds = record { each = λ image h. h }; keeps = λ kept. kept; fits = λ f. f })
+
+-- What a call does to what is known, and to what is known of failed writes
+pub known_write : {E : Type 0} (result : Result Unit E) (m : Mind) (at : ℕ) (bytes : Block) (is_complete : Bool) (old new : Holds) → DiskWrites at bytes result old new → at < length old → MayWrite m old at bytes is_complete → Writes at (m.read at bytes) (known m old) (known (wrote at (not (is_err result)) is_complete m) new)
+known_write (Ok x) m at bytes is_complete old new w here may = landed true w here may
+known_write (Err e) m at bytes is_complete old new w here may = ⊎_elim
+    (λ same. subst (λ h. Writes at (m.read at bytes) (known m old) (known (wrote at false is_complete m) h)) (sym same) (lost may))
+    (λ appends. landed false (appends-adds appends) here may)
+    w
+
+pub known_sync : {E : Type 0} (result : Result Unit E) (m : Mind) (unsure : List Bool) (old new : Holds) → DiskSyncs unsure result old new → Fits m unsure old → is_err result ≡ false → Syncs (known m old) (known (after_sync result m) new)
+known_sync (Ok x) m unsure old new y fits ok = settled y fits
+known_sync (Err e) m unsure old new y fits ok = let h : true ≡ false = ok in absurd (cc)
+
+pub same_sync : {E : Type 0} (result : Result Unit E) (m : Mind) (unsure : List Bool) (old new : Holds) → DiskSyncs unsure result old new → is_err result ≡ true → (after_sync result m ≡ m) × (new ≡ old)
+same_sync (Ok x) m unsure old new y err = let h : false ≡ true = err in absurd (cc)
+same_sync (Err e) m unsure old new y err = (refl, y)
+
+pub fits_sync : {E : Type 0} (result : Result Unit E) (m : Mind) (unsure : List Bool) (old new : Holds) → DiskSyncs unsure result old new → Fits m unsure old → Fits (after_sync result m) unsure new
+fits_sync (Ok x) m unsure old new y fits = fits_settled y fits
+fits_sync (Err e) m unsure old new y fits = subst (λ h. Fits m unsure h) (sym y) fits
+
+pub fits_write : {E : Type 0} (result : Result Unit E) (m : Mind) (unsure : List Bool) (at : ℕ) (bytes : Block) (is_complete : Bool) (old new : Holds) → DiskWrites at bytes result old new → at < length old → Fits m unsure old → Fits (wrote at (not (is_err result)) is_complete m) (set unsure at (is_err result)) new
+fits_write (Ok x) m unsure at bytes is_complete old new w here f = fits_landed true is_complete w here f
+fits_write (Err e) m unsure at bytes is_complete old new w here f = ⊎_elim
+    (λ same. subst (λ h. Fits (wrote at false is_complete m) (set unsure at true) h) (sym same) (fits_lost is_complete at here f))
+    (λ appends. fits_landed false is_complete (appends-adds appends) here f)
+    w
 
 -- As many blocks are told of after a write.
 pub held_write : {E : Type 0} (result : Result Unit E) (at : ℕ) (bytes : Block) (old new : Holds) → DiskWrites at bytes result old new → length new ≡ length old

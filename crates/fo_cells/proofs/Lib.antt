@@ -23,3 +23,4 @@ pub mod Calls
 pub mod Flags
 pub mod Labels
 pub mod Buffering
+pub mod LabelCalls

@@ -53,15 +53,15 @@ label_safe {old} {new} {high} w = record {
   label = λ b q st. ap (λ (l : Label). l.epoch) (at_b b w.same.label);
   set = λ b q ne st young set. record {
     newborn = at_b b w.newborn ∙ set.newborn;
-    versions = λ c h. same_joins (set.versions c (subst (λ (cs : List Content). Contains cs c) (at_b b w.versions) h)) (same_if (sym (at_b b w.same.memory)));
-    clears = λ i leaf h. set.clears i leaf (subst (λ (cs : List Clear). IsClear cs b i leaf) w.clears h);
+    versions = λ c h. same_joins (set.versions c (w.versions b c h)) (same_if (sym (at_b b w.same.memory)));
+    clears = λ i leaf h. set.clears i leaf (w.clears b i leaf h);
   };
   may = λ a i b s p ne st m e. inl (may_fewer (labels_fewer w) a i s m);
   live = λ b ne r. inl (subst (λ (m : Image). Reaches m (to_block 1) b) w.same.memory r, at_b b w.same.label);
   newborn = λ b e. at_b b w.newborn ∙ e;
-  supers = record { memory = same_if (at_b 1 w.same.memory); versions = λ c h. inl (subst (λ (cs : List Content). Contains cs c) (at_b 1 w.versions) h) };
+  supers = record { memory = same_if (at_b 1 w.same.memory); versions = λ c h. inl (w.versions 1 c h) };
   waits = λ leaf on j h. inl (subst (λ (ws : List Wait). IsWait ws leaf on j) w.waits h);
-  clears = λ b i leaf h. (inl (subst (λ (cs : List Clear). IsClear cs b i leaf) w.clears h), at_b b w.same.label);
+  clears = λ b i leaf h. (inl (w.clears b i leaf h), at_b b w.same.label);
 }
 
 -- A SYNC

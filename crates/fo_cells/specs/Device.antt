@@ -84,6 +84,14 @@ pub record MayWriteOver (m : Mind) (holds : Holds) (at : ℕ) (bytes : Block) (t
   pub labels : (t : ℕ) → Contains targets t → (t ≢ 1) × ((l : Label) → Contains ((known m holds).labels t) l → LabelFits m.low (m.label t) l)
   pub over : (on j : ℕ) → IsWait m.waits at on j → ⊥
 
+-- The bytes may be written into this block of labels: they have each label as memory has it. It is no data block: all of its versions are
+-- read alike, it isn't newborn, and nothing waits for it.
+pub record MayWriteLabels (m : Mind) (at : ℕ) (bytes : Block) : Type 0 where
+  pub spells : (b : ℕ) → m.label_block b ≡ at → m.label_in b bytes ≡ m.label b
+  pub alike : (x y : Block) → m.read at x ≡ m.read at y
+  pub settled : m.newborn at ≡ false
+  pub unwaited : (c : Clearing) → Contains m.clears c → c.leaf ≢ at
+
 -- What was written whole since the last sync had a last write that answered Ok, and each block has a version.
 pub record Fits (m : Mind) (unsure : List Bool) (holds : Holds) : Type 0 where
   pub sure : (b : ℕ) → m.complete b ≡ true → slice_index_or unsure b false ≡ false

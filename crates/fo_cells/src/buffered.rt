@@ -13,7 +13,7 @@ pub struct Buffered<D: Disk> {
 }
 
 impl<D: Disk> Buffered<D> {
-    ghost use Rattle.std.specs.Prelude.{◌<◌, true, length, map, slice_index_or, []};
+    ghost use Rattle.std.specs.Prelude.{◌≡◌, ◌<◌, true, length, map, slice_index_or, []};
     ghost use Rattle.fo_base.specs.Cause.{HasCause};
     ghost use Rattle.fo_crash.specs.Steps.{AddsNothing};
     ghost use Rattle.fo_cells.specs.Known.{Images};
@@ -21,8 +21,10 @@ impl<D: Disk> Buffered<D> {
     ghost use Rattle.fo_cells.specs.Buffers.{mind_of, bytes_in};
     ghost use Rattle.fo_cells.specs.Kept.{bare};
 
-    /// The device.
-    pub fn close(self) -> D {
+    /// The device, with what it holds.
+    pub fn close(self) -> D
+        ensures device { result ≡ self.main }
+    {
         self.main
     }
 

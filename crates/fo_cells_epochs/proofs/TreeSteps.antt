@@ -13,7 +13,7 @@ use Rattle.fo_cells.specs.Known.{Known, Top, IsKept, Stands, written}
 use Rattle.fo_cells.specs.Writes.{SameDevice, Writes, WritesLabels, Syncs, Ends, Puts, Relabels, Fires}
 use Rattle.fo_cells.specs.Calls.{PutsInto, Awaits, WaitsMore, TriesSuper, CountsSuper}
 use Rattle.fo_cells.proofs.Standing.{at_b, written_is, written_born}
-use Rattle.fo_cells.proofs.Settling.{may_fewer, labels_fewer, sync_fewer, written_fewer, ends_fewer, same_written}
+use Rattle.fo_cells.proofs.Settling.{may_fewer, labels_fewer, labels_written, sync_fewer, written_fewer, ends_fewer, same_written}
 use Rattle.fo_cells.proofs.Super.{may_tried, may_counted, version_case, written_other}
 use Rattle.fo_cells_out.specs.Parents.{view}
 use Rattle.fo_cells_epochs.specs.Epochs.{Root, root_top, tree_of, IsHeldAt, HasTrees, IsLabelSet, NamesSet, FewerTops, KeepsTrees}
@@ -79,7 +79,7 @@ module _ {old new : Known} {high : ℕ} {active : List Top} {roots : List Root} 
     may = λ a i b s m e. inl (may_fewer (labels_fewer w) a i s m);
     label = λ b q st. inl (at_b b w.same.label);
     labels = w.labels;
-    written = λ a i t c is e. inl (c, subst (λ (cs : List Content). Contains cs c) (same_written old new w.newborn w.late w.versions a) is, e);
+    written = λ a i t c is e. inl (c, labels_written w a c is, e);
   }
 
   pub sync_trees : Syncs old new → KeepsTrees old new active active roots

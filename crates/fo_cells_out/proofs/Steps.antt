@@ -83,8 +83,8 @@ fewer_stays {old} {new} t f tops unwritten = record {
 pub label_stays : {old new : Known} (t : Tree) → WritesLabels old new → Stays old new t
 label_stays {old} {new} t w = fewer_stays t (labels_fewer w) w.same.tops (λ a is m. record {
   newborn = at_b a w.newborn ∙ m.newborn;
-  late = λ c k. m.late c (subst (λ (xs : List Content). Contains xs c) (at_b a w.late) k);
-  clears = λ j leaf k. m.clears j leaf (subst (λ (cs : List Clear). IsClear cs a j leaf) w.clears k);
+  late = λ c k. m.late c (w.late a c (at_b a w.newborn ∙ m.newborn) k);
+  clears = λ j leaf k. m.clears j leaf (w.clears a j leaf k);
 })
 
 pub end_stays : {old new : Known} (t : Tree) → Ends old new → Stays old new t
@@ -94,11 +94,11 @@ end_stays {old} {new} t w = fewer_stays t (ends_fewer w) w.same.tops (λ a is m.
   clears = λ j leaf k. m.clears j leaf (subst (λ (cs : List Clear). IsClear cs a j leaf) w.clears k);
 })
 
--- each block has a version
-pub sync_stays : {old new : Known} (t : Tree) → Syncs old new → ((b : ℕ) → (c : Content) × Contains (new.versions b) c) → Stays old new t
+-- each block that was made has a version, as a block of the device has
+pub sync_stays : {old new : Known} (t : Tree) → Syncs old new → ((b : ℕ) → t.Made b → (c : Content) × Contains (new.versions b) c) → Stays old new t
 sync_stays {old} {new} t y some = fewer_stays t (sync_fewer y) y.same.tops (λ a is m. record {
-  newborn = ⊎_elim (λ same. same.0 ∙ m.newborn) (λ n. absurd (m.late (some a).0 (n.1.late (some a).0 (some a).1))) (y.newborn a);
-  late = λ c k. ⊎_elim (λ same. m.late c (same.1 c k)) (λ n. m.late (some a).0 (n.1.late (some a).0 (some a).1)) (y.newborn a);
+  newborn = ⊎_elim (λ same. same.0 ∙ m.newborn) (λ n. absurd (m.late (some a is).0 (n.1.late (some a is).0 (some a is).1))) (y.newborn a);
+  late = λ c k. ⊎_elim (λ same. m.late c (same.1 c k)) (λ n. m.late (some a is).0 (n.1.late (some a is).0 (some a is).1)) (y.newborn a);
   clears = λ j leaf k. m.clears j leaf (y.clears a j leaf k);
 })
 

@@ -1,0 +1,96 @@
+-- THE INVARIANT of a block cache, in one record.
+use Rattle.std.specs.Prelude.{◌≡◌, ◌≢◌, ◌⊎◌, ◌<◌, ◌≤◌, ℕ, suc, Bool, true, false, List, [], ◌∷◌, ◌++◌, map, length, Result, is_err, not}
+use Rattle.std.specs.List.{Contains}
+use Rattle.fo_disk.specs.Disk.{versions_of}
+use Rattle.fo_disk.specs.Disk.{Content as Holds}
+use Rattle.fo_labels.specs.Region.{Region, IsDataBlock, label_of}
+use Rattle.fo_crash.specs.Images.{Content, SameContent}
+use Rattle.fo_cells.specs.Known.{Known, Top, IsWait}
+use Rattle.fo_cells.specs.Device.{Clearing, Mind, Fits, known, wrote, after_sync}
+use Rattle.fo_cells.specs.Flags.{Flags, FlagsFit, LabelsFit, marked, after_sync_flags}
+use Rattle.fo_cells.specs.Safe.{IsSafe, IsSet}
+use Rattle.fo_cells.specs.Laws.{Safe}
+use Rattle.fo_cells_out.specs.Removals.{Pending}
+use Rattle.fo_cells_out.specs.Parents.{Tree}
+use Rattle.fo_cells_held.specs.Held.{Buffering, HasBuffers, ChangesMemory, Times, LabelsAreTimed, ChangesLabels, OnlyLiveDirty, Dirties, timed, after_sync_times}
+use Rattle.fo_cells_held.specs.Room.{Promises, Space, HasRoom, Used, Spends, UsesLabels}
+use Rattle.fo_cells_epochs.specs.Epochs.{Root, HasEpochs}
+use Rattle.fo_cells_queue.specs.Queue.{Queued, IsQueue}
+
+-- All that a cache keeps beside its device; with the format of its blocks (`mind`) it says what is known.
+pub record Kept : Type 0 where
+  -- memory, labels, waits, waiting slots, tops
+  pub mind : Mind
+  pub flags : Flags
+  pub buffering : Buffering
+  pub times : Times
+  -- the labels as they lie, and what was promised of them
+  pub region : Region
+  pub promises : Promises
+  pub space : Space
+  -- the super block: its high epoch, and the doubt, where there is one
+  pub high : ℕ
+  pub doubts : List Content
+  -- block 1 and what was made; the roots of kept snapshots
+  pub active : List Top
+  pub roots : List Root
+  -- removals of earlier epochs, and of the active one
+  pub past : List Queued
+  pub queue : List Pending
+
+-- what block 1 spells of its high epoch, and which addresses are data blocks
+pub record Format : Type 0 where
+  pub high_of : Content → ℕ
+  pub is_data : ℕ → Bool
+
+-- ALL THAT HOLDS AT EVERY MOMENT. `t` is the division of the blocks: in the tree of memory, made, covered.
+pub record HoldsAll (c : Kept) (f : Format) (t : Tree) (unsure : List Bool) (holds : Holds) : Type 0 where
+  -- one place, ranks, labels, names, older blocks, epochs, the tree of memory, waits; kept trees closed late; super blocks and their roots
+  pub epochs : HasEpochs (known c.mind holds) c.high f.high_of c.doubts c.active c.roots
+  -- removals in order, and who may still lead to what they close
+  pub queue : IsQueue (known c.mind holds) t c.high c.active c.roots c.past c.queue
+  -- flags say what they should of the device
+  pub flags : FlagsFit c.mind c.flags unsure holds
+  pub label_flags : LabelsFit c.mind c.flags holds
+  pub fits : Fits c.mind unsure holds
+  -- buffers exist where they are needed; labels are set, known by label; only live blocks are dirty
+  pub buffers : HasBuffers c.mind c.flags c.buffering
+  pub times : LabelsAreTimed c.mind c.flags c.times holds
+  pub dirty : OnlyLiveDirty c.mind c.flags f.is_data c.high
+  -- room for what was promised
+  pub labels : (b : ℕ) → IsDataBlock c.region b → c.mind.label b ≡ label_of c.region b
+  pub room : HasRoom c.mind.low c.region c.promises c.space
+
+-- ---- steps of the device
+
+-- a block was written with this answer, of all that memory has or not
+abbrev pub kept_write : ℕ → Bool → Bool → Kept → Kept
+kept_write at ok is_complete c = record c { mind = wrote at ok is_complete c.mind; flags = marked at ok is_complete c.flags; times = timed at ok c.times }
+
+abbrev pub kept_sync : {E : Type 0} → Result Unit E → Kept → Kept
+kept_sync result c = record c { mind = after_sync result c.mind; flags = after_sync_flags result c.flags; times = after_sync_times result c.flags c.times }
+
+-- ---- steps in memory: what they do beside what is known
+
+pub record StepsBeside (c d : Kept) (f : Format) (x : Used) (holds : Holds) : Type 0 where
+  pub changes : ChangesMemory c.mind d.mind c.flags d.flags c.buffering d.buffering
+  pub labels : ChangesLabels c.mind d.mind c.times d.times
+  pub dirties : Dirties c.mind d.mind c.flags d.flags f.is_data c.high
+  -- a label that changed makes its block dirty
+  pub label_dirty : (b : ℕ) → d.flags.dirty (c.mind.label_block b) ≡ false → (c.flags.dirty (c.mind.label_block b) ≡ false) × (d.mind.label b ≡ c.mind.label b)
+  pub leaves : (k : Clearing) → Contains d.mind.clears k → Contains c.mind.clears k ⊎ (k.leaf < length holds)
+  pub region : (b : ℕ) → IsDataBlock d.region b → d.mind.label b ≡ label_of d.region b
+  pub spends : Spends x c.promises d.promises c.space d.space
+  pub uses : UsesLabels x.blocks c.mind.low d.mind.low c.region d.region
+  pub high : d.high ≡ c.high
+
+-- what is beside the trees, the super blocks and the removals
+pub record HoldsBeside (c : Kept) (f : Format) (unsure : List Bool) (holds : Holds) : Type 0 where
+  pub flags : FlagsFit c.mind c.flags unsure holds
+  pub label_flags : LabelsFit c.mind c.flags holds
+  pub fits : Fits c.mind unsure holds
+  pub buffers : HasBuffers c.mind c.flags c.buffering
+  pub times : LabelsAreTimed c.mind c.flags c.times holds
+  pub dirty : OnlyLiveDirty c.mind c.flags f.is_data c.high
+  pub labels : (b : ℕ) → IsDataBlock c.region b → c.mind.label b ≡ label_of c.region b
+  pub room : HasRoom c.mind.low c.region c.promises c.space

@@ -1,0 +1,50 @@
+//! The calls of a device: all that a cache's invariant says is kept, whatever the device answers.
+ghost use Rattle.std.specs.Prelude.{◌≡◌, ◌<◌, ℕ, Bool, true, length, is_err, not};
+ghost use Rattle.fo_base.specs.Cause.{HasCause};
+ghost use Rattle.fo_disk.specs.Disk.{Writes, Syncs, Passes};
+ghost use Rattle.fo_image.specs.declared.types.State.TheVariants.{Closed};
+ghost use Rattle.fo_crash.specs.Images.{SameContent};
+ghost use Rattle.fo_cells.specs.Device.{MayWrite, MayWriteLabels, known, wrote};
+ghost use Rattle.fo_cells.specs.Safe.{IsCurrent};
+ghost use Rattle.fo_cells_out.specs.Parents.{Tree};
+ghost use Rattle.fo_cells_epochs.specs.Epochs.{IsRead, NamesSet};
+ghost use Rattle.fo_cells_all.specs.All.{Kept, Format, HoldsAll, kept_write, kept_sync};
+
+use fo_disk::{Disk, Failed};
+
+/// Blocks that are divided, in whatever form a cache has that.
+pub trait Divided {
+    /// The tree of memory, what was made, what is covered.
+    ghost tree: { Self → Tree };
+}
+
+/// Writes a dirty block that has a buffer: a data block, whole or with older slots, that is current, was not made and left unlinked, and
+/// names only what is settled; block 1 with what memory has; or a block of labels.
+pub fn write_kept<D: Disk, T: Divided>(
+    disk: &mut D,
+    _tree: &T,
+    at: u32,
+    bytes: &[u8],
+) -> Result<(), Failed>
+    requires block { at < D.size disk.old }
+    requires length { length bytes.now ≡ 8192 }
+    ensures block_kept { (c : Kept) (f : Format) (is_complete : Bool) → at < length (D.holds disk.old) → MayWrite c.mind (D.holds disk.old) at bytes.now is_complete → NamesSet at (c.mind.read at bytes.now) (known c.mind (D.holds disk.old)) (known (wrote at (not (is_err result)) is_complete c.mind) (D.holds disk.new)) → IsCurrent (known c.mind (D.holds disk.old)) c.high at → (at ≡ 1 → SameContent (c.mind.read at bytes.now) (c.mind.memory 1)) → ((T.tree _tree.now).Made at → ⊥) → c.buffering.held at ≡ true → c.flags.dirty at ≡ true → ((c.mind.label at).state ≡ Closed → is_complete ≡ true) → IsRead f.high_of → HoldsAll c f (T.tree _tree.now) (D.unsure disk.old) (D.holds disk.old) → HoldsAll (kept_write at (not (is_err result)) is_complete c) f (T.tree _tree.now) (D.unsure disk.new) (D.holds disk.new) }
+    ensures labels_kept { (c : Kept) (f : Format) → at < length (D.holds disk.old) → MayWriteLabels c.mind at bytes.now → c.mind.read at bytes.now ≡ c.mind.memory at → c.buffering.held at ≡ true → c.flags.dirty at ≡ true → IsRead f.high_of → HoldsAll c f (T.tree _tree.now) (D.unsure disk.old) (D.holds disk.old) → HoldsAll (kept_write at (not (is_err result)) true c) f (T.tree _tree.now) (D.unsure disk.new) (D.holds disk.new) }
+    ensures holds { Writes at bytes.now result (D.holds disk.old) (D.holds disk.new) }
+    ensures moments { Passes (D.holds disk.old) (D.holds disk.new) (D.moments disk.old) (D.moments disk.new) }
+    ensures size { D.size disk.new ≡ D.size disk.old }
+    ensures cause { HasCause (D.faults disk.old) (D.faults disk.new) result }
+{
+    disk.write(at, bytes)
+}
+
+/// Settles what was written. It fails only where the device fails, and then nothing counts as settled.
+pub fn settle_kept<D: Disk, T: Divided>(disk: &mut D, _tree: &T) -> Result<(), Failed>
+    ensures kept { (c : Kept) (f : Format) → ((b : ℕ) → (T.tree _tree.now).Made b → b < length (D.holds disk.old)) → IsRead f.high_of → HoldsAll c f (T.tree _tree.now) (D.unsure disk.old) (D.holds disk.old) → HoldsAll (kept_sync result c) f (T.tree _tree.now) (D.unsure disk.new) (D.holds disk.new) }
+    ensures holds { Syncs (D.unsure disk.old) result (D.holds disk.old) (D.holds disk.new) }
+    ensures moments { Passes (D.holds disk.old) (D.holds disk.new) (D.moments disk.old) (D.moments disk.new) }
+    ensures size { D.size disk.new ≡ D.size disk.old }
+    ensures cause { HasCause (D.faults disk.old) (D.faults disk.new) result }
+{
+    disk.sync()
+}
