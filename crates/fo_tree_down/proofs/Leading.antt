@@ -1,0 +1,78 @@
+-- The way of the new top leads to the block that came.
+use Rattle.std.proofs.Common.{◌≡◌, ◌≢◌, ◌-◌, ◌/◌, ◌%◌, ◌<◌, ◌≤◌, ℕ, zero, suc, List, inl, inr, ⊎_elim, sym, ◌∙◌, ap, arith}
+use Rattle.fo_image.specs.declared.types.Label.{Label}
+use Rattle.fo_image.specs.declared.types.Pointer.{Pointer}
+use Rattle.fo_image.specs.declared.types.Pointer.TheVariants.{Local}
+use Rattle.fo_crash.specs.declared.slot.Slot.{Slot}
+use Rattle.fo_crash.specs.Images.{target}
+use Rattle.fo_ports.specs.State.{State, KeepsAll}
+use Rattle.fo_tree_look.specs.declared.ways.Kept.{Kept}
+use Rattle.fo_tree_read.specs.declared.tree.Tree.{Tree}
+use Rattle.fo_tree_read.specs.Tree.{kind_down, below, block_at}
+use Rattle.fo_tree_own.specs.Step.{IsOwn, Links}
+use Rattle.fo_tree_down.specs.Way.{Comes, IsBlockOf, LeadsBeside, Leads, with_top, IsTopOf}
+use Rattle.fo_tree_down.proofs.Join.{level_same}
+
+-- a block that is owned is one of its level
+pub block_of : {s : State} {t : Tree} (n k at : ℕ) → IsOwn s t (t.depth - n) k at → IsBlockOf s t n at
+block_of n k at own = (own.live, own.has_kind)
+
+last_of : (s u : State) (t : Tree) (kept : List Kept) (top n k at : ℕ) → Leads s u t kept top n k at → IsBlockOf u t n at
+last_of s u t kept top zero k at leads = leads.1
+last_of s u t kept top (suc n) k at leads = leads.1
+
+module _ (s m u : State) (t : Tree) (kept : List Kept) (top n above i result level k : ℕ) (within : n ≤ t.depth) (own : IsBlockOf m t n above) (was : Pointer) (step : Links t level k above i was result m u) where
+  ne_result : (n' at : ℕ) → IsBlockOf m t n' at → at ≢ result
+  ne_result n' at is e = step.made.0 (ap (λ y. (m.label y).state) (sym e) ∙ is.0)
+
+  block_on : (n' at : ℕ) → IsBlockOf m t n' at → IsBlockOf u t n' at
+  block_on n' at is = let same = step.labels at (ne_result n' at is) in (ap (λ (l : Label). l.state) same ∙ is.0, ap (λ (l : Label). l.kind) same ∙ is.1)
+
+  ne_above : (n' at : ℕ) → n' < n → IsBlockOf m t n' at → at ≢ above
+  ne_above n' at lt is e =
+      let same : t.depth - n' ≡ t.depth - n = level_same t.dir (t.depth - n') (t.depth - n) (sym is.1 ∙ ap (λ y. (m.label y).kind) e ∙ own.1) in
+      omega (arith, same, lt, within)
+
+  pub leads_on : (n' j at : ℕ) → n' ≤ n → Leads s m t kept top n' j at → Leads s u t kept top n' j at
+  leads_on zero j at le leads = (leads.0, block_on zero at leads.1)
+  leads_on (suc n') j at le leads =
+      let parent = leads.0.0 in
+      let is = last_of s m t kept top n' (j / 409) parent leads.0.1 in
+      let same : (x : ℕ) → (u.now parent).slot x ≡ (m.now parent).slot x = λ x. step.slots parent x (ne_result n' parent is) (inl (ne_above n' parent (omega (arith, le)) is)) in (
+        (
+          parent,
+          leads_on n' (j / 409) parent (omega (arith, le)) leads.0.1,
+          ap (λ (q : Slot). target q) (same (j % 409)) ∙ leads.0.2,
+          λ x few ne. ap (λ (q : Slot). target q) (same x) ∙ leads.0.3 x few ne,
+        ),
+        block_on (suc n') at leads.1,
+      )
+
+  -- beside the slot that was put
+  pub beside_on : (j : ℕ) → LeadsBeside s m t kept n j above i → LeadsBeside s u t kept n j above i
+  beside_on j beside x few ne = ap (λ (q : Slot). target q) (step.slots above x (ne_result n above own) (inr ne)) ∙ beside x few ne
+
+-- what the new tree has there
+pub leads_to : (s u : State) (t : Tree) (kept : List Kept) (top n k at : ℕ) → Leads s u t kept top n k at → block_at u (with_top t top) n k ≡ Local at
+leads_to s u t kept top zero k at leads = ap (λ b. Local b) (sym leads.0)
+leads_to s u t kept top (suc n) k at leads =
+    ap (λ (p : Pointer). below u (kind_down t n) p (k % 409)) (leads_to s u t kept top n (k / 409) leads.0.0 leads.0.1) ∙ leads.0.2
+
+-- ---- the top
+
+pub top_came : {s u : State} {t : Tree} {kept : List Kept} {k top : ℕ} → Comes s u t kept zero k top → IsTopOf s u t top
+top_came comes = record {
+  from = ⊎_elim (λ made. inl made) (λ is. inr is.0) comes.from;
+  live = comes.own.live;
+  current = comes.own.current;
+}
+
+pub top_stays : {s m u : State} {t : Tree} {level k at i result top : ℕ} {was : Pointer} → KeepsAll m u → IsTopOf s m t top → Links t level k at i was result m u → IsTopOf s u t top
+top_stays {s = s} {m = m} {u = u} {result = result} {top = top} more is step = record {
+  from = ⊎_elim (λ made. inl (made.0, ap (λ (l : Label). l.state) same ∙ made.1)) (λ e. inr e) is.from;
+  live = ap (λ (l : Label). l.state) same ∙ is.live;
+  current = ap (λ (l : Label). l.epoch) same ∙ is.current ∙ sym more.same_high;
+}
+  where
+    same : u.label top ≡ m.label top
+    same = step.labels top (λ e. step.made.0 (ap (λ y. (m.label y).state) (sym e) ∙ is.live))

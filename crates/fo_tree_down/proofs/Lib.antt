@@ -1,0 +1,5 @@
+pub mod Join
+pub mod Next
+pub mod Topping
+pub mod Leading
+pub mod Beside

@@ -1,0 +1,186 @@
+-- The top of a source is made current.
+use Rattle.std.proofs.Common.{◌≡◌, ◌≢◌, ◌+◌, ◌-◌, ◌^◌, ◌<◌, ◌≤◌, ℕ, zero, Bool, true, false, List, length, inl, inr, ⊎_elim, sym, ◌∙◌, ap, subst, arith}
+use Rattle.std.proofs.lemmas.Bool.{cases_eq}
+use Rattle.fo_image.specs.declared.types.Label.{Label}
+use Rattle.fo_image.specs.declared.types.State.TheVariants.{Live}
+use Rattle.fo_image.specs.declared.types.Score.{Score}
+use Rattle.fo_image.specs.declared.types.Pointer.{Pointer}
+use Rattle.fo_image.specs.declared.types.Pointer.TheVariants.{Nil, Local, Score as Held}
+use Rattle.fo_crash.specs.Images.{Image, Reaches, to_block}
+use Rattle.fo_crash.specs.Places.{place, super_place}
+use Rattle.fo_crash.proofs.Places.{stands_below}
+use Rattle.fo_crash.proofs.Reach.{reach_aside, reach_into, reaches_itself}
+use Rattle.fo_ports.specs.Blocks.{IsLevel}
+use Rattle.fo_ports.specs.State.{State, KeepsAll}
+use Rattle.fo_ports.specs.Sources.{Made, IsMade, StaysMarked}
+use Rattle.fo_tree_read.specs.declared.tree.Tree.{Tree}
+use Rattle.fo_tree_read.specs.Tree.{kind_at, Hangs}
+use Rattle.fo_tree_look.specs.declared.ways.Kept.{Kept}
+use Rattle.fo_tree_look.specs.Source.{IsPrepared, IsKept, Ready, IsTopCurrent}
+use Rattle.fo_image.specs.Format.{kind_code}
+use Rattle.fo_tree_own.specs.Step.{IsOwn, Becomes}
+use Rattle.fo_tree_own.proofs.Link.{Laws, Came}
+use Rattle.fo_tree_down.specs.Way.{OnWay, IsBefore, Descends, Comes, TopTold}
+
+-- A top came: it was given out for the place of a top, and comes in the place of the top that was, if of any.
+pub record Topped (t : Tree) (kept : List Kept) (l : Label) (result : ℕ) (s m : State) : Type 0 where
+  pub came : Came l result s m
+  pub all : KeepsAll s m
+  pub laws : Laws s
+  pub is_live : l.state ≡ Live
+  pub is_current : l.epoch ≡ s.high
+  pub has_kind : l.kind ≡ kind_at t.dir t.depth
+  pub tagged : l.tag ≡ t.tag
+  pub long : length ((m.now result).bytes) ≡ 8192
+  pub raised : (y : ℕ) → m.instead result y → t.top ≡ Local y
+  pub stands : s.tells → m.stands result (place (kind_at t.dir t.depth) t.tag 0 (t.rank + t.depth))
+  pub content : Becomes s m t kept t.depth t.top result
+
+module _ {t : Tree} {kept : List Kept} {l : Label} {result : ℕ} {s m : State} (x : Topped t kept l result s m) where
+  made_result : Made s m result
+  made_result = (x.came.was.0, ap (λ (q : Label). q.state) x.came.label ∙ x.is_live)
+
+  ne_result : (b : ℕ) → (Made s m b → ⊥) → b ≢ result
+  ne_result b not e = not (subst (λ y. Made s m y) (sym e) made_result)
+
+  made_is : (b : ℕ) → Made s m b → b ≡ result
+  made_is b made = ⊎_elim (λ e. e) (λ ne. absurd (made.0 (ap (λ (q : Label). q.state) (sym (x.came.stays.labels b ne)) ∙ made.1))) (cases_eq b result)
+
+  away : s.tells → (b : ℕ) → b ≡ result → Reaches s.now (to_block 1) b → ⊥
+  away told b e r =
+      let q = stands_below super_place (x.laws.placed told) (x.laws.ranked told) (x.laws.super_stands told) (subst (λ y. Reaches s.now (to_block 1) y) e r) in
+      (x.came.was.3 told).1 q.0 q.1
+
+  in_tree : s.tells → (b : ℕ) → Reaches s.now (to_block 1) b → Reaches m.now (to_block 1) b
+  in_tree told b r = reach_aside s.now m.now (λ y. y ≡ result) 1 (λ y j ne. sym ((x.came.others y ne).slots j)) (away told) b r
+
+  images : (k : ℕ) (image : Image) → m.may_leave image → IsBefore s m t (OnWay s t zero k) (t.depth - zero) image
+  images k image is =
+      let d = x.came.before image is in
+      record {
+        other = d.other;
+        was = d.was;
+        bytes = λ b not. (d.same b (ne_result b not)).bytes;
+        slots = λ b j not. inl ((d.same b (ne_result b not)).slots j);
+        apart = λ top b is_top made r. x.came.unreached image is top is_top
+            (reach_into image d.other (λ y. y ≡ result) top (λ y j ne. (d.same y ne).slots j)
+            (λ y e far. x.came.unreached image is top is_top (subst (λ z. Reaches image (to_block top) z) e far)) result
+            (subst (λ z. Reaches d.other (to_block top) z) (made_is b made) r));
+      }
+
+  made_end : IsMade t.tag s m result
+  made_end = record {
+    was = (x.came.was.1, x.came.was.3);
+    labelled = (ap (λ (q : Label). q.epoch) x.came.label ∙ x.is_current, ap (λ (q : Label). q.tag) x.came.label ∙ x.tagged);
+    is_one = x.came.is.0;
+    is_pinned = x.came.is.1;
+    is_fresh = x.came.is.2;
+  }
+
+  marked_end : (b : ℕ) → (Made s m b → ⊥) → StaysMarked s m b
+  marked_end b not = let ne = ne_result b not in record {
+    label = x.came.stays.labels b ne;
+    marks = x.came.stays.marks b ne;
+    apart = x.came.stays.apart b ne (λ h. h);
+  }
+
+  only_end : (b : ℕ) → (s.covered b → ⊥) → m.covered b → ⊥
+  only_end b free h = ⊎_elim (λ e. x.came.is.4 (subst (λ y. m.covered y) e h)) (λ ne. x.came.only b ne free h) (cases_eq b result)
+
+  descends : (k : ℕ) → Descends t (OnWay s t zero k) (t.depth - zero) s m
+  descends k = record {
+    bytes = λ b not. (x.came.others b (ne_result b not)).bytes;
+    slots = λ b j not. inl ((x.came.others b (ne_result b not)).slots j);
+    images = images k;
+    made = λ b made. subst (λ y. IsMade t.tag s m y) (sym (made_is b made)) made_end;
+    others = marked_end;
+    places = λ told b p not other free stands. x.came.stays.places told b p (ne_result b not) (λ h. h) free stands;
+    instead = λ b y h. ⊎_elim
+        (λ e. inr (subst (λ z. Made s m z) (sym e) made_result, x.raised y (subst (λ z. m.instead z y) e h)))
+        (λ ne. inl ((x.came.stays.instead b y ne (λ n. n)).0 h))
+        (cases_eq b result);
+    still = λ b h. x.came.still b (λ e. x.came.was.2 (subst (λ y. s.covered y) e h)) h;
+    only = λ b free other h. only_end b free h;
+    leaves = λ told b r gone. absurd (gone (in_tree told b r));
+    in_tree = λ told b other r. in_tree told b r;
+    waits = λ a b j not_a not_b w. x.came.stays.waits a b j (ne_result a not_a) (ne_result b not_b) (λ h. h) w;
+    no_wait = x.came.no_wait;
+    clearing = λ b j h. let old = x.came.order.clearing b j h in (λ made. old.0 (made_is b made), old.1);
+    dirty = λ b d. ⊎_elim
+        (λ old. inl old)
+        (λ h. inr (⊎_elim (λ e. inl (inl (subst (λ y. Made s m y) (sym e) made_result))) (λ e. inr (result, made_result, e)) h))
+        (x.came.dirty b d);
+    moments = x.came.uses.moments;
+    left = x.came.uses.left;
+    pins = x.came.uses.pins;
+    room = let r = x.came.uses.room in omega (arith, r);
+    numbers = x.came.numbers;
+  }
+
+  own : (k : ℕ) → k < 409 ^ zero → IsOwn m t (t.depth - zero) k result
+  own k few = let first : 0 ≡ k = omega (arith, few) in let all : t.depth ≡ t.depth - zero = omega arith in
+      subst (λ i. IsOwn m t (t.depth - zero) i result) first (subst (λ level. IsOwn m t level 0 result) all top_own)
+    where
+      top_own : IsOwn m t t.depth 0 result
+      top_own = record {
+        is_pinned = x.came.is.1;
+        live = ap (λ (q : Label). q.state) x.came.label ∙ x.is_live;
+        has_kind = ap (λ (q : Label). q.kind) x.came.label ∙ x.has_kind;
+        tagged = ap (λ (q : Label). q.tag) x.came.label ∙ x.tagged;
+        current = ap (λ (q : Label). q.epoch) x.came.label ∙ x.is_current ∙ sym x.all.same_high;
+        long = x.long;
+        told = λ now. let told = x.all.still_tells.0 now in record {
+          stands = x.stands told;
+          uncovered = x.came.is.4;
+          holder = inr (record { top = result; is_apart = x.came.is.3; place = place (kind_at t.dir t.depth) t.tag 0 (t.rank + t.depth); stands = x.stands told; uncovered = x.came.is.4; reaches = reaches_itself m.now result });
+        };
+      }
+
+  pub comes_topped : (k : ℕ) → k < 409 ^ zero → Comes s m t kept zero k result
+  comes_topped k few = record {
+    own = own k few;
+    descends = descends k;
+    from = inl made_result;
+    content = let all : t.depth ≡ t.depth - zero = omega arith in subst (λ level. Becomes s m t kept level t.top result) all x.content;
+  }
+
+-- ---- the top that is there
+
+pub level_at : (dir : Bool) (level : ℕ) → level ≤ 4 → IsLevel (kind_at dir level)
+level_at true level le = le
+level_at false level le = le
+
+pub own_here : (s : State) (t : Tree) (at : ℕ) → Hangs s t → t.top ≡ Local at → IsPrepared s (kind_at t.dir t.depth) t.tag at → (s.tells → TopTold s at) → (s.label at).epoch ≡ s.high → IsOwn s t t.depth 0 at
+own_here s t at hangs top is told current = record {
+  is_pinned = is.is_pinned;
+  live = is.live;
+  has_kind = is.has_kind;
+  tagged = is.tagged;
+  current = current;
+  long = is.long;
+  told = λ now. record { stands = (hangs.told now at top).0; uncovered = (told now).is_told.uncovered; holder = (told now).holder current };
+}
+
+nil_local : (b : ℕ) → Nil ≡ Local b → ⊥
+nil_local b e = cc
+
+held_local : (score : Score) (b : ℕ) → Held score ≡ Local b → ⊥
+held_local score b e = cc
+
+local_eq : {a b : ℕ} → Local a ≡ Local b → a ≡ b
+local_eq e = cc
+
+pub top_epoch : {s : State} {t : Tree} {at : ℕ} → t.top ≡ Local at → IsTopCurrent s t → (s.label at).epoch ≡ s.high
+top_epoch {s = s} is top = subst (λ b. (s.label b).epoch ≡ s.high) (local_eq (sym top.is ∙ is)) top.current
+
+pub top_local : {s : State} {t : Tree} → t.top ≡ Nil → IsTopCurrent s t → ⊥
+top_local is top = nil_local top.at (sym is ∙ top.is)
+
+pub top_held : {s : State} {t : Tree} {score : Score} → t.top ≡ Held score → IsTopCurrent s t → ⊥
+top_held {score = score} is top = held_local score top.at (sym is ∙ top.is)
+
+pub ready_local : (s : State) (t : Tree) (kept : List Kept) (at : ℕ) → t.top ≡ Local at → Ready s t kept zero t.top → IsPrepared s (kind_at t.dir t.depth) t.tag at
+ready_local s t kept at is ready = let all : t.depth - zero ≡ t.depth = omega arith in subst (λ level. IsPrepared s (kind_at t.dir level) t.tag at) all (subst (λ (p : Pointer). Ready s t kept zero p) is ready)
+
+pub ready_kept : (s : State) (t : Tree) (kept : List Kept) (score : Score) → t.top ≡ Held score → Ready s t kept zero t.top → IsKept kept score (kind_code (kind_at t.dir t.depth))
+ready_kept s t kept score is ready = let all : t.depth - zero ≡ t.depth = omega arith in subst (λ level. IsKept kept score (kind_code (kind_at t.dir level))) all (subst (λ (p : Pointer). Ready s t kept zero p) is ready).0

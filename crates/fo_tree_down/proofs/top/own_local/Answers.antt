@@ -1,0 +1,53 @@
+use Rattle.std.proofs.Common.{◌+◌, length, refl, sym, ap, ◌∙◌, subst, arith}
+use Rattle.fo_image.specs.declared.types.Pointer.{Pointer}
+use Rattle.fo_image.specs.declared.types.Pointer.TheVariants.{Local}
+use Rattle.fo_crash.specs.Places.{place}
+use Rattle.fo_tree_read.specs.Tree.{kind_at}
+use Rattle.fo_tree_own.specs.Step.{Becomes}
+use Rattle.fo_tree_own.proofs.Link.{came}
+use Rattle.fo_tree_down.proofs.Topping.{comes_topped, own_here}
+use Rattle.fo_tree_down.proofs.Next.{comes_top}
+use Rattle.fo_tree_down.proofs.top.own_local.Goals as goal
+
+pub copy-requires-clause-in_tree : goal.copy-requires-clause-in_tree
+copy-requires-clause-in_tree g c =
+    λ told. (c.requires.told told).is_told.in_tree (c.is_current.ensures.older c.if-is_current.false)
+
+pub returns-then-is_current-clause-comes : goal.returns-then-is_current-clause-comes
+returns-then-is_current-clause-comes g c =
+    let on = c.args.on.now in
+    let s = g.B.Blocks.state on in
+    let t = c.args.tree.now in
+    λ k few. comes_top s t c.args.kept.now k c.args.at c.requires.is few (own_here s t c.args.at c.requires.hangs c.requires.is c.requires.ready c.requires.told (c.is_current.ensures.yes c.if-is_current.true)) (λ made. made.0 made.1)
+
+pub returns-else-is_current-clause-comes : goal.returns-else-is_current-clause-comes
+returns-else-is_current-clause-comes g c =
+    let on = c.args.on.now in
+    let raw = c.copy.new.self in
+    let s = g.B.Blocks.state on in
+    let r = g.B.Blocks.state raw in
+    let t = c.args.tree.now in
+    let e = c.copy.ensures in
+    comes_topped {s = s} {m = r} (record {
+      came = came e.gives;
+      all = g.met.B.Blocks.keeps_all on raw e.keeps;
+      laws = record { present = g.met.B.Blocks.present on; active = (g.met.B.Blocks.active on).0; not_one = (g.met.B.Blocks.active on).1; one = g.met.B.Blocks.one_place on; super_stands = g.met.B.Blocks.super_stands on; placed = λ told. g.met.B.Blocks.placed on s.now (g.met.B.Blocks.present on told); ranked = λ told. g.met.B.Blocks.ranked on s.now (g.met.B.Blocks.present on told); live = λ y told ne r. g.met.B.Blocks.live on y told ne r; clears = g.met.B.Blocks.clears_entries on; waits_within = g.met.B.Blocks.waits_within on; covers_told = g.met.B.Blocks.covers_told on; within = g.met.B.Blocks.within on; spelled = g.met.B.Blocks.spelled on; apart_hangs = λ told w is r. g.met.B.Blocks.apart_hangs on s.now 1 w is (g.met.B.Blocks.present on told) (g.met.B.Blocks.active on).0 r; small = g.met.B.Blocks.small on };
+      is_live = refl;
+      is_current = refl;
+      has_kind = c.requires.ready.has_kind;
+      tagged = c.requires.ready.tagged;
+      long = ap length e.gives.memory.here.bytes ∙ c.requires.ready.long;
+      raised = λ y h. c.requires.is ∙ ap (λ b. Local b) (sym ((e.instead y).0 h));
+      stands = λ told. e.place told (place (kind_at t.dir t.depth) t.tag 0 (t.rank + t.depth)) (c.requires.hangs.told told c.args.at c.requires.is).0;
+      content = subst (λ (p : Pointer). Becomes s r t c.args.kept.now t.depth p c.copy.result) (sym c.requires.is) e.gives.memory.here;
+    })
+
+pub returns-else-is_current-clause-spare : goal.returns-else-is_current-clause-spare
+returns-else-is_current-clause-spare g c =
+    let used = c.copy.ensures.gives.uses.spare in omega (arith, used)
+
+pub returns-else-is_current-clause-less : goal.returns-else-is_current-clause-less
+returns-else-is_current-clause-less g c =
+    λ current.
+    let older = c.is_current.ensures.older c.if-is_current.false in
+    absurd (omega (arith, older, current))

@@ -1,0 +1,306 @@
+use Rattle.std.proofs.Common.{◌≡◌, ◌⊎◌, ◌+◌, ◌-◌, ◌*◌, ◌/◌, ◌%◌, ◌^◌, ◌<◌, ◌≤◌, ℕ, suc, inl, inr, ⊎_elim, refl, sym, subst, arith}
+use Rattle.std.proofs.lemmas.Bool.{cases_eq}
+use Rattle.std.proofs.Math.Nat.{pow-succ'}
+use Rattle.fo_image.specs.declared.types.Pointer.TheVariants.{Local}
+use Rattle.fo_crash.specs.Images.{target}
+use Rattle.fo_crash.specs.Places.{super_place, root_place}
+use Rattle.fo_tree_read.specs.Tree.{kind_down, below, block_at}
+use Rattle.fo_tree_look.specs.Source.{seen, IsTold, WayReady}
+use Rattle.fo_tree_own.specs.Step.{IsOwn, CanOwn, Becomes, Links}
+use Rattle.fo_tree_down.specs.Way.{OnWay, Comes, Leads, IsTopOf}
+use Rattle.fo_tree_down.proofs.Next.{Says, leads_beside, above_own, can_next, comes_same, comes_new}
+use Rattle.fo_tree_down.proofs.Leading.{block_of, leads_on, beside_on, top_came, top_stays}
+use Rattle.fo_tree_down.proofs.way.+own_down.Goals as goal
+
+pub own_top-top-requires-clause-ready : goal.own_top-top-requires-clause-ready
+own_top-top-requires-clause-ready g t' c = subst (λ d. WayReady (g.B.Blocks.state c.args.on.now) c.args.tree.now c.args.kept.now d c.args.k) c.if-down-eq0.true c.requires.ready
+
+pub own_top-top-requires-clause-spare : goal.own_top-top-requires-clause-spare
+own_top-top-requires-clause-spare g t' c = ⊎_elim (λ top. inl top.0) (λ some. inr (omega (arith, some))) c.requires.spare
+
+pub returns-then-down-eq0-clause-comes : goal.returns-then-down-eq0-clause-comes
+returns-then-down-eq0-clause-comes g t' c =
+    let s = g.B.Blocks.state c.args.on.now in
+    let u = g.B.Blocks.state c.own_top-top.new.on in
+    let zero = c.if-down-eq0.true in
+    subst (λ d. Comes s u c.args.tree.now c.args.kept.now d c.args.k c.own_top-top.result) (sym zero)
+    (c.own_top-top.ensures.comes c.args.k (subst (λ d. c.args.k < 409 ^ d) zero c.requires.down.1))
+
+pub returns-then-down-eq0-clause-less : goal.returns-then-down-eq0-clause-less
+returns-then-down-eq0-clause-less g t' c = λ top. let le = c.own_top-top.ensures.less top in omega (arith, le)
+
+pub own_down-above-requires : goal.own_down-above-requires
+own_down-above-requires g t' c =
+    let s = g.B.Blocks.state c.args.on.now in
+    let t = c.args.tree.now in
+    let kept = c.args.kept.now in
+    let k = c.args.k in
+    let is : c.args.down ≡ suc (c.args.down - 1) = omega arith in
+    let few : c.args.k < 409 ^ suc (c.args.down - 1) = subst (λ d. c.args.k < 409 ^ d) is c.requires.down.1 in
+    let more : 409 ^ suc (c.args.down - 1) ≡ 409 * 409 ^ (c.args.down - 1) = pow-succ' 409 (c.args.down - 1) in
+    let le = c.requires.down.0 in
+    let some = c.if-down-eq0.false in
+    let told : s.tells → (b : ℕ) → OnWay s t (suc (c.args.down - 1)) k b → IsTold s b = subst (λ d. s.tells → (b : ℕ) → OnWay s t d k b → IsTold s b) is c.requires.told in
+    λ lifetimes sub. (
+      omega arith,
+      (
+        sub,
+        (
+          c.requires.hangs,
+          (
+            (omega (arith, le), omega (arith, few, more)),
+            (
+              (subst (λ d. WayReady s t kept d k) is c.requires.ready).0,
+              (
+                λ is b way. told is b (inl way),
+                (
+                  c.requires.top,
+                  ⊎_elim (λ top. let enough = top.1 in inl (top.0, omega (arith, enough))) (λ enough. inr (omega (arith, enough, some))) c.requires.spare,
+                ),
+              ),
+            ),
+          ),
+        ),
+      ),
+    )
+
+pub own_block-at-requires-clause-above : goal.own_block-at-requires-clause-above
+own_block-at-requires-clause-above g t' c =
+    let on = c.args.on.now in
+    let mid = c.own_down-above.new.on in
+    let s = g.B.Blocks.state on in
+    let m = g.B.Blocks.state mid in
+    let t = c.args.tree.now in
+    let kept = c.args.kept.now in
+    let n = c.args.down - 1 in
+    let k = c.args.k in
+    let is : c.args.down ≡ suc (c.args.down - 1) = omega arith in
+    let all = g.met.B.Blocks.keeps_all on mid c.own_down-above.ensures.keeps in
+    let down : suc (c.args.down - 1) ≤ t.depth = subst (λ d. d ≤ t.depth) is c.requires.down.0 in
+    let ready : WayReady s t kept (suc (c.args.down - 1)) k = subst (λ d. WayReady s t kept d k) is c.requires.ready in
+    let says : s.tells → Says s = λ told. record { placed = g.met.B.Blocks.placed on s.now (g.met.B.Blocks.present on told); one = g.met.B.Blocks.one_place on } in
+    let told : s.tells → (b : ℕ) → OnWay s t (suc (c.args.down - 1)) k b → IsTold s b = subst (λ d. s.tells → (b : ℕ) → OnWay s t d k b → IsTold s b) is c.requires.told in
+    let above = c.own_down-above.result.at in
+    let comes = c.own_down-above.ensures.comes in
+    subst (λ d. IsOwn m t (suc (t.depth - d)) (k / 409) above) (sym is) (above_own s m t kept n k above all c.requires.hangs down ready comes says told)
+
+pub own_block-at-requires-clause-below : goal.own_block-at-requires-clause-below
+own_block-at-requires-clause-below g t' c =
+    let on = c.args.on.now in
+    let mid = c.own_down-above.new.on in
+    let s = g.B.Blocks.state on in
+    let m = g.B.Blocks.state mid in
+    let t = c.args.tree.now in
+    let kept = c.args.kept.now in
+    let n = c.args.down - 1 in
+    let k = c.args.k in
+    let is : c.args.down ≡ suc (c.args.down - 1) = omega arith in
+    let all = g.met.B.Blocks.keeps_all on mid c.own_down-above.ensures.keeps in
+    let down : suc (c.args.down - 1) ≤ t.depth = subst (λ d. d ≤ t.depth) is c.requires.down.0 in
+    let ready : WayReady s t kept (suc (c.args.down - 1)) k = subst (λ d. WayReady s t kept d k) is c.requires.ready in
+    let says : s.tells → Says s = λ told. record { placed = g.met.B.Blocks.placed on s.now (g.met.B.Blocks.present on told); one = g.met.B.Blocks.one_place on } in
+    let told : s.tells → (b : ℕ) → OnWay s t (suc (c.args.down - 1)) k b → IsTold s b = subst (λ d. s.tells → (b : ℕ) → OnWay s t d k b → IsTold s b) is c.requires.told in
+    let above = c.own_down-above.result.at in
+    let comes = c.own_down-above.ensures.comes in
+    subst (λ d. CanOwn m t kept (t.depth - d) (target ((m.now above).slot (k % 409)))) (sym is) (can_next s m t kept n k above all c.requires.hangs down ready comes says told)
+
+pub own_block-at-requires-clause-spare : goal.own_block-at-requires-clause-spare
+own_block-at-requires-clause-spare g t' c =
+    let some = c.if-down-eq0.false in
+    ⊎_elim
+    (λ top. let left = c.own_down-above.ensures.less top.0 in let enough = top.1 in inr (omega (arith, some, enough, left)))
+    (λ enough. let left = c.own_down-above.ensures.spare in inr (omega (arith, some, enough, left)))
+    c.requires.spare
+
+pub returns-clause-comes : goal.returns-clause-comes
+returns-clause-comes g t' c =
+    let on = c.args.on.now in
+    let mid = c.own_down-above.new.on in
+    let s = g.B.Blocks.state on in
+    let m = g.B.Blocks.state mid in
+    let t = c.args.tree.now in
+    let kept = c.args.kept.now in
+    let n = c.args.down - 1 in
+    let k = c.args.k in
+    let is : c.args.down ≡ suc (c.args.down - 1) = omega arith in
+    let all = g.met.B.Blocks.keeps_all on mid c.own_down-above.ensures.keeps in
+    let down : suc (c.args.down - 1) ≤ t.depth = subst (λ d. d ≤ t.depth) is c.requires.down.0 in
+    let ready : WayReady s t kept (suc (c.args.down - 1)) k = subst (λ d. WayReady s t kept d k) is c.requires.ready in
+    let says : s.tells → Says s = λ told. record { placed = g.met.B.Blocks.placed on s.now (g.met.B.Blocks.present on told); one = g.met.B.Blocks.one_place on } in
+    let told : s.tells → (b : ℕ) → OnWay s t (suc (c.args.down - 1)) k b → IsTold s b = subst (λ d. s.tells → (b : ℕ) → OnWay s t d k b → IsTold s b) is c.requires.told in
+    let above = c.own_down-above.result.at in
+    let comes = c.own_down-above.ensures.comes in
+    let end = c.own_block-at.new.on in
+    let u = g.B.Blocks.state end in
+    let at = c.own_block-at.result in
+    let was = target ((m.now above).slot (k % 409)) in
+    let step : ((was ≡ Local at) × (end ≡ mid) × IsOwn m t (t.depth - suc n) (409 * (k / 409) + k % 409) at) ⊎ Links t (t.depth - suc n) (k / 409) above (k % 409) was at m u =
+    subst (λ d. ((was ≡ Local at) × (end ≡ mid) × IsOwn m t (t.depth - d) (409 * (k / 409) + k % 409) at) ⊎ Links t (t.depth - d) (k / 409) above (k % 409) was at m u) is c.own_block-at.ensures.step in
+    subst (λ d. Comes s u t kept d k at) (sym is)
+    (⊎_elim
+    (λ same. subst (λ x. Comes s (g.B.Blocks.state x) t kept (suc n) k at) (sym same.1)
+    (comes_same s m t kept n k above all c.requires.hangs down ready comes says told at same.0 same.2
+    (subst (λ x. Becomes m (g.B.Blocks.state x) t kept (t.depth - suc n) was at) same.1 (subst (λ d. Becomes m u t kept (t.depth - d) was at) is c.own_block-at.ensures.content))))
+    (λ links. comes_new s m t kept n k above all c.requires.hangs down ready comes says told u at (g.met.B.Blocks.keeps_all mid end c.own_block-at.ensures.keeps)
+    (λ image h. (
+      g.met.B.Blocks.placed on image h,
+      g.met.B.Blocks.ranked on image h,
+      g.met.B.Blocks.told on image h,
+      λ top is_top. ⊎_elim
+          (λ e. (super_place, subst (λ y. s.stands y super_place) (sym e) (g.met.B.Blocks.super_stands on (g.met.B.Blocks.told on image h))))
+          (λ ne. (root_place, g.met.B.Blocks.top_stands on top (g.met.B.Blocks.told on image h) is_top ne))
+          (cases_eq top 1),
+    ))
+    links
+    (subst (λ d. Becomes m u t kept (t.depth - d) was at) is c.own_block-at.ensures.content))
+    step)
+
+pub returns-clause-spare : goal.returns-clause-spare
+returns-clause-spare g t' c =
+    let on = c.args.on.now in
+    let mid = c.own_down-above.new.on in
+    let s = g.B.Blocks.state on in
+    let m = g.B.Blocks.state mid in
+    let t = c.args.tree.now in
+    let kept = c.args.kept.now in
+    let n = c.args.down - 1 in
+    let k = c.args.k in
+    let is : c.args.down ≡ suc (c.args.down - 1) = omega arith in
+    let all = g.met.B.Blocks.keeps_all on mid c.own_down-above.ensures.keeps in
+    let down : suc (c.args.down - 1) ≤ t.depth = subst (λ d. d ≤ t.depth) is c.requires.down.0 in
+    let ready : WayReady s t kept (suc (c.args.down - 1)) k = subst (λ d. WayReady s t kept d k) is c.requires.ready in
+    let says : s.tells → Says s = λ told. record { placed = g.met.B.Blocks.placed on s.now (g.met.B.Blocks.present on told); one = g.met.B.Blocks.one_place on } in
+    let told : s.tells → (b : ℕ) → OnWay s t (suc (c.args.down - 1)) k b → IsTold s b = subst (λ d. s.tells → (b : ℕ) → OnWay s t d k b → IsTold s b) is c.requires.told in
+    let above = c.own_down-above.result.at in
+    let comes = c.own_down-above.ensures.comes in
+    let end = c.own_block-at.new.on in
+    let u = g.B.Blocks.state end in
+    let at = c.own_block-at.result in
+    let was = target ((m.now above).slot (k % 409)) in
+    let step : ((was ≡ Local at) × (end ≡ mid) × IsOwn m t (t.depth - suc n) (409 * (k / 409) + k % 409) at) ⊎ Links t (t.depth - suc n) (k / 409) above (k % 409) was at m u =
+    subst (λ d. ((was ≡ Local at) × (end ≡ mid) × IsOwn m t (t.depth - d) (409 * (k / 409) + k % 409) at) ⊎ Links t (t.depth - d) (k / 409) above (k % 409) was at m u) is c.own_block-at.ensures.step in
+    let some = c.if-down-eq0.false in
+    let left = c.own_down-above.ensures.spare in
+    ⊎_elim
+    (λ same. let kept_spare : m.spare ≤ u.spare = subst (λ x. m.spare ≤ (g.B.Blocks.state x).spare) (sym same.1) (omega arith) in omega (arith, kept_spare, left, some))
+    (λ links. let used = links.spare in omega (arith, used, left, some))
+    step
+
+pub returns-clause-less : goal.returns-clause-less
+returns-clause-less g t' c =
+    let on = c.args.on.now in
+    let mid = c.own_down-above.new.on in
+    let s = g.B.Blocks.state on in
+    let m = g.B.Blocks.state mid in
+    let t = c.args.tree.now in
+    let kept = c.args.kept.now in
+    let n = c.args.down - 1 in
+    let k = c.args.k in
+    let is : c.args.down ≡ suc (c.args.down - 1) = omega arith in
+    let all = g.met.B.Blocks.keeps_all on mid c.own_down-above.ensures.keeps in
+    let down : suc (c.args.down - 1) ≤ t.depth = subst (λ d. d ≤ t.depth) is c.requires.down.0 in
+    let ready : WayReady s t kept (suc (c.args.down - 1)) k = subst (λ d. WayReady s t kept d k) is c.requires.ready in
+    let says : s.tells → Says s = λ told. record { placed = g.met.B.Blocks.placed on s.now (g.met.B.Blocks.present on told); one = g.met.B.Blocks.one_place on } in
+    let told : s.tells → (b : ℕ) → OnWay s t (suc (c.args.down - 1)) k b → IsTold s b = subst (λ d. s.tells → (b : ℕ) → OnWay s t d k b → IsTold s b) is c.requires.told in
+    let above = c.own_down-above.result.at in
+    let comes = c.own_down-above.ensures.comes in
+    let end = c.own_block-at.new.on in
+    let u = g.B.Blocks.state end in
+    let at = c.own_block-at.result in
+    let was = target ((m.now above).slot (k % 409)) in
+    let step : ((was ≡ Local at) × (end ≡ mid) × IsOwn m t (t.depth - suc n) (409 * (k / 409) + k % 409) at) ⊎ Links t (t.depth - suc n) (k / 409) above (k % 409) was at m u =
+    subst (λ d. ((was ≡ Local at) × (end ≡ mid) × IsOwn m t (t.depth - d) (409 * (k / 409) + k % 409) at) ⊎ Links t (t.depth - d) (k / 409) above (k % 409) was at m u) is c.own_block-at.ensures.step in
+    let some = c.if-down-eq0.false in
+    λ top.
+    let left = c.own_down-above.ensures.less top in
+    ⊎_elim
+    (λ same. let kept_spare : m.spare ≤ u.spare = subst (λ x. m.spare ≤ (g.B.Blocks.state x).spare) (sym same.1) (omega arith) in omega (arith, kept_spare, left, some))
+    (λ links. let used = links.spare in omega (arith, used, left, some))
+    step
+
+pub returns-clause-keeps : goal.returns-clause-keeps
+returns-clause-keeps g t' c =
+    g.met.B.Blocks.keeps_joins c.args.on.now c.own_down-above.new.on c.own_block-at.new.on c.own_down-above.ensures.keeps c.own_block-at.ensures.keeps
+
+pub returns-then-down-eq0-clause-leads : goal.returns-then-down-eq0-clause-leads
+returns-then-down-eq0-clause-leads g t' c =
+    let u = g.B.Blocks.state c.own_top-top.new.on in
+    let zero = c.if-down-eq0.true in
+    let few = subst (λ d. c.args.k < 409 ^ d) zero c.requires.down.1 in
+    subst (λ d. Leads (g.B.Blocks.state c.args.on.now) u c.args.tree.now c.args.kept.now c.own_top-top.result d c.args.k c.own_top-top.result) (sym zero)
+    (refl, block_of 0 c.args.k c.own_top-top.result (c.own_top-top.ensures.comes c.args.k few).own)
+
+pub returns-then-down-eq0-clause-top : goal.returns-then-down-eq0-clause-top
+returns-then-down-eq0-clause-top g t' c =
+    let zero = c.if-down-eq0.true in
+    top_came (c.own_top-top.ensures.comes c.args.k (subst (λ d. c.args.k < 409 ^ d) zero c.requires.down.1))
+
+pub returns-clause-leads : goal.returns-clause-leads
+returns-clause-leads g t' c =
+    let on = c.args.on.now in
+    let mid = c.own_down-above.new.on in
+    let s = g.B.Blocks.state on in
+    let m = g.B.Blocks.state mid in
+    let t = c.args.tree.now in
+    let kept = c.args.kept.now in
+    let n = c.args.down - 1 in
+    let k = c.args.k in
+    let is : c.args.down ≡ suc (c.args.down - 1) = omega arith in
+    let all = g.met.B.Blocks.keeps_all on mid c.own_down-above.ensures.keeps in
+    let down : suc (c.args.down - 1) ≤ t.depth = subst (λ d. d ≤ t.depth) is c.requires.down.0 in
+    let ready : WayReady s t kept (suc (c.args.down - 1)) k = subst (λ d. WayReady s t kept d k) is c.requires.ready in
+    let says : s.tells → Says s = λ told. record { placed = g.met.B.Blocks.placed on s.now (g.met.B.Blocks.present on told); one = g.met.B.Blocks.one_place on } in
+    let told : s.tells → (b : ℕ) → OnWay s t (suc (c.args.down - 1)) k b → IsTold s b = subst (λ d. s.tells → (b : ℕ) → OnWay s t d k b → IsTold s b) is c.requires.told in
+    let above = c.own_down-above.result.at in
+    let comes = c.own_down-above.ensures.comes in
+    let end = c.own_block-at.new.on in
+    let u = g.B.Blocks.state end in
+    let at = c.own_block-at.result in
+    let was = target ((m.now above).slot (k % 409)) in
+    let step : ((was ≡ Local at) × (end ≡ mid) × IsOwn m t (t.depth - suc n) (409 * (k / 409) + k % 409) at) ⊎ Links t (t.depth - suc n) (k / 409) above (k % 409) was at m u =
+    subst (λ d. ((was ≡ Local at) × (end ≡ mid) × IsOwn m t (t.depth - d) (409 * (k / 409) + k % 409) at) ⊎ Links t (t.depth - d) (k / 409) above (k % 409) was at m u) is c.own_block-at.ensures.step in
+    let top = c.own_down-above.result.top in
+    let beside : (j : ℕ) → j < 409 → target ((m.now above).slot j) ≡ below (seen s kept) (kind_down t n) (block_at (seen s kept) t n (k / 409)) j = leads_beside s m t kept n k above all c.requires.hangs down ready comes says told in
+    subst (λ d. Leads s u t kept top d k at) (sym is)
+    (⊎_elim
+    (λ same. subst (λ x. Leads s (g.B.Blocks.state x) t kept top (suc n) k at) (sym same.1)
+    ((above, c.own_down-above.ensures.leads, same.0, λ j few ne. beside j few), block_of (suc n) (409 * (k / 409) + k % 409) at same.2))
+    (λ links. (
+      (
+        above,
+        leads_on s m u t kept top n above (k % 409) at (t.depth - suc n) (k / 409) (omega (arith, down)) (block_of n (k / 409) above comes.own) was links n (k / 409) above (omega arith) c.own_down-above.ensures.leads,
+        links.leads,
+        beside_on s m u t kept top n above (k % 409) at (t.depth - suc n) (k / 409) (omega (arith, down)) (block_of n (k / 409) above comes.own) was links (k / 409) (λ j few ne. beside j few),
+      ),
+      block_of (suc n) (409 * (k / 409) + k % 409) at links.own,
+    ))
+    step)
+
+pub returns-clause-top : goal.returns-clause-top
+returns-clause-top g t' c =
+    let on = c.args.on.now in
+    let mid = c.own_down-above.new.on in
+    let s = g.B.Blocks.state on in
+    let m = g.B.Blocks.state mid in
+    let t = c.args.tree.now in
+    let kept = c.args.kept.now in
+    let n = c.args.down - 1 in
+    let k = c.args.k in
+    let is : c.args.down ≡ suc (c.args.down - 1) = omega arith in
+    let all = g.met.B.Blocks.keeps_all on mid c.own_down-above.ensures.keeps in
+    let down : suc (c.args.down - 1) ≤ t.depth = subst (λ d. d ≤ t.depth) is c.requires.down.0 in
+    let ready : WayReady s t kept (suc (c.args.down - 1)) k = subst (λ d. WayReady s t kept d k) is c.requires.ready in
+    let says : s.tells → Says s = λ told. record { placed = g.met.B.Blocks.placed on s.now (g.met.B.Blocks.present on told); one = g.met.B.Blocks.one_place on } in
+    let told : s.tells → (b : ℕ) → OnWay s t (suc (c.args.down - 1)) k b → IsTold s b = subst (λ d. s.tells → (b : ℕ) → OnWay s t d k b → IsTold s b) is c.requires.told in
+    let above = c.own_down-above.result.at in
+    let comes = c.own_down-above.ensures.comes in
+    let end = c.own_block-at.new.on in
+    let u = g.B.Blocks.state end in
+    let at = c.own_block-at.result in
+    let was = target ((m.now above).slot (k % 409)) in
+    let step : ((was ≡ Local at) × (end ≡ mid) × IsOwn m t (t.depth - suc n) (409 * (k / 409) + k % 409) at) ⊎ Links t (t.depth - suc n) (k / 409) above (k % 409) was at m u =
+    subst (λ d. ((was ≡ Local at) × (end ≡ mid) × IsOwn m t (t.depth - d) (409 * (k / 409) + k % 409) at) ⊎ Links t (t.depth - d) (k / 409) above (k % 409) was at m u) is c.own_block-at.ensures.step in
+    ⊎_elim
+    (λ same. subst (λ x. IsTopOf s (g.B.Blocks.state x) t c.own_down-above.result.top) (sym same.1) c.own_down-above.ensures.top)
+    (λ links. top_stays (g.met.B.Blocks.keeps_all mid end c.own_block-at.ensures.keeps) c.own_down-above.ensures.top links)
+    step

@@ -1,0 +1,41 @@
+use Rattle.std.proofs.Common.{◌-◌}
+use Rattle.fo_tree_look.proofs.Shown.{top_ready}
+use Rattle.fo_tree_down.proofs.Join.{changes_of}
+use Rattle.fo_tree_down.proofs.Leading.{leads_to}
+use Rattle.fo_tree_down.proofs.Beside.{stays_beside, on_way_block, last_leads}
+use Rattle.fo_tree_down.proofs.way.own_way.Goals as goal
+
+pub own_down-requires-clause-hangs : goal.own_down-requires-clause-hangs
+own_down-requires-clause-hangs g c = c.requires.over.1.hangs
+
+pub own_down-requires-clause-told : goal.own_down-requires-clause-told
+own_down-requires-clause-told g c = λ told b on. c.requires.over.1.told told b (on_way_block (g.B.Blocks.state c.args.on.now) c.args.tree.now c.args.down c.args.k b c.requires.down.0 on)
+
+pub returns-clause-leads : goal.returns-clause-leads
+returns-clause-leads g c = leads_to (g.B.Blocks.state c.args.on.now) (g.B.Blocks.state c.own_down.new.on) c.args.tree.now c.args.kept.now c.own_down.result.top c.args.down c.args.k c.own_down.result.at c.own_down.ensures.leads
+
+pub returns-clause-beside : goal.returns-clause-beside
+returns-clause-beside g c = λ told.
+    let on = c.args.on.now in
+    let s = g.B.Blocks.state on in
+    let u = g.B.Blocks.state c.own_down.new.on in
+    let t = c.args.tree.now in
+    let kept = c.args.kept.now in
+    let over = c.requires.over.1 in
+    let comes = c.own_down.ensures.comes in
+    stays_beside {s = s} {u = u} {t = t} {kept = kept} {top = c.own_down.result.top} {n = c.args.down} {k = c.args.k} {at = c.own_down.result.at} {level = t.depth - c.args.down} (record {
+      all = g.met.B.Blocks.keeps_all on c.own_down.new.on c.own_down.ensures.keeps;
+      hangs = over.hangs;
+      told = told;
+      says = record { placed = g.met.B.Blocks.placed on s.now (g.met.B.Blocks.present on told); one = g.met.B.Blocks.one_place on };
+      held = over.held;
+      live = λ b has. (over.told told b has).live;
+      within = c.requires.down.0;
+      few = c.requires.down.1;
+      leads = c.own_down.ensures.leads;
+      last = last_leads s u t kept c.args.down c.args.k c.own_down.result.at (top_ready s t kept c.args.down c.args.k c.requires.ready) comes;
+      descends = comes.descends;
+    })
+
+pub returns-clause-changes : goal.returns-clause-changes
+returns-clause-changes g c = changes_of (λ b on. on_way_block (g.B.Blocks.state c.args.on.now) c.args.tree.now c.args.down c.args.k b c.requires.down.0 on) c.own_down.ensures.comes.descends

@@ -1,0 +1,108 @@
+-- A whole way is made current, from the top down.
+use Rattle.std.specs.Prelude.{◌≡◌, ◌≢◌, ◌⊎◌, ◌^◌, ◌≤◌, ◌-◌, ◌/◌, ◌%◌, ◌<◌, ℕ, zero, suc, List}
+use Rattle.fo_image.specs.declared.types.Kind.{Kind}
+use Rattle.fo_image.specs.declared.types.Pointer.TheVariants.{Local}
+use Rattle.fo_image.specs.declared.types.State.TheVariants.{Live}
+use Rattle.fo_crash.specs.declared.place.Place.{Place}
+use Rattle.fo_crash.specs.Images.{Image, Reaches, target, to_block}
+use Rattle.fo_ports.specs.State.{State, none, AddsNoWait, KeepsNumbers}
+use Rattle.fo_ports.specs.Sources.{Made, Touched, IsMade, StaysMarked}
+use Rattle.fo_tree_read.specs.declared.tree.Tree.{Tree}
+use Rattle.fo_tree_read.specs.Tree.{kind_at, kind_down, below, block_at}
+use Rattle.fo_tree_look.specs.declared.ways.Kept.{Kept}
+use Rattle.fo_tree_look.specs.Source.{IsTold, seen}
+use Rattle.fo_tree_own.specs.Step.{HangsApart, IsOwn, Becomes}
+
+-- A block stands on the way to block k, n steps below the top, or is that block.
+abbrev pub OnWay : State → Tree → ℕ → ℕ → ℕ → Type 0
+OnWay s t zero k b = block_at s t zero k ≡ Local b
+OnWay s t (suc n) k b = OnWay s t n (k / 409) b ⊎ (block_at s t (suc n) k ≡ Local b)
+
+-- A kind is one of blocks above this level.
+pub record IsHigher (t : Tree) (level : ℕ) (kind : Kind) : Type 0 where
+  pub at : ℕ
+  pub above : level < at
+  pub is : kind ≡ kind_at t.dir at
+
+-- A current block of the way above this level, into which a slot may have been put.
+pub record IsPutInto (s : State) (t : Tree) (mine : ℕ → Type 0) (level b : ℕ) : Type 0 where
+  pub is_mine : mine b
+  pub current : (s.label b).epoch ≡ s.high
+  pub tagged : (s.label b).tag ≡ t.tag
+  pub higher : IsHigher t level (s.label b).kind
+
+-- An image is one of before, but for blocks that were given out, and slots of current blocks of the way that are as memory has them now.
+pub record IsBefore (s u : State) (t : Tree) (mine : ℕ → Type 0) (level : ℕ) (image : Image) : Type 0 where
+  pub other : Image
+  pub was : s.may_leave other
+  pub bytes : (b : ℕ) → (Made s u b → ⊥) → (image b).bytes ≡ (other b).bytes
+  pub slots : (b j : ℕ) → (Made s u b → ⊥) → ((image b).slot j ≡ (other b).slot j) ⊎ (IsPutInto s t mine level b × ((image b).slot j ≡ (u.now b).slot j))
+  pub apart : (top b : ℕ) → s.tops top → Made s u b → Reaches other (to_block top) b → ⊥
+
+-- The blocks of a way (`mine`) were made current down to this level: what was given out is of the source, slots were put into blocks above
+-- this level alone, and all else stays. Only blocks of the way are to be closed, and all are that leave the tree.
+pub record Descends (t : Tree) (mine : ℕ → Type 0) (level : ℕ) (s u : State) : Type 0 where
+  pub bytes : (b : ℕ) → (Made s u b → ⊥) → (u.now b).bytes ≡ (s.now b).bytes
+  pub slots : (b j : ℕ) → (Made s u b → ⊥) → ((u.now b).slot j ≡ (s.now b).slot j) ⊎ IsPutInto s t mine level b
+  pub images : (image : Image) → u.may_leave image → IsBefore s u t mine level image
+  pub made : (b : ℕ) → Made s u b → IsMade t.tag s u b
+  pub others : (b : ℕ) → (Made s u b → ⊥) → StaysMarked s u b
+  pub places : s.tells → (b : ℕ) (p : Place) → (Made s u b → ⊥) → (mine b → ⊥) → (u.covered b → ⊥) → s.stands b p → u.stands b p
+  pub instead : (b x : ℕ) → u.instead b x → s.instead b x ⊎ (Made s u b × mine x)
+  pub still : (b : ℕ) → s.covered b → u.covered b
+  pub only : (b : ℕ) → (s.covered b → ⊥) → (mine b → ⊥) → u.covered b → ⊥
+  pub leaves : s.tells → (b : ℕ) → Reaches s.now (to_block 1) b → (Reaches u.now (to_block 1) b → ⊥) → u.covered b
+  pub in_tree : s.tells → (b : ℕ) → (mine b → ⊥) → Reaches s.now (to_block 1) b → Reaches u.now (to_block 1) b
+  pub waits : (a on j : ℕ) → (Made s u a → ⊥) → (Made s u on → ⊥) → s.waits a on j → u.waits a on j
+  pub no_wait : AddsNoWait none s u
+  pub clearing : (b j : ℕ) → u.clearing b j → (Made s u b → ⊥) × s.clearing b j
+  pub dirty : (b : ℕ) → u.dirty b → s.dirty b ⊎ (Touched s u t.tag mine b ⊎ ((x : ℕ) × Made s u x × (b ≡ u.label_block x)))
+  pub moments : u.moments ≡ s.moments
+  pub left : (k : ℕ) (image : Image) → u.left k image → s.left k image
+  pub pins : u.pins_left ≡ s.pins_left
+  pub room : u.room ≡ s.room
+  pub numbers : KeepsNumbers s u
+
+-- A block of the way was made current, and has what was there: it was given out, or is the block that was there.
+pub record Comes (s u : State) (t : Tree) (kept : List Kept) (n k at : ℕ) : Type 0 where
+  pub own : IsOwn u t (t.depth - n) k at
+  pub descends : Descends t (OnWay s t n k) (t.depth - n) s u
+  pub from : Made s u at ⊎ ((block_at s t n k ≡ Local at) × (Made s u at → ⊥))
+  pub content : Becomes s u t kept (t.depth - n) (block_at (seen s kept) t n k) at
+
+-- What a device that tells has of the top of a source: a current one hangs from block 1, or from a block that was put nowhere yet.
+pub record TopTold (s : State) (at : ℕ) : Type 0 where
+  pub is_told : IsTold s at
+  pub holder : (s.label at).epoch ≡ s.high → Reaches s.now (to_block 1) at ⊎ HangsApart s at
+
+-- A live block of the kind of those n steps below the top.
+abbrev pub IsBlockOf : State → Tree → ℕ → ℕ → Type 0
+IsBlockOf s t n at = ((s.label at).state ≡ Live) × ((s.label at).kind ≡ kind_down t n)
+
+-- Beside slot i a block leads where the one did that was there.
+abbrev pub LeadsBeside : (old new : State) → Tree → List Kept → ℕ → ℕ → ℕ → ℕ → Type 0
+LeadsBeside s u t kept n k at i = (j : ℕ) → j < 409 → j ≢ i → target ((u.now at).slot j) ≡ below (seen s kept) (kind_down t n) (block_at (seen s kept) t n k) j
+
+-- From this top memory leads to this block, by blocks of the kinds of their levels, and beside the way to where it led before.
+abbrev pub Leads : (old new : State) → Tree → List Kept → ℕ → ℕ → ℕ → ℕ → Type 0
+Leads s u t kept top zero k at = (at ≡ top) × IsBlockOf u t zero at
+Leads s u t kept top (suc n) k at = ((above : ℕ) × Leads s u t kept top n (k / 409) above × (target ((u.now above).slot (k % 409)) ≡ Local at) × LeadsBeside s u t kept n (k / 409) above (k % 409)) × IsBlockOf u t (suc n) at
+
+-- Block j of those m steps below the top stands on the way to block k of those n steps below.
+abbrev pub IsWayIndex : ℕ → ℕ → ℕ → ℕ → Type 0
+IsWayIndex zero k m j = (m ≡ 0) × (j ≡ k)
+IsWayIndex (suc n) k m j = ((m ≡ suc n) × (j ≡ k)) ⊎ IsWayIndex n (k / 409) m j
+
+-- Where the way was made current, and its top put into the tree, the other blocks are those that were there.
+pub record StaysBeside (s u : State) (t new : Tree) (n k : ℕ) : Type 0 where
+  pub each : (m j : ℕ) → m ≤ t.depth → j < 409 ^ m → (IsWayIndex n k m j → ⊥) → block_at u new m j ≡ block_at s t m j
+
+-- the tree with another top
+abbrev pub with_top : Tree → ℕ → Tree
+with_top t top = record t { top = Local top }
+
+-- The top of a source once it was made current: one that was given out, or the one that was there.
+pub record IsTopOf (s u : State) (t : Tree) (top : ℕ) : Type 0 where
+  pub from : Made s u top ⊎ (t.top ≡ Local top)
+  pub live : (u.label top).state ≡ Live
+  pub current : (u.label top).epoch ≡ u.high

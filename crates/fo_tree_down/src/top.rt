@@ -1,0 +1,80 @@
+//! The top of a source is made current.
+ghost use Rattle.std.specs.Prelude.{◌≡◌, ◌⊎◌, ◌+◌, ◌-◌, ◌^◌, ◌<◌, ◌≤◌, ℕ};
+ghost use Rattle.fo_image.specs.declared.types.Pointer.TheVariants.{Nil, Local, Score as Held};
+ghost use Rattle.fo_image.specs.Format.{kind_code};
+ghost use Rattle.fo_tree_read.specs.Tree.{Hangs, kind_at};
+ghost use Rattle.fo_tree_look.specs.Source.{IsPlainTree, IsPrepared, IsKept, Ready, IsTopCurrent};
+ghost use Rattle.fo_tree_down.specs.Way.{Comes, TopTold};
+
+use fo_image::{Pointer, Score};
+use fo_ports::Blocks;
+use fo_tree_look::Kept;
+use fo_tree_own::{fill_kept, is_current, kind_at};
+use fo_tree_read::Tree;
+
+/// Makes the top of a source current: it is the top itself where that is of the active epoch, a copy of an older one, one with what was
+/// kept under a score, or one of zeros.
+pub(crate) fn own_top<B: Blocks>(tree: &Tree, kept: &[Kept], on: &mut B) -> u32
+    requires hangs { Hangs (B.state on.old) tree.now }
+    requires ready { Ready (B.state on.old) tree.now kept.now 0 tree.now.top }
+    requires told { (B.state on.old).tells → (b : ℕ) → tree.now.top ≡ Local b → TopTold (B.state on.old) b }
+    requires spare { IsTopCurrent (B.state on.old) tree.now ⊎ (0 < (B.state on.old).spare) }
+    ensures comes { (k : ℕ) → k < 409 ^ 0 → Comes (B.state on.old) (B.state on.new) tree.now kept.now 0 k result }
+    ensures spare { (B.state on.old).spare ≤ (B.state on.new).spare + 1 }
+    ensures less { IsTopCurrent (B.state on.old) tree.now → (B.state on.old).spare ≤ (B.state on.new).spare }
+    ensures keeps { B.keeps on.old on.new }
+{
+    match tree.top {
+        Pointer::Nil => new_top(tree, kept, on),
+        Pointer::Local(at) => own_local(tree, kept, on, at),
+        Pointer::Score(score) => kept_top(tree, kept, on, &score),
+    }
+}
+
+/// Makes a top that stands on the device current.
+fn own_local<B: Blocks>(tree: &Tree, kept: &[Kept], on: &mut B, at: u32) -> u32
+    requires hangs { Hangs (B.state on.old) tree.now }
+    requires is { tree.now.top ≡ Local at }
+    requires ready { IsPrepared (B.state on.old) (kind_at tree.now.dir tree.now.depth) tree.now.tag at }
+    requires told { (B.state on.old).tells → TopTold (B.state on.old) at }
+    requires spare { (((B.state on.old).label at).epoch ≡ (B.state on.old).high) ⊎ (0 < (B.state on.old).spare) }
+    ensures comes { (k : ℕ) → k < 409 ^ 0 → Comes (B.state on.old) (B.state on.new) tree.now kept.now 0 k result }
+    ensures spare { (B.state on.old).spare ≤ (B.state on.new).spare + 1 }
+    ensures less { ((B.state on.old).label at).epoch ≡ (B.state on.old).high → (B.state on.old).spare ≤ (B.state on.new).spare }
+    ensures keeps { B.keeps on.old on.new }
+{
+    let _ = tree;
+    let _ = kept;
+    if is_current(on, at) { at } else { on.copy(at) }
+}
+
+/// Makes a top of zeros, where there is none.
+fn new_top<B: Blocks>(tree: &Tree, kept: &[Kept], on: &mut B) -> u32
+    requires hangs { Hangs (B.state on.old) tree.now }
+    requires is { tree.now.top ≡ Nil }
+    requires spare { 0 < (B.state on.old).spare }
+    ensures comes { (k : ℕ) → k < 409 ^ 0 → Comes (B.state on.old) (B.state on.new) tree.now kept.now 0 k result }
+    ensures spare { (B.state on.old).spare ≤ (B.state on.new).spare + 1 }
+    ensures keeps { B.keeps on.old on.new }
+{
+    let _ = kept;
+    let kind = kind_at(tree.dir, tree.depth);
+    on.new_block(kind, tree.tag, tree.rank + tree.depth as u32)
+}
+
+/// Makes a top with what was kept under a score.
+fn kept_top<B: Blocks>(tree: &Tree, kept: &[Kept], on: &mut B, score: &Score) -> u32
+    requires hangs { Hangs (B.state on.old) tree.now }
+    requires is { tree.now.top ≡ Held score.now }
+    requires kept { IsKept kept.now score.now (kind_code (kind_at tree.now.dir tree.now.depth)) }
+    requires plain { IsPlainTree tree.now ⊎ (0 < tree.now.depth) }
+    requires spare { 0 < (B.state on.old).spare }
+    ensures comes { (k : ℕ) → k < 409 ^ 0 → Comes (B.state on.old) (B.state on.new) tree.now kept.now 0 k result }
+    ensures spare { (B.state on.old).spare ≤ (B.state on.new).spare + 1 }
+    ensures keeps { B.keeps on.old on.new }
+{
+    let kind = kind_at(tree.dir, tree.depth);
+    let made = on.new_block(kind, tree.tag, tree.rank + tree.depth as u32);
+    fill_kept(tree, kept, on, made, tree.depth, score);
+    made
+}

@@ -1,0 +1,66 @@
+//! The way to a block is made current.
+ghost use Rattle.std.specs.Prelude.{◌≡◌, ◌≢◌, ◌⊎◌, ◌+◌, ◌-◌, ◌*◌, ◌/◌, ◌%◌, ◌^◌, ◌<◌, ◌≤◌, ℕ};
+ghost use Rattle.fo_image.specs.declared.types.Pointer.TheVariants.{Local};
+ghost use Rattle.fo_ports.specs.Sources.{Changes};
+ghost use Rattle.fo_tree_read.specs.Tree.{Hangs, kind_at, block_at};
+ghost use Rattle.fo_tree_look.specs.Source.{IsTold, Over, HasBlock, WayReady, IsTopCurrent};
+ghost use Rattle.fo_tree_down.specs.Way.{OnWay, TopTold, Comes, Leads, IsTopOf, StaysBeside, with_top};
+
+use crate::top::own_top;
+use fo_ports::Blocks;
+use fo_tree_look::Kept;
+use fo_tree_own::own_block;
+use fo_tree_read::Tree;
+
+/// How many pointers a block has.
+const SLOTS: u64 = 409;
+
+/// Where a way was made current: its top, and the block at its end.
+#[derive(Clone, Copy)]
+pub struct Current {
+    pub top: u32,
+    pub at: u32,
+}
+
+/// Makes block `k` of those so many steps below the top current, with all on the way to it. A new top is put nowhere yet.
+pub fn own_way<B: Blocks>(tree: &Tree, kept: &[Kept], on: &mut B, down: u8, k: u64) -> Current
+    requires over { (limit : ℕ) × Over (B.state on.old) tree.now kept.now limit }
+    requires down { (down ≤ tree.now.depth) × (k < 409 ^ down) }
+    requires ready { WayReady (B.state on.old) tree.now kept.now down k }
+    requires top { (B.state on.old).tells → (b : ℕ) → tree.now.top ≡ Local b → TopTold (B.state on.old) b }
+    requires spare { (IsTopCurrent (B.state on.old) tree.now × (down ≤ (B.state on.old).spare)) ⊎ (down < (B.state on.old).spare) }
+    ensures comes { Comes (B.state on.old) (B.state on.new) tree.now kept.now down k result.at }
+    ensures leads { block_at (B.state on.new) (with_top tree.now result.top) down k ≡ Local result.at }
+    ensures top { IsTopOf (B.state on.old) (B.state on.new) tree.now result.top }
+    ensures beside { (B.state on.old).tells → StaysBeside (B.state on.old) (B.state on.new) tree.now (with_top tree.now result.top) down k }
+    ensures changes { Changes tree.now.tag (HasBlock (B.state on.old) tree.now) (λ b. HasBlock (B.state on.old) tree.now b × (((B.state on.old).label b).kind ≢ kind_at tree.now.dir 0)) (B.state on.old) (B.state on.new) }
+    ensures spare { (B.state on.old).spare ≤ (B.state on.new).spare + (down + 1) }
+    ensures less { IsTopCurrent (B.state on.old) tree.now → (B.state on.old).spare ≤ (B.state on.new).spare + down }
+    ensures keeps { B.keeps on.old on.new }
+{
+    own_down(tree, kept, on, down, k)
+}
+
+/// Makes block `k` of those so many steps below the top current, and all on the way to it, one below another.
+fn own_down<B: Blocks>(tree: &Tree, kept: &[Kept], on: &mut B, down: u8, k: u64) -> Current
+    requires hangs { Hangs (B.state on.old) tree.now }
+    requires down { (down ≤ tree.now.depth) × (k < 409 ^ down) }
+    requires ready { WayReady (B.state on.old) tree.now kept.now down k }
+    requires told { (B.state on.old).tells → (b : ℕ) → OnWay (B.state on.old) tree.now down k b → IsTold (B.state on.old) b }
+    requires top { (B.state on.old).tells → (b : ℕ) → tree.now.top ≡ Local b → TopTold (B.state on.old) b }
+    requires spare { (IsTopCurrent (B.state on.old) tree.now × (down ≤ (B.state on.old).spare)) ⊎ (down < (B.state on.old).spare) }
+    ensures comes { Comes (B.state on.old) (B.state on.new) tree.now kept.now down k result.at }
+    ensures leads { Leads (B.state on.old) (B.state on.new) tree.now kept.now result.top down k result.at }
+    ensures top { IsTopOf (B.state on.old) (B.state on.new) tree.now result.top }
+    ensures spare { (B.state on.old).spare ≤ (B.state on.new).spare + (down + 1) }
+    ensures less { IsTopCurrent (B.state on.old) tree.now → (B.state on.old).spare ≤ (B.state on.new).spare + down }
+    ensures keeps { B.keeps on.old on.new }
+{
+    if down == 0 {
+        let top = own_top(tree, kept, on);
+        return Current { top, at: top };
+    }
+    let above = own_down(tree, kept, on, down - 1, k / SLOTS);
+    let at = own_block(tree, kept, on, above.at, tree.depth - down, k);
+    Current { top: above.top, at }
+}
