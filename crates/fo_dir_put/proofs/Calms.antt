@@ -7,7 +7,7 @@ use Rattle.fo_crash.specs.Images.{target, to_block, Reaches}
 use Rattle.fo_crash.specs.Steps.{Covers, PutsSlot}
 use Rattle.fo_ports.specs.State.{State, KeepsAll, KeepsOrder, Frame, Hangs, Calm, IsPointers, none}
 use Rattle.fo_dir_put.specs.Puts.{StaysCalm, IsOwnedRecords, IsInPlace}
-use Rattle.fo_dir_put.proofs.Nothing.{put_places, still_uncovered, reached_on}
+use Rattle.fo_dir_put.proofs.Nothing.{put_places, put_apart, put_instead, still_uncovered, reached_on}
 
 pub calm_joins : {a b c : State} → KeepsAll a b → StaysCalm a b → StaysCalm b c → StaysCalm a c
 calm_joins all first second = record {
@@ -17,6 +17,8 @@ calm_joins all first second = record {
   order = record { clearing = λ x j h. first.order.clearing x j (second.order.clearing x j h).1 };
   uncovered = λ x spared. second.uncovered x (first.uncovered x spared);
   linked = λ told x h. second.linked (all.still_tells.1 told) x (first.linked told x h);
+  apart = λ x h. second.apart x (first.apart x h);
+  instead = λ x y h. first.instead x y (second.instead x y h);
   left = (second.left.0 ∙ first.left.0, second.left.1 ∙ first.left.1);
 }
 
@@ -30,6 +32,8 @@ slot_calm frame hangs order puts covers told nil was = record {
   order = order;
   uncovered = λ b spared h. still_uncovered b (covers (told b h)) was spared h;
   linked = λ is b r. reached_on puts was r;
+  apart = λ b h. put_apart frame hangs nil b h;
+  instead = λ b x h. put_instead frame hangs nil b x h;
   left = (zero frame.uses.spare, frame.uses.pins);
 }
   where
@@ -45,6 +49,8 @@ bytes_calm calm reached = record {
   order = calm.order;
   uncovered = λ b spared h. spared ((calm.covered.covered b).0 h);
   linked = λ is b r. reached b r;
+  apart = λ b h. (calm.frame.stays.apart b (λ n. n) (λ n. n)).1 h;
+  instead = λ b x h. (calm.frame.stays.instead b x (λ n. n) (λ n. n)).0 h;
   left = (zero calm.frame.uses.spare, calm.frame.uses.pins);
 }
   where
@@ -58,6 +64,17 @@ records_on {a = a} {b = b} {at = at} all calm same owned = record {
   current = ap (λ (l : Label). l.epoch) (calm.labels at) ∙ owned.current ∙ sym all.same_high;
   leaf_kind = ap (λ (l : Label). l.kind) (calm.labels at) ∙ owned.leaf_kind;
   whole = ap (λ (xs : List ℕ). length xs) same ∙ owned.whole;
+  uncovered = calm.uncovered at owned.uncovered;
+  placed = λ told. let was = all.still_tells.0 told in let p = owned.placed was in (p.0, calm.places was at p.0 owned.uncovered p.1, p.2);
+}
+
+-- so is one that was put, whole
+pub records_put : {a b : State} {at : ℕ} → KeepsAll a b → StaysCalm a b → length ((b.now at).bytes) ≡ 8192 → IsOwnedRecords a at → IsOwnedRecords b at
+records_put {a = a} {b = b} {at = at} all calm whole owned = record {
+  is_pinned = (calm.marks at).0 owned.is_pinned;
+  current = ap (λ (l : Label). l.epoch) (calm.labels at) ∙ owned.current ∙ sym all.same_high;
+  leaf_kind = ap (λ (l : Label). l.kind) (calm.labels at) ∙ owned.leaf_kind;
+  whole = whole;
   uncovered = calm.uncovered at owned.uncovered;
   placed = λ told. let was = all.still_tells.0 told in let p = owned.placed was in (p.0, calm.places was at p.0 owned.uncovered p.1, p.2);
 }

@@ -1,3 +1,4 @@
-pub mod Nothing
+pub mod Aparts
 pub mod Calms
 pub mod Leaves
+pub mod Nothing

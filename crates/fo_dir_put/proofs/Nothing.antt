@@ -79,6 +79,18 @@ put_places {at = at} {old = old} {new = new} told frame hangs nil b p spared sta
     (λ ne. frame.stays.places told b p (λ n. n) (λ h. ⊎_elim (λ e. ne e) (λ e. nil_local nil e) h) spared stands)
     (cases_eq b at)
 
+pub put_apart : {at i : ℕ} {slot : Slot} {n : ℕ} {old new : State} → Frame (λ b. b ≡ at) (λ b. (b ≡ at) ⊎ (target slot ≡ Local b)) n old new → Hangs at i slot old new → target slot ≡ Nil → (b : ℕ) → old.apart b → new.apart b
+put_apart {at = at} {old = old} {new = new} frame hangs nil b h = ⊎_elim
+    (λ is. subst new.apart (sym is) ((hangs.at_apart (λ e. nil_local nil e)).1 (subst old.apart is h)))
+    (λ ne. (frame.stays.apart b (λ n. n) (λ k. ⊎_elim (λ e. ne e) (λ e. nil_local nil e) k)).1 h)
+    (cases_eq b at)
+
+pub put_instead : {at i : ℕ} {slot : Slot} {n : ℕ} {old new : State} → Frame (λ b. b ≡ at) (λ b. (b ≡ at) ⊎ (target slot ≡ Local b)) n old new → Hangs at i slot old new → target slot ≡ Nil → (b x : ℕ) → new.instead b x → old.instead b x
+put_instead {at = at} {old = old} {new = new} frame hangs nil b x h = ⊎_elim
+    (λ is. subst (λ y. old.instead y x) (sym is) (⊎_elim (λ was. was) (λ raised. absurd (nil_local nil raised.1.1)) (hangs.raised x (subst (λ y. new.instead y x) is h))))
+    (λ ne. (frame.stays.instead b x (λ n. n) (λ k. ⊎_elim (λ e. ne e) (λ e. nil_local nil e) k)).0 h)
+    (cases_eq b at)
+
 -- Where nothing hung from the slot, what was reached still is.
 pub reached_on : {at i : ℕ} {s t : Slot} {now next : Image} {c : ℕ} → PutsSlot at i s now next → target ((now at).slot i) ≡ Nil → Reaches now t c → Reaches next t c
 reached_on {at = at} {i = i} {now = now} {next = next} {c = c} puts nil r = ⊎_elim (λ still. still) (λ below. absurd (nil_reaches ((now at).slot i) c nil below)) (slot_reaches back r)

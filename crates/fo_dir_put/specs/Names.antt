@@ -1,5 +1,5 @@
 -- Which entries the records of a leaf name.
-use Rattle.std.specs.Prelude.{◌≡◌, ◌⊎◌, ◌+◌, ◌*◌, ◌/◌, ◌%◌, ◌<◌, ℕ, List}
+use Rattle.std.specs.Prelude.{◌≡◌, ◌≢◌, ◌⊎◌, ◌+◌, ◌*◌, ◌/◌, ◌%◌, ◌<◌, ℕ, List}
 use Rattle.std.specs.List.{Contains}
 use Rattle.fo_image.specs.declared.record.Record.{Record}
 use Rattle.fo_good.specs.Reading.{leaf_records}
@@ -34,3 +34,28 @@ pub record AddsOne (n p generation : ℕ) (new old : List ℕ) : Type 0 where
 -- No record of these bytes names this entry.
 pub record Lacks (n j : ℕ) (bytes : List ℕ) : Type 0 where
   pub each : (generation : ℕ) → ListsIn n bytes j generation → ⊥
+
+-- Two records have one name, one number, or one pair.
+abbrev pub Clash : Record → Record → Type 0
+Clash r q = (r.name ≡ q.name) ⊎ ((r.number ≡ q.number) ⊎ (r.slot ≡ q.slot))
+
+-- No name, number or pair stands in one of the leaves in one of these images, and in the other leaf in the same image or another.
+pub record AllApart (a b : ℕ) (images : Image → Type 0) : Type 0 where
+  pub each : (image other : Image) → images image → images other → (r q : Record) → Contains (leaf_records ((image a).bytes)) r → Contains (leaf_records ((other b).bytes)) q → Clash r q → ⊥
+
+-- Each record of the new bytes has the name, number and pair of one that stood there before, or none of its own stands in another
+-- leaf in any of these images.
+pub record MayStand (other : ℕ) (new old : List ℕ) (images : Image → Type 0) : Type 0 where
+  pub each : (r : Record) → Contains (leaf_records new) r → ((p : Record) × Contains (leaf_records old) p × (r.name ≡ p.name) × (r.number ≡ p.number) × (r.slot ≡ p.slot)) ⊎ ((image : Image) → images image → (q : Record) → Contains (leaf_records ((image other).bytes)) q → Clash r q → ⊥)
+
+-- Each new image has the bytes of one of before, in every block.
+pub record ShowsBytes (old new : Image → Type 0) : Type 0 where
+  pub each : (image : Image) → new image → (other : Image) × old other × ((b : ℕ) → (image b).bytes ≡ (other b).bytes)
+
+-- Each new image has the bytes of one of before, in every block but this one.
+pub record ShowsBut (leaf : ℕ) (old new : Image → Type 0) : Type 0 where
+  pub each : (image : Image) → new image → (other : Image) × old other × ((b : ℕ) → b ≢ leaf → (image b).bytes ≡ (other b).bytes)
+
+-- Each new image is one of before, but for the bytes of this block.
+pub record LeavesRest (leaf : ℕ) (old new : Image → Type 0) : Type 0 where
+  pub each : (image : Image) → new image → (other : Image) × old other × ((b : ℕ) → b ≢ leaf → (image b).bytes ≡ (other b).bytes) × ((b j : ℕ) → (image b).slot j ≡ (other b).slot j)

@@ -18,6 +18,12 @@ pub record IsOwnedEntries (s : State) (at : ℕ) : Type 0 where
   pub linked : s.tells → Reaches s.now (to_block 1) at
   pub uncovered : s.covered at → ⊥
 
+-- A leaf of entries that is pinned.
+pub record IsHeldEntries (s : State) (at : ℕ) : Type 0 where
+  pub is_pinned : s.pinned at
+  pub leaf_kind : (s.label at).kind ≡ Dir 0
+  pub uncovered : s.covered at → ⊥
+
 -- Nobody uses entry j, it waits for no clearing, and nobody waits for it.
 pub record IsUnused (s : State) (at j : ℕ) : Type 0 where
   pub free : (generation : ℕ) → IsInUse ((s.now at).slot j) generation → ⊥
@@ -41,6 +47,8 @@ pub record StaysCalm (old new : State) : Type 0 where
   pub order : KeepsOrder none old new
   pub uncovered : (b : ℕ) → (old.covered b → ⊥) → new.covered b → ⊥
   pub linked : old.tells → (b : ℕ) → Reaches old.now (to_block 1) b → Reaches new.now (to_block 1) b
+  pub apart : (b : ℕ) → old.apart b → new.apart b
+  pub instead : (b x : ℕ) → new.instead b x → old.instead b x
   pub left : (new.spare ≡ old.spare) × (new.pins_left ≡ old.pins_left)
 
 -- In memory these two entries are put, and all else stays.

@@ -3,7 +3,7 @@ ghost use Rattle.std.specs.Prelude.{◌≡◌, ◌+◌, ◌*◌, ◌<◌, ◌≤
 ghost use Rattle.fo_crash.specs.declared.slot.Slot.TheVariants.{Entry as Head};
 ghost use Rattle.fo_crash.specs.Steps.{AddsSlot, PutsSlot};
 ghost use Rattle.fo_ports.specs.State.{AddsNoWait, none};
-ghost use Rattle.fo_dir_put.specs.Names.{AllFit};
+ghost use Rattle.fo_dir_put.specs.Names.{AllFit, ShowsBytes};
 ghost use Rattle.fo_dir_put.specs.Puts.{IsOwnedEntries, IsUnused, IsNewEntry, StaysCalm, PutsPair};
 
 use fo_crash::Slot;
@@ -18,6 +18,7 @@ fn put_entry<B: Blocks>(on: &mut B, entries: u32, j: u32, entry: Entry)
     requires new { IsNewEntry entry }
     ensures puts { PutsSlot entries j (Head entry) (B.state on.old).now (B.state on.new).now }
     ensures images { AddsSlot (B.state on.old).now entries j (Head entry) (λ image. Unit {0}) (B.state on.old).may_leave (B.state on.new).may_leave }
+    ensures shows { ShowsBytes (B.state on.old).may_leave (B.state on.new).may_leave }
     ensures calm { StaysCalm (B.state on.old) (B.state on.new) }
     ensures no_wait { AddsNoWait none (B.state on.old) (B.state on.new) }
     ensures room { (B.state on.new).room ≡ (B.state on.old).room }
@@ -35,6 +36,7 @@ pub fn put_pair<B: Blocks>(on: &mut B, entries: u32, p: u32, first: Entry, secon
     requires new { IsNewEntry first × IsNewEntry second }
     ensures puts { PutsPair entries p first second (B.state on.old) (B.state on.new) }
     ensures fit { (n leaf : ℕ) → AllFit n leaf entries (B.state on.old).may_leave → AllFit n leaf entries (B.state on.new).may_leave }
+    ensures shows { ShowsBytes (B.state on.old).may_leave (B.state on.new).may_leave }
     ensures calm { StaysCalm (B.state on.old) (B.state on.new) }
     ensures no_wait { AddsNoWait none (B.state on.old) (B.state on.new) }
     ensures room { (B.state on.new).room ≡ (B.state on.old).room }

@@ -1,23 +1,25 @@
 //! The records of a leaf.
-ghost use Rattle.std.specs.Prelude.{◌≡◌, ◌+◌, ◌<◌, ◌≤◌, ℕ, length};
+ghost use Rattle.std.specs.Prelude.{◌≡◌, ◌≢◌, ◌+◌, ◌<◌, ◌≤◌, ℕ, length};
 ghost use Rattle.fo_image.specs.declared.types.Kind.TheVariants.{Data};
 ghost use Rattle.fo_crash.specs.declared.place.Place.{Place};
 ghost use Rattle.fo_crash.specs.Steps.{PutsBytes};
 ghost use Rattle.fo_meta.specs.Leaf.{IsLeaf};
-ghost use Rattle.fo_dir_put.specs.Names.{AllFit, AreBacked, AreKept};
-ghost use Rattle.fo_dir_put.specs.Puts.{IsOwnedEntries, IsOwnedRecords, IsInPlace, StaysCalm};
+ghost use Rattle.fo_dir_put.specs.Names.{AllFit, AreBacked, AreKept, AllApart, MayStand, LeavesRest};
+ghost use Rattle.fo_dir_put.specs.Puts.{IsHeldEntries, IsOwnedRecords, IsInPlace, StaysCalm};
 
 use fo_ports::Blocks;
 
 /// Puts the bytes of a leaf of records, after it was made to wait for the entries of a leaf of entries.
 pub fn put_record<B: Blocks>(on: &mut B, leaf: u32, entries: u32, bytes: &[u8])
     requires owned { IsOwnedRecords (B.state on.old) leaf }
-    requires entries { IsOwnedEntries (B.state on.old) entries }
+    requires entries { IsHeldEntries (B.state on.old) entries }
     requires lower { (B.state on.old).tells → IsInPlace (B.state on.old) leaf entries }
     requires room { 0 < (B.state on.old).room }
     requires bytes { IsLeaf bytes.now }
     ensures puts { PutsBytes leaf bytes.now (B.state on.old).now (B.state on.new).now }
     ensures fit { (n : ℕ) → AreBacked n leaf entries bytes.now (B.state on.old) → AllFit n leaf entries (B.state on.old).may_leave → AllFit n leaf entries (B.state on.new).may_leave }
+    ensures apart { (b : ℕ) → b ≢ leaf → MayStand b bytes.now (((B.state on.old).now leaf).bytes) (B.state on.old).may_leave → AllApart leaf b (B.state on.old).may_leave → AllApart leaf b (B.state on.new).may_leave }
+    ensures others { LeavesRest leaf (B.state on.old).may_leave (B.state on.new).may_leave }
     ensures calm { StaysCalm (B.state on.old) (B.state on.new) }
     ensures room { (B.state on.new).room + 1 ≡ (B.state on.old).room }
     ensures keeps { B.keeps on.old on.new }
@@ -32,6 +34,8 @@ pub fn change_leaf<B: Blocks>(on: &mut B, leaf: u32, bytes: &[u8])
     requires bytes { IsLeaf bytes.now }
     ensures puts { PutsBytes leaf bytes.now (B.state on.old).now (B.state on.new).now }
     ensures fit { (n entries : ℕ) → AreKept n bytes.now (((B.state on.old).now leaf).bytes) → AllFit n leaf entries (B.state on.old).may_leave → AllFit n leaf entries (B.state on.new).may_leave }
+    ensures apart { (b : ℕ) → b ≢ leaf → MayStand b bytes.now (((B.state on.old).now leaf).bytes) (B.state on.old).may_leave → AllApart leaf b (B.state on.old).may_leave → AllApart leaf b (B.state on.new).may_leave }
+    ensures others { LeavesRest leaf (B.state on.old).may_leave (B.state on.new).may_leave }
     ensures calm { StaysCalm (B.state on.old) (B.state on.new) }
     ensures room { (B.state on.new).room ≡ (B.state on.old).room }
     ensures keeps { B.keeps on.old on.new }

@@ -3,6 +3,7 @@ use Rattle.fo_crash.specs.declared.slot.Slot.{Slot}
 use Rattle.fo_crash.specs.Names.{IsInUse}
 use Rattle.fo_dir_put.specs.Names.{ListsIn}
 use Rattle.fo_dir_put.proofs.Calms.{calm_joins, records_on, in_place_on}
+use Rattle.fo_dir_put.proofs.Aparts.{shows_apart, rest_shows, may_later}
 use Rattle.fo_dir_put.proofs.add.add_name.Goals as goal
 
 pub put_record-requires-clause-owned : goal.put_record-requires-clause-owned
@@ -22,3 +23,10 @@ returns-clause-fit g c = λ n adds all.
         (λ was. inl (subst (λ xs. ListsIn n xs j g') (sym (c.put_pair.ensures.puts.bytes c.args.leaf)) was))
         (λ h. inr (subst (λ i. IsInUse ((t.now c.args.entries).slot i) g') (sym h.0) (subst (λ x. IsInUse ((t.now c.args.entries).slot (2 * c.args.p)) x) (sym h.1) used), λ k. settled (subst (λ i. t.clearing c.args.entries i) h.0 k)))
         (adds.each j g' lists) }) (c.put_pair.ensures.fit n c.args.leaf all)
+
+pub returns-clause-apart : goal.returns-clause-apart
+returns-clause-apart g c = λ b differs may all.
+    c.put_record.ensures.apart b differs (may_later (sym (c.put_pair.ensures.puts.bytes c.args.leaf)) c.put_pair.ensures.shows may) (shows_apart all c.put_pair.ensures.shows)
+
+pub returns-clause-others : goal.returns-clause-others
+returns-clause-others g c = rest_shows c.put_pair.ensures.shows c.put_record.ensures.others

@@ -4,6 +4,7 @@ use Rattle.fo_ports.specs.Blocks.{slot_count}
 use Rattle.fo_crash.proofs.Names.{entry_cleared}
 use Rattle.fo_dir_put.specs.Names.{ListsIn}
 use Rattle.fo_dir_put.proofs.Nothing.{may_remove}
+use Rattle.fo_dir_put.proofs.Aparts.{slot_shows}
 use Rattle.fo_dir_put.proofs.add.clear_entry.Goals as goal
 
 pub remove_slot-requires-clause-may : goal.remove_slot-requires-clause-may
@@ -13,3 +14,6 @@ remove_slot-requires-clause-may g c = λ told.
 
 pub returns-clause-fit : goal.returns-clause-fit
 returns-clause-fit g c = λ n lacks all. record { are = entry_cleared (ListsIn n) c.args.leaf c.args.entries all.are c.remove_slot.ensures.images (λ g' lists. lacks.each g' lists) }
+
+pub returns-clause-shows : goal.returns-clause-shows
+returns-clause-shows g c = slot_shows c.remove_slot.ensures.images

@@ -7,6 +7,7 @@ use Rattle.fo_ports.specs.Blocks.{slot_count}
 use Rattle.fo_ports.specs.State.{Frame}
 use Rattle.fo_dir_put.proofs.Nothing.{free_is_empty, never_drops, nil_cost, may_put_nil}
 use Rattle.fo_dir_put.proofs.Calms.{slot_calm}
+use Rattle.fo_dir_put.proofs.Aparts.{slot_shows}
 use Rattle.fo_dir_put.proofs.pair.put_entry.Goals as goal
 
 pub put_slot-requires-clause-may : goal.put_slot-requires-clause-may
@@ -52,3 +53,6 @@ returns-clause-room g c =
     let empty = free_is_empty (s.label c.args.entries).kind c.args.j slot c.requires.owned.leaf_kind (g.met.B.Blocks.spelled c.args.on.now c.args.entries c.args.j c.requires.owned.is_pinned within) c.requires.unused.free in
     let left : t.room + 0 ≡ s.room = subst (λ n. t.room + n ≡ s.room) (nil_cost slot (Head c.args.entry) empty.1 empty.0) c.put_slot.ensures.frame.uses.room in
     omega (arith, left)
+
+pub returns-clause-shows : goal.returns-clause-shows
+returns-clause-shows g c = slot_shows c.put_slot.ensures.images

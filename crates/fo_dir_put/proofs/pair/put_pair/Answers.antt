@@ -3,6 +3,7 @@ use Rattle.fo_crash.specs.declared.slot.Slot.{Slot}
 use Rattle.fo_crash.specs.Names.{IsInUse}
 use Rattle.fo_crash.proofs.Names.{free_entry_put}
 use Rattle.fo_dir_put.specs.Names.{ListsIn}
+use Rattle.fo_dir_put.proofs.Aparts.{shows_joins}
 use Rattle.fo_dir_put.proofs.pair.put_pair.Goals as goal
 
 differs : (p : ℕ) → 2 * p ≢ 2 * p + 1
@@ -13,3 +14,6 @@ returns-clause-fit g c = λ n leaf all.
     let t = g.B.Blocks.state c.put_entry.new.on in
     let free : (generation : ℕ) → IsInUse ((t.now c.args.entries).slot (2 * c.args.p)) generation → ⊥ = λ generation used. c.requires.first_unused.free generation (subst (λ (x : Slot). IsInUse x generation) (c.put_entry.ensures.puts.others c.args.entries (2 * c.args.p) (inr (differs c.args.p))) used) in
     record { are = free_entry_put (ListsIn n) leaf c.args.entries (free_entry_put (ListsIn n) leaf c.args.entries all.are c.put_entry.ensures.images c.requires.second_unused.free) c.put_entry-2.ensures.images free }
+
+pub returns-clause-shows : goal.returns-clause-shows
+returns-clause-shows g c = shows_joins c.put_entry.ensures.shows c.put_entry-2.ensures.shows

@@ -5,9 +5,10 @@ use Rattle.fo_crash.specs.Steps.{AddsBytes, PutsBytes}
 use Rattle.fo_crash.specs.Names.{SameUse}
 use Rattle.fo_crash.proofs.Names.{leaf_put}
 use Rattle.fo_ports.specs.Blocks.{IsFormed}
-use Rattle.fo_dir_put.specs.Names.{ListsIn}
+use Rattle.fo_dir_put.specs.Names.{ListsIn, MayStand}
 use Rattle.fo_dir_put.proofs.Calms.{bytes_calm}
 use Rattle.fo_dir_put.proofs.Leaves.{leaf_long, whole_put, leaf_formed, bytes_beside, bytes_reached}
+use Rattle.fo_dir_put.proofs.Aparts.{bytes_apart, bytes_rest}
 use Rattle.fo_dir_put.proofs.record.change_leaf.Goals as goal
 
 pub put_bytes-requires-clause-within : goal.put_bytes-requires-clause-within
@@ -40,3 +41,12 @@ returns-clause-fit g c = λ n entries kept all.
 
 pub returns-clause-calm : goal.returns-clause-calm
 returns-clause-calm g c = bytes_calm c.put_bytes.ensures.calm (λ b r. bytes_reached c.put_bytes.ensures.now r)
+
+pub returns-clause-apart : goal.returns-clause-apart
+returns-clause-apart g c = λ b differs may all.
+    let s = g.B.Blocks.state c.args.on.now in
+    let whole = whole_put c.args.bytes.now ((s.now c.args.leaf).bytes) (leaf_long c.requires.bytes) c.requires.owned.whole in
+    bytes_apart differs all c.put_bytes.ensures.images (subst (λ xs. MayStand b xs ((s.now c.args.leaf).bytes) s.may_leave) (sym whole) may)
+
+pub returns-clause-others : goal.returns-clause-others
+returns-clause-others g c = bytes_rest c.put_bytes.ensures.images

@@ -5,9 +5,10 @@ use Rattle.fo_crash.specs.Steps.{AddsBytes}
 use Rattle.fo_crash.specs.Names.{SameUse}
 use Rattle.fo_crash.proofs.Names.{leaf_put}
 use Rattle.fo_ports.specs.Blocks.{IsFormed, put_at}
-use Rattle.fo_dir_put.specs.Names.{ListsIn}
+use Rattle.fo_dir_put.specs.Names.{ListsIn, MayStand}
 use Rattle.fo_dir_put.proofs.Calms.{calm_joins, bytes_calm}
 use Rattle.fo_dir_put.proofs.Leaves.{leaf_long, whole_put, leaf_formed, bytes_beside, still_all, bytes_reached, same_reached, puts_later, backed_later}
+use Rattle.fo_dir_put.proofs.Aparts.{nothing_shows, shows_apart, bytes_apart, bytes_rest, rest_later, may_later}
 use Rattle.fo_dir_put.proofs.record.put_record.Goals as goal
 
 pub put_bytes-requires-clause-within : goal.put_bytes-requires-clause-within
@@ -56,3 +57,17 @@ returns-clause-calm g c =
     calm_joins (g.met.B.Blocks.keeps_all c.args.on.now c.wait_for.new.self c.wait_for.ensures.keeps)
     (bytes_calm c.wait_for.ensures.calm (λ b r. same_reached c.wait_for.ensures.now r))
     (bytes_calm c.put_bytes.ensures.calm (λ b r. bytes_reached c.put_bytes.ensures.now r))
+
+pub returns-clause-apart : goal.returns-clause-apart
+returns-clause-apart g c = λ b differs may all.
+    let s = g.B.Blocks.state c.args.on.now in
+    let u = g.B.Blocks.state c.wait_for.new.self in
+    let long = leaf_long c.requires.bytes in
+    let same = ap (λ (xs : List ℕ). length xs) ((c.wait_for.ensures.now.each c.args.leaf).bytes) ∙ c.requires.owned.whole in
+    let whole = whole_put c.args.bytes.now ((u.now c.args.leaf).bytes) long same in
+    let shows = nothing_shows c.wait_for.ensures.images in
+    let later = may_later (sym ((c.wait_for.ensures.now.each c.args.leaf).bytes)) shows may in
+    bytes_apart differs (shows_apart all shows) c.put_bytes.ensures.images (subst (λ xs. MayStand b xs ((u.now c.args.leaf).bytes) u.may_leave) (sym whole) later)
+
+pub returns-clause-others : goal.returns-clause-others
+returns-clause-others g c = rest_later c.wait_for.ensures.images (bytes_rest c.put_bytes.ensures.images)
