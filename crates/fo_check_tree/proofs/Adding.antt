@@ -1,9 +1,14 @@
 -- The steps by the slots of a block, by its kind, and what a step leaves.
-use Rattle.std.proofs.Common.{◌≡◌, ℕ, zero, suc, ◌-◌, ◌<◌, Bool, true, false, leb, List, ◌++◌, Option, Some, None, refl, sym, subst, Result, Ok, Err, arith}
+use Rattle.std.proofs.Common.{◌≡◌, ℕ, zero, suc, ◌-◌, ◌*◌, ◌<◌, ◌≤◌, take, drop, ap, Bool, true, false, leb, List, ◌++◌, Option, Some, None, refl, sym, subst, Result, Ok, Err, arith}
 use Rattle.std.specs.Prelude.{OnOk, is_err, if◌then◌else◌}
 use Rattle.std.proofs.lemmas.Bool.{false≢true}
 use Rattle.fo_check_tree.specs.declared.broken.Broken.{Broken}
-use Rattle.fo_check_tree.specs.Lower.{lower}
+use Rattle.fo_image.specs.declared.types.Entry.{Entry}
+use Rattle.fo_image.specs.Format.{SpellsEntry}
+use Rattle.fo_sound.specs.Image.{is_zero}
+use Rattle.fo_good.specs.Means.{HasEntry}
+use Rattle.fo_check_tree.specs.Lower.{lower, level}
+use Rattle.fo_check_tree.proofs.Levels.{level-lower}
 use Rattle.fo_check_tree.specs.Notes.{NotesAt}
 use Rattle.fo_check_tree.specs.Notes.NotesAt.{same as note_same, format as note_format, deep as note_deep}
 use Rattle.fo_disk.specs.Disk.{Block}
@@ -17,10 +22,11 @@ use Rattle.fo_check_tree.specs.declared.labels.Labels.{Labels}
 use Rattle.fo_check_tree.specs.declared.walk.Holder.{Holder}
 use Rattle.fo_check_tree.specs.declared.walk.Step.{Step}
 use Rattle.fo_check_tree.specs.declared.walk.Walk.{Walk}
-use Rattle.fo_check_tree.specs.Follows.{Reaches, Puts}
+use Rattle.fo_check_tree.specs.Follows.{Reaches, Puts, Reads}
 use Rattle.fo_check_tree.specs.Follows.Reaches.{enters}
 use Rattle.fo_check_tree.specs.Known.{Marks}
-use Rattle.fo_check_tree.specs.Slots.{unless, HasSlots, steps_below, steps_of}
+use Rattle.fo_check_tree.specs.Slots.{unless, HasSlot, HasSlots, steps_below, steps_of}
+use Rattle.fo_check_tree.specs.Slots.HasSlot.{entry, other}
 use Rattle.fo_check_tree.specs.Steps.{IsAllowed}
 
 module _ {A E : Type 0} (r : Result A E) (step : Step) (here : Holder) (c : Content) (bytes : Block) (old new : List Step) where
@@ -42,6 +48,35 @@ pub on_ok : {A E : Type 0} (r : Result A E) (P Q : Type 0) → (P → Q) → OnO
 on_ok (Ok x) P Q f h = f h
 on_ok (Err e) P Q f h = h
 
+-- ---- what is read
+
+module _ {A E : Type 0} (r : Result A E) (c : Content) (bytes : Block) (block : ℕ) (old new : Option Broken) where
+  rest_zero : (t : Bool) → new ≡ unless t 5 block old → 5 < level new → t ≡ true
+  rest_zero true is quiet = refl
+  rest_zero false is quiet = let low = (level-lower old 5 block (omega arith)).1 in absurd (omega (arith, quiet, low, ap level is))
+
+  pub data_reads : (n : ℕ) (kind : Kind) → kind ≡ Data n → 0 < n → OnOk r (new ≡ unless (is_zero (drop 8180 bytes)) 5 block old) → OnOk r (Reads kind c bytes new)
+  data_reads zero kind is some noted = absurd (omega (arith, some))
+  data_reads (suc n) kind is some noted = subst (λ (k : Kind). OnOk r (Reads k c bytes new)) (sym is)
+      (on_ok r (new ≡ unless (is_zero (drop 8180 bytes)) 5 block old) (Reads (Data (suc n)) c bytes new) (λ e not_root slots same quiet. record { each = slots.0; ends = slots.1; rest = rest_zero (is_zero (drop 8180 bytes)) e quiet }) noted)
+
+  pub dir_reads : (n : ℕ) (kind : Kind) → kind ≡ Dir n → 0 < n → OnOk r (new ≡ unless (is_zero (drop 8180 bytes)) 5 block old) → OnOk r (Reads kind c bytes new)
+  dir_reads zero kind is some noted = absurd (omega (arith, some))
+  dir_reads (suc n) kind is some noted = subst (λ (k : Kind). OnOk r (Reads k c bytes new)) (sym is)
+      (on_ok r (new ≡ unless (is_zero (drop 8180 bytes)) 5 block old) (Reads (Dir (suc n)) c bytes new) (λ e not_root slots same quiet. record { each = slots.0; ends = slots.1; rest = rest_zero (is_zero (drop 8180 bytes)) e quiet }) noted)
+
+by_zero : (new : Option Broken) (t : Bool) → (t ≡ false → level new ≤ 5) → 5 < level new → t ≡ true
+by_zero new true low quiet = refl
+by_zero new false low quiet = absurd (omega (arith, quiet, low refl))
+
+pub entries_read : {A E : Type 0} (r : Result A E) (c : Content) (bytes : Block) (new : Option Broken) → (((i : ℕ) → i < 204 → HasSlot c bytes i) → OnOk r (5 < level new → (i : ℕ) → i < 204 → HasEntry c bytes i)) → (is_zero (drop 8160 bytes) ≡ false → OnOk r (level new ≤ 5)) → OnOk r (Reads (Dir zero) c bytes new)
+entries_read (Ok x) c bytes new whole rest = λ not_root slots same quiet. record { each = λ i lt. whole slots.0 quiet i lt; ends = slots.1; rest = by_zero new (is_zero (drop 8160 bytes)) rest quiet }
+entries_read (Err e) c bytes new whole rest = tt
+
+pub entry_read : (c : Content) (bytes : Block) (i : ℕ) (noted : Option Broken) → HasSlot c bytes i → (((e : Entry) → SpellsEntry e (take 40 (drop (40 * i) bytes)) → 4 < e.depth) → level noted ≤ 5) → 5 < level noted → HasEntry c bytes i
+entry_read c bytes i noted (entry h) low quiet = h
+entry_read c bytes i noted (other is deep) low quiet = absurd (omega (arith, quiet, low deep))
+
 pub on_ok_is : {A E : Type 0} (r : Result A E) (P : Type 0) → is_err r ≡ false → OnOk r P → P
 on_ok_is (Ok x) P ok h = h
 on_ok_is (Err e) P ok h = absurd (false≢true (sym ok))
@@ -51,9 +86,10 @@ pub reaches_by : {A E : Type 0} (r : Result A E) (device : List Block) (image : 
     → (HasSlots step.kind (image at) (block_of device at) → OnOk r (new.steps.items ≡ old.steps.items ++ steps_of step (record { block = at; label = label }) (image at) step.kind))
     → (HasSlots step.kind (image at) (block_of device at) → OnOk r (Puts (record { block = at; label = label }) (image at) depth named step.kind old.folders.items new.folders.items))
     → OnOk r (NotesAt at old.noted new.noted)
+    → OnOk r (Reads step.kind (image at) (block_of device at) new.noted)
     → OnOk r (Reaches device image depth named step at old new)
-reaches_by (Ok x) device image depth named step at old new label marked allowed marks same pushed put notes = enters label allowed (subst (λ (l : Labels). Marks at old.labels.known.items l.known.items) (sym same) marks) pushed put notes
-reaches_by (Err e) device image depth named step at old new label marked allowed marks same pushed put notes = same
+reaches_by (Ok x) device image depth named step at old new label marked allowed marks same pushed put notes read = enters label allowed (subst (λ (l : Labels). Marks at old.labels.known.items l.known.items) (sym same) marks) pushed put notes read
+reaches_by (Err e) device image depth named step at old new label marked allowed marks same pushed put notes read = same
 
 -- ---- what a block says by itself
 

@@ -1,12 +1,11 @@
 -- What is known once nothing is left to be followed.
-use Rattle.std.proofs.Common.{◌≡◌, ◌≢◌, ◌⊎◌, ⊎_elim, inl, inr, ℕ, zero, suc, ◌+◌, ◌<◌, ◌≤◌, Bool, true, false, not, List, [], ◌∷◌, ◌++◌, length, length-append, get_or, Option, Some, None, refl, sym, ap, ◌∙◌, subst, arith}
-use Rattle.std.specs.Prelude.{◌&&◌, ◌↔◌, MatchOption}
+use Rattle.std.proofs.Common.{◌≡◌, ◌≢◌, ◌⊎◌, ⊎_elim, inl, inr, ℕ, zero, suc, ◌+◌, ◌<◌, ◌≤◌, Bool, true, false, not, List, [], ◌∷◌, ◌++◌, length, length-append, get_or, Option, refl, sym, ap, ◌∙◌, subst, arith}
+use Rattle.std.specs.Prelude.{◌&&◌, MatchOption}
 use Rattle.std.specs.List.{All, Any, Contains}
-use Rattle.std.proofs.lemmas.Bool.{cases_lt, false≢true}
+use Rattle.std.proofs.lemmas.Bool.{false≢true}
 use Rattle.std.proofs.lemmas.List.{get_or_default}
 use Rattle.fo_disk.specs.Disk.{Block}
 use Rattle.fo_image.specs.declared.types.Kind.{Kind}
-use Rattle.fo_image.specs.declared.types.Kind.TheVariants.{Root}
 use Rattle.fo_image.specs.declared.types.Label.{Label}
 use Rattle.fo_image.specs.declared.types.State.{State}
 use Rattle.fo_image.specs.declared.types.State.TheVariants.{Free}
@@ -20,7 +19,8 @@ use Rattle.fo_crash.specs.declared.place.Place.{Place}
 use Rattle.fo_crash.specs.declared.slot.Slot.{Slot}
 use Rattle.fo_crash.specs.Images.{Content, Image, Arena, Link, target, meant, found, step, goes, from_block, kind_below, nothing}
 use Rattle.fo_crash.specs.Places.{place_below, root_place}
-use Rattle.fo_sound.specs.Image.{IsDataBlock, HasLabel}
+use Rattle.fo_good.specs.Means.{IsRead, Means}
+use Rattle.fo_sound.specs.Image.{block_of, IsDataBlock, HasLabel}
 use Rattle.fo_sound.specs.Sound.{root_label}
 use Rattle.fo_good.specs.Trees.{MayHave, HasLabelBelow, HasTreeLabels, HasNoScores, IsTree, LeadsTo, at_path, place_of, place_along}
 use Rattle.fo_good.specs.Sound.{Kept}
@@ -31,13 +31,13 @@ use Rattle.fo_check_tree.specs.declared.tree.Found.{Found}
 use Rattle.fo_check_tree.specs.declared.walk.Walk.{Walk}
 use Rattle.fo_check_tree.specs.declared.walk.Step.{Step}
 use Rattle.fo_check_tree.specs.declared.walk.Folder.{Folder}
-use Rattle.fo_check_tree.specs.Answer.{HoldsAny, IsNamed, IsWalked, RefusesTree, RefusesCheck}
+use Rattle.fo_check_tree.specs.Answer.{IsNamed, IsWalked, RefusesTree, RefusesCheck}
 use Rattle.fo_check_tree.specs.Table.{RefusesTable}
 use Rattle.fo_check_tree.specs.declared.error.TreeError.{TreeError}
 use Rattle.fo_check_tree.specs.declared.error.TreeError.TheVariants.{Label as BadLabel, Read, Memory}
-use Rattle.fo_check_tree.specs.Known.{IsKnown, reached, leaked}
-use Rattle.fo_check_tree.specs.Lower.{level}
-use Rattle.fo_check_tree.specs.Walking.{IsIn, Reached, IsTaken, HasPath, place_under, tag_below, IsDone, Goes, AreNone, Fits, all_tops, Walking}
+use Rattle.fo_check_tree.specs.Known.{reached, leaked}
+use Rattle.fo_check_tree.specs.Lower.{level, JudgesRoot}
+use Rattle.fo_check_tree.specs.Walking.{Reached, IsTaken, HasPath, place_under, tag_below, IsDone, Goes, Fits, all_tops, Walking}
 use Rattle.fo_check_tree.specs.Walking.IsDone.{nowhere, left, held, local}
 use Rattle.fo_check_tree.proofs.Counting.{IsOne, so_many}
 use Rattle.fo_check_tree.proofs.Going.{local_is}
@@ -161,6 +161,12 @@ module _ (arena : Arena) (device : List Block) (image : Image) (s : Super) (k : 
           live = on.may.live;
         };
       }
+
+  of_format : 5 < level noted → (path : List ℕ) (at : ℕ) → LeadsTo arena image k.at path at → IsRead ((at_path arena image k.at path).kind) (image at) (block_of device at)
+  of_format quiet path at leads = let st = whole path at leads in subst (λ (d : Kind). IsRead d (image at) (block_of device at)) (sym st.link) (g.read quiet at st.label st.is)
+
+  pub tree_formats : 5 < level noted → Means arena device image (from_block k.at)
+  tree_formats quiet = record { each = of_format quiet }
 
   pub tree_labels : HasTreeLabels arena device image k.at k.root.epoch true
   tree_labels = record { each = labelled }
@@ -338,8 +344,8 @@ fits_empty : (device : List Block) (image : Image) (steps : List Step) (n : ℕ 
 fits_empty device image steps n is fits = (subst (λ (xs : List Step). Fits device image xs n) is fits).each
 
 pub walked : (arena : Arena) (device : List Block) (image : Image) (s : Super) (k : Kept) (walk : Walk) (found : Found) → walk.steps.items ≡ [] → walk.folders.items ≡ []
-    → found.broken ≡ walk.noted → found.used ≡ reached walk.labels.known.items → found.leaked ≡ leaked s.low walk.labels.known.items → Walking arena device image s k [] walk → IsWalked arena device image s k found
-walked arena device image s k walk found steps folders broken used leaks w =
+    → found.broken ≡ walk.noted → found.used ≡ reached walk.labels.known.items → found.leaked ≡ leaked s.low walk.labels.known.items → JudgesRoot k.root walk.noted → Walking arena device image s k [] walk → IsWalked arena device image s k found
+walked arena device image s k walk found steps folders broken used leaks judged w =
     let known = walk.labels.known.items in
     let n : ℕ → ℕ → ℕ = λ b j. w.others b j + w.steps b j + w.folders b j in
     let none : (b j : ℕ) → w.others b j + w.steps b j + w.folders b j ≡ 0 = λ b j. omega (
@@ -350,6 +356,8 @@ walked arena device image s k walk found steps folders broken used leaks w =
     ) in
     record {
       labels = tree_labels arena device image s k w.holds.empty known walk.noted n w.goes none;
+      formats = λ quiet. tree_formats arena device image s k w.holds.empty known walk.noted n w.goes none (subst (λ (o : Option Broken). 5 < level o) broken quiet);
+      entries = λ quiet. judged.entries (subst (λ (o : Option Broken). 6 < level o) broken quiet);
       once = λ quiet. tree_once arena device image s k w.holds.empty known walk.noted n w.goes none (subst (λ (o : Option Broken). 7 < level o) broken quiet);
       scores = λ quiet. tree_scores arena device image s k w.holds.empty known walk.noted n w.goes none (subst (λ (o : Option Broken). 9 < level o) broken quiet);
       named = subst (λ (o : Option Broken). MatchOption o (Unit {0}) (IsNamed arena image k)) (sym broken) w.goes.notes;

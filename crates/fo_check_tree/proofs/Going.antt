@@ -1,16 +1,16 @@
 -- One step more of the walk.
-use Rattle.std.proofs.Common.{◌≡◌, ◌≢◌, ◌⊎◌, ⊎_elim, inl, inr, ℕ, zero, suc, ◌+◌, ◌<◌, ◌≤◌, Bool, true, false, leb, List, [], ◌∷◌, ◌++◌, length, get_or, Option, Some, None, MatchOption, refl, sym, ap, ◌∙◌, subst, arith}
+use Rattle.std.proofs.Common.{◌≡◌, ◌≢◌, ◌⊎◌, ⊎_elim, inl, inr, ℕ, ◌+◌, ◌<◌, ◌≤◌, Bool, true, false, leb, List, [], ◌∷◌, ◌++◌, Option, Some, None, MatchOption, refl, sym, ap, ◌∙◌, subst, arith}
 use Rattle.std.specs.Prelude.{if◌then◌else◌}
-use Rattle.std.specs.List.{All, Any}
-use Rattle.std.proofs.lemmas.Bool.{cases_eq, cases_lt, false≢true}
+use Rattle.std.specs.List.{Any}
+use Rattle.std.proofs.lemmas.Bool.{cases_eq, cases_lt}
 use Rattle.fo_disk.specs.Disk.{Block}
-use Rattle.fo_image.specs.declared.types.Kind.{Kind}
 use Rattle.fo_image.specs.declared.types.Label.{Label}
 use Rattle.fo_image.specs.declared.types.Super.{Super}
 use Rattle.fo_image.specs.declared.types.Score.{Score}
-use Rattle.fo_image.specs.declared.types.Pointer.{Pointer}
 use Rattle.fo_image.specs.declared.types.Pointer.TheVariants.{Nil, Local, Score as Held}
 use Rattle.fo_crash.specs.Images.{Image, Arena, target, from_block}
+use Rattle.fo_good.specs.Means.{IsRead}
+use Rattle.fo_sound.specs.Image.{block_of}
 use Rattle.fo_good.specs.Trees.{MayHave, LeadsTo, at_path}
 use Rattle.fo_good.specs.Sound.{Kept}
 use Rattle.fo_sound.specs.Sound.{root_label}
@@ -19,16 +19,16 @@ use Rattle.fo_check_tree.specs.declared.labels.Known.{Known}
 use Rattle.fo_check_tree.specs.Answer.{BreaksOnce, BreaksScores, IsNamed}
 use Rattle.fo_check_tree.specs.Answer.BreaksOnce.{twice}
 use Rattle.fo_check_tree.specs.Answer.BreaksScores.{score}
-use Rattle.fo_check_tree.specs.Known.{Ascend, IsKnown, Marks}
+use Rattle.fo_check_tree.specs.Known.{IsKnown, Marks}
 use Rattle.fo_check_tree.specs.Lower.{lower, level}
 use Rattle.fo_check_tree.specs.Notes.{NotesAt, Lowers}
 use Rattle.fo_check_tree.specs.Notes.NotesAt.{same as note_same, format as note_format, deep as note_deep}
-use Rattle.fo_check_tree.specs.Walking.{IsIn, Reached, HasPath, place_under, one, IsDone, HasParent, Goes}
+use Rattle.fo_check_tree.specs.Walking.{Reached, HasPath, place_under, one, IsDone, HasParent, Goes}
 use Rattle.fo_check_tree.specs.Walking.IsDone.{nowhere, left, held, local}
 use Rattle.fo_check_tree.proofs.Levels.{level-lower}
 use Rattle.fo_check_tree.proofs.Paths.{slot_end, child, same_ends, not_none}
 use Rattle.fo_check_tree.proofs.Reaching.{same_label, reached_kept, reached_cases, not_before, reached_new, table_kept}
-use Rattle.fo_check_tree.proofs.Waiting.{one_here, one_block, one_slot, one_is}
+use Rattle.fo_check_tree.proofs.Waiting.{one_here, one_block, one_slot}
 
 nil_local : {a : ℕ} → Nil ≡ Local a → ⊥
 nil_local e = cc
@@ -108,6 +108,7 @@ module _ (arena : Arena) (device : List Block) (image : Image) (s : Super) (k : 
           (λ still. done_still noted' low n' b l j still (g.done b l j reached))
           (which n n' at i sum b j);
       paths = g.paths;
+      read = λ quiet. g.read (omega (arith, quiet, low));
       parents = λ b l reached. ⊎_elim
           (λ top. inl top)
           (λ (w : HasParent image known n b). inr (record { at = w.at; slot = w.slot; label = w.label; reached = w.reached; leads = w.leads; taken = omega (arith, w.taken, sum w.at w.slot) }))
@@ -143,6 +144,7 @@ module _ (arena : Arena) (device : List Block) (image : Image) (s : Super) (k : 
     done = λ b l j reached. done_still noted' w.low n b l j refl (g.done b l j reached);
     paths = g.paths;
     parents = g.parents;
+    read = λ quiet. g.read (omega (arith, quiet, w.low));
     once = λ quiet. g.once (omega (arith, quiet, w.low));
     top = λ quiet. g.top (omega (arith, quiet, w.low));
     notes = named_lowers arena image k noted noted' w g.notes;
@@ -200,6 +202,7 @@ module _ (arena : Arena) (device : List Block) (image : Image) (s : Super) (k : 
       (low : level noted' ≤ level noted) (notes : MatchOption noted' (Unit {0}) (IsNamed arena image k)) (sum : (b j : ℕ) → n b j ≡ one at i b j + n' b j)
       (is : target ((image at).slot i) ≡ Local below) (marks : Marks below known known') (has : Any (IsKnown below m) known)
       (may : (l : Label) → Reached known at l → MayHave k.root.epoch true (place_under l ((image at).slot i)) l m)
+      (read : 5 < level noted' → IsRead m.kind (image below) (block_of device below))
       (apart : (b j : ℕ) → b ≢ below → fresh b j ≡ 0) (few : (j : ℕ) → fresh below j ≤ 1) (all : (j : ℕ) → (target ((image below).slot j) ≡ Nil) ⊎ (fresh below j ≡ 1)) where
     new : Reached known below m → ⊥
     new = not_before known known' below g.table.up marks m
@@ -275,6 +278,13 @@ module _ (arena : Arena) (device : List Block) (image : Image) (s : Super) (k : 
           let can = may h.0 h.1 in
           subst (λ (c : ℕ). HasPath arena image k c l) (sym same) (subst (λ (q : Label). HasPath arena image k below q) mine (child arena image k at i h.0 (g.paths at h.0 h.1) below m is can.kind can.tag)))
           (λ old. g.paths b l old)
+          (when b l r);
+      read = λ quiet b l r. ⊎_elim
+          (λ (same : b ≡ below).
+          let r' : Reached known' below l = subst (λ (c : ℕ). Reached known' c l) same r in
+          let mine : m ≡ l = same_label known' below m l (table_kept known known' below g.table.up marks device g.table).up now r' in
+          subst (λ (c : ℕ). IsRead l.kind (image c) (block_of device c)) (sym same) (subst (λ (q : Label). IsRead q.kind (image below) (block_of device below)) mine (read quiet)))
+          (λ old. g.read (omega (arith, quiet, low)) b l old)
           (when b l r);
       parents = λ b l r. ⊎_elim
           (λ (same : b ≡ below).

@@ -18,5 +18,5 @@ pub judges_later : {root : RootBlock} {old new : Option Broken} → level new �
 judges_later {root} {old} {new} less j = record {
   first = λ deep. let low = j.first deep in omega arith;
   second = λ deep. let low = j.second deep in omega arith;
-  entries = λ no. let low = j.entries no in omega arith;
+  entries = λ quiet. j.entries (omega arith);
 }

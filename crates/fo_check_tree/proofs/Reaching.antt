@@ -1,15 +1,14 @@
 -- Which blocks were reached, once one more is marked.
-use Rattle.std.proofs.Common.{◌≡◌, ◌≢◌, ◌⊎◌, ⊎_elim, inl, inr, ℕ, ◌<◌, true, false, List, length, get_or, set, get_or-set_same, get_or-set_other, length-set, refl, sym, ap, ◌∙◌, subst, arith}
-use Rattle.std.specs.List.{All, Any}
+use Rattle.std.proofs.Common.{◌≡◌, ◌≢◌, ◌⊎◌, ⊎_elim, inl, inr, ℕ, ◌<◌, true, List, length, get_or, set, get_or-set_same, get_or-set_other, length-set, refl, sym, ap, ◌∙◌, subst, arith}
+use Rattle.std.specs.List.{Any}
 use Rattle.std.proofs.lemmas.Bool.{cases_eq, cases_lt, false≢true}
 use Rattle.std.proofs.lemmas.List.{get_or_default}
 use Rattle.fo_disk.specs.Disk.{Block}
 use Rattle.fo_image.specs.declared.types.Label.{Label}
-use Rattle.fo_image.specs.declared.types.State.TheVariants.{Free}
 use Rattle.fo_sound.specs.Image.{IsDataBlock, HasLabel}
 use Rattle.fo_check_tree.specs.declared.labels.Known.{Known}
-use Rattle.fo_check_tree.specs.Known.{Ascend, IsAt, IsKnown, Marks}
-use Rattle.fo_check_tree.specs.Walking.{IsIn, Reached, IsTaken, IsTable}
+use Rattle.fo_check_tree.specs.Known.{Ascend, IsKnown, Marks}
+use Rattle.fo_check_tree.specs.Walking.{Reached, IsTaken, IsTable}
 use Rattle.fo_check_tree.proofs.Marking.{Ascend-marked, only_label}
 
 pub one_index : (known : List Known) (at i j : ℕ) (d : Known) → Ascend known → i < length known → j < length known → (get_or known i d).address ≡ at → (get_or known j d).address ≡ at → i ≡ j

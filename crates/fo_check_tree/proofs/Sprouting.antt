@@ -11,7 +11,7 @@ use Rattle.fo_image.specs.declared.types.Pointer.{Pointer}
 use Rattle.fo_image.specs.declared.types.Pointer.TheVariants.{Nil, Local, Score as Held}
 use Rattle.fo_image.specs.Format.{ActiveHolds}
 use Rattle.fo_crash.specs.declared.slot.Slot.{Slot}
-use Rattle.fo_crash.specs.declared.slot.Slot.TheVariants.{Pointer as To, Entry as Head, Prev}
+use Rattle.fo_crash.specs.declared.slot.Slot.TheVariants.{Entry as Head}
 use Rattle.fo_crash.specs.Images.{Content, Image, target, kind_below}
 use Rattle.fo_sound.specs.Image.{block_of, HasLabel}
 use Rattle.fo_good.specs.Means.{EndsAt}
@@ -26,7 +26,7 @@ use Rattle.fo_check_tree.specs.Slots.HasSlot.{entry, other}
 use Rattle.fo_check_tree.specs.Slots.AreFolders.{none, more}
 use Rattle.fo_check_tree.specs.Walking.{IsStepOf, tag_below, one, Fits, all_tops}
 use Rattle.fo_check_tree.proofs.Slots.{none_below, one_below, no_pairs, one_pair}
-use Rattle.fo_check_tree.proofs.Waiting.{one_here, one_block, one_slot, one_most, fits_nothing, fits_same, fits_join, fits_one, all_tops_join}
+use Rattle.fo_check_tree.proofs.Waiting.{one_here, one_block, one_slot, one_most, fits_nothing, fits_join, fits_one, all_tops_join}
 
 -- The first slots of a block that lead anywhere are left once, and no others are.
 pub record IsFresh (at : ℕ) (c : Content) (k : ℕ) (n : ℕ → ℕ → ℕ) : Type 0 where

@@ -1,22 +1,20 @@
 -- The walk at its root.
-use Rattle.std.proofs.Common.{◌≡◌, ◌≢◌, ◌⊎◌, ⊎_elim, inl, inr, ℕ, zero, suc, ◌+◌, ◌*◌, ◌<◌, ◌≤◌, Bool, true, false, List, [], ◌∷◌, ◌++◌, append-nil, length, get_or, Option, Some, None, refl, sym, ap, ◌∙◌, subst, arith}
+use Rattle.std.proofs.Common.{◌≡◌, ⊎_elim, inl, ℕ, zero, suc, ◌+◌, ◌*◌, ◌<◌, ◌≤◌, Bool, true, false, List, [], ◌∷◌, ◌++◌, drop, length, get_or, Option, Some, refl, sym, ap, ◌∙◌, subst, arith}
 use Rattle.std.specs.Prelude.{MatchBool, MatchOption}
 use Rattle.std.specs.List.{All, Any}
 use Rattle.std.proofs.lemmas.Bool.{false≢true}
 use Rattle.fo_disk.specs.Disk.{Block}
-use Rattle.fo_image.specs.declared.types.Kind.{Kind}
-use Rattle.fo_image.specs.declared.types.Kind.TheVariants.{Data, Dir, Root}
+use Rattle.fo_image.specs.declared.types.Kind.TheVariants.{Root}
 use Rattle.fo_image.specs.declared.types.State.TheVariants.{Free, Live}
 use Rattle.fo_image.specs.declared.types.Label.{Label}
 use Rattle.fo_image.specs.declared.types.Entry.{Entry}
 use Rattle.fo_image.specs.declared.types.Super.{Super}
-use Rattle.fo_image.specs.declared.types.Pointer.{Pointer}
 use Rattle.fo_image.specs.declared.types.Pointer.TheVariants.{Nil, Local}
 use Rattle.fo_image.specs.Place.{label_blocks}
 use Rattle.fo_crash.specs.declared.slot.Slot.{Slot}
-use Rattle.fo_crash.specs.declared.slot.Slot.TheVariants.{Pointer as To, Entry as Head, Prev}
+use Rattle.fo_crash.specs.declared.slot.Slot.TheVariants.{Entry as Head}
 use Rattle.fo_crash.specs.Images.{Image, Arena, target, kind_below}
-use Rattle.fo_sound.specs.Image.{IsDataBlock, HasLabel}
+use Rattle.fo_sound.specs.Image.{block_of, IsDataBlock, HasLabel}
 use Rattle.fo_sound.specs.Sound.{root_label}
 use Rattle.fo_good.specs.Sound.{Kept}
 use Rattle.fo_check_tree.specs.declared.broken.Broken.{Broken}
@@ -30,16 +28,19 @@ use Rattle.fo_check_tree.specs.declared.walk.Step.{Step}
 use Rattle.fo_check_tree.specs.declared.walk.Walk.{Walk}
 use Rattle.fo_check_tree.specs.Answer.{IsShallow, HoldsAny, IsNamed}
 use Rattle.fo_check_tree.specs.Known.{Ascend, IsKnown, Marks, MarksNone}
+use Rattle.fo_good.specs.Means.{IsRead}
+use Rattle.fo_image.specs.Record.{SpellsRoot}
+use Rattle.fo_check_tree.specs.Lower.{level, JudgesRoot}
 use Rattle.fo_check_tree.specs.Notes.{Lowers}
 use Rattle.fo_check_tree.specs.Slots.{no_entry, top_step}
-use Rattle.fo_check_tree.specs.Table.{IsRight, IsScanned}
-use Rattle.fo_check_tree.specs.Walking.{IsIn, Reached, IsTaken, IsTable, HasPath, IsStepOf, tag_below, one, Fits, tops, all_tops, IsDone, Goes, IsUnbegun, Walking}
+use Rattle.fo_check_tree.specs.Table.{IsScanned}
+use Rattle.fo_check_tree.specs.Walking.{Reached, IsTable, HasPath, IsStepOf, tag_below, one, Fits, all_tops, IsDone, Goes, IsUnbegun, Walking}
 use Rattle.fo_check_tree.specs.Walking.IsDone.{nowhere, left}
 use Rattle.fo_check_tree.proofs.Going.{named_lowers}
 use Rattle.fo_check_tree.proofs.Reaching.{same_label, reached_cases, reached_new, table_kept}
 use Rattle.fo_check_tree.proofs.Spelled.{only_has}
 use Rattle.fo_check_tree.proofs.Sprouting.{top_not_root}
-use Rattle.fo_check_tree.proofs.Waiting.{one_here, one_block, one_slot, one_most, one_is}
+use Rattle.fo_check_tree.proofs.Waiting.{one_here, one_slot, one_most, one_is}
 
 -- ---- the table that was read
 
@@ -135,7 +136,10 @@ module _ (arena : Arena) (device : List Block) (image : Image) (s : Super) (k : 
         let yes : (get_or old.labels.known.items a.0 a.1).reached ≡ true = m.none a.0 a.1 a.2 (ap (λ (x : Known). x.address) a.3 ∙ a.4.address_is ∙ holds.at) in
         absurd (false≢true (sym (u.unreached a.0 a.1 a.2) ∙ yes))
 
-    module _ (marks : Marks k.at old.labels.known.items new.labels.known.items) (low : Lowers old.noted new.noted) where
+    is_head : (i : ℕ) (e : Entry) → 5 < level new.noted → (4 < e.depth → level new.noted ≤ 5) → IsShallow (image k.at) i e → ((image k.at).slot i ≡ Head e) × (e.depth ≤ 4)
+    is_head i e quiet judged slot = ⊎_elim (λ low. low) (λ high. absurd (omega (arith, quiet, judged high.1))) slot
+
+    module _ (judged : JudgesRoot k.root new.noted) (marks : Marks k.at old.labels.known.items new.labels.known.items) (low : Lowers old.noted new.noted) where
       root_reached : Reached new.labels.known.items k.at (root_label s)
       root_reached = reached_new old.labels.known.items new.labels.known.items k.at u.table.up marks (root_label s) listed
 
@@ -175,6 +179,15 @@ module _ (arena : Arena) (device : List Block) (image : Image) (s : Super) (k : 
             (subst (λ (m : Label). IsDone image k new.labels.known.items new.noted (λ c i. 0 + 0 + two c i) k.at m j) (only_label' b l r) (done_root j));
         paths = λ b l r. subst (λ (a : ℕ). HasPath arena image k a l) (sym (only_root b l r)) (subst (λ (m : Label). HasPath arena image k k.at m) (only_label' b l r)
             (record { path = []; leads = refl; kind = refl; tag = refl; link = refl }));
+        read = λ quiet b l r. subst (λ (a : ℕ). IsRead l.kind (image a) (block_of device a)) (sym (only_root b l r)) (subst (λ (m : Label). IsRead m.kind (image k.at) (block_of device k.at)) (only_label' b l r) (record {
+          root = k.root;
+          spelled = subst (λ (a : ℕ). SpellsRoot k.root (block_of device a)) (sym holds.at) holds.active.block;
+          entries = is_head 0 k.root.entries quiet judged.first holds.entries;
+          meta = is_head 1 k.root.meta quiet judged.second holds.meta;
+          before = holds.before;
+          ends = holds.ends;
+          own = ap (λ (bytes : List ℕ). drop 104 bytes) (holds.bytes k.at);
+        }));
         parents = λ b l r. inl (only_root b l r);
         once = λ quiet a i b j below l m ra rb za zb ta tb. absurd (nil_local (sym (gone_nil a i l ra (omega (arith, za))) ∙ ta));
         top = λ quiet a i l ra za ta. nil_local (sym (gone_nil a i l ra (omega (arith, za))) ∙ ta);
@@ -184,8 +197,9 @@ module _ (arena : Arena) (device : List Block) (image : Image) (s : Super) (k : 
     pub begun : (t : Bool) (l : Labels) → new.labels ≡ l → MatchBool t (Marks s.active old.labels.known.items l.known.items) (MarksNone s.active old.labels.known.items l.known.items) → Lowers old.noted new.noted
         → new.blocks ≡ old.blocks → (new.epoch ≡ old.epoch) × (new.active ≡ old.active) → new.steps.items ≡ old.steps.items → (e r : Entry) → IsEntryOf k.root.entries e → IsEntryOf k.root.meta r
         → new.folders.items ≡ old.folders.items ++ record { entries = e; records = Some r; holder = record { block = s.active; label = root_label s }; depth = 0; named = true } ∷ []
+        → JudgesRoot k.root new.noted
         → Walking arena device image s k [] new × (new.steps.items ≡ [])
-    begun t l labels found low size tree steps e r we wr folders =
+    begun t l labels found low size tree steps e r we wr folders judged =
         let m = subst (λ (x : Labels). MatchBool t (Marks s.active old.labels.known.items x.known.items) (MarksNone s.active old.labels.known.items x.known.items)) (sym labels) found in
         let f : Folder = record { entries = e; records = Some r; holder = record { block = s.active; label = root_label s }; depth = 0; named = true } in
         let first = step_by 0 k.root.entries e Bytes holds.entries we in
@@ -211,7 +225,7 @@ module _ (arena : Arena) (device : List Block) (image : Image) (s : Super) (k : 
             others_fit = record { each = λ b j. refl };
             steps_fit = subst (λ (xs : List Step). Fits device image xs (λ b j. 0)) (sym no_steps) (record { each = λ b j. refl });
             folders_fit = subst (λ (fs : List Folder). Fits device image (all_tops fs) two) (sym one_folder) fits;
-            goes = goes (marked t m) low;
+            goes = goes judged (marked t m) low;
           },
           no_steps,
         )

@@ -1,6 +1,5 @@
 -- The walk with one step more: what a step leaves, and what is popped and pushed.
-use Rattle.std.proofs.Common.{◌≡◌, ◌≢◌, ◌⊎◌, ⊎_elim, inl, inr, ℕ, zero, suc, ◌+◌, ◌<◌, ◌≤◌, Bool, true, false, List, [], ◌∷◌, ◌++◌, append-nil, length, get_or, Option, Some, None, MatchOption, Result, Ok, Err, refl, sym, ap, ◌∙◌, subst, arith}
-use Rattle.std.specs.Prelude.{MatchResult, OnOk, IfErr}
+use Rattle.std.proofs.Common.{◌≡◌, ℕ, ◌+◌, ◌<◌, ◌≤◌, Bool, true, List, [], ◌∷◌, ◌++◌, append-nil, length, Option, refl, sym, ap, ◌∙◌, subst, arith}
 use Rattle.std.specs.List.{All, Any}
 use Rattle.fo_disk.specs.Disk.{Block}
 use Rattle.fo_image.specs.declared.types.Kind.{Kind}
@@ -10,11 +9,10 @@ use Rattle.fo_image.specs.declared.types.Super.{Super}
 use Rattle.fo_image.specs.declared.types.Score.{Score}
 use Rattle.fo_image.specs.declared.types.Pointer.{Pointer}
 use Rattle.fo_image.specs.declared.types.Pointer.TheVariants.{Nil, Local, Score as Held}
-use Rattle.fo_crash.specs.declared.slot.Slot.{Slot}
-use Rattle.fo_crash.specs.declared.place.Place.{Place}
-use Rattle.fo_crash.specs.Images.{Image, Arena, target, kind_below, from_block}
+use Rattle.fo_crash.specs.Images.{Image, Arena, target}
 use Rattle.fo_sound.specs.Image.{block_of, IsDataBlock, HasLabel}
-use Rattle.fo_good.specs.Trees.{MayHave, HasLabelBelow, LeadsTo, at_path, place_of}
+use Rattle.fo_good.specs.Means.{IsRead}
+use Rattle.fo_good.specs.Trees.{MayHave, HasLabelBelow, LeadsTo, place_of}
 use Rattle.fo_good.specs.Sound.{Kept}
 use Rattle.fo_check_tree.specs.declared.broken.Broken.{Broken}
 use Rattle.fo_check_tree.specs.declared.error.TreeError.{TreeError}
@@ -24,28 +22,27 @@ use Rattle.fo_check_tree.specs.declared.labels.Labels.{Labels}
 use Rattle.fo_check_tree.specs.declared.walk.Folder.{Folder}
 use Rattle.fo_check_tree.specs.declared.walk.Holder.{Holder}
 use Rattle.fo_check_tree.specs.declared.walk.Holds.{Holds}
-use Rattle.fo_check_tree.specs.declared.walk.Holds.TheVariants.{Bytes, Records}
 use Rattle.fo_check_tree.specs.declared.walk.Step.{Step}
 use Rattle.fo_check_tree.specs.declared.walk.Walk.{Walk}
-use Rattle.fo_check_tree.specs.Answer.{BreaksLabels, RefusesTree, IsNamed}
+use Rattle.fo_check_tree.specs.Answer.{BreaksLabels, RefusesTree}
 use Rattle.fo_check_tree.specs.Answer.BreaksLabels.{outside, label}
 use Rattle.fo_check_tree.specs.Follows.{Reaches, Follows, RefusesFollow}
 use Rattle.fo_check_tree.specs.Follows.Reaches.{again, enters}
 use Rattle.fo_check_tree.specs.Follows.Follows.{nowhere, held, local}
-use Rattle.fo_check_tree.specs.Known.{IsKnown, MarksNone}
+use Rattle.fo_check_tree.specs.Known.{IsKnown}
 use Rattle.fo_check_tree.specs.Lower.{lower, level}
 use Rattle.fo_check_tree.specs.Notes.{Lowers}
 use Rattle.fo_check_tree.specs.Slots.{HasSlots, top_step}
-use Rattle.fo_check_tree.specs.Steps.{IsAllowed, BreaksStep}
+use Rattle.fo_check_tree.specs.Steps.{BreaksStep}
 use Rattle.fo_check_tree.specs.Steps.BreaksStep.{outside as step_outside, label as step_label}
 use Rattle.fo_check_tree.specs.Steps.{place_of as place_to}
-use Rattle.fo_check_tree.specs.Walking.{IsIn, Reached, IsTaken, IsTable, HasPath, IsStepOf, IsOneMore, place_under, tag_below, one, Fits, tops, all_tops, Goes, Walking}
+use Rattle.fo_check_tree.specs.Walking.{Reached, IsTaken, IsTable, HasPath, IsStepOf, place_under, one, Fits, tops, all_tops, Goes, Walking}
 use Rattle.fo_check_tree.proofs.Going.{goes_nowhere, goes_held, goes_again, goes_on, goes_lower, named_at}
 use Rattle.fo_check_tree.proofs.Paths.{end_kind, end_tag, end_slot}
 use Rattle.fo_check_tree.proofs.Reaching.{is_known}
 use Rattle.fo_check_tree.proofs.Spelled.{only_has}
-use Rattle.fo_check_tree.proofs.Sprouting.{Enters, enters_by}
-use Rattle.fo_check_tree.proofs.Waiting.{Parts, One, one_here, fits_join, fits_part, fits_one, fits_single, fits_nothing, all_tops_join}
+use Rattle.fo_check_tree.proofs.Sprouting.{enters_by}
+use Rattle.fo_check_tree.proofs.Waiting.{one_here, fits_join, fits_part, fits_one, fits_single, all_tops_join}
 
 nil_local : {a : ℕ} → Nil ≡ Local a → ⊥
 nil_local e = cc
@@ -262,13 +259,14 @@ module _ (arena : Arena) (device : List Block) (image : Image) (s : Super) (k : 
             (goes_again arena device image s k old.labels.known.items old.noted left_before w.goes left_then w.others_fit.at w.others_fit.slot at m sum (leads (Local at) is)
             (was_reached at m marks.none allowed.known) (may_of (λ nil. nil_local (sym nil ∙ is)) m allowed.may));
       }
-      after_block at is (enters m allowed marks steps folders notes) =
+      after_block at is (enters m allowed marks steps folders notes read) =
           let known = old.labels.known.items in
           let t = taken_of device known at m w.goes.table allowed.known in
           let slots : HasSlots step.kind (image at) (block_of device at) = subst (λ (d : Kind). HasSlots d (image at) (block_of device at)) allowed.may.kind (w.holds.slots at m t.0 t.1) in
           let e = enters_by device image at m t.1 old.steps.items new.steps.items old.folders.items new.folders.items step step.kind depth named allowed.may.kind allowed.may.tag w.others_fit.is.not_root slots (steps slots) (folders slots) in
           let g = goes_on arena device image s k known old.noted left_before w.goes new.labels.known.items new.noted left_then (λ b j. e.first b j + e.second b j) w.others_fit.at w.others_fit.slot at m low
-          (named_at arena image k at old.noted new.noted notes w.goes.notes) sum (leads (Local at) is) marks allowed.known (may_of (λ nil. nil_local (sym nil ∙ is)) m allowed.may) e.apart e.few e.all in
+          (named_at arena image k at old.noted new.noted notes w.goes.notes) sum (leads (Local at) is) marks allowed.known (may_of (λ nil. nil_local (sym nil ∙ is)) m allowed.may)
+          (λ quiet. subst (λ (d : Kind). IsRead d (image at) (block_of device at)) (sym allowed.may.kind) (read w.others_fit.is.not_root slots (w.holds.bytes at) quiet)) e.apart e.few e.all in
           record {
             holds = w.holds;
             size = size ∙ w.size;

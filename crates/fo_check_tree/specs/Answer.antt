@@ -1,17 +1,17 @@
 -- What the check of a tree answers of the walk through it: which blocks paths from the root lead to, and at which block a rule is broken.
-use Rattle.std.specs.Prelude.{◌≡◌, ◌⊎◌, ℕ, ◌<◌, ◌≤◌, true, List, [], ◌∷◌, ◌++◌, length, Option, MatchOption, MatchResult}
+use Rattle.std.specs.Prelude.{◌≡◌, ◌⊎◌, ℕ, ◌<◌, ◌≤◌, true, List, [], ◌∷◌, ◌++◌, length, MatchOption}
 use Rattle.fo_disk.specs.Disk.{Block}
 use Rattle.fo_image.specs.declared.types.Kind.{Kind}
 use Rattle.fo_image.specs.declared.types.Entry.{Entry}
 use Rattle.fo_image.specs.declared.types.Label.{Label}
 use Rattle.fo_image.specs.declared.types.Super.{Super}
 use Rattle.fo_image.specs.declared.types.Score.{Score}
-use Rattle.fo_image.specs.declared.types.Pointer.TheVariants.{Nil, Local, Score as Held}
+use Rattle.fo_image.specs.declared.types.Pointer.TheVariants.{Nil, Score as Held}
 use Rattle.fo_crash.specs.declared.slot.Slot.TheVariants.{Pointer as To, Entry as Head, Prev}
-use Rattle.fo_crash.specs.Images.{Content, Image, Arena, target, nothing}
+use Rattle.fo_crash.specs.Images.{Content, Image, Arena, target, nothing, from_block}
 use Rattle.fo_sound.specs.Image.{block_of, IsDataBlock, HasLabel}
-use Rattle.fo_sound.specs.Sound.{HasActiveRoot}
-use Rattle.fo_good.specs.Means.{EndsAt}
+use Rattle.fo_sound.specs.Sound.{HasActiveRoot, HasRootEntries}
+use Rattle.fo_good.specs.Means.{EndsAt, Means}
 use Rattle.fo_good.specs.Trees.{HasLabelBelow, HasTreeLabels, HasNoScores, IsTree, LeadsTo, at_path, place_of}
 use Rattle.fo_good.specs.Sound.{Kept}
 use Rattle.fo_good.specs.Lost.{IsUsed, IsLeaked, AreSoMany}
@@ -64,11 +64,14 @@ pub record IsNamed (arena : Arena) (image : Image) (k : Kept) (b : Broken) : Typ
 
 -- ---- the walk
 
--- Every block that a path from the root leads to has a label that may stand at its place. Unless a rule no higher than 7 is named, no
--- block is at two places; unless one no higher than 9 is, no pointer is a score. The numbers are those of the tree.
+-- Every block that a path from the root leads to has a label that may stand at its place, and the numbers are those of the tree. Unless a
+-- rule no higher than 5 is named, each block is of its format; unless one no higher than 6, the root's entries are those of a root; unless
+-- one no higher than 7, no block is at two places; unless one no higher than 9, no pointer is a score.
 pub record IsWalked (arena : Arena) (device : List Block) (image : Image) (s : Super) (k : Kept) (found : Found) : Type 0 where
   pub labels : HasTreeLabels arena device image k.at k.root.epoch true
+  pub entries : 6 < level found.broken → HasRootEntries k.root
   pub once : 7 < level found.broken → IsTree arena image k.at
+  pub formats : 5 < level found.broken → Means arena device image (from_block k.at)
   pub scores : 9 < level found.broken → HasNoScores arena image k.at
   pub named : MatchOption found.broken (Unit {0}) (IsNamed arena image k)
   pub used : AreSoMany (length device) (IsUsed arena image k []) found.used

@@ -1,5 +1,5 @@
 -- One step of the walk: what was left to do before it, and what is left after it.
-use Rattle.std.specs.Prelude.{◌≡◌, ℕ, ◌+◌, ◌-◌, ◌^◌, Bool, zero, suc, min, List, ◌++◌}
+use Rattle.std.specs.Prelude.{◌≡◌, ℕ, ◌+◌, ◌-◌, ◌^◌, ◌<◌, Option, Bool, zero, suc, min, List, ◌++◌}
 use Rattle.fo_disk.specs.Disk.{Block}
 use Rattle.fo_image.specs.declared.types.Kind.{Kind}
 use Rattle.fo_image.specs.declared.types.Kind.TheVariants.{Data, Dir, Root}
@@ -7,6 +7,7 @@ use Rattle.fo_image.specs.declared.types.Label.{Label}
 use Rattle.fo_image.specs.declared.types.Score.{Score}
 use Rattle.fo_image.specs.declared.types.Pointer.TheVariants.{Nil, Local, Score as Held}
 use Rattle.fo_crash.specs.Images.{Content, Image}
+use Rattle.fo_good.specs.Means.{IsRead}
 use Rattle.fo_sound.specs.Image.{block_of}
 use Rattle.fo_check_tree.specs.declared.error.TreeError.{TreeError}
 use Rattle.fo_check_tree.specs.declared.error.TreeError.TheVariants.{Label as BadLabel, Read, Memory}
@@ -15,7 +16,8 @@ use Rattle.fo_check_tree.specs.declared.walk.Holder.{Holder}
 use Rattle.fo_check_tree.specs.declared.walk.Step.{Step}
 use Rattle.fo_check_tree.specs.declared.walk.Walk.{Walk}
 use Rattle.fo_check_tree.specs.Known.{Marks, MarksNone}
-use Rattle.fo_check_tree.specs.Lower.{lower}
+use Rattle.fo_check_tree.specs.declared.broken.Broken.{Broken}
+use Rattle.fo_check_tree.specs.Lower.{lower, level}
 use Rattle.fo_check_tree.specs.Notes.{NotesAt}
 use Rattle.fo_check_tree.specs.Slots.{HasSlots, steps_of, AddsFolders}
 use Rattle.fo_check_tree.specs.Steps.{IsAllowed, BreaksStep}
@@ -27,6 +29,10 @@ Puts here c depth named (Dir zero) old new = AddsFolders here c (min (depth + 1)
 Puts here c depth named (Dir (suc level)) old new = new ≡ old
 Puts here c depth named Root old new = new ≡ old
 
+-- A block of this kind is of its format, unless a rule no higher than 5 is noted.
+abbrev pub Reads : Kind → Content → Block → Option Broken → Type 0
+Reads kind c bytes noted = (kind ≡ Root → ⊥) → HasSlots kind c bytes → c.bytes ≡ bytes → 5 < level noted → IsRead kind c bytes
+
 -- A step to this block was taken. The block may stand there. Where it was reached before, rule 7 is noted; else it is reached now, and
 -- the steps and folders by its slots are left.
 pub data Reaches (device : List Block) (image : Image) (depth : ℕ) (named : Bool) (step : Step) (at : ℕ) (old new : Walk) : Type 0 where
@@ -36,6 +42,7 @@ pub data Reaches (device : List Block) (image : Image) (depth : ℕ) (named : Bo
       → (HasSlots step.kind (image at) (block_of device at) → new.steps.items ≡ old.steps.items ++ steps_of step (record { block = at; label = label }) (image at) step.kind)
       → (HasSlots step.kind (image at) (block_of device at) → Puts (record { block = at; label = label }) (image at) depth named step.kind old.folders.items new.folders.items)
       → NotesAt at old.noted new.noted
+      → Reads step.kind (image at) (block_of device at) new.noted
       → Reaches device image depth named step at old new
 
 -- A step was taken: it leads nowhere, to a score, for which rule 9 is noted, or to a block.

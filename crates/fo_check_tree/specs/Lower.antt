@@ -19,4 +19,4 @@ level (Some b) = b.rule
 pub record JudgesRoot (root : RootBlock) (noted : Option Broken) : Type 0 where
   pub first : 4 < root.entries.depth → level noted ≤ 5
   pub second : 4 < root.meta.depth → level noted ≤ 5
-  pub entries : ¬ HasRootEntries root → level noted ≤ 6
+  pub entries : 6 < level noted → HasRootEntries root

@@ -16,7 +16,8 @@ use Rattle.fo_crash.specs.declared.slot.Slot.{Slot}
 use Rattle.fo_crash.specs.declared.place.Place.{Place}
 use Rattle.fo_crash.specs.Images.{Image, Arena, target, kind_below}
 use Rattle.fo_crash.specs.Places.{tag_of_top}
-use Rattle.fo_sound.specs.Image.{IsDataBlock, HasLabel}
+use Rattle.fo_good.specs.Means.{IsRead}
+use Rattle.fo_sound.specs.Image.{block_of, IsDataBlock, HasLabel}
 use Rattle.fo_sound.specs.Sound.{root_label}
 use Rattle.fo_good.specs.Trees.{MayHave, LeadsTo, at_path, place_of}
 use Rattle.fo_good.specs.Sound.{Kept}
@@ -148,6 +149,7 @@ pub record Goes (arena : Arena) (device : List Block) (image : Image) (s : Super
   pub parents : (at : ℕ) (l : Label) → Reached known at l → (at ≡ k.at) ⊎ HasParent image known n at
   pub once : 7 < level noted → (a i b j below : ℕ) (l m : Label) → Reached known a l → Reached known b m → n a i ≡ 0 → n b j ≡ 0 → target ((image a).slot i) ≡ Local below → target ((image b).slot j) ≡ Local below → (a ≡ b) × (i ≡ j)
   pub top : 7 < level noted → (a i : ℕ) (l : Label) → Reached known a l → n a i ≡ 0 → ¬ (target ((image a).slot i) ≡ Local k.at)
+  pub read : 5 < level noted → (at : ℕ) (l : Label) → Reached known at l → IsRead l.kind (image at) (block_of device at)
   pub notes : MatchOption noted (Unit {0}) (IsNamed arena image k)
 
 -- The walk, with these steps left beside its own.

@@ -11,7 +11,7 @@ ghost use Rattle.fo_good.specs.Sound.{Kept};
 ghost use Rattle.fo_image.specs.declared.types.Super.{Super};
 ghost use Rattle.fo_image.specs.declared.types.Pointer.TheVariants.{Local};
 ghost use Rattle.fo_check_tree.specs.Answer.{RefusesTree};
-ghost use Rattle.fo_check_tree.specs.Follows.{Follows, Reaches, Puts, RefusesFollow, NotLabel};
+ghost use Rattle.fo_check_tree.specs.Follows.{Follows, Reaches, Puts, Reads, RefusesFollow, NotLabel};
 ghost use Rattle.fo_check_tree.specs.Notes.{NotesAt};
 ghost use Rattle.fo_check_tree.specs.Walking.{Walking};
 ghost use Rattle.fo_check_tree.specs.Lower.{lower, level};
@@ -160,6 +160,7 @@ fn enter<D: Disk>(
     ensures put { (device : List Block) (c : Content) → Shows (D.holds main.old) device → HasSlots step.now.kind c (block_of device here.block)
         → OnOk result (Puts here c depth named step.now.kind walk.old.folders.items walk.new.folders.items) }
     ensures notes { OnOk result (NotesAt here.block walk.old.noted walk.new.noted) }
+    ensures format { (device : List Block) (c : Content) → Shows (D.holds main.old) device → OnOk result (Reads step.now.kind c (block_of device here.block) walk.new.noted) }
     ensures refuses { IfErr result NotLabel }
     ensures blocks { OnOk result (walk.new.blocks ≡ walk.old.blocks) }
     ensures tree { OnOk result ((walk.new.epoch ≡ walk.old.epoch) × (walk.new.active ≡ walk.old.active)) }
@@ -195,6 +196,7 @@ fn add_block(
 ) -> Result<(), AllocError>
     requires { length block.now ≡ 8192 }
     ensures pushed { (c : Content) → HasSlots step.now.kind c block.now → OnOk result (walk.new.steps.items ≡ walk.old.steps.items ++ steps_of step.now here c step.now.kind) }
+    ensures format { (c : Content) → OnOk result (Reads step.now.kind c block.now walk.new.noted) }
     ensures put { (c : Content) → HasSlots step.now.kind c block.now → OnOk result (Puts here c depth named step.now.kind walk.old.folders.items walk.new.folders.items) }
     ensures notes { OnOk result (NotesAt here.block walk.old.noted walk.new.noted) }
     ensures blocks { OnOk result (walk.new.blocks ≡ walk.old.blocks) }

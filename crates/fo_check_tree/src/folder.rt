@@ -4,6 +4,7 @@ ghost use Rattle.fo_image.specs.declared.types.Entry.{Entry};
 ghost use Rattle.fo_image.specs.Format.{SpellsEntry};
 ghost use Rattle.fo_crash.specs.Images.{Arena, Content, Image};
 ghost use Rattle.fo_disk.specs.Disk.{Block};
+ghost use Rattle.fo_good.specs.Means.{HasEntry};
 ghost use Rattle.fo_good.specs.Sound.{Kept};
 ghost use Rattle.fo_image.specs.declared.types.Super.{Super};
 ghost use Rattle.fo_sound.specs.Image.{is_zero};
@@ -94,6 +95,7 @@ pub(crate) fn add_entries(
     requires { length block.now ≡ 8192 }
     ensures pushed { (c : Content) → ((i : ℕ) → i < 204 → HasSlot c block.now i) → OnOk result (walk.new.steps.items ≡ walk.old.steps.items ++ steps_by_pairs here c 102) }
     ensures put { (c : Content) → ((i : ℕ) → i < 204 → HasSlot c block.now i) → OnOk result (AddsFolders here c (min (depth + 1) (2 ^ 32 - 1)) named 102 walk.old.folders.items walk.new.folders.items) }
+    ensures whole { (c : Content) → ((i : ℕ) → i < 204 → HasSlot c block.now i) → OnOk result (5 < level walk.new.noted → (i : ℕ) → i < 204 → HasEntry c block.now i) }
     ensures rest { is_zero (drop 8160 block.now) ≡ false → OnOk result (level walk.new.noted ≤ 5) }
     ensures notes { OnOk result (NotesAt here.block walk.old.noted walk.new.noted) }
     ensures blocks { OnOk result (walk.new.blocks ≡ walk.old.blocks) }

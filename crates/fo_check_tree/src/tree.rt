@@ -1,5 +1,5 @@
 //! The check of the tree of one root.
-ghost use Rattle.std.specs.Prelude.{◌≡◌, ◌^◌, ◌≤◌, ◌↔◌, List, [], length, IsTrue, IfOk, OnOk, MatchResult};
+ghost use Rattle.std.specs.Prelude.{◌≡◌, ◌^◌, ◌<◌, ◌≤◌, ◌↔◌, List, [], length, IsTrue, IfOk, OnOk, MatchResult};
 ghost use Rattle.fo_crash.specs.Images.{Arena, Image};
 ghost use Rattle.fo_good.specs.Sound.{Kept};
 ghost use Rattle.fo_check_tree.specs.Answer.{HoldsAny, IsWalked, RefusesCheck};
@@ -114,7 +114,7 @@ fn note_entries(walk: &mut Walk, block: u32, root: &RootBlock)
     ensures steps { walk.new.steps.items ≡ walk.old.steps.items }
     ensures folders { walk.new.folders.items ≡ walk.old.folders.items }
     ensures level { level walk.new.noted ≤ level walk.old.noted }
-    ensures entries { ¬ HasRootEntries root.now → level walk.new.noted ≤ 6 }
+    ensures entries { 6 < level walk.new.noted → HasRootEntries root.now }
 {
     if has_root_entries(root) {
         return;

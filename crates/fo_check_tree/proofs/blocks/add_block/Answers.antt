@@ -1,8 +1,12 @@
-use Rattle.std.proofs.Common.{◌≡◌, drop, arith}
+use Rattle.std.proofs.Common.{◌≡◌, ℕ, drop, sym, ap, ◌∙◌, subst, rules, arith}
+use Rattle.fo_image.specs.declared.types.Kind.TheVariants.{Dir}
+use Rattle.std.specs.Prelude.{OnOk}
+use Rattle.fo_image.specs.declared.types.Kind.{Kind}
+use Rattle.fo_check_tree.specs.Follows.{Reads}
 use Rattle.fo_sound.specs.Image.{is_zero}
 use Rattle.fo_check_tree.specs.Notes.{NotesAt}
 use Rattle.fo_check_tree.specs.Slots.{unless}
-use Rattle.fo_check_tree.proofs.Adding.{data_adds, dir_adds, on_ok, notes_unless}
+use Rattle.fo_check_tree.proofs.Adding.{data_adds, dir_adds, on_ok, notes_unless, data_reads, dir_reads, entries_read}
 use Rattle.fo_check_tree.proofs.blocks.add_block.Goals as goal
 
 pub returns-in-Data-clause-pushed : goal.returns-in-Data-clause-pushed
@@ -22,3 +26,13 @@ returns-in-Dir-clause-notes c =
     let rest = is_zero (drop 8180 c.args.block.now) in
     on_ok c.add_pointers-in-Dir.result (c.add_pointers-in-Dir.new.walk.noted ≡ unless rest 5 c.args.here.block c.args.walk.now.noted) (NotesAt c.args.here.block c.args.walk.now.noted c.add_pointers-in-Dir.new.walk.noted)
     (λ is. notes_unless rest c.args.here.block c.args.walk.now.noted c.add_pointers-in-Dir.new.walk.noted is) c.add_pointers-in-Dir.ensures.noted
+
+pub returns-in-Data-clause-format : goal.returns-in-Data-clause-format
+returns-in-Data-clause-format c c' = data_reads c.add_pointers.result c' c.args.block.now c.args.here.block c.args.walk.now.noted c.add_pointers.new.walk.noted c.in-Data.level c.args.step.now.kind c.in-Data.is (grind (arith, c.in-Data.level-test)) c.add_pointers.ensures.noted
+
+pub returns-in-Dir-clause-format : goal.returns-in-Dir-clause-format
+returns-in-Dir-clause-format c c' = dir_reads c.add_pointers-in-Dir.result c' c.args.block.now c.args.here.block c.args.walk.now.noted c.add_pointers-in-Dir.new.walk.noted c.in-Dir.level c.args.step.now.kind c.in-Dir.is (grind (arith, c.in-Dir.level-test)) c.add_pointers-in-Dir.ensures.noted
+
+pub returns-in-Dir-eq0-clause-format : goal.returns-in-Dir-eq0-clause-format
+returns-in-Dir-eq0-clause-format c c' = subst (λ (k : Kind). OnOk c.add_entries.result (Reads k c' c.args.block.now c.add_entries.new.walk.noted)) (sym (c.in-Dir-eq0.is ∙ ap (λ (n : ℕ). Dir n) (first_of (omega (arith, c.in-Dir-eq0.field-0-is), grind (arith, c.in-Dir-eq0.field-0-test), search rules))))
+    (entries_read c.add_entries.result c' c.args.block.now c.add_entries.new.walk.noted (c.add_entries.ensures.whole c') c.add_entries.ensures.rest)

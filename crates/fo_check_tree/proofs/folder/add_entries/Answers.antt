@@ -1,4 +1,4 @@
-use Rattle.std.proofs.Common.{◌≡◌, ℕ, ◌+◌, ◌-◌, ◌*◌, ◌^◌, ◌<◌, ◌≤◌, List, ◌++◌, length, take, drop, ◌∙◌, ap, subst, arith}
+use Rattle.std.proofs.Common.{◌≡◌, ◌≢◌, ⊎_elim, sym, ℕ, ◌+◌, ◌-◌, ◌*◌, ◌^◌, ◌<◌, ◌≤◌, List, ◌++◌, length, take, drop, ◌∙◌, ap, subst, arith}
 use Rattle.std.specs.Prelude.{min}
 use Rattle.fo_sound.specs.Image.{is_zero}
 use Rattle.fo_check_tree.specs.declared.walk.Step.{Step}
@@ -6,7 +6,9 @@ use Rattle.fo_check_tree.specs.declared.walk.Folder.{Folder}
 use Rattle.fo_check_tree.specs.Lower.{level}
 use Rattle.fo_check_tree.specs.Slots.{steps_by_pairs, pair_steps, pair_folders, AddsFolders}
 use Rattle.fo_check_tree.specs.Notes.NotesAt.{same as note_same}
-use Rattle.fo_check_tree.proofs.Adding.{then_notes, notes_unless}
+use Rattle.fo_good.specs.Means.{HasEntry}
+use Rattle.std.proofs.lemmas.Bool.{cases_eq, cases_lt}
+use Rattle.fo_check_tree.proofs.Adding.{then_notes, notes_unless, entry_read}
 use Rattle.fo_check_tree.proofs.Slots.{pairs_first, pairs_more, folders_first, folders_more, low_unless, rest_is}
 use Rattle.fo_check_tree.proofs.folder.add_entries.Goals as goal
 
@@ -14,6 +16,7 @@ pub loop-k-init : goal.loop-k-init
 loop-k-init c = record {
   pushed = λ c' each. rw c.note_rest.ensures.steps (pairs_first c.args.here c' c.args.walk.now.steps.items);
   put = λ c' each. rw c.note_rest.ensures.folders (folders_first c.args.here c' (min (c.args.depth + 1) (2 ^ 32 - 1)) c.args.named c.args.walk.now.folders.items);
+  whole = λ c' each quiet i lt. absurd (omega (arith, lt));
   rest = λ no. rw c.note_rest.ensures.noted (low_unless (is_zero (take (length c.args.block.now - 8160) (drop 8160 c.args.block.now))) c.args.here.block c.args.walk.now.noted (ap is_zero (rest_is 8160 c.args.block.now) ∙ no));
   notes = notes_unless (is_zero (take (length c.args.block.now - 8160) (drop 8160 c.args.block.now))) c.args.here.block c.args.walk.now.noted c.note_rest.new.self.noted c.note_rest.ensures.noted;
   blocks = c.note_rest.ensures.blocks;
@@ -41,6 +44,19 @@ loop-k-preserved c =
           c.saturating_add-below.ensures c.is_both-leads.ensures
           (c.entry_at-first.ensures.is c' (each (2 * c.loop-k.k) (omega (arith, less)))) (c.entry_at-second.ensures.is c' (each (2 * c.loop-k.k + 1) (omega (arith, less))))
           (c.loop-k.invariant.put c' each) (c.in_ok-add_pair.ensures.put ∙ ap (λ (s : List Folder). s ++ pair_folders c.args.here c.entry_at-first.result c.entry_at-second.result c.saturating_add-below.result c.is_both-leads.result) folders);
+      whole = λ c' each quiet i lt. ⊎_elim
+          (λ old. c.loop-k.invariant.whole c' each (omega (arith, quiet, low)) i old)
+          (λ new. ⊎_elim
+          (λ (first : i ≡ 2 * c.loop-k.k). subst (λ (n : ℕ). HasEntry c' c.args.block.now n) (sym first)
+          (entry_read c' c.args.block.now (2 * c.loop-k.k) c.entry_at-first.new.walk.noted (each (2 * c.loop-k.k) (omega (arith, less))) (λ deep. (c.entry_at-first.ensures.none deep).1)
+          (omega (arith, quiet, c.entry_at-second.ensures.level, c.find_pair-of.ensures.level, c.in_ok-add_pair.ensures.level))))
+          (λ (apart : i ≢ 2 * c.loop-k.k).
+          let second : i ≡ 2 * c.loop-k.k + 1 = omega (arith, lt, new, apart) in
+          subst (λ (n : ℕ). HasEntry c' c.args.block.now n) (sym second)
+          (entry_read c' c.args.block.now (2 * c.loop-k.k + 1) c.entry_at-second.new.walk.noted (each (2 * c.loop-k.k + 1) (omega (arith, less))) (λ deep. (c.entry_at-second.ensures.none deep).1)
+          (omega (arith, quiet, c.find_pair-of.ensures.level, c.in_ok-add_pair.ensures.level))))
+          (cases_eq i (2 * c.loop-k.k)))
+          (cases_lt i (2 * c.loop-k.k));
       rest = λ no. let before = c.loop-k.invariant.rest no in omega (arith, low, before);
       notes = then_notes c.loop-k.invariant.notes (then_notes c.entry_at-first.ensures.notes (then_notes c.entry_at-second.ensures.notes (then_notes (note_same c.find_pair-of.ensures.noted) c.in_ok-add_pair.ensures.notes)));
       blocks = c.in_ok-add_pair.ensures.blocks ∙ c.find_pair-of.ensures.blocks ∙ c.entry_at-second.ensures.blocks ∙ c.entry_at-first.ensures.blocks ∙ c.loop-k.invariant.blocks;
@@ -60,3 +76,8 @@ pub returns-clause-put : goal.returns-clause-put
 returns-clause-put c c' each =
     let end : c.loop-k.k ≡ 102 = omega (arith, c.loop-k-test.false, c.loop-k.auto.k-end) in
     subst (λ (n : ℕ). AddsFolders c.args.here c' (min (c.args.depth + 1) (2 ^ 32 - 1)) c.args.named n c.args.walk.now.folders.items c.loop-k.walk.folders.items) end (c.loop-k.invariant.put c' each)
+
+pub returns-clause-whole : goal.returns-clause-whole
+returns-clause-whole c c' each quiet i lt =
+    let end : c.loop-k.k ≡ 102 = omega (arith, c.loop-k-test.false, c.loop-k.auto.k-end) in
+    c.loop-k.invariant.whole c' each quiet i (omega (arith, lt, end))

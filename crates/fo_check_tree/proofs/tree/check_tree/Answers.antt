@@ -1,8 +1,10 @@
-use Rattle.std.proofs.Common.{◌≡◌, ℕ, ◌-◌, true, None, take, List, [], ◌∷◌, ◌++◌, append-nil, length, refl, sym, ap, ◌∙◌, subst, rules, arith}
+use Rattle.std.proofs.Common.{◌≡◌, ℕ, ◌-◌, true, None, take, [], append-nil, refl, sym, ap, ◌∙◌, subst, rules}
 use Rattle.std.proofs.lemmas.Result.{err_from_is_err_and}
 use Rattle.fo_disk.specs.Disk.{Content}
 use Rattle.fo_sound.specs.Device.{Shows}
 use Rattle.fo_check_tree.specs.declared.walk.Walk.{Walk}
+use Rattle.fo_image.specs.declared.record.RootBlock.{RootBlock}
+use Rattle.fo_check_tree.specs.Lower.{JudgesRoot}
 use Rattle.fo_check_tree.specs.Walking.{IsUnbegun, Walking, tops}
 use Rattle.fo_check_tree.proofs.Adding.{on_ok_is}
 use Rattle.fo_check_tree.proofs.Ending.{walked, refuses_table, refuses_tree}
@@ -76,4 +78,5 @@ returns-clause-walked g c arena device image k len shows is holds =
     let empty : Walking arena device image s k [] end = emptied arena device image s k c.loop-folder.walk end (record { blocks = refl; epoch = refl; active = refl; labels = refl; noted = refl }) [] refl (sym (append-nil c.pop.new.self.items) ∙ sym c.in_default.ensures.items) before.0 in
     let n = c.check_numbers.ensures in
     walked arena device image s k c.check_numbers.new.walk _ (n.steps ∙ before.1) (n.folders ∙ none) refl c.used.ensures c.leaked.ensures
+    (judges_later n.lowers.low (subst (λ (r : RootBlock). JudgesRoot r c.loop-folder.walk.noted) (sym is) c.loop-folder.invariant.judged))
     (walking_like arena device image s k [] end c.check_numbers.new.walk (record { blocks = n.blocks; epoch = n.tree.0; active = n.tree.1; labels = n.labels; steps = n.steps; folders = n.folders }) n.lowers empty)

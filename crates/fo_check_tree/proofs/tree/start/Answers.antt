@@ -1,7 +1,8 @@
-use Rattle.std.proofs.Common.{◌≡◌, List, [], ◌∷◌, ◌++◌, Some, true, refl, sym, ap, ◌∙◌, subst, arith}
+use Rattle.std.proofs.Common.{List, [], ◌∷◌, ◌++◌, Some, true, sym, ap, ◌∙◌, subst, arith}
 use Rattle.fo_image.specs.declared.record.RootBlock.{RootBlock}
 use Rattle.fo_image.specs.declared.types.Label.{Label}
 use Rattle.fo_check_tree.specs.declared.walk.Folder.{Folder}
+use Rattle.fo_check_tree.specs.Lower.{JudgesRoot}
 use Rattle.fo_check_tree.proofs.Noting.{lowers_then, lowers_at}
 use Rattle.fo_check_tree.proofs.Starting.{IsEntryOf, begun}
 use Rattle.fo_check_tree.proofs.tree.start.Goals as goal
@@ -10,7 +11,7 @@ pub returns-clause-judged : goal.returns-clause-judged
 returns-clause-judged c = record {
   first = λ deep. let low = c.shallow-entries.ensures.deep deep in omega arith;
   second = λ deep. let low = c.shallow-records.ensures.deep deep in omega arith;
-  entries = λ no. let low = c.note_entries.ensures.entries no in omega arith;
+  entries = c.note_entries.ensures.entries;
 }
 
 pub returns-clause-begun : goal.returns-clause-begun
@@ -36,3 +37,4 @@ returns-clause-begun c arena device image k is holds u =
     (c.in_ok-push.ensures.items
     ∙ ap (λ (fs : List Folder). fs ++ record { entries = e; records = Some r; holder = record { block = s.active; label = c.root_label.result }; depth = 0; named = true } ∷ []) (c.note_entries.ensures.folders ∙ c.shallow-records.ensures.folders ∙ c.shallow-entries.ensures.folders)
     ∙ ap (λ (l : Label). old.folders.items ++ record { entries = e; records = Some r; holder = record { block = s.active; label = l }; depth = 0; named = true } ∷ []) c.root_label.ensures)
+    (subst (λ (x : RootBlock). JudgesRoot x c.note_entries.new.walk.noted) (sym is) (returns-clause-judged c))
