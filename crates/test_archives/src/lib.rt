@@ -1,4 +1,4 @@
-//! Tests of archives in an arena (`fo_vac_open`), by their public names.
+//! Tests of archives in an arena (`fo_vac_open`, `fo_vac_walk`, `fo_vac_dir`), by their public names.
 //!
 //! Bytes that are put were worked out by hand from docs/FORMATS.md.
 #![tactic(auto)]
@@ -7,3 +7,5 @@
 mod blocks;
 #[cfg(test)]
 mod opens;
+#[cfg(test)]
+mod reads;

@@ -1,0 +1,3 @@
+pub mod Names
+mod Records
+mod Finds
