@@ -1,19 +1,16 @@
 -- The one record is kept by steps in memory, and by those of the device.
-use Rattle.std.proofs.Common.{◌≡◌, ◌≢◌, ◌⊎◌, inl, inr, ⊎_elim, ℕ, ◌<◌, Bool, true, false, not, List, [], ◌∷◌, map, set, length, refl, sym, ◌∙◌, ap, subst, arith}
+use Rattle.std.proofs.Common.{◌≡◌, ⊎_elim, ℕ, ◌<◌, Bool, true, not, List, [], ◌∷◌, map, set, length, refl, sym, ◌∙◌, ap, subst, arith}
 use Rattle.std.specs.Prelude.{Result, Ok, Err, is_err}
 use Rattle.std.specs.List.{Contains}
 use Rattle.fo_disk.specs.Disk.{Block, versions_of, latest_of}
 use Rattle.fo_disk.specs.Disk.{Content as Holds, Writes as DiskWrites, Syncs as DiskSyncs}
 use Rattle.fo_image.specs.declared.types.Label.{Label}
 use Rattle.fo_crash.specs.Images.{Content, SameContent}
-use Rattle.fo_cells.specs.Known.{Known, IsWait}
-use Rattle.fo_cells.specs.Writes.{Writes, Syncs, WritesLabels}
-use Rattle.fo_cells.specs.Device.{Clearing, Mind, Fits, MayWrite, MayWriteLabels, known, wrote, after_sync}
-use Rattle.fo_cells.specs.Flags.{Flags, FlagsFit, LabelsFit, marked, after_sync_flags}
+use Rattle.fo_cells.specs.Device.{Mind, Fits, MayWrite, MayWriteLabels, known, wrote, after_sync}
 use Rattle.fo_cells.specs.Safe.{IsCurrent}
 use Rattle.fo_image.specs.declared.types.State.TheVariants.{Closed}
 use Rattle.fo_cells.proofs.Standing.{first_among}
-use Rattle.fo_cells.proofs.Calls.{known_write, known_sync, same_sync, fits_write, fits_sync}
+use Rattle.fo_cells.proofs.Calls.{known_write, known_sync, fits_write, fits_sync}
 use Rattle.fo_cells.proofs.Flags.{flags_write, flags_sync}
 use Rattle.fo_cells.proofs.Labels.{labels_write, labels_sync}
 use Rattle.fo_cells.proofs.LabelCalls.{labels_known}
@@ -102,16 +99,16 @@ pub write_all : {E : Type 0} (result : Result Unit E) (c : Kept) (f : Format) (t
 write_all result c f t unsure at bytes is_complete old new w within may names current super linked held dirty whole read h =
     let k = known_write result c.mind at bytes is_complete old new w within may in
     together (by_trees (write_safe k current super (λ leaf on j is. is)) (write_trees h.epochs.trees k names) read h.epochs)
-        (queue_still (write_stays t k linked) (write_trees h.epochs.trees k names) (λ b is. refl) h.queue)
-        (write_beside result c f unsure at bytes is_complete old new w within may.complete_is (λ b e. absurd (may.apart b e)) held dirty whole (beside h))
+    (queue_still (write_stays t k linked) (write_trees h.epochs.trees k names) (λ b is. refl) h.queue)
+    (write_beside result c f unsure at bytes is_complete old new w within may.complete_is (λ b e. absurd (may.apart b e)) held dirty whole (beside h))
 
 -- of a block of labels
 pub labels_all : {E : Type 0} (result : Result Unit E) (c : Kept) (f : Format) (t : Tree) (unsure : List Bool) (at : ℕ) (bytes : Block) (old new : Holds) → DiskWrites at bytes result old new → at < length old → MayWriteLabels c.mind at bytes → c.mind.read at bytes ≡ c.mind.memory at → c.buffering.held at ≡ true → c.flags.dirty at ≡ true → IsRead f.high_of → HoldsAll c f t unsure old → HoldsAll (kept_write at (not (is_err result)) true c) f t (set unsure at (is_err result)) new
 labels_all result c f t unsure at bytes old new w within may blank held dirty read h =
     let k = labels_known result c.mind at bytes true old new w within (h.fits.some at within) may in
     together (by_trees (label_safe k) (label_trees h.epochs.trees k) read h.epochs)
-        (queue_still (label_stays t k) (label_trees h.epochs.trees k) (λ b is. refl) h.queue)
-        (write_beside result c f unsure at bytes true old new w within (λ e. blank) may.spells held dirty (λ closed. refl) (beside h))
+    (queue_still (label_stays t k) (label_trees h.epochs.trees k) (λ b is. refl) h.queue)
+    (write_beside result c f unsure at bytes true old new w within (λ e. blank) may.spells held dirty (λ closed. refl) (beside h))
 
 -- A SYNC
 sync_beside : {E : Type 0} (result : Result Unit E) (c : Kept) (f : Format) (unsure : List Bool) (old new : Holds) → DiskSyncs unsure result old new → HoldsBeside c f unsure old → HoldsBeside (kept_sync result c) f unsure new
@@ -140,6 +137,6 @@ sync_all {E} (Ok x) c f t unsure old new y inside read h =
     let k = known_sync {E = E} (Ok x) c.mind unsure old new y h.fits refl in
     let fits = fits_sync {E = E} (Ok x) c.mind unsure old new y h.fits in
     together (by_trees (sync_safe k (λ leaf on j is. is)) (sync_trees h.epochs.trees k) read h.epochs)
-        (queue_still (sync_stays t k (λ b is. let lt = inside b is in has_version (after_sync {E = E} (Ok x) c.mind) unsure new b fits (subst (λ n. b < n) (sym y.count) lt))) (sync_trees h.epochs.trees k) (λ b is. refl) h.queue)
-        (sync_beside {E = E} (Ok x) c f unsure old new y (beside h))
+    (queue_still (sync_stays t k (λ b is. let lt = inside b is in has_version (after_sync {E = E} (Ok x) c.mind) unsure new b fits (subst (λ n. b < n) (sym y.count) lt))) (sync_trees h.epochs.trees k) (λ b is. refl) h.queue)
+    (sync_beside {E = E} (Ok x) c f unsure old new y (beside h))
 sync_all {E} (Err e) c f t unsure old new y inside read h = subst (λ k. HoldsAll c f t unsure k) (sym y) h

@@ -1,15 +1,12 @@
 -- THE INVARIANT of a block cache, in one record.
-use Rattle.std.specs.Prelude.{◌≡◌, ◌≢◌, ◌⊎◌, ◌<◌, ◌≤◌, ℕ, suc, Bool, true, false, List, [], ◌∷◌, ◌++◌, map, length, Result, is_err, not}
+use Rattle.std.specs.Prelude.{◌≡◌, ◌⊎◌, ◌<◌, ℕ, Bool, false, List, length, Result}
 use Rattle.std.specs.List.{Contains}
-use Rattle.fo_disk.specs.Disk.{versions_of}
 use Rattle.fo_disk.specs.Disk.{Content as Holds}
 use Rattle.fo_labels.specs.Region.{Region, IsDataBlock, label_of}
-use Rattle.fo_crash.specs.Images.{Content, SameContent}
-use Rattle.fo_cells.specs.Known.{Known, Top, IsWait}
+use Rattle.fo_crash.specs.Images.{Content}
+use Rattle.fo_cells.specs.Known.{Top}
 use Rattle.fo_cells.specs.Device.{Clearing, Mind, Fits, known, wrote, after_sync}
 use Rattle.fo_cells.specs.Flags.{Flags, FlagsFit, LabelsFit, marked, after_sync_flags}
-use Rattle.fo_cells.specs.Safe.{IsSafe, IsSet}
-use Rattle.fo_cells.specs.Laws.{Safe}
 use Rattle.fo_cells_out.specs.Removals.{Pending}
 use Rattle.fo_cells_out.specs.Parents.{Tree}
 use Rattle.fo_cells_held.specs.Held.{Buffering, HasBuffers, ChangesMemory, Times, LabelsAreTimed, ChangesLabels, OnlyLiveDirty, Dirties, timed, after_sync_times}
