@@ -1,5 +1,5 @@
 -- The one record is kept by steps in memory, and by those of the device.
-use Rattle.std.proofs.Common.{◌≡◌, ⊎_elim, ℕ, ◌<◌, Bool, true, not, List, [], ◌∷◌, map, set, length, refl, sym, ◌∙◌, ap, subst, arith}
+use Rattle.std.proofs.Common.{◌≡◌, ⊎_elim, ℕ, ◌<◌, Bool, true, false, not, List, [], ◌∷◌, map, set, length, refl, sym, ◌∙◌, ap, subst, arith}
 use Rattle.std.specs.Prelude.{Result, Ok, Err, is_err}
 use Rattle.std.specs.List.{Contains}
 use Rattle.fo_disk.specs.Disk.{Block, versions_of, latest_of}
@@ -62,7 +62,10 @@ beside_step {c} {d} {f} {x} {unsure} {holds} s h = record {
   };
   buffers = buffers_change s.changes h.buffers;
   times = timed_change s.labels s.changes.wrote h.times;
-  dirty = subst (λ n. OnlyLiveDirty d.mind d.flags f.is_data n) (sym s.high) (dirty_change s.dirties h.dirty);
+  dirty = ⊎_elim
+      (λ same. subst (λ n. OnlyLiveDirty d.mind d.flags f.is_data n) (sym same) (dirty_change s.dirties h.dirty))
+      (λ clean. record { dirty = λ b is e. let y : false ≡ true = sym (clean b) ∙ e in absurd (cc) })
+      s.high;
   labels = s.region;
   room = room_stays s.spends s.uses h.room;
 }
@@ -82,7 +85,7 @@ together e q h = record {
 }
 
 -- A WRITE, beside the trees
-write_beside : {E : Type 0} (result : Result Unit E) (c : Kept) (f : Format) (unsure : List Bool) (at : ℕ) (bytes : Block) (is_complete : Bool) (old new : Holds) → DiskWrites at bytes result old new → at < length old → (is_complete ≡ true → c.mind.read at bytes ≡ c.mind.memory at) → ((b : ℕ) → c.mind.label_block b ≡ at → c.mind.label_in b bytes ≡ c.mind.label b) → c.buffering.held at ≡ true → c.flags.dirty at ≡ true → ((c.mind.label at).state ≡ Closed → is_complete ≡ true) → HoldsBeside c f unsure old → HoldsBeside (kept_write at (not (is_err result)) is_complete c) f (set unsure at (is_err result)) new
+pub write_beside : {E : Type 0} (result : Result Unit E) (c : Kept) (f : Format) (unsure : List Bool) (at : ℕ) (bytes : Block) (is_complete : Bool) (old new : Holds) → DiskWrites at bytes result old new → at < length old → (is_complete ≡ true → c.mind.read at bytes ≡ c.mind.memory at) → ((b : ℕ) → c.mind.label_block b ≡ at → c.mind.label_in b bytes ≡ c.mind.label b) → c.buffering.held at ≡ true → c.flags.dirty at ≡ true → ((c.mind.label at).state ≡ Closed → is_complete ≡ true) → HoldsBeside c f unsure old → HoldsBeside (kept_write at (not (is_err result)) is_complete c) f (set unsure at (is_err result)) new
 write_beside result c f unsure at bytes is_complete old new w within complete spells held dirty whole h = record {
   flags = flags_write result c.mind c.flags unsure at bytes is_complete old new w within complete h.flags;
   label_flags = labels_write result c.mind c.flags at bytes is_complete old new w within (λ e. spells) h.label_flags;
@@ -111,7 +114,7 @@ labels_all result c f t unsure at bytes old new w within may blank held dirty re
     (write_beside result c f unsure at bytes true old new w within (λ e. blank) may.spells held dirty (λ closed. refl) (beside h))
 
 -- A SYNC
-sync_beside : {E : Type 0} (result : Result Unit E) (c : Kept) (f : Format) (unsure : List Bool) (old new : Holds) → DiskSyncs unsure result old new → HoldsBeside c f unsure old → HoldsBeside (kept_sync result c) f unsure new
+pub sync_beside : {E : Type 0} (result : Result Unit E) (c : Kept) (f : Format) (unsure : List Bool) (old new : Holds) → DiskSyncs unsure result old new → HoldsBeside c f unsure old → HoldsBeside (kept_sync result c) f unsure new
 sync_beside {E} (Ok x) c f unsure old new y h = record {
   flags = flags_sync {E = E} (Ok x) c.mind c.flags unsure old new y h.flags;
   label_flags = labels_sync {E = E} (Ok x) c.mind c.flags unsure old new y h.flags.some h.label_flags;

@@ -79,7 +79,8 @@ pub record StepsBeside (c d : Kept) (f : Format) (x : Used) (holds : Holds) : Ty
   pub region : (b : ℕ) → IsDataBlock d.region b → d.mind.label b ≡ label_of d.region b
   pub spends : Spends x c.promises d.promises c.space d.space
   pub uses : UsesLabels x.blocks c.mind.low d.mind.low c.region d.region
-  pub high : d.high ≡ c.high
+  -- an epoch begins only where nothing is dirty
+  pub high : (d.high ≡ c.high) ⊎ ((b : ℕ) → d.flags.dirty b ≡ false)
 
 -- what is beside the trees, the super blocks and the removals
 pub record HoldsBeside (c : Kept) (f : Format) (unsure : List Bool) (holds : Holds) : Type 0 where

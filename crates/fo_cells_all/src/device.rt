@@ -8,7 +8,7 @@ ghost use Rattle.fo_cells.specs.Device.{MayWrite, MayWriteLabels, known, wrote};
 ghost use Rattle.fo_cells.specs.Safe.{IsCurrent};
 ghost use Rattle.fo_cells_out.specs.Parents.{Tree};
 ghost use Rattle.fo_cells_epochs.specs.Epochs.{IsRead, NamesSet};
-ghost use Rattle.fo_cells_all.specs.All.{Kept, Format, HoldsAll, kept_write, kept_sync};
+ghost use Rattle.fo_cells_all.specs.All.{Kept, Format, HoldsAll, HoldsBeside, kept_write, kept_sync};
 
 use fo_disk::{Disk, Failed};
 
@@ -30,6 +30,7 @@ pub fn write_kept<D: Disk, T: Divided>(
     requires length { length bytes.now ≡ 8192 }
     ensures block_kept { (c : Kept) (f : Format) (is_complete : Bool) → at < length (D.holds disk.old) → MayWrite c.mind (D.holds disk.old) at bytes.now is_complete → NamesSet at (c.mind.read at bytes.now) (known c.mind (D.holds disk.old)) (known (wrote at (not (is_err result)) is_complete c.mind) (D.holds disk.new)) → IsCurrent (known c.mind (D.holds disk.old)) c.high at → (at ≡ 1 → SameContent (c.mind.read at bytes.now) (c.mind.memory 1)) → ((T.tree _tree.now).Made at → ⊥) → c.buffering.held at ≡ true → c.flags.dirty at ≡ true → ((c.mind.label at).state ≡ Closed → is_complete ≡ true) → IsRead f.high_of → HoldsAll c f (T.tree _tree.now) (D.unsure disk.old) (D.holds disk.old) → HoldsAll (kept_write at (not (is_err result)) is_complete c) f (T.tree _tree.now) (D.unsure disk.new) (D.holds disk.new) }
     ensures labels_kept { (c : Kept) (f : Format) → at < length (D.holds disk.old) → MayWriteLabels c.mind at bytes.now → c.mind.read at bytes.now ≡ c.mind.memory at → c.buffering.held at ≡ true → c.flags.dirty at ≡ true → IsRead f.high_of → HoldsAll c f (T.tree _tree.now) (D.unsure disk.old) (D.holds disk.old) → HoldsAll (kept_write at (not (is_err result)) true c) f (T.tree _tree.now) (D.unsure disk.new) (D.holds disk.new) }
+    ensures beside { (c : Kept) (f : Format) (is_complete : Bool) → at < length (D.holds disk.old) → (is_complete ≡ true → c.mind.read at bytes.now ≡ c.mind.memory at) → ((b : ℕ) → c.mind.label_block b ≡ at → c.mind.label_in b bytes.now ≡ c.mind.label b) → c.buffering.held at ≡ true → c.flags.dirty at ≡ true → ((c.mind.label at).state ≡ Closed → is_complete ≡ true) → HoldsBeside c f (D.unsure disk.old) (D.holds disk.old) → HoldsBeside (kept_write at (not (is_err result)) is_complete c) f (D.unsure disk.new) (D.holds disk.new) }
     ensures holds { Writes at bytes.now result (D.holds disk.old) (D.holds disk.new) }
     ensures moments { Passes (D.holds disk.old) (D.holds disk.new) (D.moments disk.old) (D.moments disk.new) }
     ensures size { D.size disk.new ≡ D.size disk.old }
@@ -41,6 +42,7 @@ pub fn write_kept<D: Disk, T: Divided>(
 /// Settles what was written. It fails only where the device fails, and then nothing counts as settled.
 pub fn settle_kept<D: Disk, T: Divided>(disk: &mut D, _tree: &T) -> Result<(), Failed>
     ensures kept { (c : Kept) (f : Format) → ((b : ℕ) → (T.tree _tree.now).Made b → b < length (D.holds disk.old)) → IsRead f.high_of → HoldsAll c f (T.tree _tree.now) (D.unsure disk.old) (D.holds disk.old) → HoldsAll (kept_sync result c) f (T.tree _tree.now) (D.unsure disk.new) (D.holds disk.new) }
+    ensures beside { (c : Kept) (f : Format) → HoldsBeside c f (D.unsure disk.old) (D.holds disk.old) → HoldsBeside (kept_sync result c) f (D.unsure disk.new) (D.holds disk.new) }
     ensures holds { Syncs (D.unsure disk.old) result (D.holds disk.old) (D.holds disk.new) }
     ensures moments { Passes (D.holds disk.old) (D.holds disk.new) (D.moments disk.old) (D.moments disk.new) }
     ensures size { D.size disk.new ≡ D.size disk.old }

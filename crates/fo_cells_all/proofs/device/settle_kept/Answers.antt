@@ -1,7 +1,10 @@
 use Rattle.std.proofs.Common.{List, Bool, sym, subst}
-use Rattle.fo_cells_all.specs.All.{HoldsAll, kept_sync}
-use Rattle.fo_cells_all.proofs.All.{sync_all}
+use Rattle.fo_cells_all.specs.All.{HoldsAll, HoldsBeside, kept_sync}
+use Rattle.fo_cells_all.proofs.All.{sync_all, sync_beside}
 use Rattle.fo_cells_all.proofs.device.settle_kept.Goals as goal
 
 pub returns-clause-kept : goal.returns-clause-kept
 returns-clause-kept g c = λ k f inside read h. subst (λ (u : List Bool). HoldsAll (kept_sync c.sync.result k) f (g.T.Divided.tree c.args._tree.now) u (g.D.Disk.holds c.sync.new.self)) (sym c.sync.ensures.unsure) (sync_all c.sync.result k f (g.T.Divided.tree c.args._tree.now) (g.D.Disk.unsure c.args.disk.now) (g.D.Disk.holds c.args.disk.now) (g.D.Disk.holds c.sync.new.self) c.sync.ensures.holds inside read h)
+
+pub returns-clause-beside : goal.returns-clause-beside
+returns-clause-beside g c = λ k f h. subst (λ (u : List Bool). HoldsBeside (kept_sync c.sync.result k) f u (g.D.Disk.holds c.sync.new.self)) (sym c.sync.ensures.unsure) (sync_beside c.sync.result k f (g.D.Disk.unsure c.args.disk.now) (g.D.Disk.holds c.args.disk.now) (g.D.Disk.holds c.sync.new.self) c.sync.ensures.holds h)

@@ -1,7 +1,7 @@
 use Rattle.std.proofs.Common.{List, Bool, true, sym, subst}
 use Rattle.std.specs.Prelude.{not, is_err}
-use Rattle.fo_cells_all.specs.All.{HoldsAll, kept_write}
-use Rattle.fo_cells_all.proofs.All.{write_all, labels_all}
+use Rattle.fo_cells_all.specs.All.{HoldsAll, HoldsBeside, kept_write}
+use Rattle.fo_cells_all.proofs.All.{write_all, labels_all, write_beside}
 use Rattle.fo_cells_all.proofs.device.write_kept.Goals as goal
 
 pub returns-clause-block_kept : goal.returns-clause-block_kept
@@ -9,3 +9,6 @@ returns-clause-block_kept g c = λ k f is_complete within may names current supe
 
 pub returns-clause-labels_kept : goal.returns-clause-labels_kept
 returns-clause-labels_kept g c = λ k f within may blank held dirty read h. subst (λ (u : List Bool). HoldsAll (kept_write c.args.at (not (is_err c.write.result)) true k) f (g.T.Divided.tree c.args._tree.now) u (g.D.Disk.holds c.write.new.self)) (sym c.write.ensures.unsure) (labels_all c.write.result k f (g.T.Divided.tree c.args._tree.now) (g.D.Disk.unsure c.args.disk.now) c.args.at c.args.bytes.now (g.D.Disk.holds c.args.disk.now) (g.D.Disk.holds c.write.new.self) c.write.ensures.holds within may blank held dirty read h)
+
+pub returns-clause-beside : goal.returns-clause-beside
+returns-clause-beside g c = λ k f is_complete within complete spells held dirty whole h. subst (λ (u : List Bool). HoldsBeside (kept_write c.args.at (not (is_err c.write.result)) is_complete k) f u (g.D.Disk.holds c.write.new.self)) (sym c.write.ensures.unsure) (write_beside c.write.result k f (g.D.Disk.unsure c.args.disk.now) c.args.at c.args.bytes.now is_complete (g.D.Disk.holds c.args.disk.now) (g.D.Disk.holds c.write.new.self) c.write.ensures.holds within complete spells held dirty whole h)
