@@ -1,2 +1,3 @@
 pub mod Leaf
 pub mod Own
+pub mod Top

@@ -1,5 +1,5 @@
 //! A name and its entry are put and taken out, so that each name has its entry in use in every image.
-ghost use Rattle.std.specs.Prelude.{◌≡◌, ◌≢◌, ◌⊎◌, ◌+◌, ◌%◌, ◌<◌, ◌≤◌, ℕ, [], ◌∷◌, length, true};
+ghost use Rattle.std.specs.Prelude.{◌≡◌, ◌≢◌, ◌⊎◌, ◌+◌, ◌%◌, ◌<◌, ◌≤◌, ◌↔◌, ℕ, [], ◌∷◌, length, true, false, IsTrue};
 ghost use Rattle.fo_image.specs.declared.types.Kind.TheVariants.{Data, Dir};
 ghost use Rattle.fo_image.specs.declared.types.Pointer.TheVariants.{Nil};
 ghost use Rattle.fo_crash.specs.declared.place.Place.{Place};
@@ -9,7 +9,7 @@ ghost use Rattle.fo_crash.specs.Steps.{cleared};
 ghost use Rattle.fo_crash.specs.Names.{NamesFit, InAll, IsInUse};
 ghost use Rattle.fo_ports.specs.Blocks.{slot_count, SlotFits, put_at};
 ghost use Rattle.fo_ports.specs.State.{IsHeld};
-ghost use Rattle.fo_ports_clients.specs.Leaf.{Lists, StandsBelow};
+ghost use Rattle.fo_ports_clients.specs.Leaf.{Lists, StandsBelow, MayAddName, AddsName};
 
 use fo_crash::Slot;
 use fo_image::Entry;
@@ -60,6 +60,29 @@ pub fn add_name<B: Blocks>(
     on.put_slot(entries, i, Slot::Entry(entry));
     on.wait_for(leaf, entries);
     on.put_bytes(leaf, i, &[generation]);
+}
+
+/// Adds the name with its entry where the leaf of names is known to have hung from block 1 when all was last settled; else says false,
+/// and changes nothing.
+pub fn add_name_if_sealed<B: Blocks>(
+    on: &mut B,
+    leaf: u32,
+    entries: u32,
+    i: u32,
+    entry: Entry,
+    generation: u8,
+) -> bool
+    requires may { MayAddName (B.state on.old) leaf entries i entry generation }
+    ensures sealed { IsTrue result ↔ (B.state on.old).sealed leaf }
+    ensures adds { result ≡ true → AddsName leaf entries i entry generation (B.state on.old) (B.state on.new) }
+    ensures nothing { result ≡ false → on.new ≡ on.old }
+    ensures keeps { B.keeps on.old on.new }
+{
+    if !on.sealed(leaf) {
+        return false;
+    }
+    add_name(on, leaf, entries, i, entry, generation);
+    true
 }
 
 /// Takes name `i` out. Its entry is cleared once the leaf without the name is settled. The leaf of entries hangs from block 1, as it
