@@ -1,15 +1,23 @@
 -- What it means to raise a new top over a source.
-use Rattle.std.specs.Prelude.{◌≡◌, ◌≢◌, ◌⊎◌, ◌+◌, ℕ}
+use Rattle.std.specs.Prelude.{◌≡◌, ◌≢◌, ◌⊎◌, ◌+◌, ◌-◌, ◌^◌, ℕ}
+use Rattle.fo_image.specs.declared.types.Label.{Label}
+use Rattle.fo_image.specs.declared.types.State.TheVariants.{Live}
 use Rattle.fo_image.specs.declared.types.Pointer.TheVariants.{Nil, Local}
 use Rattle.fo_crash.specs.declared.slot.Slot.{Slot}
 use Rattle.fo_crash.specs.declared.slot.Slot.TheVariants.{Pointer as To, Entry as Head, Prev}
+use Rattle.fo_crash.specs.declared.place.Place.{Place}
 use Rattle.fo_crash.specs.Images.{Image, target, to_block}
+use Rattle.fo_crash.specs.Places.{place_below}
 
 -- the entry of the source with one level more, of this size, with this top
 abbrev pub raised : Slot → ℕ → ℕ → Slot
 raised (To p) size to = To p
 raised (Head e) size to = Head (record e { depth = e.depth + 1; size = size; top = Local to })
 raised (Prev epoch at) size to = Prev epoch at
+
+-- the label of the block of this epoch that the entry in slot i leads to
+abbrev pub top_label : Place → ℕ → Slot → ℕ → Label
+top_label p i s epoch = record { state = Live; kind = (place_below p i s).kind; tag = (place_below p i s).tag; epoch = epoch; closing = 2 ^ 32 - 1 }
 
 -- In memory the entry leads to the new top, whose first slot alone leads on, to what hung from the entry; all else stays.
 pub record RaisesTop (at i below size top : ℕ) (old new : Image) : Type 0 where

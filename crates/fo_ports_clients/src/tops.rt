@@ -7,7 +7,7 @@ ghost use Rattle.fo_image.specs.Format.{IsDepth};
 ghost use Rattle.fo_crash.specs.Images.{depth_of, target, to_block, Reaches};
 ghost use Rattle.fo_crash.specs.Places.{place_below};
 ghost use Rattle.fo_crash.specs.Steps.{IsSure};
-ghost use Rattle.fo_ports_clients.specs.Top.{raised, RaisesTop, PutsOne};
+ghost use Rattle.fo_ports_clients.specs.Top.{raised, top_label, RaisesTop, PutsOne};
 
 use fo_crash::{Place, Slot};
 use fo_image::{Entry, Pointer};
@@ -53,7 +53,7 @@ pub fn raise_top<B: Blocks>(on: &mut B, at: u32, place: Place, i: u32, below: u3
     ensures images { PutsOne at i (raised (((B.state on.old).now at).slot i) size result) result (B.state on.old).may_leave (B.state on.new).may_leave }
     ensures sure { IsSure (B.state on.new).now result (B.state on.new).may_leave }
 
-    ensures label { (((B.state on.old).label result).state ≢ Live) × (((B.state on.new).label result).state ≡ Live) × (((B.state on.new).label result).epoch ≡ (B.state on.new).high) }
+    ensures label { (((B.state on.old).label result).state ≢ Live) × (B.state on.new).pinned result × ((B.state on.new).label result ≡ top_label place i (raised (((B.state on.old).now at).slot i) size result) (B.state on.old).high) }
     ensures others { (b : ℕ) → b ≢ result → ((B.state on.new).label b ≡ (B.state on.old).label b) × ((B.state on.old).pinned b → (B.state on.new).pinned b) }
     ensures place { (B.state on.old).tells → (B.state on.new).stands result (place_below place i (raised (((B.state on.old).now at).slot i) size result)) }
     ensures instead { (y x : ℕ) → (B.state on.new).instead y x → (B.state on.old).instead y x }

@@ -1,7 +1,8 @@
-use Rattle.std.proofs.Common.{◌≡◌, ◌≢◌, ◌<◌, sym, ◌∙◌, ap, subst, arith}
+use Rattle.std.proofs.Common.{◌≡◌, ◌≢◌, ◌-◌, ◌^◌, ◌<◌, ℕ, sym, ◌∙◌, ap, subst, arith}
 use Rattle.fo_image.specs.declared.types.Kind.{Kind}
 use Rattle.fo_image.specs.declared.types.Kind.TheVariants.{Dir}
 use Rattle.fo_image.specs.declared.types.Label.{Label}
+use Rattle.fo_image.specs.declared.types.State.TheVariants.{Live}
 use Rattle.fo_crash.specs.declared.slot.Slot.{Slot}
 use Rattle.fo_crash.specs.declared.place.Place.{Place}
 use Rattle.fo_crash.specs.Images.{note, target}
@@ -15,6 +16,9 @@ use Rattle.fo_ports_clients.proofs.Raise.{IsOver, is_over, raised_note, raised_t
 use Rattle.fo_ports_clients.proofs.Raising.{Tops, may_hang, may_raise, top_stands, at_stands, none_more}
 use Rattle.fo_ports_clients.proofs.Tree.{place_note}
 use Rattle.fo_ports_clients.proofs.tops.raise_top.Goals as goal
+
+abbrev label_of : Place → ℕ → Label
+label_of q epoch = record { state = Live; kind = q.kind; tag = q.tag; epoch = epoch; closing = 2 ^ 32 - 1 }
 
 pub put_slot-requires-clause-may : goal.put_slot-requires-clause-may
 put_slot-requires-clause-may g c = λ told.
@@ -164,3 +168,19 @@ returns-clause-instead g c =
     let kind = ap (λ (l : Label). l.kind) (c.put_slot.ensures.frame.stays.labels at (λ n. n) ∙ gives.stays.labels at ne) ∙ c.requires.entries in
     none_more gives c.put_slot.ensures.frame c.put_slot.ensures.hangs c.put_slot-2.ensures.frame c.put_slot-2.ensures.hangs (ap target led_is ∙ raised_target old_slot c.args.size top entry)
     (λ inner. let none : 0 < 0 = subst (λ (x : Kind). IsInner x) kind inner in omega (arith, none))
+
+pub returns-clause-label : goal.returns-clause-label
+returns-clause-label g c =
+    let on = c.args.on.now in
+    let s = g.B.Blocks.state on in
+    let size = c.args.size in
+    let p = c.args.place in
+    let i = c.args.i in
+    let top = c.new_block-top.result in
+    let old_slot = (s.now c.args.at).slot i in
+    let gives = c.new_block-top.ensures.gives in
+    let raised_is : c.raised.result ≡ raised old_slot size c.args.below = c.raised.ensures ∙ ap (λ (x : Slot). raised x size c.args.below) c.slot-slot.ensures in
+    let over_is : c.below-wanted.result ≡ place_below p i (raised old_slot size top) = c.below-wanted.ensures ∙ place_note p i c.raised.result (raised old_slot size top) (ap note raised_is ∙ raised_note old_slot size c.args.below top) in
+    let label = c.put_slot-2.ensures.frame.stays.labels top (λ n. n) ∙ c.put_slot.ensures.frame.stays.labels top (λ n. n) ∙ gives.label in
+    let pinned = (c.put_slot-2.ensures.frame.stays.marks top (λ n. n)).0 ((c.put_slot.ensures.frame.stays.marks top (λ n. n)).0 gives.is.1) in
+    (gives.was.0, pinned, label ∙ ap (λ (q : Place). label_of q s.high) over_is)
