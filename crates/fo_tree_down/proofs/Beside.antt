@@ -24,7 +24,7 @@ use Rattle.fo_tree_down.proofs.Leading.{leads_to}
 
 -- ---- which blocks stand on a way
 
-index_cases : (n k m j : ℕ) → IsWayIndex n k m j ⊎ (IsWayIndex n k m j → ⊥)
+pub index_cases : (n k m j : ℕ) → IsWayIndex n k m j ⊎ (IsWayIndex n k m j → ⊥)
 index_cases zero k m j = ⊎_elim (λ e. ⊎_elim (λ f. inl (e, f)) (λ ne. inr (λ is. ne is.1)) (cases_eq j k)) (λ ne. inr (λ is. ne is.0)) (cases_eq m 0)
 index_cases (suc n) k m j = ⊎_elim
     (λ above. inl (inr above))
@@ -34,15 +34,15 @@ index_cases (suc n) k m j = ⊎_elim
     (cases_eq m (suc n)))
     (index_cases n (k / 409) m j)
 
-index_last : (n k : ℕ) → IsWayIndex n k n k
+pub index_last : (n k : ℕ) → IsWayIndex n k n k
 index_last zero k = (refl, refl)
 index_last (suc n) k = inl (refl, refl)
 
-index_top : (n k : ℕ) → k < 409 ^ n → IsWayIndex n k 0 0
+pub index_top : (n k : ℕ) → k < 409 ^ n → IsWayIndex n k 0 0
 index_top zero k few = let is : 0 ≡ k = omega (arith, few) in (refl, is)
 index_top (suc n) k few = let more : 409 ^ suc n ≡ 409 * 409 ^ n = pow-succ' 409 n in inr (index_top n (k / 409) (omega (arith, few, more)))
 
-index_within : (n k m j : ℕ) → IsWayIndex n k m j → m ≤ n
+pub index_within : (n k m j : ℕ) → IsWayIndex n k m j → m ≤ n
 index_within zero k m j is = let e = is.0 in omega (arith, e)
 index_within (suc n) k m j is = ⊎_elim (λ here. let e = here.0 in omega (arith, e)) (λ above. let le = index_within n (k / 409) m j above in omega (arith, le)) is
 
@@ -54,7 +54,7 @@ pub record WayBlock (s : State) (t : Tree) (n k b : ℕ) : Type 0 where
   pub few : index < 409 ^ down
   pub is : block_at s t down index ≡ Local b
 
-way_block : (s : State) (t : Tree) (n k b : ℕ) → k < 409 ^ n → OnWay s t n k b → WayBlock s t n k b
+pub way_block : (s : State) (t : Tree) (n k b : ℕ) → k < 409 ^ n → OnWay s t n k b → WayBlock s t n k b
 way_block s t zero k b few on = record { down = zero; index = k; is_way = (refl, refl); few = few; is = on }
 way_block s t (suc n) k b few on = ⊎_elim
     (λ above.
@@ -67,7 +67,7 @@ way_block s t (suc n) k b few on = ⊎_elim
 -- ---- what a block of the new way has beside it
 
 -- A block of the way in the new tree: beside the way it leads where the one did that was there.
-record WayStep (s u : State) (t : Tree) (kept : List Kept) (top n k m j : ℕ) : Type 0 where
+pub record WayStep (s u : State) (t : Tree) (kept : List Kept) (top n k m j : ℕ) : Type 0 where
   pub at : ℕ
   pub is : block_at u (with_top t top) m j ≡ Local at
   pub beside : m < t.depth → (i : ℕ) → i < 409 → (IsWayIndex n k (suc m) (409 * j + i) → ⊥) → target ((u.now at).slot i) ≡ below (seen s kept) (kind_down t m) (block_at (seen s kept) t m j) i
@@ -100,7 +100,7 @@ module _ (s u : State) (t : Tree) (kept : List Kept) (top : ℕ) where
         beside = λ lt i few not. all lt i few;
       }))
 
-  way_step : (n k at m j : ℕ) → Leads s u t kept top n k at → (n < t.depth → (i : ℕ) → i < 409 → target ((u.now at).slot i) ≡ below (seen s kept) (kind_down t n) (block_at (seen s kept) t n k) i) → IsWayIndex n k m j → WayStep s u t kept top n k m j
+  pub way_step : (n k at m j : ℕ) → Leads s u t kept top n k at → (n < t.depth → (i : ℕ) → i < 409 → target ((u.now at).slot i) ≡ below (seen s kept) (kind_down t n) (block_at (seen s kept) t n k) i) → IsWayIndex n k m j → WayStep s u t kept top n k m j
   way_step zero k at m j leads all is = end_step zero k at m j leads all is.0 is.1
   way_step (suc n) k at m j leads all is = ⊎_elim (λ here. end_step (suc n) k at m j leads all here.0 here.1) (λ above. above_step n k at m j leads above) is
 

@@ -20,7 +20,7 @@ pub level_same : (dir : Bool) (a b : ℕ) → kind_at dir a ≡ kind_at dir b �
 level_same true a b e = cc
 level_same false a b e = cc
 
-local_cases : (p : Pointer) (b : ℕ) → (p ≡ Local b) ⊎ (p ≡ Local b → ⊥)
+pub local_cases : (p : Pointer) (b : ℕ) → (p ≡ Local b) ⊎ (p ≡ Local b → ⊥)
 local_cases Nil b = inr (λ e. cc)
 local_cases (Local x) b = ⊎_elim (λ e. inl (ap (λ y. Local y) e)) (λ ne. inr (λ e. ne (let f : x ≡ b = cc in f))) (cases_eq x b)
 local_cases (Held score) b = inr (λ e. cc)

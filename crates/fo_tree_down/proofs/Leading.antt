@@ -1,5 +1,5 @@
 -- The way of the new top leads to the block that came.
-use Rattle.std.proofs.Common.{◌≡◌, ◌≢◌, ◌-◌, ◌/◌, ◌%◌, ◌<◌, ◌≤◌, ℕ, zero, suc, List, inl, inr, ⊎_elim, sym, ◌∙◌, ap, arith}
+use Rattle.std.proofs.Common.{◌≡◌, ◌≢◌, ◌⊎◌, ◌-◌, ◌/◌, ◌%◌, ◌<◌, ◌≤◌, ℕ, zero, suc, List, length, inl, inr, ⊎_elim, sym, ◌∙◌, ap, arith}
 use Rattle.fo_image.specs.declared.types.Label.{Label}
 use Rattle.fo_image.specs.declared.types.Pointer.{Pointer}
 use Rattle.fo_image.specs.declared.types.Pointer.TheVariants.{Local}
@@ -7,37 +7,65 @@ use Rattle.fo_crash.specs.declared.slot.Slot.{Slot}
 use Rattle.fo_crash.specs.Images.{target}
 use Rattle.fo_ports.specs.State.{State, KeepsAll}
 use Rattle.fo_tree_look.specs.declared.ways.Kept.{Kept}
+use Rattle.fo_tree_look.specs.Source.{IsPrepared}
 use Rattle.fo_tree_read.specs.declared.tree.Tree.{Tree}
 use Rattle.fo_tree_read.specs.Tree.{kind_down, below, block_at}
 use Rattle.fo_tree_own.specs.Step.{IsOwn, Links}
-use Rattle.fo_tree_down.specs.Way.{Comes, IsBlockOf, LeadsBeside, Leads, with_top, IsTopOf}
+use Rattle.fo_tree_down.specs.Way.{Comes, Replaces, LeadsBeside, Leads, with_top, IsTopOf}
 use Rattle.fo_tree_down.proofs.Join.{level_same}
 
--- a block that is owned is one of its level
-pub block_of : {s : State} {t : Tree} (n k at : ℕ) → IsOwn s t (t.depth - n) k at → IsBlockOf s t n at
-block_of n k at own = (own.live, own.has_kind)
+-- a block that is owned is prepared
+pub block_of : {s : State} {t : Tree} (n k at : ℕ) → IsOwn s t (t.depth - n) k at → IsPrepared s (kind_down t n) t.tag at
+block_of n k at own = record {
+  is_pinned = own.is_pinned;
+  live = own.live;
+  has_kind = own.has_kind;
+  tagged = own.tagged;
+  up_to = let current = own.current in omega (arith, current);
+  long = own.long;
+}
 
-last_of : (s u : State) (t : Tree) (kept : List Kept) (top n k at : ℕ) → Leads s u t kept top n k at → IsBlockOf u t n at
+pub last_of : (s u : State) (t : Tree) (kept : List Kept) (top n k at : ℕ) → Leads s u t kept top n k at → Replaces s u t n k at
 last_of s u t kept top zero k at leads = leads.1
 last_of s u t kept top (suc n) k at leads = leads.1
 
-module _ (s m u : State) (t : Tree) (kept : List Kept) (top n above i result level k : ℕ) (within : n ≤ t.depth) (own : IsBlockOf m t n above) (was : Pointer) (step : Links t level k above i was result m u) where
-  ne_result : (n' at : ℕ) → IsBlockOf m t n' at → at ≢ result
-  ne_result n' at is e = step.made.0 (ap (λ y. (m.label y).state) (sym e) ∙ is.0)
+module _ (s m u : State) (t : Tree) (kept : List Kept) (top n above i result level k : ℕ) (within : n ≤ t.depth) (own : IsPrepared m (kind_down t n) t.tag above) (was : Pointer) (more : KeepsAll m u) (step : Links t level k above i was result m u) where
+  ne_result : (n' at : ℕ) → IsPrepared m (kind_down t n') t.tag at → at ≢ result
+  ne_result n' at is e = step.made.0 (ap (λ y. (m.label y).state) (sym e) ∙ is.live)
 
-  block_on : (n' at : ℕ) → IsBlockOf m t n' at → IsBlockOf u t n' at
-  block_on n' at is = let same = step.labels at (ne_result n' at is) in (ap (λ (l : Label). l.state) same ∙ is.0, ap (λ (l : Label). l.kind) same ∙ is.1)
+  block_on : (n' at : ℕ) → IsPrepared m (kind_down t n') t.tag at → IsPrepared u (kind_down t n') t.tag at
+  block_on n' at is =
+      let ne = ne_result n' at is in
+      let same = step.labels at ne in
+      let epoch : (u.label at).epoch ≡ (m.label at).epoch = ap (λ (l : Label). l.epoch) same in
+      let high = more.same_high in
+      let up = is.up_to in
+      record {
+        is_pinned = (step.changes.others at (λ made. made.0 is.live)).marks.0 is.is_pinned;
+        live = ap (λ (l : Label). l.state) same ∙ is.live;
+        has_kind = ap (λ (l : Label). l.kind) same ∙ is.has_kind;
+        tagged = ap (λ (l : Label). l.tag) same ∙ is.tagged;
+        up_to = omega (arith, epoch, high, up);
+        long = ap (λ (xs : List ℕ). length xs) (step.bytes at ne) ∙ is.long;
+      }
 
-  ne_above : (n' at : ℕ) → n' < n → IsBlockOf m t n' at → at ≢ above
+  replaces_on : (n' j at : ℕ) → Replaces s m t n' j at → Replaces s u t n' j at
+  replaces_on n' j at x = record {
+    is = block_on n' at x.is;
+    from = ⊎_elim (λ made. inl (made.0, ap (λ (l : Label). l.state) (step.labels at (ne_result n' at x.is)) ∙ made.1)) (λ e. inr e) x.from;
+    kept = x.kept;
+  }
+
+  ne_above : (n' at : ℕ) → n' < n → IsPrepared m (kind_down t n') t.tag at → at ≢ above
   ne_above n' at lt is e =
-      let same : t.depth - n' ≡ t.depth - n = level_same t.dir (t.depth - n') (t.depth - n) (sym is.1 ∙ ap (λ y. (m.label y).kind) e ∙ own.1) in
+      let same : t.depth - n' ≡ t.depth - n = level_same t.dir (t.depth - n') (t.depth - n) (sym is.has_kind ∙ ap (λ y. (m.label y).kind) e ∙ own.has_kind) in
       omega (arith, same, lt, within)
 
   pub leads_on : (n' j at : ℕ) → n' ≤ n → Leads s m t kept top n' j at → Leads s u t kept top n' j at
-  leads_on zero j at le leads = (leads.0, block_on zero at leads.1)
+  leads_on zero j at le leads = (leads.0, replaces_on zero j at leads.1)
   leads_on (suc n') j at le leads =
       let parent = leads.0.0 in
-      let is = last_of s m t kept top n' (j / 409) parent leads.0.1 in
+      let is = (last_of s m t kept top n' (j / 409) parent leads.0.1).is in
       let same : (x : ℕ) → (u.now parent).slot x ≡ (m.now parent).slot x = λ x. step.slots parent x (ne_result n' parent is) (inl (ne_above n' parent (omega (arith, le)) is)) in (
         (
           parent,
@@ -45,7 +73,7 @@ module _ (s m u : State) (t : Tree) (kept : List Kept) (top n above i result lev
           ap (λ (q : Slot). target q) (same (j % 409)) ∙ leads.0.2,
           λ x few ne. ap (λ (q : Slot). target q) (same x) ∙ leads.0.3 x few ne,
         ),
-        block_on (suc n') at leads.1,
+        replaces_on (suc n') j at leads.1,
       )
 
   -- beside the slot that was put

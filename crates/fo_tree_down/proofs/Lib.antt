@@ -3,3 +3,4 @@ pub mod Next
 pub mod Topping
 pub mod Leading
 pub mod Beside
+pub mod Stilling

@@ -1,5 +1,5 @@
 -- What the block below a slot of the way is, once those above are current.
-use Rattle.std.proofs.Common.{◌≡◌, ◌+◌, ◌-◌, ◌*◌, ◌/◌, ◌%◌, ◌^◌, ◌<◌, ◌≤◌, ℕ, zero, suc, List, length, inl, inr, ⊎_elim, refl, sym, ◌∙◌, ap, subst, arith}
+use Rattle.std.proofs.Common.{◌≡◌, ◌⊎◌, ◌+◌, ◌-◌, ◌*◌, ◌/◌, ◌%◌, ◌^◌, ◌<◌, ◌≤◌, ℕ, zero, suc, List, length, inl, inr, ⊎_elim, refl, sym, ◌∙◌, ap, subst, arith}
 use Rattle.fo_image.specs.declared.types.Label.{Label}
 use Rattle.fo_image.specs.declared.types.Score.{Score}
 use Rattle.fo_image.specs.declared.types.Pointer.{Pointer}
@@ -20,7 +20,7 @@ use Rattle.fo_tree_look.proofs.Held.{seen_address}
 use Rattle.fo_tree_look.proofs.Shown.{top_ready}
 use Rattle.fo_tree_own.specs.Step.{IsOwn, CanOwn, Becomes, Links}
 use Rattle.fo_tree_own.proofs.Link.{blank_leads}
-use Rattle.fo_tree_down.specs.Way.{OnWay, Descends, Comes}
+use Rattle.fo_tree_down.specs.Way.{OnWay, Descends, Comes, Replaces}
 use Rattle.fo_tree_down.proofs.Join.{Continues, level_same, continued, wider_same, made_result}
 
 -- ---- one way
@@ -31,6 +31,12 @@ on_way_last s t (suc n) k b e = inr e
 
 pub seen_local : (s : State) (kept : List Kept) (t : Tree) (n k b : ℕ) → block_at (seen s kept) t n k ≡ Local b → block_at s t n k ≡ Local b
 seen_local s kept t n k b e = address_local b (block_at s t n k) (sym (ap (λ (p : Pointer). address_of p) e) ∙ seen_address s kept t n k)
+
+pub local_seen : (s : State) (kept : List Kept) (t : Tree) (n k b : ℕ) → block_at s t n k ≡ Local b → block_at (seen s kept) t n k ≡ Local b
+local_seen s kept t n k b e = address_local b (block_at (seen s kept) t n k) (sym (ap (λ (p : Pointer). address_of p) e) ∙ sym (seen_address s kept t n k))
+
+pub local_eq : {a b : ℕ} → Local a ≡ Local b → a ≡ b
+local_eq e = cc
 
 -- What a device that tells says of its places.
 pub record Says (s : State) : Type 0 where
@@ -192,33 +198,52 @@ module _ (s m : State) (t : Tree) (kept : List Kept) (n k above : ℕ) (all : Ke
     content = content_next m at content;
   }
 
+  pub replaces_same : (at : ℕ) → IsPrepared m (kind_down t (suc n)) t.tag at → target ((m.now above).slot (k % 409)) ≡ Local at → Replaces s m t (suc n) k at
+  replaces_same at is e = record { is = is; from = inr (next_local at e); kept = λ b f current. local_eq (sym (next_local at e) ∙ f) }
+
   -- it was given out
-  pub comes_new : (u : State) (at : ℕ) → KeepsAll m u → ((image : Image) → s.may_leave image → IsPlaced s.stands image × RanksFall s.stands image × s.tells × ((top : ℕ) → s.tops top → (q : Place) × s.stands top q))
-      → Links t (t.depth - suc n) (k / 409) above (k % 409) (target ((m.now above).slot (k % 409))) at m u → Becomes m u t kept (t.depth - suc n) (target ((m.now above).slot (k % 409))) at → Comes s u t kept (suc n) k at
-  comes_new u at more image_says step content = record {
-    own = subst (λ i. IsOwn u t (t.depth - suc n) i at) index_is step.own;
-    descends = continued joined;
-    from = inl (made_result joined);
-    content = content_next u at content;
-  }
-    where
-      joined : Continues t (OnWay s t n (k / 409)) (OnWay s t (suc n) k) (t.depth - suc n) (k / 409) above (k % 409) (target ((m.now above).slot (k % 409))) at s m u
-      joined = record {
-        first = first_down;
-        step = step;
-        all = all;
-        more = more;
-        above = above_own;
-        from = ⊎_elim (λ made. inl made) (λ is. inr (inl (on_way_last s t n (k / 409) above is.0), is.1)) comes.from;
-        within = λ b on. inl on;
-        is_mine = λ b e. inr (next_local b e);
-        was_old = λ b e. old_block b (next_below b e);
-        live = λ is b on. (told is b (inl on)).live;
-        placed = λ image is. (image_says image is).0;
-        ranked = λ image is. (image_says image is).1;
-        top_stands = λ image is. (image_says image is).3;
-        told = λ image is. (image_says image is).2;
-      }
+  module _ (u : State) (at : ℕ) (more : KeepsAll m u) (image_says : (image : Image) → s.may_leave image → IsPlaced s.stands image × RanksFall s.stands image × s.tells × ((top : ℕ) → s.tops top → (q : Place) × s.stands top q))
+      (step : Links t (t.depth - suc n) (k / 409) above (k % 409) (target ((m.now above).slot (k % 409))) at m u) where
+    joined : Continues t (OnWay s t n (k / 409)) (OnWay s t (suc n) k) (t.depth - suc n) (k / 409) above (k % 409) (target ((m.now above).slot (k % 409))) at s m u
+    joined = record {
+      first = first_down;
+      step = step;
+      all = all;
+      more = more;
+      above = above_own;
+      from = ⊎_elim (λ made. inl made) (λ is. inr (inl (on_way_last s t n (k / 409) above is.0), is.1)) comes.from;
+      within = λ b on. inl on;
+      is_mine = λ b e. inr (next_local b e);
+      was_old = λ b e. old_block b (next_below b e);
+      live = λ is b on. (told is b (inl on)).live;
+      placed = λ image is. (image_says image is).0;
+      ranked = λ image is. (image_says image is).1;
+      top_stands = λ image is. (image_says image is).3;
+      told = λ image is. (image_says image is).2;
+    }
+
+    pub comes_new : Becomes m u t kept (t.depth - suc n) (target ((m.now above).slot (k % 409))) at → Comes s u t kept (suc n) k at
+    comes_new content = record {
+      own = subst (λ i. IsOwn u t (t.depth - suc n) i at) index_is step.own;
+      descends = continued joined;
+      from = inl (made_result joined);
+      content = content_next u at content;
+    }
+
+    -- where it was current none is given out
+    not_current : (b : ℕ) → target ((m.now above).slot (k % 409)) ≡ Local b → (s.label b).epoch ≡ s.high → ⊥
+    not_current b e current =
+        let older = step.older b e in
+        let epoch : (m.label b).epoch ≡ (s.label b).epoch = ap (λ (l : Label). l.epoch) (label_on b (next_below b e)) in
+        let high = all.same_high in
+        omega (arith, older, epoch, high, current)
+
+    pub replaces_new : IsPrepared u (kind_down t (suc n)) t.tag at → Replaces s u t (suc n) k at
+    replaces_new is = record {
+      is = is;
+      from = inl (made_result joined);
+      kept = λ b e current. absurd (not_current b (leads_next ∙ local_seen s kept t (suc n) k b e) current);
+    }
 
 -- a current top
 pub comes_top : (s : State) (t : Tree) (kept : List Kept) (k top : ℕ) → t.top ≡ Local top → k < 409 ^ zero → IsOwn s t t.depth 0 top → (Made s s top → ⊥) → Comes s s t kept zero k top

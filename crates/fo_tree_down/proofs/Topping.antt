@@ -1,5 +1,5 @@
 -- The top of a source is made current.
-use Rattle.std.proofs.Common.{◌≡◌, ◌≢◌, ◌+◌, ◌-◌, ◌^◌, ◌<◌, ◌≤◌, ℕ, zero, Bool, true, false, List, length, inl, inr, ⊎_elim, sym, ◌∙◌, ap, subst, arith}
+use Rattle.std.proofs.Common.{◌≡◌, ◌≢◌, ◌⊎◌, ◌+◌, ◌-◌, ◌^◌, ◌<◌, ◌≤◌, ℕ, zero, Bool, true, false, List, length, inl, inr, ⊎_elim, sym, ◌∙◌, ap, subst, arith}
 use Rattle.std.proofs.lemmas.Bool.{cases_eq}
 use Rattle.fo_image.specs.declared.types.Label.{Label}
 use Rattle.fo_image.specs.declared.types.State.TheVariants.{Live}
@@ -161,13 +161,13 @@ own_here s t at hangs top is told current = record {
   told = λ now. record { stands = (hangs.told now at top).0; uncovered = (told now).is_told.uncovered; holder = (told now).holder current };
 }
 
-nil_local : (b : ℕ) → Nil ≡ Local b → ⊥
+pub nil_local : (b : ℕ) → Nil ≡ Local b → ⊥
 nil_local b e = cc
 
-held_local : (score : Score) (b : ℕ) → Held score ≡ Local b → ⊥
+pub held_local : (score : Score) (b : ℕ) → Held score ≡ Local b → ⊥
 held_local score b e = cc
 
-local_eq : {a b : ℕ} → Local a ≡ Local b → a ≡ b
+pub local_eq : {a b : ℕ} → Local a ≡ Local b → a ≡ b
 local_eq e = cc
 
 pub top_epoch : {s : State} {t : Tree} {at : ℕ} → t.top ≡ Local at → IsTopCurrent s t → (s.label at).epoch ≡ s.high

@@ -10,7 +10,7 @@ use Rattle.fo_ports.specs.Sources.{Made, Touched, IsMade, StaysMarked}
 use Rattle.fo_tree_read.specs.declared.tree.Tree.{Tree}
 use Rattle.fo_tree_read.specs.Tree.{kind_at, kind_down, below, block_at}
 use Rattle.fo_tree_look.specs.declared.ways.Kept.{Kept}
-use Rattle.fo_tree_look.specs.Source.{IsTold, seen}
+use Rattle.fo_tree_look.specs.Source.{IsTold, IsPrepared, seen}
 use Rattle.fo_tree_own.specs.Step.{HangsApart, IsOwn, Becomes}
 
 -- A block stands on the way to block k, n steps below the top, or is that block.
@@ -75,18 +75,21 @@ pub record TopTold (s : State) (at : ℕ) : Type 0 where
   pub is_told : IsTold s at
   pub holder : (s.label at).epoch ≡ s.high → Reaches s.now (to_block 1) at ⊎ HangsApart s at
 
--- A live block of the kind of those n steps below the top.
-abbrev pub IsBlockOf : State → Tree → ℕ → ℕ → Type 0
-IsBlockOf s t n at = ((s.label at).state ≡ Live) × ((s.label at).kind ≡ kind_down t n)
+-- A block came where block k of those n steps below the top was: one that was given out, or the block itself, as it is where that was
+-- current.
+pub record Replaces (s u : State) (t : Tree) (n k at : ℕ) : Type 0 where
+  pub is : IsPrepared u (kind_down t n) t.tag at
+  pub from : Made s u at ⊎ (block_at s t n k ≡ Local at)
+  pub kept : (b : ℕ) → block_at s t n k ≡ Local b → (s.label b).epoch ≡ s.high → at ≡ b
 
 -- Beside slot i a block leads where the one did that was there.
 abbrev pub LeadsBeside : (old new : State) → Tree → List Kept → ℕ → ℕ → ℕ → ℕ → Type 0
 LeadsBeside s u t kept n k at i = (j : ℕ) → j < 409 → j ≢ i → target ((u.now at).slot j) ≡ below (seen s kept) (kind_down t n) (block_at (seen s kept) t n k) j
 
--- From this top memory leads to this block, by blocks of the kinds of their levels, and beside the way to where it led before.
+-- From this top memory leads to this block, by blocks that came where those of the way were, and beside the way to where it led before.
 abbrev pub Leads : (old new : State) → Tree → List Kept → ℕ → ℕ → ℕ → ℕ → Type 0
-Leads s u t kept top zero k at = (at ≡ top) × IsBlockOf u t zero at
-Leads s u t kept top (suc n) k at = ((above : ℕ) × Leads s u t kept top n (k / 409) above × (target ((u.now above).slot (k % 409)) ≡ Local at) × LeadsBeside s u t kept n (k / 409) above (k % 409)) × IsBlockOf u t (suc n) at
+Leads s u t kept top zero k at = (at ≡ top) × Replaces s u t zero k at
+Leads s u t kept top (suc n) k at = ((above : ℕ) × Leads s u t kept top n (k / 409) above × (target ((u.now above).slot (k % 409)) ≡ Local at) × LeadsBeside s u t kept n (k / 409) above (k % 409)) × Replaces s u t (suc n) k at
 
 -- Block j of those m steps below the top stands on the way to block k of those n steps below.
 abbrev pub IsWayIndex : ℕ → ℕ → ℕ → ℕ → Type 0

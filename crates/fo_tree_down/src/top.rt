@@ -22,6 +22,7 @@ pub(crate) fn own_top<B: Blocks>(tree: &Tree, kept: &[Kept], on: &mut B) -> u32
     ensures comes { (k : ℕ) → k < 409 ^ 0 → Comes (B.state on.old) (B.state on.new) tree.now kept.now 0 k result }
     ensures spare { (B.state on.old).spare ≤ (B.state on.new).spare + 1 }
     ensures less { IsTopCurrent (B.state on.old) tree.now → (B.state on.old).spare ≤ (B.state on.new).spare }
+    ensures same { (b : ℕ) → tree.now.top ≡ Local b → ((B.state on.old).label b).epoch ≡ (B.state on.old).high → result ≡ b }
     ensures keeps { B.keeps on.old on.new }
 {
     match tree.top {
@@ -41,6 +42,7 @@ fn own_local<B: Blocks>(tree: &Tree, kept: &[Kept], on: &mut B, at: u32) -> u32
     ensures comes { (k : ℕ) → k < 409 ^ 0 → Comes (B.state on.old) (B.state on.new) tree.now kept.now 0 k result }
     ensures spare { (B.state on.old).spare ≤ (B.state on.new).spare + 1 }
     ensures less { ((B.state on.old).label at).epoch ≡ (B.state on.old).high → (B.state on.old).spare ≤ (B.state on.new).spare }
+    ensures same { ((B.state on.old).label at).epoch ≡ (B.state on.old).high → result ≡ at }
     ensures keeps { B.keeps on.old on.new }
 {
     let _ = tree;

@@ -3,8 +3,8 @@ ghost use Rattle.std.specs.Prelude.{◌≡◌, ◌≢◌, ◌⊎◌, ◌+◌, �
 ghost use Rattle.fo_image.specs.declared.types.Pointer.TheVariants.{Local};
 ghost use Rattle.fo_ports.specs.Sources.{Changes};
 ghost use Rattle.fo_tree_read.specs.Tree.{Hangs, kind_at, block_at};
-ghost use Rattle.fo_tree_look.specs.Source.{IsTold, Over, HasBlock, WayReady, IsTopCurrent};
-ghost use Rattle.fo_tree_down.specs.Way.{OnWay, TopTold, Comes, Leads, IsTopOf, StaysBeside, with_top};
+ghost use Rattle.fo_tree_look.specs.Source.{IsTold, Over, HasBlock, Prepared, WayReady, IsTopCurrent};
+ghost use Rattle.fo_tree_down.specs.Way.{OnWay, TopTold, Comes, Leads, IsTopOf, Replaces, StaysBeside, with_top};
 
 use crate::top::own_top;
 use fo_ports::Blocks;
@@ -31,8 +31,10 @@ pub fn own_way<B: Blocks>(tree: &Tree, kept: &[Kept], on: &mut B, down: u8, k: u
     requires spare { (IsTopCurrent (B.state on.old) tree.now × (down ≤ (B.state on.old).spare)) ⊎ (down < (B.state on.old).spare) }
     ensures comes { Comes (B.state on.old) (B.state on.new) tree.now kept.now down k result.at }
     ensures leads { block_at (B.state on.new) (with_top tree.now result.top) down k ≡ Local result.at }
+    ensures replaces { Replaces (B.state on.old) (B.state on.new) tree.now down k result.at }
     ensures top { IsTopOf (B.state on.old) (B.state on.new) tree.now result.top }
     ensures beside { (B.state on.old).tells → StaysBeside (B.state on.old) (B.state on.new) tree.now (with_top tree.now result.top) down k }
+    ensures still { (limit o n : ℕ) → Prepared (B.state on.old) tree.now kept.now limit o n → Prepared (B.state on.new) (with_top tree.now result.top) kept.now limit o n }
     ensures changes { Changes tree.now.tag (HasBlock (B.state on.old) tree.now) (λ b. HasBlock (B.state on.old) tree.now b × (((B.state on.old).label b).kind ≢ kind_at tree.now.dir 0)) (B.state on.old) (B.state on.new) }
     ensures spare { (B.state on.old).spare ≤ (B.state on.new).spare + (down + 1) }
     ensures less { IsTopCurrent (B.state on.old) tree.now → (B.state on.old).spare ≤ (B.state on.new).spare + down }

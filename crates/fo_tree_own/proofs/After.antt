@@ -1,5 +1,5 @@
 -- What is there once a block was given out and put.
-use Rattle.std.proofs.Common.{◌≡◌, ◌≢◌, ◌⊎◌, ◌↔◌, ◌+◌, ◌*◌, ℕ, suc, List, [], ◌∷◌, ◌++◌, length, inl, inr, ⊎_elim, refl, sym, ◌∙◌, ap, subst, arith}
+use Rattle.std.proofs.Common.{◌≡◌, ◌≢◌, ◌⊎◌, ◌↔◌, ◌+◌, ◌*◌, ◌<◌, ℕ, suc, List, [], ◌∷◌, ◌++◌, length, inl, inr, ⊎_elim, refl, sym, ◌∙◌, ap, subst, arith}
 use Rattle.std.proofs.lemmas.Bool.{cases_eq}
 use Rattle.fo_image.specs.declared.types.Label.{Label}
 use Rattle.fo_image.specs.declared.types.Pointer.{Pointer}
@@ -38,6 +38,7 @@ pub record Linked (t : Tree) (level k at i n : ℕ) (was : Pointer) (l : Label) 
   pub not_apart : s.tells → (w : ℕ) → s.apart w → was ≢ Local w
   pub no_one : s.tells → Reaches m.now ((m.now at).slot i) 1 → ⊥
   pub fresh : was ≡ Local result → ⊥
+  pub was_older : (y : ℕ) → was ≡ Local y → (s.label y).epoch < s.high
   pub no_cost : n ≡ 0
   -- what the put says
   pub puts : PutsSlot at i (To (Local result)) m.now u.now
@@ -400,6 +401,7 @@ module _ {t : Tree} {level k at i n : ℕ} {was : Pointer} {l : Label} {result :
     instead = instead_end;
     reached = reached_end;
     in_tree = λ told b e. back x.link told 1 b super_place (x.link.laws.super_stands told) (x.in_tree told b e);
+    older = x.was_older;
     covers = only_covers;
     waits = waits_end;
     spare = let first = x.link.came.uses.spare in let last = x.frame.uses.spare in omega (arith, first, last);

@@ -110,6 +110,7 @@ pub record Links (t : Tree) (level k at i : ℕ) (was : Pointer) (result : ℕ) 
   pub instead : (b x : ℕ) → new.instead b x → old.instead b x
   pub reached : old.tells → (b : ℕ) → (was ≡ Local b → ⊥) → Reaches old.now (to_block 1) b → Reaches new.now (to_block 1) b
   pub in_tree : old.tells → (b : ℕ) → was ≡ Local b → Reaches old.now (to_block 1) b
+  pub older : (b : ℕ) → was ≡ Local b → (old.label b).epoch < old.high
   pub covers : OnlyCovers was old new
   pub waits : (a on j : ℕ) → on ≢ result → a ≢ result → old.waits a on j → new.waits a on j
   pub spare : new.spare + 1 ≡ old.spare

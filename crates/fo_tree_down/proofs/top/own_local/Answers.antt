@@ -1,4 +1,4 @@
-use Rattle.std.proofs.Common.{◌+◌, length, refl, sym, ap, ◌∙◌, subst, arith}
+use Rattle.std.proofs.Common.{◌+◌, ◌-◌, length, refl, sym, ap, ◌∙◌, subst, arith}
 use Rattle.fo_image.specs.declared.types.Pointer.{Pointer}
 use Rattle.fo_image.specs.declared.types.Pointer.TheVariants.{Local}
 use Rattle.fo_crash.specs.Places.{place}
@@ -48,6 +48,12 @@ returns-else-is_current-clause-spare g c =
 
 pub returns-else-is_current-clause-less : goal.returns-else-is_current-clause-less
 returns-else-is_current-clause-less g c =
+    λ current.
+    let older = c.is_current.ensures.older c.if-is_current.false in
+    absurd (omega (arith, older, current))
+
+pub returns-else-is_current-clause-same : goal.returns-else-is_current-clause-same
+returns-else-is_current-clause-same g c =
     λ current.
     let older = c.is_current.ensures.older c.if-is_current.false in
     absurd (omega (arith, older, current))

@@ -1,7 +1,7 @@
-use Rattle.std.proofs.Common.{inl, inr, ⊎_elim, subst}
+use Rattle.std.proofs.Common.{◌-◌, inl, inr, ⊎_elim, subst, sym, ap, ◌∙◌, ◌≡◌}
 use Rattle.fo_image.specs.declared.types.Pointer.{Pointer}
 use Rattle.fo_tree_look.specs.Source.{Ready}
-use Rattle.fo_tree_down.proofs.Topping.{top_local, top_held, top_epoch, ready_local, ready_kept}
+use Rattle.fo_tree_down.proofs.Topping.{top_local, top_held, top_epoch, ready_local, ready_kept, nil_local, held_local, local_eq}
 use Rattle.fo_tree_down.proofs.top.own_top.Goals as goal
 
 pub own_local-requires-clause-ready : goal.own_local-requires-clause-ready
@@ -40,3 +40,14 @@ returns-in-Local-clause-less g c = λ top. c.own_local.ensures.less (top_epoch c
 
 pub returns-in-Score-clause-less : goal.returns-in-Score-clause-less
 returns-in-Score-clause-less g c = λ top. absurd (top_held c.in-Score.is top)
+
+pub returns-in-Nil-clause-same : goal.returns-in-Nil-clause-same
+returns-in-Nil-clause-same g c = λ b is current. absurd (nil_local b (sym c.in-Nil.is ∙ is))
+
+pub returns-in-Local-clause-same : goal.returns-in-Local-clause-same
+returns-in-Local-clause-same g c = λ b is current.
+    let same : c.in-Local.at ≡ b = local_eq (sym c.in-Local.is ∙ is) in
+    c.own_local.ensures.same (ap (λ y. ((g.B.Blocks.state c.args.on.now).label y).epoch) same ∙ current) ∙ same
+
+pub returns-in-Score-clause-same : goal.returns-in-Score-clause-same
+returns-in-Score-clause-same g c = λ b is current. absurd (held_local c.in-Score.score b (sym c.in-Score.is ∙ is))

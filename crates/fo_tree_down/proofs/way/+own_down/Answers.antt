@@ -1,4 +1,4 @@
-use Rattle.std.proofs.Common.{◌≡◌, ◌⊎◌, ◌+◌, ◌-◌, ◌*◌, ◌/◌, ◌%◌, ◌^◌, ◌<◌, ◌≤◌, ℕ, suc, inl, inr, ⊎_elim, refl, sym, subst, arith}
+use Rattle.std.proofs.Common.{◌≡◌, ◌⊎◌, ◌+◌, ◌-◌, ◌*◌, ◌/◌, ◌%◌, ◌^◌, ◌<◌, ◌≤◌, ℕ, zero, suc, inl, inr, ⊎_elim, refl, sym, subst, arith}
 use Rattle.std.proofs.lemmas.Bool.{cases_eq}
 use Rattle.std.proofs.Math.Nat.{pow-succ'}
 use Rattle.fo_image.specs.declared.types.Pointer.TheVariants.{Local}
@@ -8,7 +8,7 @@ use Rattle.fo_tree_read.specs.Tree.{kind_down, below, block_at}
 use Rattle.fo_tree_look.specs.Source.{seen, IsTold, WayReady}
 use Rattle.fo_tree_own.specs.Step.{IsOwn, CanOwn, Becomes, Links}
 use Rattle.fo_tree_down.specs.Way.{OnWay, Comes, Leads, IsTopOf}
-use Rattle.fo_tree_down.proofs.Next.{Says, leads_beside, above_own, can_next, comes_same, comes_new}
+use Rattle.fo_tree_down.proofs.Next.{Says, leads_beside, above_own, can_next, comes_same, comes_new, replaces_same, replaces_new}
 use Rattle.fo_tree_down.proofs.Leading.{block_of, leads_on, beside_on, top_came, top_stays}
 use Rattle.fo_tree_down.proofs.way.+own_down.Goals as goal
 
@@ -227,8 +227,14 @@ returns-then-down-eq0-clause-leads g t' c =
     let u = g.B.Blocks.state c.own_top-top.new.on in
     let zero = c.if-down-eq0.true in
     let few = subst (λ d. c.args.k < 409 ^ d) zero c.requires.down.1 in
-    subst (λ d. Leads (g.B.Blocks.state c.args.on.now) u c.args.tree.now c.args.kept.now c.own_top-top.result d c.args.k c.own_top-top.result) (sym zero)
-    (refl, block_of 0 c.args.k c.own_top-top.result (c.own_top-top.ensures.comes c.args.k few).own)
+    subst (λ d. Leads (g.B.Blocks.state c.args.on.now) u c.args.tree.now c.args.kept.now c.own_top-top.result d c.args.k c.own_top-top.result) (sym zero) (
+      refl,
+      record {
+        is = block_of 0 c.args.k c.own_top-top.result (c.own_top-top.ensures.comes c.args.k few).own;
+        from = ⊎_elim (λ made. inl made) (λ is. inr is.0) (c.own_top-top.ensures.comes c.args.k few).from;
+        kept = c.own_top-top.ensures.same;
+      },
+    )
 
 pub returns-then-down-eq0-clause-top : goal.returns-then-down-eq0-clause-top
 returns-then-down-eq0-clause-top g t' c =
@@ -264,15 +270,25 @@ returns-clause-leads g t' c =
     subst (λ d. Leads s u t kept top d k at) (sym is)
     (⊎_elim
     (λ same. subst (λ x. Leads s (g.B.Blocks.state x) t kept top (suc n) k at) (sym same.1)
-    ((above, c.own_down-above.ensures.leads, same.0, λ j few ne. beside j few), block_of (suc n) (409 * (k / 409) + k % 409) at same.2))
+    ((above, c.own_down-above.ensures.leads, same.0, λ j few ne. beside j few), replaces_same s m t kept n k above all c.requires.hangs down ready comes says told at (block_of (suc n) (409 * (k / 409) + k % 409) at same.2) same.0))
     (λ links. (
       (
         above,
-        leads_on s m u t kept top n above (k % 409) at (t.depth - suc n) (k / 409) (omega (arith, down)) (block_of n (k / 409) above comes.own) was links n (k / 409) above (omega arith) c.own_down-above.ensures.leads,
+        leads_on s m u t kept top n above (k % 409) at (t.depth - suc n) (k / 409) (omega (arith, down)) (block_of n (k / 409) above comes.own) was (g.met.B.Blocks.keeps_all mid end c.own_block-at.ensures.keeps) links n (k / 409) above (omega arith) c.own_down-above.ensures.leads,
         links.leads,
-        beside_on s m u t kept top n above (k % 409) at (t.depth - suc n) (k / 409) (omega (arith, down)) (block_of n (k / 409) above comes.own) was links (k / 409) (λ j few ne. beside j few),
+        beside_on s m u t kept top n above (k % 409) at (t.depth - suc n) (k / 409) (omega (arith, down)) (block_of n (k / 409) above comes.own) was (g.met.B.Blocks.keeps_all mid end c.own_block-at.ensures.keeps) links (k / 409) (λ j few ne. beside j few),
       ),
-      block_of (suc n) (409 * (k / 409) + k % 409) at links.own,
+      replaces_new s m t kept n k above all c.requires.hangs down ready comes says told u at (g.met.B.Blocks.keeps_all mid end c.own_block-at.ensures.keeps)
+          (λ image h. (
+            g.met.B.Blocks.placed on image h,
+            g.met.B.Blocks.ranked on image h,
+            g.met.B.Blocks.told on image h,
+            λ top is_top. ⊎_elim
+                (λ e. (super_place, subst (λ y. s.stands y super_place) (sym e) (g.met.B.Blocks.super_stands on (g.met.B.Blocks.told on image h))))
+                (λ ne. (root_place, g.met.B.Blocks.top_stands on top (g.met.B.Blocks.told on image h) is_top ne))
+                (cases_eq top 1),
+          ))
+          links (block_of (suc n) (409 * (k / 409) + k % 409) at links.own),
     ))
     step)
 

@@ -1,8 +1,9 @@
 use Rattle.std.proofs.Common.{◌-◌}
 use Rattle.fo_tree_look.proofs.Shown.{top_ready}
 use Rattle.fo_tree_down.proofs.Join.{changes_of}
-use Rattle.fo_tree_down.proofs.Leading.{leads_to}
+use Rattle.fo_tree_down.proofs.Leading.{leads_to, last_of}
 use Rattle.fo_tree_down.proofs.Beside.{stays_beside, on_way_block, last_leads}
+use Rattle.fo_tree_down.proofs.Stilling.{prepared_still}
 use Rattle.fo_tree_down.proofs.way.own_way.Goals as goal
 
 pub own_down-requires-clause-hangs : goal.own_down-requires-clause-hangs
@@ -39,3 +40,24 @@ returns-clause-beside g c = λ told.
 
 pub returns-clause-changes : goal.returns-clause-changes
 returns-clause-changes g c = changes_of (λ b on. on_way_block (g.B.Blocks.state c.args.on.now) c.args.tree.now c.args.down c.args.k b c.requires.down.0 on) c.own_down.ensures.comes.descends
+
+pub returns-clause-still : goal.returns-clause-still
+returns-clause-still g c =
+    let on = c.args.on.now in
+    let s = g.B.Blocks.state on in
+    let u = g.B.Blocks.state c.own_down.new.on in
+    let t = c.args.tree.now in
+    let kept = c.args.kept.now in
+    let comes = c.own_down.ensures.comes in
+    prepared_still {s = s} {u = u} {t = t} {kept = kept} {top = c.own_down.result.top} {n = c.args.down} {k = c.args.k} {at = c.own_down.result.at} (record {
+      all = g.met.B.Blocks.keeps_all on c.own_down.new.on c.own_down.ensures.keeps;
+      within = c.requires.down.0;
+      few = c.requires.down.1;
+      ready = c.requires.ready;
+      leads = c.own_down.ensures.leads;
+      last = last_leads s u t kept c.args.down c.args.k c.own_down.result.at (top_ready s t kept c.args.down c.args.k c.requires.ready) comes;
+      descends = comes.descends;
+    })
+
+pub returns-clause-replaces : goal.returns-clause-replaces
+returns-clause-replaces g c = last_of (g.B.Blocks.state c.args.on.now) (g.B.Blocks.state c.own_down.new.on) c.args.tree.now c.args.kept.now c.own_down.result.top c.args.down c.args.k c.own_down.result.at c.own_down.ensures.leads

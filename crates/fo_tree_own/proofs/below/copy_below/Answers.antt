@@ -305,6 +305,7 @@ returns-clause-links g c =
       in_tree = λ told y h. subst (λ z. Reaches m.now (to_block 1) z) (local_eq h) (reaches_mid x.link told 1 c.args.below super_place (x.link.laws.super_stands told) (copied_in_tree x told));
       not_apart = λ told w is h. x.link.laws.apart_hangs told w is (subst (λ z. Reaches s.now (to_block 1) z) (local_eq h) (copied_in_tree x told));
       no_one = λ told r. never_one x told (back x.link told c.args.below 1 (there t c.args.level (c.args.k / 409) i) (below_stands x told) (reaches_same {t = to_block c.args.below} (leads_on x) r));
+      was_older = λ y e. subst (λ z. (s.label z).epoch < s.high) (local_eq e) c.requires.older;
       fresh = λ h. below_ne x (local_eq h);
       no_cost = may_cost x.link;
       puts = p.now;

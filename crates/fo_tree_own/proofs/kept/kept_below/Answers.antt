@@ -383,6 +383,7 @@ returns-clause-links g c =
       in_tree = λ told y h. absurd (held_leads c.args.score.now y h);
       not_apart = λ told w is h. held_leads c.args.score.now w h;
       no_one = λ told r. lost m.now r.path ((m.now c.args.above).slot i) (slot_none x) 1 r.leads;
+      was_older = λ y h. absurd (held_leads c.args.score.now y h);
       fresh = λ h. held_leads c.args.score.now c.new_block-made.result h;
       no_cost = may_cost x.link;
       puts = p.now;
