@@ -10,7 +10,7 @@ use Rattle.fo_crash.proofs.Updates.{bytes_other, bytes_here, bytes_slot, slot_by
 use Rattle.fo_crash.specs.Names.{IsInUse, NamesFit}
 use Rattle.fo_dir_put.specs.Names.{ListsIn, AllFit, Clash, AllApart, MayStand, ShowsBytes, ShowsBut, LeavesRest}
 
-clash_from : (r p q : Record) → r.name ≡ p.name → r.number ≡ p.number → r.slot ≡ p.slot → Clash r q → Clash p q
+pub clash_from : (r p q : Record) → r.name ≡ p.name → r.number ≡ p.number → r.slot ≡ p.slot → Clash r q → Clash p q
 clash_from r p q name number slot clash = ⊎_elim (λ e. inl (sym name ∙ e)) (λ more. ⊎_elim (λ e. inr (inl (sym number ∙ e))) (λ e. inr (inr (sym slot ∙ e))) more) clash
 
 pub slot_shows : {at i : ℕ} {s : Slot} {now : Image} {beside old new : Image → Type 0} → AddsSlot now at i s beside old new → ShowsBytes old new

@@ -3,10 +3,10 @@
 //! The entries come first, the second before the first; then the leaf of records is made to wait for them, and then it gets the
 //! record. So in every image that a crash may leave, a record of the leaf has its first entry in use with its generation.
 //!
-//! Proved, over any blocks: nothing is refused. Memory has the two entries and the record at the end of its leaf, and all else as it
-//! was; no slot waits to be cleared that did not, and blocks keep labels, pins and places. In every image each record of the leaf has
-//! its first entry in use, if it was so before. Not said here: that no other leaf has the name or the number, which who calls
-//! sees to; and not the second entries of directories.
+//! Proved, over any blocks: nothing is refused. Memory has the two entries and the bytes of the leaf as they were given, and all else
+//! as it was; no slot waits to be cleared that did not, and blocks keep labels, pins and places. In every image each record of the leaf has
+//! its first entry in use, if it was so before; and no name, number or pair stands in two leaves over all images, where no image has
+//! the new one's in another leaf. Not said: that names within a leaf differ, and second entries of directories.
 #![tactic(auto)]
 
 mod add;

@@ -1,13 +1,13 @@
 //! A directory is looked at, over any blocks and any source of bytes.
 //!
 //! A directory has two sources: one of records, whose leaves are those of `fo_meta`, and one of entries, a *pair* for each name.
-//! `lookup` finds the record of a name, and `free_pair` the least pair that may be taken.
+//! `lookup` finds the record of a name, `pair` the two entries of a pair, and `free_pair` the least pair that may be taken.
 //!
-//! Proved, over any blocks and any source: both only look, take at most the pins that reading each leaf takes, and refuse by their
+//! Proved, over any blocks and any source: the calls only look, take at most the pins that reading each leaf takes, and refuse by their
 //! causes alone; a damaged block is answered only where the device doesn't tell what it holds. Where it tells, `lookup` gives the
 //! first record of the name that memory has, or says that no leaf has one; and `free_pair` gives the least pair of which no entry is in
-//! use in memory or waits to be cleared. Not said: that names differ; who changes directories keeps that. Not there yet: listing,
-//! and all changes.
+//! use in memory or waits to be cleared. `pair` gives the entries as memory has them. Not
+//! said: that names differ; who changes directories keeps that.
 #![tactic(auto)]
 
 mod entries;

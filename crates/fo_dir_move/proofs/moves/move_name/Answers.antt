@@ -1,0 +1,90 @@
+use Rattle.std.proofs.Common.{◌≡◌, ◌≢◌, ◌∙◌, ℕ, List, sym, subst}
+use Rattle.fo_dir_put.specs.Names.{AreBacked, MayStand}
+use Rattle.fo_dir_put.proofs.Leaves.{leaf_long}
+use Rattle.fo_dir_put.proofs.Aparts.{others_fit, others_apart, rest_but, nothing_shows, shows_apart, apart_back}
+use Rattle.fo_dir_move.proofs.Settled.{ready_taken, settle_taken, fit_later, backs_later}
+use Rattle.fo_dir_move.proofs.Aside.{kept_stands, moved_stands, settled_stands, back_stands, apart_settled}
+use Rattle.fo_dir_move.proofs.moves.move_name.Goals as goal
+
+pub settle_between-requires-clause-ready : goal.settle_between-requires-clause-ready
+settle_between-requires-clause-ready g c =
+    ready_taken c.args.from c.args.to c.args.entries c.requires.differ (g.met.B.Blocks.keeps_all c.args.on.now c.change_leaf.new.on c.change_leaf.ensures.keeps) c.change_leaf.ensures.calm c.change_leaf.ensures.puts (leaf_long c.requires.bytes.0) c.requires.ready
+
+pub settle_between-requires-clause-may : goal.settle_between-requires-clause-may
+settle_between-requires-clause-may g c = λ told.
+    let all = g.met.B.Blocks.keeps_all c.args.on.now c.change_leaf.new.on c.change_leaf.ensures.keeps in
+    settle_taken c.args.from c.args.to c.args.entries all c.change_leaf.ensures.calm c.change_leaf.ensures.puts (c.requires.may (all.still_tells.0 told))
+
+pub returns-in-Ok-clause-moved : goal.returns-in-Ok-clause-moved
+returns-in-Ok-clause-moved g c = record {
+  from_is = c.put_record.ensures.puts.others c.args.from c.requires.differ ∙ c.settle_between.ensures.leaves.from_is ∙ c.change_leaf.ensures.puts.here;
+  to_is = c.put_record.ensures.puts.here;
+}
+
+pub returns-in-Ok-clause-fit : goal.returns-in-Ok-clause-fit
+returns-in-Ok-clause-fit g c = λ n may from to.
+    let apart : c.args.to ≢ c.args.from = λ e. c.requires.differ (sym e) in
+    let left = fit_later (c.change_leaf.ensures.fit n c.args.entries may.kept from) c.settle_between.ensures.images in
+    let other = fit_later (others_fit apart to c.change_leaf.ensures.others) c.settle_between.ensures.images in
+    let same = c.settle_between.ensures.leaves.to_is ∙ c.change_leaf.ensures.puts.others c.args.to apart in
+    (others_fit c.requires.differ left c.put_record.ensures.others, c.put_record.ensures.fit n (backs_later may.put c.change_leaf.ensures.calm c.change_leaf.ensures.puts c.settle_between.ensures.entries same) other)
+
+pub returns-in-Err-clause-stays : goal.returns-in-Err-clause-stays
+returns-in-Err-clause-stays g c =
+    let apart : c.args.to ≢ c.args.from = λ e. c.requires.differ (sym e) in record {
+      from_is = c.put_record-in-Err.ensures.puts.here ∙ c.requires.back.1;
+      to_is = c.put_record-in-Err.ensures.puts.others c.args.to apart ∙ c.settle_between.ensures.leaves.to_is ∙ c.change_leaf.ensures.puts.others c.args.to apart;
+    }
+
+
+pub returns-in-Err-clause-fit : goal.returns-in-Err-clause-fit
+returns-in-Err-clause-fit g c = λ n may from to.
+    let u = g.B.Blocks.state c.settle_between.new.on in
+    let apart : c.args.to ≢ c.args.from = λ e. c.requires.differ (sym e) in
+    let left = fit_later (c.change_leaf.ensures.fit n c.args.entries may.kept from) c.settle_between.ensures.images in
+    let other = fit_later (others_fit apart to c.change_leaf.ensures.others) c.settle_between.ensures.images in
+    let same = c.settle_between.ensures.leaves.from_is ∙ c.change_leaf.ensures.puts.here in
+    let backed = backs_later may.back c.change_leaf.ensures.calm c.change_leaf.ensures.puts c.settle_between.ensures.entries same in
+    (c.put_record-in-Err.ensures.fit n (subst (λ xs. AreBacked n c.args.from c.args.entries xs u) (sym c.requires.back.1) backed) left, others_fit apart other c.put_record-in-Err.ensures.others)
+
+pub returns-in-Ok-clause-apart : goal.returns-in-Ok-clause-apart
+returns-in-Ok-clause-apart g c = λ b not_from not_to keys one two.
+    let u = g.B.Blocks.state c.settle_between.new.on in
+    let differ : c.args.to ≢ c.args.from = λ e. c.requires.differ (sym e) in
+    let images = c.settle_between.ensures.images in
+    let rest = c.change_leaf.ensures.others in
+    let same = c.settle_between.ensures.leaves.to_is ∙ c.change_leaf.ensures.puts.others c.args.to differ in
+    let stands = moved_stands one (λ image is. g.met.B.Blocks.present c.args.on.now (g.met.B.Blocks.told c.args.on.now image is)) rest images not_from keys in
+    let from_mid = shows_apart (c.change_leaf.ensures.apart b not_from (kept_stands keys) one) (nothing_shows images) in
+    let to_mid = apart_settled differ not_from two rest images in
+    (others_apart c.requires.differ not_to from_mid (rest_but c.put_record.ensures.others), c.put_record.ensures.apart b not_to (subst (λ xs. MayStand b c.args.with.now xs u.may_leave) (sym same) stands) to_mid)
+
+pub returns-in-Ok-clause-between : goal.returns-in-Ok-clause-between
+returns-in-Ok-clause-between g c = λ keys all.
+    let u = g.B.Blocks.state c.settle_between.new.on in
+    let differ : c.args.to ≢ c.args.from = λ e. c.requires.differ (sym e) in
+    let same = c.settle_between.ensures.leaves.to_is ∙ c.change_leaf.ensures.puts.others c.args.to differ in
+    let left = c.settle_between.ensures.leaves.from_is ∙ c.change_leaf.ensures.puts.here in
+    let mid = shows_apart (c.change_leaf.ensures.apart c.args.to differ (kept_stands keys) all) (nothing_shows c.settle_between.ensures.images) in
+    apart_back (c.put_record.ensures.apart c.args.from c.requires.differ (subst (λ xs. MayStand c.args.from c.args.with.now xs u.may_leave) (sym same) (settled_stands c.in-Ok.ensures.all left keys)) (apart_back mid))
+
+pub returns-in-Err-clause-apart : goal.returns-in-Err-clause-apart
+returns-in-Err-clause-apart g c = λ b not_from not_to keys one two.
+    let u = g.B.Blocks.state c.settle_between.new.on in
+    let differ : c.args.to ≢ c.args.from = λ e. c.requires.differ (sym e) in
+    let images = c.settle_between.ensures.images in
+    let rest = c.change_leaf.ensures.others in
+    let stands = back_stands {left = (u.now c.args.from).bytes} one (λ image is. g.met.B.Blocks.present c.args.on.now (g.met.B.Blocks.told c.args.on.now image is)) rest images not_from in
+    let from_mid = shows_apart (c.change_leaf.ensures.apart b not_from (kept_stands keys) one) (nothing_shows images) in
+    let to_mid = apart_settled differ not_from two rest images in
+    (c.put_record-in-Err.ensures.apart b not_from (subst (λ xs. MayStand b xs ((u.now c.args.from).bytes) u.may_leave) (sym c.requires.back.1) stands) from_mid, others_apart differ not_from to_mid (rest_but c.put_record-in-Err.ensures.others))
+
+pub returns-in-Err-clause-between : goal.returns-in-Err-clause-between
+returns-in-Err-clause-between g c = λ keys all.
+    let u = g.B.Blocks.state c.settle_between.new.on in
+    let differ : c.args.to ≢ c.args.from = λ e. c.requires.differ (sym e) in
+    let images = c.settle_between.ensures.images in
+    let rest = c.change_leaf.ensures.others in
+    let stands = back_stands {left = (u.now c.args.from).bytes} all (λ image is. g.met.B.Blocks.present c.args.on.now (g.met.B.Blocks.told c.args.on.now image is)) rest images differ in
+    let mid = shows_apart (c.change_leaf.ensures.apart c.args.to differ (kept_stands keys) all) (nothing_shows images) in
+    c.put_record-in-Err.ensures.apart c.args.to differ (subst (λ xs. MayStand c.args.to xs ((u.now c.args.from).bytes) u.may_leave) (sym c.requires.back.1) stands) mid

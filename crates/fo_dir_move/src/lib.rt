@@ -1,0 +1,13 @@
+//! A record moves from one leaf of a directory to another.
+//!
+//! It is taken out of its leaf, all is settled, and it is put into the other leaf. Where the settling fails it is put back: its leaf
+//! waits for the entries again, since after a settling that failed no wait is known to be left.
+//!
+//! Proved, over any blocks: the call is refused by a fault alone. Where it is granted memory has the two leaves as they were given,
+//! where it is refused as they were. In every image each record of both leaves has its first entry in use, if it was so before; and
+//! no name, number or pair stands in two leaves, over all images.
+#![tactic(auto)]
+
+mod moves;
+
+pub use moves::move_name;
