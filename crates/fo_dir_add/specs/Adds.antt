@@ -1,0 +1,21 @@
+-- A record at the end of a leaf.
+use Rattle.std.specs.Prelude.{◌≡◌, ◌+◌, ◌*◌, ◌<◌, ◌≤◌, ℕ, Bool, true, false, List, [], ◌∷◌, ◌++◌, length, cond}
+use Rattle.std.specs.List.{Contains}
+use Rattle.fo_image.specs.declared.record.Record.{Record}
+use Rattle.fo_image.specs.Record.{record_len}
+use Rattle.fo_meta.specs.Leaf.{SpellsLeaf, records_bytes}
+use Rattle.fo_good.specs.Reading.{leaf_records}
+use Rattle.fo_crash.specs.Images.{Image}
+use Rattle.fo_dir_put.specs.Names.{Clash}
+
+-- The leaf has the record behind the others.
+pub record HasAdded (r : Record) (old new : List ℕ) : Type 0 where
+  pub each : (rs : List Record) → SpellsLeaf rs old → SpellsLeaf (rs ++ r ∷ []) new
+
+-- The record has no room.
+pub record IsFullFor (r : Record) (old : List ℕ) : Type 0 where
+  pub each : (rs : List Record) → SpellsLeaf rs old → 8188 < length (records_bytes rs) + record_len r
+
+-- In none of these images another leaf has the record's name, number or pair.
+pub record IsAlone (r : Record) (other : ℕ) (images : Image → Type 0) : Type 0 where
+  pub each : (image : Image) → images image → (q : Record) → Contains (leaf_records ((image other).bytes)) q → Clash r q → ⊥
