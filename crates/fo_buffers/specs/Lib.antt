@@ -1,3 +1,4 @@
 pub mod Held
 pub mod Inside
 pub mod Tables
+pub mod Reading

@@ -1,5 +1,5 @@
 //! A block in memory.
-ghost use Rattle.std.specs.Prelude.{◌≡◌, ◌+◌, ◌<◌, ◌≤◌, ◌++◌, length, take, drop, OnOk, OnErr};
+ghost use Rattle.std.specs.Prelude.{◌≡◌, ◌+◌, ◌<◌, ◌≤◌, ◌++◌, length, take, drop, replicate, vec_len, IfOk, OnOk, OnErr};
 ghost use Rattle.std.specs.List.{Contains};
 ghost use Rattle.fo_base.specs.Cause.{HasCause};
 ghost use Rattle.fo_disk.specs.Disk.{versions_of};
@@ -35,10 +35,11 @@ pub struct Buffer {
 
 impl Block {
     /// A block in memory, of zero bytes.
-    pub fn new(alloc: Global) -> Result<Block, Memory> {
-        Ok(Block {
-            bytes: vec![in alloc; 0; BLOCK]?,
-        })
+    pub fn new(alloc: Global) -> Result<Block, Memory>
+        ensures { IfOk result (λ b. b ≡ replicate 8192 0) }
+    {
+        let bytes = zeros(alloc, BLOCK)?;
+        Ok(Block { bytes })
     }
 
     /// The bytes.
@@ -78,4 +79,12 @@ impl Block {
     {
         disk.read(at, &mut self.bytes)
     }
+}
+
+// So many zeros.
+fn zeros(alloc: Global, len: usize) -> Result<Vec<u8>, Memory>
+    ensures bytes { IfOk result (λ v. v.items ≡ replicate len 0) }
+    ensures count { IfOk result (λ v. vec_len v ≡ len) }
+{
+    Ok(vec![in alloc; 0; len]?)
 }

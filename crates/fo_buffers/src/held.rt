@@ -1,5 +1,5 @@
 //! What is held.
-ghost use Rattle.std.specs.Prelude.{◌≡◌, ◌⊎◌, ◌+◌, ◌<◌, ◌≤◌, ℕ, List, true, false, not, nat_eq, length, Some, None, is_some, OnOk, OnErr, IfOk, IfSome, MatchOption, vec_len, vec_capacity, [], ◌∷◌, ◌++◌};
+ghost use Rattle.std.specs.Prelude.{◌≡◌, ◌⊎◌, ◌+◌, ◌<◌, ◌≤◌, ℕ, List, true, false, not, nat_eq, length, Some, None, is_some, OnOk, OnErr, IfOk, IfErr, IfSome, MatchOption, vec_len, vec_capacity, [], ◌∷◌, ◌++◌};
 ghost use Rattle.std.specs.Bool.{OnTrue, OnFalse};
 ghost use Rattle.std.specs.Option.{option_copied, option_map, option_map_or};
 ghost use Rattle.std.specs.List.{Contains};
@@ -7,15 +7,26 @@ ghost use Rattle.std.specs.Map.{lookup};
 ghost use Rattle.std.specs.HashMap.{get, spare, Updates, IsUnchanged};
 ghost use Rattle.std.specs.FinMap as map;
 ghost use Rattle.lru.specs.LruCache.{lru_cache, put_entries};
-ghost use Rattle.fo_base.specs.Cause.{HasCause};
+ghost use Rattle.fo_base.specs.Cause.{HasCause, Rose};
 ghost use Rattle.fo_disk.specs.Disk.{versions_of};
 ghost use Rattle.fo_buffers.specs.Held.{Held, held_at, put, unlisted, used, updated, cut, buffer_of, block_in, is_dirty, is_pinned, is_free, with_bytes, settled, pinned_as, IsPinned};
+ghost use Rattle.fo_buffers.specs.Reading.{Looked, Unlooked};
 ghost use Rattle.fo_buffers.specs.Tables.{Changes, Listed};
 
 use crate::block::{Block, Buffer};
 use crate::buffers::Buffers;
 use fo_disk::{Disk, Failed};
+use std::alloc::Global;
 use std::collections::HashMap;
+
+/// Why a block was not read.
+#[derive(Clone, Copy, Debug, PartialEq, Eq)]
+pub enum Unread {
+    /// The device failed.
+    Failed,
+    /// There is no memory.
+    Memory,
+}
 
 impl Buffers {
     /// The bytes of a held block.
@@ -25,6 +36,17 @@ impl Buffers {
     {
         match self.held.get(&at) {
             Some(buffer) => Some(buffer.block.bytes()),
+            None => None,
+        }
+    }
+
+    /// The bytes of a clean block, which are lent without a change in the order of use.
+    pub fn clean_bytes(&self, at: u32) -> Option<&[u8]>
+        ensures value { option_copied result ≡ lookup (nat_eq at) self.now.clean }
+        ensures len { IfSome result (λ bytes. length bytes.now ≡ 8192) }
+    {
+        match self.clean.peek(&at) {
+            Some(block) => Some(block.bytes()),
             None => None,
         }
     }
@@ -55,7 +77,7 @@ impl Buffers {
 
     /// Pins a held block. Room is used where it was not pinned.
     pub fn pin(&mut self, at: u32)
-        requires { 0 < self.old.room }
+        requires { option_map_or is_free (held_at self.old at) false ≡ true → 0 < self.old.room }
         ensures free { option_map_or is_free (held_at self.old at) false ≡ true → self.new ≡ used (updated self.old at (pinned_as true)) }
         ensures same { option_map_or is_free (held_at self.old at) false ≡ false → self.new ≡ self.old }
     {
@@ -68,7 +90,8 @@ impl Buffers {
 
     /// Holds a clean block again, and pins it. It answers false where the block isn't clean.
     pub fn recall(&mut self, at: u32) -> bool
-        requires { 0 < self.old.room }
+        requires room { 0 < self.old.room }
+        requires none { held_at self.old at ≡ None }
         ensures found { result ≡ is_some (lookup (nat_eq at) self.old.clean) }
         ensures held { MatchOption (lookup (nat_eq at) self.old.clean) (self.new ≡ self.old)
             (λ bytes. self.new ≡ used (put (unlisted self.old at) at (buffer_of bytes false true))) }
@@ -82,9 +105,10 @@ impl Buffers {
         true
     }
 
-    /// Reads a block of a device, which is held and pinned from then on. It fails only where the device fails, and then nothing changes.
+    /// Reads a block of a device that isn't held, and holds and pins it. It fails only where the device fails, and then nothing changes.
     pub fn load<D: Disk>(&mut self, disk: &mut D, at: u32) -> Result<(), Failed>
         requires room { 0 < self.old.room }
+        requires none { held_at self.old at ≡ None }
         requires block { at < D.size disk.old }
         ensures ok { OnOk result ((bytes : List ℕ) × (self.new ≡ used (put (unlisted self.old at) at (buffer_of bytes false true)))
             × (at < length (D.holds disk.old) → Contains (versions_of (D.holds disk.old) at) bytes)) }
@@ -99,6 +123,32 @@ impl Buffers {
         self.clean.pop(&at);
         hold(&mut self.held, &mut self.pins, at, block, false);
         self.room -= 1;
+        Ok(())
+    }
+
+    /// Reads a block of a device that isn't held, and puts it among the clean ones as the first, for which no room is needed. Nothing
+    /// changes where the device fails, or where there is no memory for it.
+    pub fn look<D: Disk>(&mut self, alloc: Global, disk: &mut D, at: u32) -> Result<(), Unread>
+        requires none { held_at self.old at ≡ None }
+        requires block { at < D.size disk.old }
+        ensures ok { OnOk result (Looked (D.holds disk.old) at self.old self.new) }
+        ensures err { OnErr result (self.new ≡ self.old) }
+        ensures size { D.size disk.new ≡ D.size disk.old }
+        ensures holds { D.holds disk.new ≡ D.holds disk.old }
+        ensures moments { D.moments disk.new ≡ D.moments disk.old }
+        ensures unsure { D.unsure disk.new ≡ D.unsure disk.old }
+        ensures later { D.faults disk.old ≤ D.faults disk.new }
+        ensures cause { IfErr result (Unlooked (Rose (D.faults disk.old) (D.faults disk.new))) }
+    {
+        let Ok(mut block) = Block::new(alloc) else {
+            return Err(Unread::Memory);
+        };
+        let Ok(()) = block.read(disk, at) else {
+            return Err(Unread::Failed);
+        };
+        let Ok(_listed) = self.clean.put(at, block) else {
+            return Err(Unread::Memory);
+        };
         Ok(())
     }
 

@@ -4,8 +4,8 @@
 //! A block is read from a device here alone, into reserved room.
 //!
 //! Proved: what each call does to all three; a block that is dirty or pinned is never given up; a load fails only where the device
-//! fails, and holds one of the device's versions. Want of memory may be answered by `new` and `reserve` alone; a block that is released
-//! is forgotten where there is none.
+//! fails, and holds one of the device's versions. Want of memory may be answered by `new`, `reserve` and `look` alone; a block that is
+//! released is forgotten where there is none.
 #![tactic(auto)]
 
 mod block;
@@ -14,3 +14,4 @@ mod held;
 
 pub use block::{Block, Buffer};
 pub use buffers::Buffers;
+pub use held::Unread;

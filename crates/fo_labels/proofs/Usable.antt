@@ -65,10 +65,19 @@ none-usable low r small none =
     })
     (cases_lt (position_or_len (is_usable low) r.labels) (length r.labels))
 
+-- one usable block less
+usable-given : (low place : ℕ) (ls : List Label) (l : Label) → place < length ls → is_usable low (get_or ls place free_label) ≡ true → is_usable low l ≡ false → count_by (is_usable low) (set ls place l) + 1 ≡ count_by (is_usable low) ls
+usable-given low place ls l lt was is =
+    let e = sum_by-set (λ x. cond (is_usable low x) 1 0) ls place l free_label lt in
+    let a : cond {A = ℕ} (is_usable low (get_or ls place free_label)) 1 0 ≡ 1 = ap (λ b. cond {A = ℕ} b 1 0) was in
+    let b : cond {A = ℕ} (is_usable low l) 1 0 ≡ 0 = ap (λ b. cond {A = ℕ} b 1 0) is in
+    omega (arith, e, a, b)
+
 pub record SomeUsable (low : ℕ) (r : Region) (place : ℕ) : Type 0 where
   pub some : Some (r.first + place) ≡ least_usable low r
   pub counted : 1 ≤ usable_count low r
   pub block : IsUsableBlock low r (r.first + place)
+  pub given : (l : Label) → is_usable low l ≡ false → count_by (is_usable low) (set r.labels place l) + 1 ≡ usable_count low r
 
 pub some-usable : (low place : ℕ) (r : Region) → low < 2 ^ 32 → Some place ≡ position (λ x. leb x low) (map floor r.labels) → SomeUsable low r place
 some-usable low place r small some =
@@ -83,6 +92,7 @@ some-usable low place r small some =
         block = record { from = omega arith; to = omega (arith, found.0) };
         usable = rw same found.1;
       };
+      given = λ l is. usable-given low place r.labels l found.0 found.1 is;
     }
 
 -- what the count loses and gains where one label is changed

@@ -61,6 +61,20 @@ impl Labels {
         })
     }
 
+    /// The address of the first data block.
+    pub fn first(&self) -> u32
+        ensures { result ≡ self.now.first }
+    {
+        self.first
+    }
+
+    /// How many data blocks there are.
+    pub fn len(&self) -> u32
+        ensures { result ≡ length self.now.labels }
+    {
+        self.labels.len() as u32
+    }
+
     /// Gives out the usable block of the least address, and None exactly where no block is usable. Its label is live
     /// from then on, with this kind, tag and epoch.
     pub fn alloc(&mut self, kind: Kind, tag: u32, epoch: u32, settled_low: u32) -> Option<u32>
@@ -70,6 +84,7 @@ impl Labels {
         ensures some { IfSome result (IsUsableBlock settled_low self.old) }
         ensures labels { MatchOption result (self.new ≡ self.old)
             (λ at. self.new ≡ relabeled self.old at (live_label kind tag epoch)) }
+        ensures usable { IfSome result (λ at. usable_count settled_low self.new + 1 ≡ usable_count settled_low self.old) }
     {
         let first = self.first;
         let Some(place) = self.floors.first_within(settled_low) else {

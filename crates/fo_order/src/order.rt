@@ -1,8 +1,8 @@
 //! The order of writing.
 ghost use Rattle.std.specs.Bool.{OnTrue, OnFalse};
-ghost use Rattle.std.specs.Prelude.{◌≡◌, ◌<◌, ◌≤◌, true, [], length, replicate, max, count_by, IfOk, OnOk, OnErr};
-ghost use Rattle.fo_order.specs.Flags.{quiet, is_dirty};
-ghost use Rattle.fo_order.specs.Turns.{flag_at, changed, wrote, forgotten, IsSynced, IsTurn};
+ghost use Rattle.std.specs.Prelude.{◌≡◌, ◌-◌, ◌<◌, ◌≤◌, true, false, [], length, replicate, max, count_by, IfOk, OnOk, OnErr};
+ghost use Rattle.fo_order.specs.Flags.{quiet, flags_of, is_dirty};
+ghost use Rattle.fo_order.specs.Turns.{flag_at, noted, is_ranked, changed, wrote, forgotten, IsSynced, IsTurn};
 
 use crate::marks::{Flags, Mark, Tried, add_mark, drop_stale, settle_all, top};
 use fo_base::Memory;
@@ -118,13 +118,31 @@ impl Order {
     /// A block was changed, and is dirty with this rank. Room is used where it wasn't so.
     pub fn change(&mut self, at: u32, rank: u32)
         requires block { at < length self.old.flags }
-        requires room { 0 < self.old.room }
+        requires room { is_ranked rank (flag_at self.old at) ≡ false → 0 < self.old.room }
         ensures { self.new ≡ changed self.old at rank }
     {
-        let was = self.flags[at as usize];
-        if was.dirty && was.rank == rank {
+        if self.is_ranked(at, rank) {
             return;
         }
+        self.mark(at, rank);
+    }
+
+    // Whether a block is dirty with this rank already.
+    fn is_ranked(&self, at: u32, rank: u32) -> bool
+        requires { at < length self.now.flags }
+        ensures { result ≡ is_ranked rank (flag_at self.now at) }
+    {
+        let was = self.flags[at as usize];
+        was.dirty && was.rank == rank
+    }
+
+    // A block is dirty with this rank.
+    fn mark(&mut self, at: u32, rank: u32)
+        requires block { at < length self.old.flags }
+        requires room { 0 < self.old.room }
+        ensures { self.new ≡ record (noted self.old at (flags_of true (flag_at self.old at).tried rank)) { room = self.old.room - 1 } }
+    {
+        let was = self.flags[at as usize];
         self.flags[at as usize] = Flags {
             dirty: true,
             tried: was.tried,

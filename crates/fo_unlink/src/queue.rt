@@ -98,6 +98,13 @@ impl Queue {
         self.removals.len() as u32
     }
 
+    /// For how many more removals there is room.
+    pub fn room(&self) -> u32
+        ensures { result ≡ self.now.room }
+    {
+        self.room
+    }
+
     /// Takes back what was asked for, as where the block could not be read: the next step asks again, which is one reading more.
     pub fn ask_again(&mut self)
         ensures unasked { self.new ≡ unasked self.old }
