@@ -1,0 +1,52 @@
+use Rattle.std.proofs.Common.{◌<◌, length, refl, arith}
+use Rattle.fo_mind.specs.MindParts.{parts}
+use Rattle.fo_mind.proofs.Keeping.{may_bring, holding_brought, waiting_brought, placed_owed, owing_owed, roomy_owed}
+use Rattle.fo_mind.proofs.Getting.{source_brought, pinned_brought, marks_owed, brings_brought}
+use Rattle.fo_mind.proofs.mind.Mind.bring_in.Goals as goal
+
+pub invariant_of-self-clause-placed : goal.invariant_of-self-clause-placed
+invariant_of-self-clause-placed g c =
+    let self = c.args.self.now in
+    let n = self.placed.fact_count in
+    let b = c.requires.block.1 in
+    let lt : c.args.at < length self.facts.items = omega (arith, b, n) in
+    placed_owed self.facts.items c.owe.new.facts.items c.args.at c.args.rank lt c.owe.ensures.items self.placed
+
+pub invariant_of-self-clause-holding : goal.invariant_of-self-clause-holding
+invariant_of-self-clause-holding g c =
+    holding_brought c.requires.block c.requires.kind c.requires.kept c.bring.ensures.others (may_bring c.bring.result c.bring.ensures.ok c.bring.ensures.err) c.args.self.now.holding
+
+pub invariant_of-self-clause-waiting : goal.invariant_of-self-clause-waiting
+invariant_of-self-clause-waiting g c = waiting_brought c.requires.none c.bring.ensures.others c.args.self.now.waiting
+
+pub invariant_of-self-clause-owing : goal.invariant_of-self-clause-owing
+invariant_of-self-clause-owing g c =
+    let self = c.args.self.now in
+    let n = self.placed.fact_count in
+    let b = c.requires.block.1 in
+    let lt : c.args.at < length self.facts.items = omega (arith, b, n) in
+    owing_owed self.facts.items c.owe.new.facts.items c.args.at c.args.rank lt c.owe.ensures.items c.bring.ensures.others.held self.owing
+
+pub invariant_of-self-clause-roomy : goal.invariant_of-self-clause-roomy
+invariant_of-self-clause-roomy g c =
+    let self = c.args.self.now in
+    let n = self.placed.fact_count in
+    let b = c.requires.block.1 in
+    let lt : c.args.at < length self.facts.items = omega (arith, b, n) in
+    roomy_owed self.facts.items c.owe.new.facts.items c.args.at c.args.rank lt c.owe.ensures.items c.requires.left c.bring.ensures.others.room self.roomy
+
+pub returns-clause-here : goal.returns-clause-here
+returns-clause-here g c = pinned_brought _ _ _ _ c.args.at _ _ c.bring.result c.bring.ensures.ok
+
+pub returns-clause-source : goal.returns-clause-source
+returns-clause-source g c = source_brought _ _ _ _ c.args.at _ _ c.bring.result c.requires.none c.bring.ensures.ok
+
+pub returns-clause-brings : goal.returns-clause-brings
+returns-clause-brings g c =
+    let self = c.args.self.now in
+    let n = self.placed.fact_count in
+    let b = c.requires.block.1 in
+    let lt : c.args.at < length self.facts.items = omega (arith, b, n) in
+    brings_brought (parts self (g.D.Disk.holds c.args.main.now) (g.D.Disk.faults c.args.main.now)) _ c.args.at c.bring.ensures.holds c.bring.ensures.later refl
+    (marks_owed self.facts.items c.owe.new.facts.items c.args.at c.args.rank lt c.owe.ensures.items)
+    c.requires.none c.bring.ensures.others (may_bring c.bring.result c.bring.ensures.ok c.bring.ensures.err)

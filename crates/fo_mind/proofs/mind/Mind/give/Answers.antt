@@ -1,0 +1,134 @@
+use Rattle.std.proofs.Common.{◌<◌, ◌≤◌, ◌-◌, List, length, refl, sym, ap, ◌∙◌, subst, arith}
+use Rattle.fo_image.specs.Format.{LabelHolds}
+use Rattle.fo_image.specs.Usable.{live_label}
+use Rattle.fo_buffers.specs.Held.{Held}
+use Rattle.fo_order.specs.Keeps.{Turns}
+use Rattle.fo_order.specs.Turns.{changed}
+use Rattle.fo_labels.specs.Region.{Region}
+use Rattle.fo_bring.specs.Blocks.{IsData}
+use Rattle.fo_mind.specs.declared.facts.Fact.{Fact}
+use Rattle.fo_mind.specs.Changes.{made_fact}
+use Rattle.fo_mind.specs.Sound.{Placed, Labelled, Holding, Waiting, Clearable, Owing, Roomy}
+use Rattle.fo_mind.proofs.Giving.{clearable_given, holding_given, labelled_given, owing_given, placed_given, roomy_given, waiting_given}
+use Rattle.fo_mind.proofs.Results.{both, three}
+use Rattle.fo_mind.proofs.mind.Mind.give.Goals as goal
+
+pub alloc_in-at-requires-clause-label : goal.alloc_in-at-requires-clause-label
+alloc_in-at-requires-clause-label c =
+    record { state_holds = (c.requires.kind, c.args.self.now.rooted.high, refl) }
+
+pub make-requires-clause-length : goal.make-requires-clause-length
+make-requires-clause-length c =
+    c.requires.good.long
+
+pub change-requires-clause-block : goal.change-requires-clause-block
+change-requires-clause-block c =
+    let self = c.args.self.now in
+    let at = c.alloc_in-at.result in
+    let u = c.alloc_in-at.ensures.usable in
+    let block : IsData self.first self.count at = (subst (λ n. n ≤ at) self.placed.is_first u.block.from, subst (λ n. at < n) self.placed.is_count u.block.to) in
+    let n = self.placed.fact_count in
+    let b = block.1 in
+    let lt : at < length self.facts.items = omega (arith, b, n) in
+    let p = self.placed.is_place in
+    let m = self.placed.flag_count in
+    let e = c.label_place.ensures.block in
+    let within : c.label_place.result.0 < length self.order.flags = omega (arith, e, m, p, b, block.0) in
+    within
+
+pub note_made-requires : goal.note_made-requires
+note_made-requires c =
+    let self = c.args.self.now in
+    let at = c.alloc_in-at.result in
+    let u = c.alloc_in-at.ensures.usable in
+    let block : IsData self.first self.count at = (subst (λ n. n ≤ at) self.placed.is_first u.block.from, subst (λ n. at < n) self.placed.is_count u.block.to) in
+    let n = self.placed.fact_count in
+    let b = block.1 in
+    let lt : at < length self.facts.items = omega (arith, b, n) in
+    lt
+
+pub invariant_of-self-clause-placed : goal.invariant_of-self-clause-placed
+invariant_of-self-clause-placed c =
+    let self = c.args.self.now in
+    let at = c.alloc_in-at.result in
+    let u = c.alloc_in-at.ensures.usable in
+    let l = live_label c.args.kind c.args.tag self.one.high in
+    three (λ (r : Region) (t : Turns) (fs : List Fact). Placed r t fs self.first self.count) c.alloc_in-at.ensures.is c.change.ensures c.note_made.ensures.items (placed_given self.facts.items at 0 c.label_place.result.0 l (made_fact c.args.origin c.args.rank) self.placed)
+
+pub invariant_of-self-clause-labelled : goal.invariant_of-self-clause-labelled
+invariant_of-self-clause-labelled c =
+    let self = c.args.self.now in
+    let at = c.alloc_in-at.result in
+    let u = c.alloc_in-at.ensures.usable in
+    let l = live_label c.args.kind c.args.tag self.one.high in
+    let holds : LabelHolds l = record { state_holds = (c.requires.kind, self.rooted.high, refl) } in
+    subst Labelled (sym c.alloc_in-at.ensures.is) (labelled_given self.labels at l u.block holds self.labelled)
+
+pub invariant_of-self-clause-holding : goal.invariant_of-self-clause-holding
+invariant_of-self-clause-holding c =
+    let self = c.args.self.now in
+    let at = c.alloc_in-at.result in
+    let u = c.alloc_in-at.ensures.usable in
+    let l = live_label c.args.kind c.args.tag self.one.high in
+    let block : IsData self.first self.count at = (subst (λ n. n ≤ at) self.placed.is_first u.block.from, subst (λ n. at < n) self.placed.is_count u.block.to) in
+    both (λ (r : Region) (h : Held). Holding self.one.low self.first self.count r h) c.alloc_in-at.ensures.is c.make.ensures (holding_given self.labels at l u.block self.buffers refl refl block c.requires.good self.holding)
+
+pub invariant_of-self-clause-waiting : goal.invariant_of-self-clause-waiting
+invariant_of-self-clause-waiting c =
+    let self = c.args.self.now in
+    let at = c.alloc_in-at.result in
+    let u = c.alloc_in-at.ensures.usable in
+    let l = live_label c.args.kind c.args.tag self.one.high in
+    both (λ (r : Region) (h : Held). Waiting r h self.waits.items) c.alloc_in-at.ensures.is c.make.ensures (waiting_given self.labels at l u.block c.args.bytes.now self.buffers u.usable self.holding self.waiting)
+
+pub invariant_of-self-clause-clearable : goal.invariant_of-self-clause-clearable
+invariant_of-self-clause-clearable c =
+    let self = c.args.self.now in
+    let at = c.alloc_in-at.result in
+    let u = c.alloc_in-at.ensures.usable in
+    let l = live_label c.args.kind c.args.tag self.one.high in
+    subst (λ (r : Region). Clearable r self.one.low self.one.high self.clears.items) (sym c.alloc_in-at.ensures.is) (clearable_given self.labels at l u.block u.usable self.clearable)
+
+pub invariant_of-self-clause-owing : goal.invariant_of-self-clause-owing
+invariant_of-self-clause-owing c =
+    let self = c.args.self.now in
+    let at = c.alloc_in-at.result in
+    let u = c.alloc_in-at.ensures.usable in
+    let block : IsData self.first self.count at = (subst (λ n. n ≤ at) self.placed.is_first u.block.from, subst (λ n. at < n) self.placed.is_count u.block.to) in
+    let n = self.placed.fact_count in
+    let b = block.1 in
+    let lt : at < length self.facts.items = omega (arith, b, n) in
+    let p = self.placed.is_place in
+    let m = self.placed.flag_count in
+    let e = c.label_place.ensures.block in
+    let within : c.label_place.result.0 < length self.order.flags = omega (arith, e, m, p, b, block.0) in
+    three (λ (h : Held) (t : Turns) (fs : List Fact). Owing h t fs) c.make.ensures c.change.ensures c.note_made.ensures.items (owing_given self.facts.items at 0 c.label_place.result.0 (made_fact c.args.origin c.args.rank) c.args.bytes.now lt within refl self.owing)
+
+pub invariant_of-self-clause-roomy : goal.invariant_of-self-clause-roomy
+invariant_of-self-clause-roomy c =
+    let self = c.args.self.now in
+    let at = c.alloc_in-at.result in
+    let u = c.alloc_in-at.ensures.usable in
+    let block : IsData self.first self.count at = (subst (λ n. n ≤ at) self.placed.is_first u.block.from, subst (λ n. at < n) self.placed.is_count u.block.to) in
+    let n = self.placed.fact_count in
+    let b = block.1 in
+    let lt : at < length self.facts.items = omega (arith, b, n) in
+    both (λ (t : Turns) (fs : List Fact). Roomy c.make.new.self t c.alloc_in-at.new.labels fs self.one.low (self.spare - 1) self.pins) c.change.ensures c.note_made.ensures.items (roomy_given self.facts.items at 0 c.label_place.result.0 (made_fact c.args.origin c.args.rank) lt (ap (λ (h : Held). h.room) c.make.ensures) c.requires.spare c.alloc_in-at.ensures.count self.roomy)
+
+pub returns : goal.returns
+returns c =
+    let self = c.args.self.now in
+    let at = c.alloc_in-at.result in
+    let u = c.alloc_in-at.ensures.usable in
+    λ disk faults.
+    let spare = c.requires.spare in
+    record {
+      least = c.alloc_in-at.ensures.least;
+      usable = u;
+      region = c.alloc_in-at.ensures.is;
+      held = c.make.ensures;
+      turns = c.change.ensures ∙ ap (λ n. changed self.order n 0) c.label_place.ensures.block;
+      facts = c.note_made.ensures.items;
+      spare = omega (arith, spare);
+      rest = refl;
+    }

@@ -1,0 +1,9 @@
+pub mod Changes
+pub mod Frames
+pub mod Got
+pub mod Lawful
+pub mod Laws
+pub mod MindParts
+pub mod Parts
+pub mod Props
+pub mod Sound

@@ -1,0 +1,186 @@
+-- What a cache keeps, as plain values, and what the calls on blocks see of it.
+use Rattle.std.specs.Prelude.{◌≡◌, ◌⊎◌, ◌+◌, ◌/◌, ◌≤◌, ℕ, Bool, true, false, cond, nat_eq, nat_lt, List, [], ◌∷◌, length, slice_index_or, Option, Some, None}
+use Rattle.std.specs.Option.{option_map_or}
+use Rattle.std.specs.Map.{lookup}
+use Rattle.fo_disk.specs.Disk.{versions_of, latest_of}
+use Rattle.fo_disk.specs.Disk.{Content as Holds}
+use Rattle.fo_image.specs.declared.types.Label.{Label}
+use Rattle.fo_image.specs.declared.types.Super.{Super}
+use Rattle.fo_image.specs.declared.types.Pointer.TheVariants.{Nil}
+use Rattle.fo_image.specs.Field.{Four, number_at}
+use Rattle.fo_image.specs.Place.{label_block}
+use Rattle.fo_image.specs.Usable.{free_label}
+use Rattle.fo_crash.specs.declared.slot.Slot.{Slot}
+use Rattle.fo_crash.specs.declared.slot.Slot.TheVariants.{Pointer as To, Entry as Head, Prev}
+use Rattle.fo_crash.specs.Images.{Content, Image, SameContent, to_block}
+use Rattle.fo_buffers.specs.declared.block.Buffer.{Buffer}
+use Rattle.fo_buffers.specs.Held.{Held, held_at, is_dirty, is_pinned}
+use Rattle.fo_order.specs.declared.marks.Tried.TheVariants.{Settled}
+use Rattle.fo_order.specs.Keeps.{Turns}
+use Rattle.fo_order.specs.Turns.{flag_at}
+use Rattle.fo_labels.specs.Region.{Region, label_of, usable_count}
+use Rattle.fo_slots.specs.Read.{read}
+use Rattle.fo_ports.specs.State.{State}
+use Rattle.fo_mind.specs.declared.facts.Fact.{Fact}
+use Rattle.fo_mind.specs.declared.facts.Wait.{Wait}
+use Rattle.fo_mind.specs.declared.facts.Clearing.{Clearing}
+use Rattle.fo_bring.specs.Blocks.{IsData}
+
+pub record Parts : Type 0 where
+  -- buffers, flags and labels
+  pub held : Held
+  pub turns : Turns
+  pub region : Region
+  -- what is known of each address beside these
+  pub facts : List Fact
+  pub waits : List Wait
+  pub clears : List Clearing
+  -- the super block of memory with its bytes, and the bytes of the one that was last tried, while that is in doubt
+  pub one : Super
+  pub one_bytes : List ℕ
+  pub doubt : Option (List ℕ)
+  -- the next file number, and whether it was granted
+  pub next : ℕ
+  pub granted : Bool
+  -- how many blocks may be made, how many pinned, and how many removals and waits are left
+  pub spare : ℕ
+  pub pins : ℕ
+  pub room : ℕ
+  pub queued : ℕ
+  -- what the device holds, and how many faults it had
+  pub disk : Holds
+  pub faults : ℕ
+
+abbrev pub count_of : Region → ℕ
+count_of r = r.first + length r.labels
+
+abbrev pub IsBlock : Parts → ℕ → Type 0
+IsBlock p b = IsData p.region.first (count_of p.region) b
+
+-- of an address of which nothing is known
+abbrev pub no_fact : Fact
+no_fact = record { apart = false; origin = None; linked = true; fresh = false; sealed = true; owes = false; rank = 0 }
+
+abbrev pub fact_at : List Fact → ℕ → Fact
+fact_at facts b = slice_index_or facts b no_fact
+
+-- a unit of room in the order of writing is kept for the block, with this rank
+abbrev pub owing_as : ℕ → Fact → Fact
+owing_as rank f = record f { owes = true; rank = rank }
+
+-- the label of an address: blocks before the data blocks have none
+abbrev pub label_at : Region → ℕ → Label
+label_at r b = cond (nat_lt b r.first) free_label (label_of r b)
+
+-- ---- memory
+
+-- what is held of a block, else what is clean, else the last version that the device tells
+abbrev pub bytes_of : Option Buffer → Option (List ℕ) → List ℕ → List ℕ
+bytes_of (Some x) clean last = x.block
+bytes_of None (Some bytes) last = bytes
+bytes_of None None last = last
+
+abbrev pub bytes_at : Held → Holds → ℕ → List ℕ
+bytes_at held disk b = bytes_of (held_at held b) (lookup (nat_eq b) held.clean) (latest_of (versions_of disk b))
+
+abbrev pub one_slot : Super → ℕ → Slot
+one_slot s i = cond (nat_eq i 0) (to_block s.active) (To Nil)
+
+abbrev pub one_content : Super → List ℕ → Content
+one_content s bytes = record { bytes = bytes; slot = one_slot s }
+
+abbrev pub content_at : Region → Held → Holds → ℕ → Content
+content_at region held disk b = read (label_at region b).kind (bytes_at held disk b)
+
+abbrev pub memory : Parts → Image
+memory p b = cond (nat_eq b 1) (one_content p.one p.one_bytes) (content_at p.region p.held p.disk b)
+
+-- ---- marks
+
+abbrev pub IsApart : List Fact → ℕ → Type 0
+IsApart facts b = (fact_at facts b).apart ≡ true
+
+abbrev pub Instead : List Fact → ℕ → ℕ → Type 0
+Instead facts y x = ((fact_at facts y).apart ≡ true) × ((fact_at facts y).origin ≡ Some x)
+
+abbrev pub IsPinned : Held → ℕ → Type 0
+IsPinned held b = option_map_or is_pinned (held_at held b) false ≡ true
+
+-- Memory changed it since the device had it for certain; a block that was made and is not linked yet has no turn, but is dirty.
+abbrev pub IsDirty : Turns → Held → ℕ → Type 0
+IsDirty turns held b = ((flag_at turns b).dirty ≡ true) ⊎ (option_map_or is_dirty (held_at held b) false ≡ true)
+
+abbrev pub is_active : Slot → Bool
+is_active (Head e) = e.active
+is_active (To p) = false
+is_active (Prev epoch at) = false
+
+-- This block waits for this pair of entries of that one.
+abbrev pub Listed : List Wait → ℕ → ℕ → ℕ → Type 0
+Listed [] a on k = ⊥
+Listed (w ∷ ws) a on k = ((w.at ≡ a) × (w.on ≡ on) × (w.pair ≡ k)) ⊎ Listed ws a on k
+
+abbrev pub Awaits : List Wait → ℕ → ℕ → ℕ → Type 0
+Awaits waits a on j = Listed waits a on (j / 2)
+
+-- This slot waits to be cleared.
+abbrev pub Clears : List Clearing → ℕ → ℕ → Type 0
+Clears [] at j = ⊥
+Clears (c ∷ cs) at j = ((c.at ≡ at) × (c.slot ≡ j)) ⊎ Clears cs at j
+
+-- One version, no change, and no slot that waits.
+abbrev pub IsSure : Parts → ℕ → Type 0
+IsSure p b = ((flag_at p.turns b).tried ≡ Settled) × (IsDirty p.turns p.held b → ⊥) × ((j : ℕ) → Clears p.clears b j → ⊥)
+
+abbrev pub IsDoubt : Super → Option (List ℕ) → Content → Type 0
+IsDoubt s None c = ⊥
+IsDoubt s (Some bytes) c = SameContent c (one_content s bytes)
+
+-- ---- what the calls on blocks see
+
+-- Nothing is told, so no image is left, nothing stands, and nothing is to be closed.
+abbrev pub state_of : Parts → State
+state_of p = record {
+  now = memory p;
+  label = label_at p.region;
+  stands = λ b q. ⊥;
+  apart = IsApart p.facts;
+  instead = Instead p.facts;
+  high = p.one.high;
+  root = p.one.active;
+  tops = λ t. t ≡ 1;
+  is_block = IsBlock p;
+  held = λ score kind. None;
+  next = p.next;
+  grants = p.granted ≡ true;
+  limit = λ c. number_at Four 22 c.bytes;
+  tells = ⊥;
+  may_leave = λ image. ⊥;
+  moments = 0;
+  left = λ k image. ⊥;
+  doubt = IsDoubt p.one p.doubt;
+  sure = IsSure p;
+  fresh = λ b. (fact_at p.facts b).fresh ≡ true;
+  sealed = λ b. (fact_at p.facts b).sealed ≡ true;
+  spare = p.spare;
+  pins_left = p.pins;
+  room = p.room;
+  pinned = IsPinned p.held;
+  usable = usable_count p.one.low p.region;
+  label_block = label_block;
+  dirty = IsDirty p.turns p.held;
+  queued = p.queued;
+  waits = Awaits p.waits;
+  clearing = Clears p.clears;
+  covered = λ b. ⊥;
+  faults = p.faults;
+  arena_faults = 0;
+}
+
+-- What every call keeps.
+pub record CacheKeeps (old new : Parts) : Type 0 where
+  pub first : new.region.first ≡ old.region.first
+  pub count : length new.region.labels ≡ length old.region.labels
+  pub high : new.one.high ≡ old.one.high
+  pub root : new.one.active ≡ old.one.active
+  pub faults : old.faults ≤ new.faults

@@ -1,0 +1,256 @@
+//! Blocks are got.
+ghost use Rattle.std.specs.Prelude.{◌≡◌, ◌+◌, ◌<◌, ◌≤◌, ◌↔◌, ℕ, true, false, None, length, is_some, IsTrue, IsOk, OnOk, OnErr, IfErr};
+ghost use Rattle.fo_base.specs.Cause.{Rose};
+ghost use Rattle.fo_disk.specs.Disk.{Content as Holds};
+ghost use Rattle.fo_buffers.specs.Held.{held_at};
+ghost use Rattle.fo_image.specs.Usable.{is_usable};
+ghost use Rattle.fo_ports.specs.Blocks.{IsRanked};
+ghost use Rattle.fo_ports.specs.Causes.{Caused};
+ghost use Rattle.fo_ports.specs.declared.error.BlockError.TheVariants.{Damaged};
+ghost use Rattle.fo_bring.specs.Blocks.{IsData};
+ghost use Rattle.fo_bring.specs.Holds.{RanksIn, IsFrom};
+ghost use Rattle.fo_mind.specs.Parts.{IsPinned, label_at, memory};
+ghost use Rattle.fo_mind.specs.Got.{Got, IsHeldAs, IsSource};
+ghost use Rattle.fo_mind.specs.Frames.{Brings};
+ghost use Rattle.fo_mind.specs.MindParts.{parts};
+
+use crate::mind::{Mind, owe};
+use fo_bring::{bring, copy_held, glance};
+use fo_disk::Disk;
+use fo_image::{Kind, Label, is_usable};
+use fo_ports::BlockError;
+
+fn is_kind(kind: Kind, other: Kind) -> bool
+    ensures { IsTrue result ↔ (kind ≡ other) }
+{
+    kind == other
+}
+
+impl Mind {
+    /// The label of a data block.
+    pub fn label(&self, at: u32) -> Label
+        requires { IsData self.now.first self.now.count at }
+        ensures { result ≡ label_at self.now.labels at }
+    {
+        self.labels.label(at)
+    }
+
+    /// Whether a block is pinned.
+    pub fn is_pinned(&self, at: u32) -> bool
+        ensures { IsTrue result ↔ IsPinned self.now.buffers at }
+    {
+        self.buffers.is_pinned(at)
+    }
+
+    // Copies out a held block of this kind and rank.
+    fn copy_out(&self, at: u32, kind: Kind, rank: u32, into: &mut [u8]) -> Result<(), BlockError>
+        requires length { length into.old ≡ 8192 }
+        requires kind { (label_at self.now.labels at).kind ≡ kind }
+        requires held { is_some (held_at self.now.buffers at) ≡ true }
+        ensures got { OnOk result ((disk : Holds) (faults : ℕ) → Got self.now.first self.now.count kind rank (parts self.now disk faults) at into.new) }
+        ensures is { OnOk result (IsHeldAs (held_at self.now.buffers at) into.new) }
+        ensures again { RanksIn kind rank (held_at self.now.buffers at) → IsOk result }
+        ensures nothing { OnErr result (into.new ≡ into.old) }
+        ensures cause { IfErr result (λ e. e ≡ Damaged at) }
+    {
+        if !copy_held(&self.buffers, self.first, self.count, kind, rank, at, into) {
+            return Err(BlockError::Damaged(at));
+        }
+        Ok(())
+    }
+
+    // Pins a held block.
+    fn pin(&mut self, at: u32, rank: u32)
+        requires block { IsData self.old.first self.old.count at }
+        requires left { 0 < self.old.pins }
+        requires held { is_some (held_at self.old.buffers at) ≡ true }
+        ensures here { IsPinned self.new.buffers at }
+        ensures source { (disk : Holds) → IsSource disk at self.old.buffers (held_at self.new.buffers at) }
+        ensures labels { self.new.labels ≡ self.old.labels }
+        ensures pins { self.new.pins + 1 ≡ self.old.pins }
+        ensures brings { (disk : Holds) (faults : ℕ) → Brings at (parts self.old disk faults) (parts self.new disk faults) }
+    {
+        self.pins -= 1;
+        owe(&mut self.facts, at, rank);
+        self.buffers.pin(at);
+    }
+
+    // Brings a block into memory that is not held, and pins it.
+    fn bring_in<D: Disk>(
+        &mut self,
+        main: &mut D,
+        at: u32,
+        kind: Kind,
+        rank: u32,
+    ) -> Result<(), BlockError>
+        requires block { IsData self.old.first self.old.count at }
+        requires kind { (label_at self.old.labels at).kind ≡ kind }
+        requires left { 0 < self.old.pins }
+        requires within { self.old.count ≤ D.size main.old }
+        requires kept { is_usable self.old.one.low (label_at self.old.labels at) ≡ false }
+        requires none { held_at self.old.buffers at ≡ None }
+        ensures here { OnOk result (IsPinned self.new.buffers at) }
+        ensures source { OnOk result (IsSource (D.holds main.old) at self.old.buffers (held_at self.new.buffers at)) }
+        ensures labels { self.new.labels ≡ self.old.labels }
+        ensures pins { self.new.pins + 1 ≡ self.old.pins }
+        ensures brings { Brings at (parts self.old (D.holds main.old) (D.faults main.old)) (parts self.new (D.holds main.new) (D.faults main.new)) }
+        ensures size { D.size main.new ≡ D.size main.old }
+        ensures holds { D.holds main.new ≡ D.holds main.old }
+        ensures moments { D.moments main.new ≡ D.moments main.old }
+        ensures unsure { D.unsure main.new ≡ D.unsure main.old }
+        ensures cause { IfErr result (Caused ⊥ (λ b. b ≡ at) (Rose (D.faults main.old) (D.faults main.new)) ⊥) }
+    {
+        let first = self.first;
+        let count = self.count;
+        self.pins -= 1;
+        owe(&mut self.facts, at, rank);
+        bring(main, &mut self.buffers, first, count, kind, at)
+    }
+
+    // Holds a block and pins it, while pins are left.
+    fn hold<D: Disk>(
+        &mut self,
+        main: &mut D,
+        at: u32,
+        kind: Kind,
+        rank: u32,
+    ) -> Result<(), BlockError>
+        requires block { IsData self.old.first self.old.count at }
+        requires kind { (label_at self.old.labels at).kind ≡ kind }
+        requires kept { is_usable self.old.one.low (label_at self.old.labels at) ≡ false }
+        requires left { 0 < self.old.pins }
+        requires within { self.old.count ≤ D.size main.old }
+        ensures here { OnOk result (IsPinned self.new.buffers at) }
+        ensures source { OnOk result (IsSource (D.holds main.old) at self.old.buffers (held_at self.new.buffers at)) }
+        ensures labels { self.new.labels ≡ self.old.labels }
+        ensures pins { self.new.pins + 1 ≡ self.old.pins }
+        ensures brings { Brings at (parts self.old (D.holds main.old) (D.faults main.old)) (parts self.new (D.holds main.new) (D.faults main.new)) }
+        ensures size { D.size main.new ≡ D.size main.old }
+        ensures holds { D.holds main.new ≡ D.holds main.old }
+        ensures moments { D.moments main.new ≡ D.moments main.old }
+        ensures unsure { D.unsure main.new ≡ D.unsure main.old }
+        ensures cause { IfErr result (Caused ⊥ (λ b. b ≡ at) (Rose (D.faults main.old) (D.faults main.new)) ⊥) }
+    {
+        if self.buffers.is_held(at) {
+            self.pin(at, rank);
+            return Ok(());
+        }
+        self.bring_in(main, at, kind, rank)
+    }
+
+    // Copies out a block for which no pin is left.
+    fn scan<D: Disk>(
+        &mut self,
+        main: &mut D,
+        at: u32,
+        kind: Kind,
+        rank: u32,
+        into: &mut [u8],
+    ) -> Result<(), BlockError>
+        requires block { IsData self.old.first self.old.count at }
+        requires length { length into.old ≡ 8192 }
+        requires kind { (label_at self.old.labels at).kind ≡ kind }
+        requires within { self.old.count ≤ D.size main.old }
+        ensures got { OnOk result (Got self.new.first self.new.count kind rank (parts self.new (D.holds main.new) (D.faults main.new)) at into.new) }
+        ensures source { OnOk result (IsFrom (D.holds main.old) at self.old.buffers into.new) }
+        ensures nothing { OnErr result (into.new ≡ into.old) }
+        ensures pins { self.new.pins ≡ self.old.pins }
+        ensures brings { Brings at (parts self.old (D.holds main.old) (D.faults main.old)) (parts self.new (D.holds main.new) (D.faults main.new)) }
+        ensures size { D.size main.new ≡ D.size main.old }
+        ensures holds { D.holds main.new ≡ D.holds main.old }
+        ensures moments { D.moments main.new ≡ D.moments main.old }
+        ensures unsure { D.unsure main.new ≡ D.unsure main.old }
+        ensures cause { IfErr result (Caused ⊥ (λ b. b ≡ at) (Rose (D.faults main.old) (D.faults main.new)) ⊥) }
+    {
+        if self.buffers.is_held(at) {
+            return self.copy_out(at, kind, rank, into);
+        }
+        let first = self.first;
+        let count = self.count;
+        glance(
+            self.alloc,
+            main,
+            &mut self.buffers,
+            first,
+            count,
+            kind,
+            rank,
+            at,
+            into,
+        )
+    }
+
+    // Copies out a block that is not pinned.
+    fn take<D: Disk>(
+        &mut self,
+        main: &mut D,
+        at: u32,
+        kind: Kind,
+        rank: u32,
+        into: &mut [u8],
+    ) -> Result<(), BlockError>
+        requires block { IsData self.old.first self.old.count at }
+        requires length { length into.old ≡ 8192 }
+        requires kind { (label_at self.old.labels at).kind ≡ kind }
+        requires within { self.old.count ≤ D.size main.old }
+        ensures got { OnOk result (Got self.new.first self.new.count kind rank (parts self.new (D.holds main.new) (D.faults main.new)) at into.new) }
+        ensures source { OnOk result (IsFrom (D.holds main.old) at self.old.buffers into.new) }
+        ensures nothing { OnErr result (into.new ≡ into.old) }
+        ensures pinned { OnOk result (0 < self.old.pins → IsPinned self.new.buffers at) }
+        ensures pins { self.old.pins ≤ self.new.pins + 1 }
+        ensures brings { Brings at (parts self.old (D.holds main.old) (D.faults main.old)) (parts self.new (D.holds main.new) (D.faults main.new)) }
+        ensures size { D.size main.new ≡ D.size main.old }
+        ensures holds { D.holds main.new ≡ D.holds main.old }
+        ensures moments { D.moments main.new ≡ D.moments main.old }
+        ensures unsure { D.unsure main.new ≡ D.unsure main.old }
+        ensures cause { IfErr result (Caused ⊥ (λ b. b ≡ at) (Rose (D.faults main.old) (D.faults main.new)) ⊥) }
+    {
+        if is_usable(&self.label(at), self.one.low) {
+            return Err(BlockError::Damaged(at));
+        }
+        if self.pins == 0 {
+            return self.scan(main, at, kind, rank, into);
+        }
+        if let Err(e) = self.hold(main, at, kind, rank) {
+            return Err(e);
+        }
+        self.copy_out(at, kind, rank, into)
+    }
+
+    /// Copies a block of this kind and rank, as it was last put, and pins it while pins are left. A pinned block is had again without
+    /// fail, where it is of the format that the rank asks for. A block that is neither pinned nor in use any more is damaged.
+    pub fn get<D: Disk>(
+        &mut self,
+        main: &mut D,
+        at: u32,
+        kind: Kind,
+        rank: u32,
+        into: &mut [u8],
+    ) -> Result<(), BlockError>
+        requires block { IsData self.old.first self.old.count at }
+        requires length { length into.old ≡ 8192 }
+        requires within { self.old.count ≤ D.size main.old }
+        ensures got { OnOk result (Got self.new.first self.new.count kind rank (parts self.new (D.holds main.new) (D.faults main.new)) at into.new) }
+        ensures source { OnOk result (IsFrom (D.holds main.old) at self.old.buffers into.new) }
+        ensures kind { OnOk result ((label_at self.old.labels at).kind ≡ kind) }
+        ensures nothing { OnErr result (into.new ≡ into.old) }
+        ensures pinned { OnOk result (0 < self.old.pins → IsPinned self.new.buffers at) }
+        ensures again { IsPinned self.old.buffers at → (label_at self.old.labels at).kind ≡ kind → IsRanked kind rank ((memory (parts self.old (D.holds main.old) (D.faults main.old)) at).bytes) → IsOk result }
+        ensures no_pin { IsPinned self.old.buffers at → (label_at self.old.labels at).kind ≡ kind → self.new.pins ≡ self.old.pins }
+        ensures pins { self.old.pins ≤ self.new.pins + 1 }
+        ensures brings { Brings at (parts self.old (D.holds main.old) (D.faults main.old)) (parts self.new (D.holds main.new) (D.faults main.new)) }
+        ensures size { D.size main.new ≡ D.size main.old }
+        ensures holds { D.holds main.new ≡ D.holds main.old }
+        ensures moments { D.moments main.new ≡ D.moments main.old }
+        ensures unsure { D.unsure main.new ≡ D.unsure main.old }
+        ensures cause { IfErr result (Caused ⊥ (λ b. b ≡ at) (Rose (D.faults main.old) (D.faults main.new)) ⊥) }
+    {
+        if !is_kind(self.label(at).kind, kind) {
+            return Err(BlockError::Damaged(at));
+        }
+        if self.is_pinned(at) {
+            return self.copy_out(at, kind, rank, into);
+        }
+        self.take(main, at, kind, rank, into)
+    }
+}

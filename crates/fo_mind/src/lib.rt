@@ -1,0 +1,25 @@
+//! What a block cache keeps in memory: buffers, labels, the order of writing, the queue of removals, and what is known of each address.
+//!
+//! `Mind` is all of a cache but its device, which each call that may read takes as an argument. What calls on blocks see of it is one
+//! record, `state_of` (specs/Parts.antt), in which the device tells nothing of crashes: so of images, places and moments nothing is said.
+//!
+//! Words: a block **owes** where a unit of room in the order of writing is kept for it; it is **linked** once it is in the tree of memory.
+//!
+//! Proved: `get` gives the bytes that are held, else those that are clean, else one of the versions of the device, of the format that is
+//! asked for, and changes nothing that calls on blocks see; a pinned block is had again without fail; a block is damaged only where its
+//! label is of another kind or its bytes aren't good; a fault comes only where the device's count rose. Where no pin is left `get` needs
+//! no room, and may want memory. A slot, a label and what waits are as memory has them. The laws of `Blocks` hold of `state_of`.
+//!
+//! Not proved here: what is said of crash images, places and moments.
+#![tactic(auto)]
+
+mod changes;
+mod facts;
+mod gets;
+mod laws;
+mod mind;
+mod news;
+mod views;
+
+pub use facts::{Clearing, Fact, Wait};
+pub use mind::Mind;

@@ -1,0 +1,72 @@
+//! What is asked of memory.
+ghost use Rattle.std.specs.Prelude.{◌≡◌, ◌<◌, ◌↔◌, ◌&&◌, ◌==◌, ℕ, true, IsTrue};
+ghost use Rattle.std.specs.List.{list_any};
+ghost use Rattle.fo_disk.specs.Disk.{Content as Holds};
+ghost use Rattle.fo_ports.specs.Blocks.{slot_count};
+ghost use Rattle.fo_mind.specs.Parts.{IsPinned, Clears, fact_at, label_at, memory};
+ghost use Rattle.fo_mind.specs.MindParts.{parts};
+
+use crate::facts::Clearing;
+use crate::mind::Mind;
+use fo_crash::Slot;
+use fo_image::Pointer;
+use fo_slots::slot_of;
+
+// Whether a slot is among these.
+fn any_listed(list: &[Clearing], at: u32, i: u32) -> bool
+    ensures { result ≡ list_any (λ c. (c.at == at) && (c.slot == i)) list.now }
+{
+    list.iter().any(|c| c.at == at && c.slot == i)
+}
+
+// Whether a slot waits to be cleared.
+fn is_listed(list: &[Clearing], at: u32, i: u32) -> bool
+    ensures { IsTrue result ↔ Clears list.now at i }
+{
+    any_listed(list, at, i)
+}
+
+impl Mind {
+    /// A slot of a pinned block.
+    pub fn slot(&self, at: u32, i: u32) -> Slot
+        requires pinned { IsPinned self.now.buffers at }
+        requires slots { i < slot_count (label_at self.now.labels at).kind }
+        ensures { (disk : Holds) (faults : ℕ) → result ≡ (memory (parts self.now disk faults) at).slot i }
+    {
+        match self.buffers.bytes(at) {
+            Some(bytes) => slot_of(self.label(at).kind, bytes, i as usize),
+            None => Slot::Pointer(Pointer::Nil),
+        }
+    }
+
+    /// Whether a slot waits to be cleared.
+    pub fn is_clearing(&self, at: u32, i: u32) -> bool
+        ensures { IsTrue result ↔ Clears self.now.clears.items at i }
+    {
+        is_listed(&self.clears, at, i)
+    }
+
+    /// Whether a block was there when all was settled.
+    pub fn is_sealed(&self, at: u32) -> bool
+        ensures { IsTrue result ↔ ((fact_at self.now.facts.items at).sealed ≡ true) }
+    {
+        match self.facts.get(at as usize) {
+            Some(fact) => fact.sealed,
+            None => true,
+        }
+    }
+
+    /// The epoch of the active tree.
+    pub fn high(&self) -> u32
+        ensures { result ≡ self.now.one.high }
+    {
+        self.one.high
+    }
+
+    /// The root of the active tree.
+    pub fn root(&self) -> u32
+        ensures { result ≡ self.now.one.active }
+    {
+        self.one.active
+    }
+}
