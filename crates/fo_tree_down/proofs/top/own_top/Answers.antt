@@ -1,4 +1,4 @@
-use Rattle.std.proofs.Common.{◌-◌, inl, inr, ⊎_elim, subst, sym, ap, ◌∙◌, ◌≡◌}
+use Rattle.std.proofs.Common.{inl, inr, ⊎_elim, subst, sym, ap, ◌∙◌, ◌≡◌}
 use Rattle.fo_image.specs.declared.types.Pointer.{Pointer}
 use Rattle.fo_tree_look.specs.Source.{Ready}
 use Rattle.fo_tree_down.proofs.Topping.{top_local, top_held, top_epoch, ready_local, ready_kept, nil_local, held_local, local_eq}
