@@ -4,8 +4,8 @@ ghost use Rattle.test_blocks.specs.Change.{IsApartFromAll, IsHad};
 ghost use Rattle.test_blocks.specs.Silent.{IsData, state_of};
 ghost use Rattle.test_blocks.specs.SilentParts.{parts};
 
-use crate::{CarelessBlocks, put_byte};
-use fo_image::Kind;
+use crate::{CarelessBlocks, fetch_twice, put_byte};
+use fo_image::{Kind, Score};
 use fo_ports::{BlockError, Blocks};
 use std::test::Fail;
 
@@ -88,5 +88,16 @@ fn filled(rt: HostRuntime) -> Result<(), Fail> {
     let mut block = [0; 8192];
     on.get(at, Kind::Data(0), 0, &mut block)?;
     assert_eq!(rt; (at, block), (3, [3; 8192]));
+    Ok(())
+}
+
+/// An arena that reads differently each time: what was fetched isn't found again, and the slice stays.
+#[test]
+fn arena(rt: HostRuntime) -> Result<(), Fail> {
+    let mut on = CarelessBlocks::new(rt.alloc(), 5)?;
+    let (mut first, mut second) = ([1; 8192], [1; 8192]);
+    let again = fetch_twice(&mut on, &Score([5; 20]), 0, &mut first, &mut second)?;
+    assert_eq!(rt; again, Err(BlockError::Damaged(1)));
+    assert_eq!(rt; (first, second), ([0; 8192], [1; 8192]));
     Ok(())
 }
