@@ -1,5 +1,5 @@
 -- A look at a leaf, and the causes of its refusals.
-use Rattle.std.proofs.Common.{◌≡◌, ◌≢◌, ℕ, ⊎_elim, sym, subst}
+use Rattle.std.proofs.Common.{◌≢◌, ℕ, ⊎_elim, sym, subst}
 use Rattle.std.proofs.lemmas.Bool.{cases_eq}
 use Rattle.fo_crash.specs.declared.place.Place.{Place}
 use Rattle.fo_crash.specs.Images.{Image, to_block, Reaches}

@@ -1,6 +1,5 @@
 use Rattle.std.proofs.Common.{◌≡◌, ◌<◌, sym, ◌∙◌, ap, subst, arith, get_or, List, ℕ}
 use Rattle.fo_image.specs.declared.types.Label.{Label}
-use Rattle.fo_crash.specs.Images.{to_block}
 use Rattle.fo_ports_clients.proofs.Looking.{caused_by, top_reaches}
 use Rattle.fo_ports_clients.proofs.older.older_byte.Goals as goal
 

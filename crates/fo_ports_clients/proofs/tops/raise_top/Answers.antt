@@ -1,6 +1,5 @@
 use Rattle.std.proofs.Common.{◌≡◌, ◌≢◌, ◌-◌, ◌^◌, ◌<◌, ℕ, sym, ◌∙◌, ap, subst, arith}
 use Rattle.fo_image.specs.declared.types.Kind.{Kind}
-use Rattle.fo_image.specs.declared.types.Kind.TheVariants.{Dir}
 use Rattle.fo_image.specs.declared.types.Label.{Label}
 use Rattle.fo_image.specs.declared.types.State.TheVariants.{Live}
 use Rattle.fo_crash.specs.declared.slot.Slot.{Slot}
@@ -13,7 +12,7 @@ use Rattle.fo_ports.specs.State.{MayPutSlot}
 use Rattle.fo_ports_clients.specs.Top.{raised}
 use Rattle.fo_ports_clients.proofs.Own.{apart_by}
 use Rattle.fo_ports_clients.proofs.Raise.{IsOver, is_over, raised_note, raised_target}
-use Rattle.fo_ports_clients.proofs.Raising.{Tops, may_hang, may_raise, top_stands, at_stands, none_more}
+use Rattle.fo_ports_clients.proofs.Raising.{Tops, may_hang, may_raise, at_stands, none_more}
 use Rattle.fo_ports_clients.proofs.Tree.{place_note}
 use Rattle.fo_ports_clients.proofs.tops.raise_top.Goals as goal
 
