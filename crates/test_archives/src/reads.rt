@@ -1,5 +1,5 @@
 //! Files of archives that are read.
-ghost use Rattle.std.specs.Prelude.{◌≡◌, length};
+ghost use Rattle.std.specs.Prelude.{◌≡◌, ◌+◌, ◌≤◌, length};
 
 use crate::blocks::{TOP, empty, root_of};
 use fo_disk::MemDisk;
@@ -31,18 +31,31 @@ fn entry_of(depth: u8, size: u16, score: &Score) -> [u8; 40]
     bytes
 }
 
+/// Puts these bytes at a place.
+fn put(bytes: &mut [u8], at: usize, part: &[u8])
+    requires { at + length part.now ≤ length bytes.old }
+    ensures { length bytes.new ≡ length bytes.old }
+{
+    bytes[at..at + part.len()].copy_from_slice(part);
+}
+
 /// The top block of these two sources.
 fn top_of(entries: &Score, meta: &Score) -> [u8; 124]
     ensures { length result ≡ 124 }
 {
-    let mut bytes = TOP;
-    bytes[20..40].copy_from_slice(&entries.0);
-    bytes[60..80].copy_from_slice(&meta.0);
+    let mut bytes = [0; 124];
+    put(&mut bytes, 0, &TOP);
+    put(&mut bytes, 20, &entries.0);
+    put(&mut bytes, 60, &meta.0);
     bytes
 }
 
 /// Puts an archive: the entries in block 3 of the device, the records in block 4, the top block in block 5, where block 2 is taken.
-fn put_archive(arena: &mut Arena<MemDisk>, entry: &[u8; 40], meta: &[u8; 49]) -> Result<Score, Fail> {
+fn put_archive(
+    arena: &mut Arena<MemDisk>,
+    entry: &[u8; 40],
+    meta: &[u8; 49],
+) -> Result<Score, Fail> {
     let entries = arena.put(8, entry)?;
     let meta = arena.put(0, meta)?;
     let top = arena.put(17, &top_of(&entries, &meta))?;
@@ -92,9 +105,7 @@ fn has_hello(alloc: Global, arena: &mut Arena<MemDisk>, score: &Score) -> Result
     let hi = source_of(alloc, arena, root, &Wanted::Name(name.copy(alloc)?))?;
     let same = source_of(alloc, arena, root, &Wanted::Number(7))?;
     let none = source_of(alloc, arena, root, &Wanted::Next(Some(name)))?;
-    Ok(reads(alloc, arena, hi, 1, b"ello\x01\x01\x01\x01")?
-        && same.size() == 5
-        && none.size() == 0)
+    Ok(reads(alloc, arena, hi, 1, b"ello\x01\x01\x01\x01")? && same.size() == 5 && none.size() == 0)
 }
 
 /// A file of an archive is found and read, with ample memory.
