@@ -1,10 +1,14 @@
 -- THE INVARIANT of a block cache, in one record.
-use Rattle.std.specs.Prelude.{◌≡◌, ◌⊎◌, ◌<◌, ℕ, Bool, false, List, length, Result}
+use Rattle.std.specs.Prelude.{◌≡◌, ◌≢◌, ◌⊎◌, ◌<◌, ℕ, Bool, false, List, length, Result}
 use Rattle.std.specs.List.{Contains}
+use Rattle.fo_disk.specs.Disk.{Block}
 use Rattle.fo_disk.specs.Disk.{Content as Holds}
 use Rattle.fo_labels.specs.Region.{Region, IsDataBlock, label_of}
-use Rattle.fo_crash.specs.Images.{Content}
-use Rattle.fo_cells.specs.Known.{Top}
+use Rattle.fo_image.specs.declared.types.Pointer.TheVariants.{Local}
+use Rattle.fo_crash.specs.declared.place.Place.{Place}
+use Rattle.fo_crash.specs.Places.{place_below}
+use Rattle.fo_crash.specs.Images.{Content, target}
+use Rattle.fo_cells.specs.Known.{Top, IsWait, MayName, Stands, Known}
 use Rattle.fo_cells.specs.Device.{Clearing, Mind, Fits, known, wrote, after_sync}
 use Rattle.fo_cells.specs.Flags.{Flags, FlagsFit, LabelsFit, marked, after_sync_flags}
 use Rattle.fo_cells_out.specs.Removals.{Pending}
@@ -92,3 +96,17 @@ pub record HoldsBeside (c : Kept) (f : Format) (unsure : List Bool) (holds : Hol
   pub dirty : OnlyLiveDirty c.mind c.flags f.is_data c.high
   pub labels : (b : ℕ) → IsDataBlock c.region b → c.mind.label b ≡ label_of c.region b
   pub room : HasRoom c.mind.low c.region c.promises c.space
+
+-- ---- the super block
+
+-- Bytes that spell another super block may be written into block 1, which is settled with what memory has: what it leads to stands, and
+-- may be named. Block 1 is no block of labels, and nothing of it waits.
+pub record MayTry (m : Mind) (holds : Holds) (d : Content) (bytes : Block) : Type 0 where
+  pub reads : m.read 1 bytes ≡ d
+  pub quiet : (c : Content) → Contains ((known m holds).versions 1) c → c ≡ m.memory 1
+  pub fits : (p : Place) (i b : ℕ) → Stands (known m holds) 1 p → target (d.slot i) ≡ Local b → Stands (known m holds) b (place_below p i (d.slot i)) × ((place_below p i (d.slot i)).rank < p.rank) × (b ≢ 1) × MayName (known m holds) b
+  pub settled : m.newborn 1 ≡ false
+  pub complete : m.complete 1 ≡ false
+  pub labels : (b : ℕ) → m.label_block b ≢ 1
+  pub wait : (leaf on j : ℕ) → IsWait m.waits leaf on j → (leaf ≢ 1) × (on ≢ 1)
+  pub clear : (c : Clearing) → Contains m.clears c → (c.at ≢ 1) × (c.leaf ≢ 1)

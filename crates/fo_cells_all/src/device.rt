@@ -1,14 +1,15 @@
 //! The calls of a device: all that a cache's invariant says is kept, whatever the device answers.
-ghost use Rattle.std.specs.Prelude.{◌≡◌, ◌<◌, ℕ, Bool, true, length, is_err, not};
+ghost use Rattle.std.specs.Prelude.{◌≡◌, ◌<◌, ℕ, Bool, true, false, length, is_err, not};
 ghost use Rattle.fo_base.specs.Cause.{HasCause};
 ghost use Rattle.fo_disk.specs.Disk.{Writes, Syncs, Passes};
 ghost use Rattle.fo_image.specs.declared.types.State.TheVariants.{Closed};
-ghost use Rattle.fo_crash.specs.Images.{SameContent};
-ghost use Rattle.fo_cells.specs.Device.{MayWrite, MayWriteLabels, known, wrote};
+ghost use Rattle.fo_crash.specs.Images.{Content, SameContent};
+ghost use Rattle.fo_cells.specs.Calls.{TriesSuper};
+ghost use Rattle.fo_cells.specs.Device.{Mind, MayWrite, MayWriteLabels, known, wrote};
 ghost use Rattle.fo_cells.specs.Safe.{IsCurrent};
 ghost use Rattle.fo_cells_out.specs.Parents.{Tree};
 ghost use Rattle.fo_cells_epochs.specs.Epochs.{IsRead, NamesSet};
-ghost use Rattle.fo_cells_all.specs.All.{Kept, Format, HoldsAll, HoldsBeside, kept_write, kept_sync};
+ghost use Rattle.fo_cells_all.specs.All.{Kept, Format, HoldsAll, HoldsBeside, MayTry, kept_write, kept_sync};
 
 use fo_disk::{Disk, Failed};
 
@@ -19,7 +20,7 @@ pub trait Divided {
 }
 
 /// Writes a dirty block that has a buffer: a data block, whole or with older slots, that is current, was not made and left unlinked, and
-/// names only what is settled; block 1 with what memory has; or a block of labels.
+/// names only what is settled; block 1 with what memory has; or a block of labels. Another super block that is written is tried by it.
 pub fn write_kept<D: Disk, T: Divided>(
     disk: &mut D,
     _tree: &T,
@@ -30,6 +31,7 @@ pub fn write_kept<D: Disk, T: Divided>(
     requires length { length bytes.now ≡ 8192 }
     ensures block_kept { (c : Kept) (f : Format) (is_complete : Bool) → at < length (D.holds disk.old) → MayWrite c.mind (D.holds disk.old) at bytes.now is_complete → NamesSet at (c.mind.read at bytes.now) (known c.mind (D.holds disk.old)) (known (wrote at (not (is_err result)) is_complete c.mind) (D.holds disk.new)) → IsCurrent (known c.mind (D.holds disk.old)) c.high at → (at ≡ 1 → SameContent (c.mind.read at bytes.now) (c.mind.memory 1)) → ((T.tree _tree.now).Made at → ⊥) → c.buffering.held at ≡ true → c.flags.dirty at ≡ true → ((c.mind.label at).state ≡ Closed → is_complete ≡ true) → IsRead f.high_of → HoldsAll c f (T.tree _tree.now) (D.unsure disk.old) (D.holds disk.old) → HoldsAll (kept_write at (not (is_err result)) is_complete c) f (T.tree _tree.now) (D.unsure disk.new) (D.holds disk.new) }
     ensures labels_kept { (c : Kept) (f : Format) → at < length (D.holds disk.old) → MayWriteLabels c.mind at bytes.now → c.mind.read at bytes.now ≡ c.mind.memory at → c.buffering.held at ≡ true → c.flags.dirty at ≡ true → IsRead f.high_of → HoldsAll c f (T.tree _tree.now) (D.unsure disk.old) (D.holds disk.old) → HoldsAll (kept_write at (not (is_err result)) true c) f (T.tree _tree.now) (D.unsure disk.new) (D.holds disk.new) }
+    ensures tried { (m : Mind) (d : Content) → at ≡ 1 → 1 < length (D.holds disk.old) → MayTry m (D.holds disk.old) d bytes.now → TriesSuper d (known m (D.holds disk.old)) (known (wrote 1 (not (is_err result)) false m) (D.holds disk.new)) }
     ensures beside { (c : Kept) (f : Format) (is_complete : Bool) → at < length (D.holds disk.old) → (is_complete ≡ true → c.mind.read at bytes.now ≡ c.mind.memory at) → ((b : ℕ) → c.mind.label_block b ≡ at → c.mind.label_in b bytes.now ≡ c.mind.label b) → c.buffering.held at ≡ true → c.flags.dirty at ≡ true → ((c.mind.label at).state ≡ Closed → is_complete ≡ true) → HoldsBeside c f (D.unsure disk.old) (D.holds disk.old) → HoldsBeside (kept_write at (not (is_err result)) is_complete c) f (D.unsure disk.new) (D.holds disk.new) }
     ensures holds { Writes at bytes.now result (D.holds disk.old) (D.holds disk.new) }
     ensures moments { Passes (D.holds disk.old) (D.holds disk.new) (D.moments disk.old) (D.moments disk.new) }

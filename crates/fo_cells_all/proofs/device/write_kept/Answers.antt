@@ -1,6 +1,8 @@
 use Rattle.std.proofs.Common.{List, Bool, true, sym, subst}
 use Rattle.std.specs.Prelude.{not, is_err}
 use Rattle.fo_cells_all.specs.All.{HoldsAll, HoldsBeside, kept_write}
+use Rattle.fo_disk.specs.Disk.{Writes as DiskWrites}
+use Rattle.fo_cells_all.proofs.SuperCalls.{tries_known}
 use Rattle.fo_cells_all.proofs.All.{write_all, labels_all, write_beside}
 use Rattle.fo_cells_all.proofs.device.write_kept.Goals as goal
 
@@ -12,3 +14,6 @@ returns-clause-labels_kept g c = λ k f within may blank held dirty read h. subs
 
 pub returns-clause-beside : goal.returns-clause-beside
 returns-clause-beside g c = λ k f is_complete within complete spells held dirty whole h. subst (λ (u : List Bool). HoldsBeside (kept_write c.args.at (not (is_err c.write.result)) is_complete k) f u (g.D.Disk.holds c.write.new.self)) (sym c.write.ensures.unsure) (write_beside c.write.result k f (g.D.Disk.unsure c.args.disk.now) c.args.at c.args.bytes.now is_complete (g.D.Disk.holds c.args.disk.now) (g.D.Disk.holds c.write.new.self) c.write.ensures.holds within complete spells held dirty whole h)
+
+pub returns-clause-tried : goal.returns-clause-tried
+returns-clause-tried g c = λ m d one within may. tries_known c.write.result m d c.args.bytes.now (g.D.Disk.holds c.args.disk.now) (g.D.Disk.holds c.write.new.self) (subst (λ n. DiskWrites n c.args.bytes.now c.write.result (g.D.Disk.holds c.args.disk.now) (g.D.Disk.holds c.write.new.self)) one c.write.ensures.holds) within may
