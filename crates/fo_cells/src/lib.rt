@@ -10,7 +10,7 @@
 //! wait; a slot or bytes put; a slot that begins to wait, and is cleared; a block given out, indexed, closed; a super block tried, counted,
 //! overruled): by which cell the images grow, and that the invariant is kept. Every image of the device is, as far as paths lead, one of
 //! these. `write_block` and `settle` make such steps over any device, and keep what flags say. Not here: what leaves the tree
-//! (`fo_cells_out`); how much room is left; what closed labels say of snapshots; which block is written next.
+//! (`fo_cells_out`); how much room is left (`fo_cells_held`); what closed labels say of snapshots (`fo_cells_epochs`); which block is next.
 #![tactic(auto)]
 
 mod buffered;

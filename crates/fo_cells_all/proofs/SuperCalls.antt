@@ -1,5 +1,5 @@
 -- A write of another super block of the device is a trial of it, whatever is answered.
-use Rattle.std.proofs.Common.{◌≡◌, ◌≢◌, ◌⊎◌, inl, inr, ⊎_elim, ℕ, ◌<◌, Bool, true, false, cond, not, ◌&&◌, nat_eq, List, [], ◌∷◌, map, length, drop, refl, sym, ◌∙◌, ap, subst}
+use Rattle.std.proofs.Common.{◌≡◌, ◌≢◌, ◌⊎◌, inl, inr, ⊎_elim, ℕ, ◌<◌, Bool, true, false, cond, not, ◌&&◌, List, [], ◌∷◌, map, length, drop, refl, sym, ◌∙◌, ap, subst}
 use Rattle.std.proofs.Math.Path.{fun_ext}
 use Rattle.std.proofs.lemmas.Bool.{cases_eq}
 use Rattle.std.specs.Prelude.{Result, Ok, Err, is_err}
@@ -7,9 +7,8 @@ use Rattle.std.specs.List.{Contains}
 use Rattle.fo_disk.specs.Disk.{Block, Versions, versions_of, latest_of, Adds}
 use Rattle.fo_disk.specs.Disk.{Content as Holds, Writes as DiskWrites}
 use Rattle.fo_disk.proofs.Images.{adds-other, adds-here, appends-adds, contains-drop}
-use Rattle.fo_image.specs.declared.types.Label.{Label}
 use Rattle.fo_crash.specs.Images.{Content}
-use Rattle.fo_cells.specs.Known.{Clear, IsClear}
+use Rattle.fo_cells.specs.Known.{Clear}
 use Rattle.fo_cells.specs.Calls.{TriesSuper}
 use Rattle.fo_cells.specs.Device.{Clearing, Mind, since_of, known, noted, wrote}
 use Rattle.fo_cells.proofs.Standing.{first_among, next_among}

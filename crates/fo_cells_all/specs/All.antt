@@ -8,7 +8,7 @@ use Rattle.fo_image.specs.declared.types.Pointer.TheVariants.{Local}
 use Rattle.fo_crash.specs.declared.place.Place.{Place}
 use Rattle.fo_crash.specs.Places.{place_below}
 use Rattle.fo_crash.specs.Images.{Content, target}
-use Rattle.fo_cells.specs.Known.{Top, IsWait, MayName, Stands, Known}
+use Rattle.fo_cells.specs.Known.{Top, IsWait, MayName, Stands}
 use Rattle.fo_cells.specs.Device.{Clearing, Mind, Fits, known, wrote, after_sync}
 use Rattle.fo_cells.specs.Flags.{Flags, FlagsFit, LabelsFit, marked, after_sync_flags}
 use Rattle.fo_cells_out.specs.Removals.{Pending}

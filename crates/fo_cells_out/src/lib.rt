@@ -9,7 +9,7 @@
 //! copy, of a new block, of a grown or shortened source, and all of these nested; by a slot that is cleared, and by closing. The first
 //! removal's blocks stand nowhere once the block after which it comes is settled. What a put asks of made blocks gives all that its
 //! removals need. Not proved: that a cache's own tree meets the equations of a put (a walk of a finite tree); levels lost in a copy
-//! that is linked; removals of earlier epochs over their own tops.
+//! that is linked. Removals of earlier epochs stand in `fo_cells_queue`.
 #![tactic(auto)]
 
 mod laws;
