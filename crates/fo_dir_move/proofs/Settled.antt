@@ -99,6 +99,6 @@ backs_later {n = n} {entries = entries} {a = a} {b = b} {c = c} backs calm puts 
   each = λ j g lists. ⊎_elim
       (λ was. inl (subst (λ xs. ListsIn n xs j g) (sym is) was))
       (λ h. let free : b.clearing entries j → ⊥ = λ k. h.1 (calm.order.clearing entries j k).1 in let still = keeps.each j free in
-          inr (subst (λ (x : Slot). IsInUse x g) (sym (still.0 ∙ puts.slots entries j)) h.0, still.1))
+      inr (subst (λ (x : Slot). IsInUse x g) (sym (still.0 ∙ puts.slots entries j)) h.0, still.1))
       (backs.each j g lists);
 }

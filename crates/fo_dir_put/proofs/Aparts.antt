@@ -1,6 +1,5 @@
 -- No name, number or pair stands in two leaves.
-use Rattle.std.proofs.Common.{◌≡◌, ◌≢◌, ◌⊎◌, inl, inr, ⊎_elim, ℕ, List, Contains, refl, sym, ◌∙◌, ap, subst}
-use Rattle.std.proofs.lemmas.Bool.{cases_eq}
+use Rattle.std.proofs.Common.{◌≡◌, ◌≢◌, inl, inr, ⊎_elim, ℕ, List, Contains, refl, sym, ◌∙◌, ap, subst}
 use Rattle.fo_image.specs.declared.record.Record.{Record}
 use Rattle.fo_good.specs.Reading.{leaf_records}
 use Rattle.fo_crash.specs.Images.{Content, Image, with_bytes, with_slot}

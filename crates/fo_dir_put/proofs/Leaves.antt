@@ -1,10 +1,10 @@
 -- A whole leaf of records is put.
-use Rattle.std.proofs.Common.{◌≡◌, ◌≢◌, ◌⊎◌, inl, inr, ⊎_elim, ℕ, ◌+◌, ◌-◌, ◌*◌, ◌%◌, ◌<◌, ◌≤◌, List, [], ◌++◌, length, take, drop, refl, sym, ◌∙◌, ap, subst, arith}
+use Rattle.std.proofs.Common.{◌≡◌, ◌⊎◌, inl, inr, ⊎_elim, ℕ, ◌+◌, ◌-◌, ◌*◌, ◌%◌, List, ◌++◌, length, sym, ◌∙◌, ap, subst, arith}
 use Rattle.std.proofs.lemmas.List.{append-nil, length-append, length-replicate, drop_all}
 use Rattle.fo_image.specs.declared.types.Kind.{Kind}
 use Rattle.fo_image.specs.declared.types.Kind.TheVariants.{Data}
 use Rattle.fo_image.specs.Field.{zeros}
-use Rattle.fo_meta.specs.Leaf.{IsLeaf, SpellsLeaf, records_bytes}
+use Rattle.fo_meta.specs.Leaf.{IsLeaf, records_bytes}
 use Rattle.fo_crash.specs.Images.{Image, SameImage, Reaches, target}
 use Rattle.fo_crash.specs.Steps.{AddsBytes, AddsNothing, PutsBytes}
 use Rattle.fo_crash.specs.declared.slot.Slot.{Slot}
@@ -57,7 +57,7 @@ pub backed_later : {n leaf entries : ℕ} {bytes : List ℕ} {s t : State} → A
 backed_later {n = n} {leaf = leaf} {entries = entries} {s = s} {t = t} backed same waits order j g lists = ⊎_elim
     (λ was. inl (subst (λ xs. ListsIn n xs j g) (sym ((same.each leaf).bytes)) was))
     (λ h. let k = lists.named.slot % 102 in
-        let one : IsInUse ((s.now entries).slot (2 * k)) g = subst (λ i. IsInUse ((s.now entries).slot i) g) lists.entry h.0 in
-        let free : s.clearing entries (2 * k) → ⊥ = subst (λ i. s.clearing entries i → ⊥) lists.entry h.1 in
-        inr ((subst (λ i. t.waits leaf entries i) (sym lists.entry) (waits.each k g one free).0, λ c. h.1 (order entries j c)), subst (λ (x : Slot). IsInUse x g) (sym ((same.each entries).slots j)) h.0))
+    let one : IsInUse ((s.now entries).slot (2 * k)) g = subst (λ i. IsInUse ((s.now entries).slot i) g) lists.entry h.0 in
+    let free : s.clearing entries (2 * k) → ⊥ = subst (λ i. s.clearing entries i → ⊥) lists.entry h.1 in
+    inr ((subst (λ i. t.waits leaf entries i) (sym lists.entry) (waits.each k g one free).0, λ c. h.1 (order entries j c)), subst (λ (x : Slot). IsInUse x g) (sym ((same.each entries).slots j)) h.0))
     (backed.each j g lists)

@@ -1,9 +1,9 @@
 -- An entry that leads nowhere is put where none is in use.
-use Rattle.std.proofs.Common.{◌≡◌, ◌≢◌, ◌⊎◌, inl, inr, ⊎_elim, ℕ, ◌+◌, ◌<◌, ◌≤◌, Bool, true, false, List, refl, sym, ◌∙◌, ap, subst, arith}
+use Rattle.std.proofs.Common.{◌≡◌, ◌⊎◌, inl, ⊎_elim, ℕ, ◌<◌, Bool, true, false, refl, sym, ap, subst, arith}
 use Rattle.std.proofs.lemmas.Bool.{cases_eq}
 use Rattle.fo_image.specs.declared.types.Entry.{Entry}
 use Rattle.fo_image.specs.declared.types.Kind.{Kind}
-use Rattle.fo_image.specs.declared.types.Kind.TheVariants.{Data, Dir, Root}
+use Rattle.fo_image.specs.declared.types.Kind.TheVariants.{Dir}
 use Rattle.fo_image.specs.declared.types.Pointer.{Pointer}
 use Rattle.fo_image.specs.declared.types.Pointer.TheVariants.{Nil, Local}
 use Rattle.fo_image.specs.Format.{ActiveHolds}
@@ -11,11 +11,11 @@ use Rattle.fo_crash.specs.declared.slot.Slot.{Slot}
 use Rattle.fo_crash.specs.declared.slot.Slot.TheVariants.{Pointer as To, Entry as Head, Prev}
 use Rattle.fo_crash.specs.declared.place.Place.{Place}
 use Rattle.fo_crash.specs.Images.{Image, target, depth_of, to_block, Reaches}
-use Rattle.fo_crash.specs.Steps.{Covers, PutsSlot, cleared}
+use Rattle.fo_crash.specs.Steps.{Covers, PutsSlot}
 use Rattle.fo_crash.specs.Names.{IsInUse}
 use Rattle.fo_crash.proofs.Reach.{lost, reaches_on}
 use Rattle.fo_crash.proofs.Covers.{slot_reaches}
-use Rattle.fo_ports.specs.Blocks.{SlotFits, IsInner, dropped, cost, ends, slot_count}
+use Rattle.fo_ports.specs.Blocks.{SlotFits, IsInner, dropped, cost, ends}
 use Rattle.fo_ports.specs.State.{State, Frame, Hangs, MayPutSlot, MayRemoveSlot}
 
 pub nil_local : {a : ℕ} {p : Pointer} → p ≡ Nil → p ≡ Local a → ⊥

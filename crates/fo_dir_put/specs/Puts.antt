@@ -8,7 +8,7 @@ use Rattle.fo_crash.specs.declared.slot.Slot.TheVariants.{Entry as Head}
 use Rattle.fo_crash.specs.Images.{Reaches, to_block}
 use Rattle.fo_crash.specs.Names.{IsInUse}
 use Rattle.fo_ports.specs.Blocks.{SlotFits}
-use Rattle.fo_ports.specs.State.{State, KeepsOrder, AddsNoWait, none}
+use Rattle.fo_ports.specs.State.{State, KeepsOrder, none}
 
 -- A leaf of entries that is owned, and linked where the device tells.
 pub record IsOwnedEntries (s : State) (at : ℕ) : Type 0 where

@@ -36,7 +36,6 @@ returns-in-Err-clause-stays g c =
       to_is = c.put_record-in-Err.ensures.puts.others c.args.to apart ∙ c.settle_between.ensures.leaves.to_is ∙ c.change_leaf.ensures.puts.others c.args.to apart;
     }
 
-
 pub returns-in-Err-clause-fit : goal.returns-in-Err-clause-fit
 returns-in-Err-clause-fit g c = λ n may from to.
     let u = g.B.Blocks.state c.settle_between.new.on in

@@ -26,4 +26,3 @@ returns-in-Err-clause-leaves g c = record {
 
 pub returns-in-Err-clause-entries : goal.returns-in-Err-clause-entries
 returns-in-Err-clause-entries g c = entries_kept c.args.entries c.settle.ensures.rests (c.settle.ensures.known c.args.entries c.requires.ready.held.is_pinned)
-

@@ -1,8 +1,8 @@
-use Rattle.std.proofs.Common.{◌≡◌, ◌≢◌, ◌+◌, ◌*◌, ℕ, List, inl, inr, ⊎_elim, refl, sym, ◌∙◌, ap, subst, arith}
+use Rattle.std.proofs.Common.{◌*◌, inl, inr, ⊎_elim, refl, sym, subst}
 use Rattle.fo_crash.specs.declared.slot.Slot.{Slot}
 use Rattle.fo_crash.specs.Names.{IsInUse}
 use Rattle.fo_dir_put.specs.Names.{ListsIn}
-use Rattle.fo_dir_put.proofs.Calms.{calm_joins, records_on, in_place_on}
+use Rattle.fo_dir_put.proofs.Calms.{records_on, in_place_on}
 use Rattle.fo_dir_put.proofs.Aparts.{shows_apart, rest_shows, may_later}
 use Rattle.fo_dir_put.proofs.add.add_name.Goals as goal
 
@@ -19,10 +19,12 @@ returns-clause-fit g c = λ n adds all.
     let t = g.B.Blocks.state c.put_pair.new.on in
     let settled : t.clearing c.args.entries (2 * c.args.p) → ⊥ = λ h. c.requires.first_unused.settled (c.put_pair.ensures.calm.order.clearing c.args.entries (2 * c.args.p) h).1 in
     let used : IsInUse ((t.now c.args.entries).slot (2 * c.args.p)) c.args.first.generation = subst (λ (x : Slot). IsInUse x c.args.first.generation) (sym c.put_pair.ensures.puts.first_is) (c.requires.active, refl) in
-    c.put_record.ensures.fit n (record { each = λ j g' lists. ⊎_elim
-        (λ was. inl (subst (λ xs. ListsIn n xs j g') (sym (c.put_pair.ensures.puts.bytes c.args.leaf)) was))
-        (λ h. inr (subst (λ i. IsInUse ((t.now c.args.entries).slot i) g') (sym h.0) (subst (λ x. IsInUse ((t.now c.args.entries).slot (2 * c.args.p)) x) (sym h.1) used), λ k. settled (subst (λ i. t.clearing c.args.entries i) h.0 k)))
-        (adds.each j g' lists) }) (c.put_pair.ensures.fit n c.args.leaf all)
+    c.put_record.ensures.fit n (record {
+      each = λ j g' lists. ⊎_elim
+          (λ was. inl (subst (λ xs. ListsIn n xs j g') (sym (c.put_pair.ensures.puts.bytes c.args.leaf)) was))
+          (λ h. inr (subst (λ i. IsInUse ((t.now c.args.entries).slot i) g') (sym h.0) (subst (λ x. IsInUse ((t.now c.args.entries).slot (2 * c.args.p)) x) (sym h.1) used), λ k. settled (subst (λ i. t.clearing c.args.entries i) h.0 k)))
+          (adds.each j g' lists);
+    }) (c.put_pair.ensures.fit n c.args.leaf all)
 
 pub returns-clause-apart : goal.returns-clause-apart
 returns-clause-apart g c = λ b differs may all.

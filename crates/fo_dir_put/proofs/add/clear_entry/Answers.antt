@@ -1,6 +1,4 @@
-use Rattle.std.proofs.Common.{◌≡◌, ◌<◌, ℕ, inr, sym, subst}
-use Rattle.fo_image.specs.declared.types.Kind.{Kind}
-use Rattle.fo_ports.specs.Blocks.{slot_count}
+use Rattle.std.proofs.Common.{inr}
 use Rattle.fo_crash.proofs.Names.{entry_cleared}
 use Rattle.fo_dir_put.specs.Names.{ListsIn}
 use Rattle.fo_dir_put.proofs.Nothing.{may_remove}

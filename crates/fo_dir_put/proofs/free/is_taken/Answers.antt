@@ -1,4 +1,4 @@
-use Rattle.std.proofs.Common.{◌≡◌, refl, inl, sym, ◌∙◌, subst}
+use Rattle.std.proofs.Common.{refl, inl, sym, ◌∙◌, subst}
 use Rattle.fo_crash.specs.declared.slot.Slot.{Slot}
 use Rattle.fo_crash.specs.Names.{IsInUse}
 use Rattle.fo_dir_put.proofs.free.is_taken.Goals as goal

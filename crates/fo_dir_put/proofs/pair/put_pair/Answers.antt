@@ -1,4 +1,4 @@
-use Rattle.std.proofs.Common.{◌≡◌, ◌≢◌, ◌+◌, ◌*◌, ℕ, inr, subst, arith}
+use Rattle.std.proofs.Common.{◌≢◌, ◌+◌, ◌*◌, ℕ, inr, subst, arith}
 use Rattle.fo_crash.specs.declared.slot.Slot.{Slot}
 use Rattle.fo_crash.specs.Names.{IsInUse}
 use Rattle.fo_crash.proofs.Names.{free_entry_put}

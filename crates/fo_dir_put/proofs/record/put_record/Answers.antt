@@ -1,10 +1,10 @@
-use Rattle.std.proofs.Common.{◌≡◌, ◌+◌, ◌≤◌, ◌<◌, ℕ, length, List, sym, ◌∙◌, ap, subst, arith}
+use Rattle.std.proofs.Common.{◌≡◌, ℕ, length, List, sym, ◌∙◌, ap, subst, arith}
 use Rattle.fo_crash.specs.declared.place.Place.{Place}
 use Rattle.fo_crash.specs.Images.{Image}
 use Rattle.fo_crash.specs.Steps.{AddsBytes}
 use Rattle.fo_crash.specs.Names.{SameUse}
 use Rattle.fo_crash.proofs.Names.{leaf_put}
-use Rattle.fo_ports.specs.Blocks.{IsFormed, put_at}
+use Rattle.fo_ports.specs.Blocks.{IsFormed}
 use Rattle.fo_dir_put.specs.Names.{ListsIn, MayStand}
 use Rattle.fo_dir_put.proofs.Calms.{calm_joins, bytes_calm}
 use Rattle.fo_dir_put.proofs.Leaves.{leaf_long, whole_put, leaf_formed, bytes_beside, still_all, bytes_reached, same_reached, puts_later, backed_later}
