@@ -33,7 +33,9 @@ adds_one n p rs r g old new was now lt slot gen = record { each = λ j h lists. 
     by j h lists (inr is) = inr (lists.entry ∙ ap (λ k. 2 * k) (ap (λ (x : Record). x.slot % 102) is ∙ rest r.slot slot), sym lists.same ∙ ap (λ (x : Record). x.generation) is ∙ gen)
 
 pub may_stand : (b : ℕ) (rs : List Record) (r : Record) (old new : List ℕ) (images : Image → Type 0) → SpellsLeaf rs old → SpellsLeaf (rs ++ r ∷ []) new → IsAlone r b images → MayStand b new old images
-may_stand b rs r old new images was now alone = record { each = λ x has. ⊎_elim
-    (λ there. inl (x, there, refl, refl, refl))
-    (λ is. inr (λ image now_is q two clash. alone.each image now_is q two (subst (λ (y : Record). Clash y q) is clash)))
-    (was_or_new rs r old new was now x has) }
+may_stand b rs r old new images was now alone = record {
+  each = λ x has. ⊎_elim
+      (λ there. inl (x, there, refl, refl, refl))
+      (λ is. inr (λ image now_is q two clash. alone.each image now_is q two (subst (λ (y : Record). Clash y q) is clash)))
+      (was_or_new rs r old new was now x has);
+}
