@@ -5,4 +5,6 @@ pub mod Giving
 pub mod Keeping
 pub mod Listing
 pub mod Looking
+pub mod Putting
+pub mod Refilling
 pub mod Results

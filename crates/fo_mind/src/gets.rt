@@ -6,10 +6,11 @@ ghost use Rattle.fo_buffers.specs.Held.{held_at};
 ghost use Rattle.fo_image.specs.Usable.{is_usable};
 ghost use Rattle.fo_ports.specs.Blocks.{IsRanked};
 ghost use Rattle.fo_ports.specs.Causes.{Caused};
+ghost use Rattle.fo_ports.specs.State.{Looks};
 ghost use Rattle.fo_ports.specs.declared.error.BlockError.TheVariants.{Damaged};
 ghost use Rattle.fo_bring.specs.Blocks.{IsData};
 ghost use Rattle.fo_bring.specs.Holds.{RanksIn, IsFrom};
-ghost use Rattle.fo_mind.specs.Parts.{IsPinned, label_at, memory};
+ghost use Rattle.fo_mind.specs.Parts.{CacheKeeps, IsPinned, label_at, memory, state_of};
 ghost use Rattle.fo_mind.specs.Got.{Got, IsHeldAs, IsSource};
 ghost use Rattle.fo_mind.specs.Frames.{Brings};
 ghost use Rattle.fo_mind.specs.MindParts.{parts};
@@ -217,9 +218,8 @@ impl Mind {
         self.copy_out(at, kind, rank, into)
     }
 
-    /// Copies a block of this kind and rank, as it was last put, and pins it while pins are left. A pinned block is had again without
-    /// fail, where it is of the format that the rank asks for. A block that is neither pinned nor in use any more is damaged.
-    pub fn get<D: Disk>(
+    // Copies a block of this kind and rank, and pins it while pins are left.
+    fn obtain<D: Disk>(
         &mut self,
         main: &mut D,
         at: u32,
@@ -252,5 +252,38 @@ impl Mind {
             return self.copy_out(at, kind, rank, into);
         }
         self.take(main, at, kind, rank, into)
+    }
+
+    /// Copies a block of this kind and rank, as it was last put, and pins it while pins are left. A pinned block is had again without
+    /// fail, where it is of the format that the rank asks for. A block that is neither pinned nor in use any more is damaged.
+    pub fn get<D: Disk>(
+        &mut self,
+        main: &mut D,
+        at: u32,
+        kind: Kind,
+        rank: u32,
+        into: &mut [u8],
+    ) -> Result<(), BlockError>
+        requires block { IsData self.old.first self.old.count at }
+        requires length { length into.old ≡ 8192 }
+        requires within { self.old.count ≤ D.size main.old }
+        ensures got { OnOk result (Got self.new.first self.new.count kind rank (parts self.new (D.holds main.new) (D.faults main.new)) at into.new) }
+        ensures source { OnOk result (IsFrom (D.holds main.old) at self.old.buffers into.new) }
+        ensures kind { OnOk result ((label_at self.old.labels at).kind ≡ kind) }
+        ensures nothing { OnErr result (into.new ≡ into.old) }
+        ensures pinned { OnOk result (0 < self.old.pins → IsPinned self.new.buffers at) }
+        ensures again { IsPinned self.old.buffers at → (label_at self.old.labels at).kind ≡ kind → IsRanked kind rank ((memory (parts self.old (D.holds main.old) (D.faults main.old)) at).bytes) → IsOk result }
+        ensures no_pin { IsPinned self.old.buffers at → (label_at self.old.labels at).kind ≡ kind → self.new.pins ≡ self.old.pins }
+        ensures pins { self.old.pins ≤ self.new.pins + 1 }
+        ensures brings { Brings at (parts self.old (D.holds main.old) (D.faults main.old)) (parts self.new (D.holds main.new) (D.faults main.new)) }
+        ensures looks { Looks (state_of (parts self.old (D.holds main.old) (D.faults main.old))) (state_of (parts self.new (D.holds main.new) (D.faults main.new))) }
+        ensures keeps { CacheKeeps (parts self.old (D.holds main.old) (D.faults main.old)) (parts self.new (D.holds main.new) (D.faults main.new)) }
+        ensures size { D.size main.new ≡ D.size main.old }
+        ensures holds { D.holds main.new ≡ D.holds main.old }
+        ensures moments { D.moments main.new ≡ D.moments main.old }
+        ensures unsure { D.unsure main.new ≡ D.unsure main.old }
+        ensures cause { IfErr result (Caused ⊥ (λ b. b ≡ at) (Rose (D.faults main.old) (D.faults main.new)) ⊥) }
+    {
+        self.obtain(main, at, kind, rank, into)
     }
 }

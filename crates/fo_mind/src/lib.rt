@@ -7,8 +7,10 @@
 //!
 //! Proved: `get` gives the bytes that are held, else those that are clean, else one of the versions of the device, of the format that is
 //! asked for, and changes nothing that calls on blocks see; a pinned block is had again without fail; a block is damaged only where its
-//! label is of another kind or its bytes aren't good; a fault comes only where the device's count rose. Where no pin is left `get` needs
-//! no room, and may want memory. A slot, a label and what waits are as memory has them. The laws of `Blocks` hold of `state_of`.
+//! label is of another kind, it may be given out, or its bytes aren't good; a fault comes only where the device's count rose. With no
+//! pin left `get` needs no room, and may want memory. `new_block` and `copy` give out the least usable block, and `put_bytes` puts
+//! bytes beside the slots of a pinned one, each with the clauses of `Blocks`; neither wants memory. A slot, a label and what waits are
+//! as memory has them. What calls see keeps the laws of `Blocks`.
 //!
 //! Not proved here: what is said of crash images, places and moments.
 #![tactic(auto)]
@@ -19,6 +21,7 @@ mod gets;
 mod laws;
 mod mind;
 mod news;
+mod puts;
 mod views;
 
 pub use facts::{Clearing, Fact, Wait};

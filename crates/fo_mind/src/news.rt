@@ -37,7 +37,7 @@ fn blank_block(kind: Kind) -> [u8; BLOCK]
 }
 
 // The bytes of a held block.
-fn copied(buffers: &Buffers, at: u32) -> [u8; BLOCK]
+pub(crate) fn copied(buffers: &Buffers, at: u32) -> [u8; BLOCK]
     requires { is_some (held_at buffers.now at) ≡ true }
     ensures { Some result ≡ option_map block_in (held_at buffers.now at) }
 {
