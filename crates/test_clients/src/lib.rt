@@ -1,0 +1,13 @@
+//! Tests of the small clients of blocks (`fo_ports_clients`), over blocks in memory (`PlainBlocks`), where every leaf is sealed, and
+//! over blocks that tell nothing (`CarelessBlocks`), where none is.
+//!
+//! Bytes, slots and addresses that are wanted follow from what the calls promise. Not tested here: `write_byte`, and taking names out
+//! of and raising tops over a tree whose device tells what it holds.
+#![tactic(auto)]
+
+#[cfg(test)]
+mod names;
+#[cfg(test)]
+mod older;
+#[cfg(test)]
+mod tops;
