@@ -1,5 +1,4 @@
-use Rattle.std.proofs.Common.{◌≡◌, ◌≢◌, ◌+◌, ◌*◌, [], ◌∷◌, ◌++◌, List, sym, ◌∙◌, ap, subst}
-use Rattle.fo_image.specs.declared.record.Record.{Record}
+use Rattle.std.proofs.Common.{[], ◌∷◌, ◌++◌, sym, subst}
 use Rattle.fo_meta.specs.Leaf.{SpellsLeaf}
 use Rattle.fo_dir_put.specs.Names.{AddsOne, MayStand}
 use Rattle.fo_dir_add.proofs.Added.{adds_one, may_stand}
