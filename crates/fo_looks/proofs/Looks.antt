@@ -6,7 +6,7 @@ use Rattle.fo_crash.specs.Images.{Image, Content, SameContent, SameImage, Reache
 use Rattle.fo_crash.specs.Steps.{Passes, IsOneOf}
 use Rattle.fo_crash.proofs.Reach.{same_walk}
 use Rattle.fo_ports.specs.State.{State, KeepsAll, Looks}
-use Rattle.fo_ports.specs.Sources.{Leaves, SameLeaves, StaysInPlace, Undisturbed, IsReady, StaysReady, source_bytes}
+use Rattle.fo_ports.specs.Sources.{Leaves, SameLeaves, IsHung, StaysInPlace, Undisturbed, IsReady, StaysReady, source_bytes}
 
 content_joins : {a b c : Content} → SameContent a b → SameContent b c → SameContent a c
 content_joins p q = record { bytes = p.bytes ∙ q.bytes; slots = λ i. p.slots i ∙ q.slots i }
@@ -52,8 +52,22 @@ pub rose_later : (a b c : ℕ) → a ≤ b → Rose b c → Rose a c
 rose_later a b c le r = let r' : min (b + 1) (2 ^ 64 - 1) ≤ c = r in omega (arith, le, r')
 
 -- what hung somewhere hangs there in the same image
-same_reaches : {image other : Image} → SameImage other image → {at : ℕ} → Reaches image (to_block 1) at → Reaches other (to_block 1) at
-same_reaches {image = image} {other = other} same r = record { path = r.path; leads = ap target (same_walk other image (λ x i. (same.each x).slots i) r.path (to_block 1)) ∙ r.leads }
+same_reaches : {image other : Image} → SameImage other image → {t at : ℕ} → Reaches image (to_block t) at → Reaches other (to_block t) at
+same_reaches {image = image} {other = other} same {t = t} r = record { path = r.path; leads = ap target (same_walk other image (λ x i. (same.each x).slots i) r.path (to_block t)) ∙ r.leads }
+
+-- so does what hangs from a block that is apart
+pub hung_looks : {a b : State} → Looks a b → a.tells → (at : ℕ) → IsHung a at → IsHung b at
+hung_looks {b = b} looks told at hung = ⊎_elim
+    (λ r. inl (same_reaches (looks.memory told) r))
+    (λ h. let clear : b.covered h.top → ⊥ = λ c. h.uncovered ((looks.covered.covered h.top).0 c) in inr (record {
+      top = h.top;
+      is_apart = (looks.stays.apart h.top (λ n. n) (λ n. n)).1 h.is_apart;
+      place = h.place;
+      stands = looks.stays.places told h.top h.place (λ n. n) (λ n. n) clear h.stands;
+      uncovered = clear;
+      reaches = same_reaches (looks.memory told) h.reaches;
+    }))
+    hung
 
 -- A source whose blocks are not to be closed is undisturbed by a look.
 pub looks_undisturbed : {a b : State} {leaves : Leaves} {size : ℕ} → Looks a b → a.tells → ((at : ℕ) → leaves.owns at → a.covered at → ⊥) → Undisturbed leaves size a b
@@ -66,6 +80,7 @@ looks_undisturbed {a = a} {b = b} {leaves = leaves} looks told spared = record {
       same_label = looks.stays.labels at (λ n. n);
       same_places = λ p h. looks.stays.places told at p (λ n. n) (λ n. n) (λ c. spared at own ((looks.covered.covered at).0 c)) h;
       in_tree = λ r. same_reaches (looks.memory told) r;
+      hung = hung_looks looks told at;
       uncovered = λ clear c. clear ((looks.covered.covered at).0 c);
       instead = λ x h. (looks.stays.instead x at (λ n. n) (λ n. n)).0 h;
     }

@@ -117,6 +117,7 @@ module _ (p : Parts) (first count at : ℕ) (kind : Kind) (tag rank : ℕ) (byte
       λ h. h,
       λ t. absurd t,
     );
+    alone = λ t. absurd t;
     is = (
       (is.from, let hi = is.to in let n = length-set p.region.labels (at - p.region.first) l in omega (arith, hi, n)),
       ap (λ (o : Option Buffer). option_map_or is_pinned o false) held_here,

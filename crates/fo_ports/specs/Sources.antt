@@ -74,14 +74,28 @@ Finds tells needed left prepared = tells ⊎ ((needed ≤ left) ⊎ prepared)
 abbrev pub AreLocal : (leaves : ℕ → Option ℕ) → (size offset n : ℕ) → Type 0
 AreLocal leaves size offset n = (k : ℕ) → offset ≤ k → k < offset + n → k < size → (b : ℕ) × (leaves (k / 8192) ≡ Some b)
 
--- A block stays in place: its slots where it is no leaf of entries, how long it is, its label and its places stay, it hangs from block 1
--- where it did, no removal is to close it that was not, and nothing more was made to come in its place.
+-- In memory a block hangs from one that was made and put into no slot yet, which stands at a place and is not to be closed.
+pub record HangsApart (s : State) (at : ℕ) : Type 0 where
+  pub top : ℕ
+  pub is_apart : s.apart top
+  pub place : Place
+  pub stands : s.stands top place
+  pub uncovered : s.covered top → ⊥
+  pub reaches : Reaches s.now (to_block top) at
+
+-- A block hangs from block 1, or from such a one: something may be put into it.
+abbrev pub IsHung : State → ℕ → Type 0
+IsHung s at = Reaches s.now (to_block 1) at ⊎ HangsApart s at
+
+-- A block stays in place: its slots where it is no leaf of entries, how long it is, its label and its places stay, it hangs in memory and
+-- from block 1 where it did, no removal is to close it that was not, and nothing more was made to come in its place.
 pub record StaysInPlace (old new : State) (at : ℕ) : Type 0 where
   pub same_slots : ((old.label at).kind ≡ Dir 0) ⊎ ((j : ℕ) → (new.now at).slot j ≡ (old.now at).slot j)
   pub same_length : length ((new.now at).bytes) ≡ length ((old.now at).bytes)
   pub same_label : new.label at ≡ old.label at
   pub same_places : (p : Place) → old.stands at p → new.stands at p
   pub in_tree : Reaches old.now (to_block 1) at → Reaches new.now (to_block 1) at
+  pub hung : IsHung old at → IsHung new at
   pub uncovered : (old.covered at → ⊥) → new.covered at → ⊥
   pub instead : (b : ℕ) → new.instead b at → old.instead b at
 
@@ -182,7 +196,7 @@ pub record SameLeaves (tells : Type 0) (old new : Leaves) : Type 0 where
 
 -- A source was changed: it has its old blocks and all that were given out, or fewer of the old ones; what was prepared stays so.
 pub record Grows (old_on new_on : State) (old new : Leaves) : Type 0 where
-  pub owns : (b : ℕ) → (new.owns b → old.owns b ⊎ Made old_on new_on b) × (Made old_on new_on b → new.owns b)
+  pub owns : old_on.tells → (b : ℕ) → (new.owns b → old.owns b ⊎ Made old_on new_on b) × (Made old_on new_on b → new.owns b)
   pub still : (o n : ℕ) → old.prepared o n → new.prepared o n
 
 -- A source of data that holds no records, whose bytes are put by `write`.

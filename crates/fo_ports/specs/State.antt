@@ -142,6 +142,7 @@ pub record Gives (at : ℕ) (c : Content) (l : Label) (old new : State) : Type 0
   pub images : AddsBlock old.tops at c old.may_leave new.may_leave
   pub label : new.label at ≡ l
   pub was : ((old.label at).state ≢ Live) × (at ≢ 1) × (old.covered at → ⊥) × (old.tells → (old.tops at → ⊥) × ((p : Place) → old.stands at p → ⊥))
+  pub alone : old.tells → (y : ℕ) → new.instead y at → ⊥
   pub is : new.is_block at × new.pinned at × new.fresh at × new.apart at × (new.covered at → ⊥) × ((a j : ℕ) → new.waits a at j → ⊥)
   pub stays : Stays (λ b. b ≡ at) none old new
   pub order : KeepsOrder (λ b. b ≡ at) old new

@@ -122,6 +122,9 @@ pub trait Bytes<B: Blocks> {
     /// A source of entries or of records has no leaf under a score: archived forms of these are others, and come into no active tree.
     ghost none_held: { (s : Self) (b : B) (i : ℕ) → is_over s b → (B.state b).tells → (IsPlain (form s) → ⊥) → (leaves s b).held i ≡ None };
 
+    /// No leaf stands at the end of the source and behind it.
+    ghost none_behind: { (s : Self) (b : B) (i : ℕ) → is_over s b → size s ≤ 8192 * i → ((leaves s b).at i ≡ None) × ((leaves s b).held i ≡ None) };
+
     ghost in_limit: { (s : Self) (b : B) → is_over s b → size s ≤ (form s).limit };
 
     /// Two leaves are two blocks.

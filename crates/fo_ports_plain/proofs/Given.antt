@@ -128,12 +128,29 @@ module _ (p : Plain) (new : List PlainBlock) (spare : ℕ) {block : PlainBlock} 
     λ k. let ne = rest_taken k.top k.taken in record { top = k.top; taken = ap (λ (z : PlainBlock). z.taken) (up.others k.top ne) ∙ k.taken; below = forth ne k.below; gone = λ r. k.gone (back not_super r) },
   )
 
+  -- what is to come in the place of a block comes in that of one that was made before
+  alone : (y : ℕ) → (state_of q).instead y p.made → ⊥
+  alone y k = ⊎_elim
+      (λ e.
+      let is : block.origin ≡ p.made = ap (λ (z : PlainBlock). z.origin) (sym up.here) ∙ ap (λ b. (block_at new b).origin) (sym e) ∙ k.origin in
+      ⊎_elim
+      (λ o. let no = o.origin in omega (arith, is, no, three))
+      (λ c. let lt = c.was_made in omega (arith, lt, is))
+      may.source)
+      (λ ne.
+      let same = up.others y ne in
+      let is : (block_at p.blocks y).origin ≡ p.made = ap (λ (z : PlainBlock). z.origin) (sym same) ∙ k.origin in
+      let lt = (sound.sources.steads y (ap (λ (z : PlainBlock). z.apart) (sym same) ∙ k.apart) (λ none. omega (arith, none, is, three))).was_made in
+      omega (arith, lt, is))
+      (cases_eq y p.made)
+
   pub gives : Gives p.made c l (state_of p) (state_of (record p { blocks = new; made = p.made + 1; spare = spare }))
   gives = record {
     memory = puts;
     images = block_added (IsTop p.blocks) puts not_top none_new;
     label = label_here;
     was = (was_free, λ e. not_super (sym e), never_covered p.blocks rest_taken none_old, λ t. (λ is. not_top p.made is refl, λ x st. let lt = st.was_made in omega (arith, lt)));
+    alone = λ t y k. alone y k;
     is = (
       (omega (arith, three), let long = up.as_long in omega (arith, room, long)),
       (omega (arith, three), omega arith),

@@ -77,6 +77,8 @@ impl<B: Blocks> Bytes<B> for PlainSource {
 
     ghost none_held = { λ s b i over told not_plain. refl };
 
+    ghost none_behind = { λ s b i over past. (over.none i past, refl) };
+
     ghost in_limit = { λ s b over. over.within };
 
     ghost apart = { λ s b i j at over told e f. over.apart told i j at e f };

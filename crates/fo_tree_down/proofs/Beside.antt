@@ -122,7 +122,7 @@ pub record WentDown (s u : State) (t : Tree) (kept : List Kept) (top n k at leve
 
 module _ {s u : State} {t : Tree} {kept : List Kept} {top n k at level : ℕ} (x : WentDown s u t kept top n k at level) where
   -- a block beside the way is none of it
-  not_mine : (m j b : ℕ) → m ≤ t.depth → j < 409 ^ m → block_at s t m j ≡ Local b → (IsWayIndex n k m j → ⊥) → OnWay s t n k b → ⊥
+  pub not_mine : (m j b : ℕ) → m ≤ t.depth → j < 409 ^ m → block_at s t m j ≡ Local b → (IsWayIndex n k m j → ⊥) → OnWay s t n k b → ⊥
   not_mine m j b le few e not on =
       let w = way_block s t n k b x.few on in
       let low = index_within n k w.down w.index w.is_way in

@@ -257,6 +257,7 @@ module _ {t : Tree} {mine wider : ℕ → Type 0} {level k at i : ℕ} {was : Po
     only = λ b no other h. x.step.covers.only b (x.first.only b no (λ is. other (x.within b is))) (λ e. other (x.is_mine b e)) h;
     leaves = leaves_end;
     in_tree = λ told b other r. x.step.reached (x.all.still_tells.1 told) b (λ e. other (x.is_mine b e)) (x.first.in_tree told b (λ is. other (x.within b is)) r);
+    hung = λ told b other h. x.step.hung (x.all.still_tells.1 told) b (λ e. other (x.is_mine b e)) (x.first.hung told b (λ is. other (x.within b is)) h);
     waits = λ a b j not_a not_b w. x.step.waits a b j (not_result b not_b) (not_result a not_a) (x.first.waits a b j (not_mid a not_a) (not_mid b not_b) w);
     no_wait = record { each = λ a b j h w. x.first.no_wait.each a b j h (x.step.changes.no_wait.each a b j h w) };
     clearing = λ b j h.
@@ -291,6 +292,7 @@ wider_same {t = t} {mine = mine} {wider = wider} {level = level} {s = s} {u = u}
   only = λ b no other h. x.only b no (λ is. other (within b is)) h;
   leaves = x.leaves;
   in_tree = λ told b other r. x.in_tree told b (λ is. other (within b is)) r;
+  hung = λ told b other h. x.hung told b (λ is. other (within b is)) h;
   waits = x.waits;
   no_wait = x.no_wait;
   clearing = x.clearing;

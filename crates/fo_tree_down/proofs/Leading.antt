@@ -1,17 +1,21 @@
 -- The way of the new top leads to the block that came.
-use Rattle.std.proofs.Common.{◌≡◌, ◌≢◌, ◌-◌, ◌/◌, ◌%◌, ◌<◌, ◌≤◌, ℕ, zero, suc, List, length, inl, inr, ⊎_elim, sym, ◌∙◌, ap, arith}
+use Rattle.std.proofs.Common.{◌≡◌, ◌≢◌, ◌+◌, ◌-◌, ◌/◌, ◌%◌, ◌<◌, ◌≤◌, ℕ, zero, suc, List, length, inl, inr, ⊎_elim, sym, ◌∙◌, ap, arith}
+use Rattle.std.proofs.lemmas.Bool.{cases_eq}
 use Rattle.fo_image.specs.declared.types.Label.{Label}
+use Rattle.fo_image.specs.declared.types.State.TheVariants.{Live}
 use Rattle.fo_image.specs.declared.types.Pointer.{Pointer}
 use Rattle.fo_image.specs.declared.types.Pointer.TheVariants.{Local}
 use Rattle.fo_crash.specs.declared.slot.Slot.{Slot}
 use Rattle.fo_crash.specs.Images.{target}
+use Rattle.fo_crash.specs.Places.{place}
 use Rattle.fo_ports.specs.State.{State, KeepsAll}
+use Rattle.fo_ports.specs.Sources.{Made}
 use Rattle.fo_tree_look.specs.declared.ways.Kept.{Kept}
 use Rattle.fo_tree_look.specs.Source.{IsPrepared}
 use Rattle.fo_tree_read.specs.declared.tree.Tree.{Tree}
-use Rattle.fo_tree_read.specs.Tree.{kind_down, below, block_at}
-use Rattle.fo_tree_own.specs.Step.{IsOwn, Links}
-use Rattle.fo_tree_down.specs.Way.{Comes, Replaces, LeadsBeside, Leads, with_top, IsTopOf}
+use Rattle.fo_tree_read.specs.Tree.{kind_at, kind_down, below, block_at}
+use Rattle.fo_tree_own.specs.Step.{IsOwn, OwnTold, Links}
+use Rattle.fo_tree_down.specs.Way.{OnWay, Comes, Replaces, LeadsBeside, Leads, with_top, IsTopOf}
 use Rattle.fo_tree_down.proofs.Join.{level_same}
 
 -- a block that is owned is prepared
@@ -29,62 +33,95 @@ pub last_of : (s u : State) (t : Tree) (kept : List Kept) (top n k at : ℕ) →
 last_of s u t kept top zero k at leads = leads.1
 last_of s u t kept top (suc n) k at leads = leads.1
 
-module _ (s m u : State) (t : Tree) (kept : List Kept) (top n above i result level k : ℕ) (within : n ≤ t.depth) (own : IsPrepared m (kind_down t n) t.tag above) (was : Pointer) (more : KeepsAll m u) (step : Links t level k above i was result m u) where
-  ne_result : (n' at : ℕ) → IsPrepared m (kind_down t n') t.tag at → at ≢ result
-  ne_result n' at is e = step.made.0 (ap (λ y. (m.label y).state) (sym e) ∙ is.live)
+-- what the new tree has there
+pub leads_to : (s u : State) (t : Tree) (kept : List Kept) (top n k at : ℕ) → Leads s u t kept top n k at → block_at u (with_top t top) n k ≡ Local at
+leads_to s u t kept top zero k at leads = ap (λ b. Local b) (sym leads.0)
+leads_to s u t kept top (suc n) k at leads =
+    ap (λ (p : Pointer). below u (kind_down t n) p (k % 409)) (leads_to s u t kept top n (k / 409) leads.0.0 leads.0.1) ∙ leads.0.2
 
-  block_on : (n' at : ℕ) → IsPrepared m (kind_down t n') t.tag at → IsPrepared u (kind_down t n') t.tag at
-  block_on n' at is =
-      let ne = ne_result n' at is in
+module _ (s m u : State) (t : Tree) (kept : List Kept) (top n above i result level k : ℕ) (within : suc n ≤ t.depth) (own : IsPrepared m (kind_down t n) t.tag above) (was : Pointer)
+    (was_below : (b : ℕ) → was ≡ Local b → IsPrepared m (kind_at t.dir (t.depth - suc n)) t.tag b) (more : KeepsAll m u) (step : Links t level k above i was result m u) where
+  ne_result : (at : ℕ) → (m.label at).state ≡ Live → at ≢ result
+  ne_result at live e = step.made.0 (ap (λ y. (m.label y).state) (sym e) ∙ live)
+
+  -- the slot led to none of those above
+  not_was : (n' j at : ℕ) → n' ≤ n → IsOwn m t (t.depth - n') j at → was ≡ Local at → ⊥
+  not_was n' j at le is e =
+      let same : t.depth - n' ≡ t.depth - suc n = level_same t.dir (t.depth - n') (t.depth - suc n) (sym is.has_kind ∙ (was_below at e).has_kind) in
+      omega (arith, same, le, within)
+
+  told_on : (n' j at : ℕ) → n' ≤ n → IsOwn m t (t.depth - n') j at → u.tells → OwnTold u t (t.depth - n') j at
+  told_on n' j at le is now =
+      let told = more.still_tells.0 now in
+      let before = is.told told in
+      let not = not_was n' j at le is in
+      let free : u.covered at → ⊥ = step.covers.only at before.uncovered not in
+      record {
+        stands = step.places told at (place (kind_at t.dir (t.depth - n')) t.tag j (t.rank + (t.depth - n'))) (ne_result at is.live) free before.stands;
+        uncovered = free;
+        hung = step.hung told at not before.hung;
+        alone = λ y h. before.alone y (step.instead y at h);
+      }
+
+  own_on : (n' j at : ℕ) → n' ≤ n → IsOwn m t (t.depth - n') j at → IsOwn u t (t.depth - n') j at
+  own_on n' j at le is =
+      let ne = ne_result at is.live in
       let same = step.labels at ne in
-      let epoch : (u.label at).epoch ≡ (m.label at).epoch = ap (λ (l : Label). l.epoch) same in
-      let high = more.same_high in
-      let up = is.up_to in
       record {
         is_pinned = (step.changes.others at (λ made. made.0 is.live)).marks.0 is.is_pinned;
         live = ap (λ (l : Label). l.state) same ∙ is.live;
         has_kind = ap (λ (l : Label). l.kind) same ∙ is.has_kind;
         tagged = ap (λ (l : Label). l.tag) same ∙ is.tagged;
-        up_to = omega (arith, epoch, high, up);
+        current = ap (λ (l : Label). l.epoch) same ∙ is.current ∙ sym more.same_high;
         long = ap (λ (xs : List ℕ). length xs) (step.bytes at ne) ∙ is.long;
+        told = told_on n' j at le is;
       }
 
-  replaces_on : (n' j at : ℕ) → Replaces s m t n' j at → Replaces s u t n' j at
-  replaces_on n' j at x = record {
-    is = block_on n' at x.is;
-    from = ⊎_elim (λ made. inl (made.0, ap (λ (l : Label). l.state) (step.labels at (ne_result n' at x.is)) ∙ made.1)) (λ e. inr e) x.from;
+  replaces_on : (n' j at : ℕ) → n' ≤ n → Replaces s m t n' j at → Replaces s u t n' j at
+  replaces_on n' j at le x = record {
+    own = own_on n' j at le x.own;
+    from = ⊎_elim (λ made. inl (made.0, ap (λ (l : Label). l.state) (step.labels at (ne_result at x.own.live)) ∙ made.1)) (λ e. inr e) x.from;
     kept = x.kept;
   }
 
-  ne_above : (n' at : ℕ) → n' < n → IsPrepared m (kind_down t n') t.tag at → at ≢ above
-  ne_above n' at lt is e =
+  ne_above : (n' j at : ℕ) → n' < n → IsOwn m t (t.depth - n') j at → at ≢ above
+  ne_above n' j at lt is e =
       let same : t.depth - n' ≡ t.depth - n = level_same t.dir (t.depth - n') (t.depth - n) (sym is.has_kind ∙ ap (λ y. (m.label y).kind) e ∙ own.has_kind) in
       omega (arith, same, lt, within)
 
   pub leads_on : (n' j at : ℕ) → n' ≤ n → Leads s m t kept top n' j at → Leads s u t kept top n' j at
-  leads_on zero j at le leads = (leads.0, replaces_on zero j at leads.1)
+  leads_on zero j at le leads = (leads.0, replaces_on zero j at le leads.1)
   leads_on (suc n') j at le leads =
       let parent = leads.0.0 in
-      let is = (last_of s m t kept top n' (j / 409) parent leads.0.1).is in
-      let same : (x : ℕ) → (u.now parent).slot x ≡ (m.now parent).slot x = λ x. step.slots parent x (ne_result n' parent is) (inl (ne_above n' parent (omega (arith, le)) is)) in (
+      let is = (last_of s m t kept top n' (j / 409) parent leads.0.1).own in
+      let same : (x : ℕ) → (u.now parent).slot x ≡ (m.now parent).slot x = λ x. step.slots parent x (ne_result parent is.live) (inl (ne_above n' (j / 409) parent (omega (arith, le)) is)) in (
         (
           parent,
           leads_on n' (j / 409) parent (omega (arith, le)) leads.0.1,
           ap (λ (q : Slot). target q) (same (j % 409)) ∙ leads.0.2,
           λ x few ne. ap (λ (q : Slot). target q) (same x) ∙ leads.0.3 x few ne,
         ),
-        replaces_on (suc n') j at leads.1,
+        replaces_on (suc n') j at le leads.1,
       )
 
   -- beside the slot that was put
   pub beside_on : (j : ℕ) → LeadsBeside s m t kept n j above i → LeadsBeside s u t kept n j above i
-  beside_on j beside x few ne = ap (λ (q : Slot). target q) (step.slots above x (ne_result n above own) (inr ne)) ∙ beside x few ne
+  beside_on j beside x few ne = ap (λ (q : Slot). target q) (step.slots above x (ne_result above own.live) (inr ne)) ∙ beside x few ne
 
--- what the new tree has there
-pub leads_to : (s u : State) (t : Tree) (kept : List Kept) (top n k at : ℕ) → Leads s u t kept top n k at → block_at u (with_top t top) n k ≡ Local at
-leads_to s u t kept top zero k at leads = ap (λ b. Local b) (sym leads.0)
-leads_to s u t kept top (suc n) k at leads =
-    ap (λ (p : Pointer). below u (kind_down t n) p (k % 409)) (leads_to s u t kept top n (k / 409) leads.0.0 leads.0.1) ∙ leads.0.2
+  -- a block of the way so far is one of it still
+  way_on : (n' j at b : ℕ) → n' ≤ n → Leads s m t kept top n' j at → OnWay m (with_top t top) n' j b → OnWay u (with_top t top) n' j b
+  way_on zero j at b le leads on = on
+  way_on (suc n') j at b le leads on = ⊎_elim
+      (λ above_on. inl (way_on n' (j / 409) leads.0.0 b (omega (arith, le)) leads.0.1 above_on))
+      (λ e. inr (leads_to s u t kept top (suc n') j at (leads_on (suc n') j at le leads) ∙ sym (leads_to s m t kept top (suc n') j at leads) ∙ e))
+      on
+
+  -- what was given out is of the new way
+  pub given_on : (j : ℕ) → Leads s m t kept top n (j / 409) above → target ((u.now above).slot (j % 409)) ≡ Local result → ((b : ℕ) → Made s m b → OnWay m (with_top t top) n (j / 409) b) → (b : ℕ) → Made s u b → OnWay u (with_top t top) (suc n) j b
+  given_on j leads put given b made = ⊎_elim
+      (λ e. inr (ap (λ (p : Pointer). below u (kind_down t n) p (j % 409)) (leads_to s u t kept top n (j / 409) above (leads_on n (j / 409) above (omega arith) leads)) ∙ put ∙ ap (λ y. Local y) (sym e)))
+      (λ ne. inl (way_on n (j / 409) above b (omega arith) leads (given b (made.0, ap (λ (l : Label). l.state) (sym (step.labels b ne)) ∙ made.1))))
+      (cases_eq b result)
 
 -- ---- the top
 

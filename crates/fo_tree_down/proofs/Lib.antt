@@ -4,3 +4,4 @@ pub mod Topping
 pub mod Leading
 pub mod Beside
 pub mod Stilling
+pub mod Telling

@@ -20,6 +20,7 @@ use Rattle.fo_tree_look.proofs.Held.{seen_address}
 use Rattle.fo_tree_look.proofs.Shown.{top_ready}
 use Rattle.fo_tree_own.specs.Step.{IsOwn, CanOwn, Becomes, Links}
 use Rattle.fo_tree_own.proofs.Link.{blank_leads}
+use Rattle.fo_tree_own.proofs.Here.{hung_below}
 use Rattle.fo_tree_down.specs.Way.{OnWay, Descends, Comes, Replaces}
 use Rattle.fo_tree_down.proofs.Join.{Continues, level_same, continued, wider_same, made_result}
 
@@ -144,6 +145,7 @@ module _ (s m : State) (t : Tree) (kept : List Kept) (n k above : ℕ) (all : Ke
         up_to = omega (arith, epoch, high, up);
         uncovered = comes.descends.only b was.uncovered (here_apart before b e);
         in_tree = λ older. comes.descends.in_tree before b (here_apart before b e) (was.in_tree (omega (arith, epoch, high, older)));
+        hung = hung_below m above (k % 409) b (comes.own.told now).hung (leads_next ∙ local_seen s kept t (suc n) k b e);
         alone = λ y h. ⊎_elim (λ old. was.alone y old) (λ new. here_apart before b e new.1) (comes.descends.instead y b h);
       }
 
@@ -198,8 +200,12 @@ module _ (s m : State) (t : Tree) (kept : List Kept) (n k above : ℕ) (all : Ke
     content = content_next m at content;
   }
 
-  pub replaces_same : (at : ℕ) → IsPrepared m (kind_down t (suc n)) t.tag at → target ((m.now above).slot (k % 409)) ≡ Local at → Replaces s m t (suc n) k at
-  replaces_same at is e = record { is = is; from = inr (next_local at e); kept = λ b f current. local_eq (sym (next_local at e) ∙ f) }
+  -- what the slot led to is prepared
+  pub was_below : (b : ℕ) → target ((m.now above).slot (k % 409)) ≡ Local b → IsPrepared m (kind_at t.dir (t.depth - suc n)) t.tag b
+  was_below b e = prepared_on b (next_below b e)
+
+  pub replaces_same : (at : ℕ) → IsOwn m t (t.depth - suc n) (409 * (k / 409) + k % 409) at → target ((m.now above).slot (k % 409)) ≡ Local at → Replaces s m t (suc n) k at
+  replaces_same at own e = record { own = subst (λ i. IsOwn m t (t.depth - suc n) i at) index_is own; from = inr (next_local at e); kept = λ b f current. local_eq (sym (next_local at e) ∙ f) }
 
   -- it was given out
   module _ (u : State) (at : ℕ) (more : KeepsAll m u) (image_says : (image : Image) → s.may_leave image → IsPlaced s.stands image × RanksFall s.stands image × s.tells × ((top : ℕ) → s.tops top → (q : Place) × s.stands top q))
@@ -238,9 +244,9 @@ module _ (s m : State) (t : Tree) (kept : List Kept) (n k above : ℕ) (all : Ke
         let high = all.same_high in
         omega (arith, older, epoch, high, current)
 
-    pub replaces_new : IsPrepared u (kind_down t (suc n)) t.tag at → Replaces s u t (suc n) k at
-    replaces_new is = record {
-      is = is;
+    pub replaces_new : Replaces s u t (suc n) k at
+    replaces_new = record {
+      own = subst (λ i. IsOwn u t (t.depth - suc n) i at) index_is step.own;
       from = inl (made_result joined);
       kept = λ b e current. absurd (not_current b (leads_next ∙ local_seen s kept t (suc n) k b e) current);
     }
@@ -270,6 +276,7 @@ comes_top s t kept k top is few own not = record {
       only = λ b free other h. free h;
       leaves = λ told b r gone. absurd (gone r);
       in_tree = λ told b other r. r;
+      hung = λ told b other h. h;
       waits = λ a b j f g w. w;
       no_wait = record { each = λ a b j f w. w };
       clearing = λ b j h. (none_made b, h);

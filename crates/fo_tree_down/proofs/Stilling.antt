@@ -18,7 +18,7 @@ use Rattle.fo_tree_look.proofs.Shown.{top_ready}
 use Rattle.fo_tree_down.specs.Way.{OnWay, IsPutInto, Descends, Leads, Replaces, IsWayIndex, with_top}
 use Rattle.fo_tree_down.proofs.Join.{level_same, local_cases}
 use Rattle.fo_tree_down.proofs.Next.{local_seen, local_eq}
-use Rattle.fo_tree_down.proofs.Leading.{leads_to}
+use Rattle.fo_tree_down.proofs.Leading.{block_of, leads_to}
 use Rattle.fo_tree_down.proofs.Beside.{index_cases, index_within, way_block, way_step}
 
 pub index_one : (n k m i j : ℕ) → IsWayIndex n k m i → IsWayIndex n k m j → i ≡ j
@@ -43,7 +43,7 @@ index_at (suc n) k m le = ⊎_elim
     (cases_eq m (suc n))
 
 -- the way of the new top, block by block
-way_leads : (s u : State) (t : Tree) (kept : List Kept) (top n k at m j : ℕ) → Leads s u t kept top n k at → IsWayIndex n k m j → (w : ℕ) × (block_at u (with_top t top) m j ≡ Local w) × Replaces s u t m j w
+pub way_leads : (s u : State) (t : Tree) (kept : List Kept) (top n k at m j : ℕ) → Leads s u t kept top n k at → IsWayIndex n k m j → (w : ℕ) × (block_at u (with_top t top) m j ≡ Local w) × Replaces s u t m j w
 way_leads s u t kept top zero k at m j leads is =
     subst (λ x. (w : ℕ) × (block_at u (with_top t top) x j ≡ Local w) × Replaces s u t x j w) (sym is.0)
     (subst (λ y. (w : ℕ) × (block_at u (with_top t top) zero y ≡ Local w) × Replaces s u t zero y w) (sym is.1) (at, leads_to s u t kept top zero k at leads, leads.1))
@@ -113,7 +113,7 @@ module _ {s u : State} {t : Tree} {kept : List Kept} {top n k at : ℕ} (x : Was
   ready_on m p q is h = ⊎_elim
       (λ on.
       let w = came m on.0 on.1 in
-      subst (λ (y : Pointer). Ready u new kept m y) (sym (on.3 ∙ local_seen u kept new m on.0 w.0 w.1)) w.2.is)
+      subst (λ (y : Pointer). Ready u new kept m y) (sym (on.3 ∙ local_seen u kept new m on.0 w.0 w.1)) (block_of m on.0 w.0 w.2.own))
       (λ off. subst (λ (y : Pointer). Ready u new kept m y) (sym off.0) (ready_off m p is))
       h
 

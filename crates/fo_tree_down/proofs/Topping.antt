@@ -6,21 +6,22 @@ use Rattle.fo_image.specs.declared.types.State.TheVariants.{Live}
 use Rattle.fo_image.specs.declared.types.Score.{Score}
 use Rattle.fo_image.specs.declared.types.Pointer.{Pointer}
 use Rattle.fo_image.specs.declared.types.Pointer.TheVariants.{Nil, Local, Score as Held}
+use Rattle.fo_crash.specs.declared.place.Place.{Place}
 use Rattle.fo_crash.specs.Images.{Image, Reaches, to_block}
 use Rattle.fo_crash.specs.Places.{place, super_place}
 use Rattle.fo_crash.proofs.Places.{stands_below}
 use Rattle.fo_crash.proofs.Reach.{reach_aside, reach_into, reaches_itself}
 use Rattle.fo_ports.specs.Blocks.{IsLevel}
 use Rattle.fo_ports.specs.State.{State, KeepsAll}
-use Rattle.fo_ports.specs.Sources.{Made, IsMade, StaysMarked}
+use Rattle.fo_ports.specs.Sources.{IsHung, Made, IsMade, StaysMarked}
 use Rattle.fo_tree_read.specs.declared.tree.Tree.{Tree}
 use Rattle.fo_tree_read.specs.Tree.{kind_at, Hangs}
 use Rattle.fo_tree_look.specs.declared.ways.Kept.{Kept}
-use Rattle.fo_tree_look.specs.Source.{IsPrepared, IsKept, Ready, IsTopCurrent}
+use Rattle.fo_tree_look.specs.Source.{IsTold, IsPrepared, IsKept, Ready, IsTopCurrent}
 use Rattle.fo_image.specs.Format.{kind_code}
 use Rattle.fo_tree_own.specs.Step.{IsOwn, Becomes}
 use Rattle.fo_tree_own.proofs.Link.{Laws, Came}
-use Rattle.fo_tree_down.specs.Way.{OnWay, IsBefore, Descends, Comes, TopTold}
+use Rattle.fo_tree_down.specs.Way.{OnWay, IsBefore, Descends, Comes}
 
 -- A top came: it was given out for the place of a top, and comes in the place of the top that was, if of any.
 pub record Topped (t : Tree) (kept : List Kept) (l : Label) (result : ℕ) (s m : State) : Type 0 where
@@ -53,6 +54,24 @@ module _ {t : Tree} {kept : List Kept} {l : Label} {result : ℕ} {s m : State} 
 
   in_tree : s.tells → (b : ℕ) → Reaches s.now (to_block 1) b → Reaches m.now (to_block 1) b
   in_tree told b r = reach_aside s.now m.now (λ y. y ≡ result) 1 (λ y j ne. sym ((x.came.others y ne).slots j)) (away told) b r
+
+  hung_end : s.tells → (b : ℕ) → IsHung s b → IsHung m b
+  hung_end told b hung = ⊎_elim
+      (λ r. inl (in_tree told b r))
+      (λ h.
+      let unplaced : (p : Place) → s.stands result p → ⊥ = (x.came.was.3 told).1 in
+      let ne : h.top ≢ result = λ e. unplaced h.place (subst (λ y. s.stands y h.place) e h.stands) in
+      let free : m.covered h.top → ⊥ = x.came.only h.top ne h.uncovered in
+      inr (record {
+        top = h.top;
+        is_apart = (x.came.stays.apart h.top ne (λ n. n)).1 h.is_apart;
+        place = h.place;
+        stands = x.came.stays.places told h.top h.place ne (λ n. n) free h.stands;
+        uncovered = free;
+        reaches = reach_aside s.now m.now (λ y. y ≡ result) h.top (λ y j off. sym ((x.came.others y off).slots j))
+            (λ y e far. let q = stands_below h.place (x.laws.placed told) (x.laws.ranked told) h.stands (subst (λ z. Reaches s.now (to_block h.top) z) e far) in unplaced q.0 q.1) b h.reaches;
+      }))
+      hung
 
   images : (k : ℕ) (image : Image) → m.may_leave image → IsBefore s m t (OnWay s t zero k) (t.depth - zero) image
   images k image is =
@@ -103,6 +122,7 @@ module _ {t : Tree} {kept : List Kept} {l : Label} {result : ℕ} {s m : State} 
     only = λ b free other h. only_end b free h;
     leaves = λ told b r gone. absurd (gone (in_tree told b r));
     in_tree = λ told b other r. in_tree told b r;
+    hung = λ told b other h. hung_end told b h;
     waits = λ a b j not_a not_b w. x.came.stays.waits a b j (ne_result a not_a) (ne_result b not_b) (λ h. h) w;
     no_wait = x.came.no_wait;
     clearing = λ b j h. let old = x.came.order.clearing b j h in (λ made. old.0 (made_is b made), old.1);
@@ -132,7 +152,8 @@ module _ {t : Tree} {kept : List Kept} {l : Label} {result : ℕ} {s m : State} 
         told = λ now. let told = x.all.still_tells.0 now in record {
           stands = x.stands told;
           uncovered = x.came.is.4;
-          holder = inr (record { top = result; is_apart = x.came.is.3; place = place (kind_at t.dir t.depth) t.tag 0 (t.rank + t.depth); stands = x.stands told; uncovered = x.came.is.4; reaches = reaches_itself m.now result });
+          hung = inr (record { top = result; is_apart = x.came.is.3; place = place (kind_at t.dir t.depth) t.tag 0 (t.rank + t.depth); stands = x.stands told; uncovered = x.came.is.4; reaches = reaches_itself m.now result });
+          alone = x.came.alone told;
         };
       }
 
@@ -144,13 +165,17 @@ module _ {t : Tree} {kept : List Kept} {l : Label} {result : ℕ} {s m : State} 
     content = let all : t.depth ≡ t.depth - zero = omega arith in subst (λ level. Becomes s m t kept level t.top result) all x.content;
   }
 
+-- only the top was given out
+pub came_made : {l : Label} {result : ℕ} {s m : State} → Came l result s m → (b : ℕ) → Made s m b → b ≡ result
+came_made {result = result} x b made = ⊎_elim (λ e. e) (λ ne. absurd (made.0 (ap (λ (q : Label). q.state) (sym (x.stays.labels b ne)) ∙ made.1))) (cases_eq b result)
+
 -- ---- the top that is there
 
 pub level_at : (dir : Bool) (level : ℕ) → level ≤ 4 → IsLevel (kind_at dir level)
 level_at true level le = le
 level_at false level le = le
 
-pub own_here : (s : State) (t : Tree) (at : ℕ) → Hangs s t → t.top ≡ Local at → IsPrepared s (kind_at t.dir t.depth) t.tag at → (s.tells → TopTold s at) → (s.label at).epoch ≡ s.high → IsOwn s t t.depth 0 at
+pub own_here : (s : State) (t : Tree) (at : ℕ) → Hangs s t → t.top ≡ Local at → IsPrepared s (kind_at t.dir t.depth) t.tag at → (s.tells → IsTold s at) → (s.label at).epoch ≡ s.high → IsOwn s t t.depth 0 at
 own_here s t at hangs top is told current = record {
   is_pinned = is.is_pinned;
   live = is.live;
@@ -158,7 +183,7 @@ own_here s t at hangs top is told current = record {
   tagged = is.tagged;
   current = current;
   long = is.long;
-  told = λ now. record { stands = (hangs.told now at top).0; uncovered = (told now).is_told.uncovered; holder = (told now).holder current };
+  told = λ now. record { stands = (hangs.told now at top).0; uncovered = (told now).uncovered; hung = (told now).hung; alone = (told now).alone };
 }
 
 pub nil_local : (b : ℕ) → Nil ≡ Local b → ⊥

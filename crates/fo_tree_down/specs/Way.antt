@@ -6,12 +6,12 @@ use Rattle.fo_image.specs.declared.types.State.TheVariants.{Live}
 use Rattle.fo_crash.specs.declared.place.Place.{Place}
 use Rattle.fo_crash.specs.Images.{Image, Reaches, target, to_block}
 use Rattle.fo_ports.specs.State.{State, none, AddsNoWait, KeepsNumbers}
-use Rattle.fo_ports.specs.Sources.{Made, Touched, IsMade, StaysMarked}
+use Rattle.fo_ports.specs.Sources.{IsHung, Made, Touched, IsMade, StaysMarked}
 use Rattle.fo_tree_read.specs.declared.tree.Tree.{Tree}
 use Rattle.fo_tree_read.specs.Tree.{kind_at, kind_down, below, block_at}
 use Rattle.fo_tree_look.specs.declared.ways.Kept.{Kept}
-use Rattle.fo_tree_look.specs.Source.{IsTold, IsPrepared, seen}
-use Rattle.fo_tree_own.specs.Step.{HangsApart, IsOwn, Becomes}
+use Rattle.fo_tree_look.specs.Source.{seen}
+use Rattle.fo_tree_own.specs.Step.{IsOwn, Becomes}
 
 -- A block stands on the way to block k, n steps below the top, or is that block.
 abbrev pub OnWay : State → Tree → ℕ → ℕ → ℕ → Type 0
@@ -53,6 +53,7 @@ pub record Descends (t : Tree) (mine : ℕ → Type 0) (level : ℕ) (s u : Stat
   pub only : (b : ℕ) → (s.covered b → ⊥) → (mine b → ⊥) → u.covered b → ⊥
   pub leaves : s.tells → (b : ℕ) → Reaches s.now (to_block 1) b → (Reaches u.now (to_block 1) b → ⊥) → u.covered b
   pub in_tree : s.tells → (b : ℕ) → (mine b → ⊥) → Reaches s.now (to_block 1) b → Reaches u.now (to_block 1) b
+  pub hung : s.tells → (b : ℕ) → (mine b → ⊥) → IsHung s b → IsHung u b
   pub waits : (a on j : ℕ) → (Made s u a → ⊥) → (Made s u on → ⊥) → s.waits a on j → u.waits a on j
   pub no_wait : AddsNoWait none s u
   pub clearing : (b j : ℕ) → u.clearing b j → (Made s u b → ⊥) × s.clearing b j
@@ -70,15 +71,10 @@ pub record Comes (s u : State) (t : Tree) (kept : List Kept) (n k at : ℕ) : Ty
   pub from : Made s u at ⊎ ((block_at s t n k ≡ Local at) × (Made s u at → ⊥))
   pub content : Becomes s u t kept (t.depth - n) (block_at (seen s kept) t n k) at
 
--- What a device that tells has of the top of a source: a current one hangs from block 1, or from a block that was put nowhere yet.
-pub record TopTold (s : State) (at : ℕ) : Type 0 where
-  pub is_told : IsTold s at
-  pub holder : (s.label at).epoch ≡ s.high → Reaches s.now (to_block 1) at ⊎ HangsApart s at
-
 -- A block came where block k of those n steps below the top was: one that was given out, or the block itself, as it is where that was
--- current.
+-- current. It is current now, and at its place.
 pub record Replaces (s u : State) (t : Tree) (n k at : ℕ) : Type 0 where
-  pub is : IsPrepared u (kind_down t n) t.tag at
+  pub own : IsOwn u t (t.depth - n) k at
   pub from : Made s u at ⊎ (block_at s t n k ≡ Local at)
   pub kept : (b : ℕ) → block_at s t n k ≡ Local b → (s.label b).epoch ≡ s.high → at ≡ b
 

@@ -1,10 +1,10 @@
 //! The way to a block is made current.
 ghost use Rattle.std.specs.Prelude.{◌≡◌, ◌≢◌, ◌⊎◌, ◌+◌, ◌-◌, ◌*◌, ◌/◌, ◌%◌, ◌^◌, ◌<◌, ◌≤◌, ℕ};
 ghost use Rattle.fo_image.specs.declared.types.Pointer.TheVariants.{Local};
-ghost use Rattle.fo_ports.specs.Sources.{Changes};
+ghost use Rattle.fo_ports.specs.Sources.{Made, Changes};
 ghost use Rattle.fo_tree_read.specs.Tree.{Hangs, kind_at, block_at};
 ghost use Rattle.fo_tree_look.specs.Source.{IsTold, Over, HasBlock, Prepared, WayReady, IsTopCurrent};
-ghost use Rattle.fo_tree_down.specs.Way.{OnWay, TopTold, Comes, Leads, IsTopOf, Replaces, StaysBeside, with_top};
+ghost use Rattle.fo_tree_down.specs.Way.{OnWay, Comes, Leads, IsTopOf, Replaces, StaysBeside, with_top};
 
 use crate::top::own_top;
 use fo_ports::Blocks;
@@ -27,13 +27,14 @@ pub fn own_way<B: Blocks>(tree: &Tree, kept: &[Kept], on: &mut B, down: u8, k: u
     requires over { (limit : ℕ) × Over (B.state on.old) tree.now kept.now limit }
     requires down { (down ≤ tree.now.depth) × (k < 409 ^ down) }
     requires ready { WayReady (B.state on.old) tree.now kept.now down k }
-    requires top { (B.state on.old).tells → (b : ℕ) → tree.now.top ≡ Local b → TopTold (B.state on.old) b }
     requires spare { (IsTopCurrent (B.state on.old) tree.now × (down ≤ (B.state on.old).spare)) ⊎ (down < (B.state on.old).spare) }
     ensures comes { Comes (B.state on.old) (B.state on.new) tree.now kept.now down k result.at }
     ensures leads { block_at (B.state on.new) (with_top tree.now result.top) down k ≡ Local result.at }
     ensures replaces { Replaces (B.state on.old) (B.state on.new) tree.now down k result.at }
     ensures top { IsTopOf (B.state on.old) (B.state on.new) tree.now result.top }
     ensures beside { (B.state on.old).tells → StaysBeside (B.state on.old) (B.state on.new) tree.now (with_top tree.now result.top) down k }
+    ensures over { 0 < tree.now.size → (limit : ℕ) → Over (B.state on.old) tree.now kept.now limit → Over (B.state on.new) (with_top tree.now result.top) kept.now limit }
+    ensures owns { (B.state on.old).tells → (b : ℕ) → (HasBlock (B.state on.new) (with_top tree.now result.top) b → HasBlock (B.state on.old) tree.now b ⊎ Made (B.state on.old) (B.state on.new) b) × (Made (B.state on.old) (B.state on.new) b → HasBlock (B.state on.new) (with_top tree.now result.top) b) }
     ensures still { (limit o n : ℕ) → Prepared (B.state on.old) tree.now kept.now limit o n → Prepared (B.state on.new) (with_top tree.now result.top) kept.now limit o n }
     ensures changes { Changes tree.now.tag (HasBlock (B.state on.old) tree.now) (λ b. HasBlock (B.state on.old) tree.now b × (((B.state on.old).label b).kind ≢ kind_at tree.now.dir 0)) (B.state on.old) (B.state on.new) }
     ensures spare { (B.state on.old).spare ≤ (B.state on.new).spare + (down + 1) }
@@ -49,10 +50,10 @@ fn own_down<B: Blocks>(tree: &Tree, kept: &[Kept], on: &mut B, down: u8, k: u64)
     requires down { (down ≤ tree.now.depth) × (k < 409 ^ down) }
     requires ready { WayReady (B.state on.old) tree.now kept.now down k }
     requires told { (B.state on.old).tells → (b : ℕ) → OnWay (B.state on.old) tree.now down k b → IsTold (B.state on.old) b }
-    requires top { (B.state on.old).tells → (b : ℕ) → tree.now.top ≡ Local b → TopTold (B.state on.old) b }
     requires spare { (IsTopCurrent (B.state on.old) tree.now × (down ≤ (B.state on.old).spare)) ⊎ (down < (B.state on.old).spare) }
     ensures comes { Comes (B.state on.old) (B.state on.new) tree.now kept.now down k result.at }
     ensures leads { Leads (B.state on.old) (B.state on.new) tree.now kept.now result.top down k result.at }
+    ensures given { (b : ℕ) → Made (B.state on.old) (B.state on.new) b → OnWay (B.state on.new) (with_top tree.now result.top) down k b }
     ensures top { IsTopOf (B.state on.old) (B.state on.new) tree.now result.top }
     ensures spare { (B.state on.old).spare ≤ (B.state on.new).spare + (down + 1) }
     ensures less { IsTopCurrent (B.state on.old) tree.now → (B.state on.old).spare ≤ (B.state on.new).spare + down }

@@ -1,10 +1,9 @@
 //! A leaf below the end of a source is made current.
 ghost use Rattle.std.specs.Prelude.{◌≡◌, ◌≢◌, ◌⊎◌, ◌+◌, ◌*◌, ◌≤◌, ℕ};
-ghost use Rattle.fo_image.specs.declared.types.Pointer.TheVariants.{Local};
-ghost use Rattle.fo_ports.specs.Sources.{Changes, Owned, most_to_own, IsEnough};
+ghost use Rattle.fo_ports.specs.Sources.{Changes, Grows, Owned, most_to_own, IsEnough};
 ghost use Rattle.fo_tree_read.specs.Tree.{kind_at};
 ghost use Rattle.fo_tree_look.specs.Source.{Over, HasBlock, Prepared, IsTopCurrent, form_of, leaves_of};
-ghost use Rattle.fo_tree_down.specs.Way.{IsTopOf, TopTold, with_top};
+ghost use Rattle.fo_tree_down.specs.Way.{IsTopOf, with_top};
 
 use fo_ports::Blocks;
 use fo_tree_down::{Current, own_way};
@@ -16,11 +15,12 @@ use fo_tree_read::Tree;
 pub fn own_within<B: Blocks>(tree: &Tree, kept: &[Kept], on: &mut B, i: u32) -> Current
     requires over { (limit : ℕ) × Over (B.state on.old) tree.now kept.now limit × Prepared (B.state on.old) tree.now kept.now limit (8192 * i) 8192 }
     requires within { 8192 * (i + 1) ≤ tree.now.size }
-    requires top { (B.state on.old).tells → (b : ℕ) → tree.now.top ≡ Local b → TopTold (B.state on.old) b }
     requires spare { IsEnough (IsTopCurrent (B.state on.old) tree.now) tree.now.size i (B.state on.old).spare }
     ensures owned { (generation limit : ℕ) → Owned (form_of tree.now generation limit) tree.now.size i result.at (B.state on.old) (B.state on.new) (leaves_of (B.state on.old) tree.now kept.now limit) (leaves_of (B.state on.new) (with_top tree.now result.top) kept.now limit) }
     ensures bytes { (B.state on.old).tells → (limit : ℕ) → (leaves_of (B.state on.new) (with_top tree.now result.top) kept.now limit).bytes ≡ (leaves_of (B.state on.old) tree.now kept.now limit).bytes }
     ensures top { IsTopOf (B.state on.old) (B.state on.new) tree.now result.top }
+    ensures over { (limit : ℕ) → Over (B.state on.old) tree.now kept.now limit → Over (B.state on.new) (with_top tree.now result.top) kept.now limit }
+    ensures grows { (limit : ℕ) → Grows (B.state on.old) (B.state on.new) (leaves_of (B.state on.old) tree.now kept.now limit) (leaves_of (B.state on.new) (with_top tree.now result.top) kept.now limit) }
     ensures still { (limit o n : ℕ) → Prepared (B.state on.old) tree.now kept.now limit o n → Prepared (B.state on.new) (with_top tree.now result.top) kept.now limit o n }
     ensures changes { Changes tree.now.tag (HasBlock (B.state on.old) tree.now) (λ b. HasBlock (B.state on.old) tree.now b × (((B.state on.old).label b).kind ≢ kind_at tree.now.dir 0)) (B.state on.old) (B.state on.new) }
     ensures spare { (B.state on.old).spare ≤ (B.state on.new).spare + most_to_own tree.now.size i }

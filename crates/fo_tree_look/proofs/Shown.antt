@@ -17,6 +17,7 @@ use Rattle.fo_crash.proofs.Reach.{same_walk}
 use Rattle.fo_ports.specs.Blocks.{Reads}
 use Rattle.fo_ports.specs.State.{State, KeepsAll, Looks}
 use Rattle.fo_ports.specs.Sources.{byte_at, source_bytes, depth_for, most_for, Finds, AreLocal, SameLeaves}
+use Rattle.fo_looks.proofs.Looks.{hung_looks}
 use Rattle.fo_tree_read.specs.declared.tree.Tree.{Tree}
 use Rattle.fo_tree_read.specs.Tree.{kind_at, kind_down, score_in, below, block_at, leaf_at, address_of, held_of, address, held_leaf, bytes, IsGot, Got, IsFound}
 use Rattle.fo_tree_read.specs.Reading.{LeafWay, most, Prepared as AllGot}
@@ -45,6 +46,9 @@ address_below s t i lt = cond_true (nat_lt (8192 * i) t.size) (address s t i) No
 
 pub held_below : (s : State) (t : Tree) (i : ℕ) → 8192 * i < t.size → held_plain s t i ≡ held_leaf s t i
 held_below s t i lt = cond_true (nat_lt (8192 * i) t.size) (held_leaf s t i) None (lt-ltb (8192 * i) t.size lt)
+
+pub held_past : (s : State) (t : Tree) (kept : List Kept) (i : ℕ) → t.size ≤ 8192 * i → held_here s t kept i ≡ None
+held_past s t kept i le = ap (λ b. cond b (held_leaf (seen s kept) t i) None) (le-ltb (8192 * i) t.size le)
 
 pub address_past : (s : State) (t : Tree) (i : ℕ) → t.size ≤ 8192 * i → address_here s t i ≡ None
 address_past s t i le = ap (λ b. cond b (address s t i) None) (le-ltb (8192 * i) t.size le)
@@ -154,6 +158,7 @@ module _ (a b : State) (t : Tree) (all : KeepsAll a b) (looks : Looks a b) (told
         up_to = omega (arith, epoch, high, up);
         uncovered = λ c. is.uncovered ((looks.covered.covered at).0 c);
         in_tree = λ older. reaches_on at (is.in_tree (omega (arith, epoch, high, older)));
+        hung = hung_looks looks told at is.hung;
         alone = λ y h. is.alone y ((looks.stays.instead y at (λ n. n) (λ n. n)).0 h);
       }
 

@@ -179,6 +179,7 @@ module _ (a b : State) (t : Tree) (kept : List Kept) (limit : ℕ) (all : KeepsA
         up_to = omega (arith, epoch, high, up);
         uncovered = place.uncovered is.uncovered;
         in_tree = λ older. place.in_tree (is.in_tree (omega (arith, epoch, high, older)));
+        hung = place.hung is.hung;
         alone = λ y h. is.alone y (place.instead y h);
       }
 

@@ -10,7 +10,7 @@ use Rattle.fo_image.specs.declared.types.Pointer.TheVariants.{Nil, Local, Score 
 use Rattle.fo_image.specs.Format.{kind_code}
 use Rattle.fo_crash.specs.Images.{Reaches, to_block}
 use Rattle.fo_ports.specs.State.{State}
-use Rattle.fo_ports.specs.Sources.{Form, Leaves, depth_for, source_bytes}
+use Rattle.fo_ports.specs.Sources.{Form, Leaves, IsHung, depth_for, source_bytes}
 use Rattle.fo_tree_read.specs.declared.tree.Tree.{Tree}
 use Rattle.fo_tree_read.specs.Tree.{kind_at, kind_down, block_at, address, held_leaf, Hangs, Names, Got, Way}
 use Rattle.fo_tree_look.specs.declared.ways.Kept.{Kept}
@@ -50,13 +50,14 @@ address_here s t i = cond (nat_lt (8192 * i) t.size) (address s t i) None
 abbrev pub held_here : State → Tree → List Kept → ℕ → Option (List ℕ)
 held_here s t kept i = cond (nat_lt (8192 * i) t.size) (held_leaf (seen s kept) t i) None
 
--- What a device that tells has of a block of the source. One of an older epoch hangs from block 1, since no other is ever copied; and
--- no block was made to come in its place.
+-- What a device that tells has of a block of the source. One of an older epoch hangs from block 1, since no other is ever copied; a
+-- current one from there, or from a block that was put nowhere yet. No block was made to come in its place.
 pub record IsTold (s : State) (at : ℕ) : Type 0 where
   pub live : (s.label at).state ≡ Live
   pub up_to : (s.label at).epoch ≤ s.high
   pub uncovered : s.covered at → ⊥
   pub in_tree : (s.label at).epoch < s.high → Reaches s.now (to_block 1) at
+  pub hung : IsHung s at
   pub alone : (y : ℕ) → s.instead y at → ⊥
 
 -- The leaves hold neither entries nor records.

@@ -1,5 +1,5 @@
 //! What holds of a source over blocks between calls.
-ghost use Rattle.std.specs.Prelude.{◌≡◌, ◌+◌, ◌≤◌, ◌↔◌, ℕ, Some, None};
+ghost use Rattle.std.specs.Prelude.{◌≡◌, ◌+◌, ◌*◌, ◌≤◌, ◌↔◌, ℕ, Some, None};
 ghost use Rattle.fo_image.specs.declared.types.State.TheVariants.{Live};
 ghost use Rattle.fo_crash.specs.declared.place.Place.{Place};
 ghost use Rattle.fo_ports.specs.Sources.{source_bytes, IsReady, StaysReady, Undisturbed};
@@ -10,11 +10,12 @@ use fo_ports::Blocks;
 
 /// The bytes are those of the leaves in memory; two leaves are two blocks, which stand at places of the source's kind, tag and rank. The
 /// source's blocks have its tag, are live, of an epoch up to the high one, and not to be closed. A source of entries or of records has
-/// no leaf under a score.
+/// no leaf under a score. No leaf stands at the end and behind it.
 pub fn holds<B: Blocks>(source: &Ways, on: &B)
     requires over { Over (B.state on.now) source.now.tree source.now.kept.items source.now.limit }
     ensures bytes_are { (leaves_of (B.state on.now) source.now.tree source.now.kept.items source.now.limit).bytes ≡ source_bytes (address_here (B.state on.now) source.now.tree) (held_here (B.state on.now) source.now.tree source.now.kept.items) (B.state on.now).now source.now.tree.size }
     ensures none_held { (i : ℕ) → (B.state on.now).tells → (IsPlainTree source.now.tree → ⊥) → held_here (B.state on.now) source.now.tree source.now.kept.items i ≡ None }
+    ensures none_behind { (i : ℕ) → source.now.tree.size ≤ 8192 * i → (address_here (B.state on.now) source.now.tree i ≡ None) × (held_here (B.state on.now) source.now.tree source.now.kept.items i ≡ None) }
     ensures in_limit { source.now.tree.size ≤ source.now.limit }
     ensures apart { (i j at : ℕ) → (B.state on.now).tells → address_here (B.state on.now) source.now.tree i ≡ Some at → address_here (B.state on.now) source.now.tree j ≡ Some at → i ≡ j }
     ensures leaf_owned { (i at : ℕ) → address_here (B.state on.now) source.now.tree i ≡ Some at → HasBlock (B.state on.now) source.now.tree at }

@@ -13,10 +13,10 @@ use Rattle.fo_crash.specs.Places.{place, super_place}
 use Rattle.fo_crash.proofs.Reach.{lost, reaches_on, reaches_joins, reaches_same, reach_into}
 use Rattle.fo_crash.proofs.Updates.{slot_bytes, slot_other}
 use Rattle.fo_ports.specs.State.{State, KeepsAll, Frame, Hangs, KeepsOrder, AddsNoWait, IsPointers, none}
-use Rattle.fo_ports.specs.Sources.{Made, Touched, Undone, IsMade, StaysMarked, Changes}
+use Rattle.fo_ports.specs.Sources.{IsHung, Made, Touched, Undone, IsMade, StaysMarked, Changes}
 use Rattle.fo_tree_read.specs.declared.tree.Tree.{Tree}
 use Rattle.fo_tree_read.specs.Tree.{kind_at}
-use Rattle.fo_tree_own.specs.Step.{HangsApart, IsOwn, IsBeside, IsBehind, OnlyCovers, Links}
+use Rattle.fo_tree_own.specs.Step.{IsOwn, IsBeside, IsBehind, OnlyCovers, Links}
 use Rattle.fo_tree_own.proofs.Link.{Laws, Linking, local_eq, at_ne, at_pinned, at_place, top_ne, reaches_mid, back, unwaited}
 use Rattle.fo_tree_own.proofs.May.{there, place_is}
 
@@ -244,9 +244,9 @@ module _ {t : Tree} {level k at i n : ℕ} {was : Pointer} {l : Label} {result :
       (λ away. let last = x.frame.stays.apart b (λ h. h) (λ g. ⊎_elim away (λ e. apart (sym (local_eq e))) g) in (λ h. first.0 (last.0 h), λ h. last.1 (first.1 h)))
       (cases_eq b at)
 
-  at_holder : s.tells → Reaches u.now (to_block 1) at ⊎ HangsApart u at
-  at_holder told = ⊎_elim
-      (λ r. inl (reached_end told at not_was r))
+  hung_end : s.tells → (b : ℕ) → (was ≡ Local b → ⊥) → IsHung s b → IsHung u b
+  hung_end told b not hung = ⊎_elim
+      (λ r. inl (reached_end told b not r))
       (λ h.
       let apart = top_ne x.link told h in
       let no = only_covers.only h.top h.uncovered (x.not_apart told h.top h.is_apart) in
@@ -256,9 +256,19 @@ module _ {t : Tree} {level k at i n : ℕ} {was : Pointer} {l : Label} {result :
         place = h.place;
         stands = places_end told h.top h.place apart no h.stands;
         uncovered = no;
-        reaches = reaches_end h.top at not_was (reaches_mid x.link told h.top at h.place h.stands h.reaches);
+        reaches = reaches_end h.top b not (reaches_mid x.link told h.top b h.place h.stands h.reaches);
       }))
-      (x.link.above.told told).holder
+      hung
+
+  at_hung : s.tells → IsHung u at
+  at_hung told = hung_end told at not_was (x.link.above.told told).hung
+
+  -- nothing is to come in the place of what came
+  result_alone : s.tells → (y : ℕ) → u.instead y result → ⊥
+  result_alone told y h = ⊎_elim
+      (λ own. (x.hangs.put result refl).1 result (subst (λ z. u.instead z result) own h))
+      (λ apart. x.link.came.alone told y ((x.link.came.stays.instead y result apart (λ z. z)).1 (instead_end y result h)))
+      (cases_eq y result)
 
   above_end : IsOwn u t (suc level) k at
   above_end = record {
@@ -268,14 +278,14 @@ module _ {t : Tree} {level k at i n : ℕ} {was : Pointer} {l : Label} {result :
     tagged = ap (λ (q : Label). q.tag) (label_end at ne) ∙ x.link.above.tagged;
     current = ap (λ (q : Label). q.epoch) (label_end at ne) ∙ x.link.above.current ∙ sym x.whole.same_high;
     long = ap length (bytes_end at ne) ∙ x.link.above.long;
-    told = λ now. let told = x.whole.still_tells.0 now in record { stands = at_stands told; uncovered = spared told (x.link.above.told told).uncovered not_was; holder = at_holder told };
+    told = λ now. let told = x.whole.still_tells.0 now in record { stands = at_stands told; uncovered = spared told (x.link.above.told told).uncovered not_was; hung = at_hung told; alone = λ y h. (x.link.above.told told).alone y (instead_end y at h) };
   }
 
-  own_holder : s.tells → Reaches u.now (to_block 1) result ⊎ HangsApart u result
-  own_holder told = ⊎_elim
+  own_hung : s.tells → IsHung u result
+  own_hung told = ⊎_elim
       (λ r. inl (reaches_on i r leads_end))
       (λ h. inr (record { top = h.top; is_apart = h.is_apart; place = h.place; stands = h.stands; uncovered = h.uncovered; reaches = reaches_on i h.reaches leads_end }))
-      (at_holder told)
+      (at_hung told)
 
   own_stands : s.tells → u.stands result (there t level k i)
   own_stands told =
@@ -290,7 +300,7 @@ module _ {t : Tree} {level k at i n : ℕ} {was : Pointer} {l : Label} {result :
     tagged = ap (λ (q : Label). q.tag) result_end ∙ x.tagged;
     current = ap (λ (q : Label). q.epoch) result_end ∙ x.link.is_current ∙ sym x.whole.same_high;
     long = ap length (x.puts.bytes result) ∙ x.long;
-    told = λ now. let told = x.whole.still_tells.0 now in record { stands = own_stands told; uncovered = only_covers.only result x.link.came.was.2 x.fresh; holder = own_holder told };
+    told = λ now. let told = x.whole.still_tells.0 now in record { stands = own_stands told; uncovered = only_covers.only result x.link.came.was.2 x.fresh; hung = own_hung told; alone = result_alone told };
   }
 
   -- ---- all that changed
@@ -401,6 +411,8 @@ module _ {t : Tree} {level k at i n : ℕ} {was : Pointer} {l : Label} {result :
     instead = instead_end;
     reached = reached_end;
     in_tree = λ told b e. back x.link told 1 b super_place (x.link.laws.super_stands told) (x.in_tree told b e);
+    hung = hung_end;
+    places = places_end;
     older = x.was_older;
     covers = only_covers;
     waits = waits_end;

@@ -16,9 +16,10 @@ use Rattle.fo_crash.proofs.Reach.{reach_aside, reach_into}
 use Rattle.fo_crash.proofs.Updates.{block_other}
 use Rattle.fo_ports.specs.Blocks.{slot_count, SlotFits, cost, dropped, blank_slot}
 use Rattle.fo_ports.specs.State.{State, KeepsAll, none, Stays, KeepsOrder, AddsNoWait, Uses, KeepsNumbers, Gives, IsHeld}
+use Rattle.fo_ports.specs.Sources.{HangsApart, IsHung}
 use Rattle.fo_tree_read.specs.declared.tree.Tree.{Tree}
 use Rattle.fo_tree_read.specs.Tree.{kind_at}
-use Rattle.fo_tree_own.specs.Step.{HangsApart, IsOwn, IsBeside, Filled}
+use Rattle.fo_tree_own.specs.Step.{IsOwn, IsBeside, Filled}
 
 -- ---- blocks of pointers
 
@@ -95,6 +96,7 @@ pub record Came (l : Label) (result : ℕ) (s m : State) : Type 0 where
   pub order : KeepsOrder (λ b. b ≡ result) s m
   pub still : (b : ℕ) → b ≢ result → s.covered b → m.covered b
   pub only : (b : ℕ) → b ≢ result → (s.covered b → ⊥) → m.covered b → ⊥
+  pub alone : s.tells → (y : ℕ) → m.instead y result → ⊥
   pub no_wait : AddsNoWait none s m
   pub dirty : (b : ℕ) → m.dirty b → s.dirty b ⊎ ((b ≡ result) ⊎ (b ≡ m.label_block result))
   pub uses : Uses 1 0 s m
@@ -112,6 +114,7 @@ came {result = result} {s = s} {m = m} gives = record {
   order = gives.order;
   still = λ b ne. (gives.covered b ne).1;
   only = λ b ne no h. no ((gives.covered b ne).0 h);
+  alone = gives.alone;
   no_wait = gives.no_wait;
   dirty = gives.dirty;
   uses = gives.uses;
@@ -149,6 +152,7 @@ came_filled {result = result} first all x f = record {
   order = record { clearing = λ b j h. x.order.clearing b j (f.order.clearing b j h).1 };
   still = λ b ne h. f.still b (x.still b ne h);
   only = λ b ne no h. f.only b (x.only b ne no) h;
+  alone = λ told y h. x.alone told y ((f.instead y result).0 h);
   no_wait = record { each = λ a on j n w. x.no_wait.each a on j n (f.no_wait.each a on j n w) };
   dirty = λ b d. ⊎_elim
       (λ mid. ⊎_elim (λ old. inl old) (λ h. inr (⊎_elim (λ e. inl e) (λ e. inr (e ∙ sym (all.same_label_blocks result))) h)) (x.dirty b mid))
@@ -212,11 +216,11 @@ module _ {t : Tree} {level k at i : ℕ} {l : Label} {result : ℕ} {s m : State
   pub back : s.tells → (w b : ℕ) (p : Place) → s.stands w p → Reaches m.now (to_block w) b → Reaches s.now (to_block w) b
   back told w b p stands r = reach_into s.now m.now (λ y. y ≡ result) w (λ y j ne. sym ((x.came.others y ne).slots j)) (λ y e far. away told w p stands (subst (λ z. Reaches s.now (to_block w) z) e far)) b r
 
-  pub top_ne : s.tells → (h : HangsApart s at) → h.top ≢ result
+  pub top_ne : {b : ℕ} → s.tells → (h : HangsApart s b) → h.top ≢ result
   top_ne told h e = (x.came.was.3 told).1 h.place (subst (λ y. s.stands y h.place) e h.stands)
 
   -- where the block above hangs from, once the other was given out
-  pub held_on : s.tells → Reaches m.now (to_block 1) at ⊎ HangsApart m at
+  pub held_on : s.tells → IsHung m at
   held_on told = ⊎_elim
       (λ r. inl (reaches_mid told 1 at super_place (x.laws.super_stands told) r))
       (λ h. inr (record {
@@ -227,7 +231,7 @@ module _ {t : Tree} {level k at i : ℕ} {l : Label} {result : ℕ} {s m : State
         uncovered = x.came.only h.top (top_ne told h) h.uncovered;
         reaches = reaches_mid told h.top at h.place h.stands h.reaches;
       }))
-      (x.above.told told).holder
+      (x.above.told told).hung
 
   pub held : s.tells → IsHeld m at
   held told = ⊎_elim (λ r. inl r) (λ h. inr (h.top, h.is_apart, h.reaches)) (held_on told)

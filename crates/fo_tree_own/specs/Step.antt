@@ -10,26 +10,18 @@ use Rattle.fo_crash.specs.Images.{Image, SameContent, Reaches, target, to_block}
 use Rattle.fo_crash.specs.Places.{place}
 use Rattle.fo_ports.specs.Blocks.{blank}
 use Rattle.fo_ports.specs.State.{State, none, KeepsOrder, AddsNoWait, Uses, KeepsNumbers}
-use Rattle.fo_ports.specs.Sources.{Made, Changes}
+use Rattle.fo_ports.specs.Sources.{IsHung, Made, Changes}
 use Rattle.fo_tree_read.specs.declared.tree.Tree.{Tree}
 use Rattle.fo_tree_read.specs.Tree.{kind_at, score_of}
 use Rattle.fo_tree_look.specs.declared.ways.Kept.{Kept}
 use Rattle.fo_tree_look.specs.Source.{IsTold, IsPlainTree, IsPrepared, IsKept, find_kept}
 
--- A block hangs from one that was made and put into no slot yet, which stands at a place and is not to be closed.
-pub record HangsApart (s : State) (at : ℕ) : Type 0 where
-  pub top : ℕ
-  pub is_apart : s.apart top
-  pub place : Place
-  pub stands : s.stands top place
-  pub uncovered : s.covered top → ⊥
-  pub reaches : Reaches s.now (to_block top) at
-
 -- What a device that tells has of a current block of a source, so many levels above its leaves.
 pub record OwnTold (s : State) (t : Tree) (level k at : ℕ) : Type 0 where
   pub stands : s.stands at (place (kind_at t.dir level) t.tag k (t.rank + level))
   pub uncovered : s.covered at → ⊥
-  pub holder : Reaches s.now (to_block 1) at ⊎ HangsApart s at
+  pub hung : IsHung s at
+  pub alone : (y : ℕ) → s.instead y at → ⊥
 
 -- An image is one of before, but for this block.
 pub record IsBeside (at : ℕ) (s : State) (image : Image) : Type 0 where
@@ -110,6 +102,8 @@ pub record Links (t : Tree) (level k at i : ℕ) (was : Pointer) (result : ℕ) 
   pub instead : (b x : ℕ) → new.instead b x → old.instead b x
   pub reached : old.tells → (b : ℕ) → (was ≡ Local b → ⊥) → Reaches old.now (to_block 1) b → Reaches new.now (to_block 1) b
   pub in_tree : old.tells → (b : ℕ) → was ≡ Local b → Reaches old.now (to_block 1) b
+  pub hung : old.tells → (b : ℕ) → (was ≡ Local b → ⊥) → IsHung old b → IsHung new b
+  pub places : old.tells → (b : ℕ) (p : Place) → b ≢ result → (new.covered b → ⊥) → old.stands b p → new.stands b p
   pub older : (b : ℕ) → was ≡ Local b → (old.label b).epoch < old.high
   pub covers : OnlyCovers was old new
   pub waits : (a on j : ℕ) → on ≢ result → a ≢ result → old.waits a on j → new.waits a on j

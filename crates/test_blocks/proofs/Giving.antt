@@ -74,6 +74,7 @@ gives p x c l waiting begun few same is_label apart =
         λ h. h,
         λ t. absurd t,
       );
+      alone = λ t. absurd t;
       is = (
         (omega (arith, begun), few),
         (omega (arith, begun), omega (arith, long)),

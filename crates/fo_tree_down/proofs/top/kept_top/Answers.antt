@@ -9,7 +9,7 @@ use Rattle.fo_tree_read.specs.Tree.{kind_at}
 use Rattle.fo_tree_own.specs.Step.{Becomes}
 use Rattle.fo_tree_own.proofs.Link.{blank_leads, came, came_filled}
 use Rattle.fo_tree_own.proofs.Filling.{bare_gives}
-use Rattle.fo_tree_down.proofs.Topping.{comes_topped, level_at}
+use Rattle.fo_tree_down.proofs.Topping.{comes_topped, came_made, level_at}
 use Rattle.fo_tree_down.proofs.top.kept_top.Goals as goal
 
 pub new_block-made-requires-clause-level : goal.new_block-made-requires-clause-level
@@ -84,6 +84,12 @@ returns-clause-comes g c =
       stands = λ told. filled.places (first.still_tells.1 told) c.new_block-made.result (place (kind_at t.dir t.depth) t.tag 0 (t.rank + t.depth)) c.fill_kept.ensures.bare.uncovered (there told);
       content = subst (λ (p : Pointer). Becomes s m t c.args.kept.now t.depth p c.new_block-made.result) (sym c.requires.is) c.fill_kept.ensures.content;
     })
+
+pub returns-clause-given : goal.returns-clause-given
+returns-clause-given g c =
+    let first = g.met.B.Blocks.keeps_all c.args.on.now c.new_block-made.new.self c.new_block-made.ensures.keeps in
+    let then = g.met.B.Blocks.keeps_all c.new_block-made.new.self c.fill_kept.new.on c.fill_kept.ensures.keeps in
+    came_made (came_filled first then (came c.new_block-made.ensures.gives) c.fill_kept.ensures.filled)
 
 pub returns-clause-spare : goal.returns-clause-spare
 returns-clause-spare g c =

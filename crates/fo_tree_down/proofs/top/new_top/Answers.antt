@@ -8,7 +8,7 @@ use Rattle.fo_ports.proofs.Lengths.{length_zero_bytes}
 use Rattle.fo_tree_read.specs.Tree.{kind_at}
 use Rattle.fo_tree_own.specs.Step.{Becomes}
 use Rattle.fo_tree_own.proofs.Link.{came}
-use Rattle.fo_tree_down.proofs.Topping.{comes_topped, level_at}
+use Rattle.fo_tree_down.proofs.Topping.{comes_topped, came_made, level_at}
 use Rattle.fo_tree_down.proofs.top.new_top.Goals as goal
 
 pub new_block-requires-clause-level : goal.new_block-requires-clause-level
@@ -39,6 +39,9 @@ returns-clause-comes g c =
       stands = there;
       content = subst (λ (p : Pointer). Becomes s r t c.args.kept.now t.depth p c.new_block.result) (sym c.requires.is) gives.memory.here;
     })
+
+pub returns-clause-given : goal.returns-clause-given
+returns-clause-given g c = came_made (came c.new_block.ensures.gives)
 
 pub returns-clause-spare : goal.returns-clause-spare
 returns-clause-spare g c =

@@ -5,13 +5,13 @@ use Rattle.fo_crash.specs.Places.{place}
 use Rattle.fo_tree_read.specs.Tree.{kind_at}
 use Rattle.fo_tree_own.specs.Step.{Becomes}
 use Rattle.fo_tree_own.proofs.Link.{came}
-use Rattle.fo_tree_down.proofs.Topping.{comes_topped, own_here}
+use Rattle.fo_tree_down.proofs.Topping.{comes_topped, came_made, own_here}
 use Rattle.fo_tree_down.proofs.Next.{comes_top}
 use Rattle.fo_tree_down.proofs.top.own_local.Goals as goal
 
 pub copy-requires-clause-in_tree : goal.copy-requires-clause-in_tree
 copy-requires-clause-in_tree g c =
-    λ told. (c.requires.told told).is_told.in_tree (c.is_current.ensures.older c.if-is_current.false)
+    λ told. (c.requires.told told).in_tree (c.is_current.ensures.older c.if-is_current.false)
 
 pub returns-then-is_current-clause-comes : goal.returns-then-is_current-clause-comes
 returns-then-is_current-clause-comes g c =
@@ -41,6 +41,12 @@ returns-else-is_current-clause-comes g c =
       stands = λ told. e.place told (place (kind_at t.dir t.depth) t.tag 0 (t.rank + t.depth)) (c.requires.hangs.told told c.args.at c.requires.is).0;
       content = subst (λ (p : Pointer). Becomes s r t c.args.kept.now t.depth p c.copy.result) (sym c.requires.is) e.gives.memory.here;
     })
+
+pub returns-then-is_current-clause-given : goal.returns-then-is_current-clause-given
+returns-then-is_current-clause-given g c = λ b made. absurd (made.0 made.1)
+
+pub returns-else-is_current-clause-given : goal.returns-else-is_current-clause-given
+returns-else-is_current-clause-given g c = came_made (came c.copy.ensures.gives)
 
 pub returns-else-is_current-clause-spare : goal.returns-else-is_current-clause-spare
 returns-else-is_current-clause-spare g c =

@@ -1,19 +1,26 @@
-use Rattle.std.proofs.Common.{◌≡◌, ◌⊎◌, ◌+◌, ◌-◌, ◌*◌, ◌/◌, ◌%◌, ◌^◌, ◌<◌, ◌≤◌, ℕ, suc, inl, inr, ⊎_elim, refl, sym, subst, arith}
+use Rattle.std.proofs.Common.{◌≡◌, ◌⊎◌, ◌+◌, ◌-◌, ◌*◌, ◌/◌, ◌%◌, ◌^◌, ◌<◌, ◌≤◌, ℕ, suc, inl, inr, ⊎_elim, refl, sym, ap, subst, arith}
 use Rattle.std.proofs.lemmas.Bool.{cases_eq}
 use Rattle.std.proofs.Math.Nat.{pow-succ'}
 use Rattle.fo_image.specs.declared.types.Pointer.TheVariants.{Local}
 use Rattle.fo_crash.specs.Images.{target}
 use Rattle.fo_crash.specs.Places.{super_place, root_place}
+use Rattle.fo_ports.specs.Sources.{Made}
 use Rattle.fo_tree_read.specs.Tree.{kind_down, below, block_at}
 use Rattle.fo_tree_look.specs.Source.{seen, IsTold, WayReady}
 use Rattle.fo_tree_own.specs.Step.{IsOwn, CanOwn, Becomes, Links}
-use Rattle.fo_tree_down.specs.Way.{OnWay, Comes, Leads, IsTopOf}
-use Rattle.fo_tree_down.proofs.Next.{Says, leads_beside, above_own, can_next, comes_same, comes_new, replaces_same, replaces_new}
-use Rattle.fo_tree_down.proofs.Leading.{block_of, leads_on, beside_on, top_came, top_stays}
+use Rattle.fo_tree_down.specs.Way.{OnWay, Comes, Leads, IsTopOf, with_top}
+use Rattle.fo_tree_down.proofs.Next.{Says, leads_beside, above_own, can_next, was_below, comes_same, comes_new, replaces_same, replaces_new}
+use Rattle.fo_tree_down.proofs.Leading.{block_of, leads_on, beside_on, given_on, top_came, top_stays}
 use Rattle.fo_tree_down.proofs.way.+own_down.Goals as goal
 
 pub own_top-top-requires-clause-ready : goal.own_top-top-requires-clause-ready
 own_top-top-requires-clause-ready g t' c = subst (λ d. WayReady (g.B.Blocks.state c.args.on.now) c.args.tree.now c.args.kept.now d c.args.k) c.if-down-eq0.true c.requires.ready
+
+pub own_top-top-requires-clause-told : goal.own_top-top-requires-clause-told
+own_top-top-requires-clause-told g t' c =
+    let s = g.B.Blocks.state c.args.on.now in
+    let t = c.args.tree.now in
+    subst (λ d. s.tells → (b : ℕ) → OnWay s t d c.args.k b → IsTold s b) c.if-down-eq0.true c.requires.told
 
 pub own_top-top-requires-clause-spare : goal.own_top-top-requires-clause-spare
 own_top-top-requires-clause-spare g t' c = ⊎_elim (λ top. inl top.0) (λ some. inr (omega (arith, some))) c.requires.spare
@@ -53,10 +60,7 @@ own_down-above-requires g t' c =
               (subst (λ d. WayReady s t kept d k) is c.requires.ready).0,
               (
                 λ is b way. told is b (inl way),
-                (
-                  c.requires.top,
-                  ⊎_elim (λ top. let enough = top.1 in inl (top.0, omega (arith, enough))) (λ enough. inr (omega (arith, enough, some))) c.requires.spare,
-                ),
+                ⊎_elim (λ top. let enough = top.1 in inl (top.0, omega (arith, enough))) (λ enough. inr (omega (arith, enough, some))) c.requires.spare,
               ),
             ),
           ),
@@ -230,7 +234,7 @@ returns-then-down-eq0-clause-leads g t' c =
     subst (λ d. Leads (g.B.Blocks.state c.args.on.now) u c.args.tree.now c.args.kept.now c.own_top-top.result d c.args.k c.own_top-top.result) (sym zero) (
       refl,
       record {
-        is = block_of 0 c.args.k c.own_top-top.result (c.own_top-top.ensures.comes c.args.k few).own;
+        own = (c.own_top-top.ensures.comes c.args.k few).own;
         from = ⊎_elim (λ made. inl made) (λ is. inr is.0) (c.own_top-top.ensures.comes c.args.k few).from;
         kept = c.own_top-top.ensures.same;
       },
@@ -270,13 +274,13 @@ returns-clause-leads g t' c =
     subst (λ d. Leads s u t kept top d k at) (sym is)
     (⊎_elim
     (λ same. subst (λ x. Leads s (g.B.Blocks.state x) t kept top (suc n) k at) (sym same.1)
-    ((above, c.own_down-above.ensures.leads, same.0, λ j few ne. beside j few), replaces_same s m t kept n k above all c.requires.hangs down ready comes says told at (block_of (suc n) (409 * (k / 409) + k % 409) at same.2) same.0))
+    ((above, c.own_down-above.ensures.leads, same.0, λ j few ne. beside j few), replaces_same s m t kept n k above all c.requires.hangs down ready comes says told at same.2 same.0))
     (λ links. (
       (
         above,
-        leads_on s m u t kept top n above (k % 409) at (t.depth - suc n) (k / 409) (omega (arith, down)) (block_of n (k / 409) above comes.own) was (g.met.B.Blocks.keeps_all mid end c.own_block-at.ensures.keeps) links n (k / 409) above (omega arith) c.own_down-above.ensures.leads,
+        leads_on s m u t kept top n above (k % 409) at (t.depth - suc n) (k / 409) (omega (arith, down)) (block_of n (k / 409) above comes.own) was (was_below s m t kept n k above all c.requires.hangs down ready comes says told) (g.met.B.Blocks.keeps_all mid end c.own_block-at.ensures.keeps) links n (k / 409) above (omega arith) c.own_down-above.ensures.leads,
         links.leads,
-        beside_on s m u t kept top n above (k % 409) at (t.depth - suc n) (k / 409) (omega (arith, down)) (block_of n (k / 409) above comes.own) was (g.met.B.Blocks.keeps_all mid end c.own_block-at.ensures.keeps) links (k / 409) (λ j few ne. beside j few),
+        beside_on s m u t kept top n above (k % 409) at (t.depth - suc n) (k / 409) (omega (arith, down)) (block_of n (k / 409) above comes.own) was (was_below s m t kept n k above all c.requires.hangs down ready comes says told) (g.met.B.Blocks.keeps_all mid end c.own_block-at.ensures.keeps) links (k / 409) (λ j few ne. beside j few),
       ),
       replaces_new s m t kept n k above all c.requires.hangs down ready comes says told u at (g.met.B.Blocks.keeps_all mid end c.own_block-at.ensures.keeps)
           (λ image h. (
@@ -288,7 +292,7 @@ returns-clause-leads g t' c =
                 (λ ne. (root_place, g.met.B.Blocks.top_stands on top (g.met.B.Blocks.told on image h) is_top ne))
                 (cases_eq top 1),
           ))
-          links (block_of (suc n) (409 * (k / 409) + k % 409) at links.own),
+          links,
     ))
     step)
 
@@ -320,3 +324,40 @@ returns-clause-top g t' c =
     (λ same. subst (λ x. IsTopOf s (g.B.Blocks.state x) t c.own_down-above.result.top) (sym same.1) c.own_down-above.ensures.top)
     (λ links. top_stays (g.met.B.Blocks.keeps_all mid end c.own_block-at.ensures.keeps) c.own_down-above.ensures.top links)
     step
+
+pub returns-then-down-eq0-clause-given : goal.returns-then-down-eq0-clause-given
+returns-then-down-eq0-clause-given g t' c = λ b made.
+    let u = g.B.Blocks.state c.own_top-top.new.on in
+    subst (λ d. OnWay u (with_top c.args.tree.now c.own_top-top.result) d c.args.k b) (sym c.if-down-eq0.true) (ap (λ y. Local y) (sym (c.own_top-top.ensures.given b made)))
+
+pub returns-clause-given : goal.returns-clause-given
+returns-clause-given g t' c =
+    let on = c.args.on.now in
+    let mid = c.own_down-above.new.on in
+    let s = g.B.Blocks.state on in
+    let m = g.B.Blocks.state mid in
+    let t = c.args.tree.now in
+    let kept = c.args.kept.now in
+    let n = c.args.down - 1 in
+    let k = c.args.k in
+    let is : c.args.down ≡ suc (c.args.down - 1) = omega arith in
+    let all = g.met.B.Blocks.keeps_all on mid c.own_down-above.ensures.keeps in
+    let down : suc (c.args.down - 1) ≤ t.depth = subst (λ d. d ≤ t.depth) is c.requires.down.0 in
+    let ready : WayReady s t kept (suc (c.args.down - 1)) k = subst (λ d. WayReady s t kept d k) is c.requires.ready in
+    let says : s.tells → Says s = λ told. record { placed = g.met.B.Blocks.placed on s.now (g.met.B.Blocks.present on told); one = g.met.B.Blocks.one_place on } in
+    let told : s.tells → (b : ℕ) → OnWay s t (suc (c.args.down - 1)) k b → IsTold s b = subst (λ d. s.tells → (b : ℕ) → OnWay s t d k b → IsTold s b) is c.requires.told in
+    let above = c.own_down-above.result.at in
+    let comes = c.own_down-above.ensures.comes in
+    let end = c.own_block-at.new.on in
+    let u = g.B.Blocks.state end in
+    let at = c.own_block-at.result in
+    let was = target ((m.now above).slot (k % 409)) in
+    let step : ((was ≡ Local at) × (end ≡ mid) × IsOwn m t (t.depth - suc n) (409 * (k / 409) + k % 409) at) ⊎ Links t (t.depth - suc n) (k / 409) above (k % 409) was at m u =
+    subst (λ d. ((was ≡ Local at) × (end ≡ mid) × IsOwn m t (t.depth - d) (409 * (k / 409) + k % 409) at) ⊎ Links t (t.depth - d) (k / 409) above (k % 409) was at m u) is c.own_block-at.ensures.step in
+    let top = c.own_down-above.result.top in
+    subst (λ d. (b : ℕ) → Made s u b → OnWay u (with_top t top) d k b) (sym is)
+    (⊎_elim
+    (λ same. subst (λ x. (b : ℕ) → Made s (g.B.Blocks.state x) b → OnWay (g.B.Blocks.state x) (with_top t top) (suc n) k b) (sym same.1) (λ b made. inl (c.own_down-above.ensures.given b made)))
+    (λ links. given_on s m u t kept top n above (k % 409) at (t.depth - suc n) (k / 409) (omega (arith, down)) (block_of n (k / 409) above comes.own) was (was_below s m t kept n k above all c.requires.hangs down ready comes says told)
+    (g.met.B.Blocks.keeps_all mid end c.own_block-at.ensures.keeps) links k c.own_down-above.ensures.leads links.leads c.own_down-above.ensures.given)
+    step)

@@ -2,8 +2,9 @@ use Rattle.std.proofs.Common.{◌-◌}
 use Rattle.fo_tree_look.proofs.Shown.{top_ready}
 use Rattle.fo_tree_down.proofs.Join.{changes_of}
 use Rattle.fo_tree_down.proofs.Leading.{leads_to, last_of}
-use Rattle.fo_tree_down.proofs.Beside.{stays_beside, on_way_block, last_leads}
-use Rattle.fo_tree_down.proofs.Stilling.{prepared_still}
+use Rattle.fo_tree_down.proofs.Beside.{WentDown, stays_beside, on_way_block, last_leads}
+use Rattle.fo_tree_down.proofs.Stilling.{WasOwned, prepared_still}
+use Rattle.fo_tree_down.proofs.Telling.{over_end, owned_back, given_owned}
 use Rattle.fo_tree_down.proofs.way.own_way.Goals as goal
 
 pub own_down-requires-clause-hangs : goal.own_down-requires-clause-hangs
@@ -61,3 +62,60 @@ returns-clause-still g c =
 
 pub returns-clause-replaces : goal.returns-clause-replaces
 returns-clause-replaces g c = last_of (g.B.Blocks.state c.args.on.now) (g.B.Blocks.state c.own_down.new.on) c.args.tree.now c.args.kept.now c.own_down.result.top c.args.down c.args.k c.own_down.result.at c.own_down.ensures.leads
+
+pub returns-clause-over : goal.returns-clause-over
+returns-clause-over g c = λ some limit whole.
+    let on = c.args.on.now in
+    let s = g.B.Blocks.state on in
+    let u = g.B.Blocks.state c.own_down.new.on in
+    let t = c.args.tree.now in
+    let kept = c.args.kept.now in
+    let over = c.requires.over.1 in
+    let comes = c.own_down.ensures.comes in
+    let went : s.tells → WentDown s u t kept c.own_down.result.top c.args.down c.args.k c.own_down.result.at (t.depth - c.args.down) = λ told. record {
+      all = g.met.B.Blocks.keeps_all on c.own_down.new.on c.own_down.ensures.keeps;
+      hangs = over.hangs;
+      told = told;
+      says = record { placed = g.met.B.Blocks.placed on s.now (g.met.B.Blocks.present on told); one = g.met.B.Blocks.one_place on };
+      held = over.held;
+      live = λ b has. (over.told told b has).live;
+      within = c.requires.down.0;
+      few = c.requires.down.1;
+      leads = c.own_down.ensures.leads;
+      last = last_leads s u t kept c.args.down c.args.k c.own_down.result.at (top_ready s t kept c.args.down c.args.k c.requires.ready) comes;
+      descends = comes.descends;
+    } in
+    let owned : WasOwned s u t kept c.own_down.result.top c.args.down c.args.k c.own_down.result.at = record {
+      all = g.met.B.Blocks.keeps_all on c.own_down.new.on c.own_down.ensures.keeps;
+      within = c.requires.down.0;
+      few = c.requires.down.1;
+      ready = c.requires.ready;
+      leads = c.own_down.ensures.leads;
+      last = last_leads s u t kept c.args.down c.args.k c.own_down.result.at (top_ready s t kept c.args.down c.args.k c.requires.ready) comes;
+      descends = comes.descends;
+    } in
+    over_end owned c.own_down.ensures.top went some whole
+
+pub returns-clause-owns : goal.returns-clause-owns
+returns-clause-owns g c = λ told b.
+    let on = c.args.on.now in
+    let s = g.B.Blocks.state on in
+    let u = g.B.Blocks.state c.own_down.new.on in
+    let t = c.args.tree.now in
+    let kept = c.args.kept.now in
+    let over = c.requires.over.1 in
+    let comes = c.own_down.ensures.comes in
+    let went : WentDown s u t kept c.own_down.result.top c.args.down c.args.k c.own_down.result.at (t.depth - c.args.down) = record {
+      all = g.met.B.Blocks.keeps_all on c.own_down.new.on c.own_down.ensures.keeps;
+      hangs = over.hangs;
+      told = told;
+      says = record { placed = g.met.B.Blocks.placed on s.now (g.met.B.Blocks.present on told); one = g.met.B.Blocks.one_place on };
+      held = over.held;
+      live = λ b has. (over.told told b has).live;
+      within = c.requires.down.0;
+      few = c.requires.down.1;
+      leads = c.own_down.ensures.leads;
+      last = last_leads s u t kept c.args.down c.args.k c.own_down.result.at (top_ready s t kept c.args.down c.args.k c.requires.ready) comes;
+      descends = comes.descends;
+    } in
+    (owned_back went b, λ made. given_owned u t c.own_down.result.top c.args.down c.args.k b c.requires.down.0 (c.own_down.ensures.given b made))

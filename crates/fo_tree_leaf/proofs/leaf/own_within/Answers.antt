@@ -96,3 +96,9 @@ returns-clause-less g c = λ top.
 
 pub returns-clause-current : goal.returns-clause-current
 returns-clause-current g c = top_current c.own_way.ensures.top
+
+pub returns-clause-over : goal.returns-clause-over
+returns-clause-over g c = λ limit whole. let le = c.requires.within in c.own_way.ensures.over (omega (arith, le)) limit whole
+
+pub returns-clause-grows : goal.returns-clause-grows
+returns-clause-grows g c = λ limit. record { owns = c.own_way.ensures.owns; still = λ o n was. c.own_way.ensures.still limit o n was }

@@ -1,10 +1,17 @@
 use Rattle.fo_crash.specs.Places.{place}
 use Rattle.fo_tree_read.specs.Tree.{kind_at}
 use Rattle.fo_tree_look.proofs.Places.{is_here, here_owned, none_here, leaf_there, leaves_apart, leaf_at_place, block_tag}
+use Rattle.fo_tree_look.proofs.Shown.{address_past, held_past}
 use Rattle.fo_tree_look.proofs.laws.holds.Goals as goal
 
 pub returns-clause-none_held : goal.returns-clause-none_held
 returns-clause-none_held g c = λ i told other. none_here (g.B.Blocks.state c.args.on.now) c.args.source.now.tree c.args.source.now.kept.items c.requires.over.held told (c.requires.over.unheld told other) i
+
+pub returns-clause-none_behind : goal.returns-clause-none_behind
+returns-clause-none_behind g c = λ i past.
+    let s = g.B.Blocks.state c.args.on.now in
+    let t = c.args.source.now.tree in
+    (address_past s t i past, held_past s t c.args.source.now.kept.items i past)
 
 pub returns-clause-apart : goal.returns-clause-apart
 returns-clause-apart g c = λ i j at told e f.

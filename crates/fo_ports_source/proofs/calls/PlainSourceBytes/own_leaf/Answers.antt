@@ -26,7 +26,7 @@ pub returns-then-self-i-clause-grows : goal.returns-then-self-i-clause-grows
 returns-then-self-i-clause-grows g c =
     let e = c.own_next.ensures in
     record {
-      owns = λ b. (e.grew.owned b, e.grew.owns b);
+      owns = λ told b. (e.grew.owned b, e.grew.owns b);
       still = λ o n prepared. prepared_same e.same.0 e.same.1 e.same.3 (e.grew.still o n (prepared_raised {end = 8192 * (c.args.i + 1)} c.requires.over (omega arith) prepared));
     }
 
@@ -72,7 +72,7 @@ pub returns-else-self-i-clause-grows : goal.returns-else-self-i-clause-grows
 returns-else-self-i-clause-grows g c =
     let e = c.own.ensures in
     record {
-      owns = λ b. (e.grew.owned b, e.grew.owns b);
+      owns = λ told b. (e.grew.owned b, e.grew.owns b);
       still = λ o n prepared. prepared_same e.same.0 e.same.1 e.same.3 (e.grew.still o n prepared);
     }
 

@@ -16,7 +16,7 @@ returns-clause-bytes g c = λ told.
 
 pub returns-clause-grows : goal.returns-clause-grows
 returns-clause-grows g c = record {
-  owns = λ b. (c.put.ensures.grew.owned b, c.put.ensures.grew.owns b);
+  owns = λ told b. (c.put.ensures.grew.owned b, c.put.ensures.grew.owns b);
   still = λ o n prepared. prepared_same c.put.ensures.same.0 c.put.ensures.same.1 c.put.ensures.same.3 (c.put.ensures.grew.still o n (prepared_raised {end = c.max-self.result} c.requires.over (omega arith) prepared));
 }
 
