@@ -1,6 +1,6 @@
 -- What the check answers where one of its steps refuses.
-use Rattle.std.proofs.Common.{◌≡◌, ℕ, Bool, List, Ok, Err, sym, ◌∙◌, subst}
-use Rattle.fo_disk.specs.Disk.{Block, Content}
+use Rattle.std.proofs.Common.{◌≡◌, ℕ, List, Ok, Err, sym, ◌∙◌, ap, subst}
+use Rattle.fo_disk.specs.Disk.{Block, DiskState}
 use Rattle.fo_image.specs.declared.types.Super.{Super}
 use Rattle.fo_image.specs.declared.record.RootBlock.{RootBlock}
 use Rattle.fo_check.specs.declared.error.CheckError.{CheckError}
@@ -11,13 +11,12 @@ use Rattle.fo_sound.specs.Sizes.{HasSizes, IsArena}
 use Rattle.fo_check.specs.Answer.{IsOpen, IsReport, Reports, Refuses, IsOutside, Finds, Blames}
 use Rattle.fo_check.specs.Answer.IsNotBuilt.{archived as by_archive, more as by_more}
 use Rattle.fo_check.specs.Answer.IsUnsound.{format as by_format, active as by_active, later as by_later}
-use Rattle.fo_sound.specs.Device.{Shows, IsKept}
+use Rattle.fo_sound.specs.Device.{Shows}
 use Rattle.fo_check.specs.Stage.{RefusesSizes, RefusesStart, RefusesArena, RefusesActive, RefusesRest, IsJudgement}
 
--- a device of which no version changed shows what it did
-pub shown_on : {holds holds_now : Content} {moments moments_now : List Content} {unsure unsure_now : List Bool} {image : List Block}
-    → IsKept holds holds_now moments moments_now unsure unsure_now → Shows holds image → Shows holds_now image
-shown_on kept shows = record { quiet = kept.same_versions ∙ shows.quiet; some = shows.some }
+-- a device that did not change shows what it did
+pub shown_on : {old new : DiskState} {image : List Block} → new ≡ old → Shows old.holds image → Shows new.holds image
+shown_on kept shows = record { quiet = ap (λ (s : DiskState). s.holds) kept ∙ shows.quiet; some = shows.some }
 
 -- what is said of values is no fault
 pub judged-blames : (main main_now arena arena_now : ℕ) (e : CheckError) → IsJudgement e → Blames main main_now arena arena_now e

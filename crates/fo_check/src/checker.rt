@@ -6,7 +6,7 @@ ghost use Rattle.fo_sound.specs.Image.{block_of};
 ghost use Rattle.fo_sound.specs.Sound.{IsFormatted, HasActiveRoot};
 ghost use Rattle.fo_sound.specs.Sizes.{HasSizes, IsArena};
 ghost use Rattle.fo_check.specs.Answer.{Finds, Reports, Refuses, IsOutside, KnowsSizes, AsksSizes};
-ghost use Rattle.fo_sound.specs.Device.{Shows, IsKept};
+ghost use Rattle.fo_sound.specs.Device.{Shows};
 ghost use Rattle.fo_check.specs.Device.{HasCauses};
 ghost use Rattle.fo_sound.specs.Fresh.{IsFresh};
 ghost use Rattle.fo_check.specs.Scan.{IsScanned};
@@ -23,15 +23,15 @@ use std::alloc::Global;
 
 /// The numbers of blocks of the main device and of the arena.
 fn sizes<D: Disk, A: Disk>(main: &mut D, arena: &mut A) -> Result<(u32, u32), CheckError>
-    ensures answer { (image vault : List Block) → Shows (D.holds main.old) image → Shows (A.holds arena.old) vault
+    ensures answer { (image vault : List Block) → Shows (D.state main.old).holds image → Shows (A.state arena.old).holds vault
         → Finds (λ n. HasSizes image vault × (length image ≡ n.0) × (length vault ≡ n.1)) (RefusesSizes image vault) result }
     ensures found { IfOk result (λ n. (D.size main.new ≡ n.0) × (A.size arena.new ≡ n.1) × (64 ≤ n.0) × (n.0 ≤ 2 ^ 20) × (16 ≤ n.1) × (n.1 ≤ 2 ^ 20)) }
     ensures sizes { KnowsSizes (D.size main.new) (A.size arena.new) result }
     ensures asked { AsksSizes (D.size main.new) (D.calls main.old) (D.calls main.new) (A.calls arena.old) (A.calls arena.new) result }
     ensures main_fixed { 0 < D.size main.old → D.size main.new ≡ D.size main.old }
     ensures arena_fixed { 0 < A.size arena.old → A.size arena.new ≡ A.size arena.old }
-    ensures main { IsKept (D.holds main.old) (D.holds main.new) (D.moments main.old) (D.moments main.new) (D.unsure main.old) (D.unsure main.new) }
-    ensures arena { IsKept (A.holds arena.old) (A.holds arena.new) (A.moments arena.old) (A.moments arena.new) (A.unsure arena.old) (A.unsure arena.new) }
+    ensures main { D.state main.new ≡ D.state main.old }
+    ensures arena { A.state arena.new ≡ A.state arena.old }
     ensures causes { HasCauses (D.faults main.old) (D.faults main.new) (A.faults arena.old) (A.faults arena.new) result }
 {
     let blocks = match count(main) {
@@ -55,10 +55,10 @@ fn sizes<D: Disk, A: Disk>(main: &mut D, arena: &mut A) -> Result<(u32, u32), Ch
 fn start<D: Disk>(main: &mut D, blocks: u32) -> Result<Super, CheckError>
     requires size { D.size main.old ≡ blocks }
     requires least { 64 ≤ blocks }
-    ensures answer { (image : List Block) → length image ≡ blocks → Shows (D.holds main.old) image → Finds (IsFormatted image) (RefusesStart image) result }
+    ensures answer { (image : List Block) → length image ≡ blocks → Shows (D.state main.old).holds image → Finds (IsFormatted image) (RefusesStart image) result }
     ensures no_size { IfErr result IsNoSize }
     ensures size { D.size main.new ≡ D.size main.old }
-    ensures main { IsKept (D.holds main.old) (D.holds main.new) (D.moments main.old) (D.moments main.new) (D.unsure main.old) (D.unsure main.new) }
+    ensures main { D.state main.new ≡ D.state main.old }
     ensures causes { HasCauses (D.faults main.old) (D.faults main.new) 0 0 result }
 {
     let mut block = [0; BLOCK];
@@ -77,10 +77,10 @@ fn start<D: Disk>(main: &mut D, blocks: u32) -> Result<Super, CheckError>
 fn open_arena<A: Disk>(arena: &mut A, blocks: u32) -> Result<(), CheckError>
     requires size { A.size arena.old ≡ blocks }
     requires least { 16 ≤ blocks }
-    ensures answer { (vault : List Block) → length vault ≡ blocks → Shows (A.holds arena.old) vault → Finds (λ _. IsArena vault 0) (RefusesArena vault) result }
+    ensures answer { (vault : List Block) → length vault ≡ blocks → Shows (A.state arena.old).holds vault → Finds (λ _. IsArena vault 0) (RefusesArena vault) result }
     ensures no_size { IfErr result IsNoSize }
     ensures size { A.size arena.new ≡ A.size arena.old }
-    ensures arena { IsKept (A.holds arena.old) (A.holds arena.new) (A.moments arena.old) (A.moments arena.new) (A.unsure arena.old) (A.unsure arena.new) }
+    ensures arena { A.state arena.new ≡ A.state arena.old }
     ensures causes { HasCauses 0 0 (A.faults arena.old) (A.faults arena.new) result }
 {
     let mut block = [0; BLOCK];
@@ -108,12 +108,12 @@ fn active_root<D: Disk>(
 ) -> Result<RootBlock, CheckError>
     requires size { D.size main.old ≡ blocks }
     requires most { blocks ≤ 2 ^ 20 }
-    ensures answer { (image : List Block) → length image ≡ blocks → Shows (D.holds main.old) image
+    ensures answer { (image : List Block) → length image ≡ blocks → Shows (D.state main.old).holds image
         → IsScanned image s.now (label_blocks blocks) (585 * label_blocks blocks) table
         → Finds (HasActiveRoot image s.now) (RefusesActive image s.now) result }
     ensures no_size { IfErr result IsNoSize }
     ensures size { D.size main.new ≡ D.size main.old }
-    ensures main { IsKept (D.holds main.old) (D.holds main.new) (D.moments main.old) (D.moments main.new) (D.unsure main.old) (D.unsure main.new) }
+    ensures main { D.state main.new ≡ D.state main.old }
     ensures causes { HasCauses (D.faults main.old) (D.faults main.new) 0 0 result }
 {
     if !has_epochs(s) || !is_data_block(blocks, s.active) {
@@ -134,14 +134,14 @@ fn check_images<D: Disk, A: Disk>(
     main: &mut D,
     arena: &mut A,
 ) -> Result<Report, CheckError>
-    ensures answer { (image vault : List Block) → Shows (D.holds main.old) image → Shows (A.holds arena.old) vault
+    ensures answer { (image vault : List Block) → Shows (D.state main.old).holds image → Shows (A.state arena.old).holds vault
         → Finds (Reports image vault) (Refuses image vault) result }
     ensures sizes { KnowsSizes (D.size main.new) (A.size arena.new) result }
     ensures asked { AsksSizes (D.size main.new) (D.calls main.old) (D.calls main.new) (A.calls arena.old) (A.calls arena.new) result }
     ensures main_fixed { 0 < D.size main.old → D.size main.new ≡ D.size main.old }
     ensures arena_fixed { 0 < A.size arena.old → A.size arena.new ≡ A.size arena.old }
-    ensures main { IsKept (D.holds main.old) (D.holds main.new) (D.moments main.old) (D.moments main.new) (D.unsure main.old) (D.unsure main.new) }
-    ensures arena { IsKept (A.holds arena.old) (A.holds arena.new) (A.moments arena.old) (A.moments arena.new) (A.unsure arena.old) (A.unsure arena.new) }
+    ensures main { D.state main.new ≡ D.state main.old }
+    ensures arena { A.state arena.new ≡ A.state arena.old }
     ensures causes { HasCauses (D.faults main.old) (D.faults main.new) (A.faults arena.old) (A.faults arena.new) result }
 {
     let (blocks, arena_blocks) = sizes(main, arena)?;
@@ -165,11 +165,11 @@ pub fn check<D: Disk, A: Disk>(
     arena: &mut A,
 ) -> Result<Report, CheckError>
     // Over quiet devices that tell what they hold, a report is given exactly where the image is sound.
-    ensures answer { (image vault : List Block) → Shows (D.holds main.old) image → Shows (A.holds arena.old) vault
+    ensures answer { (image vault : List Block) → Shows (D.state main.old).holds image → Shows (A.state arena.old).holds vault
         → Finds (Reports image vault) (Refuses image vault) result }
 
     // The image of devices that were just formatted is sound.
-    ensures fresh { (image vault : List Block) (time : ℕ) → Shows (D.holds main.old) image → Shows (A.holds arena.old) vault
+    ensures fresh { (image vault : List Block) (time : ℕ) → Shows (D.state main.old).holds image → Shows (A.state arena.old).holds vault
         → HasSizes image vault → IsFresh time image → IsArena vault 0
         → MatchResult result (λ r. r ≡ record { blocks = length image; used = 1; leaked = 0; snapshots = 0 }) IsOutside }
 
@@ -181,8 +181,8 @@ pub fn check<D: Disk, A: Disk>(
     ensures arena_fixed { 0 < A.size arena.old → A.size arena.new ≡ A.size arena.old }
 
     // Nothing is written.
-    ensures main { IsKept (D.holds main.old) (D.holds main.new) (D.moments main.old) (D.moments main.new) (D.unsure main.old) (D.unsure main.new) }
-    ensures arena { IsKept (A.holds arena.old) (A.holds arena.new) (A.moments arena.old) (A.moments arena.new) (A.unsure arena.old) (A.unsure arena.new) }
+    ensures main { D.state main.new ≡ D.state main.old }
+    ensures arena { A.state arena.new ≡ A.state arena.old }
 
     ensures causes { HasCauses (D.faults main.old) (D.faults main.new) (A.faults arena.old) (A.faults arena.new) result }
 {

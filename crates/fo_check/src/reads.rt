@@ -6,7 +6,7 @@ ghost use Rattle.fo_disk.specs.declared.disk.DiskFault.TheVariants.{Read as Read
 ghost use Rattle.fo_image.specs.Place.{label_blocks};
 ghost use Rattle.fo_check.specs.declared.error.CheckError.TheVariants.{Main as MainFailed, Arena as ArenaFailed};
 ghost use Rattle.fo_sound.specs.Image.{block_of};
-ghost use Rattle.fo_sound.specs.Device.{Shows, IsKept};
+ghost use Rattle.fo_sound.specs.Device.{Shows};
 ghost use Rattle.fo_check.specs.Scan.{IsScanned};
 
 use crate::error::CheckError;
@@ -20,8 +20,8 @@ pub(crate) fn count<D: Disk>(device: &mut D) -> Result<u64, Failed>
     ensures fixed { 0 < D.size device.old → D.size device.new ≡ D.size device.old }
     ensures asked { Counted (D.calls device.old) (D.calls device.new) }
     ensures answered { OnOk result (D.faults device.new ≡ D.faults device.old) }
-    ensures shown { (image : List Block) → Shows (D.holds device.old) image → IfOk result (λ n. length image ≡ n) }
-    ensures kept { IsKept (D.holds device.old) (D.holds device.new) (D.moments device.old) (D.moments device.new) (D.unsure device.old) (D.unsure device.new) }
+    ensures shown { (image : List Block) → Shows (D.state device.old).holds image → IfOk result (λ n. length image ≡ n) }
+    ensures kept { D.state device.new ≡ D.state device.old }
     ensures cause { HasCause (D.faults device.old) (D.faults device.new) result }
 {
     device.blocks()
@@ -31,9 +31,9 @@ pub(crate) fn count<D: Disk>(device: &mut D) -> Result<u64, Failed>
 fn read<D: Disk>(device: &mut D, at: u32, into: &mut [u8]) -> Result<(), Failed>
     requires block { at < D.size device.old }
     requires length { length into.old ≡ 8192 }
-    ensures shown { (image : List Block) → Shows (D.holds device.old) image → OnOk result (into.new ≡ block_of image at) }
+    ensures shown { (image : List Block) → Shows (D.state device.old).holds image → OnOk result (into.new ≡ block_of image at) }
     ensures size { D.size device.new ≡ D.size device.old }
-    ensures kept { IsKept (D.holds device.old) (D.holds device.new) (D.moments device.old) (D.moments device.new) (D.unsure device.old) (D.unsure device.new) }
+    ensures kept { D.state device.new ≡ D.state device.old }
     ensures cause { HasCause (D.faults device.old) (D.faults device.new) result }
 {
     device.read(at, into)
@@ -43,9 +43,9 @@ fn read<D: Disk>(device: &mut D, at: u32, into: &mut [u8]) -> Result<(), Failed>
 pub(crate) fn read_main<D: Disk>(main: &mut D, at: u32, into: &mut [u8]) -> Result<(), CheckError>
     requires block { at < D.size main.old }
     requires length { length into.old ≡ 8192 }
-    ensures shown { (image : List Block) → Shows (D.holds main.old) image → OnOk result (into.new ≡ block_of image at) }
+    ensures shown { (image : List Block) → Shows (D.state main.old).holds image → OnOk result (into.new ≡ block_of image at) }
     ensures size { D.size main.new ≡ D.size main.old }
-    ensures kept { IsKept (D.holds main.old) (D.holds main.new) (D.moments main.old) (D.moments main.new) (D.unsure main.old) (D.unsure main.new) }
+    ensures kept { D.state main.new ≡ D.state main.old }
     ensures cause { HasCause (D.faults main.old) (D.faults main.new) result }
     ensures fault { IfErr result (λ e. e ≡ MainFailed ReadFault) }
 {
@@ -59,9 +59,9 @@ pub(crate) fn read_main<D: Disk>(main: &mut D, at: u32, into: &mut [u8]) -> Resu
 pub(crate) fn read_arena<A: Disk>(arena: &mut A, at: u32, into: &mut [u8]) -> Result<(), CheckError>
     requires block { at < A.size arena.old }
     requires length { length into.old ≡ 8192 }
-    ensures shown { (image : List Block) → Shows (A.holds arena.old) image → OnOk result (into.new ≡ block_of image at) }
+    ensures shown { (image : List Block) → Shows (A.state arena.old).holds image → OnOk result (into.new ≡ block_of image at) }
     ensures size { A.size arena.new ≡ A.size arena.old }
-    ensures kept { IsKept (A.holds arena.old) (A.holds arena.new) (A.moments arena.old) (A.moments arena.new) (A.unsure arena.old) (A.unsure arena.new) }
+    ensures kept { A.state arena.new ≡ A.state arena.old }
     ensures cause { HasCause (A.faults arena.old) (A.faults arena.new) result }
     ensures fault { IfErr result (λ e. e ≡ ArenaFailed ReadFault) }
 {
@@ -76,10 +76,10 @@ pub(crate) fn read_table<D: Disk>(main: &mut D, blocks: u32, s: &Super) -> Resul
     requires size { D.size main.old ≡ blocks }
     requires least { 64 ≤ blocks }
     requires most { blocks ≤ 2 ^ 20 }
-    ensures scanned { (image : List Block) → length image ≡ blocks → Shows (D.holds main.old) image
+    ensures scanned { (image : List Block) → length image ≡ blocks → Shows (D.state main.old).holds image
         → IfOk result (IsScanned image s.now (label_blocks blocks) (585 * label_blocks blocks)) }
     ensures size { D.size main.new ≡ D.size main.old }
-    ensures kept { IsKept (D.holds main.old) (D.holds main.new) (D.moments main.old) (D.moments main.new) (D.unsure main.old) (D.unsure main.new) }
+    ensures kept { D.state main.new ≡ D.state main.old }
     ensures cause { HasCause (D.faults main.old) (D.faults main.new) result }
     ensures fault { IfErr result (λ e. e ≡ MainFailed ReadFault) }
 {

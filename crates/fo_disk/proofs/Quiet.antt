@@ -3,7 +3,7 @@ use Rattle.std.proofs.Common.{◌≡◌, ◌≢◌, ⊎_elim, ℕ, ◌-◌, ◌<
 use Rattle.std.proofs.lemmas.Bool.{cases_eq}
 use Rattle.std.proofs.lemmas.List.{length-map, map-set, get_or-map, get_or-drop, get_or_push, length_push, ext_get_or}
 use Rattle.std.specs.List.{Contains}
-use Rattle.fo_disk.specs.Disk.{Block, Versions, Content, versions_of, IsContent, IsImage, IsSettled, IsQuiet, IsSure, settled, newest, latest_of, latest, Adds, Settles}
+use Rattle.fo_disk.specs.Disk.{Block, Versions, Content, DiskState, versions_of, IsContent, IsImage, IsSettled, IsQuiet, IsSure, settled, newest, latest_of, latest, Adds, Settles}
 use Rattle.fo_disk.proofs.Images.{adds-count, adds-other, contains-one, image-one, sure_at}
 
 length_newest : (versions : Versions) → 0 < length versions → length (newest versions) ≡ 1
@@ -73,28 +73,28 @@ latest-settles {size} {unsure} {old} {new} is s = ext_get_or [] (latest new) (la
     either false versions some = latest_newest versions some
 
 -- a sync that answers Ok leaves a disk quiet whose unsettled blocks had a last write that answered Ok
-pub quiet-sure : {content : Content} (unsure : List Bool) → IsQuiet content → IsSure unsure content
-quiet-sure unsure quiet = record { each = λ k lt is. quiet.each k lt }
+pub quiet-sure : {s : DiskState} → IsQuiet s.holds → IsSure s
+quiet-sure quiet = record { each = λ k lt is. quiet.each k lt }
 
-pub sure-adds : {unsure flags : List Bool} {at : ℕ} {bytes : Block} {old new : Content} → IsSure unsure old → Adds at bytes old new → flags ≡ set unsure at false → IsSure flags new
-sure-adds {unsure} {flags} {at} {bytes} {old} {new} sure w is = record { each = λ k lt flag. ⊎_elim (λ same. here k same flag) (λ other. there k lt flag other) (cases_eq k at) }
+pub sure-adds : {at : ℕ} {bytes : Block} {old new : DiskState} → IsSure old → Adds at bytes old.holds new.holds → new.unsure ≡ set old.unsure at false → IsSure new
+sure-adds {at} {bytes} {old} {new} sure w is = record { each = λ k lt flag. ⊎_elim (λ same. here k same flag) (λ other. there k lt flag other) (cases_eq k at) }
   where
-    here : (k : ℕ) → k ≡ at → get_or flags k false ≡ true → IsSettled new k
+    here : (k : ℕ) → k ≡ at → get_or new.unsure k false ≡ true → IsSettled new.holds k
     here k same flag =
-        let no : get_or flags k false ≡ false = ap (λ (n : ℕ). get_or flags n false) same ∙ ap (λ (us : List Bool). get_or us at false) is ∙ sure_at unsure at in
+        let no : get_or new.unsure k false ≡ false = ap (λ (n : ℕ). get_or new.unsure n false) same ∙ ap (λ (us : List Bool). get_or us at false) is ∙ sure_at old.unsure at in
         let bad : true ≡ false = sym flag ∙ no in
         cc
 
-    there : (k : ℕ) → k < length new → get_or flags k false ≡ true → k ≢ at → IsSettled new k
+    there : (k : ℕ) → k < length new.holds → get_or new.unsure k false ≡ true → k ≢ at → IsSettled new.holds k
     there k lt flag other =
-        let kept : get_or flags k false ≡ get_or unsure k false = ap (λ (us : List Bool). get_or us k false) is ∙ get_or-set_other unsure at k false false other in
+        let kept : get_or new.unsure k false ≡ get_or old.unsure k false = ap (λ (us : List Bool). get_or us k false) is ∙ get_or-set_other old.unsure at k false false other in
         ap length (adds-other w k other) ∙ sure.each k (omega (arith, lt, adds-count w)) (sym kept ∙ flag)
 
-pub sure-settles : {size : ℕ} {unsure : List Bool} {old new : Content} → IsContent size old → IsSure unsure old → Settles unsure old new → IsQuiet new
-sure-settles {size} {unsure} {old} {new} is sure s = record {
+pub sure-settles : {size : ℕ} {old : DiskState} {new : Content} → IsContent size old.holds → IsSure old → Settles old.unsure old.holds new → IsQuiet new
+sure-settles {size} {old} {new} is sure s = record {
   each = λ k lt.
-      let here : k < length old = omega (arith, lt, s.count) in
-      ap length (s.each k here) ∙ either (get_or unsure k false) (versions_of old k) (is.some k (omega (arith, here, is.count))) (λ flag. sure.each k here flag);
+      let here : k < length old.holds = omega (arith, lt, s.count) in
+      ap length (s.each k here) ∙ either (get_or old.unsure k false) (versions_of old.holds k) (is.some k (omega (arith, here, is.count))) (λ flag. sure.each k here flag);
 }
   where
     either : (b : Bool) (versions : Versions) → 0 < length versions → (b ≡ true → length versions ≡ 1) → length (cond b versions (newest versions)) ≡ 1

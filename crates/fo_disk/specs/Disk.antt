@@ -1,5 +1,5 @@
 -- What a disk may hold after a crash, and what each call does to it.
-use Rattle.std.specs.Prelude.{◌≡◌, ◌⊎◌, ℕ, ◌-◌, ◌<◌, Bool, true, false, if◌then◌else◌, List, [], ◌∷◌, ◌++◌, length, map, drop, slice_index_or, slice_set, Result, MatchResult}
+use Rattle.std.specs.Prelude.{◌≡◌, ◌⊎◌, ℕ, ◌-◌, ◌<◌, Bool, true, false, if◌then◌else◌, List, [], ◌∷◌, ◌++◌, length, map, drop, slice_index_or, slice_set, Result, MatchResult, is_err}
 use Rattle.std.specs.List.{All, Contains}
 
 -- the bytes of one block
@@ -43,10 +43,6 @@ IsSettled content at = length (versions_of content at) ≡ 1
 -- all blocks are settled
 pub record IsQuiet (content : Content) : Type 0 where
   pub each : (k : ℕ) → k < length content → IsSettled content k
-
--- Each block is settled, or its last write answered Ok: a sync that answers Ok leaves the disk quiet.
-pub record IsSure (unsure : List Bool) (content : Content) : Type 0 where
-  pub each : (k : ℕ) → k < length content → slice_index_or unsure k false ≡ true → IsSettled content k
 
 -- the content of a quiet disk with these blocks
 abbrev pub settled : List Block → Content
@@ -118,6 +114,31 @@ pub record Since (old new : List Content) (P : List Block → Type 0) : Type 0 w
 pub record SinceBoth (first_held second_holds : Content) (first_old first_new second_old second_new : List Content) (P : List Block → List Block → Type 0) : Type 0 where
   pub second : Since second_old second_new (λ image. 0 < length first_held → EachImage (λ other. P other image) first_held)
   pub first : Since first_old first_new (λ image. 0 < length second_holds → EachImage (λ other. P image other) second_holds)
+
+-- What is known of a disk. One that tells nothing has no blocks here, and one that keeps no record of its moments has none.
+pub record DiskState : Type 0 where
+  -- the versions of each block
+  pub holds : Content
+  -- what it has held at every moment so far, the newest moment first
+  pub moments : List Content
+  -- the blocks whose last write failed
+  pub unsure : List Bool
+
+-- Each block is settled, or its last write answered Ok: a sync that answers Ok leaves the disk quiet.
+pub record IsSure (s : DiskState) : Type 0 where
+  pub each : (k : ℕ) → k < length s.holds → slice_index_or s.unsure k false ≡ true → IsSettled s.holds k
+
+-- a write of a block: its versions, one moment more, and whether it failed
+pub record IsWrite {E : Type 0} (at : ℕ) (bytes : Block) (result : Result Unit E) (old new : DiskState) : Type 0 where
+  pub holds : Writes at bytes result old.holds new.holds
+  pub moments : Passes old.holds new.holds old.moments new.moments
+  pub unsure : new.unsure ≡ slice_set old.unsure at (is_err result)
+
+-- a sync: what it leaves, and one moment more
+pub record IsSync {E : Type 0} (result : Result Unit E) (old new : DiskState) : Type 0 where
+  pub holds : Syncs old.unsure result old.holds new.holds
+  pub moments : Passes old.holds new.holds old.moments new.moments
+  pub unsure : new.unsure ≡ old.unsure
 
 -- A run over events: each goes from a state to the next, and every image of every moment of it is good for this event.
 abbrev pub Runs : {W E : Type 0} → (W → E → W → Type 0) → (W → E → W → List Block → Type 0) → List E → W → W → List Content → List Content → Type 0

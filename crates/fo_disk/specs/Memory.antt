@@ -2,7 +2,7 @@
 use Rattle.std.specs.Prelude.{◌≡◌, ◌==◌, ◌⊎◌, ℕ, ◌-◌, ◌<◌, Bool, true, false, if◌then◌else◌, List, [], ◌∷◌, ◌++◌, length, map, reverse, take, drop, slice_index_or, slice_set}
 use Rattle.std.specs.List.{list_any}
 use Rattle.fo_base.specs.Cause.{Rose}
-use Rattle.fo_disk.specs.Disk.{Block, Versions, Content, Appends}
+use Rattle.fo_disk.specs.Disk.{Block, Versions, Content, DiskState, Appends}
 use Rattle.fo_disk.specs.declared.memory.Version.{Version}
 use Rattle.fo_disk.specs.declared.memory.Cell.{Cell}
 use Rattle.fo_disk.specs.declared.memory.Change.{Change}
@@ -71,6 +71,9 @@ moments_of m = moments_at (cells_of m.cells.items) m.changes.items
 
 abbrev pub unsure_of : MemDisk → List Bool
 unsure_of m = m.unsure.items
+
+abbrev pub state_of : MemDisk → DiskState
+state_of m = record { holds = holds_of m; moments = moments_of m; unsure = unsure_of m }
 
 -- the numbers of the calls that are to fail
 abbrev pub lists : MemDisk → List ℕ

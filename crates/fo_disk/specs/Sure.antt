@@ -3,7 +3,7 @@ use Rattle.std.specs.Prelude.{Bool, false, ℕ, List, [], ◌∷◌, map, length
 use Rattle.std.proofs.Common.{zero, suc, ap, sym, ◌∙◌, arith}
 use Rattle.std.proofs.lemmas.List.{length-map}
 use Rattle.std.specs.List.{Contains}
-use Rattle.fo_disk.specs.Disk.{Block, Versions, Content, IsContent, versions_of}
+use Rattle.fo_disk.specs.Disk.{Block, Versions, Content, DiskState, IsContent, versions_of}
 use Rattle.fo_disk.specs.declared.memory.Version.{Version}
 use Rattle.fo_disk.specs.declared.sure.SureDisk.{SureDisk}
 
@@ -39,6 +39,9 @@ no_flag v = false
 
 abbrev pub sure_flags : SureDisk → List Bool
 sure_flags d = map no_flag d.blocks.items
+
+abbrev pub sure_state : SureDisk → DiskState
+sure_state d = record { holds = sure_holds d; moments = []; unsure = sure_flags d }
 
 pub has_flags : (d : SureDisk) → length (sure_flags d) ≡ length (sure_holds d)
 has_flags d = length-map d.blocks.items no_flag ∙ sym (length-map d.blocks.items alone)

@@ -1,8 +1,8 @@
 //! A disk of blocks of 8192 bytes.
-ghost use Rattle.std.specs.Prelude.{◌≡◌, ◌⊎◌, ◌<◌, ◌≤◌, Bool, List, [], ℕ, length, slice_set, OnOk, OnErr, MatchResult, is_err};
+ghost use Rattle.std.specs.Prelude.{◌≡◌, ◌⊎◌, ◌<◌, ◌≤◌, [], ℕ, length, OnOk, OnErr, MatchResult};
 ghost use Rattle.std.specs.List.{Contains};
 ghost use Rattle.fo_base.specs.Cause.{HasCause, Counted, Rose};
-ghost use Rattle.fo_disk.specs.Disk.{Content, versions_of, IsContent, IsNewest, Writes, Syncs, Passes};
+ghost use Rattle.fo_disk.specs.Disk.{DiskState, versions_of, IsContent, IsNewest, IsWrite, IsSync};
 
 use thiserror::Error;
 
@@ -30,14 +30,8 @@ pub enum DiskFault {
 /// A block has a settled version and those of the writes since. A sync that answers Ok settles each block whose last write
 /// answered Ok. A call fails only where the count of faults rises in it, and no fault is counted where the blocks are found.
 pub trait Disk {
-    /// The versions of each block. A disk that tells nothing has none.
-    ghost holds: { Self → Content };
-
-    /// What it has held at every moment so far, the newest moment first. A disk that keeps no record of them has none.
-    ghost moments: { Self → List Content };
-
-    /// The blocks whose last write failed.
-    ghost unsure: { Self → List Bool };
+    /// What is known of it: the versions of each block, every moment so far, and the blocks whose last write failed.
+    ghost state: { Self → DiskState };
 
     /// How many blocks may be read and written: 0 until `blocks` has found it.
     ghost size: { Self → ℕ };
@@ -52,9 +46,7 @@ pub trait Disk {
     fn blocks(&mut self) -> Result<u64, Failed>
         ensures size { MatchResult result (λ n. size self.new ≡ n) (λ _. size self.new ≡ size self.old) }
         ensures fixed { 0 < size self.old → size self.new ≡ size self.old }
-        ensures holds { holds self.new ≡ holds self.old }
-        ensures moments { moments self.new ≡ moments self.old }
-        ensures unsure { unsure self.new ≡ unsure self.old }
+        ensures state { state self.new ≡ state self.old }
         ensures calls { Counted (calls self.old) (calls self.new) }
         ensures cause { HasCause (faults self.old) (faults self.new) result }
         ensures answered { OnOk result (faults self.new ≡ faults self.old) };
@@ -63,12 +55,10 @@ pub trait Disk {
     fn read(&mut self, at: u32, into: &mut [u8]) -> Result<(), Failed>
         requires block { at < size self.old }
         requires length { length into.old ≡ 8192 }
-        ensures bytes { OnOk result (at < length (holds self.old) → Contains (versions_of (holds self.old) at) into.new) }
+        ensures bytes { OnOk result (at < length (state self.old).holds → Contains (versions_of (state self.old).holds at) into.new) }
         ensures nothing { OnErr result (into.new ≡ into.old) }
         ensures size { size self.new ≡ size self.old }
-        ensures holds { holds self.new ≡ holds self.old }
-        ensures moments { moments self.new ≡ moments self.old }
-        ensures unsure { unsure self.new ≡ unsure self.old }
+        ensures state { state self.new ≡ state self.old }
         ensures calls { Counted (calls self.old) (calls self.new) }
         ensures cause { HasCause (faults self.old) (faults self.new) result };
 
@@ -77,29 +67,25 @@ pub trait Disk {
         requires block { at < size self.old }
         requires length { length from.now ≡ 8192 }
         ensures size { size self.new ≡ size self.old }
-        ensures holds { Writes at from.now result (holds self.old) (holds self.new) }
-        ensures moments { Passes (holds self.old) (holds self.new) (moments self.old) (moments self.new) }
-        ensures unsure { unsure self.new ≡ slice_set (unsure self.old) at (is_err result) }
+        ensures state { IsWrite at from.now result (state self.old) (state self.new) }
         ensures calls { Counted (calls self.old) (calls self.new) }
         ensures cause { HasCause (faults self.old) (faults self.new) result };
 
     /// Leaves only the last version of each block whose last write answered Ok. Where it fails, it leaves all versions.
     fn sync(&mut self) -> Result<(), Failed>
         ensures size { size self.new ≡ size self.old }
-        ensures holds { Syncs (unsure self.old) result (holds self.old) (holds self.new) }
-        ensures moments { Passes (holds self.old) (holds self.new) (moments self.old) (moments self.new) }
-        ensures unsure { unsure self.new ≡ unsure self.old }
+        ensures state { IsSync result (state self.old) (state self.new) }
         ensures calls { Counted (calls self.old) (calls self.new) }
         ensures cause { HasCause (faults self.old) (faults self.new) result };
 
     /// A disk that tells what it holds has a version of each block, and all versions are whole blocks.
-    ghost is_content: { (disk : Self) → (holds disk ≡ []) ⊎ IsContent (size disk) (holds disk) };
+    ghost is_content: { (disk : Self) → ((state disk).holds ≡ []) ⊎ IsContent (size disk) (state disk).holds };
 
     /// The newest moment is what it holds.
-    ghost is_newest: { (disk : Self) → IsNewest (size disk) (holds disk) (moments disk) };
+    ghost is_newest: { (disk : Self) → IsNewest (size disk) (state disk).holds (state disk).moments };
 
     /// There is a flag for each block that it tells.
-    ghost has_flags: { (disk : Self) → length (unsure disk) ≡ length (holds disk) };
+    ghost has_flags: { (disk : Self) → length (state disk).unsure ≡ length (state disk).holds };
 }
 
 // Counts a call.

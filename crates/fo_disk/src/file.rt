@@ -1,7 +1,7 @@
 //! A disk in a file of the system, of which nothing is known.
-ghost use Rattle.std.specs.Prelude.{◌≡◌, ◌<◌, ◌≤◌, ◌-◌, [], List, length, OnErr, IfOk};
+ghost use Rattle.std.specs.Prelude.{◌≡◌, ◌<◌, ◌≤◌, ◌-◌, length, OnErr, IfOk};
 ghost use Rattle.std.proofs.Common.{inl, refl};
-ghost use Rattle.fo_disk.specs.File.{found};
+ghost use Rattle.fo_disk.specs.File.{found, silent};
 
 use crate::disk::{count_call, count_fault};
 use crate::{BLOCK, Disk, Failed};
@@ -40,11 +40,7 @@ impl<R: Files> FileDisk<R> {
 }
 
 impl<R: Files> Disk for FileDisk<R> {
-    ghost holds = { λ d. [] };
-
-    ghost moments = { λ d. [] };
-
-    ghost unsure = { λ d. [] };
+    ghost state = { λ d. silent };
 
     ghost size = { λ d. found d.blocks };
 

@@ -1,10 +1,10 @@
 //! The calls of a disk in memory.
-ghost use Rattle.std.specs.Prelude.{◌≡◌, ◌==◌, ◌⊎◌, ◌<◌, ◌≤◌, ◌++◌, ◌-◌, [], ◌∷◌, ℕ, List, Bool, true, false, length, map, slice_index, slice_set, replicate, OnOk, OnErr, IfOk, MatchResult, is_err};
+ghost use Rattle.std.specs.Prelude.{◌≡◌, ◌==◌, ◌⊎◌, ◌<◌, ◌≤◌, ◌++◌, ◌-◌, [], ◌∷◌, ℕ, List, Bool, true, false, length, map, slice_index, replicate, OnOk, OnErr, IfOk, MatchResult, is_err};
 ghost use Rattle.std.specs.List.{Contains, list_any};
 ghost use Rattle.std.proofs.Common.{inr, refl};
 ghost use Rattle.fo_base.specs.Cause.{HasCause, Counted, Rose};
-ghost use Rattle.fo_disk.specs.Disk.{versions_of, latest_of, settled, IsImage, Writes, Syncs, Passes};
-ghost use Rattle.fo_disk.specs.Memory.{bytes_of, cell_of, cells_of, content_of, holds_of, moments_of, unsure_of, is_listed, lists, with_version, settled_cell, Lands, picked, SettledFrom, versions_in};
+ghost use Rattle.fo_disk.specs.Disk.{versions_of, latest_of, settled, IsImage, IsWrite, IsSync};
+ghost use Rattle.fo_disk.specs.Memory.{bytes_of, cell_of, cells_of, content_of, holds_of, moments_of, unsure_of, state_of, is_listed, lists, with_version, settled_cell, Lands, picked, SettledFrom, versions_in};
 ghost use Rattle.fo_disk.specs.declared.memory.Change.TheVariants.{Wrote, Settled};
 ghost use Rattle.fo_disk.specs.MemoryLaws.{is_content, has_flags};
 
@@ -98,11 +98,7 @@ impl MemDisk {
 }
 
 impl Disk for MemDisk {
-    ghost holds = { holds_of };
-
-    ghost moments = { moments_of };
-
-    ghost unsure = { unsure_of };
+    ghost state = { state_of };
 
     ghost size = { λ m. length m.cells.items };
 
@@ -123,9 +119,7 @@ impl Disk for MemDisk {
         ensures wants { self.new.wants ≡ self.old.wants }
         ensures size { MatchResult result (λ n. length self.new.cells.items ≡ n) (λ _. length self.new.cells.items ≡ length self.old.cells.items) }
         ensures fixed { length self.new.cells.items ≡ length self.old.cells.items }
-        ensures holds { holds_of self.new ≡ holds_of self.old }
-        ensures moments { moments_of self.new ≡ moments_of self.old }
-        ensures unsure { unsure_of self.new ≡ unsure_of self.old }
+        ensures state { state_of self.new ≡ state_of self.old }
         ensures calls { Counted self.old.calls self.new.calls }
         ensures cause { HasCause self.old.faults self.new.faults result }
         ensures answered { OnOk result (self.new.faults ≡ self.old.faults) }
@@ -147,9 +141,7 @@ impl Disk for MemDisk {
         ensures latest { OnOk result (into.new ≡ latest_of (versions_of (holds_of self.old) at)) }
         ensures nothing { OnErr result (into.new ≡ into.old) }
         ensures size { length self.new.cells.items ≡ length self.old.cells.items }
-        ensures holds { holds_of self.new ≡ holds_of self.old }
-        ensures moments { moments_of self.new ≡ moments_of self.old }
-        ensures unsure { unsure_of self.new ≡ unsure_of self.old }
+        ensures state { state_of self.new ≡ state_of self.old }
         ensures calls { Counted self.old.calls self.new.calls }
         ensures cause { HasCause self.old.faults self.new.faults result }
     {
@@ -171,9 +163,7 @@ impl Disk for MemDisk {
         ensures lands { Lands at from.now (is_listed self.old) (is_err result) (holds_of self.old) (holds_of self.new) self.old.wants self.new.wants }
         ensures lists { lists self.new ≡ lists self.old }
         ensures size { length self.new.cells.items ≡ length self.old.cells.items }
-        ensures holds { Writes at from.now result (holds_of self.old) (holds_of self.new) }
-        ensures moments { Passes (holds_of self.old) (holds_of self.new) (moments_of self.old) (moments_of self.new) }
-        ensures unsure { unsure_of self.new ≡ slice_set (unsure_of self.old) at (is_err result) }
+        ensures state { IsWrite at from.now result (state_of self.old) (state_of self.new) }
         ensures calls { Counted self.old.calls self.new.calls }
         ensures cause { HasCause self.old.faults self.new.faults result }
     {
@@ -207,9 +197,7 @@ impl Disk for MemDisk {
         ensures memory { MatchResult result (λ _. self.new.wants ≡ self.old.wants) (λ _. is_listed self.old ≡ false → Rose self.old.wants self.new.wants) }
         ensures lists { lists self.new ≡ lists self.old }
         ensures size { length self.new.cells.items ≡ length self.old.cells.items }
-        ensures holds { Syncs (unsure_of self.old) result (holds_of self.old) (holds_of self.new) }
-        ensures moments { Passes (holds_of self.old) (holds_of self.new) (moments_of self.old) (moments_of self.new) }
-        ensures unsure { unsure_of self.new ≡ unsure_of self.old }
+        ensures state { IsSync result (state_of self.old) (state_of self.new) }
         ensures calls { Counted self.old.calls self.new.calls }
         ensures cause { HasCause self.old.faults self.new.faults result }
     {

@@ -1,9 +1,9 @@
 //! The calls of a disk in memory that never fails.
-ghost use Rattle.std.specs.Prelude.{◌≡◌, ◌<◌, ◌∷◌, [], List, length, replicate, IfOk};
+ghost use Rattle.std.specs.Prelude.{◌≡◌, ◌<◌, ◌∷◌, List, length, replicate, IfOk};
 ghost use Rattle.std.proofs.Common.{inr};
 ghost use Rattle.fo_disk.specs.Disk.{settled};
 ghost use Rattle.fo_disk.specs.Memory.{bytes_of};
-ghost use Rattle.fo_disk.specs.Sure.{sure_holds, sure_content, sure_flags, has_flags};
+ghost use Rattle.fo_disk.specs.Sure.{sure_holds, sure_state, sure_content, has_flags};
 
 use crate::disk::count_call;
 use crate::memory::Version;
@@ -32,11 +32,7 @@ impl SureDisk {
 }
 
 impl Disk for SureDisk {
-    ghost holds = { sure_holds };
-
-    ghost moments = { λ d. [] };
-
-    ghost unsure = { sure_flags };
+    ghost state = { sure_state };
 
     ghost size = { λ d. length d.blocks.items };
 

@@ -1,6 +1,6 @@
 -- The last versions of the blocks of a device.
 use Rattle.std.proofs.Common.{◌≡◌, ◌⊎◌, ⊎_elim, ℕ, ◌<◌, Bool, List, [], ◌∷◌, length, refl, sym, ◌∙◌, ap, arith}
-use Rattle.fo_disk.specs.Disk.{Block, Content, IsContent, IsSure, IsQuiet, settled, latest, Settles}
+use Rattle.fo_disk.specs.Disk.{Block, Content, DiskState, IsContent, IsSure, IsQuiet, settled, latest, Settles}
 use Rattle.fo_disk.proofs.Quiet.{latest-settles, sure-settles, quiet-latest}
 use Rattle.fo_sound.specs.Device.{Shows}
 
@@ -16,8 +16,8 @@ settles-latest {size} {unsure} {old} {new} told s = ⊎_elim
     told
 
 -- and leaves a device quiet of which all is sure
-pub settles-quiet : {size : ℕ} {unsure : List Bool} {old new : Content} → (old ≡ []) ⊎ IsContent size old → Settles unsure old new → IsSure unsure old → IsQuiet new
-settles-quiet {size} {unsure} {old} {new} told s sure = ⊎_elim
+pub settles-quiet : {size : ℕ} {old : DiskState} {new : Content} → (old.holds ≡ []) ⊎ IsContent size old.holds → Settles old.unsure old.holds new → IsSure old → IsQuiet new
+settles-quiet {size} {old} {new} told s sure = ⊎_elim
     (λ none. record { each = λ k lt. absurd (omega (arith, lt, s.count, ap length none)) })
     (λ content. sure-settles content sure s)
     told

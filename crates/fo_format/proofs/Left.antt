@@ -1,7 +1,7 @@
 -- What is left on the two devices.
-use Rattle.std.proofs.Common.{◌≡◌, ℕ, ◌<◌, Bool, List, length, sym, ◌∙◌, ap, subst, arith}
+use Rattle.std.proofs.Common.{◌≡◌, ℕ, ◌<◌, List, length, sym, ◌∙◌, ap, subst, arith}
 use Rattle.std.specs.Prelude.{Result, Ok, Err, IfErr, MatchResult}
-use Rattle.fo_disk.specs.Disk.{Block, Content, latest, IsSure, IsQuiet}
+use Rattle.fo_disk.specs.Disk.{Block, Content, DiskState, latest, IsSure, IsQuiet}
 use Rattle.fo_disk.specs.declared.disk.DiskFault.{DiskFault}
 use Rattle.fo_disk.specs.declared.disk.DiskFault.TheVariants.{Read, Write, Sync}
 use Rattle.fo_disk.proofs.Quiet.{settled-quiet, quiet-sure}
@@ -17,23 +17,26 @@ after-sync (Ok u) fault p = p
 after-sync {P} (Err e) fault p = subst (Unsettled P) (sym fault) p
 
 -- a device that was quiet and showed this image before the calls that made another one of it
-pub record IsShown (image : List Block) (held holds : Content) : Type 0 where
-  pub shown : Shows held image
-  pub kept : holds ≡ held
+pub record IsShown (image : List Block) (old new : DiskState) : Type 0 where
+  pub shown : Shows old.holds image
+  pub kept : new ≡ old
 
-pub shown-image : {image : List Block} {held holds : Content} → IsShown image held holds → latest holds ≡ image
-shown-image s = ap latest s.kept ∙ shown-latest s.shown
+same : {image : List Block} {old new : DiskState} → IsShown image old new → new.holds ≡ old.holds
+same s = ap (λ (state : DiskState). state.holds) s.kept
 
-pub shown-sure : {image : List Block} {held holds : Content} (unsure : List Bool) → IsShown image held holds → IsSure unsure holds
-shown-sure {image} unsure s = subst (IsSure unsure) (sym (s.kept ∙ s.shown.quiet)) (quiet-sure unsure (settled-quiet image))
+pub shown-image : {image : List Block} {old new : DiskState} → IsShown image old new → latest new.holds ≡ image
+shown-image s = ap latest (same s) ∙ shown-latest s.shown
 
-some : {image : List Block} {held holds : Content} (now : List Block) → IsShown image held holds → length now ≡ length image → 0 < length now
+pub shown-sure : {image : List Block} {old new : DiskState} → IsShown image old new → IsSure new
+shown-sure {image} s = quiet-sure (subst IsQuiet (sym (same s ∙ s.shown.quiet)) (settled-quiet image))
+
+some : {image : List Block} {old new : DiskState} (now : List Block) → IsShown image old new → length now ≡ length image → 0 < length now
 some now s count = omega (arith, s.shown.some, count)
 
-pub holds-fresh : {time : ℕ} {image : List Block} {held holds now : Content} → IsShown image held holds → MakesFresh time image (latest now) → IsQuiet now → HoldsFresh time image now
+pub holds-fresh : {time : ℕ} {image : List Block} {old new : DiskState} {now : Content} → IsShown image old new → MakesFresh time image (latest now) → IsQuiet now → HoldsFresh time image now
 holds-fresh {now = now} s made quiet = record { now = latest now; shown = quiet-shows quiet (some (latest now) s made.count); made = made }
 
-pub holds-empty : {vault : List Block} {held holds now : Content} → IsShown vault held holds → MakesEmpty vault (latest now) → IsQuiet now → HoldsEmpty vault now
+pub holds-empty : {vault : List Block} {old new : DiskState} {now : Content} → IsShown vault old new → MakesEmpty vault (latest now) → IsQuiet now → HoldsEmpty vault now
 holds-empty {now = now} s made quiet = record { now = latest now; shown = quiet-shows quiet (some (latest now) s made.count); made = made }
 
 pub arena-refuses : (time : ℕ) (image vault : List Block) (main arena : Content) (fault : DiskFault) → IsLater fault → HasSizes image vault → Unsettled (MakesEmpty vault (latest arena)) fault → Refuses time image vault main arena (Arena fault)

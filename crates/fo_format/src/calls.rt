@@ -3,7 +3,7 @@ ghost use Rattle.std.specs.Prelude.{◌≡◌, ◌<◌, List, length, slice_set,
 ghost use Rattle.fo_base.specs.Cause.{HasCause, Counted};
 ghost use Rattle.fo_disk.specs.Disk.{Block, latest, IsSure, IsQuiet};
 ghost use Rattle.fo_disk.specs.declared.disk.DiskFault.TheVariants.{Read, Write, Sync};
-ghost use Rattle.fo_sound.specs.Device.{Shows, IsKept};
+ghost use Rattle.fo_sound.specs.Device.{Shows};
 
 use fo_disk::{Disk, DiskFault};
 
@@ -13,8 +13,8 @@ pub(crate) fn count<D: Disk>(device: &mut D) -> Result<u64, DiskFault>
     ensures fixed { 0 < D.size device.old → D.size device.new ≡ D.size device.old }
     ensures asked { Counted (D.calls device.old) (D.calls device.new) }
     ensures answered { IfOk result (λ _. D.faults device.new ≡ D.faults device.old) }
-    ensures shown { (image : List Block) → Shows (D.holds device.old) image → IfOk result (λ n. length image ≡ n) }
-    ensures kept { IsKept (D.holds device.old) (D.holds device.new) (D.moments device.old) (D.moments device.new) (D.unsure device.old) (D.unsure device.new) }
+    ensures shown { (image : List Block) → Shows (D.state device.old).holds image → IfOk result (λ n. length image ≡ n) }
+    ensures kept { D.state device.new ≡ D.state device.old }
     ensures cause { HasCause (D.faults device.old) (D.faults device.new) result }
     ensures fault { IfErr result (λ e. e ≡ Read) }
 {
@@ -29,8 +29,8 @@ pub(crate) fn write<D: Disk>(device: &mut D, at: u32, block: &[u8]) -> Result<()
     requires block { at < D.size device.old }
     requires length { length block.now ≡ 8192 }
     ensures size { D.size device.new ≡ D.size device.old }
-    ensures latest { OnOk result (latest (D.holds device.new) ≡ slice_set (latest (D.holds device.old)) at block.now) }
-    ensures sure { OnOk result (IsSure (D.unsure device.old) (D.holds device.old) → IsSure (D.unsure device.new) (D.holds device.new)) }
+    ensures latest { OnOk result (latest (D.state device.new).holds ≡ slice_set (latest (D.state device.old).holds) at block.now) }
+    ensures sure { OnOk result (IsSure (D.state device.old) → IsSure (D.state device.new)) }
     ensures cause { HasCause (D.faults device.old) (D.faults device.new) result }
     ensures fault { IfErr result (λ e. e ≡ Write) }
 {
@@ -43,8 +43,8 @@ pub(crate) fn write<D: Disk>(device: &mut D, at: u32, block: &[u8]) -> Result<()
 /// Settles what was written.
 pub(crate) fn sync<D: Disk>(device: &mut D) -> Result<(), DiskFault>
     ensures size { D.size device.new ≡ D.size device.old }
-    ensures latest { latest (D.holds device.new) ≡ latest (D.holds device.old) }
-    ensures quiet { OnOk result (IsSure (D.unsure device.old) (D.holds device.old) → IsQuiet (D.holds device.new)) }
+    ensures latest { latest (D.state device.new).holds ≡ latest (D.state device.old).holds }
+    ensures quiet { OnOk result (IsSure (D.state device.old) → IsQuiet (D.state device.new).holds) }
     ensures cause { HasCause (D.faults device.old) (D.faults device.new) result }
     ensures fault { IfErr result (λ e. e ≡ Sync) }
 {

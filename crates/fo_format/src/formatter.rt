@@ -5,7 +5,7 @@ ghost use Rattle.fo_disk.specs.Disk.{Block, latest, IsSure, IsQuiet};
 ghost use Rattle.fo_disk.specs.declared.disk.DiskFault.TheVariants.{Write};
 ghost use Rattle.fo_image.specs.Record.{RootHolds};
 ghost use Rattle.fo_sound.specs.Sizes.{HasSizes};
-ghost use Rattle.fo_sound.specs.Device.{Shows, IsKept};
+ghost use Rattle.fo_sound.specs.Device.{Shows};
 ghost use Rattle.fo_sound.specs.Fresh.{fresh_root};
 ghost use Rattle.fo_format.specs.Formatted.{MakesFresh, MakesEmpty, Unsettled, RefusesSizes, Refuses, HasCauses, KnowsSizes, AsksSizes, IsOfSizes, IsLater, Formats, wrote_main, wrote_arena};
 
@@ -22,7 +22,7 @@ use std::alloc::Global;
 
 /// The numbers of blocks of the main device and of the arena.
 fn sizes<D: Disk, A: Disk>(main: &mut D, arena: &mut A) -> Result<(u32, u32), FormatError>
-    ensures answer { (image vault : List Block) → Shows (D.holds main.old) image → Shows (A.holds arena.old) vault
+    ensures answer { (image vault : List Block) → Shows (D.state main.old).holds image → Shows (A.state arena.old).holds vault
         → MatchResult result (λ n. HasSizes image vault × (length image ≡ n.0) × (length vault ≡ n.1)) (RefusesSizes image vault) }
     ensures found { IfOk result (λ n. (D.size main.new ≡ n.0) × (A.size arena.new ≡ n.1) × (64 ≤ n.0) × (n.0 ≤ 2 ^ 20) × (16 ≤ n.1) × (n.1 ≤ 2 ^ 20)) }
     ensures sizes { KnowsSizes (D.size main.new) (A.size arena.new) result }
@@ -30,8 +30,8 @@ fn sizes<D: Disk, A: Disk>(main: &mut D, arena: &mut A) -> Result<(u32, u32), Fo
     ensures only { IfErr result IsOfSizes }
     ensures fixed { 0 < D.size main.old → D.size main.new ≡ D.size main.old }
     ensures arena_fixed { 0 < A.size arena.old → A.size arena.new ≡ A.size arena.old }
-    ensures main { IsKept (D.holds main.old) (D.holds main.new) (D.moments main.old) (D.moments main.new) (D.unsure main.old) (D.unsure main.new) }
-    ensures arena { IsKept (A.holds arena.old) (A.holds arena.new) (A.moments arena.old) (A.moments arena.new) (A.unsure arena.old) (A.unsure arena.new) }
+    ensures main { D.state main.new ≡ D.state main.old }
+    ensures arena { A.state arena.new ≡ A.state arena.old }
     ensures causes { HasCauses (D.faults main.old) (D.faults main.new) (A.faults arena.old) (A.faults arena.new) result }
 {
     let blocks = match count(main) {
@@ -55,10 +55,10 @@ fn sizes<D: Disk, A: Disk>(main: &mut D, arena: &mut A) -> Result<(u32, u32), Fo
 fn write_arena<A: Disk>(arena: &mut A, blocks: u32) -> Result<(), DiskFault>
     requires size { A.size arena.old ≡ blocks }
     requires least { 16 ≤ blocks }
-    ensures made { length (latest (A.holds arena.old)) ≡ blocks
-        → let made = MakesEmpty (latest (A.holds arena.old)) (latest (A.holds arena.new)) in MatchResult result (λ _. made) (Unsettled made) }
+    ensures made { length (latest (A.state arena.old).holds) ≡ blocks
+        → let made = MakesEmpty (latest (A.state arena.old).holds) (latest (A.state arena.new).holds) in MatchResult result (λ _. made) (Unsettled made) }
     ensures size { A.size arena.new ≡ A.size arena.old }
-    ensures quiet { OnOk result (IsSure (A.unsure arena.old) (A.holds arena.old) → IsQuiet (A.holds arena.new)) }
+    ensures quiet { OnOk result (IsSure (A.state arena.old) → IsQuiet (A.state arena.new).holds) }
     ensures cause { HasCause (A.faults arena.old) (A.faults arena.new) result }
     ensures fault { IfErr result IsLater }
 {
@@ -74,9 +74,9 @@ fn write_image<D: Disk>(main: &mut D, blocks: u32, root: &RootBlock) -> Result<(
     requires least { 64 ≤ blocks }
     requires most { blocks ≤ 2 ^ 20 }
     requires root { RootHolds root.now }
-    ensures made { OnOk result ((time : ℕ) → root.now ≡ fresh_root time → length (latest (D.holds main.old)) ≡ blocks
-        → MakesFresh time (latest (D.holds main.old)) (latest (D.holds main.new))) }
-    ensures sure { OnOk result (IsSure (D.unsure main.old) (D.holds main.old) → IsSure (D.unsure main.new) (D.holds main.new)) }
+    ensures made { OnOk result ((time : ℕ) → root.now ≡ fresh_root time → length (latest (D.state main.old).holds) ≡ blocks
+        → MakesFresh time (latest (D.state main.old).holds) (latest (D.state main.new).holds)) }
+    ensures sure { OnOk result (IsSure (D.state main.old) → IsSure (D.state main.new)) }
     ensures size { D.size main.new ≡ D.size main.old }
     ensures cause { HasCause (D.faults main.old) (D.faults main.new) result }
     ensures fault { IfErr result (λ e. e ≡ Write) }
@@ -98,10 +98,10 @@ fn write_main<D: Disk>(main: &mut D, blocks: u32, root: &RootBlock) -> Result<()
     requires least { 64 ≤ blocks }
     requires most { blocks ≤ 2 ^ 20 }
     requires root { RootHolds root.now }
-    ensures made { (time : ℕ) → root.now ≡ fresh_root time → length (latest (D.holds main.old)) ≡ blocks
-        → let made = MakesFresh time (latest (D.holds main.old)) (latest (D.holds main.new)) in MatchResult result (λ _. made) (Unsettled made) }
+    ensures made { (time : ℕ) → root.now ≡ fresh_root time → length (latest (D.state main.old).holds) ≡ blocks
+        → let made = MakesFresh time (latest (D.state main.old).holds) (latest (D.state main.new).holds) in MatchResult result (λ _. made) (Unsettled made) }
     ensures size { D.size main.new ≡ D.size main.old }
-    ensures quiet { OnOk result (IsSure (D.unsure main.old) (D.holds main.old) → IsQuiet (D.holds main.new)) }
+    ensures quiet { OnOk result (IsSure (D.state main.old) → IsQuiet (D.state main.new).holds) }
     ensures cause { HasCause (D.faults main.old) (D.faults main.new) result }
     ensures fault { IfErr result IsLater }
 {
@@ -123,8 +123,8 @@ pub fn format<D: Disk, A: Disk>(
     time: u32,
 ) -> Result<(), FormatError>
     // Quiet devices that tell what they hold are quiet again, and hold the fresh image and an empty arena.
-    ensures formats { (image vault : List Block) → Shows (D.holds main.old) image → Shows (A.holds arena.old) vault
-        → MatchResult result (λ _. Formats time image vault (D.holds main.new) (A.holds arena.new)) (Refuses time image vault (D.holds main.new) (A.holds arena.new)) }
+    ensures formats { (image vault : List Block) → Shows (D.state main.old).holds image → Shows (A.state arena.old).holds vault
+        → MatchResult result (λ _. Formats time image vault (D.state main.new).holds (A.state arena.new).holds) (Refuses time image vault (D.state main.new).holds (A.state arena.new).holds) }
 
     // Over any devices: `Size` is answered exactly where a number of blocks that was found is out of range, and a number that is
     // known stays.
@@ -134,8 +134,8 @@ pub fn format<D: Disk, A: Disk>(
     ensures arena_fixed { 0 < A.size arena.old → A.size arena.new ≡ A.size arena.old }
 
     // Where nothing was written, nothing changed.
-    ensures main { IfErr result (λ e. wrote_main e ≡ false → IsKept (D.holds main.old) (D.holds main.new) (D.moments main.old) (D.moments main.new) (D.unsure main.old) (D.unsure main.new)) }
-    ensures arena { IfErr result (λ e. wrote_arena e ≡ false → IsKept (A.holds arena.old) (A.holds arena.new) (A.moments arena.old) (A.moments arena.new) (A.unsure arena.old) (A.unsure arena.new)) }
+    ensures main { IfErr result (λ e. wrote_main e ≡ false → D.state main.new ≡ D.state main.old) }
+    ensures arena { IfErr result (λ e. wrote_arena e ≡ false → A.state arena.new ≡ A.state arena.old) }
 
     ensures causes { HasCauses (D.faults main.old) (D.faults main.new) (A.faults arena.old) (A.faults arena.new) result }
 {

@@ -30,8 +30,8 @@ pub(crate) fn write_labels<D: Disk>(main: &mut D, blocks: u32) -> Result<(), Dis
     requires least { 64 ≤ blocks }
     requires most { blocks ≤ 2 ^ 20 }
     ensures size { D.size main.new ≡ D.size main.old }
-    ensures labels { OnOk result (HasLabelBlocks blocks (first_data blocks) (latest (D.holds main.old)) (latest (D.holds main.new))) }
-    ensures sure { OnOk result (IsSure (D.unsure main.old) (D.holds main.old) → IsSure (D.unsure main.new) (D.holds main.new)) }
+    ensures labels { OnOk result (HasLabelBlocks blocks (first_data blocks) (latest (D.state main.old).holds) (latest (D.state main.new).holds)) }
+    ensures sure { OnOk result (IsSure (D.state main.old) → IsSure (D.state main.new)) }
     ensures cause { HasCause (D.faults main.old) (D.faults main.new) result }
     ensures fault { IfErr result (λ e. e ≡ Write) }
 {

@@ -1,7 +1,7 @@
 //! The tools.
-ghost use Rattle.std.specs.Prelude.{List};
+ghost use Rattle.std.specs.Prelude.{◌≡◌, List};
 ghost use Rattle.fo_disk.specs.Disk.{Block};
-ghost use Rattle.fo_sound.specs.Device.{Shows, IsKept};
+ghost use Rattle.fo_sound.specs.Device.{Shows};
 ghost use Rattle.fo_check.specs.Answer.{Reports};
 ghost use Rattle.fo_check.specs.declared.report.Report.{Report};
 ghost use Rattle.fo_tools.specs.Ending.{HasCauses, PrintsFormat, EndsFormat, WritesNothing, PrintsReport, EndsCheck, MayMiss, MayEndFormat, MayEndCheck, AsksSizes};
@@ -29,12 +29,12 @@ pub fn flfmt<D: Disk, A: Disk, K: Sink>(
     ensures asked { AsksSizes (D.size main.new) (D.calls main.old) (D.calls main.new) (A.calls arena.old) (A.calls arena.new) result }
 
     // What quiet devices that tell what they hold have then.
-    ensures ends { (image vault : List Block) → Shows (D.holds main.old) image → Shows (A.holds arena.old) vault
-        → EndsFormat time image vault (D.holds main.new) (A.holds arena.new) result }
+    ensures ends { (image vault : List Block) → Shows (D.state main.old).holds image → Shows (A.state arena.old).holds vault
+        → EndsFormat time image vault (D.state main.new).holds (A.state arena.new).holds result }
 
     // Where nothing was written, nothing changed.
-    ensures main { WritesNothing result → IsKept (D.holds main.old) (D.holds main.new) (D.moments main.old) (D.moments main.new) (D.unsure main.old) (D.unsure main.new) }
-    ensures arena { WritesNothing result → IsKept (A.holds arena.old) (A.holds arena.new) (A.moments arena.old) (A.moments arena.new) (A.unsure arena.old) (A.unsure arena.new) }
+    ensures main { WritesNothing result → D.state main.new ≡ D.state main.old }
+    ensures arena { WritesNothing result → A.state arena.new ≡ A.state arena.old }
 
     ensures causes { HasCauses (D.faults main.old) (D.faults main.new) (A.faults arena.old) (A.faults arena.new) (K.faults out.old) (K.faults out.new) result }
 {
@@ -63,7 +63,7 @@ pub fn flchk<D: Disk, A: Disk, K: Sink>(
 ) -> ToolEnd
     // What is printed, over any devices, is the line of a report or nothing; over quiet devices that tell what they hold it is the
     // line of their report.
-    ensures prints { PrintsReport (λ r. (image vault : List Block) → Shows (D.holds main.old) image → Shows (A.holds arena.old) vault → Reports image vault r)
+    ensures prints { PrintsReport (λ r. (image vault : List Block) → Shows (D.state main.old).holds image → Shows (A.state arena.old).holds vault → Reports image vault r)
         (K.held out.old) (K.held out.new) result }
 
     // Which ends there are, over any devices.
@@ -71,12 +71,12 @@ pub fn flchk<D: Disk, A: Disk, K: Sink>(
     ensures asked { AsksSizes (D.size main.new) (D.calls main.old) (D.calls main.new) (A.calls arena.old) (A.calls arena.new) result }
 
     // Why nothing is printed, over devices that tell; and a sound image is reported.
-    ensures ends { (image vault : List Block) → Shows (D.holds main.old) image → Shows (A.holds arena.old) vault → EndsCheck image vault result }
-    ensures only { (image vault : List Block) (r : Report) → Shows (D.holds main.old) image → Shows (A.holds arena.old) vault → Reports image vault r → MayMiss result }
+    ensures ends { (image vault : List Block) → Shows (D.state main.old).holds image → Shows (A.state arena.old).holds vault → EndsCheck image vault result }
+    ensures only { (image vault : List Block) (r : Report) → Shows (D.state main.old).holds image → Shows (A.state arena.old).holds vault → Reports image vault r → MayMiss result }
 
     // Nothing is written.
-    ensures main { IsKept (D.holds main.old) (D.holds main.new) (D.moments main.old) (D.moments main.new) (D.unsure main.old) (D.unsure main.new) }
-    ensures arena { IsKept (A.holds arena.old) (A.holds arena.new) (A.moments arena.old) (A.moments arena.new) (A.unsure arena.old) (A.unsure arena.new) }
+    ensures main { D.state main.new ≡ D.state main.old }
+    ensures arena { A.state arena.new ≡ A.state arena.old }
 
     ensures causes { HasCauses (D.faults main.old) (D.faults main.new) (A.faults arena.old) (A.faults arena.new) (K.faults out.old) (K.faults out.new) result }
 {

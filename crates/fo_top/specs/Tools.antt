@@ -1,8 +1,8 @@
 -- What a run of a tool says, and what the devices tell then.
-use Rattle.std.specs.Prelude.{◌≡◌, ℕ, ◌≤◌, Bool, List, Option}
+use Rattle.std.specs.Prelude.{◌≡◌, ℕ, ◌≤◌, List, Option}
 use Rattle.fo_base.specs.Cause.{Rose}
-use Rattle.fo_disk.specs.Disk.{Block, Content}
-use Rattle.fo_sound.specs.Device.{Shows, IsKept}
+use Rattle.fo_disk.specs.Disk.{Block, DiskState}
+use Rattle.fo_sound.specs.Device.{Shows}
 use Rattle.fo_check.specs.Answer.{Reports}
 use Rattle.fo_check.specs.declared.report.Report.{Report}
 use Rattle.fo_links.specs.Clocks.{Readings, SaysNext}
@@ -16,16 +16,10 @@ use Rattle.fo_top.specs.Ending.{tool_why}
 pub record Device : Type 0 where
   pub size : ℕ
   pub calls : ℕ
-  pub holds : Content
-  pub moments : List Content
-  pub unsure : List Bool
+  pub state : DiskState
 
-abbrev pub device : ℕ → ℕ → Content → List Content → List Bool → Device
-device size calls holds moments unsure = record { size = size; calls = calls; holds = holds; moments = moments; unsure = unsure }
-
--- no version of the device changed
-abbrev pub IsSame : Device → Device → Type 0
-IsSame d d' = IsKept d.holds d'.holds d.moments d'.moments d.unsure d'.unsure
+abbrev pub device : ℕ → ℕ → DiskState → Device
+device size calls state = record { size = size; calls = calls; state = state }
 
 -- `flfmt`, at the clock's next reading
 pub record FormatRun (clock : Readings) (main main' arena arena' : Device) (held held' : Option (List ℕ)) (end : Why) : Type 0 where
@@ -36,9 +30,9 @@ pub record FormatRun (clock : Readings) (main main' arena arena' : Device) (held
   pub prints : PrintsFormat main'.size held held' how
   pub sized : MayEndFormat main'.size arena'.size how
   pub asked : AsksSizes main'.size main.calls main'.calls arena.calls arena'.calls how
-  pub ends : (image vault : List Block) → Shows main.holds image → Shows arena.holds vault → EndsFormat time image vault main'.holds arena'.holds how
-  pub main_kept : WritesNothing how → IsSame main main'
-  pub arena_kept : WritesNothing how → IsSame arena arena'
+  pub ends : (image vault : List Block) → Shows main.state.holds image → Shows arena.state.holds vault → EndsFormat time image vault main'.state.holds arena'.state.holds how
+  pub main_kept : WritesNothing how → main'.state ≡ main.state
+  pub arena_kept : WritesNothing how → arena'.state ≡ arena.state
 
 -- `flchk`, which writes no device
 pub record CheckRun (main main' arena arena' : Device) (held held' : Option (List ℕ)) (end : Why) : Type 0 where
@@ -46,11 +40,11 @@ pub record CheckRun (main main' arena arena' : Device) (held held' : Option (Lis
   pub end_is : end ≡ tool_why how
   pub sized : MayEndCheck main'.size arena'.size how
   pub asked : AsksSizes main'.size main.calls main'.calls arena.calls arena'.calls how
-  pub prints : PrintsReport (λ r. (image vault : List Block) → Shows main.holds image → Shows arena.holds vault → Reports image vault r) held held' how
-  pub ends : (image vault : List Block) → Shows main.holds image → Shows arena.holds vault → EndsCheck image vault how
-  pub only : (image vault : List Block) (r : Report) → Shows main.holds image → Shows arena.holds vault → Reports image vault r → MayMiss how
-  pub main_kept : IsSame main main'
-  pub arena_kept : IsSame arena arena'
+  pub prints : PrintsReport (λ r. (image vault : List Block) → Shows main.state.holds image → Shows arena.state.holds vault → Reports image vault r) held held' how
+  pub ends : (image vault : List Block) → Shows main.state.holds image → Shows arena.state.holds vault → EndsCheck image vault how
+  pub only : (image vault : List Block) (r : Report) → Shows main.state.holds image → Shows arena.state.holds vault → Reports image vault r → MayMiss how
+  pub main_kept : main'.state ≡ main.state
+  pub arena_kept : arena'.state ≡ arena.state
 
 -- No count of faults falls, a fault is the end only where that count rose in this call, and a size only where no device failed.
 pub record HasCauses (input input' out out' main main' arena arena' : ℕ) (end : Why) : Type 0 where

@@ -57,8 +57,8 @@ fn format_all<D: Disk, A: Disk, K: Sink, C: Clock>(
     clock: &mut C,
 ) -> Why
     ensures formats { FormatRun (C.coming clock.old)
-        (device (D.size main.old) (D.calls main.old) (D.holds main.old) (D.moments main.old) (D.unsure main.old)) (device (D.size main.new) (D.calls main.new) (D.holds main.new) (D.moments main.new) (D.unsure main.new))
-        (device (A.size arena.old) (A.calls arena.old) (A.holds arena.old) (A.moments arena.old) (A.unsure arena.old)) (device (A.size arena.new) (A.calls arena.new) (A.holds arena.new) (A.moments arena.new) (A.unsure arena.new))
+        (device (D.size main.old) (D.calls main.old) (D.state main.old)) (device (D.size main.new) (D.calls main.new) (D.state main.new))
+        (device (A.size arena.old) (A.calls arena.old) (A.state arena.old)) (device (A.size arena.new) (A.calls arena.new) (A.state arena.new))
         (K.held out.old) (K.held out.new) result }
     ensures causes { HasCauses 0 0 (K.faults out.old) (K.faults out.new) (D.faults main.old) (D.faults main.new) (A.faults arena.old) (A.faults arena.new) result }
     ensures served { result ≢ Why.Usage }
@@ -74,8 +74,8 @@ fn check_all<D: Disk, A: Disk, K: Sink>(
     out: &mut K,
 ) -> Why
     ensures checks { CheckRun
-        (device (D.size main.old) (D.calls main.old) (D.holds main.old) (D.moments main.old) (D.unsure main.old)) (device (D.size main.new) (D.calls main.new) (D.holds main.new) (D.moments main.new) (D.unsure main.new))
-        (device (A.size arena.old) (A.calls arena.old) (A.holds arena.old) (A.moments arena.old) (A.unsure arena.old)) (device (A.size arena.new) (A.calls arena.new) (A.holds arena.new) (A.moments arena.new) (A.unsure arena.new))
+        (device (D.size main.old) (D.calls main.old) (D.state main.old)) (device (D.size main.new) (D.calls main.new) (D.state main.new))
+        (device (A.size arena.old) (A.calls arena.old) (A.state arena.old)) (device (A.size arena.new) (A.calls arena.new) (A.state arena.new))
         (K.held out.old) (K.held out.new) result }
     ensures causes { HasCauses 0 0 (K.faults out.old) (K.faults out.new) (D.faults main.old) (D.faults main.new) (A.faults arena.old) (A.faults arena.new) result }
     ensures served { result ≢ Why.Usage }
@@ -110,12 +110,12 @@ pub fn run<D: Disk, A: Disk, S: Source, K: Sink, C: Clock + Drop>(
 
     // `flfmt` and `flchk`: what is printed, what the devices hold and which ends there are, by how the run ended. No input is read.
     ensures formats { command_of (map string_bytes words.now) ≡ Some Command.Format → FormatRun (C.coming clock)
-        (device (D.size main) (D.calls main) (D.holds main) (D.moments main) (D.unsure main)) (device (D.size result.main) (D.calls result.main) (D.holds result.main) (D.moments result.main) (D.unsure result.main))
-        (device (A.size arena) (A.calls arena) (A.holds arena) (A.moments arena) (A.unsure arena)) (device (A.size result.arena) (A.calls result.arena) (A.holds result.arena) (A.moments result.arena) (A.unsure result.arena))
+        (device (D.size main) (D.calls main) (D.state main)) (device (D.size result.main) (D.calls result.main) (D.state result.main))
+        (device (A.size arena) (A.calls arena) (A.state arena)) (device (A.size result.arena) (A.calls result.arena) (A.state result.arena))
         (K.held out) (K.held result.out) result.why }
     ensures checks { command_of (map string_bytes words.now) ≡ Some Command.Check → CheckRun
-        (device (D.size main) (D.calls main) (D.holds main) (D.moments main) (D.unsure main)) (device (D.size result.main) (D.calls result.main) (D.holds result.main) (D.moments result.main) (D.unsure result.main))
-        (device (A.size arena) (A.calls arena) (A.holds arena) (A.moments arena) (A.unsure arena)) (device (A.size result.arena) (A.calls result.arena) (A.holds result.arena) (A.moments result.arena) (A.unsure result.arena))
+        (device (D.size main) (D.calls main) (D.state main)) (device (D.size result.main) (D.calls result.main) (D.state result.main))
+        (device (A.size arena) (A.calls arena) (A.state arena)) (device (A.size result.arena) (A.calls result.arena) (A.state result.arena))
         (K.held out) (K.held result.out) result.why }
     ensures unread { command_of (map string_bytes words.now) ≢ Some Command.Serve → result.input ≡ input }
 

@@ -4,7 +4,7 @@ use Rattle.fo_check.proofs.reads.read_table.Goals as goal
 pub loop-n-init : goal.loop-n-init
 loop-n-init g c = record {
   size = c.requires.size;
-  kept = record { same_versions = refl; same_moments = refl; same_flags = refl };
+  kept = refl;
   later = omega arith;
   long = refl;
   few = omega (arith, c.new-table.ensures.none);

@@ -1,15 +1,15 @@
 use Rattle.std.proofs.Common.{◌≡◌, ◌*◌, ◌≤◌, List, length}
 use Rattle.fo_disk.specs.Disk.{Block}
-use Rattle.fo_sound.specs.Device.{Shows, IsKept}
+use Rattle.fo_sound.specs.Device.{Shows}
 use Rattle.fo_check.specs.Scan.{IsScanned}
 use Rattle.fo_check.proofs.reads.read_table.Given as goal
 
 abbrev pub invariant-loop-n : goal.invariant-loop-n
 invariant-loop-n g l = record {
   size : g.D.Disk.size l.main ≡ l.blocks;
-  kept : IsKept (g.D.Disk.holds l.fn.main) (g.D.Disk.holds l.main) (g.D.Disk.moments l.fn.main) (g.D.Disk.moments l.main) (g.D.Disk.unsure l.fn.main) (g.D.Disk.unsure l.main);
+  kept : g.D.Disk.state l.main ≡ g.D.Disk.state l.fn.main;
   later : g.D.Disk.faults l.fn.main ≤ g.D.Disk.faults l.main;
   long : length l.block ≡ 8192;
   few : l.table.leaked ≤ 585 * l.n;
-  scanned : (image : List Block) → length image ≡ l.blocks → Shows (g.D.Disk.holds l.fn.main) image → IsScanned image l.s l.n (585 * l.n) l.table;
+  scanned : (image : List Block) → length image ≡ l.blocks → Shows (g.D.Disk.state l.fn.main).holds image → IsScanned image l.s l.n (585 * l.n) l.table;
 }

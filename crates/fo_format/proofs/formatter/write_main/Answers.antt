@@ -6,4 +6,4 @@ use Rattle.fo_format.proofs.formatter.write_main.Goals as goal
 
 pub returns-clause-made : goal.returns-clause-made
 returns-clause-made g c time root_is len =
-    after-sync c.sync.result c.sync.ensures.fault (subst (MakesFresh time (latest (g.D.Disk.holds c.args.main.now))) (sym c.sync.ensures.latest) (c.in_ok-write_image.ensures.made time root_is len))
+    after-sync c.sync.result c.sync.ensures.fault (subst (MakesFresh time (latest (g.D.Disk.state c.args.main.now).holds)) (sym c.sync.ensures.latest) (c.in_ok-write_image.ensures.made time root_is len))

@@ -8,6 +8,6 @@ invariant-loop-at g l = record {
   size : g.D.Disk.size l.main ≡ l.blocks;
   long : length l.block ≡ 8192;
   later : g.D.Disk.faults l.fn.main ≤ g.D.Disk.faults l.main;
-  labels : HasLabelBlocks l.blocks l.at (latest (g.D.Disk.holds l.fn.main)) (latest (g.D.Disk.holds l.main));
-  sure : IsSure (g.D.Disk.unsure l.fn.main) (g.D.Disk.holds l.fn.main) → IsSure (g.D.Disk.unsure l.main) (g.D.Disk.holds l.main);
+  labels : HasLabelBlocks l.blocks l.at (latest (g.D.Disk.state l.fn.main).holds) (latest (g.D.Disk.state l.main).holds);
+  sure : IsSure (g.D.Disk.state l.fn.main) → IsSure (g.D.Disk.state l.main);
 }

@@ -1,27 +1,32 @@
-use Rattle.std.proofs.Common.{◌≡◌, ◌==◌, ◌∙◌, refl, sym, ℕ, List, true, false, inl, inr, ap}
+use Rattle.std.proofs.Common.{◌≡◌, ◌==◌, ◌∙◌, refl, sym, ℕ, List, true, false, inl, inr, ap, rules}
 use Rattle.std.specs.List.{list_any}
 use Rattle.fo_disk.specs.Memory.{content_of, is_listed}
 use Rattle.fo_disk.proofs.Cells.{wrote, wrote_passes, same_passes}
 use Rattle.fo_disk.proofs.Images.{appends-adds}
 use Rattle.fo_disk.proofs.memory_calls.MemDiskDisk.write.Goals as goal
 
-pub returns-then-listed-clause-holds : goal.returns-then-listed-clause-holds
-returns-then-listed-clause-holds c = inr (wrote _ _ _ _ c.requires.block c.in-Ok.ensures.added)
+pub returns-then-listed-clause-state : goal.returns-then-listed-clause-state
+returns-then-listed-clause-state c =
+    record {
+      holds = inr (wrote _ _ _ _ c.requires.block c.in-Ok.ensures.added);
+      moments = wrote_passes _ _ _ _ _ _ c.requires.block c.in-Ok.ensures.added c.in-Ok.ensures.noted;
+      unsure = search rules;
+    }
 
-pub returns-then-listed-clause-moments : goal.returns-then-listed-clause-moments
-returns-then-listed-clause-moments c = wrote_passes _ _ _ _ _ _ c.requires.block c.in-Ok.ensures.added c.in-Ok.ensures.noted
+pub returns-else-listed-clause-state : goal.returns-else-listed-clause-state
+returns-else-listed-clause-state c =
+    record {
+      holds = appends-adds (wrote _ _ _ _ c.requires.block c.in-Ok.ensures.added);
+      moments = wrote_passes _ _ _ _ _ _ c.requires.block c.in-Ok.ensures.added c.in-Ok.ensures.noted;
+      unsure = search rules;
+    }
 
-pub returns-else-listed-clause-holds : goal.returns-else-listed-clause-holds
-returns-else-listed-clause-holds c = appends-adds (wrote _ _ _ _ c.requires.block c.in-Ok.ensures.added)
-
-pub returns-else-listed-clause-moments : goal.returns-else-listed-clause-moments
-returns-else-listed-clause-moments c = wrote_passes _ _ _ _ _ _ c.requires.block c.in-Ok.ensures.added c.in-Ok.ensures.noted
-
-pub returns-in-Err-clause-holds : goal.returns-in-Err-clause-holds
-returns-in-Err-clause-holds c = inl (ap content_of c.in-Err.ensures.same)
-
-pub returns-in-Err-clause-moments : goal.returns-in-Err-clause-moments
-returns-in-Err-clause-moments c = same_passes _ _ _ _ c.in-Err.ensures.same c.in-Err.ensures.not_noted
+pub returns-in-Err-clause-state : goal.returns-in-Err-clause-state
+returns-in-Err-clause-state c = record {
+  holds = inl (ap content_of c.in-Err.ensures.same);
+  moments = same_passes _ _ _ _ c.in-Err.ensures.same c.in-Err.ensures.not_noted;
+  unsure = search rules;
+}
 
 pub returns-then-listed-clause-memory : goal.returns-then-listed-clause-memory
 returns-then-listed-clause-memory c =
