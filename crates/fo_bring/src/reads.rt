@@ -42,12 +42,10 @@ fn load_in<D: Disk>(main: &mut D, buffers: &mut Buffers, at: u32) -> Result<(), 
     requires room { 0 < buffers.old.room }
     requires block { at < D.size main.old }
     requires none { held_at buffers.old at ≡ None }
-    ensures ok { OnOk result (Loaded (D.holds main.old) at buffers.old buffers.new) }
+    ensures ok { OnOk result (Loaded (D.state main.old).holds at buffers.old buffers.new) }
     ensures err { OnErr result (buffers.new ≡ buffers.old) }
     ensures size { D.size main.new ≡ D.size main.old }
-    ensures holds { D.holds main.new ≡ D.holds main.old }
-    ensures moments { D.moments main.new ≡ D.moments main.old }
-    ensures unsure { D.unsure main.new ≡ D.unsure main.old }
+    ensures state { D.state main.new ≡ D.state main.old }
     ensures cause { IfErr result (Caused ⊥ (λ b. ⊥) (Rose (D.faults main.old) (D.faults main.new)) ⊥) }
     ensures later { D.faults main.old ≤ D.faults main.new }
 {
@@ -73,13 +71,11 @@ pub fn bring<D: Disk>(
     requires room { 0 < buffers.old.room }
     requires block { at < D.size main.old }
     requires none { held_at buffers.old at ≡ None }
-    ensures ok { OnOk result (Brought first count kind (D.holds main.old) at buffers.old buffers.new) }
+    ensures ok { OnOk result (Brought first count kind (D.state main.old).holds at buffers.old buffers.new) }
     ensures err { OnErr result (held_at buffers.new at ≡ None) }
     ensures others { Others at buffers.old buffers.new }
     ensures size { D.size main.new ≡ D.size main.old }
-    ensures holds { D.holds main.new ≡ D.holds main.old }
-    ensures moments { D.moments main.new ≡ D.moments main.old }
-    ensures unsure { D.unsure main.new ≡ D.unsure main.old }
+    ensures state { D.state main.new ≡ D.state main.old }
     ensures cause { IfErr result (Caused ⊥ (λ b. b ≡ at) (Rose (D.faults main.old) (D.faults main.new)) ⊥) }
     ensures later { D.faults main.old ≤ D.faults main.new }
 {
@@ -108,12 +104,10 @@ fn see<D: Disk>(
 ) -> Result<(), BlockError>
     requires block { at < D.size main.old }
     requires none { held_at buffers.old at ≡ None }
-    ensures ok { OnOk result (Seen (D.holds main.old) at buffers.old buffers.new) }
+    ensures ok { OnOk result (Seen (D.state main.old).holds at buffers.old buffers.new) }
     ensures err { OnErr result (buffers.new ≡ buffers.old) }
     ensures size { D.size main.new ≡ D.size main.old }
-    ensures holds { D.holds main.new ≡ D.holds main.old }
-    ensures moments { D.moments main.new ≡ D.moments main.old }
-    ensures unsure { D.unsure main.new ≡ D.unsure main.old }
+    ensures state { D.state main.new ≡ D.state main.old }
     ensures cause { IfErr result (Caused ⊥ (λ b. ⊥) (Rose (D.faults main.old) (D.faults main.new)) ⊥) }
     ensures later { D.faults main.old ≤ D.faults main.new }
 {
@@ -143,14 +137,12 @@ pub fn glance<D: Disk>(
     requires length { length into.old ≡ 8192 }
     requires block { at < D.size main.old }
     requires none { held_at buffers.old at ≡ None }
-    ensures ok { OnOk result (Glanced first count kind rank (D.holds main.old) at buffers.old buffers.new into.new) }
+    ensures ok { OnOk result (Glanced first count kind rank (D.state main.old).holds at buffers.old buffers.new into.new) }
     ensures nothing { OnErr result (into.new ≡ into.old) }
     ensures held { (q : ℕ) → held_at buffers.new q ≡ held_at buffers.old q }
     ensures room { buffers.new.room ≡ buffers.old.room }
     ensures size { D.size main.new ≡ D.size main.old }
-    ensures holds { D.holds main.new ≡ D.holds main.old }
-    ensures moments { D.moments main.new ≡ D.moments main.old }
-    ensures unsure { D.unsure main.new ≡ D.unsure main.old }
+    ensures state { D.state main.new ≡ D.state main.old }
     ensures cause { IfErr result (Caused ⊥ (λ b. b ≡ at) (Rose (D.faults main.old) (D.faults main.new)) ⊥) }
     ensures later { D.faults main.old ≤ D.faults main.new }
 {

@@ -69,12 +69,10 @@ impl Block {
     /// Reads one of the versions of a block of a device. Where that fails, nothing changes.
     pub fn read<D: Disk>(&mut self, disk: &mut D, at: u32) -> Result<(), Failed>
         requires { at < D.size disk.old }
-        ensures bytes { OnOk result (at < length (D.holds disk.old) → Contains (versions_of (D.holds disk.old) at) self.new) }
+        ensures bytes { OnOk result (at < length (D.state disk.old).holds → Contains (versions_of (D.state disk.old).holds at) self.new) }
         ensures nothing { OnErr result (self.new ≡ self.old) }
         ensures size { D.size disk.new ≡ D.size disk.old }
-        ensures holds { D.holds disk.new ≡ D.holds disk.old }
-        ensures moments { D.moments disk.new ≡ D.moments disk.old }
-        ensures unsure { D.unsure disk.new ≡ D.unsure disk.old }
+        ensures state { D.state disk.new ≡ D.state disk.old }
         ensures cause { HasCause (D.faults disk.old) (D.faults disk.new) result }
     {
         disk.read(at, &mut self.bytes)

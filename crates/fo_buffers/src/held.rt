@@ -111,12 +111,10 @@ impl Buffers {
         requires none { held_at self.old at ≡ None }
         requires block { at < D.size disk.old }
         ensures ok { OnOk result ((bytes : List ℕ) × (self.new ≡ used (put (unlisted self.old at) at (buffer_of bytes false true)))
-            × (at < length (D.holds disk.old) → Contains (versions_of (D.holds disk.old) at) bytes)) }
+            × (at < length (D.state disk.old).holds → Contains (versions_of (D.state disk.old).holds at) bytes)) }
         ensures err { OnErr result (self.new ≡ self.old) }
         ensures size { D.size disk.new ≡ D.size disk.old }
-        ensures holds { D.holds disk.new ≡ D.holds disk.old }
-        ensures moments { D.moments disk.new ≡ D.moments disk.old }
-        ensures unsure { D.unsure disk.new ≡ D.unsure disk.old }
+        ensures state { D.state disk.new ≡ D.state disk.old }
         ensures cause { HasCause (D.faults disk.old) (D.faults disk.new) result }
     {
         let block = read_spare(&mut self.spare, disk, at)?;
@@ -131,12 +129,10 @@ impl Buffers {
     pub fn look<D: Disk>(&mut self, alloc: Global, disk: &mut D, at: u32) -> Result<(), Unread>
         requires none { held_at self.old at ≡ None }
         requires block { at < D.size disk.old }
-        ensures ok { OnOk result (Looked (D.holds disk.old) at self.old self.new) }
+        ensures ok { OnOk result (Looked (D.state disk.old).holds at self.old self.new) }
         ensures err { OnErr result (self.new ≡ self.old) }
         ensures size { D.size disk.new ≡ D.size disk.old }
-        ensures holds { D.holds disk.new ≡ D.holds disk.old }
-        ensures moments { D.moments disk.new ≡ D.moments disk.old }
-        ensures unsure { D.unsure disk.new ≡ D.unsure disk.old }
+        ensures state { D.state disk.new ≡ D.state disk.old }
         ensures later { D.faults disk.old ≤ D.faults disk.new }
         ensures cause { IfErr result (Unlooked (Rose (D.faults disk.old) (D.faults disk.new))) }
     {
@@ -237,13 +233,11 @@ fn hold(held: &mut HashMap<u32, Buffer>, pins: &mut Vec<u32>, at: u32, block: Bl
 fn read_spare<D: Disk>(spare: &mut Vec<Block>, disk: &mut D, at: u32) -> Result<Block, Failed>
     requires some { 0 < vec_len spare.old }
     requires block { at < D.size disk.old }
-    ensures bytes { IfOk result (λ b. at < length (D.holds disk.old) → Contains (versions_of (D.holds disk.old) at) b) }
+    ensures bytes { IfOk result (λ b. at < length (D.state disk.old).holds → Contains (versions_of (D.state disk.old).holds at) b) }
     ensures taken { OnOk result (vec_len spare.new + 1 ≡ vec_len spare.old) }
     ensures nothing { OnErr result (vec_len spare.new ≡ vec_len spare.old) }
     ensures size { D.size disk.new ≡ D.size disk.old }
-    ensures holds { D.holds disk.new ≡ D.holds disk.old }
-    ensures moments { D.moments disk.new ≡ D.moments disk.old }
-    ensures unsure { D.unsure disk.new ≡ D.unsure disk.old }
+    ensures state { D.state disk.new ≡ D.state disk.old }
     ensures cause { HasCause (D.faults disk.old) (D.faults disk.new) result }
 {
     let last = spare.len() - 1;

@@ -12,4 +12,4 @@ pub returns-clause-ok : goal.returns-clause-ok
 returns-clause-ok g c = record { seen = c.in_default.ensures.ok; gets = glanced c.in_default.ensures.ok (c.copy_clean.ensures.copied c.if-not-copy_clean.false) }
 
 pub returns-clause-held : goal.returns-clause-held
-returns-clause-held g c = λ q. seen_held (g.D.Disk.holds c.args.main.now) c.args.at c.args.buffers.now c.see.new.buffers c.see.new.buffers c.in_default.ensures.ok refl q
+returns-clause-held g c = λ q. seen_held (g.D.Disk.state c.args.main.now).holds c.args.at c.args.buffers.now c.see.new.buffers c.see.new.buffers c.in_default.ensures.ok refl q

@@ -4,7 +4,7 @@ use Rattle.fo_bring.proofs.Bringing.{seen_clean, seen_read}
 use Rattle.fo_bring.proofs.reads.see.Goals as goal
 
 pub returns-then-is_clean-clause-ok : goal.returns-then-is_clean-clause-ok
-returns-then-is_clean-clause-ok g c = seen_clean (g.D.Disk.holds c.args.main.now) c.args.at c.args.buffers.now c.args.buffers.now (lookup (nat_eq c.args.at) c.args.buffers.now.clean) refl (sym c.is_clean.ensures ∙ c.if-is_clean.true) refl
+returns-then-is_clean-clause-ok g c = seen_clean (g.D.Disk.state c.args.main.now).holds c.args.at c.args.buffers.now c.args.buffers.now (lookup (nat_eq c.args.at) c.args.buffers.now.clean) refl (sym c.is_clean.ensures ∙ c.if-is_clean.true) refl
 
 pub returns-in-Ok-clause-ok : goal.returns-in-Ok-clause-ok
-returns-in-Ok-clause-ok g c = seen_read (g.D.Disk.holds c.args.main.now) c.args.at c.args.buffers.now c.look.new.self (lookup (nat_eq c.args.at) c.args.buffers.now.clean) refl (sym c.is_clean.ensures ∙ c.if-is_clean.false) c.in-Ok.ensures.ok
+returns-in-Ok-clause-ok g c = seen_read (g.D.Disk.state c.args.main.now).holds c.args.at c.args.buffers.now c.look.new.self (lookup (nat_eq c.args.at) c.args.buffers.now.clean) refl (sym c.is_clean.ensures ∙ c.if-is_clean.false) c.in-Ok.ensures.ok
