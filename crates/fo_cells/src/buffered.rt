@@ -9,7 +9,7 @@ use fo_disk::{Disk, Failed};
 pub struct Buffered<D: Disk> {
     pub(crate) main: D,
     pub(crate) buffers: Buffers,
-    ghost kept: { AreKept buffers.all.items (D.unsure main) (D.holds main) },
+    ghost kept: { AreKept buffers.all.items (D.state main).unsure (D.state main).holds },
 }
 
 impl<D: Disk> Buffered<D> {
@@ -32,8 +32,8 @@ impl<D: Disk> Buffered<D> {
     pub fn flush(&mut self, at: u32) -> Result<(), Failed>
         requires block { at < D.size self.old.main }
         requires within { at < length self.old.buffers.all.items }
-        requires may { 0 < length (D.holds self.old.main) → MayWrite (mind_of bare self.old.buffers.all.items) (D.holds self.old.main) at (slice_index_or (map bytes_in self.old.buffers.all.items) at []) true }
-        ensures adds { 0 < length (D.holds self.old.main) → AddsNothing (Images (known (mind_of bare self.old.buffers.all.items) (D.holds self.old.main))) (Images (known (mind_of bare self.new.buffers.all.items) (D.holds self.new.main))) }
+        requires may { 0 < length (D.state self.old.main).holds → MayWrite (mind_of bare self.old.buffers.all.items) (D.state self.old.main).holds at (slice_index_or (map bytes_in self.old.buffers.all.items) at []) true }
+        ensures adds { 0 < length (D.state self.old.main).holds → AddsNothing (Images (known (mind_of bare self.old.buffers.all.items) (D.state self.old.main).holds)) (Images (known (mind_of bare self.new.buffers.all.items) (D.state self.new.main).holds)) }
         ensures cause { HasCause (D.faults self.old.main) (D.faults self.new.main) result }
     {
         self.buffers.flush(&mut self.main, at)

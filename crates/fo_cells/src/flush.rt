@@ -31,8 +31,8 @@ impl Buffers {
     pub fn flush<D: Disk>(&mut self, disk: &mut D, at: u32) -> Result<(), Failed>
         requires block { at < D.size disk.old }
         requires within { at < length self.old.all.items }
-        ensures step { (rest : Mind) → at < length (D.holds disk.old) → MayWrite (mind_of rest self.old.all.items) (D.holds disk.old) at (slice_index_or (map bytes_in self.old.all.items) at []) true → Stepped (mind_of rest self.old.all.items) (mind_of (note at (not (is_err result)) rest) self.new.all.items) (D.unsure disk.old) (D.unsure disk.new) (D.holds disk.old) (D.holds disk.new) }
-        ensures held { length (D.holds disk.new) ≡ length (D.holds disk.old) }
+        ensures step { (rest : Mind) → at < length (D.state disk.old).holds → MayWrite (mind_of rest self.old.all.items) (D.state disk.old).holds at (slice_index_or (map bytes_in self.old.all.items) at []) true → Stepped (mind_of rest self.old.all.items) (mind_of (note at (not (is_err result)) rest) self.new.all.items) (D.state disk.old).unsure (D.state disk.new).unsure (D.state disk.old).holds (D.state disk.new).holds }
+        ensures held { length (D.state disk.new).holds ≡ length (D.state disk.old).holds }
         ensures size { D.size disk.new ≡ D.size disk.old }
         ensures cause { HasCause (D.faults disk.old) (D.faults disk.new) result }
     {
@@ -54,8 +54,8 @@ impl Buffers {
     ) -> Result<bool, Failed>
         requires block { at < D.size disk.old }
         requires within { at < length self.old.all.items }
-        ensures step { (rest : Mind) → (result ≡ Ok false → ⊥) → at < length (D.holds disk.old) → MayWriteOver (mind_of rest self.old.all.items) (D.holds disk.old) at (slice_index_or (map bytes_in self.old.all.items) at []) targets.now → Stepped (mind_of rest self.old.all.items) (mind_of (note at (not (is_err result)) rest) self.new.all.items) (D.unsure disk.old) (D.unsure disk.new) (D.holds disk.old) (D.holds disk.new) }
-        ensures nothing { result ≡ Ok false → (self.new.all.items ≡ self.old.all.items) × (D.holds disk.new ≡ D.holds disk.old) }
+        ensures step { (rest : Mind) → (result ≡ Ok false → ⊥) → at < length (D.state disk.old).holds → MayWriteOver (mind_of rest self.old.all.items) (D.state disk.old).holds at (slice_index_or (map bytes_in self.old.all.items) at []) targets.now → Stepped (mind_of rest self.old.all.items) (mind_of (note at (not (is_err result)) rest) self.new.all.items) (D.state disk.old).unsure (D.state disk.new).unsure (D.state disk.old).holds (D.state disk.new).holds }
+        ensures nothing { result ≡ Ok false → (self.new.all.items ≡ self.old.all.items) × ((D.state disk.new).holds ≡ (D.state disk.old).holds) }
         ensures ready { IfOk result (λ written. written ≡ list_all (λ t. not (is_newborn self.old.all.items t)) targets.now) }
         ensures cause { HasCause (D.faults disk.old) (D.faults disk.new) result }
     {

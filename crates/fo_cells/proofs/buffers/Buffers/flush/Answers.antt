@@ -19,7 +19,7 @@ returns-clause-step g c = λ rest here may.
     let ok = twice c.is_ok-ok.result ∙ ap not (sym c.is_ok-ok.ensures.negation) in
     let given = sym bytes ∙ sym c.deref.ensures.value in
     let e = flushed rest all c.args.at _ (not (is_err c.write_block-wrote.result)) c.requires.within bytes newborn ok in
-    subst (λ (m : Mind). Stepped (mind_of rest all) m (g.D.Disk.unsure c.args.disk.now) (g.D.Disk.unsure c.write_block-wrote.new.disk) (g.D.Disk.holds c.args.disk.now) (g.D.Disk.holds c.write_block-wrote.new.disk)) (sym e) (c.write_block-wrote.ensures.step (mind_of rest all) true here (subst (λ bs. MayWrite (mind_of rest all) (g.D.Disk.holds c.args.disk.now) c.args.at bs true) given may))
+    subst (λ (m : Mind). Stepped (mind_of rest all) m (g.D.Disk.state c.args.disk.now).unsure (g.D.Disk.state c.write_block-wrote.new.disk).unsure (g.D.Disk.state c.args.disk.now).holds (g.D.Disk.state c.write_block-wrote.new.disk).holds) (sym e) (c.write_block-wrote.ensures.step (mind_of rest all) true here (subst (λ bs. MayWrite (mind_of rest all) (g.D.Disk.state c.args.disk.now).holds c.args.at bs true) given may))
 
 pub returns-clause-held : goal.returns-clause-held
-returns-clause-held g c = held_write c.write_block-wrote.result _ _ _ _ c.write_block-wrote.ensures.holds
+returns-clause-held g c = held_write c.write_block-wrote.result _ _ _ _ c.write_block-wrote.ensures.state.holds
