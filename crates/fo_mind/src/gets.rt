@@ -91,14 +91,12 @@ impl Mind {
         requires kept { is_usable self.old.one.low (label_at self.old.labels at) ≡ false }
         requires none { held_at self.old.buffers at ≡ None }
         ensures here { OnOk result (IsPinned self.new.buffers at) }
-        ensures source { OnOk result (IsSource (D.holds main.old) at self.old.buffers (held_at self.new.buffers at)) }
+        ensures source { OnOk result (IsSource (D.state main.old).holds at self.old.buffers (held_at self.new.buffers at)) }
         ensures labels { self.new.labels ≡ self.old.labels }
         ensures pins { self.new.pins + 1 ≡ self.old.pins }
-        ensures brings { Brings at (parts self.old (D.holds main.old) (D.faults main.old)) (parts self.new (D.holds main.new) (D.faults main.new)) }
+        ensures brings { Brings at (parts self.old (D.state main.old).holds (D.faults main.old)) (parts self.new (D.state main.new).holds (D.faults main.new)) }
         ensures size { D.size main.new ≡ D.size main.old }
-        ensures holds { D.holds main.new ≡ D.holds main.old }
-        ensures moments { D.moments main.new ≡ D.moments main.old }
-        ensures unsure { D.unsure main.new ≡ D.unsure main.old }
+        ensures state { D.state main.new ≡ D.state main.old }
         ensures cause { IfErr result (Caused ⊥ (λ b. b ≡ at) (Rose (D.faults main.old) (D.faults main.new)) ⊥) }
     {
         let first = self.first;
@@ -122,14 +120,12 @@ impl Mind {
         requires left { 0 < self.old.pins }
         requires within { self.old.count ≤ D.size main.old }
         ensures here { OnOk result (IsPinned self.new.buffers at) }
-        ensures source { OnOk result (IsSource (D.holds main.old) at self.old.buffers (held_at self.new.buffers at)) }
+        ensures source { OnOk result (IsSource (D.state main.old).holds at self.old.buffers (held_at self.new.buffers at)) }
         ensures labels { self.new.labels ≡ self.old.labels }
         ensures pins { self.new.pins + 1 ≡ self.old.pins }
-        ensures brings { Brings at (parts self.old (D.holds main.old) (D.faults main.old)) (parts self.new (D.holds main.new) (D.faults main.new)) }
+        ensures brings { Brings at (parts self.old (D.state main.old).holds (D.faults main.old)) (parts self.new (D.state main.new).holds (D.faults main.new)) }
         ensures size { D.size main.new ≡ D.size main.old }
-        ensures holds { D.holds main.new ≡ D.holds main.old }
-        ensures moments { D.moments main.new ≡ D.moments main.old }
-        ensures unsure { D.unsure main.new ≡ D.unsure main.old }
+        ensures state { D.state main.new ≡ D.state main.old }
         ensures cause { IfErr result (Caused ⊥ (λ b. b ≡ at) (Rose (D.faults main.old) (D.faults main.new)) ⊥) }
     {
         if self.buffers.is_held(at) {
@@ -152,15 +148,13 @@ impl Mind {
         requires length { length into.old ≡ 8192 }
         requires kind { (label_at self.old.labels at).kind ≡ kind }
         requires within { self.old.count ≤ D.size main.old }
-        ensures got { OnOk result (Got self.new.first self.new.count kind rank (parts self.new (D.holds main.new) (D.faults main.new)) at into.new) }
-        ensures source { OnOk result (IsFrom (D.holds main.old) at self.old.buffers into.new) }
+        ensures got { OnOk result (Got self.new.first self.new.count kind rank (parts self.new (D.state main.new).holds (D.faults main.new)) at into.new) }
+        ensures source { OnOk result (IsFrom (D.state main.old).holds at self.old.buffers into.new) }
         ensures nothing { OnErr result (into.new ≡ into.old) }
         ensures pins { self.new.pins ≡ self.old.pins }
-        ensures brings { Brings at (parts self.old (D.holds main.old) (D.faults main.old)) (parts self.new (D.holds main.new) (D.faults main.new)) }
+        ensures brings { Brings at (parts self.old (D.state main.old).holds (D.faults main.old)) (parts self.new (D.state main.new).holds (D.faults main.new)) }
         ensures size { D.size main.new ≡ D.size main.old }
-        ensures holds { D.holds main.new ≡ D.holds main.old }
-        ensures moments { D.moments main.new ≡ D.moments main.old }
-        ensures unsure { D.unsure main.new ≡ D.unsure main.old }
+        ensures state { D.state main.new ≡ D.state main.old }
         ensures cause { IfErr result (Caused ⊥ (λ b. b ≡ at) (Rose (D.faults main.old) (D.faults main.new)) ⊥) }
     {
         if self.buffers.is_held(at) {
@@ -194,16 +188,14 @@ impl Mind {
         requires length { length into.old ≡ 8192 }
         requires kind { (label_at self.old.labels at).kind ≡ kind }
         requires within { self.old.count ≤ D.size main.old }
-        ensures got { OnOk result (Got self.new.first self.new.count kind rank (parts self.new (D.holds main.new) (D.faults main.new)) at into.new) }
-        ensures source { OnOk result (IsFrom (D.holds main.old) at self.old.buffers into.new) }
+        ensures got { OnOk result (Got self.new.first self.new.count kind rank (parts self.new (D.state main.new).holds (D.faults main.new)) at into.new) }
+        ensures source { OnOk result (IsFrom (D.state main.old).holds at self.old.buffers into.new) }
         ensures nothing { OnErr result (into.new ≡ into.old) }
         ensures pinned { OnOk result (0 < self.old.pins → IsPinned self.new.buffers at) }
         ensures pins { self.old.pins ≤ self.new.pins + 1 }
-        ensures brings { Brings at (parts self.old (D.holds main.old) (D.faults main.old)) (parts self.new (D.holds main.new) (D.faults main.new)) }
+        ensures brings { Brings at (parts self.old (D.state main.old).holds (D.faults main.old)) (parts self.new (D.state main.new).holds (D.faults main.new)) }
         ensures size { D.size main.new ≡ D.size main.old }
-        ensures holds { D.holds main.new ≡ D.holds main.old }
-        ensures moments { D.moments main.new ≡ D.moments main.old }
-        ensures unsure { D.unsure main.new ≡ D.unsure main.old }
+        ensures state { D.state main.new ≡ D.state main.old }
         ensures cause { IfErr result (Caused ⊥ (λ b. b ≡ at) (Rose (D.faults main.old) (D.faults main.new)) ⊥) }
     {
         if is_usable(&self.label(at), self.one.low) {
@@ -230,19 +222,17 @@ impl Mind {
         requires block { IsData self.old.first self.old.count at }
         requires length { length into.old ≡ 8192 }
         requires within { self.old.count ≤ D.size main.old }
-        ensures got { OnOk result (Got self.new.first self.new.count kind rank (parts self.new (D.holds main.new) (D.faults main.new)) at into.new) }
-        ensures source { OnOk result (IsFrom (D.holds main.old) at self.old.buffers into.new) }
+        ensures got { OnOk result (Got self.new.first self.new.count kind rank (parts self.new (D.state main.new).holds (D.faults main.new)) at into.new) }
+        ensures source { OnOk result (IsFrom (D.state main.old).holds at self.old.buffers into.new) }
         ensures kind { OnOk result ((label_at self.old.labels at).kind ≡ kind) }
         ensures nothing { OnErr result (into.new ≡ into.old) }
         ensures pinned { OnOk result (0 < self.old.pins → IsPinned self.new.buffers at) }
-        ensures again { IsPinned self.old.buffers at → (label_at self.old.labels at).kind ≡ kind → IsRanked kind rank ((memory (parts self.old (D.holds main.old) (D.faults main.old)) at).bytes) → IsOk result }
+        ensures again { IsPinned self.old.buffers at → (label_at self.old.labels at).kind ≡ kind → IsRanked kind rank ((memory (parts self.old (D.state main.old).holds (D.faults main.old)) at).bytes) → IsOk result }
         ensures no_pin { IsPinned self.old.buffers at → (label_at self.old.labels at).kind ≡ kind → self.new.pins ≡ self.old.pins }
         ensures pins { self.old.pins ≤ self.new.pins + 1 }
-        ensures brings { Brings at (parts self.old (D.holds main.old) (D.faults main.old)) (parts self.new (D.holds main.new) (D.faults main.new)) }
+        ensures brings { Brings at (parts self.old (D.state main.old).holds (D.faults main.old)) (parts self.new (D.state main.new).holds (D.faults main.new)) }
         ensures size { D.size main.new ≡ D.size main.old }
-        ensures holds { D.holds main.new ≡ D.holds main.old }
-        ensures moments { D.moments main.new ≡ D.moments main.old }
-        ensures unsure { D.unsure main.new ≡ D.unsure main.old }
+        ensures state { D.state main.new ≡ D.state main.old }
         ensures cause { IfErr result (Caused ⊥ (λ b. b ≡ at) (Rose (D.faults main.old) (D.faults main.new)) ⊥) }
     {
         if !is_kind(self.label(at).kind, kind) {
@@ -267,21 +257,19 @@ impl Mind {
         requires block { IsData self.old.first self.old.count at }
         requires length { length into.old ≡ 8192 }
         requires within { self.old.count ≤ D.size main.old }
-        ensures got { OnOk result (Got self.new.first self.new.count kind rank (parts self.new (D.holds main.new) (D.faults main.new)) at into.new) }
-        ensures source { OnOk result (IsFrom (D.holds main.old) at self.old.buffers into.new) }
+        ensures got { OnOk result (Got self.new.first self.new.count kind rank (parts self.new (D.state main.new).holds (D.faults main.new)) at into.new) }
+        ensures source { OnOk result (IsFrom (D.state main.old).holds at self.old.buffers into.new) }
         ensures kind { OnOk result ((label_at self.old.labels at).kind ≡ kind) }
         ensures nothing { OnErr result (into.new ≡ into.old) }
         ensures pinned { OnOk result (0 < self.old.pins → IsPinned self.new.buffers at) }
-        ensures again { IsPinned self.old.buffers at → (label_at self.old.labels at).kind ≡ kind → IsRanked kind rank ((memory (parts self.old (D.holds main.old) (D.faults main.old)) at).bytes) → IsOk result }
+        ensures again { IsPinned self.old.buffers at → (label_at self.old.labels at).kind ≡ kind → IsRanked kind rank ((memory (parts self.old (D.state main.old).holds (D.faults main.old)) at).bytes) → IsOk result }
         ensures no_pin { IsPinned self.old.buffers at → (label_at self.old.labels at).kind ≡ kind → self.new.pins ≡ self.old.pins }
         ensures pins { self.old.pins ≤ self.new.pins + 1 }
-        ensures brings { Brings at (parts self.old (D.holds main.old) (D.faults main.old)) (parts self.new (D.holds main.new) (D.faults main.new)) }
-        ensures looks { Looks (state_of (parts self.old (D.holds main.old) (D.faults main.old))) (state_of (parts self.new (D.holds main.new) (D.faults main.new))) }
-        ensures keeps { CacheKeeps (parts self.old (D.holds main.old) (D.faults main.old)) (parts self.new (D.holds main.new) (D.faults main.new)) }
+        ensures brings { Brings at (parts self.old (D.state main.old).holds (D.faults main.old)) (parts self.new (D.state main.new).holds (D.faults main.new)) }
+        ensures looks { Looks (state_of (parts self.old (D.state main.old).holds (D.faults main.old))) (state_of (parts self.new (D.state main.new).holds (D.faults main.new))) }
+        ensures keeps { CacheKeeps (parts self.old (D.state main.old).holds (D.faults main.old)) (parts self.new (D.state main.new).holds (D.faults main.new)) }
         ensures size { D.size main.new ≡ D.size main.old }
-        ensures holds { D.holds main.new ≡ D.holds main.old }
-        ensures moments { D.moments main.new ≡ D.moments main.old }
-        ensures unsure { D.unsure main.new ≡ D.unsure main.old }
+        ensures state { D.state main.new ≡ D.state main.old }
         ensures cause { IfErr result (Caused ⊥ (λ b. b ≡ at) (Rose (D.faults main.old) (D.faults main.new)) ⊥) }
     {
         self.obtain(main, at, kind, rank, into)

@@ -1,4 +1,5 @@
-use Rattle.std.proofs.Common.{◌<◌, length, refl, arith}
+use Rattle.std.proofs.Common.{◌<◌, length, refl, arith, ap}
+use Rattle.fo_disk.specs.Disk.{DiskState}
 use Rattle.fo_mind.specs.MindParts.{parts}
 use Rattle.fo_mind.proofs.Keeping.{may_bring, holding_brought, waiting_brought, placed_owed, owing_owed, roomy_owed}
 use Rattle.fo_mind.proofs.Getting.{source_brought, pinned_brought, marks_owed, brings_brought}
@@ -47,6 +48,6 @@ returns-clause-brings g c =
     let n = self.placed.fact_count in
     let b = c.requires.block.1 in
     let lt : c.args.at < length self.facts.items = omega (arith, b, n) in
-    brings_brought (parts self (g.D.Disk.holds c.args.main.now) (g.D.Disk.faults c.args.main.now)) _ c.args.at c.bring.ensures.holds c.bring.ensures.later refl
+    brings_brought (parts self (g.D.Disk.state c.args.main.now).holds (g.D.Disk.faults c.args.main.now)) _ c.args.at (ap (λ (s : DiskState). s.holds) c.bring.ensures.state) c.bring.ensures.later refl
     (marks_owed self.facts.items c.owe.new.facts.items c.args.at c.args.rank lt c.owe.ensures.items)
     c.requires.none c.bring.ensures.others (may_bring c.bring.result c.bring.ensures.ok c.bring.ensures.err)

@@ -10,12 +10,12 @@ pub returns-then-is_pinned-clause-got : goal.returns-then-is_pinned-clause-got
 returns-then-is_pinned-clause-got g c = on_ok c.copy_out.result (λ f. f _ _) c.copy_out.ensures.got
 
 pub returns-then-is_pinned-clause-source : goal.returns-then-is_pinned-clause-source
-returns-then-is_pinned-clause-source g c = on_ok c.copy_out.result (from_held (g.D.Disk.holds c.args.main.now) c.args.at c.args.self.now.buffers _) c.copy_out.ensures.is
+returns-then-is_pinned-clause-source g c = on_ok c.copy_out.result (from_held (g.D.Disk.state c.args.main.now).holds c.args.at c.args.self.now.buffers _) c.copy_out.ensures.is
 
 pub returns-then-is_pinned-clause-again : goal.returns-then-is_pinned-clause-again
 returns-then-is_pinned-clause-again g c = λ pinned is_kind ranked.
     let self = c.args.self.now in
-    c.copy_out.ensures.again (ranks_in (parts self (g.D.Disk.holds c.args.main.now) (g.D.Disk.faults c.args.main.now)) self.first self.count c.args.at c.args.kind is_kind (not_first c.args.at self.placed.begins self.holding (is_held _ pinned)) c.args.rank pinned ranked)
+    c.copy_out.ensures.again (ranks_in (parts self (g.D.Disk.state c.args.main.now).holds (g.D.Disk.faults c.args.main.now)) self.first self.count c.args.at c.args.kind is_kind (not_first c.args.at self.placed.begins self.holding (is_held _ pinned)) c.args.rank pinned ranked)
 
 pub returns-then-is_pinned-clause-brings : goal.returns-then-is_pinned-clause-brings
 returns-then-is_pinned-clause-brings g c = nothing_brought _ c.args.at

@@ -1,4 +1,5 @@
-use Rattle.std.proofs.Common.{refl, sym, ◌∙◌}
+use Rattle.std.proofs.Common.{refl, sym, ◌∙◌, ap}
+use Rattle.fo_disk.specs.Disk.{DiskState}
 use Rattle.fo_mind.specs.MindParts.{parts}
 use Rattle.fo_mind.specs.Laws.{beyond}
 use Rattle.fo_mind.proofs.Keeping.{none_held, holding_same, waiting_same, owing_same, roomy_same}
@@ -10,7 +11,7 @@ pub returns-then-is_held-clause-got : goal.returns-then-is_held-clause-got
 returns-then-is_held-clause-got g c = on_ok c.copy_out.result (λ f. f _ _) c.copy_out.ensures.got
 
 pub returns-then-is_held-clause-source : goal.returns-then-is_held-clause-source
-returns-then-is_held-clause-source g c = on_ok c.copy_out.result (from_held (g.D.Disk.holds c.args.main.now) c.args.at c.args.self.now.buffers _) c.copy_out.ensures.is
+returns-then-is_held-clause-source g c = on_ok c.copy_out.result (from_held (g.D.Disk.state c.args.main.now).holds c.args.at c.args.self.now.buffers _) c.copy_out.ensures.is
 
 pub returns-then-is_held-clause-brings : goal.returns-then-is_held-clause-brings
 returns-then-is_held-clause-brings g c = nothing_brought _ c.args.at
@@ -37,7 +38,7 @@ pub returns-clause-got : goal.returns-clause-got
 returns-clause-got g c =
     let self = c.args.self.now in
     let none = none_held _ (sym c.is_held.ensures ∙ c.if-is_held.false) in
-    on_ok c.glance.result (λ o. got_clean (record (parts self (g.D.Disk.holds c.glance.new.main) (g.D.Disk.faults c.glance.new.main)) { held = c.glance.new.buffers }) self.first self.count c.args.at c.args.kind c.requires.kind (beyond c.args.at self.first self.placed.begins c.requires.block.0) c.args.rank _ o.seen.bytes (c.glance.ensures.held c.args.at ∙ none) o.seen.clean o.gets) c.glance.ensures.ok
+    on_ok c.glance.result (λ o. got_clean (record (parts self (g.D.Disk.state c.glance.new.main).holds (g.D.Disk.faults c.glance.new.main)) { held = c.glance.new.buffers }) self.first self.count c.args.at c.args.kind c.requires.kind (beyond c.args.at self.first self.placed.begins c.requires.block.0) c.args.rank _ o.seen.bytes (c.glance.ensures.held c.args.at ∙ none) o.seen.clean o.gets) c.glance.ensures.ok
 
 pub returns-clause-source : goal.returns-clause-source
 returns-clause-source g c =
@@ -46,4 +47,4 @@ returns-clause-source g c =
 
 pub returns-clause-brings : goal.returns-clause-brings
 returns-clause-brings g c =
-    brings_same (parts c.args.self.now (g.D.Disk.holds c.args.main.now) (g.D.Disk.faults c.args.main.now)) _ c.args.at c.glance.ensures.holds c.glance.ensures.later refl refl c.glance.ensures.held
+    brings_same (parts c.args.self.now (g.D.Disk.state c.args.main.now).holds (g.D.Disk.faults c.args.main.now)) _ c.args.at (ap (λ (s : DiskState). s.holds) c.glance.ensures.state) c.glance.ensures.later refl refl c.glance.ensures.held
