@@ -75,18 +75,18 @@ ready_taken from to entries differ all calm puts long r = record {
 }
 
 -- what a settling would take out is the same after bytes were put
-undoomed : {a b : State} {at : ℕ} {bytes : List ℕ} → StaysCalm a b → PutsBytes at bytes a.now b.now → (x : ℕ) → (IsDoomed a x → ⊥) → IsDoomed b x → ⊥
+pub undoomed : {a b : State} {at : ℕ} {bytes : List ℕ} → StaysCalm a b → PutsBytes at bytes a.now b.now → (x : ℕ) → (IsDoomed a x → ⊥) → IsDoomed b x → ⊥
 undoomed {a = a} {b = b} calm puts x spared (inl covered) = calm.uncovered x (λ h. spared (inl h)) covered
 undoomed {a = a} {b = b} calm puts x spared (inr h) = spared (inr (h.0, h.1, (calm.order.clearing h.0 h.1 h.2).1, subst (λ (s : Slot). Reaches a.now s x) (puts.slots h.0 h.1) (bytes_reach puts h.3)))
+
+pub rooted_taken : {a b : State} {at : ℕ} {bytes : List ℕ} → KeepsAll a b → StaysCalm a b → PutsBytes at bytes a.now b.now → (x : ℕ) → IsRooted a x → IsRooted b x
+rooted_taken all calm puts x r = (r.0, ⊎_elim (λ t. inl ((all.same_tops r.0).1 t)) (λ u. inr (calm.apart r.0 u)) r.1, bytes_reached puts r.2)
 
 pub settle_taken : {a b : State} {at : ℕ} {bytes : List ℕ} (from to entries : ℕ) → KeepsAll a b → StaysCalm a b → PutsBytes at bytes a.now b.now → MaySettle a from to entries → MaySettle b from to entries
 settle_taken {a = a} {b = b} from to entries all calm puts may = record {
   apart = λ y x h doomed. undoomed calm puts x (may.apart y x (calm.instead y x h)) doomed;
-  stay = λ x is. let m = may.stay x is in (undoomed calm puts x m.0, rooted x m.1);
+  stay = λ x is. let m = may.stay x is in (undoomed calm puts x m.0, rooted_taken all calm puts x m.1);
 }
-  where
-    rooted : (x : ℕ) → IsRooted a x → IsRooted b x
-    rooted x r = (r.0, ⊎_elim (λ t. inl ((all.same_tops r.0).1 t)) (λ u. inr (calm.apart r.0 u)) r.1, bytes_reached puts r.2)
 
 -- ---- the second half
 

@@ -3,7 +3,9 @@ use Rattle.std.specs.Prelude.{◌≡◌, ◌≢◌, ◌⊎◌, ◌+◌, ◌<◌,
 use Rattle.std.specs.List.{Contains}
 use Rattle.fo_image.specs.declared.record.Record.{Record}
 use Rattle.fo_good.specs.Reading.{leaf_records}
-use Rattle.fo_crash.specs.Images.{Image}
+use Rattle.fo_crash.specs.declared.place.Place.{Place}
+use Rattle.fo_crash.specs.Images.{Image, Reaches, to_block}
+use Rattle.fo_crash.specs.Steps.{cleared}
 use Rattle.fo_crash.specs.Names.{IsInUse}
 use Rattle.fo_ports.specs.State.{State, IsDoomed, IsRooted}
 use Rattle.fo_dir_put.specs.Names.{ListsIn, AllFit, AreKept, AllApart, Clash}
@@ -51,3 +53,39 @@ pub record HasKeys (bytes : List ℕ) (r : Record) : Type 0 where
 pub record MovesKeys (from_bytes to_bytes without with : List ℕ) : Type 0 where
   pub kept : (r : Record) → Contains (leaf_records without) r → HasKeys from_bytes r
   pub moved : (r : Record) → Contains (leaf_records with) r → HasKeys to_bytes r ⊎ (HasKeys from_bytes r × ((q : Record) → Contains (leaf_records without) q → Clash r q → ⊥))
+
+-- A slot stays; or it waited to be cleared, and is.
+abbrev pub StaysOrCleared : State → State → ℕ → ℕ → Type 0
+StaysOrCleared old new b j = ((new.now b).slot j ≡ (old.now b).slot j) ⊎ (old.clearing b j × ((new.now b).slot j ≡ cleared ((old.now b).slot j)))
+
+-- Memory keeps a block, but for the bytes of the two leaves and for slots that waited.
+pub record StaysBut (from to b : ℕ) (old new : State) : Type 0 where
+  pub bytes : b ≢ from → b ≢ to → (new.now b).bytes ≡ (old.now b).bytes
+  pub slots : (j : ℕ) → StaysOrCleared old new b j
+
+-- The same of a block that is not doomed; it is not to be closed, and keeps its place where it hangs in memory.
+pub record StaysSpared (from to b : ℕ) (old new : State) : Type 0 where
+  pub content : StaysBut from to b old new
+  pub uncovered : new.covered b → ⊥
+  pub places : IsRooted old b → (p : Place) → old.stands b p → new.stands b p
+
+-- A move leaves all but the bytes of its two leaves: blocks that are pinned, and where the device tells all that no removal and no
+-- slot that waits takes out of the tree. Slots that waited may be cleared. Each image is one of before but for these bytes.
+pub record MovesAlone (from to : ℕ) (old new : State) : Type 0 where
+  pub labels : (b : ℕ) → new.label b ≡ old.label b
+  pub marks : (b : ℕ) → (old.pinned b → new.pinned b) × (old.sealed b → new.sealed b)
+  pub known : (b : ℕ) → old.pinned b → StaysBut from to b old new
+  pub blocks : old.tells → (b : ℕ) → (IsDoomed old b → ⊥) → StaysSpared from to b old new
+  pub linked : old.tells → (old.covered 1 → ⊥) → (b : ℕ) → (IsDoomed old b → ⊥) → Reaches old.now (to_block 1) b → Reaches new.now (to_block 1) b
+  pub order : (b j : ℕ) → new.clearing b j → old.clearing b j
+  pub apart : (b : ℕ) → old.apart b → new.apart b
+  pub instead : (b x : ℕ) → new.instead b x → old.instead b x
+  pub left : (new.spare ≡ old.spare) × (new.pins_left ≡ old.pins_left)
+  pub images : (image : Image) → new.may_leave image → (other : Image) × old.may_leave other × ((b : ℕ) → b ≢ from → b ≢ to → (image b).bytes ≡ (other b).bytes) × ((b j : ℕ) → (image b).slot j ≡ (other b).slot j)
+
+-- All is settled but the bytes of one leaf: every image has the rest as memory has it, no slot waits, and all blocks of the tree are in place.
+pub record IsSettledBut (leaf : ℕ) (s : State) : Type 0 where
+  pub bytes : (image : Image) → s.may_leave image → (b : ℕ) → b ≢ leaf → (image b).bytes ≡ (s.now b).bytes
+  pub slots : (image : Image) → s.may_leave image → (b j : ℕ) → (image b).slot j ≡ (s.now b).slot j
+  pub none : (b j : ℕ) → s.clearing b j → ⊥
+  pub sealed : s.tells → (b : ℕ) → Reaches s.now (to_block 1) b → s.sealed b

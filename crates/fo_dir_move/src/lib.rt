@@ -5,7 +5,8 @@
 //!
 //! Proved, over any blocks: the call is refused by a fault alone. Where it is granted memory has the two leaves as they were given,
 //! where it is refused as they were. In every image each record of both leaves has its first entry in use, if it was so before; and
-//! no name, number or pair stands in two leaves, over all images.
+//! no name, number or pair stands in two leaves, over all images. All else stays, but for what was to be closed or waited to be
+//! cleared; once the move is granted all is settled but the bytes of the second leaf.
 #![tactic(auto)]
 
 mod moves;

@@ -1,9 +1,10 @@
-use Rattle.std.proofs.Common.{◌≡◌, ◌≢◌, ◌∙◌, ℕ, List, sym, subst}
+use Rattle.std.proofs.Common.{◌≡◌, ◌≢◌, ◌∙◌, ℕ, List, inl, inr, refl, sym, subst}
 use Rattle.fo_dir_put.specs.Names.{AreBacked, MayStand}
 use Rattle.fo_dir_put.proofs.Leaves.{leaf_long}
 use Rattle.fo_dir_put.proofs.Aparts.{others_fit, others_apart, rest_but, nothing_shows, shows_apart, apart_back}
 use Rattle.fo_dir_move.proofs.Settled.{ready_taken, settle_taken, fit_later, backs_later}
 use Rattle.fo_dir_move.proofs.Aside.{kept_stands, moved_stands, settled_stands, back_stands, apart_settled}
+use Rattle.fo_dir_move.proofs.Alone.{moves_alone, ready_after, settled_but}
 use Rattle.fo_dir_move.proofs.moves.move_name.Goals as goal
 
 pub settle_between-requires-clause-ready : goal.settle_between-requires-clause-ready
@@ -87,3 +88,33 @@ returns-in-Err-clause-between g c = λ keys all.
     let stands = back_stands {left = (u.now c.args.from).bytes} all (λ image is. g.met.B.Blocks.present c.args.on.now (g.met.B.Blocks.told c.args.on.now image is)) rest images differ in
     let mid = shows_apart (c.change_leaf.ensures.apart c.args.to differ (kept_stands keys) all) (nothing_shows images) in
     c.put_record-in-Err.ensures.apart c.args.to differ (subst (λ xs. MayStand c.args.to xs ((u.now c.args.from).bytes) u.may_leave) (sym c.requires.back.1) stands) mid
+
+pub returns-in-Ok-clause-alone : goal.returns-in-Ok-clause-alone
+returns-in-Ok-clause-alone g c =
+    let o = c.args.on.now in let a = c.change_leaf.new.on in let m = c.settle_between.new.on in
+    let s = c.settle_between.ensures in
+    moves_alone (g.met.B.Blocks.keeps_all o a c.change_leaf.ensures.keeps) c.change_leaf.ensures.calm c.change_leaf.ensures.puts s.rests s.known s.blocks
+    (g.met.B.Blocks.keeps_all a m s.keeps) c.put_record.ensures.calm c.put_record.ensures.puts (inr refl)
+    s.images c.change_leaf.ensures.others c.put_record.ensures.others (λ told x ne r. (g.met.B.Blocks.live a x told ne r).2) s.left
+
+pub returns-in-Ok-clause-ready : goal.returns-in-Ok-clause-ready
+returns-in-Ok-clause-ready g c =
+    ready_after c.args.from c.args.to c.args.entries (g.met.B.Blocks.keeps_all c.settle_between.new.on c.put_record.new.on c.put_record.ensures.keeps) c.put_record.ensures.calm c.put_record.ensures.puts (leaf_long c.requires.bytes.1) c.settle_between.ensures.ready
+
+pub returns-in-Ok-clause-settled : goal.returns-in-Ok-clause-settled
+returns-in-Ok-clause-settled g c =
+    let a = c.change_leaf.new.on in let m = c.settle_between.new.on in
+    settled_but (g.met.B.Blocks.keeps_all m c.put_record.new.on c.put_record.ensures.keeps) c.put_record.ensures.calm c.put_record.ensures.puts c.put_record.ensures.others
+    c.in-Ok.ensures.all c.in-Ok.ensures.none (λ told. c.in-Ok.ensures.sealed ((g.met.B.Blocks.keeps_all a m c.settle_between.ensures.keeps).still_tells.0 told))
+
+pub returns-in-Err-clause-alone : goal.returns-in-Err-clause-alone
+returns-in-Err-clause-alone g c =
+    let o = c.args.on.now in let a = c.change_leaf.new.on in let m = c.settle_between.new.on in
+    let s = c.settle_between.ensures in
+    moves_alone (g.met.B.Blocks.keeps_all o a c.change_leaf.ensures.keeps) c.change_leaf.ensures.calm c.change_leaf.ensures.puts s.rests s.known s.blocks
+    (g.met.B.Blocks.keeps_all a m s.keeps) c.put_record-in-Err.ensures.calm c.put_record-in-Err.ensures.puts (inl refl)
+    s.images c.change_leaf.ensures.others c.put_record-in-Err.ensures.others (λ told x ne r. (g.met.B.Blocks.live a x told ne r).2) s.left
+
+pub returns-in-Err-clause-ready : goal.returns-in-Err-clause-ready
+returns-in-Err-clause-ready g c =
+    ready_after c.args.from c.args.to c.args.entries (g.met.B.Blocks.keeps_all c.settle_between.new.on c.put_record-in-Err.new.on c.put_record-in-Err.ensures.keeps) c.put_record-in-Err.ensures.calm c.put_record-in-Err.ensures.puts (leaf_long c.requires.back.0) c.settle_between.ensures.ready

@@ -26,3 +26,6 @@ returns-in-Err-clause-leaves g c = record {
 
 pub returns-in-Err-clause-entries : goal.returns-in-Err-clause-entries
 returns-in-Err-clause-entries g c = entries_kept c.args.entries c.settle.ensures.rests (c.settle.ensures.known c.args.entries c.requires.ready.held.is_pinned)
+
+pub returns-in-Ok-clause-sealed : goal.returns-in-Ok-clause-sealed
+returns-in-Ok-clause-sealed g c = λ told b r. (c.in-Ok.ensures.sealed told b).1 r

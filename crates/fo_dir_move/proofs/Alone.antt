@@ -1,0 +1,137 @@
+-- What a move leaves, over its three calls: bytes of one leaf, the settling, bytes of one leaf.
+use Rattle.std.proofs.Common.{◌≡◌, ◌≢◌, ◌⊎◌, inl, inr, ⊎_elim, ℕ, List, [], ◌∷◌, length, refl, sym, ◌∙◌, ap, subst}
+use Rattle.std.proofs.lemmas.Bool.{cases_eq}
+use Rattle.fo_image.specs.declared.types.Label.{Label}
+use Rattle.fo_image.specs.declared.types.Pointer.{Pointer}
+use Rattle.fo_image.specs.declared.types.Pointer.TheVariants.{Nil, Local, Score as Held}
+use Rattle.fo_crash.specs.declared.place.Place.{Place}
+use Rattle.fo_crash.specs.declared.slot.Slot.{Slot}
+use Rattle.fo_crash.specs.declared.slot.Slot.TheVariants.{Pointer as To}
+use Rattle.fo_crash.specs.Images.{Image, Reaches, to_block, target, local, walk}
+use Rattle.fo_crash.specs.Steps.{AddsNothing, AllAre, PutsBytes, cleared}
+use Rattle.fo_crash.proofs.Reach.{lost, reaches_joins, reaches_on, reaches_from}
+use Rattle.fo_crash.proofs.Covers.{bytes_reach}
+use Rattle.fo_ports.specs.State.{State, KeepsAll, Rests, StaysKnown, IsDoomed, IsRooted, KeepsSlot}
+use Rattle.fo_dir_put.specs.Names.{LeavesRest}
+use Rattle.fo_dir_put.specs.Puts.{StaysCalm, IsOwnedRecords, IsInPlace}
+use Rattle.fo_dir_put.proofs.Calms.{records_on, records_put, in_place_on}
+use Rattle.fo_dir_put.proofs.Leaves.{bytes_reached}
+use Rattle.fo_dir_move.specs.Moves.{AreReady, StaysOrCleared, StaysBut, StaysSpared, MovesAlone, IsSettledBut}
+use Rattle.fo_dir_move.proofs.Settled.{SameMarks, undoomed, rooted_taken}
+
+-- one slot before
+further : {image : Image} {u : Slot} {c : ℕ} (x i : ℕ) → target u ≡ Local x → Reaches image ((image x).slot i) c → Reaches image u c
+further {image = image} x i leads r = record { path = i ∷ r.path; leads = ap (λ p. target (walk image ((local image p).slot i) r.path)) leads ∙ r.leads }
+
+nil_not : (x : ℕ) → Nil ≡ Local x → ⊥
+nil_not x f = cc
+
+-- ---- what hangs from block 1 over a settling
+
+module _ {a m : State} {c : ℕ} (rests : Rests a m) (told : a.tells) (top : a.covered 1 → ⊥) (live : (x : ℕ) → x ≢ 1 → Reaches a.now (to_block 1) x → a.covered x → ⊥) (spared : IsDoomed a c → ⊥) where
+  -- a block above one that is not doomed
+  above : (x : ℕ) → Reaches a.now (to_block 1) x → Reaches a.now (to_block x) c → IsDoomed a x → ⊥
+  above x from_top r (inl covered) = ⊎_elim (λ e. top (subst a.covered e covered)) (λ ne. live x ne from_top covered) (cases_eq x 1)
+  above x from_top r (inr h) = spared (inr (h.0, h.1, h.2, reaches_joins h.3 r))
+
+  down : (path : List ℕ) (u : Slot) → ((x : ℕ) → target u ≡ Local x → Reaches a.now (to_block 1) x) → target (walk a.now u path) ≡ Local c → Reaches m.now u c
+  down [] u held e = record { path = []; leads = e }
+  down (i ∷ path) u held e = by (target u) refl (down path ((local a.now (target u)).slot i) (step (target u) refl) e)
+    where
+      step : (p : Pointer) → target u ≡ p → (y : ℕ) → target ((local a.now p).slot i) ≡ Local y → Reaches a.now (to_block 1) y
+      step Nil leads y f = absurd (cc)
+      step (Held score) leads y f = absurd (cc)
+      step (Local x) leads y f = reaches_on i (held x leads) f
+
+      below : (x : ℕ) → target u ≡ Local x → Reaches a.now ((a.now x).slot i) c
+      below x leads = record { path = path; leads = ap (λ p. target (walk a.now ((local a.now p).slot i) path)) (sym leads) ∙ e }
+
+      slot : (x : ℕ) → target u ≡ Local x → Reaches m.now ((a.now x).slot i) c → KeepsSlot a m x i → Reaches m.now u c
+      slot x leads r (inl same) = further x i leads (subst (λ s. Reaches m.now s c) (sym same.0) r)
+      slot x leads r (inr was) = absurd (spared (inr (x, i, was.0, below x leads)))
+
+      by : (p : Pointer) → target u ≡ p → Reaches m.now ((local a.now p).slot i) c → Reaches m.now u c
+      by Nil leads r = absurd (lost m.now r.path (To Nil) nil_not c r.leads)
+      by (Held score) leads r = absurd (lost m.now r.path (To Nil) nil_not c r.leads)
+      by (Local x) leads r = slot x leads r ((rests.blocks told x (above x (held x leads) (reaches_from i (below x leads)))).slots i)
+
+  pub still_linked : Reaches a.now (to_block 1) c → Reaches m.now (to_block 1) c
+  still_linked r = down r.path (to_block 1) (λ x e. record { path = []; leads = e }) r.leads
+
+-- ---- all three calls
+
+module _ {o a m n : State} {from to at : ℕ} {one two : List ℕ} (first_all : KeepsAll o a) (first_calm : StaysCalm o a) (first : PutsBytes from one o.now a.now) (rests : Rests a m) (known : (b : ℕ) → a.pinned b → StaysKnown a m b) (marks : SameMarks a m)
+    (mid_all : KeepsAll a m) (last_calm : StaysCalm m n) (last : PutsBytes at two m.now n.now) (which : (at ≡ from) ⊎ (at ≡ to)) where
+  other : (b : ℕ) → b ≢ from → b ≢ to → b ≢ at
+  other b one_not two_not e = ⊎_elim (λ is. one_not (e ∙ is)) (λ is. two_not (e ∙ is)) which
+
+  slot_stays : (b j : ℕ) → KeepsSlot a m b j → StaysOrCleared o n b j
+  slot_stays b j (inl same) = inl (last.slots b j ∙ same.0 ∙ first.slots b j)
+  slot_stays b j (inr was) = inr ((first_calm.order.clearing b j was.0).1, last.slots b j ∙ was.1 ∙ ap cleared (first.slots b j))
+
+  stays : (b : ℕ) → (m.now b).bytes ≡ (a.now b).bytes → ((j : ℕ) → KeepsSlot a m b j) → StaysBut from to b o n
+  stays b bytes slots = record {
+    bytes = λ one_not two_not. last.others b (other b one_not two_not) ∙ bytes ∙ first.others b one_not;
+    slots = λ j. slot_stays b j (slots j);
+  }
+
+  spared_stays : o.tells → (b : ℕ) → (IsDoomed o b → ⊥) → StaysSpared from to b o n
+  spared_stays told b spared =
+      let was = first_all.still_tells.1 told in
+      let s = rests.blocks was b (undoomed first_calm first b spared) in
+      record {
+        content = stays b s.bytes s.slots;
+        uncovered = last_calm.uncovered b s.uncovered;
+        places = λ rooted p stands. last_calm.places (mid_all.still_tells.1 was) b p s.uncovered (s.places (rooted_taken first_all first_calm first b rooted) p (first_calm.places told b p (λ h. spared (inl h)) stands));
+      }
+
+  pub moves_alone : AddsNothing a.may_leave m.may_leave → LeavesRest from o.may_leave a.may_leave → LeavesRest at m.may_leave n.may_leave → (a.tells → (x : ℕ) → x ≢ 1 → Reaches a.now (to_block 1) x → a.covered x → ⊥)
+      → (m.spare ≡ a.spare) × (m.pins_left ≡ a.pins_left) → MovesAlone from to o n
+  moves_alone adds first_rest last_rest live left = record {
+    labels = λ b. last_calm.labels b ∙ (marks b).0 ∙ first_calm.labels b;
+    marks = λ b. (λ h. (last_calm.marks b).0 ((marks b).1 ((first_calm.marks b).0 h)), λ h. (last_calm.marks b).1 ((marks b).2 ((first_calm.marks b).1 h)));
+    known = λ b pinned. let k = known b ((first_calm.marks b).0 pinned) in stays b k.bytes k.slots;
+    blocks = spared_stays;
+    linked = λ told top b spared r.
+        let was = first_all.still_tells.1 told in
+        bytes_reached last (still_linked rests was (first_calm.uncovered 1 top) (live was) (undoomed first_calm first b spared) (bytes_reached first r));
+    order = λ b j h. (first_calm.order.clearing b j (rests.order b j (last_calm.order.clearing b j h).1)).1;
+    apart = λ b h. last_calm.apart b ((rests.apart b).1 (first_calm.apart b h));
+    instead = λ b x h. first_calm.instead b x ((rests.instead b x).0 (last_calm.instead b x h));
+    left = (last_calm.left.0 ∙ left.0 ∙ first_calm.left.0, last_calm.left.1 ∙ left.1 ∙ first_calm.left.1);
+    images = λ image is.
+        let h = last_rest.each image is in
+        let k = first_rest.each h.0 (adds.each h.0 h.1) in
+        (k.0, k.1, λ b one_not two_not. h.2 b (other b one_not two_not) ∙ k.2 b one_not, λ b j. h.3 b j ∙ k.3 b j);
+  }
+
+-- ---- the last call
+
+-- a leaf that is owned is so after bytes were put, into it or another
+pub owned_after : {a b : State} {at x : ℕ} {bytes : List ℕ} → KeepsAll a b → StaysCalm a b → PutsBytes at bytes a.now b.now → length bytes ≡ 8192 → IsOwnedRecords a x → IsOwnedRecords b x
+owned_after {b = b} {at = at} {x = x} all calm puts long owned = ⊎_elim
+    (λ is. records_put all calm (ap (λ k. length ((b.now k).bytes)) is ∙ ap (λ (xs : List ℕ). length xs) puts.here ∙ long) owned)
+    (λ ne. records_on all calm (puts.others x ne) owned)
+    (cases_eq x at)
+
+pub ready_after : {a b : State} {at : ℕ} {bytes : List ℕ} (from to entries : ℕ) → KeepsAll a b → StaysCalm a b → PutsBytes at bytes a.now b.now → length bytes ≡ 8192 → AreReady a from to entries → AreReady b from to entries
+ready_after from to entries all calm puts long r = record {
+  from_owned = owned_after all calm puts long r.from_owned;
+  to_owned = owned_after all calm puts long r.to_owned;
+  held = record {
+    is_pinned = (calm.marks entries).0 r.held.is_pinned;
+    leaf_kind = ap (λ (l : Label). l.kind) (calm.labels entries) ∙ r.held.leaf_kind;
+    uncovered = calm.uncovered entries r.held.uncovered;
+  };
+  from_place = λ tells. let was = all.still_tells.0 tells in in_place_on was calm r.from_owned.uncovered r.held.uncovered (r.from_place was);
+  to_place = λ tells. let was = all.still_tells.0 tells in in_place_on was calm r.to_owned.uncovered r.held.uncovered (r.to_place was);
+}
+
+-- all was settled, and then bytes were put
+pub settled_but : {m n : State} {at : ℕ} {bytes : List ℕ} → KeepsAll m n → StaysCalm m n → PutsBytes at bytes m.now n.now → LeavesRest at m.may_leave n.may_leave → AllAre m.now m.may_leave → ((b j : ℕ) → m.clearing b j → ⊥) → (m.tells → (b : ℕ) → Reaches m.now (to_block 1) b → m.sealed b) → IsSettledBut at n
+settled_but all calm puts rest are none sealed = record {
+  bytes = λ image is b ne. let h = rest.each image is in h.2 b ne ∙ ((are.each h.0 h.1).each b).bytes ∙ sym (puts.others b ne);
+  slots = λ image is b j. let h = rest.each image is in h.3 b j ∙ ((are.each h.0 h.1).each b).slots j ∙ sym (puts.slots b j);
+  none = λ b j h. none b j (calm.order.clearing b j h).1;
+  sealed = λ told b r. (calm.marks b).1 (sealed (all.still_tells.0 told) b (bytes_reach puts r));
+}
