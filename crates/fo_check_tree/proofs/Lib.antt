@@ -5,7 +5,6 @@ mod Going
 mod Levels
 mod Marking
 mod Noting
-mod Orders
 mod Paths
 mod Reaching
 mod Scanning

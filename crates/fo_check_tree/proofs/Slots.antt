@@ -16,7 +16,8 @@ use Rattle.fo_crash.specs.Images.{Content, target}
 use Rattle.fo_good.specs.Means.{HasPointer}
 use Rattle.fo_check_tree.specs.declared.walk.Holder.{Holder}
 use Rattle.fo_check_tree.specs.declared.walk.Step.{Step}
-use Rattle.fo_check_tree.specs.Slots.{unless, steps_by, steps_below, HasSlot, no_entry, entry_of, pair_steps, pair_folders, steps_by_pairs, AreFolders, AddsFolders}
+use Rattle.fo_check_tree.specs.Slots.{unless, steps_by, steps_below, HasSlot, entry_of, pair_steps, pair_folders, steps_by_pairs, AreFolders, AddsFolders}
+use Rattle.fo_check_names.specs.Pairs.{no_entry}
 use Rattle.fo_check_tree.specs.Slots.HasSlot.{entry, other}
 use Rattle.fo_check_tree.specs.Slots.AreFolders.{none, more}
 

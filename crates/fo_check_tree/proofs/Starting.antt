@@ -32,7 +32,8 @@ use Rattle.fo_good.specs.Means.{IsRead}
 use Rattle.fo_image.specs.Record.{SpellsRoot}
 use Rattle.fo_check_tree.specs.Lower.{level, JudgesRoot}
 use Rattle.fo_check_tree.specs.Notes.{Lowers}
-use Rattle.fo_check_tree.specs.Slots.{no_entry, top_step}
+use Rattle.fo_check_tree.specs.Slots.{top_step}
+use Rattle.fo_check_names.specs.Pairs.{no_entry}
 use Rattle.fo_check_tree.specs.Table.{IsScanned}
 use Rattle.fo_check_tree.specs.Walking.{Reached, IsTable, HasPath, IsStepOf, tag_below, one, Fits, all_tops, IsDone, Goes, IsUnbegun, Walking}
 use Rattle.fo_check_tree.specs.Walking.IsDone.{nowhere, left}

@@ -3,7 +3,6 @@ pub mod Cause
 pub mod Follows
 pub mod Known
 pub mod Lower
-pub mod Names
 pub mod Notes
 pub mod Slots
 pub mod Steps

@@ -17,6 +17,7 @@ use Rattle.fo_check_tree.specs.declared.walk.Holder.{Holder}
 use Rattle.fo_check_tree.specs.declared.walk.Holds.{Holds}
 use Rattle.fo_check_tree.specs.declared.walk.Holds.TheVariants.{Bytes, Records}
 use Rattle.fo_check_tree.specs.declared.walk.Step.{Step}
+use Rattle.fo_check_names.specs.Pairs.{no_entry, is_folder, is_source, records_of}
 use Rattle.fo_check_tree.specs.Lower.{lower}
 
 -- what is noted where a test that has to hold does not
@@ -62,21 +63,10 @@ steps_below step kind here c (suc n) = steps_below step kind here c n ++ steps_b
 
 -- ---- pairs of entries
 
--- an entry that leads nowhere
-abbrev pub no_entry : Entry
-no_entry = record { generation = 0; active = false; dir = false; depth = 0; tag = 0; size = 0; top = Nil }
-
 abbrev pub entry_of : Slot → Entry
 entry_of (Head e) = e
 entry_of (To p) = no_entry
 entry_of (Prev epoch at) = no_entry
-
--- An entry names a source of entries, or another source.
-abbrev pub is_folder : Entry → Bool
-is_folder e = e.active && e.dir
-
-abbrev pub is_source : Entry → Bool
-is_source e = e.active && not e.dir
 
 -- the step to the top of the source of an entry
 abbrev pub top_step : Entry → Holds → Holder → Step
@@ -92,10 +82,6 @@ second_steps here together e = cond (is_source e && not together) (record (top_s
 
 abbrev pub pair_steps : Holder → Entry → Entry → List Step
 pair_steps here first second = first_steps here first ++ second_steps here (is_folder first) second
-
--- A pair is a directory where its first entry names entries and its second another source.
-abbrev pub records_of : Entry → Entry → Option Entry
-records_of first second = cond (is_folder first && is_source second) (Some second) None
 
 abbrev pub folders_by : Holder → Entry → Option Entry → ℕ → Bool → List Folder
 folders_by here e records depth named = cond (is_folder e) (record { entries = e; records = records; holder = here; depth = depth; named = named } ∷ []) []

@@ -21,9 +21,9 @@ ghost use Rattle.fo_check_tree.specs.declared.error.TreeError.TheVariants.{Read 
 
 use crate::error::TreeError;
 use crate::folder::add_entries;
-use crate::names::Named;
 use crate::reads::read;
 use crate::walk::{Holder, Holds, Step, Walk};
+use fo_check_names::add_named;
 use fo_crash::Place;
 use fo_disk::{BLOCK, Disk};
 use fo_image::{Kind, Label, Pointer, first_data, read_pointer};
@@ -297,12 +297,5 @@ fn add_records(
     if step.size <= step.index.saturating_mul(8192) {
         return Ok(());
     }
-    for record in records {
-        walk.named.push(Named {
-            listed: record,
-            leaf: here.block,
-            found: false,
-        })?;
-    }
-    Ok(())
+    add_named(&mut walk.named, records, here.block)
 }

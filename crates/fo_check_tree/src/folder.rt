@@ -14,14 +14,17 @@ ghost use Rattle.fo_check_tree.specs.Answer.{RefusesTree};
 ghost use Rattle.fo_check_tree.specs.Walking.{Walking, tops};
 ghost use Rattle.fo_check_tree.specs.Cause.{HasCauses};
 ghost use Rattle.fo_check_tree.specs.Lower.{lower, level};
-ghost use Rattle.fo_check_tree.specs.Slots.{no_entry, top_step, entry_of, HasSlot, steps_by_pairs, AddsFolders, pair_steps, first_steps, second_steps, pair_folders, is_folder, is_source, records_of, folders_by};
-ghost use Rattle.fo_check_tree.specs.Names.{number_in};
+ghost use Rattle.fo_check_tree.specs.Slots.{top_step, entry_of, HasSlot, steps_by_pairs, AddsFolders, pair_steps, first_steps, second_steps, pair_folders, folders_by};
+ghost use Rattle.fo_check_names.specs.Pairs.{no_entry, is_folder, is_source, records_of};
 ghost use Rattle.fo_check_tree.specs.Notes.{NotesAt};
 
 use crate::blocks::follow_all;
 use crate::error::TreeError;
-use crate::names::{Named, Number, same_name, same_pair, without_pair};
 use crate::walk::{Folder, Holder, Holds, Step, Walk};
+use fo_check_names::{
+    add_numbers, is_alone, is_both, is_folder, is_source, records_of, same_name, same_pair,
+    without_pair,
+};
 use fo_disk::Disk;
 use fo_image::{Entry, Pointer, read_entry};
 use fo_rules::has_pair;
@@ -220,45 +223,6 @@ fn add_second(
     Ok(())
 }
 
-/// Whether the second entry of a pair names a source that no directory has.
-fn is_alone(first: &Entry, second: &Entry) -> bool
-    ensures { result ≡ is_source second.now && not (is_folder first.now) }
-{
-    is_source(second) && !is_folder(first)
-}
-
-/// Whether names lead to a leaf of entries, and to a pair in it.
-fn is_both(named: bool, found: bool) -> bool
-    ensures { result ≡ named && found }
-{
-    named && found
-}
-
-/// Whether an entry names a source of entries.
-fn is_folder(entry: &Entry) -> bool
-    ensures { result ≡ is_folder entry.now }
-{
-    entry.active && entry.dir
-}
-
-/// Whether an entry names a source of bytes or records.
-fn is_source(entry: &Entry) -> bool
-    ensures { result ≡ is_source entry.now }
-{
-    entry.active && !entry.dir
-}
-
-/// The second entry of a pair, where the pair is a directory.
-fn records_of(first: &Entry, second: &Entry) -> Option<Entry>
-    ensures { result ≡ records_of first.now second.now }
-{
-    if is_folder(first) && is_source(second) {
-        Some(*second)
-    } else {
-        None
-    }
-}
-
 /// A step, where it is to be made.
 fn add_source(walk: &mut Walk, step: Step, is: bool) -> Result<(), AllocError>
     ensures pushed { OnOk result (walk.new.steps.items ≡ walk.old.steps.items ++ cond is (step ∷ []) []) }
@@ -344,19 +308,6 @@ fn list<D: Disk>(
         Ok(()) => Ok(()),
         Err(_) => Err(TreeError::Memory),
     }
-}
-
-/// The numbers of these records, each with its leaf.
-fn add_numbers(named: &[Named], numbers: &mut Vec<Number>) -> Result<(), AllocError>
-    ensures { OnOk result (numbers.new.items ≡ numbers.old.items ++ map number_in named.now) }
-{
-    for n in named {
-        numbers.push(Number {
-            number: n.listed.number,
-            leaf: n.leaf,
-        })?;
-    }
-    Ok(())
 }
 
 /// Walks a directory: its records, and then its entries with what hangs from them.

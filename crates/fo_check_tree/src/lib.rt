@@ -22,7 +22,6 @@ mod broken;
 mod error;
 mod folder;
 mod labels;
-mod names;
 mod reads;
 mod tree;
 mod walk;

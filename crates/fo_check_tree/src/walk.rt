@@ -8,7 +8,7 @@ ghost use Rattle.fo_check_tree.specs.declared.walk.Holds.TheVariants.{Records};
 
 use crate::broken::{Broken, lower};
 use crate::labels::Labels;
-use crate::names::{Named, Number};
+use fo_check_names::{Named, Number};
 use fo_image::{Entry, Kind, Label, Pointer, is_zero};
 
 /// The block that holds a pointer or an entry, and its label.

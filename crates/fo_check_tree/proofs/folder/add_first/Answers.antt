@@ -1,7 +1,7 @@
 use Rattle.std.proofs.Common.{Bool, List, [], ◌∷◌, ◌++◌, ◌∙◌, ap}
 use Rattle.std.specs.Prelude.{cond}
 use Rattle.fo_check_tree.specs.declared.walk.Step.{Step}
-use Rattle.fo_check_tree.specs.Slots.{is_source}
+use Rattle.fo_check_names.specs.Pairs.{is_source}
 use Rattle.fo_check_tree.proofs.folder.add_first.Goals as goal
 
 pub returns-clause-pushed : goal.returns-clause-pushed

@@ -2,7 +2,8 @@ use Rattle.std.proofs.Common.{Option, List, ◌++◌, false, None, ◌∙◌, ap
 use Rattle.fo_image.specs.declared.types.Entry.{Entry}
 use Rattle.fo_check_tree.specs.declared.walk.Step.{Step}
 use Rattle.fo_check_tree.specs.declared.walk.Folder.{Folder}
-use Rattle.fo_check_tree.specs.Slots.{first_steps, second_steps, is_folder, folders_by, records_of}
+use Rattle.fo_check_tree.specs.Slots.{first_steps, second_steps, folders_by}
+use Rattle.fo_check_names.specs.Pairs.{is_folder, records_of}
 use Rattle.fo_check_tree.proofs.folder.add_pair.Goals as goal
 
 pub returns-clause-pushed : goal.returns-clause-pushed

@@ -1,7 +1,7 @@
 use Rattle.std.proofs.Common.{◌≡◌, ℕ, ◌+◌, ◌-◌, ◌*◌, ◌≤◌, List, refl, take, drop, sym, ◌∙◌, ap, subst, arith}
 use Rattle.fo_image.specs.declared.types.Entry.{Entry}
 use Rattle.fo_image.specs.Format.{SpellsEntry}
-use Rattle.fo_check_tree.specs.Slots.{no_entry}
+use Rattle.fo_check_names.specs.Pairs.{no_entry}
 use Rattle.fo_check_tree.proofs.Slots.{as_slot}
 use Rattle.fo_check_tree.proofs.folder.entry_at.Goals as goal
 
