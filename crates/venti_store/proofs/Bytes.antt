@@ -1,7 +1,8 @@
 -- The writes of blocks that wait.
-use Rattle.std.proofs.Common.{◌≡◌, inl, inr, ⊎_elim, ℕ, ◌+◌, ◌<◌, Bool, false, List, [], length, take, get_or, set, sym, ◌∙◌, ap, subst, arith}
+use Rattle.std.specs.Prelude.{Ok}
+use Rattle.std.proofs.Common.{◌≡◌, inl, inr, ⊎_elim, ℕ, ◌+◌, ◌<◌, List, [], length, take, get_or, sym, ◌∙◌, ap, subst, arith}
 use Rattle.std.proofs.lemmas.Bool.{cases_eq}
-use Rattle.fo_disk.specs.Disk.{Block, Content, Adds}
+use Rattle.fo_disk.specs.Disk.{Block, DiskState, IsWrite}
 use Rattle.fo_image.specs.Place.{line_block, stored_block}
 use Rattle.venti_store.specs.Held.{HasBytes}
 use Rattle.venti_store.specs.Settling.{Run, IsRun, IsDone, WroteBytes, Waits}
@@ -36,8 +37,8 @@ module _ {run : Run} {waiting : List (List ℕ)} {i at : ℕ} {block : Block} (n
       ∙ sym n.has
       ∙ ap (λ (k : ℕ). take k block) (ap length (sym (n.waits.each i n.within)) ∙ r.lens (run.settled + i) used)
 
-  pub adding_bytes : {unsure flags : List Bool} {failed : Bool} {holds now : Content} → flags ≡ set unsure at failed → Adding run unsure flags failed holds now at block
-  adding_bytes flag = record {
+  pub adding_bytes : Adding run at block
+  adding_bytes = record {
     within = inside;
     fits = record {
       head = λ zero. absurd (omega (arith, zero, n.at_is));
@@ -45,15 +46,14 @@ module _ {run : Run} {waiting : List (List ℕ)} {i at : ℕ} {block : Block} (n
       bytes = λ place lt is. let same = same_place place (run.settled + i) (is ∙ n.at_is) in absurd (omega (arith, lt, same));
     };
     due = inr (run.settled + i, omega arith, used, inl (sym n.at_is));
-    flag = flag;
   }
 
-  pub wrote_more : {unsure flags : List Bool} {holds now : Content} → length holds ≡ run.size → WroteBytes run (run.settled + i) unsure holds → Adds at block holds now → flags ≡ set unsure at false → WroteBytes run (run.settled + (i + 1)) flags now
-  wrote_more {unsure} {flags} {holds} {now} told wrote w flag = record {
+  pub wrote_more : {E : Type 0} {u : Unit} {old new : DiskState} → length old.holds ≡ run.size → WroteBytes run (run.settled + i) old → IsWrite {E = E} at block (Ok u) old new → WroteBytes run (run.settled + (i + 1)) new
+  wrote_more {new = new} told wrote w = record {
     each = λ place from to. ⊎_elim
-        (λ same. subst (λ (p : ℕ). IsDone flags now (stored_block p) (HasBytes run.lines run.stored p)) (sym same) (subst (λ (k : ℕ). IsDone flags now k (HasBytes run.lines run.stored (run.settled + i))) n.at_is
-        (done_here unsure (HasBytes run.lines run.stored (run.settled + i)) (subst (λ (k : ℕ). at < k) (sym told) inside) w flag has_bytes)))
-        (λ other. done_other false (stored_block place) (HasBytes run.lines run.stored place) (λ is. other (same_place place (run.settled + i) (is ∙ n.at_is))) w flag (wrote.each place from (omega (arith, to, other))))
+        (λ same. subst (λ (p : ℕ). IsDone new (stored_block p) (HasBytes run.lines run.stored p)) (sym same) (subst (λ (k : ℕ). IsDone new k (HasBytes run.lines run.stored (run.settled + i))) n.at_is
+        (done_here (HasBytes run.lines run.stored (run.settled + i)) (subst (λ (k : ℕ). at < k) (sym told) inside) w has_bytes)))
+        (λ other. done_other (stored_block place) (HasBytes run.lines run.stored place) (λ is. other (same_place place (run.settled + i) (is ∙ n.at_is))) w (wrote.each place from (omega (arith, to, other))))
         (cases_eq place (run.settled + i));
   }
 

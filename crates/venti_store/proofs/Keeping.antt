@@ -1,9 +1,9 @@
 -- What an arena keeps, before and after a run.
-use Rattle.std.proofs.Common.{◌≡◌, ◌≢◌, inl, ℕ, ◌-◌, ◌<◌, ◌≤◌, ◌^◌, Bool, List, [], ◌∷◌, length, get_or, drop, refl, sym, ◌∙◌, ap, subst, arith, length-drop}
+use Rattle.std.proofs.Common.{◌≡◌, ◌≢◌, inl, ℕ, ◌-◌, ◌<◌, ◌≤◌, ◌^◌, List, [], ◌∷◌, length, get_or, drop, refl, sym, ◌∙◌, ap, subst, arith, length-drop}
 use Rattle.std.specs.Prelude.{Some, Result, Ok, Err, MatchResult}
 use Rattle.std.proofs.lemmas.List.{get_or-drop, length-map}
 use Rattle.std.specs.BTreeMap.{BTreeMap, get}
-use Rattle.fo_disk.specs.Disk.{Content, IsNewest, Since}
+use Rattle.fo_disk.specs.Disk.{Content, DiskState, IsNewest, Since}
 use Rattle.fo_disk.proofs.Moments.{started}
 use Rattle.fo_image.specs.declared.types.ArenaLine.{ArenaLine}
 use Rattle.fo_image.specs.Place.{arena_places}
@@ -33,7 +33,7 @@ pub record InMemory (size : ℕ) (lines : List ArenaLine) (waiting : List (List 
   pub apart : (one other : ℕ) → one < other → other < length lines → name_of (line_at lines one) ≢ name_of (line_at lines other)
 
 module _ {size : ℕ} {lines : List ArenaLine} {waiting : List (List ℕ)} (m : InMemory size lines waiting) where
-  is_run : {stored : List (List ℕ)} {synced : ℕ} {unsure : List Bool} {holds : Content} (moments : List Content) → KeepsIn size lines waiting stored synced unsure holds → IsRun (record { size = size; synced = synced; settled = settled_count lines waiting; lines = lines; stored = stored; before = moments })
+  is_run : {stored : List (List ℕ)} {synced : ℕ} {s : DiskState} (moments : List Content) → KeepsIn size lines waiting stored synced s → IsRun (record { size = size; synced = synced; settled = settled_count lines waiting; lines = lines; stored = stored; before = moments })
   is_run moments k = record {
     least = m.least;
     most = m.most;
@@ -45,18 +45,18 @@ module _ {size : ℕ} {lines : List ArenaLine} {waiting : List (List ℕ)} (m : 
   }
 
   -- a run begins
-  pub begins : {stored : List (List ℕ)} {synced device : ℕ} {unsure : List Bool} {holds : Content} {moments : List Content} → KeepsIn size lines waiting stored synced unsure holds → IsNewest device holds moments
-      → Goes (record { size = size; synced = synced; settled = settled_count lines waiting; lines = lines; stored = stored; before = moments }) unsure holds moments
-  begins {stored} {synced} {device} {unsure} {holds} {moments} k newest = record {
-    is_run = is_run moments k;
-    since = started _ newest (λ told. recovers _ holds (is_run moments k) k.told k.fits);
+  pub begins : {stored : List (List ℕ)} {synced device : ℕ} {s : DiskState} → KeepsIn size lines waiting stored synced s → IsNewest device s.holds s.moments
+      → Goes (record { size = size; synced = synced; settled = settled_count lines waiting; lines = lines; stored = stored; before = s.moments }) s
+  begins {s = s} k newest = record {
+    is_run = is_run s.moments k;
+    since = started _ newest (λ told. recovers _ s.holds (is_run s.moments k) k.told k.fits);
     told = k.told;
     some = k.some;
     fits = k.fits;
     due = k.due;
   }
 
-  pub run_waits : {stored : List (List ℕ)} {synced : ℕ} {unsure : List Bool} {holds : Content} (moments : List Content) → KeepsIn size lines waiting stored synced unsure holds
+  pub run_waits : {stored : List (List ℕ)} {synced : ℕ} {s : DiskState} (moments : List Content) → KeepsIn size lines waiting stored synced s
       → Waits (record { size = size; synced = synced; settled = settled_count lines waiting; lines = lines; stored = stored; before = moments }) waiting
   run_waits {stored} moments k = record {
     all = omega (arith, m.few);
@@ -64,21 +64,21 @@ module _ {size : ℕ} {lines : List ArenaLine} {waiting : List (List ℕ)} (m : 
   }
 
   -- it ends, with all that waited still waiting, or with none
-  pub still_keeps : {stored : List (List ℕ)} {synced : ℕ} {unsure flags : List Bool} {holds now : Content} {before moments : List Content} → KeepsIn size lines waiting stored synced unsure holds
-      → Goes (record { size = size; synced = synced; settled = settled_count lines waiting; lines = lines; stored = stored; before = before }) flags now moments → KeepsIn size lines waiting stored synced flags now
+  pub still_keeps : {stored : List (List ℕ)} {synced : ℕ} {s now : DiskState} {before : List Content} → KeepsIn size lines waiting stored synced s
+      → Goes (record { size = size; synced = synced; settled = settled_count lines waiting; lines = lines; stored = stored; before = before }) now → KeepsIn size lines waiting stored synced now
   still_keeps k g = record { told = g.told; some = g.some; count = k.count; lens = k.lens; wait = k.wait; order = k.order; fits = g.fits; due = g.due }
 
-  pub now_keeps : {stored none : List (List ℕ)} {synced : ℕ} {unsure flags : List Bool} {holds now : Content} {before moments : List Content} → KeepsIn size lines waiting stored synced unsure holds → none ≡ []
-      → Goes (record { size = size; synced = synced; settled = length lines; lines = lines; stored = stored; before = before }) flags now moments → KeepsIn size lines none stored synced flags now
-  now_keeps {stored} {none} {synced} {unsure} {flags} {holds} {now} k is g = subst (λ (ws : List (List ℕ)). KeepsIn size lines ws stored synced flags now) (sym is) (record {
+  pub now_keeps : {stored none : List (List ℕ)} {synced : ℕ} {s now : DiskState} {before : List Content} → KeepsIn size lines waiting stored synced s → none ≡ []
+      → Goes (record { size = size; synced = synced; settled = length lines; lines = lines; stored = stored; before = before }) now → KeepsIn size lines none stored synced now
+  now_keeps {stored} {none} {synced} {s} {now} k is g = subst (λ (ws : List (List ℕ)). KeepsIn size lines ws stored synced now) (sym is) (record {
     told = g.told;
     some = g.some;
     count = k.count;
     lens = k.lens;
     wait = sym (all_dropped stored (length lines - 0) (omega (arith, k.count)));
     order = omega (arith, k.order);
-    fits = subst (λ (n : ℕ). AllFit size synced n lines stored now) (let e : length lines ≡ length lines - 0 = omega arith in e) g.fits;
-    due = subst (λ (n : ℕ). AreDue size n (length lines) flags now) (let e : length lines ≡ length lines - 0 = omega arith in e) g.due;
+    fits = subst (λ (n : ℕ). AllFit size synced n lines stored now.holds) (let e : length lines ≡ length lines - 0 = omega arith in e) g.fits;
+    due = subst (λ (n : ℕ). AreDue size n (length lines) now) (let e : length lines ≡ length lines - 0 = omega arith in e) g.due;
   })
     where
       all_dropped : (xs : List (List ℕ)) (n : ℕ) → length xs ≤ n → drop n xs ≡ []
@@ -104,26 +104,26 @@ pub first_is : (s : Shelf) (first : ℕ) → first ≡ length s.index.lines.item
 first_is s first is = omega (arith, is, length-map s.pending.items (λ (w : Waiting). w.bytes.items))
 
 -- the end of a run whose head is written
-module _ {run : Run} {unsure : List Bool} {holds : Content} {moments : List Content} (r : IsRun run) (e : Ends run unsure holds moments) where
-  pub settled : Settled run.lines run.stored holds
+module _ {run : Run} {s : DiskState} (r : IsRun run) (e : Ends run s) where
+  pub settled : Settled run.lines run.stored s.holds
   settled = record {
     quiet = e.quiet;
     each = λ image is.
         let whole : Run = record run { synced = length run.lines; settled = length run.lines } in
         let w : IsRun whole = record { least = r.least; most = r.most; places = r.places; apart = r.apart; lens = r.lens; order = omega arith; within = omega arith } in
-        let (used, from, to, of) = recovers whole holds w e.told e.fits image is in
+        let (used, from, to, of) = recovers whole s.holds w e.told e.fits image is in
         let all : used ≡ length run.lines = omega (arith, from, to) in
         subst (λ (n : ℕ). IsArenaOf n run.lines run.stored image) all of;
   }
 
-pub head_since : {E : Type 0} (run : Run) (unsure : List Bool) (holds : Content) {moments : List Content} (result : Result Unit E) → MatchResult result (λ _. Ends run unsure holds moments) (λ _. Goes run unsure holds moments) → Since run.before moments (Recovers run.synced run.lines run.stored)
-head_since run unsure holds (Ok u) e = e.since
-head_since run unsure holds (Err f) g = g.since
+pub head_since : {E : Type 0} (run : Run) (s : DiskState) (result : Result Unit E) → MatchResult result (λ _. Ends run s) (λ _. Goes run s) → Since run.before s.moments (Recovers run.synced run.lines run.stored)
+head_since run s (Ok u) e = e.since
+head_since run s (Err f) g = g.since
 
-pub head_keeps : {E : Type 0} {size synced : ℕ} {lines : List ArenaLine} {waiting stored : List (List ℕ)} {unsure : List Bool} {holds : Content} (flags : List Bool) (now : Content) (before moments : List Content) (result : Result Unit E) → InMemory size lines waiting → waiting ≡ [] → KeepsIn size lines waiting stored synced unsure holds
-    → MatchResult result (λ _. Ends (record { size = size; synced = synced; settled = settled_count lines waiting; lines = lines; stored = stored; before = before }) flags now moments) (λ _. Goes (record { size = size; synced = synced; settled = settled_count lines waiting; lines = lines; stored = stored; before = before }) flags now moments)
-    → MatchResult result (λ _. KeepsIn size lines waiting stored (length stored) flags now × Settled lines stored now) (λ _. KeepsIn size lines waiting stored synced flags now)
-head_keeps {E} {size} {synced} {lines} {waiting} {stored} {unsure} {holds} flags now before moments (Ok u) m none k e =
+pub head_keeps : {E : Type 0} {size synced : ℕ} {lines : List ArenaLine} {waiting stored : List (List ℕ)} {s : DiskState} (now : DiskState) (before : List Content) (result : Result Unit E) → InMemory size lines waiting → waiting ≡ [] → KeepsIn size lines waiting stored synced s
+    → MatchResult result (λ _. Ends (record { size = size; synced = synced; settled = settled_count lines waiting; lines = lines; stored = stored; before = before }) now) (λ _. Goes (record { size = size; synced = synced; settled = settled_count lines waiting; lines = lines; stored = stored; before = before }) now)
+    → MatchResult result (λ _. KeepsIn size lines waiting stored (length stored) now × Settled lines stored now.holds) (λ _. KeepsIn size lines waiting stored synced now)
+head_keeps {E} {size} {synced} {lines} {waiting} {stored} {s} now before (Ok u) m none k e =
     let same : settled_count lines waiting ≡ length lines = omega (arith, ap length none) in
     let all : length stored ≡ length lines = k.count in (
       record {
@@ -133,12 +133,12 @@ head_keeps {E} {size} {synced} {lines} {waiting} {stored} {unsure} {holds} flags
         lens = k.lens;
         wait = k.wait;
         order = omega (arith, same, all);
-        fits = subst (λ (n : ℕ). AllFit size n (settled_count lines waiting) lines stored now) (sym all) (subst (λ (n : ℕ). AllFit size (length lines) n lines stored now) (sym same) e.fits);
+        fits = subst (λ (n : ℕ). AllFit size n (settled_count lines waiting) lines stored now.holds) (sym all) (subst (λ (n : ℕ). AllFit size (length lines) n lines stored now.holds) (sym same) e.fits);
         due = λ at lt flag. inl (e.quiet.each at (omega (arith, lt, e.told)));
       },
       settled (is_run m before k) e,
     )
-head_keeps flags now before moments (Err f) m none k g = still_keeps m k g
+head_keeps now before (Err f) m none k g = still_keeps m k g
 
 pub whole_is : (s : Shelf) → s.pending.items ≡ [] → settled_count s.index.lines.items (waits s.pending.items) ≡ length s.index.lines.items
 whole_is s none = omega (arith, ap length none, length-map s.pending.items (λ (w : Waiting). w.bytes.items))

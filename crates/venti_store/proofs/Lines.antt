@@ -1,7 +1,8 @@
 -- The writes of blocks of the index.
-use Rattle.std.proofs.Common.{◌≡◌, inr, ⊎_elim, ℕ, ◌+◌, ◌*◌, ◌/◌, ◌<◌, ◌≤◌, Bool, false, List, length, set, sym, ap, subst, arith}
+use Rattle.std.specs.Prelude.{Ok}
+use Rattle.std.proofs.Common.{◌≡◌, inr, ⊎_elim, ℕ, ◌+◌, ◌*◌, ◌/◌, ◌<◌, ◌≤◌, List, length, sym, ap, subst, arith}
 use Rattle.std.proofs.lemmas.Bool.{cases_lt}
-use Rattle.fo_disk.specs.Disk.{Block, Content, Adds}
+use Rattle.fo_disk.specs.Disk.{Block, DiskState, IsWrite}
 use Rattle.fo_image.specs.Place.{line_block, stored_block}
 use Rattle.venti_store.specs.Held.{HasLine, HasBytes}
 use Rattle.fo_image.specs.declared.types.ArenaLine.{ArenaLine}
@@ -33,8 +34,8 @@ module _ {run : Run} {group at : ℕ} {block : Block} (n : NextLines run group a
   not_stored : (place : ℕ) → stored_block place ≡ at → ⊥
   not_stored place is = omega (arith, is, n.at_is)
 
-  pub adding_lines : {unsure flags : List Bool} {failed : Bool} {holds now : Content} → flags ≡ set unsure at failed → Adding run unsure flags failed holds now at block
-  adding_lines flag = record {
+  pub adding_lines : Adding run at block
+  adding_lines = record {
     within = inside;
     fits = record {
       head = λ zero. absurd (omega (arith, zero, n.at_is));
@@ -42,23 +43,22 @@ module _ {run : Run} {group at : ℕ} {block : Block} (n : NextLines run group a
       bytes = λ place lt is. absurd (not_stored place is);
     };
     due = due;
-    flag = flag;
   }
 
-  pub lines_wrote : {unsure flags : List Bool} {holds now : Content} → length holds ≡ run.size → WroteLines run (341 * group) unsure holds → Adds at block holds now → flags ≡ set unsure at false → WroteLines run (341 * (group + 1)) flags now
-  lines_wrote {unsure} {flags} {holds} {now} told wrote w flag = record {
+  pub lines_wrote : {E : Type 0} {u : Unit} {old new : DiskState} → length old.holds ≡ run.size → WroteLines run (341 * group) old → IsWrite {E = E} at block (Ok u) old new → WroteLines run (341 * (group + 1)) new
+  lines_wrote {new = new} told wrote w = record {
     each = λ place from to used. ⊎_elim
-        (λ lt. done_other false (line_block place) (HasLine run.lines place) (λ is. let same = group_of place is in omega (arith, lt, same)) w flag (wrote.each place from lt used))
+        (λ lt. done_other (line_block place) (HasLine run.lines place) (λ is. let same = group_of place is in omega (arith, lt, same)) w (wrote.each place from lt used))
         (λ ge.
         let here : at ≡ line_block place = omega (arith, ge, to, n.at_is) in
-        subst (λ (k : ℕ). IsDone flags now k (HasLine run.lines place)) here (done_here unsure (HasLine run.lines place) (subst (λ (k : ℕ). at < k) (sym told) inside) w flag (n.has place (group_of place (sym here)) used)))
+        subst (λ (k : ℕ). IsDone new k (HasLine run.lines place)) here (done_here (HasLine run.lines place) (subst (λ (k : ℕ). at < k) (sym told) inside) w (n.has place (group_of place (sym here)) used)))
         (cases_lt place (341 * group));
   }
 
 -- the bytes stay
-pub bytes_stay : {run : Run} {unsure flags : List Bool} {holds now : Content} {at : ℕ} {block : Block} (group : ℕ) (upto : ℕ) → at ≡ 1 + 342 * group → WroteBytes run upto unsure holds → Adds at block holds now → flags ≡ set unsure at false → WroteBytes run upto flags now
-bytes_stay {run} group upto at_is wrote w flag = record {
-  each = λ place from to. done_other false (stored_block place) (HasBytes run.lines run.stored place) (λ is. omega (arith, is, at_is)) w flag (wrote.each place from to);
+pub bytes_stay : {E : Type 0} {u : Unit} {run : Run} {old new : DiskState} {at : ℕ} {block : Block} (group : ℕ) (upto : ℕ) → at ≡ 1 + 342 * group → WroteBytes run upto old → IsWrite {E = E} at block (Ok u) old new → WroteBytes run upto new
+bytes_stay {run = run} group upto at_is wrote w = record {
+  each = λ place from to. done_other (stored_block place) (HasBytes run.lines run.stored place) (λ is. omega (arith, is, at_is)) w (wrote.each place from to);
 }
 
 pub next_lines : {run : Run} {lines : List ArenaLine} {group at first : ℕ} {block : Block} → run.lines ≡ lines → run.settled ≡ first → first < length lines → first / 341 ≤ group → 341 * group < length lines → at ≡ 1 + 342 * group

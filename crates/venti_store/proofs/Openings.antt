@@ -1,15 +1,15 @@
 -- The lines that an opening reads, and what an open arena keeps.
-use Rattle.std.proofs.Common.{◌≡◌, ◌≢◌, ◌⊎◌, true, inl, inr, ⊎_elim, ℕ, ◌+◌, ◌-◌, ◌*◌, ◌/◌, ◌%◌, ◌<◌, ◌≤◌, ◌^◌, Bool, List, [], ◌∷◌, ◌++◌, length, get_or, take, drop, refl, sym, ◌∙◌, ap, subst, arith, length-take}
+use Rattle.std.proofs.Common.{◌≡◌, ◌≢◌, ◌⊎◌, true, inl, inr, ⊎_elim, ℕ, ◌+◌, ◌-◌, ◌*◌, ◌/◌, ◌%◌, ◌<◌, ◌≤◌, ◌^◌, List, [], ◌∷◌, ◌++◌, length, get_or, take, drop, refl, sym, ◌∙◌, ap, subst, arith, length-take}
 use Rattle.std.specs.Prelude.{Option, Some, None, IfSome, is_some}
 use Rattle.std.specs.List.{Contains}
 use Rattle.std.proofs.lemmas.Bool.{cases_eq}
 use Rattle.std.proofs.lemmas.List.{get_or_push, length_push, get_or_append_left, length-map}
-use Rattle.fo_disk.specs.Disk.{Block, Content, versions_of, IsContent}
+use Rattle.fo_disk.specs.Disk.{Block, Content, DiskState, versions_of, IsContent}
 use Rattle.fo_disk.proofs.Quiet.{settled-quiet, settled-is_image, read-quiet}
 use Rattle.fo_image.specs.declared.types.ArenaLine.{ArenaLine}
 use Rattle.fo_image.specs.Format.{SpellsArenaLine}
 use Rattle.fo_image.specs.Place.{line_block, line_byte, stored_block}
-use Rattle.fo_sound.specs.Device.{Shows, IsKept}
+use Rattle.fo_sound.specs.Device.{Shows}
 use Rattle.fo_sound.specs.Image.{block_of}
 use Rattle.venti_store.specs.Held.{no_line, line_at, stored_at, name_of, line_bytes, HasLine, IsIndexed, IsArenaOf}
 use Rattle.venti_store.specs.Kept.{waits, settled_count, Fits, KeepsIn}
@@ -22,8 +22,8 @@ use Rattle.fo_sound.specs.Sizes.{IsArena}
 use Rattle.venti_store.proofs.Settled.{stored_within}
 use Rattle.venti_store.proofs.Keeping.{apart}
 
-pub shown_on : {holds now : Content} {moments moments_now : List Content} {unsure flags : List Bool} {vault : List Block} → IsKept holds now moments moments_now unsure flags → Shows holds vault → Shows now vault
-shown_on kept shows = record { quiet = kept.same_versions ∙ shows.quiet; some = shows.some }
+pub shown_on : {old new : DiskState} {vault : List Block} → new ≡ old → Shows old.holds vault → Shows new.holds vault
+shown_on kept shows = record { quiet = ap (λ (s : DiskState). s.holds) kept ∙ shows.quiet; some = shows.some }
 
 -- the bytes of the line of a place, in the block of its group
 pub bytes_here : (group n : ℕ) (block : Block) (vault : List Block) → n < 341 → block ≡ block_of vault (1 + 342 * group) → take (24 * n + 24 - 24 * n) (drop (24 * n) block) ≡ line_bytes (341 * group + n) (block_of vault (line_block (341 * group + n)))
@@ -93,7 +93,7 @@ stored_is vault place [] k lt = absurd (omega (arith, lt))
 stored_is vault place (line ∷ lines) Rattle.std.proofs.Common.zero lt = ap (λ (n : ℕ). take line.len (block_of vault (stored_block n))) (let e : place ≡ place + 0 = omega arith in e)
 stored_is vault place (line ∷ lines) (Rattle.std.proofs.Common.suc k) lt = stored_is vault (place + 1) lines k (omega (arith, lt)) ∙ ap (λ (n : ℕ). take (line_at lines k).len (block_of vault (stored_block n))) (let e : place + 1 + k ≡ place + Rattle.std.proofs.Common.suc k = omega arith in e)
 
-module _ {size device : ℕ} {lines : List ArenaLine} {waiting : List (List ℕ)} {holds : Content} {vault : List Block} (shows : Shows holds vault) (content : IsContent device holds) (indexed : IsIndexed (length lines) lines vault) (none : waiting ≡ []) (size_is : size ≡ length vault) where
+module _ {size device : ℕ} {lines : List ArenaLine} {waiting : List (List ℕ)} (s : DiskState) {vault : List Block} (shows : Shows s.holds vault) (content : IsContent device s.holds) (indexed : IsIndexed (length lines) lines vault) (none : waiting ≡ []) (size_is : size ≡ length vault) where
   stored : List (List ℕ)
   stored = stored_from vault 0 lines
 
@@ -108,10 +108,10 @@ module _ {size device : ℕ} {lines : List ArenaLine} {waiting : List (List ℕ)
   all : settled_count lines waiting ≡ length lines
   all = omega (arith, ap length none)
 
-  told : length holds ≡ length vault
+  told : length s.holds ≡ length vault
   told = ap length shows.quiet ∙ length-map vault (λ (b : Block). b ∷ [])
 
-  version : (at : ℕ) (block : Block) → at < size → Contains (versions_of holds at) block → block ≡ block_of vault at
+  version : (at : ℕ) (block : Block) → at < size → Contains (versions_of s.holds at) block → block ≡ block_of vault at
   version at block lt has = read-quiet vault at (omega (arith, lt, size_is)) (subst (λ (c : Content). Contains (versions_of c at) block) shows.quiet has)
 
   whole : (at : ℕ) → at < size → length (block_of vault at) ≡ 8192
@@ -120,10 +120,10 @@ module _ {size device : ℕ} {lines : List ArenaLine} {waiting : List (List ℕ)
       let has = image.each at (omega (arith, lt, size_is, length-map vault (λ (b : Block). b ∷ []))) in
       content.whole at (block_of vault at) (omega (arith, lt, size_is, told, content.count)) (subst (λ (c : Content). Contains (versions_of c at) (block_of vault at)) (sym shows.quiet) has)
 
-  one : (at : ℕ) → at < size → length (versions_of holds at) ≡ 1
+  one : (at : ℕ) → at < size → length (versions_of s.holds at) ≡ 1
   one at lt = subst (λ (c : Content). length (versions_of c at) ≡ 1) (sym shows.quiet) ((settled-quiet vault).each at (omega (arith, lt, size_is, length-map vault (λ (b : Block). b ∷ []))))
 
-  fits : (at : ℕ) (block : Block) → at < size → Contains (versions_of holds at) block → Fits size (length lines) (length lines) lines stored at block
+  fits : (at : ℕ) (block : Block) → at < size → Contains (versions_of s.holds at) block → Fits size (length lines) (length lines) lines stored at block
   fits at block lt has =
       let is = version at block lt has in
       record {
@@ -140,8 +140,8 @@ module _ {size device : ℕ} {lines : List ArenaLine} {waiting : List (List ℕ)
   arena : IsArenaOf (length lines) lines stored vault
   arena = record { indexed = indexed; bytes = λ place used. bytes place used }
 
-  keeps : (unsure : List Bool) → KeepsIn size lines waiting stored (length stored) unsure holds
-  keeps unsure = record {
+  keeps : KeepsIn size lines waiting stored (length stored) s
+  keeps = record {
     told = told ∙ sym size_is;
     some = λ at lt. let is = one at lt in omega (arith, is);
     count = count;
@@ -163,15 +163,15 @@ module _ {size device : ℕ} {lines : List ArenaLine} {waiting : List (List ℕ)
           nil [] is = refl
           nil (y ∷ ys) is = absurd (omega (arith, is))
 
-  pub kept : (unsure : List Bool) → (stored : List (List ℕ)) × IsArenaOf (length lines) lines stored vault × KeepsIn size lines waiting stored (length stored) unsure holds
-  kept unsure = (stored, arena, keeps unsure)
+  pub kept : (stored : List (List ℕ)) × IsArenaOf (length lines) lines stored vault × KeepsIn size lines waiting stored (length stored) s
+  kept = (stored, arena, keeps)
 
-pub opens : (s : Shelf) {device : ℕ} (unsure : List Bool) {holds : Content} {vault : List Block} → Shows holds vault → (holds ≡ []) ⊎ IsContent device holds → IsIndexed (length s.index.lines.items) s.index.lines.items vault → s.pending.items ≡ [] → device ≡ s.blocks → Opens vault s unsure holds
-opens s {device} unsure {holds} {vault} shows content indexed none size_is = ⊎_elim
+pub opens : (s : Shelf) {device : ℕ} (d : DiskState) {vault : List Block} → Shows d.holds vault → (d.holds ≡ []) ⊎ IsContent device d.holds → IsIndexed (length s.index.lines.items) s.index.lines.items vault → s.pending.items ≡ [] → device ≡ s.blocks → Opens vault s d
+opens s {device} d {vault} shows content indexed none size_is = ⊎_elim
     (λ nil. absurd (omega (arith, ap length (sym nil ∙ shows.quiet), length-map vault (λ (b : Block). b ∷ []), shows.some)))
     (λ is.
     let size : s.blocks ≡ length vault = sym size_is ∙ sym is.count ∙ ap length shows.quiet ∙ length-map vault (λ (b : Block). b ∷ []) in
-    let k = kept shows is indexed (ap waits none) size unsure in record { stored = k.0; is = k.1; keeps = k.2 })
+    let k = kept d shows is indexed (ap waits none) size in record { stored = k.0; is = k.1; keeps = k.2 })
     content
 
 -- ---- the ways out of an opening

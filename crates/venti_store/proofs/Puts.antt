@@ -9,14 +9,13 @@ use Rattle.std.proofs.lemmas.Slice.Eq.{slice_eq-Decides}
 use Rattle.std.specs.Cmp.Lexicographic.{pointwise}
 use Rattle.std.specs.Prelude.{nat_eq}
 use Rattle.std.proofs.lemmas.List.{get_or-map, get_or-drop, get_or_push, length_push, get_or_append_left, drop-append-le}
-use Rattle.fo_disk.specs.Disk.{Block, Content, versions_of, IsNewest, Since}
+use Rattle.fo_disk.specs.Disk.{Block, Content, DiskState, versions_of, IsNewest, Since}
 use Rattle.fo_image.specs.declared.types.ArenaLine.{ArenaLine}
 use Rattle.fo_image.specs.Format.{IsScore}
 use Rattle.fo_image.specs.Place.{stored_block}
 use Rattle.sha1.specs.Sha1.{sha1}
 use Rattle.venti_store.specs.Held.{no_line, line_at, name_of, stored_at, HasLine, HasBytes, HasName, IsNamed, IsHeld, Recovers}
 use Rattle.venti_store.specs.Kept.{waits, settled_count, AllFit, AreDue, KeepsIn}
-use Rattle.fo_sound.specs.Device.{IsKept}
 use Rattle.venti_store.specs.declared.shelf.Shelf.{Shelf}
 use Rattle.venti_store.specs.declared.waiting.Waiting.{Waiting}
 use Rattle.venti_store.specs.declared.error.ArenaError.{ArenaError}
@@ -27,19 +26,19 @@ use Rattle.venti_store.proofs.Keeping.{InMemory, in_memory, begins}
 use Rattle.venti_store.proofs.Settled.{stored_within}
 
 -- the bytes of a place that waits
-pub read_waiting : {size : ℕ} {lines : List ArenaLine} {waiting stored : List (List ℕ)} {synced : ℕ} {unsure : List Bool} {holds : Content} (place : ℕ) → KeepsIn size lines waiting stored synced unsure holds → settled_count lines waiting ≤ place → get_or waiting (place - settled_count lines waiting) [] ≡ stored_at stored place
+pub read_waiting : {size : ℕ} {lines : List ArenaLine} {waiting stored : List (List ℕ)} {synced : ℕ} {s : DiskState} (place : ℕ) → KeepsIn size lines waiting stored synced s → settled_count lines waiting ≤ place → get_or waiting (place - settled_count lines waiting) [] ≡ stored_at stored place
 read_waiting {lines = lines} {waiting = waiting} {stored = stored} place k le =
     ap (λ (ws : List (List ℕ)). get_or ws (place - settled_count lines waiting) []) k.wait
     ∙ get_or-drop (settled_count lines waiting) stored (place - settled_count lines waiting) []
     ∙ ap (λ (n : ℕ). get_or stored n []) (let e : settled_count lines waiting + (place - settled_count lines waiting) ≡ place = omega (arith, le) in e)
 
 -- the bytes of a place that is settled
-pub read_settled : {size : ℕ} {lines : List ArenaLine} {waiting stored : List (List ℕ)} {synced : ℕ} {unsure : List Bool} {holds : Content} (place : ℕ) (block : Block) → InMemory size lines waiting → KeepsIn size lines waiting stored synced unsure holds → place < settled_count lines waiting → Contains (versions_of holds (stored_block place)) block
+pub read_settled : {size : ℕ} {lines : List ArenaLine} {waiting stored : List (List ℕ)} {synced : ℕ} {s : DiskState} (place : ℕ) (block : Block) → InMemory size lines waiting → KeepsIn size lines waiting stored synced s → place < settled_count lines waiting → Contains (versions_of s.holds (stored_block place)) block
     → take (line_at lines place).len block ≡ stored_at stored place
 read_settled {size} {lines} {waiting} place block m k lt has = sym ((k.fits (stored_block place) block (stored_within size place (omega (arith, lt, m.places))) has).bytes place lt refl)
 
 -- a block is told where the device tells what it holds
-pub stored_told : {size : ℕ} {lines : List ArenaLine} {waiting stored : List (List ℕ)} {synced : ℕ} {unsure : List Bool} {holds : Content} (place : ℕ) → InMemory size lines waiting → KeepsIn size lines waiting stored synced unsure holds → place < length lines → stored_block place < length holds
+pub stored_told : {size : ℕ} {lines : List ArenaLine} {waiting stored : List (List ℕ)} {synced : ℕ} {s : DiskState} (place : ℕ) → InMemory size lines waiting → KeepsIn size lines waiting stored synced s → place < length lines → stored_block place < length s.holds
 stored_told {size} {lines} place m k lt = let within = stored_within size place (omega (arith, lt, m.places)) in omega (arith, within, k.told)
 
 -- one block more
@@ -62,27 +61,27 @@ module _ {lines now : List ArenaLine} {waiting after : List (List ℕ)} {line : 
   line_new : line_at now (length lines) ≡ line
   line_new = ap (λ (ls : List ArenaLine). line_at ls (length lines)) a.line_is ∙ get_or_push lines line no_line (length lines) refl
 
-  module _ {size : ℕ} {stored : List (List ℕ)} {synced : ℕ} {unsure : List Bool} {holds : Content} (k : KeepsIn size lines waiting stored synced unsure holds) where
+  module _ {size : ℕ} {stored : List (List ℕ)} {synced : ℕ} {s : DiskState} (k : KeepsIn size lines waiting stored synced s) where
     stored_before : (place : ℕ) → place < length lines → stored_at (stored ++ bytes ∷ []) place ≡ stored_at stored place
     stored_before place lt = get_or_append_left stored (bytes ∷ []) [] place (omega (arith, lt, k.count))
 
     stored_new : stored_at (stored ++ bytes ∷ []) (length lines) ≡ bytes
     stored_new = get_or_push stored bytes [] (length lines) k.count
 
-    fits_now : AllFit size synced (settled_count lines waiting) now (stored ++ bytes ∷ []) holds
+    fits_now : AllFit size synced (settled_count lines waiting) now (stored ++ bytes ∷ []) s.holds
     fits_now at block lt has = let f = k.fits at block lt has in record {
       head = f.head;
       line = λ place below is. subst (λ (l : ArenaLine). Rattle.fo_image.specs.Format.SpellsArenaLine l (Rattle.venti_store.specs.Held.line_bytes place block)) (sym (line_before place (omega (arith, below)))) (f.line place below is);
       bytes = λ place below is. stored_before place (omega (arith, below)) ∙ f.bytes place below is ∙ ap (λ (l : ArenaLine). take l.len block) (sym (line_before place (omega (arith, below))));
     }
 
-    due_now : AreDue size (settled_count lines waiting) (length now) unsure holds
+    due_now : AreDue size (settled_count lines waiting) (length now) s
     due_now at lt flag = ⊎_elim
         (λ one. inl one)
         (λ due. inr (⊎_elim (λ zero. inl zero) (λ (place, from, to, which). inr (place, from, omega (arith, to, more), which)) due))
         (k.due at lt flag)
 
-    pub added_keeps : KeepsIn size now after (stored ++ bytes ∷ []) synced unsure holds
+    pub added_keeps : KeepsIn size now after (stored ++ bytes ∷ []) synced s
     added_keeps = record {
       told = k.told;
       some = k.some;
@@ -95,29 +94,29 @@ module _ {lines now : List ArenaLine} {waiting after : List (List ℕ)} {line : 
           (cases_eq place (length lines));
       wait = a.bytes_is ∙ ap (λ (ws : List (List ℕ)). ws ++ bytes ∷ []) k.wait ∙ sym (drop-append-le (settled_count lines waiting) stored (bytes ∷ []) (omega (arith, k.count))) ∙ ap (λ (n : ℕ). drop n (stored ++ bytes ∷ [])) (sym same_count);
       order = omega (arith, k.order, same_count);
-      fits = subst (λ (n : ℕ). AllFit size synced n now (stored ++ bytes ∷ []) holds) (sym same_count) fits_now;
-      due = subst (λ (n : ℕ). AreDue size n (length now) unsure holds) (sym same_count) due_now;
+      fits = subst (λ (n : ℕ). AllFit size synced n now (stored ++ bytes ∷ []) s.holds) (sym same_count) fits_now;
+      due = subst (λ (n : ℕ). AreDue size n (length now) s) (sym same_count) due_now;
     }
 
 -- what was only read keeps what it kept
-pub kept_keeps : {s t : Shelf} {stored : List (List ℕ)} {synced : ℕ} {h now : Content} {m moments : List Content} {u flags : List Bool} → t ≡ s → IsKept h now m moments u flags → Keeps s stored synced u h → Keeps t stored synced flags now
-kept_keeps {s} {t} {stored} {synced} {h} {now} {m} {moments} {u} {flags} same kept k =
-    subst (λ (x : Shelf). Keeps x stored synced flags now) (sym same) (subst (λ (c : Content). Keeps s stored synced flags c) (sym kept.same_versions) (subst (λ (us : List Bool). Keeps s stored synced us h) (sym kept.same_flags) k))
+pub kept_keeps : {s t : Shelf} {stored : List (List ℕ)} {synced : ℕ} {old new : DiskState} → t ≡ s → new ≡ old → Keeps s stored synced old → Keeps t stored synced new
+kept_keeps {s} {t} {stored} {synced} {old} {new} same kept k =
+    subst (λ (x : Shelf). Keeps x stored synced new) (sym same) (subst (λ (d : DiskState). Keeps s stored synced d) (sym kept) k)
 
-pub same_keeps : {size other : ℕ} {lines now : List ArenaLine} {waiting after stored : List (List ℕ)} {synced : ℕ} {unsure : List Bool} {holds : Content} → other ≡ size → now ≡ lines → after ≡ waiting → KeepsIn size lines waiting stored synced unsure holds → KeepsIn other now after stored synced unsure holds
-same_keeps {size} {other} {lines} {now} {waiting} {after} {stored} {synced} {unsure} {holds} size_is lines_is waiting_is k =
-    subst (λ (n : ℕ). KeepsIn n now after stored synced unsure holds) (sym size_is) (subst (λ (ls : List ArenaLine). KeepsIn size ls after stored synced unsure holds) (sym lines_is) (subst (λ (ws : List (List ℕ)). KeepsIn size lines ws stored synced unsure holds) (sym waiting_is) k))
+pub same_keeps : {size other : ℕ} {lines now : List ArenaLine} {waiting after stored : List (List ℕ)} {synced : ℕ} {s : DiskState} → other ≡ size → now ≡ lines → after ≡ waiting → KeepsIn size lines waiting stored synced s → KeepsIn other now after stored synced s
+same_keeps {size} {other} {lines} {now} {waiting} {after} {stored} {synced} {s} size_is lines_is waiting_is k =
+    subst (λ (n : ℕ). KeepsIn n now after stored synced s) (sym size_is) (subst (λ (ls : List ArenaLine). KeepsIn size ls after stored synced s) (sym lines_is) (subst (λ (ws : List (List ℕ)). KeepsIn size lines ws stored synced s) (sym waiting_is) k))
 
-pub stays_since : (s : Shelf) {stored : List (List ℕ)} {synced size : ℕ} {u : List Bool} {h : Content} {m : List Content} → Keeps s stored synced u h → IsNewest size h m → Since m m (Recovers synced s.index.lines.items stored)
+pub stays_since : (s : Shelf) {stored : List (List ℕ)} {synced size : ℕ} {d : DiskState} → Keeps s stored synced d → IsNewest size d.holds d.moments → Since d.moments d.moments (Recovers synced s.index.lines.items stored)
 stays_since s k newest = (begins (in_memory s) k newest).since
 
-pub kept_since : (s : Shelf) {stored : List (List ℕ)} {synced size : ℕ} {u flags : List Bool} {h now : Content} {m moments : List Content} → IsKept h now m moments u flags → Keeps s stored synced u h → IsNewest size h m → Since m moments (Recovers synced s.index.lines.items stored)
-kept_since s {stored} {synced} {m = m} kept k newest = subst (λ (ms : List Content). Since m ms (Recovers synced s.index.lines.items stored)) (sym kept.same_moments) (stays_since s k newest)
+pub kept_since : (s : Shelf) {stored : List (List ℕ)} {synced size : ℕ} {old new : DiskState} → new ≡ old → Keeps s stored synced old → IsNewest size old.holds old.moments → Since old.moments new.moments (Recovers synced s.index.lines.items stored)
+kept_since s {stored} {synced} {old = old} kept k newest = subst (λ (d : DiskState). Since old.moments d.moments (Recovers synced s.index.lines.items stored)) (sym kept) (stays_since s k newest)
 
 -- a run after what was only read
-pub read_since : {s t : Shelf} {stored : List (List ℕ)} {synced : ℕ} {u flags : List Bool} {h now : Content} {m moments new : List Content} → t ≡ s → IsKept h now m moments u flags → Since moments new (Recovers synced t.index.lines.items stored) → Since m new (Recovers synced s.index.lines.items stored)
-read_since {s} {t} {stored} {synced} {m = m} {moments = moments} {new = new} same kept since =
-    subst (λ (ms : List Content). Since ms new (Recovers synced s.index.lines.items stored)) kept.same_moments (subst (λ (x : Shelf). Since moments new (Recovers synced x.index.lines.items stored)) same since)
+pub read_since : {s t : Shelf} {stored : List (List ℕ)} {synced : ℕ} {old new : DiskState} {moments : List Content} → t ≡ s → new ≡ old → Since new.moments moments (Recovers synced t.index.lines.items stored) → Since old.moments moments (Recovers synced s.index.lines.items stored)
+read_since {s} {t} {stored} {synced} {old} {new} {moments} same kept since =
+    subst (λ (d : DiskState). Since d.moments moments (Recovers synced s.index.lines.items stored)) kept (subst (λ (x : Shelf). Since new.moments moments (Recovers synced x.index.lines.items stored)) same since)
 
 pub ok_weaker : {V E : Type 0} (result : Result V E) (P Q : V → Type 0) → ((v : V) → P v → Q v) → IfOk result P → IfOk result Q
 ok_weaker (Ok v) P Q f h = f v h

@@ -1,7 +1,7 @@
 -- What an open arena keeps, and what its calls do.
-use Rattle.std.specs.Prelude.{◌≡◌, ◌≢◌, ◌⊎◌, ℕ, ◌<◌, ◌≤◌, Bool, List, [], ◌∷◌, ◌++◌, length, Result, IfErr}
+use Rattle.std.specs.Prelude.{◌≡◌, ◌≢◌, ◌⊎◌, ℕ, ◌<◌, ◌≤◌, List, [], ◌∷◌, ◌++◌, length, Result, IfErr}
 use Rattle.fo_base.specs.Cause.{Rose}
-use Rattle.fo_disk.specs.Disk.{Block, Content, IsImage, IsQuiet}
+use Rattle.fo_disk.specs.Disk.{Block, Content, DiskState, IsImage, IsQuiet}
 use Rattle.fo_image.specs.declared.types.ArenaLine.{ArenaLine}
 use Rattle.fo_image.specs.Format.{IsScore}
 use Rattle.fo_image.specs.Place.{arena_places, stored_block}
@@ -17,8 +17,8 @@ abbrev pub lines_of : Shelf → List ArenaLine
 lines_of shelf = shelf.index.lines.items
 
 -- The device tells what it holds, and the used places have these bytes, of which the first `synced` were held when a sync last answered Ok.
-abbrev pub Keeps : Shelf → List (List ℕ) → ℕ → List Bool → Content → Type 0
-Keeps shelf stored synced unsure holds = KeepsIn shelf.blocks shelf.index.lines.items (waits shelf.pending.items) stored synced unsure holds
+abbrev pub Keeps : Shelf → List (List ℕ) → ℕ → DiskState → Type 0
+Keeps shelf stored synced s = KeepsIn shelf.blocks shelf.index.lines.items (waits shelf.pending.items) stored synced s
 
 -- The device is quiet, and each image of it is an arena of just these used places.
 pub record Settled (lines : List ArenaLine) (stored : List (List ℕ)) (holds : Content) : Type 0 where

@@ -1,7 +1,7 @@
 -- What an open arena knows of a device that tells what it holds.
-use Rattle.std.specs.Prelude.{◌≡◌, ◌⊎◌, ℕ, ◌-◌, ◌<◌, ◌≤◌, Bool, true, false, List, length, map, drop, slice_index_or}
+use Rattle.std.specs.Prelude.{◌≡◌, ◌⊎◌, ℕ, ◌-◌, ◌<◌, ◌≤◌, true, false, List, length, map, drop, slice_index_or}
 use Rattle.std.specs.List.{Contains}
-use Rattle.fo_disk.specs.Disk.{Block, Content, versions_of, IsSettled}
+use Rattle.fo_disk.specs.Disk.{Block, Content, DiskState, versions_of, IsSettled}
 use Rattle.fo_disk.specs.declared.disk.DiskFault.{DiskFault}
 use Rattle.fo_disk.specs.declared.disk.DiskFault.TheVariants.{Read, Write, Sync}
 use Rattle.fo_image.specs.declared.types.ArenaLine.{ArenaLine}
@@ -39,20 +39,20 @@ abbrev pub IsDue : ℕ → ℕ → ℕ → Type 0
 IsDue settled used at = (at ≡ 0) ⊎ ((place : ℕ) × (settled ≤ place) × (place < used) × ((stored_block place ≡ at) ⊎ (line_block place ≡ at)))
 
 -- Each block whose last write failed is settled, or it is written again before the next sync.
-abbrev pub AreDue : ℕ → ℕ → ℕ → List Bool → Content → Type 0
-AreDue size settled used unsure holds = (at : ℕ) → at < size → slice_index_or unsure at false ≡ true → IsSettled holds at ⊎ IsDue settled used at
+abbrev pub AreDue : ℕ → ℕ → ℕ → DiskState → Type 0
+AreDue size settled used s = (at : ℕ) → at < size → slice_index_or s.unsure at false ≡ true → IsSettled s.holds at ⊎ IsDue settled used at
 
 -- The device tells what it holds, and the used places have these bytes, of which the first `synced` were held when a sync last
 -- answered Ok. Blocks that wait in memory are the last ones.
-pub record KeepsIn (size : ℕ) (lines : List ArenaLine) (waiting stored : List (List ℕ)) (synced : ℕ) (unsure : List Bool) (holds : Content) : Type 0 where
-  pub told : length holds ≡ size
-  pub some : (at : ℕ) → at < size → 0 < length (versions_of holds at)
+pub record KeepsIn (size : ℕ) (lines : List ArenaLine) (waiting stored : List (List ℕ)) (synced : ℕ) (s : DiskState) : Type 0 where
+  pub told : length s.holds ≡ size
+  pub some : (at : ℕ) → at < size → 0 < length (versions_of s.holds at)
   pub count : length stored ≡ length lines
   pub lens : (place : ℕ) → place < length lines → length (stored_at stored place) ≡ (line_at lines place).len
   pub wait : waiting ≡ drop (settled_count lines waiting) stored
   pub order : synced ≤ settled_count lines waiting
-  pub fits : AllFit size synced (settled_count lines waiting) lines stored holds
-  pub due : AreDue size (settled_count lines waiting) (length lines) unsure holds
+  pub fits : AllFit size synced (settled_count lines waiting) lines stored s.holds
+  pub due : AreDue size (settled_count lines waiting) (length lines) s
 
 -- a write or a sync
 abbrev pub IsLater : DiskFault → Type 0

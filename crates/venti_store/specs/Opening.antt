@@ -1,7 +1,7 @@
 -- What the opening of an arena finds, and why it is refused.
-use Rattle.std.specs.Prelude.{◌≡◌, ◌≢◌, ◌⊎◌, ℕ, ◌<◌, ◌≤◌, Bool, List, [], ◌∷◌, ◌++◌, length, Result, IfErr}
+use Rattle.std.specs.Prelude.{◌≡◌, ◌≢◌, ◌⊎◌, ℕ, ◌<◌, ◌≤◌, List, [], ◌∷◌, ◌++◌, length, Result, IfErr}
 use Rattle.fo_base.specs.Cause.{Rose}
-use Rattle.fo_disk.specs.Disk.{Block, Content}
+use Rattle.fo_disk.specs.Disk.{Block, DiskState}
 use Rattle.fo_image.specs.declared.types.ArenaLine.{ArenaLine}
 use Rattle.fo_image.specs.Format.{SpellsArenaLine}
 use Rattle.fo_image.specs.Place.{line_block}
@@ -14,10 +14,10 @@ use Rattle.venti_store.specs.declared.error.ArenaWhy.{ArenaWhy}
 use Rattle.venti_store.specs.declared.error.ArenaWhy.TheVariants as why
 
 -- What is held once the vault is opened: just what its used places hold, all of which is settled.
-pub record Opens (vault : List Block) (shelf : Shelf) (unsure : List Bool) (holds : Content) : Type 0 where
+pub record Opens (vault : List Block) (shelf : Shelf) (s : DiskState) : Type 0 where
   pub stored : List (List ℕ)
   pub is : IsArenaOf (length (lines_of shelf)) (lines_of shelf) stored vault
-  pub keeps : Keeps shelf stored (length stored) unsure holds
+  pub keeps : Keeps shelf stored (length stored) s
 
 -- `NotArena` exactly where the vault is no arena of its format.
 abbrev pub OpenRefuses : List Block → ArenaWhy → Type 0

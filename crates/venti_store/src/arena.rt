@@ -23,7 +23,7 @@ impl<A: Disk> Arena<A> {
     ghost use Rattle.std.specs.Prelude.{IfOk, ◌/◌, ◌+◌, ◌≤◌, ℕ, List, [], length, MatchResult, OnOk, IfErr};
     ghost use Rattle.fo_base.specs.Cause.{HasCause};
     ghost use Rattle.fo_disk.specs.Disk.{Block, Since};
-    ghost use Rattle.fo_sound.specs.Device.{Shows, IsKept};
+    ghost use Rattle.fo_sound.specs.Device.{Shows};
     ghost use Rattle.fo_image.specs.Place.{arena_places};
     ghost use Rattle.venti_store.specs.Held.{Recovers};
     ghost use Rattle.venti_store.specs.Kept.{IsLater};
@@ -33,13 +33,13 @@ impl<A: Disk> Arena<A> {
     /// Opens the arena of a device. A refusal hands the device back.
     pub fn open(alloc: Global, device: A) -> Result<Arena<A>, ArenaOpen<A>>
         // Of a quiet device that tells what it holds, just what is held. `NotArena` comes exactly where it is none.
-        ensures answer { (vault : List Block) → Shows (A.holds device) vault
-            → MatchResult result (λ a. Opens vault a.shelf (A.unsure a.device) (A.holds a.device)) (λ e. OpenRefuses vault e.why) }
+        ensures answer { (vault : List Block) → Shows (A.state device).holds vault
+            → MatchResult result (λ a. Opens vault a.shelf (A.state a.device)) (λ e. OpenRefuses vault e.why) }
 
         // Its blocks are counted, and block 0 and each block of the index with a used line are read, once each. None is written.
         ensures reads { IfOk result (λ a. A.calls a.device ≤ A.calls device + 2 + (length (lines_of a.shelf) + 340) / 341) }
-        ensures kept { MatchResult result (λ a. IsKept (A.holds device) (A.holds a.device) (A.moments device) (A.moments a.device) (A.unsure device) (A.unsure a.device))
-            (λ e. IsKept (A.holds device) (A.holds e.device) (A.moments device) (A.moments e.device) (A.unsure device) (A.unsure e.device)) }
+        ensures kept { MatchResult result (λ a. A.state a.device ≡ A.state device)
+            (λ e. A.state e.device ≡ A.state device) }
         ensures later { MatchResult result (λ a. A.faults device ≤ A.faults a.device) (λ e. A.faults device ≤ A.faults e.device) }
         ensures cause { IfErr result (λ e. OpenBlames (A.faults device) (A.faults e.device) e.why) }
     {
@@ -77,9 +77,9 @@ impl<A: Disk> Arena<A> {
 
     /// Settles the blocks that wait, without the head.
     pub(crate) fn settle(&mut self) -> Result<(), DiskFault>
-        ensures keeps { (stored : List (List ℕ)) (synced : ℕ) → Keeps self.old.shelf stored synced (A.unsure self.old.device) (A.holds self.old.device) → Keeps self.new.shelf stored synced (A.unsure self.new.device) (A.holds self.new.device) }
-        ensures moments { (stored : List (List ℕ)) (synced : ℕ) → Keeps self.old.shelf stored synced (A.unsure self.old.device) (A.holds self.old.device)
-            → Since (A.moments self.old.device) (A.moments self.new.device) (Recovers synced (lines_of self.old.shelf) stored) }
+        ensures keeps { (stored : List (List ℕ)) (synced : ℕ) → Keeps self.old.shelf stored synced (A.state self.old.device) → Keeps self.new.shelf stored synced (A.state self.new.device) }
+        ensures moments { (stored : List (List ℕ)) (synced : ℕ) → Keeps self.old.shelf stored synced (A.state self.old.device)
+            → Since (A.state self.old.device).moments (A.state self.new.device).moments (Recovers synced (lines_of self.old.shelf) stored) }
         ensures blocks { self.new.shelf.blocks ≡ self.old.shelf.blocks }
         ensures index { self.new.shelf.index ≡ self.old.shelf.index }
         ensures none { OnOk result (self.new.shelf.pending.items ≡ []) }
@@ -101,13 +101,13 @@ impl<A: Disk> Arena<A> {
     pub fn sync(&mut self) -> Result<(), DiskFault>
         // What is held stays, whatever is answered. Where it is Ok, the device is quiet and holds just that.
         ensures lines { lines_of self.new.shelf ≡ lines_of self.old.shelf }
-        ensures keeps { (stored : List (List ℕ)) (synced : ℕ) → Keeps self.old.shelf stored synced (A.unsure self.old.device) (A.holds self.old.device)
-            → MatchResult result (λ _. Keeps self.new.shelf stored (length stored) (A.unsure self.new.device) (A.holds self.new.device) × Settled (lines_of self.new.shelf) stored (A.holds self.new.device))
-            (λ _. Keeps self.new.shelf stored synced (A.unsure self.new.device) (A.holds self.new.device)) }
+        ensures keeps { (stored : List (List ℕ)) (synced : ℕ) → Keeps self.old.shelf stored synced (A.state self.old.device)
+            → MatchResult result (λ _. Keeps self.new.shelf stored (length stored) (A.state self.new.device) × Settled (lines_of self.new.shelf) stored (A.state self.new.device).holds)
+            (λ _. Keeps self.new.shelf stored synced (A.state self.new.device)) }
 
         // Each image of each moment is an arena in which at least what was synced is held.
-        ensures moments { (stored : List (List ℕ)) (synced : ℕ) → Keeps self.old.shelf stored synced (A.unsure self.old.device) (A.holds self.old.device)
-            → Since (A.moments self.old.device) (A.moments self.new.device) (Recovers synced (lines_of self.old.shelf) stored) }
+        ensures moments { (stored : List (List ℕ)) (synced : ℕ) → Keeps self.old.shelf stored synced (A.state self.old.device)
+            → Since (A.state self.old.device).moments (A.state self.new.device).moments (Recovers synced (lines_of self.old.shelf) stored) }
 
         ensures blocks { self.new.shelf.blocks ≡ self.old.shelf.blocks }
         ensures cause { HasCause (A.faults self.old.device) (A.faults self.new.device) result }

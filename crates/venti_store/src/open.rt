@@ -3,7 +3,7 @@ ghost use Rattle.std.specs.Prelude.{◌≡◌, ◌+◌, ◌*◌, ◌/◌, ◌^�
 ghost use Rattle.fo_base.specs.Cause.{HasCause};
 ghost use Rattle.fo_disk.specs.Disk.{Block};
 ghost use Rattle.fo_image.specs.Place.{arena_places};
-ghost use Rattle.fo_sound.specs.Device.{Shows, IsKept};
+ghost use Rattle.fo_sound.specs.Device.{Shows};
 ghost use Rattle.fo_sound.specs.Image.{block_of};
 ghost use Rattle.venti_store.specs.Held.{IsIndexed};
 ghost use Rattle.venti_store.specs.Arena.{lines_of};
@@ -20,9 +20,9 @@ use std::alloc::Global;
 /// The number of blocks, which is in range.
 fn count<A: Disk>(device: &mut A) -> Result<u32, ArenaWhy>
     ensures size { IfOk result (λ n. (A.size device.new ≡ n) × (16 ≤ n) × (n ≤ 2 ^ 20)) }
-    ensures shown { (vault : List Block) → Shows (A.holds device.old) vault → MatchResult result (λ n. length vault ≡ n) (OpenRefuses vault) }
+    ensures shown { (vault : List Block) → Shows (A.state device.old).holds vault → MatchResult result (λ n. length vault ≡ n) (OpenRefuses vault) }
     ensures calls { OnOk result (A.calls device.new ≤ A.calls device.old + 1) }
-    ensures kept { IsKept (A.holds device.old) (A.holds device.new) (A.moments device.old) (A.moments device.new) (A.unsure device.old) (A.unsure device.new) }
+    ensures kept { A.state device.new ≡ A.state device.old }
     ensures cause { HasOpenCauses (A.faults device.old) (A.faults device.new) result }
 {
     let Ok(blocks) = device.blocks() else {
@@ -38,10 +38,10 @@ fn count<A: Disk>(device: &mut A) -> Result<u32, ArenaWhy>
 fn read<A: Disk>(device: &mut A, at: u32, into: &mut [u8]) -> Result<(), Failed>
     requires block { at < A.size device.old }
     requires length { length into.old ≡ 8192 }
-    ensures shown { (vault : List Block) → Shows (A.holds device.old) vault → OnOk result (into.new ≡ block_of vault at) }
+    ensures shown { (vault : List Block) → Shows (A.state device.old).holds vault → OnOk result (into.new ≡ block_of vault at) }
     ensures size { A.size device.new ≡ A.size device.old }
     ensures calls { OnOk result (A.calls device.new ≤ A.calls device.old + 1) }
-    ensures kept { IsKept (A.holds device.old) (A.holds device.new) (A.moments device.old) (A.moments device.new) (A.unsure device.old) (A.unsure device.new) }
+    ensures kept { A.state device.new ≡ A.state device.old }
     ensures cause { HasCause (A.faults device.old) (A.faults device.new) result }
 {
     device.read(at, into)
@@ -51,11 +51,11 @@ fn read<A: Disk>(device: &mut A, at: u32, into: &mut [u8]) -> Result<(), Failed>
 fn read_head<A: Disk>(device: &mut A, blocks: u32) -> Result<u32, ArenaWhy>
     requires size { A.size device.old ≡ blocks }
     requires least { 16 ≤ blocks }
-    ensures shown { (vault : List Block) → length vault ≡ blocks → Shows (A.holds device.old) vault → MatchResult result (UsedIs vault) (HeadRefuses vault) }
+    ensures shown { (vault : List Block) → length vault ≡ blocks → Shows (A.state device.old).holds vault → MatchResult result (UsedIs vault) (HeadRefuses vault) }
     ensures places { IfOk result (λ used. used ≤ arena_places blocks) }
     ensures calls { OnOk result (A.calls device.new ≤ A.calls device.old + 1) }
     ensures size { A.size device.new ≡ A.size device.old }
-    ensures kept { IsKept (A.holds device.old) (A.holds device.new) (A.moments device.old) (A.moments device.new) (A.unsure device.old) (A.unsure device.new) }
+    ensures kept { A.state device.new ≡ A.state device.old }
     ensures cause { HasOpenCauses (A.faults device.old) (A.faults device.new) result }
 {
     let mut block = [0; BLOCK];
@@ -110,11 +110,11 @@ fn add_group(index: &mut Index, block: &[u8], group: u32, used: u32) -> Result<(
 fn read_index<A: Disk>(alloc: Global, device: &mut A, used: u32) -> Result<Index, ArenaWhy>
     requires most { A.size device.old ≤ 2 ^ 20 }
     requires places { used ≤ arena_places (A.size device.old) }
-    ensures lines { (vault : List Block) → Shows (A.holds device.old) vault → MatchResult result (λ i. ReadLines used i.lines.items vault) (LinesRefuse used vault) }
+    ensures lines { (vault : List Block) → Shows (A.state device.old).holds vault → MatchResult result (λ i. ReadLines used i.lines.items vault) (LinesRefuse used vault) }
     ensures count { IfOk result (λ i. length i.lines.items ≡ used) }
     ensures calls { OnOk result (A.calls device.new ≤ A.calls device.old + (used + 340) / 341) }
     ensures size { A.size device.new ≡ A.size device.old }
-    ensures kept { IsKept (A.holds device.old) (A.holds device.new) (A.moments device.old) (A.moments device.new) (A.unsure device.old) (A.unsure device.new) }
+    ensures kept { A.state device.new ≡ A.state device.old }
     ensures cause { HasOpenCauses (A.faults device.old) (A.faults device.new) result }
 {
     let mut index = Index::new(alloc);
@@ -130,11 +130,11 @@ fn read_index<A: Disk>(alloc: Global, device: &mut A, used: u32) -> Result<Index
 
 /// What is in memory once the arena is open.
 pub(crate) fn read_shelf<A: Disk>(alloc: Global, device: &mut A) -> Result<Shelf, ArenaWhy>
-    ensures answer { (vault : List Block) → Shows (A.holds device.old) vault → MatchResult result (λ s. IsIndexed (length (lines_of s)) (lines_of s) vault) (OpenRefuses vault) }
+    ensures answer { (vault : List Block) → Shows (A.state device.old).holds vault → MatchResult result (λ s. IsIndexed (length (lines_of s)) (lines_of s) vault) (OpenRefuses vault) }
     ensures size { IfOk result (λ s. A.size device.new ≡ s.blocks) }
     ensures none { IfOk result (λ s. s.pending.items ≡ []) }
     ensures calls { IfOk result (λ s. A.calls device.new ≤ A.calls device.old + 2 + (length (lines_of s) + 340) / 341) }
-    ensures kept { IsKept (A.holds device.old) (A.holds device.new) (A.moments device.old) (A.moments device.new) (A.unsure device.old) (A.unsure device.new) }
+    ensures kept { A.state device.new ≡ A.state device.old }
     ensures cause { HasOpenCauses (A.faults device.old) (A.faults device.new) result }
 {
     let blocks = count(device)?;

@@ -13,7 +13,6 @@ impl<A: Disk> Arena<A> {
     ghost use Rattle.fo_disk.specs.Disk.{Since};
     ghost use Rattle.fo_image.specs.Format.{IsScore, is_arena_kind};
     ghost use Rattle.fo_image.specs.Place.{arena_places};
-    ghost use Rattle.fo_sound.specs.Device.{IsKept};
     ghost use Rattle.sha1.specs.Sha1.{sha1};
     ghost use Rattle.venti_store.specs.Held.{stored_at, HasName, IsNamed, IsHeld, Recovers};
     ghost use Rattle.venti_store.specs.Kept.{waits, settled_count};
@@ -22,11 +21,11 @@ impl<A: Disk> Arena<A> {
     /// The bytes of a place in use.
     fn read_place(&mut self, place: u32) -> Result<Vec<u8>, ArenaError>
         requires { place < length (lines_of self.old.shelf) }
-        ensures read { (stored : List (List ℕ)) (synced : ℕ) → Keeps self.old.shelf stored synced (A.unsure self.old.device) (A.holds self.old.device) → IfOk result (λ v. v.items ≡ stored_at stored place) }
+        ensures read { (stored : List (List ℕ)) (synced : ℕ) → Keeps self.old.shelf stored synced (A.state self.old.device) → IfOk result (λ v. v.items ≡ stored_at stored place) }
         ensures short { IfOk result (λ v. length v.items ≤ 8192) }
         ensures at_hand { settled_count (lines_of self.old.shelf) (waits self.old.shelf.pending.items) ≤ place → A.calls self.new.device ≡ A.calls self.old.device }
         ensures shelf { self.new.shelf ≡ self.old.shelf }
-        ensures kept { IsKept (A.holds self.old.device) (A.holds self.new.device) (A.moments self.old.device) (A.moments self.new.device) (A.unsure self.old.device) (A.unsure self.new.device) }
+        ensures kept { A.state self.new.device ≡ A.state self.old.device }
         ensures cause { HasCauses (A.faults self.old.device) (A.faults self.new.device) result }
         ensures fault { IfErr result IsReadOrMemory }
     {
@@ -44,11 +43,11 @@ impl<A: Disk> Arena<A> {
     fn look(&mut self, score: &Score, kind: u8) -> Result<Option<Vec<u8>>, ArenaError>
         ensures finds { MatchResult result (λ found. MatchOption found (¬ IsNamed (lines_of self.old.shelf) score.now.0 kind) (λ v. IsNamed (lines_of self.old.shelf) score.now.0 kind × (sha1 v.items ≡ score.now.0))) (LookRefuses (lines_of self.old.shelf) score.now.0 kind) }
         ensures short { IfOk result (λ found. IfSome found (λ v. length v.items ≤ 8192)) }
-        ensures held { (stored : List (List ℕ)) (synced : ℕ) → Keeps self.old.shelf stored synced (A.unsure self.old.device) (A.holds self.old.device)
+        ensures held { (stored : List (List ℕ)) (synced : ℕ) → Keeps self.old.shelf stored synced (A.state self.old.device)
             → MatchResult result (λ found. MatchOption found (Unit {0}) (λ v. IsHeld (lines_of self.old.shelf) stored score.now.0 kind v.items)) (RefusesHeld (lines_of self.old.shelf) stored score.now.0 kind) }
         ensures at_hand { IsAtHand self.old.shelf score.now.0 kind → A.calls self.new.device ≡ A.calls self.old.device }
         ensures shelf { self.new.shelf ≡ self.old.shelf }
-        ensures kept { IsKept (A.holds self.old.device) (A.holds self.new.device) (A.moments self.old.device) (A.moments self.new.device) (A.unsure self.old.device) (A.unsure self.new.device) }
+        ensures kept { A.state self.new.device ≡ A.state self.old.device }
         ensures cause { HasCauses (A.faults self.old.device) (A.faults self.new.device) result }
     {
         let empty = Sha1::digest(&[]);
@@ -68,9 +67,9 @@ impl<A: Disk> Arena<A> {
 
     /// Settles the blocks that wait where they are too many.
     fn make_room(&mut self) -> Result<(), ArenaError>
-        ensures keeps { (stored : List (List ℕ)) (synced : ℕ) → Keeps self.old.shelf stored synced (A.unsure self.old.device) (A.holds self.old.device) → Keeps self.new.shelf stored synced (A.unsure self.new.device) (A.holds self.new.device) }
-        ensures moments { (stored : List (List ℕ)) (synced : ℕ) → Keeps self.old.shelf stored synced (A.unsure self.old.device) (A.holds self.old.device)
-            → Since (A.moments self.old.device) (A.moments self.new.device) (Recovers synced (lines_of self.old.shelf) stored) }
+        ensures keeps { (stored : List (List ℕ)) (synced : ℕ) → Keeps self.old.shelf stored synced (A.state self.old.device) → Keeps self.new.shelf stored synced (A.state self.new.device) }
+        ensures moments { (stored : List (List ℕ)) (synced : ℕ) → Keeps self.old.shelf stored synced (A.state self.old.device)
+            → Since (A.state self.old.device).moments (A.state self.new.device).moments (Recovers synced (lines_of self.old.shelf) stored) }
         ensures blocks { self.new.shelf.blocks ≡ self.old.shelf.blocks }
         ensures index { self.new.shelf.index ≡ self.old.shelf.index }
         ensures cause { HasCauses (A.faults self.old.device) (A.faults self.new.device) result }
@@ -97,10 +96,10 @@ impl<A: Disk> Arena<A> {
         ensures at_hand { OnOk result (IsAtHand self.new.shelf score.0 kind) }
         ensures same { OnErr result (lines_of self.new.shelf ≡ lines_of self.old.shelf) }
         ensures refused { IfErr result (AppendRefuses self.old.shelf.blocks (lines_of self.old.shelf)) }
-        ensures keeps { (stored : List (List ℕ)) (synced : ℕ) → Keeps self.old.shelf stored synced (A.unsure self.old.device) (A.holds self.old.device)
-            → MatchResult result (λ _. Keeps self.new.shelf (stored ++ bytes.now ∷ []) synced (A.unsure self.new.device) (A.holds self.new.device)) (λ _. Keeps self.new.shelf stored synced (A.unsure self.new.device) (A.holds self.new.device)) }
-        ensures moments { (stored : List (List ℕ)) (synced : ℕ) → Keeps self.old.shelf stored synced (A.unsure self.old.device) (A.holds self.old.device)
-            → Since (A.moments self.old.device) (A.moments self.new.device) (Recovers synced (lines_of self.old.shelf) stored) }
+        ensures keeps { (stored : List (List ℕ)) (synced : ℕ) → Keeps self.old.shelf stored synced (A.state self.old.device)
+            → MatchResult result (λ _. Keeps self.new.shelf (stored ++ bytes.now ∷ []) synced (A.state self.new.device)) (λ _. Keeps self.new.shelf stored synced (A.state self.new.device)) }
+        ensures moments { (stored : List (List ℕ)) (synced : ℕ) → Keeps self.old.shelf stored synced (A.state self.old.device)
+            → Since (A.state self.old.device).moments (A.state self.new.device).moments (Recovers synced (lines_of self.old.shelf) stored) }
         ensures blocks { self.new.shelf.blocks ≡ self.old.shelf.blocks }
         ensures cause { HasCauses (A.faults self.old.device) (A.faults self.new.device) result }
     {
@@ -130,13 +129,13 @@ impl<A: Disk> Arena<A> {
         ensures refused { IfErr result (PutRefuses self.old.shelf.blocks (lines_of self.old.shelf) kind bytes.now) }
 
         // Over a device that tells what it holds, all that was held stays, and these bytes are held.
-        ensures keeps { (stored : List (List ℕ)) (synced : ℕ) → Keeps self.old.shelf stored synced (A.unsure self.old.device) (A.holds self.old.device)
-            → MatchResult result (λ _. (now : List (List ℕ)) × PutsBytes kind bytes.now (lines_of self.old.shelf) stored now × Keeps self.new.shelf now synced (A.unsure self.new.device) (A.holds self.new.device))
-            (λ e. Keeps self.new.shelf stored synced (A.unsure self.new.device) (A.holds self.new.device) × RefusesHeld (lines_of self.old.shelf) stored (sha1 bytes.now) kind e) }
+        ensures keeps { (stored : List (List ℕ)) (synced : ℕ) → Keeps self.old.shelf stored synced (A.state self.old.device)
+            → MatchResult result (λ _. (now : List (List ℕ)) × PutsBytes kind bytes.now (lines_of self.old.shelf) stored now × Keeps self.new.shelf now synced (A.state self.new.device))
+            (λ e. Keeps self.new.shelf stored synced (A.state self.new.device) × RefusesHeld (lines_of self.old.shelf) stored (sha1 bytes.now) kind e) }
 
         // Each image of each moment is an arena in which at least what was synced is held.
-        ensures moments { (stored : List (List ℕ)) (synced : ℕ) → Keeps self.old.shelf stored synced (A.unsure self.old.device) (A.holds self.old.device)
-            → Since (A.moments self.old.device) (A.moments self.new.device) (Recovers synced (lines_of self.old.shelf) stored) }
+        ensures moments { (stored : List (List ℕ)) (synced : ℕ) → Keeps self.old.shelf stored synced (A.state self.old.device)
+            → Since (A.state self.old.device).moments (A.state self.new.device).moments (Recovers synced (lines_of self.old.shelf) stored) }
 
         // A block that is put at a new place is at hand. One that was at hand costs no call of the device.
         ensures added { OnOk result (¬ IsNamed (lines_of self.old.shelf) (sha1 bytes.now) kind → IsAtHand self.new.shelf (sha1 bytes.now) kind) }
@@ -170,13 +169,13 @@ impl<A: Disk> Arena<A> {
         ensures nothing { OnErr result (into.new.items ≡ into.old.items) }
 
         // Over a device that tells what it holds, just what is held.
-        ensures held { (stored : List (List ℕ)) (synced : ℕ) → Keeps self.old.shelf stored synced (A.unsure self.old.device) (A.holds self.old.device)
+        ensures held { (stored : List (List ℕ)) (synced : ℕ) → Keeps self.old.shelf stored synced (A.state self.old.device)
             → MatchResult result (λ _. IsHeld (lines_of self.old.shelf) stored score.now.0 kind into.new.items) (RefusesHeld (lines_of self.old.shelf) stored score.now.0 kind) }
 
         // Nothing changes, and a block that is at hand costs no call of the device.
         ensures at_hand { IsAtHand self.old.shelf score.now.0 kind → A.calls self.new.device ≡ A.calls self.old.device }
         ensures shelf { self.new.shelf ≡ self.old.shelf }
-        ensures kept { IsKept (A.holds self.old.device) (A.holds self.new.device) (A.moments self.old.device) (A.moments self.new.device) (A.unsure self.old.device) (A.unsure self.new.device) }
+        ensures kept { A.state self.new.device ≡ A.state self.old.device }
         ensures cause { HasCauses (A.faults self.old.device) (A.faults self.new.device) result }
     {
         match self.look(score, kind)? {

@@ -3,7 +3,6 @@ ghost use Rattle.std.specs.Prelude.{◌≡◌, ◌≢◌, ◌<◌, ◌≤◌, �
 ghost use Rattle.std.specs.List.{Contains};
 ghost use Rattle.fo_disk.specs.Disk.{Block, versions_of};
 ghost use Rattle.fo_image.specs.Place.{stored_block};
-ghost use Rattle.fo_sound.specs.Device.{IsKept};
 ghost use Rattle.venti_store.specs.Arena.{IsReadOrMemory, IsMemory, IsCollision, HasCauses};
 
 use crate::ArenaError;
@@ -32,9 +31,9 @@ pub(crate) fn read_stored<A: Disk>(
     requires place { place < 2 ^ 31 }
     requires block { stored_block place < A.size device.old }
     requires len { len ≤ 8192 }
-    ensures read { IfOk result (λ v. stored_block place < length (A.holds device.old) → (block : Block) × Contains (versions_of (A.holds device.old) (stored_block place)) block × (v.items ≡ take len block)) }
+    ensures read { IfOk result (λ v. stored_block place < length (A.state device.old).holds → (block : Block) × Contains (versions_of (A.state device.old).holds (stored_block place)) block × (v.items ≡ take len block)) }
     ensures short { IfOk result (λ v. length v.items ≤ 8192) }
-    ensures kept { IsKept (A.holds device.old) (A.holds device.new) (A.moments device.old) (A.moments device.new) (A.unsure device.old) (A.unsure device.new) }
+    ensures kept { A.state device.new ≡ A.state device.old }
     ensures size { A.size device.new ≡ A.size device.old }
     ensures cause { HasCauses (A.faults device.old) (A.faults device.new) result }
     ensures fault { IfErr result IsReadOrMemory }

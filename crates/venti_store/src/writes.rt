@@ -29,10 +29,10 @@ fn padded(bytes: &[u8]) -> [u8; BLOCK]
 fn write_waiting<A: Disk>(device: &mut A, first: u32, pending: &[Waiting]) -> Result<(), DiskFault>
     requires most { A.size device.old ≤ 2 ^ 20 }
     requires room { first + length pending.now ≤ arena_places (A.size device.old) }
-    ensures goes { (run : Run) → run.size ≡ A.size device.old → run.settled ≡ first → Waits run (waits pending.now) → Goes run (A.unsure device.old) (A.holds device.old) (A.moments device.old)
-        → Goes run (A.unsure device.new) (A.holds device.new) (A.moments device.new) }
-    ensures wrote { OnOk result ((run : Run) → run.size ≡ A.size device.old → run.settled ≡ first → Waits run (waits pending.now) → Goes run (A.unsure device.old) (A.holds device.old) (A.moments device.old)
-        → WroteBytes run (length run.lines) (A.unsure device.new) (A.holds device.new)) }
+    ensures goes { (run : Run) → run.size ≡ A.size device.old → run.settled ≡ first → Waits run (waits pending.now) → Goes run (A.state device.old)
+        → Goes run (A.state device.new) }
+    ensures wrote { OnOk result ((run : Run) → run.size ≡ A.size device.old → run.settled ≡ first → Waits run (waits pending.now) → Goes run (A.state device.old)
+        → WroteBytes run (length run.lines) (A.state device.new)) }
     ensures size { A.size device.new ≡ A.size device.old }
     ensures cause { HasCause (A.faults device.old) (A.faults device.new) result }
     ensures fault { IfErr result (λ e. e ≡ Write) }
@@ -67,11 +67,11 @@ fn write_lines<A: Disk>(device: &mut A, first: u32, lines: &[ArenaLine]) -> Resu
     requires room { length lines.now ≤ arena_places (A.size device.old) }
     requires some { first < length lines.now }
     requires spelled { (place : ℕ) → place < length lines.now → ArenaLineHolds (line_at lines.now place) }
-    ensures goes { (run : Run) → run.size ≡ A.size device.old → run.settled ≡ first → run.lines ≡ lines.now → Goes run (A.unsure device.old) (A.holds device.old) (A.moments device.old)
-        → Goes run (A.unsure device.new) (A.holds device.new) (A.moments device.new) }
-    ensures wrote { OnOk result ((run : Run) → run.size ≡ A.size device.old → run.settled ≡ first → run.lines ≡ lines.now → Goes run (A.unsure device.old) (A.holds device.old) (A.moments device.old)
-        → WroteLines run (length run.lines) (A.unsure device.new) (A.holds device.new)) }
-    ensures bytes { OnOk result ((run : Run) → WroteBytes run (length run.lines) (A.unsure device.old) (A.holds device.old) → WroteBytes run (length run.lines) (A.unsure device.new) (A.holds device.new)) }
+    ensures goes { (run : Run) → run.size ≡ A.size device.old → run.settled ≡ first → run.lines ≡ lines.now → Goes run (A.state device.old)
+        → Goes run (A.state device.new) }
+    ensures wrote { OnOk result ((run : Run) → run.size ≡ A.size device.old → run.settled ≡ first → run.lines ≡ lines.now → Goes run (A.state device.old)
+        → WroteLines run (length run.lines) (A.state device.new)) }
+    ensures bytes { OnOk result ((run : Run) → WroteBytes run (length run.lines) (A.state device.old) → WroteBytes run (length run.lines) (A.state device.new)) }
     ensures size { A.size device.new ≡ A.size device.old }
     ensures cause { HasCause (A.faults device.old) (A.faults device.new) result }
     ensures fault { IfErr result (λ e. e ≡ Write) }
@@ -97,8 +97,8 @@ pub(crate) fn settle<A: Disk>(
     requires room { length lines.now ≤ arena_places (A.size device.old) }
     requires all { first + length pending.now ≡ length lines.now }
     requires spelled { (place : ℕ) → place < length lines.now → ArenaLineHolds (line_at lines.now place) }
-    ensures goes { (run : Run) → run.size ≡ A.size device.old → run.settled ≡ first → run.lines ≡ lines.now → Waits run (waits pending.now) → Goes run (A.unsure device.old) (A.holds device.old) (A.moments device.old)
-        → MatchResult result (λ _. Goes (all_settled run) (A.unsure device.new) (A.holds device.new) (A.moments device.new)) (λ _. Goes run (A.unsure device.new) (A.holds device.new) (A.moments device.new)) }
+    ensures goes { (run : Run) → run.size ≡ A.size device.old → run.settled ≡ first → run.lines ≡ lines.now → Waits run (waits pending.now) → Goes run (A.state device.old)
+        → MatchResult result (λ _. Goes (all_settled run) (A.state device.new)) (λ _. Goes run (A.state device.new)) }
     ensures size { A.size device.new ≡ A.size device.old }
     ensures cause { HasCause (A.faults device.old) (A.faults device.new) result }
     ensures fault { IfErr result IsLater }
@@ -118,8 +118,8 @@ pub(crate) fn settle<A: Disk>(
 pub(crate) fn write_head<A: Disk>(device: &mut A, blocks: u32, used: u32) -> Result<(), DiskFault>
     requires size { A.size device.old ≡ blocks }
     requires some { 0 < blocks }
-    ensures ends { (run : Run) → run.size ≡ blocks → run.settled ≡ used → length run.lines ≡ used → Goes run (A.unsure device.old) (A.holds device.old) (A.moments device.old)
-        → MatchResult result (λ _. Ends run (A.unsure device.new) (A.holds device.new) (A.moments device.new)) (λ _. Goes run (A.unsure device.new) (A.holds device.new) (A.moments device.new)) }
+    ensures ends { (run : Run) → run.size ≡ blocks → run.settled ≡ used → length run.lines ≡ used → Goes run (A.state device.old)
+        → MatchResult result (λ _. Ends run (A.state device.new)) (λ _. Goes run (A.state device.new)) }
     ensures size { A.size device.new ≡ A.size device.old }
     ensures cause { HasCause (A.faults device.old) (A.faults device.new) result }
     ensures fault { IfErr result IsLater }

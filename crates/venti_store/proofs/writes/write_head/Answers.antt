@@ -6,15 +6,15 @@ use Rattle.venti_store.proofs.writes.write_head.Goals as goal
 
 pub returns-in_default-clause-ends : goal.returns-in_default-clause-ends
 returns-in_default-clause-ends g c run size settled used start =
-    goes_failed start (adding_head start.is_run (settled ∙ sym used) (whole_head run size used c.write_arena_head.ensures) c.in_default.ensures.unsure) (g.met.A.Disk.is_newest c.args.device.now) c.in_default.ensures.holds c.in_default.ensures.moments
+    goes_failed start (adding_head start.is_run (settled ∙ sym used) (whole_head run size used c.write_arena_head.ensures)) (g.met.A.Disk.is_newest c.args.device.now) c.in_default.ensures.state
 
 pub returns-in_default-sync-clause-ends : goal.returns-in_default-sync-clause-ends
 returns-in_default-sync-clause-ends g c run size settled used start =
-    let wrote = goes_wrote start (adding_head start.is_run (settled ∙ sym used) (whole_head run size used c.write_arena_head.ensures) c.in-Ok.ensures.unsure) (g.met.A.Disk.is_newest c.args.device.now) c.in-Ok.ensures.holds c.in-Ok.ensures.moments in
-    goes_unsynced wrote (g.met.A.Disk.is_newest c.write.new.self) c.in_default-sync.ensures.holds c.in_default-sync.ensures.unsure c.in_default-sync.ensures.moments
+    let wrote = goes_wrote start (adding_head start.is_run (settled ∙ sym used) (whole_head run size used c.write_arena_head.ensures)) (g.met.A.Disk.is_newest c.args.device.now) c.in-Ok.ensures.state in
+    goes_unsynced wrote (g.met.A.Disk.is_newest c.write.new.self) c.in_default-sync.ensures.state
 
 pub returns-clause-ends : goal.returns-clause-ends
 returns-clause-ends g c run size settled used start =
     let spelled : IsWholeHead run c.write_arena_head.new.into = whole_head run size used c.write_arena_head.ensures in
-    let wrote = goes_wrote start (adding_head start.is_run (settled ∙ sym used) spelled c.in-Ok.ensures.unsure) (g.met.A.Disk.is_newest c.args.device.now) c.in-Ok.ensures.holds c.in-Ok.ensures.moments in
-    ends wrote c.in-Ok-sync.ensures.holds (settled ∙ sym used) (done_here _ (IsWholeHead run) (omega (arith, start.told, start.is_run.least)) c.in-Ok.ensures.holds c.in-Ok.ensures.unsure spelled) c.in-Ok-sync.ensures.moments
+    let wrote = goes_wrote start (adding_head start.is_run (settled ∙ sym used) spelled) (g.met.A.Disk.is_newest c.args.device.now) c.in-Ok.ensures.state in
+    ends wrote c.in-Ok-sync.ensures.state (settled ∙ sym used) (done_here (IsWholeHead run) (omega (arith, start.told, start.is_run.least)) c.in-Ok.ensures.state spelled)

@@ -6,9 +6,9 @@ abbrev pub invariant-loop-group : goal.invariant-loop-group
 invariant-loop-group g l = record {
   size : g.A.Disk.size l.device ≡ g.A.Disk.size l.fn.device;
   later : g.A.Disk.faults l.fn.device ≤ g.A.Disk.faults l.device;
-  goes : (run : Run) → run.size ≡ g.A.Disk.size l.fn.device → run.settled ≡ l.fn.first → run.lines ≡ l.lines → Goes run (g.A.Disk.unsure l.fn.device) (g.A.Disk.holds l.fn.device) (g.A.Disk.moments l.fn.device)
-      → Goes run (g.A.Disk.unsure l.device) (g.A.Disk.holds l.device) (g.A.Disk.moments l.device);
-  wrote : (run : Run) → run.size ≡ g.A.Disk.size l.fn.device → run.settled ≡ l.fn.first → run.lines ≡ l.lines → Goes run (g.A.Disk.unsure l.fn.device) (g.A.Disk.holds l.fn.device) (g.A.Disk.moments l.fn.device)
-      → WroteLines run (341 * l.group) (g.A.Disk.unsure l.device) (g.A.Disk.holds l.device);
-  bytes : (run : Run) → WroteBytes run (length run.lines) (g.A.Disk.unsure l.fn.device) (g.A.Disk.holds l.fn.device) → WroteBytes run (length run.lines) (g.A.Disk.unsure l.device) (g.A.Disk.holds l.device);
+  goes : (run : Run) → run.size ≡ g.A.Disk.size l.fn.device → run.settled ≡ l.fn.first → run.lines ≡ l.lines → Goes run (g.A.Disk.state l.fn.device)
+      → Goes run (g.A.Disk.state l.device);
+  wrote : (run : Run) → run.size ≡ g.A.Disk.size l.fn.device → run.settled ≡ l.fn.first → run.lines ≡ l.lines → Goes run (g.A.Disk.state l.fn.device)
+      → WroteLines run (341 * l.group) (g.A.Disk.state l.device);
+  bytes : (run : Run) → WroteBytes run (length run.lines) (g.A.Disk.state l.fn.device) → WroteBytes run (length run.lines) (g.A.Disk.state l.device);
 }

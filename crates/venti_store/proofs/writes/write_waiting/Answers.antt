@@ -7,7 +7,7 @@ pub returns-in_default-clause-goes : goal.returns-in_default-clause-goes
 returns-in_default-clause-goes g c run size first waits start =
     let goes = c.loop-i.invariant.goes run size first waits start in
     let n : Next run _ c.loop-i.i _ _ = next_waiting c.args.pending.now waits first c.loop-i-test.true c.index-pending-i.result c.stored_block.ensures _ c.deref.ensures.value c.padded-block.ensures in
-    goes_failed goes (adding_bytes n goes.is_run c.in_default.ensures.unsure) (g.met.A.Disk.is_newest c.loop-i.device) c.in_default.ensures.holds c.in_default.ensures.moments
+    goes_failed goes (adding_bytes n goes.is_run) (g.met.A.Disk.is_newest c.loop-i.device) c.in_default.ensures.state
 
 pub loop-i-preserved : goal.loop-i-preserved
 loop-i-preserved g c = record {
@@ -16,9 +16,9 @@ loop-i-preserved g c = record {
   goes = λ run size first waits start.
       let goes = c.loop-i.invariant.goes run size first waits start in
       let n : Next run _ c.loop-i.i _ _ = next_waiting c.args.pending.now waits first c.loop-i-test.true c.index-pending-i.result c.stored_block.ensures _ c.deref.ensures.value c.padded-block.ensures in
-      goes_wrote goes (adding_bytes n goes.is_run c.in-Ok.ensures.unsure) (g.met.A.Disk.is_newest c.loop-i.device) c.in-Ok.ensures.holds c.in-Ok.ensures.moments;
+      goes_wrote goes (adding_bytes n goes.is_run) (g.met.A.Disk.is_newest c.loop-i.device) c.in-Ok.ensures.state;
   wrote = λ run size first waits start.
       let goes = c.loop-i.invariant.goes run size first waits start in
       let n : Next run _ c.loop-i.i _ _ = next_waiting c.args.pending.now waits first c.loop-i-test.true c.index-pending-i.result c.stored_block.ensures _ c.deref.ensures.value c.padded-block.ensures in
-      wrote_more n goes.is_run goes.told (c.loop-i.invariant.wrote run size first waits start) c.in-Ok.ensures.holds c.in-Ok.ensures.unsure;
+      wrote_more n goes.is_run goes.told (c.loop-i.invariant.wrote run size first waits start) c.in-Ok.ensures.state;
 }

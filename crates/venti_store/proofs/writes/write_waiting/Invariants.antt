@@ -7,8 +7,8 @@ abbrev pub invariant-loop-i : goal.invariant-loop-i
 invariant-loop-i g l = record {
   size : g.A.Disk.size l.device ≡ g.A.Disk.size l.fn.device;
   later : g.A.Disk.faults l.fn.device ≤ g.A.Disk.faults l.device;
-  goes : (run : Run) → run.size ≡ g.A.Disk.size l.fn.device → run.settled ≡ l.first → Waits run (waits l.pending) → Goes run (g.A.Disk.unsure l.fn.device) (g.A.Disk.holds l.fn.device) (g.A.Disk.moments l.fn.device)
-      → Goes run (g.A.Disk.unsure l.device) (g.A.Disk.holds l.device) (g.A.Disk.moments l.device);
-  wrote : (run : Run) → run.size ≡ g.A.Disk.size l.fn.device → run.settled ≡ l.first → Waits run (waits l.pending) → Goes run (g.A.Disk.unsure l.fn.device) (g.A.Disk.holds l.fn.device) (g.A.Disk.moments l.fn.device)
-      → WroteBytes run (run.settled + l.i) (g.A.Disk.unsure l.device) (g.A.Disk.holds l.device);
+  goes : (run : Run) → run.size ≡ g.A.Disk.size l.fn.device → run.settled ≡ l.first → Waits run (waits l.pending) → Goes run (g.A.Disk.state l.fn.device)
+      → Goes run (g.A.Disk.state l.device);
+  wrote : (run : Run) → run.size ≡ g.A.Disk.size l.fn.device → run.settled ≡ l.first → Waits run (waits l.pending) → Goes run (g.A.Disk.state l.fn.device)
+      → WroteBytes run (run.settled + l.i) (g.A.Disk.state l.device);
 }

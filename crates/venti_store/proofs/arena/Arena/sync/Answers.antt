@@ -18,16 +18,16 @@ returns-clause-keeps g c stored synced k =
     let s = c.settle.new.self.shelf in
     let m = in_memory s in
     let kept = c.in_ok-settle.ensures.keeps stored synced k in
-    head_keeps _ _ (g.A.Disk.moments c.settle.new.self.device) (g.A.Disk.moments c.write_head.new.device) c.write_head.result m (ap waits c.in_ok-settle.ensures.none) kept
-    (c.write_head.ensures.ends (run_of s stored synced (g.A.Disk.moments c.settle.new.self.device)) refl (whole_is s c.in_ok-settle.ensures.none ∙ sym c.used-used.ensures) (sym c.used-used.ensures) (begins m kept (g.met.A.Disk.is_newest c.settle.new.self.device)))
+    head_keeps (g.A.Disk.state c.write_head.new.device) (g.A.Disk.state c.settle.new.self.device).moments c.write_head.result m (ap waits c.in_ok-settle.ensures.none) kept
+    (c.write_head.ensures.ends (run_of s stored synced (g.A.Disk.state c.settle.new.self.device).moments) refl (whole_is s c.in_ok-settle.ensures.none ∙ sym c.used-used.ensures) (sym c.used-used.ensures) (begins m kept (g.met.A.Disk.is_newest c.settle.new.self.device)))
 
 pub returns-clause-moments : goal.returns-clause-moments
 returns-clause-moments g c stored synced k =
     let s = c.settle.new.self.shelf in
     let m = in_memory s in
     let kept = c.in_ok-settle.ensures.keeps stored synced k in
-    let run = run_of s stored synced (g.A.Disk.moments c.settle.new.self.device) in
-    let head : Since (g.A.Disk.moments c.settle.new.self.device) (g.A.Disk.moments c.write_head.new.device) (Recovers synced s.index.lines.items stored) = head_since run _ _ c.write_head.result
+    let run = run_of s stored synced (g.A.Disk.state c.settle.new.self.device).moments in
+    let head : Since (g.A.Disk.state c.settle.new.self.device).moments (g.A.Disk.state c.write_head.new.device).moments (Recovers synced s.index.lines.items stored) = head_since run _ c.write_head.result
     (c.write_head.ensures.ends run refl (whole_is s c.in_ok-settle.ensures.none ∙ sym c.used-used.ensures) (sym c.used-used.ensures) (begins m kept (g.met.A.Disk.is_newest c.settle.new.self.device))) in
     joins (c.in_ok-settle.ensures.moments stored synced k)
-    (subst (λ (i : Index). Since (g.A.Disk.moments c.settle.new.self.device) (g.A.Disk.moments c.write_head.new.device) (Recovers synced i.lines.items stored)) c.in_ok-settle.ensures.index head)
+    (subst (λ (i : Index). Since (g.A.Disk.state c.settle.new.self.device).moments (g.A.Disk.state c.write_head.new.device).moments (Recovers synced i.lines.items stored)) c.in_ok-settle.ensures.index head)
