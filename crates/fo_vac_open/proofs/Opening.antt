@@ -1,6 +1,6 @@
 -- What the root and the top block of an archive say of it.
-use Rattle.std.proofs.Common.{◌≡◌, inr, ℕ, List, Bool, Ok, Err, Result, MatchResult}
-use Rattle.fo_disk.specs.Disk.{Content}
+use Rattle.std.proofs.Common.{◌≡◌, inr, ℕ, List, Ok, Err, Result, MatchResult}
+use Rattle.fo_disk.specs.Disk.{DiskState}
 use Rattle.fo_image.specs.declared.types.ArenaLine.{ArenaLine}
 use Rattle.fo_vacput.specs.declared.types.VacTop.{VacTop}
 use Rattle.venti_store.specs.Held.{IsHeld}
@@ -27,5 +27,5 @@ top_held lines stored score bytes held (Err (vac.Arena why.ArenaSync)) none = ab
 top_held lines stored score bytes held (Err (vac.Arena why.Memory)) none = tt
 
 -- what is kept is kept where nothing changed
-pub still_keeps : (s now : Shelf) (stored : List (List ℕ)) (synced : ℕ) (unsure flags : List Bool) (holds later : Content) → now ≡ s → flags ≡ unsure → later ≡ holds → Keeps s stored synced unsure holds → Keeps now stored synced flags later
-still_keeps s now stored synced unsure flags holds later is same_flags same k = rw (is, same_flags, same) k
+pub still_keeps : (s now : Shelf) (stored : List (List ℕ)) (synced : ℕ) (old new : DiskState) → now ≡ s → new ≡ old → Keeps s stored synced old → Keeps now stored synced new
+still_keeps s now stored synced old new is same k = rw (is, same) k

@@ -4,7 +4,7 @@ use Rattle.std.proofs.lemmas.Bool.{ltb-true, ltb-false}
 use Rattle.std.proofs.lemmas.List.{get_or-drop}
 use Rattle.std.proofs.lemmas.List.Elements.{Contains-get_or}
 use Rattle.std.proofs.lemmas.List.FromFn.{fill_by_all}
-use Rattle.fo_disk.specs.Disk.{Block, Content, versions_of, latest_of}
+use Rattle.fo_disk.specs.Disk.{Block, DiskState, versions_of, latest_of}
 use Rattle.fo_image.specs.Place.{arena_places, stored_block}
 use Rattle.venti_store.specs.Held.{line_at, stored_at}
 use Rattle.venti_store.specs.Kept.{waits}
@@ -16,11 +16,11 @@ use Rattle.fo_vac_open.specs.Laws.{StoredIs}
 within : (size place : ℕ) → place < arena_places size → stored_block place < size
 within size place lt = omega arith
 
-bytes_are : (shelf : Shelf) (stored : List (List ℕ)) (synced : ℕ) (unsure : List Bool) (holds : Content) → Keeps shelf stored synced unsure holds → (place : ℕ) → place < length (lines_of shelf) → stored_at stored place ≡ bytes_in shelf holds place
-bytes_are shelf stored synced unsure holds k place used = by (nat_lt place (settled_places shelf)) refl
+bytes_are : (shelf : Shelf) (stored : List (List ℕ)) (synced : ℕ) (s : DiskState) → Keeps shelf stored synced s → (place : ℕ) → place < length (lines_of shelf) → stored_at stored place ≡ bytes_in shelf s.holds place
+bytes_are shelf stored synced s k place used = by (nat_lt place (settled_places shelf)) refl
   where
     vs : List Block
-    vs = versions_of holds (stored_block place)
+    vs = versions_of s.holds (stored_block place)
 
     settled_bytes : List ℕ
     settled_bytes = take (line_at (lines_of shelf) place).len (latest_of vs)
@@ -40,5 +40,5 @@ bytes_are shelf stored synced unsure holds k place used = by (nat_lt place (sett
         sym (ap (λ ws. slice_index_or ws (place - settled_places shelf) []) k.wait ∙ get_or-drop (settled_places shelf) stored (place - settled_places shelf) [] ∙ ap (λ n. slice_index_or stored n []) same)
 
 pub stored_is : StoredIs
-stored_is shelf stored synced unsure holds k =
-    sym (fill_by_all (bytes_in shelf holds) stored (length (lines_of shelf)) [] k.count (bytes_are shelf stored synced unsure holds k))
+stored_is shelf stored synced s k =
+    sym (fill_by_all (bytes_in shelf s.holds) stored (length (lines_of shelf)) [] k.count (bytes_are shelf stored synced s k))

@@ -1,6 +1,6 @@
 -- Laws of what an arena holds, read as the blocks of archives.
-use Rattle.std.specs.Prelude.{◌≡◌, ◌≢◌, ℕ, ◌<◌, Bool, List, length}
-use Rattle.fo_disk.specs.Disk.{Content}
+use Rattle.std.specs.Prelude.{◌≡◌, ◌≢◌, ℕ, ◌<◌, List, length}
+use Rattle.fo_disk.specs.Disk.{DiskState}
 use Rattle.fo_image.specs.declared.types.ArenaLine.{ArenaLine}
 use Rattle.fo_crash.specs.Images.{IsArena}
 use Rattle.venti_store.specs.Held.{line_at, name_of, IsHeld}
@@ -21,4 +21,4 @@ StaysInArena = (lines : List ArenaLine) (stored : List (List ℕ)) → IsArena (
 
 -- Over a device that tells what it holds, an arena has just the bytes that memory and the device have.
 abbrev pub StoredIs : Type 0
-StoredIs = (shelf : Shelf) (stored : List (List ℕ)) (synced : ℕ) (unsure : List Bool) (holds : Content) → Keeps shelf stored synced unsure holds → stored_in shelf holds ≡ stored
+StoredIs = (shelf : Shelf) (stored : List (List ℕ)) (synced : ℕ) (s : DiskState) → Keeps shelf stored synced s → stored_in shelf s.holds ≡ stored

@@ -1,6 +1,5 @@
 //! The look at the root and the top block of an archive.
 ghost use Rattle.std.specs.Prelude.{◌≡◌, ℕ, ◌≤◌, List, length, IfOk, IfErr, MatchResult};
-ghost use Rattle.fo_sound.specs.Device.{IsKept};
 ghost use Rattle.venti_store.specs.Arena.{lines_of, Keeps};
 ghost use Rattle.fo_vacput.specs.declared.types.VacRoot.{VacRoot};
 ghost use Rattle.fo_vacput.specs.declared.types.VacTop.{VacTop};
@@ -28,12 +27,12 @@ fn read_root<A: Disk>(
 ) -> Result<VacRoot, VacError>
     ensures hashes { IfOk result (RootHashes (lines_of arena.old.shelf) score.now.0) }
     ensures refused { IfErr result (RootRefused (lines_of arena.old.shelf) score.now.0) }
-    ensures held { (stored : List (List ℕ)) (synced : ℕ) → Keeps arena.old.shelf stored synced (A.unsure arena.old.device) (A.holds arena.old.device)
+    ensures held { (stored : List (List ℕ)) (synced : ℕ) → Keeps arena.old.shelf stored synced (A.state arena.old.device)
         → MatchResult result (HasRoot (lines_of arena.old.shelf) stored score.now.0) (RootLacks (lines_of arena.old.shelf) stored score.now.0) }
-    ensures only { (stored : List (List ℕ)) (synced : ℕ) (root : VacRoot) → Keeps arena.old.shelf stored synced (A.unsure arena.old.device) (A.holds arena.old.device)
+    ensures only { (stored : List (List ℕ)) (synced : ℕ) (root : VacRoot) → Keeps arena.old.shelf stored synced (A.state arena.old.device)
         → HasRoot (lines_of arena.old.shelf) stored score.now.0 root → MatchResult result (λ read. read ≡ root) IsLost }
     ensures shelf { arena.new.shelf ≡ arena.old.shelf }
-    ensures kept { IsKept (A.holds arena.old.device) (A.holds arena.new.device) (A.moments arena.old.device) (A.moments arena.new.device) (A.unsure arena.old.device) (A.unsure arena.new.device) }
+    ensures kept { A.state arena.new.device ≡ A.state arena.old.device }
     ensures cause { HasVacCauses (A.faults arena.old.device) (A.faults arena.new.device) result }
 {
     let mut bytes = Vec::new(alloc);
@@ -65,12 +64,12 @@ fn top_of(alloc: Global, bytes: &[u8]) -> Result<VacTop, VacError>
 fn read_top<A: Disk>(alloc: Global, arena: &mut Arena<A>, score: &Score) -> Result<VacTop, VacError>
     ensures hashes { IfOk result (TopHashes (lines_of arena.old.shelf) score.now.0) }
     ensures refused { IfErr result (TopRefused (lines_of arena.old.shelf) score.now.0) }
-    ensures held { (stored : List (List ℕ)) (synced : ℕ) → Keeps arena.old.shelf stored synced (A.unsure arena.old.device) (A.holds arena.old.device)
+    ensures held { (stored : List (List ℕ)) (synced : ℕ) → Keeps arena.old.shelf stored synced (A.state arena.old.device)
         → MatchResult result (HasTop (lines_of arena.old.shelf) stored score.now.0) (TopLacks (lines_of arena.old.shelf) stored score.now.0) }
-    ensures only { (stored : List (List ℕ)) (synced : ℕ) (top : VacTop) → Keeps arena.old.shelf stored synced (A.unsure arena.old.device) (A.holds arena.old.device)
+    ensures only { (stored : List (List ℕ)) (synced : ℕ) (top : VacTop) → Keeps arena.old.shelf stored synced (A.state arena.old.device)
         → HasTop (lines_of arena.old.shelf) stored score.now.0 top → MatchResult result (λ read. read ≡ top) IsLost }
     ensures shelf { arena.new.shelf ≡ arena.old.shelf }
-    ensures kept { IsKept (A.holds arena.old.device) (A.holds arena.new.device) (A.moments arena.old.device) (A.moments arena.new.device) (A.unsure arena.old.device) (A.unsure arena.new.device) }
+    ensures kept { A.state arena.new.device ≡ A.state arena.old.device }
     ensures cause { HasVacCauses (A.faults arena.old.device) (A.faults arena.new.device) result }
 {
     let mut bytes = Vec::new(alloc);
@@ -92,13 +91,13 @@ pub fn open_archive<A: Disk>(
     ensures refused { IfErr result (ArchiveRefused (lines_of arena.old.shelf) score.now.0) }
 
     // Over a device that tells what it holds: just what is held. `BadVac` comes exactly where that is no archive.
-    ensures held { (stored : List (List ℕ)) (synced : ℕ) → Keeps arena.old.shelf stored synced (A.unsure arena.old.device) (A.holds arena.old.device)
+    ensures held { (stored : List (List ℕ)) (synced : ℕ) → Keeps arena.old.shelf stored synced (A.state arena.old.device)
         → MatchResult result (HasArchive (lines_of arena.old.shelf) stored score.now.0) (ArchiveLacks (lines_of arena.old.shelf) stored score.now.0) }
-    ensures only { (stored : List (List ℕ)) (synced : ℕ) (a : Archived) → Keeps arena.old.shelf stored synced (A.unsure arena.old.device) (A.holds arena.old.device)
+    ensures only { (stored : List (List ℕ)) (synced : ℕ) (a : Archived) → Keeps arena.old.shelf stored synced (A.state arena.old.device)
         → HasArchive (lines_of arena.old.shelf) stored score.now.0 a → MatchResult result (λ found. found ≡ a) IsLost }
 
     ensures shelf { arena.new.shelf ≡ arena.old.shelf }
-    ensures kept { IsKept (A.holds arena.old.device) (A.holds arena.new.device) (A.moments arena.old.device) (A.moments arena.new.device) (A.unsure arena.old.device) (A.unsure arena.new.device) }
+    ensures kept { A.state arena.new.device ≡ A.state arena.old.device }
     ensures cause { HasVacCauses (A.faults arena.old.device) (A.faults arena.new.device) result }
 {
     let root = read_root(alloc, arena, score)?;
