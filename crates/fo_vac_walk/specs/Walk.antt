@@ -1,7 +1,7 @@
 -- Sources of an archive over what an arena holds: what a look at one finds, and what is broken below it.
 use Rattle.std.specs.Prelude.{◌≡◌, ◌≢◌, ◌⊎◌, ℕ, zero, suc, ◌-◌, ◌*◌, ◌%◌, ◌<◌, ◌≤◌, Bool, false, List, [], length, take, drop, Option, Some, None, Result, IfErr, if◌then◌else◌}
 use Rattle.fo_base.specs.Cause.{Rose}
-use Rattle.fo_disk.specs.Disk.{Content}
+use Rattle.fo_disk.specs.Disk.{DiskState}
 use Rattle.fo_image.specs.declared.types.Score.{Score}
 use Rattle.fo_image.specs.declared.types.Kind.{Kind}
 use Rattle.fo_image.specs.declared.types.Kind.TheVariants.{Data, Dir, Root}
@@ -35,10 +35,10 @@ pub record Holding : Type 0 where
   pub stored : List (List ℕ)
 
 -- The device of an arena tells what it holds, and that is this.
-pub record IsTold (h : Holding) (shelf : Shelf) (unsure : List Bool) (holds : Content) : Type 0 where
+pub record IsTold (h : Holding) (shelf : Shelf) (s : DiskState) : Type 0 where
   pub lines_are : h.lines ≡ lines_of shelf
   pub synced : ℕ
-  pub keeps : Keeps shelf h.stored synced unsure holds
+  pub keeps : Keeps shelf h.stored synced s
 
 -- the blocks that archives may name
 abbrev pub blocks_of : Holding → Arena

@@ -1,7 +1,6 @@
 //! Blocks that an archive names.
 ghost use Rattle.std.specs.Prelude.{◌≡◌, ◌*◌, ◌<◌, ◌≤◌, length, take, drop, IfOk, MatchResult};
 ghost use Rattle.std.specs.Str.{bytes_eq};
-ghost use Rattle.fo_sound.specs.Device.{IsKept};
 ghost use Rattle.fo_vacput.specs.declared.types.TheConstants.{EMPTY};
 ghost use Rattle.fo_vacput.specs.Cut.{tail_of, grown};
 ghost use Rattle.venti_store.specs.Arena.{lines_of};
@@ -53,11 +52,11 @@ pub(crate) fn get_block<A: Disk>(
     spot: Spot,
     kind: u8,
 ) -> Result<Got, WalkError>
-    ensures held { (h : Holding) → IsTold h arena.old.shelf (A.unsure arena.old.device) (A.holds arena.old.device)
+    ensures held { (h : Holding) → IsTold h arena.old.shelf (A.state arena.old.device)
         → MatchResult result (GotIs h spot.holder spot.score.0 kind) (GetSpoils h spot.holder spot.score.0 kind) }
     ensures short { IfOk result (λ got. length got.bytes.items ≤ 8192) }
     ensures shelf { arena.new.shelf ≡ arena.old.shelf }
-    ensures kept { IsKept (A.holds arena.old.device) (A.holds arena.new.device) (A.moments arena.old.device) (A.moments arena.new.device) (A.unsure arena.old.device) (A.unsure arena.new.device) }
+    ensures kept { A.state arena.new.device ≡ A.state arena.old.device }
     ensures cause { HasWalkCauses (A.faults arena.old.device) (A.faults arena.new.device) result }
 {
     let mut bytes = Vec::new(alloc);

@@ -2,7 +2,6 @@
 ghost use Rattle.std.specs.Prelude.{◌≡◌, ◌*◌, ◌<◌, length, take, drop, MatchResult};
 ghost use Rattle.fo_crash.specs.Images.{Link};
 ghost use Rattle.fo_image.specs.Field.{zeros};
-ghost use Rattle.fo_sound.specs.Device.{IsKept};
 ghost use Rattle.fo_vac_open.specs.Held.{entry_in};
 ghost use Rattle.fo_vacput.specs.declared.types.VacEntry.{VacEntry};
 ghost use Rattle.fo_vacput.specs.Vac.{SpellsVacEntry};
@@ -28,10 +27,10 @@ impl Source {
         into: &mut [u8],
     ) -> Result<Option<u32>, WalkError>
         requires { length into.old ≡ 8192 }
-        ensures held { (h : Holding) (w : Link) → IsTold h arena.old.shelf (A.unsure arena.old.device) (A.holds arena.old.device) → IsSourceOf w self.now.entry
+        ensures held { (h : Holding) (w : Link) → IsTold h arena.old.shelf (A.state arena.old.device) → IsSourceOf w self.now.entry
             → MatchResult result (FillsLeaf h w self.now.holder self.now.entry k into.new) (Spoils h w self.now.holder) }
         ensures shelf { arena.new.shelf ≡ arena.old.shelf }
-        ensures kept { IsKept (A.holds arena.old.device) (A.holds arena.new.device) (A.moments arena.old.device) (A.moments arena.new.device) (A.unsure arena.old.device) (A.unsure arena.new.device) }
+        ensures kept { A.state arena.new.device ≡ A.state arena.old.device }
         ensures cause { HasWalkCauses (A.faults arena.old.device) (A.faults arena.new.device) result }
     {
         let spot = self.pointer_at(alloc, arena, self.entry.depth, k)?;
@@ -52,10 +51,10 @@ impl Source {
         arena: &mut Arena<A>,
         j: u64,
     ) -> Result<Source, WalkError>
-        ensures held { (h : Holding) (w : Link) → IsTold h arena.old.shelf (A.unsure arena.old.device) (A.holds arena.old.device) → IsSourceOf w self.now.entry
+        ensures held { (h : Holding) (w : Link) → IsTold h arena.old.shelf (A.state arena.old.device) → IsSourceOf w self.now.entry
             → MatchResult result (λ source. Leading h w self.now.holder (entry_at h w j) source.entry source.holder) (Spoils h w self.now.holder) }
         ensures shelf { arena.new.shelf ≡ arena.old.shelf }
-        ensures kept { IsKept (A.holds arena.old.device) (A.holds arena.new.device) (A.moments arena.old.device) (A.moments arena.new.device) (A.unsure arena.old.device) (A.unsure arena.new.device) }
+        ensures kept { A.state arena.new.device ≡ A.state arena.old.device }
         ensures cause { HasWalkCauses (A.faults arena.old.device) (A.faults arena.new.device) result }
     {
         let mut block = [0; BLOCK];

@@ -2,7 +2,6 @@
 ghost use Rattle.std.specs.Prelude.{◌≡◌, ◌+◌, ◌-◌, ◌%◌, ◌^◌, ◌<◌, ◌≤◌, ℕ, length, min, take, drop, slice_index, IfOk, MatchResult};
 ghost use Rattle.fo_crash.specs.Images.{Link};
 ghost use Rattle.fo_good.specs.Reading.{source_in};
-ghost use Rattle.fo_sound.specs.Device.{IsKept};
 ghost use Rattle.fo_vac_open.specs.Tree.{no_image};
 ghost use Rattle.fo_vac_walk.specs.Walk.{Holding, IsTold, IsSourceOf, blocks_of, byte_of, Spoils, HasWalkCauses};
 
@@ -33,10 +32,10 @@ impl Source {
         into: &mut [u8],
     ) -> Result<(), WalkError>
         requires { place % 8192 + length into.old ≤ 8192 }
-        ensures held { (h : Holding) (w : Link) → IsTold h arena.old.shelf (A.unsure arena.old.device) (A.holds arena.old.device) → IsSourceOf w self.now.entry
+        ensures held { (h : Holding) (w : Link) → IsTold h arena.old.shelf (A.state arena.old.device) → IsSourceOf w self.now.entry
             → MatchResult result (λ _. (i : ℕ) → i < length into.old → slice_index into.new i ≡ byte_of h w (place + i)) (Spoils h w self.now.holder) }
         ensures shelf { arena.new.shelf ≡ arena.old.shelf }
-        ensures kept { IsKept (A.holds arena.old.device) (A.holds arena.new.device) (A.moments arena.old.device) (A.moments arena.new.device) (A.unsure arena.old.device) (A.unsure arena.new.device) }
+        ensures kept { A.state arena.new.device ≡ A.state arena.old.device }
         ensures cause { HasWalkCauses (A.faults arena.old.device) (A.faults arena.new.device) result }
     {
         let mut block = [0; BLOCK];
@@ -55,10 +54,10 @@ impl Source {
     ) -> Result<(), WalkError>
         requires within { offset + length into.old ≤ self.now.entry.size }
         requires fits { offset + length into.old < 2 ^ 64 }
-        ensures held { (h : Holding) (w : Link) → IsTold h arena.old.shelf (A.unsure arena.old.device) (A.holds arena.old.device) → IsSourceOf w self.now.entry
+        ensures held { (h : Holding) (w : Link) → IsTold h arena.old.shelf (A.state arena.old.device) → IsSourceOf w self.now.entry
             → MatchResult result (λ _. (i : ℕ) → i < length into.old → slice_index into.new i ≡ byte_of h w (offset + i)) (Spoils h w self.now.holder) }
         ensures shelf { arena.new.shelf ≡ arena.old.shelf }
-        ensures kept { IsKept (A.holds arena.old.device) (A.holds arena.new.device) (A.moments arena.old.device) (A.moments arena.new.device) (A.unsure arena.old.device) (A.unsure arena.new.device) }
+        ensures kept { A.state arena.new.device ≡ A.state arena.old.device }
         ensures cause { HasWalkCauses (A.faults arena.old.device) (A.faults arena.new.device) result }
     {
         let mut done = 0;
@@ -81,11 +80,11 @@ impl Source {
         into: &mut [u8],
     ) -> Result<usize, WalkError>
         ensures count { IfOk result (λ n. n ≡ min (length into.old) (self.now.entry.size - offset)) }
-        ensures held { (h : Holding) (w : Link) → IsTold h arena.old.shelf (A.unsure arena.old.device) (A.holds arena.old.device) → IsSourceOf w self.now.entry
+        ensures held { (h : Holding) (w : Link) → IsTold h arena.old.shelf (A.state arena.old.device) → IsSourceOf w self.now.entry
             → MatchResult result (λ n. take n into.new ≡ take (length into.old) (drop offset (source_in (blocks_of h) no_image w))) (Spoils h w self.now.holder) }
         ensures behind { IfOk result (λ n. drop n into.new ≡ drop n into.old) }
         ensures shelf { arena.new.shelf ≡ arena.old.shelf }
-        ensures kept { IsKept (A.holds arena.old.device) (A.holds arena.new.device) (A.moments arena.old.device) (A.moments arena.new.device) (A.unsure arena.old.device) (A.unsure arena.new.device) }
+        ensures kept { A.state arena.new.device ≡ A.state arena.old.device }
         ensures cause { HasWalkCauses (A.faults arena.old.device) (A.faults arena.new.device) result }
     {
         let left = self.entry.size.saturating_sub(offset);

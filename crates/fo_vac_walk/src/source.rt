@@ -2,7 +2,6 @@
 ghost use Rattle.std.specs.Prelude.{◌≡◌, ◌+◌, ◌<◌, ◌≤◌, false, length, MatchResult};
 ghost use Rattle.fo_crash.specs.Images.{Link};
 ghost use Rattle.fo_image.specs.Format.{kind_code};
-ghost use Rattle.fo_sound.specs.Device.{IsKept};
 ghost use Rattle.fo_vac_open.specs.Held.{pointer_to};
 ghost use Rattle.fo_vacput.specs.Vac.{VacEntryHolds};
 ghost use Rattle.fo_vac_walk.specs.Walk.{Holding, IsTold, kind_at, top_of, no_entry, IsSourceOf, Found, Spoils, HasWalkCauses};
@@ -88,10 +87,10 @@ impl Source {
         k: u64,
     ) -> Result<Spot, WalkError>
         requires { down ≤ self.now.entry.depth }
-        ensures held { (h : Holding) (w : Link) → IsTold h arena.old.shelf (A.unsure arena.old.device) (A.holds arena.old.device) → IsSourceOf w self.now.entry
+        ensures held { (h : Holding) (w : Link) → IsTold h arena.old.shelf (A.state arena.old.device) → IsSourceOf w self.now.entry
             → MatchResult result (Found h w self.now.holder self.now.entry down k) (Spoils h w self.now.holder) }
         ensures shelf { arena.new.shelf ≡ arena.old.shelf }
-        ensures kept { IsKept (A.holds arena.old.device) (A.holds arena.new.device) (A.moments arena.old.device) (A.moments arena.new.device) (A.unsure arena.old.device) (A.unsure arena.new.device) }
+        ensures kept { A.state arena.new.device ≡ A.state arena.old.device }
         ensures cause { HasWalkCauses (A.faults arena.old.device) (A.faults arena.new.device) result }
     {
         if down == 0 {

@@ -6,8 +6,8 @@ use Rattle.fo_vac_walk.proofs.block.get_block.Goals as goal
 
 pub returns-in-Ok-clause-held : goal.returns-in-Ok-clause-held
 returns-in-Ok-clause-held g c = λ h t. record {
-  bytes = got_bytes h c.args.arena.now.shelf _ _ c.args.spot.score.0 c.args.kind c.get.new.into.items t (c.in-Ok.ensures.held h.stored t.synced t.keeps);
-  at = subst (λ ls. StandsIn ls c.args.spot.holder c.args.spot.score.0 c.args.kind c.block_at-at.result) (lines_later h _ _ _ _ t c.in-Ok.ensures.shelf) c.block_at-at.ensures;
+  bytes = got_bytes h c.args.arena.now.shelf _ c.args.spot.score.0 c.args.kind c.get.new.into.items t (c.in-Ok.ensures.held h.stored t.synced t.keeps);
+  at = subst (λ ls. StandsIn ls c.args.spot.holder c.args.spot.score.0 c.args.kind c.block_at-at.result) (lines_later h _ _ _ t c.in-Ok.ensures.shelf) c.block_at-at.ensures;
 }
 
 pub returns-in-Err-Damaged-clause-held : goal.returns-in-Err-Damaged-clause-held

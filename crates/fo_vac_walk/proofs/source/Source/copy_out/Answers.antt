@@ -3,7 +3,7 @@ use Rattle.std.proofs.lemmas.Result.{err_from_is_err_and}
 use Rattle.std.proofs.lemmas.List.{length-take-le, length-drop}
 use borrow.Rule.Slice.PartMut.{put_mid}
 use Rattle.fo_vac_walk.specs.Walk.{byte_of}
-use Rattle.fo_vac_walk.proofs.Blocks.{still_told, kept_joins}
+use Rattle.fo_vac_walk.proofs.Blocks.{still_told}
 use Rattle.fo_vac_walk.proofs.Parts.{copied_more, length_put_mid}
 use Rattle.fo_vac_walk.proofs.source.Source.copy_out.Goals as goal
 
@@ -11,7 +11,7 @@ pub loop-done-init : goal.loop-done-init
 loop-done-init g c = record {
   within = omega arith;
   shelf = refl;
-  kept = record { same_versions = refl; same_moments = refl; same_flags = refl };
+  kept = refl;
   later = omega arith;
   given = λ h w told is i lt. absurd (omega (arith, lt));
 }
@@ -20,7 +20,7 @@ pub returns-in_err-copy_part-clause-held : goal.returns-in_err-copy_part-clause-
 returns-in_err-copy_part-clause-held g c = λ h w told is.
     let p = err_from_is_err_and c.from_residual.result c.from_residual.ensures.1 in
     let i = c.loop-done.invariant in
-    let later = still_told h _ _ _ _ _ _ _ _ i.shelf i.kept told in
+    let later = still_told h _ _ _ _ i.shelf i.kept told in
     rw (p.1, p.2) (c.in_err-copy_part.ensures.held h w later is)
 
 pub loop-done-preserved : goal.loop-done-preserved
@@ -43,11 +43,11 @@ loop-done-preserved g c =
     record {
       within = omega (arith, same_len, fits);
       shelf = e.shelf ∙ i.shelf;
-      kept = kept_joins i.kept e.kept;
+      kept = e.kept ∙ i.kept;
       later = omega (arith, before, more.later);
       given = λ h w told is. copied_more (byte_of h w) (byte_of h w) into sub c.args.offset done n (done + n - done) back fits sub_len (i.given h w told is)
           (λ j below. refl)
-          (λ j below. e.held h w (still_told h _ _ _ _ _ _ _ _ i.shelf i.kept told) is j (omega (arith, part_len, below)));
+          (λ j below. e.held h w (still_told h _ _ _ _ i.shelf i.kept told) is j (omega (arith, part_len, below)));
     }
 
 pub returns-clause-held : goal.returns-clause-held
