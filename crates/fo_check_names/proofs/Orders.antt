@@ -61,7 +61,8 @@ pub twice_here : {X K : Type 0} (key : X → K) (of : X → ℕ) (xs : List X) (
 twice_here key of xs i a b e one lt same = record {
   first = i - 1;
   second = i;
-  order = omega arith;
+  apart = λ e. omega (arith, e, one);
+  before = omega (arith, lt, one);
   within = lt;
   same = λ d. ap key (get_or_default xs (i - 1) d a (omega arith)) ∙ same ∙ ap key (get_or_default xs i b d lt);
   leaf_is = λ d. ap of (get_or_default xs i d e lt);

@@ -31,11 +31,12 @@ named_in leaf r = record { listed = r; leaf = leaf; found = false }
 pub record Differ {X K : Type 0} (key : X → K) (xs : List X) : Type 0 where
   pub each : (i j : ℕ) (d : X) → i < j → j < length xs → key (slice_index_or xs i d) ≢ key (slice_index_or xs j d)
 
--- An element of this leaf has the key of one before it.
+-- An element of this leaf has the key of another.
 pub record IsTwice {X K : Type 0} (key : X → K) (of : X → ℕ) (xs : List X) (leaf : ℕ) : Type 0 where
   pub first : ℕ
   pub second : ℕ
-  pub order : first < second
+  pub apart : first ≢ second
+  pub before : first < length xs
   pub within : second < length xs
   pub same : (d : X) → key (slice_index_or xs first d) ≡ key (slice_index_or xs second d)
   pub leaf_is : (d : X) → of (slice_index_or xs second d) ≡ leaf

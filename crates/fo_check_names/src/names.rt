@@ -20,7 +20,7 @@ pub struct Named {
 /// Sorts the records by their names, and answers the leaf of one whose name another has.
 pub fn same_name(named: &mut [Named]) -> Option<u32>
     ensures permutation { IsPermutation named.old named.new }
-    ensures answer { MatchOption result (Differ name_of named.new) (IsTwice name_of leaf_of named.new) }
+    ensures answer { MatchOption result (Differ name_of named.old) (IsTwice name_of leaf_of named.old) }
 {
     named.sort_unstable_by(|a, b| a.listed.name.as_slice().cmp(b.listed.name.as_slice()));
     repeated_name(named)
@@ -42,7 +42,7 @@ fn repeated_name(named: &[Named]) -> Option<u32>
 pub fn same_pair(named: &mut [Named]) -> Option<u32>
     ensures permutation { IsPermutation named.old named.new }
     ensures sorted { IsNonDecreasingBy slot_of named.new }
-    ensures answer { MatchOption result (Differ slot_of named.new) (IsTwice slot_of leaf_of named.new) }
+    ensures answer { MatchOption result (Differ slot_of named.old) (IsTwice slot_of leaf_of named.old) }
 {
     named.sort_unstable_by_key(|n| n.listed.slot);
     repeated_pair(named)
@@ -108,7 +108,7 @@ pub fn no_file(found: &[Number], limit: u32) -> Option<u32>
 /// Sorts the numbers, and answers the leaf of one that another file has.
 pub fn same_number(found: &mut [Number]) -> Option<u32>
     ensures permutation { IsPermutation found.old found.new }
-    ensures answer { MatchOption result (Differ number_of found.new) (IsTwice number_of holder_of found.new) }
+    ensures answer { MatchOption result (Differ number_of found.old) (IsTwice number_of holder_of found.old) }
 {
     found.sort_unstable_by_key(|n| n.number);
     repeated_number(found)

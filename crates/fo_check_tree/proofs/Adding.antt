@@ -1,5 +1,5 @@
 -- The steps by the slots of a block, by its kind, and what a step leaves.
-use Rattle.std.proofs.Common.{◌≡◌, ℕ, zero, suc, ◌-◌, ◌*◌, ◌<◌, ◌≤◌, take, drop, ap, Bool, true, false, leb, List, ◌++◌, Option, Some, None, refl, sym, subst, Result, Ok, Err, arith}
+use Rattle.std.proofs.Common.{◌≡◌, ℕ, zero, suc, ◌-◌, ◌*◌, ◌<◌, ◌≤◌, take, drop, ap, Bool, true, false, leb, List, ◌++◌, Option, Some, None, refl, sym, subst, ◌∙◌, Result, Ok, Err, arith}
 use Rattle.std.specs.Prelude.{OnOk, is_err, if◌then◌else◌}
 use Rattle.std.proofs.lemmas.Bool.{false≢true}
 use Rattle.fo_check_tree.specs.declared.broken.Broken.{Broken}
@@ -13,7 +13,7 @@ use Rattle.fo_check_tree.specs.Notes.{NotesAt}
 use Rattle.fo_check_tree.specs.Notes.NotesAt.{same as note_same, format as note_format, deep as note_deep}
 use Rattle.fo_disk.specs.Disk.{Block}
 use Rattle.fo_image.specs.declared.types.Kind.{Kind}
-use Rattle.fo_image.specs.declared.types.Kind.TheVariants.{Data, Dir}
+use Rattle.fo_image.specs.declared.types.Kind.TheVariants.{Data, Dir, Root}
 use Rattle.fo_image.specs.declared.types.Label.{Label}
 use Rattle.fo_crash.specs.Images.{Content, Image}
 use Rattle.fo_good.specs.Means.{HasPointer}
@@ -21,10 +21,14 @@ use Rattle.fo_sound.specs.Image.{block_of}
 use Rattle.fo_check_tree.specs.declared.labels.Labels.{Labels}
 use Rattle.fo_check_tree.specs.declared.walk.Holder.{Holder}
 use Rattle.fo_check_tree.specs.declared.walk.Step.{Step}
+use Rattle.fo_check_tree.specs.declared.walk.Holds.TheVariants.{Bytes, Records}
+use Rattle.fo_check_names.specs.declared.names.Named.{Named}
 use Rattle.fo_check_tree.specs.declared.walk.Walk.{Walk}
 use Rattle.fo_check_tree.specs.Follows.{Reaches, Puts, Reads}
 use Rattle.fo_check_tree.specs.Follows.Reaches.{enters}
 use Rattle.fo_check_tree.specs.Known.{Marks}
+use Rattle.fo_check_tree.specs.Listing.{AddsNamed, Adds}
+use Rattle.fo_check_tree.specs.Listing.AddsNamed.{none as none_added}
 use Rattle.fo_check_tree.specs.Slots.{unless, HasSlot, HasSlots, steps_below, steps_of}
 use Rattle.fo_check_tree.specs.Slots.HasSlot.{entry, other}
 use Rattle.fo_check_tree.specs.Steps.{IsAllowed}
@@ -87,9 +91,10 @@ pub reaches_by : {A E : Type 0} (r : Result A E) (device : List Block) (image : 
     → (HasSlots step.kind (image at) (block_of device at) → OnOk r (Puts (record { block = at; label = label }) (image at) depth named step.kind old.folders.items new.folders.items))
     → OnOk r (NotesAt at old.noted new.noted)
     → OnOk r (Reads step.kind (image at) (block_of device at) new.noted)
+    → OnOk r (Adds step at (block_of device at) step.kind old.named.items new.named.items)
     → OnOk r (Reaches device image depth named step at old new)
-reaches_by (Ok x) device image depth named step at old new label marked allowed marks same pushed put notes read = enters label allowed (subst (λ (l : Labels). Marks at old.labels.known.items l.known.items) (sym same) marks) pushed put notes read
-reaches_by (Err e) device image depth named step at old new label marked allowed marks same pushed put notes read = same
+reaches_by (Ok x) device image depth named step at old new label marked allowed marks same pushed put notes read adds = enters label allowed (subst (λ (l : Labels). Marks at old.labels.known.items l.known.items) (sym same) marks) pushed put notes read adds
+reaches_by (Err e) device image depth named step at old new label marked allowed marks same pushed put notes read adds = same
 
 -- ---- what a block says by itself
 
@@ -109,3 +114,27 @@ notes_format block (Some b) = by_choice (λ (o : Option Broken). NotesAt block (
 pub notes_unless : (t : Bool) (block : ℕ) (noted new : Option Broken) → new ≡ unless t 5 block noted → NotesAt block noted new
 notes_unless true block noted new is = note_same is
 notes_unless false block noted new is = subst (λ (o : Option Broken). NotesAt block noted o) (sym is) (notes_format block noted)
+
+-- ---- records that are named
+
+module _ {A E : Type 0} (r : Result A E) (step : Step) (at : ℕ) (bytes : Block) (old new : List Named) where
+  pub leaf_names : (kind : Kind) → kind ≡ Data zero → OnOk r (AddsNamed step at bytes old new) → OnOk r (Adds step at bytes kind old new)
+  leaf_names kind is h = subst (λ (k : Kind). OnOk r (Adds step at bytes k old new)) (sym is) h
+
+  pub inner_names : (level : ℕ) (kind : Kind) → kind ≡ Data level → 0 < level → OnOk r (new ≡ old) → OnOk r (Adds step at bytes kind old new)
+  inner_names zero kind is some h = absurd (omega (arith, some))
+  inner_names (suc level) kind is some h = subst (λ (k : Kind). OnOk r (Adds step at bytes k old new)) (sym is) h
+
+pub dir_names : {A E : Type 0} (r : Result A E) (step : Step) (at : ℕ) (bytes : Block) (old new : List Named) (level : ℕ) (kind : Kind) → kind ≡ Dir level → OnOk r (Adds step at bytes kind old new)
+dir_names (Ok x) step at bytes old new level kind is = subst (λ (k : Kind). Adds step at bytes k old new) (sym is) tt
+dir_names (Err e) step at bytes old new level kind is = tt
+
+pub root_names : (step : Step) (at : ℕ) (bytes : Block) (old new : List Named) (kind : Kind) → kind ≡ Root → Adds step at bytes kind old new
+root_names step at bytes old new kind is = subst (λ (k : Kind). Adds step at bytes k old new) (sym is) tt
+
+bytes_records : Bytes ≡ Records → ⊥
+bytes_records e = cc
+
+-- A leaf of a file's bytes has no records.
+pub file_names : (step : Step) (at : ℕ) (bytes : Block) (old new : List Named) (kind : Kind) → kind ≡ Data zero → step.holds ≡ Bytes → new ≡ old → Adds step at bytes kind old new
+file_names step at bytes old new kind is holds same = subst (λ (k : Kind). Adds step at bytes k old new) (sym is) (none_added same (λ records leaf. absurd (bytes_records (sym holds ∙ records))))

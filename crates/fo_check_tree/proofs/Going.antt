@@ -170,7 +170,7 @@ module _ (arena : Arena) (device : List Block) (image : Image) (s : Super) (k : 
 
   -- ---- to a block that was reached before
 
-  breaks_once : (at i below : ℕ) (m : Label) → 1 ≤ n at i → target ((image at).slot i) ≡ Local below → Reached known below m → BreaksOnce arena image k below
+  pub breaks_once : (at i below : ℕ) (m : Label) → 1 ≤ n at i → target ((image at).slot i) ≡ Local below → Reached known below m → BreaksOnce arena image k below
   breaks_once at i below m some is reached =
       let p = holder_path at i some in
       let leads : LeadsTo arena image k.at (p.1.path ++ i ∷ []) below = ap target (slot_end arena image p.1.path (from_block k.at) i at p.1.leads) ∙ is in

@@ -2,7 +2,9 @@ mod Adding
 mod Counting
 mod Ending
 mod Going
+mod Leaves
 mod Levels
+mod Listed
 mod Marking
 mod Noting
 mod Paths

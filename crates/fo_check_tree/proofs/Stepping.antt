@@ -24,7 +24,7 @@ use Rattle.fo_check_tree.specs.declared.walk.Holder.{Holder}
 use Rattle.fo_check_tree.specs.declared.walk.Holds.{Holds}
 use Rattle.fo_check_tree.specs.declared.walk.Step.{Step}
 use Rattle.fo_check_tree.specs.declared.walk.Walk.{Walk}
-use Rattle.fo_check_tree.specs.Answer.{BreaksLabels, RefusesTree}
+use Rattle.fo_check_tree.specs.Answer.{BreaksLabels, BreaksOnce, RefusesTree}
 use Rattle.fo_check_tree.specs.Answer.BreaksLabels.{outside, label}
 use Rattle.fo_check_tree.specs.Follows.{Reaches, Follows, RefusesFollow}
 use Rattle.fo_check_tree.specs.Follows.Reaches.{again, enters}
@@ -37,7 +37,7 @@ use Rattle.fo_check_tree.specs.Steps.{BreaksStep}
 use Rattle.fo_check_tree.specs.Steps.BreaksStep.{outside as step_outside, label as step_label}
 use Rattle.fo_check_tree.specs.Steps.{place_of as place_to}
 use Rattle.fo_check_tree.specs.Walking.{Reached, IsTaken, IsTable, HasPath, IsStepOf, place_under, one, Fits, tops, all_tops, Goes, Walking}
-use Rattle.fo_check_tree.proofs.Going.{goes_nowhere, goes_held, goes_again, goes_on, goes_lower, named_at}
+use Rattle.fo_check_tree.proofs.Going.{goes_nowhere, goes_held, goes_again, goes_on, goes_lower, named_at, breaks_once}
 use Rattle.fo_check_tree.proofs.Paths.{end_kind, end_tag, end_slot}
 use Rattle.fo_check_tree.proofs.Reaching.{is_known}
 use Rattle.fo_check_tree.proofs.Spelled.{only_has}
@@ -243,9 +243,13 @@ module _ (arena : Arena) (device : List Block) (image : Image) (s : Super) (k : 
         let yes : a.1.reached ≡ true = subst (λ (x : Known). x.address ≡ at → x.reached ≡ true) a.3 (all a.0 a.1 a.2) a.4.address_is in
         (a.0, a.1, a.2, a.3, record { address_is = a.4.address_is; label_is = a.4.label_is; reached_is = yes })
 
+    pub again_breaks : (at : ℕ) (m : Label) → step.pointer ≡ Local at → All (λ (x : Known). x.address ≡ at → x.reached ≡ true) old.labels.known.items → Any (IsKnown at m) old.labels.known.items → BreaksOnce arena image k at
+    again_breaks at m is all a = breaks_once arena device image s k old.labels.known.items old.noted left_before w.goes w.others_fit.at w.others_fit.slot at m
+        (omega (arith, sum w.others_fit.at w.others_fit.slot, one_here w.others_fit.at w.others_fit.slot)) (leads (Local at) is) (was_reached at m all a)
+
     module _ (depth : ℕ) (named : Bool) (size : new.blocks ≡ old.blocks) (tree : (new.epoch ≡ old.epoch) × (new.active ≡ old.active)) (low : level new.noted ≤ level old.noted) where
       after_block : (at : ℕ) → step.pointer ≡ Local at → Reaches device image depth named step at old new → Walking arena device image s k rest new
-      after_block at is (again m allowed marks same same' noted) = record {
+      after_block at is (again m allowed marks same same' noted kept) = record {
         holds = w.holds;
         size = size ∙ w.size;
         tree = (tree.0 ∙ w.tree.0, tree.1 ∙ w.tree.1);
@@ -259,7 +263,7 @@ module _ (arena : Arena) (device : List Block) (image : Image) (s : Super) (k : 
             (goes_again arena device image s k old.labels.known.items old.noted left_before w.goes left_then w.others_fit.at w.others_fit.slot at m sum (leads (Local at) is)
             (was_reached at m marks.none allowed.known) (may_of (λ nil. nil_local (sym nil ∙ is)) m allowed.may));
       }
-      after_block at is (enters m allowed marks steps folders notes read) =
+      after_block at is (enters m allowed marks steps folders notes read adds) =
           let known = old.labels.known.items in
           let t = taken_of device known at m w.goes.table allowed.known in
           let slots : HasSlots step.kind (image at) (block_of device at) = subst (λ (d : Kind). HasSlots d (image at) (block_of device at)) allowed.may.kind (w.holds.slots at m t.0 t.1) in

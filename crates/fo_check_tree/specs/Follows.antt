@@ -16,6 +16,7 @@ use Rattle.fo_check_tree.specs.declared.walk.Holder.{Holder}
 use Rattle.fo_check_tree.specs.declared.walk.Step.{Step}
 use Rattle.fo_check_tree.specs.declared.walk.Walk.{Walk}
 use Rattle.fo_check_tree.specs.Known.{Marks, MarksNone}
+use Rattle.fo_check_tree.specs.Listing.{Adds}
 use Rattle.fo_check_tree.specs.declared.broken.Broken.{Broken}
 use Rattle.fo_check_tree.specs.Lower.{lower, level}
 use Rattle.fo_check_tree.specs.Notes.{NotesAt}
@@ -36,13 +37,14 @@ Reads kind c bytes noted = (kind ≡ Root → ⊥) → HasSlots kind c bytes →
 -- A step to this block was taken. The block may stand there. Where it was reached before, rule 7 is noted; else it is reached now, and
 -- the steps and folders by its slots are left.
 pub data Reaches (device : List Block) (image : Image) (depth : ℕ) (named : Bool) (step : Step) (at : ℕ) (old new : Walk) : Type 0 where
-  again : (label : Label) → IsAllowed old step at label → MarksNone at old.labels.known.items new.labels.known.items → new.steps.items ≡ old.steps.items → new.folders.items ≡ old.folders.items → new.noted ≡ lower old.noted 7 at
+  again : (label : Label) → IsAllowed old step at label → MarksNone at old.labels.known.items new.labels.known.items → new.steps.items ≡ old.steps.items → new.folders.items ≡ old.folders.items → new.noted ≡ lower old.noted 7 at → new.named.items ≡ old.named.items
       → Reaches device image depth named step at old new
   enters : (label : Label) → IsAllowed old step at label → Marks at old.labels.known.items new.labels.known.items
       → (HasSlots step.kind (image at) (block_of device at) → new.steps.items ≡ old.steps.items ++ steps_of step (record { block = at; label = label }) (image at) step.kind)
       → (HasSlots step.kind (image at) (block_of device at) → Puts (record { block = at; label = label }) (image at) depth named step.kind old.folders.items new.folders.items)
       → NotesAt at old.noted new.noted
       → Reads step.kind (image at) (block_of device at) new.noted
+      → Adds step at (block_of device at) step.kind old.named.items new.named.items
       → Reaches device image depth named step at old new
 
 -- A step was taken: it leads nowhere, to a score, for which rule 9 is noted, or to a block.

@@ -2,6 +2,7 @@ pub mod Answer
 pub mod Cause
 pub mod Follows
 pub mod Known
+pub mod Listing
 pub mod Lower
 pub mod Notes
 pub mod Slots

@@ -1,6 +1,6 @@
 //! The blocks of sources, one pointer after another.
 ghost use Rattle.std.specs.Prelude.{◌≡◌, ℕ, ◌+◌, ◌*◌, ◌<◌, ◌≤◌, List, [], ◌++◌, length, drop, IfErr, IfOk, MatchResult, OnOk};
-ghost use Rattle.fo_crash.specs.Images.{Arena, Content, Image};
+ghost use Rattle.fo_crash.specs.Images.{Arena, Content, Image, Link};
 ghost use Rattle.fo_good.specs.Means.{HasPointer};
 ghost use Rattle.fo_disk.specs.Disk.{Block};
 ghost use Rattle.fo_meta.specs.Leaf.{IsLeaf};
@@ -12,6 +12,7 @@ ghost use Rattle.fo_image.specs.declared.types.Super.{Super};
 ghost use Rattle.fo_image.specs.declared.types.Pointer.TheVariants.{Local};
 ghost use Rattle.fo_check_tree.specs.Answer.{RefusesTree};
 ghost use Rattle.fo_check_tree.specs.Follows.{Follows, Reaches, Puts, Reads, RefusesFollow, NotLabel};
+ghost use Rattle.fo_check_tree.specs.Listing.{AddsNamed, Adds, IsListing};
 ghost use Rattle.fo_check_tree.specs.Notes.{NotesAt};
 ghost use Rattle.fo_check_tree.specs.Walking.{Walking};
 ghost use Rattle.fo_check_tree.specs.Lower.{lower, level};
@@ -65,6 +66,8 @@ pub(crate) fn follow_all<D: Disk>(
     requires size { D.size main.old ≡ walk.old.blocks }
     ensures walks { (arena : Arena) (device : List Block) (image : Image) (s : Super) (k : Kept) (rest : List Step) → Shows (D.holds main.old) device → Walking arena device image s k rest walk.old
         → MatchResult result (λ _. Walking arena device image s k rest walk.new) (RefusesTree arena device image k) }
+    ensures lists { (arena : Arena) (device : List Block) (image : Image) (s : Super) (k : Kept) (meta : Link) (rest : List Step) → Shows (D.holds main.old) device → Walking arena device image s k rest walk.old
+        → IsListing arena image k meta walk.old.labels.known.items walk.old.steps.items walk.old.named.items → OnOk result (IsListing arena image k meta walk.new.labels.known.items walk.new.steps.items walk.new.named.items) }
     ensures done { OnOk result (walk.new.steps.items ≡ []) }
     ensures blocks { OnOk result (walk.new.blocks ≡ walk.old.blocks) }
     ensures budget { OnOk result (205 * walk.new.labels.left + length walk.new.folders.items ≤ 205 * walk.old.labels.left + length walk.old.folders.items) }
@@ -172,6 +175,7 @@ fn enter<D: Disk>(
     ensures size { D.size main.new ≡ D.size main.old }
     ensures kept { IsKept (D.holds main.old) (D.holds main.new) (D.moments main.old) (D.moments main.new) (D.unsure main.old) (D.unsure main.new) }
     ensures cause { HasCauses (D.faults main.old) (D.faults main.new) result }
+    ensures named { (device : List Block) → Shows (D.holds main.old) device → OnOk result (Adds step.now here.block (block_of device here.block) step.now.kind walk.old.named.items walk.new.named.items) }
 {
     if step.kind == Kind::Data(0) && step.holds == Holds::Bytes {
         return Ok(());
@@ -205,6 +209,7 @@ fn add_block(
     ensures steps { OnOk result (length walk.new.steps.items ≤ length walk.old.steps.items + 409) }
     ensures folders { OnOk result (length walk.new.folders.items ≤ length walk.old.folders.items + 204) }
     ensures level { OnOk result (level walk.new.noted ≤ level walk.old.noted) }
+    ensures named { OnOk result (Adds step.now here.block block.now step.now.kind walk.old.named.items walk.new.named.items) }
 {
     match step.kind {
         Kind::Data(0) => add_records(alloc, walk, step, here, block),
@@ -232,6 +237,7 @@ fn add_pointers(
     ensures steps { OnOk result (length walk.new.steps.items ≤ length walk.old.steps.items + 409) }
     ensures folders { OnOk result (walk.new.folders.items ≡ walk.old.folders.items) }
     ensures level { OnOk result (level walk.new.noted ≤ level walk.old.noted) }
+    ensures named { OnOk result (walk.new.named.items ≡ walk.old.named.items) }
 {
     walk.note_rest(here.block, &block[8180..]);
     for i in 0..409 {
@@ -257,6 +263,7 @@ fn add_pointer(
     ensures labels { walk.new.labels ≡ walk.old.labels }
     ensures steps { OnOk result (length walk.new.steps.items ≤ length walk.old.steps.items + 1) }
     ensures folders { walk.new.folders.items ≡ walk.old.folders.items }
+    ensures named { walk.new.named.items ≡ walk.old.named.items }
 {
     match pointer {
         Pointer::Nil => {}
@@ -289,6 +296,7 @@ fn add_records(
     ensures quiet { IsLeaf block.now → OnOk result (walk.new.noted ≡ walk.old.noted) }
     ensures notes { OnOk result (NotesAt here.block walk.old.noted walk.new.noted) }
     ensures level { OnOk result (level walk.new.noted ≤ level walk.old.noted) }
+    ensures named { OnOk result (AddsNamed step.now here.block block.now walk.old.named.items walk.new.named.items) }
 {
     let Some(records) = read_leaf(alloc, block)? else {
         walk.note(5, here.block);

@@ -111,6 +111,7 @@ impl Walk {
         ensures labels { self.new.labels ≡ self.old.labels }
         ensures steps { self.new.steps.items ≡ self.old.steps.items }
         ensures folders { self.new.folders.items ≡ self.old.folders.items }
+        ensures named { self.new.named.items ≡ self.old.named.items }
     {
         self.noted = lower(self.noted, rule, block);
     }
@@ -155,6 +156,7 @@ impl Walk {
         ensures labels { self.new.labels ≡ self.old.labels }
         ensures steps { self.new.steps.items ≡ self.old.steps.items }
         ensures folders { self.new.folders.items ≡ self.old.folders.items }
+        ensures named { self.new.named.items ≡ self.old.named.items }
     {
         if !is_zero(rest) {
             self.note(5, block);

@@ -1,12 +1,12 @@
 use Rattle.std.proofs.Common.{◌≡◌, ℕ, drop, sym, ap, ◌∙◌, subst, rules, arith}
-use Rattle.fo_image.specs.declared.types.Kind.TheVariants.{Dir}
+use Rattle.fo_image.specs.declared.types.Kind.TheVariants.{Data, Dir}
 use Rattle.std.specs.Prelude.{OnOk}
 use Rattle.fo_image.specs.declared.types.Kind.{Kind}
 use Rattle.fo_check_tree.specs.Follows.{Reads}
 use Rattle.fo_sound.specs.Image.{is_zero}
 use Rattle.fo_check_tree.specs.Notes.{NotesAt}
 use Rattle.fo_check_tree.specs.Slots.{unless}
-use Rattle.fo_check_tree.proofs.Adding.{data_adds, dir_adds, on_ok, notes_unless, data_reads, dir_reads, entries_read}
+use Rattle.fo_check_tree.proofs.Adding.{data_adds, dir_adds, on_ok, notes_unless, data_reads, dir_reads, entries_read, leaf_names, inner_names, dir_names, root_names}
 use Rattle.fo_check_tree.proofs.blocks.add_block.Goals as goal
 
 pub returns-in-Data-clause-pushed : goal.returns-in-Data-clause-pushed
@@ -36,3 +36,19 @@ returns-in-Dir-clause-format c c' = dir_reads c.add_pointers-in-Dir.result c' c.
 pub returns-in-Dir-eq0-clause-format : goal.returns-in-Dir-eq0-clause-format
 returns-in-Dir-eq0-clause-format c c' = subst (λ (k : Kind). OnOk c.add_entries.result (Reads k c' c.args.block.now c.add_entries.new.walk.noted)) (sym (c.in-Dir-eq0.is ∙ ap (λ (n : ℕ). Dir n) (first_of (omega (arith, c.in-Dir-eq0.field-0-is), grind (arith, c.in-Dir-eq0.field-0-test), search rules))))
     (entries_read c.add_entries.result c' c.args.block.now c.add_entries.new.walk.noted (c.add_entries.ensures.whole c') c.add_entries.ensures.rest)
+
+pub returns-in-Data-eq0-clause-named : goal.returns-in-Data-eq0-clause-named
+returns-in-Data-eq0-clause-named c = leaf_names c.add_records.result c.args.step.now c.args.here.block c.args.block.now c.args.walk.now.named.items c.add_records.new.walk.named.items c.args.step.now.kind
+    (c.in-Data-eq0.is ∙ ap (λ (n : ℕ). Data n) (first_of (omega (arith, c.in-Data-eq0.field-0-is), grind (arith, c.in-Data-eq0.field-0-test), search rules))) c.add_records.ensures.named
+
+pub returns-in-Data-clause-named : goal.returns-in-Data-clause-named
+returns-in-Data-clause-named c = inner_names c.add_pointers.result c.args.step.now c.args.here.block c.args.block.now c.args.walk.now.named.items c.add_pointers.new.walk.named.items c.in-Data.level c.args.step.now.kind c.in-Data.is (grind (arith, c.in-Data.level-test)) c.add_pointers.ensures.named
+
+pub returns-in-Dir-eq0-clause-named : goal.returns-in-Dir-eq0-clause-named
+returns-in-Dir-eq0-clause-named c = dir_names c.add_entries.result c.args.step.now c.args.here.block c.args.block.now c.args.walk.now.named.items c.add_entries.new.walk.named.items _ c.args.step.now.kind c.in-Dir-eq0.is
+
+pub returns-in-Dir-clause-named : goal.returns-in-Dir-clause-named
+returns-in-Dir-clause-named c = dir_names c.add_pointers-in-Dir.result c.args.step.now c.args.here.block c.args.block.now c.args.walk.now.named.items c.add_pointers-in-Dir.new.walk.named.items c.in-Dir.level c.args.step.now.kind c.in-Dir.is
+
+pub returns-in-Root-clause-named : goal.returns-in-Root-clause-named
+returns-in-Root-clause-named c = root_names c.args.step.now c.args.here.block c.args.block.now c.args.walk.now.named.items c.args.walk.now.named.items c.args.step.now.kind c.in-Root.is

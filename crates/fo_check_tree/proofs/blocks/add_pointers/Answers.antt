@@ -16,6 +16,7 @@ loop-i-init c = record {
   tree = c.note_rest.ensures.tree;
   low = c.note_rest.ensures.level;
   labels = c.note_rest.ensures.labels;
+  named = c.note_rest.ensures.named;
   steps = rw c.note_rest.ensures.steps (omega arith);
   folders = c.note_rest.ensures.folders;
 }
@@ -30,6 +31,7 @@ loop-i-preserved c = record {
   tree = (c.add_pointer.ensures.tree.0 ∙ c.loop-i.invariant.tree.0, c.add_pointer.ensures.tree.1 ∙ c.loop-i.invariant.tree.1);
   low = rw c.add_pointer.ensures.noted c.loop-i.invariant.low;
   labels = c.add_pointer.ensures.labels ∙ c.loop-i.invariant.labels;
+  named = c.add_pointer.ensures.named ∙ c.loop-i.invariant.named;
   steps = omega (arith, c.in_ok-add_pointer.ensures.steps, c.loop-i.invariant.steps);
   folders = c.add_pointer.ensures.folders ∙ c.loop-i.invariant.folders;
 }

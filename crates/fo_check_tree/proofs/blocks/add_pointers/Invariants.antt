@@ -14,6 +14,7 @@ invariant-loop-i l = record {
   tree : (l.walk.epoch ≡ l.fn.walk.epoch) × (l.walk.active ≡ l.fn.walk.active);
   low : level l.walk.noted ≤ level l.fn.walk.noted;
   labels : l.walk.labels ≡ l.fn.walk.labels;
+  named : l.walk.named.items ≡ l.fn.walk.named.items;
   steps : length l.walk.steps.items ≤ length l.fn.walk.steps.items + l.i;
   folders : l.walk.folders.items ≡ l.fn.walk.folders.items;
 }

@@ -1,9 +1,12 @@
-use Rattle.std.proofs.Common.{◌∷◌, append-nil, refl, sym, ◌∙◌, subst, arith}
+use Rattle.std.proofs.Common.{◌≡◌, List, [], ◌∷◌, ◌++◌, append-nil, refl, sym, ◌∙◌, subst, arith}
 use Rattle.std.proofs.lemmas.Result.{err_from_is_err_and}
 use Rattle.fo_disk.specs.Disk.{Content}
 use Rattle.fo_sound.specs.Device.{Shows}
 use Rattle.fo_check_tree.specs.declared.walk.Walk.{Walk}
+use Rattle.fo_check_tree.specs.declared.walk.Step.{Step}
+use Rattle.fo_check_tree.specs.Listing.{IsListing}
 use Rattle.fo_check_tree.specs.Walking.{Walking}
+use Rattle.fo_check_tree.proofs.Listed.{lists}
 use Rattle.fo_check_tree.proofs.Stepping.{popped, followed, refused, emptied}
 use Rattle.fo_check_tree.proofs.blocks.follow_all.Goals as goal
 
@@ -15,6 +18,13 @@ loop-step-preserved g c = record {
       let left : Walking arena device image s k (c.in-Some.step ∷ rest) old = popped arena device image s k c.loop-step.walk old (record { blocks = refl; epoch = refl; active = refl; labels = refl; noted = refl }) rest c.in-Some.step c.in-Some.ensures.items refl before in
       followed arena device image s k rest c.in-Some.step old c.follow.new.walk left c.args.depth c.args.named c.in_ok-follow.ensures.blocks c.in_ok-follow.ensures.tree c.in_ok-follow.ensures.level
       (c.in_ok-follow.ensures.follows device image (subst (λ (h : Content). Shows h device) (sym c.loop-step.invariant.kept.same_versions) shows));
+  lists = λ arena device image s k meta rest shows w h.
+      let old : Walk = record c.loop-step.walk { steps = c.pop.new.self } in
+      let before : Walking arena device image s k rest c.loop-step.walk = c.loop-step.invariant.walks arena device image s k rest shows w in
+      let left : Walking arena device image s k (c.in-Some.step ∷ rest) old = popped arena device image s k c.loop-step.walk old (record { blocks = refl; epoch = refl; active = refl; labels = refl; noted = refl }) rest c.in-Some.step c.in-Some.ensures.items refl before in
+      let listed : IsListing arena image k meta c.loop-step.walk.labels.known.items (c.pop.new.self.items ++ c.in-Some.step ∷ []) c.loop-step.walk.named.items = subst (λ (xs : List Step). IsListing arena image k meta c.loop-step.walk.labels.known.items xs c.loop-step.walk.named.items) c.in-Some.ensures.items (c.loop-step.invariant.lists arena device image s k meta rest shows w h) in
+      lists arena device image s k meta rest c.in-Some.step old c.follow.new.walk left listed c.args.depth c.args.named
+      (c.in_ok-follow.ensures.follows device image (subst (λ (x : Content). Shows x device) (sym c.loop-step.invariant.kept.same_versions) shows));
   blocks = c.in_ok-follow.ensures.blocks ∙ c.loop-step.invariant.blocks;
   low = omega (arith, c.in_ok-follow.ensures.level, c.loop-step.invariant.low);
   size = c.follow.ensures.size ∙ c.loop-step.invariant.size ∙ sym c.in_ok-follow.ensures.blocks;
@@ -39,3 +49,7 @@ returns-in_err-follow-clause-walks g c arena device image s k rest shows w =
 pub returns-clause-walks : goal.returns-clause-walks
 returns-clause-walks g c arena device image s k rest shows w =
     emptied arena device image s k c.loop-step.walk (record c.loop-step.walk { steps = c.pop.new.self }) (record { blocks = refl; epoch = refl; active = refl; labels = refl; noted = refl }) rest (sym (append-nil c.pop.new.self.items) ∙ sym c.in_default.ensures.items) refl (c.loop-step.invariant.walks arena device image s k rest shows w)
+
+pub returns-clause-lists : goal.returns-clause-lists
+returns-clause-lists g c arena device image s k meta rest shows w h =
+    subst (λ (xs : List Step). IsListing arena image k meta c.loop-step.walk.labels.known.items xs c.loop-step.walk.named.items) (c.in_default.ensures.items ∙ append-nil c.pop.new.self.items) (c.loop-step.invariant.lists arena device image s k meta rest shows w h)

@@ -1,10 +1,11 @@
 use Rattle.std.proofs.Common.{◌≡◌, ◌+◌, ◌*◌, ◌≤◌, List, length}
-use Rattle.fo_crash.specs.Images.{Image, Arena}
+use Rattle.fo_crash.specs.Images.{Image, Arena, Link}
 use Rattle.fo_disk.specs.Disk.{Block}
 use Rattle.fo_good.specs.Sound.{Kept}
 use Rattle.fo_image.specs.declared.types.Super.{Super}
 use Rattle.fo_sound.specs.Device.{Shows, IsKept}
 use Rattle.fo_check_tree.specs.declared.walk.Step.{Step}
+use Rattle.fo_check_tree.specs.Listing.{IsListing}
 use Rattle.fo_check_tree.specs.Walking.{Walking}
 use Rattle.fo_check_tree.specs.Lower.{level}
 use Rattle.fo_check_tree.proofs.blocks.follow_all.Given as goal
@@ -12,6 +13,8 @@ use Rattle.fo_check_tree.proofs.blocks.follow_all.Given as goal
 abbrev pub invariant-loop-step : goal.invariant-loop-step
 invariant-loop-step g l = record {
   walks : (arena : Arena) (device : List Block) (image : Image) (s : Super) (k : Kept) (rest : List Step) → Shows (g.D.Disk.holds l.fn.main) device → Walking arena device image s k rest l.fn.walk → Walking arena device image s k rest l.walk;
+  lists : (arena : Arena) (device : List Block) (image : Image) (s : Super) (k : Kept) (meta : Link) (rest : List Step) → Shows (g.D.Disk.holds l.fn.main) device → Walking arena device image s k rest l.fn.walk
+      → IsListing arena image k meta l.fn.walk.labels.known.items l.fn.walk.steps.items l.fn.walk.named.items → IsListing arena image k meta l.walk.labels.known.items l.walk.steps.items l.walk.named.items;
   blocks : l.walk.blocks ≡ l.fn.walk.blocks;
   low : level l.walk.noted ≤ level l.fn.walk.noted;
   size : g.D.Disk.size l.main ≡ l.walk.blocks;
