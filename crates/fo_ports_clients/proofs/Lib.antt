@@ -5,3 +5,4 @@ pub mod Copies
 pub mod Looking
 pub mod Raise
 pub mod Raising
+mod Refusing

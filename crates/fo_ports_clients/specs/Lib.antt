@@ -1,3 +1,4 @@
 pub mod Leaf
 pub mod Own
+pub mod Refused
 pub mod Top

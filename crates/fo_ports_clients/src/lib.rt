@@ -6,17 +6,19 @@
 //! Proved, over any blocks and any device: `write_byte` writes into copies, up to the root block, and every image shows the other leaves
 //! as one of before does; after `add_name` and `remove_name` each name has its entry in use in every image; `add_name_if_sealed` adds
 //! one only where the leaf is sealed; after `raise_top` a source has one level more, and an image has the new top whole; a byte that
-//! `older_byte` gives is in every image. Each call gives what it makes its place in the tree, so nothing more is left that is to come
-//! in the place of another block. Where the device tells what it holds, a name is put only into a leaf that hung in the tree when all
-//! was last settled. Not said: what is found once the device was read anew.
+//! `older_byte` gives is in every image. Each call gives what it makes its place in the tree, so nothing more is left that is to come in
+//! the place of another block. Where the device tells what it holds, a name is put only into a leaf that hung in the tree when all was
+//! last settled. What no client may put is the contract of `puts_are_refused`. Not said: what is found once the device was read anew.
 #![tactic(auto)]
 
 mod bytes;
 mod names;
 mod older;
+mod refused;
 mod tops;
 
 pub use bytes::write_byte;
 pub use names::{add_name, add_name_if_sealed, remove_name};
 pub use older::older_byte;
+pub use refused::{one_path_leads, puts_are_refused};
 pub use tops::raise_top;

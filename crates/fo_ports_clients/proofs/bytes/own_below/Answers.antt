@@ -195,3 +195,6 @@ returns-clause-linked g c = λ told y x is.
     let was = (g.met.B.Blocks.keeps_all on mid c.copy-copy.ensures.keeps).still_tells.0 between in
     none_instead at copy c.args.i c.args.below c.led.result c.put_slot.ensures.frame c.put_slot.ensures.hangs to (ap target same ∙ c.requires.leads)
     (λ z w ne h. c.requires.linked was z w ((gives.stays.instead z w ne (λ n. n)).0 h)) at_ne y x is
+
+pub returns-clause-block : goal.returns-clause-block
+returns-clause-block g c = ((g.met.B.Blocks.keeps_all c.copy-copy.new.self c.put_slot.new.self c.put_slot.ensures.keeps).same_blocks c.copy-copy.result).1 c.copy-copy.ensures.gives.is.0

@@ -90,3 +90,11 @@ returns-clause-leads g c =
     let not_leaf : c.root-root.result ≢ own_leaf = apart_by (λ x. (t.label x).state) c.root-root.result own_leaf (λ e. second.fresh.1 (sym e ∙ mid_live)) in
     let root_leads : target ((v.now c.root-root.result).slot 0) ≡ Local own_top = ap target (put.slots c.root-root.result 0 ∙ second.slots c.root-root.result 0 not_leaf (inl not_top)) ∙ first.here in
     (own_top, ap (λ x. target ((v.now x).slot 0)) root_is ∙ root_leads, ap target (put.slots own_top c.args.k) ∙ second.here)
+
+pub returns-clause-block : goal.returns-clause-block
+returns-clause-block g c =
+    let own_leaf = c.own_below-own_leaf.result in
+    let put = c.put_bytes.ensures in (
+      ((g.met.B.Blocks.keeps_all c.own_below-own_leaf.new.on c.put_bytes.new.self put.keeps).same_blocks own_leaf).1 c.own_below-own_leaf.ensures.block,
+      (put.calm.frame.stays.marks own_leaf (λ n. n)).0 c.own_below-own_leaf.ensures.pinned,
+    )
