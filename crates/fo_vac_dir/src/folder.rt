@@ -1,7 +1,6 @@
 //! Directories.
 ghost use Rattle.std.specs.Prelude.{◌≡◌, ◌-◌, ◌*◌, ◌+◌, ◌<◌, IfOk, MatchResult};
 ghost use Rattle.fo_crash.specs.Images.{Link};
-ghost use Rattle.fo_sound.specs.Device.{IsKept};
 ghost use Rattle.fo_vac_open.specs.Tree.{link_to};
 ghost use Rattle.fo_vacput.specs.Top.{VacTopHolds};
 ghost use Rattle.fo_vac_walk.specs.Walk.{Holding, IsTold, IsSourceOf, entry_at, Leading, Spoils, HasWalkCauses};
@@ -52,11 +51,11 @@ impl Folder {
         arena: &mut Arena<A>,
         wanted: &Wanted,
     ) -> Result<Option<Record>, WalkError>
-        ensures held { (h : Holding) (entries meta : Link) → IsTold h arena.old.shelf (A.unsure arena.old.device) (A.holds arena.old.device) → IsSourceOf meta self.now.meta.entry
+        ensures held { (h : Holding) (entries meta : Link) → IsTold h arena.old.shelf (A.state arena.old.device) → IsSourceOf meta self.now.meta.entry
             → MatchResult result (Finds h (test_of wanted.now) self.now.levels entries meta) (Spoiled h meta self.now.meta.holder) }
         ensures holds { IfOk result OneHolds }
         ensures shelf { arena.new.shelf ≡ arena.old.shelf }
-        ensures kept { IsKept (A.holds arena.old.device) (A.holds arena.new.device) (A.moments arena.old.device) (A.moments arena.new.device) (A.unsure arena.old.device) (A.unsure arena.new.device) }
+        ensures kept { A.state arena.new.device ≡ A.state arena.old.device }
         ensures cause { HasWalkCauses (A.faults arena.old.device) (A.faults arena.new.device) result }
     {
         let mut best = None;
@@ -78,10 +77,10 @@ impl Folder {
         arena: &mut Arena<A>,
         named: &Record,
     ) -> Result<Source, WalkError>
-        ensures held { (h : Holding) (w : Link) → IsTold h arena.old.shelf (A.unsure arena.old.device) (A.holds arena.old.device) → IsSourceOf w self.now.entries.entry
+        ensures held { (h : Holding) (w : Link) → IsTold h arena.old.shelf (A.state arena.old.device) → IsSourceOf w self.now.entries.entry
             → MatchResult result (λ source. Leading h w self.now.entries.holder (entry_at h w (2 * named.now.slot)) source.entry source.holder) (Spoils h w self.now.entries.holder) }
         ensures shelf { arena.new.shelf ≡ arena.old.shelf }
-        ensures kept { IsKept (A.holds arena.old.device) (A.holds arena.new.device) (A.moments arena.old.device) (A.moments arena.new.device) (A.unsure arena.old.device) (A.unsure arena.new.device) }
+        ensures kept { A.state arena.new.device ≡ A.state arena.old.device }
         ensures cause { HasWalkCauses (A.faults arena.old.device) (A.faults arena.new.device) result }
     {
         let slot = u64::from(named.slot);
@@ -95,11 +94,11 @@ impl Folder {
         arena: &mut Arena<A>,
         named: &Record,
     ) -> Result<Folder, WalkError>
-        ensures held { (h : Holding) (w : Link) → IsTold h arena.old.shelf (A.unsure arena.old.device) (A.holds arena.old.device) → IsSourceOf w self.now.entries.entry
+        ensures held { (h : Holding) (w : Link) → IsTold h arena.old.shelf (A.state arena.old.device) → IsSourceOf w self.now.entries.entry
             → MatchResult result (λ f. Leading h w self.now.entries.holder (entry_at h w (2 * named.now.slot)) f.entries.entry f.entries.holder × Leading h w self.now.entries.holder (entry_at h w (2 * named.now.slot + 1)) f.meta.entry f.meta.holder) (Spoils h w self.now.entries.holder) }
         ensures levels { IfOk result (λ f. f.levels ≡ self.now.levels - 1) }
         ensures shelf { arena.new.shelf ≡ arena.old.shelf }
-        ensures kept { IsKept (A.holds arena.old.device) (A.holds arena.new.device) (A.moments arena.old.device) (A.moments arena.new.device) (A.unsure arena.old.device) (A.unsure arena.new.device) }
+        ensures kept { A.state arena.new.device ≡ A.state arena.old.device }
         ensures cause { HasWalkCauses (A.faults arena.old.device) (A.faults arena.new.device) result }
     {
         let slot = u64::from(named.slot);

@@ -5,7 +5,6 @@ ghost use Rattle.fo_good.specs.Reading.{leaf_records};
 ghost use Rattle.fo_good.specs.Reading.{leaves_in};
 ghost use Rattle.fo_good.specs.Trees.{size_of};
 ghost use Rattle.fo_meta.specs.Leaf.{IsLeaf};
-ghost use Rattle.fo_sound.specs.Device.{IsKept};
 ghost use Rattle.fo_vac_walk.specs.Walk.{Holding, IsTold, IsSourceOf, bytes_of, leaf_of, HasWalkCauses};
 ghost use Rattle.fo_vac_walk.specs.declared.error.WalkError.TheVariants.{Damaged, Memory};
 ghost use Rattle.fo_vac_dir.specs.Choice.{AllHold};
@@ -38,11 +37,11 @@ pub(crate) fn records_of<A: Disk>(
     meta: &Source,
     k: u64,
 ) -> Result<Vec<Record>, WalkError>
-    ensures held { (h : Holding) (w : Link) → IsTold h arena.old.shelf (A.unsure arena.old.device) (A.holds arena.old.device) → IsSourceOf w meta.now.entry → k < leaves_in (size_of w.slot)
+    ensures held { (h : Holding) (w : Link) → IsTold h arena.old.shelf (A.state arena.old.device) → IsSourceOf w meta.now.entry → k < leaves_in (size_of w.slot)
         → MatchResult result (λ v. v.items ≡ leaf_records (bytes_of h (leaf_of h w k))) (Spoiled h w meta.now.holder) }
     ensures holds { IfOk result (λ v. AllHold v.items) }
     ensures shelf { arena.new.shelf ≡ arena.old.shelf }
-    ensures kept { IsKept (A.holds arena.old.device) (A.holds arena.new.device) (A.moments arena.old.device) (A.moments arena.new.device) (A.unsure arena.old.device) (A.unsure arena.new.device) }
+    ensures kept { A.state arena.new.device ≡ A.state arena.old.device }
     ensures cause { HasWalkCauses (A.faults arena.old.device) (A.faults arena.new.device) result }
 {
     let mut block = [0; BLOCK];

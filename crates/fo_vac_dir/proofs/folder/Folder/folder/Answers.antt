@@ -10,4 +10,4 @@ returns-in_err-entries-clause-held g c = λ h w told is.
 pub returns-in_err-meta-clause-held : goal.returns-in_err-meta-clause-held
 returns-in_err-meta-clause-held g c = λ h w told is.
     let p = err_from_is_err_and c.from_residual-in_err-meta.result c.from_residual-in_err-meta.ensures.1 in
-    rw (p.1, p.2) (c.in_err-meta.ensures.held h w (still_told h _ _ _ _ _ _ _ _ c.in_ok-entries.ensures.shelf c.in_ok-entries.ensures.kept told) is)
+    rw (p.1, p.2) (c.in_err-meta.ensures.held h w (still_told h _ _ _ _ c.in_ok-entries.ensures.shelf c.in_ok-entries.ensures.kept told) is)

@@ -5,7 +5,7 @@ use Rattle.fo_image.specs.declared.record.Record.{Record}
 use Rattle.fo_good.specs.Trees.{size_of}
 use Rattle.fo_good.specs.Reading.{leaf_records, leaves_in}
 use Rattle.fo_vac_walk.specs.Walk.{bytes_of, leaf_of}
-use Rattle.fo_vac_walk.proofs.Blocks.{still_told, kept_joins}
+use Rattle.fo_vac_walk.proofs.Blocks.{still_told}
 use Rattle.fo_vac_dir.specs.Choice.{test_of, least}
 use Rattle.fo_vac_dir.proofs.Records.{next_leaf}
 use Rattle.fo_vac_dir.proofs.Finds.{finds, none_finds}
@@ -23,7 +23,7 @@ returns-in_err-records-clause-held g c = λ h entries meta told is.
     let all = c.size.ensures in
     let test = c.leaves-test.true in
     let within : c.leaves.k < leaves_in (size_of meta.slot) = omega (arith, count, size, all, test) in
-    rw (p.1, p.2) (c.in_err-records.ensures.held h meta (still_told h _ _ _ _ _ _ _ _ i.shelf i.kept told) is within)
+    rw (p.1, p.2) (c.in_err-records.ensures.held h meta (still_told h _ _ _ _ i.shelf i.kept told) is within)
 
 pub leaves-preserved : goal.leaves-preserved
 leaves-preserved g c =
@@ -34,7 +34,7 @@ leaves-preserved g c =
     let test = test_of c.args.wanted.now in
     record {
       shelf = e.shelf ∙ i.shelf;
-      kept = kept_joins i.kept e.kept;
+      kept = e.kept ∙ i.kept;
       later = omega (arith, before, more);
       holds = c.choose_all-best.ensures.holds i.holds e.holds;
       given = λ h meta told is.
@@ -46,7 +46,7 @@ leaves-preserved g c =
           let f : ℕ → List Record = λ k. leaf_records (bytes_of h (leaf_of h meta k)) in
           let next : suc c.leaves.k ≡ c.leaves.k + 1 = omega arith in
           c.choose_all-best.ensures.least (flat_map f (range_with_len 0 c.leaves.k)) (i.given h meta told is)
-          ∙ ap (λ rs. least test (flat_map f (range_with_len 0 c.leaves.k) ++ rs)) (e.held h meta (still_told h _ _ _ _ _ _ _ _ i.shelf i.kept told) is within)
+          ∙ ap (λ rs. least test (flat_map f (range_with_len 0 c.leaves.k) ++ rs)) (e.held h meta (still_told h _ _ _ _ i.shelf i.kept told) is within)
           ∙ ap (least test) (next_leaf f c.leaves.k)
           ∙ ap (λ n. least test (flat_map f (range_with_len 0 n))) next;
     }
