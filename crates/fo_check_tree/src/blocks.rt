@@ -5,7 +5,7 @@ ghost use Rattle.fo_good.specs.Means.{HasPointer};
 ghost use Rattle.fo_disk.specs.Disk.{Block};
 ghost use Rattle.fo_meta.specs.Leaf.{IsLeaf};
 ghost use Rattle.fo_sound.specs.Image.{block_of, is_zero};
-ghost use Rattle.fo_sound.specs.Device.{Shows, IsKept};
+ghost use Rattle.fo_sound.specs.Device.{Shows};
 ghost use Rattle.fo_check_tree.specs.Cause.{HasCauses};
 ghost use Rattle.fo_good.specs.Sound.{Kept};
 ghost use Rattle.fo_image.specs.declared.types.Super.{Super};
@@ -64,16 +64,16 @@ pub(crate) fn follow_all<D: Disk>(
     named: bool,
 ) -> Result<(), TreeError>
     requires size { D.size main.old ≡ walk.old.blocks }
-    ensures walks { (arena : Arena) (device : List Block) (image : Image) (s : Super) (k : Kept) (rest : List Step) → Shows (D.holds main.old) device → Walking arena device image s k rest walk.old
+    ensures walks { (arena : Arena) (device : List Block) (image : Image) (s : Super) (k : Kept) (rest : List Step) → Shows (D.state main.old).holds device → Walking arena device image s k rest walk.old
         → MatchResult result (λ _. Walking arena device image s k rest walk.new) (RefusesTree arena device image k) }
-    ensures lists { (arena : Arena) (device : List Block) (image : Image) (s : Super) (k : Kept) (meta : Link) (rest : List Step) → Shows (D.holds main.old) device → Walking arena device image s k rest walk.old
+    ensures lists { (arena : Arena) (device : List Block) (image : Image) (s : Super) (k : Kept) (meta : Link) (rest : List Step) → Shows (D.state main.old).holds device → Walking arena device image s k rest walk.old
         → IsListing arena image k meta walk.old.labels.known.items walk.old.steps.items walk.old.named.items → OnOk result (IsListing arena image k meta walk.new.labels.known.items walk.new.steps.items walk.new.named.items) }
     ensures done { OnOk result (walk.new.steps.items ≡ []) }
     ensures blocks { OnOk result (walk.new.blocks ≡ walk.old.blocks) }
     ensures budget { OnOk result (205 * walk.new.labels.left + length walk.new.folders.items ≤ 205 * walk.old.labels.left + length walk.old.folders.items) }
     ensures level { OnOk result (level walk.new.noted ≤ level walk.old.noted) }
     ensures size { D.size main.new ≡ D.size main.old }
-    ensures kept { IsKept (D.holds main.old) (D.holds main.new) (D.moments main.old) (D.moments main.new) (D.unsure main.old) (D.unsure main.new) }
+    ensures kept { D.state main.new ≡ D.state main.old }
     ensures cause { HasCauses (D.faults main.old) (D.faults main.new) result }
 {
     while let Some(step) = walk.steps.pop() {
@@ -92,7 +92,7 @@ fn follow<D: Disk>(
     named: bool,
 ) -> Result<(), TreeError>
     requires size { D.size main.old ≡ walk.old.blocks }
-    ensures follows { (device : List Block) (image : Image) → Shows (D.holds main.old) device → OnOk result (Follows device image depth named step.now walk.old walk.new) }
+    ensures follows { (device : List Block) (image : Image) → Shows (D.state main.old).holds device → OnOk result (Follows device image depth named step.now walk.old walk.new) }
     ensures refuses { IfErr result (RefusesFollow walk.old step.now) }
     ensures blocks { OnOk result (walk.new.blocks ≡ walk.old.blocks) }
     ensures tree { OnOk result ((walk.new.epoch ≡ walk.old.epoch) × (walk.new.active ≡ walk.old.active)) }
@@ -100,7 +100,7 @@ fn follow<D: Disk>(
     ensures budget { OnOk result (205 * walk.new.labels.left + length walk.new.folders.items ≤ 205 * walk.old.labels.left + length walk.old.folders.items) }
     ensures level { OnOk result (level walk.new.noted ≤ level walk.old.noted) }
     ensures size { D.size main.new ≡ D.size main.old }
-    ensures kept { IsKept (D.holds main.old) (D.holds main.new) (D.moments main.old) (D.moments main.new) (D.unsure main.old) (D.unsure main.new) }
+    ensures kept { D.state main.new ≡ D.state main.old }
     ensures cause { HasCauses (D.faults main.old) (D.faults main.new) result }
 {
     match step.pointer {
@@ -124,7 +124,7 @@ fn follow_local<D: Disk>(
     named: bool,
 ) -> Result<(), TreeError>
     requires size { D.size main.old ≡ walk.old.blocks }
-    ensures reaches { (device : List Block) (image : Image) → Shows (D.holds main.old) device → OnOk result (Reaches device image depth named step.now address walk.old walk.new) }
+    ensures reaches { (device : List Block) (image : Image) → Shows (D.state main.old).holds device → OnOk result (Reaches device image depth named step.now address walk.old walk.new) }
     ensures refuses { step.now.pointer ≡ Local address → IfErr result (RefusesFollow walk.old step.now) }
     ensures blocks { OnOk result (walk.new.blocks ≡ walk.old.blocks) }
     ensures tree { OnOk result ((walk.new.epoch ≡ walk.old.epoch) × (walk.new.active ≡ walk.old.active)) }
@@ -132,7 +132,7 @@ fn follow_local<D: Disk>(
     ensures budget { OnOk result (205 * walk.new.labels.left + length walk.new.folders.items ≤ 205 * walk.old.labels.left + length walk.old.folders.items) }
     ensures level { OnOk result (level walk.new.noted ≤ level walk.old.noted) }
     ensures size { D.size main.new ≡ D.size main.old }
-    ensures kept { IsKept (D.holds main.old) (D.holds main.new) (D.moments main.old) (D.moments main.new) (D.unsure main.old) (D.unsure main.new) }
+    ensures kept { D.state main.new ≡ D.state main.old }
     ensures cause { HasCauses (D.faults main.old) (D.faults main.new) result }
 {
     let label = label_of(walk, step, address)?;
@@ -158,12 +158,12 @@ fn enter<D: Disk>(
     named: bool,
 ) -> Result<(), TreeError>
     requires block { here.block < D.size main.old }
-    ensures pushed { (device : List Block) (c : Content) → Shows (D.holds main.old) device → HasSlots step.now.kind c (block_of device here.block)
+    ensures pushed { (device : List Block) (c : Content) → Shows (D.state main.old).holds device → HasSlots step.now.kind c (block_of device here.block)
         → OnOk result (walk.new.steps.items ≡ walk.old.steps.items ++ steps_of step.now here c step.now.kind) }
-    ensures put { (device : List Block) (c : Content) → Shows (D.holds main.old) device → HasSlots step.now.kind c (block_of device here.block)
+    ensures put { (device : List Block) (c : Content) → Shows (D.state main.old).holds device → HasSlots step.now.kind c (block_of device here.block)
         → OnOk result (Puts here c depth named step.now.kind walk.old.folders.items walk.new.folders.items) }
     ensures notes { OnOk result (NotesAt here.block walk.old.noted walk.new.noted) }
-    ensures format { (device : List Block) (c : Content) → Shows (D.holds main.old) device → OnOk result (Reads step.now.kind c (block_of device here.block) walk.new.noted) }
+    ensures format { (device : List Block) (c : Content) → Shows (D.state main.old).holds device → OnOk result (Reads step.now.kind c (block_of device here.block) walk.new.noted) }
     ensures refuses { IfErr result NotLabel }
     ensures blocks { OnOk result (walk.new.blocks ≡ walk.old.blocks) }
     ensures tree { OnOk result ((walk.new.epoch ≡ walk.old.epoch) × (walk.new.active ≡ walk.old.active)) }
@@ -173,9 +173,9 @@ fn enter<D: Disk>(
     ensures folders { OnOk result (length walk.new.folders.items ≤ length walk.old.folders.items + 204) }
     ensures level { OnOk result (level walk.new.noted ≤ level walk.old.noted) }
     ensures size { D.size main.new ≡ D.size main.old }
-    ensures kept { IsKept (D.holds main.old) (D.holds main.new) (D.moments main.old) (D.moments main.new) (D.unsure main.old) (D.unsure main.new) }
+    ensures kept { D.state main.new ≡ D.state main.old }
     ensures cause { HasCauses (D.faults main.old) (D.faults main.new) result }
-    ensures named { (device : List Block) → Shows (D.holds main.old) device → OnOk result (Adds step.now here.block (block_of device here.block) step.now.kind walk.old.named.items walk.new.named.items) }
+    ensures named { (device : List Block) → Shows (D.state main.old).holds device → OnOk result (Adds step.now here.block (block_of device here.block) step.now.kind walk.old.named.items walk.new.named.items) }
 {
     if step.kind == Kind::Data(0) && step.holds == Holds::Bytes {
         return Ok(());

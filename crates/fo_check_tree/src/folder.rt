@@ -8,7 +8,7 @@ ghost use Rattle.fo_good.specs.Means.{HasEntry};
 ghost use Rattle.fo_good.specs.Sound.{Kept};
 ghost use Rattle.fo_image.specs.declared.types.Super.{Super};
 ghost use Rattle.fo_sound.specs.Image.{is_zero};
-ghost use Rattle.fo_sound.specs.Device.{Shows, IsKept};
+ghost use Rattle.fo_sound.specs.Device.{Shows};
 ghost use Rattle.fo_check_tree.specs.declared.walk.Holds.TheVariants.{Bytes};
 ghost use Rattle.fo_check_tree.specs.Answer.{RefusesTree};
 ghost use Rattle.fo_check_tree.specs.Walking.{Walking, tops};
@@ -280,13 +280,13 @@ fn list<D: Disk>(
     folder: &Folder,
 ) -> Result<(), TreeError>
     requires size { D.size main.old ≡ walk.old.blocks }
-    ensures walks { (arena : Arena) (device : List Block) (image : Image) (s : Super) (k : Kept) → Shows (D.holds main.old) device → Walking arena device image s k (tops folder.now) walk.old
+    ensures walks { (arena : Arena) (device : List Block) (image : Image) (s : Super) (k : Kept) → Shows (D.state main.old).holds device → Walking arena device image s k (tops folder.now) walk.old
         → MatchResult result (λ _. Walking arena device image s k (top_step folder.now.entries Bytes folder.now.holder ∷ []) walk.new) (RefusesTree arena device image k) }
     ensures blocks { OnOk result (walk.new.blocks ≡ walk.old.blocks) }
     ensures budget { OnOk result (205 * walk.new.labels.left + length walk.new.folders.items ≤ 205 * walk.old.labels.left + length walk.old.folders.items) }
     ensures level { OnOk result (level walk.new.noted ≤ level walk.old.noted) }
     ensures size { D.size main.new ≡ D.size main.old }
-    ensures kept { IsKept (D.holds main.old) (D.holds main.new) (D.moments main.old) (D.moments main.new) (D.unsure main.old) (D.unsure main.new) }
+    ensures kept { D.state main.new ≡ D.state main.old }
     ensures cause { HasCauses (D.faults main.old) (D.faults main.new) result }
 {
     let Some(records) = folder.records else {
@@ -318,14 +318,14 @@ pub(crate) fn walk_folder<D: Disk>(
     folder: &Folder,
 ) -> Result<(), TreeError>
     requires size { D.size main.old ≡ walk.old.blocks }
-    ensures walks { (arena : Arena) (device : List Block) (image : Image) (s : Super) (k : Kept) → Shows (D.holds main.old) device → Walking arena device image s k (tops folder.now) walk.old
+    ensures walks { (arena : Arena) (device : List Block) (image : Image) (s : Super) (k : Kept) → Shows (D.state main.old).holds device → Walking arena device image s k (tops folder.now) walk.old
         → MatchResult result (λ _. Walking arena device image s k [] walk.new) (RefusesTree arena device image k) }
     ensures done { OnOk result (walk.new.steps.items ≡ []) }
     ensures blocks { OnOk result (walk.new.blocks ≡ walk.old.blocks) }
     ensures budget { OnOk result (205 * walk.new.labels.left + length walk.new.folders.items ≤ 205 * walk.old.labels.left + length walk.old.folders.items) }
     ensures level { OnOk result (level walk.new.noted ≤ level walk.old.noted) }
     ensures size { D.size main.new ≡ D.size main.old }
-    ensures kept { IsKept (D.holds main.old) (D.holds main.new) (D.moments main.old) (D.moments main.new) (D.unsure main.old) (D.unsure main.new) }
+    ensures kept { D.state main.new ≡ D.state main.old }
     ensures cause { HasCauses (D.faults main.old) (D.faults main.new) result }
 {
     walk.named = Vec::new(alloc);

@@ -3,7 +3,7 @@ ghost use Rattle.std.specs.Prelude.{◌≡◌, ◌≢◌, ℕ, ◌+◌, ◌*◌,
 ghost use Rattle.std.specs.List.{All, Any};
 ghost use Rattle.fo_image.specs.Place.{label_blocks};
 ghost use Rattle.fo_disk.specs.Disk.{Block};
-ghost use Rattle.fo_sound.specs.Device.{Shows, IsKept};
+ghost use Rattle.fo_sound.specs.Device.{Shows};
 ghost use Rattle.fo_sound.specs.Image.{block_of, label_bytes};
 ghost use Rattle.fo_check_tree.specs.Table.{IsScanned, RefusesTable};
 ghost use Rattle.fo_check_tree.specs.Cause.{HasCauses};
@@ -58,9 +58,9 @@ impl Labels {
         requires size { D.size main.old ≡ blocks }
         requires least { 64 ≤ blocks }
         requires most { blocks ≤ 2 ^ 20 }
-        ensures table { (image : List Block) → length image ≡ blocks → Shows (D.holds main.old) image → MatchResult result (λ l. IsScanned image (label_blocks blocks) (585 * label_blocks blocks) l.known.items) (RefusesTable image) }
+        ensures table { (image : List Block) → length image ≡ blocks → Shows (D.state main.old).holds image → MatchResult result (λ l. IsScanned image (label_blocks blocks) (585 * label_blocks blocks) l.known.items) (RefusesTable image) }
         ensures size { D.size main.new ≡ D.size main.old }
-        ensures kept { IsKept (D.holds main.old) (D.holds main.new) (D.moments main.old) (D.moments main.new) (D.unsure main.old) (D.unsure main.new) }
+        ensures kept { D.state main.new ≡ D.state main.old }
         ensures cause { HasCauses (D.faults main.old) (D.faults main.new) result }
     {
         let mut labels = Labels {

@@ -2,7 +2,7 @@
 ghost use Rattle.std.specs.Prelude.{◌≡◌, ◌<◌, List, length, OnOk, IfErr};
 ghost use Rattle.fo_disk.specs.Disk.{Block};
 ghost use Rattle.fo_sound.specs.Image.{block_of};
-ghost use Rattle.fo_sound.specs.Device.{Shows, IsKept};
+ghost use Rattle.fo_sound.specs.Device.{Shows};
 ghost use Rattle.fo_check_tree.specs.Cause.{HasCauses};
 ghost use Rattle.fo_check_tree.specs.declared.error.TreeError.TheVariants.{Read as ReadFault};
 
@@ -13,9 +13,9 @@ use fo_disk::Disk;
 pub(crate) fn read<D: Disk>(main: &mut D, at: u32, into: &mut [u8]) -> Result<(), TreeError>
     requires block { at < D.size main.old }
     requires length { length into.old ≡ 8192 }
-    ensures shown { (image : List Block) → Shows (D.holds main.old) image → OnOk result (into.new ≡ block_of image at) }
+    ensures shown { (image : List Block) → Shows (D.state main.old).holds image → OnOk result (into.new ≡ block_of image at) }
     ensures size { D.size main.new ≡ D.size main.old }
-    ensures kept { IsKept (D.holds main.old) (D.holds main.new) (D.moments main.old) (D.moments main.new) (D.unsure main.old) (D.unsure main.new) }
+    ensures kept { D.state main.new ≡ D.state main.old }
     ensures fault { IfErr result (λ e. e ≡ ReadFault) }
     ensures cause { HasCauses (D.faults main.old) (D.faults main.new) result }
 {

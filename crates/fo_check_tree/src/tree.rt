@@ -7,7 +7,7 @@ ghost use Rattle.fo_check_tree.specs.Notes.{Lowers};
 ghost use Rattle.fo_check_tree.specs.Walking.{IsUnbegun, Walking};
 ghost use Rattle.fo_disk.specs.Disk.{Block};
 ghost use Rattle.fo_sound.specs.Sound.{HasTable, HasRootEntries};
-ghost use Rattle.fo_sound.specs.Device.{Shows, IsKept};
+ghost use Rattle.fo_sound.specs.Device.{Shows};
 ghost use Rattle.fo_check_tree.specs.Cause.{HasCauses};
 ghost use Rattle.fo_check_tree.specs.Lower.{level, JudgesRoot};
 
@@ -55,12 +55,12 @@ pub fn check_tree<D: Disk>(
     requires size { D.size main.old ≡ setting.blocks }
     requires least { 64 ≤ setting.blocks }
     requires most { setting.blocks ≤ 2 ^ 20 }
-    ensures table { (image : List Block) → length image ≡ setting.blocks → Shows (D.holds main.old) image → OnOk result (HasTable image) }
-    ensures walked { (arena : Arena) (device : List Block) (image : Image) (k : Kept) → length device ≡ setting.blocks → Shows (D.holds main.old) device → k.root ≡ root.now → HoldsAny arena device image setting.s k
+    ensures table { (image : List Block) → length image ≡ setting.blocks → Shows (D.state main.old).holds image → OnOk result (HasTable image) }
+    ensures walked { (arena : Arena) (device : List Block) (image : Image) (k : Kept) → length device ≡ setting.blocks → Shows (D.state main.old).holds device → k.root ≡ root.now → HoldsAny arena device image setting.s k
         → MatchResult result (IsWalked arena device image setting.s k) (RefusesCheck arena device image k) }
     ensures root { IfOk result (λ found. JudgesRoot root.now found.broken) }
     ensures size { D.size main.new ≡ D.size main.old }
-    ensures kept { IsKept (D.holds main.old) (D.holds main.new) (D.moments main.old) (D.moments main.new) (D.unsure main.old) (D.unsure main.new) }
+    ensures kept { D.state main.new ≡ D.state main.old }
     ensures cause { HasCauses (D.faults main.old) (D.faults main.new) result }
 {
     let s = setting.s;

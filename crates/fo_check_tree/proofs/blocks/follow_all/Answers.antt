@@ -1,6 +1,6 @@
 use Rattle.std.proofs.Common.{◌≡◌, List, [], ◌∷◌, ◌++◌, append-nil, refl, sym, ◌∙◌, subst, arith}
 use Rattle.std.proofs.lemmas.Result.{err_from_is_err_and}
-use Rattle.fo_disk.specs.Disk.{Content}
+use Rattle.fo_disk.specs.Disk.{DiskState}
 use Rattle.fo_sound.specs.Device.{Shows}
 use Rattle.fo_check_tree.specs.declared.walk.Walk.{Walk}
 use Rattle.fo_check_tree.specs.declared.walk.Step.{Step}
@@ -17,23 +17,19 @@ loop-step-preserved g c = record {
       let before : Walking arena device image s k rest c.loop-step.walk = c.loop-step.invariant.walks arena device image s k rest shows w in
       let left : Walking arena device image s k (c.in-Some.step ∷ rest) old = popped arena device image s k c.loop-step.walk old (record { blocks = refl; epoch = refl; active = refl; labels = refl; noted = refl }) rest c.in-Some.step c.in-Some.ensures.items refl before in
       followed arena device image s k rest c.in-Some.step old c.follow.new.walk left c.args.depth c.args.named c.in_ok-follow.ensures.blocks c.in_ok-follow.ensures.tree c.in_ok-follow.ensures.level
-      (c.in_ok-follow.ensures.follows device image (subst (λ (h : Content). Shows h device) (sym c.loop-step.invariant.kept.same_versions) shows));
+      (c.in_ok-follow.ensures.follows device image (subst (λ (s : DiskState). Shows s.holds device) (sym c.loop-step.invariant.kept) shows));
   lists = λ arena device image s k meta rest shows w h.
       let old : Walk = record c.loop-step.walk { steps = c.pop.new.self } in
       let before : Walking arena device image s k rest c.loop-step.walk = c.loop-step.invariant.walks arena device image s k rest shows w in
       let left : Walking arena device image s k (c.in-Some.step ∷ rest) old = popped arena device image s k c.loop-step.walk old (record { blocks = refl; epoch = refl; active = refl; labels = refl; noted = refl }) rest c.in-Some.step c.in-Some.ensures.items refl before in
       let listed : IsListing arena image k meta c.loop-step.walk.labels.known.items (c.pop.new.self.items ++ c.in-Some.step ∷ []) c.loop-step.walk.named.items = subst (λ (xs : List Step). IsListing arena image k meta c.loop-step.walk.labels.known.items xs c.loop-step.walk.named.items) c.in-Some.ensures.items (c.loop-step.invariant.lists arena device image s k meta rest shows w h) in
       lists arena device image s k meta rest c.in-Some.step old c.follow.new.walk left listed c.args.depth c.args.named
-      (c.in_ok-follow.ensures.follows device image (subst (λ (x : Content). Shows x device) (sym c.loop-step.invariant.kept.same_versions) shows));
+      (c.in_ok-follow.ensures.follows device image (subst (λ (s : DiskState). Shows s.holds device) (sym c.loop-step.invariant.kept) shows));
   blocks = c.in_ok-follow.ensures.blocks ∙ c.loop-step.invariant.blocks;
   low = omega (arith, c.in_ok-follow.ensures.level, c.loop-step.invariant.low);
   size = c.follow.ensures.size ∙ c.loop-step.invariant.size ∙ sym c.in_ok-follow.ensures.blocks;
   same = c.follow.ensures.size ∙ c.loop-step.invariant.same;
-  kept = record {
-    same_versions = c.follow.ensures.kept.same_versions ∙ c.loop-step.invariant.kept.same_versions;
-    same_moments = c.follow.ensures.kept.same_moments ∙ c.loop-step.invariant.kept.same_moments;
-    same_flags = c.follow.ensures.kept.same_flags ∙ c.loop-step.invariant.kept.same_flags;
-  };
+  kept = c.follow.ensures.kept ∙ c.loop-step.invariant.kept;
   later = omega (arith, c.follow.ensures.cause.later, c.loop-step.invariant.later);
   budget = omega (arith, c.in_ok-follow.ensures.budget, c.loop-step.invariant.budget);
 }

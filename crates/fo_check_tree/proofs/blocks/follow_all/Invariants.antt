@@ -3,7 +3,7 @@ use Rattle.fo_crash.specs.Images.{Image, Arena, Link}
 use Rattle.fo_disk.specs.Disk.{Block}
 use Rattle.fo_good.specs.Sound.{Kept}
 use Rattle.fo_image.specs.declared.types.Super.{Super}
-use Rattle.fo_sound.specs.Device.{Shows, IsKept}
+use Rattle.fo_sound.specs.Device.{Shows}
 use Rattle.fo_check_tree.specs.declared.walk.Step.{Step}
 use Rattle.fo_check_tree.specs.Listing.{IsListing}
 use Rattle.fo_check_tree.specs.Walking.{Walking}
@@ -12,14 +12,14 @@ use Rattle.fo_check_tree.proofs.blocks.follow_all.Given as goal
 
 abbrev pub invariant-loop-step : goal.invariant-loop-step
 invariant-loop-step g l = record {
-  walks : (arena : Arena) (device : List Block) (image : Image) (s : Super) (k : Kept) (rest : List Step) → Shows (g.D.Disk.holds l.fn.main) device → Walking arena device image s k rest l.fn.walk → Walking arena device image s k rest l.walk;
-  lists : (arena : Arena) (device : List Block) (image : Image) (s : Super) (k : Kept) (meta : Link) (rest : List Step) → Shows (g.D.Disk.holds l.fn.main) device → Walking arena device image s k rest l.fn.walk
+  walks : (arena : Arena) (device : List Block) (image : Image) (s : Super) (k : Kept) (rest : List Step) → Shows (g.D.Disk.state l.fn.main).holds device → Walking arena device image s k rest l.fn.walk → Walking arena device image s k rest l.walk;
+  lists : (arena : Arena) (device : List Block) (image : Image) (s : Super) (k : Kept) (meta : Link) (rest : List Step) → Shows (g.D.Disk.state l.fn.main).holds device → Walking arena device image s k rest l.fn.walk
       → IsListing arena image k meta l.fn.walk.labels.known.items l.fn.walk.steps.items l.fn.walk.named.items → IsListing arena image k meta l.walk.labels.known.items l.walk.steps.items l.walk.named.items;
   blocks : l.walk.blocks ≡ l.fn.walk.blocks;
   low : level l.walk.noted ≤ level l.fn.walk.noted;
   size : g.D.Disk.size l.main ≡ l.walk.blocks;
   same : g.D.Disk.size l.main ≡ g.D.Disk.size l.fn.main;
-  kept : IsKept (g.D.Disk.holds l.fn.main) (g.D.Disk.holds l.main) (g.D.Disk.moments l.fn.main) (g.D.Disk.moments l.main) (g.D.Disk.unsure l.fn.main) (g.D.Disk.unsure l.main);
+  kept : g.D.Disk.state l.main ≡ g.D.Disk.state l.fn.main;
   later : g.D.Disk.faults l.fn.main ≤ g.D.Disk.faults l.main;
   budget : 205 * l.walk.labels.left + length l.walk.folders.items ≤ 205 * l.fn.walk.labels.left + length l.fn.walk.folders.items;
 }

@@ -1,6 +1,6 @@
 use Rattle.std.proofs.Common.{◌≡◌, [], ◌∷◌, ◌++◌, refl, sym, ap, ◌∙◌, subst, arith}
 use Rattle.std.proofs.lemmas.Result.{err_from_is_err_and}
-use Rattle.fo_disk.specs.Disk.{Content}
+use Rattle.fo_disk.specs.Disk.{DiskState}
 use Rattle.fo_sound.specs.Device.{Shows}
 use Rattle.fo_check_tree.specs.declared.walk.Holds.TheVariants.{Bytes}
 use Rattle.fo_check_tree.specs.declared.walk.Step.{Step}
@@ -29,7 +29,7 @@ returns-in_err-follow_all-clause-walks g c arena device image s k shows w =
     is_pushed c.push.result c.list.new.walk.steps.items (c.list.new.walk.steps.items ++ c.top-top.result ∷ []) c.push.new.self.items (sym c.is_err.ensures.value ∙ c.if-is_err.false) c.push.ensures.items
     ∙ ap (λ (x : Step). c.list.new.walk.steps.items ++ x ∷ []) c.top-top.ensures in
     let next : Walking arena device image s k [] (record c.list.new.walk { steps = c.push.new.self }) = pushed arena device image s k c.list.new.walk (record c.list.new.walk { steps = c.push.new.self }) (record { blocks = refl; epoch = refl; active = refl; labels = refl; noted = refl }) [] f.entries f.holder Bytes c.if-folder.holds items refl listed in
-    let still : Shows (g.D.Disk.holds c.list.new.main) device = subst (λ (h : Content). Shows h device) (sym c.list.ensures.kept.same_versions) shows in
+    let still : Shows (g.D.Disk.state c.list.new.main).holds device = subst (λ (s : DiskState). Shows s.holds device) (sym c.list.ensures.kept) shows in
     rw (p.1, p.2) (c.in_err-follow_all.ensures.walks arena device image s k [] still next)
 
 pub returns-then-not-folder-clause-walks : goal.returns-then-not-folder-clause-walks
@@ -42,7 +42,7 @@ returns-then-not-folder-clause-walks g c arena device image s k shows w =
     is_pushed c.push.result c.list.new.walk.steps.items (c.list.new.walk.steps.items ++ c.top-top.result ∷ []) c.push.new.self.items (sym c.is_err.ensures.value ∙ c.if-is_err.false) c.push.ensures.items
     ∙ ap (λ (x : Step). c.list.new.walk.steps.items ++ x ∷ []) c.top-top.ensures in
     let next : Walking arena device image s k [] (record c.list.new.walk { steps = c.push.new.self }) = pushed arena device image s k c.list.new.walk (record c.list.new.walk { steps = c.push.new.self }) (record { blocks = refl; epoch = refl; active = refl; labels = refl; noted = refl }) [] f.entries f.holder Bytes c.if-folder.holds items refl listed in
-    let still : Shows (g.D.Disk.holds c.list.new.main) device = subst (λ (h : Content). Shows h device) (sym c.list.ensures.kept.same_versions) shows in
+    let still : Shows (g.D.Disk.state c.list.new.main).holds device = subst (λ (s : DiskState). Shows s.holds device) (sym c.list.ensures.kept) shows in
     c.in_ok-follow_all.ensures.walks arena device image s k [] still next
 
 pub returns-clause-walks : goal.returns-clause-walks
@@ -55,7 +55,7 @@ returns-clause-walks g c arena device image s k shows w =
     is_pushed c.push.result c.list.new.walk.steps.items (c.list.new.walk.steps.items ++ c.top-top.result ∷ []) c.push.new.self.items (sym c.is_err.ensures.value ∙ c.if-is_err.false) c.push.ensures.items
     ∙ ap (λ (x : Step). c.list.new.walk.steps.items ++ x ∷ []) c.top-top.ensures in
     let next : Walking arena device image s k [] (record c.list.new.walk { steps = c.push.new.self }) = pushed arena device image s k c.list.new.walk (record c.list.new.walk { steps = c.push.new.self }) (record { blocks = refl; epoch = refl; active = refl; labels = refl; noted = refl }) [] f.entries f.holder Bytes c.if-folder.holds items refl listed in
-    let still : Shows (g.D.Disk.holds c.list.new.main) device = subst (λ (h : Content). Shows h device) (sym c.list.ensures.kept.same_versions) shows in
+    let still : Shows (g.D.Disk.state c.list.new.main).holds device = subst (λ (s : DiskState). Shows s.holds device) (sym c.list.ensures.kept) shows in
     walking_like arena device image s k [] c.follow_all.new.walk c.note_leaf.new.self
     (record { blocks = c.note_leaf.ensures.blocks; epoch = c.note_leaf.ensures.tree.0; active = c.note_leaf.ensures.tree.1; labels = c.note_leaf.ensures.labels; steps = c.note_leaf.ensures.steps; folders = c.note_leaf.ensures.folders })
     (lowers_leaf c.follow_all.new.walk.noted c.note_leaf.new.self.noted 6 c.without_pair-alone.result (λ e. omega (arith, e)) (λ e. omega (arith, e)) c.note_leaf.ensures.level c.note_leaf.ensures.noted)

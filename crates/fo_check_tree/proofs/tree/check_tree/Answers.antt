@@ -1,6 +1,6 @@
 use Rattle.std.proofs.Common.{◌≡◌, ℕ, ◌-◌, true, None, take, [], append-nil, refl, sym, ap, ◌∙◌, subst, rules}
 use Rattle.std.proofs.lemmas.Result.{err_from_is_err_and}
-use Rattle.fo_disk.specs.Disk.{Content}
+use Rattle.fo_disk.specs.Disk.{DiskState}
 use Rattle.fo_sound.specs.Device.{Shows}
 use Rattle.fo_check_tree.specs.declared.walk.Walk.{Walk}
 use Rattle.fo_image.specs.declared.record.RootBlock.{RootBlock}
@@ -53,7 +53,7 @@ loop-folder-preserved g c = record {
       let before = c.loop-folder.invariant.walks arena device image k len shows is holds in
       let old : Walk = record c.loop-folder.walk { folders = c.pop.new.self } in
       let open' : Walking arena device image s k (tops c.in-Some.folder) old = opened arena device image s k c.loop-folder.walk old (record { blocks = refl; epoch = refl; active = refl; labels = refl; noted = refl }) c.in-Some.folder c.in-Some.ensures.items refl before.0 in
-      (c.in_ok-walk_folder.ensures.walks arena device image s k (subst (λ (h : Content). Shows h device) (sym c.loop-folder.invariant.kept.same_versions) shows) open', c.in_ok-walk_folder.ensures.done);
+      (c.in_ok-walk_folder.ensures.walks arena device image s k (subst (λ (s : DiskState). Shows s.holds device) (sym c.loop-folder.invariant.kept) shows) open', c.in_ok-walk_folder.ensures.done);
   judged = judges_later c.in_ok-walk_folder.ensures.level c.loop-folder.invariant.judged;
   same = search rules;
   kept = search rules;
@@ -67,7 +67,7 @@ returns-in_err-walk_folder-clause-walked g c arena device image k len shows is h
     let before = c.loop-folder.invariant.walks arena device image k len shows is holds in
     let old : Walk = record c.loop-folder.walk { folders = c.pop.new.self } in
     let open' : Walking arena device image s k (tops c.in-Some.folder) old = opened arena device image s k c.loop-folder.walk old (record { blocks = refl; epoch = refl; active = refl; labels = refl; noted = refl }) c.in-Some.folder c.in-Some.ensures.items refl before.0 in
-    rw (p.1, p.2) (refuses_tree arena device image k c.in_err-walk_folder.field-0.0 (c.in_err-walk_folder.ensures.walks arena device image s k (subst (λ (h : Content). Shows h device) (sym c.loop-folder.invariant.kept.same_versions) shows) open'))
+    rw (p.1, p.2) (refuses_tree arena device image k c.in_err-walk_folder.field-0.0 (c.in_err-walk_folder.ensures.walks arena device image s k (subst (λ (s : DiskState). Shows s.holds device) (sym c.loop-folder.invariant.kept) shows) open'))
 
 pub returns-clause-walked : goal.returns-clause-walked
 returns-clause-walked g c arena device image k len shows is holds =

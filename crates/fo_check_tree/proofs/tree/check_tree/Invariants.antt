@@ -2,7 +2,7 @@ use Rattle.std.proofs.Common.{◌≡◌, ◌+◌, ◌*◌, ◌≤◌, List, [], 
 use Rattle.fo_crash.specs.Images.{Image, Arena}
 use Rattle.fo_disk.specs.Disk.{Block}
 use Rattle.fo_good.specs.Sound.{Kept}
-use Rattle.fo_sound.specs.Device.{Shows, IsKept}
+use Rattle.fo_sound.specs.Device.{Shows}
 use Rattle.fo_check_tree.specs.Answer.{HoldsAny}
 use Rattle.fo_check_tree.specs.Walking.{Walking}
 use Rattle.fo_check_tree.specs.Lower.{JudgesRoot}
@@ -11,11 +11,11 @@ use Rattle.fo_check_tree.proofs.tree.check_tree.Given as goal
 abbrev pub invariant-loop-folder : goal.invariant-loop-folder
 invariant-loop-folder g l = record {
   size : g.D.Disk.size l.main ≡ l.walk.blocks;
-  walks : (arena : Arena) (device : List Block) (image : Image) (k : Kept) → length device ≡ l.fn.setting.blocks → Shows (g.D.Disk.holds l.fn.main) device → k.root ≡ l.root → HoldsAny arena device image l.fn.setting.s k
+  walks : (arena : Arena) (device : List Block) (image : Image) (k : Kept) → length device ≡ l.fn.setting.blocks → Shows (g.D.Disk.state l.fn.main).holds device → k.root ≡ l.root → HoldsAny arena device image l.fn.setting.s k
       → Walking arena device image l.fn.setting.s k [] l.walk × (l.walk.steps.items ≡ []);
   judged : JudgesRoot l.root l.walk.noted;
   same : g.D.Disk.size l.main ≡ g.D.Disk.size l.fn.main;
-  kept : IsKept (g.D.Disk.holds l.fn.main) (g.D.Disk.holds l.main) (g.D.Disk.moments l.fn.main) (g.D.Disk.moments l.main) (g.D.Disk.unsure l.fn.main) (g.D.Disk.unsure l.main);
+  kept : g.D.Disk.state l.main ≡ g.D.Disk.state l.fn.main;
   later : g.D.Disk.faults l.fn.main ≤ g.D.Disk.faults l.main;
 }
 

@@ -1,6 +1,6 @@
 use Rattle.std.proofs.Common.{◌≡◌, ◌*◌, ◌≤◌, List, length}
 use Rattle.fo_disk.specs.Disk.{Block}
-use Rattle.fo_sound.specs.Device.{Shows, IsKept}
+use Rattle.fo_sound.specs.Device.{Shows}
 use Rattle.fo_check_tree.specs.Known.{IsBelow}
 use Rattle.fo_check_tree.specs.Table.{IsScanned}
 use Rattle.fo_check_tree.proofs.labels.Labels.read.Given as goal
@@ -8,9 +8,9 @@ use Rattle.fo_check_tree.proofs.labels.Labels.read.Given as goal
 abbrev pub invariant-loop-n : goal.invariant-loop-n
 invariant-loop-n g l = record {
   size : g.D.Disk.size l.main ≡ l.blocks;
-  kept : IsKept (g.D.Disk.holds l.fn.main) (g.D.Disk.holds l.main) (g.D.Disk.moments l.fn.main) (g.D.Disk.moments l.main) (g.D.Disk.unsure l.fn.main) (g.D.Disk.unsure l.main);
+  kept : g.D.Disk.state l.main ≡ g.D.Disk.state l.fn.main;
   later : g.D.Disk.faults l.fn.main ≤ g.D.Disk.faults l.main;
   long : length l.block ≡ 8192;
   below : IsBelow (585 * l.n) l.labels.known.items;
-  table : (image : List Block) → length image ≡ l.blocks → Shows (g.D.Disk.holds l.fn.main) image → IsScanned image l.n (585 * l.n) l.labels.known.items;
+  table : (image : List Block) → length image ≡ l.blocks → Shows (g.D.Disk.state l.fn.main).holds image → IsScanned image l.n (585 * l.n) l.labels.known.items;
 }
