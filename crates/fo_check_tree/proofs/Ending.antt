@@ -339,28 +339,3 @@ pub refuses_tree : (arena : Arena) (device : List Block) (image : Image) (k : Ke
 refuses_tree arena device image k (BadLabel at) h = inr h
 refuses_tree arena device image k Read h = tt
 refuses_tree arena device image k Memory h = tt
-
-fits_empty : (device : List Block) (image : Image) (steps : List Step) (n : ℕ → ℕ → ℕ) → steps ≡ [] → Fits device image steps n → (b j : ℕ) → n b j ≡ 0
-fits_empty device image steps n is fits = (subst (λ (xs : List Step). Fits device image xs n) is fits).each
-
-pub walked : (arena : Arena) (device : List Block) (image : Image) (s : Super) (k : Kept) (walk : Walk) (found : Found) → walk.steps.items ≡ [] → walk.folders.items ≡ []
-    → found.broken ≡ walk.noted → found.used ≡ reached walk.labels.known.items → found.leaked ≡ leaked s.low walk.labels.known.items → JudgesRoot k.root walk.noted → Walking arena device image s k [] walk → IsWalked arena device image s k found
-walked arena device image s k walk found steps folders broken used leaks judged w =
-    let known = walk.labels.known.items in
-    let n : ℕ → ℕ → ℕ = λ b j. w.others b j + w.steps b j + w.folders b j in
-    let none : (b j : ℕ) → w.others b j + w.steps b j + w.folders b j ≡ 0 = λ b j. omega (
-      arith,
-      w.others_fit.each b j,
-      fits_empty device image walk.steps.items w.steps steps w.steps_fit b j,
-      fits_empty device image (all_tops walk.folders.items) w.folders (ap (λ (fs : List Folder). all_tops fs) folders) w.folders_fit b j,
-    ) in
-    record {
-      labels = tree_labels arena device image s k w.holds.empty known walk.noted n w.goes none;
-      formats = λ quiet. tree_formats arena device image s k w.holds.empty known walk.noted n w.goes none (subst (λ (o : Option Broken). 5 < level o) broken quiet);
-      entries = λ quiet. judged.entries (subst (λ (o : Option Broken). 6 < level o) broken quiet);
-      once = λ quiet. tree_once arena device image s k w.holds.empty known walk.noted n w.goes none (subst (λ (o : Option Broken). 7 < level o) broken quiet);
-      scores = λ quiet. tree_scores arena device image s k w.holds.empty known walk.noted n w.goes none (subst (λ (o : Option Broken). 9 < level o) broken quiet);
-      named = subst (λ (o : Option Broken). MatchOption o (Unit {0}) (IsNamed arena image k)) (sym broken) w.goes.notes;
-      used = tree_used arena device image s k w.holds.empty known walk.noted n w.goes none found.used used;
-      leaked = tree_leaked arena device image s k w.holds.empty known walk.noted n w.goes none found.leaked leaks;
-    }

@@ -1,11 +1,14 @@
 mod Adding
 mod Counting
+mod Directories
 mod Ending
 mod Going
+mod Judging
 mod Leaves
 mod Levels
 mod Listed
 mod Marking
+mod Naming
 mod Noting
 mod Paths
 mod Reaching

@@ -4,7 +4,7 @@ use Rattle.std.specs.Prelude.{MatchBool, MatchOption}
 use Rattle.std.specs.List.{All, Any}
 use Rattle.std.proofs.lemmas.Bool.{false≢true}
 use Rattle.fo_disk.specs.Disk.{Block}
-use Rattle.fo_image.specs.declared.types.Kind.TheVariants.{Root}
+use Rattle.fo_image.specs.declared.types.Kind.TheVariants.{Dir, Root}
 use Rattle.fo_image.specs.declared.types.State.TheVariants.{Free, Live}
 use Rattle.fo_image.specs.declared.types.Label.{Label}
 use Rattle.fo_image.specs.declared.types.Entry.{Entry}
@@ -27,6 +27,8 @@ use Rattle.fo_check_tree.specs.declared.walk.Holds.TheVariants.{Bytes, Records}
 use Rattle.fo_check_tree.specs.declared.walk.Step.{Step}
 use Rattle.fo_check_tree.specs.declared.walk.Walk.{Walk}
 use Rattle.fo_check_tree.specs.Answer.{IsShallow, HoldsAny, IsNamed}
+use Rattle.fo_check_tree.specs.Dirs.{HasMeta, AreJudged}
+use Rattle.fo_check_tree.specs.Listing.{SomeOf}
 use Rattle.fo_check_tree.specs.Known.{Ascend, IsKnown, Marks, MarksNone}
 use Rattle.fo_good.specs.Means.{IsRead}
 use Rattle.fo_image.specs.Record.{SpellsRoot}
@@ -230,3 +232,21 @@ module _ (arena : Arena) (device : List Block) (image : Image) (s : Super) (k : 
           },
           no_steps,
         )
+
+    pub directories : (t : Bool) (l : Labels) → new.labels ≡ l → MatchBool t (Marks s.active old.labels.known.items l.known.items) (MarksNone s.active old.labels.known.items l.known.items) → Lowers old.noted new.noted
+        → (e r : Entry) → IsEntryOf k.root.meta r
+        → new.folders.items ≡ old.folders.items ++ record { entries = e; records = Some r; holder = record { block = s.active; label = root_label s }; depth = 0; named = true } ∷ []
+        → JudgesRoot k.root new.noted → AreJudged arena image k [] new
+    directories t l labels found low e r wr folders judged =
+        let m = subst (λ (x : Labels). MatchBool t (Marks s.active old.labels.known.items x.known.items) (MarksNone s.active old.labels.known.items x.known.items)) (sym labels) found in
+        let f : Folder = record { entries = e; records = Some r; holder = record { block = s.active; label = root_label s }; depth = 0; named = true } in
+        let one_folder : new.folders.items ≡ f ∷ [] = folders ∙ ap (λ (fs : List Folder). fs ++ f ∷ []) u.nothing.1 in
+        record {
+          top = λ entries quiet tree.
+              let head = is_head 1 k.root.meta quiet judged.second holds.meta in
+              let slot : (image k.at).slot 1 ≡ Head r = head.0 ∙ ap (λ (x : Entry). Head x) (sym (wr.shallow head.1)) in
+              inl (subst (λ (fs : List Folder). SomeOf (HasMeta image k.at 1) fs) (sym one_folder) (inl (record { entry = r; is = refl; slot = slot })));
+          pairs = λ quiet tree at p l' reached leaf lt a b.
+              let kind : Root ≡ Dir zero = ap (λ (x : Label). x.kind) (only_label' judged (marked t m) low at l' reached) ∙ leaf in
+              absurd (cc);
+        }

@@ -1,5 +1,6 @@
 pub mod Answer
 pub mod Cause
+pub mod Dirs
 pub mod Follows
 pub mod Known
 pub mod Listing

@@ -1,21 +1,25 @@
 -- The records of one directory, while its source of records is walked: which leaves were read, and which are left.
-use Rattle.std.specs.Prelude.{◌≡◌, ◌⊎◌, ℕ, ◌+◌, ◌*◌, ◌^◌, ◌<◌, ◌≤◌, zero, suc, List, [], ◌∷◌, ◌++◌, length, map}
+use Rattle.std.specs.Prelude.{◌≡◌, ◌⊎◌, ℕ, ◌+◌, ◌*◌, ◌^◌, ◌<◌, ◌≤◌, zero, suc, List, [], ◌∷◌, ◌++◌, length, map, Option, Some, MatchOption, false}
 use Rattle.std.specs.List.{AllByRecursion}
 use Rattle.fo_disk.specs.Disk.{Block}
 use Rattle.fo_image.specs.declared.types.Kind.{Kind}
 use Rattle.fo_image.specs.declared.types.Kind.TheVariants.{Data, Dir, Root}
+use Rattle.fo_image.specs.declared.types.Entry.{Entry}
 use Rattle.fo_image.specs.declared.types.Label.{Label}
 use Rattle.fo_image.specs.declared.types.Pointer.TheVariants.{Local}
 use Rattle.fo_image.specs.declared.record.Record.{Record}
+use Rattle.fo_crash.specs.declared.slot.Slot.TheVariants.{Entry as Head}
 use Rattle.fo_crash.specs.Images.{Image, Arena, Link, target, goes, way, leaf_path, depth_of}
 use Rattle.fo_meta.specs.Leaf.{IsLeaf, SpellsLeaf}
-use Rattle.fo_good.specs.Trees.{IsTree, IsWithin, size_of}
+use Rattle.fo_good.specs.Trees.{IsTree, IsWithin, Lists, size_of}
 use Rattle.fo_good.specs.Sound.{Kept}
 use Rattle.fo_check_names.specs.Names.{named_in}
 use Rattle.fo_check_names.specs.declared.names.Named.{Named}
 use Rattle.fo_check_tree.specs.declared.labels.Known.{Known}
+use Rattle.fo_check_tree.specs.declared.walk.Folder.{Folder}
 use Rattle.fo_check_tree.specs.declared.walk.Holds.TheVariants.{Bytes, Records}
 use Rattle.fo_check_tree.specs.declared.walk.Step.{Step}
+use Rattle.fo_check_tree.specs.Answer.{HasOwnNames}
 use Rattle.fo_check_tree.specs.Walking.{Reached}
 
 -- ---- one leaf
@@ -104,3 +108,33 @@ pub record IsListing (arena : Arena) (image : Image) (k : Kept) (meta : Link) (k
   pub apart : Apart leaves
   pub sources : AllByRecursion (IsInSource arena image meta) steps
   pub whole : IsTree arena image k.at → (n at : ℕ) → IsListed arena image meta n at → SomeOf (IsOnWay arena image meta (leaf_path meta.slot n)) steps ⊎ SomeOf (λ (v : Leaf). v.path ≡ leaf_path meta.slot n) leaves
+
+-- ---- names
+
+-- A record of the leaf in this block has a name that another record of the source has.
+pub record HasNameTwice (arena : Arena) (image : Image) (meta : Link) (at : ℕ) : Type 0 where
+  pub leaf : ℕ
+  pub place : ℕ
+  pub other_leaf : ℕ
+  pub other_place : ℕ
+  pub one : Record
+  pub other : Record
+  pub first : Lists arena image meta leaf place one
+  pub second : Lists arena image meta other_leaf other_place other
+  pub same : one.name ≡ other.name
+  pub apart : ¬ ((leaf ≡ other_leaf) × (place ≡ other_place))
+  pub leads : target ((goes arena image meta (leaf_path meta.slot leaf)).slot) ≡ Local at
+
+-- The answer of whether a name stands twice: so it is, or where no block is at two places none does.
+abbrev pub JudgesNames : Arena → Image → Kept → Link → Option ℕ → Type 0
+JudgesNames arena image k meta answer = MatchOption answer (IsTree arena image k.at → HasOwnNames arena image meta) (HasNameTwice arena image meta)
+
+-- The source of records of a folder: an entry that is of its format, and whose link is this.
+pub record IsMetaOf (f : Folder) (meta : Link) : Type 0 where
+  pub entry : Entry
+  pub is : f.records ≡ Some entry
+  pub slot : meta.slot ≡ Head entry
+  pub file : entry.dir ≡ false
+  pub kind : meta.kind ≡ Data entry.depth
+  pub room : entry.size ≤ 8192 * 409 ^ entry.depth
+  pub shallow : entry.depth ≤ 4

@@ -12,6 +12,8 @@ ghost use Rattle.fo_image.specs.declared.types.Super.{Super};
 ghost use Rattle.fo_image.specs.declared.types.Pointer.TheVariants.{Local};
 ghost use Rattle.fo_check_tree.specs.Answer.{RefusesTree};
 ghost use Rattle.fo_check_tree.specs.Follows.{Follows, Reaches, Puts, Reads, RefusesFollow, NotLabel};
+ghost use Rattle.fo_check_tree.specs.declared.walk.Folder.{Folder};
+ghost use Rattle.fo_check_tree.specs.Dirs.{AreJudged};
 ghost use Rattle.fo_check_tree.specs.Listing.{AddsNamed, Adds, IsListing};
 ghost use Rattle.fo_check_tree.specs.Notes.{NotesAt};
 ghost use Rattle.fo_check_tree.specs.Walking.{Walking};
@@ -68,6 +70,8 @@ pub(crate) fn follow_all<D: Disk>(
         → MatchResult result (λ _. Walking arena device image s k rest walk.new) (RefusesTree arena device image k) }
     ensures lists { (arena : Arena) (device : List Block) (image : Image) (s : Super) (k : Kept) (meta : Link) (rest : List Step) → Shows (D.state main.old).holds device → Walking arena device image s k rest walk.old
         → IsListing arena image k meta walk.old.labels.known.items walk.old.steps.items walk.old.named.items → OnOk result (IsListing arena image k meta walk.new.labels.known.items walk.new.steps.items walk.new.named.items) }
+    ensures dirs { (arena : Arena) (device : List Block) (image : Image) (s : Super) (k : Kept) (rest : List Step) (others : List Folder) → Shows (D.state main.old).holds device → Walking arena device image s k rest walk.old → AreJudged arena image k others walk.old
+        → OnOk result (AreJudged arena image k others walk.new) }
     ensures done { OnOk result (walk.new.steps.items ≡ []) }
     ensures blocks { OnOk result (walk.new.blocks ≡ walk.old.blocks) }
     ensures budget { OnOk result (205 * walk.new.labels.left + length walk.new.folders.items ≤ 205 * walk.old.labels.left + length walk.old.folders.items) }

@@ -2,10 +2,14 @@
 ghost use Rattle.std.specs.Prelude.{◌≡◌, ℕ, List, MatchResult, ◌+◌, ◌-◌, ◌*◌, ◌^◌, ◌<◌, ◌≤◌, not, ◌&&◌, None, cond, min, true, false, length, take, drop, map, [], ◌∷◌, ◌++◌, OnOk};
 ghost use Rattle.fo_image.specs.declared.types.Entry.{Entry};
 ghost use Rattle.fo_image.specs.Format.{SpellsEntry};
-ghost use Rattle.fo_crash.specs.Images.{Arena, Content, Image};
+ghost use Rattle.fo_crash.specs.Images.{Arena, Content, Image, Link};
 ghost use Rattle.fo_disk.specs.Disk.{Block};
 ghost use Rattle.fo_good.specs.Means.{HasEntry};
 ghost use Rattle.fo_good.specs.Sound.{Kept};
+ghost use Rattle.fo_good.specs.Trees.{IsTree};
+ghost use Rattle.fo_check_tree.specs.Answer.{HasOwnNames};
+ghost use Rattle.fo_check_tree.specs.Dirs.{AreJudged};
+ghost use Rattle.fo_check_tree.specs.Listing.{IsMetaOf};
 ghost use Rattle.fo_image.specs.declared.types.Super.{Super};
 ghost use Rattle.fo_sound.specs.Image.{is_zero};
 ghost use Rattle.fo_sound.specs.Device.{Shows};
@@ -282,6 +286,10 @@ fn list<D: Disk>(
     requires size { D.size main.old ≡ walk.old.blocks }
     ensures walks { (arena : Arena) (device : List Block) (image : Image) (s : Super) (k : Kept) → Shows (D.state main.old).holds device → Walking arena device image s k (tops folder.now) walk.old
         → MatchResult result (λ _. Walking arena device image s k (top_step folder.now.entries Bytes folder.now.holder ∷ []) walk.new) (RefusesTree arena device image k) }
+    ensures names { (arena : Arena) (device : List Block) (image : Image) (s : Super) (k : Kept) (meta : Link) → Shows (D.state main.old).holds device → Walking arena device image s k (tops folder.now) walk.old → IsMetaOf folder.now meta
+        → walk.old.steps.items ≡ [] → walk.old.named.items ≡ [] → OnOk result (5 < level walk.new.noted → IsTree arena image k.at → HasOwnNames arena image meta) }
+    ensures dirs { (arena : Arena) (device : List Block) (image : Image) (s : Super) (k : Kept) (others : List Folder) → Shows (D.state main.old).holds device → Walking arena device image s k (tops folder.now) walk.old → AreJudged arena image k others walk.old
+        → OnOk result (AreJudged arena image k others walk.new) }
     ensures blocks { OnOk result (walk.new.blocks ≡ walk.old.blocks) }
     ensures budget { OnOk result (205 * walk.new.labels.left + length walk.new.folders.items ≤ 205 * walk.old.labels.left + length walk.old.folders.items) }
     ensures level { OnOk result (level walk.new.noted ≤ level walk.old.noted) }
@@ -320,6 +328,10 @@ pub(crate) fn walk_folder<D: Disk>(
     requires size { D.size main.old ≡ walk.old.blocks }
     ensures walks { (arena : Arena) (device : List Block) (image : Image) (s : Super) (k : Kept) → Shows (D.state main.old).holds device → Walking arena device image s k (tops folder.now) walk.old
         → MatchResult result (λ _. Walking arena device image s k [] walk.new) (RefusesTree arena device image k) }
+    ensures names { (arena : Arena) (device : List Block) (image : Image) (s : Super) (k : Kept) (meta : Link) → Shows (D.state main.old).holds device → Walking arena device image s k (tops folder.now) walk.old → IsMetaOf folder.now meta
+        → walk.old.steps.items ≡ [] → OnOk result (5 < level walk.new.noted → IsTree arena image k.at → HasOwnNames arena image meta) }
+    ensures dirs { (arena : Arena) (device : List Block) (image : Image) (s : Super) (k : Kept) (others : List Folder) → Shows (D.state main.old).holds device → Walking arena device image s k (tops folder.now) walk.old → AreJudged arena image k others walk.old
+        → OnOk result (AreJudged arena image k others walk.new) }
     ensures done { OnOk result (walk.new.steps.items ≡ []) }
     ensures blocks { OnOk result (walk.new.blocks ≡ walk.old.blocks) }
     ensures budget { OnOk result (205 * walk.new.labels.left + length walk.new.folders.items ≤ 205 * walk.old.labels.left + length walk.old.folders.items) }

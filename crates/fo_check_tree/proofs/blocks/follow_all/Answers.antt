@@ -4,8 +4,10 @@ use Rattle.fo_disk.specs.Disk.{DiskState}
 use Rattle.fo_sound.specs.Device.{Shows}
 use Rattle.fo_check_tree.specs.declared.walk.Walk.{Walk}
 use Rattle.fo_check_tree.specs.declared.walk.Step.{Step}
+use Rattle.fo_check_tree.specs.Dirs.{AreJudged}
 use Rattle.fo_check_tree.specs.Listing.{IsListing}
 use Rattle.fo_check_tree.specs.Walking.{Walking}
+use Rattle.fo_check_tree.proofs.Judging.{judged_like, judged_on}
 use Rattle.fo_check_tree.proofs.Listed.{lists}
 use Rattle.fo_check_tree.proofs.Stepping.{popped, followed, refused, emptied}
 use Rattle.fo_check_tree.proofs.blocks.follow_all.Goals as goal
@@ -24,6 +26,13 @@ loop-step-preserved g c = record {
       let left : Walking arena device image s k (c.in-Some.step ∷ rest) old = popped arena device image s k c.loop-step.walk old (record { blocks = refl; epoch = refl; active = refl; labels = refl; noted = refl }) rest c.in-Some.step c.in-Some.ensures.items refl before in
       let listed : IsListing arena image k meta c.loop-step.walk.labels.known.items (c.pop.new.self.items ++ c.in-Some.step ∷ []) c.loop-step.walk.named.items = subst (λ (xs : List Step). IsListing arena image k meta c.loop-step.walk.labels.known.items xs c.loop-step.walk.named.items) c.in-Some.ensures.items (c.loop-step.invariant.lists arena device image s k meta rest shows w h) in
       lists arena device image s k meta rest c.in-Some.step old c.follow.new.walk left listed c.args.depth c.args.named
+      (c.in_ok-follow.ensures.follows device image (subst (λ (s : DiskState). Shows s.holds device) (sym c.loop-step.invariant.kept) shows));
+  dirs = λ arena device image s k rest others shows w j.
+      let old : Walk = record c.loop-step.walk { steps = c.pop.new.self } in
+      let before : Walking arena device image s k rest c.loop-step.walk = c.loop-step.invariant.walks arena device image s k rest shows w in
+      let left : Walking arena device image s k (c.in-Some.step ∷ rest) old = popped arena device image s k c.loop-step.walk old (record { blocks = refl; epoch = refl; active = refl; labels = refl; noted = refl }) rest c.in-Some.step c.in-Some.ensures.items refl before in
+      let judged : AreJudged arena image k others old = judged_like arena device image s k others c.loop-step.walk old refl refl (omega arith) (c.loop-step.invariant.dirs arena device image s k rest others shows w j) in
+      judged_on arena device image s k rest c.in-Some.step old c.follow.new.walk left others judged c.args.depth c.args.named c.in_ok-follow.ensures.level
       (c.in_ok-follow.ensures.follows device image (subst (λ (s : DiskState). Shows s.holds device) (sym c.loop-step.invariant.kept) shows));
   blocks = c.in_ok-follow.ensures.blocks ∙ c.loop-step.invariant.blocks;
   low = omega (arith, c.in_ok-follow.ensures.level, c.loop-step.invariant.low);
@@ -49,3 +58,7 @@ returns-clause-walks g c arena device image s k rest shows w =
 pub returns-clause-lists : goal.returns-clause-lists
 returns-clause-lists g c arena device image s k meta rest shows w h =
     subst (λ (xs : List Step). IsListing arena image k meta c.loop-step.walk.labels.known.items xs c.loop-step.walk.named.items) (c.in_default.ensures.items ∙ append-nil c.pop.new.self.items) (c.loop-step.invariant.lists arena device image s k meta rest shows w h)
+
+pub returns-clause-dirs : goal.returns-clause-dirs
+returns-clause-dirs g c arena device image s k rest others shows w j =
+    judged_like arena device image s k others c.loop-step.walk (record c.loop-step.walk { steps = c.pop.new.self }) refl refl (omega arith) (c.loop-step.invariant.dirs arena device image s k rest others shows w j)

@@ -5,6 +5,8 @@ use Rattle.fo_good.specs.Sound.{Kept}
 use Rattle.fo_image.specs.declared.types.Super.{Super}
 use Rattle.fo_sound.specs.Device.{Shows}
 use Rattle.fo_check_tree.specs.declared.walk.Step.{Step}
+use Rattle.fo_check_tree.specs.declared.walk.Folder.{Folder}
+use Rattle.fo_check_tree.specs.Dirs.{AreJudged}
 use Rattle.fo_check_tree.specs.Listing.{IsListing}
 use Rattle.fo_check_tree.specs.Walking.{Walking}
 use Rattle.fo_check_tree.specs.Lower.{level}
@@ -15,6 +17,8 @@ invariant-loop-step g l = record {
   walks : (arena : Arena) (device : List Block) (image : Image) (s : Super) (k : Kept) (rest : List Step) → Shows (g.D.Disk.state l.fn.main).holds device → Walking arena device image s k rest l.fn.walk → Walking arena device image s k rest l.walk;
   lists : (arena : Arena) (device : List Block) (image : Image) (s : Super) (k : Kept) (meta : Link) (rest : List Step) → Shows (g.D.Disk.state l.fn.main).holds device → Walking arena device image s k rest l.fn.walk
       → IsListing arena image k meta l.fn.walk.labels.known.items l.fn.walk.steps.items l.fn.walk.named.items → IsListing arena image k meta l.walk.labels.known.items l.walk.steps.items l.walk.named.items;
+  dirs : (arena : Arena) (device : List Block) (image : Image) (s : Super) (k : Kept) (rest : List Step) (others : List Folder) → Shows (g.D.Disk.state l.fn.main).holds device → Walking arena device image s k rest l.fn.walk
+      → AreJudged arena image k others l.fn.walk → AreJudged arena image k others l.walk;
   blocks : l.walk.blocks ≡ l.fn.walk.blocks;
   low : level l.walk.noted ≤ level l.fn.walk.noted;
   size : g.D.Disk.size l.main ≡ l.walk.blocks;

@@ -1,11 +1,20 @@
-use Rattle.std.proofs.Common.{◌≡◌, [], ◌∷◌, ◌++◌, Option, refl, sym, ap, ◌∙◌, arith}
+use Rattle.std.proofs.Common.{◌≡◌, List, [], ◌∷◌, ◌++◌, Option, Some, refl, sym, ap, ◌∙◌, subst, rules, arith}
 use Rattle.std.proofs.lemmas.Result.{err_from_is_err_and}
 use Rattle.fo_image.specs.declared.types.Entry.{Entry}
 use Rattle.fo_check_tree.specs.declared.walk.Holds.TheVariants.{Bytes, Records}
 use Rattle.fo_check_tree.specs.declared.walk.Step.{Step}
+use Rattle.std.specs.Prelude.{MatchOption}
+use Rattle.fo_check_names.specs.Names.{name_of, leaf_of, Differ, IsTwice}
+use Rattle.fo_check_names.specs.declared.names.Named.{Named}
+use Rattle.fo_check_tree.specs.declared.labels.Labels.{Labels}
+use Rattle.fo_check_tree.specs.Dirs.{AreJudged}
+use Rattle.fo_check_tree.specs.Listing.{IsListing}
 use Rattle.fo_check_tree.specs.Slots.{top_step}
 use Rattle.fo_check_tree.specs.Walking.{Walking, tops, records_top}
+use Rattle.fo_check_tree.proofs.Judging.{judged_like}
+use Rattle.fo_check_tree.proofs.Listed.{listing_at}
 use Rattle.fo_check_tree.proofs.Marking.{is_pushed}
+use Rattle.fo_check_tree.proofs.Naming.{begins, judged, names_by}
 use Rattle.fo_check_tree.proofs.Noting.{lowers_then, lowers_leaf}
 use Rattle.fo_check_tree.proofs.Stepping.{turned, pushed, walking_like}
 use Rattle.fo_check_tree.proofs.folder.list.Goals as goal
@@ -66,3 +75,78 @@ returns-in-Ok-clause-walks g c arena device image s k shows w =
     (lowers_leaf c.follow_all.new.walk.noted c.note_leaf.new.self.noted 5 c.same_name-named_twice.result (λ e. omega (arith, e)) (λ e. omega (arith, e)) c.note_leaf.ensures.level c.note_leaf.ensures.noted)
     (lowers_leaf c.note_leaf.new.self.noted c.note_leaf-2.new.self.noted 6 c.same_pair-twice.result (λ e. omega (arith, e)) (λ e. omega (arith, e)) c.note_leaf-2.ensures.level c.note_leaf-2.ensures.noted))
     then'
+
+some_is : (x y : Entry) → Some x ≡ Some y → x ≡ y
+some_is x y e = cc
+
+pub returns-then-not-folder-clause-names : goal.returns-then-not-folder-clause-names
+returns-then-not-folder-clause-names g c arena device image s k meta shows walking w no_steps no_names quiet tree =
+    let f = c.args.folder.now in
+    let e : Entry = c.in-Some.records in
+    let same : w.entry ≡ e = some_is w.entry e (sym w.is ∙ c.in-Some.is) in
+    let a : Step = top_step f.entries Bytes f.holder in
+    let b : Step = top_step c.in-Some.records Records f.holder in
+    let both : tops f ≡ a ∷ b ∷ [] = ap (λ (o : Option Entry). top_step f.entries Bytes f.holder ∷ records_top f.holder o) c.in-Some.is in
+    let first : Walking arena device image s k (b ∷ a ∷ []) c.args.walk.now = turned arena device image s k c.args.walk.now c.args.walk.now (record { blocks = refl; epoch = refl; active = refl; labels = refl; noted = refl }) (tops f) a b both refl refl walking in
+    let items : c.push.new.self.items ≡ c.args.walk.now.steps.items ++ b ∷ [] =
+    is_pushed c.push.result c.args.walk.now.steps.items (c.args.walk.now.steps.items ++ c.top-top.result ∷ []) c.push.new.self.items (sym c.is_err.ensures.value ∙ c.if-is_err.false) c.push.ensures.items
+    ∙ ap (λ (x : Step). c.args.walk.now.steps.items ++ x ∷ []) c.top-top.ensures in
+    let next : Walking arena device image s k (a ∷ []) (record c.args.walk.now { steps = c.push.new.self }) = pushed arena device image s k c.args.walk.now (record c.args.walk.now { steps = c.push.new.self }) (record { blocks = refl; epoch = refl; active = refl; labels = refl; noted = refl }) (a ∷ []) c.in-Some.records f.holder Records Records items refl first in
+    let top : c.push.new.self.items ≡ top_step w.entry Records f.holder ∷ [] = items ∙ ap (λ (xs : List Step). xs ++ b ∷ []) no_steps ∙ ap (λ (x : Entry). top_step x Records f.holder ∷ []) (sym same) in
+    let start : IsListing arena image k meta c.args.walk.now.labels.known.items c.push.new.self.items c.args.walk.now.named.items = listing_at arena device image s k meta c.args.walk.now.labels.known.items c.args.walk.now.labels.known.items (top_step w.entry Records f.holder ∷ []) c.push.new.self.items [] c.args.walk.now.named.items refl top no_names (begins arena image k f meta w c.args.walk.now.labels.known.items) in
+    let end : IsListing arena image k meta c.follow_all.new.walk.labels.known.items c.follow_all.new.walk.steps.items c.follow_all.new.walk.named.items = c.in_ok-follow_all.ensures.lists arena device image s k meta (a ∷ []) shows next start in
+    let whole : IsListing arena image k meta c.follow_all.new.walk.labels.known.items [] c.follow_all.new.walk.named.items = subst (λ (xs : List Step). IsListing arena image k meta c.follow_all.new.walk.labels.known.items xs c.follow_all.new.walk.named.items) c.in_ok-follow_all.ensures.done end in
+    let view : c.deref_mut.result.now ≡ c.follow_all.new.walk.named.items = search rules in
+    let judges = judged arena image walking.holds.empty k meta c.follow_all.new.walk.labels.known.items c.follow_all.new.walk.named.items whole c.same_name-named_twice.result (subst (λ (xs : List Named). MatchOption c.same_name-named_twice.result (Differ name_of xs) (IsTwice name_of leaf_of xs)) view c.same_name-named_twice.ensures.answer) in
+    names_by arena image k meta c.same_name-named_twice.result c.follow_all.new.walk.noted c.note_leaf.new.self.noted judges c.note_leaf.ensures.noted quiet tree
+
+pub returns-in-Ok-clause-names : goal.returns-in-Ok-clause-names
+returns-in-Ok-clause-names g c arena device image s k meta shows walking w no_steps no_names quiet tree =
+    let f = c.args.folder.now in
+    let e : Entry = c.in-Some.records in
+    let same : w.entry ≡ e = some_is w.entry e (sym w.is ∙ c.in-Some.is) in
+    let a : Step = top_step f.entries Bytes f.holder in
+    let b : Step = top_step c.in-Some.records Records f.holder in
+    let both : tops f ≡ a ∷ b ∷ [] = ap (λ (o : Option Entry). top_step f.entries Bytes f.holder ∷ records_top f.holder o) c.in-Some.is in
+    let first : Walking arena device image s k (b ∷ a ∷ []) c.args.walk.now = turned arena device image s k c.args.walk.now c.args.walk.now (record { blocks = refl; epoch = refl; active = refl; labels = refl; noted = refl }) (tops f) a b both refl refl walking in
+    let items : c.push.new.self.items ≡ c.args.walk.now.steps.items ++ b ∷ [] =
+    is_pushed c.push.result c.args.walk.now.steps.items (c.args.walk.now.steps.items ++ c.top-top.result ∷ []) c.push.new.self.items (sym c.is_err.ensures.value ∙ c.if-is_err.false) c.push.ensures.items
+    ∙ ap (λ (x : Step). c.args.walk.now.steps.items ++ x ∷ []) c.top-top.ensures in
+    let next : Walking arena device image s k (a ∷ []) (record c.args.walk.now { steps = c.push.new.self }) = pushed arena device image s k c.args.walk.now (record c.args.walk.now { steps = c.push.new.self }) (record { blocks = refl; epoch = refl; active = refl; labels = refl; noted = refl }) (a ∷ []) c.in-Some.records f.holder Records Records items refl first in
+    let top : c.push.new.self.items ≡ top_step w.entry Records f.holder ∷ [] = items ∙ ap (λ (xs : List Step). xs ++ b ∷ []) no_steps ∙ ap (λ (x : Entry). top_step x Records f.holder ∷ []) (sym same) in
+    let start : IsListing arena image k meta c.args.walk.now.labels.known.items c.push.new.self.items c.args.walk.now.named.items = listing_at arena device image s k meta c.args.walk.now.labels.known.items c.args.walk.now.labels.known.items (top_step w.entry Records f.holder ∷ []) c.push.new.self.items [] c.args.walk.now.named.items refl top no_names (begins arena image k f meta w c.args.walk.now.labels.known.items) in
+    let end : IsListing arena image k meta c.follow_all.new.walk.labels.known.items c.follow_all.new.walk.steps.items c.follow_all.new.walk.named.items = c.in_ok-follow_all.ensures.lists arena device image s k meta (a ∷ []) shows next start in
+    let whole : IsListing arena image k meta c.follow_all.new.walk.labels.known.items [] c.follow_all.new.walk.named.items = subst (λ (xs : List Step). IsListing arena image k meta c.follow_all.new.walk.labels.known.items xs c.follow_all.new.walk.named.items) c.in_ok-follow_all.ensures.done end in
+    let view : c.deref_mut.result.now ≡ c.follow_all.new.walk.named.items = search rules in
+    let judges = judged arena image walking.holds.empty k meta c.follow_all.new.walk.labels.known.items c.follow_all.new.walk.named.items whole c.same_name-named_twice.result (subst (λ (xs : List Named). MatchOption c.same_name-named_twice.result (Differ name_of xs) (IsTwice name_of leaf_of xs)) view c.same_name-named_twice.ensures.answer) in
+    names_by arena image k meta c.same_name-named_twice.result c.follow_all.new.walk.noted c.note_leaf.new.self.noted judges c.note_leaf.ensures.noted (omega (arith, quiet, c.note_leaf-2.ensures.level)) tree
+
+pub returns-then-not-folder-clause-dirs : goal.returns-then-not-folder-clause-dirs
+returns-then-not-folder-clause-dirs g c arena device image s k others shows walking j =
+    let f = c.args.folder.now in
+    let a : Step = top_step f.entries Bytes f.holder in
+    let b : Step = top_step c.in-Some.records Records f.holder in
+    let both : tops f ≡ a ∷ b ∷ [] = ap (λ (o : Option Entry). top_step f.entries Bytes f.holder ∷ records_top f.holder o) c.in-Some.is in
+    let first : Walking arena device image s k (b ∷ a ∷ []) c.args.walk.now = turned arena device image s k c.args.walk.now c.args.walk.now (record { blocks = refl; epoch = refl; active = refl; labels = refl; noted = refl }) (tops f) a b both refl refl walking in
+    let items : c.push.new.self.items ≡ c.args.walk.now.steps.items ++ b ∷ [] =
+    is_pushed c.push.result c.args.walk.now.steps.items (c.args.walk.now.steps.items ++ c.top-top.result ∷ []) c.push.new.self.items (sym c.is_err.ensures.value ∙ c.if-is_err.false) c.push.ensures.items
+    ∙ ap (λ (x : Step). c.args.walk.now.steps.items ++ x ∷ []) c.top-top.ensures in
+    let next : Walking arena device image s k (a ∷ []) (record c.args.walk.now { steps = c.push.new.self }) = pushed arena device image s k c.args.walk.now (record c.args.walk.now { steps = c.push.new.self }) (record { blocks = refl; epoch = refl; active = refl; labels = refl; noted = refl }) (a ∷ []) c.in-Some.records f.holder Records Records items refl first in
+    let pushed' : AreJudged arena image k others (record c.args.walk.now { steps = c.push.new.self }) = judged_like arena device image s k others c.args.walk.now (record c.args.walk.now { steps = c.push.new.self }) refl refl (omega arith) j in
+    let after : AreJudged arena image k others c.follow_all.new.walk = c.in_ok-follow_all.ensures.dirs arena device image s k (a ∷ []) others shows next pushed' in
+    judged_like arena device image s k others c.follow_all.new.walk _ (ap (λ (x : Labels). x.known.items) c.note_leaf.ensures.labels) c.note_leaf.ensures.folders c.note_leaf.ensures.level after
+
+pub returns-in-Ok-clause-dirs : goal.returns-in-Ok-clause-dirs
+returns-in-Ok-clause-dirs g c arena device image s k others shows walking j =
+    let f = c.args.folder.now in
+    let a : Step = top_step f.entries Bytes f.holder in
+    let b : Step = top_step c.in-Some.records Records f.holder in
+    let both : tops f ≡ a ∷ b ∷ [] = ap (λ (o : Option Entry). top_step f.entries Bytes f.holder ∷ records_top f.holder o) c.in-Some.is in
+    let first : Walking arena device image s k (b ∷ a ∷ []) c.args.walk.now = turned arena device image s k c.args.walk.now c.args.walk.now (record { blocks = refl; epoch = refl; active = refl; labels = refl; noted = refl }) (tops f) a b both refl refl walking in
+    let items : c.push.new.self.items ≡ c.args.walk.now.steps.items ++ b ∷ [] =
+    is_pushed c.push.result c.args.walk.now.steps.items (c.args.walk.now.steps.items ++ c.top-top.result ∷ []) c.push.new.self.items (sym c.is_err.ensures.value ∙ c.if-is_err.false) c.push.ensures.items
+    ∙ ap (λ (x : Step). c.args.walk.now.steps.items ++ x ∷ []) c.top-top.ensures in
+    let next : Walking arena device image s k (a ∷ []) (record c.args.walk.now { steps = c.push.new.self }) = pushed arena device image s k c.args.walk.now (record c.args.walk.now { steps = c.push.new.self }) (record { blocks = refl; epoch = refl; active = refl; labels = refl; noted = refl }) (a ∷ []) c.in-Some.records f.holder Records Records items refl first in
+    let pushed' : AreJudged arena image k others (record c.args.walk.now { steps = c.push.new.self }) = judged_like arena device image s k others c.args.walk.now (record c.args.walk.now { steps = c.push.new.self }) refl refl (omega arith) j in
+    let after : AreJudged arena image k others c.follow_all.new.walk = c.in_ok-follow_all.ensures.dirs arena device image s k (a ∷ []) others shows next pushed' in
+    judged_like arena device image s k others c.follow_all.new.walk _ (ap (λ (x : Labels). x.known.items) (c.note_leaf-2.ensures.labels ∙ c.note_leaf.ensures.labels)) (c.note_leaf-2.ensures.folders ∙ c.note_leaf.ensures.folders) (omega (arith, c.note_leaf-2.ensures.level, c.note_leaf.ensures.level)) after

@@ -4,8 +4,11 @@ use Rattle.fo_disk.specs.Disk.{DiskState}
 use Rattle.fo_sound.specs.Device.{Shows}
 use Rattle.fo_check_tree.specs.declared.walk.Holds.TheVariants.{Bytes}
 use Rattle.fo_check_tree.specs.declared.walk.Step.{Step}
+use Rattle.fo_check_tree.specs.declared.labels.Labels.{Labels}
+use Rattle.fo_check_tree.specs.Dirs.{AreJudged}
 use Rattle.fo_check_tree.specs.Slots.{top_step}
 use Rattle.fo_check_tree.specs.Walking.{Walking, tops}
+use Rattle.fo_check_tree.proofs.Judging.{judged_like}
 use Rattle.fo_check_tree.proofs.Marking.{is_pushed}
 use Rattle.fo_check_tree.proofs.Noting.{lowers_leaf}
 use Rattle.fo_check_tree.proofs.Stepping.{emptied, pushed, walking_like}
@@ -60,3 +63,46 @@ returns-clause-walks g c arena device image s k shows w =
     (record { blocks = c.note_leaf.ensures.blocks; epoch = c.note_leaf.ensures.tree.0; active = c.note_leaf.ensures.tree.1; labels = c.note_leaf.ensures.labels; steps = c.note_leaf.ensures.steps; folders = c.note_leaf.ensures.folders })
     (lowers_leaf c.follow_all.new.walk.noted c.note_leaf.new.self.noted 6 c.without_pair-alone.result (λ e. omega (arith, e)) (λ e. omega (arith, e)) c.note_leaf.ensures.level c.note_leaf.ensures.noted)
     (c.in_ok-follow_all.ensures.walks arena device image s k [] still next)
+
+pub returns-then-not-folder-clause-names : goal.returns-then-not-folder-clause-names
+returns-then-not-folder-clause-names g c arena device image s k meta shows walking w no_steps quiet tree =
+    let fresh = emptied arena device image s k c.args.walk.now (record c.args.walk.now { named = c.new.result }) (record { blocks = refl; epoch = refl; active = refl; labels = refl; noted = refl }) (tops c.args.folder.now) refl refl walking in
+    c.in_ok-list.ensures.names arena device image s k meta shows fresh w no_steps c.new.ensures.items (omega (arith, quiet, c.in_ok-follow_all.ensures.level)) tree
+
+pub returns-clause-names : goal.returns-clause-names
+returns-clause-names g c arena device image s k meta shows walking w no_steps quiet tree =
+    let fresh = emptied arena device image s k c.args.walk.now (record c.args.walk.now { named = c.new.result }) (record { blocks = refl; epoch = refl; active = refl; labels = refl; noted = refl }) (tops c.args.folder.now) refl refl walking in
+    c.in_ok-list.ensures.names arena device image s k meta shows fresh w no_steps c.new.ensures.items (omega (arith, quiet, c.in_ok-follow_all.ensures.level, c.note_leaf.ensures.level)) tree
+
+pub returns-then-not-folder-clause-dirs : goal.returns-then-not-folder-clause-dirs
+returns-then-not-folder-clause-dirs g c arena device image s k others shows walking j =
+    let f = c.args.folder.now in
+    let a : Step = top_step f.entries Bytes f.holder in
+    let fresh = emptied arena device image s k c.args.walk.now (record c.args.walk.now { named = c.new.result }) (record { blocks = refl; epoch = refl; active = refl; labels = refl; noted = refl }) (tops f) refl refl walking in
+    let listed : Walking arena device image s k (a ∷ []) c.list.new.walk = c.in_ok-list.ensures.walks arena device image s k shows fresh in
+    let items : c.push.new.self.items ≡ c.list.new.walk.steps.items ++ top_step f.entries c.if-folder.holds f.holder ∷ [] =
+    is_pushed c.push.result c.list.new.walk.steps.items (c.list.new.walk.steps.items ++ c.top-top.result ∷ []) c.push.new.self.items (sym c.is_err.ensures.value ∙ c.if-is_err.false) c.push.ensures.items
+    ∙ ap (λ (x : Step). c.list.new.walk.steps.items ++ x ∷ []) c.top-top.ensures in
+    let next : Walking arena device image s k [] (record c.list.new.walk { steps = c.push.new.self }) = pushed arena device image s k c.list.new.walk (record c.list.new.walk { steps = c.push.new.self }) (record { blocks = refl; epoch = refl; active = refl; labels = refl; noted = refl }) [] f.entries f.holder Bytes c.if-folder.holds items refl listed in
+    let still : Shows (g.D.Disk.state c.list.new.main).holds device = subst (λ (s : DiskState). Shows s.holds device) (sym c.list.ensures.kept) shows in
+    let fresh' : AreJudged arena image k others (record c.args.walk.now { named = c.new.result }) = judged_like arena device image s k others c.args.walk.now (record c.args.walk.now { named = c.new.result }) refl refl (omega arith) j in
+    let listed' : AreJudged arena image k others c.list.new.walk = c.in_ok-list.ensures.dirs arena device image s k others shows fresh fresh' in
+    let next' : AreJudged arena image k others (record c.list.new.walk { steps = c.push.new.self }) = judged_like arena device image s k others c.list.new.walk (record c.list.new.walk { steps = c.push.new.self }) refl refl (omega arith) listed' in
+    c.in_ok-follow_all.ensures.dirs arena device image s k [] others still next next'
+
+pub returns-clause-dirs : goal.returns-clause-dirs
+returns-clause-dirs g c arena device image s k others shows walking j =
+    let f = c.args.folder.now in
+    let a : Step = top_step f.entries Bytes f.holder in
+    let fresh = emptied arena device image s k c.args.walk.now (record c.args.walk.now { named = c.new.result }) (record { blocks = refl; epoch = refl; active = refl; labels = refl; noted = refl }) (tops f) refl refl walking in
+    let listed : Walking arena device image s k (a ∷ []) c.list.new.walk = c.in_ok-list.ensures.walks arena device image s k shows fresh in
+    let items : c.push.new.self.items ≡ c.list.new.walk.steps.items ++ top_step f.entries c.if-folder.holds f.holder ∷ [] =
+    is_pushed c.push.result c.list.new.walk.steps.items (c.list.new.walk.steps.items ++ c.top-top.result ∷ []) c.push.new.self.items (sym c.is_err.ensures.value ∙ c.if-is_err.false) c.push.ensures.items
+    ∙ ap (λ (x : Step). c.list.new.walk.steps.items ++ x ∷ []) c.top-top.ensures in
+    let next : Walking arena device image s k [] (record c.list.new.walk { steps = c.push.new.self }) = pushed arena device image s k c.list.new.walk (record c.list.new.walk { steps = c.push.new.self }) (record { blocks = refl; epoch = refl; active = refl; labels = refl; noted = refl }) [] f.entries f.holder Bytes c.if-folder.holds items refl listed in
+    let still : Shows (g.D.Disk.state c.list.new.main).holds device = subst (λ (s : DiskState). Shows s.holds device) (sym c.list.ensures.kept) shows in
+    let fresh' : AreJudged arena image k others (record c.args.walk.now { named = c.new.result }) = judged_like arena device image s k others c.args.walk.now (record c.args.walk.now { named = c.new.result }) refl refl (omega arith) j in
+    let listed' : AreJudged arena image k others c.list.new.walk = c.in_ok-list.ensures.dirs arena device image s k others shows fresh fresh' in
+    let next' : AreJudged arena image k others (record c.list.new.walk { steps = c.push.new.self }) = judged_like arena device image s k others c.list.new.walk (record c.list.new.walk { steps = c.push.new.self }) refl refl (omega arith) listed' in
+    judged_like arena device image s k others c.follow_all.new.walk c.note_leaf.new.self (ap (λ (x : Labels). x.known.items) c.note_leaf.ensures.labels) c.note_leaf.ensures.folders c.note_leaf.ensures.level
+    (c.in_ok-follow_all.ensures.dirs arena device image s k [] others still next next')

@@ -1,13 +1,17 @@
-use Rattle.std.proofs.Common.{◌≡◌, ℕ, ◌-◌, true, None, take, [], append-nil, refl, sym, ap, ◌∙◌, subst, rules}
+use Rattle.std.proofs.Common.{◌≡◌, ℕ, ◌-◌, true, None, take, [], ◌∷◌, append-nil, refl, sym, ap, ◌∙◌, subst, rules, arith}
 use Rattle.std.proofs.lemmas.Result.{err_from_is_err_and}
 use Rattle.fo_disk.specs.Disk.{DiskState}
 use Rattle.fo_sound.specs.Device.{Shows}
 use Rattle.fo_check_tree.specs.declared.walk.Walk.{Walk}
 use Rattle.fo_image.specs.declared.record.RootBlock.{RootBlock}
+use Rattle.fo_check_tree.specs.declared.labels.Labels.{Labels}
+use Rattle.fo_check_tree.specs.Dirs.{AreJudged}
 use Rattle.fo_check_tree.specs.Lower.{JudgesRoot}
 use Rattle.fo_check_tree.specs.Walking.{IsUnbegun, Walking, tops}
 use Rattle.fo_check_tree.proofs.Adding.{on_ok_is}
-use Rattle.fo_check_tree.proofs.Ending.{walked, refuses_table, refuses_tree}
+use Rattle.fo_check_tree.proofs.Directories.{walked}
+use Rattle.fo_check_tree.proofs.Ending.{refuses_table, refuses_tree}
+use Rattle.fo_check_tree.proofs.Judging.{judged_like, judged_open, judged_folder}
 use Rattle.fo_check_tree.proofs.Levels.{judges_later}
 use Rattle.fo_check_tree.proofs.Scanning.{table_whole}
 use Rattle.fo_check_tree.proofs.Starting.{read_table, read_unreached}
@@ -39,6 +43,17 @@ loop-folder-init g c = record {
         nothing = (c.new.ensures.items, c.new-2.ensures.items, refl);
       } in
       on_ok_is c.start.result _ (sym c.is_err.ensures.value ∙ c.if-is_err.false) (c.start.ensures.begun arena device image k is holds u);
+  dirs = λ arena device image k len shows is holds.
+      let scan = c.in_ok-labels.ensures.table device len shows in
+      let start : Walk = record { blocks = c.args.setting.blocks; epoch = c.args.setting.s.high; active = true; labels = c.in_ok-labels.labels; noted = None; steps = c.new.result; folders = c.new-2.result; named = c.new-3.result; numbers = c.new-4.result } in
+      let u : IsUnbegun device c.args.setting.s start = record {
+        size = sym len;
+        tree = (refl, refl);
+        table = read_table device c.in_ok-labels.labels.known.items c.args.setting.blocks len scan c.in_ok-labels.labels.ascending;
+        unreached = read_unreached device c.in_ok-labels.labels.known.items c.args.setting.blocks len scan c.in_ok-labels.labels.ascending;
+        nothing = (c.new.ensures.items, c.new-2.ensures.items, refl);
+      } in
+      on_ok_is c.start.result _ (sym c.is_err.ensures.value ∙ c.if-is_err.false) (c.start.ensures.dirs arena device image k is holds u);
   judged = search rules;
   same = search rules;
   kept = search rules;
@@ -54,6 +69,17 @@ loop-folder-preserved g c = record {
       let old : Walk = record c.loop-folder.walk { folders = c.pop.new.self } in
       let open' : Walking arena device image s k (tops c.in-Some.folder) old = opened arena device image s k c.loop-folder.walk old (record { blocks = refl; epoch = refl; active = refl; labels = refl; noted = refl }) c.in-Some.folder c.in-Some.ensures.items refl before.0 in
       (c.in_ok-walk_folder.ensures.walks arena device image s k (subst (λ (s : DiskState). Shows s.holds device) (sym c.loop-folder.invariant.kept) shows) open', c.in_ok-walk_folder.ensures.done);
+  dirs = λ arena device image k len shows is holds.
+      let s = c.args.setting.s in
+      let f = c.in-Some.folder in
+      let before = c.loop-folder.invariant.walks arena device image k len shows is holds in
+      let old : Walk = record c.loop-folder.walk { folders = c.pop.new.self } in
+      let open' : Walking arena device image s k (tops f) old = opened arena device image s k c.loop-folder.walk old (record { blocks = refl; epoch = refl; active = refl; labels = refl; noted = refl }) f c.in-Some.ensures.items refl before.0 in
+      let shows' : Shows (g.D.Disk.state c.loop-folder.main).holds device = subst (λ (s : DiskState). Shows s.holds device) (sym c.loop-folder.invariant.kept) shows in
+      let left : AreJudged arena image k (f ∷ []) old = judged_open arena device image s k c.loop-folder.walk old f refl refl c.in-Some.ensures.items (c.loop-folder.invariant.dirs arena device image k len shows is holds) in
+      let after : AreJudged arena image k (f ∷ []) c.walk_folder.new.walk = c.in_ok-walk_folder.ensures.dirs arena device image s k (f ∷ []) shows' open' left in
+      judged_folder arena device image s k c.walk_folder.new.walk f (c.in_ok-walk_folder.ensures.walks arena device image s k shows' open')
+      (λ meta of quiet tree. c.in_ok-walk_folder.ensures.names arena device image s k meta shows' open' of before.1 quiet tree) after;
   judged = judges_later c.in_ok-walk_folder.ensures.level c.loop-folder.invariant.judged;
   same = search rules;
   kept = search rules;
@@ -75,8 +101,11 @@ returns-clause-walked g c arena device image k len shows is holds =
     let before = c.loop-folder.invariant.walks arena device image k len shows is holds in
     let end : Walk = record c.loop-folder.walk { folders = c.pop.new.self } in
     let none : c.pop.new.self.items ≡ [] = c.pop.ensures.rest ∙ ap (λ (n : ℕ). take (n - 1) c.loop-folder.walk.folders.items) c.in_default.ensures.cases.0 in
+    let old_none : c.loop-folder.walk.folders.items ≡ [] = c.in_default.ensures.items ∙ append-nil c.pop.new.self.items ∙ none in
     let empty : Walking arena device image s k [] end = emptied arena device image s k c.loop-folder.walk end (record { blocks = refl; epoch = refl; active = refl; labels = refl; noted = refl }) [] refl (sym (append-nil c.pop.new.self.items) ∙ sym c.in_default.ensures.items) before.0 in
     let n = c.check_numbers.ensures in
     walked arena device image s k c.check_numbers.new.walk _ (n.steps ∙ before.1) (n.folders ∙ none) refl c.used.ensures c.leaked.ensures
     (judges_later n.lowers.low (subst (λ (r : RootBlock). JudgesRoot r c.loop-folder.walk.noted) (sym is) c.loop-folder.invariant.judged))
+    (judged_like arena device image s k [] end c.check_numbers.new.walk (ap (λ (l : Labels). l.known.items) n.labels) n.folders n.lowers.low
+    (judged_like arena device image s k [] c.loop-folder.walk end refl (none ∙ sym old_none) (omega arith) (c.loop-folder.invariant.dirs arena device image k len shows is holds)))
     (walking_like arena device image s k [] end c.check_numbers.new.walk (record { blocks = n.blocks; epoch = n.tree.0; active = n.tree.1; labels = n.labels; steps = n.steps; folders = n.folders }) n.lowers empty)

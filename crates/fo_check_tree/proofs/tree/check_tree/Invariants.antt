@@ -4,6 +4,7 @@ use Rattle.fo_disk.specs.Disk.{Block}
 use Rattle.fo_good.specs.Sound.{Kept}
 use Rattle.fo_sound.specs.Device.{Shows}
 use Rattle.fo_check_tree.specs.Answer.{HoldsAny}
+use Rattle.fo_check_tree.specs.Dirs.{AreJudged}
 use Rattle.fo_check_tree.specs.Walking.{Walking}
 use Rattle.fo_check_tree.specs.Lower.{JudgesRoot}
 use Rattle.fo_check_tree.proofs.tree.check_tree.Given as goal
@@ -13,6 +14,8 @@ invariant-loop-folder g l = record {
   size : g.D.Disk.size l.main ≡ l.walk.blocks;
   walks : (arena : Arena) (device : List Block) (image : Image) (k : Kept) → length device ≡ l.fn.setting.blocks → Shows (g.D.Disk.state l.fn.main).holds device → k.root ≡ l.root → HoldsAny arena device image l.fn.setting.s k
       → Walking arena device image l.fn.setting.s k [] l.walk × (l.walk.steps.items ≡ []);
+  dirs : (arena : Arena) (device : List Block) (image : Image) (k : Kept) → length device ≡ l.fn.setting.blocks → Shows (g.D.Disk.state l.fn.main).holds device → k.root ≡ l.root → HoldsAny arena device image l.fn.setting.s k
+      → AreJudged arena image k [] l.walk;
   judged : JudgesRoot l.root l.walk.noted;
   same : g.D.Disk.size l.main ≡ g.D.Disk.size l.fn.main;
   kept : g.D.Disk.state l.main ≡ g.D.Disk.state l.fn.main;

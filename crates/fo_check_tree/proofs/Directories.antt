@@ -1,0 +1,174 @@
+-- The directories of a tree, once nothing is left to be followed: no name stands twice in any.
+use Rattle.std.proofs.Common.{◌≡◌, ◌⊎◌, ⊎_elim, inl, inr, ℕ, zero, suc, ◌+◌, ◌*◌, ◌/◌, ◌%◌, ◌<◌, ◌≤◌, Bool, true, false, List, [], ◌∷◌, ◌++◌, Option, refl, sym, ap, ◌∙◌, subst, arith}
+use Rattle.std.specs.Prelude.{cond, MatchOption}
+use Rattle.fo_disk.specs.Disk.{Block}
+use Rattle.fo_image.specs.declared.types.Kind.{Kind}
+use Rattle.fo_image.specs.declared.types.Kind.TheVariants.{Data, Dir, Root}
+use Rattle.fo_image.specs.declared.types.Entry.{Entry}
+use Rattle.fo_image.specs.declared.types.Label.{Label}
+use Rattle.fo_image.specs.declared.types.Super.{Super}
+use Rattle.fo_image.specs.declared.types.Score.{Score}
+use Rattle.fo_image.specs.declared.types.Pointer.{Pointer}
+use Rattle.fo_image.specs.declared.types.Pointer.TheVariants.{Nil, Local, Score as Held}
+use Rattle.fo_crash.specs.declared.slot.Slot.{Slot}
+use Rattle.fo_crash.specs.declared.slot.Slot.TheVariants.{Pointer as To, Entry as Head, Prev}
+use Rattle.fo_crash.specs.Images.{Content, Image, Arena, Link, target, meant, found, step, goes, way, leaf_path, depth_of, entry_of, from_block, kind_below, kind_of_top, nothing}
+use Rattle.fo_crash.proofs.Places.{goes_way}
+use Rattle.fo_sound.specs.Sound.{HasRootEntries}
+use Rattle.fo_good.specs.Trees.{IsTree, IsEntries, IsRecords, InTree, HasRecords, LeadsTo, at_path}
+use Rattle.fo_good.specs.Trees.InTree.{top as tree_top, below as tree_below}
+use Rattle.fo_good.specs.Trees.HasRecords.{top as root_records, pair as pair_records}
+use Rattle.fo_good.specs.Sound.{Kept}
+use Rattle.fo_check_tree.specs.declared.broken.Broken.{Broken}
+use Rattle.fo_check_tree.specs.declared.labels.Known.{Known}
+use Rattle.fo_check_tree.specs.declared.tree.Found.{Found}
+use Rattle.fo_check_tree.specs.declared.walk.Folder.{Folder}
+use Rattle.fo_check_tree.specs.declared.walk.Step.{Step}
+use Rattle.fo_check_tree.specs.declared.walk.Walk.{Walk}
+use Rattle.fo_check_tree.specs.Answer.{HasOwnNames, HasNames, HoldsAny, IsNamed, IsWalked}
+use Rattle.fo_check_tree.specs.Dirs.{link_at, IsJudged, HasMeta, AreJudged}
+use Rattle.fo_check_tree.specs.Listing.{SomeOf}
+use Rattle.fo_check_tree.specs.Lower.{level, JudgesRoot}
+use Rattle.fo_check_tree.specs.Known.{reached, leaked}
+use Rattle.fo_check_tree.specs.Walking.{Goes, Fits, all_tops, Walking}
+use Rattle.fo_check_tree.proofs.Ending.{whole, tree_labels, tree_formats, tree_once, tree_scores, tree_used, tree_leaked}
+use Rattle.fo_check_tree.proofs.Leaves.{goes_join}
+use Rattle.fo_check_tree.proofs.Paths.{goes_end, slot_end, found_is}
+
+module _ (arena : Arena) (image : Image) (empty : (kind : Kind) (score : Score) → arena kind score ≡ nothing) where
+  -- ---- kinds on the way to a leaf of entries
+
+  kind_down : (d e n : ℕ) (v : Link) → v.kind ≡ Dir (d + e) → (goes arena image v (way d n [])).kind ≡ Dir e
+  kind_down zero e n v is = let same : 0 + e ≡ e = omega arith in is ∙ ap (λ (x : ℕ). Dir x) same
+  kind_down (suc d) e n v is =
+      let same : suc d + e ≡ d + suc e = omega arith in
+      let up : (goes arena image v (way d (n / 409) [])).kind ≡ Dir (suc e) = kind_down d (suc e) (n / 409) v (is ∙ ap (λ (x : ℕ). Dir x) same) in
+      ap (λ (u : Link). u.kind) (goes_way arena image v d (n / 409) (n % 409 ∷ []))
+      ∙ ap (λ (x : Kind). kind_below x ((found arena image (goes arena image v (way d (n / 409) []))).slot (n % 409))) up
+
+  leaf_kind : (n : ℕ) (v : Link) → v.kind ≡ Dir (depth_of v.slot) → (goes arena image v (leaf_path v.slot n)).kind ≡ Dir zero
+  leaf_kind n v is = let same : depth_of v.slot ≡ depth_of v.slot + 0 = omega arith in kind_down (depth_of v.slot) 0 n v (is ∙ ap (λ (x : ℕ). Dir x) same)
+
+  top_kind : (s : Slot) → IsEntries s → kind_of_top s ≡ Dir (depth_of s)
+  top_kind (Head e) h = ap (λ (d : Bool). cond d (Dir e.depth) (Data e.depth)) h.1
+  top_kind (To p) h = absurd h
+  top_kind (Prev epoch at) h = absurd h
+
+  entry_kind : (v : Link) (j : ℕ) → v.kind ≡ Dir (depth_of v.slot) → IsEntries (entry_of arena image v j).slot → (entry_of arena image v j).kind ≡ Dir (depth_of (entry_of arena image v j).slot)
+  entry_kind v j is h =
+      let w : Link = goes arena image v (leaf_path v.slot (j / 204)) in
+      let here : entry_of arena image v j ≡ step arena image w (j % 204) = goes_end arena image (leaf_path v.slot (j / 204)) v (j % 204) in
+      let kind : (step arena image w (j % 204)).kind ≡ kind_of_top (step arena image w (j % 204)).slot = ap (λ (x : Kind). kind_below x ((found arena image w).slot (j % 204))) (leaf_kind (j / 204) v is) in
+      let own : (step arena image w (j % 204)).kind ≡ Dir (depth_of (step arena image w (j % 204)).slot) = kind ∙ top_kind (step arena image w (j % 204)).slot (subst (λ (u : Link). IsEntries u.slot) here h) in
+      subst (λ (u : Link). u.kind ≡ Dir (depth_of u.slot)) (sym here) own
+
+  -- ---- a source of entries of the tree
+
+  record Source (root : ℕ) (w : Link) : Type 0 where
+    path : List ℕ
+    is : at_path arena image root path ≡ w
+    kind : w.kind ≡ Dir (depth_of w.slot)
+
+  source_of : (root depth : ℕ) (w : Link) → (step arena image (from_block root) 0).kind ≡ Dir (depth_of (step arena image (from_block root) 0).slot) → InTree arena image root depth w → Source root w
+  source_of root depth w first tree_top = record { path = 0 ∷ []; is = refl; kind = first }
+  source_of root depth w first (tree_below d v j above entries) =
+      let s = source_of root d v first above in
+      let rest : List ℕ = leaf_path v.slot (j / 204) ++ j % 204 ∷ [] in
+      record {
+        path = s.path ++ rest;
+        is = goes_join arena image empty s.path rest (from_block root) ∙ ap (λ (u : Link). goes arena image u rest) s.is;
+        kind = entry_kind v j s.kind entries;
+      }
+
+  -- the block that holds an entry
+  block_of_entry : (w : Link) (i : ℕ) → IsEntries ((found arena image w).slot i) → (at : ℕ) × (target w.slot ≡ Local at)
+  block_of_entry w i h = by (target w.slot) refl
+    where
+      lose : (c : Content) → found arena image w ≡ c → c ≡ nothing → ⊥
+      lose c is none' = subst (λ (x : Content). IsEntries (x.slot i)) (is ∙ none') h
+
+      by : (p : Pointer) → target w.slot ≡ p → (at : ℕ) × (target w.slot ≡ Local at)
+      by Nil e = absurd (lose (found arena image w) refl (ap (λ (p : Pointer). meant arena image w.kind p) e))
+      by (Held x) e = absurd (lose (found arena image w) refl (ap (λ (p : Pointer). meant arena image w.kind p) e ∙ empty w.kind x))
+      by (Local a) e = (a, e)
+
+module _ (arena : Arena) (device : List Block) (image : Image) (s : Super) (k : Kept) (holds : HoldsAny arena device image s k) (walk : Walk) (n : ℕ → ℕ → ℕ)
+    (g : Goes arena device image s k walk.labels.known.items walk.noted n) (none : (b j : ℕ) → n b j ≡ 0)
+    (judged : JudgesRoot k.root walk.noted) (no_folders : walk.folders.items ≡ []) (j : AreJudged arena image k [] walk)
+    (quiet : 5 < level walk.noted) (tree : IsTree arena image k.at) (entries : HasRootEntries k.root) where
+  closed : (at i : ℕ) → IsJudged arena image walk.folders.items at i → HasOwnNames arena image (link_at image at i)
+  closed at i w = ⊎_elim
+      (λ (x : SomeOf (HasMeta image at i) walk.folders.items). let no : ⊥ = subst (λ (fs : List Folder). SomeOf (HasMeta image at i) fs) no_folders x in absurd no)
+      (λ (h : HasOwnNames arena image (link_at image at i)). h)
+      w
+
+  first_kind : (step arena image (from_block k.at) 0).kind ≡ Dir (depth_of (step arena image (from_block k.at) 0).slot)
+  first_kind = ⊎_elim
+      (λ low.
+      let top : kind_of_top (Head k.root.entries) ≡ Dir k.root.entries.depth = ap (λ (d : Bool). cond d (Dir k.root.entries.depth) (Data k.root.entries.depth)) entries.entries_dir in
+      subst (λ (x : Slot). kind_of_top x ≡ Dir (depth_of x)) (sym low.0) top)
+      (λ high. absurd (omega (arith, quiet, judged.first high.1)))
+      holds.entries
+
+  of_pair : (depth p : ℕ) (w : Link) → InTree arena image k.at depth w → IsEntries (entry_of arena image w (2 * p)).slot → IsRecords (entry_of arena image w (2 * p + 1)).slot → HasOwnNames arena image (entry_of arena image w (2 * p + 1))
+  of_pair depth p w inside a b =
+      let src = source_of arena image holds.empty k.at depth w first_kind inside in
+      let q : ℕ = p % 102 in
+      let path : List ℕ = leaf_path w.slot (2 * p / 204) in
+      let h : Link = goes arena image w path in
+      let even : 2 * p % 204 ≡ 2 * (p % 102) = omega arith in
+      let odd : (2 * p + 1) % 204 ≡ 2 * (p % 102) + 1 = omega arith in
+      let leaf : (2 * p + 1) / 204 ≡ 2 * p / 204 = omega arith in
+      let lt : p % 102 < 102 = omega arith in
+      let first : entry_of arena image w (2 * p) ≡ step arena image h (2 * p % 204) = goes_end arena image path w (2 * p % 204) in
+      let at = block_of_entry arena image holds.empty h (2 * p % 204) (subst (λ (u : Link). IsEntries u.slot) first a) in
+      let found' : found arena image h ≡ image at.0 = found_is arena image h at.0 at.1 in
+      let kind : h.kind ≡ Dir zero = leaf_kind arena image holds.empty (2 * p / 204) w src.kind in
+      let way' : at_path arena image k.at (src.path ++ path) ≡ h = goes_join arena image holds.empty src.path path (from_block k.at) ∙ ap (λ (u : Link). goes arena image u path) src.is in
+      let leads : LeadsTo arena image k.at (src.path ++ path) at.0 = ap (λ (u : Link). target u.slot) way' ∙ at.1 in
+      let st = whole arena device image s k holds.empty walk.labels.known.items walk.noted n g none (src.path ++ path) at.0 leads in
+      let dir : st.label.kind ≡ Dir zero = sym st.link ∙ ap (λ (u : Link). u.kind) way' ∙ kind in
+      let second : entry_of arena image w (2 * p + 1) ≡ link_at image at.0 (2 * (p % 102) + 1) =
+      ap (λ (x : ℕ). goes arena image w (leaf_path w.slot x ++ (2 * p + 1) % 204 ∷ [])) leaf
+      ∙ ap (λ (i : ℕ). goes arena image w (path ++ i ∷ [])) odd
+      ∙ goes_end arena image path w (2 * (p % 102) + 1)
+      ∙ ap (λ (c : Content). record { kind = kind_below h.kind (c.slot (2 * (p % 102) + 1)); slot = c.slot (2 * (p % 102) + 1) }) found'
+      ∙ ap (λ (d : Kind). record { kind = kind_below d ((image at.0).slot (2 * (p % 102) + 1)); slot = (image at.0).slot (2 * (p % 102) + 1) }) kind in
+      let x : IsEntries ((image at.0).slot (2 * (p % 102))) = subst (λ (i : ℕ). IsEntries ((image at.0).slot i)) even (subst (λ (c : Content). IsEntries (c.slot (2 * p % 204))) found' (subst (λ (u : Link). IsEntries u.slot) first a)) in
+      let y : IsRecords ((image at.0).slot (2 * (p % 102) + 1)) = subst (λ (u : Link). IsRecords u.slot) second b in
+      subst (λ (u : Link). HasOwnNames arena image u) (sym second) (closed at.0 (2 * (p % 102) + 1) (j.pairs quiet tree at.0 (p % 102) st.label st.is dir lt x y))
+
+  by_records : (meta : Link) → HasRecords arena image k.at meta → HasOwnNames arena image meta
+  by_records meta root_records = closed k.at 1 (j.top entries quiet tree)
+  by_records meta (pair_records depth w p inside a b) = of_pair depth p w inside a b
+
+  pub tree_names : HasNames arena image k.at
+  tree_names = record { each = by_records }
+
+-- ---- the whole answer
+
+fits_empty : (device : List Block) (image : Image) (steps : List Step) (n : ℕ → ℕ → ℕ) → steps ≡ [] → Fits device image steps n → (b j : ℕ) → n b j ≡ 0
+fits_empty device image steps n is fits = (subst (λ (xs : List Step). Fits device image xs n) is fits).each
+
+pub walked : (arena : Arena) (device : List Block) (image : Image) (s : Super) (k : Kept) (walk : Walk) (found : Found) → walk.steps.items ≡ [] → walk.folders.items ≡ []
+    → found.broken ≡ walk.noted → found.used ≡ reached walk.labels.known.items → found.leaked ≡ leaked s.low walk.labels.known.items → JudgesRoot k.root walk.noted → AreJudged arena image k [] walk → Walking arena device image s k [] walk → IsWalked arena device image s k found
+walked arena device image s k walk found steps folders broken used leaks judged dirs w =
+    let known = walk.labels.known.items in
+    let n : ℕ → ℕ → ℕ = λ b j. w.others b j + w.steps b j + w.folders b j in
+    let none : (b j : ℕ) → w.others b j + w.steps b j + w.folders b j ≡ 0 = λ b j. omega (
+      arith,
+      w.others_fit.each b j,
+      fits_empty device image walk.steps.items w.steps steps w.steps_fit b j,
+      fits_empty device image (all_tops walk.folders.items) w.folders (ap (λ (fs : List Folder). all_tops fs) folders) w.folders_fit b j,
+    ) in
+    record {
+      labels = tree_labels arena device image s k w.holds.empty known walk.noted n w.goes none;
+      formats = λ quiet. tree_formats arena device image s k w.holds.empty known walk.noted n w.goes none (subst (λ (o : Option Broken). 5 < level o) broken quiet);
+      entries = λ quiet. judged.entries (subst (λ (o : Option Broken). 6 < level o) broken quiet);
+      once = λ quiet. tree_once arena device image s k w.holds.empty known walk.noted n w.goes none (subst (λ (o : Option Broken). 7 < level o) broken quiet);
+      scores = λ quiet. tree_scores arena device image s k w.holds.empty known walk.noted n w.goes none (subst (λ (o : Option Broken). 9 < level o) broken quiet);
+      names = λ quiet tree entries. tree_names arena device image s k w.holds walk n w.goes none judged folders dirs (subst (λ (o : Option Broken). 5 < level o) broken quiet) tree entries;
+      named = subst (λ (o : Option Broken). MatchOption o (Unit {0}) (IsNamed arena image k)) (sym broken) w.goes.notes;
+      used = tree_used arena device image s k w.holds.empty known walk.noted n w.goes none found.used used;
+      leaked = tree_leaked arena device image s k w.holds.empty known walk.noted n w.goes none found.leaked leaks;
+    }
