@@ -2,3 +2,5 @@ pub mod Aparts
 pub mod Calms
 pub mod Leaves
 pub mod Nothing
+pub mod Named
+pub mod Paired

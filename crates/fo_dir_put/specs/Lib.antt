@@ -1,2 +1,4 @@
+pub mod Differ
 pub mod Names
+pub mod Paired
 pub mod Puts

@@ -1,8 +1,10 @@
 //! A name is added, and its entry cleared.
-ghost use Rattle.std.specs.Prelude.{◌≡◌, ◌≢◌, ◌⊎◌, ◌+◌, ◌*◌, ◌<◌, ℕ, true};
+ghost use Rattle.std.specs.Prelude.{◌≡◌, ◌≢◌, ◌⊎◌, ◌+◌, ◌*◌, ◌/◌, ◌<◌, ℕ, List, true};
 ghost use Rattle.fo_crash.specs.Steps.{cleared};
 ghost use Rattle.fo_meta.specs.Leaf.{IsLeaf};
 ghost use Rattle.fo_dir_put.specs.Names.{ListsIn, AllFit, AddsOne, Lacks, AllApart, MayStand, ShowsBut, ShowsBytes};
+ghost use Rattle.fo_dir_put.specs.Differ.{AllDiffer, MayName};
+ghost use Rattle.fo_dir_put.specs.Paired.{AllPaired, AddsPaired, IsUnnamed};
 ghost use Rattle.fo_dir_put.specs.Puts.{IsOwnedEntries, IsOwnedRecords, IsInPlace, IsUnused, IsNewEntry, MayClear, StaysCalm, PutsName};
 
 use crate::pair::put_pair;
@@ -33,6 +35,8 @@ pub fn add_name<B: Blocks>(
     ensures puts { PutsName leaf entries p first second bytes.now (B.state on.old) (B.state on.new) }
     ensures fit { (n : ℕ) → AddsOne n p first.generation bytes.now (((B.state on.old).now leaf).bytes) → AllFit n leaf entries (B.state on.old).may_leave → AllFit n leaf entries (B.state on.new).may_leave }
     ensures apart { (b : ℕ) → b ≢ leaf → MayStand b bytes.now (((B.state on.old).now leaf).bytes) (B.state on.old).may_leave → AllApart leaf b (B.state on.old).may_leave → AllApart leaf b (B.state on.new).may_leave }
+    ensures named { (leaves : List ℕ) → MayName leaves leaf bytes.now (((B.state on.old).now leaf).bytes) (B.state on.old).may_leave → AllDiffer leaves (B.state on.old).may_leave → AllDiffer leaves (B.state on.new).may_leave }
+    ensures paired { (n a e : ℕ) → (a ≡ leaf → AddsPaired n p e entries first second bytes.now (((B.state on.old).now leaf).bytes)) → AllPaired n a e (B.state on.old) → AllPaired n a e (B.state on.new) }
     ensures others { ShowsBut leaf (B.state on.old).may_leave (B.state on.new).may_leave }
     ensures calm { StaysCalm (B.state on.old) (B.state on.new) }
     ensures room { (B.state on.new).room + 1 ≡ (B.state on.old).room }
@@ -52,6 +56,7 @@ pub fn clear_entry<B: Blocks>(on: &mut B, leaf: u32, entries: u32, j: u32)
     requires room { 0 < (B.state on.old).room }
     ensures entry { (((B.state on.new).now entries).slot j ≡ cleared (((B.state on.old).now entries).slot j)) ⊎ (B.state on.new).clearing entries j }
     ensures fit { (n : ℕ) → Lacks n j (((B.state on.old).now leaf).bytes) → AllFit n leaf entries (B.state on.old).may_leave → AllFit n leaf entries (B.state on.new).may_leave }
+    ensures paired { (n a e : ℕ) → (e ≡ entries → IsUnnamed n (j / 2) a leaf (B.state on.old)) → AllPaired n a e (B.state on.old) → AllPaired n a e (B.state on.new) }
     ensures shows { ShowsBytes (B.state on.old).may_leave (B.state on.new).may_leave }
     ensures order { (b i : ℕ) → (B.state on.new).clearing b i → (B.state on.old).clearing b i ⊎ ((b ≡ entries) × (i ≡ j)) }
     ensures room { (B.state on.new).room + 1 ≡ (B.state on.old).room }

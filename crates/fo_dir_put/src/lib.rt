@@ -5,8 +5,8 @@
 //!
 //! Proved, over any blocks: nothing is refused. Memory has the two entries and the bytes of the leaf as they were given, and all else
 //! as it was; no slot waits to be cleared that did not, and blocks keep labels, pins and places. In every image each record of the leaf has
-//! its first entry in use, if it was so before; and no name, number or pair stands in two leaves over all images, where no image has
-//! the new one's in another leaf. Not said: that names within a leaf differ, and second entries of directories.
+//! its pair, if it was so before: the first entry in use with its generation, the second exactly where it is a directory's. And no name,
+//! number or pair stands at two places of a directory, over all images, where no image has the new one's in another leaf.
 #![tactic(auto)]
 
 mod add;

@@ -4,6 +4,7 @@ ghost use Rattle.fo_crash.specs.declared.slot.Slot.TheVariants.{Entry as Head};
 ghost use Rattle.fo_crash.specs.Steps.{AddsSlot, PutsSlot};
 ghost use Rattle.fo_ports.specs.State.{AddsNoWait, none};
 ghost use Rattle.fo_dir_put.specs.Names.{AllFit, ShowsBytes};
+ghost use Rattle.fo_dir_put.specs.Paired.{AllPaired};
 ghost use Rattle.fo_dir_put.specs.Puts.{IsOwnedEntries, IsUnused, IsNewEntry, StaysCalm, PutsPair};
 
 use fo_crash::Slot;
@@ -35,6 +36,7 @@ pub fn put_pair<B: Blocks>(on: &mut B, entries: u32, p: u32, first: Entry, secon
     requires second_unused { IsUnused (B.state on.old) entries (2 * p + 1) }
     requires new { IsNewEntry first × IsNewEntry second }
     ensures puts { PutsPair entries p first second (B.state on.old) (B.state on.new) }
+    ensures paired { (n a e : ℕ) → AllPaired n a e (B.state on.old) → AllPaired n a e (B.state on.new) }
     ensures fit { (n leaf : ℕ) → AllFit n leaf entries (B.state on.old).may_leave → AllFit n leaf entries (B.state on.new).may_leave }
     ensures shows { ShowsBytes (B.state on.old).may_leave (B.state on.new).may_leave }
     ensures calm { StaysCalm (B.state on.old) (B.state on.new) }

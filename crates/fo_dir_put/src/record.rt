@@ -1,10 +1,12 @@
 //! The records of a leaf.
-ghost use Rattle.std.specs.Prelude.{◌≡◌, ◌≢◌, ◌+◌, ◌<◌, ◌≤◌, ℕ, length};
+ghost use Rattle.std.specs.Prelude.{◌≡◌, ◌≢◌, ◌+◌, ◌<◌, ◌≤◌, ℕ, List, length};
 ghost use Rattle.fo_image.specs.declared.types.Kind.TheVariants.{Data};
 ghost use Rattle.fo_crash.specs.declared.place.Place.{Place};
 ghost use Rattle.fo_crash.specs.Steps.{PutsBytes};
 ghost use Rattle.fo_meta.specs.Leaf.{IsLeaf};
 ghost use Rattle.fo_dir_put.specs.Names.{AllFit, AreBacked, AreKept, AllApart, MayStand, LeavesRest};
+ghost use Rattle.fo_dir_put.specs.Differ.{AllDiffer, MayName};
+ghost use Rattle.fo_dir_put.specs.Paired.{AllPaired, AllStood, ArePaired};
 ghost use Rattle.fo_dir_put.specs.Puts.{IsHeldEntries, IsOwnedRecords, IsInPlace, StaysCalm};
 
 use fo_ports::Blocks;
@@ -19,6 +21,8 @@ pub fn put_record<B: Blocks>(on: &mut B, leaf: u32, entries: u32, bytes: &[u8])
     ensures puts { PutsBytes leaf bytes.now (B.state on.old).now (B.state on.new).now }
     ensures fit { (n : ℕ) → AreBacked n leaf entries bytes.now (B.state on.old) → AllFit n leaf entries (B.state on.old).may_leave → AllFit n leaf entries (B.state on.new).may_leave }
     ensures apart { (b : ℕ) → b ≢ leaf → MayStand b bytes.now (((B.state on.old).now leaf).bytes) (B.state on.old).may_leave → AllApart leaf b (B.state on.old).may_leave → AllApart leaf b (B.state on.new).may_leave }
+    ensures named { (leaves : List ℕ) → MayName leaves leaf bytes.now (((B.state on.old).now leaf).bytes) (B.state on.old).may_leave → AllDiffer leaves (B.state on.old).may_leave → AllDiffer leaves (B.state on.new).may_leave }
+    ensures paired { (n a e : ℕ) → (a ≡ leaf → ArePaired n leaf e entries bytes.now (B.state on.old)) → AllPaired n a e (B.state on.old) → AllPaired n a e (B.state on.new) }
     ensures others { LeavesRest leaf (B.state on.old).may_leave (B.state on.new).may_leave }
     ensures calm { StaysCalm (B.state on.old) (B.state on.new) }
     ensures room { (B.state on.new).room + 1 ≡ (B.state on.old).room }
@@ -35,6 +39,8 @@ pub fn change_leaf<B: Blocks>(on: &mut B, leaf: u32, bytes: &[u8])
     ensures puts { PutsBytes leaf bytes.now (B.state on.old).now (B.state on.new).now }
     ensures fit { (n entries : ℕ) → AreKept n bytes.now (((B.state on.old).now leaf).bytes) → AllFit n leaf entries (B.state on.old).may_leave → AllFit n leaf entries (B.state on.new).may_leave }
     ensures apart { (b : ℕ) → b ≢ leaf → MayStand b bytes.now (((B.state on.old).now leaf).bytes) (B.state on.old).may_leave → AllApart leaf b (B.state on.old).may_leave → AllApart leaf b (B.state on.new).may_leave }
+    ensures named { (leaves : List ℕ) → MayName leaves leaf bytes.now (((B.state on.old).now leaf).bytes) (B.state on.old).may_leave → AllDiffer leaves (B.state on.old).may_leave → AllDiffer leaves (B.state on.new).may_leave }
+    ensures paired { (n a e : ℕ) → (a ≡ leaf → AllStood n bytes.now (((B.state on.old).now leaf).bytes)) → AllPaired n a e (B.state on.old) → AllPaired n a e (B.state on.new) }
     ensures others { LeavesRest leaf (B.state on.old).may_leave (B.state on.new).may_leave }
     ensures calm { StaysCalm (B.state on.old) (B.state on.new) }
     ensures room { (B.state on.new).room ≡ (B.state on.old).room }

@@ -4,6 +4,8 @@ use Rattle.fo_crash.specs.Names.{IsInUse}
 use Rattle.fo_dir_put.specs.Names.{ListsIn}
 use Rattle.fo_dir_put.proofs.Calms.{records_on, in_place_on}
 use Rattle.fo_dir_put.proofs.Aparts.{shows_apart, rest_shows, may_later}
+use Rattle.fo_dir_put.proofs.Named.{differ_shows, name_later}
+use Rattle.fo_dir_put.proofs.Paired.{adds_back}
 use Rattle.fo_dir_put.proofs.add.add_name.Goals as goal
 
 pub put_record-requires-clause-owned : goal.put_record-requires-clause-owned
@@ -32,3 +34,13 @@ returns-clause-apart g c = λ b differs may all.
 
 pub returns-clause-others : goal.returns-clause-others
 returns-clause-others g c = rest_shows c.put_pair.ensures.shows c.put_record.ensures.others
+
+pub returns-clause-named : goal.returns-clause-named
+returns-clause-named g c = λ leaves may all.
+    c.put_record.ensures.named leaves (name_later (sym (c.put_pair.ensures.puts.bytes c.args.leaf)) c.put_pair.ensures.shows may) (differ_shows c.put_pair.ensures.shows all)
+
+pub returns-clause-paired : goal.returns-clause-paired
+returns-clause-paired g c = λ n a e adds all.
+    let t = g.B.Blocks.state c.put_pair.new.on in
+    let settled : t.clearing c.args.entries (2 * c.args.p) → ⊥ = λ h. c.requires.first_unused.settled (c.put_pair.ensures.calm.order.clearing c.args.entries (2 * c.args.p) h).1 in
+    c.put_record.ensures.paired n a e (λ is. adds_back c.put_pair.ensures.puts settled (adds is)) (c.put_pair.ensures.paired n a e all)

@@ -1,8 +1,10 @@
-use Rattle.std.proofs.Common.{inr}
+use Rattle.std.proofs.Common.{◌≡◌, ◌⊎◌, inl, inr, ⊎_elim, ℕ, ◌+◌, ◌*◌, ◌/◌, ◌%◌, arith}
+use Rattle.std.proofs.lemmas.Bool.{cases_lt}
 use Rattle.fo_crash.proofs.Names.{entry_cleared}
 use Rattle.fo_dir_put.specs.Names.{ListsIn}
 use Rattle.fo_dir_put.proofs.Nothing.{may_remove}
 use Rattle.fo_dir_put.proofs.Aparts.{slot_shows}
+use Rattle.fo_dir_put.proofs.Paired.{clear_paired}
 use Rattle.fo_dir_put.proofs.add.clear_entry.Goals as goal
 
 pub remove_slot-requires-clause-may : goal.remove_slot-requires-clause-may
@@ -15,3 +17,12 @@ returns-clause-fit g c = λ n lacks all. record { are = entry_cleared (ListsIn n
 
 pub returns-clause-shows : goal.returns-clause-shows
 returns-clause-shows g c = slot_shows c.remove_slot.ensures.images
+
+halves : (j : ℕ) → (j ≡ 2 * (j / 2)) ⊎ (j ≡ 2 * (j / 2) + 1)
+halves j = ⊎_elim (λ lt. inr (omega (arith, lt))) (λ le. inl (omega (arith, le))) (cases_lt 0 (j % 2))
+
+pub returns-clause-paired : goal.returns-clause-paired
+returns-clause-paired g c = λ n a e free all.
+    let s = g.B.Blocks.state c.args.on.now in
+    let t = g.B.Blocks.state c.remove_slot.new.self in
+    clear_paired s t n a e (c.args.j / 2) c.args.leaf (halves c.args.j) c.remove_slot.ensures.images (⊎_elim (λ h. inl (h.0, h.2)) (λ h. inr h.0) c.remove_slot.ensures.now) free all

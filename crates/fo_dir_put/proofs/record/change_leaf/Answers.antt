@@ -1,4 +1,5 @@
-use Rattle.std.proofs.Common.{◌≡◌, ℕ, inl, sym, ◌∙◌, ap, subst, arith}
+use Rattle.std.proofs.Common.{◌≡◌, ℕ, inl, ⊎_elim, sym, ◌∙◌, ap, subst, arith}
+use Rattle.std.proofs.lemmas.Bool.{cases_eq}
 use Rattle.fo_crash.specs.declared.place.Place.{Place}
 use Rattle.fo_crash.specs.Images.{Image}
 use Rattle.fo_crash.specs.Steps.{AddsBytes, PutsBytes}
@@ -9,6 +10,10 @@ use Rattle.fo_dir_put.specs.Names.{ListsIn, MayStand}
 use Rattle.fo_dir_put.proofs.Calms.{bytes_calm}
 use Rattle.fo_dir_put.proofs.Leaves.{leaf_long, whole_put, leaf_formed, bytes_beside, bytes_reached}
 use Rattle.fo_dir_put.proofs.Aparts.{bytes_apart, bytes_rest}
+use Rattle.fo_dir_put.specs.Differ.{MayName}
+use Rattle.fo_dir_put.specs.Paired.{AllPaired}
+use Rattle.fo_dir_put.proofs.Named.{differ_put}
+use Rattle.fo_dir_put.proofs.Paired.{bytes_paired, bytes_others}
 use Rattle.fo_dir_put.proofs.record.change_leaf.Goals as goal
 
 pub put_bytes-requires-clause-within : goal.put_bytes-requires-clause-within
@@ -50,3 +55,20 @@ returns-clause-apart g c = λ b differs may all.
 
 pub returns-clause-others : goal.returns-clause-others
 returns-clause-others g c = bytes_rest c.put_bytes.ensures.images
+
+pub returns-clause-named : goal.returns-clause-named
+returns-clause-named g c = λ leaves may all.
+    let s = g.B.Blocks.state c.args.on.now in
+    let whole = whole_put c.args.bytes.now ((s.now c.args.leaf).bytes) (leaf_long c.requires.bytes) c.requires.owned.whole in
+    differ_put c.put_bytes.ensures.images (subst (λ xs. MayName leaves c.args.leaf xs ((s.now c.args.leaf).bytes) s.may_leave) (sym whole) may) all
+
+pub returns-clause-paired : goal.returns-clause-paired
+returns-clause-paired g c = λ n a e stood all.
+    let s = g.B.Blocks.state c.args.on.now in
+    let v = g.B.Blocks.state c.put_bytes.new.self in
+    let whole = whole_put c.args.bytes.now ((s.now c.args.leaf).bytes) (leaf_long c.requires.bytes) c.requires.owned.whole in
+    let adds = subst (λ xs. AddsBytes s.now c.args.leaf xs (λ (image : Image). (on j : ℕ) → s.waits c.args.leaf on j → (s.clearing on j → ⊥) → SameUse ((image on).slot j) ((s.now on).slot j)) s.may_leave v.may_leave) whole c.put_bytes.ensures.images in
+    ⊎_elim
+    (λ is. subst (λ x. AllPaired n x e v) (sym is) (bytes_paired {old = s} {new = v} {e = e} adds c.put_bytes.ensures.now.slots (λ r has slot. inl ((stood is).each r has slot)) (subst (λ x. AllPaired n x e s) is all)))
+    (λ ne. bytes_others {old = s} {new = v} ne adds c.put_bytes.ensures.now.slots all)
+    (cases_eq a c.args.leaf)

@@ -1,4 +1,5 @@
-use Rattle.std.proofs.Common.{◌≡◌, ℕ, length, List, sym, ◌∙◌, ap, subst, arith}
+use Rattle.std.proofs.Common.{◌≡◌, ℕ, length, List, ⊎_elim, sym, ◌∙◌, ap, subst, arith}
+use Rattle.std.proofs.lemmas.Bool.{cases_eq}
 use Rattle.fo_crash.specs.declared.place.Place.{Place}
 use Rattle.fo_crash.specs.Images.{Image}
 use Rattle.fo_crash.specs.Steps.{AddsBytes}
@@ -9,6 +10,11 @@ use Rattle.fo_dir_put.specs.Names.{ListsIn, MayStand}
 use Rattle.fo_dir_put.proofs.Calms.{calm_joins, bytes_calm}
 use Rattle.fo_dir_put.proofs.Leaves.{leaf_long, whole_put, leaf_formed, bytes_beside, still_all, bytes_reached, same_reached, puts_later, backed_later}
 use Rattle.fo_dir_put.proofs.Aparts.{nothing_shows, shows_apart, bytes_apart, bytes_rest, rest_later, may_later}
+use Rattle.fo_ports.specs.State.{WaitsInUse}
+use Rattle.fo_dir_put.specs.Differ.{MayName}
+use Rattle.fo_dir_put.specs.Paired.{AllPaired}
+use Rattle.fo_dir_put.proofs.Named.{differ_put, differ_shows, name_later}
+use Rattle.fo_dir_put.proofs.Paired.{bytes_paired, bytes_others, still_paired, waits_back}
 use Rattle.fo_dir_put.proofs.record.put_record.Goals as goal
 
 pub put_bytes-requires-clause-within : goal.put_bytes-requires-clause-within
@@ -71,3 +77,30 @@ returns-clause-apart g c = λ b differs may all.
 
 pub returns-clause-others : goal.returns-clause-others
 returns-clause-others g c = rest_later c.wait_for.ensures.images (bytes_rest c.put_bytes.ensures.images)
+
+pub returns-clause-named : goal.returns-clause-named
+returns-clause-named g c = λ leaves may all.
+    let u = g.B.Blocks.state c.wait_for.new.self in
+    let long = leaf_long c.requires.bytes in
+    let same = ap (λ (xs : List ℕ). length xs) ((c.wait_for.ensures.now.each c.args.leaf).bytes) ∙ c.requires.owned.whole in
+    let whole = whole_put c.args.bytes.now ((u.now c.args.leaf).bytes) long same in
+    let shows = nothing_shows c.wait_for.ensures.images in
+    let later = name_later (sym ((c.wait_for.ensures.now.each c.args.leaf).bytes)) shows may in
+    differ_put c.put_bytes.ensures.images (subst (λ xs. MayName leaves c.args.leaf xs ((u.now c.args.leaf).bytes) u.may_leave) (sym whole) later) (differ_shows shows all)
+
+pub returns-clause-paired : goal.returns-clause-paired
+returns-clause-paired g c = λ n a e backed all.
+    let s = g.B.Blocks.state c.args.on.now in
+    let u = g.B.Blocks.state c.wait_for.new.self in
+    let v = g.B.Blocks.state c.put_bytes.new.self in
+    let long = leaf_long c.requires.bytes in
+    let same = ap (λ (xs : List ℕ). length xs) ((c.wait_for.ensures.now.each c.args.leaf).bytes) ∙ c.requires.owned.whole in
+    let whole = whole_put c.args.bytes.now ((u.now c.args.leaf).bytes) long same in
+    let adds = subst (λ xs. AddsBytes u.now c.args.leaf xs (λ (image : Image). (on j : ℕ) → u.waits c.args.leaf on j → (u.clearing on j → ⊥) → SameUse ((image on).slot j) ((u.now on).slot j)) u.may_leave v.may_leave) whole c.put_bytes.ensures.images in
+    let mid : AllPaired n a e u = still_paired {old = s} {new = u} c.wait_for.ensures.images c.wait_for.ensures.now all in
+    let used : (image : Image) → u.may_leave image → WaitsInUse u = λ image is. g.met.B.Blocks.clears_used c.wait_for.new.self (g.met.B.Blocks.told c.wait_for.new.self image is) in
+    ⊎_elim
+    (λ is. subst (λ x. AllPaired n x e v) (sym is) (bytes_paired {old = u} {new = v} {e = e} adds c.put_bytes.ensures.now.slots
+    (waits_back {s = s} {u = u} (backed is) c.wait_for.ensures.waits.0 c.wait_for.ensures.now used (λ b j h. (c.wait_for.ensures.calm.order.clearing b j h).1)) (subst (λ x. AllPaired n x e u) is mid)))
+    (λ ne. bytes_others {old = u} {new = v} ne adds c.put_bytes.ensures.now.slots mid)
+    (cases_eq a c.args.leaf)
