@@ -1,0 +1,277 @@
+use Rattle.std.proofs.Common.{◌≡◌, ◌⊎◌, ◌+◌, ◌-◌, ◌*◌, ◌^◌, ◌<◌, ◌≤◌, ℕ, suc, List, inl, inr, ⊎_elim, refl, sym, ◌∙◌, ap, subst, arith}
+use Rattle.std.proofs.lemmas.Bool.{cases_eq}
+use Rattle.std.proofs.Math.Nat.{pow-succ'}
+use Rattle.fo_image.specs.declared.types.Label.{Label}
+use Rattle.fo_image.specs.declared.types.Pointer.{Pointer}
+use Rattle.fo_image.specs.declared.types.Pointer.TheVariants.{Local}
+use Rattle.fo_ports.specs.State.{State}
+use Rattle.fo_ports.specs.Sources.{Made}
+use Rattle.fo_tree_read.specs.declared.tree.Tree.{Tree}
+use Rattle.fo_tree_look.specs.declared.ways.Kept.{Kept}
+use Rattle.fo_tree_look.specs.Source.{HasBlock, Prepared}
+use Rattle.fo_tree_raise.specs.Raise.{CanRaise, Raises, SameBelow, EndsClear, Bears, raised}
+use Rattle.fo_tree_raise.specs.Levels.{Adds, IsTopAfter, grown}
+use Rattle.fo_tree_read.specs.Tree.{Hangs}
+use Rattle.fo_tree_raise.proofs.Levels.{owned_top}
+use Rattle.fo_tree_raise.proofs.Adding.{AddsMore, adds_nothing, adds_changes, added, made_top, made_back, made_on}
+use Rattle.fo_tree_raise.proofs.Climbing.{grown_none, grown_more, room_more, over_by}
+use Rattle.fo_tree_raise.proofs.climb.+raise_levels.Goals as goal
+
+-- no level
+
+pub returns-then-levels-eq0-clause-top : goal.returns-then-levels-eq0-clause-top
+returns-then-levels-eq0-clause-top g t' c = record { same = λ e. refl; new = λ lt. let none = c.if-levels-eq0.true in absurd (omega (arith, lt, none)) }
+
+pub returns-then-levels-eq0-clause-adds : goal.returns-then-levels-eq0-clause-adds
+returns-then-levels-eq0-clause-adds g t' c = adds_nothing (g.B.Blocks.state c.args.on.now)
+
+pub returns-then-levels-eq0-clause-changes : goal.returns-then-levels-eq0-clause-changes
+returns-then-levels-eq0-clause-changes g t' c = λ free. adds_changes {t = c.args.tree.now} {s = g.B.Blocks.state c.args.on.now} {u = g.B.Blocks.state c.args.on.now} (adds_nothing (g.B.Blocks.state c.args.on.now)) free
+
+pub returns-then-levels-eq0-clause-again : goal.returns-then-levels-eq0-clause-again
+returns-then-levels-eq0-clause-again g t' c = subst (λ (x : Tree). CanRaise (g.B.Blocks.state c.args.on.now) x) (grown_none c.args.tree.now c.args.levels c.if-levels-eq0.true) c.requires.top
+
+pub returns-then-levels-eq0-clause-bears : goal.returns-then-levels-eq0-clause-bears
+returns-then-levels-eq0-clause-bears g t' c = λ kept some b. subst (λ (x : Tree). Bears (g.B.Blocks.state c.args.on.now) x kept) (grown_none c.args.tree.now c.args.levels c.if-levels-eq0.true) b
+
+pub returns-then-levels-eq0-clause-owns : goal.returns-then-levels-eq0-clause-owns
+returns-then-levels-eq0-clause-owns g t' c = λ told kept some bears b.
+    let s = g.B.Blocks.state c.args.on.now in
+    let same = grown_none c.args.tree.now c.args.levels c.if-levels-eq0.true in (
+      λ has. inl (subst (λ (x : Tree). HasBlock s x b) (sym same) has),
+      λ h. ⊎_elim (λ made. absurd (made.0 made.1)) (λ has. subst (λ (x : Tree). HasBlock s x b) same has) h,
+    )
+
+pub returns-then-levels-eq0-clause-still : goal.returns-then-levels-eq0-clause-still
+returns-then-levels-eq0-clause-still g t' c = λ kept limit o n room was. subst (λ (x : Tree). Prepared (g.B.Blocks.state c.args.on.now) x kept limit o n) (grown_none c.args.tree.now c.args.levels c.if-levels-eq0.true) was
+
+pub returns-then-levels-eq0-clause-clear : goal.returns-then-levels-eq0-clause-clear
+returns-then-levels-eq0-clause-clear g t' c = λ kept some room was. subst (λ (x : Tree). EndsClear (g.B.Blocks.state c.args.on.now) x kept) (grown_none c.args.tree.now c.args.levels c.if-levels-eq0.true) was
+
+pub returns-then-levels-eq0-clause-spare : goal.returns-then-levels-eq0-clause-spare
+returns-then-levels-eq0-clause-spare g t' c = let none = c.if-levels-eq0.true in omega (arith, none)
+
+-- one level after others
+
+pub raise_levels-below-requires : goal.raise_levels-below-requires
+raise_levels-below-requires g t' c =
+    let some = c.if-levels-eq0.false in
+    let level = c.requires.level in
+    let spare = c.requires.spare in
+    λ lifetimes sub. (omega arith, (sub, (c.requires.top, (omega (arith, level), (c.requires.low, omega (arith, spare))))))
+
+pub raise_once-top-requires-clause-top : goal.raise_once-top-requires-clause-top
+raise_once-top-requires-clause-top g t' c = subst (λ (x : Tree). CanRaise (g.B.Blocks.state c.raise_levels-below.new.on) x) (sym c.with_levels-lower.ensures) c.raise_levels-below.ensures.again
+
+pub raise_once-top-requires-clause-level : goal.raise_once-top-requires-clause-level
+raise_once-top-requires-clause-level g t' c =
+    let some = c.if-levels-eq0.false in
+    let level = c.requires.level in
+    subst (λ (x : Tree). x.depth < 4) (sym c.with_levels-lower.ensures) (omega (arith, level, some))
+
+pub raise_once-top-requires-clause-low : goal.raise_once-top-requires-clause-low
+raise_once-top-requires-clause-low g t' c = subst (λ (x : Tree). x.rank < 2 ^ 31) (sym c.with_levels-lower.ensures) c.requires.low
+
+pub raise_once-top-requires-clause-spare : goal.raise_once-top-requires-clause-spare
+raise_once-top-requires-clause-spare g t' c =
+    let some = c.if-levels-eq0.false in
+    let spare = c.requires.spare in
+    let left = c.raise_levels-below.ensures.spare in
+    omega (arith, some, spare, left)
+
+pub returns-clause-top : goal.returns-clause-top
+returns-clause-top g t' c =
+    let on = c.args.on.now in
+    let mid = c.raise_levels-below.new.on in
+    let end = c.raise_once-top.new.on in
+    let s = g.B.Blocks.state on in
+    let m = g.B.Blocks.state mid in
+    let u = g.B.Blocks.state end in
+    let t = c.args.tree.now in
+    let top = c.raise_once-top.result in
+    let lower = grown t (c.args.levels - 1) c.raise_levels-below.result in
+    let e = c.with_levels-lower.ensures in
+    let more = grown_more t c.args.levels top c.raise_levels-below.result (let some = c.if-levels-eq0.false in omega (arith, some)) in
+    let step : Raises (grown t (c.args.levels - 1) c.raise_levels-below.result) top m u = subst (λ (x : Tree). Raises x top m u) e c.raise_once-top.ensures.raises in
+    let x : AddsMore (grown t (c.args.levels - 1) c.raise_levels-below.result) (λ b. t.top ≡ Local b) top s m u = record {
+      first = c.raise_levels-below.ensures.adds;
+      step = step;
+      all = g.met.B.Blocks.keeps_all on mid c.raise_levels-below.ensures.keeps;
+      more = g.met.B.Blocks.keeps_all mid end c.raise_once-top.ensures.keeps;
+      over = over_by c.requires.top c.raise_levels-below.ensures.top;
+      covers_told = g.met.B.Blocks.covers_told end;
+    } in
+    record { same = λ none. let some = c.if-levels-eq0.false in absurd (omega (arith, some, none)); new = λ lt. (top, refl, made_top x, step.is.2) }
+
+pub returns-clause-adds : goal.returns-clause-adds
+returns-clause-adds g t' c =
+    let on = c.args.on.now in
+    let mid = c.raise_levels-below.new.on in
+    let end = c.raise_once-top.new.on in
+    let s = g.B.Blocks.state on in
+    let m = g.B.Blocks.state mid in
+    let u = g.B.Blocks.state end in
+    let t = c.args.tree.now in
+    let top = c.raise_once-top.result in
+    let lower = grown t (c.args.levels - 1) c.raise_levels-below.result in
+    let e = c.with_levels-lower.ensures in
+    let more = grown_more t c.args.levels top c.raise_levels-below.result (let some = c.if-levels-eq0.false in omega (arith, some)) in
+    let step : Raises (grown t (c.args.levels - 1) c.raise_levels-below.result) top m u = subst (λ (x : Tree). Raises x top m u) e c.raise_once-top.ensures.raises in
+    let x : AddsMore (grown t (c.args.levels - 1) c.raise_levels-below.result) (λ b. t.top ≡ Local b) top s m u = record {
+      first = c.raise_levels-below.ensures.adds;
+      step = step;
+      all = g.met.B.Blocks.keeps_all on mid c.raise_levels-below.ensures.keeps;
+      more = g.met.B.Blocks.keeps_all mid end c.raise_once-top.ensures.keeps;
+      over = over_by c.requires.top c.raise_levels-below.ensures.top;
+      covers_told = g.met.B.Blocks.covers_told end;
+    } in
+    added x
+
+pub returns-clause-changes : goal.returns-clause-changes
+returns-clause-changes g t' c = λ free.
+    let on = c.args.on.now in
+    let mid = c.raise_levels-below.new.on in
+    let end = c.raise_once-top.new.on in
+    let s = g.B.Blocks.state on in
+    let m = g.B.Blocks.state mid in
+    let u = g.B.Blocks.state end in
+    let t = c.args.tree.now in
+    let top = c.raise_once-top.result in
+    let lower = grown t (c.args.levels - 1) c.raise_levels-below.result in
+    let e = c.with_levels-lower.ensures in
+    let more = grown_more t c.args.levels top c.raise_levels-below.result (let some = c.if-levels-eq0.false in omega (arith, some)) in
+    let step : Raises (grown t (c.args.levels - 1) c.raise_levels-below.result) top m u = subst (λ (x : Tree). Raises x top m u) e c.raise_once-top.ensures.raises in
+    let x : AddsMore (grown t (c.args.levels - 1) c.raise_levels-below.result) (λ b. t.top ≡ Local b) top s m u = record {
+      first = c.raise_levels-below.ensures.adds;
+      step = step;
+      all = g.met.B.Blocks.keeps_all on mid c.raise_levels-below.ensures.keeps;
+      more = g.met.B.Blocks.keeps_all mid end c.raise_once-top.ensures.keeps;
+      over = over_by c.requires.top c.raise_levels-below.ensures.top;
+      covers_told = g.met.B.Blocks.covers_told end;
+    } in
+    adds_changes {t = t} {s = s} {u = u} (added x) free
+
+pub returns-clause-again : goal.returns-clause-again
+returns-clause-again g t' c =
+    let on = c.args.on.now in
+    let mid = c.raise_levels-below.new.on in
+    let end = c.raise_once-top.new.on in
+    let s = g.B.Blocks.state on in
+    let m = g.B.Blocks.state mid in
+    let u = g.B.Blocks.state end in
+    let t = c.args.tree.now in
+    let top = c.raise_once-top.result in
+    let lower = grown t (c.args.levels - 1) c.raise_levels-below.result in
+    let e = c.with_levels-lower.ensures in
+    let more = grown_more t c.args.levels top c.raise_levels-below.result (let some = c.if-levels-eq0.false in omega (arith, some)) in
+    subst (λ (x : Tree). CanRaise u x) more (subst (λ (x : Tree). CanRaise u (raised x top)) e c.raise_once-top.ensures.again)
+
+pub returns-clause-bears : goal.returns-clause-bears
+returns-clause-bears g t' c = λ kept some b.
+    let on = c.args.on.now in
+    let mid = c.raise_levels-below.new.on in
+    let end = c.raise_once-top.new.on in
+    let s = g.B.Blocks.state on in
+    let m = g.B.Blocks.state mid in
+    let u = g.B.Blocks.state end in
+    let t = c.args.tree.now in
+    let top = c.raise_once-top.result in
+    let lower = grown t (c.args.levels - 1) c.raise_levels-below.result in
+    let e = c.with_levels-lower.ensures in
+    let more = grown_more t c.args.levels top c.raise_levels-below.result (let some = c.if-levels-eq0.false in omega (arith, some)) in
+    subst (λ (x : Tree). Bears u x kept) more ((subst (λ (x : Tree). 0 < x.size → Bears m x kept → Bears u (raised x top) kept) e (c.raise_once-top.ensures.bears kept)) some (c.raise_levels-below.ensures.bears kept some b))
+
+pub returns-clause-owns : goal.returns-clause-owns
+returns-clause-owns g t' c = λ told kept some bears b.
+    let on = c.args.on.now in
+    let mid = c.raise_levels-below.new.on in
+    let end = c.raise_once-top.new.on in
+    let s = g.B.Blocks.state on in
+    let m = g.B.Blocks.state mid in
+    let u = g.B.Blocks.state end in
+    let t = c.args.tree.now in
+    let top = c.raise_once-top.result in
+    let lower = grown t (c.args.levels - 1) c.raise_levels-below.result in
+    let e = c.with_levels-lower.ensures in
+    let more = grown_more t c.args.levels top c.raise_levels-below.result (let some = c.if-levels-eq0.false in omega (arith, some)) in
+    let step : Raises (grown t (c.args.levels - 1) c.raise_levels-below.result) top m u = subst (λ (x : Tree). Raises x top m u) e c.raise_once-top.ensures.raises in
+    let x : AddsMore (grown t (c.args.levels - 1) c.raise_levels-below.result) (λ b. t.top ≡ Local b) top s m u = record {
+      first = c.raise_levels-below.ensures.adds;
+      step = step;
+      all = g.met.B.Blocks.keeps_all on mid c.raise_levels-below.ensures.keeps;
+      more = g.met.B.Blocks.keeps_all mid end c.raise_once-top.ensures.keeps;
+      over = over_by c.requires.top c.raise_levels-below.ensures.top;
+      covers_told = g.met.B.Blocks.covers_told end;
+    } in
+    let under = c.raise_levels-below.ensures.bears kept some bears in
+    let below : SameBelow m u (grown t (c.args.levels - 1) c.raise_levels-below.result) top = (subst (λ (x : Tree). m.tells → Hangs m x → SameBelow m u x top) e c.raise_once-top.ensures.below) (x.all.still_tells.1 told) under.hangs in
+    let first = c.raise_levels-below.ensures.owns told kept some bears b in (
+      λ has. ⊎_elim
+          (λ old. ⊎_elim (λ was. inl was) (λ made. inr (made_on x b made)) (first.0 old))
+          (λ own. inr (subst (λ y. Made s u y) (sym own) (made_top x)))
+          (below.back b (subst (λ (x : Tree). HasBlock u x b) (sym more) has)),
+      λ h. subst (λ (x : Tree). HasBlock u x b) more (⊎_elim
+          (λ made. ⊎_elim
+          (λ old. below.on b (first.1 (inl old)))
+          (λ own. subst (λ y. HasBlock u (raised (grown t (c.args.levels - 1) c.raise_levels-below.result) top) y) (sym own) (owned_top x.more step))
+          (made_back x b made))
+          (λ was. below.on b (first.1 (inr was)))
+          h),
+    )
+
+pub returns-clause-still : goal.returns-clause-still
+returns-clause-still g t' c = λ kept limit o n room was.
+    let on = c.args.on.now in
+    let mid = c.raise_levels-below.new.on in
+    let end = c.raise_once-top.new.on in
+    let s = g.B.Blocks.state on in
+    let m = g.B.Blocks.state mid in
+    let u = g.B.Blocks.state end in
+    let t = c.args.tree.now in
+    let top = c.raise_once-top.result in
+    let lower = grown t (c.args.levels - 1) c.raise_levels-below.result in
+    let e = c.with_levels-lower.ensures in
+    let more = grown_more t c.args.levels top c.raise_levels-below.result (let some = c.if-levels-eq0.false in omega (arith, some)) in
+    subst (λ (x : Tree). Prepared u x kept limit o n) more
+    ((subst (λ (x : Tree). x.size ≤ 8192 * 409 ^ x.depth → Prepared m x kept limit o n → Prepared u (raised x top) kept limit o n) e (c.raise_once-top.ensures.still kept limit o n))
+    (room_more t.size t.depth (c.args.levels - 1) room)
+    (c.raise_levels-below.ensures.still kept limit o n room was))
+
+pub returns-clause-clear : goal.returns-clause-clear
+returns-clause-clear g t' c = λ kept some room was.
+    let on = c.args.on.now in
+    let mid = c.raise_levels-below.new.on in
+    let end = c.raise_once-top.new.on in
+    let s = g.B.Blocks.state on in
+    let m = g.B.Blocks.state mid in
+    let u = g.B.Blocks.state end in
+    let t = c.args.tree.now in
+    let top = c.raise_once-top.result in
+    let lower = grown t (c.args.levels - 1) c.raise_levels-below.result in
+    let e = c.with_levels-lower.ensures in
+    let more = grown_more t c.args.levels top c.raise_levels-below.result (let some = c.if-levels-eq0.false in omega (arith, some)) in
+    subst (λ (x : Tree). EndsClear u x kept) more
+    ((subst (λ (x : Tree). 0 < x.size → x.size ≤ 8192 * 409 ^ x.depth → EndsClear m x kept → EndsClear u (raised x top) kept) e (c.raise_once-top.ensures.clear kept)) some
+    (room_more t.size t.depth (c.args.levels - 1) room)
+    (c.raise_levels-below.ensures.clear kept some room was))
+
+pub returns-clause-spare : goal.returns-clause-spare
+returns-clause-spare g t' c =
+    let on = c.args.on.now in
+    let mid = c.raise_levels-below.new.on in
+    let end = c.raise_once-top.new.on in
+    let s = g.B.Blocks.state on in
+    let m = g.B.Blocks.state mid in
+    let u = g.B.Blocks.state end in
+    let t = c.args.tree.now in
+    let top = c.raise_once-top.result in
+    let lower = grown t (c.args.levels - 1) c.raise_levels-below.result in
+    let e = c.with_levels-lower.ensures in
+    let more = grown_more t c.args.levels top c.raise_levels-below.result (let some = c.if-levels-eq0.false in omega (arith, some)) in
+    let used = c.raise_once-top.ensures.raises.spare in
+    let left = c.raise_levels-below.ensures.spare in
+    let some = c.if-levels-eq0.false in
+    omega (arith, used, left, some)
+
+pub returns-clause-keeps : goal.returns-clause-keeps
+returns-clause-keeps g t' c = g.met.B.Blocks.keeps_joins c.args.on.now c.raise_levels-below.new.on c.raise_once-top.new.on c.raise_levels-below.ensures.keeps c.raise_once-top.ensures.keeps

@@ -1,0 +1,15 @@
+//! Levels are put above the top of a source in a tree, over any blocks.
+//!
+//! Proved, over any blocks and any device: a block is given out one level above the source's top, its first slot leads where the top was,
+//! and all its others lead nowhere. No other block changes, in memory and in every image, and none is to be closed; what hung somewhere
+//! hangs still. The new top stands at its place, is put nowhere yet, and may be raised over again. What was prepared stays so, and what
+//! was clear behind the end; where the device tells each block of the source stands one level further down. An older top is copied first.
+#![tactic(auto)]
+
+mod climb;
+mod hold;
+mod raise;
+
+pub use climb::raise_levels;
+pub use hold::copy_top;
+pub use raise::raise_once;
