@@ -1,0 +1,44 @@
+//! Bytes are put into a leaf.
+ghost use Rattle.std.specs.Prelude.{◌≡◌, ◌≢◌, ◌⊎◌, ◌+◌, ◌*◌, ◌<◌, ◌≤◌, ℕ, length};
+ghost use Rattle.fo_ports.specs.Sources.{Changes, Grows};
+ghost use Rattle.fo_tree_look.specs.Source.{Over, HasBlock, IsPlainTree, WayReady, IsTopCurrent, form_of, leaves_of};
+ghost use Rattle.fo_tree_down.specs.Way.{IsTopOf, with_top};
+ghost use Rattle.fo_tree_clear.specs.Put.{byte_here, Puts, IsInnerOr, LeafPut};
+
+use fo_ports::Blocks;
+use fo_tree_down::{Current, own_way};
+use fo_tree_look::Kept;
+use fo_tree_read::Tree;
+
+/// Puts bytes into leaf `i` from a place in it on, and gives its address and that of the top, which is put nowhere yet where it is new. The
+/// leaf is made current first, with all on the way to it.
+pub fn put_leaf<B: Blocks>(
+    tree: &Tree,
+    kept: &[Kept],
+    on: &mut B,
+    i: u64,
+    from: u32,
+    piece: &[u8],
+) -> Current
+    requires over { (limit : ℕ) × Over (B.state on.old) tree.now kept.now limit }
+    requires plain { IsPlainTree tree.now }
+    requires inside { 8192 * i < tree.now.size }
+    requires part { from + length piece.now ≤ 8192 }
+    requires ready { WayReady (B.state on.old) tree.now kept.now tree.now.depth i }
+    requires spare { (IsTopCurrent (B.state on.old) tree.now × (tree.now.depth ≤ (B.state on.old).spare)) ⊎ (tree.now.depth < (B.state on.old).spare) }
+    ensures put { (generation limit : ℕ) → Over (B.state on.old) tree.now kept.now limit → LeafPut (form_of tree.now generation limit) i result.at from piece.now (B.state on.old) (B.state on.new) (leaves_of (B.state on.old) tree.now kept.now limit) (leaves_of (B.state on.new) (with_top tree.now result.top) kept.now limit) }
+    ensures bytes { (B.state on.old).tells → Puts (byte_here (B.state on.old) tree.now kept.now) (byte_here (B.state on.new) (with_top tree.now result.top) kept.now) (8192 * i + from) piece.now }
+    ensures top { IsTopOf (B.state on.old) (B.state on.new) tree.now result.top }
+    ensures over { (limit : ℕ) → Over (B.state on.old) tree.now kept.now limit → Over (B.state on.new) (with_top tree.now result.top) kept.now limit }
+    ensures grows { (limit : ℕ) → Grows (B.state on.old) (B.state on.new) (leaves_of (B.state on.old) tree.now kept.now limit) (leaves_of (B.state on.new) (with_top tree.now result.top) kept.now limit) }
+    ensures changes { Changes tree.now.tag (HasBlock (B.state on.old) tree.now) (IsInnerOr (B.state on.old) tree.now i) (B.state on.old) (B.state on.new) }
+    ensures spare { (B.state on.old).spare ≤ (B.state on.new).spare + (tree.now.depth + 1) }
+    ensures less { IsTopCurrent (B.state on.old) tree.now → (B.state on.old).spare ≤ (B.state on.new).spare + tree.now.depth }
+    ensures room { (B.state on.new).room ≡ (B.state on.old).room }
+    ensures current { IsTopCurrent (B.state on.new) (with_top tree.now result.top) }
+    ensures keeps { B.keeps on.old on.new }
+{
+    let current = own_way(tree, kept, on, tree.depth, i);
+    on.put_bytes(current.at, from, piece);
+    current
+}
