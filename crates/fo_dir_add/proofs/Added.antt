@@ -1,13 +1,19 @@
 -- The leaf with one record more.
-use Rattle.std.proofs.Common.{◌≡◌, ◌⊎◌, inl, inr, ⊎_elim, ◌+◌, ◌*◌, ◌%◌, ◌<◌, ℕ, List, [], ◌∷◌, ◌++◌, Contains, slice_index_or, refl, sym, ◌∙◌, ap, subst, arith}
+use Rattle.std.proofs.Common.{◌≡◌, ◌⊎◌, inl, inr, ⊎_elim, ◌+◌, ◌*◌, ◌/◌, ◌%◌, ◌<◌, ℕ, List, [], ◌∷◌, ◌++◌, Contains, slice_index_or, refl, sym, ◌∙◌, ap, subst, arith}
 use Rattle.std.proofs.lemmas.List.Elements.{Contains-append_cases}
 use Rattle.fo_image.specs.declared.record.Record.{Record}
 use Rattle.fo_meta.specs.Leaf.{SpellsLeaf}
 use Rattle.fo_good.specs.Reading.{leaf_records}
 use Rattle.fo_good.proofs.Leaf.{leaf_is_read}
 use Rattle.fo_crash.specs.Images.{Image}
+use Rattle.fo_crash.specs.declared.slot.Slot.TheVariants.{Entry as Head}
+use Rattle.fo_good.specs.Trees.{IsFirst, IsSecond}
+use Rattle.fo_image.specs.declared.types.Entry.{Entry}
 use Rattle.fo_dir_put.specs.Names.{ListsIn, AddsOne, MayStand, Clash}
-use Rattle.fo_dir_add.specs.Adds.{IsAlone}
+use Rattle.fo_dir_put.specs.Differ.{Distinct, AreDistinct, MayName}
+use Rattle.fo_dir_put.specs.Paired.{StoodAs, AddsPaired}
+use Rattle.fo_dir_put.proofs.Named.{distinct_more}
+use Rattle.fo_dir_add.specs.Adds.{IsAlone, AddsAlone}
 
 one_is : (x r : Record) → Contains (r ∷ []) x → x ≡ r
 one_is x r h = sym (subst (λ k. slice_index_or (r ∷ []) k x ≡ x) (zero_is h.1) h.2)
@@ -39,3 +45,25 @@ may_stand b rs r old new images was now alone = record {
       (λ is. inr (λ image now_is q two clash. alone.each image now_is q two (subst (λ (y : Record). Clash y q) is clash)))
       (was_or_new rs r old new was now x has);
 }
+
+pub may_name : (leaves : List ℕ) (leaf : ℕ) (rs : List Record) (r : Record) (old new : List ℕ) (images : Image → Type 0) → SpellsLeaf rs old → SpellsLeaf (rs ++ r ∷ []) new → AddsAlone r leaf leaves old images → ((image : Image) → images image → Contains leaves leaf → AreDistinct old) → MayName leaves leaf new old images
+may_name leaves leaf rs r old new images was now alone distinct = record {
+  distinct = λ image is in_leaf. record {
+    are = subst Distinct (sym (leaf_is_read (rs ++ r ∷ []) new now)) (distinct_more rs r (subst Distinct (leaf_is_read rs old was) (distinct image is in_leaf).are)
+        (λ q has clash. alone.here q (subst (λ xs. Contains xs q) (sym (leaf_is_read rs old was)) has) clash));
+  };
+  beside = λ b in_b ne. may_stand b rs r old new images was now (alone.others b in_b ne);
+}
+
+pub adds_paired : (n p e entries m : ℕ) (first second : Entry) (rs : List Record) (r : Record) (old new : List ℕ) → SpellsLeaf rs old → SpellsLeaf (rs ++ r ∷ []) new → p < 102 → r.slot ≡ 102 * m + p → (n ≡ m → e ≡ entries) → IsFirst (Head first) r → IsSecond (Head second) r → AddsPaired n p e entries first second new old
+adds_paired n p e entries m first second rs r old new was now lt slot same one two = record { each = λ x has leaf. by x leaf (was_or_new rs r old new was now x has) }
+  where
+    rest : (s : ℕ) → s ≡ 102 * m + p → s % 102 ≡ p
+    rest s f = omega (arith, f, lt)
+
+    whole : (s : ℕ) → s ≡ 102 * m + p → s / 102 ≡ n → n ≡ m
+    whole s f g = omega (arith, f, g, lt)
+
+    by : (x : Record) → x.slot / 102 ≡ n → Contains (leaf_records old) x ⊎ (x ≡ r) → StoodAs old x ⊎ ((e ≡ entries) × (x.slot % 102 ≡ p) × IsFirst (Head first) x × IsSecond (Head second) x)
+    by x leaf (inl there) = inl (record { before = x; is_one = there; slot = refl; generation = refl; number = refl; dir = refl })
+    by x leaf (inr is) = inr (same (whole r.slot slot (ap (λ (y : Record). y.slot / 102) (sym is) ∙ leaf)), ap (λ (y : Record). y.slot % 102) is ∙ rest r.slot slot, subst (λ (y : Record). IsFirst (Head first) y) (sym is) one, subst (λ (y : Record). IsSecond (Head second) y) (sym is) two)

@@ -1,5 +1,5 @@
 -- A record at the end of a leaf.
-use Rattle.std.specs.Prelude.{◌+◌, ◌<◌, ℕ, List, [], ◌∷◌, ◌++◌, length}
+use Rattle.std.specs.Prelude.{◌≢◌, ◌+◌, ◌<◌, ℕ, List, [], ◌∷◌, ◌++◌, length}
 use Rattle.std.specs.List.{Contains}
 use Rattle.fo_image.specs.declared.record.Record.{Record}
 use Rattle.fo_image.specs.Record.{record_len}
@@ -19,3 +19,8 @@ pub record IsFullFor (r : Record) (old : List ℕ) : Type 0 where
 -- In none of these images another leaf has the record's name, number or pair.
 pub record IsAlone (r : Record) (other : ℕ) (images : Image → Type 0) : Type 0 where
   pub each : (image : Image) → images image → (q : Record) → Contains (leaf_records ((image other).bytes)) q → Clash r q → ⊥
+
+-- The record clashes with none that stood in its leaf, nor with any of the other leaves of the directory in an image.
+pub record AddsAlone (r : Record) (leaf : ℕ) (leaves : List ℕ) (old : List ℕ) (images : Image → Type 0) : Type 0 where
+  pub here : (q : Record) → Contains (leaf_records old) q → Clash q r → ⊥
+  pub others : (b : ℕ) → Contains leaves b → b ≢ leaf → IsAlone r b images

@@ -1,11 +1,14 @@
 //! A record and its pair.
-ghost use Rattle.std.specs.Prelude.{◌≡◌, ◌≢◌, ◌⊎◌, ◌+◌, ◌*◌, ◌<◌, ℕ, true, false};
+ghost use Rattle.std.specs.Prelude.{◌≡◌, ◌≢◌, ◌⊎◌, ◌+◌, ◌*◌, ◌<◌, ℕ, List, true, false};
 ghost use Rattle.fo_image.specs.Record.{RecordHolds};
 ghost use Rattle.fo_crash.specs.declared.slot.Slot.TheVariants.{Entry as Head};
 ghost use Rattle.fo_meta.specs.Leaf.{IsLeaf};
 ghost use Rattle.fo_dir_put.specs.Names.{AllFit, AllApart};
+ghost use Rattle.fo_good.specs.Trees.{IsFirst, IsSecond};
+ghost use Rattle.fo_dir_put.specs.Differ.{AllDiffer};
+ghost use Rattle.fo_dir_put.specs.Paired.{AllPaired};
 ghost use Rattle.fo_dir_put.specs.Puts.{IsOwnedEntries, IsOwnedRecords, IsInPlace, IsUnused, IsNewEntry, StaysCalm};
-ghost use Rattle.fo_dir_add.specs.Adds.{HasAdded, IsFullFor, IsAlone};
+ghost use Rattle.fo_dir_add.specs.Adds.{HasAdded, IsFullFor, IsAlone, AddsAlone};
 
 use fo_dir_put::add_name;
 use fo_image::{Entry, Record};
@@ -38,6 +41,8 @@ pub fn add_record<B: Blocks>(
     ensures full { result ≡ false → IsFullFor named.now (((B.state on.old).now leaf).bytes) × (on.new ≡ on.old) }
     ensures fit { (n : ℕ) → named.now.slot ≡ 102 * n + p → named.now.generation ≡ first.generation → AllFit n leaf entries (B.state on.old).may_leave → AllFit n leaf entries (B.state on.new).may_leave }
     ensures apart { (b : ℕ) → b ≢ leaf → IsAlone named.now b (B.state on.old).may_leave → AllApart leaf b (B.state on.old).may_leave → AllApart leaf b (B.state on.new).may_leave }
+    ensures named { (leaves : List ℕ) → AddsAlone named.now leaf leaves (((B.state on.old).now leaf).bytes) (B.state on.old).may_leave → AllDiffer leaves (B.state on.old).may_leave → AllDiffer leaves (B.state on.new).may_leave }
+    ensures paired { (n a e m : ℕ) → named.now.slot ≡ 102 * m + p → (n ≡ m → e ≡ entries) → IsFirst (Head first) named.now → IsSecond (Head second) named.now → AllPaired n a e (B.state on.old) → AllPaired n a e (B.state on.new) }
     ensures bytes { result ≡ true → (b : ℕ) → b ≢ leaf → ((B.state on.new).now b).bytes ≡ ((B.state on.old).now b).bytes }
     ensures slots { result ≡ true → (b j : ℕ) → (b ≢ entries) ⊎ ((j ≢ 2 * p) × (j ≢ 2 * p + 1)) → ((B.state on.new).now b).slot j ≡ ((B.state on.old).now b).slot j }
     ensures calm { result ≡ true → StaysCalm (B.state on.old) (B.state on.new) }

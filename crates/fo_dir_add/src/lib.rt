@@ -1,8 +1,8 @@
 //! A record is added at the end of a leaf of a directory, with its pair.
 //!
 //! Proved, over any blocks: where the record has no room nothing is changed. Else memory has the record behind the others of its leaf,
-//! and the two entries. In every image each record of the leaf has its first entry in use, if it was so before; and no name, number
-//! or pair stands in two leaves over all images, where no image has the new one's in another leaf.
+//! and the two entries. In every image each record of the leaf has both entries of its pair as it needs them, if it was so before; and
+//! no name, number or pair stands at two places of the directory over all images, where no image has the new one's in another leaf.
 #![tactic(auto)]
 
 mod add;
