@@ -1,3 +1,4 @@
 pub mod Alone
 pub mod Aside
+pub mod Pairing
 pub mod Settled

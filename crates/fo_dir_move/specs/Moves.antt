@@ -1,5 +1,5 @@
 -- What a move of a record asks of the settling in between, and what it leaves.
-use Rattle.std.specs.Prelude.{◌≡◌, ◌≢◌, ◌⊎◌, ◌+◌, ◌<◌, ℕ, List}
+use Rattle.std.specs.Prelude.{◌≡◌, ◌≢◌, ◌⊎◌, ◌+◌, ◌/◌, ◌<◌, ℕ, List}
 use Rattle.std.specs.List.{Contains}
 use Rattle.fo_image.specs.declared.record.Record.{Record}
 use Rattle.fo_good.specs.Reading.{leaf_records}
@@ -9,6 +9,7 @@ use Rattle.fo_crash.specs.Steps.{cleared}
 use Rattle.fo_crash.specs.Names.{IsInUse}
 use Rattle.fo_ports.specs.State.{State, IsDoomed, IsRooted}
 use Rattle.fo_dir_put.specs.Names.{ListsIn, AllFit, AreKept, AllApart, Clash}
+use Rattle.fo_dir_put.specs.Paired.{HasBoth, StoodAs, AllStood}
 use Rattle.fo_dir_put.specs.Puts.{IsHeldEntries, IsOwnedRecords, IsInPlace}
 
 -- Nothing comes in the place of what a settling takes out, and it takes out none of these three blocks, which hang in memory.
@@ -89,3 +90,16 @@ pub record IsSettledBut (leaf : ℕ) (s : State) : Type 0 where
   pub slots : (image : Image) → s.may_leave image → (b j : ℕ) → (image b).slot j ≡ (s.now b).slot j
   pub none : (b j : ℕ) → s.clearing b j → ⊥
   pub sealed : s.tells → (b : ℕ) → Reaches s.now (to_block 1) b → s.sealed b
+
+-- Each record of these bytes stood in those, or has its pair in memory, in the leaf of entries that is waited for.
+pub record BacksBoth (n e entries : ℕ) (bytes others : List ℕ) (s : State) : Type 0 where
+  pub each : (r : Record) → Contains (leaf_records bytes) r → r.slot / 102 ≡ n → StoodAs others r ⊎ ((e ≡ entries) × HasBoth entries s.now r)
+
+-- What is left in the first leaf stood there; what is put into the other, and what is put back, stood there or has its pair. In the leaf
+-- of entries nothing waits to be cleared, and the settling leaves it.
+pub record MovesPaired (n a from to e entries : ℕ) (without with : List ℕ) (s : State) : Type 0 where
+  pub kept : a ≡ from → AllStood n without ((s.now from).bytes)
+  pub put : a ≡ to → BacksBoth n e entries with ((s.now to).bytes) s
+  pub back : a ≡ from → BacksBoth n e entries ((s.now from).bytes) without s
+  pub still : (j : ℕ) → s.clearing e j → ⊥
+  pub stays : s.pinned e ⊎ (IsDoomed s e → ⊥)

@@ -4,8 +4,8 @@
 //! waits for the entries again, since after a settling that failed no wait is known to be left.
 //!
 //! Proved, over any blocks: the call is refused by a fault alone. Where it is granted memory has the two leaves as they were given,
-//! where it is refused as they were. In every image each record of both leaves has its first entry in use, if it was so before; and
-//! no name, number or pair stands in two leaves, over all images. All else stays, but for what was to be closed or waited to be
+//! where it is refused as they were. In every image each record of the directory has both entries of its pair, if it was so before; and
+//! no name, number or pair stands at two places, over all images. All else stays, but for what was to be closed or waited to be
 //! cleared; once the move is granted all is settled but the bytes of the second leaf.
 #![tactic(auto)]
 

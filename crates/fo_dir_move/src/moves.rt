@@ -1,13 +1,16 @@
 //! A record moves to another leaf.
-ghost use Rattle.std.specs.Prelude.{◌≡◌, ◌≢◌, ◌+◌, ◌<◌, ℕ, IfErr, OnOk, OnErr};
+ghost use Rattle.std.specs.Prelude.{◌≡◌, ◌≢◌, ◌+◌, ◌<◌, ℕ, List, IfErr, OnOk, OnErr};
 ghost use Rattle.fo_base.specs.Cause.{Rose};
 ghost use Rattle.fo_crash.specs.Images.{Reaches, to_block};
 ghost use Rattle.fo_crash.specs.Steps.{AddsNothing, AllAre};
 ghost use Rattle.fo_meta.specs.Leaf.{IsLeaf};
 ghost use Rattle.fo_ports.specs.Causes.{Caused};
 ghost use Rattle.fo_ports.specs.State.{Rests, StaysKnown};
+ghost use Rattle.std.specs.List.{Contains};
 ghost use Rattle.fo_dir_put.specs.Names.{AllFit, AllApart};
-ghost use Rattle.fo_dir_move.specs.Moves.{MaySettle, AreReady, KeepsEntries, HasLeaves, MayMove, MovesKeys, MovesAlone, IsSettledBut};
+ghost use Rattle.fo_dir_put.specs.Differ.{AreDistinct, AllDiffer};
+ghost use Rattle.fo_dir_put.specs.Paired.{AllPaired};
+ghost use Rattle.fo_dir_move.specs.Moves.{MaySettle, AreReady, KeepsEntries, HasLeaves, MayMove, MovesKeys, MovesAlone, MovesPaired, IsSettledBut};
 
 use fo_dir_put::{change_leaf, put_record};
 use fo_ports::{BlockError, Blocks};
@@ -58,6 +61,8 @@ pub fn move_name<B: Blocks>(
     ensures fit { (n : ℕ) → MayMove n from to entries without.now with.now (B.state on.old) → AllFit n from entries (B.state on.old).may_leave → AllFit n to entries (B.state on.old).may_leave → AllFit n from entries (B.state on.new).may_leave × AllFit n to entries (B.state on.new).may_leave }
     ensures apart { (b : ℕ) → b ≢ from → b ≢ to → MovesKeys (((B.state on.old).now from).bytes) (((B.state on.old).now to).bytes) without.now with.now → AllApart from b (B.state on.old).may_leave → AllApart to b (B.state on.old).may_leave → AllApart from b (B.state on.new).may_leave × AllApart to b (B.state on.new).may_leave }
     ensures between { MovesKeys (((B.state on.old).now from).bytes) (((B.state on.old).now to).bytes) without.now with.now → AllApart from to (B.state on.old).may_leave → AllApart from to (B.state on.new).may_leave }
+    ensures named { (leaves : List ℕ) → Contains leaves from → Contains leaves to → MovesKeys (((B.state on.old).now from).bytes) (((B.state on.old).now to).bytes) without.now with.now → AreDistinct without.now → AreDistinct with.now → AllDiffer leaves (B.state on.old).may_leave → AllDiffer leaves (B.state on.new).may_leave }
+    ensures paired { (n a e : ℕ) → MovesPaired n a from to e entries without.now with.now (B.state on.old) → AllPaired n a e (B.state on.old) → AllPaired n a e (B.state on.new) }
     ensures alone { MovesAlone from to (B.state on.old) (B.state on.new) }
     ensures ready { AreReady (B.state on.new) from to entries }
     ensures settled { OnOk result (IsSettledBut to (B.state on.new)) }

@@ -1,4 +1,10 @@
-use Rattle.std.proofs.Common.{◌≡◌, ◌≢◌, ◌∙◌, ℕ, List, inl, inr, refl, sym, subst}
+use Rattle.std.proofs.Common.{◌≡◌, ◌≢◌, ◌∙◌, ℕ, List, Contains, inl, inr, ⊎_elim, refl, sym, subst}
+use Rattle.std.proofs.lemmas.Bool.{cases_eq}
+use Rattle.fo_crash.specs.Images.{Image}
+use Rattle.fo_dir_put.specs.Differ.{AreDistinct, AllDiffer}
+use Rattle.fo_dir_put.specs.Paired.{AllPaired, ArePaired}
+use Rattle.fo_dir_put.proofs.Named.{differ_shows}
+use Rattle.fo_dir_move.proofs.Pairing.{slots_over, rests_paired, paired_later}
 use Rattle.fo_dir_put.specs.Names.{AreBacked, MayStand}
 use Rattle.fo_dir_put.proofs.Leaves.{leaf_long}
 use Rattle.fo_dir_put.proofs.Aparts.{others_fit, others_apart, rest_but, nothing_shows, shows_apart, apart_back}
@@ -118,3 +124,67 @@ returns-in-Err-clause-alone g c =
 pub returns-in-Err-clause-ready : goal.returns-in-Err-clause-ready
 returns-in-Err-clause-ready g c =
     ready_after c.args.from c.args.to c.args.entries (g.met.B.Blocks.keeps_all c.settle_between.new.on c.put_record-in-Err.new.on c.put_record-in-Err.ensures.keeps) c.put_record-in-Err.ensures.calm c.put_record-in-Err.ensures.puts (leaf_long c.requires.back.0) c.settle_between.ensures.ready
+
+pub returns-in-Ok-clause-named : goal.returns-in-Ok-clause-named
+returns-in-Ok-clause-named g c = λ leaves in_from in_to keys first second all.
+    let u = g.B.Blocks.state c.settle_between.new.on in
+    let differ : c.args.to ≢ c.args.from = λ e. c.requires.differ (sym e) in
+    let images = c.settle_between.ensures.images in
+    let rest = c.change_leaf.ensures.others in
+    let same = c.settle_between.ensures.leaves.to_is ∙ c.change_leaf.ensures.puts.others c.args.to differ in
+    let left = c.settle_between.ensures.leaves.from_is ∙ c.change_leaf.ensures.puts.here in
+    let mid : AllDiffer leaves u.may_leave = differ_shows (nothing_shows images) (c.change_leaf.ensures.named leaves (record { distinct = λ image is h. first; beside = λ b in_b ne. kept_stands keys }) all) in
+    let stands : (b : ℕ) → Contains leaves b → MayStand b c.args.with.now ((g.B.Blocks.state c.args.on.now).now c.args.to).bytes u.may_leave = λ b in_b. ⊎_elim
+    (λ e. subst (λ x. MayStand x c.args.with.now ((g.B.Blocks.state c.args.on.now).now c.args.to).bytes u.may_leave) (sym e) (settled_stands c.in-Ok.ensures.all left keys))
+    (λ ne. moved_stands (all.between c.args.from b in_from in_b (λ e. ne (sym e))) (λ image is. g.met.B.Blocks.present c.args.on.now (g.met.B.Blocks.told c.args.on.now image is)) rest images ne keys)
+    (cases_eq b c.args.from) in
+    c.put_record.ensures.named leaves (record { distinct = λ image is h. second; beside = λ b in_b ne. subst (λ xs. MayStand b c.args.with.now xs u.may_leave) (sym same) (stands b in_b) }) mid
+
+pub returns-in-Err-clause-named : goal.returns-in-Err-clause-named
+returns-in-Err-clause-named g c = λ leaves in_from in_to keys first second all.
+    let o = g.B.Blocks.state c.args.on.now in
+    let u = g.B.Blocks.state c.settle_between.new.on in
+    let images = c.settle_between.ensures.images in
+    let rest = c.change_leaf.ensures.others in
+    let present : (image : Image) → o.may_leave image → o.may_leave o.now = λ image is. g.met.B.Blocks.present c.args.on.now (g.met.B.Blocks.told c.args.on.now image is) in
+    let mid : AllDiffer leaves u.may_leave = differ_shows (nothing_shows images) (c.change_leaf.ensures.named leaves (record { distinct = λ image is h. first; beside = λ b in_b ne. kept_stands keys }) all) in
+    let distinct : (image : Image) → u.may_leave image → AreDistinct c.args.back.now = λ image is.
+    let h = rest.each image (images.each image is) in subst AreDistinct (sym c.requires.back.1) (all.within c.args.from in_from o.now (present h.0 h.1)) in
+    let stands : (b : ℕ) → Contains leaves b → b ≢ c.args.from → MayStand b c.args.back.now ((u.now c.args.from).bytes) u.may_leave = λ b in_b ne.
+    subst (λ xs. MayStand b xs ((u.now c.args.from).bytes) u.may_leave) (sym c.requires.back.1) (back_stands {left = (u.now c.args.from).bytes} (all.between c.args.from b in_from in_b (λ e. ne (sym e))) present rest images ne) in
+    c.put_record-in-Err.ensures.named leaves (record { distinct = λ image is h. distinct image is; beside = stands }) mid
+
+pub returns-in-Ok-clause-paired : goal.returns-in-Ok-clause-paired
+returns-in-Ok-clause-paired g c = λ n a e may all.
+    let b = c.args.on.now in
+    let o = g.B.Blocks.state b in
+    let t = g.B.Blocks.state c.change_leaf.new.on in
+    let u = g.B.Blocks.state c.settle_between.new.on in
+    let s = c.settle_between.ensures in
+    let k = c.change_leaf.ensures in
+    let keeps = g.met.B.Blocks.keeps_all b c.change_leaf.new.on k.keeps in
+    let differ : c.args.to ≢ c.args.from = λ e. c.requires.differ (sym e) in
+    let told : (image : Image) → u.may_leave image → o.tells = λ image is. keeps.still_tells.0 (g.met.B.Blocks.told c.change_leaf.new.on image (s.images.each image is)) in
+    let one : AllPaired n a e t = k.paired n a e may.kept all in
+    let two : AllPaired n a e u = rests_paired {a = t} {m = u} s.images (λ image is j. slots_over {o = o} {a = t} {m = u} e keeps k.calm k.puts s.rests s.known may.still may.stays (told image is) j) one in
+    let same = s.leaves.to_is ∙ k.puts.others c.args.to differ in
+    let still : (j : ℕ) → e ≡ c.args.entries → t.clearing c.args.entries j → ⊥ = λ j f h. may.still j (subst (λ x. o.clearing x j) (sym f) (k.calm.order.clearing c.args.entries j h).1) in
+    let slots : (j : ℕ) → e ≡ c.args.entries → (u.now c.args.entries).slot j ≡ (o.now c.args.entries).slot j = λ j f. (s.entries.each j (still j f)).0 ∙ k.puts.slots c.args.entries j in
+    c.put_record.ensures.paired n a e (λ is. paired_later {o = o} {m = u} (may.put is) same slots (λ j f h. still j f (s.rests.order c.args.entries j h))) two
+
+pub returns-in-Err-clause-paired : goal.returns-in-Err-clause-paired
+returns-in-Err-clause-paired g c = λ n a e may all.
+    let b = c.args.on.now in
+    let o = g.B.Blocks.state b in
+    let t = g.B.Blocks.state c.change_leaf.new.on in
+    let u = g.B.Blocks.state c.settle_between.new.on in
+    let s = c.settle_between.ensures in
+    let k = c.change_leaf.ensures in
+    let keeps = g.met.B.Blocks.keeps_all b c.change_leaf.new.on k.keeps in
+    let told : (image : Image) → u.may_leave image → o.tells = λ image is. keeps.still_tells.0 (g.met.B.Blocks.told c.change_leaf.new.on image (s.images.each image is)) in
+    let one : AllPaired n a e t = k.paired n a e may.kept all in
+    let two : AllPaired n a e u = rests_paired {a = t} {m = u} s.images (λ image is j. slots_over {o = o} {a = t} {m = u} e keeps k.calm k.puts s.rests s.known may.still may.stays (told image is) j) one in
+    let left = s.leaves.from_is ∙ k.puts.here in
+    let still : (j : ℕ) → e ≡ c.args.entries → t.clearing c.args.entries j → ⊥ = λ j f h. may.still j (subst (λ x. o.clearing x j) (sym f) (k.calm.order.clearing c.args.entries j h).1) in
+    let slots : (j : ℕ) → e ≡ c.args.entries → (u.now c.args.entries).slot j ≡ (o.now c.args.entries).slot j = λ j f. (s.entries.each j (still j f)).0 ∙ k.puts.slots c.args.entries j in
+    c.put_record-in-Err.ensures.paired n a e (λ is. subst (λ xs. ArePaired n c.args.from e c.args.entries xs u) (sym c.requires.back.1) (paired_later {o = o} {m = u} (may.back is) left slots (λ j f h. still j f (s.rests.order c.args.entries j h)))) two
