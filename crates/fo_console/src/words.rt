@@ -12,10 +12,10 @@ use itoa::Buffer;
 use std::alloc::{AllocError, Global};
 
 /// The words of a line: its parts round each space.
-pub fn words<'a>(alloc: Global, line: &'a str) -> Result<Vec<&'a str>, AllocError>
+pub fn words<'a>(alloc: Global, line: &'a str) -> Result<Vec<&'a str>, Memory>
     ensures { IfOk result (λ v. map (λ x. x.now) v.items ≡ parts_at 32 line.now) }
 {
-    line.split(' ').collect(alloc)
+    Ok(line.split(' ').collect(alloc)?)
 }
 
 /// Whether no text is empty.

@@ -1,6 +1,5 @@
 //! Why no table of users was read.
 use fo_base::Memory;
-use std::alloc::{AllocError, AllocFailed};
 use thiserror::Error;
 
 /// Why no table of users was read.
@@ -20,28 +19,6 @@ impl From<Memory> for UsersError {
     ghost from_gives = { λ _ e. e ≡ NoMemory };
 
     fn from(_: Memory) -> UsersError {
-        UsersError::Memory
-    }
-}
-
-impl From<AllocError> for UsersError {
-    ghost use Rattle.std.specs.Prelude.{◌≡◌};
-    ghost use Rattle.fo_users.specs.declared.error.UsersError.TheVariants.{Memory as NoMemory};
-
-    ghost from_gives = { λ _ e. e ≡ NoMemory };
-
-    fn from(_: AllocError) -> UsersError {
-        UsersError::Memory
-    }
-}
-
-impl<T: Drop> From<AllocFailed<T>> for UsersError {
-    ghost use Rattle.std.specs.Prelude.{◌≡◌};
-    ghost use Rattle.fo_users.specs.declared.error.UsersError.TheVariants.{Memory as NoMemory};
-
-    ghost from_gives = { λ _ e. e ≡ NoMemory };
-
-    fn from(_: AllocFailed<T>) -> UsersError {
         UsersError::Memory
     }
 }

@@ -1,5 +1,5 @@
 //! Tables of users read.
-ghost use Rattle.std.specs.Prelude.{◌≡◌, ℕ, List, map, not, ◌||◌, IfOk, OnOk, MatchResult};
+ghost use Rattle.std.specs.Prelude.{◌≡◌, ◌++◌, ◌∷◌, [], ℕ, List, map, not, ◌||◌, IfOk, OnOk, MatchResult};
 ghost use Rattle.std.specs.List.{list_all};
 ghost use Rattle.std.specs.Str.{bytes_eq};
 ghost use Rattle.fo_users.specs.Seen.{was_seen};
@@ -13,14 +13,14 @@ use crate::error::UsersError;
 use crate::table::{Members, User, Users, is_known};
 use fo_base::Memory;
 use fo_world::Name;
-use std::alloc::{AllocError, Global};
+use std::alloc::Global;
 use std::collections::BTreeSet;
 
 /// The parts of the bytes round a separator.
-fn parts<'a>(alloc: Global, bytes: &'a [u8], separator: u8) -> Result<Vec<&'a [u8]>, AllocError>
+fn parts<'a>(alloc: Global, bytes: &'a [u8], separator: u8) -> Result<Vec<&'a [u8]>, Memory>
     ensures { IfOk result (λ v. map (λ x. x.now) v.items ≡ parts_at separator bytes.now) }
 {
-    bytes.split(move |b| *b == separator).collect(alloc)
+    Ok(bytes.split(move |b| *b == separator).collect(alloc)?)
 }
 
 /// The members that a field names.
@@ -113,6 +113,14 @@ fn read_line(alloc: Global, bytes: &[u8]) -> Result<User, UsersError>
     Ok(user)
 }
 
+/// Adds a user behind the others.
+fn add(users: &mut Vec<User>, user: User) -> Result<(), Memory>
+    ensures { OnOk result (users.new.items ≡ users.old.items ++ user ∷ []) }
+{
+    users.push(user)?;
+    Ok(())
+}
+
 /// The users whose lines stand round the newlines.
 fn read_lines(alloc: Global, bytes: &[u8]) -> Result<Vec<User>, UsersError>
     ensures found { IfOk result (λ v. SpellsLines (parts_at 10 bytes.now) v.items) }
@@ -121,13 +129,13 @@ fn read_lines(alloc: Global, bytes: &[u8]) -> Result<Vec<User>, UsersError>
     let texts = parts(alloc, bytes, b'\n')?;
     let mut users = Vec::new(alloc);
     for text in texts.iter() {
-        users.push(read_line(alloc, text)?)?;
+        add(&mut users, read_line(alloc, text)?)?;
     }
     Ok(users)
 }
 
 /// Puts a name among those that were seen, and says whether it is new.
-fn is_new<'a>(seen: &mut BTreeSet<&'a [u8]>, name: &'a [u8]) -> Result<bool, AllocError>
+fn is_new<'a>(seen: &mut BTreeSet<&'a [u8]>, name: &'a [u8]) -> Result<bool, Memory>
     ensures answer { IfOk result (λ new. new ≡ not (was_seen seen.old name.now)) }
     ensures seen { OnOk result ((q : List ℕ) → was_seen seen.new q ≡ (bytes_eq name.now q || was_seen seen.old q)) }
 {
@@ -135,7 +143,7 @@ fn is_new<'a>(seen: &mut BTreeSet<&'a [u8]>, name: &'a [u8]) -> Result<bool, All
 }
 
 /// Whether ids differ, and names.
-fn all_differ(alloc: Global, lines: &[User]) -> Result<bool, AllocError>
+fn all_differ(alloc: Global, lines: &[User]) -> Result<bool, Memory>
     ensures { IfOk result (λ b. b ≡ all_differ lines.now) }
 {
     let mut ids = BTreeSet::new(alloc);
@@ -177,7 +185,7 @@ fn all_names_known(lines: &[User]) -> bool
 }
 
 /// Whether the lines make up a table.
-fn is_table(alloc: Global, lines: &[User]) -> Result<bool, AllocError>
+fn is_table(alloc: Global, lines: &[User]) -> Result<bool, Memory>
     ensures { IfOk result (λ b. b ≡ is_table lines.now) }
 {
     let apart = all_differ(alloc, lines)?;

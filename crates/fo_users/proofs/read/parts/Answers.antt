@@ -5,4 +5,5 @@ use Rattle.fo_users.proofs.read.parts.Goals as goal
 
 pub returns : goal.returns
 returns c =
-    map_from_collect _ c.collect.ensures.ran (YieldsList-from_slice_split _ (λ b. b == c.args.separator) c.args.bytes.now c.split.ensures.rest c.split.ensures.done c.split.ensures.closure (λ x r q k. search (rules, tests)))
+    rw c.in_ok-collect.was at
+    (map_from_collect _ c.collect.ensures.ran (YieldsList-from_slice_split _ (λ b. b == c.args.separator) c.args.bytes.now c.split.ensures.rest c.split.ensures.done c.split.ensures.closure (λ x r q k. search (rules, tests))))

@@ -16,7 +16,7 @@ loop-text-preserved c =
     let user = c.in_ok-read_line.field-0 in
     let at = c.loop-text.text-index in
     record {
-      found = rw c.in_ok-push.ensures.items (lines_next texts at _ c.loop-text.users.items user c.loop-text-test.true c.loop-text.invariant.found c.in_ok-read_line.ensures.found);
+      found = rw c.in_ok-add.ensures (lines_next texts at _ c.loop-text.users.items user c.loop-text-test.true c.loop-text.invariant.found c.in_ok-read_line.ensures.found);
       only = λ us s.
-          c.in_ok-push.ensures.items ∙ users_next texts at _ c.loop-text.users.items us user c.loop-text-test.true s (c.loop-text.invariant.only us s) c.in_ok-read_line.ensures.only;
+          c.in_ok-add.ensures ∙ users_next texts at _ c.loop-text.users.items us user c.loop-text-test.true s (c.loop-text.invariant.only us s) c.in_ok-read_line.ensures.only;
     }
