@@ -51,5 +51,5 @@ grown t levels top = record t { depth = t.depth + levels; top = top }
 
 -- So many levels were put above the top: it is the last block that was given out, and put nowhere yet.
 pub record IsTopAfter (s u : State) (t : Tree) (levels : ℕ) (top : Pointer) : Type 0 where
-  pub same : levels ≡ 0 → top ≡ t.top
+  pub same : levels ≡ 0 → (top ≡ t.top) × ((b : ℕ) → s.apart b → u.apart b)
   pub new : 0 < levels → (b : ℕ) × (top ≡ Local b) × Made s u b × u.apart b

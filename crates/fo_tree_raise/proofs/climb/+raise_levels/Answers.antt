@@ -14,16 +14,19 @@ use Rattle.fo_tree_raise.specs.Levels.{Adds, IsTopAfter, grown}
 use Rattle.fo_tree_read.specs.Tree.{Hangs}
 use Rattle.fo_tree_raise.proofs.Levels.{owned_top}
 use Rattle.fo_tree_raise.proofs.Adding.{AddsMore, adds_nothing, adds_changes, added, made_top, made_back, made_on}
-use Rattle.fo_tree_raise.proofs.Climbing.{grown_none, grown_more, room_more, over_by}
+use Rattle.fo_tree_raise.proofs.Climbing.{local_eq, grown_none, grown_more, room_more, over_by, stead_by}
 use Rattle.fo_tree_raise.proofs.climb.+raise_levels.Goals as goal
 
 -- no level
 
 pub returns-then-levels-eq0-clause-top : goal.returns-then-levels-eq0-clause-top
-returns-then-levels-eq0-clause-top g t' c = record { same = λ e. refl; new = λ lt. let none = c.if-levels-eq0.true in absurd (omega (arith, lt, none)) }
+returns-then-levels-eq0-clause-top g t' c = record { same = λ e. (refl, λ b h. h); new = λ lt. let none = c.if-levels-eq0.true in absurd (omega (arith, lt, none)) }
 
 pub returns-then-levels-eq0-clause-adds : goal.returns-then-levels-eq0-clause-adds
 returns-then-levels-eq0-clause-adds g t' c = adds_nothing (g.B.Blocks.state c.args.on.now)
+
+pub returns-then-levels-eq0-clause-instead : goal.returns-then-levels-eq0-clause-instead
+returns-then-levels-eq0-clause-instead g t' c = λ b top at is apart e h. subst (λ z. (g.B.Blocks.state c.args.on.now).instead z at) (local_eq (sym e ∙ is)) h
 
 pub returns-then-levels-eq0-clause-changes : goal.returns-then-levels-eq0-clause-changes
 returns-then-levels-eq0-clause-changes g t' c = λ free. adds_changes {t = c.args.tree.now} {s = g.B.Blocks.state c.args.on.now} {u = g.B.Blocks.state c.args.on.now} (adds_nothing (g.B.Blocks.state c.args.on.now)) free
@@ -126,6 +129,23 @@ returns-clause-adds g t' c =
       covers_told = g.met.B.Blocks.covers_told end;
     } in
     added x
+
+pub returns-clause-instead : goal.returns-clause-instead
+returns-clause-instead g t' c = λ b y at is apart named h.
+    let on = c.args.on.now in
+    let mid = c.raise_levels-below.new.on in
+    let end = c.raise_once-top.new.on in
+    let s = g.B.Blocks.state on in
+    let m = g.B.Blocks.state mid in
+    let u = g.B.Blocks.state end in
+    let t = c.args.tree.now in
+    let top = c.raise_once-top.result in
+    let lower = grown t (c.args.levels - 1) c.raise_levels-below.result in
+    let e = c.with_levels-lower.ensures in
+    let more = grown_more t c.args.levels top c.raise_levels-below.result (let some = c.if-levels-eq0.false in omega (arith, some)) in
+    let step : Raises (grown t (c.args.levels - 1) c.raise_levels-below.result) top m u = subst (λ (x : Tree). Raises x top m u) e c.raise_once-top.ensures.raises in
+    let here : top ≡ y = local_eq named in
+    stead_by c.raise_levels-below.ensures.top step b is apart (λ d x f was. c.raise_levels-below.ensures.instead b d x is apart f was) at (subst (λ z. u.instead z at) (sym here) h)
 
 pub returns-clause-changes : goal.returns-clause-changes
 returns-clause-changes g t' c = λ free.
