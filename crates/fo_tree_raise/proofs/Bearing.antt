@@ -14,7 +14,7 @@ use Rattle.fo_tree_read.specs.Tree.{kind_at, block_at, Hangs}
 use Rattle.fo_tree_look.specs.declared.ways.Kept.{Kept}
 use Rattle.fo_tree_look.specs.Source.{HasBlock, IsTold, NoneHeld, Over}
 use Rattle.fo_tree_look.proofs.Shown.{held_on}
-use Rattle.fo_tree_raise.specs.Raise.{Raises, raised, IsBorne, Bears}
+use Rattle.fo_tree_raise.specs.Raise.{Raises, CanRaise, raised, IsBorne, Bears}
 use Rattle.fo_tree_raise.proofs.Levels.{index_of, index_few, index_same, block_raised, block_none, owned_back}
 
 local_eq : {a b : ℕ} → Local a ≡ Local b → a ≡ b
@@ -36,12 +36,12 @@ over_of {s = s} {t = t} least within low free b = record {
   within = within;
   low = low;
   empty = b.empty;
-  told = λ told at has. let is = b.told told at has in record { live = is.live; up_to = is.up_to; uncovered = is.uncovered; in_tree = is.in_tree; hung = is.hung; alone = λ y h. free told at y has (is.alone y h) h };
+  told = λ told at has. let is = b.told told at has in record { live = is.live; up_to = is.up_to; uncovered = is.uncovered; in_tree = is.in_tree; hung = is.hung; alone = λ y h. free told at y has (is.alone y h).0 h };
   unheld = b.unheld;
   held = b.held;
 }
 
-module _ {t : Tree} {top : ℕ} {s u : State} (all : KeepsAll s u) (x : Raises t top s u) (kept : List Kept) (b : Bears s t kept) where
+module _ {t : Tree} {top : ℕ} {s u : State} (all : KeepsAll s u) (x : Raises t top s u) (can : CanRaise s t) (kept : List Kept) (b : Bears s t kept) where
   borne_top : u.tells → IsBorne u (raised t top) top
   borne_top now =
       let own = x.own in
@@ -56,6 +56,15 @@ module _ {t : Tree} {top : ℕ} {s u : State} (all : KeepsAll s u) (x : Raises t
         alone = λ y h. absurd (told.alone y h);
       }
 
+  -- what the new top comes in the place of was current
+  over_current : s.tells → (at : ℕ) → u.instead top at → IsBorne s t at → (s.label at).epoch ≡ s.high
+  over_current told at h is =
+      let r = x.raises at h in
+      ⊎_elim
+      (λ here. subst (λ y. (s.label y).epoch ≡ s.high) here.0 (can.under r.0 r.1).current)
+      (λ was. (is.alone r.0 was).1)
+      r.2
+
   borne_on : s.tells → (at : ℕ) → at ≢ top → IsBorne s t at → IsBorne u (raised t top) at
   borne_on told at ne is =
       let same = x.labels at ne in
@@ -69,8 +78,8 @@ module _ {t : Tree} {top : ℕ} {s u : State} (all : KeepsAll s u) (x : Raises t
         in_tree = λ older. (x.reached told at).0 (is.in_tree (omega (arith, epoch, high, older)));
         hung = x.hung told at is.hung;
         alone = λ y h. ⊎_elim
-            (λ e. ap (λ z. Local z) (sym e))
-            (λ away. absurd ((x.put y (is.alone y (x.instead y at away h))).1 at h))
+            (λ e. (ap (λ z. Local z) (sym e), epoch ∙ over_current told at (subst (λ z. u.instead z at) e h) is ∙ sym high))
+            (λ away. absurd ((x.put y (is.alone y (x.instead y at away h)).0).1 at h))
             (cases_eq y top);
       }
 

@@ -91,14 +91,14 @@ pub record EndsClear (s : State) (t : Tree) (kept : List Kept) : Type 0 where
   pub behind : 0 < t.size → (n a b : ℕ) → IsWayIndex t.depth (last_leaf t.size) n a → a < b → b < 409 ^ n → block_at (seen s kept) t n b ≡ Nil
 
 -- What a device that tells has of a block of a source. No block was made to come in its place but the source's own top, where that was
--- raised over it.
+-- raised over it, which is a current one.
 pub record IsBorne (s : State) (t : Tree) (at : ℕ) : Type 0 where
   pub live : (s.label at).state ≡ Live
   pub up_to : (s.label at).epoch ≤ s.high
   pub uncovered : s.covered at → ⊥
   pub in_tree : (s.label at).epoch < s.high → Reaches s.now (to_block 1) at
   pub hung : IsHung s at
-  pub alone : (y : ℕ) → s.instead y at → t.top ≡ Local y
+  pub alone : (y : ℕ) → s.instead y at → (t.top ≡ Local y) × ((s.label at).epoch ≡ s.high)
 
 -- A source stands over these blocks, with as many levels as its size asks for, or more.
 pub record Bears (s : State) (t : Tree) (kept : List Kept) : Type 0 where
