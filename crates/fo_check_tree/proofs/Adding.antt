@@ -17,6 +17,7 @@ use Rattle.fo_image.specs.declared.types.Kind.TheVariants.{Data, Dir, Root}
 use Rattle.fo_image.specs.declared.types.Label.{Label}
 use Rattle.fo_crash.specs.Images.{Content, Image}
 use Rattle.fo_good.specs.Means.{HasPointer}
+use Rattle.fo_meta.specs.Leaf.{IsLeaf}
 use Rattle.fo_sound.specs.Image.{block_of}
 use Rattle.fo_check_tree.specs.declared.labels.Labels.{Labels}
 use Rattle.fo_check_tree.specs.declared.walk.Holder.{Holder}
@@ -92,9 +93,10 @@ pub reaches_by : {A E : Type 0} (r : Result A E) (device : List Block) (image : 
     → OnOk r (NotesAt at old.noted new.noted)
     → OnOk r (Reads step.kind (image at) (block_of device at) new.noted)
     → OnOk r (Adds step at (block_of device at) step.kind old.named.items new.named.items)
+    → (step.kind ≡ Data 0 → step.holds ≡ Records → OnOk r (5 < level new.noted → IsLeaf (block_of device at)))
     → OnOk r (Reaches device image depth named step at old new)
-reaches_by (Ok x) device image depth named step at old new label marked allowed marks same pushed put notes read adds = enters label allowed (subst (λ (l : Labels). Marks at old.labels.known.items l.known.items) (sym same) marks) pushed put notes read adds
-reaches_by (Err e) device image depth named step at old new label marked allowed marks same pushed put notes read adds = same
+reaches_by (Ok x) device image depth named step at old new label marked allowed marks same pushed put notes read adds leafs = enters label allowed (subst (λ (l : Labels). Marks at old.labels.known.items l.known.items) (sym same) marks) pushed put notes read adds leafs
+reaches_by (Err e) device image depth named step at old new label marked allowed marks same pushed put notes read adds leafs = same
 
 -- ---- what a block says by itself
 
@@ -138,3 +140,17 @@ bytes_records e = cc
 -- A leaf of a file's bytes has no records.
 pub file_names : (step : Step) (at : ℕ) (bytes : Block) (old new : List Named) (kind : Kind) → kind ≡ Data zero → step.holds ≡ Bytes → new ≡ old → Adds step at bytes kind old new
 file_names step at bytes old new kind is holds same = subst (λ (k : Kind). Adds step at bytes k old new) (sym is) (none_added same (λ records leaf. absurd (bytes_records (sym holds ∙ records))))
+
+-- ---- which kind it is not
+
+data_is : {a b : ℕ} → Data a ≡ Data b → a ≡ b
+data_is e = cc
+
+pub not_leaf_data : (level : ℕ) (kind : Kind) → kind ≡ Data level → 0 < level → kind ≡ Data 0 → ⊥
+not_leaf_data level kind is some leaf = omega (arith, some, data_is (sym is ∙ leaf))
+
+pub not_leaf_dir : (level : ℕ) (kind : Kind) → kind ≡ Dir level → kind ≡ Data 0 → ⊥
+not_leaf_dir level kind is leaf = let e : Dir level ≡ Data 0 = sym is ∙ leaf in cc
+
+pub not_leaf_root : (kind : Kind) → kind ≡ Root → kind ≡ Data 0 → ⊥
+not_leaf_root kind is leaf = let e : Root ≡ Data 0 = sym is ∙ leaf in cc

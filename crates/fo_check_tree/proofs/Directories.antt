@@ -1,5 +1,5 @@
 -- The directories of a tree, once nothing is left to be followed: no name stands twice in any.
-use Rattle.std.proofs.Common.{◌≡◌, ◌⊎◌, ⊎_elim, inl, inr, ℕ, zero, suc, ◌+◌, ◌*◌, ◌/◌, ◌%◌, ◌<◌, ◌≤◌, Bool, true, false, List, [], ◌∷◌, ◌++◌, Option, refl, sym, ap, ◌∙◌, subst, arith}
+use Rattle.std.proofs.Common.{◌≡◌, ◌⊎◌, ⊎_elim, inl, inr, ℕ, zero, suc, ◌+◌, ◌*◌, ◌/◌, ◌%◌, ◌<◌, ◌≤◌, Bool, true, false, List, [], ◌∷◌, ◌++◌, append_assoc, Option, refl, sym, ap, ◌∙◌, subst, arith}
 use Rattle.std.specs.Prelude.{cond, MatchOption}
 use Rattle.fo_disk.specs.Disk.{Block}
 use Rattle.fo_image.specs.declared.types.Kind.{Kind}
@@ -15,7 +15,7 @@ use Rattle.fo_crash.specs.declared.slot.Slot.TheVariants.{Pointer as To, Entry a
 use Rattle.fo_crash.specs.Images.{Content, Image, Arena, Link, target, meant, found, step, goes, way, leaf_path, depth_of, entry_of, from_block, kind_below, kind_of_top, nothing}
 use Rattle.fo_crash.proofs.Places.{goes_way}
 use Rattle.fo_sound.specs.Sound.{HasRootEntries}
-use Rattle.fo_good.specs.Trees.{IsTree, IsEntries, IsRecords, InTree, HasRecords, LeadsTo, at_path}
+use Rattle.fo_good.specs.Trees.{IsTree, IsEntries, IsRecords, HoldsEntries, NamesRecords, InTree, HasRecords, HasLeaves, LeadsTo, at_path}
 use Rattle.fo_good.specs.Trees.InTree.{top as tree_top, below as tree_below}
 use Rattle.fo_good.specs.Trees.HasRecords.{top as root_records, pair as pair_records}
 use Rattle.fo_good.specs.Sound.{Kept}
@@ -25,7 +25,9 @@ use Rattle.fo_check_tree.specs.declared.tree.Found.{Found}
 use Rattle.fo_check_tree.specs.declared.walk.Folder.{Folder}
 use Rattle.fo_check_tree.specs.declared.walk.Step.{Step}
 use Rattle.fo_check_tree.specs.declared.walk.Walk.{Walk}
-use Rattle.fo_check_tree.specs.Answer.{HasOwnNames, HasNames, HoldsAny, IsNamed, IsWalked}
+use Rattle.fo_meta.specs.Leaf.{IsLeaf}
+use Rattle.fo_check_tree.specs.Formats.{IsRecordsWay, IsFormed, AreFormed}
+use Rattle.fo_check_tree.specs.Answer.{HasOwnNames, HoldsAny, IsNamed, IsWalked}
 use Rattle.fo_check_tree.specs.Dirs.{link_at, IsJudged, HasMeta, AreJudged}
 use Rattle.fo_check_tree.specs.Listing.{SomeOf}
 use Rattle.fo_check_tree.specs.Lower.{level, JudgesRoot}
@@ -92,9 +94,22 @@ module _ (arena : Arena) (image : Image) (empty : (kind : Kind) (score : Score) 
       by (Held x) e = absurd (lose (found arena image w) refl (ap (λ (p : Pointer). meant arena image w.kind p) e ∙ empty w.kind x))
       by (Local a) e = (a, e)
 
+  -- the same of an entry of records
+  block_of_records : (w : Link) (i : ℕ) → IsRecords ((found arena image w).slot i) → (at : ℕ) × (target w.slot ≡ Local at)
+  block_of_records w i h = by (target w.slot) refl
+    where
+      lose : (c : Content) → found arena image w ≡ c → c ≡ nothing → ⊥
+      lose c is none' = subst (λ (x : Content). IsRecords (x.slot i)) (is ∙ none') h
+
+      by : (p : Pointer) → target w.slot ≡ p → (at : ℕ) × (target w.slot ≡ Local at)
+      by Nil e = absurd (lose (found arena image w) refl (ap (λ (p : Pointer). meant arena image w.kind p) e))
+      by (Held x) e = absurd (lose (found arena image w) refl (ap (λ (p : Pointer). meant arena image w.kind p) e ∙ empty w.kind x))
+      by (Local a) e = (a, e)
+
 module _ (arena : Arena) (device : List Block) (image : Image) (s : Super) (k : Kept) (holds : HoldsAny arena device image s k) (walk : Walk) (n : ℕ → ℕ → ℕ)
     (g : Goes arena device image s k walk.labels.known.items walk.noted n) (none : (b j : ℕ) → n b j ≡ 0)
-    (judged : JudgesRoot k.root walk.noted) (no_folders : walk.folders.items ≡ []) (j : AreJudged arena image k [] walk)
+    (judged : JudgesRoot k.root walk.noted) (no_steps : walk.steps.items ≡ []) (no_folders : walk.folders.items ≡ []) (j : AreJudged arena image k [] walk)
+    (formed : AreFormed arena image k walk.labels.known.items walk.noted walk.steps.items walk.folders.items)
     (quiet : 5 < level walk.noted) (tree : IsTree arena image k.at) (entries : HasRootEntries k.root) where
   closed : (at i : ℕ) → IsJudged arena image walk.folders.items at i → HasOwnNames arena image (link_at image at i)
   closed at i w = ⊎_elim
@@ -142,8 +157,47 @@ module _ (arena : Arena) (device : List Block) (image : Image) (s : Super) (k : 
   by_records meta root_records = closed k.at 1 (j.top entries quiet tree)
   by_records meta (pair_records depth w p inside a b) = of_pair depth p w inside a b
 
-  pub tree_names : HasNames arena image k.at
-  tree_names = record { each = by_records }
+  -- ---- leaves of records
+
+  entries_below : (d : Kind) (x : Slot) → HoldsEntries d → kind_below d x ≡ kind_of_top x
+  entries_below (Data level) x h = absurd h
+  entries_below (Dir zero) x h = refl
+  entries_below (Dir (suc level)) x h = absurd h
+  entries_below Root x h = refl
+
+  formed_leaf : (at i : ℕ) (path : List ℕ) (b : ℕ) → IsFormed arena image walk.steps.items walk.folders.items at i path b → IsLeaf ((image b).bytes)
+  formed_leaf at i path b w = ⊎_elim
+      (λ (leaf : IsLeaf ((image b).bytes)). leaf)
+      (λ (left : SomeOf (IsRecordsWay arena image (link_at image at i) path) walk.steps.items ⊎ SomeOf (HasMeta image at i) walk.folders.items). ⊎_elim
+      (λ (x : SomeOf (IsRecordsWay arena image (link_at image at i) path) walk.steps.items). let no : ⊥ = subst (λ (xs : List Step). SomeOf (IsRecordsWay arena image (link_at image at i) path) xs) no_steps x in absurd no)
+      (λ (x : SomeOf (HasMeta image at i) walk.folders.items). let no : ⊥ = subst (λ (fs : List Folder). SomeOf (HasMeta image at i) fs) no_folders x in absurd no)
+      left)
+      w
+
+  leaf_at : (path more : List ℕ) (i at : ℕ) → NamesRecords arena image k.at path i → (at_path arena image k.at (path ++ i ∷ more)).kind ≡ Data 0 → LeadsTo arena image k.at (path ++ i ∷ more) at → IsLeaf ((image at).bytes)
+  leaf_at path more i at w kind leads =
+      let h : Link = at_path arena image k.at path in
+      let below : at_path arena image k.at (path ++ i ∷ []) ≡ step arena image h i = goes_end arena image path (from_block k.at) i in
+      let b = block_of_records arena image holds.empty h i (subst (λ (u : Link). IsRecords u.slot) below w.records) in
+      let found' : found arena image h ≡ image b.0 = found_is arena image h b.0 b.1 in
+      let st = whole arena device image s k holds.empty walk.labels.known.items walk.noted n g none path b.0 b.1 in
+      let entries' : HoldsEntries st.label.kind = subst (λ (d : Kind). HoldsEntries d) st.link w.holder in
+      let here : at_path arena image k.at (path ++ i ∷ []) ≡ link_at image b.0 i =
+      below
+      ∙ ap (λ (c : Content). record { kind = kind_below h.kind (c.slot i); slot = c.slot i }) found'
+      ∙ ap (λ (d : Kind). record { kind = d; slot = (image b.0).slot i }) (entries_below h.kind ((image b.0).slot i) w.holder) in
+      let all : at_path arena image k.at (path ++ i ∷ more) ≡ goes arena image (link_at image b.0 i) more =
+      ap (λ (p : List ℕ). at_path arena image k.at p) (sym (append_assoc path (i ∷ []) more))
+      ∙ goes_join arena image holds.empty (path ++ i ∷ []) more (from_block k.at)
+      ∙ ap (λ (u : Link). goes arena image u more) here in
+      formed_leaf b.0 i more at (formed.each quiet tree b.0 i st.label st.is entries' w.second (subst (λ (u : Link). IsRecords u.slot) here w.records) more at
+      (ap (λ (u : Link). u.kind) (sym all) ∙ kind) (ap (λ (u : Link). target u.slot) (sym all) ∙ leads))
+
+  pub tree_leaves : HasLeaves arena image k.at
+  tree_leaves = record {
+    leaves = leaf_at;
+    names = λ meta a i b l r q has first second same. (by_records meta has).each a i b l r q first second same;
+  }
 
 -- ---- the whole answer
 
@@ -151,8 +205,8 @@ fits_empty : (device : List Block) (image : Image) (steps : List Step) (n : ℕ 
 fits_empty device image steps n is fits = (subst (λ (xs : List Step). Fits device image xs n) is fits).each
 
 pub walked : (arena : Arena) (device : List Block) (image : Image) (s : Super) (k : Kept) (walk : Walk) (found : Found) → walk.steps.items ≡ [] → walk.folders.items ≡ []
-    → found.broken ≡ walk.noted → found.used ≡ reached walk.labels.known.items → found.leaked ≡ leaked s.low walk.labels.known.items → JudgesRoot k.root walk.noted → AreJudged arena image k [] walk → Walking arena device image s k [] walk → IsWalked arena device image s k found
-walked arena device image s k walk found steps folders broken used leaks judged dirs w =
+    → found.broken ≡ walk.noted → found.used ≡ reached walk.labels.known.items → found.leaked ≡ leaked s.low walk.labels.known.items → JudgesRoot k.root walk.noted → AreJudged arena image k [] walk → AreFormed arena image k walk.labels.known.items walk.noted walk.steps.items walk.folders.items → Walking arena device image s k [] walk → IsWalked arena device image s k found
+walked arena device image s k walk found steps folders broken used leaks judged dirs formed w =
     let known = walk.labels.known.items in
     let n : ℕ → ℕ → ℕ = λ b j. w.others b j + w.steps b j + w.folders b j in
     let none : (b j : ℕ) → w.others b j + w.steps b j + w.folders b j ≡ 0 = λ b j. omega (
@@ -167,7 +221,7 @@ walked arena device image s k walk found steps folders broken used leaks judged 
       entries = λ quiet. judged.entries (subst (λ (o : Option Broken). 6 < level o) broken quiet);
       once = λ quiet. tree_once arena device image s k w.holds.empty known walk.noted n w.goes none (subst (λ (o : Option Broken). 7 < level o) broken quiet);
       scores = λ quiet. tree_scores arena device image s k w.holds.empty known walk.noted n w.goes none (subst (λ (o : Option Broken). 9 < level o) broken quiet);
-      names = λ quiet tree entries. tree_names arena device image s k w.holds walk n w.goes none judged folders dirs (subst (λ (o : Option Broken). 5 < level o) broken quiet) tree entries;
+      leaves = λ quiet tree entries. tree_leaves arena device image s k w.holds walk n w.goes none judged steps folders dirs formed (subst (λ (o : Option Broken). 5 < level o) broken quiet) tree entries;
       named = subst (λ (o : Option Broken). MatchOption o (Unit {0}) (IsNamed arena image k)) (sym broken) w.goes.notes;
       used = tree_used arena device image s k w.holds.empty known walk.noted n w.goes none found.used used;
       leaked = tree_leaked arena device image s k w.holds.empty known walk.noted n w.goes none found.leaked leaks;

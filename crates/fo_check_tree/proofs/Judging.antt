@@ -88,11 +88,11 @@ module _ (image : Image) (at : ℕ) (here : Holder) (depth : ℕ) where
       (λ (apart : p ≢ k). some_left (HasMeta image at (2 * p + 1)) old added (in_folders named k old are p (omega (arith, lt, apart)) a b))
       (cases_eq p k)
 
-record Grows (old new : List Folder) : Type 0 where
-  added : List Folder
-  is : new ≡ old ++ added
+pub record Grows (old new : List Folder) : Type 0 where
+  pub added : List Folder
+  pub is : new ≡ old ++ added
 
-puts_more : (here : Holder) (c : Content) (depth : ℕ) (named : Bool) (kind : Kind) (old new : List Folder) → Puts here c depth named kind old new → Grows old new
+pub puts_more : (here : Holder) (c : Content) (depth : ℕ) (named : Bool) (kind : Kind) (old new : List Folder) → Puts here c depth named kind old new → Grows old new
 puts_more here c depth named (Data level) old new w = record { added = []; is = w ∙ sym (append-nil old) }
 puts_more here c depth named (Dir zero) old new w = record { added = w.added; is = w.behind }
 puts_more here c depth named (Dir (suc level)) old new w = record { added = []; is = w ∙ sym (append-nil old) }
@@ -120,7 +120,7 @@ module _ (arena : Arena) (device : List Block) (image : Image) (s : Super) (k : 
   module _ (rest : List Step) (step : Step) (old new : Walk) (w : Walking arena device image s k (step ∷ rest) old) (others : List Folder) (j : AreJudged arena image k others old) (depth : ℕ) (named : Bool) (lower' : level new.noted ≤ level old.noted) where
     after_block : (at : ℕ) → Reaches device image depth named step at old new → AreJudged arena image k others new
     after_block at (again m allowed marks same same' noted kept) = judged_like others old new marks.same same' lower' j
-    after_block at (enters m allowed marks steps folders notes read adds) = record {
+    after_block at (enters m allowed marks steps folders notes read adds leafs) = record {
       top = λ entries quiet tree. judged_more others old.folders.items new.folders.items grows.added k.at 1 grows.is (j.top entries (omega (arith, quiet, lower')) tree);
       pairs = λ quiet tree b p l r leaf lt x y. ⊎_elim
           (λ (same : b ≡ at).

@@ -2,6 +2,7 @@ mod Adding
 mod Counting
 mod Directories
 mod Ending
+mod Formatting
 mod Going
 mod Judging
 mod Leaves

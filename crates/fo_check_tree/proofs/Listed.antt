@@ -25,7 +25,7 @@ use Rattle.fo_check_tree.proofs.Leaves.{off_way, shorter, one_source, one_leaf, 
 use Rattle.fo_check_tree.proofs.Stepping.{again_breaks, taken_of}
 
 module _ (arena : Arena) (device : List Block) (image : Image) (s : Super) (k : Kept) (meta : Link) where
-  not_once : (at : ℕ) → BreaksOnce arena image k at → IsTree arena image k.at → ⊥
+  pub not_once : (at : ℕ) → BreaksOnce arena image k at → IsTree arena image k.at → ⊥
   not_once at (twice p q b lp lq apart) tree = apart (tree.once p q b lp lq)
 
   pub listing_at : (known known' : List Known) (steps steps' : List Step) (named named' : List Named) → known' ≡ known → steps' ≡ steps → named' ≡ named → IsListing arena image k meta known steps named → IsListing arena image k meta known' steps' named'
@@ -43,7 +43,7 @@ module _ (arena : Arena) (device : List Block) (image : Image) (s : Super) (k : 
           listing_at old.labels.known.items new.labels.known.items old.steps.items new.steps.items old.named.items new.named.items marks.same same kept
           (shorter arena image w.holds.empty k meta old.labels.known.items old.steps.items step old.named.items l
           (λ tree n b h v. not_once at (again_breaks arena device image s k rest step old new w at m is marks.none allowed.known) tree))
-      after_block at is (enters m allowed marks steps folders notes read adds) = by o.level o.kind
+      after_block at is (enters m allowed marks steps folders notes read adds leafs) = by o.level o.kind
         where
           o : IsInSource arena image meta step
           o = one_source arena image w.holds.empty k meta old.labels.known.items old.steps.items step old.named.items l

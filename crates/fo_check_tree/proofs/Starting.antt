@@ -1,5 +1,5 @@
 -- The walk at its root.
-use Rattle.std.proofs.Common.{◌≡◌, ⊎_elim, inl, ℕ, zero, suc, ◌+◌, ◌*◌, ◌<◌, ◌≤◌, Bool, true, false, List, [], ◌∷◌, ◌++◌, drop, length, get_or, Option, Some, refl, sym, ap, ◌∙◌, subst, arith}
+use Rattle.std.proofs.Common.{◌≡◌, ⊎_elim, inl, inr, ℕ, zero, suc, ◌+◌, ◌*◌, ◌%◌, ◌<◌, ◌≤◌, Bool, true, false, List, [], ◌∷◌, ◌++◌, drop, length, get_or, Option, Some, refl, sym, ap, ◌∙◌, subst, arith}
 use Rattle.std.specs.Prelude.{MatchBool, MatchOption}
 use Rattle.std.specs.List.{All, Any}
 use Rattle.std.proofs.lemmas.Bool.{false≢true}
@@ -13,7 +13,7 @@ use Rattle.fo_image.specs.declared.types.Pointer.TheVariants.{Nil, Local}
 use Rattle.fo_image.specs.Place.{label_blocks}
 use Rattle.fo_crash.specs.declared.slot.Slot.{Slot}
 use Rattle.fo_crash.specs.declared.slot.Slot.TheVariants.{Entry as Head}
-use Rattle.fo_crash.specs.Images.{Image, Arena, target, kind_below}
+use Rattle.fo_crash.specs.Images.{Image, Arena, target, goes as goes_to, kind_below}
 use Rattle.fo_sound.specs.Image.{block_of, IsDataBlock, HasLabel}
 use Rattle.fo_sound.specs.Sound.{root_label}
 use Rattle.fo_good.specs.Sound.{Kept}
@@ -27,7 +27,8 @@ use Rattle.fo_check_tree.specs.declared.walk.Holds.TheVariants.{Bytes, Records}
 use Rattle.fo_check_tree.specs.declared.walk.Step.{Step}
 use Rattle.fo_check_tree.specs.declared.walk.Walk.{Walk}
 use Rattle.fo_check_tree.specs.Answer.{IsShallow, HoldsAny, IsNamed}
-use Rattle.fo_check_tree.specs.Dirs.{HasMeta, AreJudged}
+use Rattle.fo_check_tree.specs.Dirs.{link_at, HasMeta, AreJudged}
+use Rattle.fo_check_tree.specs.Formats.{IsFormed, AreFormed}
 use Rattle.fo_check_tree.specs.Listing.{SomeOf}
 use Rattle.fo_check_tree.specs.Known.{Ascend, IsKnown, Marks, MarksNone}
 use Rattle.fo_good.specs.Means.{IsRead}
@@ -40,6 +41,7 @@ use Rattle.fo_check_tree.specs.Table.{IsScanned}
 use Rattle.fo_check_tree.specs.Walking.{Reached, IsTable, HasPath, IsStepOf, tag_below, one, Fits, all_tops, IsDone, Goes, IsUnbegun, Walking}
 use Rattle.fo_check_tree.specs.Walking.IsDone.{nowhere, left}
 use Rattle.fo_check_tree.proofs.Going.{named_lowers}
+use Rattle.fo_check_tree.proofs.Leaves.{lost}
 use Rattle.fo_check_tree.proofs.Reaching.{same_label, reached_cases, reached_new, table_kept}
 use Rattle.fo_check_tree.proofs.Spelled.{only_has}
 use Rattle.fo_check_tree.proofs.Sprouting.{top_not_root}
@@ -250,3 +252,31 @@ module _ (arena : Arena) (device : List Block) (image : Image) (s : Super) (k : 
               let kind : Root ≡ Dir zero = ap (λ (x : Label). x.kind) (only_label' judged (marked t m) low at l' reached) ∙ leaf in
               absurd (cc);
         }
+
+    pub formats : (t : Bool) (l : Labels) → new.labels ≡ l → MatchBool t (Marks s.active old.labels.known.items l.known.items) (MarksNone s.active old.labels.known.items l.known.items) → Lowers old.noted new.noted
+        → (e r : Entry) → IsEntryOf k.root.meta r
+        → new.folders.items ≡ old.folders.items ++ record { entries = e; records = Some r; holder = record { block = s.active; label = root_label s }; depth = 0; named = true } ∷ []
+        → JudgesRoot k.root new.noted → AreFormed arena image k new.labels.known.items new.noted new.steps.items new.folders.items
+    formats t l labels found low e r wr folders judged = record {
+      each = λ quiet tree at i l' reached has odd records path b kind leads.
+          let m = subst (λ (x : Labels). MatchBool t (Marks s.active old.labels.known.items x.known.items) (MarksNone s.active old.labels.known.items x.known.items)) (sym labels) found in
+          let same : at ≡ k.at = only_root judged (marked t m) low at l' reached in
+          subst (λ (a : ℕ). IsFormed arena image new.steps.items new.folders.items a i path b) (sym same) (by quiet path b i odd (subst (λ (a : ℕ). target ((goes_to arena image (link_at image a i) path).slot) ≡ Local b) same leads));
+    }
+      where
+        f : Folder
+        f = record { entries = e; records = Some r; holder = record { block = s.active; label = root_label s }; depth = 0; named = true }
+
+        one_folder : new.folders.items ≡ record { entries = e; records = Some r; holder = record { block = s.active; label = root_label s }; depth = 0; named = true } ∷ []
+        one_folder = folders ∙ ap (λ (fs : List Folder). fs ++ record { entries = e; records = Some r; holder = record { block = s.active; label = root_label s }; depth = 0; named = true } ∷ []) u.nothing.1
+
+        nil_is : (a : ℕ) → Nil ≡ Local a → ⊥
+        nil_is a x = cc
+
+        by : 5 < level new.noted → (path : List ℕ) (b i : ℕ) → i % 2 ≡ 1 → target ((goes_to arena image (link_at image k.at i) path).slot) ≡ Local b → IsFormed arena image new.steps.items new.folders.items k.at i path b
+        by quiet path b zero odd leads = absurd (omega (arith, odd))
+        by quiet path b (suc zero) odd leads =
+            let head = is_head 1 k.root.meta quiet judged.second holds.meta in
+            let slot : (image k.at).slot 1 ≡ Head r = head.0 ∙ ap (λ (x : Entry). Head x) (sym (wr.shallow head.1)) in
+            inr (inr (subst (λ (fs : List Folder). SomeOf (HasMeta image k.at 1) fs) (sym one_folder) (inl (record { entry = r; is = refl; slot = slot }))))
+        by quiet path b (suc (suc i)) odd leads = absurd (lost arena image holds.empty path (link_at image k.at (suc (suc i))) (λ a x. nil_is a (sym (others_nil (suc (suc i)) (omega arith)) ∙ x)) b leads)

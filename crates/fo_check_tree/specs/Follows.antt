@@ -11,7 +11,9 @@ use Rattle.fo_good.specs.Means.{IsRead}
 use Rattle.fo_sound.specs.Image.{block_of}
 use Rattle.fo_check_tree.specs.declared.error.TreeError.{TreeError}
 use Rattle.fo_check_tree.specs.declared.error.TreeError.TheVariants.{Label as BadLabel, Read, Memory}
+use Rattle.fo_meta.specs.Leaf.{IsLeaf}
 use Rattle.fo_check_tree.specs.declared.walk.Folder.{Folder}
+use Rattle.fo_check_tree.specs.declared.walk.Holds.TheVariants.{Records}
 use Rattle.fo_check_tree.specs.declared.walk.Holder.{Holder}
 use Rattle.fo_check_tree.specs.declared.walk.Step.{Step}
 use Rattle.fo_check_tree.specs.declared.walk.Walk.{Walk}
@@ -45,6 +47,7 @@ pub data Reaches (device : List Block) (image : Image) (depth : ℕ) (named : Bo
       → NotesAt at old.noted new.noted
       → Reads step.kind (image at) (block_of device at) new.noted
       → Adds step at (block_of device at) step.kind old.named.items new.named.items
+      → (step.kind ≡ Data 0 → step.holds ≡ Records → 5 < level new.noted → IsLeaf (block_of device at))
       → Reaches device image depth named step at old new
 
 -- A step was taken: it leads nowhere, to a score, for which rule 9 is noted, or to a block.

@@ -2,6 +2,7 @@ pub mod Answer
 pub mod Cause
 pub mod Dirs
 pub mod Follows
+pub mod Formats
 pub mod Known
 pub mod Listing
 pub mod Lower

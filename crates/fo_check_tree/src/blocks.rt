@@ -13,7 +13,10 @@ ghost use Rattle.fo_image.specs.declared.types.Pointer.TheVariants.{Local};
 ghost use Rattle.fo_check_tree.specs.Answer.{RefusesTree};
 ghost use Rattle.fo_check_tree.specs.Follows.{Follows, Reaches, Puts, Reads, RefusesFollow, NotLabel};
 ghost use Rattle.fo_check_tree.specs.declared.walk.Folder.{Folder};
+ghost use Rattle.fo_image.specs.declared.types.Kind.TheVariants.{Data};
+ghost use Rattle.fo_check_tree.specs.declared.walk.Holds.TheVariants.{Records};
 ghost use Rattle.fo_check_tree.specs.Dirs.{AreJudged};
+ghost use Rattle.fo_check_tree.specs.Formats.{AreFormed};
 ghost use Rattle.fo_check_tree.specs.Listing.{AddsNamed, Adds, IsListing};
 ghost use Rattle.fo_check_tree.specs.Notes.{NotesAt};
 ghost use Rattle.fo_check_tree.specs.Walking.{Walking};
@@ -72,6 +75,9 @@ pub(crate) fn follow_all<D: Disk>(
         → IsListing arena image k meta walk.old.labels.known.items walk.old.steps.items walk.old.named.items → OnOk result (IsListing arena image k meta walk.new.labels.known.items walk.new.steps.items walk.new.named.items) }
     ensures dirs { (arena : Arena) (device : List Block) (image : Image) (s : Super) (k : Kept) (rest : List Step) (others : List Folder) → Shows (D.state main.old).holds device → Walking arena device image s k rest walk.old → AreJudged arena image k others walk.old
         → OnOk result (AreJudged arena image k others walk.new) }
+    ensures formed { (arena : Arena) (device : List Block) (image : Image) (s : Super) (k : Kept) (rest : List Step) (others : List Folder) → Shows (D.state main.old).holds device → Walking arena device image s k rest walk.old
+        → AreFormed arena image k walk.old.labels.known.items walk.old.noted walk.old.steps.items (others ++ walk.old.folders.items)
+        → OnOk result (AreFormed arena image k walk.new.labels.known.items walk.new.noted walk.new.steps.items (others ++ walk.new.folders.items)) }
     ensures done { OnOk result (walk.new.steps.items ≡ []) }
     ensures blocks { OnOk result (walk.new.blocks ≡ walk.old.blocks) }
     ensures budget { OnOk result (205 * walk.new.labels.left + length walk.new.folders.items ≤ 205 * walk.old.labels.left + length walk.old.folders.items) }
@@ -180,6 +186,7 @@ fn enter<D: Disk>(
     ensures kept { D.state main.new ≡ D.state main.old }
     ensures cause { HasCauses (D.faults main.old) (D.faults main.new) result }
     ensures named { (device : List Block) → Shows (D.state main.old).holds device → OnOk result (Adds step.now here.block (block_of device here.block) step.now.kind walk.old.named.items walk.new.named.items) }
+    ensures leaf { (device : List Block) → Shows (D.state main.old).holds device → step.now.kind ≡ Data 0 → step.now.holds ≡ Records → OnOk result (5 < level walk.new.noted → IsLeaf (block_of device here.block)) }
 {
     if step.kind == Kind::Data(0) && step.holds == Holds::Bytes {
         return Ok(());
@@ -214,6 +221,7 @@ fn add_block(
     ensures folders { OnOk result (length walk.new.folders.items ≤ length walk.old.folders.items + 204) }
     ensures level { OnOk result (level walk.new.noted ≤ level walk.old.noted) }
     ensures named { OnOk result (Adds step.now here.block block.now step.now.kind walk.old.named.items walk.new.named.items) }
+    ensures leaf { step.now.kind ≡ Data 0 → OnOk result (5 < level walk.new.noted → IsLeaf block.now) }
 {
     match step.kind {
         Kind::Data(0) => add_records(alloc, walk, step, here, block),
@@ -301,6 +309,7 @@ fn add_records(
     ensures notes { OnOk result (NotesAt here.block walk.old.noted walk.new.noted) }
     ensures level { OnOk result (level walk.new.noted ≤ level walk.old.noted) }
     ensures named { OnOk result (AddsNamed step.now here.block block.now walk.old.named.items walk.new.named.items) }
+    ensures leaf { OnOk result (5 < level walk.new.noted → IsLeaf block.now) }
 {
     let Some(records) = read_leaf(alloc, block)? else {
         walk.note(5, here.block);

@@ -9,6 +9,7 @@ ghost use Rattle.fo_good.specs.Sound.{Kept};
 ghost use Rattle.fo_good.specs.Trees.{IsTree};
 ghost use Rattle.fo_check_tree.specs.Answer.{HasOwnNames};
 ghost use Rattle.fo_check_tree.specs.Dirs.{AreJudged};
+ghost use Rattle.fo_check_tree.specs.Formats.{AreFormed};
 ghost use Rattle.fo_check_tree.specs.Listing.{IsMetaOf};
 ghost use Rattle.fo_image.specs.declared.types.Super.{Super};
 ghost use Rattle.fo_sound.specs.Image.{is_zero};
@@ -290,6 +291,9 @@ fn list<D: Disk>(
         → walk.old.steps.items ≡ [] → walk.old.named.items ≡ [] → OnOk result (5 < level walk.new.noted → IsTree arena image k.at → HasOwnNames arena image meta) }
     ensures dirs { (arena : Arena) (device : List Block) (image : Image) (s : Super) (k : Kept) (others : List Folder) → Shows (D.state main.old).holds device → Walking arena device image s k (tops folder.now) walk.old → AreJudged arena image k others walk.old
         → OnOk result (AreJudged arena image k others walk.new) }
+    ensures formed { (arena : Arena) (device : List Block) (image : Image) (s : Super) (k : Kept) (others : List Folder) → Shows (D.state main.old).holds device → Walking arena device image s k (tops folder.now) walk.old
+        → AreFormed arena image k walk.old.labels.known.items walk.old.noted walk.old.steps.items (folder.now ∷ others ++ walk.old.folders.items)
+        → OnOk result (AreFormed arena image k walk.new.labels.known.items walk.new.noted walk.new.steps.items (others ++ walk.new.folders.items)) }
     ensures blocks { OnOk result (walk.new.blocks ≡ walk.old.blocks) }
     ensures budget { OnOk result (205 * walk.new.labels.left + length walk.new.folders.items ≤ 205 * walk.old.labels.left + length walk.old.folders.items) }
     ensures level { OnOk result (level walk.new.noted ≤ level walk.old.noted) }
@@ -332,6 +336,9 @@ pub(crate) fn walk_folder<D: Disk>(
         → walk.old.steps.items ≡ [] → OnOk result (5 < level walk.new.noted → IsTree arena image k.at → HasOwnNames arena image meta) }
     ensures dirs { (arena : Arena) (device : List Block) (image : Image) (s : Super) (k : Kept) (others : List Folder) → Shows (D.state main.old).holds device → Walking arena device image s k (tops folder.now) walk.old → AreJudged arena image k others walk.old
         → OnOk result (AreJudged arena image k others walk.new) }
+    ensures formed { (arena : Arena) (device : List Block) (image : Image) (s : Super) (k : Kept) (others : List Folder) → Shows (D.state main.old).holds device → Walking arena device image s k (tops folder.now) walk.old
+        → AreFormed arena image k walk.old.labels.known.items walk.old.noted walk.old.steps.items (folder.now ∷ others ++ walk.old.folders.items)
+        → OnOk result (AreFormed arena image k walk.new.labels.known.items walk.new.noted walk.new.steps.items (others ++ walk.new.folders.items)) }
     ensures done { OnOk result (walk.new.steps.items ≡ []) }
     ensures blocks { OnOk result (walk.new.blocks ≡ walk.old.blocks) }
     ensures budget { OnOk result (205 * walk.new.labels.left + length walk.new.folders.items ≤ 205 * walk.old.labels.left + length walk.old.folders.items) }

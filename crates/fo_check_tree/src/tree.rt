@@ -4,6 +4,7 @@ ghost use Rattle.fo_crash.specs.Images.{Arena, Image};
 ghost use Rattle.fo_good.specs.Sound.{Kept};
 ghost use Rattle.fo_check_tree.specs.Answer.{HoldsAny, IsWalked, RefusesCheck};
 ghost use Rattle.fo_check_tree.specs.Dirs.{AreJudged};
+ghost use Rattle.fo_check_tree.specs.Formats.{AreFormed};
 ghost use Rattle.fo_check_tree.specs.Notes.{Lowers};
 ghost use Rattle.fo_check_tree.specs.Walking.{IsUnbegun, Walking};
 ghost use Rattle.fo_disk.specs.Disk.{Block};
@@ -128,6 +129,8 @@ fn start(walk: &mut Walk, s: &Super, root: &RootBlock) -> Result<(), AllocError>
     ensures begun { (arena : Arena) (device : List Block) (image : Image) (k : Kept) → k.root ≡ root.now → HoldsAny arena device image s.now k → IsUnbegun device s.now walk.old
         → OnOk result (Walking arena device image s.now k [] walk.new × (walk.new.steps.items ≡ [])) }
     ensures dirs { (arena : Arena) (device : List Block) (image : Image) (k : Kept) → k.root ≡ root.now → HoldsAny arena device image s.now k → IsUnbegun device s.now walk.old → OnOk result (AreJudged arena image k [] walk.new) }
+    ensures formed { (arena : Arena) (device : List Block) (image : Image) (k : Kept) → k.root ≡ root.now → HoldsAny arena device image s.now k → IsUnbegun device s.now walk.old
+        → OnOk result (AreFormed arena image k walk.new.labels.known.items walk.new.noted walk.new.steps.items walk.new.folders.items) }
     ensures blocks { OnOk result (walk.new.blocks ≡ walk.old.blocks) }
     ensures judged { OnOk result (JudgesRoot root.now walk.new.noted) }
 {

@@ -6,7 +6,7 @@ use Rattle.fo_check_tree.specs.Follows.{Reads}
 use Rattle.fo_sound.specs.Image.{is_zero}
 use Rattle.fo_check_tree.specs.Notes.{NotesAt}
 use Rattle.fo_check_tree.specs.Slots.{unless}
-use Rattle.fo_check_tree.proofs.Adding.{data_adds, dir_adds, on_ok, notes_unless, data_reads, dir_reads, entries_read, leaf_names, inner_names, dir_names, root_names}
+use Rattle.fo_check_tree.proofs.Adding.{data_adds, dir_adds, on_ok, notes_unless, data_reads, dir_reads, entries_read, leaf_names, inner_names, dir_names, root_names, not_leaf_data, not_leaf_dir, not_leaf_root}
 use Rattle.fo_check_tree.proofs.blocks.add_block.Goals as goal
 
 pub returns-in-Data-clause-pushed : goal.returns-in-Data-clause-pushed
@@ -52,3 +52,18 @@ returns-in-Dir-clause-named c = dir_names c.add_pointers-in-Dir.result c.args.st
 
 pub returns-in-Root-clause-named : goal.returns-in-Root-clause-named
 returns-in-Root-clause-named c = root_names c.args.step.now c.args.here.block c.args.block.now c.args.walk.now.named.items c.args.walk.now.named.items c.args.step.now.kind c.in-Root.is
+
+pub returns-in-Data-eq0-clause-leaf : goal.returns-in-Data-eq0-clause-leaf
+returns-in-Data-eq0-clause-leaf c e = c.add_records.ensures.leaf
+
+pub returns-in-Data-clause-leaf : goal.returns-in-Data-clause-leaf
+returns-in-Data-clause-leaf c e = absurd (not_leaf_data c.in-Data.level c.args.step.now.kind c.in-Data.is (grind (arith, c.in-Data.level-test)) e)
+
+pub returns-in-Dir-eq0-clause-leaf : goal.returns-in-Dir-eq0-clause-leaf
+returns-in-Dir-eq0-clause-leaf c e = absurd (not_leaf_dir _ c.args.step.now.kind c.in-Dir-eq0.is e)
+
+pub returns-in-Dir-clause-leaf : goal.returns-in-Dir-clause-leaf
+returns-in-Dir-clause-leaf c e = absurd (not_leaf_dir c.in-Dir.level c.args.step.now.kind c.in-Dir.is e)
+
+pub returns-in-Root-clause-leaf : goal.returns-in-Root-clause-leaf
+returns-in-Root-clause-leaf c e = absurd (not_leaf_root c.args.step.now.kind c.in-Root.is e)

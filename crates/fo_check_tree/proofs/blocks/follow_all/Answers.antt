@@ -4,9 +4,11 @@ use Rattle.fo_disk.specs.Disk.{DiskState}
 use Rattle.fo_sound.specs.Device.{Shows}
 use Rattle.fo_check_tree.specs.declared.walk.Walk.{Walk}
 use Rattle.fo_check_tree.specs.declared.walk.Step.{Step}
+use Rattle.fo_check_tree.specs.Formats.{AreFormed}
 use Rattle.fo_check_tree.specs.Dirs.{AreJudged}
 use Rattle.fo_check_tree.specs.Listing.{IsListing}
 use Rattle.fo_check_tree.specs.Walking.{Walking}
+use Rattle.fo_check_tree.proofs.Formatting.{formed_on}
 use Rattle.fo_check_tree.proofs.Judging.{judged_like, judged_on}
 use Rattle.fo_check_tree.proofs.Listed.{lists}
 use Rattle.fo_check_tree.proofs.Stepping.{popped, followed, refused, emptied}
@@ -34,6 +36,14 @@ loop-step-preserved g c = record {
       let judged : AreJudged arena image k others old = judged_like arena device image s k others c.loop-step.walk old refl refl (omega arith) (c.loop-step.invariant.dirs arena device image s k rest others shows w j) in
       judged_on arena device image s k rest c.in-Some.step old c.follow.new.walk left others judged c.args.depth c.args.named c.in_ok-follow.ensures.level
       (c.in_ok-follow.ensures.follows device image (subst (λ (s : DiskState). Shows s.holds device) (sym c.loop-step.invariant.kept) shows));
+  formed = λ arena device image s k rest others shows w j.
+      let old : Walk = record c.loop-step.walk { steps = c.pop.new.self } in
+      let before : Walking arena device image s k rest c.loop-step.walk = c.loop-step.invariant.walks arena device image s k rest shows w in
+      let left : Walking arena device image s k (c.in-Some.step ∷ rest) old = popped arena device image s k c.loop-step.walk old (record { blocks = refl; epoch = refl; active = refl; labels = refl; noted = refl }) rest c.in-Some.step c.in-Some.ensures.items refl before in
+      let formed : AreFormed arena image k c.loop-step.walk.labels.known.items c.loop-step.walk.noted (c.pop.new.self.items ++ c.in-Some.step ∷ []) (others ++ c.loop-step.walk.folders.items) =
+      subst (λ (xs : List Step). AreFormed arena image k c.loop-step.walk.labels.known.items c.loop-step.walk.noted xs (others ++ c.loop-step.walk.folders.items)) c.in-Some.ensures.items (c.loop-step.invariant.formed arena device image s k rest others shows w j) in
+      formed_on arena device image s k rest c.in-Some.step old c.follow.new.walk left others formed c.args.depth c.args.named c.in_ok-follow.ensures.level
+      (c.in_ok-follow.ensures.follows device image (subst (λ (x : DiskState). Shows x.holds device) (sym c.loop-step.invariant.kept) shows));
   blocks = c.in_ok-follow.ensures.blocks ∙ c.loop-step.invariant.blocks;
   low = omega (arith, c.in_ok-follow.ensures.level, c.loop-step.invariant.low);
   size = c.follow.ensures.size ∙ c.loop-step.invariant.size ∙ sym c.in_ok-follow.ensures.blocks;
@@ -62,3 +72,7 @@ returns-clause-lists g c arena device image s k meta rest shows w h =
 pub returns-clause-dirs : goal.returns-clause-dirs
 returns-clause-dirs g c arena device image s k rest others shows w j =
     judged_like arena device image s k others c.loop-step.walk (record c.loop-step.walk { steps = c.pop.new.self }) refl refl (omega arith) (c.loop-step.invariant.dirs arena device image s k rest others shows w j)
+
+pub returns-clause-formed : goal.returns-clause-formed
+returns-clause-formed g c arena device image s k rest others shows w j =
+    subst (λ (xs : List Step). AreFormed arena image k c.loop-step.walk.labels.known.items c.loop-step.walk.noted xs (others ++ c.loop-step.walk.folders.items)) (c.in_default.ensures.items ∙ append-nil c.pop.new.self.items) (c.loop-step.invariant.formed arena device image s k rest others shows w j)

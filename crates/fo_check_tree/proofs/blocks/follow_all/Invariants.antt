@@ -1,4 +1,4 @@
-use Rattle.std.proofs.Common.{◌≡◌, ◌+◌, ◌*◌, ◌≤◌, List, length}
+use Rattle.std.proofs.Common.{◌≡◌, ◌+◌, ◌*◌, ◌≤◌, List, ◌++◌, length}
 use Rattle.fo_crash.specs.Images.{Image, Arena, Link}
 use Rattle.fo_disk.specs.Disk.{Block}
 use Rattle.fo_good.specs.Sound.{Kept}
@@ -6,6 +6,7 @@ use Rattle.fo_image.specs.declared.types.Super.{Super}
 use Rattle.fo_sound.specs.Device.{Shows}
 use Rattle.fo_check_tree.specs.declared.walk.Step.{Step}
 use Rattle.fo_check_tree.specs.declared.walk.Folder.{Folder}
+use Rattle.fo_check_tree.specs.Formats.{AreFormed}
 use Rattle.fo_check_tree.specs.Dirs.{AreJudged}
 use Rattle.fo_check_tree.specs.Listing.{IsListing}
 use Rattle.fo_check_tree.specs.Walking.{Walking}
@@ -19,6 +20,9 @@ invariant-loop-step g l = record {
       → IsListing arena image k meta l.fn.walk.labels.known.items l.fn.walk.steps.items l.fn.walk.named.items → IsListing arena image k meta l.walk.labels.known.items l.walk.steps.items l.walk.named.items;
   dirs : (arena : Arena) (device : List Block) (image : Image) (s : Super) (k : Kept) (rest : List Step) (others : List Folder) → Shows (g.D.Disk.state l.fn.main).holds device → Walking arena device image s k rest l.fn.walk
       → AreJudged arena image k others l.fn.walk → AreJudged arena image k others l.walk;
+  formed : (arena : Arena) (device : List Block) (image : Image) (s : Super) (k : Kept) (rest : List Step) (others : List Folder) → Shows (g.D.Disk.state l.fn.main).holds device → Walking arena device image s k rest l.fn.walk
+      → AreFormed arena image k l.fn.walk.labels.known.items l.fn.walk.noted l.fn.walk.steps.items (others ++ l.fn.walk.folders.items)
+      → AreFormed arena image k l.walk.labels.known.items l.walk.noted l.walk.steps.items (others ++ l.walk.folders.items);
   blocks : l.walk.blocks ≡ l.fn.walk.blocks;
   low : level l.walk.noted ≤ level l.fn.walk.noted;
   size : g.D.Disk.size l.main ≡ l.walk.blocks;

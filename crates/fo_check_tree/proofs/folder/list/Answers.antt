@@ -7,10 +7,13 @@ use Rattle.std.specs.Prelude.{MatchOption}
 use Rattle.fo_check_names.specs.Names.{name_of, leaf_of, Differ, IsTwice}
 use Rattle.fo_check_names.specs.declared.names.Named.{Named}
 use Rattle.fo_check_tree.specs.declared.labels.Labels.{Labels}
+use Rattle.fo_check_tree.specs.declared.walk.Folder.{Folder}
+use Rattle.fo_check_tree.specs.Formats.{AreFormed}
 use Rattle.fo_check_tree.specs.Dirs.{AreJudged}
 use Rattle.fo_check_tree.specs.Listing.{IsListing}
 use Rattle.fo_check_tree.specs.Slots.{top_step}
 use Rattle.fo_check_tree.specs.Walking.{Walking, tops, records_top}
+use Rattle.fo_check_tree.proofs.Formatting.{formed_like, formed_alone, formed_top}
 use Rattle.fo_check_tree.proofs.Judging.{judged_like}
 use Rattle.fo_check_tree.proofs.Listed.{listing_at}
 use Rattle.fo_check_tree.proofs.Marking.{is_pushed}
@@ -150,3 +153,43 @@ returns-in-Ok-clause-dirs g c arena device image s k others shows walking j =
     let pushed' : AreJudged arena image k others (record c.args.walk.now { steps = c.push.new.self }) = judged_like arena device image s k others c.args.walk.now (record c.args.walk.now { steps = c.push.new.self }) refl refl (omega arith) j in
     let after : AreJudged arena image k others c.follow_all.new.walk = c.in_ok-follow_all.ensures.dirs arena device image s k (a ∷ []) others shows next pushed' in
     judged_like arena device image s k others c.follow_all.new.walk _ (ap (λ (x : Labels). x.known.items) (c.note_leaf-2.ensures.labels ∙ c.note_leaf.ensures.labels)) (c.note_leaf-2.ensures.folders ∙ c.note_leaf.ensures.folders) (omega (arith, c.note_leaf-2.ensures.level, c.note_leaf.ensures.level)) after
+
+pub returns-in_default-clause-formed : goal.returns-in_default-clause-formed
+returns-in_default-clause-formed g c arena device image s k others shows walking j =
+    formed_alone arena image k c.args.walk.now.labels.known.items c.args.walk.now.noted c.args.walk.now.steps.items c.args.folder.now (others ++ c.args.walk.now.folders.items) (search rules) j
+
+pub returns-then-not-folder-clause-formed : goal.returns-then-not-folder-clause-formed
+returns-then-not-folder-clause-formed g c arena device image s k others shows walking j =
+    let f = c.args.folder.now in
+    let a : Step = top_step f.entries Bytes f.holder in
+    let b : Step = top_step c.in-Some.records Records f.holder in
+    let both : tops f ≡ a ∷ b ∷ [] = ap (λ (o : Option Entry). top_step f.entries Bytes f.holder ∷ records_top f.holder o) c.in-Some.is in
+    let first : Walking arena device image s k (b ∷ a ∷ []) c.args.walk.now = turned arena device image s k c.args.walk.now c.args.walk.now (record { blocks = refl; epoch = refl; active = refl; labels = refl; noted = refl }) (tops f) a b both refl refl walking in
+    let items : c.push.new.self.items ≡ c.args.walk.now.steps.items ++ b ∷ [] =
+    is_pushed c.push.result c.args.walk.now.steps.items (c.args.walk.now.steps.items ++ c.top-top.result ∷ []) c.push.new.self.items (sym c.is_err.ensures.value ∙ c.if-is_err.false) c.push.ensures.items
+    ∙ ap (λ (x : Step). c.args.walk.now.steps.items ++ x ∷ []) c.top-top.ensures in
+    let next : Walking arena device image s k (a ∷ []) (record c.args.walk.now { steps = c.push.new.self }) = pushed arena device image s k c.args.walk.now (record c.args.walk.now { steps = c.push.new.self }) (record { blocks = refl; epoch = refl; active = refl; labels = refl; noted = refl }) (a ∷ []) c.in-Some.records f.holder Records Records items refl first in
+    let given : AreFormed arena image k c.args.walk.now.labels.known.items c.args.walk.now.noted (c.args.walk.now.steps.items ++ b ∷ []) (others ++ c.args.walk.now.folders.items) =
+    formed_top arena image k c.args.walk.now.labels.known.items c.args.walk.now.noted c.args.walk.now.steps.items f c.in-Some.records (others ++ c.args.walk.now.folders.items) c.in-Some.is j in
+    let pushed' : AreFormed arena image k c.args.walk.now.labels.known.items c.args.walk.now.noted c.push.new.self.items (others ++ c.args.walk.now.folders.items) =
+    subst (λ (xs : List Step). AreFormed arena image k c.args.walk.now.labels.known.items c.args.walk.now.noted xs (others ++ c.args.walk.now.folders.items)) (sym items) given in
+    let after = c.in_ok-follow_all.ensures.formed arena device image s k (a ∷ []) others shows next pushed' in
+    formed_like arena image k c.follow_all.new.walk.labels.known.items _ c.follow_all.new.walk.noted _ c.follow_all.new.walk.steps.items _ (others ++ c.follow_all.new.walk.folders.items) _ (ap (λ (x : Labels). x.known.items) c.note_leaf.ensures.labels) c.note_leaf.ensures.level c.note_leaf.ensures.steps (ap (λ (fs : List Folder). others ++ fs) c.note_leaf.ensures.folders) after
+
+pub returns-in-Ok-clause-formed : goal.returns-in-Ok-clause-formed
+returns-in-Ok-clause-formed g c arena device image s k others shows walking j =
+    let f = c.args.folder.now in
+    let a : Step = top_step f.entries Bytes f.holder in
+    let b : Step = top_step c.in-Some.records Records f.holder in
+    let both : tops f ≡ a ∷ b ∷ [] = ap (λ (o : Option Entry). top_step f.entries Bytes f.holder ∷ records_top f.holder o) c.in-Some.is in
+    let first : Walking arena device image s k (b ∷ a ∷ []) c.args.walk.now = turned arena device image s k c.args.walk.now c.args.walk.now (record { blocks = refl; epoch = refl; active = refl; labels = refl; noted = refl }) (tops f) a b both refl refl walking in
+    let items : c.push.new.self.items ≡ c.args.walk.now.steps.items ++ b ∷ [] =
+    is_pushed c.push.result c.args.walk.now.steps.items (c.args.walk.now.steps.items ++ c.top-top.result ∷ []) c.push.new.self.items (sym c.is_err.ensures.value ∙ c.if-is_err.false) c.push.ensures.items
+    ∙ ap (λ (x : Step). c.args.walk.now.steps.items ++ x ∷ []) c.top-top.ensures in
+    let next : Walking arena device image s k (a ∷ []) (record c.args.walk.now { steps = c.push.new.self }) = pushed arena device image s k c.args.walk.now (record c.args.walk.now { steps = c.push.new.self }) (record { blocks = refl; epoch = refl; active = refl; labels = refl; noted = refl }) (a ∷ []) c.in-Some.records f.holder Records Records items refl first in
+    let given : AreFormed arena image k c.args.walk.now.labels.known.items c.args.walk.now.noted (c.args.walk.now.steps.items ++ b ∷ []) (others ++ c.args.walk.now.folders.items) =
+    formed_top arena image k c.args.walk.now.labels.known.items c.args.walk.now.noted c.args.walk.now.steps.items f c.in-Some.records (others ++ c.args.walk.now.folders.items) c.in-Some.is j in
+    let pushed' : AreFormed arena image k c.args.walk.now.labels.known.items c.args.walk.now.noted c.push.new.self.items (others ++ c.args.walk.now.folders.items) =
+    subst (λ (xs : List Step). AreFormed arena image k c.args.walk.now.labels.known.items c.args.walk.now.noted xs (others ++ c.args.walk.now.folders.items)) (sym items) given in
+    let after = c.in_ok-follow_all.ensures.formed arena device image s k (a ∷ []) others shows next pushed' in
+    formed_like arena image k c.follow_all.new.walk.labels.known.items _ c.follow_all.new.walk.noted _ c.follow_all.new.walk.steps.items _ (others ++ c.follow_all.new.walk.folders.items) _ (ap (λ (x : Labels). x.known.items) (c.note_leaf-2.ensures.labels ∙ c.note_leaf.ensures.labels)) (omega (arith, c.note_leaf-2.ensures.level, c.note_leaf.ensures.level)) (c.note_leaf-2.ensures.steps ∙ c.note_leaf.ensures.steps) (ap (λ (fs : List Folder). others ++ fs) (c.note_leaf-2.ensures.folders ∙ c.note_leaf.ensures.folders)) after

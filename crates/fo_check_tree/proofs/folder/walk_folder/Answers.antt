@@ -1,13 +1,16 @@
-use Rattle.std.proofs.Common.{◌≡◌, [], ◌∷◌, ◌++◌, refl, sym, ap, ◌∙◌, subst, arith}
+use Rattle.std.proofs.Common.{◌≡◌, List, [], ◌∷◌, ◌++◌, refl, sym, ap, ◌∙◌, subst, arith}
 use Rattle.std.proofs.lemmas.Result.{err_from_is_err_and}
 use Rattle.fo_disk.specs.Disk.{DiskState}
 use Rattle.fo_sound.specs.Device.{Shows}
 use Rattle.fo_check_tree.specs.declared.walk.Holds.TheVariants.{Bytes}
 use Rattle.fo_check_tree.specs.declared.walk.Step.{Step}
 use Rattle.fo_check_tree.specs.declared.labels.Labels.{Labels}
+use Rattle.fo_check_tree.specs.declared.walk.Folder.{Folder}
+use Rattle.fo_check_tree.specs.Formats.{AreFormed}
 use Rattle.fo_check_tree.specs.Dirs.{AreJudged}
 use Rattle.fo_check_tree.specs.Slots.{top_step}
 use Rattle.fo_check_tree.specs.Walking.{Walking, tops}
+use Rattle.fo_check_tree.proofs.Formatting.{formed_like, formed_push}
 use Rattle.fo_check_tree.proofs.Judging.{judged_like}
 use Rattle.fo_check_tree.proofs.Marking.{is_pushed}
 use Rattle.fo_check_tree.proofs.Noting.{lowers_leaf}
@@ -106,3 +109,39 @@ returns-clause-dirs g c arena device image s k others shows walking j =
     let next' : AreJudged arena image k others (record c.list.new.walk { steps = c.push.new.self }) = judged_like arena device image s k others c.list.new.walk (record c.list.new.walk { steps = c.push.new.self }) refl refl (omega arith) listed' in
     judged_like arena device image s k others c.follow_all.new.walk c.note_leaf.new.self (ap (λ (x : Labels). x.known.items) c.note_leaf.ensures.labels) c.note_leaf.ensures.folders c.note_leaf.ensures.level
     (c.in_ok-follow_all.ensures.dirs arena device image s k [] others still next next')
+
+pub returns-then-not-folder-clause-formed : goal.returns-then-not-folder-clause-formed
+returns-then-not-folder-clause-formed g c arena device image s k others shows walking j =
+    let f = c.args.folder.now in
+    let a : Step = top_step f.entries Bytes f.holder in
+    let fresh = emptied arena device image s k c.args.walk.now (record c.args.walk.now { named = c.new.result }) (record { blocks = refl; epoch = refl; active = refl; labels = refl; noted = refl }) (tops f) refl refl walking in
+    let listed : Walking arena device image s k (a ∷ []) c.list.new.walk = c.in_ok-list.ensures.walks arena device image s k shows fresh in
+    let items : c.push.new.self.items ≡ c.list.new.walk.steps.items ++ top_step f.entries c.if-folder.holds f.holder ∷ [] =
+    is_pushed c.push.result c.list.new.walk.steps.items (c.list.new.walk.steps.items ++ c.top-top.result ∷ []) c.push.new.self.items (sym c.is_err.ensures.value ∙ c.if-is_err.false) c.push.ensures.items
+    ∙ ap (λ (x : Step). c.list.new.walk.steps.items ++ x ∷ []) c.top-top.ensures in
+    let next : Walking arena device image s k [] (record c.list.new.walk { steps = c.push.new.self }) = pushed arena device image s k c.list.new.walk (record c.list.new.walk { steps = c.push.new.self }) (record { blocks = refl; epoch = refl; active = refl; labels = refl; noted = refl }) [] f.entries f.holder Bytes c.if-folder.holds items refl listed in
+    let still : Shows (g.D.Disk.state c.list.new.main).holds device = subst (λ (s : DiskState). Shows s.holds device) (sym c.list.ensures.kept) shows in
+    let listed' = c.in_ok-list.ensures.formed arena device image s k others shows fresh j in
+    let grown = formed_push arena image k c.list.new.walk.labels.known.items c.list.new.walk.noted c.list.new.walk.steps.items (top_step f.entries c.if-folder.holds f.holder ∷ []) (others ++ c.list.new.walk.folders.items) listed' in
+    let next' : AreFormed arena image k c.list.new.walk.labels.known.items c.list.new.walk.noted c.push.new.self.items (others ++ c.list.new.walk.folders.items) =
+    subst (λ (xs : List Step). AreFormed arena image k c.list.new.walk.labels.known.items c.list.new.walk.noted xs (others ++ c.list.new.walk.folders.items)) (sym items) grown in
+    c.in_ok-follow_all.ensures.formed arena device image s k [] others still next next'
+
+pub returns-clause-formed : goal.returns-clause-formed
+returns-clause-formed g c arena device image s k others shows walking j =
+    let f = c.args.folder.now in
+    let a : Step = top_step f.entries Bytes f.holder in
+    let fresh = emptied arena device image s k c.args.walk.now (record c.args.walk.now { named = c.new.result }) (record { blocks = refl; epoch = refl; active = refl; labels = refl; noted = refl }) (tops f) refl refl walking in
+    let listed : Walking arena device image s k (a ∷ []) c.list.new.walk = c.in_ok-list.ensures.walks arena device image s k shows fresh in
+    let items : c.push.new.self.items ≡ c.list.new.walk.steps.items ++ top_step f.entries c.if-folder.holds f.holder ∷ [] =
+    is_pushed c.push.result c.list.new.walk.steps.items (c.list.new.walk.steps.items ++ c.top-top.result ∷ []) c.push.new.self.items (sym c.is_err.ensures.value ∙ c.if-is_err.false) c.push.ensures.items
+    ∙ ap (λ (x : Step). c.list.new.walk.steps.items ++ x ∷ []) c.top-top.ensures in
+    let next : Walking arena device image s k [] (record c.list.new.walk { steps = c.push.new.self }) = pushed arena device image s k c.list.new.walk (record c.list.new.walk { steps = c.push.new.self }) (record { blocks = refl; epoch = refl; active = refl; labels = refl; noted = refl }) [] f.entries f.holder Bytes c.if-folder.holds items refl listed in
+    let still : Shows (g.D.Disk.state c.list.new.main).holds device = subst (λ (s : DiskState). Shows s.holds device) (sym c.list.ensures.kept) shows in
+    let listed' = c.in_ok-list.ensures.formed arena device image s k others shows fresh j in
+    let grown = formed_push arena image k c.list.new.walk.labels.known.items c.list.new.walk.noted c.list.new.walk.steps.items (top_step f.entries c.if-folder.holds f.holder ∷ []) (others ++ c.list.new.walk.folders.items) listed' in
+    let next' : AreFormed arena image k c.list.new.walk.labels.known.items c.list.new.walk.noted c.push.new.self.items (others ++ c.list.new.walk.folders.items) =
+    subst (λ (xs : List Step). AreFormed arena image k c.list.new.walk.labels.known.items c.list.new.walk.noted xs (others ++ c.list.new.walk.folders.items)) (sym items) grown in
+    formed_like arena image k c.follow_all.new.walk.labels.known.items _ c.follow_all.new.walk.noted _ c.follow_all.new.walk.steps.items _ (others ++ c.follow_all.new.walk.folders.items) _
+    (ap (λ (x : Labels). x.known.items) c.note_leaf.ensures.labels) c.note_leaf.ensures.level c.note_leaf.ensures.steps (ap (λ (fs : List Folder). others ++ fs) c.note_leaf.ensures.folders)
+    (c.in_ok-follow_all.ensures.formed arena device image s k [] others still next next')
