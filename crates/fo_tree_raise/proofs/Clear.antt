@@ -1,19 +1,19 @@
 -- No block stands behind the last leaf.
-use Rattle.std.proofs.Common.{◌≡◌, ◌≢◌, ◌⊎◌, ◌+◌, ◌-◌, ◌*◌, ◌/◌, ◌%◌, ◌^◌, ◌<◌, ◌≤◌, ℕ, zero, suc, List, inl, inr, ⊎_elim, refl, sym, ◌∙◌, ap, subst, arith}
+use Rattle.std.proofs.Common.{◌≡◌, ◌+◌, ◌*◌, ◌/◌, ◌%◌, ◌^◌, ◌<◌, ◌≤◌, ℕ, zero, suc, List, inl, inr, ⊎_elim, sym, ◌∙◌, ap, subst, arith}
 use Rattle.std.proofs.lemmas.Bool.{cases_eq, cases_lt}
 use Rattle.std.proofs.Math.Nat.{pow-succ'}
 use Rattle.fo_image.specs.declared.types.Pointer.{Pointer}
-use Rattle.fo_image.specs.declared.types.Pointer.TheVariants.{Nil, Local}
+use Rattle.fo_image.specs.declared.types.Pointer.TheVariants.{Nil}
 use Rattle.fo_ports.specs.State.{State, KeepsAll}
 use Rattle.fo_tree_read.specs.declared.tree.Tree.{Tree}
 use Rattle.fo_tree_read.specs.Tree.{kind_down, below, block_at}
 use Rattle.fo_tree_look.specs.declared.ways.Kept.{Kept}
-use Rattle.fo_tree_look.specs.Source.{Ready, WayReady, Prepared, seen}
+use Rattle.fo_tree_look.specs.Source.{Ready, WayReady, seen}
 use Rattle.fo_tree_look.proofs.Shown.{top_ready}
 use Rattle.fo_tree_down.specs.Way.{IsWayIndex}
-use Rattle.fo_tree_down.proofs.Beside.{index_last, index_top, index_within}
+use Rattle.fo_tree_down.proofs.Beside.{index_last, index_within}
 use Rattle.fo_tree_raise.specs.Raise.{Raises, raised, EndsClear, last_leaf}
-use Rattle.fo_tree_raise.proofs.Levels.{below_same, level_up, level_none, seen_held, known, way_same, way_on, way_raised}
+use Rattle.fo_tree_raise.proofs.Levels.{below_same, level_up, level_none, seen_held, known, way_same, way_raised}
 
 -- ---- which blocks stand on the way to the last leaf
 

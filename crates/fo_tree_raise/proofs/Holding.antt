@@ -1,5 +1,5 @@
 -- The top of a source was copied.
-use Rattle.std.proofs.Common.{◌≡◌, ◌≢◌, ◌⊎◌, ◌↔◌, ◌+◌, ◌-◌, ◌*◌, ◌/◌, ◌%◌, ◌^◌, ◌<◌, ◌≤◌, ℕ, zero, suc, Bool, true, false, List, [], ◌∷◌, inl, inr, ⊎_elim, refl, sym, ◌∙◌, ap, subst, arith}
+use Rattle.std.proofs.Common.{◌≡◌, ◌≢◌, ◌+◌, ◌*◌, ◌/◌, ◌%◌, ◌^◌, ◌<◌, ◌≤◌, ℕ, zero, suc, Bool, true, false, List, [], ◌∷◌, inl, inr, ⊎_elim, sym, ◌∙◌, ap, subst, arith}
 use Rattle.std.proofs.lemmas.Bool.{cases_eq}
 use Rattle.std.proofs.Math.Nat.{pow-succ'}
 use Rattle.fo_image.specs.declared.types.Kind.{Kind}
@@ -8,7 +8,7 @@ use Rattle.fo_image.specs.declared.types.Label.{Label}
 use Rattle.fo_image.specs.declared.types.Score.{Score}
 use Rattle.fo_image.specs.declared.types.State.TheVariants.{Live}
 use Rattle.fo_image.specs.declared.types.Pointer.{Pointer}
-use Rattle.fo_image.specs.declared.types.Pointer.TheVariants.{Nil, Local, Score as Held}
+use Rattle.fo_image.specs.declared.types.Pointer.TheVariants.{Nil, Local}
 use Rattle.fo_crash.specs.declared.slot.Slot.{Slot}
 use Rattle.fo_crash.specs.declared.place.Place.{Place}
 use Rattle.fo_crash.specs.Images.{Image, SameContent, Reaches, target, walk, to_block}
@@ -16,15 +16,14 @@ use Rattle.fo_crash.specs.Places.{place, super_place}
 use Rattle.fo_crash.proofs.Places.{stands_below, never_above}
 use Rattle.fo_crash.proofs.Reach.{reach_aside, reach_into, reaches_joins}
 use Rattle.fo_ports.specs.State.{State, KeepsAll}
-use Rattle.fo_ports.specs.Sources.{IsHung, HangsApart, Made, IsMade}
+use Rattle.fo_ports.specs.Sources.{IsHung, Made, IsMade}
 use Rattle.fo_tree_read.specs.declared.tree.Tree.{Tree}
 use Rattle.fo_tree_read.specs.Tree.{kind_at, kind_down, below, block_at}
 use Rattle.fo_tree_look.specs.declared.ways.Kept.{Kept}
-use Rattle.fo_tree_look.specs.Source.{IsTold, IsPrepared, Ready, WayReady, Prepared, or_held, find_kept, seen}
-use Rattle.fo_tree_look.proofs.Shown.{top_ready}
+use Rattle.fo_tree_look.specs.Source.{Ready, WayReady, Prepared, or_held, find_kept, seen}
 use Rattle.fo_tree_own.proofs.Link.{Laws, Came, local_eq}
 use Rattle.fo_tree_down.specs.Way.{IsWayIndex, with_top}
-use Rattle.fo_tree_raise.specs.Raise.{UnderTold, IsUnder, CanRaise, EndsClear, last_leaf}
+use Rattle.fo_tree_raise.specs.Raise.{IsUnder, CanRaise, EndsClear, last_leaf}
 use Rattle.fo_tree_raise.specs.Levels.{IsAmong, Adds}
 use Rattle.fo_tree_raise.proofs.Levels.{below_same}
 use Rattle.fo_tree_raise.proofs.Clear.{index_above, way_part}

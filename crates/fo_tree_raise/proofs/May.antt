@@ -1,25 +1,23 @@
 -- A block that was given out may lead to the top of a source.
-use Rattle.std.proofs.Common.{◌≡◌, ◌≢◌, ◌⊎◌, ◌+◌, ◌-◌, ◌*◌, ◌<◌, ◌≤◌, ℕ, zero, suc, Bool, true, false, List, [], ◌∷◌, length, inl, inr, ⊎_elim, refl, sym, ◌∙◌, ap, subst, arith}
-use Rattle.std.proofs.lemmas.Bool.{cases_eq}
+use Rattle.std.proofs.Common.{◌≡◌, ◌≢◌, ◌⊎◌, ◌+◌, ◌<◌, ◌≤◌, ℕ, suc, Bool, true, false, length, inl, inr, ⊎_elim, refl, sym, ◌∙◌, ap, subst, arith}
 use Rattle.fo_image.specs.declared.types.Label.{Label}
 use Rattle.fo_image.specs.declared.types.Score.{Score}
 use Rattle.fo_image.specs.declared.types.State.TheVariants.{Live}
 use Rattle.fo_image.specs.declared.types.Pointer.{Pointer}
 use Rattle.fo_image.specs.declared.types.Pointer.TheVariants.{Nil, Local, Score as Held}
-use Rattle.fo_crash.specs.declared.slot.Slot.{Slot}
 use Rattle.fo_crash.specs.declared.slot.Slot.TheVariants.{Pointer as To}
 use Rattle.fo_crash.specs.declared.place.Place.{Place}
-use Rattle.fo_crash.specs.Images.{Image, SameContent, Reaches, target, walk, to_block}
+use Rattle.fo_crash.specs.Images.{Reaches, target, to_block}
 use Rattle.fo_crash.specs.Places.{place, place_below, super_place}
 use Rattle.fo_crash.proofs.Places.{stands_below}
-use Rattle.fo_crash.proofs.Reach.{lost, reach_aside, reach_into, reaches_itself, reaches_same}
+use Rattle.fo_crash.proofs.Reach.{lost, reach_aside, reach_into, reaches_itself}
 use Rattle.fo_ports.specs.Blocks.{IsInner, SlotFits, slot_count, cost, dropped, blank_slot, IsLevel}
 use Rattle.fo_ports.specs.State.{State, KeepsAll, Comes, IsLoose, MayPutSlot}
 use Rattle.fo_tree_read.specs.declared.tree.Tree.{Tree}
 use Rattle.fo_tree_read.specs.Tree.{kind_at}
 use Rattle.fo_tree_read.proofs.Walk.{inner_kind}
-use Rattle.fo_tree_own.proofs.Link.{Laws, Came, local_eq, inner_slots, inner_below, pointer_fits}
-use Rattle.fo_tree_raise.specs.Raise.{UnderTold, IsUnder, CanRaise}
+use Rattle.fo_tree_own.proofs.Link.{Laws, Came, inner_slots, inner_below, pointer_fits}
+use Rattle.fo_tree_raise.specs.Raise.{CanRaise}
 
 -- A block of zeros was given out for the place above the source's top.
 pub record Lifting (t : Tree) (l : Label) (result : ℕ) (s m : State) : Type 0 where

@@ -1,27 +1,26 @@
 -- A new top was raised over the top of a source.
-use Rattle.std.proofs.Common.{◌≡◌, ◌≢◌, ◌⊎◌, ◌↔◌, ◌+◌, ◌-◌, ◌*◌, ◌<◌, ◌≤◌, ℕ, zero, suc, List, [], ◌∷◌, length, inl, inr, ⊎_elim, refl, sym, ◌∙◌, ap, subst, arith}
+use Rattle.std.proofs.Common.{◌≡◌, ◌≢◌, ◌⊎◌, ◌↔◌, ◌+◌, ◌≤◌, ℕ, suc, List, [], ◌∷◌, length, inl, inr, ⊎_elim, refl, sym, ◌∙◌, ap, subst, arith}
 use Rattle.std.proofs.lemmas.Bool.{cases_eq}
 use Rattle.fo_image.specs.declared.types.Label.{Label}
 use Rattle.fo_image.specs.declared.types.State.TheVariants.{Live}
 use Rattle.fo_image.specs.declared.types.Pointer.{Pointer}
 use Rattle.fo_image.specs.declared.types.Pointer.TheVariants.{Nil, Local, Score as Held}
-use Rattle.fo_crash.specs.declared.slot.Slot.{Slot}
 use Rattle.fo_crash.specs.declared.slot.Slot.TheVariants.{Pointer as To}
 use Rattle.fo_crash.specs.declared.place.Place.{Place}
-use Rattle.fo_crash.specs.Images.{Image, SameContent, Reaches, target, local, walk, to_block, with_slot}
+use Rattle.fo_crash.specs.Images.{Image, SameContent, Reaches, target, walk, to_block, with_slot}
 use Rattle.fo_crash.specs.Steps.{PutsSlot, AddsSlot, Covers}
 use Rattle.fo_crash.specs.Places.{place, super_place}
 use Rattle.fo_crash.proofs.Reach.{lost, reach_aside, reach_into, reaches_itself, reaches_from, reaches_same}
 use Rattle.fo_crash.proofs.Updates.{slot_bytes, slot_other}
-use Rattle.fo_ports.specs.State.{State, KeepsAll, none, Frame, Hangs, KeepsOrder, AddsNoWait, IsPointers, IsRaised}
+use Rattle.fo_ports.specs.State.{State, KeepsAll, none, Frame, Hangs, KeepsOrder, AddsNoWait, IsPointers}
 use Rattle.fo_ports.specs.Sources.{IsHung, HangsApart, Made}
 use Rattle.fo_tree_read.specs.declared.tree.Tree.{Tree}
 use Rattle.fo_tree_read.specs.Tree.{kind_at}
 use Rattle.fo_tree_own.specs.Step.{IsOwn, IsBeside}
 use Rattle.fo_tree_own.proofs.Link.{Laws, Came, local_eq}
 use Rattle.fo_tree_down.proofs.Join.{local_cases}
-use Rattle.fo_tree_raise.specs.Raise.{UnderTold, IsUnder, CanRaise, IsWithout, Raises, raised}
-use Rattle.fo_tree_raise.proofs.May.{Lifting, told_mid, under_ne, bare_none, away, reaches_mid, back, brings_mid, under_stands, place_is}
+use Rattle.fo_tree_raise.specs.Raise.{IsUnder, CanRaise, IsWithout, Raises, raised}
+use Rattle.fo_tree_raise.proofs.May.{Lifting, told_mid, under_ne, bare_none, away, reaches_mid, back, place_is}
 
 -- The slot was put.
 pub record Lifted (t : Tree) (l : Label) (result n : ℕ) (beside : Image → Type 0) (s m u : State) : Type 0 where

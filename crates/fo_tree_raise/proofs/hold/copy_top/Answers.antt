@@ -1,17 +1,15 @@
-use Rattle.std.proofs.Common.{◌≡◌, ◌+◌, ◌-◌, ◌*◌, ◌^◌, ◌<◌, ◌≤◌, ℕ, List, length, inl, inr, ⊎_elim, refl, sym, ◌∙◌, ap, subst, arith}
+use Rattle.std.proofs.Common.{◌≡◌, ◌+◌, ◌-◌, ◌^◌, ◌<◌, ℕ, length, inl, ⊎_elim, refl, sym, ◌∙◌, ap, subst, arith}
 use Rattle.std.proofs.lemmas.Bool.{cases_eq}
 use Rattle.fo_image.specs.declared.types.State.TheVariants.{Live}
 use Rattle.fo_image.specs.declared.types.Label.{Label}
 use Rattle.fo_image.specs.declared.types.Pointer.{Pointer}
 use Rattle.fo_image.specs.declared.types.Pointer.TheVariants.{Nil, Local}
 use Rattle.fo_crash.specs.Places.{place}
-use Rattle.fo_ports.specs.State.{State}
-use Rattle.fo_ports.specs.Sources.{Made}
 use Rattle.fo_tree_read.specs.Tree.{kind_at}
-use Rattle.fo_tree_look.specs.Source.{IsPrepared, HasBlock, WayReady, Ready, Over}
+use Rattle.fo_tree_look.specs.Source.{IsPrepared, WayReady, Ready}
 use Rattle.fo_tree_own.specs.Step.{Becomes}
 use Rattle.fo_tree_own.proofs.Link.{Laws, came}
-use Rattle.fo_tree_down.specs.Way.{Comes, with_top}
+use Rattle.fo_tree_down.specs.Way.{Comes}
 use Rattle.fo_tree_down.proofs.Topping.{comes_topped}
 use Rattle.fo_tree_down.proofs.Join.{changes_of}
 use Rattle.fo_tree_down.proofs.Leading.{top_came}

@@ -1,12 +1,11 @@
-use Rattle.std.proofs.Common.{◌≡◌, ◌+◌, ◌-◌, ◌*◌, ◌^◌, ◌<◌, ◌≤◌, ℕ, suc, length, refl, sym, ap, ◌∙◌, subst, arith}
+use Rattle.std.proofs.Common.{◌≡◌, ◌+◌, ◌-◌, ◌^◌, suc, length, refl, sym, ap, ◌∙◌, subst, arith}
 use Rattle.fo_image.specs.declared.types.State.TheVariants.{Live}
 use Rattle.fo_image.specs.declared.types.Label.{Label}
-use Rattle.fo_image.specs.declared.types.Pointer.TheVariants.{Nil, Local}
-use Rattle.fo_crash.specs.Images.{Image, target, to_block, Reaches}
+use Rattle.fo_crash.specs.Images.{target}
 use Rattle.fo_crash.specs.Places.{place, IsPlaced}
 use Rattle.fo_crash.specs.declared.slot.Slot.TheVariants.{Pointer as To}
 use Rattle.fo_ports.specs.Blocks.{blank, IsLevel, cost}
-use Rattle.fo_ports.specs.State.{State, Gives}
+use Rattle.fo_ports.specs.State.{Gives}
 use Rattle.fo_ports.proofs.Lengths.{length_zero_bytes}
 use Rattle.fo_tree_read.specs.Tree.{kind_at}
 use Rattle.fo_tree_own.proofs.Link.{Laws, came, blank_leads}
