@@ -1,13 +1,13 @@
 -- What a source has that grew within its levels.
 use Rattle.std.specs.List.{range_with_len}
-use Rattle.std.proofs.Common.{◌≡◌, ◌≢◌, ◌⊎◌, ◌+◌, ◌-◌, ◌*◌, ◌/◌, ◌%◌, ◌^◌, ◌<◌, ◌≤◌, ℕ, List, length, take, map, slice_index, Option, Some, None, MatchOption, inl, inr, ⊎_elim, refl, sym, ◌∙◌, ap, subst, arith}
+use Rattle.std.proofs.Common.{◌≡◌, ◌⊎◌, ◌+◌, ◌-◌, ◌*◌, ◌/◌, ◌%◌, ◌<◌, ◌≤◌, ℕ, List, length, take, map, slice_index, Option, Some, None, MatchOption, inl, inr, ⊎_elim, refl, sym, ◌∙◌, ap, subst, arith}
 use Rattle.std.proofs.lemmas.Bool.{cases_lt}
 use Rattle.std.proofs.lemmas.List.{length-take, get_or-take, get_or_past}
 use Rattle.std.proofs.lemmas.List.FromFn.{length-map-range_with_len, get_or-map-range_with_len}
 use Rattle.fo_sparse.specs.Written.{resized}
 use Rattle.fo_sparse.proofs.Lists.{is_resized}
 use Rattle.fo_crash.specs.Images.{SameContent}
-use Rattle.fo_ports.specs.Blocks.{blank, zero_bytes}
+use Rattle.fo_ports.specs.Blocks.{blank}
 use Rattle.fo_ports.specs.State.{State}
 use Rattle.fo_ports.specs.Sources.{Form, Leaves, Made, Touched, Changes, IsCut, EndsWithin, StaysLeaf, Owned, byte_at, source_bytes}
 use Rattle.fo_tree_read.specs.declared.tree.Tree.{Tree}

@@ -1,14 +1,14 @@
 -- A tree seen with another size.
-use Rattle.std.proofs.Common.{◌≡◌, ◌⊎◌, ◌+◌, ◌-◌, ◌*◌, ◌/◌, ◌%◌, ◌^◌, ◌<◌, ◌≤◌, ℕ, zero, suc, Bool, true, false, cond, nat_le, nat_lt, List, Option, Some, None, inl, inr, ⊎_elim, refl, sym, ◌∙◌, ap, subst, arith}
+use Rattle.std.proofs.Common.{◌≡◌, ◌+◌, ◌-◌, ◌*◌, ◌/◌, ◌%◌, ◌^◌, ◌<◌, ◌≤◌, ℕ, zero, suc, Bool, true, false, cond, nat_le, nat_lt, List, None, ⊎_elim, refl, sym, ◌∙◌, ap, subst, arith}
 use Rattle.std.proofs.lemmas.Bool.{cases_lt, leb-true, lt-ltb, le-ltb}
 use Rattle.fo_image.specs.declared.types.Pointer.{Pointer}
 use Rattle.fo_image.specs.declared.types.Pointer.TheVariants.{Nil, Local, Score as Held}
 use Rattle.fo_ports.specs.State.{State}
 use Rattle.fo_ports.specs.Sources.{depth_for}
 use Rattle.fo_tree_read.specs.declared.tree.Tree.{Tree}
-use Rattle.fo_tree_read.specs.Tree.{kind_at, kind_down, below, block_at, leaf_at, address_of, held_of, Hangs}
+use Rattle.fo_tree_read.specs.Tree.{kind_at, kind_down, below, block_at, leaf_at, address_of, held_of}
 use Rattle.fo_tree_look.specs.declared.ways.Kept.{Kept}
-use Rattle.fo_tree_look.specs.Source.{HasBlock, IsTold, NoneHeld, Over, Prepared, Ready, WayReady, IsTopCurrent, address_here, held_here, seen}
+use Rattle.fo_tree_look.specs.Source.{HasBlock, Over, Prepared, Ready, WayReady, IsTopCurrent, address_here, held_here, seen}
 use Rattle.fo_tree_look.proofs.Held.{seen_address}
 use Rattle.fo_tree_down.proofs.Beside.{index_last}
 use Rattle.fo_tree_raise.specs.Raise.{EndsClear, last_leaf}

@@ -1,5 +1,5 @@
 -- A source that grows.
-use Rattle.std.specs.Prelude.{◌≡◌, ◌*◌, ◌/◌, ◌%◌, ◌≤◌, ℕ, List}
+use Rattle.std.specs.Prelude.{◌≡◌, ◌/◌, ◌%◌, ◌≤◌, ℕ, List}
 use Rattle.fo_ports.specs.State.{State}
 use Rattle.fo_ports.specs.Sources.{byte_at}
 use Rattle.fo_tree_read.specs.declared.tree.Tree.{Tree}

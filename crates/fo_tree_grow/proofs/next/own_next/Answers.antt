@@ -1,12 +1,12 @@
-use Rattle.std.proofs.Common.{◌≡◌, ◌≢◌, ◌⊎◌, ◌+◌, ◌-◌, ◌*◌, ◌^◌, ◌<◌, ◌≤◌, ℕ, inl, inr, ⊎_elim, refl, sym, ◌∙◌, ap, subst, arith}
-use Rattle.fo_ports.specs.Sources.{IsEnough, Owned, Changes, Grows, depth_for, most_to_own}
+use Rattle.std.proofs.Common.{◌≡◌, ◌≢◌, ◌+◌, ◌*◌, ◌^◌, ◌≤◌, ℕ, inl, inr, ⊎_elim, refl, sym, ◌∙◌, subst, arith}
+use Rattle.fo_ports.specs.Sources.{IsEnough, Owned, Changes, Grows, most_to_own}
 use Rattle.fo_tree_read.specs.declared.tree.Tree.{Tree}
 use Rattle.fo_tree_read.specs.Tree.{kind_at}
 use Rattle.fo_tree_look.specs.Source.{Over, Prepared, IsTopCurrent, HasBlock, form_of, leaves_of}
 use Rattle.fo_tree_down.specs.Way.{IsTopOf, with_top}
 use Rattle.fo_tree_leaf.proofs.Owning.{most_within}
 use Rattle.fo_tree_grow.specs.Grow.{sized}
-use Rattle.fo_tree_grow.proofs.Sizing.{room_for, has_sized, has_back, top_sized, top_back, over_sized, prepared_sized, address_sized, held_sized}
+use Rattle.fo_tree_grow.proofs.Sizing.{room_for, has_back, top_sized, over_sized, prepared_sized, address_sized, held_sized}
 use Rattle.fo_tree_grow.proofs.Growing.{changes_of, top_of_sized, owned_sized, bytes_sized}
 use Rattle.fo_tree_grow.proofs.next.own_next.Given as given
 use Rattle.fo_tree_grow.proofs.next.own_next.Goals as goal
