@@ -8,3 +8,6 @@ pub mod Looking
 pub mod Putting
 pub mod Refilling
 pub mod Results
+pub mod Starting
+pub mod Still
+pub mod Waits

@@ -1,12 +1,11 @@
 -- A pinned block gets other bytes.
-use Rattle.std.proofs.Common.{◌≡◌, ◌≢◌, ◌⊎◌, inl, inr, ⊎_elim, ℕ, zero, suc, ◌+◌, ◌-◌, ◌*◌, ◌<◌, ◌≤◌, ◌&&◌, ◌||◌, Bool, true, false, not, cond, nat_eq, List, [], ◌++◌, take, drop, length, set, count_by, Option, Some, None, refl, sym, ap, ◌∙◌, subst, arith}
+use Rattle.std.proofs.Common.{◌≡◌, ◌≢◌, ◌⊎◌, inl, inr, ⊎_elim, ℕ, zero, suc, ◌+◌, ◌-◌, ◌*◌, ◌<◌, ◌&&◌, ◌||◌, Bool, true, false, not, cond, nat_eq, List, ◌++◌, take, drop, length, set, Option, Some, None, refl, sym, ap, ◌∙◌, subst, arith}
 use Rattle.std.specs.Option.{option_map, option_map_or}
 use Rattle.std.specs.Map.{lookup}
 use Rattle.std.proofs.lemmas.Bool.{cases_eq}
 use Rattle.std.proofs.lemmas.List.{append-nil, drop_all, length-set, get_or-set_same, get_or-set_other}
 use Rattle.std.proofs.lemmas.List.Sums.{sum_by-set, get_or-le-sum_by}
 use Rattle.fo_disk.specs.Disk.{versions_of, latest_of}
-use Rattle.fo_image.specs.Usable.{is_usable}
 use Rattle.fo_image.specs.declared.types.Kind.{Kind}
 use Rattle.fo_image.specs.declared.types.Kind.TheVariants.{Data, Dir, Root}
 use Rattle.fo_buffers.specs.declared.block.Buffer.{Buffer}
@@ -16,22 +15,21 @@ use Rattle.fo_order.specs.Keeps.{Turns}
 use Rattle.fo_order.specs.Flags.{flags_of, quiet}
 use Rattle.fo_order.specs.Turns.{flag_at, changed, noted}
 use Rattle.fo_labels.specs.Region.{Region}
-use Rattle.fo_crash.specs.Images.{Content, SameContent, target}
+use Rattle.fo_crash.specs.Images.{Content, target}
 use Rattle.fo_crash.specs.Steps.{PutsBytes}
 use Rattle.fo_slots.specs.Read.{blanked, read}
 use Rattle.fo_ports.specs.Blocks.{ReadsSlots, MayPut, put_at}
 use Rattle.fo_ports.specs.State.{AddsNoWait, Calm, none}
-use Rattle.fo_bring.specs.Blocks.{IsData, Good, HasZeros}
+use Rattle.fo_bring.specs.Blocks.{Good, HasZeros}
 use Rattle.fo_bring.proofs.Buffering.{put_same, put_other}
 use Rattle.fo_mind.specs.declared.facts.Fact.{Fact}
 use Rattle.fo_mind.specs.declared.facts.Wait.{Wait}
-use Rattle.fo_mind.specs.Parts.{Parts, state_of, IsDirty, IsPinned, Listed, bytes_of, bytes_at, content_at, fact_at, label_at, memory, no_fact, is_active, one_content}
+use Rattle.fo_mind.specs.Parts.{Parts, state_of, IsDirty, IsPinned, Listed, bytes_of, content_at, fact_at, label_at, memory, no_fact, is_active, one_content}
 use Rattle.fo_mind.specs.Sound.{Placed, Holding, Waiting, Owing, Roomy, owes}
 use Rattle.fo_mind.specs.Frames.{SameMarks}
 use Rattle.fo_mind.specs.Changes.{Refilled, takes_turn, turned, turned_facts}
 use Rattle.fo_mind.specs.Laws.{beyond, held_content, pinned_held}
-use Rattle.fo_mind.proofs.Keeping.{holding_more, waiting_like}
-use Rattle.fo_mind.proofs.Looking.{same_content}
+use Rattle.fo_mind.proofs.Keeping.{holding_more}
 use Rattle.fo_mind.proofs.Getting.{same_marks}
 use Rattle.fo_mind.proofs.Giving.{change_count, change_other}
 use Rattle.fo_mind.proofs.Putting.{blanked_put}

@@ -4,6 +4,8 @@ pub mod Got
 pub mod Lawful
 pub mod Laws
 pub mod MindParts
+pub mod Opened
 pub mod Parts
 pub mod Props
 pub mod Sound
+pub mod Waited

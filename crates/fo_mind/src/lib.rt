@@ -21,8 +21,11 @@ mod gets;
 mod laws;
 mod mind;
 mod news;
+mod numbers;
+mod opening;
 mod puts;
 mod views;
+mod waiting;
 
 pub use facts::{Clearing, Fact, Wait};
 pub use mind::Mind;

@@ -1,13 +1,15 @@
 //! What is asked of memory.
-ghost use Rattle.std.specs.Prelude.{◌≡◌, ◌<◌, ◌↔◌, ◌&&◌, ◌==◌, ℕ, true, IsTrue};
+ghost use Rattle.std.specs.Prelude.{◌≡◌, ◌<◌, ◌↔◌, ◌&&◌, ◌==◌, ℕ, true, length, IsTrue};
 ghost use Rattle.std.specs.List.{list_any};
 ghost use Rattle.fo_disk.specs.Disk.{Content as Holds};
 ghost use Rattle.fo_ports.specs.Blocks.{slot_count};
+ghost use Rattle.fo_bring.specs.Blocks.{IsData};
 ghost use Rattle.fo_mind.specs.Parts.{IsPinned, Clears, fact_at, label_at, memory};
 ghost use Rattle.fo_mind.specs.MindParts.{parts};
 
 use crate::facts::Clearing;
 use crate::mind::Mind;
+use fo_bring::is_data;
 use fo_crash::Slot;
 use fo_image::Pointer;
 use fo_slots::slot_of;
@@ -20,7 +22,7 @@ fn any_listed(list: &[Clearing], at: u32, i: u32) -> bool
 }
 
 // Whether a slot waits to be cleared.
-fn is_listed(list: &[Clearing], at: u32, i: u32) -> bool
+pub(crate) fn is_listed(list: &[Clearing], at: u32, i: u32) -> bool
     ensures { IsTrue result ↔ Clears list.now at i }
 {
     any_listed(list, at, i)
@@ -68,5 +70,47 @@ impl Mind {
         ensures { result ≡ self.now.one.active }
     {
         self.one.active
+    }
+
+    /// Whether this is the address of a data block.
+    pub fn is_block(&self, at: u32) -> bool
+        ensures { IsTrue result ↔ IsData self.now.first self.now.count at }
+    {
+        is_data(self.first, self.count, at)
+    }
+
+    /// How many addresses there are.
+    pub fn count(&self) -> u32
+        ensures { result ≡ self.now.count }
+    {
+        self.count
+    }
+
+    /// How many blocks may be made.
+    pub fn spare(&self) -> u32
+        ensures { result ≡ self.now.spare }
+    {
+        self.spare
+    }
+
+    /// How many more blocks may be pinned.
+    pub fn pins(&self) -> u32
+        ensures { result ≡ self.now.pins }
+    {
+        self.pins
+    }
+
+    /// How many removals and waits are left.
+    pub fn room(&self) -> u32
+        ensures { result ≡ self.now.room }
+    {
+        self.room
+    }
+
+    /// How many removals are queued.
+    pub fn queued(&self) -> u32
+        ensures { result ≡ length self.now.queue.removals }
+    {
+        self.queue.len()
     }
 }

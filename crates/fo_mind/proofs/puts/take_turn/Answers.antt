@@ -1,4 +1,4 @@
-use Rattle.std.proofs.Common.{◌≡◌, Bool, true, false, cond, set, sym, ap, ◌∙◌}
+use Rattle.std.proofs.Common.{Bool, false, cond, set, sym, ap, ◌∙◌}
 use Rattle.fo_order.specs.Turns.{changed}
 use Rattle.fo_mind.specs.declared.facts.Fact.{Fact}
 use Rattle.fo_mind.specs.Parts.{fact_at}

@@ -1,8 +1,8 @@
-use Rattle.std.proofs.Common.{◌≡◌, List, refl}
+use Rattle.std.proofs.Common.{List, refl}
 use Rattle.fo_order.specs.Keeps.{Turns}
 use Rattle.fo_mind.specs.declared.facts.Fact.{Fact}
 use Rattle.fo_mind.specs.Sound.{Placed, Owing, Roomy}
-use Rattle.fo_mind.proofs.Refilling.{Refills, refills_of, holding_refilled, waiting_refilled, owing_refilled, roomy_refilled, pinned_refilled, placed_turned, owing_turned, roomy_turned, turn_room, within_facts}
+use Rattle.fo_mind.proofs.Refilling.{refills_of, holding_refilled, waiting_refilled, owing_refilled, roomy_refilled, pinned_refilled, placed_turned, owing_turned, roomy_turned, turn_room, within_facts}
 use Rattle.fo_mind.proofs.Results.{both}
 use Rattle.fo_mind.proofs.mind.Mind.refill.Goals as goal
 

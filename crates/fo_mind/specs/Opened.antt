@@ -1,0 +1,37 @@
+-- A cache in which nothing is held yet.
+use Rattle.std.specs.Prelude.{ℕ, false, List, [], replicate, None}
+use Rattle.std.specs.FinMap as map
+use Rattle.fo_image.specs.declared.types.Super.{Super}
+use Rattle.fo_buffers.specs.Held.{Held}
+use Rattle.fo_order.specs.Flags.{quiet}
+use Rattle.fo_order.specs.Keeps.{Turns}
+use Rattle.fo_labels.specs.Region.{Region}
+use Rattle.fo_mind.specs.Parts.{Parts, count_of, no_fact}
+
+abbrev pub no_buffers : Held
+no_buffers = record { held = map.empty; clean = []; room = 0 }
+
+abbrev pub no_turns : ℕ → Turns
+no_turns count = record { flags = replicate count quiet; written = []; room = 0 }
+
+-- All is settled, nothing is held, and no room is made.
+abbrev pub opened : Region → Super → List ℕ → Parts
+opened region one bytes = record {
+  held = no_buffers;
+  turns = no_turns (count_of region);
+  region = region;
+  facts = replicate (count_of region) no_fact;
+  waits = [];
+  clears = [];
+  one = one;
+  one_bytes = bytes;
+  doubt = None;
+  next = one.numbers;
+  granted = false;
+  spare = 0;
+  pins = 0;
+  room = 0;
+  queued = 0;
+  disk = [];
+  faults = 0;
+}
