@@ -1,12 +1,14 @@
 -- One step down after others.
-use Rattle.std.proofs.Common.{◌≡◌, ◌≢◌, ◌⊎◌, ℕ, suc, Bool, true, false, inl, inr, ⊎_elim, refl, sym, ◌∙◌, ap, subst, arith}
-use Rattle.std.proofs.lemmas.Bool.{cases_eq}
+use Rattle.std.proofs.Common.{◌≡◌, ◌≢◌, ◌⊎◌, ◌<◌, ℕ, suc, Bool, true, false, inl, inr, ⊎_elim, refl, sym, ◌∙◌, ap, subst, arith}
+use Rattle.std.proofs.lemmas.Bool.{cases_eq, cases_lt}
 use Rattle.fo_image.specs.declared.types.Label.{Label}
-use Rattle.fo_image.specs.declared.types.State.TheVariants.{Live}
+use Rattle.fo_image.specs.declared.types.State.{State as BlockState}
+use Rattle.fo_image.specs.declared.types.State.TheVariants.{Free, Live, Closed}
 use Rattle.fo_image.specs.declared.types.Pointer.{Pointer}
 use Rattle.fo_image.specs.declared.types.Pointer.TheVariants.{Nil, Local, Score as Held}
 use Rattle.fo_crash.specs.declared.place.Place.{Place}
-use Rattle.fo_crash.specs.Images.{Image, Reaches, to_block}
+use Rattle.fo_crash.specs.declared.slot.Slot.{Slot}
+use Rattle.fo_crash.specs.Images.{Image, Reaches, target, to_block}
 use Rattle.fo_crash.specs.Places.{IsPlaced, RanksFall}
 use Rattle.fo_crash.proofs.Places.{stands_below}
 use Rattle.fo_ports.specs.State.{State, KeepsAll}
@@ -14,7 +16,7 @@ use Rattle.fo_ports.specs.Sources.{Made, Touched, IsMade, StaysMarked, Changes}
 use Rattle.fo_tree_read.specs.declared.tree.Tree.{Tree}
 use Rattle.fo_tree_read.specs.Tree.{kind_at}
 use Rattle.fo_tree_own.specs.Step.{IsOwn, IsBehind, Links}
-use Rattle.fo_tree_down.specs.Way.{IsPutInto, IsBefore, Descends}
+use Rattle.fo_tree_down.specs.Way.{IsLed, IsPutInto, IsBefore, Descends}
 
 pub level_same : (dir : Bool) (a b : ℕ) → kind_at dir a ≡ kind_at dir b → a ≡ b
 level_same true a b e = cc
@@ -24,6 +26,11 @@ pub local_cases : (p : Pointer) (b : ℕ) → (p ≡ Local b) ⊎ (p ≡ Local b
 local_cases Nil b = inr (λ e. cc)
 local_cases (Local x) b = ⊎_elim (λ e. inl (ap (λ y. Local y) e)) (λ ne. inr (λ e. ne (let f : x ≡ b = cc in f))) (cases_eq x b)
 local_cases (Held score) b = inr (λ e. cc)
+
+live_cases : (s : BlockState) → (s ≡ Live) ⊎ (s ≢ Live)
+live_cases Live = inl refl
+live_cases Free = inr (λ e. cc)
+live_cases Closed = inr (λ e. cc)
 
 -- A step down was made after others.
 pub record Continues (t : Tree) (mine wider : ℕ → Type 0) (level k at i : ℕ) (was : Pointer) (result : ℕ) (s m u : State) : Type 0 where
@@ -37,6 +44,7 @@ pub record Continues (t : Tree) (mine wider : ℕ → Type 0) (level k at i : �
   pub within : (b : ℕ) → mine b → wider b
   pub is_mine : (b : ℕ) → was ≡ Local b → wider b
   pub was_old : (b : ℕ) → was ≡ Local b → Made s m b → ⊥
+  pub was_is : was ≡ target ((m.now at).slot i)
   -- the blocks of the way are live
   pub live : s.tells → (b : ℕ) → mine b → (s.label b).state ≡ Live
   -- what stands leads to what stands, in every image
@@ -126,6 +134,50 @@ module _ {t : Tree} {mine wider : ℕ → Type 0} {level k at i : ℕ} {was : Po
       let q = stands_below p.0 (x.placed image is) (x.ranked image is) p.1 r in
       unplaced (x.told image is) q.0 q.1
 
+  -- a block that was not given out last, of an older epoch, was so before
+  age : (b : ℕ) → (m.label b).epoch < m.high → (s.label b).epoch < s.high
+  age b older =
+      let high = x.all.same_high in
+      let same : (s.label b).epoch ≡ (m.label b).epoch = ⊎_elim
+      (λ live. ap (λ (l : Label). l.epoch) (sym (x.first.others b (λ made. made.0 live)).label))
+      (λ dead. ⊎_elim
+      (λ now. let epoch = (x.first.made b (dead, now)).labelled.0 in absurd (omega (arith, older, high, epoch)))
+      (λ not. ap (λ (l : Label). l.epoch) (sym (x.first.others b (λ made. not made.1)).label))
+      (live_cases (m.label b).state))
+      (live_cases (s.label b).state) in
+      omega (arith, older, high, same)
+
+  led_last : (Made s u at → ⊥) → ((m.now at).slot i ≡ (s.now at).slot i) → IsLed s u at i
+  led_last not same = record {
+    to = result;
+    leads = x.step.leads;
+    made = made_result;
+    older = λ y e. age y (x.step.older y (x.was_is ∙ ap (λ (q : Slot). target q) same ∙ e));
+  }
+
+  led_first : (b j : ℕ) → (b ≢ at) ⊎ (j ≢ i) → (Made s u b → ⊥) → IsLed s m b j → IsLed s u b j
+  led_first b j aside not led = record {
+    to = led.to;
+    leads = ap (λ (q : Slot). target q) (x.step.slots b j (not_result b not) aside) ∙ led.leads;
+    made = made_on led.to led.made;
+    older = led.older;
+  }
+
+  -- the slot that was put last was not put before
+  fresh_slot : (Made s u at → ⊥) → (m.now at).slot i ≡ (s.now at).slot i
+  fresh_slot not = ⊎_elim (λ same. same) (λ p. absurd (at_fresh not p)) (x.first.slots at i (not_mid at not))
+
+  led_end : (b j : ℕ) → (Made s u b → ⊥) → ((u.now b).slot j ≡ (s.now b).slot j) ⊎ IsLed s u b j
+  led_end b j not = ⊎_elim
+      (λ here.
+      let off : Made s u at → ⊥ = λ made. not (subst (λ y. Made s u y) (sym here.0) made) in
+      inr (subst (λ y. IsLed s u y j) (sym here.0) (subst (λ z. IsLed s u at z) (sym here.1) (led_last off (fresh_slot off)))))
+      (λ aside. ⊎_elim
+      (λ e. inl (x.step.slots b j (not_result b not) aside ∙ e))
+      (λ led. inr (led_first b j aside not led))
+      (x.first.led b j (not_mid b not)))
+      (spot b j)
+
   images_end : (image : Image) → u.may_leave image → IsBefore s u t wider level image
   images_end image is =
       let e = x.step.images image is in
@@ -144,6 +196,15 @@ module _ {t : Tree} {mine wider : ℕ → Type 0} {level k at i : ℕ} {was : Po
             (λ same. inl (first ∙ same))
             (λ p. inr (lower b p.0, first ∙ p.1 ∙ sym (x.step.slots b j (not_result b not) aside)))
             (f.slots b j (not_mid b not)))
+            (spot b j);
+        led = λ b j not. ⊎_elim
+            (λ here.
+            let off : Made s u at → ⊥ = λ made. not (subst (λ y. Made s u y) (sym here.0) made) in
+            inr (subst (λ y. IsLed s u y j) (sym here.0) (subst (λ z. IsLed s u at z) (sym here.1) (led_last off (fresh_slot off)))))
+            (λ aside. ⊎_elim
+            (λ same. inl (e.slots b j (not_result b not) aside ∙ same))
+            (λ led. inr (led_first b j aside not led))
+            (f.led b j (not_mid b not)))
             (spot b j);
         apart = λ top b is_top made r. ⊎_elim
             (λ mid. f.apart top b is_top mid r)
@@ -243,20 +304,37 @@ module _ {t : Tree} {mine wider : ℕ → Type 0} {level k at i : ℕ} {was : Po
       (λ h. inr (⊎_elim (λ touched. inl (touched_mid b touched)) (λ label. inr (label.0, subst (λ y. Made s u y) (sym (mid_made label.0 label.1)) made_result, label.2)) h))
       (x.step.changes.dirty b d)
 
+  -- what was copied last is not of the current epoch
+  current_not : (b : ℕ) → (s.label b).epoch ≡ s.high → was ≡ Local b → ⊥
+  current_not b now e = let older = age b (x.step.older b e) in omega (arith, older, now)
+
+  aged_end : (b : ℕ) → (s.covered b → ⊥) → u.covered b → (s.label b).epoch < s.high
+  aged_end b free h = ⊎_elim
+      (λ e. age b (x.step.older b e))
+      (λ not. ⊎_elim
+      (λ lt. lt)
+      (λ ge. absurd (x.step.covers.only b (λ now. let lt = x.first.aged b free now in omega (arith, lt, ge)) not h))
+      (cases_lt ((s.label b).epoch) s.high))
+      (local_cases was b)
+
   pub continued : Descends t wider level s u
   continued = record {
     bytes = λ b not. x.step.bytes b (not_result b not) ∙ x.first.bytes b (not_mid b not);
     slots = slots_end;
+    led = led_end;
     images = images_end;
     made = made_end;
     others = marked_end;
     places = λ told b p not other free stands. x.step.changes.places (x.all.still_tells.1 told) b p (not_last b not) (beside b not other) free
         (x.first.places told b p (not_mid b not) (λ is. other (x.within b is)) (λ h. free (x.step.covers.still b h)) stands);
     instead = λ b y h. ⊎_elim (λ old. inl old) (λ new. inr (made_on b new.0, x.within y new.1)) (x.first.instead b y (x.step.instead b y h));
+    older = λ b y h. x.first.older b y (x.step.instead b y h);
     still = λ b h. x.step.covers.still b (x.first.still b h);
+    aged = aged_end;
     only = λ b no other h. x.step.covers.only b (x.first.only b no (λ is. other (x.within b is))) (λ e. other (x.is_mine b e)) h;
     leaves = leaves_end;
     in_tree = λ told b other r. x.step.reached (x.all.still_tells.1 told) b (λ e. other (x.is_mine b e)) (x.first.in_tree told b (λ is. other (x.within b is)) r);
+    current = λ told b now r. x.step.reached (x.all.still_tells.1 told) b (current_not b now) (x.first.current told b now r);
     hung = λ told b other h. x.step.hung (x.all.still_tells.1 told) b (λ e. other (x.is_mine b e)) (x.first.hung told b (λ is. other (x.within b is)) h);
     waits = λ a b j not_a not_b w. x.step.waits a b j (not_result b not_b) (not_result a not_a) (x.first.waits a b j (not_mid a not_a) (not_mid b not_b) w);
     no_wait = record { each = λ a b j h w. x.first.no_wait.each a b j h (x.step.changes.no_wait.each a b j h w) };
@@ -277,21 +355,26 @@ pub wider_same : {t : Tree} {mine wider : ℕ → Type 0} {level : ℕ} {s u : S
 wider_same {t = t} {mine = mine} {wider = wider} {level = level} {s = s} {u = u} within x = record {
   bytes = x.bytes;
   slots = λ b j not. ⊎_elim (λ e. inl e) (λ p. inr (lower b p)) (x.slots b j not);
+  led = x.led;
   images = λ image is. let f = x.images image is in record {
     other = f.other;
     was = f.was;
     bytes = f.bytes;
     slots = λ b j not. ⊎_elim (λ e. inl e) (λ p. inr (lower b p.0, p.1)) (f.slots b j not);
+    led = f.led;
     apart = f.apart;
   };
   made = x.made;
   others = x.others;
   places = λ told b p not other free stands. x.places told b p not (λ is. other (within b is)) free stands;
   instead = λ b y h. ⊎_elim (λ old. inl old) (λ new. inr (new.0, within y new.1)) (x.instead b y h);
+  older = x.older;
   still = x.still;
+  aged = x.aged;
   only = λ b no other h. x.only b no (λ is. other (within b is)) h;
   leaves = x.leaves;
   in_tree = λ told b other r. x.in_tree told b (λ is. other (within b is)) r;
+  current = x.current;
   hung = λ told b other h. x.hung told b (λ is. other (within b is)) h;
   waits = x.waits;
   no_wait = x.no_wait;

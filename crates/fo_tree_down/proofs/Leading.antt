@@ -1,5 +1,5 @@
 -- The way of the new top leads to the block that came.
-use Rattle.std.proofs.Common.{◌≡◌, ◌≢◌, ◌+◌, ◌-◌, ◌/◌, ◌%◌, ◌<◌, ◌≤◌, ℕ, zero, suc, List, length, inl, inr, ⊎_elim, sym, ◌∙◌, ap, arith}
+use Rattle.std.proofs.Common.{◌≡◌, ◌≢◌, ◌+◌, ◌-◌, ◌/◌, ◌%◌, ◌<◌, ◌≤◌, ℕ, zero, suc, List, length, inl, inr, ⊎_elim, sym, ◌∙◌, ap, arith, refl, subst}
 use Rattle.std.proofs.lemmas.Bool.{cases_eq}
 use Rattle.fo_image.specs.declared.types.Label.{Label}
 use Rattle.fo_image.specs.declared.types.State.TheVariants.{Live}
@@ -11,11 +11,11 @@ use Rattle.fo_crash.specs.Places.{place}
 use Rattle.fo_ports.specs.State.{State, KeepsAll}
 use Rattle.fo_ports.specs.Sources.{Made}
 use Rattle.fo_tree_look.specs.declared.ways.Kept.{Kept}
-use Rattle.fo_tree_look.specs.Source.{IsPrepared}
+use Rattle.fo_tree_look.specs.Source.{IsPrepared, IsTopCurrent}
 use Rattle.fo_tree_read.specs.declared.tree.Tree.{Tree}
 use Rattle.fo_tree_read.specs.Tree.{kind_at, kind_down, below, block_at}
 use Rattle.fo_tree_own.specs.Step.{IsOwn, OwnTold, Links}
-use Rattle.fo_tree_down.specs.Way.{OnWay, Comes, Replaces, LeadsBeside, Leads, with_top, IsTopOf}
+use Rattle.fo_tree_down.specs.Way.{OnWay, Comes, Replaces, LeadsBeside, Leads, with_top, IsTopOf, WayCurrent}
 use Rattle.fo_tree_down.proofs.Join.{level_same}
 
 -- a block that is owned is prepared
@@ -141,3 +141,17 @@ top_stays {s = s} {m = m} {u = u} {result = result} {top = top} more is step = r
   where
     same : u.label top ≡ m.label top
     same = step.labels top (λ e. step.made.0 (ap (λ y. (m.label y).state) (sym e) ∙ is.live))
+
+-- the way of the new top is current
+pub way_owned : (s u : State) (t : Tree) (kept : List Kept) (top n k at : ℕ) → Leads s u t kept top n k at → WayCurrent u (with_top t top) n k
+way_owned s u t kept top zero k at leads = (top, refl, subst (λ y. (u.label y).epoch ≡ u.high) leads.0 leads.1.own.current)
+way_owned s u t kept top (suc n) k at leads = (way_owned s u t kept top n (k / 409) leads.0.0 leads.0.1, (at, leads_to s u t kept top (suc n) k at leads, leads.1.own.current))
+
+-- what was current on a way is
+pub way_last : (s : State) (t : Tree) (n k : ℕ) → WayCurrent s t n k → (b : ℕ) × (block_at s t n k ≡ Local b) × ((s.label b).epoch ≡ s.high)
+way_last s t zero k way = way
+way_last s t (suc n) k way = way.1
+
+pub way_top : (s : State) (t : Tree) (n k : ℕ) → WayCurrent s t n k → IsTopCurrent s t
+way_top s t zero k way = record { at = way.0; is = way.1; current = way.2 }
+way_top s t (suc n) k way = way_top s t n (k / 409) way.0

@@ -221,6 +221,7 @@ module _ (s m : State) (t : Tree) (kept : List Kept) (n k above : ℕ) (all : Ke
       within = λ b on. inl on;
       is_mine = λ b e. inr (next_local b e);
       was_old = λ b e. old_block b (next_below b e);
+      was_is = refl;
       live = λ is b on. (told is b (inl on)).live;
       placed = λ image is. (image_says image is).0;
       ranked = λ image is. (image_says image is).1;
@@ -237,7 +238,7 @@ module _ (s m : State) (t : Tree) (kept : List Kept) (n k above : ℕ) (all : Ke
     }
 
     -- where it was current none is given out
-    not_current : (b : ℕ) → target ((m.now above).slot (k % 409)) ≡ Local b → (s.label b).epoch ≡ s.high → ⊥
+    pub not_current : (b : ℕ) → target ((m.now above).slot (k % 409)) ≡ Local b → (s.label b).epoch ≡ s.high → ⊥
     not_current b e current =
         let older = step.older b e in
         let epoch : (m.label b).epoch ≡ (s.label b).epoch = ap (λ (l : Label). l.epoch) (label_on b (next_below b e)) in
@@ -267,15 +268,19 @@ comes_top s t kept k top is few own not = record {
     descends_none = record {
       bytes = λ b n. refl;
       slots = λ b j n. inl refl;
-      images = λ image h. record { other = image; was = h; bytes = λ b n. refl; slots = λ b j n. inl refl; apart = λ w b g made r. none_made b made };
+      led = λ b j n. inl refl;
+      images = λ image h. record { other = image; was = h; bytes = λ b n. refl; slots = λ b j n. inl refl; led = λ b j n. inl refl; apart = λ w b g made r. none_made b made };
       made = λ b made. absurd (none_made b made);
       others = λ b n. record { label = refl; marks = (λ h. h, λ h. h, λ h. h); apart = (λ h. h, λ h. h) };
       places = λ told b q n other free stands. stands;
       instead = λ b y h. inl h;
+      older = λ b y h. inl h;
+      aged = λ b free h. absurd (free h);
       still = λ b h. h;
       only = λ b free other h. free h;
       leaves = λ told b r gone. absurd (gone r);
       in_tree = λ told b other r. r;
+      current = λ told b now r. r;
       hung = λ told b other h. h;
       waits = λ a b j f g w. w;
       no_wait = record { each = λ a b j f w. w };

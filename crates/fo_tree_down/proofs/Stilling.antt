@@ -17,7 +17,7 @@ use Rattle.fo_tree_look.specs.Source.{IsPrepared, find_kept, or_held, seen, Read
 use Rattle.fo_tree_look.proofs.Shown.{top_ready}
 use Rattle.fo_tree_down.specs.Way.{OnWay, IsPutInto, Descends, Leads, Replaces, IsWayIndex, with_top}
 use Rattle.fo_tree_down.proofs.Join.{level_same, local_cases}
-use Rattle.fo_tree_down.proofs.Next.{local_seen, local_eq}
+use Rattle.fo_tree_down.proofs.Next.{seen_local, local_seen, local_eq}
 use Rattle.fo_tree_down.proofs.Leading.{block_of, leads_to}
 use Rattle.fo_tree_down.proofs.Beside.{index_cases, index_within, way_block, way_step}
 
@@ -224,3 +224,25 @@ module _ {s u : State} {t : Tree} {kept : List Kept} {top n k at : ℕ} (x : Was
     last = λ past some. way_still t.depth ((t.size - 1) / 8192) (omega arith) (was.last past some);
     end = was.end;
   }
+
+  -- a block of a way that was prepared is the one that was there, or was given out
+  block_from : (m j b : ℕ) → m ≤ t.depth → WayReady s t kept m j → block_at u new m j ≡ Local b → (block_at s t m j ≡ Local b) ⊎ Made s u b
+  block_from m j b le way e =
+      let here : block_at (seen u kept) new m j ≡ Local b = local_seen u kept new m j b e in
+      ⊎_elim
+      (λ on.
+      let w = came m on.0 on.1 in
+      let is : w.0 ≡ b = local_eq (sym w.1 ∙ seen_local u kept new m on.0 b (sym on.3 ∙ here)) in
+      ⊎_elim
+      (λ made. inr (subst (λ y. Made s u y) is made))
+      (λ was. inl (seen_local s kept t m j b (on.2 ∙ local_seen s kept t m on.0 b (was ∙ ap (λ y. Local y) is))))
+      w.2.from)
+      (λ off. inl (seen_local s kept t m j b (sym off.0 ∙ here)))
+      (follows m j le way)
+
+  pub way_from : (m j b : ℕ) → m ≤ t.depth → WayReady s t kept m j → OnWay u new m j b → OnWay s t m j b ⊎ Made s u b
+  way_from zero j b le way on = block_from zero j b le way on
+  way_from (suc m) j b le way on = ⊎_elim
+      (λ above. ⊎_elim (λ old. inl (inl old)) (λ made. inr made) (way_from m (j / 409) b (omega (arith, le)) way.0 above))
+      (λ e. ⊎_elim (λ old. inl (inr old)) (λ made. inr made) (block_from (suc m) j b le way e))
+      on

@@ -103,6 +103,23 @@ module _ {s u : State} {t : Tree} {kept : List Kept} {top n k at level : ℕ} (x
       (λ old. inl old.has)
       (sorted b has)
 
+  -- what is current stays one of the source
+  pub stays_owned : (b : ℕ) → HasBlock s t b → (s.label b).epoch ≡ s.high → HasBlock u (with_top t top) b
+  stays_owned b has current =
+      let m = has.down in
+      let j = index_of m has.index in
+      let few : j < 409 ^ m = index_few m has.index in
+      let was : block_at s t m j ≡ Local b = index_same s t m has.index ∙ has.is in
+      record {
+        down = m;
+        index = j;
+        within = has.within;
+        is = ⊎_elim
+            (λ on. let w = way_leads s u t kept top n k at m j x.leads on in w.1 ∙ ap (λ y. Local y) (w.2.kept b was current))
+            (λ off. (stays_beside x).each m j has.within few off ∙ was)
+            (index_cases n k m j);
+      }
+
   unheld_end : NoneHeld s t → NoneHeld u (with_top t top)
   unheld_end none i score e =
       let j = index_of t.depth i in

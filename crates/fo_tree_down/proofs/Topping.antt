@@ -34,6 +34,7 @@ pub record Topped (t : Tree) (kept : List Kept) (l : Label) (result : ℕ) (s m 
   pub tagged : l.tag ≡ t.tag
   pub long : length ((m.now result).bytes) ≡ 8192
   pub raised : (y : ℕ) → m.instead result y → t.top ≡ Local y
+  pub raised_old : (y : ℕ) → m.instead result y → (s.label y).epoch < s.high
   pub stands : s.tells → m.stands result (place (kind_at t.dir t.depth) t.tag 0 (t.rank + t.depth))
   pub content : Becomes s m t kept t.depth t.top result
 
@@ -81,6 +82,7 @@ module _ {t : Tree} {kept : List Kept} {l : Label} {result : ℕ} {s m : State} 
         was = d.was;
         bytes = λ b not. (d.same b (ne_result b not)).bytes;
         slots = λ b j not. inl ((d.same b (ne_result b not)).slots j);
+        led = λ b j not. inl ((d.same b (ne_result b not)).slots j);
         apart = λ top b is_top made r. x.came.unreached image is top is_top
             (reach_into image d.other (λ y. y ≡ result) top (λ y j ne. (d.same y ne).slots j)
             (λ y e far. x.came.unreached image is top is_top (subst (λ z. Reaches image (to_block top) z) e far)) result
@@ -110,6 +112,7 @@ module _ {t : Tree} {kept : List Kept} {l : Label} {result : ℕ} {s m : State} 
   descends k = record {
     bytes = λ b not. (x.came.others b (ne_result b not)).bytes;
     slots = λ b j not. inl ((x.came.others b (ne_result b not)).slots j);
+    led = λ b j not. inl ((x.came.others b (ne_result b not)).slots j);
     images = images k;
     made = λ b made. subst (λ y. IsMade t.tag s m y) (sym (made_is b made)) made_end;
     others = marked_end;
@@ -118,10 +121,16 @@ module _ {t : Tree} {kept : List Kept} {l : Label} {result : ℕ} {s m : State} 
         (λ e. inr (subst (λ z. Made s m z) (sym e) made_result, x.raised y (subst (λ z. m.instead z y) e h)))
         (λ ne. inl ((x.came.stays.instead b y ne (λ n. n)).0 h))
         (cases_eq b result);
+    older = λ b y h. ⊎_elim
+        (λ e. inr (x.raised_old y (subst (λ z. m.instead z y) e h)))
+        (λ ne. inl ((x.came.stays.instead b y ne (λ n. n)).0 h))
+        (cases_eq b result);
+    aged = λ b free h. absurd (only_end b free h);
     still = λ b h. x.came.still b (λ e. x.came.was.2 (subst (λ y. s.covered y) e h)) h;
     only = λ b free other h. only_end b free h;
     leaves = λ told b r gone. absurd (gone (in_tree told b r));
     in_tree = λ told b other r. in_tree told b r;
+    current = λ told b now r. in_tree told b r;
     hung = λ told b other h. hung_end told b h;
     waits = λ a b j not_a not_b w. x.came.stays.waits a b j (ne_result a not_a) (ne_result b not_b) (λ h. h) w;
     no_wait = x.came.no_wait;

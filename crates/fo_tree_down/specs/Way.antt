@@ -1,6 +1,7 @@
 -- A whole way is made current, from the top down.
 use Rattle.std.specs.Prelude.{◌≡◌, ◌≢◌, ◌⊎◌, ◌^◌, ◌≤◌, ◌-◌, ◌/◌, ◌%◌, ◌<◌, ℕ, zero, suc, List}
 use Rattle.fo_image.specs.declared.types.Kind.{Kind}
+use Rattle.fo_image.specs.declared.types.Pointer.{Pointer}
 use Rattle.fo_image.specs.declared.types.Pointer.TheVariants.{Local}
 use Rattle.fo_image.specs.declared.types.State.TheVariants.{Live}
 use Rattle.fo_crash.specs.declared.place.Place.{Place}
@@ -31,28 +32,41 @@ pub record IsPutInto (s : State) (t : Tree) (mine : ℕ → Type 0) (level b : �
   pub tagged : (s.label b).tag ≡ t.tag
   pub higher : IsHigher t level (s.label b).kind
 
+-- A slot was led to a block that was given out; it led to no current block before.
+pub record IsLed (s u : State) (b j : ℕ) : Type 0 where
+  pub to : ℕ
+  pub leads : target ((u.now b).slot j) ≡ Local to
+  pub made : Made s u to
+  pub older : (x : ℕ) → target ((s.now b).slot j) ≡ Local x → (s.label x).epoch < s.high
+
 -- An image is one of before, but for blocks that were given out, and slots of current blocks of the way that are as memory has them now.
 pub record IsBefore (s u : State) (t : Tree) (mine : ℕ → Type 0) (level : ℕ) (image : Image) : Type 0 where
   pub other : Image
   pub was : s.may_leave other
   pub bytes : (b : ℕ) → (Made s u b → ⊥) → (image b).bytes ≡ (other b).bytes
   pub slots : (b j : ℕ) → (Made s u b → ⊥) → ((image b).slot j ≡ (other b).slot j) ⊎ (IsPutInto s t mine level b × ((image b).slot j ≡ (u.now b).slot j))
+  pub led : (b j : ℕ) → (Made s u b → ⊥) → ((image b).slot j ≡ (other b).slot j) ⊎ IsLed s u b j
   pub apart : (top b : ℕ) → s.tops top → Made s u b → Reaches other (to_block top) b → ⊥
 
 -- The blocks of a way (`mine`) were made current down to this level: what was given out is of the source, slots were put into blocks above
--- this level alone, and all else stays. Only blocks of the way are to be closed, and all are that leave the tree.
+-- this level alone, and all else stays. Only blocks of the way are to be closed, and all are that leave the tree. A slot was put once, and
+-- what is current stays where it is.
 pub record Descends (t : Tree) (mine : ℕ → Type 0) (level : ℕ) (s u : State) : Type 0 where
   pub bytes : (b : ℕ) → (Made s u b → ⊥) → (u.now b).bytes ≡ (s.now b).bytes
   pub slots : (b j : ℕ) → (Made s u b → ⊥) → ((u.now b).slot j ≡ (s.now b).slot j) ⊎ IsPutInto s t mine level b
+  pub led : (b j : ℕ) → (Made s u b → ⊥) → ((u.now b).slot j ≡ (s.now b).slot j) ⊎ IsLed s u b j
   pub images : (image : Image) → u.may_leave image → IsBefore s u t mine level image
   pub made : (b : ℕ) → Made s u b → IsMade t.tag s u b
   pub others : (b : ℕ) → (Made s u b → ⊥) → StaysMarked s u b
   pub places : s.tells → (b : ℕ) (p : Place) → (Made s u b → ⊥) → (mine b → ⊥) → (u.covered b → ⊥) → s.stands b p → u.stands b p
   pub instead : (b x : ℕ) → u.instead b x → s.instead b x ⊎ (Made s u b × mine x)
+  pub older : (b x : ℕ) → u.instead b x → s.instead b x ⊎ ((s.label x).epoch < s.high)
   pub still : (b : ℕ) → s.covered b → u.covered b
+  pub aged : (b : ℕ) → (s.covered b → ⊥) → u.covered b → (s.label b).epoch < s.high
   pub only : (b : ℕ) → (s.covered b → ⊥) → (mine b → ⊥) → u.covered b → ⊥
   pub leaves : s.tells → (b : ℕ) → Reaches s.now (to_block 1) b → (Reaches u.now (to_block 1) b → ⊥) → u.covered b
   pub in_tree : s.tells → (b : ℕ) → (mine b → ⊥) → Reaches s.now (to_block 1) b → Reaches u.now (to_block 1) b
+  pub current : s.tells → (b : ℕ) → (s.label b).epoch ≡ s.high → Reaches s.now (to_block 1) b → Reaches u.now (to_block 1) b
   pub hung : s.tells → (b : ℕ) → (mine b → ⊥) → IsHung s b → IsHung u b
   pub waits : (a on j : ℕ) → (Made s u a → ⊥) → (Made s u on → ⊥) → s.waits a on j → u.waits a on j
   pub no_wait : AddsNoWait none s u
@@ -105,3 +119,11 @@ pub record IsTopOf (s u : State) (t : Tree) (top : ℕ) : Type 0 where
   pub from : Made s u top ⊎ (t.top ≡ Local top)
   pub live : (u.label top).state ≡ Live
   pub current : (u.label top).epoch ≡ u.high
+
+-- All on the way to block k of those n steps below the top is of the current epoch, and so is that block.
+abbrev pub IsCurrentAt : State → Pointer → Type 0
+IsCurrentAt s p = (b : ℕ) × (p ≡ Local b) × ((s.label b).epoch ≡ s.high)
+
+abbrev pub WayCurrent : State → Tree → ℕ → ℕ → Type 0
+WayCurrent s t zero k = IsCurrentAt s t.top
+WayCurrent s t (suc n) k = WayCurrent s t n (k / 409) × IsCurrentAt s (block_at s t (suc n) k)

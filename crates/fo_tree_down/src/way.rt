@@ -2,9 +2,9 @@
 ghost use Rattle.std.specs.Prelude.{◌≡◌, ◌≢◌, ◌⊎◌, ◌+◌, ◌-◌, ◌*◌, ◌/◌, ◌%◌, ◌^◌, ◌<◌, ◌≤◌, ℕ};
 ghost use Rattle.fo_image.specs.declared.types.Pointer.TheVariants.{Local};
 ghost use Rattle.fo_ports.specs.Sources.{Made, Changes};
-ghost use Rattle.fo_tree_read.specs.Tree.{Hangs, kind_at, block_at};
+ghost use Rattle.fo_tree_read.specs.Tree.{Hangs, kind_at, block_at, above};
 ghost use Rattle.fo_tree_look.specs.Source.{IsTold, Over, HasBlock, Prepared, WayReady, IsTopCurrent};
-ghost use Rattle.fo_tree_down.specs.Way.{OnWay, Comes, Leads, IsTopOf, Replaces, StaysBeside, with_top};
+ghost use Rattle.fo_tree_down.specs.Way.{OnWay, Comes, Leads, IsTopOf, Replaces, StaysBeside, WayCurrent, with_top};
 
 use crate::top::own_top;
 use fo_ports::Blocks;
@@ -35,10 +35,14 @@ pub fn own_way<B: Blocks>(tree: &Tree, kept: &[Kept], on: &mut B, down: u8, k: u
     ensures beside { (B.state on.old).tells → StaysBeside (B.state on.old) (B.state on.new) tree.now (with_top tree.now result.top) down k }
     ensures over { 0 < tree.now.size → (limit : ℕ) → Over (B.state on.old) tree.now kept.now limit → Over (B.state on.new) (with_top tree.now result.top) kept.now limit }
     ensures owns { (B.state on.old).tells → (b : ℕ) → (HasBlock (B.state on.new) (with_top tree.now result.top) b → HasBlock (B.state on.old) tree.now b ⊎ Made (B.state on.old) (B.state on.new) b) × (Made (B.state on.old) (B.state on.new) b → HasBlock (B.state on.new) (with_top tree.now result.top) b) }
+    ensures stays { (B.state on.old).tells → (b : ℕ) → HasBlock (B.state on.old) tree.now b → ((B.state on.old).label b).epoch ≡ (B.state on.old).high → HasBlock (B.state on.new) (with_top tree.now result.top) b }
     ensures still { (limit o n : ℕ) → Prepared (B.state on.old) tree.now kept.now limit o n → Prepared (B.state on.new) (with_top tree.now result.top) kept.now limit o n }
+    ensures ways { (j b : ℕ) → WayReady (B.state on.old) tree.now kept.now tree.now.depth j → OnWay (B.state on.new) (with_top tree.now result.top) tree.now.depth j b → OnWay (B.state on.old) tree.now tree.now.depth j b ⊎ Made (B.state on.old) (B.state on.new) b }
+    ensures current { WayCurrent (B.state on.new) (with_top tree.now result.top) down k }
     ensures changes { Changes tree.now.tag (HasBlock (B.state on.old) tree.now) (λ b. HasBlock (B.state on.old) tree.now b × (((B.state on.old).label b).kind ≢ kind_at tree.now.dir 0)) (B.state on.old) (B.state on.new) }
     ensures spare { (B.state on.old).spare ≤ (B.state on.new).spare + (down + 1) }
     ensures less { IsTopCurrent (B.state on.old) tree.now → (B.state on.old).spare ≤ (B.state on.new).spare + down }
+    ensures used { (j : ℕ) → WayCurrent (B.state on.old) tree.now down j → j ≤ k → k ≤ j + 1 → (B.state on.old).spare + (j + above down j) ≤ (B.state on.new).spare + (k + above down k) }
     ensures keeps { B.keeps on.old on.new }
 {
     own_down(tree, kept, on, down, k)
@@ -57,6 +61,7 @@ fn own_down<B: Blocks>(tree: &Tree, kept: &[Kept], on: &mut B, down: u8, k: u64)
     ensures top { IsTopOf (B.state on.old) (B.state on.new) tree.now result.top }
     ensures spare { (B.state on.old).spare ≤ (B.state on.new).spare + (down + 1) }
     ensures less { IsTopCurrent (B.state on.old) tree.now → (B.state on.old).spare ≤ (B.state on.new).spare + down }
+    ensures used { (j : ℕ) → WayCurrent (B.state on.old) tree.now down j → j ≤ k → k ≤ j + 1 → (B.state on.old).spare + (j + above down j) ≤ (B.state on.new).spare + (k + above down k) }
     ensures keeps { B.keeps on.old on.new }
 {
     if down == 0 {

@@ -81,6 +81,7 @@ returns-clause-comes g c =
       tagged = refl;
       long = c.fill_kept.ensures.bare.long;
       raised = λ y h. absurd (e.instead y ((filled.instead c.new_block-made.result y).0 h));
+      raised_old = λ y h. absurd (e.instead y ((filled.instead c.new_block-made.result y).0 h));
       stands = λ told. filled.places (first.still_tells.1 told) c.new_block-made.result (place (kind_at t.dir t.depth) t.tag 0 (t.rank + t.depth)) c.fill_kept.ensures.bare.uncovered (there told);
       content = subst (λ (p : Pointer). Becomes s m t c.args.kept.now t.depth p c.new_block-made.result) (sym c.requires.is) c.fill_kept.ensures.content;
     })

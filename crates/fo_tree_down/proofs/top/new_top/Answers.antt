@@ -36,6 +36,7 @@ returns-clause-comes g c =
       tagged = refl;
       long = ap length gives.memory.here.bytes ∙ length_zero_bytes;
       raised = λ y h. absurd (e.instead y h);
+      raised_old = λ y h. absurd (e.instead y h);
       stands = there;
       content = subst (λ (p : Pointer). Becomes s r t c.args.kept.now t.depth p c.new_block.result) (sym c.requires.is) gives.memory.here;
     })

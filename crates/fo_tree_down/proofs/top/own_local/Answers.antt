@@ -1,4 +1,4 @@
-use Rattle.std.proofs.Common.{◌+◌, length, refl, sym, ap, ◌∙◌, subst, arith}
+use Rattle.std.proofs.Common.{◌+◌, ◌<◌, length, refl, sym, ap, ◌∙◌, subst, arith}
 use Rattle.fo_image.specs.declared.types.Pointer.{Pointer}
 use Rattle.fo_image.specs.declared.types.Pointer.TheVariants.{Local}
 use Rattle.fo_crash.specs.Places.{place}
@@ -37,6 +37,7 @@ returns-else-is_current-clause-comes g c =
       has_kind = c.requires.ready.has_kind;
       tagged = c.requires.ready.tagged;
       long = ap length e.gives.memory.here.bytes ∙ c.requires.ready.long;
+      raised_old = λ y h. subst (λ b. (s.label b).epoch < s.high) (sym ((e.instead y).0 h)) (c.is_current.ensures.older c.if-is_current.false);
       raised = λ y h. c.requires.is ∙ ap (λ b. Local b) (sym ((e.instead y).0 h));
       stands = λ told. e.place told (place (kind_at t.dir t.depth) t.tag 0 (t.rank + t.depth)) (c.requires.hangs.told told c.args.at c.requires.is).0;
       content = subst (λ (p : Pointer). Becomes s r t c.args.kept.now t.depth p c.copy.result) (sym c.requires.is) e.gives.memory.here;

@@ -1,16 +1,16 @@
-use Rattle.std.proofs.Common.{◌≡◌, ◌⊎◌, ◌+◌, ◌-◌, ◌*◌, ◌/◌, ◌%◌, ◌^◌, ◌<◌, ◌≤◌, ℕ, suc, inl, inr, ⊎_elim, refl, sym, ap, subst, arith}
+use Rattle.std.proofs.Common.{◌≡◌, ◌≢◌, ◌⊎◌, ◌+◌, ◌-◌, ◌*◌, ◌/◌, ◌%◌, ◌^◌, ◌<◌, ◌≤◌, ℕ, suc, inl, inr, ⊎_elim, refl, sym, ap, ◌∙◌, subst, arith}
 use Rattle.std.proofs.lemmas.Bool.{cases_eq}
 use Rattle.std.proofs.Math.Nat.{pow-succ'}
 use Rattle.fo_image.specs.declared.types.Pointer.TheVariants.{Local}
 use Rattle.fo_crash.specs.Images.{target}
 use Rattle.fo_crash.specs.Places.{super_place, root_place}
 use Rattle.fo_ports.specs.Sources.{Made}
-use Rattle.fo_tree_read.specs.Tree.{kind_down, below, block_at}
+use Rattle.fo_tree_read.specs.Tree.{kind_down, below, block_at, above as hold}
 use Rattle.fo_tree_look.specs.Source.{seen, IsTold, WayReady}
 use Rattle.fo_tree_own.specs.Step.{IsOwn, CanOwn, Becomes, Links}
-use Rattle.fo_tree_down.specs.Way.{OnWay, Comes, Leads, IsTopOf, with_top}
-use Rattle.fo_tree_down.proofs.Next.{Says, leads_beside, above_own, can_next, was_below, comes_same, comes_new, replaces_same, replaces_new}
-use Rattle.fo_tree_down.proofs.Leading.{block_of, leads_on, beside_on, given_on, top_came, top_stays}
+use Rattle.fo_tree_down.specs.Way.{OnWay, Comes, Leads, IsTopOf, WayCurrent, with_top}
+use Rattle.fo_tree_down.proofs.Next.{Says, local_seen, leads_next, leads_beside, above_own, can_next, was_below, comes_same, comes_new, not_current, replaces_same, replaces_new}
+use Rattle.fo_tree_down.proofs.Leading.{block_of, leads_on, beside_on, given_on, top_came, top_stays, way_top}
 use Rattle.fo_tree_down.proofs.way.+own_down.Goals as goal
 
 pub own_top-top-requires-clause-ready : goal.own_top-top-requires-clause-ready
@@ -67,6 +67,21 @@ own_down-above-requires g t' c =
         ),
       ),
     )
+
+pub returns-then-down-eq0-clause-used : goal.returns-then-down-eq0-clause-used
+returns-then-down-eq0-clause-used g t' c = λ j way le next.
+    let s = g.B.Blocks.state c.args.on.now in
+    let t = c.args.tree.now in
+    let zero = c.if-down-eq0.true in
+    let less = c.own_top-top.ensures.less (way_top s t c.args.down j way) in
+    let here : c.args.k < 409 ^ 0 = subst (λ d. c.args.k < 409 ^ d) zero c.requires.down.1 in
+    subst (λ d. s.spare + (j + hold d j) ≤ (g.B.Blocks.state c.own_top-top.new.on).spare + (c.args.k + hold d c.args.k)) (sym zero) (omega (arith, less, here, le))
+
+spend : (a m u j k x y : ℕ) → j ≤ k → a + (j / 409 + x) ≤ m + (k / 409 + y) → m ≤ u → a + (j + (j / 409 + x)) ≤ u + (k + (k / 409 + y))
+spend a m u j k x y le left same = omega (arith, le, left, same)
+
+spend_one : (a m u j k x y : ℕ) → j ≤ k → j ≢ k → a + (j / 409 + x) ≤ m + (k / 409 + y) → u + 1 ≡ m → a + (j + (j / 409 + x)) ≤ u + (k + (k / 409 + y))
+spend_one a m u j k x y le ne left taken = omega (arith, le, ne, left, taken)
 
 pub own_block-at-requires-clause-above : goal.own_block-at-requires-clause-above
 own_block-at-requires-clause-above g t' c =
@@ -221,6 +236,56 @@ returns-clause-less g t' c =
     (λ same. let kept_spare : m.spare ≤ u.spare = subst (λ x. m.spare ≤ (g.B.Blocks.state x).spare) (sym same.1) (omega arith) in omega (arith, kept_spare, left, some))
     (λ links. let used = links.spare in omega (arith, used, left, some))
     step
+
+pub returns-clause-used : goal.returns-clause-used
+returns-clause-used g t' c =
+    let on = c.args.on.now in
+    let mid = c.own_down-above.new.on in
+    let s = g.B.Blocks.state on in
+    let m = g.B.Blocks.state mid in
+    let t = c.args.tree.now in
+    let kept = c.args.kept.now in
+    let n = c.args.down - 1 in
+    let k = c.args.k in
+    let is : c.args.down ≡ suc (c.args.down - 1) = omega arith in
+    let all = g.met.B.Blocks.keeps_all on mid c.own_down-above.ensures.keeps in
+    let down : suc (c.args.down - 1) ≤ t.depth = subst (λ d. d ≤ t.depth) is c.requires.down.0 in
+    let ready : WayReady s t kept (suc (c.args.down - 1)) k = subst (λ d. WayReady s t kept d k) is c.requires.ready in
+    let says : s.tells → Says s = λ told. record { placed = g.met.B.Blocks.placed on s.now (g.met.B.Blocks.present on told); one = g.met.B.Blocks.one_place on } in
+    let told : s.tells → (b : ℕ) → OnWay s t (suc (c.args.down - 1)) k b → IsTold s b = subst (λ d. s.tells → (b : ℕ) → OnWay s t d k b → IsTold s b) is c.requires.told in
+    let above = c.own_down-above.result.at in
+    let comes = c.own_down-above.ensures.comes in
+    let end = c.own_block-at.new.on in
+    let u = g.B.Blocks.state end in
+    let at = c.own_block-at.result in
+    let was = target ((m.now above).slot (k % 409)) in
+    let step : ((was ≡ Local at) × (end ≡ mid) × IsOwn m t (t.depth - suc n) (409 * (k / 409) + k % 409) at) ⊎ Links t (t.depth - suc n) (k / 409) above (k % 409) was at m u =
+    subst (λ d. ((was ≡ Local at) × (end ≡ mid) × IsOwn m t (t.depth - d) (409 * (k / 409) + k % 409) at) ⊎ Links t (t.depth - d) (k / 409) above (k % 409) was at m u) is c.own_block-at.ensures.step in
+    let some = c.if-down-eq0.false in
+    λ j way le next.
+    let before : WayCurrent s t (suc n) j = subst (λ d. WayCurrent s t d j) is way in
+    let left = c.own_down-above.ensures.used (j / 409) before.0 (omega (arith, le)) (omega (arith, next)) in
+    subst (λ d. s.spare + (j + hold d j) ≤ u.spare + (k + hold d k)) (sym is)
+    (⊎_elim
+    (λ same. let kept_spare : m.spare ≤ u.spare = subst (λ x. m.spare ≤ (g.B.Blocks.state x).spare) (sym same.1) (omega arith) in spend s.spare m.spare u.spare j k (hold n (j / 409)) (hold n (k / 409)) le left kept_spare)
+    (λ links. ⊎_elim
+    (λ here.
+    let last = before.1 in
+    let leads : target ((m.now above).slot (k % 409)) ≡ Local last.0 = leads_next s m t kept n k above all c.requires.hangs down ready comes says told ∙ local_seen s kept t (suc n) k last.0 (ap (λ y. block_at s t (suc n) y) (sym here) ∙ last.1) in
+    absurd (not_current s m t kept n k above all c.requires.hangs down ready comes says told u at (g.met.B.Blocks.keeps_all mid end c.own_block-at.ensures.keeps)
+    (λ image h. (
+      g.met.B.Blocks.placed on image h,
+      g.met.B.Blocks.ranked on image h,
+      g.met.B.Blocks.told on image h,
+      λ top is_top. ⊎_elim
+          (λ e. (super_place, subst (λ y. s.stands y super_place) (sym e) (g.met.B.Blocks.super_stands on (g.met.B.Blocks.told on image h))))
+          (λ ne. (root_place, g.met.B.Blocks.top_stands on top (g.met.B.Blocks.told on image h) is_top ne))
+          (cases_eq top 1),
+    ))
+    links last.0 leads last.2))
+    (λ ne. let taken = links.spare in spend_one s.spare m.spare u.spare j k (hold n (j / 409)) (hold n (k / 409)) le ne left taken)
+    (cases_eq j k))
+    step)
 
 pub returns-clause-keeps : goal.returns-clause-keeps
 returns-clause-keeps g t' c =

@@ -1,10 +1,10 @@
-use Rattle.std.proofs.Common.{◌-◌}
+use Rattle.std.proofs.Common.{◌-◌, arith}
 use Rattle.fo_tree_look.proofs.Shown.{top_ready}
 use Rattle.fo_tree_down.proofs.Join.{changes_of}
-use Rattle.fo_tree_down.proofs.Leading.{leads_to, last_of}
+use Rattle.fo_tree_down.proofs.Leading.{leads_to, last_of, way_owned}
 use Rattle.fo_tree_down.proofs.Beside.{WentDown, stays_beside, on_way_block, last_leads}
-use Rattle.fo_tree_down.proofs.Stilling.{WasOwned, prepared_still}
-use Rattle.fo_tree_down.proofs.Telling.{over_end, owned_back, given_owned}
+use Rattle.fo_tree_down.proofs.Stilling.{WasOwned, prepared_still, way_from}
+use Rattle.fo_tree_down.proofs.Telling.{over_end, owned_back, given_owned, stays_owned}
 use Rattle.fo_tree_down.proofs.way.own_way.Goals as goal
 
 pub own_down-requires-clause-hangs : goal.own_down-requires-clause-hangs
@@ -119,3 +119,49 @@ returns-clause-owns g c = λ told b.
       descends = comes.descends;
     } in
     (owned_back went b, λ made. given_owned u t c.own_down.result.top c.args.down c.args.k b c.requires.down.0 (c.own_down.ensures.given b made))
+
+pub returns-clause-stays : goal.returns-clause-stays
+returns-clause-stays g c = λ told b has current.
+    let on = c.args.on.now in
+    let s = g.B.Blocks.state on in
+    let u = g.B.Blocks.state c.own_down.new.on in
+    let t = c.args.tree.now in
+    let kept = c.args.kept.now in
+    let over = c.requires.over.1 in
+    let comes = c.own_down.ensures.comes in
+    let went : WentDown s u t kept c.own_down.result.top c.args.down c.args.k c.own_down.result.at (t.depth - c.args.down) = record {
+      all = g.met.B.Blocks.keeps_all on c.own_down.new.on c.own_down.ensures.keeps;
+      hangs = over.hangs;
+      told = told;
+      says = record { placed = g.met.B.Blocks.placed on s.now (g.met.B.Blocks.present on told); one = g.met.B.Blocks.one_place on };
+      held = over.held;
+      live = λ b has. (over.told told b has).live;
+      within = c.requires.down.0;
+      few = c.requires.down.1;
+      leads = c.own_down.ensures.leads;
+      last = last_leads s u t kept c.args.down c.args.k c.own_down.result.at (top_ready s t kept c.args.down c.args.k c.requires.ready) comes;
+      descends = comes.descends;
+    } in
+    stays_owned went b has current
+
+pub returns-clause-current : goal.returns-clause-current
+returns-clause-current g c = way_owned (g.B.Blocks.state c.args.on.now) (g.B.Blocks.state c.own_down.new.on) c.args.tree.now c.args.kept.now c.own_down.result.top c.args.down c.args.k c.own_down.result.at c.own_down.ensures.leads
+
+pub returns-clause-ways : goal.returns-clause-ways
+returns-clause-ways g c = λ j b way on_way.
+    let on = c.args.on.now in
+    let s = g.B.Blocks.state on in
+    let u = g.B.Blocks.state c.own_down.new.on in
+    let t = c.args.tree.now in
+    let kept = c.args.kept.now in
+    let comes = c.own_down.ensures.comes in
+    way_from {s = s} {u = u} {t = t} {kept = kept} {top = c.own_down.result.top} {n = c.args.down} {k = c.args.k} {at = c.own_down.result.at} (record {
+      all = g.met.B.Blocks.keeps_all on c.own_down.new.on c.own_down.ensures.keeps;
+      within = c.requires.down.0;
+      few = c.requires.down.1;
+      ready = c.requires.ready;
+      leads = c.own_down.ensures.leads;
+      last = last_leads s u t kept c.args.down c.args.k c.own_down.result.at (top_ready s t kept c.args.down c.args.k c.requires.ready) comes;
+      descends = comes.descends;
+    })
+    t.depth j b (omega arith) way on_way
