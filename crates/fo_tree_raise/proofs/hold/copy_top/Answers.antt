@@ -72,6 +72,7 @@ comes g c =
       tagged = c.requires.ready.tagged;
       long = ap length e.gives.memory.here.bytes ∙ c.requires.ready.long;
       raised = λ y h. c.requires.is ∙ ap (λ b. Local b) (sym ((e.instead y).0 h));
+      raised_old = λ y h. subst (λ b. (s.label b).epoch < s.high) (sym ((e.instead y).0 h)) c.requires.older;
       stands = x.stands;
       content = subst (λ (p : Pointer). Becomes s m t c.args.kept.now t.depth p c.copy.result) (sym c.requires.is) e.gives.memory.here;
     }) 0 (omega arith)
