@@ -1,6 +1,7 @@
 -- What a source has over two states whose slots are the same.
-use Rattle.std.proofs.Common.{◌≡◌, ◌*◌, ◌/◌, ◌%◌, ◌^◌, ℕ, zero, suc, cond, nat_lt, List, Option, None, refl, sym, ap, ◌∙◌}
+use Rattle.std.proofs.Common.{◌≡◌, ◌*◌, ◌/◌, ◌%◌, ◌^◌, ℕ, zero, suc, cond, nat_lt, List, Option, None, inl, inr, ⊎_elim, refl, sym, ap, ◌∙◌}
 use Rattle.fo_image.specs.declared.types.Kind.{Kind}
+use Rattle.fo_image.specs.declared.types.Label.{Label}
 use Rattle.fo_image.specs.declared.types.Score.{Score}
 use Rattle.fo_image.specs.declared.types.Pointer.{Pointer}
 use Rattle.fo_image.specs.declared.types.Pointer.TheVariants.{Nil, Local, Score as Held}
@@ -11,6 +12,7 @@ use Rattle.fo_ports.specs.State.{State}
 use Rattle.fo_tree_read.specs.declared.tree.Tree.{Tree}
 use Rattle.fo_tree_read.specs.Tree.{kind_at, kind_down, score_in, below, block_at, leaf_at, address_of, held_of, held_leaf}
 use Rattle.fo_tree_look.specs.declared.ways.Kept.{Kept}
+use Rattle.fo_tree_down.specs.Way.{OnWay, WayCurrent}
 use Rattle.fo_tree_look.specs.Source.{HasBlock, address_here, held_here, find_kept, or_held, seen}
 
 -- All slots are the same, and the same is held.
@@ -50,6 +52,14 @@ module _ {a b : State} (x : SameSlots a b) where
 
   pub has_on : (t : Tree) (at : ℕ) → HasBlock a t at → HasBlock b t at
   has_on t at has = record { down = has.down; index = has.index; within = has.within; is = block_same t has.down has.index ∙ has.is }
+
+  pub way_back : (t : Tree) (n k at : ℕ) → OnWay b t n k at → OnWay a t n k at
+  way_back t zero k at on = on
+  way_back t (suc n) k at on = ⊎_elim (λ above. inl (way_back t n (k / 409) at above)) (λ e. inr (sym (block_same t (suc n) k) ∙ e)) on
+
+  pub current_on : ((at : ℕ) → b.label at ≡ a.label at) → b.high ≡ a.high → (t : Tree) (n k : ℕ) → WayCurrent a t n k → WayCurrent b t n k
+  current_on labels high t zero k way = (way.0, way.1, ap (λ (l : Label). l.epoch) (labels way.0) ∙ way.2 ∙ sym high)
+  current_on labels high t (suc n) k way = (current_on labels high t n (k / 409) way.0, (way.1.0, block_same t (suc n) k ∙ way.1.1, ap (λ (l : Label). l.epoch) (labels way.1.0) ∙ way.1.2 ∙ sym high))
 
 pub held_here_same : {a b : State} → SameSlots a b → (t : Tree) (kept : List Kept) (i : ℕ) → held_here b t kept i ≡ held_here a t kept i
 held_here_same x t kept i = ap (λ (h : Option (List ℕ)). cond (nat_lt (8192 * i) t.size) h None) (held_leaf_same (same_seen x kept) t i)

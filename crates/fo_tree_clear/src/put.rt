@@ -1,9 +1,11 @@
 //! Bytes are put into a leaf.
 ghost use Rattle.std.specs.Prelude.{◌≡◌, ◌≢◌, ◌⊎◌, ◌+◌, ◌*◌, ◌<◌, ◌≤◌, ℕ, length};
-ghost use Rattle.fo_ports.specs.Sources.{Changes, Grows};
+ghost use Rattle.fo_ports.specs.Sources.{Made, Changes, Grows};
+ghost use Rattle.fo_tree_read.specs.Tree.{above};
 ghost use Rattle.fo_tree_look.specs.Source.{Over, HasBlock, IsPlainTree, WayReady, IsTopCurrent, form_of, leaves_of};
-ghost use Rattle.fo_tree_down.specs.Way.{IsTopOf, with_top};
+ghost use Rattle.fo_tree_down.specs.Way.{OnWay, IsTopOf, WayCurrent, with_top};
 ghost use Rattle.fo_tree_clear.specs.Put.{byte_here, Puts, IsInnerOr, LeafPut};
+ghost use Rattle.fo_tree_clear.specs.Steps.{Steps};
 
 use fo_ports::Blocks;
 use fo_tree_down::{Current, own_way};
@@ -34,6 +36,11 @@ pub fn put_leaf<B: Blocks>(
     ensures changes { Changes tree.now.tag (HasBlock (B.state on.old) tree.now) (IsInnerOr (B.state on.old) tree.now i) (B.state on.old) (B.state on.new) }
     ensures spare { (B.state on.old).spare ≤ (B.state on.new).spare + (tree.now.depth + 1) }
     ensures less { IsTopCurrent (B.state on.old) tree.now → (B.state on.old).spare ≤ (B.state on.new).spare + tree.now.depth }
+    ensures steps { Steps tree.now.tag (OnWay (B.state on.old) tree.now tree.now.depth i) (OnWay (B.state on.old) tree.now tree.now.depth i) (B.state on.old) (B.state on.new) }
+    ensures ways { (j b : ℕ) → WayReady (B.state on.old) tree.now kept.now tree.now.depth j → OnWay (B.state on.new) (with_top tree.now result.top) tree.now.depth j b → OnWay (B.state on.old) tree.now tree.now.depth j b ⊎ Made (B.state on.old) (B.state on.new) b }
+    ensures stays { (B.state on.old).tells → (b : ℕ) → HasBlock (B.state on.old) tree.now b → ((B.state on.old).label b).epoch ≡ (B.state on.old).high → HasBlock (B.state on.new) (with_top tree.now result.top) b }
+    ensures way { WayCurrent (B.state on.new) (with_top tree.now result.top) tree.now.depth i }
+    ensures used { (j : ℕ) → WayCurrent (B.state on.old) tree.now tree.now.depth j → j ≤ i → i ≤ j + 1 → (B.state on.old).spare + (j + above tree.now.depth j) ≤ (B.state on.new).spare + (i + above tree.now.depth i) }
     ensures room { (B.state on.new).room ≡ (B.state on.old).room }
     ensures current { IsTopCurrent (B.state on.new) (with_top tree.now result.top) }
     ensures keeps { B.keeps on.old on.new }

@@ -14,7 +14,9 @@ use Rattle.fo_tree_look.proofs.Shown.{top_ready}
 use Rattle.fo_tree_down.specs.Way.{with_top}
 use Rattle.fo_tree_leaf.proofs.Owning.{top_current}
 use Rattle.fo_tree_clear.specs.Put.{IsInnerOr}
-use Rattle.fo_tree_clear.proofs.Same.{has_back, has_on}
+use Rattle.fo_tree_down.proofs.Next.{on_way_last}
+use Rattle.fo_tree_clear.proofs.Same.{has_back, has_on, way_back, current_on}
+use Rattle.fo_tree_clear.proofs.Descending.{steps_down, steps_put}
 use Rattle.fo_tree_clear.proofs.Putting.{BytesPut, same_slots, label_same, over_put, prepared_put, changes_put}
 use Rattle.fo_tree_clear.proofs.Leaf.{PieceCame, puts_end, leaf_put}
 use Rattle.fo_tree_clear.proofs.put.put_leaf.Given as given
@@ -172,3 +174,49 @@ returns-clause-room g c = let first = c.own_way-current.ensures.comes.descends.r
 
 pub returns-clause-current : goal.returns-clause-current
 returns-clause-current g c = top_current (returns-clause-top g c)
+
+pub returns-clause-steps : goal.returns-clause-steps
+returns-clause-steps g c =
+    let on = c.args.on.now in
+    let mid = c.own_way-current.new.on in
+    let new = c.put_bytes.new.self in
+    let s = g.B.Blocks.state on in
+    let t = c.args.tree.now in
+    let at = c.own_way-current.result.at in
+    let first = g.met.B.Blocks.keeps_all on mid c.own_way-current.ensures.keeps in
+    let own = c.own_way-current.ensures.replaces.own in
+    let lt = c.requires.inside in
+    let end = c.own_way-current.ensures.over (omega (arith, lt)) c.requires.over.0 c.requires.over.1 in
+    steps_put (g.met.B.Blocks.keeps_all on new (g.met.B.Blocks.keeps_joins on mid new c.own_way-current.ensures.keeps c.put_bytes.ensures.keeps))
+    (steps_down first c.own_way-current.ensures.comes.descends (λ told b made. (end.told (first.still_tells.1 told) b ((c.own_way-current.ensures.owns told b).1 made)).uncovered))
+    (bytes_put g c)
+    (⊎_elim
+    (λ made. inl made)
+    (λ is.
+    let same = (c.own_way-current.ensures.comes.descends.others at is.1).label in
+    inr (
+      on_way_last s t t.depth c.args.i at is.0,
+      ap (λ l. l.epoch) (sym same) ∙ own.current ∙ first.same_high,
+      ap (λ l. l.tag) (sym same) ∙ own.tagged,
+    ))
+    c.own_way-current.ensures.comes.from)
+
+pub returns-clause-ways : goal.returns-clause-ways
+returns-clause-ways g c = λ j b way on_way.
+    let put = bytes_put g c in
+    ⊎_elim
+    (λ old. inl old)
+    (λ made. inr (made.0, ap (λ l. l.state) (label_same put b) ∙ made.1))
+    (c.own_way-current.ensures.ways j b way (way_back (same_slots put) (with_top c.args.tree.now c.own_way-current.result.top) c.args.tree.now.depth j b on_way))
+
+pub returns-clause-stays : goal.returns-clause-stays
+returns-clause-stays g c = λ told b has current. has_on (same_slots (bytes_put g c)) (with_top c.args.tree.now c.own_way-current.result.top) b (c.own_way-current.ensures.stays told b has current)
+
+pub returns-clause-way : goal.returns-clause-way
+returns-clause-way g c =
+    let put = bytes_put g c in
+    let more = g.met.B.Blocks.keeps_all c.own_way-current.new.on c.put_bytes.new.self c.put_bytes.ensures.keeps in
+    current_on (same_slots put) (λ b. label_same put b) more.same_high (with_top c.args.tree.now c.own_way-current.result.top) c.args.tree.now.depth c.args.i c.own_way-current.ensures.current
+
+pub returns-clause-used : goal.returns-clause-used
+returns-clause-used g c = λ j way le next. let used = c.own_way-current.ensures.used j way le next in let same = c.put_bytes.ensures.calm.frame.uses.spare in omega (arith, used, same)
