@@ -1,0 +1,31 @@
+-- A piece is put into a source, leaf by leaf.
+use Rattle.std.specs.Prelude.{◌≡◌, ◌⊎◌, ◌+◌, ◌-◌, ◌*◌, ◌/◌, ◌%◌, ◌<◌, ◌≤◌, ℕ, List, length, take}
+use Rattle.fo_image.specs.declared.types.Pointer.{Pointer}
+use Rattle.fo_ports.specs.State.{State}
+use Rattle.fo_ports.specs.Sources.{Made}
+use Rattle.fo_tree_read.specs.declared.tree.Tree.{Tree}
+use Rattle.fo_tree_read.specs.Reading.{passed}
+use Rattle.fo_tree_look.specs.declared.ways.Kept.{Kept}
+use Rattle.fo_tree_look.specs.Source.{HasBlock, Over, Prepared, WayReady}
+use Rattle.fo_tree_down.specs.Way.{OnWay, WayCurrent}
+use Rattle.fo_tree_clear.specs.Put.{byte_here, Puts}
+use Rattle.fo_tree_clear.specs.Steps.{Steps}
+
+-- the tree with this top
+abbrev pub at_top : Tree → Pointer → Tree
+at_top t top = record t { top = top }
+
+-- So many blocks were spent: none yet; or the way to the leaf that was written last is current, and each block of the ways to it and those
+-- before took one at most.
+pub record Spent (now : State) (t : Tree) (before offset done : ℕ) : Type 0 where
+  pub is : ((done ≡ 0) × (before ≤ now.spare)) ⊎ ((0 < done) × WayCurrent now t t.depth ((offset + done - 1) / 8192) × (before + passed t.depth (offset / 8192) ≤ now.spare + (t.depth + 1) + passed t.depth ((offset + done - 1) / 8192)))
+
+-- The first bytes of a piece were put, and the source has this top now.
+pub record Wrote (s u : State) (t : Tree) (top : Pointer) (kept : List Kept) (offset done : ℕ) (piece : List ℕ) : Type 0 where
+  pub over : (limit : ℕ) → Over s t kept limit → Over u (at_top t top) kept limit
+  pub bytes : s.tells → Puts (byte_here s t kept) (byte_here u (at_top t top) kept) offset (take done piece)
+  pub still : (limit o n : ℕ) → Prepared s t kept limit o n → Prepared u (at_top t top) kept limit o n
+  pub owns : s.tells → (b : ℕ) → (HasBlock u (at_top t top) b → HasBlock s t b ⊎ Made s u b) × (Made s u b → HasBlock u (at_top t top) b)
+  pub ways : (j b : ℕ) → 8192 * j < t.size → WayReady s t kept t.depth j → OnWay u (at_top t top) t.depth j b → OnWay s t t.depth j b ⊎ Made s u b
+  pub steps : Steps t.tag (HasBlock s t) (HasBlock s t) s u
+  pub spent : Spent u (at_top t top) s.spare offset done
