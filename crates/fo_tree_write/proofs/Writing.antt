@@ -1,19 +1,18 @@
 -- Leaves are written one after another.
 use Rattle.std.specs.List.{range_with_len}
-use Rattle.std.proofs.Common.{◌≡◌, ◌≢◌, ◌⊎◌, ◌+◌, ◌-◌, ◌*◌, ◌/◌, ◌%◌, ◌^◌, ◌<◌, ◌≤◌, ℕ, zero, suc, List, [], ◌∷◌, length, map, min, max, take, drop, slice_index, inl, inr, ⊎_elim, refl, sym, ap, ◌∙◌, subst, arith}
+use Rattle.std.proofs.Common.{◌≡◌, ◌⊎◌, ◌+◌, ◌-◌, ◌*◌, ◌/◌, ◌%◌, ◌^◌, ◌<◌, ◌≤◌, ℕ, zero, suc, List, [], ◌∷◌, length, map, take, drop, slice_index, inl, inr, ⊎_elim, refl, sym, ap, ◌∙◌, subst, arith}
 use Rattle.std.proofs.lemmas.Bool.{cases_lt}
 use Rattle.std.proofs.lemmas.List.{ext_get_or, length-take-le, length-drop, get_or-take, get_or-drop, get_or_past}
 use Rattle.std.proofs.lemmas.List.FromFn.{length-map-range_with_len, get_or-map-range_with_len}
-use Rattle.fo_image.specs.declared.types.Label.{Label}
 use Rattle.fo_image.specs.declared.types.Pointer.{Pointer}
-use Rattle.fo_image.specs.declared.types.Pointer.TheVariants.{Nil, Local, Score as Held}
+use Rattle.fo_image.specs.declared.types.Pointer.TheVariants.{Local}
 use Rattle.fo_crash.specs.declared.place.Place.{Place}
 use Rattle.fo_crash.specs.Images.{Image}
 use Rattle.fo_crash.specs.Places.{IsPlaced, RanksFall}
 use Rattle.fo_sparse.specs.Written.{written}
 use Rattle.fo_sparse.proofs.Lists.{is_written}
 use Rattle.fo_ports.specs.State.{State, KeepsAll}
-use Rattle.fo_ports.specs.Sources.{Made, Changes, depth_for, most_for, source_bytes}
+use Rattle.fo_ports.specs.Sources.{Made, depth_for, most_for, source_bytes}
 use Rattle.fo_tree_read.specs.declared.tree.Tree.{Tree}
 use Rattle.fo_tree_read.specs.Tree.{block_at, above}
 use Rattle.fo_tree_read.specs.Reading.{passed, most}
@@ -25,7 +24,7 @@ use Rattle.fo_tree_down.proofs.Join.{local_cases}
 use Rattle.fo_tree_down.proofs.Leading.{way_top}
 use Rattle.fo_tree_clear.specs.Put.{byte_here, Puts}
 use Rattle.fo_tree_clear.specs.Steps.{Steps}
-use Rattle.fo_tree_clear.proofs.Stepping.{Follows, cases_made, steps_join, steps_none, made_first, made_second, made_either}
+use Rattle.fo_tree_clear.proofs.Stepping.{Follows, steps_join, steps_none, made_first, made_second, made_either}
 use Rattle.fo_tree_write.specs.Write.{at_top, Spent, Wrote}
 
 -- ---- how many blocks stand above leaves

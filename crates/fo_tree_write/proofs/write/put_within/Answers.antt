@@ -1,15 +1,13 @@
-use Rattle.std.proofs.Common.{◌≡◌, ◌⊎◌, ◌+◌, ◌-◌, ◌*◌, ◌/◌, ◌%◌, ◌<◌, ◌≤◌, ℕ, length, take, drop, ◌^◌, refl, sym, ap, ◌∙◌, subst, arith, inl, inr, ⊎_elim}
+use Rattle.std.proofs.Common.{◌≡◌, ◌+◌, ◌-◌, ◌*◌, ◌/◌, ◌%◌, ◌<◌, length, take, drop, refl, sym, ap, ◌∙◌, subst, arith, ⊎_elim}
 use Rattle.std.proofs.lemmas.Bool.{cases_eq}
 use Rattle.std.proofs.lemmas.List.{take_all}
 use Rattle.fo_crash.specs.Places.{super_place, root_place}
-use Rattle.fo_tree_read.specs.Reading.{most}
 use Rattle.fo_tree_look.specs.Source.{WayReady}
 use Rattle.fo_tree_down.specs.Way.{with_top}
 use Rattle.fo_tree_clear.specs.Put.{byte_here, Puts}
 use Rattle.fo_tree_clear.proofs.Stepping.{steps_changes}
 use Rattle.fo_tree_write.specs.Write.{at_top, Spent}
-use Rattle.fo_tree_write.proofs.Writing.{most_is, enough_left, spent_end, way_still, bytes_written, OneMore, wrote_more, wrote_none}
-use Rattle.fo_tree_write.proofs.write.put_within.Given as given
+use Rattle.fo_tree_write.proofs.Writing.{most_is, enough_left, spent_end, way_still, bytes_written, wrote_more, wrote_none}
 use Rattle.fo_tree_write.proofs.write.put_within.Goals as goal
 
 pub put_leaf-current-requires-clause-over : goal.put_leaf-current-requires-clause-over

@@ -1,4 +1,4 @@
-use Rattle.std.proofs.Common.{◌≡◌, ◌-◌, ◌≤◌, length}
+use Rattle.std.proofs.Common.{◌-◌, ◌≤◌, length}
 use Rattle.fo_tree_write.specs.Write.{Wrote}
 use Rattle.fo_tree_write.proofs.write.put_within.Given as goal
 
