@@ -1,0 +1,29 @@
+use Rattle.std.proofs.Common.{ℕ, ◌≡◌, ◌/◌, Option, None, sym, ◌∙◌, subst}
+use Rattle.fo_ports.specs.Sources.{Form}
+use Rattle.fo_dir_read.specs.Names.{leaf_count}
+use Rattle.fo_dir_read.specs.Pairs.{OfEntries, IsFree}
+use Rattle.fo_dir_ready.proofs.Rowed.{ends_before}
+use Rattle.fo_dir_ready.proofs.Paired.{entries_looked, pair_on, free_on, taken_on}
+use Rattle.fo_dir_ready.proofs.Later.{own_later}
+use Rattle.fo_dir_ready.proofs.ready.ready_entries.Goals as goal
+
+pub own_entries-at-requires-clause-form : goal.own_entries-at-requires-clause-form
+own_entries-at-requires-clause-form g c = subst (λ (f : Form). OfEntries f c.args.rank) (sym c.prepare.ensures.same.0) c.requires.form
+
+pub own_entries-at-requires-clause-may : goal.own_entries-at-requires-clause-may
+own_entries-at-requires-clause-may g c = own_later c.requires.may c.prepare.ensures.same.1 c.prepare.ensures.same.2 c.prepare.ensures.looks.0.room c.in-Ok.ensures.prepared
+
+pub returns-in-Ok-clause-pairs : goal.returns-in-Ok-clause-pairs
+returns-in-Ok-clause-pairs g c = λ told k first second pair.
+    let now = (g.met.B.Blocks.keeps_all c.args.on.now c.prepare.new.on c.prepare.ensures.looks.1).still_tells.1 told in
+    c.own_entries-at.ensures.pairs now k first second (pair_on (entries_looked told c.prepare.ensures.looks.0 c.prepare.ensures.same.2 (k / 102)) pair)
+
+pub returns-in-Ok-clause-free : goal.returns-in-Ok-clause-free
+returns-in-Ok-clause-free g c = λ told k free.
+    let now = (g.met.B.Blocks.keeps_all c.args.on.now c.prepare.new.on c.prepare.ensures.looks.1).still_tells.1 told in
+    c.own_entries-at.ensures.free now k (free_on (entries_looked told c.prepare.ensures.looks.0 c.prepare.ensures.same.2 (k / 102)) (λ e. (g.met.S.Bytes.none_behind c.args.entries.now c.args.on.now (k / 102) c.requires.over (ends_before (g.S.Bytes.size c.args.entries.now) (k / 102) e)).0) free)
+
+pub returns-in-Ok-clause-taken : goal.returns-in-Ok-clause-taken
+returns-in-Ok-clause-taken g c = λ told k taken.
+    let now = (g.met.B.Blocks.keeps_all c.args.on.now c.prepare.new.on c.prepare.ensures.looks.1).still_tells.1 told in
+    c.own_entries-at.ensures.taken now k (taken_on (g.met.B.Blocks.clears_used c.args.on.now told) (λ j. entries_looked told c.prepare.ensures.looks.0 c.prepare.ensures.same.2 j) taken)

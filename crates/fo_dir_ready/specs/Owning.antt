@@ -1,0 +1,20 @@
+-- What is asked of a source before one of its leaves is owned.
+use Rattle.std.specs.Prelude.{◌+◌, ◌*◌, ◌≤◌, ℕ, max}
+use Rattle.fo_ports.specs.State.{State}
+use Rattle.fo_ports.specs.Sources.{Leaves, IsEnough, most_cleared, most_for}
+use Rattle.fo_dir_read.specs.Names.{leaf_count}
+
+-- Leaf i of a source was prepared, stands in it or behind its last one, and there is room to own it.
+pub record MayOwn (leaves : Leaves) (size i : ℕ) (s : State) : Type 0 where
+  pub within : i ≤ leaf_count size
+  pub prepared : leaves.prepared (8192 * i) 8192
+  pub spare : IsEnough leaves.current size i s.spare
+  pub room : most_cleared size (8192 * (i + 1)) ≤ s.room
+
+-- Leaf i of a source stands in it or behind its last one, within its limit, and there are pins to prepare it and room to own it.
+pub record MayReady (leaves : Leaves) (size limit i : ℕ) (s : State) : Type 0 where
+  pub within : i ≤ leaf_count size
+  pub limited : 8192 * i + 8192 ≤ limit
+  pub pins : most_for (max size (8192 * i + 8192)) 8192 ≤ s.pins_left
+  pub spare : IsEnough leaves.current size i s.spare
+  pub room : most_cleared size (8192 * (i + 1)) ≤ s.room

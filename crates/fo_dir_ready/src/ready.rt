@@ -1,0 +1,87 @@
+//! A leaf is prepared and owned.
+ghost use Rattle.std.specs.Prelude.{◌≡◌, ◌⊎◌, ◌↔◌, ◌+◌, ◌*◌, ◌≤◌, ℕ, List, max, Some, IfOk, IfErr, OnOk, OnErr, IsTrue};
+ghost use Rattle.fo_base.specs.Cause.{Rose};
+ghost use Rattle.fo_image.specs.declared.record.Record.{Record};
+ghost use Rattle.fo_image.specs.declared.types.Entry.{Entry};
+ghost use Rattle.fo_ports.specs.Causes.{Caused};
+ghost use Rattle.fo_ports.specs.State.{Looks};
+ghost use Rattle.fo_ports.specs.Sources.{SameLeaves, Lacks};
+ghost use Rattle.fo_dir_read.specs.Names.{OfRecords, AreRecords, leaf_count};
+ghost use Rattle.fo_dir_read.specs.Pairs.{OfEntries, IsPair, IsFree, AreTaken};
+ghost use Rattle.fo_dir_put.specs.Puts.{IsOwnedRecords, IsHeldEntries};
+ghost use Rattle.fo_dir_ready.specs.Owning.{MayReady};
+
+use crate::entries::own_entries;
+use crate::records::own_records;
+use fo_ports::{BlockError, Blocks, Bytes};
+
+/// A leaf that may be changed.
+#[derive(Clone, Copy, Debug)]
+pub struct ReadyLeaf {
+    /// Its address.
+    pub at: u32,
+    /// Whether it hung from block 1 when all was last settled.
+    pub sealed: bool,
+}
+
+/// Prepares and owns leaf `i` of the records. Where it is refused nothing was added.
+pub fn ready_records<B: Blocks, S: Bytes<B>>(
+    records: &mut S,
+    on: &mut B,
+    rank: u32,
+    i: u32,
+) -> Result<ReadyLeaf, BlockError>
+    requires over { S.is_over records.old on.old }
+    requires form { OfRecords (S.form records.old) rank }
+    requires may { MayReady (S.leaves records.old on.old) (S.size records.old) (S.form records.old).limit i (B.state on.old) }
+    ensures owned { IfOk result (λ leaf. IsOwnedRecords (B.state on.new) leaf.at) }
+    ensures at { IfOk result (λ leaf. (S.leaves records.new on.new).at i ≡ Some leaf.at) }
+    ensures sealed { IfOk result (λ leaf. IsTrue leaf.sealed ↔ (B.state on.new).sealed leaf.at) }
+    ensures size { OnOk result (S.size records.new ≡ max (S.size records.old) (8192 * (i + 1))) }
+    ensures nothing { OnErr result (Looks (B.state on.old) (B.state on.new) × (S.size records.new ≡ S.size records.old) × SameLeaves (B.state on.old).tells (S.leaves records.old on.old) (S.leaves records.new on.new)) }
+    ensures rows { OnOk result ((B.state on.old).tells → (rs : List Record) → AreRecords (B.state on.old).now (S.leaves records.old on.old) (leaf_count (S.size records.old)) rs → AreRecords (B.state on.new).now (S.leaves records.new on.new) (leaf_count (S.size records.new)) rs) }
+    ensures over { S.is_over records.new on.new × (S.form records.new ≡ S.form records.old) }
+    ensures cause { IfErr result (Caused ⊥ (λ b. (((B.state on.old).tells → ⊥) × (B.state on.old).is_block b) ⊎ ((b ≡ 1) × ((B.state on.old).tells → Lacks (S.leaves records.old on.old).named (B.state on.old).held))) (Rose (B.state on.old).faults (B.state on.new).faults) (Rose (B.state on.old).arena_faults (B.state on.new).arena_faults)) }
+    ensures keeps { B.keeps on.old on.new }
+{
+    match records.prepare(on, 8192 * i as u64, 8192) {
+        Ok(()) => {
+            let at = own_records(records, on, rank, i);
+            let sealed = on.sealed(at);
+            Ok(ReadyLeaf { at, sealed })
+        }
+        Err(why) => Err(why),
+    }
+}
+
+/// Prepares and owns leaf `i` of the entries. Where it is refused nothing was added.
+pub fn ready_entries<B: Blocks, S: Bytes<B>>(
+    entries: &mut S,
+    on: &mut B,
+    rank: u32,
+    i: u32,
+) -> Result<ReadyLeaf, BlockError>
+    requires over { S.is_over entries.old on.old }
+    requires form { OfEntries (S.form entries.old) rank }
+    requires may { MayReady (S.leaves entries.old on.old) (S.size entries.old) (S.form entries.old).limit i (B.state on.old) }
+    ensures held { IfOk result (λ leaf. IsHeldEntries (B.state on.new) leaf.at × (((B.state on.new).label leaf.at).epoch ≡ (B.state on.new).high)) }
+    ensures at { IfOk result (λ leaf. (S.leaves entries.new on.new).at i ≡ Some leaf.at) }
+    ensures sealed { IfOk result (λ leaf. IsTrue leaf.sealed ↔ (B.state on.new).sealed leaf.at) }
+    ensures size { OnOk result (S.size entries.new ≡ max (S.size entries.old) (8192 * (i + 1))) }
+    ensures nothing { OnErr result (Looks (B.state on.old) (B.state on.new) × (S.size entries.new ≡ S.size entries.old) × SameLeaves (B.state on.old).tells (S.leaves entries.old on.old) (S.leaves entries.new on.new)) }
+    ensures pairs { OnOk result ((B.state on.old).tells → (k : ℕ) (first second : Entry) → IsPair (B.state on.old).now (S.leaves entries.old on.old) k first second → IsPair (B.state on.new).now (S.leaves entries.new on.new) k first second) }
+    ensures free { OnOk result ((B.state on.old).tells → (k : ℕ) → IsFree (B.state on.old) (S.leaves entries.old on.old) (S.size entries.old) k → IsFree (B.state on.new) (S.leaves entries.new on.new) (S.size entries.new) k) }
+    ensures taken { OnOk result ((B.state on.old).tells → (k : ℕ) → AreTaken (B.state on.old) (S.leaves entries.old on.old) k → AreTaken (B.state on.new) (S.leaves entries.new on.new) k) }
+    ensures over { S.is_over entries.new on.new × (S.form entries.new ≡ S.form entries.old) }
+    ensures cause { IfErr result (Caused ⊥ (λ b. (((B.state on.old).tells → ⊥) × (B.state on.old).is_block b) ⊎ ((b ≡ 1) × ((B.state on.old).tells → Lacks (S.leaves entries.old on.old).named (B.state on.old).held))) (Rose (B.state on.old).faults (B.state on.new).faults) (Rose (B.state on.old).arena_faults (B.state on.new).arena_faults)) }
+    ensures keeps { B.keeps on.old on.new }
+{
+    match entries.prepare(on, 8192 * i as u64, 8192) {
+        Ok(()) => {
+            let at = own_entries(entries, on, rank, i);
+            let sealed = on.sealed(at);
+            Ok(ReadyLeaf { at, sealed })
+        }
+        Err(why) => Err(why),
+    }
+}
