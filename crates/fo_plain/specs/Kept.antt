@@ -1,5 +1,5 @@
 -- The world that `PlainFiles` keeps, and what its private calls answer.
-use Rattle.std.specs.Prelude.{◌≡◌, ℕ, ◌⊎◌, [], List, false, Option, Some, None, Result, Ok, Err, MatchResult}
+use Rattle.std.specs.Prelude.{◌≡◌, ◌+◌, ℕ, ◌⊎◌, [], List, false, Option, Some, None, Result, Ok, Err, MatchResult}
 use Rattle.fo_world.specs.declared.place.Place.{Place}
 use Rattle.fo_world.specs.declared.place.Change.{Change}
 use Rattle.fo_world.specs.declared.place.Info.{Info}
@@ -10,6 +10,8 @@ use Rattle.fo_world.specs.declared.error.FileError.TheVariants as error
 use Rattle.fo_world.specs.Names.{no_names}
 use Rattle.fo_world.specs.Dated.{adm}
 use Rattle.fo_world.specs.World.{World}
+use Rattle.fo_world.specs.declared.tree.Node.{Node}
+use Rattle.fo_world.specs.Tree.{change_along, with_name}
 use Rattle.fo_world.specs.Step.{after_change}
 
 abbrev pub kept : PlainFiles → World
@@ -31,6 +33,10 @@ Grants after told r = MatchResult r (λ x. told ≡ Ok (tt, after x)) (λ e. (to
 abbrev pub changed_world : World → Place → Change → Option (List ℕ) → List ℕ → ℕ → World
 changed_world w at what None who now = w
 changed_world w at what (Some old) who now = after_change w at what old who now
+
+-- the world with a file more in the directory at a place, whose number counts as given
+abbrev pub with_added : World → Place → List ℕ → Node → List ℕ → ℕ → World
+with_added w at name node who now = record w { active = record { root = change_along at.trail (with_name name node who now) w.active.root }; next = w.next + 1 }
 
 -- A granted change leads to this world, or memory is wanting and the world stays.
 abbrev pub Becomes : World → World → World → Result (Unit {0}) FileError → Type 0

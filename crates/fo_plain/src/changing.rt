@@ -3,12 +3,12 @@ use crate::checking::new_name;
 use crate::made::new_node;
 use crate::plain::PlainFiles;
 use fo_base::Bytes;
-use fo_world::{Add, Alter, Change, Fields, FileError, Info, Place, Rename, TakeOut, Write};
+use fo_world::{Add, Alter, Change, Fields, FileError, Info, Node, Place, Rename, TakeOut, Write};
 
 impl PlainFiles {
     ghost use Rattle.std.specs.Prelude.{◌≡◌, ◌^◌, ◌<◌, ◌≤◌, ◌+◌, length};
     ghost use Rattle.std.specs.Option.{ForSome};
-    ghost use Rattle.fo_plain.specs.Kept.{kept, Becomes, Makes};
+    ghost use Rattle.fo_plain.specs.Kept.{kept, with_added, Becomes, Makes};
     ghost use Rattle.fo_world.specs.Fits.{WorldFits};
     ghost use Rattle.fo_world.specs.Step.{with_active, after_write, after_create, after_remove, after_change};
     ghost use Rattle.fo_world.specs.Tree.{change_along};
@@ -65,15 +65,33 @@ impl PlainFiles {
         let number = self.world.next;
         let node = new_node(alloc, number, mode, who, uid, gid, now)?;
         let info = Info::of(alloc, at.below(alloc, number)?, name, &node)?;
+        self.add(at, name, node, who, now)?;
+        Ok(info)
+    }
+
+    // Adds a file to a directory, and counts its number as given.
+    fn add(
+        &mut self,
+        at: &Place,
+        name: &Bytes,
+        node: Node,
+        who: &Bytes,
+        now: u32,
+    ) -> Result<(), FileError>
+        requires number { (kept self.old).next < 2 ^ 30 }
+        requires fits { WorldFits (with_added (kept self.old) at.now name.now node who.now now) }
+        ensures { Becomes (with_added (kept self.old) at.now name.now node who.now now) (kept self.old) (kept self.new) result }
+    {
+        let number = self.world.next;
         let add = Add {
-            name: name.copy(alloc)?,
+            name: name.copy(self.alloc)?,
             node,
-            who: who.copy(alloc)?,
+            who: who.copy(self.alloc)?,
             now,
         };
         self.alter(at.trail.as_slice(), add)?;
         self.world.next = number + 1;
-        Ok(info)
+        Ok(())
     }
 
     /// Takes the file of this name out of its directory.

@@ -1,5 +1,6 @@
 //! Whether a change is granted.
-ghost use Rattle.std.specs.Prelude.{◌≡◌, ◌^◌, ◌≤◌};
+ghost use Rattle.std.specs.Prelude.{◌≡◌, ◌^◌, ◌≤◌, is_some};
+ghost use Rattle.fo_world.specs.Tree.{named};
 ghost use Rattle.std.specs.Option.{option_copied, ForSome};
 ghost use Rattle.std.specs.Bool.{OnFalse};
 ghost use Rattle.fo_world.specs.Step as step;
@@ -7,8 +8,8 @@ ghost use Rattle.fo_world.specs.Step as step;
 use crate::plain::PlainFiles;
 use fo_base::Bytes;
 use fo_world::{
-    Body, Change, DMDIR, FileError, MOST_ABOVE, MOST_BYTES, MOST_NAMES, MOST_NUMBERS, Place, View,
-    follow,
+    Body, Change, DMDIR, FileError, MOST_ABOVE, MOST_BYTES, MOST_NAMES, MOST_NUMBERS, Names, Node,
+    Place, View, follow,
 };
 
 impl PlainFiles {
@@ -32,9 +33,29 @@ impl PlainFiles {
             (step.write true (2 ^ 40) (kept self.now) at.now offset bytes.now who.now now) result }
         ensures fits { IfOk result (λ go. go ≡ true → offset + length bytes.now ≤ 2 ^ 47) }
     {
-        let name = self.root_name(at.view)?;
-        let reached = self.reach(&name, at)?;
-        let _bytes = reached.node().body.as_file()?;
+        let root = self.root_name(at.view)?;
+        let reached = self.reach(&root, at)?;
+        self.may_write_to(at, offset, bytes, reached.name, reached.node(), who, now)
+    }
+
+    // The same, where the file was reached.
+    #[tactic(auto, unfolding(fo_world::specs::Step::write))]
+    fn may_write_to(
+        &self,
+        at: &Place,
+        offset: u64,
+        bytes: &[u8],
+        name: &Bytes,
+        node: &Node,
+        who: &Bytes,
+        now: u32,
+    ) -> Result<bool, FileError>
+        requires { step.reached true (kept self.now) at.now ≡ Ok (name.now, node.now) }
+        ensures answer { Grants (λ go. if go then after_write (kept self.now) at.now offset bytes.now who.now now else kept self.now)
+            (step.write true (2 ^ 40) (kept self.now) at.now offset bytes.now who.now now) result }
+        ensures fits { IfOk result (λ go. go ≡ true → offset + length bytes.now ≤ 2 ^ 47) }
+    {
+        let _bytes = node.body.as_file()?;
         let View::Active = at.view else {
             return Err(FileError::ReadOnly);
         };
@@ -70,11 +91,45 @@ impl PlainFiles {
     {
         let root = self.root_name(at.view)?;
         let reached = self.reach(&root, at)?;
-        let names = reached.node().body.as_dir()?;
+        self.may_create_in(
+            at,
+            name,
+            mode,
+            reached.name,
+            reached.node(),
+            who,
+            uid,
+            gid,
+            now,
+        )
+    }
+
+    // The same, where the directory was reached.
+    #[tactic(auto, unfolding(fo_world::specs::Step::create))]
+    fn may_create_in(
+        &self,
+        at: &Place,
+        name: &[u8],
+        mode: u32,
+        dir: &Bytes,
+        node: &Node,
+        who: &Bytes,
+        uid: &Bytes,
+        gid: &Bytes,
+        now: u32,
+    ) -> Result<(), FileError>
+        requires { step.reached true (kept self.now) at.now ≡ Ok (dir.now, node.now) }
+        ensures answer { MatchResult result
+            (λ _. step.create true (kept self.now) at.now name.now mode who.now uid.now gid.now now ≡ Ok (after_create (kept self.now) at.now name.now mode who.now uid.now gid.now now))
+            (λ e. (step.create true (kept self.now) at.now name.now mode who.now uid.now gid.now now ≡ Err e) ⊎ (e ≡ FileError.Memory)) }
+        ensures active { OnOk result (at.now.view ≡ View.Active) }
+        ensures number { OnOk result ((kept self.now).next < 2 ^ 30) }
+    {
+        let names = node.body.as_dir()?;
         let View::Active = at.view else {
             return Err(FileError::ReadOnly);
         };
-        if names.named(name).is_some() {
+        if has_name(names, name) {
             return Err(FileError::Exists);
         }
         if self.world.halted {
@@ -98,18 +153,35 @@ impl PlainFiles {
         ensures { Grants (λ name. after_remove (kept self.now) at.now name who.now now)
             (step.remove true (kept self.now) at.now who.now now) result }
     {
-        let name = self.root_name(at.view)?;
-        let reached = self.reach(&name, at)?;
+        let root = self.root_name(at.view)?;
+        let reached = self.reach(&root, at)?;
+        self.may_remove_at(at, reached.name, reached.node(), who, now)
+    }
+
+    // The same, where the file was reached.
+    #[tactic(auto, unfolding(fo_world::specs::Step::remove))]
+    fn may_remove_at(
+        &self,
+        at: &Place,
+        name: &Bytes,
+        node: &Node,
+        who: &Bytes,
+        now: u32,
+    ) -> Result<Bytes, FileError>
+        requires { step.reached true (kept self.now) at.now ≡ Ok (name.now, node.now) }
+        ensures { Grants (λ old. after_remove (kept self.now) at.now old who.now now)
+            (step.remove true (kept self.now) at.now who.now now) result }
+    {
         let View::Active = at.view else {
             return Err(FileError::ReadOnly);
         };
-        if reached.node().body.has_names() {
+        if node.body.has_names() {
             return Err(FileError::NotEmpty);
         }
         if self.world.halted {
             return Err(FileError::Halted);
         }
-        Ok(reached.name.copy(self.alloc)?)
+        Ok(name.copy(self.alloc)?)
     }
 
     // Whether another file beside this one has a name that is given.
@@ -143,27 +215,46 @@ impl PlainFiles {
     {
         let root = self.root_name(at.view)?;
         let reached = self.reach(&root, at)?;
-        let body = &reached.node().body;
+        self.may_change_at(at, what, reached.name, reached.node(), who, now)
+    }
+
+    // The same, where the file was reached.
+    #[tactic(auto, unfolding(fo_world::specs::Step::change))]
+    fn may_change_at(
+        &self,
+        at: &Place,
+        what: &Change,
+        old: &Bytes,
+        node: &Node,
+        who: &Bytes,
+        now: u32,
+    ) -> Result<Option<Bytes>, FileError>
+        requires { step.reached true (kept self.now) at.now ≡ Ok (old.now, node.now) }
+        ensures answer { Grants (λ old. changed_world (kept self.now) at.now what.now old who.now now)
+            (step.change true (2 ^ 40) (kept self.now) at.now what.now who.now now) result }
+        ensures fits { OnOk result (ForSome what.now.length (λ n. n ≤ 2 ^ 47)) }
+    {
+        let body = &node.body;
         if gives_length(what.length, body) {
             return Err(FileError::IsDir);
         }
         let View::Active = at.view else {
             return Err(FileError::ReadOnly);
         };
-        let name = new_name(&what.name, reached.name.as_slice());
+        let name = new_name(&what.name, old.as_slice());
         if self.is_taken(at, name)? {
             return Err(FileError::Exists);
         }
         if exceeds(what.length) {
             return Err(FileError::TooBig);
         }
-        if changes_nothing(what, reached.name.as_slice(), body) {
+        if changes_nothing(what, old.as_slice(), body) {
             return Ok(None);
         }
         if self.world.halted {
             return Err(FileError::Halted);
         }
-        Ok(Some(reached.name.copy(self.alloc)?))
+        Ok(Some(old.copy(self.alloc)?))
     }
 }
 
@@ -181,6 +272,13 @@ pub(crate) fn new_name<'a>(name: &'a Option<Bytes>, old: &[u8]) -> Option<&'a By
             }
         }
     }
+}
+
+// Whether a directory has this name.
+fn has_name(names: &Names, name: &[u8]) -> bool
+    ensures { result ≡ is_some (named name.now names.now) }
+{
+    names.named(name).is_some()
 }
 
 // Whether a directory is given a length but 0.

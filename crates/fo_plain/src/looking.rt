@@ -2,6 +2,8 @@
 ghost use Rattle.std.specs.Prelude.{◌≡◌, ◌⊎◌, Some, None};
 ghost use Rattle.fo_world.specs.Step as step;
 ghost use Rattle.fo_world.specs.Names.{no_names};
+ghost use Rattle.fo_world.specs.Pairs.{pair_copied};
+ghost use Rattle.fo_world.specs.Tree.{named};
 ghost use Rattle.fo_plain.specs.Found.{Reaches};
 
 use crate::dated::{
@@ -10,14 +12,15 @@ use crate::dated::{
 };
 use crate::plain::PlainFiles;
 use crate::reached::{Found, Reached};
-use crate::taken::all_taken;
+use crate::taken::{Taken, all_taken};
 use fo_base::Bytes;
-use fo_world::{Body, FileError, Info, Node, Place, ShortText, View, follow};
+use fo_world::{Body, FileError, Info, Names, Node, Place, ShortText, View, follow};
 use std::alloc::AllocError;
 
 impl PlainFiles {
     ghost use Rattle.std.specs.Prelude.{◌≡◌, ◌⊎◌, ◌≤◌, length, take, drop, true, false, IfOk, OnOk, MatchResult, Some, None, Ok, Err};
-    ghost use Rattle.std.specs.Option.{option_copied};
+    ghost use Rattle.std.specs.Option.{option_copied, option_map_or};
+    ghost use Rattle.fo_world.specs.Dated.{dated_name, taken_at, slash};
     ghost use Rattle.fo_plain.specs.Kept.{kept, Tells};
     ghost use Rattle.fo_plain.specs.Found.{Reaches};
     ghost use Rattle.fo_world.specs.Pairs.{pair_copied};
@@ -44,10 +47,17 @@ impl PlainFiles {
         ensures { MatchResult result (λ b. b ≡ step.taken_name (kept self.now) archive epoch) (λ e. e ≡ FileError.Memory) }
     {
         let all = all_taken(self.alloc, &self.world, archive)?;
-        match taken_at(epoch, all.as_slice()) {
+        self.name_among(all.as_slice(), epoch)
+    }
+
+    // The dated name of the one of an epoch, among all of its kind.
+    fn name_among(&self, all: &[Taken], epoch: u32) -> Result<Bytes, FileError>
+        ensures { MatchResult result (λ b. b ≡ option_map_or (dated_name all.now) (taken_at epoch all.now) slash) (λ e. e ≡ FileError.Memory) }
+    {
+        match taken_at(epoch, all) {
             None => Ok(Bytes::copy_of(self.alloc, b"/")?),
             Some(taken) => {
-                let name = dated_name(all.as_slice(), taken);
+                let name = dated_name(all, taken);
                 Ok(Bytes::copy_of(self.alloc, name.as_slice())?)
             }
         }
@@ -149,11 +159,21 @@ impl PlainFiles {
     {
         let root = self.root_name(at.view)?;
         let reached = self.reach(&root, at)?;
-        let names = reached.node().body.as_dir()?;
+        self.look_in(at, name, reached.name, reached.node())
+    }
+
+    // The same, where the directory was reached.
+    #[tactic(auto, unfolding(fo_world::specs::Step::find))]
+    fn look_in(&self, at: &Place, name: &[u8], dir: &Bytes, node: &Node) -> Result<Info, FileError>
+        requires reached { step.reached true (kept self.now) at.now ≡ Ok (dir.now, node.now) }
+        requires epoch { HasEpoch at.now.view }
+        ensures { Tells (step.find true (kept self.now) at.now name.now) (kept self.now) result }
+    {
+        let names = node.body.as_dir()?;
         match at.view {
-            View::Active => self.look_below(at, names.named(name)),
-            View::Snap(_) => self.look_below(at, names.named(name)),
-            View::Archive(_) => self.look_below(at, names.named(name)),
+            View::Active => self.look_below(at, entry(names, name)),
+            View::Snap(_) => self.look_below(at, entry(names, name)),
+            View::Archive(_) => self.look_below(at, entry(names, name)),
             View::Dated {
                 archive,
                 year,
@@ -176,10 +196,7 @@ impl PlainFiles {
     {
         match found {
             None => Ok(None),
-            Some((name, node)) => {
-                let place = at.below(self.alloc, node.number)?;
-                Ok(Some(Info::of(self.alloc, place, name, node)?))
-            }
+            Some(_) => Ok(Some(self.look_below(at, found)?)),
         }
     }
 
@@ -289,6 +306,13 @@ impl PlainFiles {
         let bytes = reached.node().body.as_file()?;
         Ok(bytes.read(offset, into))
     }
+}
+
+// The entry with a name.
+fn entry<'a>(names: &'a Names, name: &[u8]) -> Option<(&'a Bytes, &'a Node)>
+    ensures { pair_copied result ≡ named name.now names.now }
+{
+    names.named(name)
 }
 
 // The file that the trail of a place leads to from a root.
