@@ -16,7 +16,8 @@ use Rattle.fo_world.specs.Names.{Names}
 use Rattle.fo_world.specs.World.{World, Faults}
 use Rattle.fo_world.specs.Answers.{HasCause}
 use Rattle.fo_world.specs.Tree.{along, named, name_count, has_names}
-use Rattle.fo_world.specs.Step.{and_then, refuse_if, by_view, reached, reached_from, root_name, root_of, as_dir, as_file, is_active, is_dir_mode, root_at, above, file_found, view_found, next_found, next_view_found, entry_named, entries_of, next_above, least_above, gives_length, is_taken, new_name, siblings, exceeds, changes_nothing, info, find, parent, next_name, read, write, create, remove, change}
+use Rattle.fo_world.specs.Chain.{and_then, refuse_if}
+use Rattle.fo_world.specs.Step.{by_view, reached, reached_from, root_name, root_of, as_dir, as_file, is_active, is_dir_mode, root_at, above, file_found, view_found, next_found, next_view_found, entry_named, entries_of, next_above, least_above, gives_length, is_taken, new_name, siblings, exceeds, changes_nothing, info, find, parent, next_name, read, write, create, remove, change}
 use Rattle.fo_plain.specs.Kept.{Tells}
 
 -- ---- steps, one after another

@@ -9,7 +9,8 @@ use Rattle.fo_world.specs.Tree.{along, child}
 use Rattle.fo_world.specs.World.{World}
 use Rattle.fo_world.specs.declared.place.Info.{Info}
 use Rattle.fo_world.specs.declared.error.FileError.{FileError}
-use Rattle.fo_world.specs.Step.{root_of, root_name, reached, reached_from, and_then, info, above, parent}
+use Rattle.fo_world.specs.Chain.{and_then}
+use Rattle.fo_world.specs.Step.{root_of, root_name, reached, reached_from, info, above, parent}
 use Rattle.fo_plain.specs.Kept.{Tells}
 
 -- nothing stands below a directory without names

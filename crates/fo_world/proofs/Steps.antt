@@ -4,7 +4,8 @@ use Rattle.std.specs.Prelude.{IfOk}
 use Rattle.fo_world.specs.declared.error.FileError.{FileError}
 use Rattle.fo_world.specs.declared.place.View.{View}
 use Rattle.fo_world.specs.declared.place.View.TheVariants.{Active, Snap, Archive, Dated}
-use Rattle.fo_world.specs.Step.{and_then, refuse_if, by_view}
+use Rattle.fo_world.specs.Chain.{and_then, refuse_if}
+use Rattle.fo_world.specs.Step.{by_view}
 use Rattle.std.specs.Prelude.{ℕ}
 
 -- whatever it goes on from

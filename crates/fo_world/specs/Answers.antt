@@ -77,18 +77,26 @@ is_fault error.ArenaSync = true
 is_fault _ = false
 
 -- a call that is answered, or in which a device fails, may have touched what it was to change; any other refusal touches nothing
-abbrev pub may_touch : {A : Type 0} → Result A FileError → Bool
-may_touch (Ok x) = true
-may_touch (Err e) = is_fault e
+abbrev pub may_touch : {A E : Type 0} → (E → Bool) → Result A E → Bool
+may_touch is_failed (Ok x) = true
+may_touch is_failed (Err e) = is_failed e
 
--- the world after a step, where it is granted, and else the one before it
-abbrev pub granted_world : {A : Type 0} → Result (A × World) FileError → World → World
-granted_world (Ok p) old = p.1
-granted_world (Err e) old = old
+-- the world of what is told, where it is granted, and else the one before it
+abbrev pub granted_world : {A E : Type 0} → (A → World) → Result A E → World → World
+granted_world world_of (Ok x) old = world_of x
+granted_world world_of (Err e) old = old
 
--- The world that a call went towards, by the step that it was to make and by its answer: no more was touched than what differs between the world before it and this one.
-abbrev pub tried : {A B : Type 0} → Result (A × World) FileError → World → Result B FileError → World
-tried told old r = if may_touch r then granted_world told old else old
+-- The world that a call went towards, by the one that it was to make and by its answer: no more was touched than what differs between the world before it and this one.
+abbrev pub tried : {A E : Type 0} → (E → Bool) → World → World → Result A E → World
+tried is_failed goal old r = if may_touch is_failed r then goal else old
+
+-- the world beside something else that is told
+abbrev pub world_beside : {A : Type 0} → A × World → World
+world_beside p = p.1
+
+-- the same by the step that it was to make
+abbrev pub step_tried : {A B : Type 0} → Result (A × World) FileError → World → Result B FileError → World
+step_tried told old r = tried is_fault (granted_world world_beside told old) old r
 
 pub not_fewer : (f : Faults) → NotFewer f f
 not_fewer f = record { main = omega arith; arena = omega arith }

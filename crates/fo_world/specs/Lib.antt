@@ -7,6 +7,7 @@ pub mod Date
 pub mod Dated
 pub mod World
 pub mod Texts
+pub mod Chain
 pub mod Step
 pub mod Limits
 pub mod Fits

@@ -12,21 +12,13 @@ use Rattle.fo_world.specs.declared.tree.Body.{Body}
 use Rattle.fo_world.specs.declared.tree.Body.TheVariants.{File, Dir}
 use Rattle.fo_world.specs.declared.error.FileError.{FileError}
 use Rattle.fo_world.specs.declared.error.FileError.TheVariants as error
+use Rattle.fo_world.specs.Chain.{and_then, refuse_if}
 use Rattle.fo_world.specs.Names.{Names, no_names}
 use Rattle.fo_world.specs.Date.{date_of, monthday_of}
 use Rattle.fo_world.specs.Tree.{first, named, along, length_of, front, comes_before, name_count, has_names, is_dir, change_along, with_bytes, with_name, without_name, with_renamed, with_length, with_mode, with_gid, with_mtime}
 use Rattle.fo_world.specs.World as plain
 use Rattle.fo_world.specs.World.{World}
 use Rattle.fo_world.specs.Dated.{Taken, taken_of, taken_at, dated_name, dated_dir_name, dated_node, is_dated, is_listed, entry_name, slash}
-
--- the value, and then more; a refusal ends it
-abbrev pub and_then : {A B : Type 0} → Result A FileError → (A → Result B FileError) → Result B FileError
-and_then (Ok x) f = f x
-and_then (Err e) f = Err e
-
--- a refusal where the test holds
-abbrev pub refuse_if : {A : Type 0} → Bool → FileError → Result A FileError → Result A FileError
-refuse_if b e r = if b then Err e else r
 
 -- ---- places
 

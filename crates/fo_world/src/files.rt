@@ -10,7 +10,7 @@ pub trait FileOps {
     ghost use Rattle.fo_world.specs.World.{World, Faults};
     ghost use Rattle.fo_world.specs.Step as step;
     ghost use Rattle.fo_world.specs.Limits.{IsName, IsUser, IsBelowRoot, IsChange};
-    ghost use Rattle.fo_world.specs.Answers.{Answers, MayFail, Refuses, HadRoom, NotFewer, tried};
+    ghost use Rattle.fo_world.specs.Answers.{Answers, MayFail, Refuses, HadRoom, NotFewer, step_tried};
     ghost use Rattle.fo_world.specs.Fits.{WorldFits, InfoFits};
     ghost use Rattle.fo_world.specs.declared.place.View.{View};
 
@@ -114,7 +114,7 @@ pub trait FileOps {
             (world self.old) (world self.new) result }
         ensures room { HadRoom (has_room self.old) (step.write_need at.now bytes.now) result }
         ensures cause { Refuses (faults self.old) (faults self.new) (honest self.old) (has_room self.new) (step.write_need at.now bytes.now) result }
-        ensures touches { touches self.old (tried (step.write (whole self.old) (largest self.old) (world self.old) at.now offset bytes.now who.now now) (world self.old) result) (step.write_need at.now bytes.now) self.new };
+        ensures touches { touches self.old (step_tried (step.write (whole self.old) (largest self.old) (world self.old) at.now offset bytes.now who.now now) (world self.old) result) (step.write_need at.now bytes.now) self.new };
 
     /// Makes a file in a directory, or a directory where the mode has DMDIR. The new file is of `uid` and `gid`; `who` is its muid and the directory's.
     fn create(
@@ -138,7 +138,7 @@ pub trait FileOps {
         ensures room { HadRoom (has_room self.old) (step.create_need at.now) result }
         ensures fits { IfOk result InfoFits }
         ensures cause { Refuses (faults self.old) (faults self.new) (honest self.old) (has_room self.new) (step.create_need at.now) result }
-        ensures touches { touches self.old (tried (step.create (whole self.old) (world self.old) at.now name.now mode who.now uid.now gid.now now) (world self.old) result) (step.create_need at.now) self.new };
+        ensures touches { touches self.old (step_tried (step.create (whole self.old) (world self.old) at.now name.now mode who.now uid.now gid.now now) (world self.old) result) (step.create_need at.now) self.new };
 
     /// Takes a file or an empty directory out of its directory.
     fn remove(&mut self, at: &Place, who: &Bytes, now: u32) -> Result<(), FileError>
@@ -150,7 +150,7 @@ pub trait FileOps {
             (world self.old) (world self.new) result }
         ensures room { HadRoom (has_room self.old) (step.give (step.depth_of at.now)) result }
         ensures cause { Refuses (faults self.old) (faults self.new) (honest self.old) (has_room self.new) (step.give (step.depth_of at.now)) result }
-        ensures touches { touches self.old (tried (step.remove (whole self.old) (world self.old) at.now who.now now) (world self.old) result) (step.give (step.depth_of at.now)) self.new };
+        ensures touches { touches self.old (step_tried (step.remove (whole self.old) (world self.old) at.now who.now now) (world self.old) result) (step.give (step.depth_of at.now)) self.new };
 
     /// Changes all that is given of a file, or nothing.
     fn change(&mut self, at: &Place, what: &Change, who: &Bytes, now: u32) -> Result<(), FileError>
@@ -162,8 +162,8 @@ pub trait FileOps {
             (world self.old) (world self.new) result }
         ensures room { honest self.old → HadRoom (has_room self.old) (step.change_need (whole self.old) (world self.old) at.now what.now) result }
         ensures cause { Refuses (faults self.old) (faults self.new) (honest self.old) (has_room self.new) (step.most_need at.now) result }
-        ensures touches { touches self.old (tried (step.change (whole self.old) (largest self.old) (world self.old) at.now what.now who.now now) (world self.old) result) (step.most_need at.now) self.new }
-        ensures need { honest self.old → touches self.old (tried (step.change (whole self.old) (largest self.old) (world self.old) at.now what.now who.now now) (world self.old) result) (step.change_need (whole self.old) (world self.old) at.now what.now) self.new };
+        ensures touches { touches self.old (step_tried (step.change (whole self.old) (largest self.old) (world self.old) at.now what.now who.now now) (world self.old) result) (step.most_need at.now) self.new }
+        ensures need { honest self.old → touches self.old (step_tried (step.change (whole self.old) (largest self.old) (world self.old) at.now what.now who.now now) (world self.old) result) (step.change_need (whole self.old) (world self.old) at.now what.now) self.new };
 
     /// Settles all that was changed before.
     fn sync(&mut self) -> Result<(), FileError>

@@ -12,7 +12,8 @@ use Rattle.fo_world.specs.declared.error.FileError.{FileError}
 use Rattle.fo_world.specs.declared.error.FileError.TheVariants as error
 use Rattle.fo_world.specs.Tree.{along, named}
 use Rattle.fo_world.specs.World.{World}
-use Rattle.fo_world.specs.Step.{and_then, reached, root_name, root_of, as_dir, as_file, by_view, root_at, above, entry_named, entries_of, next_above, least_above, file_found, view_found, next_found, next_view_found, info_of, info, find, parent, next_name, read}
+use Rattle.fo_world.specs.Chain.{and_then}
+use Rattle.fo_world.specs.Step.{reached, root_name, root_of, as_dir, as_file, by_view, root_at, above, entry_named, entries_of, next_above, least_above, file_found, view_found, next_found, next_view_found, info_of, info, find, parent, next_name, read}
 use Rattle.nine_fids.specs.declared.refusal.Refusal.TheVariants as refusal
 use Rattle.nine_fids.specs.Refusing.{looked, is_failure}
 use Rattle.nine_fids.specs.Told.{Files, named_at, bytes_at}

@@ -44,15 +44,6 @@ is_failure (refusal.File error.ArenaSync) = true
 is_failure (refusal.File (error.Damaged block)) = true
 is_failure _ = false
 
--- the value, and then more; a refusal ends it
-abbrev pub and_then : {A B : Type 0} → Result A Refusal → (A → Result B Refusal) → Result B Refusal
-and_then (Ok x) f = f x
-and_then (Err r) f = Err r
-
--- a refusal where the test holds
-abbrev pub refuse_if : {A : Type 0} → Bool → Refusal → Result A Refusal → Result A Refusal
-refuse_if b r rest = if b then Err r else rest
-
 -- the value, or a refusal where there is none
 abbrev pub some_or : {A : Type 0} → Option A → Refusal → Result A Refusal
 some_or (Some x) r = Ok x

@@ -14,7 +14,7 @@ use Rattle.fo_users.specs.Rights.{may, is_leader, is_member}
 use Rattle.nine_fids.specs.declared.fid.Fid.{Fid}
 use Rattle.nine_fids.specs.declared.refusal.Refusal.{Refusal}
 use Rattle.nine_fids.specs.declared.refusal.Refusal.TheVariants as refusal
-use Rattle.nine_fids.specs.Refusing.{and_then, refuse_if}
+use Rattle.fo_world.specs.Chain.{and_then, refuse_if}
 use Rattle.nine_fids.specs.Told.{Files, parent_at, named_at, bytes_at}
 
 -- ---- the table

@@ -7,7 +7,8 @@ use Rattle.fo_world.specs.declared.error.FileError.{FileError}
 use Rattle.fo_world.specs.World.{Faults}
 use Rattle.fo_world.specs.Answers.{MayFail}
 use Rattle.nine_fids.specs.declared.refusal.Refusal.{Refusal}
-use Rattle.nine_fids.specs.Refusing.{and_then, refuse_if, some_or, is_failure}
+use Rattle.fo_world.specs.Chain.{and_then, refuse_if}
+use Rattle.nine_fids.specs.Refusing.{some_or, is_failure}
 use Rattle.nine_fids.specs.Looking.{FilesState, Follows, HasCause, IsRefused, Looks, MayMiss}
 use Rattle.nine_fids.proofs.Missing.{is_miss, fails_since, fails_by_missing}
 use Rattle.nine_fids.proofs.Seeing.{Told, cause_since, looks_denied, plain_cause}

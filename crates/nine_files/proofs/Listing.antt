@@ -10,7 +10,7 @@ use Rattle.fo_world.specs.declared.place.Place.{Place}
 use Rattle.fo_world.specs.World.{World}
 use Rattle.nine_fids.specs.declared.refusal.Refusal.{Refusal}
 use Rattle.nine_fids.specs.declared.refusal.Refusal.TheVariants as refusal
-use Rattle.nine_fids.specs.Refusing.{and_then, refuse_if}
+use Rattle.fo_world.specs.Chain.{and_then, refuse_if}
 use Rattle.fo_world.specs.declared.error.FileError.{FileError}
 use Rattle.nine_fids.specs.Looking.{IsRefused}
 use Rattle.nine_fids.specs.Told.{Files, next_at, record_of}

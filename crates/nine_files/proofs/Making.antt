@@ -4,16 +4,17 @@ use Rattle.std.specs.Prelude.{is_ok, if◌then◌else◌, IfErr}
 use Rattle.fo_world.specs.declared.error.FileError.{FileError}
 use Rattle.fo_world.specs.declared.error.FileError.TheVariants as error
 use Rattle.fo_world.specs.World.{World, Faults}
-use Rattle.fo_world.specs.Answers.{MayFail, is_fault}
+use Rattle.fo_world.specs.Answers.{MayFail, is_fault, granted_world, world_beside, tried}
 use Rattle.fo_world.specs.Answers as answers
 use Rattle.nine_fids.specs.declared.refusal.Refusal.{Refusal}
 use Rattle.nine_fids.specs.declared.refusal.Refusal.TheVariants as refusal
-use Rattle.nine_fids.specs.Refusing.{and_then, changed}
+use Rattle.fo_world.specs.Chain.{and_then}
+use Rattle.nine_fids.specs.Refusing.{changed}
 use Rattle.nine_fids.specs.Told.{Files, served}
 use Rattle.nine_fids.specs.Looking.{FilesState, Follows, HasCause, IsRefused, Looks}
 use Rattle.nine_fids.proofs.Missing.{fails_since, none_below, refused_by}
 use Rattle.nine_fids.proofs.Seeing.{Stepped, Told, cause_since, looks_denied}
-use Rattle.nine_files.specs.Answering.{Changes, FailsBy, HadRoom, IsChanged, IsLed, Leads, granted_with, granted_world, tried}
+use Rattle.nine_files.specs.Answering.{Changes, FailsBy, HadRoom, IsChanged, IsLed, Leads, world_told, is_file_fault}
 use Rattle.nine_files.proofs.Links.{refused_looking}
 use Rattle.nine_files.proofs.Touching.{given_granted, led_granted}
 
@@ -29,10 +30,10 @@ Needs = Files → World → ℕ
 -- ---- from one moment to a later one
 
 -- what is said of the world later is said of the one before
-carried : (a b : FilesState) (P : Files → World → Type 0) → Follows a b → b.world ≡ a.world → P b.how b.world → P a.how a.world
+pub carried : (a b : FilesState) (P : Files → World → Type 0) → Follows a b → b.world ≡ a.world → P b.how b.world → P a.how a.world
 carried a b P f world p = subst (λ w. P a.how w) world (subst (λ e. P e b.world) f.how p)
 
-cause_more : (a b : FilesState) (most : ℕ) (r : Refusal) → HasCause a b 0 r → HasCause a b most r
+pub cause_more : (a b : FilesState) (most : ℕ) (r : Refusal) → HasCause a b 0 r → HasCause a b most r
 cause_more a b most (refusal.File error.Full) m = absurd (none_below m.0 m.2)
 cause_more a b most r m = m
 
@@ -55,7 +56,7 @@ gives_err y (Err z) fails x h = ⊎_elim (λ t. inl cc) (λ m. inr (x, refl, m))
 module _ {A : Type 0} (b c : FilesState) (touches : Touches) (step : Stepped A) (need : Needs) (most : ℕ) where
   pub leads_err : (x : FileError)
       → (b.honest → ((step b.how b.world ≡ Err x) ⊎ MayFail b.faults c.faults b.honest c.has_room (need b.how b.world) (is_ok (step b.how b.world)) x) × (c.world ≡ b.world))
-      → (b.honest → touches (if is_fault x then answers.granted_world (step b.how b.world) b.world else b.world) (need b.how b.world))
+      → (b.honest → touches (if is_fault x then granted_world world_beside (step b.how b.world) b.world else b.world) (need b.how b.world))
       → answers.HasCause b.faults c.faults b.honest c.has_room most x
       → ((w : World) × touches w most)
       → Leads b c touches (led step) need most (Err (refusal.File x))
@@ -70,7 +71,7 @@ module _ {A : Type 0} (b c : FilesState) (touches : Touches) (step : Stepped A) 
   pub leads_ok : (x : A)
       → (b.honest → step b.how b.world ≡ Ok (x, c.world))
       → (b.honest → (n : ℕ) → b.has_room n → need b.how b.world ≤ n)
-      → (b.honest → touches (answers.granted_world (step b.how b.world) b.world) (need b.how b.world))
+      → (b.honest → touches (granted_world world_beside (step b.how b.world) b.world) (need b.how b.world))
       → ((w : World) × touches w most)
       → Leads b c touches (led step) need most (Ok tt)
   leads_ok x answer room touched taken = record {
@@ -84,7 +85,7 @@ module _ {A : Type 0} (b c : FilesState) (touches : Touches) (step : Stepped A) 
   module _ {B : Type 0} (y : B) where
     pub changes_err : (x : FileError)
         → (b.honest → ((step b.how b.world ≡ Err x) ⊎ MayFail b.faults c.faults b.honest c.has_room (need b.how b.world) (is_ok (step b.how b.world)) x) × (c.world ≡ b.world))
-        → (b.honest → touches (if is_fault x then answers.granted_world (step b.how b.world) b.world else b.world) (need b.how b.world))
+        → (b.honest → touches (if is_fault x then granted_world world_beside (step b.how b.world) b.world else b.world) (need b.how b.world))
         → answers.HasCause b.faults c.faults b.honest c.has_room most x
         → ((w : World) × touches w most)
         → Changes b c touches (gives y step) need most (Err (refusal.File x))
@@ -99,7 +100,7 @@ module _ {A : Type 0} (b c : FilesState) (touches : Touches) (step : Stepped A) 
     pub changes_ok : (x : A)
         → (b.honest → step b.how b.world ≡ Ok (x, c.world))
         → (b.honest → (n : ℕ) → b.has_room n → need b.how b.world ≤ n)
-        → (b.honest → touches (answers.granted_world (step b.how b.world) b.world) (need b.how b.world))
+        → (b.honest → touches (granted_world world_beside (step b.how b.world) b.world) (need b.how b.world))
         → ((w : World) × touches w most)
         → Changes b c touches (gives y step) need most (Ok y)
     changes_ok x answer room touched taken = record {
@@ -124,7 +125,7 @@ pub leads_as : (a b : FilesState) (touches : Touches) (told told' : Told World) 
 leads_as a b touches told told' need need' most most' r same even full l = record {
   answer = λ h. led_as r a b (told a.how a.world) (told' a.how a.world) (need a.how a.world) (need' a.how a.world) (same h) (even h) (l.answer h);
   room = λ h. subst (λ k. HadRoom a.has_room k r) (even h) (l.room h);
-  touched = λ h. subst (λ u. touches (tried (granted_world u a.world) a.world r) (need' a.how a.world)) (same h) (subst (λ k. touches (tried (granted_world (told a.how a.world) a.world) a.world r) k) (even h) (l.touched h));
+  touched = λ h. subst (λ u. touches (tried is_file_fault (granted_world world_told u a.world) a.world r) (need' a.how a.world)) (same h) (subst (λ k. touches (tried is_file_fault (granted_world world_told (told a.how a.world) a.world) a.world r) k) (even h) (l.touched h));
   cause = subst (λ k. IfErr r (HasCause a b k)) full l.cause;
   taken = subst (λ k. (w : World) × touches w k) full l.taken;
 }
@@ -141,7 +142,7 @@ pub changes_as : {A : Type 0} (a b : FilesState) (touches : Touches) (told told'
 changes_as a b touches told told' need need' most most' r same even full l = record {
   answer = λ h. changed_as r a b (told a.how a.world) (told' a.how a.world) (need a.how a.world) (need' a.how a.world) (same h) (even h) (l.answer h);
   room = λ h. subst (λ k. HadRoom a.has_room k r) (even h) (l.room h);
-  touched = λ h. subst (λ u. touches (tried (granted_with u a.world) a.world r) (need' a.how a.world)) (same h) (subst (λ k. touches (tried (granted_with (told a.how a.world) a.world) a.world r) k) (even h) (l.touched h));
+  touched = λ h. subst (λ u. touches (tried is_file_fault (granted_world world_beside u a.world) a.world r) (need' a.how a.world)) (same h) (subst (λ k. touches (tried is_file_fault (granted_world world_beside (told a.how a.world) a.world) a.world r) k) (even h) (l.touched h));
   cause = subst (λ k. IfErr r (HasCause a b k)) full l.cause;
   taken = subst (λ k. (w : World) × touches w k) full l.taken;
 }
@@ -167,7 +168,7 @@ leads_after a b c touches touches' told need most r f world room up l = record {
   answer = λ h. led_before a b c (told a.how a.world) (need a.how a.world) a.world r f
       (carried a b (λ e w. IsLed (told e w) (FailsBy b c (need e w) (is_ok (told e w))) w c.world r) f (world h) (l.answer (f.honest h)));
   room = λ h. had_before a.has_room b.has_room (need a.how a.world) r room (carried a b (λ e w. HadRoom b.has_room (need e w) r) f (world h) (l.room (f.honest h)));
-  touched = λ h. up _ _ (carried a b (λ e w. touches' (tried (granted_world (told e w) w) w r) (need e w)) f (world h) (l.touched (f.honest h)));
+  touched = λ h. up _ _ (carried a b (λ e w. touches' (tried is_file_fault (granted_world world_told (told e w) w) w r) (need e w)) f (world h) (l.touched (f.honest h)));
   cause = led_cause a b c most r f l.cause;
   taken = (l.taken.0, up _ _ l.taken.1);
 }

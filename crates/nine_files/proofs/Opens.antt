@@ -12,7 +12,8 @@ use Rattle.nine_fids.specs.declared.fid.Fid.{Fid}
 use Rattle.nine_fids.specs.declared.mode.Mode.{Mode}
 use Rattle.nine_fids.specs.declared.refusal.Refusal.{Refusal}
 use Rattle.nine_fids.specs.declared.refusal.Refusal.TheVariants as refusal
-use Rattle.nine_fids.specs.Refusing.{and_then, refuse_if, some_or, changed}
+use Rattle.fo_world.specs.Chain.{and_then, refuse_if}
+use Rattle.nine_fids.specs.Refusing.{some_or, changed}
 use Rattle.nine_fids.specs.Fids.{is_open}
 use Rattle.nine_fids.specs.Modes.{mode_of, changes, is_more}
 use Rattle.nine_fids.specs.Told.{Files, info_at, is_dir, qid_of}

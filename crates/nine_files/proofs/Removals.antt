@@ -9,7 +9,8 @@ use Rattle.fo_world.specs.Step as step
 use Rattle.nine_fids.specs.declared.fid.Fid.{Fid}
 use Rattle.nine_fids.specs.declared.refusal.Refusal.{Refusal}
 use Rattle.nine_fids.specs.declared.refusal.Refusal.TheVariants as refusal
-use Rattle.nine_fids.specs.Refusing.{and_then, changed}
+use Rattle.fo_world.specs.Chain.{and_then}
+use Rattle.nine_fids.specs.Refusing.{changed}
 use Rattle.nine_fids.specs.Told.{Files, info_at}
 use Rattle.nine_fids.specs.Rights.{may_write_above}
 use Rattle.nine_fids.specs.Looking.{IsRefused, MayMiss, Tells}

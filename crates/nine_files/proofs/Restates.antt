@@ -19,7 +19,8 @@ use Rattle.fo_users.specs.Table.{is_line, is_known}
 use Rattle.nine_fids.specs.declared.fid.Fid.{Fid}
 use Rattle.nine_fids.specs.declared.refusal.Refusal.{Refusal}
 use Rattle.nine_fids.specs.declared.refusal.Refusal.TheVariants as refusal
-use Rattle.nine_fids.specs.Refusing.{and_then, refuse_if, changed, looked}
+use Rattle.fo_world.specs.Chain.{and_then, refuse_if}
+use Rattle.nine_fids.specs.Refusing.{changed, looked}
 use Rattle.nine_fids.specs.Told.{Files, info_at, is_dir}
 use Rattle.nine_fids.specs.Rights.{table_of}
 use Rattle.nine_fids.proofs.Userly.{known_name}

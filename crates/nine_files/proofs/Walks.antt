@@ -13,7 +13,8 @@ use Rattle.fo_users.specs.declared.table.User.{User}
 use Rattle.fo_world.specs.Step as step
 use Rattle.nine_fids.specs.declared.refusal.Refusal.{Refusal}
 use Rattle.nine_fids.specs.declared.refusal.Refusal.TheVariants as refusal
-use Rattle.nine_fids.specs.Refusing.{and_then, refuse_if, is_failure}
+use Rattle.fo_world.specs.Chain.{and_then, refuse_if}
+use Rattle.nine_fids.specs.Refusing.{is_failure}
 use Rattle.nine_fids.specs.Rights.{table_of}
 use Rattle.nine_fids.specs.declared.fid.Fid.{Fid}
 use Rattle.nine_files.specs.Parts.{arrived}

@@ -2,7 +2,7 @@
 use Rattle.std.specs.Prelude.{◌≡◌, ℕ, ◌≤◌, ⊤, Bool, false, Result, Ok, Err, IfErr, MatchResult, is_ok, if◌then◌else◌, true}
 use Rattle.fo_world.specs.declared.error.FileError.{FileError}
 use Rattle.fo_world.specs.World.{World}
-use Rattle.fo_world.specs.Answers.{MayFail, is_fault}
+use Rattle.fo_world.specs.Answers.{MayFail, granted_world, is_fault, tried, world_beside}
 use Rattle.nine_fids.specs.Told.{Files}
 use Rattle.nine_fids.specs.Looking.{FilesState, HasCause, IsRefused}
 use Rattle.nine_fids.specs.declared.refusal.Refusal.{Refusal}
@@ -14,25 +14,14 @@ Misses fails r = (x : FileError) × (r ≡ refusal.File x) × fails x
 
 -- ---- what a call may have touched
 
--- a call that is answered, or in which a device fails, may have touched what it was to change; any other refusal touches nothing
-abbrev pub may_touch : {A : Type 0} → Result A Refusal → Bool
-may_touch (Ok x) = true
-may_touch (Err (refusal.File x)) = is_fault x
-may_touch (Err r) = false
+-- a failure of a device, which may have come when the change was half made
+abbrev pub is_file_fault : Refusal → Bool
+is_file_fault (refusal.File x) = is_fault x
+is_file_fault r = false
 
--- the world that is told, or the one before where the call is refused
-abbrev pub granted_world : Result World Refusal → World → World
-granted_world (Ok w) old = w
-granted_world (Err r) old = old
-
--- the same, where more than the world is told
-abbrev pub granted_with : {A : Type 0} → Result (A × World) Refusal → World → World
-granted_with (Ok p) old = p.1
-granted_with (Err r) old = old
-
--- The world that a call went towards, by the one that it was to make and by its answer: no more was touched than what differs between the world before it and this one.
-abbrev pub tried : {A : Type 0} → World → World → Result A Refusal → World
-tried goal old r = if may_touch r then goal else old
+-- the world, where nothing else is told
+abbrev pub world_told : World → World
+world_told w = w
 
 -- ---- calls that change the world
 
@@ -59,7 +48,7 @@ FailsBy old new need granted x = MayFail old.faults new.faults old.honest new.ha
 pub record Changes {A : Type 0} (old new : FilesState) (touches : World → ℕ → Type 0) (told : Files → World → Result (A × World) Refusal) (need : Files → World → ℕ) (most : ℕ) (result : Result A Refusal) : Type 0 where
   pub answer : old.honest → IsChanged (told old.how old.world) (FailsBy old new (need old.how old.world) (is_ok (told old.how old.world))) old.world new.world result
   pub room : old.honest → HadRoom old.has_room (need old.how old.world) result
-  pub touched : old.honest → touches (tried (granted_with (told old.how old.world) old.world) old.world result) (need old.how old.world)
+  pub touched : old.honest → touches (tried is_file_fault (granted_world world_beside (told old.how old.world) old.world) old.world result) (need old.how old.world)
   pub cause : IfErr result (HasCause old new most)
   pub taken : (w : World) × touches w most
 
@@ -67,6 +56,6 @@ pub record Changes {A : Type 0} (old new : FilesState) (touches : World → ℕ 
 pub record Leads (old new : FilesState) (touches : World → ℕ → Type 0) (told : Files → World → Result World Refusal) (need : Files → World → ℕ) (most : ℕ) (result : Result (Unit {0}) Refusal) : Type 0 where
   pub answer : old.honest → IsLed (told old.how old.world) (FailsBy old new (need old.how old.world) (is_ok (told old.how old.world))) old.world new.world result
   pub room : old.honest → HadRoom old.has_room (need old.how old.world) result
-  pub touched : old.honest → touches (tried (granted_world (told old.how old.world) old.world) old.world result) (need old.how old.world)
+  pub touched : old.honest → touches (tried is_file_fault (granted_world world_told (told old.how old.world) old.world) old.world result) (need old.how old.world)
   pub cause : IfErr result (HasCause old new most)
   pub taken : (w : World) × touches w most

@@ -16,7 +16,8 @@ use Rattle.nine_fids.specs.declared.mode.Access.TheVariants.{Read, Write, ReadWr
 use Rattle.nine_fids.specs.declared.mode.Mode.{Mode}
 use Rattle.nine_fids.specs.declared.refusal.Refusal.{Refusal}
 use Rattle.nine_fids.specs.declared.refusal.Refusal.TheVariants as refusal
-use Rattle.nine_fids.specs.Refusing.{and_then, refuse_if, some_or, changed}
+use Rattle.fo_world.specs.Chain.{and_then, refuse_if}
+use Rattle.nine_fids.specs.Refusing.{some_or, changed}
 use Rattle.nine_fids.specs.Told.{Files, is_dir, appends}
 use Rattle.fo_users.specs.declared.table.User.{User}
 use Rattle.fo_users.specs.Rights.{may}

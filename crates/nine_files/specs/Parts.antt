@@ -6,7 +6,8 @@ use Rattle.fo_world.specs.World.{World}
 use Rattle.nine_fids.specs.declared.fid.Fid.{Fid}
 use Rattle.nine_fids.specs.declared.refusal.Refusal.{Refusal}
 use Rattle.nine_fids.specs.declared.refusal.Refusal.TheVariants as refusal
-use Rattle.nine_fids.specs.Refusing.{and_then, refuse_if, is_failure}
+use Rattle.fo_world.specs.Chain.{and_then, refuse_if}
+use Rattle.nine_fids.specs.Refusing.{is_failure}
 use Rattle.nine_fids.specs.Told.{Files, info_at, next_at, appends, record_of}
 use Rattle.nine_files.specs.declared.walking.Walked.{Walked}
 use Rattle.nine_files.specs.Reading.{exceeds, files_above, last_name, records_of}

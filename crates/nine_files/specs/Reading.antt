@@ -7,7 +7,7 @@ use Rattle.fo_world.specs.World.{World}
 use Rattle.nine_fids.specs.declared.fid.Fid.{Fid}
 use Rattle.nine_fids.specs.declared.fid.Opened.{Opened}
 use Rattle.nine_fids.specs.declared.refusal.Refusal.{Refusal}
-use Rattle.nine_fids.specs.Refusing.{and_then}
+use Rattle.fo_world.specs.Chain.{and_then}
 use Rattle.nine_fids.specs.Told.{Files, next_at, record_of}
 
 -- ---- directories

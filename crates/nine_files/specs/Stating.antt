@@ -10,7 +10,7 @@ use Rattle.fo_users.specs.declared.right.Right.TheVariants.{Write}
 use Rattle.nine_fids.specs.declared.fid.Fid.{Fid}
 use Rattle.nine_fids.specs.declared.refusal.Refusal.{Refusal}
 use Rattle.nine_fids.specs.declared.refusal.Refusal.TheVariants as refusal
-use Rattle.nine_fids.specs.Refusing.{refuse_if}
+use Rattle.fo_world.specs.Chain.{refuse_if}
 use Rattle.nine_fids.specs.Told.{Files, is_dir, qid_of}
 use Rattle.fo_users.specs.declared.table.User.{User}
 use Rattle.fo_users.specs.Rights.{may}

@@ -6,28 +6,29 @@ use Rattle.std.proofs.lemmas.Bool.{eq-eqb}
 use Rattle.nine_wire.specs.declared.message.Reply.{Reply}
 use Rattle.fo_world.specs.declared.error.FileError.{FileError}
 use Rattle.fo_world.specs.World.{World}
+use Rattle.fo_world.specs.Answers.{granted_world, tried}
 use Rattle.nine_fids.specs.declared.fid.Fid.{Fid}
 use Rattle.nine_fids.specs.declared.refusal.Refusal.{Refusal}
 use Rattle.nine_fids.specs.Fids.{State, fid_of, clunked, least, lesser}
 use Rattle.nine_fids.specs.Looking.{FilesState, HasCause, IsRefused}
-use Rattle.nine_files.specs.Answering.{FailsBy, HadRoom, tried}
+use Rattle.nine_files.specs.Answering.{FailsBy, HadRoom, is_file_fault}
 use Rattle.nine_files.specs.Removing.{close_need, most_close}
 use Rattle.nine_session.specs.Attempting.{Attempted, Attempts, error_of, let_go}
 use Rattle.nine_session.specs.Removing.{clunk_fid}
 use Rattle.nine_session.specs.Session as session
-use Rattle.nine_session.specs.Session.{IsDropped, IsEnded, Kept, LetsGo, Told, Touches, granted_world, in_files, kept_of}
+use Rattle.nine_session.specs.Session.{IsDropped, IsEnded, Kept, LetsGo, Told, Touches, in_files, kept_of, world_after}
 use Rattle.nine_session.proofs.Trying.{had_told, touched_by, touched_none}
 
 -- ---- the end of a fid
 
-dropped_fid : (told : Told) (need : ℕ) (fails : FileError → Type 0) (has_room : ℕ → Type 0) (within : Touches) (old : World) (left z' : State) (why : Refusal) → IsRefused told fails why × (z' ≡ left) → within (tried {A = Reply} (granted_world told old) old (Err why)) need → IsDropped told need fails has_room within old left (error_of (Err why)) z'
+dropped_fid : (told : Told) (need : ℕ) (fails : FileError → Type 0) (has_room : ℕ → Type 0) (within : Touches) (old : World) (left z' : State) (why : Refusal) → IsRefused told fails why × (z' ≡ left) → within (tried {A = Reply} is_file_fault (granted_world world_after told old) old (Err why)) need → IsDropped told need fails has_room within old left (error_of (Err why)) z'
 dropped_fid told need fails has_room within old left z' why h touched =
     ⊎_elim
     (λ (t : told ≡ Err why). session.refused why t refl h.1 (touched_none within need told old why t touched))
     (λ p. session.failed p.0 p.2 (ap (λ r. error_of (Err r)) p.1) h.1 (touched_by within need _ old why p.0 p.1 touched))
     h.0
 
-dropped : (told : Told) (need : ℕ) (fails : FileError → Type 0) (has_room : ℕ → Type 0) (within : Touches) (old : World) (left z' : State) (answer : Result Reply Refusal) → Attempts told fails left z' answer → HadRoom has_room need answer → within (tried (granted_world told old) old answer) need → IsDropped told need fails has_room within old left (error_of answer) z'
+dropped : (told : Told) (need : ℕ) (fails : FileError → Type 0) (has_room : ℕ → Type 0) (within : Touches) (old : World) (left z' : State) (answer : Result Reply Refusal) → Attempts told fails left z' answer → HadRoom has_room need answer → within (tried is_file_fault (granted_world world_after told old) old answer) need → IsDropped told need fails has_room within old left (error_of answer) z'
 dropped told need fails has_room within old left z' (Ok r) h room touched = session.granted r h refl (had_told has_room need told room) (rw h at touched)
 dropped told need fails has_room within old left z' (Err why) h room touched = dropped_fid told need fails has_room within old left z' why h touched
 

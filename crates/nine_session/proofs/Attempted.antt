@@ -5,28 +5,24 @@ use Rattle.nine_wire.specs.declared.message.Reply.{Reply}
 use Rattle.fo_world.specs.declared.error.FileError.{FileError}
 use Rattle.fo_world.specs.declared.error.FileError.TheVariants as error
 use Rattle.fo_world.specs.World.{World}
-use Rattle.fo_world.specs.Answers.{MayFail, is_fault}
+use Rattle.fo_world.specs.Answers.{MayFail, is_fault, granted_world, tried, world_beside}
 use Rattle.fo_world.specs.Answers as answers
 use Rattle.nine_fids.specs.declared.refusal.Refusal.{Refusal}
 use Rattle.nine_fids.specs.declared.refusal.Refusal.TheVariants as refusal
-use Rattle.nine_fids.specs.Refusing.{and_then, changed, is_failure}
+use Rattle.fo_world.specs.Chain.{and_then}
+use Rattle.nine_fids.specs.Refusing.{changed, is_failure}
 use Rattle.nine_fids.specs.Told.{Files}
 use Rattle.nine_fids.specs.Fids.{State}
 use Rattle.nine_fids.specs.Looking.{FilesState, Follows, HasCause, IsRefused, Looks}
 use Rattle.nine_fids.proofs.Missing.{fails_since, none_below, refused_by}
 use Rattle.nine_fids.proofs.Seeing.{Stepped, cause_since, looks_no_memory}
-use Rattle.nine_files.specs.Answering.{Changes, FailsBy, HadRoom, IsChanged, Leads, granted_with, tried}
-use Rattle.nine_files.specs.Answering as answering
+use Rattle.nine_files.specs.Answering.{Changes, FailsBy, HadRoom, IsChanged, Leads, is_file_fault, world_told}
 use Rattle.nine_files.proofs.Links.{looks_plain, refused_looking}
 use Rattle.nine_files.proofs.Making.{had_before}
 use Rattle.nine_session.specs.Attempting.{Attempted, Attempts}
-use Rattle.nine_session.specs.Session.{Kept, Told, Touches, granted_world, in_files, kept_of}
+use Rattle.nine_session.specs.Session.{Kept, Told, Touches, in_files, kept_of, world_after}
 use Rattle.nine_session.proofs.Ends.{end_refused}
 use Rattle.nine_session.proofs.Links.{world_led, world_with}
-
-cause_more : (a b : FilesState) (most : ℕ) (r : Refusal) → HasCause a b 0 r → HasCause a b most r
-cause_more a b most (refusal.File error.Full) m = absurd (none_below m.0 m.2)
-cause_more a b most r m = m
 
 -- the last link tells more than a world
 pub chain_refused : {A : Type 0} (told : Result (A × World) Refusal) (rest : A × World → Reply × State) (fails : Bool → FileError → Type 0) (r : Refusal) → IsRefused told (fails (is_ok told)) r → (let on : Told = and_then told (λ p. Ok (rest p)) in IsRefused on (fails (is_ok on)) r)
@@ -97,8 +93,8 @@ module _ (a c : FilesState) (within : Touches) (k k' : Kept) (told : Files → S
       room = λ h. tt;
       touched = λ h.
           let z = in_files k a.world in
-          let P : World → Type 0 = λ g. within (tried {A = Reply} g a.world (Err r)) (need a.how z) in
-          let Q : ℕ → Type 0 = λ n. within (tried {A = Reply} (answering.granted_world (part a.how a.world) a.world) a.world (Err r)) n in
+          let P : World → Type 0 = λ g. within (tried {A = Reply} is_file_fault g a.world (Err r)) (need a.how z) in
+          let Q : ℕ → Type 0 = λ n. within (tried {A = Reply} is_file_fault (granted_world world_told (part a.how a.world) a.world) a.world (Err r)) n in
           subst P (sym (world_led (told a.how z) (part a.how a.world) go a.world (is h) same)) (subst Q (even h) (l.touched h));
       cause = l.cause;
       left_is = kept;
@@ -112,7 +108,7 @@ module _ (a c : FilesState) (within : Touches) (k k' : Kept) (told : Files → S
       touched = λ h.
           let z = in_files k a.world in
           let P : World → Type 0 = λ g. within g (need a.how z) in
-          let Q : ℕ → Type 0 = λ n. within (answering.granted_world (part a.how a.world) a.world) n in
+          let Q : ℕ → Type 0 = λ n. within (granted_world world_told (part a.how a.world) a.world) n in
           subst P (sym (world_led (told a.how z) (part a.how a.world) go a.world (is h) same)) (subst Q (even h) (l.touched h));
       cause = tt;
       left_is = tt;
@@ -137,8 +133,8 @@ module _ (a c : FilesState) (within : Touches) (k k' : Kept) (told : Files → S
       room = λ h. tt;
       touched = λ h.
           let z = in_files k a.world in
-          let P : World → Type 0 = λ g. within (tried {A = Reply} g a.world (Err r)) (need a.how z) in
-          let Q : ℕ → Type 0 = λ n. within (tried {A = Reply} (granted_with (part a.how a.world) a.world) a.world (Err r)) n in
+          let P : World → Type 0 = λ g. within (tried {A = Reply} is_file_fault g a.world (Err r)) (need a.how z) in
+          let Q : ℕ → Type 0 = λ n. within (tried {A = Reply} is_file_fault (granted_world world_beside (part a.how a.world) a.world) a.world (Err r)) n in
           subst P (sym (world_with (told a.how z) (part a.how a.world) go a.world (is h) same)) (subst Q (even h) (l.touched h));
       cause = l.cause;
       left_is = kept;
@@ -152,7 +148,7 @@ module _ (a c : FilesState) (within : Touches) (k k' : Kept) (told : Files → S
       touched = λ h.
           let z = in_files k a.world in
           let P : World → Type 0 = λ g. within g (need a.how z) in
-          let Q : ℕ → Type 0 = λ n. within (granted_with (part a.how a.world) a.world) n in
+          let Q : ℕ → Type 0 = λ n. within (granted_world world_beside (part a.how a.world) a.world) n in
           subst P (sym (world_with (told a.how z) (part a.how a.world) go a.world (is h) same)) (subst Q (even h) (l.touched h));
       cause = tt;
       left_is = tt;
@@ -179,7 +175,7 @@ changes_after a b c touches touches' told need most r f world room up l = record
   answer = λ h. changed_before a b c (told a.how a.world) (need a.how a.world) a.world r f
       (carried a b (λ e w. IsChanged (told e w) (FailsBy b c (need e w) (is_ok (told e w))) w c.world r) f (world h) (l.answer (f.honest h)));
   room = λ h. had_before a.has_room b.has_room (need a.how a.world) r room (carried a b (λ e w. HadRoom b.has_room (need e w) r) f (world h) (l.room (f.honest h)));
-  touched = λ h. up _ _ (carried a b (λ e w. touches' (tried (granted_with (told e w) w) w r) (need e w)) f (world h) (l.touched (f.honest h)));
+  touched = λ h. up _ _ (carried a b (λ e w. touches' (tried is_file_fault (granted_world world_beside (told e w) w) w r) (need e w)) f (world h) (l.touched (f.honest h)));
   cause = changed_cause a b c most r f l.cause;
   taken = (l.taken.0, up _ _ l.taken.1);
 }
@@ -205,7 +201,7 @@ attempted_as a c within k k' told told' need need' most most' left left' result 
     record {
       answer = λ h. as_told (told a.how z) (told' a.how z) (FailsBy a c) (need a.how z) (need' a.how z) (left z) (left' z) (in_files k' c.world) result (same h) (even h) leaves (l.answer h);
       room = λ h. subst (λ n. HadRoom a.has_room n result) (even h) (l.room h);
-      touched = λ h. subst (λ (t : Told). within (tried (granted_world t a.world) a.world result) (need' a.how z)) (same h) (subst (λ n. within (tried (granted_world (told a.how z) a.world) a.world result) n) (even h) (l.touched h));
+      touched = λ h. subst (λ (t : Told). within (tried is_file_fault (granted_world world_after t a.world) a.world result) (need' a.how z)) (same h) (subst (λ n. within (tried is_file_fault (granted_world world_after (told a.how z) a.world) a.world result) n) (even h) (l.touched h));
       cause = subst (λ n. IfErr result (HasCause a c n)) full l.cause;
       left_is = subst (λ (s : State). IfErr result (λ _. k' ≡ kept_of s)) leaves l.left_is;
       taken = subst (λ n. (w : World) × within w n) full l.taken;
@@ -213,7 +209,7 @@ attempted_as a c within k k' told told' need need' most most' left left' result 
 
 -- ---- a call of the files that changes, by itself
 
-changed_granted : {A : Type 0} (told : Result (A × World) FileError) (w : World) → granted_with (changed told) w ≡ answers.granted_world told w
+changed_granted : {A : Type 0} (told : Result (A × World) FileError) (w : World) → granted_world world_beside (changed told) w ≡ granted_world world_beside told w
 changed_granted (Ok p) w = refl
 changed_granted (Err x) w = refl
 
@@ -224,7 +220,7 @@ changed_err (Err y) fails x h = ⊎_elim (λ t. inl cc) (λ m. inr (x, refl, m))
 module _ {A : Type 0} (b c : FilesState) (touches : Touches) (step : Stepped A) (need : Files → World → ℕ) (most : ℕ) where
   pub makes_err : (x : FileError)
       → (b.honest → ((step b.how b.world ≡ Err x) ⊎ MayFail b.faults c.faults b.honest c.has_room (need b.how b.world) (is_ok (step b.how b.world)) x) × (c.world ≡ b.world))
-      → (b.honest → touches (if is_fault x then answers.granted_world (step b.how b.world) b.world else b.world) (need b.how b.world))
+      → (b.honest → touches (if is_fault x then granted_world world_beside (step b.how b.world) b.world else b.world) (need b.how b.world))
       → answers.HasCause b.faults c.faults b.honest c.has_room most x
       → ((w : World) × touches w most)
       → Changes b c touches (λ e w. changed (step e w)) need most (Err (refusal.File x))
@@ -239,7 +235,7 @@ module _ {A : Type 0} (b c : FilesState) (touches : Touches) (step : Stepped A) 
   pub makes_ok : (x : A)
       → (b.honest → step b.how b.world ≡ Ok (x, c.world))
       → (b.honest → (n : ℕ) → b.has_room n → need b.how b.world ≤ n)
-      → (b.honest → touches (answers.granted_world (step b.how b.world) b.world) (need b.how b.world))
+      → (b.honest → touches (granted_world world_beside (step b.how b.world) b.world) (need b.how b.world))
       → ((w : World) × touches w most)
       → Changes b c touches (λ e w. changed (step e w)) need most (Ok x)
   makes_ok x answer room touched taken = record {

@@ -11,7 +11,8 @@ use Rattle.fo_world.specs.World.{World}
 use Rattle.nine_fids.specs.declared.fid.Fid.{Fid}
 use Rattle.nine_fids.specs.declared.refusal.Refusal.{Refusal}
 use Rattle.nine_fids.specs.declared.refusal.Refusal.TheVariants as refusal
-use Rattle.nine_fids.specs.Refusing.{and_then, some_or, is_failure}
+use Rattle.fo_world.specs.Chain.{and_then}
+use Rattle.nine_fids.specs.Refusing.{some_or, is_failure}
 use Rattle.nine_fids.specs.Fids.{State, known, fid_of, fid_at, version_of, without, released, clunked, in_world, least, lesser}
 use Rattle.nine_fids.specs.Told.{Files, info_at}
 use Rattle.nine_fids.specs.Looking.{IsRefused}

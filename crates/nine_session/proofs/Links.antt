@@ -2,17 +2,18 @@
 use Rattle.std.proofs.Common.{◌≡◌, Bool, true, false, Option, Some, None, Result, Ok, Err, refl, sym, ap, subst, ◌∙◌, ⊎_elim, ℕ, inl, inr}
 use Rattle.fo_world.specs.declared.error.FileError.{FileError}
 use Rattle.fo_world.specs.World.{World, Faults}
-use Rattle.fo_world.specs.Answers.{NotFewer, MayFail}
+use Rattle.fo_world.specs.Answers.{NotFewer, MayFail, granted_world, world_beside}
 use Rattle.nine_fids.specs.declared.refusal.Refusal.{Refusal}
-use Rattle.nine_fids.specs.Refusing.{and_then, refuse_if, some_or}
+use Rattle.fo_world.specs.Chain.{and_then, refuse_if}
+use Rattle.nine_fids.specs.Refusing.{some_or}
 use Rattle.nine_fids.specs.Looking.{MayMiss, IsRefused}
 use Rattle.nine_fids.proofs.Missing.{refused_by, fails_since}
 use Rattle.nine_fids.specs.Fids.{State}
 use Rattle.nine_wire.specs.declared.message.Reply.{Reply}
 use Rattle.fo_world.specs.declared.error.FileError.TheVariants as error
-use Rattle.nine_files.specs.Answering.{granted_with, granted_world as led_world}
+use Rattle.nine_files.specs.Answering.{world_told}
 use Rattle.nine_session.specs.Attempting.{Attempts}
-use Rattle.nine_session.specs.Session.{Told, granted_world}
+use Rattle.nine_session.specs.Session.{Told, world_after}
 
 -- ---- what a chain is, once its first link is known
 
@@ -67,14 +68,14 @@ refused_changing part whole f0 f1 f2 h0 h1 room need need' granted granted' r fe
 -- ---- the world that a chain grants
 
 -- a chain that ends with a reply grants the world that its last link leads to
-pub world_led : (told : Told) (t : Result World Refusal) (go : World → Reply × State) (old : World) → told ≡ and_then t (λ w. Ok (go w)) → ((w : World) → (go w).1.world ≡ w) → granted_world told old ≡ led_world t old
-world_led told (Ok w) go old is same = ap (λ (r : Told). granted_world r old) is ∙ same w
-world_led told (Err r) go old is same = ap (λ (r : Told). granted_world r old) is
+pub world_led : (told : Told) (t : Result World Refusal) (go : World → Reply × State) (old : World) → told ≡ and_then t (λ w. Ok (go w)) → ((w : World) → (go w).1.world ≡ w) → granted_world world_after told old ≡ granted_world world_told t old
+world_led told (Ok w) go old is same = ap (λ (r : Told). granted_world world_after r old) is ∙ same w
+world_led told (Err r) go old is same = ap (λ (r : Told). granted_world world_after r old) is
 
 -- the same, where the last link tells more than the world
-pub world_with : {A : Type 0} (told : Told) (t : Result (A × World) Refusal) (go : A × World → Reply × State) (old : World) → told ≡ and_then t (λ p. Ok (go p)) → ((p : A × World) → (go p).1.world ≡ p.1) → granted_world told old ≡ granted_with t old
-world_with told (Ok p) go old is same = ap (λ (r : Told). granted_world r old) is ∙ same p
-world_with told (Err r) go old is same = ap (λ (r : Told). granted_world r old) is
+pub world_with : {A : Type 0} (told : Told) (t : Result (A × World) Refusal) (go : A × World → Reply × State) (old : World) → told ≡ and_then t (λ p. Ok (go p)) → ((p : A × World) → (go p).1.world ≡ p.1) → granted_world world_after told old ≡ granted_world world_beside t old
+world_with told (Ok p) go old is same = ap (λ (r : Told). granted_world world_after r old) is ∙ same p
+world_with told (Err r) go old is same = ap (λ (r : Told). granted_world world_after r old) is
 
 -- ---- options
 

@@ -8,7 +8,7 @@ use Rattle.nine_fids.specs.declared.fid.Fid.{Fid}
 use Rattle.nine_fids.specs.declared.fid.Opened.{Opened}
 use Rattle.nine_fids.specs.declared.refusal.Refusal.{Refusal}
 use Rattle.nine_fids.specs.declared.refusal.Refusal.TheVariants as refusal
-use Rattle.nine_fids.specs.Refusing.{and_then, refuse_if}
+use Rattle.fo_world.specs.Chain.{and_then, refuse_if}
 use Rattle.nine_fids.specs.Fids.{State, fid_at, opened_of, with_fid, with_fids}
 use Rattle.nine_fids.specs.Told.{Files, next_at}
 use Rattle.nine_fids.specs.Looking.{IsRefused}

@@ -15,7 +15,8 @@ use Rattle.nine_fids.specs.declared.fid.Fid.{Fid}
 use Rattle.nine_fids.specs.declared.mode.Mode.{Mode}
 use Rattle.nine_fids.specs.declared.refusal.Refusal.{Refusal}
 use Rattle.nine_fids.specs.declared.refusal.Refusal.TheVariants as refusal
-use Rattle.nine_fids.specs.Refusing.{and_then, refuse_if, some_or, changed}
+use Rattle.fo_world.specs.Chain.{and_then, refuse_if}
+use Rattle.nine_fids.specs.Refusing.{some_or, changed}
 use Rattle.nine_fids.specs.Fids.{Fids, State, version_of, fid_at, is_open}
 use Rattle.nine_fids.specs.declared.fid.Opened.{Opened}
 use Rattle.nine_fids.specs.Told.{Files, has_bit, info_at, is_dir, is_exclusive, qid_of, iounit}

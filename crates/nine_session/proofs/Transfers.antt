@@ -17,7 +17,8 @@ use Rattle.nine_fids.specs.declared.fid.Fid.{Fid}
 use Rattle.nine_fids.specs.declared.fid.Opened.{Opened}
 use Rattle.nine_fids.specs.declared.refusal.Refusal.{Refusal}
 use Rattle.nine_fids.specs.declared.refusal.Refusal.TheVariants as refusal
-use Rattle.nine_fids.specs.Refusing.{and_then, refuse_if, looked, changed, is_failure}
+use Rattle.fo_world.specs.Chain.{and_then, refuse_if}
+use Rattle.nine_fids.specs.Refusing.{looked, changed, is_failure}
 use Rattle.nine_fids.specs.Fids.{State, version_of, fid_at, opened_of, in_world}
 use Rattle.nine_fids.specs.Told.{Files, info_at, bytes_at, is_dir, iounit}
 use Rattle.nine_fids.specs.Modes.{reads, writes}

@@ -8,20 +8,21 @@ use Rattle.nine_wire.specs.declared.message.Reply.TheVariants as reply
 use Rattle.fo_world.specs.declared.error.FileError.{FileError}
 use Rattle.fo_world.specs.declared.error.FileError.TheVariants as error
 use Rattle.fo_world.specs.World.{World}
-use Rattle.fo_world.specs.Answers.{is_fault}
+use Rattle.fo_world.specs.Answers.{is_fault, granted_world, tried}
 use Rattle.nine_fids.specs.declared.refusal.Refusal.{Refusal}
 use Rattle.nine_fids.specs.declared.refusal.Refusal.TheVariants as refusal
-use Rattle.nine_fids.specs.Refusing.{and_then, is_failure, refusal_text, some_or}
+use Rattle.fo_world.specs.Chain.{and_then}
+use Rattle.nine_fids.specs.Refusing.{is_failure, refusal_text, some_or}
 use Rattle.nine_fids.specs.Fids.{State, restarted}
 use Rattle.nine_fids.specs.Told.{Files}
 use Rattle.nine_fids.specs.Looking.{FilesState, HasCause, MayMiss}
 use Rattle.nine_fids.proofs.Missing.{refused_by, fails_by_missing}
 use Rattle.nine_fids.proofs.Seeing.{plain_cause}
-use Rattle.nine_files.specs.Answering.{FailsBy, HadRoom, tried}
+use Rattle.nine_files.specs.Answering.{FailsBy, HadRoom, is_file_fault}
 use Rattle.nine_session.specs.Attaching.{version, auth, flush, is_known}
 use Rattle.nine_session.specs.Attempting.{Attempted, Attempts, Looked, Replies, Tried, TriedOver}
 use Rattle.nine_session.specs.Session as session
-use Rattle.nine_session.specs.Session.{Grants, Kept, Needs, Serves, Tells, Told, Touches, IsServed, granted_world, in_files, kept_of, left_by, most_of}
+use Rattle.nine_session.specs.Session.{Grants, Kept, Needs, Serves, Tells, Told, Touches, IsServed, in_files, kept_of, left_by, most_of, world_after}
 
 -- ---- how a request comes out
 
@@ -64,14 +65,14 @@ either_way true w = refl
 either_way false w = refl
 
 -- nothing, where the definition refuses it
-pub touched_none : (within : Touches) (need : ℕ) (told : Told) (old : World) (why : Refusal) → told ≡ Err why → within (tried {A = Reply} (granted_world told old) old (Err why)) need → within old need
+pub touched_none : (within : Touches) (need : ℕ) (told : Told) (old : World) (why : Refusal) → told ≡ Err why → within (tried {A = Reply} is_file_fault (granted_world world_after told old) old (Err why)) need → within old need
 touched_none within need told old why is h =
-    let P : Told → Type 0 = λ t. within (tried {A = Reply} (granted_world t old) old (Err why)) need in
+    let P : Told → Type 0 = λ t. within (tried {A = Reply} is_file_fault (granted_world world_after t old) old (Err why)) need in
     subst (λ w. within w need) (either_way _ old) (subst P is h)
 
 -- where the files fail, what their failure says
-pub touched_by : (within : Touches) (need : ℕ) (goal old : World) (why : Refusal) (x : FileError) → why ≡ refusal.File x → within (tried {A = Reply} goal old (Err why)) need → within (if is_fault x then goal else old) need
-touched_by within need goal old why x is h = let P : Refusal → Type 0 = λ r. within (tried {A = Reply} goal old (Err r)) need in subst P is h
+pub touched_by : (within : Touches) (need : ℕ) (goal old : World) (why : Refusal) (x : FileError) → why ≡ refusal.File x → within (tried {A = Reply} is_file_fault goal old (Err why)) need → within (if is_fault x then goal else old) need
+touched_by within need goal old why x is h = let P : Refusal → Type 0 = λ r. within (tried {A = Reply} is_file_fault goal old (Err r)) need in subst P is h
 
 -- room for what was granted
 pub had_told : (has_room : ℕ → Type 0) (need : ℕ) (told : Told) → ((n : ℕ) → has_room n → need ≤ n) → session.HadRoom has_room need told

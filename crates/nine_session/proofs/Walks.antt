@@ -14,7 +14,8 @@ use Rattle.nine_fids.specs.Looking.{FilesState, HasCause, MayMiss}
 use Rattle.nine_fids.specs.declared.fid.Fid.{Fid}
 use Rattle.nine_fids.specs.declared.refusal.Refusal.{Refusal}
 use Rattle.nine_fids.specs.declared.refusal.Refusal.TheVariants as refusal
-use Rattle.nine_fids.specs.Refusing.{and_then, refuse_if, is_failure}
+use Rattle.fo_world.specs.Chain.{and_then, refuse_if}
+use Rattle.nine_fids.specs.Refusing.{is_failure}
 use Rattle.nine_fids.specs.Told.{Files, info_at}
 use Rattle.nine_fids.specs.Fids.{State, version_of, fid_at, is_open, in_use, most_fids, known}
 use Rattle.nine_fids.proofs.Seeing.{plain_cause}

@@ -9,7 +9,8 @@ use Rattle.fo_world.specs.declared.place.View.TheVariants.{Active, Dated}
 use Rattle.fo_world.specs.Step as step
 use Rattle.nine_fids.specs.declared.refusal.Refusal.{Refusal}
 use Rattle.nine_fids.specs.declared.refusal.Refusal.TheVariants as refusal
-use Rattle.nine_fids.specs.Refusing.{and_then, refuse_if, some_or}
+use Rattle.fo_world.specs.Chain.{and_then, refuse_if}
+use Rattle.nine_fids.specs.Refusing.{some_or}
 use Rattle.nine_fids.specs.Fids.{State, nofid, most_fids, in_use, version_of, with_fids, restarted}
 use Rattle.nine_fids.specs.Told.{Files, info_at, qid_of}
 use Rattle.nine_fids.specs.Rights.{table_of, user_of}

@@ -11,13 +11,14 @@ use Rattle.nine_fids.specs.declared.refusal.Refusal.{Refusal}
 use Rattle.nine_fids.specs.declared.refusal.Refusal.TheVariants as refusal
 use Rattle.nine_fids.specs.declared.fid.Fid.{Fid}
 use Rattle.nine_fids.specs.Fids.{Fids, State, fid_of, clunked, number_at, is_open, with_fid, most_fids, in_use, version_of, fid_at}
-use Rattle.nine_fids.specs.Refusing.{and_then, refusal_text, refuse_if}
+use Rattle.fo_world.specs.Chain.{and_then, refuse_if}
+use Rattle.fo_world.specs.Answers.{granted_world, tried}
+use Rattle.nine_fids.specs.Refusing.{refusal_text}
 use Rattle.nine_fids.specs.Told.{Files}
 use Rattle.nine_session.specs.Opening.{listed}
 use Rattle.nine_fids.specs.Looking.{FilesState, HasCause, MayMiss}
-use Rattle.nine_files.specs.Answering.{FailsBy, HadRoom}
-use Rattle.nine_session.specs.Session.{AgreesWithin, Fails, Grants, Kept, Needs, Tells, Told, Touches, granted_world, in_files, kept_of, left_by, most_of}
-use Rattle.nine_files.specs.Answering.{tried}
+use Rattle.nine_files.specs.Answering.{FailsBy, HadRoom, is_file_fault}
+use Rattle.nine_session.specs.Session.{AgreesWithin, Fails, Grants, Kept, Needs, Tells, Told, Touches, in_files, kept_of, left_by, most_of, world_after}
 
 -- a session with the list of exclusive opens
 abbrev pub kept : Fids → List ℕ → Kept
@@ -53,7 +54,7 @@ IsSent result = IfOk result (λ r. ReplyFits r × AgreesWithin r)
 pub record Attempted (old new : FilesState) (within : Touches) (k k' : Kept) (told : Files → State → Told) (need : Files → State → ℕ) (most : ℕ) (left : State → State) (result : Result Reply Refusal) : Type 0 where
   pub answer : old.honest → Attempts (told old.how (in_files k old.world)) (FailsBy old new (need old.how (in_files k old.world)) (is_ok (told old.how (in_files k old.world)))) (left (in_files k old.world)) (in_files k' new.world) result
   pub room : old.honest → HadRoom old.has_room (need old.how (in_files k old.world)) result
-  pub touched : old.honest → within (tried (granted_world (told old.how (in_files k old.world)) old.world) old.world result) (need old.how (in_files k old.world))
+  pub touched : old.honest → within (tried is_file_fault (granted_world world_after (told old.how (in_files k old.world)) old.world) old.world result) (need old.how (in_files k old.world))
   pub cause : IfErr result (HasCause old new most)
   pub left_is : IfErr result (λ _. k' ≡ kept_of (left (in_files k old.world)))
   pub taken : (w : World) × within w most
@@ -72,7 +73,7 @@ pub record Tried (e : Files) (fails : Fails) (has_room : ℕ → Type 0) (within
   pub needs : Needs e z q need
   pub attempts : Attempts told (fails need (is_ok told)) (left_by z q) z' result
   pub room : HadRoom has_room need result
-  pub touched : within (tried (granted_world told z.world) z.world result) need
+  pub touched : within (tried is_file_fault (granted_world world_after told z.world) z.world result) need
 
 -- and over any files
 pub record TriedOver (old new : FilesState) (within : Touches) (k k' : Kept) (now : ℕ) (q : Request) (result : Result Reply Refusal) : Type 0 where

@@ -9,7 +9,8 @@ use Rattle.nine_fids.specs.declared.fid.Fid.{Fid}
 use Rattle.nine_fids.specs.declared.mode.Mode.{Mode}
 use Rattle.nine_fids.specs.declared.refusal.Refusal.{Refusal}
 use Rattle.nine_fids.specs.declared.refusal.Refusal.TheVariants as refusal
-use Rattle.nine_fids.specs.Refusing.{and_then, refuse_if, changed}
+use Rattle.fo_world.specs.Chain.{and_then, refuse_if}
+use Rattle.nine_fids.specs.Refusing.{changed}
 use Rattle.nine_fids.specs.Fids.{State, number_at, is_listed, is_open, with_fid, version_of, fid_at}
 use Rattle.nine_fids.specs.Told.{Files, info_at, is_exclusive, qid_of, iounit}
 use Rattle.fo_users.specs.Rights.{may}

@@ -4,7 +4,7 @@ use Rattle.nine_wire.specs.declared.message.Reply.{Reply}
 use Rattle.nine_wire.specs.declared.message.Reply.TheVariants as reply
 use Rattle.nine_fids.specs.declared.fid.Fid.{Fid}
 use Rattle.nine_fids.specs.declared.refusal.Refusal.{Refusal}
-use Rattle.nine_fids.specs.Refusing.{and_then}
+use Rattle.fo_world.specs.Chain.{and_then}
 use Rattle.nine_fids.specs.Fids.{State, version_of, fid_at, clunked, in_world}
 use Rattle.nine_fids.specs.Told.{Files, info_at}
 use Rattle.nine_files.specs.Removing.{closed, removed}

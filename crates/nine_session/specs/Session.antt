@@ -10,7 +10,7 @@ use Rattle.nine_stat.specs.Stat.{IsRecord}
 use Rattle.fo_world.specs.declared.error.FileError.{FileError}
 use Rattle.fo_world.specs.Step as step
 use Rattle.fo_world.specs.World.{World}
-use Rattle.fo_world.specs.Answers.{is_fault}
+use Rattle.fo_world.specs.Answers.{is_fault, granted_world}
 use Rattle.nine_fids.specs.declared.fid.Fid.{Fid}
 use Rattle.nine_fids.specs.declared.refusal.Refusal.{Refusal}
 use Rattle.nine_fids.specs.declared.refusal.Refusal.TheVariants as refusal
@@ -114,10 +114,9 @@ abbrev pub replied : Told → State → Reply × State
 replied (Ok p) left = p
 replied (Err r) left = (reply.Error (refusal_text r), left)
 
--- the world that is granted, or the one before where the request is refused
-abbrev pub granted_world : Told → World → World
-granted_world (Ok p) old = p.1.world
-granted_world (Err r) old = old
+-- the world of the state after a reply
+abbrev pub world_after : Reply × State → World
+world_after p = p.1.world
 
 -- no more was touched than what differs between the world before and this one, and no more than so many blocks were taken
 abbrev pub Touches : Type 1
@@ -135,8 +134,8 @@ HadRoom has_room need told = IfOk told (λ _. (n : ℕ) → has_room n → need 
 -- cause, and the state is that which a refusal leaves. No more was touched than what the definition changes, and nothing where the
 -- definition refuses the request, or the failure is none of a device.
 pub data IsServed (e : Files) (fails : Fails) (has_room : ℕ → Type 0) (within : Touches) (z : State) (now : ℕ) (q : Request) (r : Reply) (z' : State) : Type 0 where
-  as_told : (told : Told) (need : ℕ) → Tells e z now q told → Needs e z q need → (r, z') ≡ replied told (left_by z q) → HadRoom has_room need told → within (granted_world told z.world) need → IsServed e fails has_room within z now q r z'
-  failed : (told : Told) (need : ℕ) (x : FileError) → Tells e z now q told → Needs e z q need → fails need (is_ok told) x → r ≡ reply.Error (refusal_text (refusal.File x)) → z' ≡ left_by z q → within (if is_fault x then granted_world told z.world else z.world) need → IsServed e fails has_room within z now q r z'
+  as_told : (told : Told) (need : ℕ) → Tells e z now q told → Needs e z q need → (r, z') ≡ replied told (left_by z q) → HadRoom has_room need told → within (granted_world world_after told z.world) need → IsServed e fails has_room within z now q r z'
+  failed : (told : Told) (need : ℕ) (x : FileError) → Tells e z now q told → Needs e z q need → fails need (is_ok told) x → r ≡ reply.Error (refusal_text (refusal.File x)) → z' ≡ left_by z q → within (if is_fault x then granted_world world_after told z.world else z.world) need → IsServed e fails has_room within z now q r z'
 
 -- A session and the list of files that are open for exclusive use.
 pub record Kept : Type 0 where
@@ -196,7 +195,7 @@ AsksSync _ = ⊥
 pub data IsDropped (told : Told) (need : ℕ) (fails : FileError → Type 0) (has_room : ℕ → Type 0) (within : Touches) (old : World) (left : State) (answer : Option Reply) (z' : State) : Type 0 where
   granted : (r : Reply) → told ≡ Ok (r, z') → answer ≡ None → HadRoom has_room need told → within z'.world need → IsDropped told need fails has_room within old left answer z'
   refused : (why : Refusal) → told ≡ Err why → answer ≡ Some (reply.Error (refusal_text why)) → z' ≡ left → within old need → IsDropped told need fails has_room within old left answer z'
-  failed : (x : FileError) → fails x → answer ≡ Some (reply.Error (refusal_text (refusal.File x))) → z' ≡ left → within (if is_fault x then granted_world told old else old) need → IsDropped told need fails has_room within old left answer z'
+  failed : (x : FileError) → fails x → answer ≡ Some (reply.Error (refusal_text (refusal.File x))) → z' ≡ left → within (if is_fault x then granted_world world_after told old else old) need → IsDropped told need fails has_room within old left answer z'
 
 -- over any files: nothing is answered, or an Rerror that has its cause
 abbrev pub IsEnded : FilesState → FilesState → ℕ → Option Reply → Type 0

@@ -7,7 +7,7 @@ use Rattle.fo_world.specs.declared.place.Place.{Place}
 use Rattle.nine_fids.specs.declared.fid.Fid.{Fid}
 use Rattle.nine_fids.specs.declared.refusal.Refusal.{Refusal}
 use Rattle.nine_fids.specs.declared.refusal.Refusal.TheVariants as refusal
-use Rattle.nine_fids.specs.Refusing.{and_then, refuse_if}
+use Rattle.fo_world.specs.Chain.{and_then, refuse_if}
 use Rattle.nine_fids.specs.Fids.{State, most_fids, in_use, is_open, with_fid, version_of, fid_at, with_fids}
 use Rattle.nine_fids.specs.Told.{Files, info_at}
 use Rattle.nine_files.specs.Walking.{walked}

@@ -19,7 +19,7 @@ use nine_wire::Reply;
 impl Session {
     ghost use Rattle.std.specs.Prelude.{◌≡◌, ◌<◌, ◌-◌, ◌^◌, ℕ, List, length, IsTrue, IfOk};
     ghost use Rattle.fo_world.specs.Step as step;
-    ghost use Rattle.nine_fids.specs.Refusing.{and_then};
+    ghost use Rattle.fo_world.specs.Chain.{and_then};
     ghost use Rattle.nine_fids.specs.Fids as fids;
     ghost use Rattle.nine_fids.specs.Told.{served};
     ghost use Rattle.nine_wire.specs.declared.message.Request.TheVariants as request;

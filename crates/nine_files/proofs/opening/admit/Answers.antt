@@ -1,7 +1,7 @@
 use Rattle.std.proofs.Common.{◌≡◌, true, false, Ok, refl, sym, ap, ◌∙◌}
 use Rattle.std.proofs.lemmas.Result.{err_from_is_err_and}
 use Rattle.nine_fids.specs.declared.refusal.Refusal.TheVariants as refusal
-use Rattle.nine_fids.specs.Refusing.{refuse_if}
+use Rattle.fo_world.specs.Chain.{refuse_if}
 use Rattle.nine_fids.specs.Fids.{is_open}
 use Rattle.nine_fids.specs.Rights.{table_of}
 use Rattle.nine_fids.specs.Told.{served, info_at}

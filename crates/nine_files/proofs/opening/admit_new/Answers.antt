@@ -3,7 +3,7 @@ use Rattle.std.proofs.lemmas.Result.{err_from_is_err_and}
 use Rattle.fo_users.specs.Rights.{may}
 use Rattle.fo_users.specs.declared.right.Right.TheVariants.{Write}
 use Rattle.nine_fids.specs.declared.refusal.Refusal.TheVariants as refusal
-use Rattle.nine_fids.specs.Refusing.{refuse_if}
+use Rattle.fo_world.specs.Chain.{refuse_if}
 use Rattle.nine_fids.specs.Fids.{is_open}
 use Rattle.nine_fids.specs.Told.{served, info_at}
 use Rattle.nine_fids.specs.Rights.{table_of}

@@ -1,7 +1,7 @@
 use Rattle.std.proofs.Common.{◌≡◌, ◌==◌, false, length, sym, ap, ◌∙◌, Ok}
 use Rattle.std.proofs.lemmas.Result.{err_from_is_err_and}
 use Rattle.nine_fids.specs.Rights.{table_of}
-use Rattle.nine_fids.specs.Refusing.{and_then}
+use Rattle.fo_world.specs.Chain.{and_then}
 use Rattle.nine_fids.specs.Told.{served}
 use Rattle.nine_files.specs.Walking.{walked_by}
 use Rattle.nine_fids.proofs.Missing.{ok_same}
