@@ -1,13 +1,13 @@
 -- What blocks that tell nothing keep, and what the calls on blocks see of it.
-use Rattle.std.specs.Prelude.{◌≡◌, ◌≢◌, ◌⊎◌, ◌-◌, ◌*◌, ◌/◌, ◌^◌, ◌<◌, ℕ, zero, suc, Bool, true, false, List, drop, [], ◌∷◌, length, slice_index_or, Option, Some, None, not, ◌||◌, ◌==◌}
+use Rattle.std.specs.Prelude.{◌≡◌, ◌≢◌, ◌⊎◌, ◌+◌, ◌-◌, ◌*◌, ◌/◌, ◌^◌, ◌<◌, ℕ, zero, suc, Bool, true, false, List, drop, [], ◌∷◌, length, slice_index_or, Option, Some, None, not, ◌||◌, ◌==◌}
 use Rattle.fo_image.specs.declared.types.Kind.{Kind}
 use Rattle.fo_image.specs.declared.types.Kind.TheVariants.{Data, Dir, Root}
-use Rattle.fo_image.specs.declared.types.State.TheVariants.{Free}
+use Rattle.fo_image.specs.declared.types.State.TheVariants.{Free, Live}
 use Rattle.fo_image.specs.declared.types.Pointer.TheVariants.{Local}
 use Rattle.fo_crash.specs.declared.slot.Slot.{Slot}
 use Rattle.fo_crash.specs.declared.slot.Slot.TheVariants.{Pointer as To, Entry as Head, Prev}
 use Rattle.fo_crash.specs.Images.{Content, Image, target}
-use Rattle.fo_ports.specs.Blocks.{AreZeros, IsFormed, IsInner, IsLevel, Reads, ReadsSlots, slots_to}
+use Rattle.fo_ports.specs.Blocks.{AreZeros, IsFormed, IsInner, IsLevel, Reads, ReadsSlots, no_entry, slots_to}
 use Rattle.fo_ports.specs.State.{State}
 use Rattle.fo_slots.specs.Read.{read}
 use Rattle.test_blocks.specs.declared.silent.Block.{Block}
@@ -60,6 +60,21 @@ Listed (w ∷ ws) a on k = ((w.at ≡ a) × (w.on ≡ on) × (w.pair ≡ k)) ⊎
 
 abbrev pub Awaits : List Wait → ℕ → ℕ → ℕ → Type 0
 Awaits waits a on j = Listed waits a on (j / 2)
+
+-- At the start block 2 alone is there, the root block, with the label of a leaf of entries of which none is in use.
+pub record IsBegun (blocks : List Block) : Type 0 where
+  pub as_long : length blocks ≡ 3
+  pub label : (block_at blocks 2).label ≡ record { state = Live; kind = Dir 0; tag = 1; epoch = 1; closing = 2 ^ 32 - 1 }
+  pub slot : (memory blocks 2).slot 0 ≡ Head no_entry
+
+-- An epoch begins: the root block is of it, and all else stays.
+pub record BeginsEpoch (old new : Silent) : Type 0 where
+  pub high : new.high ≡ old.high + 1
+  pub count : new.count ≡ old.count
+  pub as_long : length new.blocks ≡ length old.blocks
+  pub root : block_at new.blocks 2 ≡ record (block_at old.blocks 2) { label = record (block_at old.blocks 2).label { epoch = new.high } }
+  pub others : (b : ℕ) → b ≢ 2 → block_at new.blocks b ≡ block_at old.blocks b
+  pub rest : (new.waits ≡ old.waits) × (new.next ≡ old.next) × (new.room ≡ old.room)
 
 -- Each slot leads to a data block, if to any.
 pub record LeadsWithin (count : ℕ) (kind : Kind) (bytes : List ℕ) : Type 0 where

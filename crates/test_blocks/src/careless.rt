@@ -10,8 +10,9 @@ use fo_base::Bytes;
 use fo_world::{Change, FileError, FileOps, Info, Place, View};
 use std::alloc::{AllocError, Global};
 
-/// Files that answer whatever fits, wherever they are asked, and tell nothing of what they hold. They count blocks and
-/// faults as files over a device would: a write takes blocks and is dropped, and every other settling fails.
+/// Files that answer whatever fits, wherever they are asked, and tell nothing of what they hold: each time that they are asked of a file
+/// it is one byte longer. They count blocks and faults as files over a device would: a write takes blocks and is dropped, and every
+/// other settling fails.
 #[derive(Drop)]
 pub struct CarelessFiles {
     alloc: Global,
@@ -19,6 +20,7 @@ pub struct CarelessFiles {
     pub clean: bool,
     pub failed: u64,
     flaky: bool,
+    asked: u64,
 }
 
 /// The blocks that a call needs at this depth, for so many bytes.
@@ -54,9 +56,9 @@ fn adm(alloc: Global) -> Result<Bytes, AllocError>
     Bytes::copy_of(alloc, b"adm")
 }
 
-/// What is told of the root, whatever was asked for.
+/// What is told of the root, whatever was asked for, with this length.
 #[tactic(auto, using(crate::proofs::Named::named, crate::proofs::Named::user))]
-fn root(alloc: Global) -> Result<Info, AllocError>
+fn root(alloc: Global, length: u64) -> Result<Info, AllocError>
     ensures { IfOk result InfoFits }
 {
     Ok(Info {
@@ -67,7 +69,7 @@ fn root(alloc: Global) -> Result<Info, AllocError>
         mode: 0,
         atime: 0,
         mtime: 0,
-        length: 0,
+        length,
         uid: adm(alloc)?,
         gid: adm(alloc)?,
         muid: adm(alloc)?,
@@ -83,6 +85,7 @@ impl CarelessFiles {
             clean: true,
             failed: 0,
             flaky: false,
+            asked: 0,
         }
     }
 
@@ -171,22 +174,23 @@ impl FileOps for CarelessFiles {
     ghost whole_serves = { λ a v p. tt };
 
     fn info(&mut self, _: &Place) -> Result<Info, FileError> {
-        Ok(root(self.alloc)?)
+        self.asked = self.asked.saturating_add(1);
+        Ok(root(self.alloc, self.asked)?)
     }
 
     fn find(&mut self, _: &Place, _: &[u8]) -> Result<Info, FileError> {
-        Ok(root(self.alloc)?)
+        Ok(root(self.alloc, 0)?)
     }
 
     fn parent(&mut self, _: &Place) -> Result<Info, FileError> {
-        Ok(root(self.alloc)?)
+        Ok(root(self.alloc, 0)?)
     }
 
     fn next_name(&mut self, _: &Place, after: Option<&Bytes>) -> Result<Option<Info>, FileError> {
         if after.is_some() {
             return Ok(None);
         }
-        Ok(Some(root(self.alloc)?))
+        Ok(Some(root(self.alloc, 0)?))
     }
 
     fn read(&mut self, _: &Place, _: u64, into: &mut [u8]) -> Result<usize, FileError> {
@@ -219,7 +223,7 @@ impl FileOps for CarelessFiles {
         _: &Bytes,
         _: u32,
     ) -> Result<Info, FileError> {
-        let info = root(self.alloc)?;
+        let info = root(self.alloc, 0)?;
         self.take(need(at.trail.as_slice().len(), 0))?;
         Ok(info)
     }

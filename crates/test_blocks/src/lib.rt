@@ -3,7 +3,8 @@
 //! sources of bytes over them (`fo_ports_source`).
 //!
 //! Beside them stand files that tell nothing of what they hold and answer whatever fits (`CarelessFiles`): so the contract of files can
-//! be kept by a silent disk, and promises no more there. Blocks that tell nothing (`CarelessBlocks`) keep each clause and law of the
+//! be kept by a silent disk, and promises no more there; `agreed_length` asks any files twice how long a file is, which honest ones answer
+//! alike. Blocks that tell nothing (`CarelessBlocks`) keep each clause and law of the
 //! contract of blocks: what was given out is in memory for good, nothing is ever closed, no slot waits to be cleared, and every other
 //! fetch finds nothing, as an arena in a file may read differently each time. So they show nothing of blocks that are read from a
 //! device, of buffers that run out, or of slots that wait. `put_byte` changes a byte of a block over any blocks, also those of a device
@@ -13,12 +14,14 @@
 //! Bytes that are wanted were worked out by hand from docs/FORMATS.md. Nothing here is said of any caller.
 #![tactic(auto)]
 
+mod asked;
 mod careless;
 mod change;
 mod fetched;
 mod silent;
 mod silent_calls;
 
+pub use asked::agreed_length;
 pub use careless::CarelessFiles;
 pub use change::put_byte;
 pub use fetched::fetch_twice;
@@ -28,6 +31,8 @@ pub use silent::CarelessBlocks;
 mod blocks;
 #[cfg(test)]
 mod crash;
+#[cfg(test)]
+mod files;
 #[cfg(test)]
 mod meta;
 #[cfg(test)]

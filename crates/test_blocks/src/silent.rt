@@ -3,6 +3,7 @@ ghost use Rattle.std.specs.Prelude.{◌≡◌, ◌≢◌, ◌⊎◌, ◌↔◌, 
 ghost use Rattle.std.specs.List.{filter};
 ghost use Rattle.std.specs.Vec.{vec_len, vec_capacity};
 ghost use Rattle.fo_image.specs.declared.types.Kind.{Kind};
+ghost use Rattle.fo_image.specs.declared.types.Kind.TheVariants.{Dir};
 ghost use Rattle.fo_image.specs.declared.types.Pointer.TheVariants.{Local};
 ghost use Rattle.fo_image.specs.declared.types.State.TheVariants.{Live};
 ghost use Rattle.fo_crash.specs.Images.{SameContent, depth_of, target};
@@ -46,7 +47,7 @@ pub struct Wait {
 ///
 /// What was given out is in memory for good, pinned and never written: so `get` has these, and any other is damaged. No image is left,
 /// nothing stands, nothing is to be closed, and no slot waits to be cleared: a removal clears at once, and all is settled always.
-/// Blocks are given out by address up to `count`, whose room is taken at the start; the root has the label of a block of data. Pairs
+/// Blocks are given out by address up to `count`, whose room is taken at the start; the root has the label of a leaf of entries. Pairs
 /// that are waited for stand in a list until they are removed, or until room is made. The arena reads differently each time: every
 /// other fetch finds nothing (`lacks`), and the others find zeros.
 #[derive(Drop)]
@@ -107,6 +108,15 @@ impl Block {
         let mut block = self;
         put_slot_into(block.label.kind, i as usize, slot, &mut block.bytes);
         block.origin = origin;
+        block
+    }
+
+    /// The block with the label of this epoch.
+    fn of_epoch(self, epoch: u32) -> Block
+        ensures { result ≡ record self { label = record self.label { epoch = epoch } } }
+    {
+        let mut block = self;
+        block.label.epoch = epoch;
         block
     }
 
@@ -298,7 +308,7 @@ impl CarelessBlocks {
     ghost use Rattle.std.specs.Prelude.{◌≢◌, IfErr, OnErr};
     ghost use Rattle.fo_crash.specs.Steps.{PutsSlot, PutsBytes};
     ghost use Rattle.fo_ports.specs.declared.error.BlockError.TheVariants.{Memory};
-    ghost use Rattle.test_blocks.specs.Silent.{IsTop, IsOver, Instead, IsData, Joins, Rises, SameBytes, SameMarks};
+    ghost use Rattle.test_blocks.specs.Silent.{BeginsEpoch, IsBegun, IsTop, IsOver, Instead, IsData, Joins, Rises, SameBytes, SameMarks};
     ghost use Rattle.test_blocks.specs.SilentParts.{parts};
 
     /// Blocks of a device with so many addresses; 3 and more may be given out.
@@ -307,13 +317,14 @@ impl CarelessBlocks {
         requires small { count < 2 ^ 32 - 1 }
         ensures begins { IfOk result (λ b. (b.count ≡ count) × (b.high ≡ 1)) }
         ensures none { IfOk result (λ b. (y x : ℕ) → Instead b.blocks.items y x → ⊥) }
+        ensures root { IfOk result (λ b. IsBegun b.blocks.items) }
     {
         let Ok(mut blocks) = Vec::with_capacity(alloc, count as usize) else {
             return Err(BlockError::Memory);
         };
         blocks.push_reserved(unused());
         blocks.push_reserved(unused());
-        blocks.push_reserved(unused());
+        blocks.push_reserved(root());
         Ok(CarelessBlocks {
             blocks,
             waits: Vec::new(alloc),
@@ -551,12 +562,15 @@ impl CarelessBlocks {
         Ok(())
     }
 
-    /// Begins an epoch: what was given out is older now.
+    /// Begins an epoch: the root block is of it, and what was given out is older now.
     pub fn begin_epoch(&mut self)
         requires { self.old.high < 2 ^ 31 - 1 }
-        ensures { parts self.new ≡ record (parts self.old) { high = self.old.high + 1 } }
+        ensures begins { BeginsEpoch (parts self.old) (parts self.new) }
+        ensures count { self.new.count ≡ self.old.count }
     {
         self.high += 1;
+        let root = self.block(2).of_epoch(self.high);
+        self.set(2, root);
     }
 }
 
@@ -566,6 +580,16 @@ fn unused() -> Block
     ensures origin { result.origin ≡ None }
 {
     blank_block(Kind::Data(0), 0, 0)
+}
+
+/// The root block, a leaf of entries of which none is in use.
+fn root() -> Block
+    ensures good { (count : ℕ) → Good count result.label.kind result.bytes }
+    ensures origin { result.origin ≡ None }
+    ensures label { result.label ≡ record { state = Live; kind = Dir 0; tag = 1; epoch = 1; closing = 2 ^ 32 - 1 } }
+    ensures content { SameContent (content_of result) (blank (Dir 0)) }
+{
+    blank_block(Kind::Dir(0), 1, 1)
 }
 
 /// The bytes of a block of zeros.
