@@ -1,0 +1,3 @@
+mod Aging
+mod Growing
+mod Naming

@@ -1,10 +1,12 @@
 //! Tests of the small clients of blocks (`fo_ports_clients`), over blocks in memory (`PlainBlocks`), where every leaf is sealed, and
 //! over blocks that tell nothing (`CarelessBlocks`), where none is.
 //!
-//! Bytes, slots and addresses that are wanted follow from what the calls promise. Not tested here: `write_byte`, and taking names out
-//! of and raising tops over a tree whose device tells what it holds.
+//! Bytes, slots and addresses that are wanted follow from what the calls promise. Not tested here: writing a byte, taking names out and
+//! raising tops over a tree whose device tells what it holds.
 #![tactic(auto)]
 
+#[cfg(test)]
+mod bytes;
 #[cfg(test)]
 mod names;
 #[cfg(test)]
