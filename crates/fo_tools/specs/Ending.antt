@@ -13,17 +13,23 @@ use Rattle.fo_tools.specs.declared.end.ToolEnd.TheVariants as end
 
 -- ---- causes
 
+-- counts of faults of the devices and of the output
+pub record Counts : Type 0 where
+  pub main : ℕ
+  pub arena : ℕ
+  pub out : ℕ
+
 -- No count of faults falls, a fault is the end only where that count rose, and a size only where no device failed.
-pub record HasCauses (main main' arena arena' out out' : ℕ) (how : ToolEnd) : Type 0 where
-  pub main_later : main ≤ main'
-  pub arena_later : arena ≤ arena'
-  pub out_later : out ≤ out'
-  pub main_read : how ≡ end.MainRead → Rose main main'
-  pub main_write : how ≡ end.MainWrite → Rose main main'
-  pub arena_read : how ≡ end.ArenaRead → Rose arena arena'
-  pub arena_write : how ≡ end.ArenaWrite → Rose arena arena'
-  pub output : how ≡ end.Output → Rose out out'
-  pub size : how ≡ end.Size → (main' ≡ main) × (arena' ≡ arena)
+pub record HasCauses (before now : Counts) (how : ToolEnd) : Type 0 where
+  pub main_later : before.main ≤ now.main
+  pub arena_later : before.arena ≤ now.arena
+  pub out_later : before.out ≤ now.out
+  pub main_read : how ≡ end.MainRead → Rose before.main now.main
+  pub main_write : how ≡ end.MainWrite → Rose before.main now.main
+  pub arena_read : how ≡ end.ArenaRead → Rose before.arena now.arena
+  pub arena_write : how ≡ end.ArenaWrite → Rose before.arena now.arena
+  pub output : how ≡ end.Output → Rose before.out now.out
+  pub size : how ≡ end.Size → (now.main ≡ before.main) × (now.arena ≡ before.arena)
 
 -- ---- over any devices
 

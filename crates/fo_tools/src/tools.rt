@@ -36,7 +36,7 @@ pub fn flfmt<D: Disk, A: Disk, K: Sink>(
     ensures main { WritesNothing result → D.state main.new ≡ D.state main.old }
     ensures arena { WritesNothing result → A.state arena.new ≡ A.state arena.old }
 
-    ensures causes { HasCauses (D.faults main.old) (D.faults main.new) (A.faults arena.old) (A.faults arena.new) (K.faults out.old) (K.faults out.new) result }
+    ensures causes { HasCauses (record { main = D.faults main.old; arena = A.faults arena.old; out = K.faults out.old }) (record { main = D.faults main.new; arena = A.faults arena.new; out = K.faults out.new }) result }
 {
     let blocks = match main.blocks() {
         Ok(blocks) => blocks,
@@ -78,7 +78,7 @@ pub fn flchk<D: Disk, A: Disk, K: Sink>(
     ensures main { D.state main.new ≡ D.state main.old }
     ensures arena { A.state arena.new ≡ A.state arena.old }
 
-    ensures causes { HasCauses (D.faults main.old) (D.faults main.new) (A.faults arena.old) (A.faults arena.new) (K.faults out.old) (K.faults out.new) result }
+    ensures causes { HasCauses (record { main = D.faults main.old; arena = A.faults arena.old; out = K.faults out.old }) (record { main = D.faults main.new; arena = A.faults arena.new; out = K.faults out.new }) result }
 {
     match check(alloc, main, arena) {
         Ok(report) => match out.put(report_line(&report).as_str().as_bytes()) {

@@ -7,7 +7,7 @@ use Rattle.fo_tools.specs.Ending as tools
 use Rattle.fo_tools.specs.declared.end.ToolEnd.{ToolEnd}
 use Rattle.fo_tools.specs.declared.end.ToolEnd.TheVariants as tool
 use Rattle.fo_top.specs.Ending.{why_of, tool_why}
-use Rattle.fo_top.specs.Tools.{HasCauses}
+use Rattle.fo_top.specs.Tools.{Counts, HasCauses}
 use Rattle.fo_top.specs.declared.why.Why.{Why}
 use Rattle.fo_top.specs.declared.why.Why.TheVariants as why
 
@@ -51,7 +51,7 @@ link_not : (link : LinkEnd) (end w : Why) → end ≡ why_of link → end ≡ w 
 link_not link end w is e = ap is_of_link (sym e ∙ is) ∙ link_only link
 
 pub link_causes : (input input' out out' : ℕ) (link : LinkEnd) (end : Why) → end ≡ why_of link → input ≤ input' → out ≤ out'
-    → (link ≡ ends.ReadFault → Rose input input') → (link ≡ ends.WriteFault → Rose out out') → HasCauses input input' out out' 0 0 0 0 end
+    → (link ≡ ends.ReadFault → Rose input input') → (link ≡ ends.WriteFault → Rose out out') → HasCauses (record { input = input; out = out; main = 0; arena = 0 }) (record { input = input'; out = out'; main = 0; arena = 0 }) end
 link_causes input input' out out' link end is later out_later read write = record {
   input_later = later;
   out_later = out_later;
@@ -70,7 +70,7 @@ pub link_serves : (link : LinkEnd) (end : Why) → end ≡ why_of link → end �
 link_serves link end is e = let no = link_not link end why.Usage is e in absurd cc
 
 -- want of memory before anything was read
-pub no_causes : (input out : ℕ) (end : Why) → end ≡ why.Memory → HasCauses input input out out 0 0 0 0 end
+pub no_causes : (input out : ℕ) (end : Why) → end ≡ why.Memory → HasCauses (record { input = input; out = out; main = 0; arena = 0 }) (record { input = input; out = out; main = 0; arena = 0 }) end
 no_causes input out end is = record {
   input_later = omega arith;
   out_later = omega arith;
@@ -142,8 +142,12 @@ tool_only tool.NotBuilt = refl
 tool_not : (how : ToolEnd) (end w : Why) → end ≡ tool_why how → end ≡ w → is_of_tool w ≡ true
 tool_not how end w is e = ap is_of_tool (sym e ∙ is) ∙ tool_only how
 
-pub tool_causes : (main main' arena arena' out out' : ℕ) (how : ToolEnd) (end : Why) → end ≡ tool_why how → tools.HasCauses main main' arena arena' out out' how → HasCauses 0 0 out out' main main' arena arena' end
-tool_causes main main' arena arena' out out' how end is c = record {
+-- the counts of a tool, which reads no input
+abbrev pub with_input : tools.Counts → Counts
+with_input c = record { input = 0; out = c.out; main = c.main; arena = c.arena }
+
+pub tool_causes : (before now : tools.Counts) (how : ToolEnd) (end : Why) → end ≡ tool_why how → tools.HasCauses before now how → HasCauses (with_input before) (with_input now) end
+tool_causes before now how end is c = record {
   input_later = omega arith;
   out_later = c.out_later;
   main_later = c.main_later;

@@ -46,16 +46,23 @@ pub record CheckRun (main main' arena arena' : Device) (held held' : Option (Lis
   pub main_kept : main'.state ≡ main.state
   pub arena_kept : arena'.state ≡ arena.state
 
+-- counts of faults of the streams and the devices
+pub record Counts : Type 0 where
+  pub input : ℕ
+  pub out : ℕ
+  pub main : ℕ
+  pub arena : ℕ
+
 -- No count of faults falls, a fault is the end only where that count rose in this call, and a size only where no device failed.
-pub record HasCauses (input input' out out' main main' arena arena' : ℕ) (end : Why) : Type 0 where
-  pub input_later : input ≤ input'
-  pub out_later : out ≤ out'
-  pub main_later : main ≤ main'
-  pub arena_later : arena ≤ arena'
-  pub input_rose : end ≡ why.Input → Rose input input'
-  pub output_rose : end ≡ why.Output → Rose out out'
-  pub main_read : end ≡ why.MainRead → Rose main main'
-  pub main_write : end ≡ why.MainWrite → Rose main main'
-  pub arena_read : end ≡ why.ArenaRead → Rose arena arena'
-  pub arena_write : end ≡ why.ArenaWrite → Rose arena arena'
-  pub size : end ≡ why.Size → (main' ≡ main) × (arena' ≡ arena)
+pub record HasCauses (before now : Counts) (end : Why) : Type 0 where
+  pub input_later : before.input ≤ now.input
+  pub out_later : before.out ≤ now.out
+  pub main_later : before.main ≤ now.main
+  pub arena_later : before.arena ≤ now.arena
+  pub input_rose : end ≡ why.Input → Rose before.input now.input
+  pub output_rose : end ≡ why.Output → Rose before.out now.out
+  pub main_read : end ≡ why.MainRead → Rose before.main now.main
+  pub main_write : end ≡ why.MainWrite → Rose before.main now.main
+  pub arena_read : end ≡ why.ArenaRead → Rose before.arena now.arena
+  pub arena_write : end ≡ why.ArenaWrite → Rose before.arena now.arena
+  pub size : end ≡ why.Size → (now.main ≡ before.main) × (now.arena ≡ before.arena)

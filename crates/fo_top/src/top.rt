@@ -38,7 +38,7 @@ fn answer_all<S: Source, K: Sink, C: Clock>(
     ensures talk { IfSome (S.left input.old) (λ bytes. Runs system_goes
         (record { limit = largest_message; position = record { clock = C.coming clock.old; state = empty_system; faults = record { main = 0; arena = 0 } } })
         bytes (S.left input.new) (K.held out.old) (K.held out.new) result) }
-    ensures causes { HasCauses (S.faults input.old) (S.faults input.new) (K.faults out.old) (K.faults out.new) 0 0 0 0 result }
+    ensures causes { HasCauses (record { input = S.faults input.old; out = K.faults out.old; main = 0; arena = 0 }) (record { input = S.faults input.new; out = K.faults out.new; main = 0; arena = 0 }) result }
     ensures talked { IsTalked result }
     ensures served { result ≢ Why.Usage }
 {
@@ -60,7 +60,7 @@ fn format_all<D: Disk, A: Disk, K: Sink, C: Clock>(
         (device (D.size main.old) (D.calls main.old) (D.state main.old)) (device (D.size main.new) (D.calls main.new) (D.state main.new))
         (device (A.size arena.old) (A.calls arena.old) (A.state arena.old)) (device (A.size arena.new) (A.calls arena.new) (A.state arena.new))
         (K.held out.old) (K.held out.new) result }
-    ensures causes { HasCauses 0 0 (K.faults out.old) (K.faults out.new) (D.faults main.old) (D.faults main.new) (A.faults arena.old) (A.faults arena.new) result }
+    ensures causes { HasCauses (record { input = 0; out = K.faults out.old; main = D.faults main.old; arena = A.faults arena.old }) (record { input = 0; out = K.faults out.new; main = D.faults main.new; arena = A.faults arena.new }) result }
     ensures served { result ≢ Why.Usage }
 {
     Why::from(flfmt(alloc, main, arena, out, clock.now()))
@@ -77,7 +77,7 @@ fn check_all<D: Disk, A: Disk, K: Sink>(
         (device (D.size main.old) (D.calls main.old) (D.state main.old)) (device (D.size main.new) (D.calls main.new) (D.state main.new))
         (device (A.size arena.old) (A.calls arena.old) (A.state arena.old)) (device (A.size arena.new) (A.calls arena.new) (A.state arena.new))
         (K.held out.old) (K.held out.new) result }
-    ensures causes { HasCauses 0 0 (K.faults out.old) (K.faults out.new) (D.faults main.old) (D.faults main.new) (A.faults arena.old) (A.faults arena.new) result }
+    ensures causes { HasCauses (record { input = 0; out = K.faults out.old; main = D.faults main.old; arena = A.faults arena.old }) (record { input = 0; out = K.faults out.new; main = D.faults main.new; arena = A.faults arena.new }) result }
     ensures served { result ≢ Why.Usage }
 {
     Why::from(flchk(alloc, main, arena, out))
@@ -120,7 +120,7 @@ pub fn run<D: Disk, A: Disk, S: Source, K: Sink, C: Clock + Drop>(
     ensures unread { command_of (map string_bytes words.now) ≢ Some Command.Serve → result.input ≡ input }
 
     // A fault is the end only where that count rose in this call.
-    ensures causes { HasCauses (S.faults input) (S.faults result.input) (K.faults out) (K.faults result.out) (D.faults main) (D.faults result.main) (A.faults arena) (A.faults result.arena) result.why }
+    ensures causes { HasCauses (record { input = S.faults input; out = K.faults out; main = D.faults main; arena = A.faults arena }) (record { input = S.faults result.input; out = K.faults result.out; main = D.faults result.main; arena = A.faults result.arena }) result.why }
 {
     let why = match command_of(words) {
         None => Why::Usage,

@@ -15,7 +15,7 @@ returns-clause-checks g c = record {
 }
 
 pub returns-clause-causes : goal.returns-clause-causes
-returns-clause-causes g c = tool_causes _ _ _ _ _ _ c.flchk.result _ c.from.ensures c.flchk.ensures.causes
+returns-clause-causes g c = tool_causes _ _ c.flchk.result _ c.from.ensures c.flchk.ensures.causes
 
 pub returns-clause-served : goal.returns-clause-served
 returns-clause-served g c = λ e. tool_serves c.flchk.result _ c.from.ensures e

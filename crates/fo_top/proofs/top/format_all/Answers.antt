@@ -16,7 +16,7 @@ returns-clause-formats g c = record {
 }
 
 pub returns-clause-causes : goal.returns-clause-causes
-returns-clause-causes g c = tool_causes _ _ _ _ _ _ c.flfmt.result _ c.from.ensures c.flfmt.ensures.causes
+returns-clause-causes g c = tool_causes _ _ c.flfmt.result _ c.from.ensures c.flfmt.ensures.causes
 
 pub returns-clause-served : goal.returns-clause-served
 returns-clause-served g c = λ e. tool_serves c.flfmt.result _ c.from.ensures e
