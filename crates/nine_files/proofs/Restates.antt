@@ -79,7 +79,7 @@ kind_at : (mode : Option ℕ) (i : Info) (g : List ℕ × Node) → i.mode ≡ g
 kind_at None i g same h = tt
 kind_at (Some m) i g same h = same_kind (is_dir m) (is_dir i.mode) h ∙ ap is_dir same
 
-kind_reached : (r : Result (List ℕ × Node) FileError) (w : World) (at : Place) (mode : Option ℕ) (i : Info) → looked (step.and_then r (λ f. Ok (step.info_of at f, w))) ≡ Ok i → changes_kind mode i.mode ≡ false → IfOk r (λ g. IfSome mode (λ m. step.is_dir_mode m ≡ step.is_dir_mode g.1.mode))
+kind_reached : (r : Result (List ℕ × Node) FileError) (w : World) (at : Place) (mode : Option ℕ) (i : Info) → looked (and_then r (λ f. Ok (step.info_of at f, w))) ≡ Ok i → changes_kind mode i.mode ≡ false → IfOk r (λ g. IfSome mode (λ m. step.is_dir_mode m ≡ step.is_dir_mode g.1.mode))
 kind_reached (Ok g) w at mode i is h =
     let same : step.info_of at g ≡ i = cc in
     kind_at mode i g (sym (ap (λ (j : Info). j.mode) same)) h

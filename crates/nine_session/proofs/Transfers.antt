@@ -122,11 +122,11 @@ read_whole e z fid offset count m f o i bytes v h k a there d is =
     read_bytes e z fid offset count m f o i v h k a there d ∙ then_ok (bytes_at e z.world f.place offset (min count (iounit m))) bytes told is
 
 -- no more bytes than the count
-body_short : (w : World) (b : Body) (offset count : ℕ) → IfOk (looked (step.and_then (step.as_file b) (λ bytes. let out : Result (List ℕ × World) FileError = Ok (take count (drop offset bytes), w) in out))) (λ bytes. length bytes ≤ count)
+body_short : (w : World) (b : Body) (offset count : ℕ) → IfOk (looked (and_then (step.as_file b) (λ bytes. let out : Result (List ℕ × World) FileError = Ok (take count (drop offset bytes), w) in out))) (λ bytes. length bytes ≤ count)
 body_short w (File bytes) offset count = omega (arith, length-take count (drop offset bytes))
 body_short w (Dir names) offset count = tt
 
-reached_short : (w : World) (r : Result (List ℕ × Node) FileError) (offset count : ℕ) → IfOk (looked (step.and_then r (λ f. step.and_then (step.as_file f.1.body) (λ bytes. let out : Result (List ℕ × World) FileError = Ok (take count (drop offset bytes), w) in out)))) (λ bytes. length bytes ≤ count)
+reached_short : (w : World) (r : Result (List ℕ × Node) FileError) (offset count : ℕ) → IfOk (looked (and_then r (λ f. and_then (step.as_file f.1.body) (λ bytes. let out : Result (List ℕ × World) FileError = Ok (take count (drop offset bytes), w) in out)))) (λ bytes. length bytes ≤ count)
 reached_short w (Ok f) offset count = body_short w f.1.body offset count
 reached_short w (Err x) offset count = tt
 
