@@ -14,11 +14,11 @@ use Rattle.nine_fids.specs.Refusing.{changed, is_failure}
 use Rattle.nine_fids.specs.Told.{Files}
 use Rattle.nine_fids.specs.Fids.{State}
 use Rattle.nine_fids.specs.Looking.{FilesState, Follows, HasCause, IsRefused, Looks}
-use Rattle.nine_fids.proofs.Missing.{fails_since, none_below, refused_by}
+use Rattle.nine_fids.proofs.Missing.{fails_since, refused_by}
 use Rattle.nine_fids.proofs.Seeing.{Stepped, cause_since, looks_no_memory}
 use Rattle.nine_files.specs.Answering.{Changes, FailsBy, HadRoom, IsChanged, Leads, is_file_fault, world_told}
 use Rattle.nine_files.proofs.Links.{looks_plain, refused_looking}
-use Rattle.nine_files.proofs.Making.{had_before}
+use Rattle.nine_files.proofs.Making.{carried, cause_more, had_before}
 use Rattle.nine_session.specs.Attempting.{Attempted, Attempts}
 use Rattle.nine_session.specs.Session.{Kept, Told, Touches, in_files, kept_of, world_after}
 use Rattle.nine_session.proofs.Ends.{end_refused}
@@ -156,9 +156,6 @@ module _ (a c : FilesState) (within : Touches) (k k' : Kept) (told : Files → S
     }
 
 -- ---- a call that changes, after calls that looked
-
-carried : (a b : FilesState) (P : Files → World → Type 0) → Follows a b → b.world ≡ a.world → P b.how b.world → P a.how a.world
-carried a b P f world p = subst (λ w. P a.how w) world (subst (λ e. P e b.world) f.how p)
 
 changed_before : {A : Type 0} (a b c : FilesState) (told : Result (A × World) Refusal) (need : ℕ) (w : World) (r : Result A Refusal) → Follows a b → IsChanged told (FailsBy b c need (is_ok told)) w c.world r → IsChanged told (FailsBy a c need (is_ok told)) w c.world r
 changed_before a b c told need w (Ok x) f l = l
