@@ -1,3 +1,2 @@
 mod Aging
 mod Growing
-mod Naming

