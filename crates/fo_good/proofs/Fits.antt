@@ -133,7 +133,7 @@ names_fit names arena image entries below (r ∷ rs) h =
     let f = record_fits r h.0 in
     put_name_fits r.name (node_of (stat_in r) (body_in names arena image entries r)) f.name (record { stat = f.stat; body = body_fits names arena image entries r below }) (names_in names arena image entries rs) (names_fit names arena image entries below rs h.1)
 
-dir_fits : (levels : ℕ) (arena : Arena) (image : Image) (entries meta : Link) → NamesFit (dir_in levels arena image entries meta)
+pub dir_fits : (levels : ℕ) (arena : Arena) (image : Image) (entries meta : Link) → NamesFit (dir_in levels arena image entries meta)
 unfolding dir_in
 dir_fits zero arena image entries meta = tt
 dir_fits (suc levels) arena image entries meta = names_fit (dir_in levels arena image) arena image entries (dir_fits levels arena image) (dir_records arena image meta) (allowed-dir arena image meta)
