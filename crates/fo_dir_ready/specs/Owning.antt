@@ -1,7 +1,8 @@
 -- What is asked of a source before one of its leaves is owned.
-use Rattle.std.specs.Prelude.{◌+◌, ◌*◌, ◌≤◌, ℕ, max}
+use Rattle.std.specs.Prelude.{◌+◌, ◌*◌, ◌<◌, ◌≤◌, ℕ, max}
+use Rattle.fo_crash.specs.Images.{Reaches, to_block}
 use Rattle.fo_ports.specs.State.{State}
-use Rattle.fo_ports.specs.Sources.{Leaves, IsEnough, most_cleared, most_for}
+use Rattle.fo_ports.specs.Sources.{Leaves, IsEnough, depth_for, most_cleared, most_for}
 use Rattle.fo_dir_read.specs.Names.{leaf_count}
 
 -- Leaf i of a source was prepared, stands in it or behind its last one, and there is room to own it.
@@ -18,3 +19,7 @@ pub record MayReady (leaves : Leaves) (size limit i : ℕ) (s : State) : Type 0 
   pub pins : most_for (max size (8192 * i + 8192)) 8192 ≤ s.pins_left
   pub spare : IsEnough leaves.current size i s.spare
   pub room : most_cleared size (8192 * (i + 1)) ≤ s.room
+
+-- Where owning leaf i gives a source more levels, all its blocks hang from block 1, as far as the device tells.
+abbrev pub IsLinked : (leaves : Leaves) (size i : ℕ) → State → Type 0
+IsLinked leaves size i s = s.tells → depth_for size < depth_for (8192 * (i + 1)) → (b : ℕ) → leaves.owns b → Reaches s.now (to_block 1) b

@@ -5,7 +5,7 @@ ghost use Rattle.fo_ports.specs.Sources.{Grows, Changes, MayZero, most_to_own, m
 ghost use Rattle.fo_dir_read.specs.Pairs.{OfEntries, IsPair, IsFree, AreTaken};
 ghost use Rattle.fo_dir_put.specs.Puts.{IsHeldEntries};
 ghost use Rattle.fo_dir_ready.specs.Entries.{SameEntries};
-ghost use Rattle.fo_dir_ready.specs.Owning.{MayOwn};
+ghost use Rattle.fo_dir_ready.specs.Owning.{MayOwn, IsLinked};
 
 use fo_ports::{Blocks, Bytes};
 
@@ -14,6 +14,7 @@ fn own_kept<B: Blocks, S: Bytes<B>>(entries: &mut S, on: &mut B, rank: u32, i: u
     requires over { S.is_over entries.old on.old }
     requires form { OfEntries (S.form entries.old) rank }
     requires may { MayOwn (S.leaves entries.old on.old) (S.size entries.old) i (B.state on.old) }
+    requires linked { IsLinked (S.leaves entries.old on.old) (S.size entries.old) i (B.state on.old) }
     ensures held { IsHeldEntries (B.state on.new) result }
     ensures epoch { ((B.state on.new).label result).epoch ≡ (B.state on.new).high }
     ensures at { (S.leaves entries.new on.new).at i ≡ Some result }
@@ -36,6 +37,7 @@ pub fn own_entries<B: Blocks, S: Bytes<B>>(entries: &mut S, on: &mut B, rank: u3
     requires over { S.is_over entries.old on.old }
     requires form { OfEntries (S.form entries.old) rank }
     requires may { MayOwn (S.leaves entries.old on.old) (S.size entries.old) i (B.state on.old) }
+    requires linked { IsLinked (S.leaves entries.old on.old) (S.size entries.old) i (B.state on.old) }
     ensures held { IsHeldEntries (B.state on.new) result }
     ensures epoch { ((B.state on.new).label result).epoch ≡ (B.state on.new).high }
     ensures at { (S.leaves entries.new on.new).at i ≡ Some result }

@@ -9,7 +9,7 @@ ghost use Rattle.fo_ports.specs.Sources.{SameLeaves, Lacks};
 ghost use Rattle.fo_dir_read.specs.Names.{OfRecords, AreRecords, leaf_count};
 ghost use Rattle.fo_dir_read.specs.Pairs.{OfEntries, IsPair, IsFree, AreTaken};
 ghost use Rattle.fo_dir_put.specs.Puts.{IsOwnedRecords, IsHeldEntries};
-ghost use Rattle.fo_dir_ready.specs.Owning.{MayReady};
+ghost use Rattle.fo_dir_ready.specs.Owning.{MayReady, IsLinked};
 
 use crate::entries::own_entries;
 use crate::records::own_records;
@@ -64,6 +64,7 @@ pub fn ready_entries<B: Blocks, S: Bytes<B>>(
     requires over { S.is_over entries.old on.old }
     requires form { OfEntries (S.form entries.old) rank }
     requires may { MayReady (S.leaves entries.old on.old) (S.size entries.old) (S.form entries.old).limit i (B.state on.old) }
+    requires linked { IsLinked (S.leaves entries.old on.old) (S.size entries.old) i (B.state on.old) }
     ensures held { IfOk result (λ leaf. IsHeldEntries (B.state on.new) leaf.at × (((B.state on.new).label leaf.at).epoch ≡ (B.state on.new).high)) }
     ensures at { IfOk result (λ leaf. (S.leaves entries.new on.new).at i ≡ Some leaf.at) }
     ensures sealed { IfOk result (λ leaf. IsTrue leaf.sealed ↔ (B.state on.new).sealed leaf.at) }

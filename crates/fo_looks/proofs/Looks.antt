@@ -81,6 +81,7 @@ looks_undisturbed {a = a} {b = b} {leaves = leaves} looks told spared = record {
       same_places = λ p h. looks.stays.places told at p (λ n. n) (λ n. n) (λ c. spared at own ((looks.covered.covered at).0 c)) h;
       in_tree = λ r. same_reaches (looks.memory told) r;
       hung = hung_looks looks told at;
+      linked = λ h. inl ((looks.stays.apart at (λ n. n) (λ n. n)).1 h);
       uncovered = λ clear c. clear ((looks.covered.covered at).0 c);
       instead = λ x h. (looks.stays.instead x at (λ n. n) (λ n. n)).0 h;
     }

@@ -1,7 +1,6 @@
 -- Why a call on blocks may be refused.
 use Rattle.std.specs.Prelude.{◌≡◌, ℕ, ◌<◌}
-use Rattle.fo_crash.specs.Steps.{AllAre}
-use Rattle.fo_ports.specs.State.{State, IsUnlinked}
+use Rattle.fo_ports.specs.State.{State, IsSettled}
 use Rattle.fo_ports.specs.declared.error.BlockError.{BlockError}
 use Rattle.fo_ports.specs.declared.error.BlockError.TheVariants.{Full, Damaged, Fault, Arena, Memory}
 
@@ -12,13 +11,6 @@ Caused full damaged fault arena (Damaged at) = damaged at
 Caused full damaged fault arena (Fault which) = fault
 Caused full damaged fault arena (Arena which) = arena
 Caused full damaged fault arena Memory = Unit {0}
-
--- All is settled, nothing is to be written but what is put into no slot yet, no slot waits to be cleared, and no removal is queued.
-pub record IsSettled (s : State) : Type 0 where
-  pub settled : AllAre s.now s.may_leave
-  pub clean : (b : ℕ) → s.dirty b → IsUnlinked s b
-  pub empty : s.queued ≡ 0
-  pub cleared : (b j : ℕ) → s.clearing b j → ⊥
 
 -- There is no room: fewer blocks are usable than are asked for, all is settled, and nothing waits.
 abbrev pub IsFull : State → ℕ → Type 0

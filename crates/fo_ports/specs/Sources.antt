@@ -88,7 +88,8 @@ abbrev pub IsHung : State → ℕ → Type 0
 IsHung s at = Reaches s.now (to_block 1) at ⊎ HangsApart s at
 
 -- A block stays in place: its slots where it is no leaf of entries, how long it is, its label and its places stay, it hangs in memory and
--- from block 1 where it did, no removal is to close it that was not, and nothing more was made to come in its place.
+-- from block 1 where it did, one that was put into no slot yet was at most linked into the tree, no removal is to close it that was not,
+-- and nothing more was made to come in its place.
 pub record StaysInPlace (old new : State) (at : ℕ) : Type 0 where
   pub same_slots : ((old.label at).kind ≡ Dir 0) ⊎ ((j : ℕ) → (new.now at).slot j ≡ (old.now at).slot j)
   pub same_length : length ((new.now at).bytes) ≡ length ((old.now at).bytes)
@@ -96,6 +97,7 @@ pub record StaysInPlace (old new : State) (at : ℕ) : Type 0 where
   pub same_places : (p : Place) → old.stands at p → new.stands at p
   pub in_tree : Reaches old.now (to_block 1) at → Reaches new.now (to_block 1) at
   pub hung : IsHung old at → IsHung new at
+  pub linked : old.apart at → new.apart at ⊎ Reaches new.now (to_block 1) at
   pub uncovered : (old.covered at → ⊥) → new.covered at → ⊥
   pub instead : (b : ℕ) → new.instead b at → old.instead b at
 
@@ -142,32 +144,39 @@ pub record IsMade (tag : ℕ) (old new : State) (b : ℕ) : Type 0 where
   pub is_pinned : new.pinned b
   pub is_fresh : new.fresh b
 
--- A block that was not given out keeps its label and its marks, and whether it is apart.
+-- A block that was not given out keeps its label and its marks.
 pub record StaysMarked (old new : State) (b : ℕ) : Type 0 where
   pub label : new.label b ≡ old.label b
   pub marks : (old.pinned b → new.pinned b) × (old.sealed b → new.sealed b) × (old.fresh b → new.fresh b)
-  pub apart : new.apart b ↔ old.apart b
+
+-- One of these blocks, or one in whose place one of these was made to come.
+abbrev pub Stead : State → (ℕ → Type 0) → ℕ → Type 0
+Stead s mine x = mine x ⊎ ((y : ℕ) × mine y × s.instead y x)
 
 -- A call on a source with these blocks changes blocks that it gives out, and those of its own that are inner ones, of the current
 -- epoch and of its tag, in memory and in every image; all else stays. Only blocks of the source are to be closed, and all are that leave
--- the tree. No device call is made.
+-- the tree. Only blocks of the source are put below what was given out, and what was given out comes in the place of these alone, or of
+-- what they came in the place of. No device call is made.
 pub record Changes (tag : ℕ) (mine inner : ℕ → Type 0) (old new : State) : Type 0 where
   pub memory : (b : ℕ) → (Touched old new tag inner b → ⊥) → SameContent (new.now b) (old.now b)
   pub images : (image : Image) → new.may_leave image → Undone (Touched old new tag inner) old new image
   pub made : (b : ℕ) → Made old new b → IsMade tag old new b
   pub others : (b : ℕ) → (Made old new b → ⊥) → StaysMarked old new b
+  pub apart : (b : ℕ) → (Made old new b → ⊥) → (new.apart b → old.apart b) × (old.apart b → new.apart b ⊎ mine b)
   pub places : old.tells → (b : ℕ) (p : Place) → (Made old new b → ⊥) → (mine b → ⊥) → (new.covered b → ⊥) → old.stands b p → new.stands b p
-  pub instead : (b x : ℕ) → new.instead b x → old.instead b x ⊎ (Made old new b × mine x)
+  pub instead : (b x : ℕ) → new.instead b x → old.instead b x ⊎ (Made old new b × Stead old mine x)
   pub covers : (b : ℕ) → (old.covered b → new.covered b) × ((old.covered b → ⊥) → (mine b → ⊥) → new.covered b → ⊥)
   pub leaves : old.tells → (b : ℕ) → Reaches old.now (to_block 1) b → (Reaches new.now (to_block 1) b → ⊥) → new.covered b
   pub in_tree : old.tells → (b : ℕ) → (mine b → ⊥) → Reaches old.now (to_block 1) b → Reaches new.now (to_block 1) b
   pub waits : (a on j : ℕ) → (Made old new a → ⊥) → (Made old new on → ⊥) → old.waits a on j → new.waits a on j
   pub no_wait : AddsNoWait none old new
   pub clearing : (b j : ℕ) → new.clearing b j → (Made old new b → ⊥) × old.clearing b j
+  pub goes_on : (b j : ℕ) → (Made old new b → ⊥) → old.clearing b j → new.clearing b j
   pub dirty : (b : ℕ) → new.dirty b → old.dirty b ⊎ (Touched old new tag mine b ⊎ ((x : ℕ) × Made old new x × (b ≡ new.label_block x)))
   pub moments : new.moments ≡ old.moments
   pub left : (k : ℕ) (image : Image) → new.left k image → old.left k image
   pub pins : new.pins_left ≡ old.pins_left
+  pub usable : old.usable + new.spare ≡ new.usable + old.spare
   pub numbers : KeepsNumbers old new
 
 -- What a source has over blocks.

@@ -8,7 +8,7 @@ use Rattle.fo_image.specs.declared.types.Pointer.TheVariants.{Local}
 use Rattle.fo_crash.specs.declared.slot.Slot.{Slot}
 use Rattle.fo_crash.specs.declared.place.Place.{Place}
 use Rattle.fo_crash.specs.Images.{Content, Image, SameContent, SameImage, Reaches, target, walk, to_block}
-use Rattle.fo_crash.specs.Steps.{AddsNothing, AddsBlock, Passes, PutsBlock, Brings, Through, Fills, cleared}
+use Rattle.fo_crash.specs.Steps.{AddsNothing, AddsBlock, AllAre, Passes, PutsBlock, Brings, Through, Fills, cleared}
 use Rattle.fo_crash.specs.Places.{Fits, place_below}
 use Rattle.fo_crash.specs.Names.{IsInUse, SameUse}
 use Rattle.fo_ports.specs.Blocks.{KeepsParent, IsInner, dropped, zeros}
@@ -55,7 +55,7 @@ pub record State : Type 1 where
   pub pins_left : ℕ
   pub room : ℕ
   pub pinned : ℕ → Type 0
-  -- how many blocks would be usable with all settled and no removal left
+  -- how many blocks are usable by the labels that memory has
   pub usable : ℕ
   -- the block that holds the label of a data block; and which of data blocks and blocks of labels are to be written
   pub label_block : ℕ → ℕ
@@ -102,9 +102,10 @@ pub record Stays (made put : ℕ → Type 0) (old new : State) : Type 0 where
 pub record AddsNoWait (but : ℕ → Type 0) (old new : State) : Type 0 where
   pub each : (a on j : ℕ) → (but a → ⊥) → new.waits a on j → old.waits a on j
 
--- No slot begins to wait to be cleared.
+-- No slot begins to wait to be cleared, and one that waits goes on to.
 pub record KeepsOrder (made : ℕ → Type 0) (old new : State) : Type 0 where
   pub clearing : (b j : ℕ) → new.clearing b j → (made b → ⊥) × old.clearing b j
+  pub goes_on : (b j : ℕ) → (made b → ⊥) → old.clearing b j → new.clearing b j
 
 -- The same blocks are to be closed.
 pub record KeepsCovered (old new : State) : Type 0 where
@@ -113,6 +114,7 @@ pub record KeepsCovered (old new : State) : Type 0 where
 -- A call makes no device call, and uses so many blocks and so many removals or waits.
 pub record Uses (blocks removals : ℕ) (old new : State) : Type 0 where
   pub spare : new.spare + blocks ≡ old.spare
+  pub usable : new.usable + blocks ≡ old.usable
   pub room : new.room + removals ≡ old.room
   pub pins : new.pins_left ≡ old.pins_left
   pub moments : new.moments ≡ old.moments
@@ -130,11 +132,12 @@ pub record Frame (here put : ℕ → Type 0) (removals : ℕ) (old new : State) 
   pub uses : Uses 0 removals old new
   pub numbers : KeepsNumbers old new
 
--- A change of one block, or of none, after which no other slot waits to be cleared and the same blocks are to be closed.
+-- A change of one block, or of none, after which the same slots wait to be cleared and the same blocks are to be closed.
 pub record Calm (here : ℕ → Type 0) (removals : ℕ) (old new : State) : Type 0 where
   pub frame : Frame here none removals old new
   pub order : KeepsOrder none old new
   pub covered : KeepsCovered old new
+  pub queued : new.queued ≡ old.queued
 
 -- A block was given out with this content and label, for a place: it hung nowhere, no image leads to it, it is pinned, and fresh.
 pub record Gives (at : ℕ) (c : Content) (l : Label) (old new : State) : Type 0 where
@@ -164,6 +167,7 @@ pub record Looks (old new : State) : Type 0 where
   pub no_wait : AddsNoWait none old new
   pub dirty : (b : ℕ) → new.dirty b → old.dirty b
   pub room : (new.spare ≡ old.spare) × (new.room ≡ old.room)
+  pub usable : (new.usable ≡ old.usable) × (new.queued ≡ old.queued)
   pub numbers : KeepsNumbers old new
 
 -- In memory the block hangs from a top, or from a block that is apart. One that older versions alone lead to hangs from none.
@@ -183,6 +187,7 @@ pub record Numbers (old new : State) : Type 0 where
   pub no_wait : AddsNoWait none old new
   pub dirty : (b : ℕ) → new.dirty b → old.dirty b
   pub room : (new.spare ≡ old.spare) × (new.pins_left ≡ old.pins_left) × (new.room ≡ old.room) × (new.next ≡ old.next)
+  pub usable : (new.usable ≡ old.usable) × (new.queued ≡ old.queued)
 
 -- A block hangs from one that was made and put into no slot yet, and, as far as the device tells, not from block 1.
 pub record IsUnlinked (s : State) (b : ℕ) : Type 0 where
@@ -199,9 +204,13 @@ IsPointers s b = IsInner (s.label b).kind
 abbrev pub IsDoomed : State → ℕ → Type 0
 IsDoomed s b = s.covered b ⊎ ((at : ℕ) × (j : ℕ) × s.clearing at j × Reaches s.now ((s.now at).slot j) b)
 
+-- a slot waited, and was cleared
+abbrev pub WasCleared : (old new : State) → ℕ → ℕ → Type 0
+WasCleared old new at j = old.clearing at j × (new.clearing at j → ⊥) × ((new.now at).slot j ≡ cleared ((old.now at).slot j))
+
 -- A slot stays, and waits on where it waited; or it waited, and was cleared.
 abbrev pub KeepsSlot : (old new : State) → ℕ → ℕ → Type 0
-KeepsSlot old new b j = (((new.now b).slot j ≡ (old.now b).slot j) × (old.clearing b j → new.clearing b j)) ⊎ (old.clearing b j × ((new.now b).slot j ≡ cleared ((old.now b).slot j)))
+KeepsSlot old new b j = (((new.now b).slot j ≡ (old.now b).slot j) × (old.clearing b j → new.clearing b j)) ⊎ WasCleared old new b j
 
 -- Memory keeps a block, but for slots that waited.
 pub record StaysKnown (old new : State) (b : ℕ) : Type 0 where
@@ -217,12 +226,16 @@ pub record StaysUndoomed (old new : State) (b : ℕ) : Type 0 where
   pub uncovered : new.covered b → ⊥
   pub places : IsRooted old b → (p : Place) → old.stands b p → new.stands b p
 
--- a slot waited, and was cleared
-abbrev pub WasCleared : (old new : State) → ℕ → ℕ → Type 0
-WasCleared old new at j = old.clearing at j × (new.clearing at j → ⊥) × ((new.now at).slot j ≡ cleared ((old.now at).slot j))
+-- All is settled, nothing is to be written but what is put into no slot yet, no slot waits to be cleared, and no removal is queued.
+pub record IsSettled (s : State) : Type 0 where
+  pub settled : AllAre s.now s.may_leave
+  pub clean : (b : ℕ) → s.dirty b → IsUnlinked s b
+  pub empty : s.queued ≡ 0
+  pub cleared : (b j : ℕ) → s.clearing b j → ⊥
 
 -- Flushing, settling and closing: no image is added, slots that waited may be cleared, and blocks that were doomed may be closed. What
 -- hung from a slot that was cleared, through blocks of pointers, and hangs from block 1 no more is to be closed, until it is closed.
+-- What was settled stays so, and then no block is closed.
 pub record Rests (old new : State) : Type 0 where
   pub blocks : old.tells → (b : ℕ) → (IsDoomed old b → ⊥) → StaysUndoomed old new b
   pub images : AddsNothing old.may_leave new.may_leave
@@ -235,6 +248,8 @@ pub record Rests (old new : State) : Type 0 where
   pub leaves : old.tells → (at j b : ℕ) → WasCleared old new at j → Through (IsPointers old) old.now ((old.now at).slot j) b → Reaches old.now (to_block 1) b → (Reaches new.now (to_block 1) b → ⊥) → new.covered b ⊎ ((new.label b).state ≢ Live)
   pub apart : (b : ℕ) → new.apart b ↔ old.apart b
   pub instead : (b x : ℕ) → new.instead b x ↔ old.instead b x
+  pub usable : old.usable ≤ new.usable
+  pub settled : IsSettled old → IsSettled new × (new.usable ≡ old.usable)
   pub numbers : KeepsNumbers old new
 
 -- where a slot led, below the levels that its source loses

@@ -165,7 +165,7 @@ pub trait Blocks {
         ensures images { AddsSlot (state self.old).now at i (cleared (((state self.old).now at).slot i)) (λ image. IfSome after (λ leaf. (image leaf).bytes ≡ ((state self.old).now leaf).bytes)) (state self.old).may_leave (state self.new).may_leave }
         ensures frame { Frame (λ b. b ≡ at) (λ b. b ≡ at) 1 (state self.old) (state self.new) }
         ensures hangs { Hangs at i (cleared (((state self.old).now at).slot i)) (state self.old) (state self.new) }
-        ensures order { (b j : ℕ) → (state self.new).clearing b j → (state self.old).clearing b j ⊎ ((b ≡ at) × (j ≡ i)) }
+        ensures order { (b j : ℕ) → ((state self.new).clearing b j → (state self.old).clearing b j ⊎ ((b ≡ at) × (j ≡ i))) × ((state self.old).clearing b j → (state self.new).clearing b j) }
         ensures no_wait { AddsNoWait none (state self.old) (state self.new) }
         ensures covers { (state self.old).tells → Covers (IsPointers (state self.old)) (((state self.old).now at).slot i) (state self.old).now (state self.new).now (state self.old).covered (state self.new).covered }
         ensures keeps { keeps self.old self.new };
@@ -328,8 +328,13 @@ pub trait Blocks {
     /// What is to be closed is known only where the device tells.
     ghost covers_told: { (b : Self) (at : ℕ) → (state b).covered at → (state b).tells };
 
-    /// Where no removal is queued, nothing is to be closed.
+    /// Where no removal is queued, nothing is to be closed; block 1 never is.
     ghost none_queued: { (b : Self) (at : ℕ) → (state b).queued ≡ 0 → (state b).covered at → ⊥ };
+
+    ghost one_stays: { (b : Self) → (state b).covered 1 → ⊥ };
+
+    /// What may still be made is usable.
+    ghost enough: { (b : Self) → (state b).spare ≤ (state b).usable };
 
     /// What is apart hangs from no top in any image.
     ghost apart_hangs: { (b : Self) (image : Image) (t at : ℕ) → (state b).apart at → (state b).may_leave image → (state b).tops t → Reaches image (to_block t) at → ⊥ };

@@ -5,6 +5,7 @@ ghost use Rattle.fo_sparse.specs.Written.{written, resized};
 ghost use Rattle.fo_image.specs.declared.types.State.TheVariants.{Live};
 ghost use Rattle.fo_image.specs.declared.types.Kind.TheVariants.{Data};
 ghost use Rattle.fo_crash.specs.declared.place.Place.{Place};
+ghost use Rattle.fo_crash.specs.Images.{Reaches, to_block};
 ghost use Rattle.fo_ports.specs.Causes.{Caused};
 ghost use Rattle.fo_ports.specs.State.{Looks};
 ghost use Rattle.fo_ports.specs.Sources.{Form, Leaves, is_dir, source_bytes, Lacks, depth_for, most_for, most_to_own, IsEnough, most_cleared, Finds, AreLocal, IsReady, StaysReady, Changes, SameLeaves, Grows, IsPlain, Owned, MayZero, Undisturbed};
@@ -99,12 +100,14 @@ pub trait Bytes<B: Blocks> {
 
     /// Makes leaf `i` one of the current epoch, and gives its address: an older leaf is copied, so is one that is held under its
     /// score, and a missing one is added. Where the source ends before the leaf does, it now ends there. Then the leaf that was the last
-    /// is copied where it is older, and zeroed behind the end of data; no other leaf changes.
+    /// is copied where it is older, and zeroed behind the end of data; no other leaf changes. A source of entries that gets more levels
+    /// is linked: what hangs from its entries is live.
     fn own_leaf(&mut self, on: &mut B, i: u32) -> u32
         requires over { is_over self.old on.old }
         requires prepared { (leaves self.old on.old).prepared (8192 * i) 8192 }
         requires spare { IsEnough (leaves self.old on.old).current (size self.old) i (B.state on.old).spare }
         requires room { most_cleared (size self.old) (8192 * (i + 1)) ≤ (B.state on.old).room }
+        requires linked { (B.state on.old).tells → is_dir (form self.old).kind ≡ true → depth_for (size self.old) < depth_for (8192 * (i + 1)) → (b : ℕ) → (leaves self.old on.old).owns b → Reaches (B.state on.old).now (to_block 1) b }
         ensures owned { Owned (form self.old) (size self.old) i result (B.state on.old) (B.state on.new) (leaves self.old on.old) (leaves self.new on.new) }
         ensures size { size self.new ≡ max (size self.old) (8192 * (i + 1)) }
         ensures bytes { (B.state on.old).tells → IsPlain (form self.old) ⊎ ((size self.old % 8192 ≡ 0) ⊎ (8192 * (i + 1) ≤ size self.old)) → (leaves self.new on.new).bytes ≡ resized (leaves self.old on.old).bytes (max (size self.old) (8192 * (i + 1))) }

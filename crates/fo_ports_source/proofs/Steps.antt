@@ -64,6 +64,7 @@ module _ {tag : ℕ} where
         images = λ image is. let i = s.images image is in record { other = i.other; was = i.was; same = λ b h. i.same b (λ t. h (all b t)); same_slots = i.same_slots; apart = i.apart };
         made = s.made;
         others = s.others;
+        apart = s.apart;
         places = s.places;
         instead = λ b x i. ⊎_elim (λ h. inl h) (λ h. inr (h.0, wider x h.1, h.2)) (s.instead b x i);
         covered = s.covered;
@@ -87,8 +88,9 @@ module _ {tag : ℕ} where
     images = λ image is. let i = s.images image is in record { other = i.other; was = i.was; same = i.same; slots = λ b j h. inl (i.same_slots b j h); apart = i.apart };
     made = s.made;
     others = s.others;
+    apart = λ b h. ((s.apart b h).0, λ was. inl ((s.apart b h).1 was));
     places = λ told b p not_made not_mine. s.places told b p not_made;
-    instead = λ b x i. ⊎_elim (λ h. inl h) (λ h. inr (h.0, h.1)) (s.instead b x i);
+    instead = λ b x i. ⊎_elim (λ h. inl h) (λ h. inr (h.0, inl h.1)) (s.instead b x i);
     covers = λ b. ((s.covered b).1, λ no mine is. no ((s.covered b).0 is));
     leaves = λ told b r away. absurd (away (s.reaches told b r));
     in_tree = λ told b not_mine r. s.reaches told b r;
@@ -107,7 +109,8 @@ module _ {tag : ℕ} where
     memory = λ b h. content_once (a.now b);
     images = λ image is. behind_once (Touched a a tag inner) image is (λ b m. m.0 m.1);
     made = λ b m. absurd (m.0 m.1);
-    others = λ b h. record { label = refl; marks = (λ h. h, λ h. h, λ h. h); apart = (λ h. h, λ h. h) };
+    others = λ b h. record { label = refl; marks = (λ h. h, λ h. h, λ h. h) };
+    apart = λ b h. (λ h. h, λ h. h);
     places = λ told b p h u s. s;
     instead = λ b x i. inl i;
     covered = λ b. (λ h. h, λ h. h);
@@ -157,8 +160,13 @@ module _ {tag : ℕ} where
         record {
           label = q.label ∙ p.label;
           marks = (λ x. q.marks.0 (p.marks.0 x), λ x. q.marks.1 (p.marks.1 x), λ x. q.marks.2 (p.marks.2 x));
-          apart = (λ x. p.apart.0 (q.apart.0 x), λ x. q.apart.1 (p.apart.1 x));
         }
+
+    apart_end : (at : ℕ) → (Made a c at → ⊥) → c.apart at ↔ a.apart at
+    apart_end at h =
+        let p = first.apart at (λ m. h (made_first at m)) in
+        let q = second.apart at (λ n. h (made_second at n)) in
+        (λ x. p.0 (q.0 x), λ x. q.1 (p.1 x))
 
     is_made : (at : ℕ) → Made a c at → IsMade tag a c at
     is_made at m = ⊎_elim
@@ -209,6 +217,7 @@ module _ {tag : ℕ} where
           };
       made = is_made;
       others = marked;
+      apart = apart_end;
       places = λ told at p h spared s. second.places (first.all.still_tells.1 told) at p (λ n. h (made_second at n)) spared (first.places told at p (λ m. h (made_first at m)) (λ u. spared ((second.covered at).1 u)) s);
       instead = λ at x i. ⊎_elim
           (λ mid. ⊎_elim (λ was. inl was) (λ h. inr (made_first at h.0, h.1, h.2)) (first.instead at x mid))
@@ -279,7 +288,8 @@ module _ {tag : ℕ} where
             (λ x e far. g.gives.images.apart image is t top (subst (λ y. Reaches image (to_block t) y) e far)) b r));
       };
       made = λ b m. subst (λ x. IsMade tag old new x) (sym (made_is b m)) at_is;
-      others = λ b h. let ne = not_at b h in record { label = g.gives.stays.labels b ne; marks = g.gives.stays.marks b ne; apart = g.gives.stays.apart b ne (λ n. n) };
+      others = λ b h. let ne = not_at b h in record { label = g.gives.stays.labels b ne; marks = g.gives.stays.marks b ne };
+      apart = λ b h. g.gives.stays.apart b (not_at b h) (λ n. n);
       places = λ told b p h spared s. g.gives.stays.places told b p (not_at b h) (λ n. n) spared s;
       instead = λ b x i. ⊎_elim
           (λ e. let own = g.instead x (subst (λ y. new.instead y x) e i) in inr (subst (λ y. Made old new y) (sym e) at_made, own.0, own.1))
@@ -325,7 +335,8 @@ module _ {tag : ℕ} where
           })
           (g.adds.each image is);
       made = λ b m. absurd (none_made b m);
-      others = λ b h. let s = g.calm.frame.stays in record { label = s.labels b (λ n. n); marks = s.marks b (λ n. n); apart = s.apart b (λ n. n) (λ n. n) };
+      others = λ b h. let s = g.calm.frame.stays in record { label = s.labels b (λ n. n); marks = s.marks b (λ n. n) };
+      apart = λ b h. g.calm.frame.stays.apart b (λ n. n) (λ n. n);
       places = λ told b p h spared s. g.calm.frame.stays.places told b p (λ n. n) (λ n. n) spared s;
       instead = λ b x i. inl ((g.calm.frame.stays.instead b x (λ n. n) (λ n. n)).0 i);
       covered = g.calm.covered.covered;

@@ -23,6 +23,7 @@ pub record Steps (tag : ℕ) (mine inner : ℕ → Type 0) (old new : State) : T
   pub images : (image : Image) → new.may_leave image → Behind (Touched old new tag inner) old new image
   pub made : (b : ℕ) → Made old new b → IsMade tag old new b
   pub others : (b : ℕ) → (Made old new b → ⊥) → StaysMarked old new b
+  pub apart : (b : ℕ) → (Made old new b → ⊥) → new.apart b ↔ old.apart b
   pub places : old.tells → (b : ℕ) (p : Place) → (Made old new b → ⊥) → (new.covered b → ⊥) → old.stands b p → new.stands b p
   pub instead : (b x : ℕ) → new.instead b x → old.instead b x ⊎ (Made old new b × mine x × ((old.label x).epoch < old.high))
   pub covered : (b : ℕ) → new.covered b ↔ old.covered b

@@ -1,5 +1,5 @@
 -- A way was made current, and bytes were put into its last block, as a step.
-use Rattle.std.proofs.Common.{◌≡◌, ◌≢◌, ◌⊎◌, ℕ, List, inl, inr, ⊎_elim, refl, sym, ap, ◌∙◌, subst, arith}
+use Rattle.std.proofs.Common.{◌≡◌, ◌≢◌, ◌⊎◌, ◌↔◌, ℕ, List, inl, inr, ⊎_elim, refl, sym, ap, ◌∙◌, subst, arith}
 use Rattle.fo_image.specs.declared.types.Label.{Label}
 use Rattle.fo_crash.specs.declared.slot.Slot.{Slot}
 use Rattle.fo_crash.specs.Images.{Content, Image, SameContent, target, to_block, with_bytes}
@@ -40,6 +40,7 @@ module _ {t : Tree} {mine : ℕ → Type 0} {level : ℕ} {s u : State} (all : K
     made = d.made;
     free = free;
     others = d.others;
+    apart = d.apart;
     places = d.places;
     instead = λ b y h. ⊎_elim
         (λ old. inl old)
@@ -121,12 +122,16 @@ module _ {tag at : ℕ} {mine : ℕ → Type 0} {bytes : List ℕ} {beside : Ima
   others_end b not =
       let p = c.others b (λ made. not (made_on b made)) in
       let q = x.calm.frame.stays.marks b (λ z. z) in
-      let r = x.calm.frame.stays.apart b (λ z. z) (λ z. z) in
       record {
         label = label_same x b ∙ p.label;
         marks = (λ h. q.0 (p.marks.0 h), λ h. q.1 (p.marks.1 h), λ h. q.2 (p.marks.2 h));
-        apart = (λ h. p.apart.0 (r.0 h), λ h. r.1 (p.apart.1 h));
       }
+
+  apart_end : (b : ℕ) → (Made s v b → ⊥) → v.apart b ↔ s.apart b
+  apart_end b not =
+      let p = c.apart b (λ made. not (made_on b made)) in
+      let r = x.calm.frame.stays.apart b (λ z. z) (λ z. z) in
+      (λ h. p.0 (r.0 h), λ h. r.1 (p.1 h))
 
   dirty_end : (b : ℕ) → v.dirty b → s.dirty b ⊎ (Touched s v tag mine b ⊎ ((y : ℕ) × Made s v y × (b ≡ v.label_block y)))
   dirty_end b d = ⊎_elim
@@ -145,6 +150,7 @@ module _ {tag at : ℕ} {mine : ℕ → Type 0} {bytes : List ℕ} {beside : Ima
     made = made_end;
     free = λ told b made h. c.free told b (made_back b made) ((x.calm.covered.covered b).0 h);
     others = others_end;
+    apart = apart_end;
     places = λ told b p not other free stands. x.calm.frame.stays.places (c.all.still_tells.1 told) b p (λ z. z) (λ z. z) free
         (c.places told b p (λ made. not (made_on b made)) other (λ h. free ((x.calm.covered.covered b).1 h)) stands);
     instead = λ b y h. ⊎_elim (λ old. inl old) (λ new. inr (made_on b new.0, new.1, new.2)) (c.instead b y ((x.calm.frame.stays.instead b y (λ z. z) (λ z. z)).0 h));

@@ -2,6 +2,7 @@
 use Rattle.std.proofs.Common.{◌≡◌, ◌≢◌, ◌⊎◌, ◌+◌, ℕ, List, length, inl, inr, ⊎_elim, refl, sym, ap, ◌∙◌, subst, arith}
 use Rattle.std.proofs.lemmas.Bool.{cases_eq}
 use Rattle.fo_image.specs.declared.types.Label.{Label}
+use Rattle.fo_image.specs.declared.types.Pointer.{Pointer}
 use Rattle.fo_crash.specs.declared.slot.Slot.{Slot}
 use Rattle.fo_crash.specs.declared.place.Place.{Place}
 use Rattle.fo_crash.specs.Images.{Content, Image, SameContent, Reaches, target, to_block, with_bytes}
@@ -66,8 +67,8 @@ module _ {at : ℕ} {bytes : List ℕ} {beside : Image → Type 0} {u v : State}
       (λ ne. ap length (x.puts.others b ne))
       (cases_eq b at)
 
-  told_on : u.tells → (b : ℕ) → IsTold u b → IsTold v b
-  told_on told b was =
+  told_on : (top : Pointer) → u.tells → (b : ℕ) → IsTold u top b → IsTold v top b
+  told_on top told b was =
       let epoch : (v.label b).epoch ≡ (u.label b).epoch = ap (λ (l : Label). l.epoch) (label_same b) in
       let high = x.all.same_high in
       let up = was.up_to in
@@ -77,7 +78,7 @@ module _ {at : ℕ} {bytes : List ℕ} {beside : Image → Type 0} {u v : State}
         uncovered = λ c. was.uncovered ((x.calm.covered.covered b).0 c);
         in_tree = λ older. reaches_on (to_block 1) b (was.in_tree (omega (arith, epoch, high, older)));
         hung = hung_on told b was.hung;
-        alone = λ y h. was.alone y ((x.calm.frame.stays.instead y b (λ z. z) (λ z. z)).0 h);
+        alone = λ y h. let a = was.alone y ((x.calm.frame.stays.instead y b (λ z. z) (λ z. z)).0 h) in (a.0, epoch ∙ a.1 ∙ sym high);
       }
 
   pub over_put : (t : Tree) (kept : List Kept) (limit : ℕ) → Over u t kept limit → Over v t kept limit
@@ -93,7 +94,9 @@ module _ {at : ℕ} {bytes : List ℕ} {beside : Image → Type 0} {u v : State}
     within = over.within;
     low = over.low;
     empty = over.empty;
-    told = λ now b has. told_on (x.all.still_tells.0 now) b (over.told (x.all.still_tells.0 now) b (has_back same_slots t b has));
+    holds = over.holds;
+    free = λ now b e. ⊎_elim (λ h. inl ((x.calm.frame.stays.apart b (λ z. z) (λ z. z)).1 h)) (λ r. inr (reaches_on (to_block 1) b r)) (over.free (x.all.still_tells.0 now) b e);
+    told = λ now b has. told_on t.top (x.all.still_tells.0 now) b (over.told (x.all.still_tells.0 now) b (has_back same_slots t b has));
     unheld = λ now other i score e. over.unheld (x.all.still_tells.0 now) other i score (sym (block_same same_slots t t.depth i) ∙ e);
     held = held_on x.all kept over.held;
   }
@@ -166,12 +169,16 @@ module _ {tag at : ℕ} {mine inner outer : ℕ → Type 0} {bytes : List ℕ} {
   others_end b not =
       let p = c.others b (λ made. not (made_on b made)) in
       let q = x.calm.frame.stays.marks b (λ z. z) in
-      let r = x.calm.frame.stays.apart b (λ z. z) (λ z. z) in
       record {
         label = label_same x b ∙ p.label;
         marks = (λ h. q.0 (p.marks.0 h), λ h. q.1 (p.marks.1 h), λ h. q.2 (p.marks.2 h));
-        apart = (λ h. p.apart.0 (r.0 h), λ h. r.1 (p.apart.1 h));
       }
+
+  apart_end : (b : ℕ) → (Made s v b → ⊥) → (v.apart b → s.apart b) × (s.apart b → v.apart b ⊎ mine b)
+  apart_end b not =
+      let p = c.apart b (λ made. not (made_on b made)) in
+      let r = x.calm.frame.stays.apart b (λ z. z) (λ z. z) in
+      (λ h. p.0 (r.0 h), λ h. ⊎_elim (λ still. inl (r.1 still)) (λ own. inr own) (p.1 h))
 
   dirty_end : (b : ℕ) → v.dirty b → s.dirty b ⊎ (Touched s v tag mine b ⊎ ((y : ℕ) × Made s v y × (b ≡ v.label_block y)))
   dirty_end b d = ⊎_elim
@@ -188,6 +195,7 @@ module _ {tag at : ℕ} {mine inner outer : ℕ → Type 0} {bytes : List ℕ} {
     images = image_end;
     made = made_end;
     others = others_end;
+    apart = apart_end;
     places = λ told b p not other free stands. x.calm.frame.stays.places (all.still_tells.1 told) b p (λ z. z) (λ z. z) free
         (c.places told b p (λ made. not (made_on b made)) other (λ h. free ((x.calm.covered.covered b).1 h)) stands);
     instead = λ b y h. ⊎_elim (λ old. inl old) (λ new. inr (made_on b new.0, new.1)) (c.instead b y ((x.calm.frame.stays.instead b y (λ z. z) (λ z. z)).0 h));
@@ -212,6 +220,7 @@ changes_wider {tag = tag} {inner = inner} {outer = outer} {s = s} {u = u} furthe
   images = λ image is. let e = c.images image is in record { other = e.other; was = e.was; same = λ b not. e.same b (λ t. not (on b t)); slots = e.slots; apart = e.apart };
   made = c.made;
   others = c.others;
+  apart = c.apart;
   places = c.places;
   instead = c.instead;
   covers = c.covers;
@@ -235,7 +244,8 @@ changes_none tag mine inner s = record {
   memory = λ b not. record { bytes = refl; slots = λ j. refl };
   images = λ image is. record { other = image; was = is; same = λ b not. record { bytes = refl; slots = λ j. refl }; slots = λ b j not. inl refl; apart = λ t b top made r. made.0 made.1 };
   made = λ b made. absurd (made.0 made.1);
-  others = λ b not. record { label = refl; marks = (λ h. h, λ h. h, λ h. h); apart = (λ h. h, λ h. h) };
+  others = λ b not. record { label = refl; marks = (λ h. h, λ h. h, λ h. h) };
+  apart = λ b not. (λ h. h, λ h. inl h);
   places = λ told b p not other free stands. stands;
   instead = λ b x h. inl h;
   covers = λ b. (λ h. h, λ no other h. no h);

@@ -1,5 +1,5 @@
 -- Calls on a source, one after another.
-use Rattle.std.proofs.Common.{◌≡◌, ◌≢◌, ◌⊎◌, ◌<◌, ◌≤◌, ℕ, inl, inr, ⊎_elim, sym, refl, ap, ◌∙◌, arith}
+use Rattle.std.proofs.Common.{◌≡◌, ◌≢◌, ◌⊎◌, ◌↔◌, ◌<◌, ◌≤◌, ℕ, inl, inr, ⊎_elim, sym, refl, ap, ◌∙◌, arith}
 use Rattle.std.proofs.lemmas.Bool.{cases_lt}
 use Rattle.fo_image.specs.declared.types.Label.{Label}
 use Rattle.fo_image.specs.declared.types.State.{State as BlockState}
@@ -38,8 +38,9 @@ steps_changes x = record {
   };
   made = x.made;
   others = x.others;
+  apart = λ b not. let same = x.apart b not in (same.0, λ h. inl (same.1 h));
   places = x.places;
-  instead = λ b y h. ⊎_elim (λ old. inl old) (λ new. inr (new.0, new.1)) (x.instead b y h);
+  instead = λ b y h. ⊎_elim (λ old. inl old) (λ new. inr (new.0, inl new.1)) (x.instead b y h);
   covers = λ b. (x.still b, x.only b);
   leaves = x.leaves;
   in_tree = x.in_tree;
@@ -61,7 +62,8 @@ steps_none tag mine inner s all = record {
   images = λ image is. record { other = image; was = is; same = λ b not. record { bytes = refl; slots = λ j. refl }; slots = λ b j not. inl refl; apart = λ t b top made r. made.0 made.1 };
   made = λ b made. absurd (made.0 made.1);
   free = λ told b made h. made.0 made.1;
-  others = λ b not. record { label = refl; marks = (λ h. h, λ h. h, λ h. h); apart = (λ h. h, λ h. h) };
+  others = λ b not. record { label = refl; marks = (λ h. h, λ h. h, λ h. h) };
+  apart = λ b not. (λ h. h, λ h. h);
   places = λ told b p not other free stands. stands;
   instead = λ b x h. inl h;
   still = λ b h. h;
@@ -208,8 +210,13 @@ module _ {tag : ℕ} {mine inner more outer : ℕ → Type 0} {a b c : State} (x
       record {
         label = q.label ∙ p.label;
         marks = (λ h. q.marks.0 (p.marks.0 h), λ h. q.marks.1 (p.marks.1 h), λ h. q.marks.2 (p.marks.2 h));
-        apart = (λ h. p.apart.0 (q.apart.0 h), λ h. q.apart.1 (p.apart.1 h));
       }
+
+  apart_end : (at : ℕ) → (Made a c at → ⊥) → c.apart at ↔ a.apart at
+  apart_end at not =
+      let p = x.first.apart at (λ m. not (made_first at m)) in
+      let q = x.second.apart at (λ n. not (made_second at n)) in
+      (λ h. p.0 (q.0 h), λ h. q.1 (p.1 h))
 
   -- ---- images
 
@@ -316,6 +323,7 @@ module _ {tag : ℕ} {mine inner more outer : ℕ → Type 0} {a b c : State} (x
     made = made_end;
     free = free_end;
     others = marked_end;
+    apart = apart_end;
     places = places_end;
     instead = instead_end;
     still = λ at h. x.second.still at (x.first.still at h);

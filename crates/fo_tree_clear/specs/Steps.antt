@@ -1,5 +1,5 @@
 -- What calls on a source change, one after another.
-use Rattle.std.specs.Prelude.{◌≡◌, ◌⊎◌, ◌<◌, ℕ}
+use Rattle.std.specs.Prelude.{◌≡◌, ◌⊎◌, ◌↔◌, ◌<◌, ℕ}
 use Rattle.fo_crash.specs.declared.place.Place.{Place}
 use Rattle.fo_crash.specs.Images.{Image, SameContent, Reaches, to_block}
 use Rattle.fo_ports.specs.State.{State, KeepsAll, KeepsNumbers, AddsNoWait, none}
@@ -22,6 +22,7 @@ pub record Steps (tag : ℕ) (mine inner : ℕ → Type 0) (old new : State) : T
   pub made : (b : ℕ) → Made old new b → IsMade tag old new b
   pub free : old.tells → (b : ℕ) → Made old new b → new.covered b → ⊥
   pub others : (b : ℕ) → (Made old new b → ⊥) → StaysMarked old new b
+  pub apart : (b : ℕ) → (Made old new b → ⊥) → new.apart b ↔ old.apart b
   pub places : old.tells → (b : ℕ) (p : Place) → (Made old new b → ⊥) → (mine b → ⊥) → (new.covered b → ⊥) → old.stands b p → new.stands b p
   pub instead : (b x : ℕ) → new.instead b x → old.instead b x ⊎ (Made old new b × mine x × ((old.label x).epoch < old.high))
   pub still : (b : ℕ) → old.covered b → new.covered b

@@ -1,5 +1,5 @@
 -- One step down after others.
-use Rattle.std.proofs.Common.{◌≡◌, ◌≢◌, ◌⊎◌, ◌<◌, ℕ, suc, Bool, true, false, inl, inr, ⊎_elim, refl, sym, ◌∙◌, ap, subst, arith}
+use Rattle.std.proofs.Common.{◌≡◌, ◌≢◌, ◌⊎◌, ◌↔◌, ◌<◌, ℕ, suc, Bool, true, false, inl, inr, ⊎_elim, refl, sym, ◌∙◌, ap, subst, arith}
 use Rattle.std.proofs.lemmas.Bool.{cases_eq, cases_lt}
 use Rattle.fo_image.specs.declared.types.Label.{Label}
 use Rattle.fo_image.specs.declared.types.State.{State as BlockState}
@@ -250,8 +250,13 @@ module _ {t : Tree} {mine wider : ℕ → Type 0} {level k at i : ℕ} {was : Po
       record {
         label = q.label ∙ p.label;
         marks = (λ h. q.marks.0 (p.marks.0 h), λ h. q.marks.1 (p.marks.1 h), λ h. q.marks.2 (p.marks.2 h));
-        apart = (λ h. p.apart.0 (q.apart.0 h), λ h. q.apart.1 (p.apart.1 h));
       }
+
+  apart_end : (b : ℕ) → (Made s u b → ⊥) → u.apart b ↔ s.apart b
+  apart_end b not =
+      let p = x.first.apart b (not_mid b not) in
+      let q = x.step.apart b (not_result b not) in
+      (λ h. p.0 (q.0 h), λ h. q.1 (p.1 h))
 
   -- the blocks that the step changed or copied are of the way
   beside : (b : ℕ) → (Made s u b → ⊥) → (wider b → ⊥) → ((b ≡ at) ⊎ (was ≡ Local b)) → ⊥
@@ -325,6 +330,7 @@ module _ {t : Tree} {mine wider : ℕ → Type 0} {level k at i : ℕ} {was : Po
     images = images_end;
     made = made_end;
     others = marked_end;
+    apart = apart_end;
     places = λ told b p not other free stands. x.step.changes.places (x.all.still_tells.1 told) b p (not_last b not) (beside b not other) free
         (x.first.places told b p (not_mid b not) (λ is. other (x.within b is)) (λ h. free (x.step.covers.still b h)) stands);
     instead = λ b y h. ⊎_elim (λ old. inl old) (λ new. inr (made_on b new.0, x.within y new.1)) (x.first.instead b y (x.step.instead b y h));
@@ -366,6 +372,7 @@ wider_same {t = t} {mine = mine} {wider = wider} {level = level} {s = s} {u = u}
   };
   made = x.made;
   others = x.others;
+  apart = x.apart;
   places = λ told b p not other free stands. x.places told b p not (λ is. other (within b is)) free stands;
   instead = λ b y h. ⊎_elim (λ old. inl old) (λ new. inr (new.0, within y new.1)) (x.instead b y h);
   older = x.older;
@@ -403,8 +410,9 @@ changes_of {t = t} {mine = mine} {wider = wider} {level = level} {s = s} {u = u}
   };
   made = x.made;
   others = x.others;
+  apart = λ b not. let same = x.apart b not in (same.0, λ h. inl (same.1 h));
   places = λ told b p not other free stands. x.places told b p not (λ is. other (within b is)) free stands;
-  instead = λ b y h. ⊎_elim (λ old. inl old) (λ new. inr (new.0, within y new.1)) (x.instead b y h);
+  instead = λ b y h. ⊎_elim (λ old. inl old) (λ new. inr (new.0, inl (within y new.1))) (x.instead b y h);
   covers = λ b. (x.still b, λ no other h. x.only b no (λ is. other (within b is)) h);
   leaves = x.leaves;
   in_tree = λ told b other r. x.in_tree told b (λ is. other (within b is)) r;

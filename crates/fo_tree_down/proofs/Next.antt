@@ -86,7 +86,7 @@ becomes_below s u t kept level (Held score) at j kept_is high few content =
     ∙ sym (ap (λ f. score_in (or_held f (s.held score (kind_code (kind_at t.dir level)))) j) is.1)
 
 module _ (s m : State) (t : Tree) (kept : List Kept) (n k above : ℕ) (all : KeepsAll s m) (hangs : Hangs s t) (down : suc n ≤ t.depth) (ready : WayReady s t kept (suc n) k)
-    (comes : Comes s m t kept n (k / 409) above) (says : s.tells → Says s) (told : s.tells → (b : ℕ) → OnWay s t (suc n) k b → IsTold s b) where
+    (comes : Comes s m t kept n (k / 409) above) (says : s.tells → Says s) (told : s.tells → (b : ℕ) → OnWay s t (suc n) k b → IsTold s t.top b) where
   level : ℕ
   level = t.depth - suc n
 
@@ -132,7 +132,7 @@ module _ (s m : State) (t : Tree) (kept : List Kept) (n k above : ℕ) (all : Ke
   here_apart : s.tells → (b : ℕ) → block_at s t (suc n) k ≡ Local b → OnWay s t n (k / 409) b → ⊥
   here_apart is b e on = way_apart s t (says is) hangs is n (k / 409) k b down on e
 
-  told_on : (b : ℕ) → Below b → block_at s t (suc n) k ≡ Local b → m.tells → IsTold m b
+  told_on : (b : ℕ) → Below b → block_at s t (suc n) k ≡ Local b → m.tells → IsTold m t.top b
   told_on b is e now =
       let before = all.still_tells.0 now in
       let was = told before b (inr e) in
@@ -146,7 +146,7 @@ module _ (s m : State) (t : Tree) (kept : List Kept) (n k above : ℕ) (all : Ke
         uncovered = comes.descends.only b was.uncovered (here_apart before b e);
         in_tree = λ older. comes.descends.in_tree before b (here_apart before b e) (was.in_tree (omega (arith, epoch, high, older)));
         hung = hung_below m above (k % 409) b (comes.own.told now).hung (leads_next ∙ local_seen s kept t (suc n) k b e);
-        alone = λ y h. ⊎_elim (λ old. was.alone y old) (λ new. here_apart before b e new.1) (comes.descends.instead y b h);
+        alone = λ y h. ⊎_elim (λ old. let a = was.alone y old in (a.0, epoch ∙ a.1 ∙ sym high)) (λ new. absurd (here_apart before b e new.1)) (comes.descends.instead y b h);
       }
 
   can_own : (q : Pointer) → Ready s t kept (suc n) q → ((b : ℕ) → q ≡ Local b → block_at s t (suc n) k ≡ Local b) → CanOwn m t kept (t.depth - suc n) q
@@ -271,7 +271,8 @@ comes_top s t kept k top is few own not = record {
       led = λ b j n. inl refl;
       images = λ image h. record { other = image; was = h; bytes = λ b n. refl; slots = λ b j n. inl refl; led = λ b j n. inl refl; apart = λ w b g made r. none_made b made };
       made = λ b made. absurd (none_made b made);
-      others = λ b n. record { label = refl; marks = (λ h. h, λ h. h, λ h. h); apart = (λ h. h, λ h. h) };
+      others = λ b n. record { label = refl; marks = (λ h. h, λ h. h, λ h. h) };
+      apart = λ b n. (λ h. h, λ h. h);
       places = λ told b q n other free stands. stands;
       instead = λ b y h. inl h;
       older = λ b y h. inl h;

@@ -1,10 +1,12 @@
 -- What is told of the blocks of the new tree, so that the source stands over them.
 use Rattle.std.proofs.Common.{◌≡◌, ◌⊎◌, ◌+◌, ◌-◌, ◌*◌, ◌/◌, ◌%◌, ◌^◌, ◌<◌, ◌≤◌, ℕ, zero, suc, List, inl, inr, ⊎_elim, refl, sym, ◌∙◌, ap, subst, arith}
+use Rattle.std.proofs.lemmas.Bool.{cases_eq}
 use Rattle.std.proofs.Math.Nat.{pow-succ'}
 use Rattle.fo_image.specs.declared.types.Label.{Label}
 use Rattle.fo_image.specs.declared.types.Score.{Score}
 use Rattle.fo_image.specs.declared.types.Pointer.{Pointer}
 use Rattle.fo_image.specs.declared.types.Pointer.TheVariants.{Local, Score as Held}
+use Rattle.fo_crash.specs.Images.{Reaches, to_block}
 use Rattle.fo_crash.specs.Places.{place}
 use Rattle.fo_ports.specs.State.{State}
 use Rattle.fo_ports.specs.Sources.{Made}
@@ -76,7 +78,7 @@ module _ {s u : State} {t : Tree} {kept : List Kept} {top n k at level : ℕ} (x
       inr (record { has = record { down = m; index = j; within = has.within; is = was }; off = not_mine x m j b has.within few was off }))
       (index_cases n k m j)
 
-  old_told : (b : ℕ) → IsTold s b → (OnWay s t n k b → ⊥) → IsTold u b
+  old_told : (b : ℕ) → IsTold s t.top b → (OnWay s t n k b → ⊥) → IsTold u t.top b
   old_told b was off =
       let same = (x.descends.others b (λ made. made.0 was.live)).label in
       let epoch : (u.label b).epoch ≡ (s.label b).epoch = ap (λ (l : Label). l.epoch) same in
@@ -88,10 +90,10 @@ module _ {s u : State} {t : Tree} {kept : List Kept} {top n k at level : ℕ} (x
         uncovered = x.descends.only b was.uncovered off;
         in_tree = λ older. x.descends.in_tree x.told b off (was.in_tree (omega (arith, epoch, high, older)));
         hung = x.descends.hung x.told b off was.hung;
-        alone = λ y h. ⊎_elim (λ old. was.alone y old) (λ new. off new.1) (x.descends.instead y b h);
+        alone = λ y h. ⊎_elim (λ old. let a = was.alone y old in (a.0, epoch ∙ a.1 ∙ sym high)) (λ new. absurd (off new.1)) (x.descends.instead y b h);
       }
 
-  told_end : ((b : ℕ) → HasBlock s t b → IsTold s b) → (b : ℕ) → HasBlock u (with_top t top) b → IsTold u b
+  told_end : ((b : ℕ) → HasBlock s t b → IsTold s t.top b) → (b : ℕ) → HasBlock u (with_top t top) b → IsTold u t.top b
   told_end is_told b has = ⊎_elim
       (λ new. own_told new.is.own (x.all.still_tells.1 x.told))
       (λ old. old_told b (is_told b old.has) old.off)
@@ -132,6 +134,15 @@ module _ {s u : State} {t : Tree} {kept : List Kept} {top n k at level : ℕ} (x
 
 -- ---- the source stands over the blocks
 
+-- What blocks say of what is apart, before and after.
+pub record SaysApart (s u : State) : Type 0 where
+  pub small : (b : ℕ) → u.is_block b → b < 2 ^ 32 - 1
+  pub unlinked : s.tells → (y : ℕ) → s.apart y → Reaches s.now (to_block 1) y → ⊥
+  pub comes : u.tells → (y x : ℕ) → u.instead y x → u.apart y
+
+top_told : {u : State} {p q : Pointer} {b : ℕ} → ((y : ℕ) → u.instead y b → p ≡ Local y → q ≡ Local y) → IsTold u p b → IsTold u q b
+top_told same is = record { live = is.live; up_to = is.up_to; uncovered = is.uncovered; in_tree = is.in_tree; hung = is.hung; alone = λ y h. let a = is.alone y h in (same y h a.0, a.1) }
+
 module _ {s u : State} {t : Tree} {kept : List Kept} {top n k at : ℕ} (x : WasOwned s u t kept top n k at) (is_top : IsTopOf s u t top) where
   top_stands : u.tells → (b : ℕ) → Local top ≡ Local b → u.stands b (place (kind_at t.dir t.depth) t.tag 0 (t.rank + t.depth)) × (u.covered b → ⊥)
   top_stands now b e =
@@ -148,8 +159,32 @@ module _ {s u : State} {t : Tree} {kept : List Kept} {top n k at : ℕ} (x : Was
       (λ was. (x.all.same_blocks top).1 (hangs.is_one top was))
       is_top.from)
 
-  pub over_end : {limit level : ℕ} → (s.tells → WentDown s u t kept top n k at level) → 0 < t.size → Over s t kept limit → Over u (with_top t top) kept limit
-  over_end went some over = record {
+  -- a top that was raised over a block of the source is a current one, and stays
+  top_same : {limit : ℕ} → SaysApart s u → Over s t kept limit → u.tells → (b y : ℕ) → u.instead y b → t.top ≡ Local y → Local top ≡ Local y
+  top_same says over now b y h e =
+      let told = x.all.still_tells.0 now in
+      let is = over.told told y (record { down = 0; index = 0; within = omega arith; is = e }) in
+      let w = way_leads s u t kept top n k at 0 0 x.leads (index_top n k x.few) in
+      let up = is.up_to in
+      ⊎_elim
+      (λ current. w.1 ∙ ap (λ z. Local z) (w.2.kept y e current))
+      (λ ne. absurd (says.unlinked told y ((x.descends.apart y (λ made. made.0 is.live)).0 (says.comes now y b h)) (is.in_tree (omega (arith, up, ne)))))
+      (cases_eq ((s.label y).epoch) s.high)
+
+  top_free : {limit : ℕ} → Over s t kept limit → u.tells → (b : ℕ) → Local top ≡ Local b → u.apart b ⊎ Reaches u.now (to_block 1) b
+  top_free over now b e =
+      let told = x.all.still_tells.0 now in
+      subst (λ y. u.apart y ⊎ Reaches u.now (to_block 1) y) (local_eq e)
+      (⊎_elim
+      (λ made. inl (is_top.apart made))
+      (λ was. ⊎_elim
+      (λ h. let is = over.told told top (record { down = 0; index = 0; within = omega arith; is = was }) in inl ((x.descends.apart top (λ made. made.0 is.live)).1 h))
+      (λ r. inr (is_top.in_tree told r))
+      (over.free told top was))
+      is_top.from)
+
+  pub over_end : {limit level : ℕ} → SaysApart s u → (s.tells → WentDown s u t kept top n k at level) → 0 < t.size → Over s t kept limit → Over u (with_top t top) kept limit
+  over_end says went some over = record {
     hangs = record {
       few = over.hangs.few;
       room = over.hangs.room;
@@ -161,7 +196,9 @@ module _ {s u : State} {t : Tree} {kept : List Kept} {top n k at : ℕ} (x : Was
     within = over.within;
     low = over.low;
     empty = λ (none : t.size ≡ 0). absurd (omega (arith, none, some));
-    told = λ now b has. let told = x.all.still_tells.0 now in told_end (went told) (over.told told) b has;
+    holds = says.small top (top_is over.hangs top refl);
+    free = top_free over;
+    told = λ now b has. let told = x.all.still_tells.0 now in top_told (λ y h e. top_same says over now b y h e) (told_end (went told) (over.told told) b has);
     unheld = λ now other. let told = x.all.still_tells.0 now in unheld_end (went told) (over.unheld told other);
     held = held_on x.all kept over.held;
   }

@@ -21,7 +21,7 @@ use Rattle.fo_tree_look.specs.Source.{IsTold, IsPrepared, IsKept, Ready, IsTopCu
 use Rattle.fo_image.specs.Format.{kind_code}
 use Rattle.fo_tree_own.specs.Step.{IsOwn, Becomes}
 use Rattle.fo_tree_own.proofs.Link.{Laws, Came}
-use Rattle.fo_tree_down.specs.Way.{OnWay, IsBefore, Descends, Comes}
+use Rattle.fo_tree_down.specs.Way.{OnWay, IsBefore, Descends, Comes, IsTopOf}
 
 -- A top came: it was given out for the place of a top, and comes in the place of the top that was, if of any.
 pub record Topped (t : Tree) (kept : List Kept) (l : Label) (result : ℕ) (s m : State) : Type 0 where
@@ -102,7 +102,6 @@ module _ {t : Tree} {kept : List Kept} {l : Label} {result : ℕ} {s m : State} 
   marked_end b not = let ne = ne_result b not in record {
     label = x.came.stays.labels b ne;
     marks = x.came.stays.marks b ne;
-    apart = x.came.stays.apart b ne (λ h. h);
   }
 
   only_end : (b : ℕ) → (s.covered b → ⊥) → m.covered b → ⊥
@@ -116,6 +115,7 @@ module _ {t : Tree} {kept : List Kept} {l : Label} {result : ℕ} {s m : State} 
     images = images k;
     made = λ b made. subst (λ y. IsMade t.tag s m y) (sym (made_is b made)) made_end;
     others = marked_end;
+    apart = λ b not. x.came.stays.apart b (ne_result b not) (λ h. h);
     places = λ told b p not other free stands. x.came.stays.places told b p (ne_result b not) (λ h. h) free stands;
     instead = λ b y h. ⊎_elim
         (λ e. inr (subst (λ z. Made s m z) (sym e) made_result, x.raised y (subst (λ z. m.instead z y) e h)))
@@ -162,9 +162,18 @@ module _ {t : Tree} {kept : List Kept} {l : Label} {result : ℕ} {s m : State} 
           stands = x.stands told;
           uncovered = x.came.is.4;
           hung = inr (record { top = result; is_apart = x.came.is.3; place = place (kind_at t.dir t.depth) t.tag 0 (t.rank + t.depth); stands = x.stands told; uncovered = x.came.is.4; reaches = reaches_itself m.now result });
-          alone = x.came.alone told;
+          alone = λ y h. absurd (x.came.alone told y h);
         };
       }
+
+  pub top_topped : IsTopOf s m t result
+  top_topped = record {
+    from = inl made_result;
+    apart = λ made. x.came.is.3;
+    in_tree = λ told r. in_tree told result r;
+    live = ap (λ (q : Label). q.state) x.came.label ∙ x.is_live;
+    current = ap (λ (q : Label). q.epoch) x.came.label ∙ x.is_current ∙ sym x.all.same_high;
+  }
 
   pub comes_topped : (k : ℕ) → k < 409 ^ zero → Comes s m t kept zero k result
   comes_topped k few = record {
@@ -184,7 +193,7 @@ pub level_at : (dir : Bool) (level : ℕ) → level ≤ 4 → IsLevel (kind_at d
 level_at true level le = le
 level_at false level le = le
 
-pub own_here : (s : State) (t : Tree) (at : ℕ) → Hangs s t → t.top ≡ Local at → IsPrepared s (kind_at t.dir t.depth) t.tag at → (s.tells → IsTold s at) → (s.label at).epoch ≡ s.high → IsOwn s t t.depth 0 at
+pub own_here : (s : State) (t : Tree) (at : ℕ) → Hangs s t → t.top ≡ Local at → IsPrepared s (kind_at t.dir t.depth) t.tag at → (s.tells → IsTold s t.top at) → (s.label at).epoch ≡ s.high → IsOwn s t t.depth 0 at
 own_here s t at hangs top is told current = record {
   is_pinned = is.is_pinned;
   live = is.live;
@@ -192,7 +201,7 @@ own_here s t at hangs top is told current = record {
   tagged = is.tagged;
   current = current;
   long = is.long;
-  told = λ now. record { stands = (hangs.told now at top).0; uncovered = (told now).uncovered; hung = (told now).hung; alone = (told now).alone };
+  told = λ now. record { stands = (hangs.told now at top).0; uncovered = (told now).uncovered; hung = (told now).hung; alone = λ y h. ((told now).alone y h).0 };
 }
 
 pub nil_local : (b : ℕ) → Nil ≡ Local b → ⊥

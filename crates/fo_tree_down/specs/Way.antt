@@ -1,5 +1,5 @@
 -- A whole way is made current, from the top down.
-use Rattle.std.specs.Prelude.{◌≡◌, ◌≢◌, ◌⊎◌, ◌^◌, ◌≤◌, ◌-◌, ◌/◌, ◌%◌, ◌<◌, ℕ, zero, suc, List}
+use Rattle.std.specs.Prelude.{◌≡◌, ◌≢◌, ◌⊎◌, ◌↔◌, ◌^◌, ◌≤◌, ◌-◌, ◌/◌, ◌%◌, ◌<◌, ℕ, zero, suc, List}
 use Rattle.fo_image.specs.declared.types.Kind.{Kind}
 use Rattle.fo_image.specs.declared.types.Pointer.{Pointer}
 use Rattle.fo_image.specs.declared.types.Pointer.TheVariants.{Local}
@@ -58,6 +58,7 @@ pub record Descends (t : Tree) (mine : ℕ → Type 0) (level : ℕ) (s u : Stat
   pub images : (image : Image) → u.may_leave image → IsBefore s u t mine level image
   pub made : (b : ℕ) → Made s u b → IsMade t.tag s u b
   pub others : (b : ℕ) → (Made s u b → ⊥) → StaysMarked s u b
+  pub apart : (b : ℕ) → (Made s u b → ⊥) → u.apart b ↔ s.apart b
   pub places : s.tells → (b : ℕ) (p : Place) → (Made s u b → ⊥) → (mine b → ⊥) → (u.covered b → ⊥) → s.stands b p → u.stands b p
   pub instead : (b x : ℕ) → u.instead b x → s.instead b x ⊎ (Made s u b × mine x)
   pub older : (b x : ℕ) → u.instead b x → s.instead b x ⊎ ((s.label x).epoch < s.high)
@@ -114,9 +115,12 @@ pub record StaysBeside (s u : State) (t new : Tree) (n k : ℕ) : Type 0 where
 abbrev pub with_top : Tree → ℕ → Tree
 with_top t top = record t { top = Local top }
 
--- The top of a source once it was made current: one that was given out, or the one that was there.
+-- The top of a source once it was made current: one that was given out, which is put nowhere yet, or the one that was there, which hangs
+-- where it did.
 pub record IsTopOf (s u : State) (t : Tree) (top : ℕ) : Type 0 where
   pub from : Made s u top ⊎ (t.top ≡ Local top)
+  pub apart : Made s u top → u.apart top
+  pub in_tree : s.tells → Reaches s.now (to_block 1) top → Reaches u.now (to_block 1) top
   pub live : (u.label top).state ≡ Live
   pub current : (u.label top).epoch ≡ u.high
 

@@ -12,4 +12,4 @@
 mod top;
 mod way;
 
-pub use way::{Current, own_way};
+pub use way::{Current, own_down, own_way};

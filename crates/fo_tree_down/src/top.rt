@@ -5,7 +5,7 @@ ghost use Rattle.fo_image.specs.Format.{kind_code};
 ghost use Rattle.fo_tree_read.specs.Tree.{Hangs, kind_at};
 ghost use Rattle.fo_ports.specs.Sources.{Made};
 ghost use Rattle.fo_tree_look.specs.Source.{IsTold, IsPlainTree, IsPrepared, IsKept, Ready, IsTopCurrent};
-ghost use Rattle.fo_tree_down.specs.Way.{Comes};
+ghost use Rattle.fo_tree_down.specs.Way.{Comes, IsTopOf};
 
 use fo_image::{Pointer, Score};
 use fo_ports::Blocks;
@@ -18,10 +18,11 @@ use fo_tree_read::Tree;
 pub(crate) fn own_top<B: Blocks>(tree: &Tree, kept: &[Kept], on: &mut B) -> u32
     requires hangs { Hangs (B.state on.old) tree.now }
     requires ready { Ready (B.state on.old) tree.now kept.now 0 tree.now.top }
-    requires told { (B.state on.old).tells → (b : ℕ) → tree.now.top ≡ Local b → IsTold (B.state on.old) b }
+    requires told { (B.state on.old).tells → (b : ℕ) → tree.now.top ≡ Local b → IsTold (B.state on.old) tree.now.top b }
     requires spare { IsTopCurrent (B.state on.old) tree.now ⊎ (0 < (B.state on.old).spare) }
     ensures comes { (k : ℕ) → k < 409 ^ 0 → Comes (B.state on.old) (B.state on.new) tree.now kept.now 0 k result }
     ensures given { (b : ℕ) → Made (B.state on.old) (B.state on.new) b → b ≡ result }
+    ensures top { IsTopOf (B.state on.old) (B.state on.new) tree.now result }
     ensures spare { (B.state on.old).spare ≤ (B.state on.new).spare + 1 }
     ensures less { IsTopCurrent (B.state on.old) tree.now → (B.state on.old).spare ≤ (B.state on.new).spare }
     ensures same { (b : ℕ) → tree.now.top ≡ Local b → ((B.state on.old).label b).epoch ≡ (B.state on.old).high → result ≡ b }
@@ -39,10 +40,11 @@ fn own_local<B: Blocks>(tree: &Tree, kept: &[Kept], on: &mut B, at: u32) -> u32
     requires hangs { Hangs (B.state on.old) tree.now }
     requires is { tree.now.top ≡ Local at }
     requires ready { IsPrepared (B.state on.old) (kind_at tree.now.dir tree.now.depth) tree.now.tag at }
-    requires told { (B.state on.old).tells → IsTold (B.state on.old) at }
+    requires told { (B.state on.old).tells → IsTold (B.state on.old) tree.now.top at }
     requires spare { (((B.state on.old).label at).epoch ≡ (B.state on.old).high) ⊎ (0 < (B.state on.old).spare) }
     ensures comes { (k : ℕ) → k < 409 ^ 0 → Comes (B.state on.old) (B.state on.new) tree.now kept.now 0 k result }
     ensures given { (b : ℕ) → Made (B.state on.old) (B.state on.new) b → b ≡ result }
+    ensures top { IsTopOf (B.state on.old) (B.state on.new) tree.now result }
     ensures spare { (B.state on.old).spare ≤ (B.state on.new).spare + 1 }
     ensures less { ((B.state on.old).label at).epoch ≡ (B.state on.old).high → (B.state on.old).spare ≤ (B.state on.new).spare }
     ensures same { ((B.state on.old).label at).epoch ≡ (B.state on.old).high → result ≡ at }
@@ -60,6 +62,7 @@ fn new_top<B: Blocks>(tree: &Tree, kept: &[Kept], on: &mut B) -> u32
     requires spare { 0 < (B.state on.old).spare }
     ensures comes { (k : ℕ) → k < 409 ^ 0 → Comes (B.state on.old) (B.state on.new) tree.now kept.now 0 k result }
     ensures given { (b : ℕ) → Made (B.state on.old) (B.state on.new) b → b ≡ result }
+    ensures top { IsTopOf (B.state on.old) (B.state on.new) tree.now result }
     ensures spare { (B.state on.old).spare ≤ (B.state on.new).spare + 1 }
     ensures keeps { B.keeps on.old on.new }
 {
@@ -77,6 +80,7 @@ fn kept_top<B: Blocks>(tree: &Tree, kept: &[Kept], on: &mut B, score: &Score) ->
     requires spare { 0 < (B.state on.old).spare }
     ensures comes { (k : ℕ) → k < 409 ^ 0 → Comes (B.state on.old) (B.state on.new) tree.now kept.now 0 k result }
     ensures given { (b : ℕ) → Made (B.state on.old) (B.state on.new) b → b ≡ result }
+    ensures top { IsTopOf (B.state on.old) (B.state on.new) tree.now result }
     ensures spare { (B.state on.old).spare ≤ (B.state on.new).spare + 1 }
     ensures keeps { B.keeps on.old on.new }
 {

@@ -49,11 +49,11 @@ pub fn own_way<B: Blocks>(tree: &Tree, kept: &[Kept], on: &mut B, down: u8, k: u
 }
 
 /// Makes block `k` of those so many steps below the top current, and all on the way to it, one below another.
-fn own_down<B: Blocks>(tree: &Tree, kept: &[Kept], on: &mut B, down: u8, k: u64) -> Current
+pub fn own_down<B: Blocks>(tree: &Tree, kept: &[Kept], on: &mut B, down: u8, k: u64) -> Current
     requires hangs { Hangs (B.state on.old) tree.now }
     requires down { (down ≤ tree.now.depth) × (k < 409 ^ down) }
     requires ready { WayReady (B.state on.old) tree.now kept.now down k }
-    requires told { (B.state on.old).tells → (b : ℕ) → OnWay (B.state on.old) tree.now down k b → IsTold (B.state on.old) b }
+    requires told { (B.state on.old).tells → (b : ℕ) → OnWay (B.state on.old) tree.now down k b → IsTold (B.state on.old) tree.now.top b }
     requires spare { (IsTopCurrent (B.state on.old) tree.now × (down ≤ (B.state on.old).spare)) ⊎ (down < (B.state on.old).spare) }
     ensures comes { Comes (B.state on.old) (B.state on.new) tree.now kept.now down k result.at }
     ensures leads { Leads (B.state on.old) (B.state on.new) tree.now kept.now result.top down k result.at }

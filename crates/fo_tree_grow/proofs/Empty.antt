@@ -101,6 +101,8 @@ module _ (s : State) (t : Tree) (kept : List Kept) (empty : t.top ≡ Nil) where
     within = within;
     low = over.low;
     empty = λ none. empty;
+    holds = over.holds;
+    free = over.free;
     told = λ told at has. absurd (has_none s (shaped t d z) empty at has);
     unheld = λ told other. unheld_none s (shaped t d z) empty;
     held = over.held;

@@ -30,8 +30,9 @@ changes_of {tag = tag} {inner = inner} {more = more} {s = s} {u = u} within deep
   };
   made = x.made;
   others = x.others;
+  apart = λ b not. let was = x.apart b not in (was.0, λ h. ⊎_elim (λ still. inl still) (λ mine. inr (within b mine)) (was.1 h));
   places = λ told b p not other free stands. x.places told b p not (λ h. other (within b h)) free stands;
-  instead = λ b y h. ⊎_elim (λ old. inl old) (λ new. inr (new.0, within y new.1)) (x.instead b y h);
+  instead = λ b y h. ⊎_elim (λ old. inl old) (λ new. inr (new.0, ⊎_elim (λ mine. inl (within y mine)) (λ was. inr (was.0, within was.0 was.1, was.2)) new.1)) (x.instead b y h);
   covers = λ b. let c = x.covers b in (c.0, λ no other h. c.1 no (λ is. other (within b is)) h);
   leaves = x.leaves;
   in_tree = λ told b other r. x.in_tree told b (λ is. other (within b is)) r;
@@ -49,7 +50,7 @@ changes_of {tag = tag} {inner = inner} {more = more} {s = s} {u = u} within deep
     touched b h = ⊎_elim (λ made. inl made) (λ own. inr (deeper b own.0, own.1, own.2)) h
 
 pub top_of_sized : {s u : State} {t : Tree} {d z top : ℕ} → IsTopOf s u (shaped t d z) top → IsTopOf s u t top
-top_of_sized is = record { from = is.from; live = is.live; current = is.current }
+top_of_sized is = record { from = is.from; apart = is.apart; in_tree = is.in_tree; live = is.live; current = is.current }
 
 -- a list whose end is zeros
 pub ends_in_zeros : (was : List ℕ) (m : ℕ) → length was ≡ 8192 → ((k : ℕ) → m ≤ k → k < 8192 → slice_index was k ≡ 0) → was ≡ resized (take m was) 8192

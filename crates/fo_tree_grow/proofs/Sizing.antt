@@ -69,6 +69,8 @@ module _ (s : State) (t : Tree) (z : ℕ) (kept : List Kept) where
     within = within;
     low = over.low;
     empty = λ (none : z ≡ 0). absurd (omega (arith, none, some));
+    holds = over.holds;
+    free = over.free;
     told = λ told at has. over.told told at (has_back s t z at has);
     unheld = λ told other i score e. over.unheld told other i score (sym (sized_block s t z t.depth i) ∙ e);
     held = over.held;

@@ -144,11 +144,11 @@ module _ (a b : State) (t : Tree) (all : KeepsAll a b) (looks : Looks a b) (told
   pub blocks_on : (at : ℕ) → HasBlock a t at → HasBlock b t at
   blocks_on at has = record { down = has.down; index = has.index; within = has.within; is = told_same all looks told t has.down has.index ∙ has.is }
 
-  reaches_on : (at : ℕ) → Reaches a.now (to_block 1) at → Reaches b.now (to_block 1) at
+  pub reaches_on : (at : ℕ) → Reaches a.now (to_block 1) at → Reaches b.now (to_block 1) at
   reaches_on at r = record { path = r.path; leads = subst (λ (s : Slot). target s ≡ Local at) (sym (same_walk b.now a.now (λ x i. ((looks.memory told).each x).slots i) r.path (to_block 1))) r.leads }
 
-  pub told_on : (at : ℕ) → IsTold a at → IsTold b at
-  told_on at is =
+  pub told_on : (top : Pointer) (at : ℕ) → IsTold a top at → IsTold b top at
+  told_on top at is =
       let same : b.label at ≡ a.label at = looks.stays.labels at (λ n. n) in
       let epoch : (b.label at).epoch ≡ (a.label at).epoch = ap (λ (l : Label). l.epoch) same in
       let high = all.same_high in
@@ -159,7 +159,7 @@ module _ (a b : State) (t : Tree) (all : KeepsAll a b) (looks : Looks a b) (told
         uncovered = λ c. is.uncovered ((looks.covered.covered at).0 c);
         in_tree = λ older. reaches_on at (is.in_tree (omega (arith, epoch, high, older)));
         hung = hung_looks looks told at is.hung;
-        alone = λ y h. is.alone y ((looks.stays.instead y at (λ n. n) (λ n. n)).0 h);
+        alone = λ y h. let was = is.alone y ((looks.stays.instead y at (λ n. n) (λ n. n)).0 h) in (was.0, epoch ∙ was.1 ∙ sym high);
       }
 
   pub unheld_on : NoneHeld a t → NoneHeld b t
@@ -177,7 +177,11 @@ over_looks {a = a} {b = b} {t = t} {kept = kept} all looks over = record {
   within = over.within;
   low = over.low;
   empty = over.empty;
-  told = λ told at has. let before = all.still_tells.0 told in told_on a b t all looks before at (over.told before at (blocks_back a b t all looks before at has));
+  holds = over.holds;
+  free = λ told at e.
+      let before = all.still_tells.0 told in
+      ⊎_elim (λ h. inl ((looks.stays.apart at (λ n. n) (λ n. n)).1 h)) (λ r. inr (reaches_on a b t all looks before at r)) (over.free before at e);
+  told = λ told at has. let before = all.still_tells.0 told in told_on a b t all looks before t.top at (over.told before at (blocks_back a b t all looks before at has));
   unheld = λ told other. let before = all.still_tells.0 told in unheld_on a b t all looks before (over.unheld before other);
   held = held_on all kept over.held;
 }
@@ -189,6 +193,8 @@ over_extends over grown = record {
   within = over.within;
   low = over.low;
   empty = over.empty;
+  holds = over.holds;
+  free = over.free;
   told = over.told;
   unheld = over.unheld;
   held = grown.held;

@@ -1,5 +1,5 @@
 -- What a source has stays where others change blocks.
-use Rattle.std.proofs.Common.{◌≡◌, ◌+◌, ◌-◌, ◌*◌, ◌/◌, ◌%◌, ◌^◌, ◌<◌, ◌≤◌, ℕ, zero, suc, Bool, true, false, cond, nat_lt, List, Option, None, refl, ⊎_elim, sym, ap, ◌∙◌, subst, arith}
+use Rattle.std.proofs.Common.{◌≡◌, ◌+◌, ◌-◌, ◌*◌, ◌/◌, ◌%◌, ◌^◌, ◌<◌, ◌≤◌, ℕ, zero, suc, Bool, true, false, cond, nat_lt, List, Option, None, inr, refl, ⊎_elim, sym, ap, ◌∙◌, subst, arith}
 use Rattle.fo_image.specs.declared.types.Kind.{Kind}
 use Rattle.fo_image.specs.declared.types.Kind.TheVariants.{Dir, Root}
 use Rattle.fo_image.specs.declared.types.Score.{Score}
@@ -166,7 +166,7 @@ module _ (a b : State) (t : Tree) (kept : List Kept) (limit : ℕ) (all : KeepsA
   pub blocks_on : (at : ℕ) → HasBlock a t at → HasBlock b t at
   blocks_on at has = record { down = has.down; index = has.index; within = has.within; is = block_kept has.down has.index has.within ∙ has.is }
 
-  told_kept : (at : ℕ) → HasBlock b t at → IsTold b at
+  told_kept : (at : ℕ) → HasBlock b t at → IsTold b t.top at
   told_kept at has =
       let was = blocks_back at has in
       let is = over.told told at was in
@@ -180,7 +180,7 @@ module _ (a b : State) (t : Tree) (kept : List Kept) (limit : ℕ) (all : KeepsA
         uncovered = place.uncovered is.uncovered;
         in_tree = λ older. place.in_tree (is.in_tree (omega (arith, epoch, high, older)));
         hung = place.hung is.hung;
-        alone = λ y h. is.alone y (place.instead y h);
+        alone = λ y h. let was = is.alone y (place.instead y h) in (was.0, epoch ∙ was.1 ∙ sym high);
       }
 
   pub over_told : Over b t kept limit
@@ -196,6 +196,8 @@ module _ (a b : State) (t : Tree) (kept : List Kept) (limit : ℕ) (all : KeepsA
     within = over.within;
     low = over.low;
     empty = over.empty;
+    holds = over.holds;
+    free = λ now at e. let here = in_place 0 0 at (omega arith) e in ⊎_elim here.linked (λ r. inr (here.in_tree r)) (over.free told at e);
     told = λ now at has. told_kept at has;
     unheld = λ now other i score e. over.unheld told other i score (sym (block_kept t.depth i (omega arith)) ∙ e);
     held = held_on all kept over.held;
@@ -215,6 +217,8 @@ over_stays a b t kept limit all over says still = record {
   within = over.within;
   low = over.low;
   empty = over.empty;
+  holds = over.holds;
+  free = λ now. (by (all.still_tells.0 now)).free now;
   told = λ now. (by (all.still_tells.0 now)).told now;
   unheld = λ now. (by (all.still_tells.0 now)).unheld now;
   held = held_on all kept over.held;

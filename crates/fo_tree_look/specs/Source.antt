@@ -7,7 +7,7 @@ use Rattle.fo_image.specs.declared.types.Score.{Score}
 use Rattle.fo_image.specs.declared.types.State.TheVariants.{Live}
 use Rattle.fo_image.specs.declared.types.Pointer.{Pointer}
 use Rattle.fo_image.specs.declared.types.Pointer.TheVariants.{Nil, Local, Score as Held}
-use Rattle.fo_image.specs.Format.{kind_code}
+use Rattle.fo_image.specs.Format.{kind_code, PointerHolds}
 use Rattle.fo_crash.specs.Images.{Reaches, to_block}
 use Rattle.fo_ports.specs.State.{State}
 use Rattle.fo_ports.specs.Sources.{Form, Leaves, IsHung, depth_for, source_bytes}
@@ -50,15 +50,16 @@ address_here s t i = cond (nat_lt (8192 * i) t.size) (address s t i) None
 abbrev pub held_here : State → Tree → List Kept → ℕ → Option (List ℕ)
 held_here s t kept i = cond (nat_lt (8192 * i) t.size) (held_leaf (seen s kept) t i) None
 
--- What a device that tells has of a block of the source. One of an older epoch hangs from block 1, since no other is ever copied; a
--- current one from there, or from a block that was put nowhere yet. No block was made to come in its place.
-pub record IsTold (s : State) (at : ℕ) : Type 0 where
+-- What a device that tells has of a block of the source with this top. One of an older epoch hangs from block 1, since no other is ever
+-- copied; a current one from there, or from a block that was put nowhere yet. No block was made to come in its place but the source's top,
+-- where that was raised over it, which is a current one.
+pub record IsTold (s : State) (top : Pointer) (at : ℕ) : Type 0 where
   pub live : (s.label at).state ≡ Live
   pub up_to : (s.label at).epoch ≤ s.high
   pub uncovered : s.covered at → ⊥
   pub in_tree : (s.label at).epoch < s.high → Reaches s.now (to_block 1) at
   pub hung : IsHung s at
-  pub alone : (y : ℕ) → s.instead y at → ⊥
+  pub alone : (y : ℕ) → s.instead y at → (top ≡ Local y) × ((s.label at).epoch ≡ s.high)
 
 -- The leaves hold neither entries nor records.
 abbrev pub IsPlainTree : Tree → Type 0
@@ -80,14 +81,17 @@ pub record Extends (s : State) (old new : List Kept) : Type 0 where
   pub held : AllHeld s new
 
 -- A source stands over these blocks: it hangs there with the least depth for its size, and an empty one has no top. Where the device
--- tells, its blocks are live ones of epochs up to the high one, and no leaf of entries or records is under a score.
+-- tells, its blocks are live ones of epochs up to the high one, its top is put into no slot yet or hangs from block 1, and no leaf of
+-- entries or records is under a score.
 pub record Over (s : State) (t : Tree) (kept : List Kept) (limit : ℕ) : Type 0 where
   pub hangs : Hangs s t
   pub least : t.depth ≡ depth_for t.size
   pub within : t.size ≤ limit
   pub low : limit ≤ 2 ^ 47
   pub empty : t.size ≡ 0 → t.top ≡ Nil
-  pub told : s.tells → (at : ℕ) → HasBlock s t at → IsTold s at
+  pub holds : PointerHolds t.top
+  pub free : s.tells → (b : ℕ) → t.top ≡ Local b → s.apart b ⊎ Reaches s.now (to_block 1) b
+  pub told : s.tells → (at : ℕ) → HasBlock s t at → IsTold s t.top at
   pub unheld : s.tells → (IsPlainTree t → ⊥) → NoneHeld s t
   pub held : AllHeld s kept
 

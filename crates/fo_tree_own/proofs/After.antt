@@ -300,7 +300,7 @@ module _ {t : Tree} {level k at i n : ℕ} {was : Pointer} {l : Label} {result :
     tagged = ap (λ (q : Label). q.tag) result_end ∙ x.tagged;
     current = ap (λ (q : Label). q.epoch) result_end ∙ x.link.is_current ∙ sym x.whole.same_high;
     long = ap length (x.puts.bytes result) ∙ x.long;
-    told = λ now. let told = x.whole.still_tells.0 now in record { stands = own_stands told; uncovered = only_covers.only result x.link.came.was.2 x.fresh; hung = own_hung told; alone = result_alone told };
+    told = λ now. let told = x.whole.still_tells.0 now in record { stands = own_stands told; uncovered = only_covers.only result x.link.came.was.2 x.fresh; hung = own_hung told; alone = λ y h. absurd (result_alone told y h) };
   }
 
   -- ---- all that changed
@@ -346,7 +346,6 @@ module _ {t : Tree} {level k at i n : ℕ} {was : Pointer} {l : Label} {result :
       record {
         label = label_end b apart;
         marks = (λ h. last.0 (first.0 h), λ h. last.1 (first.1 h), λ h. last.2 (first.2 h));
-        apart = apart_same b apart;
       }
 
   abbrev Mine : ℕ → Type 0
@@ -377,6 +376,7 @@ module _ {t : Tree} {level k at i n : ℕ} {was : Pointer} {l : Label} {result :
     images = undone;
     made = λ b made. subst (λ y. IsMade t.tag s u y) (sym (made_is b made)) is_made;
     others = marked;
+    apart = λ b not. let same = apart_same b (not_made b not) in (same.0, λ h. inl (same.1 h));
     places = λ told b p not mine no stands. places_end told b p (not_made b not) no stands;
     instead = λ b y h. inl (instead_end b y h);
     covers = λ b. (only_covers.still b, λ no mine h. only_covers.only b no (λ e. mine (inr e)) h);
@@ -408,6 +408,7 @@ module _ {t : Tree} {level k at i n : ℕ} {was : Pointer} {l : Label} {result :
     bytes = bytes_end;
     labels = label_end;
     images = behind;
+    apart = apart_same;
     instead = instead_end;
     reached = reached_end;
     in_tree = λ told b e. back x.link told 1 b super_place (x.link.laws.super_stands told) (x.in_tree told b e);

@@ -19,7 +19,7 @@ hung_below s at i b hung leads = ⊎_elim
     (λ h. inr (record { top = h.top; is_apart = h.is_apart; place = h.place; stands = h.stands; uncovered = h.uncovered; reaches = reaches_on i h.reaches leads }))
     hung
 
-pub here_own : (s : State) (t : Tree) (level k at i below : ℕ) → Laws s → IsOwn s t (suc level) k at → target ((s.now at).slot i) ≡ Local below → IsPrepared s (kind_at t.dir level) t.tag below → (s.tells → IsTold s below) → (s.label below).epoch ≡ s.high → IsOwn s t level (409 * k + i) below
+pub here_own : (s : State) (t : Tree) (level k at i below : ℕ) → Laws s → IsOwn s t (suc level) k at → target ((s.now at).slot i) ≡ Local below → IsPrepared s (kind_at t.dir level) t.tag below → (s.tells → IsTold s t.top below) → (s.label below).epoch ≡ s.high → IsOwn s t level (409 * k + i) below
 here_own s t level k at i below laws above leads is told current = record {
   is_pinned = is.is_pinned;
   live = is.live;
@@ -31,17 +31,17 @@ here_own s t level k at i below laws above leads is told current = record {
     stands = subst (λ q. s.stands below q) (inner_below t.dir level t.tag k t.rank i ((s.now at).slot i)) ((laws.placed now).each at i below (place (kind_at t.dir (suc level)) t.tag k (t.rank + suc level)) (above.told now).stands leads);
     uncovered = (told now).uncovered;
     hung = hung_below s at i below (above.told now).hung leads;
-    alone = (told now).alone;
+    alone = λ y h. ((told now).alone y h).0;
   };
 }
 
 -- what is told of a current block of a source
-pub own_told : {s : State} {t : Tree} {level k at : ℕ} → IsOwn s t level k at → s.tells → IsTold s at
+pub own_told : {s : State} {t : Tree} {level k at : ℕ} → IsOwn s t level k at → s.tells → IsTold s t.top at
 own_told {s = s} {at = at} own told = record {
   live = own.live;
   up_to = let current = own.current in omega (arith, current);
   uncovered = (own.told told).uncovered;
   in_tree = λ older. let current = own.current in absurd (omega (arith, current, older));
   hung = (own.told told).hung;
-  alone = (own.told told).alone;
+  alone = λ y h. ((own.told told).alone y h, own.current);
 }

@@ -73,7 +73,7 @@ pub record Copying (t : Tree) (level k at i below : ℕ) (l : Label) (result : �
   pub leads : target ((s.now at).slot i) ≡ Local below
   pub was_live : (s.label below).state ≡ Live
   pub older : (s.label below).epoch < s.high
-  pub told : s.tells → IsTold s below
+  pub told : s.tells → IsTold s t.top below
   pub instead : (y : ℕ) → m.instead result y ↔ (y ≡ below)
   pub place : s.tells → (p : Place) → s.stands below p → m.stands result p
 
@@ -150,7 +150,10 @@ module _ {t : Tree} {level k at i below : ℕ} {l : Label} {result : ℕ} {s m :
       let here : z ≡ below = local_eq (sym e ∙ leads_on) in
       ⊎_elim
       (λ own. inr (subst (λ w. Reaches m.now (To (Local result)) w) (sym own) (reaches_itself m.now result)))
-      (λ other. absurd ((x.told told).alone y (subst (λ w. s.instead y w) here ((x.link.came.stays.instead y z other (λ h. h)).0 is))))
+      (λ other.
+      let young = ((x.told told).alone y (subst (λ w. s.instead y w) here ((x.link.came.stays.instead y z other (λ h. h)).0 is))).1 in
+      let older = x.older in
+      absurd (omega (arith, young, older)))
       (cases_eq y result)
   instead_of told y z (j ∷ path) is e = inl (under z j path e)
 

@@ -16,12 +16,13 @@ use Rattle.fo_tree_read.specs.Tree.{kind_at, score_of}
 use Rattle.fo_tree_look.specs.declared.ways.Kept.{Kept}
 use Rattle.fo_tree_look.specs.Source.{IsTold, IsPlainTree, IsPrepared, IsKept, find_kept}
 
--- What a device that tells has of a current block of a source, so many levels above its leaves.
+-- What a device that tells has of a current block of a source, so many levels above its leaves. Only the source's top may come in its
+-- place.
 pub record OwnTold (s : State) (t : Tree) (level k at : ℕ) : Type 0 where
   pub stands : s.stands at (place (kind_at t.dir level) t.tag k (t.rank + level))
   pub uncovered : s.covered at → ⊥
   pub hung : IsHung s at
-  pub alone : (y : ℕ) → s.instead y at → ⊥
+  pub alone : (y : ℕ) → s.instead y at → t.top ≡ Local y
 
 -- An image is one of before, but for this block.
 pub record IsBeside (at : ℕ) (s : State) (image : Image) : Type 0 where
@@ -99,6 +100,7 @@ pub record Links (t : Tree) (level k at i : ℕ) (was : Pointer) (result : ℕ) 
   pub bytes : (b : ℕ) → b ≢ result → (new.now b).bytes ≡ (old.now b).bytes
   pub labels : (b : ℕ) → b ≢ result → new.label b ≡ old.label b
   pub images : (image : Image) → new.may_leave image → IsBehind at i result old new image
+  pub apart : (b : ℕ) → b ≢ result → new.apart b ↔ old.apart b
   pub instead : (b x : ℕ) → new.instead b x → old.instead b x
   pub reached : old.tells → (b : ℕ) → (was ≡ Local b → ⊥) → Reaches old.now (to_block 1) b → Reaches new.now (to_block 1) b
   pub in_tree : old.tells → (b : ℕ) → was ≡ Local b → Reaches old.now (to_block 1) b
@@ -111,10 +113,10 @@ pub record Links (t : Tree) (level k at i : ℕ) (was : Pointer) (result : ℕ) 
   pub room : new.room ≡ old.room
   pub changes : Changes t.tag (λ b. (b ≡ at) ⊎ (was ≡ Local b)) (λ b. b ≡ at) old new
 
--- What a slot leads to can be made current: it is prepared, and where the device tells no block was made to come in its place.
+-- What a slot leads to can be made current: it is prepared, and where the device tells a block of the source.
 abbrev pub CanOwn : State → Tree → List Kept → ℕ → Pointer → Type 0
 CanOwn s t kept level Nil = Unit {0}
-CanOwn s t kept level (Local at) = IsPrepared s (kind_at t.dir level) t.tag at × (s.tells → IsTold s at)
+CanOwn s t kept level (Local at) = IsPrepared s (kind_at t.dir level) t.tag at × (s.tells → IsTold s t.top at)
 CanOwn s t kept level (Held score) = IsKept kept score (kind_code (kind_at t.dir level)) × (IsPlainTree t ⊎ (0 < level))
 
 -- A block has what was there: what the block had to which this pointer led, what was kept under its score, or zeros.

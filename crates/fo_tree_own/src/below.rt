@@ -21,7 +21,7 @@ fn copy_below<B: Blocks>(tree: &Tree, on: &mut B, above: u32, level: u8, k: u64,
     requires leads { target (((B.state on.old).now above).slot (k % 409)) ≡ Local below }
     requires below { IsPrepared (B.state on.old) (kind_at tree.now.dir level) tree.now.tag below }
     requires older { ((B.state on.old).label below).epoch < (B.state on.old).high }
-    requires told { (B.state on.old).tells → IsTold (B.state on.old) below }
+    requires told { (B.state on.old).tells → IsTold (B.state on.old) tree.now.top below }
     requires spare { 0 < (B.state on.old).spare }
     ensures links { Links tree.now level (k / 409) above (k % 409) (Local below) result (B.state on.old) (B.state on.new) }
     ensures content { SameContent ((B.state on.new).now result) ((B.state on.old).now below) }
@@ -49,7 +49,7 @@ pub fn own_below<B: Blocks>(
     requires above { IsOwn (B.state on.old) tree.now (suc level) (k / 409) above }
     requires leads { target (((B.state on.old).now above).slot (k % 409)) ≡ Local below }
     requires below { IsPrepared (B.state on.old) (kind_at tree.now.dir level) tree.now.tag below }
-    requires told { (B.state on.old).tells → IsTold (B.state on.old) below }
+    requires told { (B.state on.old).tells → IsTold (B.state on.old) tree.now.top below }
     requires spare { (((B.state on.old).label below).epoch ≡ (B.state on.old).high) ⊎ (0 < (B.state on.old).spare) }
     ensures step { ((result ≡ below) × (on.new ≡ on.old) × IsOwn (B.state on.old) tree.now level (409 * (k / 409) + k % 409) below) ⊎ Links tree.now level (k / 409) above (k % 409) (Local below) result (B.state on.old) (B.state on.new) }
     ensures content { SameContent ((B.state on.new).now result) ((B.state on.old).now below) }

@@ -7,12 +7,12 @@ use Rattle.fo_crash.specs.declared.place.Place.{Place}
 use Rattle.fo_crash.specs.Images.{Image, Content, SameContent, Reaches, to_block}
 use Rattle.fo_crash.proofs.Reach.{reach_aside}
 use Rattle.fo_ports.specs.State.{State, KeepsAll, none}
-use Rattle.fo_ports.specs.Sources.{Made, IsMade, Changes}
+use Rattle.fo_ports.specs.Sources.{Made, IsMade, Stead, Changes}
 use Rattle.fo_tree_read.specs.declared.tree.Tree.{Tree}
 use Rattle.fo_tree_look.specs.Source.{HasBlock}
 use Rattle.fo_tree_down.proofs.Join.{local_cases}
 use Rattle.fo_tree_raise.specs.Raise.{Raises}
-use Rattle.fo_tree_raise.specs.Levels.{IsAmong, Stead, Adds}
+use Rattle.fo_tree_raise.specs.Levels.{IsAmong, Adds}
 
 same_joins : {a b c : Content} → SameContent a b → SameContent b c → SameContent a c
 same_joins p q = record { bytes = p.bytes ∙ q.bytes; slots = λ i. p.slots i ∙ q.slots i }
@@ -209,9 +209,9 @@ module _ {t : Tree} {mine : ℕ → Type 0} {top : ℕ} {s m u : State} (x : Add
     numbers = record { next = x.step.numbers.next ∙ x.first.numbers.next; grants = λ h. x.step.numbers.grants (x.first.numbers.grants h) };
   }
 
--- What a source changes to which levels are added, where its top was put into a slot, and comes in the place of none any more.
-pub adds_changes : {t : Tree} {s u : State} → Adds t.tag (λ b. t.top ≡ Local b) s u → ((b : ℕ) → t.top ≡ Local b → (s.apart b → ⊥) × ((x : ℕ) → s.instead b x → ⊥)) → Changes t.tag (HasBlock s t) none s u
-adds_changes {t = t} {s = s} {u = u} x free = record {
+-- what a source changes to which levels are added
+pub adds_changes : {t : Tree} {s u : State} → Adds t.tag (λ b. t.top ≡ Local b) s u → Changes t.tag (HasBlock s t) none s u
+adds_changes {t = t} {s = s} {u = u} x = record {
   memory = λ b not. x.same b (λ made. not (inl made));
   images = λ image is. let d = x.images image is in record {
     other = d.other;
@@ -224,12 +224,12 @@ adds_changes {t = t} {s = s} {u = u} x free = record {
   others = λ b not. record {
     label = x.labels b not;
     marks = x.marks b not;
-    apart = ((x.apart b not).0, λ h. ⊎_elim (λ still. still) (λ mine. absurd ((free b mine).0 h)) ((x.apart b not).1 h));
   };
+  apart = λ b not. let was = x.apart b not in (was.0, λ h. ⊎_elim (λ still. inl still) (λ mine. inr (top_has b mine)) (was.1 h));
   places = λ told b p not other open_ stands. x.places told b p not open_ stands;
   instead = λ b y h. ⊎_elim
       (λ old. inl old.1)
-      (λ new. inr (new.0, ⊎_elim (λ mine. top_has y mine) (λ was. absurd ((free was.0 was.1).1 y was.2)) new.1))
+      (λ new. inr (new.0, ⊎_elim (λ mine. inl (top_has y mine)) (λ was. inr (was.0, top_has was.0 was.1, was.2)) new.1))
       (x.instead b y h);
   covers = λ b. (x.still b, λ no other h. x.only b no h);
   leaves = λ told b r gone. absurd (gone ((x.reached told b).0 r));

@@ -1,10 +1,11 @@
 -- The source stands over the blocks with one level more.
-use Rattle.std.proofs.Common.{◌≡◌, ◌≢◌, ◌+◌, ◌*◌, ◌^◌, ◌<◌, ◌≤◌, ℕ, suc, List, ⊎_elim, sym, ◌∙◌, ap, subst, arith}
+use Rattle.std.proofs.Common.{◌≡◌, ◌≢◌, ◌+◌, ◌*◌, ◌^◌, ◌<◌, ◌≤◌, ℕ, suc, List, inl, ⊎_elim, sym, ◌∙◌, ap, subst, arith}
 use Rattle.std.proofs.lemmas.Bool.{cases_eq, cases_lt}
 use Rattle.std.proofs.Math.Nat.{pow-succ'}
 use Rattle.fo_image.specs.declared.types.Label.{Label}
 use Rattle.fo_image.specs.declared.types.Score.{Score}
 use Rattle.fo_image.specs.declared.types.Pointer.TheVariants.{Nil, Local, Score as Held}
+use Rattle.fo_image.specs.Format.{PointerHolds}
 use Rattle.fo_crash.specs.Places.{place, IsPlaced}
 use Rattle.fo_ports.specs.State.{State, KeepsAll}
 use Rattle.fo_ports.specs.Sources.{depth_for}
@@ -13,35 +14,33 @@ use Rattle.fo_tree_read.specs.Tree.{kind_at, block_at}
 use Rattle.fo_tree_look.specs.declared.ways.Kept.{Kept}
 use Rattle.fo_tree_look.specs.Source.{HasBlock, IsTold, NoneHeld, Over}
 use Rattle.fo_tree_look.proofs.Shown.{held_on}
-use Rattle.fo_tree_raise.specs.Raise.{Raises, CanRaise, raised, IsBorne, Bears}
+use Rattle.fo_tree_raise.specs.Raise.{Raises, CanRaise, raised, Bears}
 use Rattle.fo_tree_raise.proofs.Levels.{index_of, index_few, index_same, block_raised, block_none, owned_back}
 
 local_eq : {a b : ℕ} → Local a ≡ Local b → a ≡ b
 local_eq e = cc
 
 -- a source that stands over the blocks
-pub borne : {s : State} {t : Tree} {at : ℕ} → IsTold s at → IsBorne s t at
-borne is = record { live = is.live; up_to = is.up_to; uncovered = is.uncovered; in_tree = is.in_tree; hung = is.hung; alone = λ y h. absurd (is.alone y h) }
-
 pub bears : {s : State} {t : Tree} {kept : List Kept} {limit : ℕ} → Over s t kept limit → Bears s t kept
-bears over = record { hangs = over.hangs; empty = over.empty; told = λ told at has. borne (over.told told at has); unheld = over.unheld; held = over.held }
+bears over = record { hangs = over.hangs; empty = over.empty; holds = over.holds; free = over.free; told = over.told; unheld = over.unheld; held = over.held }
 
--- and back, where it has the least levels and its top was raised over none of its blocks
-pub over_of : {s : State} {t : Tree} {kept : List Kept} {limit : ℕ} → t.depth ≡ depth_for t.size → t.size ≤ limit → limit ≤ 2 ^ 47
-    → (s.tells → (at top : ℕ) → HasBlock s t at → t.top ≡ Local top → s.instead top at → ⊥) → Bears s t kept → Over s t kept limit
-over_of {s = s} {t = t} least within low free b = record {
+-- and back, where it has the least levels
+pub over_of : {s : State} {t : Tree} {kept : List Kept} {limit : ℕ} → t.depth ≡ depth_for t.size → t.size ≤ limit → limit ≤ 2 ^ 47 → Bears s t kept → Over s t kept limit
+over_of least within low b = record {
   hangs = b.hangs;
   least = least;
   within = within;
   low = low;
   empty = b.empty;
-  told = λ told at has. let is = b.told told at has in record { live = is.live; up_to = is.up_to; uncovered = is.uncovered; in_tree = is.in_tree; hung = is.hung; alone = λ y h. free told at y has (is.alone y h).0 h };
+  holds = b.holds;
+  free = b.free;
+  told = b.told;
   unheld = b.unheld;
   held = b.held;
 }
 
 module _ {t : Tree} {top : ℕ} {s u : State} (all : KeepsAll s u) (x : Raises t top s u) (can : CanRaise s t) (kept : List Kept) (b : Bears s t kept) where
-  borne_top : u.tells → IsBorne u (raised t top) top
+  borne_top : u.tells → IsTold u (Local top) top
   borne_top now =
       let own = x.own in
       let told = own.told now in
@@ -52,11 +51,11 @@ module _ {t : Tree} {top : ℕ} {s u : State} (all : KeepsAll s u) (x : Raises t
         uncovered = told.uncovered;
         in_tree = λ older. absurd (omega (arith, older, current));
         hung = told.hung;
-        alone = λ y h. absurd (told.alone y h);
+        alone = λ y h. absurd (x.alone (all.still_tells.0 now) y h);
       }
 
   -- what the new top comes in the place of was current
-  over_current : s.tells → (at : ℕ) → u.instead top at → IsBorne s t at → (s.label at).epoch ≡ s.high
+  over_current : s.tells → (at : ℕ) → u.instead top at → IsTold s t.top at → (s.label at).epoch ≡ s.high
   over_current told at h is =
       let r = x.raises at h in
       ⊎_elim
@@ -64,7 +63,7 @@ module _ {t : Tree} {top : ℕ} {s u : State} (all : KeepsAll s u) (x : Raises t
       (λ was. (is.alone r.0 was).1)
       r.2
 
-  borne_on : s.tells → (at : ℕ) → at ≢ top → IsBorne s t at → IsBorne u (raised t top) at
+  borne_on : s.tells → (at : ℕ) → at ≢ top → IsTold s t.top at → IsTold u (Local top) at
   borne_on told at ne is =
       let same = x.labels at ne in
       let epoch : (u.label at).epoch ≡ (s.label at).epoch = ap (λ (l : Label). l.epoch) same in
@@ -83,12 +82,12 @@ module _ {t : Tree} {top : ℕ} {s u : State} (all : KeepsAll s u) (x : Raises t
       }
 
   module _ (told : s.tells) (placed : IsPlaced s.stands s.now) where
-    pub borne_end : (at : ℕ) → HasBlock u (raised t top) at → IsBorne u (raised t top) at
+    pub borne_end : (at : ℕ) → HasBlock u (raised t top) at → IsTold u (Local top) at
     borne_end at has = ⊎_elim
         (λ old.
         let is = b.told told at old in
         borne_on told at (λ e. x.made.0 (ap (λ y. (s.label y).state) (sym e) ∙ is.live)) is)
-        (λ e. subst (λ y. IsBorne u (raised t top) y) (sym e) (borne_top (all.still_tells.1 told)))
+        (λ e. subst (λ y. IsTold u (Local top) y) (sym e) (borne_top (all.still_tells.1 told)))
         (owned_back all x told placed b.hangs at has)
 
     pub unheld_end : NoneHeld s t → NoneHeld u (raised t top)
@@ -104,8 +103,8 @@ module _ {t : Tree} {top : ℕ} {s u : State} (all : KeepsAll s u) (x : Raises t
         nil_held : (score : Score) → Nil ≡ Held score → ⊥
         nil_held score e = cc
 
-  pub bears_raised : t.depth < 4 → 0 < t.size → (s.tells → IsPlaced s.stands s.now) → Bears u (raised t top) kept
-  bears_raised few some placed =
+  pub bears_raised : PointerHolds (Local top) → t.depth < 4 → 0 < t.size → (s.tells → IsPlaced s.stands s.now) → Bears u (raised t top) kept
+  bears_raised holds few some placed =
       let level : t.depth + 1 ≡ suc t.depth = omega arith in
       let more : 409 ^ suc t.depth ≡ 409 * 409 ^ t.depth = pow-succ' 409 t.depth in
       let room : t.size ≤ 8192 * 409 ^ suc t.depth = let le = b.hangs.room in omega (arith, le, more) in
@@ -121,6 +120,8 @@ module _ {t : Tree} {top : ℕ} {s u : State} (all : KeepsAll s u) (x : Raises t
               (subst (λ d. u.stands top (place (kind_at t.dir d) t.tag 0 (t.rank + d))) (sym level) told.stands, told.uncovered);
         };
         empty = λ (none : t.size ≡ 0). absurd (omega (arith, none, some));
+        holds = holds;
+        free = λ now at e. inl (subst u.apart (local_eq e) x.is.2);
         told = λ now at has. let told = all.still_tells.0 now in borne_end told (placed told) at has;
         unheld = λ now other. let told = all.still_tells.0 now in unheld_end told (placed told) (b.unheld told other);
         held = held_on all kept b.held;

@@ -6,3 +6,4 @@ pub mod Bearing
 pub mod Adding
 pub mod Climbing
 pub mod Holding
+pub mod Standing

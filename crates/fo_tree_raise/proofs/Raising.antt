@@ -242,7 +242,7 @@ module _ {t : Tree} {l : Label} {result n : ℕ} {beside : Image → Type 0} {s 
       stands = stands_result told;
       uncovered = free_result;
       hung = inr (record { top = result; is_apart = apart_result; place = place (kind_at t.dir (suc t.depth)) t.tag 0 (t.rank + suc t.depth); stands = stands_result told; uncovered = free_result; reaches = reaches_itself u.now result });
-      alone = alone_end told;
+      alone = λ y h. absurd (alone_end told y h);
     };
   }
 
@@ -264,6 +264,7 @@ module _ {t : Tree} {l : Label} {result n : ℕ} {beside : Image → Type 0} {s 
     put = λ b e. x.hangs.put b e;
     apart = apart_end;
     instead = instead_end;
+    alone = alone_end;
     raises = raises_end;
     places = places_end;
     still = still_end;

@@ -5,7 +5,7 @@ use Rattle.fo_image.specs.declared.types.Pointer.TheVariants.{Local}
 use Rattle.fo_crash.specs.declared.place.Place.{Place}
 use Rattle.fo_crash.specs.Images.{Image, SameContent, Reaches, to_block}
 use Rattle.fo_ports.specs.State.{State, none, AddsNoWait, KeepsNumbers}
-use Rattle.fo_ports.specs.Sources.{IsHung, Made, IsMade}
+use Rattle.fo_ports.specs.Sources.{IsHung, Made, IsMade, Stead}
 use Rattle.fo_tree_read.specs.declared.tree.Tree.{Tree}
 
 -- An image is one of before, but for blocks that were given out, to which no path from a top leads.
@@ -14,10 +14,6 @@ pub record IsAmong (s u : State) (image : Image) : Type 0 where
   pub was : s.may_leave other
   pub same : (b : ℕ) → (Made s u b → ⊥) → SameContent (image b) (other b)
   pub apart : (top b : ℕ) → s.tops top → Made s u b → Reaches other (to_block top) b → ⊥
-
--- One of these blocks, or one in whose place one of these came.
-abbrev pub Stead : State → (ℕ → Type 0) → ℕ → Type 0
-Stead s mine x = mine x ⊎ ((y : ℕ) × mine y × s.instead y x)
 
 -- Only blocks differ that were given out. What comes in the place of another comes in that of these blocks (`mine`), or of what they came
 -- in the place of; and these alone may hang somewhere now that hung nowhere.

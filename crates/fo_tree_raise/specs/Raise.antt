@@ -12,7 +12,7 @@ use Rattle.fo_ports.specs.Sources.{IsHung, Made}
 use Rattle.fo_tree_read.specs.declared.tree.Tree.{Tree}
 use Rattle.fo_tree_read.specs.Tree.{kind_at, block_at, Hangs}
 use Rattle.fo_tree_look.specs.declared.ways.Kept.{Kept}
-use Rattle.fo_tree_look.specs.Source.{HasBlock, IsPlainTree, NoneHeld, AllHeld, WayReady, seen}
+use Rattle.fo_tree_look.specs.Source.{HasBlock, IsTold, IsPlainTree, NoneHeld, AllHeld, WayReady, seen}
 use Rattle.fo_tree_own.specs.Step.{IsOwn, IsBeside}
 use Rattle.fo_tree_down.specs.Way.{IsWayIndex}
 
@@ -60,6 +60,7 @@ pub record Raises (t : Tree) (top : ℕ) (s u : State) : Type 0 where
   pub put : (b : ℕ) → t.top ≡ Local b → (u.apart b → ⊥) × ((x : ℕ) → u.instead b x → ⊥)
   pub apart : (b : ℕ) → b ≢ top → (t.top ≡ Local b → ⊥) → u.apart b ↔ s.apart b
   pub instead : (b x : ℕ) → b ≢ top → u.instead b x → s.instead b x
+  pub alone : s.tells → (y : ℕ) → u.instead y top → ⊥
   pub raises : (x : ℕ) → u.instead top x → (b : ℕ) × (t.top ≡ Local b) × (((b ≡ x) × (s.apart b → ⊥)) ⊎ s.instead b x)
   pub places : s.tells → (b : ℕ) (p : Place) → b ≢ top → (u.covered b → ⊥) → s.stands b p → u.stands b p
   pub still : (b : ℕ) → s.covered b → u.covered b
@@ -88,21 +89,13 @@ pub record EndsClear (s : State) (t : Tree) (kept : List Kept) : Type 0 where
   pub way : 0 < t.size → WayReady s t kept t.depth (last_leaf t.size)
   pub behind : 0 < t.size → (n a b : ℕ) → IsWayIndex t.depth (last_leaf t.size) n a → a < b → b < 409 ^ n → block_at (seen s kept) t n b ≡ Nil
 
--- What a device that tells has of a block of a source. No block was made to come in its place but the source's own top, where that was
--- raised over it, which is a current one.
-pub record IsBorne (s : State) (t : Tree) (at : ℕ) : Type 0 where
-  pub live : (s.label at).state ≡ Live
-  pub up_to : (s.label at).epoch ≤ s.high
-  pub uncovered : s.covered at → ⊥
-  pub in_tree : (s.label at).epoch < s.high → Reaches s.now (to_block 1) at
-  pub hung : IsHung s at
-  pub alone : (y : ℕ) → s.instead y at → (t.top ≡ Local y) × ((s.label at).epoch ≡ s.high)
-
 -- A source stands over these blocks, with as many levels as its size asks for, or more.
 pub record Bears (s : State) (t : Tree) (kept : List Kept) : Type 0 where
   pub hangs : Hangs s t
   pub empty : t.size ≡ 0 → t.top ≡ Nil
-  pub told : s.tells → (at : ℕ) → HasBlock s t at → IsBorne s t at
+  pub holds : PointerHolds t.top
+  pub free : s.tells → (b : ℕ) → t.top ≡ Local b → s.apart b ⊎ Reaches s.now (to_block 1) b
+  pub told : s.tells → (at : ℕ) → HasBlock s t at → IsTold s t.top at
   pub unheld : s.tells → (IsPlainTree t → ⊥) → NoneHeld s t
   pub held : AllHeld s kept
 

@@ -22,7 +22,7 @@ pub fn raise_levels<B: Blocks>(tree: &Tree, on: &mut B, levels: u8) -> Pointer
     ensures top { IsTopAfter (B.state on.old) (B.state on.new) tree.now levels result }
     ensures adds { Adds tree.now.tag (λ b. tree.now.top ≡ Local b) (B.state on.old) (B.state on.new) }
     ensures instead { (b top x : ℕ) → tree.now.top ≡ Local b → (B.state on.old).apart b → result ≡ Local top → (B.state on.new).instead top x → (B.state on.old).instead b x }
-    ensures changes { ((b : ℕ) → tree.now.top ≡ Local b → ((B.state on.old).apart b → ⊥) × ((x : ℕ) → (B.state on.old).instead b x → ⊥)) → Changes tree.now.tag (HasBlock (B.state on.old) tree.now) none (B.state on.old) (B.state on.new) }
+    ensures changes { Changes tree.now.tag (HasBlock (B.state on.old) tree.now) none (B.state on.old) (B.state on.new) }
     ensures again { CanRaise (B.state on.new) (grown tree.now levels result) }
     ensures bears { (kept : List Kept) → 0 < tree.now.size → Bears (B.state on.old) tree.now kept → Bears (B.state on.new) (grown tree.now levels result) kept }
     ensures owns { (B.state on.old).tells → (kept : List Kept) → 0 < tree.now.size → Bears (B.state on.old) tree.now kept → (b : ℕ) → (HasBlock (B.state on.new) (grown tree.now levels result) b → HasBlock (B.state on.old) tree.now b ⊎ Made (B.state on.old) (B.state on.new) b) × (Made (B.state on.old) (B.state on.new) b ⊎ HasBlock (B.state on.old) tree.now b → HasBlock (B.state on.new) (grown tree.now levels result) b) }

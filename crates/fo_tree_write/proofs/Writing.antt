@@ -226,8 +226,8 @@ pub record OneMore (s u v : State) (t : Tree) (top : Pointer) (next : ℕ) (kept
   pub ready : WayReady s t kept t.depth ((offset + done) / 8192)
   pub all : KeepsAll s v
   pub few : t.depth ≤ 4
-  pub told_old : s.tells → (b : ℕ) → HasBlock s t b → IsTold s b
-  pub told_mid : u.tells → (b : ℕ) → HasBlock u (at_top t top) b → IsTold u b
+  pub told_old : s.tells → (b : ℕ) → HasBlock s t b → IsTold s t.top b
+  pub told_mid : u.tells → (b : ℕ) → HasBlock u (at_top t top) b → IsTold u (at_top t top).top b
   pub placed : (image : Image) → s.may_leave image → IsPlaced s.stands image
   pub ranked : (image : Image) → s.may_leave image → RanksFall s.stands image
   pub top_stands : (image : Image) → s.may_leave image → (up : ℕ) → s.tops up → (p : Place) × s.stands up p

@@ -13,6 +13,9 @@ use Rattle.fo_dir_ready.proofs.entries.own_kept.Goals as goal
 root_not_dir : Root ≡ Dir 0 → ⊥
 root_not_dir e = cc
 
+pub own_leaf-requires-clause-linked : goal.own_leaf-requires-clause-linked
+own_leaf-requires-clause-linked g c = λ told is more b has. c.requires.linked told more b has
+
 pub returns-clause-held : goal.returns-clause-held
 returns-clause-held g c =
     let o = c.own_leaf.ensures.owned in

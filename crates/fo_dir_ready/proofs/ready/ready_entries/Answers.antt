@@ -1,5 +1,7 @@
-use Rattle.std.proofs.Common.{ℕ, ◌≡◌, ◌/◌, Option, None, sym, ◌∙◌, subst}
-use Rattle.fo_ports.specs.Sources.{Form}
+use Rattle.std.proofs.Common.{ℕ, ◌≡◌, ◌+◌, ◌*◌, ◌/◌, ◌<◌, Option, None, sym, ap, ◌∙◌, subst}
+use Rattle.fo_crash.specs.Images.{target, to_block}
+use Rattle.fo_crash.proofs.Reach.{same_walk}
+use Rattle.fo_ports.specs.Sources.{Form, depth_for}
 use Rattle.fo_dir_read.specs.Names.{leaf_count}
 use Rattle.fo_dir_read.specs.Pairs.{OfEntries, IsFree}
 use Rattle.fo_dir_ready.proofs.Rowed.{ends_before}
@@ -12,6 +14,17 @@ own_entries-at-requires-clause-form g c = subst (λ (f : Form). OfEntries f c.ar
 
 pub own_entries-at-requires-clause-may : goal.own_entries-at-requires-clause-may
 own_entries-at-requires-clause-may g c = own_later c.requires.may c.prepare.ensures.same.1 c.prepare.ensures.same.2 c.prepare.ensures.looks.0.room c.in-Ok.ensures.prepared
+
+pub own_entries-at-requires-clause-linked : goal.own_entries-at-requires-clause-linked
+own_entries-at-requires-clause-linked g c = λ now more b has.
+    let on = c.args.on.now in
+    let mid = c.prepare.new.on in
+    let s = g.B.Blocks.state on in
+    let m = g.B.Blocks.state mid in
+    let told = (g.met.B.Blocks.keeps_all on mid c.prepare.ensures.looks.1).still_tells.0 now in
+    let deeper = subst (λ n. depth_for n < depth_for (8192 * (c.args.i + 1))) c.prepare.ensures.same.1 more in
+    let r = c.requires.linked told deeper b ((c.prepare.ensures.same.2.owns told b).0 has) in
+    record { path = r.path; leads = ap target (same_walk m.now s.now (λ x j. ((c.prepare.ensures.looks.0.memory told).each x).slots j) r.path (to_block 1)) ∙ r.leads }
 
 pub returns-in-Ok-clause-pairs : goal.returns-in-Ok-clause-pairs
 returns-in-Ok-clause-pairs g c = λ told k first second pair.

@@ -1,12 +1,19 @@
-use Rattle.std.proofs.Common.{◌≡◌, ◌≢◌, ◌⊎◌, inl, inr, ⊎_elim, ◌+◌, ℕ, Option, Some, None, MatchOption, [], sym, ◌∙◌, ap, subst}
+use Rattle.std.proofs.Common.{◌≡◌, ◌≢◌, ◌⊎◌, inl, inr, ⊎_elim, ◌+◌, ℕ, true, Option, Some, None, MatchOption, [], sym, ◌∙◌, ap, subst}
 use Rattle.std.proofs.lemmas.Bool.{cases_eq}
 use Rattle.fo_image.specs.declared.types.Kind.TheVariants.{Data}
 use Rattle.fo_crash.specs.declared.place.Place.{Place}
 use Rattle.fo_crash.specs.Images.{SameContent}
 use Rattle.fo_crash.specs.Places.{super_place}
+use Rattle.fo_ports.specs.Sources.{is_dir}
 use Rattle.fo_dir_read.specs.Names.{HasRecords}
 use Rattle.fo_dir_ready.proofs.Rowed.{SameBytes, has_on, untouched, root_not_data, none_there, ends_before, rows_owned, stays_same, renewed_same, owned_same, not_plain, counted}
 use Rattle.fo_dir_ready.proofs.records.own_records.Goals as goal
+
+data_not_dir : is_dir (Data 0) ≡ true → ⊥
+data_not_dir e = cc
+
+pub own_leaf-requires-clause-linked : goal.own_leaf-requires-clause-linked
+own_leaf-requires-clause-linked g c = λ told is. absurd (data_not_dir (subst (λ k. is_dir k ≡ true) c.requires.form.leaf_kind is))
 
 pub returns-clause-owned : goal.returns-clause-owned
 returns-clause-owned g c =

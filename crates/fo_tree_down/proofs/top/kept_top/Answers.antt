@@ -9,7 +9,7 @@ use Rattle.fo_tree_read.specs.Tree.{kind_at}
 use Rattle.fo_tree_own.specs.Step.{Becomes}
 use Rattle.fo_tree_own.proofs.Link.{blank_leads, came, came_filled}
 use Rattle.fo_tree_own.proofs.Filling.{bare_gives}
-use Rattle.fo_tree_down.proofs.Topping.{comes_topped, came_made, level_at}
+use Rattle.fo_tree_down.proofs.Topping.{comes_topped, top_topped, came_made, level_at}
 use Rattle.fo_tree_down.proofs.top.kept_top.Goals as goal
 
 pub new_block-made-requires-clause-level : goal.new_block-made-requires-clause-level
@@ -99,3 +99,34 @@ returns-clause-spare g c =
 pub returns-clause-keeps : goal.returns-clause-keeps
 returns-clause-keeps g c =
     g.met.B.Blocks.keeps_joins c.args.on.now c.new_block-made.new.self c.fill_kept.new.on c.new_block-made.ensures.keeps c.fill_kept.ensures.keeps
+
+pub returns-clause-top : goal.returns-clause-top
+returns-clause-top g c =
+    let on = c.args.on.now in
+    let raw = c.new_block-made.new.self in
+    let s = g.B.Blocks.state on in
+    let r = g.B.Blocks.state raw in
+    let t = c.args.tree.now in
+    let e = c.new_block-made.ensures in
+    let gives = subst (λ q. Gives c.new_block-made.result (blank q) (record { state = Live; kind = q; tag = t.tag; epoch = s.high; closing = 2 ^ 32 - 1 }) s r) c.kind_at-kind.ensures e.gives in
+    let first = g.met.B.Blocks.keeps_all on raw e.keeps in
+    let there : s.tells → r.stands c.new_block-made.result (place (kind_at t.dir t.depth) t.tag 0 (t.rank + t.depth)) = λ told. subst (λ q. r.stands c.new_block-made.result (place q t.tag 0 (t.rank + t.depth))) c.kind_at-kind.ensures (e.place told) in
+    let mid = c.fill_kept.new.on in
+    let m = g.B.Blocks.state mid in
+    let then = g.met.B.Blocks.keeps_all raw mid c.fill_kept.ensures.keeps in
+    let joined = g.met.B.Blocks.keeps_joins on raw mid e.keeps c.fill_kept.ensures.keeps in
+    let filled = c.fill_kept.ensures.filled in
+    top_topped {kept = c.args.kept.now} {s = s} {m = m} (record {
+      came = came_filled first then (came gives) filled;
+      all = g.met.B.Blocks.keeps_all on mid joined;
+      laws = record { present = g.met.B.Blocks.present on; active = (g.met.B.Blocks.active on).0; not_one = (g.met.B.Blocks.active on).1; one = g.met.B.Blocks.one_place on; super_stands = g.met.B.Blocks.super_stands on; placed = λ told. g.met.B.Blocks.placed on s.now (g.met.B.Blocks.present on told); ranked = λ told. g.met.B.Blocks.ranked on s.now (g.met.B.Blocks.present on told); live = λ y told ne r. g.met.B.Blocks.live on y told ne r; clears = g.met.B.Blocks.clears_entries on; waits_within = g.met.B.Blocks.waits_within on; covers_told = g.met.B.Blocks.covers_told on; within = g.met.B.Blocks.within on; spelled = g.met.B.Blocks.spelled on; apart_hangs = λ told w is r. g.met.B.Blocks.apart_hangs on s.now 1 w is (g.met.B.Blocks.present on told) (g.met.B.Blocks.active on).0 r; small = g.met.B.Blocks.small on };
+      is_live = refl;
+      is_current = refl;
+      has_kind = refl;
+      tagged = refl;
+      long = c.fill_kept.ensures.bare.long;
+      raised = λ y h. absurd (e.instead y ((filled.instead c.new_block-made.result y).0 h));
+      raised_old = λ y h. absurd (e.instead y ((filled.instead c.new_block-made.result y).0 h));
+      stands = λ told. filled.places (first.still_tells.1 told) c.new_block-made.result (place (kind_at t.dir t.depth) t.tag 0 (t.rank + t.depth)) c.fill_kept.ensures.bare.uncovered (there told);
+      content = subst (λ (p : Pointer). Becomes s m t c.args.kept.now t.depth p c.new_block-made.result) (sym c.requires.is) c.fill_kept.ensures.content;
+    })

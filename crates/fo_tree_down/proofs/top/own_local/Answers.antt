@@ -1,11 +1,11 @@
-use Rattle.std.proofs.Common.{◌+◌, ◌<◌, length, refl, sym, ap, ◌∙◌, subst, arith}
+use Rattle.std.proofs.Common.{◌≡◌, ◌<◌, ◌+◌, inr, length, refl, sym, ap, ◌∙◌, subst, arith}
 use Rattle.fo_image.specs.declared.types.Pointer.{Pointer}
 use Rattle.fo_image.specs.declared.types.Pointer.TheVariants.{Local}
 use Rattle.fo_crash.specs.Places.{place}
 use Rattle.fo_tree_read.specs.Tree.{kind_at}
 use Rattle.fo_tree_own.specs.Step.{Becomes}
 use Rattle.fo_tree_own.proofs.Link.{came}
-use Rattle.fo_tree_down.proofs.Topping.{comes_topped, came_made, own_here}
+use Rattle.fo_tree_down.proofs.Topping.{comes_topped, top_topped, came_made, own_here}
 use Rattle.fo_tree_down.proofs.Next.{comes_top}
 use Rattle.fo_tree_down.proofs.top.own_local.Goals as goal
 
@@ -64,3 +64,35 @@ returns-else-is_current-clause-same g c =
     λ current.
     let older = c.is_current.ensures.older c.if-is_current.false in
     absurd (omega (arith, older, current))
+
+pub returns-else-is_current-clause-top : goal.returns-else-is_current-clause-top
+returns-else-is_current-clause-top g c =
+    let on = c.args.on.now in
+    let raw = c.copy.new.self in
+    let s = g.B.Blocks.state on in
+    let r = g.B.Blocks.state raw in
+    let t = c.args.tree.now in
+    let e = c.copy.ensures in
+    top_topped {kept = c.args.kept.now} {s = s} {m = r} (record {
+      came = came e.gives;
+      all = g.met.B.Blocks.keeps_all on raw e.keeps;
+      laws = record { present = g.met.B.Blocks.present on; active = (g.met.B.Blocks.active on).0; not_one = (g.met.B.Blocks.active on).1; one = g.met.B.Blocks.one_place on; super_stands = g.met.B.Blocks.super_stands on; placed = λ told. g.met.B.Blocks.placed on s.now (g.met.B.Blocks.present on told); ranked = λ told. g.met.B.Blocks.ranked on s.now (g.met.B.Blocks.present on told); live = λ y told ne r. g.met.B.Blocks.live on y told ne r; clears = g.met.B.Blocks.clears_entries on; waits_within = g.met.B.Blocks.waits_within on; covers_told = g.met.B.Blocks.covers_told on; within = g.met.B.Blocks.within on; spelled = g.met.B.Blocks.spelled on; apart_hangs = λ told w is r. g.met.B.Blocks.apart_hangs on s.now 1 w is (g.met.B.Blocks.present on told) (g.met.B.Blocks.active on).0 r; small = g.met.B.Blocks.small on };
+      is_live = refl;
+      is_current = refl;
+      has_kind = c.requires.ready.has_kind;
+      tagged = c.requires.ready.tagged;
+      long = ap length e.gives.memory.here.bytes ∙ c.requires.ready.long;
+      raised_old = λ y h. subst (λ b. (s.label b).epoch < s.high) (sym ((e.instead y).0 h)) (c.is_current.ensures.older c.if-is_current.false);
+      raised = λ y h. c.requires.is ∙ ap (λ b. Local b) (sym ((e.instead y).0 h));
+      stands = λ told. e.place told (place (kind_at t.dir t.depth) t.tag 0 (t.rank + t.depth)) (c.requires.hangs.told told c.args.at c.requires.is).0;
+      content = subst (λ (p : Pointer). Becomes s r t c.args.kept.now t.depth p c.copy.result) (sym c.requires.is) e.gives.memory.here;
+    })
+
+pub returns-then-is_current-clause-top : goal.returns-then-is_current-clause-top
+returns-then-is_current-clause-top g c = record {
+  from = inr c.requires.is;
+  apart = λ made. absurd (made.0 made.1);
+  in_tree = λ told r. r;
+  live = c.requires.ready.live;
+  current = c.is_current.ensures.yes c.if-is_current.true;
+}

@@ -10,7 +10,7 @@ use Rattle.fo_tree_look.specs.Source.{seen, IsTold, WayReady}
 use Rattle.fo_tree_own.specs.Step.{IsOwn, CanOwn, Becomes, Links}
 use Rattle.fo_tree_down.specs.Way.{OnWay, Comes, Leads, IsTopOf, WayCurrent, with_top}
 use Rattle.fo_tree_down.proofs.Next.{Says, local_seen, leads_next, leads_beside, above_own, can_next, was_below, comes_same, comes_new, not_current, replaces_same, replaces_new}
-use Rattle.fo_tree_down.proofs.Leading.{block_of, leads_on, beside_on, given_on, top_came, top_stays, way_top}
+use Rattle.fo_tree_down.proofs.Leading.{block_of, leads_on, beside_on, given_on, top_not_was, top_stays, way_top}
 use Rattle.fo_tree_down.proofs.way.+own_down.Goals as goal
 
 pub own_top-top-requires-clause-ready : goal.own_top-top-requires-clause-ready
@@ -20,7 +20,7 @@ pub own_top-top-requires-clause-told : goal.own_top-top-requires-clause-told
 own_top-top-requires-clause-told g t' c =
     let s = g.B.Blocks.state c.args.on.now in
     let t = c.args.tree.now in
-    subst (λ d. s.tells → (b : ℕ) → OnWay s t d c.args.k b → IsTold s b) c.if-down-eq0.true c.requires.told
+    subst (λ d. s.tells → (b : ℕ) → OnWay s t d c.args.k b → IsTold s t.top b) c.if-down-eq0.true c.requires.told
 
 pub own_top-top-requires-clause-spare : goal.own_top-top-requires-clause-spare
 own_top-top-requires-clause-spare g t' c = ⊎_elim (λ top. inl top.0) (λ some. inr (omega (arith, some))) c.requires.spare
@@ -47,7 +47,7 @@ own_down-above-requires g t' c =
     let more : 409 ^ suc (c.args.down - 1) ≡ 409 * 409 ^ (c.args.down - 1) = pow-succ' 409 (c.args.down - 1) in
     let le = c.requires.down.0 in
     let some = c.if-down-eq0.false in
-    let told : s.tells → (b : ℕ) → OnWay s t (suc (c.args.down - 1)) k b → IsTold s b = subst (λ d. s.tells → (b : ℕ) → OnWay s t d k b → IsTold s b) is c.requires.told in
+    let told : s.tells → (b : ℕ) → OnWay s t (suc (c.args.down - 1)) k b → IsTold s t.top b = subst (λ d. s.tells → (b : ℕ) → OnWay s t d k b → IsTold s t.top b) is c.requires.told in
     λ lifetimes sub. (
       omega arith,
       (
@@ -98,7 +98,7 @@ own_block-at-requires-clause-above g t' c =
     let down : suc (c.args.down - 1) ≤ t.depth = subst (λ d. d ≤ t.depth) is c.requires.down.0 in
     let ready : WayReady s t kept (suc (c.args.down - 1)) k = subst (λ d. WayReady s t kept d k) is c.requires.ready in
     let says : s.tells → Says s = λ told. record { placed = g.met.B.Blocks.placed on s.now (g.met.B.Blocks.present on told); one = g.met.B.Blocks.one_place on } in
-    let told : s.tells → (b : ℕ) → OnWay s t (suc (c.args.down - 1)) k b → IsTold s b = subst (λ d. s.tells → (b : ℕ) → OnWay s t d k b → IsTold s b) is c.requires.told in
+    let told : s.tells → (b : ℕ) → OnWay s t (suc (c.args.down - 1)) k b → IsTold s t.top b = subst (λ d. s.tells → (b : ℕ) → OnWay s t d k b → IsTold s t.top b) is c.requires.told in
     let above = c.own_down-above.result.at in
     let comes = c.own_down-above.ensures.comes in
     subst (λ d. IsOwn m t (suc (t.depth - d)) (k / 409) above) (sym is) (above_own s m t kept n k above all c.requires.hangs down ready comes says told)
@@ -118,7 +118,7 @@ own_block-at-requires-clause-below g t' c =
     let down : suc (c.args.down - 1) ≤ t.depth = subst (λ d. d ≤ t.depth) is c.requires.down.0 in
     let ready : WayReady s t kept (suc (c.args.down - 1)) k = subst (λ d. WayReady s t kept d k) is c.requires.ready in
     let says : s.tells → Says s = λ told. record { placed = g.met.B.Blocks.placed on s.now (g.met.B.Blocks.present on told); one = g.met.B.Blocks.one_place on } in
-    let told : s.tells → (b : ℕ) → OnWay s t (suc (c.args.down - 1)) k b → IsTold s b = subst (λ d. s.tells → (b : ℕ) → OnWay s t d k b → IsTold s b) is c.requires.told in
+    let told : s.tells → (b : ℕ) → OnWay s t (suc (c.args.down - 1)) k b → IsTold s t.top b = subst (λ d. s.tells → (b : ℕ) → OnWay s t d k b → IsTold s t.top b) is c.requires.told in
     let above = c.own_down-above.result.at in
     let comes = c.own_down-above.ensures.comes in
     subst (λ d. CanOwn m t kept (t.depth - d) (target ((m.now above).slot (k % 409)))) (sym is) (can_next s m t kept n k above all c.requires.hangs down ready comes says told)
@@ -146,7 +146,7 @@ returns-clause-comes g t' c =
     let down : suc (c.args.down - 1) ≤ t.depth = subst (λ d. d ≤ t.depth) is c.requires.down.0 in
     let ready : WayReady s t kept (suc (c.args.down - 1)) k = subst (λ d. WayReady s t kept d k) is c.requires.ready in
     let says : s.tells → Says s = λ told. record { placed = g.met.B.Blocks.placed on s.now (g.met.B.Blocks.present on told); one = g.met.B.Blocks.one_place on } in
-    let told : s.tells → (b : ℕ) → OnWay s t (suc (c.args.down - 1)) k b → IsTold s b = subst (λ d. s.tells → (b : ℕ) → OnWay s t d k b → IsTold s b) is c.requires.told in
+    let told : s.tells → (b : ℕ) → OnWay s t (suc (c.args.down - 1)) k b → IsTold s t.top b = subst (λ d. s.tells → (b : ℕ) → OnWay s t d k b → IsTold s t.top b) is c.requires.told in
     let above = c.own_down-above.result.at in
     let comes = c.own_down-above.ensures.comes in
     let end = c.own_block-at.new.on in
@@ -189,7 +189,7 @@ returns-clause-spare g t' c =
     let down : suc (c.args.down - 1) ≤ t.depth = subst (λ d. d ≤ t.depth) is c.requires.down.0 in
     let ready : WayReady s t kept (suc (c.args.down - 1)) k = subst (λ d. WayReady s t kept d k) is c.requires.ready in
     let says : s.tells → Says s = λ told. record { placed = g.met.B.Blocks.placed on s.now (g.met.B.Blocks.present on told); one = g.met.B.Blocks.one_place on } in
-    let told : s.tells → (b : ℕ) → OnWay s t (suc (c.args.down - 1)) k b → IsTold s b = subst (λ d. s.tells → (b : ℕ) → OnWay s t d k b → IsTold s b) is c.requires.told in
+    let told : s.tells → (b : ℕ) → OnWay s t (suc (c.args.down - 1)) k b → IsTold s t.top b = subst (λ d. s.tells → (b : ℕ) → OnWay s t d k b → IsTold s t.top b) is c.requires.told in
     let above = c.own_down-above.result.at in
     let comes = c.own_down-above.ensures.comes in
     let end = c.own_block-at.new.on in
@@ -220,7 +220,7 @@ returns-clause-less g t' c =
     let down : suc (c.args.down - 1) ≤ t.depth = subst (λ d. d ≤ t.depth) is c.requires.down.0 in
     let ready : WayReady s t kept (suc (c.args.down - 1)) k = subst (λ d. WayReady s t kept d k) is c.requires.ready in
     let says : s.tells → Says s = λ told. record { placed = g.met.B.Blocks.placed on s.now (g.met.B.Blocks.present on told); one = g.met.B.Blocks.one_place on } in
-    let told : s.tells → (b : ℕ) → OnWay s t (suc (c.args.down - 1)) k b → IsTold s b = subst (λ d. s.tells → (b : ℕ) → OnWay s t d k b → IsTold s b) is c.requires.told in
+    let told : s.tells → (b : ℕ) → OnWay s t (suc (c.args.down - 1)) k b → IsTold s t.top b = subst (λ d. s.tells → (b : ℕ) → OnWay s t d k b → IsTold s t.top b) is c.requires.told in
     let above = c.own_down-above.result.at in
     let comes = c.own_down-above.ensures.comes in
     let end = c.own_block-at.new.on in
@@ -252,7 +252,7 @@ returns-clause-used g t' c =
     let down : suc (c.args.down - 1) ≤ t.depth = subst (λ d. d ≤ t.depth) is c.requires.down.0 in
     let ready : WayReady s t kept (suc (c.args.down - 1)) k = subst (λ d. WayReady s t kept d k) is c.requires.ready in
     let says : s.tells → Says s = λ told. record { placed = g.met.B.Blocks.placed on s.now (g.met.B.Blocks.present on told); one = g.met.B.Blocks.one_place on } in
-    let told : s.tells → (b : ℕ) → OnWay s t (suc (c.args.down - 1)) k b → IsTold s b = subst (λ d. s.tells → (b : ℕ) → OnWay s t d k b → IsTold s b) is c.requires.told in
+    let told : s.tells → (b : ℕ) → OnWay s t (suc (c.args.down - 1)) k b → IsTold s t.top b = subst (λ d. s.tells → (b : ℕ) → OnWay s t d k b → IsTold s t.top b) is c.requires.told in
     let above = c.own_down-above.result.at in
     let comes = c.own_down-above.ensures.comes in
     let end = c.own_block-at.new.on in
@@ -307,8 +307,7 @@ returns-then-down-eq0-clause-leads g t' c =
 
 pub returns-then-down-eq0-clause-top : goal.returns-then-down-eq0-clause-top
 returns-then-down-eq0-clause-top g t' c =
-    let zero = c.if-down-eq0.true in
-    top_came (c.own_top-top.ensures.comes c.args.k (subst (λ d. c.args.k < 409 ^ d) zero c.requires.down.1))
+    c.own_top-top.ensures.top
 
 pub returns-clause-leads : goal.returns-clause-leads
 returns-clause-leads g t' c =
@@ -325,7 +324,7 @@ returns-clause-leads g t' c =
     let down : suc (c.args.down - 1) ≤ t.depth = subst (λ d. d ≤ t.depth) is c.requires.down.0 in
     let ready : WayReady s t kept (suc (c.args.down - 1)) k = subst (λ d. WayReady s t kept d k) is c.requires.ready in
     let says : s.tells → Says s = λ told. record { placed = g.met.B.Blocks.placed on s.now (g.met.B.Blocks.present on told); one = g.met.B.Blocks.one_place on } in
-    let told : s.tells → (b : ℕ) → OnWay s t (suc (c.args.down - 1)) k b → IsTold s b = subst (λ d. s.tells → (b : ℕ) → OnWay s t d k b → IsTold s b) is c.requires.told in
+    let told : s.tells → (b : ℕ) → OnWay s t (suc (c.args.down - 1)) k b → IsTold s t.top b = subst (λ d. s.tells → (b : ℕ) → OnWay s t d k b → IsTold s t.top b) is c.requires.told in
     let above = c.own_down-above.result.at in
     let comes = c.own_down-above.ensures.comes in
     let end = c.own_block-at.new.on in
@@ -376,7 +375,7 @@ returns-clause-top g t' c =
     let down : suc (c.args.down - 1) ≤ t.depth = subst (λ d. d ≤ t.depth) is c.requires.down.0 in
     let ready : WayReady s t kept (suc (c.args.down - 1)) k = subst (λ d. WayReady s t kept d k) is c.requires.ready in
     let says : s.tells → Says s = λ told. record { placed = g.met.B.Blocks.placed on s.now (g.met.B.Blocks.present on told); one = g.met.B.Blocks.one_place on } in
-    let told : s.tells → (b : ℕ) → OnWay s t (suc (c.args.down - 1)) k b → IsTold s b = subst (λ d. s.tells → (b : ℕ) → OnWay s t d k b → IsTold s b) is c.requires.told in
+    let told : s.tells → (b : ℕ) → OnWay s t (suc (c.args.down - 1)) k b → IsTold s t.top b = subst (λ d. s.tells → (b : ℕ) → OnWay s t d k b → IsTold s t.top b) is c.requires.told in
     let above = c.own_down-above.result.at in
     let comes = c.own_down-above.ensures.comes in
     let end = c.own_block-at.new.on in
@@ -387,7 +386,9 @@ returns-clause-top g t' c =
     subst (λ d. ((was ≡ Local at) × (end ≡ mid) × IsOwn m t (t.depth - d) (409 * (k / 409) + k % 409) at) ⊎ Links t (t.depth - d) (k / 409) above (k % 409) was at m u) is c.own_block-at.ensures.step in
     ⊎_elim
     (λ same. subst (λ x. IsTopOf s (g.B.Blocks.state x) t c.own_down-above.result.top) (sym same.1) c.own_down-above.ensures.top)
-    (λ links. top_stays (g.met.B.Blocks.keeps_all mid end c.own_block-at.ensures.keeps) c.own_down-above.ensures.top links)
+    (λ links. top_stays all (g.met.B.Blocks.keeps_all mid end c.own_block-at.ensures.keeps) c.own_down-above.ensures.top links
+    (top_not_was s m u t kept c.own_down-above.result.top n above (k % 409) at (t.depth - suc n) (k / 409) (omega (arith, down)) (block_of n (k / 409) above comes.own) was
+    (was_below s m t kept n k above all c.requires.hangs down ready comes says told) (g.met.B.Blocks.keeps_all mid end c.own_block-at.ensures.keeps) links (k / 409) above c.own_down-above.ensures.leads))
     step
 
 pub returns-then-down-eq0-clause-given : goal.returns-then-down-eq0-clause-given
@@ -410,7 +411,7 @@ returns-clause-given g t' c =
     let down : suc (c.args.down - 1) ≤ t.depth = subst (λ d. d ≤ t.depth) is c.requires.down.0 in
     let ready : WayReady s t kept (suc (c.args.down - 1)) k = subst (λ d. WayReady s t kept d k) is c.requires.ready in
     let says : s.tells → Says s = λ told. record { placed = g.met.B.Blocks.placed on s.now (g.met.B.Blocks.present on told); one = g.met.B.Blocks.one_place on } in
-    let told : s.tells → (b : ℕ) → OnWay s t (suc (c.args.down - 1)) k b → IsTold s b = subst (λ d. s.tells → (b : ℕ) → OnWay s t d k b → IsTold s b) is c.requires.told in
+    let told : s.tells → (b : ℕ) → OnWay s t (suc (c.args.down - 1)) k b → IsTold s t.top b = subst (λ d. s.tells → (b : ℕ) → OnWay s t d k b → IsTold s t.top b) is c.requires.told in
     let above = c.own_down-above.result.at in
     let comes = c.own_down-above.ensures.comes in
     let end = c.own_block-at.new.on in

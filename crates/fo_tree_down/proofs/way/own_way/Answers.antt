@@ -94,7 +94,11 @@ returns-clause-over g c = λ some limit whole.
       last = last_leads s u t kept c.args.down c.args.k c.own_down.result.at (top_ready s t kept c.args.down c.args.k c.requires.ready) comes;
       descends = comes.descends;
     } in
-    over_end owned c.own_down.ensures.top went some whole
+    over_end owned c.own_down.ensures.top (record {
+      small = g.met.B.Blocks.small c.own_down.new.on;
+      unlinked = λ told y h r. g.met.B.Blocks.apart_hangs on s.now 1 y h (g.met.B.Blocks.present on told) (g.met.B.Blocks.active on).0 r;
+      comes = λ now y z h. (g.met.B.Blocks.instead_of c.own_down.new.on y z z now h).0;
+    }) went some whole
 
 pub returns-clause-owns : goal.returns-clause-owns
 returns-clause-owns g c = λ told b.

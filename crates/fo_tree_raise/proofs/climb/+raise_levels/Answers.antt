@@ -23,7 +23,7 @@ pub returns-then-levels-eq0-clause-instead : goal.returns-then-levels-eq0-clause
 returns-then-levels-eq0-clause-instead g t' c = λ b top at is apart e h. subst (λ z. (g.B.Blocks.state c.args.on.now).instead z at) (local_eq (sym e ∙ is)) h
 
 pub returns-then-levels-eq0-clause-changes : goal.returns-then-levels-eq0-clause-changes
-returns-then-levels-eq0-clause-changes g t' c = λ free. adds_changes {t = c.args.tree.now} {s = g.B.Blocks.state c.args.on.now} {u = g.B.Blocks.state c.args.on.now} (adds_nothing (g.B.Blocks.state c.args.on.now)) free
+returns-then-levels-eq0-clause-changes g t' c = adds_changes {t = c.args.tree.now} {s = g.B.Blocks.state c.args.on.now} {u = g.B.Blocks.state c.args.on.now} (adds_nothing (g.B.Blocks.state c.args.on.now))
 
 pub returns-then-levels-eq0-clause-again : goal.returns-then-levels-eq0-clause-again
 returns-then-levels-eq0-clause-again g t' c = subst (λ (x : Tree). CanRaise (g.B.Blocks.state c.args.on.now) x) (grown_none c.args.tree.now c.args.levels c.if-levels-eq0.true) c.requires.top
@@ -142,7 +142,7 @@ returns-clause-instead g t' c = λ b y at is apart named h.
     stead_by c.raise_levels-below.ensures.top step b is apart (λ d x f was. c.raise_levels-below.ensures.instead b d x is apart f was) at (subst (λ z. u.instead z at) (sym here) h)
 
 pub returns-clause-changes : goal.returns-clause-changes
-returns-clause-changes g t' c = λ free.
+returns-clause-changes g t' c =
     let on = c.args.on.now in
     let mid = c.raise_levels-below.new.on in
     let end = c.raise_once-top.new.on in
@@ -163,7 +163,7 @@ returns-clause-changes g t' c = λ free.
       over = over_by c.requires.top c.raise_levels-below.ensures.top;
       covers_told = g.met.B.Blocks.covers_told end;
     } in
-    adds_changes {t = t} {s = s} {u = u} (added x) free
+    adds_changes {t = t} {s = s} {u = u} (added x)
 
 pub returns-clause-again : goal.returns-clause-again
 returns-clause-again g t' c =

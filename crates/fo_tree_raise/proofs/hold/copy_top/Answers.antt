@@ -12,7 +12,6 @@ use Rattle.fo_tree_own.proofs.Link.{Laws, came}
 use Rattle.fo_tree_down.specs.Way.{Comes}
 use Rattle.fo_tree_down.proofs.Topping.{comes_topped}
 use Rattle.fo_tree_down.proofs.Join.{changes_of}
-use Rattle.fo_tree_down.proofs.Leading.{top_came}
 use Rattle.fo_tree_down.proofs.Beside.{WentDown, last_leads, on_way_block}
 use Rattle.fo_tree_down.proofs.Stilling.{WasOwned, prepared_still}
 use Rattle.fo_tree_down.proofs.Telling.{over_end}
@@ -152,7 +151,17 @@ returns-clause-over g c = λ limit whole.
       descends = is.descends;
     } in
     let some : 0 < t.size = ⊎_elim (λ none. absurd (nil_top c.args.at (sym (whole.empty none) ∙ c.requires.is))) (λ ne. omega (arith, ne)) (cases_eq t.size 0) in
-    over_end o (top_came is) went some whole
+    over_end o (record {
+      from = inl (made_result (holding g c));
+      apart = λ made. (holding g c).came.is.3;
+      in_tree = λ told r. ((adds_copy (holding g c)).reached told c.copy.result).0 r;
+      live = is.own.live;
+      current = is.own.current;
+    }) (record {
+      small = (laws_of g c.copy.new.self).small;
+      unlinked = (laws_of g on).apart_hangs;
+      comes = λ now y z h. (g.met.B.Blocks.instead_of c.copy.new.self y z z now h).0;
+    }) went some whole
 
 pub returns-clause-still : goal.returns-clause-still
 returns-clause-still g c = λ limit o n was. prepared_still (owned g c) limit o n was

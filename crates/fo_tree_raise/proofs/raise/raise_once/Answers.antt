@@ -164,7 +164,7 @@ returns-clause-below g c = λ told hangs.
     }
 
 pub returns-clause-bears : goal.returns-clause-bears
-returns-clause-bears g c = λ kept some b. let l = lifted g c in bears_raised l.whole (raises l) c.requires.top kept b c.requires.level some (placed_of g c.args.on.now)
+returns-clause-bears g c = λ kept some b. let l = lifted g c in bears_raised l.whole (raises l) c.requires.top kept b (again l).holds c.requires.level some (placed_of g c.args.on.now)
 
 pub returns-clause-still : goal.returns-clause-still
 returns-clause-still g c = λ kept limit o n room was. let l = lifted g c in still_prepared l.whole (raises l) kept limit o n room was
