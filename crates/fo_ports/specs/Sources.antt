@@ -61,10 +61,6 @@ most_to_own size i = cond (nat_le (8192 * (i + 1)) size) (way_for size) (2 * way
 abbrev pub IsEnough : (current : Type 0) → (size i blocks : ℕ) → Type 0
 IsEnough current size i blocks = (most_to_own size i ≤ blocks) ⊎ (current × (most_to_own size i ≤ blocks + 1))
 
--- how many slots are cleared at most where a source grows: those past its end in the blocks of pointers on the way to its last leaf
-abbrev pub most_cleared : (size end : ℕ) → ℕ
-most_cleared size end = cond (nat_le end size) 0 (409 * depth_for size)
-
 -- What a call on a source finds is what memory has: the device tells, or pins are left for the blocks on the way, or these were
 -- prepared.
 abbrev pub Finds : (tells : Type 0) (needed left : ℕ) (prepared : Type 0) → Type 0

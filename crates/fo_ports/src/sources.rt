@@ -8,7 +8,7 @@ ghost use Rattle.fo_crash.specs.declared.place.Place.{Place};
 ghost use Rattle.fo_crash.specs.Images.{Reaches, to_block};
 ghost use Rattle.fo_ports.specs.Causes.{Caused};
 ghost use Rattle.fo_ports.specs.State.{Looks};
-ghost use Rattle.fo_ports.specs.Sources.{Form, Leaves, is_dir, source_bytes, Lacks, depth_for, most_for, most_to_own, IsEnough, most_cleared, Finds, AreLocal, IsReady, StaysReady, Changes, SameLeaves, Grows, IsPlain, Owned, MayZero, Undisturbed};
+ghost use Rattle.fo_ports.specs.Sources.{Form, Leaves, is_dir, source_bytes, Lacks, depth_for, most_for, most_to_own, IsEnough, Finds, AreLocal, IsReady, StaysReady, Changes, SameLeaves, Grows, IsPlain, Owned, MayZero, Undisturbed};
 
 use crate::blocks::Blocks;
 use crate::error::BlockError;
@@ -22,7 +22,9 @@ use fo_image::Entry;
 /// by calls that refuse nothing. A refusal leaves the source's bytes as they were.
 ///
 /// The caller puts the source's entry into its slot when the source has changed; until then no image shows what hangs from a new
-/// top.
+/// top. Only a trimmed source grows: a crash may have left leaves behind the end, whose length was never written, and whoever makes
+/// a source has a call that clears them. To clear and to fill such a slot within one call would leave images that show neither what was
+/// nor what is, and in a directory the records of the leaf that was.
 pub trait Bytes<B: Blocks> {
     /// What stays of the source.
     ghost form: { Self → Form };
@@ -35,6 +37,9 @@ pub trait Bytes<B: Blocks> {
 
     /// What it has over them.
     ghost leaves: { Self → B → Leaves };
+
+    /// Nothing is named behind its end in the blocks on the way to its last leaf, which are prepared: so it may grow.
+    ghost is_trimmed: { Self → B → Type 0 };
 
     /// How many bytes the source has.
     fn len(&self) -> u64
@@ -55,6 +60,7 @@ pub trait Bytes<B: Blocks> {
         ensures behind { IfOk result (λ n. drop n into.new ≡ drop n into.old) }
         ensures over { is_over self.new on.new }
         ensures same { (form self.new ≡ form self.old) × (size self.new ≡ size self.old) × SameLeaves (B.state on.old).tells (leaves self.old on.old) (leaves self.new on.new) }
+        ensures trimmed { is_trimmed self.old on.old → is_trimmed self.new on.new }
         ensures pins { (B.state on.old).pins_left ≤ (B.state on.new).pins_left + most_for (size self.old) (length into.old) }
         ensures looks { Looks (B.state on.old) (B.state on.new) × B.keeps on.old on.new }
         ensures cause { IfErr result (Caused ⊥ (λ b. (((B.state on.old).tells → ⊥) × (B.state on.old).is_block b) ⊎ ((b ≡ 1) × ((B.state on.old).tells → Lacks (leaves self.old on.old).named (B.state on.old).held))) (Rose (B.state on.old).faults (B.state on.new).faults) (Rose (B.state on.old).arena_faults (B.state on.new).arena_faults)) };
@@ -66,6 +72,7 @@ pub trait Bytes<B: Blocks> {
         ensures block { IfOk result (λ at. IfSome at (λ b. (B.state on.new).is_block b)) }
         ensures over { is_over self.new on.new }
         ensures same { (form self.new ≡ form self.old) × (size self.new ≡ size self.old) × SameLeaves (B.state on.old).tells (leaves self.old on.old) (leaves self.new on.new) }
+        ensures trimmed { is_trimmed self.old on.old → is_trimmed self.new on.new }
         ensures pins { (B.state on.old).pins_left ≤ (B.state on.new).pins_left + depth_for (size self.old) }
         ensures looks { Looks (B.state on.old) (B.state on.new) × B.keeps on.old on.new }
         ensures cause { IfErr result (Caused ⊥ (λ b. ((B.state on.old).tells → ⊥) × (B.state on.old).is_block b) (Rose (B.state on.old).faults (B.state on.new).faults) ⊥) };
@@ -78,6 +85,7 @@ pub trait Bytes<B: Blocks> {
         ensures prepared { OnOk result (most_for (max (size self.old) (offset + len)) len ≤ (B.state on.old).pins_left → (leaves self.new on.new).prepared offset len) }
         ensures over { is_over self.new on.new }
         ensures same { (form self.new ≡ form self.old) × (size self.new ≡ size self.old) × SameLeaves (B.state on.old).tells (leaves self.old on.old) (leaves self.new on.new) }
+        ensures trimmed { is_trimmed self.old on.old → is_trimmed self.new on.new }
         ensures pins { (B.state on.old).pins_left ≤ (B.state on.new).pins_left + most_for (max (size self.old) (offset + len)) len }
         ensures looks { Looks (B.state on.old) (B.state on.new) × B.keeps on.old on.new }
         ensures cause { IfErr result (Caused ⊥ (λ b. (((B.state on.old).tells → ⊥) × (B.state on.old).is_block b) ⊎ ((b ≡ 1) × ((B.state on.old).tells → Lacks (leaves self.old on.old).named (B.state on.old).held))) (Rose (B.state on.old).faults (B.state on.new).faults) (Rose (B.state on.old).arena_faults (B.state on.new).arena_faults)) };
@@ -89,13 +97,14 @@ pub trait Bytes<B: Blocks> {
         requires kind { IsPlain (form self.old) }
         requires prepared { (leaves self.old on.old).prepared offset (length piece.now) }
         requires spare { most_for (max (size self.old) (offset + length piece.now)) (length piece.now) ≤ (B.state on.old).spare }
-        requires room { most_cleared (size self.old) (offset + length piece.now) ≤ (B.state on.old).room }
+        requires trimmed { size self.old < offset + length piece.now → is_trimmed self.old on.old }
         ensures size { (length piece.now ≡ 0 → size self.new ≡ size self.old) × (0 < length piece.now → size self.new ≡ max (size self.old) (offset + length piece.now)) }
         ensures bytes { (B.state on.old).tells → (leaves self.new on.new).bytes ≡ written (leaves self.old on.old).bytes offset piece.now }
         ensures over { is_over self.new on.new × (form self.new ≡ form self.old) }
         ensures grows { Grows (B.state on.old) (B.state on.new) (leaves self.old on.old) (leaves self.new on.new) }
         ensures spare { (B.state on.old).spare ≤ (B.state on.new).spare + most_for (max (size self.old) (offset + length piece.now)) (length piece.now) }
-        ensures room { (B.state on.old).room ≤ (B.state on.new).room + most_cleared (size self.old) (offset + length piece.now) }
+        ensures room { (B.state on.new).room ≡ (B.state on.old).room }
+        ensures trimmed { is_trimmed self.old on.old → is_trimmed self.new on.new }
         ensures changes { Changes (form self.old).tag (leaves self.old on.old).owns (leaves self.old on.old).owns (B.state on.old) (B.state on.new) × B.keeps on.old on.new };
 
     /// Makes leaf `i` one of the current epoch, and gives its address: an older leaf is copied, so is one that is held under its
@@ -106,7 +115,7 @@ pub trait Bytes<B: Blocks> {
         requires over { is_over self.old on.old }
         requires prepared { (leaves self.old on.old).prepared (8192 * i) 8192 }
         requires spare { IsEnough (leaves self.old on.old).current (size self.old) i (B.state on.old).spare }
-        requires room { most_cleared (size self.old) (8192 * (i + 1)) ≤ (B.state on.old).room }
+        requires trimmed { size self.old < 8192 * (i + 1) → is_trimmed self.old on.old }
         requires linked { (B.state on.old).tells → is_dir (form self.old).kind ≡ true → depth_for (size self.old) < depth_for (8192 * (i + 1)) → (b : ℕ) → (leaves self.old on.old).owns b → Reaches (B.state on.old).now (to_block 1) b }
         ensures owned { Owned (form self.old) (size self.old) i result (B.state on.old) (B.state on.new) (leaves self.old on.old) (leaves self.new on.new) }
         ensures size { size self.new ≡ max (size self.old) (8192 * (i + 1)) }
@@ -115,7 +124,8 @@ pub trait Bytes<B: Blocks> {
         ensures grows { Grows (B.state on.old) (B.state on.new) (leaves self.old on.old) (leaves self.new on.new) }
         ensures spare { ((B.state on.old).spare ≤ (B.state on.new).spare + most_to_own (size self.old) i) × ((leaves self.old on.old).current → (B.state on.old).spare + 1 ≤ (B.state on.new).spare + most_to_own (size self.old) i) }
         ensures current { (leaves self.new on.new).current }
-        ensures room { (B.state on.old).room ≤ (B.state on.new).room + most_cleared (size self.old) (8192 * (i + 1)) }
+        ensures room { (B.state on.new).room ≡ (B.state on.old).room }
+        ensures trimmed { is_trimmed self.old on.old → is_trimmed self.new on.new }
         ensures changes { Changes (form self.old).tag (leaves self.old on.old).owns (MayZero (form self.old) (size self.old) i (B.state on.old) (leaves self.old on.old)) (B.state on.old) (B.state on.new) × B.keeps on.old on.new };
 
     // LAWS
@@ -152,6 +162,9 @@ pub trait Bytes<B: Blocks> {
 
     /// Where the blocks that are prepared stay so, the source's top stays of the current epoch.
     ghost still_current: { (s : Self) (a b : B) → is_over s a → is_over s b → B.keeps a b → ((at : ℕ) → IsReady (form s).tag (B.state a) at → StaysReady (B.state a) (B.state b) at) → ((at : ℕ) → (leaves s a).owns at → (B.state b).label at ≡ (B.state a).label at) → (leaves s a).current → (leaves s b).current };
+
+    /// Where the blocks that are prepared stay so, what is trimmed stays so.
+    ghost still_trimmed: { (s : Self) (a b : B) → is_over s a → is_over s b → B.keeps a b → ((at : ℕ) → IsReady (form s).tag (B.state a) at → StaysReady (B.state a) (B.state b) at) → is_trimmed s a → is_trimmed s b };
 
     /// Where the blocks that are prepared stay so, what was prepared stays so.
     ghost still_prepared: { (s : Self) (a b : B) (o n : ℕ) → is_over s a → is_over s b → B.keeps a b → ((at : ℕ) → IsReady (form s).tag (B.state a) at → StaysReady (B.state a) (B.state b) at) → (leaves s a).prepared o n → (leaves s b).prepared o n };
