@@ -29,11 +29,12 @@ looks_none a = record {
     instead = λ x z h i. (λ y. y, λ y. y);
     waits = λ x on j h i k w. w;
   };
-  order = record { clearing = λ x j h. (λ n. n, h) };
+  order = record { clearing = λ x j h. (λ n. n, h); goes_on = λ x j n h. h };
   covered = record { covered = λ x. (λ h. h, λ h. h) };
   no_wait = record { each = λ x on j h w. w };
   dirty = λ x d. d;
   room = (refl, refl);
+  usable = (refl, refl);
   numbers = record { next = refl; grants = λ h. h };
 }
 
