@@ -370,6 +370,9 @@ module _ {t : Tree} {level k at i n : ℕ} {was : Pointer} {l : Label} {result :
       no_front [] j rest e = cc
       no_front (y ∷ front) j rest e = cc
 
+  goes_on_end : (b j : ℕ) → b ≢ result → s.clearing b j → u.clearing b j
+  goes_on_end b j ne h = x.order.goes_on b j (λ n. n) (x.link.came.order.goes_on b j ne h)
+
   changes_end : Changes t.tag Mine (λ b. b ≡ at) s u
   changes_end = record {
     memory = λ b not. let away = touches b not in record { bytes = bytes_end b away.1; slots = λ j. slots_end b j away.1 (inl away.0) };
@@ -385,6 +388,7 @@ module _ {t : Tree} {level k at i n : ℕ} {was : Pointer} {l : Label} {result :
     waits = λ a b j not_a not_b w. waits_end a b j (not_made b not_b) (not_made a not_a) w;
     no_wait = record { each = λ a b j h w. x.link.came.no_wait.each a b j h (x.no_wait.each a b j h w) };
     clearing = λ b j h. let mid = x.link.came.order.clearing b j (x.order.clearing b j h).1 in (λ made. mid.0 (made_is b made), mid.1);
+    goes_on = λ b j not h. goes_on_end b j (not_made b not) h;
     dirty = λ b d. ⊎_elim
         (λ mid. ⊎_elim
         (λ old. inl old)
@@ -395,6 +399,12 @@ module _ {t : Tree} {level k at i n : ℕ} {was : Pointer} {l : Label} {result :
     moments = x.frame.uses.moments ∙ x.link.came.uses.moments;
     left = λ n image h. x.link.came.uses.left n image (x.frame.uses.left n image h);
     pins = x.frame.uses.pins ∙ x.link.came.uses.pins;
+    usable =
+        let first = x.link.came.uses.usable in
+        let last = x.frame.uses.usable in
+        let taken = x.link.came.uses.spare in
+        let none = x.frame.uses.spare in
+        omega (arith, first, last, taken, none);
     numbers = record { next = x.frame.numbers.next ∙ x.link.came.numbers.next; grants = λ h. x.frame.numbers.grants (x.link.came.numbers.grants h) };
   }
 
@@ -417,7 +427,9 @@ module _ {t : Tree} {level k at i n : ℕ} {was : Pointer} {l : Label} {result :
     older = x.was_older;
     covers = only_covers;
     waits = waits_end;
+    goes_on = goes_on_end;
     spare = let first = x.link.came.uses.spare in let last = x.frame.uses.spare in omega (arith, first, last);
+    usable = let first = x.link.came.uses.usable in let last = x.frame.uses.usable in omega (arith, first, last);
     room = let first = x.link.came.uses.room in let last = x.frame.uses.room in let none = x.no_cost in omega (arith, first, last, none);
     changes = changes_end;
   }

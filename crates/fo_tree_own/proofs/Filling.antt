@@ -184,6 +184,7 @@ module _ {kind : Kind} {at i n : ℕ} {p : Pointer} {beside : Image → Type 0} 
     dirty = x.frame.dirty;
     uses = record {
       spare = x.frame.uses.spare;
+      usable = x.frame.uses.usable;
       room = let r = x.frame.uses.room in let none = x.no_cost in omega (arith, r, none);
       pins = x.frame.uses.pins;
       moments = x.frame.uses.moments;
@@ -294,12 +295,12 @@ filled_none at m = record {
   apart = λ b. (λ h. h, λ h. h);
   instead = λ b y. (λ h. h, λ h. h);
   waits = λ a on j ne w. w;
-  order = record { clearing = λ b j h. (λ n. n, h) };
+  order = record { clearing = λ b j h. (λ n. n, h); goes_on = λ b j n h. h };
   still = λ b h. h;
   only = λ b no h. no h;
   no_wait = record { each = λ a on j n w. w };
   dirty = λ b d. inl d;
-  uses = record { spare = omega arith; room = omega arith; pins = refl; moments = refl; left = λ n image h. h };
+  uses = record { spare = omega arith; usable = omega arith; room = omega arith; pins = refl; moments = refl; left = λ n image h. h };
   numbers = record { next = refl; grants = λ h. h };
 }
 
@@ -316,13 +317,14 @@ filled_joins all f g = record {
   apart = λ y. (λ h. (f.apart y).0 ((g.apart y).0 h), λ h. (g.apart y).1 ((f.apart y).1 h));
   instead = λ y z. (λ h. (f.instead y z).0 ((g.instead y z).0 h), λ h. (g.instead y z).1 ((f.instead y z).1 h));
   waits = λ y on j ne w. g.waits y on j ne (f.waits y on j ne w);
-  order = record { clearing = λ y j h. f.order.clearing y j (g.order.clearing y j h).1 };
+  order = record { clearing = λ y j h. f.order.clearing y j (g.order.clearing y j h).1; goes_on = λ y j n h. g.order.goes_on y j n (f.order.goes_on y j n h) };
   still = λ y h. g.still y (f.still y h);
   only = λ y no h. g.only y (f.only y no) h;
   no_wait = record { each = λ y on j n w. f.no_wait.each y on j n (g.no_wait.each y on j n w) };
   dirty = λ y d. ⊎_elim (λ mid. f.dirty y mid) (λ e. inr e) (g.dirty y d);
   uses = record {
     spare = let p = f.uses.spare in let q = g.uses.spare in omega (arith, p, q);
+    usable = let p = f.uses.usable in let q = g.uses.usable in omega (arith, p, q);
     room = let p = f.uses.room in let q = g.uses.room in omega (arith, p, q);
     pins = g.uses.pins ∙ f.uses.pins;
     moments = g.uses.moments ∙ f.uses.moments;

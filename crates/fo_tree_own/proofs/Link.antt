@@ -149,7 +149,7 @@ came_filled {result = result} first all x f = record {
     instead = λ b y ne n. let p = x.stays.instead b y ne n in (λ h. p.0 ((f.instead b y).0 h), λ h. (f.instead b y).1 (p.1 h));
     waits = λ a on j ne other n w. f.waits a on j other (x.stays.waits a on j ne other n w);
   };
-  order = record { clearing = λ b j h. x.order.clearing b j (f.order.clearing b j h).1 };
+  order = record { clearing = λ b j h. x.order.clearing b j (f.order.clearing b j h).1; goes_on = λ b j ne h. f.order.goes_on b j (λ n. n) (x.order.goes_on b j ne h) };
   still = λ b ne h. f.still b (x.still b ne h);
   only = λ b ne no h. f.only b (x.only b ne no) h;
   alone = λ told y h. x.alone told y ((f.instead y result).0 h);
@@ -160,6 +160,7 @@ came_filled {result = result} first all x f = record {
       (f.dirty b d);
   uses = record {
     spare = let p = x.uses.spare in let q = f.uses.spare in omega (arith, p, q);
+    usable = let p = x.uses.usable in let q = f.uses.usable in omega (arith, p, q);
     room = let p = x.uses.room in let q = f.uses.room in omega (arith, p, q);
     pins = f.uses.pins ∙ x.uses.pins;
     moments = f.uses.moments ∙ x.uses.moments;

@@ -109,7 +109,9 @@ pub record Links (t : Tree) (level k at i : ℕ) (was : Pointer) (result : ℕ) 
   pub older : (b : ℕ) → was ≡ Local b → (old.label b).epoch < old.high
   pub covers : OnlyCovers was old new
   pub waits : (a on j : ℕ) → on ≢ result → a ≢ result → old.waits a on j → new.waits a on j
+  pub goes_on : (b j : ℕ) → b ≢ result → old.clearing b j → new.clearing b j
   pub spare : new.spare + 1 ≡ old.spare
+  pub usable : new.usable + 1 ≡ old.usable
   pub room : new.room ≡ old.room
   pub changes : Changes t.tag (λ b. (b ≡ at) ⊎ (was ≡ Local b)) (λ b. b ≡ at) old new
 
