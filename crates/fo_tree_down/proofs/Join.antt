@@ -348,10 +348,12 @@ module _ {t : Tree} {mine wider : ℕ → Type 0} {level k at i : ℕ} {was : Po
         let last = x.step.changes.clearing b j h in
         let old = x.first.clearing b j last.1 in
         (λ made. ⊎_elim old.0 (λ e. last.0 (subst (λ y. Made m u y) (sym e) x.step.made)) (made_back b made), old.1);
+    goes_on = λ b j not h. x.step.goes_on b j (not_result b not) (x.first.goes_on b j (not_mid b not) h);
     dirty = dirty_end;
     moments = x.step.changes.moments ∙ x.first.moments;
     left = λ n image h. x.first.left n image (x.step.changes.left n image h);
     pins = x.step.changes.pins ∙ x.first.pins;
+    usable = let first = x.first.usable in let last = x.step.usable in let taken = x.step.spare in omega (arith, first, last, taken);
     room = x.step.room ∙ x.first.room;
     numbers = record { next = x.step.changes.numbers.next ∙ x.first.numbers.next; grants = λ h. x.step.changes.numbers.grants (x.first.numbers.grants h) };
   }
@@ -386,10 +388,12 @@ wider_same {t = t} {mine = mine} {wider = wider} {level = level} {s = s} {u = u}
   waits = x.waits;
   no_wait = x.no_wait;
   clearing = x.clearing;
+  goes_on = x.goes_on;
   dirty = λ b d. ⊎_elim (λ old. inl old) (λ h. inr (⊎_elim (λ touched. inl (⊎_elim (λ made. inl made) (λ own. inr (within b own.0, own.1, own.2)) touched)) (λ label. inr label) h)) (x.dirty b d);
   moments = x.moments;
   left = x.left;
   pins = x.pins;
+  usable = x.usable;
   room = x.room;
   numbers = x.numbers;
 }
@@ -419,10 +423,12 @@ changes_of {t = t} {mine = mine} {wider = wider} {level = level} {s = s} {u = u}
   waits = x.waits;
   no_wait = x.no_wait;
   clearing = x.clearing;
+  goes_on = x.goes_on;
   dirty = λ b d. ⊎_elim (λ old. inl old) (λ h. inr (⊎_elim (λ touched. inl (⊎_elim (λ made. inl made) (λ own. inr (within b own.0, own.1, own.2)) touched)) (λ label. inr label) h)) (x.dirty b d);
   moments = x.moments;
   left = x.left;
   pins = x.pins;
+  usable = x.usable;
   numbers = x.numbers;
 }
   where

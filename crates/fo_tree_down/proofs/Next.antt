@@ -286,10 +286,12 @@ comes_top s t kept k top is few own not = record {
       waits = λ a b j f g w. w;
       no_wait = record { each = λ a b j f w. w };
       clearing = λ b j h. (none_made b, h);
+      goes_on = λ b j n h. h;
       dirty = λ b d. inl d;
       moments = refl;
       left = λ i image h. h;
       pins = refl;
+      usable = refl;
       room = refl;
       numbers = record { next = refl; grants = λ h. h };
     }

@@ -135,6 +135,7 @@ module _ {t : Tree} {kept : List Kept} {l : Label} {result : ℕ} {s m : State} 
     waits = λ a b j not_a not_b w. x.came.stays.waits a b j (ne_result a not_a) (ne_result b not_b) (λ h. h) w;
     no_wait = x.came.no_wait;
     clearing = λ b j h. let old = x.came.order.clearing b j h in (λ made. old.0 (made_is b made), old.1);
+    goes_on = λ b j not h. x.came.order.goes_on b j (ne_result b not) h;
     dirty = λ b d. ⊎_elim
         (λ old. inl old)
         (λ h. inr (⊎_elim (λ e. inl (inl (subst (λ y. Made s m y) (sym e) made_result))) (λ e. inr (result, made_result, e)) h))
@@ -142,6 +143,7 @@ module _ {t : Tree} {kept : List Kept} {l : Label} {result : ℕ} {s m : State} 
     moments = x.came.uses.moments;
     left = x.came.uses.left;
     pins = x.came.uses.pins;
+    usable = let taken = x.came.uses.spare in let used = x.came.uses.usable in omega (arith, taken, used);
     room = let r = x.came.uses.room in omega (arith, r);
     numbers = x.came.numbers;
   }

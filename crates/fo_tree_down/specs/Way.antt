@@ -1,5 +1,5 @@
 -- A whole way is made current, from the top down.
-use Rattle.std.specs.Prelude.{◌≡◌, ◌≢◌, ◌⊎◌, ◌↔◌, ◌^◌, ◌≤◌, ◌-◌, ◌/◌, ◌%◌, ◌<◌, ℕ, zero, suc, List}
+use Rattle.std.specs.Prelude.{◌≡◌, ◌≢◌, ◌⊎◌, ◌↔◌, ◌+◌, ◌^◌, ◌≤◌, ◌-◌, ◌/◌, ◌%◌, ◌<◌, ℕ, zero, suc, List}
 use Rattle.fo_image.specs.declared.types.Kind.{Kind}
 use Rattle.fo_image.specs.declared.types.Pointer.{Pointer}
 use Rattle.fo_image.specs.declared.types.Pointer.TheVariants.{Local}
@@ -72,10 +72,12 @@ pub record Descends (t : Tree) (mine : ℕ → Type 0) (level : ℕ) (s u : Stat
   pub waits : (a on j : ℕ) → (Made s u a → ⊥) → (Made s u on → ⊥) → s.waits a on j → u.waits a on j
   pub no_wait : AddsNoWait none s u
   pub clearing : (b j : ℕ) → u.clearing b j → (Made s u b → ⊥) × s.clearing b j
+  pub goes_on : (b j : ℕ) → (Made s u b → ⊥) → s.clearing b j → u.clearing b j
   pub dirty : (b : ℕ) → u.dirty b → s.dirty b ⊎ (Touched s u t.tag mine b ⊎ ((x : ℕ) × Made s u x × (b ≡ u.label_block x)))
   pub moments : u.moments ≡ s.moments
   pub left : (k : ℕ) (image : Image) → u.left k image → s.left k image
   pub pins : u.pins_left ≡ s.pins_left
+  pub usable : s.usable + u.spare ≡ u.usable + s.spare
   pub room : u.room ≡ s.room
   pub numbers : KeepsNumbers s u
 
