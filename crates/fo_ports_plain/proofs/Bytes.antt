@@ -72,11 +72,12 @@ bytes_calm p {new} {at} {bytes} up = record {
       waits = λ a on j _ _ _ w. w;
     };
     dirty = λ b h. absurd h;
-    uses = record { spare = omega arith; room = omega arith; pins = refl; moments = refl; left = λ k image h. h };
+    uses = record { spare = omega arith; usable = let long = up.as_long in omega (arith, long); room = omega arith; pins = refl; moments = refl; left = λ k image h. h };
     numbers = record { next = refl; grants = λ h. h };
   };
-  order = record { clearing = λ b j h. absurd h };
+  order = record { clearing = λ b j h. absurd h; goes_on = λ b j _ h. h };
   covered = record { covered = λ b. (back b, forth b) };
+  queued = refl;
 }
   where
     taken : (b : ℕ) → (block_at new b).taken ≡ (block_at p.blocks b).taken

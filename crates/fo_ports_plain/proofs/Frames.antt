@@ -91,7 +91,7 @@ module _ (p : Plain) (new : List PlainBlock) (waits : List Wait) (room queued : 
       waits = λ a on j _ _ not_put w. wait a on j (out on not_put).0 w;
     };
     dirty = λ b h. absurd h;
-    uses = record { spare = omega arith; room = spent; pins = refl; moments = refl; left = λ k image h. h };
+    uses = record { spare = omega arith; usable = let long = put.as_long in omega (arith, long); room = spent; pins = refl; moments = refl; left = λ k image h. h };
     numbers = record { next = refl; grants = λ h. h };
   }
 

@@ -160,11 +160,11 @@ module _ (p : Plain) (new : List PlainBlock) (spare : ℕ) {block : PlainBlock} 
       λ a j w. let used = well.waiting w.number (j / 2) w.within w.pair in let lt = used.was_made in let is = w.is_on in omega (arith, lt, is),
     );
     stays = stays;
-    order = record { clearing = λ b j h. absurd h };
+    order = record { clearing = λ b j h. absurd h; goes_on = λ b j _ h. h };
     covered = λ b ne. covers b;
     no_wait = record { each = λ a on j _ w. w };
     dirty = λ b h. absurd h;
-    uses = record { spare = spent; room = omega arith; pins = refl; moments = refl; left = λ k image h. h };
+    uses = record { spare = spent; usable = let long = up.as_long in omega (arith, room, long); room = omega arith; pins = refl; moments = refl; left = λ k image h. h };
     numbers = record { next = refl; grants = λ h. h };
   }
 

@@ -103,11 +103,12 @@ module _ (p : Plain) (w : Wait) (at on room : ℕ) (is_at : w.at ≡ at) (is_on 
         waits = λ a o j _ _ _ k. waits_still a o j k;
       };
       dirty = λ b h. absurd h;
-      uses = record { spare = omega arith; room = spent; pins = refl; moments = refl; left = λ k image h. h };
+      uses = record { spare = omega arith; usable = omega arith; room = spent; pins = refl; moments = refl; left = λ k image h. h };
       numbers = record { next = refl; grants = λ h. h };
     };
-    order = record { clearing = λ b j h. absurd h };
+    order = record { clearing = λ b j h. absurd h; goes_on = λ b j _ h. h };
     covered = record { covered = λ b. (λ h. h, λ h. h) };
+    queued = refl;
   }
 
 -- what is left of the waits is for what is in use

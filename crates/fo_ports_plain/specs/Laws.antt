@@ -1,5 +1,5 @@
 -- Why blocks in memory keep the laws.
-use Rattle.std.specs.Prelude.{◌≡◌, ◌≢◌, ◌⊎◌, ◌+◌, ◌-◌, ◌*◌, ◌/◌, ◌^◌, ◌<◌, ◌≤◌, ℕ, Bool, true, false, cond, nat_lt, nat_eq, List, length, refl}
+use Rattle.std.specs.Prelude.{◌≡◌, ◌≢◌, ◌⊎◌, ◌+◌, ◌-◌, ◌*◌, ◌/◌, ◌^◌, ◌<◌, ◌≤◌, ℕ, Bool, true, false, cond, nat_lt, nat_eq, List, [], length, refl}
 use Rattle.std.proofs.Common.{inl, inr, ⊎_elim, sym, ◌∙◌, ap, subst, arith}
 use Rattle.std.proofs.Math.Nat.{le_refl}
 use Rattle.std.proofs.lemmas.Grind.{common_steps}
@@ -234,6 +234,12 @@ clears_used p t = record { first = λ at k h. absurd h; used = λ at k h. absurd
 
 pub none_queued : (p : Plain) → Queue p.blocks p.queued → (at : ℕ) → (state_of p).queued ≡ 0 → (state_of p).covered at → ⊥
 none_queued p queue at none c = let no : true ≡ false = sym c.taken ∙ queue none c.top in cc
+
+pub one_stays : (p : Plain) → (state_of p).covered 1 → ⊥
+one_stays p c = c.gone (record { path = []; leads = refl })
+
+pub enough : (p : Plain) → p.made + p.spare ≤ length p.blocks → (state_of p).spare ≤ (state_of p).usable
+enough p spared = omega (arith, spared)
 
 pub apart_hangs : (p : Plain) → 2 < p.made → S p → (image : Image) (t at : ℕ) → (state_of p).apart at → (state_of p).may_leave image → (state_of p).tops t → Reaches image (to_block t) at → ⊥
 apart_hangs p three sound image t at is same is_top r =

@@ -221,6 +221,10 @@ impl Blocks for PlainBlocks {
 
     ghost none_queued = { λ b. law.none_queued (parts b) b.queue };
 
+    ghost one_stays = { λ b. law.one_stays (parts b) };
+
+    ghost enough = { λ b. law.enough (parts b) b.spared };
+
     ghost apart_hangs = { λ b. law.apart_hangs (parts b) b.three b.sound };
 
     ghost instead_of = { λ b. law.instead_of (parts b) };
