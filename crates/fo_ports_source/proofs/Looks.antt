@@ -55,11 +55,15 @@ looks_joins {a = a} {b = b} all first second = record {
     instead = λ x z h i. (λ y. (first.stays.instead x z h i).0 ((second.stays.instead x z h i).0 y), λ y. (second.stays.instead x z h i).1 ((first.stays.instead x z h i).1 y));
     waits = λ x on j h i k w. second.stays.waits x on j h i k (first.stays.waits x on j h i k w);
   };
-  order = record { clearing = λ x j h. first.order.clearing x j (second.order.clearing x j h).1 };
+  order = record {
+    clearing = λ x j h. first.order.clearing x j (second.order.clearing x j h).1;
+    goes_on = λ x j n h. second.order.goes_on x j n (first.order.goes_on x j n h);
+  };
   covered = record { covered = λ x. (λ h. (first.covered.covered x).0 ((second.covered.covered x).0 h), λ h. (second.covered.covered x).1 ((first.covered.covered x).1 h)) };
   no_wait = record { each = λ x on j h w. first.no_wait.each x on j h (second.no_wait.each x on j h w) };
   dirty = λ x d. first.dirty x (second.dirty x d);
   room = (second.room.0 ∙ first.room.0, second.room.1 ∙ first.room.1);
+  usable = (second.usable.0 ∙ first.usable.0, second.usable.1 ∙ first.usable.1);
   numbers = record { next = second.numbers.next ∙ first.numbers.next; grants = λ h. second.numbers.grants (first.numbers.grants h) };
 }
 

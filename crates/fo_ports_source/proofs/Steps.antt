@@ -73,11 +73,13 @@ module _ {tag : ℕ} where
         waits = s.waits;
         no_wait = s.no_wait;
         clearing = s.clearing;
+        goes_on = s.goes_on;
         dirty = λ b d. ⊎_elim (λ h. inl h) (λ h. inr (⊎_elim (λ t. inl (own b t)) (λ x. inr x) h)) (s.dirty b d);
         moments = s.moments;
         left = s.left;
         pins = s.pins;
         room = s.room;
+        usable = s.usable;
         numbers = s.numbers;
         all = s.all;
       }
@@ -97,10 +99,12 @@ module _ {tag : ℕ} where
     waits = s.waits;
     no_wait = s.no_wait;
     clearing = s.clearing;
+    goes_on = s.goes_on;
     dirty = s.dirty;
     moments = s.moments;
     left = s.left;
     pins = s.pins;
+    usable = s.usable;
     numbers = s.numbers;
   }
 
@@ -119,11 +123,13 @@ module _ {tag : ℕ} where
     waits = λ x on j m n w. w;
     no_wait = record { each = λ x on j h w. w };
     clearing = λ b j h. (λ m. m.0 m.1, h);
+    goes_on = λ b j n h. h;
     dirty = λ b d. inl d;
     moments = refl;
     left = λ k image h. h;
     pins = refl;
     room = refl;
+    usable = refl;
     numbers = record { next = refl; grants = λ h. h };
     all = all;
   }
@@ -229,6 +235,7 @@ module _ {tag : ℕ} where
       waits = λ x on j m n w. second.waits x on j (λ h. m (made_second x h)) (λ h. n (made_second on h)) (first.waits x on j (λ h. m (made_first x h)) (λ h. n (made_first on h)) w);
       no_wait = record { each = λ x on j h w. first.no_wait.each x on j h (second.no_wait.each x on j h w) };
       clearing = λ at j h. let mid = second.clearing at j h in let old = first.clearing at j mid.1 in (λ m. ⊎_elim old.0 mid.0 (made_either at m), old.1);
+      goes_on = λ at j h was. second.goes_on at j (λ n. h (made_second at n)) (first.goes_on at j (λ m. h (made_first at m)) was);
       dirty = λ at d. ⊎_elim
           (λ mid. ⊎_elim
           (λ was. inl was)
@@ -240,6 +247,7 @@ module _ {tag : ℕ} where
       left = λ k image h. first.left k image (second.left k image h);
       pins = second.pins ∙ first.pins;
       room = second.room ∙ first.room;
+      usable = let p = first.usable in let q = second.usable in omega (arith, p, q);
       numbers = record { next = second.numbers.next ∙ first.numbers.next; grants = λ h. second.numbers.grants (first.numbers.grants h) };
       all = all;
     }
@@ -302,6 +310,7 @@ module _ {tag : ℕ} where
       waits = λ x on j m n w. g.gives.stays.waits x on j (not_at x m) (not_at on n) (λ z. z) w;
       no_wait = g.gives.no_wait;
       clearing = λ b j h. let was = g.gives.order.clearing b j h in (λ m. was.0 (made_is b m), was.1);
+      goes_on = λ b j h was. g.gives.order.goes_on b j (not_at b h) was;
       dirty = λ b d. ⊎_elim
           (λ h. inl h)
           (λ h. inr (⊎_elim (λ e. inl (inl (subst (λ x. Made old new x) (sym e) at_made))) (λ e. inr (at, at_made, e)) h))
@@ -310,6 +319,7 @@ module _ {tag : ℕ} where
       left = g.gives.uses.left;
       pins = g.gives.uses.pins;
       room = let is = g.gives.uses.room in omega (arith, is);
+      usable = let less = g.gives.uses.spare in let fewer = g.gives.uses.usable in omega (arith, less, fewer);
       numbers = g.gives.numbers;
       all = g.all;
     }
@@ -345,11 +355,13 @@ module _ {tag : ℕ} where
       waits = λ x on j m n w. g.calm.frame.stays.waits x on j (λ z. z) (λ z. z) (λ z. z) w;
       no_wait = g.no_wait;
       clearing = λ b j h. (none_made b, (g.calm.order.clearing b j h).1);
+      goes_on = λ b j n was. g.calm.order.goes_on b j (λ z. z) was;
       dirty = λ b d. ⊎_elim (λ h. inl h) (λ e. inr (inl (inr (e, ap (λ x. (old.label x).epoch) e ∙ g.current, ap (λ x. (old.label x).tag) e ∙ g.tagged)))) (g.calm.frame.dirty b d);
       moments = g.calm.frame.uses.moments;
       left = g.calm.frame.uses.left;
       pins = g.calm.frame.uses.pins;
       room = let is = g.calm.frame.uses.room in omega (arith, is);
+      usable = let less = g.calm.frame.uses.spare in let fewer = g.calm.frame.uses.usable in omega (arith, less, fewer);
       numbers = g.calm.frame.numbers;
       all = g.all;
     }
