@@ -1,8 +1,9 @@
 -- Why a look at a leaf was refused.
-use Rattle.std.proofs.Common.{◌≡◌, ◌⊎◌, ◌+◌, ◌*◌, ◌<◌, ◌≤◌, ℕ, Bool, true, false, List, [], ◌∷◌, find, Option, Some, None, MatchOption, refl, inl, inr, ⊎_elim, sym, ◌∙◌, subst, arith}
-use Rattle.std.specs.List.{list_any}
+use Rattle.std.proofs.Common.{◌≡◌, ◌⊎◌, ◌+◌, ◌*◌, ◌<◌, ◌≤◌, ℕ, Bool, true, false, List, [], ◌∷◌, find, Option, Some, None, MatchOption, IfSome, refl, inl, inr, ⊎_elim, sym, ◌∙◌, subst, arith}
+use Rattle.std.specs.List.{list_any, AllByRecursion}
 use Rattle.fo_image.specs.declared.record.Record.{Record}
-use Rattle.fo_meta.specs.Leaf.{SpellsLeaf, is_named}
+use Rattle.fo_image.specs.Record.{RecordHolds}
+use Rattle.fo_meta.specs.Leaf.{HasSpelling, SpellsLeaf, is_named}
 use Rattle.fo_crash.specs.Images.{Image, SameImage}
 use Rattle.fo_ports.specs.Sources.{Leaves}
 use Rattle.fo_dir_read.specs.Names.{HasRecords, LacksBelow, Finds}
@@ -40,6 +41,11 @@ none_any p (r ∷ rs) none = ⊎_elim (λ e. absurd (found e)) (λ e. rw e (none
 
     passed : p r ≡ false → find p (r ∷ rs) ≡ find p rs
     passed e = rw e refl
+
+-- a record that is found among some that have a spelling holds
+pub found_holds : (p : Record → Bool) (rs : List Record) → AllByRecursion HasSpelling rs → IfSome (find p rs) RecordHolds
+found_holds p [] all = tt
+found_holds p (r ∷ rs) all = ⊎_elim (λ e. rw e all.0.holds) (λ e. rw e (found_holds p rs all.1)) (decide (p r))
 
 -- the records of a leaf, before and after a look
 pub records_back : {now next : Image} {x y : Leaves} {i : ℕ} {rs : List Record} → SameImage next now → y.at i ≡ x.at i → HasRecords next y i rs → HasRecords now x i rs

@@ -2,6 +2,7 @@
 ghost use Rattle.std.specs.Prelude.{◌≡◌, ◌≢◌, ◌+◌, ◌*◌, ◌^◌, ◌<◌, ◌≤◌, ℕ, List, length, find, IfOk, OnOk, IfErr, IfSome, Option, Some, None, MatchOption, OnErr};
 ghost use Rattle.fo_base.specs.Cause.{Rose};
 ghost use Rattle.fo_image.specs.declared.record.Record.{Record};
+ghost use Rattle.fo_image.specs.Record.{RecordHolds};
 ghost use Rattle.fo_meta.specs.Leaf.{IsLeaf, SpellsLeaf, is_named};
 ghost use Rattle.fo_ports.specs.declared.error.BlockError.TheVariants.{Memory};
 ghost use Rattle.fo_ports.specs.Causes.{Caused};
@@ -27,6 +28,7 @@ pub struct Found {
 fn find_in(alloc: Global, leaf: &[u8], name: &[u8]) -> Result<Option<Record>, BlockError>
     requires { IsLeaf leaf.now }
     ensures found { (rs : List Record) → SpellsLeaf rs leaf.now → IfOk result (λ found. found ≡ find (is_named name.now) rs) }
+    ensures holds { IfOk result (λ found. IfSome found RecordHolds) }
     ensures memory { IfErr result (λ e. e ≡ Memory) }
 {
     match find(alloc, leaf, name) {
@@ -47,6 +49,7 @@ fn look_in<B: Blocks, S: Bytes<B>>(
     requires over { S.is_over records.old on.old }
     requires form { OfRecords (S.form records.old) rank }
     ensures found { IfOk result (λ found. (B.state on.old).tells → Finds (B.state on.new).now (S.leaves records.new on.new) name.now i found) }
+    ensures holds { IfOk result (λ found. IfSome found RecordHolds) }
     ensures over { S.is_over records.new on.new }
     ensures same { (S.form records.new ≡ S.form records.old) × (S.size records.new ≡ S.size records.old) × SameLeaves (B.state on.old).tells (S.leaves records.old on.old) (S.leaves records.new on.new) }
     ensures pins { (B.state on.old).pins_left ≤ (B.state on.new).pins_left + (depth_for (S.size records.old) + 1) }
@@ -72,6 +75,7 @@ pub fn lookup<B: Blocks, S: Bytes<B>>(
     requires over { S.is_over records.old on.old }
     requires form { OfRecords (S.form records.old) rank }
     ensures found { IfOk result (λ found. (B.state on.old).tells → MatchOption found (LacksBelow (B.state on.new).now (S.leaves records.new on.new) name.now (leaf_count (S.size records.new))) (λ f. IsFound (B.state on.new).now (S.leaves records.new on.new) name.now (S.size records.new) f.leaf f.record)) }
+    ensures holds { IfOk result (λ found. IfSome found (λ f. RecordHolds f.record)) }
     ensures over { S.is_over records.new on.new }
     ensures same { (S.form records.new ≡ S.form records.old) × (S.size records.new ≡ S.size records.old) × SameLeaves (B.state on.old).tells (S.leaves records.old on.old) (S.leaves records.new on.new) }
     ensures pins { (B.state on.old).pins_left ≤ (B.state on.new).pins_left + leaf_count (S.size records.old) * (depth_for (S.size records.old) + 1) }
