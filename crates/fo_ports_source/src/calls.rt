@@ -21,6 +21,9 @@ impl<B: Blocks> Bytes<B> for PlainSource {
 
     ghost leaves = { λ s b. leaves_of (B.state b) s.kind s.tag s.size s.leaves.items };
 
+    // Its leaves are listed, and none is named behind the end.
+    ghost is_trimmed = { λ s b. Unit {0} };
+
     fn len(&self) -> u64 {
         self.size
     }
@@ -96,6 +99,8 @@ impl<B: Blocks> Bytes<B> for PlainSource {
     ghost stays = { λ s a b over keeps kept. (source_stays s.kind s.tag s.rank s.size s.leaves.items (B.state a) (B.state b) (B.keeps_all a b keeps) over kept, λ told. (λ i. (refl, refl), λ at. (λ h. h, λ h. h))) };
 
     ghost still_current = { λ s a b over over_still keeps kept same top. top_stays s.kind s.tag s.rank s.size s.leaves.items (B.state a) (B.state b) (B.keeps_all a b keeps) same top };
+
+    ghost still_trimmed = { λ s a b over over_still keeps kept trimmed. tt };
 
     ghost still_prepared = { λ s a b o n over over_still keeps kept prepared. source_prepared s.kind s.tag s.rank s.size s.leaves.items (B.state a) (B.state b) o n (B.keeps_all a b keeps) kept prepared };
 
