@@ -1,0 +1,5 @@
+pub mod Choice
+pub mod Laws
+pub mod Looks
+pub mod Same
+pub mod Spots
