@@ -5,9 +5,9 @@ ghost use Rattle.fo_world.specs.Date.{date_of, monthday_of};
 ghost use Rattle.fo_world.specs.Dated.{Taken, four_digits, has_twin, dated_name, taken_at, is_below, is_dated, is_listed, entry_name, dated_dir_name, dated_node, adm};
 ghost use Rattle.fo_world.specs.Step.{entry_view, dated_parent, dated_entries, entry_named, least_above, lesser};
 
-use crate::date::{date_of, hour_minute_of};
 use crate::taken::Taken;
 use fo_base::Bytes;
+use fo_dates::{date_of, hour_minute_of};
 use fo_world::{Body, Names, Node, ShortText, View, is_above};
 use std::alloc::{AllocError, Global};
 

@@ -6,7 +6,6 @@
 
 mod changing;
 mod checking;
-mod date;
 mod dated;
 mod looking;
 mod made;

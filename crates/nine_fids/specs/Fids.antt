@@ -9,7 +9,7 @@ use Rattle.nine_fids.specs.declared.fid.Fid.{Fid}
 use Rattle.nine_fids.specs.declared.fid.Opened.{Opened}
 use Rattle.nine_fids.specs.declared.refusal.Refusal.{Refusal}
 use Rattle.nine_fids.specs.declared.refusal.Refusal.TheVariants as refusal
-use Rattle.nine_fids.specs.Refusing.{some_or}
+use Rattle.std.specs.Option.{ok_or}
 
 -- the message size, where a version is agreed to, and the fids
 pub record Fids : Type 0 where
@@ -105,16 +105,16 @@ in_world z w = record z { world = w }
 -- ---- what requests ask for first
 
 abbrev pub version_of : State → Result ℕ Refusal
-version_of z = some_or z.session.msize refusal.NoVersion
+version_of z = ok_or z.session.msize refusal.NoVersion
 
 abbrev pub fid_at : State → ℕ → Result Fid Refusal
-fid_at z k = some_or (known k z.session.fids) refusal.UnknownFid
+fid_at z k = ok_or (known k z.session.fids) refusal.UnknownFid
 
 abbrev pub is_open : Fid → Bool
 is_open f = is_some f.opened
 
 abbrev pub opened_of : Fid → Result Opened Refusal
-opened_of f = some_or f.opened refusal.FidIsNotOpen
+opened_of f = ok_or f.opened refusal.FidIsNotOpen
 
 -- ---- exclusive opens
 

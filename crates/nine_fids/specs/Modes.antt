@@ -3,7 +3,7 @@ use Rattle.std.specs.Prelude.{ℕ, ◌%◌, Bool, true, false, ◌||◌, ◌==�
 use Rattle.nine_fids.specs.declared.mode.Access.{Access}
 use Rattle.nine_fids.specs.declared.mode.Access.TheVariants.{Read, Write, ReadWrite, Execute}
 use Rattle.nine_fids.specs.declared.mode.Mode.{Mode}
-use Rattle.nine_fids.specs.Told.{has_bit}
+use Rattle.fo_users.specs.Rights.{has_bit}
 
 abbrev pub access_of : ℕ → Access
 access_of mode = if mode % 4 == 0 then Read else (if mode % 4 == 1 then Write else (if mode % 4 == 2 then ReadWrite else Execute))

@@ -44,11 +44,6 @@ is_failure (refusal.File error.ArenaSync) = true
 is_failure (refusal.File (error.Damaged block)) = true
 is_failure _ = false
 
--- the value, or a refusal where there is none
-abbrev pub some_or : {A : Type 0} → Option A → Refusal → Result A Refusal
-some_or (Some x) r = Ok x
-some_or None r = Err r
-
 -- what a call on files tells
 abbrev pub looked : {A : Type 0} → Result (A × World) FileError → Result A Refusal
 looked (Ok p) = Ok p.0

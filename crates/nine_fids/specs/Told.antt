@@ -1,11 +1,11 @@
 -- What is told of files on the wire (stat(5) and intro(5) of the Plan 9 manual).
-use Rattle.std.specs.Prelude.{ℕ, ◌-◌, ◌/◌, ◌^◌, List, length, Bool, not, ◌==◌, Option, Result}
-use Rattle.std.specs.Int.Bits.{bit_and}
+use Rattle.std.specs.Prelude.{ℕ, ◌-◌, ◌/◌, ◌^◌, List, length, Bool, Option, Result}
 use Rattle.nine_fields.specs.declared.qid.Qid.{Qid}
 use Rattle.nine_wire.specs.declared.message.Reply.{Reply}
 use Rattle.nine_wire.specs.Message.{reply_message, spelling}
 use Rattle.nine_stat.specs.declared.stat.Stat.{Stat}
 use Rattle.nine_stat.specs.Stat as stats
+use Rattle.fo_users.specs.Rights.{has_bit}
 use Rattle.fo_world.specs.declared.place.Info.{Info}
 use Rattle.fo_world.specs.declared.place.Place.{Place}
 use Rattle.fo_world.specs.World.{World}
@@ -62,9 +62,6 @@ abbrev pub iounit : ℕ → ℕ
 iounit msize = msize - 24
 
 -- ---- modes
-
-abbrev pub has_bit : ℕ → ℕ → Bool
-has_bit mode bit = not (bit_and mode bit == 0)
 
 -- DMDIR, DMAPPEND and DMEXCL
 abbrev pub is_dir : ℕ → Bool

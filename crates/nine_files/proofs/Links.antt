@@ -8,7 +8,8 @@ use Rattle.fo_world.specs.World.{Faults}
 use Rattle.fo_world.specs.Answers.{MayFail}
 use Rattle.nine_fids.specs.declared.refusal.Refusal.{Refusal}
 use Rattle.fo_world.specs.Chain.{and_then, refuse_if}
-use Rattle.nine_fids.specs.Refusing.{some_or, is_failure}
+use Rattle.std.specs.Option.{ok_or}
+use Rattle.nine_fids.specs.Refusing.{is_failure}
 use Rattle.nine_fids.specs.Looking.{FilesState, Follows, HasCause, IsRefused, Looks, MayMiss}
 use Rattle.nine_fids.proofs.Missing.{is_miss, fails_since, fails_by_missing}
 use Rattle.nine_fids.proofs.Seeing.{Told, cause_since, looks_denied, plain_cause}
@@ -72,7 +73,7 @@ pub then_plain : {A B : Type 0} (x : Result A Refusal) (f : A → Result B Refus
 then_plain (Ok a) f p q = q a
 then_plain (Err r) f p q = p
 
-pub some_plain : {A : Type 0} (o : Option A) (r : Refusal) → is_failure r ≡ false → IsPlain (some_or o r)
+pub some_plain : {A : Type 0} (o : Option A) (r : Refusal) → is_failure r ≡ false → IsPlain (ok_or o r)
 some_plain (Some x) r p = tt
 some_plain None r p = p
 

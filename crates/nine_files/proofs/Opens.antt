@@ -13,7 +13,8 @@ use Rattle.nine_fids.specs.declared.mode.Mode.{Mode}
 use Rattle.nine_fids.specs.declared.refusal.Refusal.{Refusal}
 use Rattle.nine_fids.specs.declared.refusal.Refusal.TheVariants as refusal
 use Rattle.fo_world.specs.Chain.{and_then, refuse_if}
-use Rattle.nine_fids.specs.Refusing.{some_or, changed}
+use Rattle.std.specs.Option.{ok_or}
+use Rattle.nine_fids.specs.Refusing.{changed}
 use Rattle.nine_fids.specs.Fids.{is_open}
 use Rattle.nine_fids.specs.Modes.{mode_of, changes, is_more}
 use Rattle.nine_fids.specs.Told.{Files, info_at, is_dir, qid_of}
@@ -92,7 +93,7 @@ cut_most f i m h = rw h refl
 pub mode_plain : (f : Fid) (i : Info) (mode : ℕ) → IsPlain (allowed_mode f i mode)
 unfolding allowed_mode
 mode_plain f i mode =
-    then_plain (some_or (mode_of mode) refusal.BadOpenMode) _ (some_plain (mode_of mode) refusal.BadOpenMode refl) (λ m.
+    then_plain (ok_or (mode_of mode) refusal.BadOpenMode) _ (some_plain (mode_of mode) refusal.BadOpenMode refl) (λ m.
     refuse_plain (not (step.is_active f.place.view) && changes m) (refusal.File error.ReadOnly) (refuse_if (is_dir i.mode && is_more m) (refusal.File error.IsDir) (Ok m)) refl
     (refuse_plain (is_dir i.mode && is_more m) (refusal.File error.IsDir) (Ok m) refl tt))
 
@@ -100,10 +101,10 @@ pub new_plain : (f : Fid) (i : Info) (name : List ℕ) (perm mode : ℕ) → IsP
 unfolding allowed_new
 new_plain f i name perm mode =
     let last : Mode → Result Mode Refusal = λ m. refuse_if (is_dir perm && is_more m) refusal.BadOpenMode (Ok m) in
-    let third : Result Mode Refusal = and_then (some_or (mode_of mode) refusal.BadOpenMode) last in
+    let third : Result Mode Refusal = and_then (ok_or (mode_of mode) refusal.BadOpenMode) last in
     let second : Result Mode Refusal = refuse_if (is_bad_name name) refusal.BadName third in
     refuse_plain (not (is_dir i.mode)) (refusal.File error.NotDir) (refuse_if (not (step.is_active f.place.view)) (refusal.File error.ReadOnly) second) refl
     (refuse_plain (not (step.is_active f.place.view)) (refusal.File error.ReadOnly) second refl
     (refuse_plain (is_bad_name name) refusal.BadName third refl
-    (then_plain (some_or (mode_of mode) refusal.BadOpenMode) last (some_plain (mode_of mode) refusal.BadOpenMode refl) (λ m.
+    (then_plain (ok_or (mode_of mode) refusal.BadOpenMode) last (some_plain (mode_of mode) refusal.BadOpenMode refl) (λ m.
     refuse_plain (is_dir perm && is_more m) refusal.BadOpenMode (Ok m) refl tt))))

@@ -17,7 +17,8 @@ use Rattle.nine_fids.specs.declared.mode.Mode.{Mode}
 use Rattle.nine_fids.specs.declared.refusal.Refusal.{Refusal}
 use Rattle.nine_fids.specs.declared.refusal.Refusal.TheVariants as refusal
 use Rattle.fo_world.specs.Chain.{and_then, refuse_if}
-use Rattle.nine_fids.specs.Refusing.{some_or, changed}
+use Rattle.std.specs.Option.{ok_or}
+use Rattle.nine_fids.specs.Refusing.{changed}
 use Rattle.nine_fids.specs.Told.{Files, is_dir, appends}
 use Rattle.fo_users.specs.declared.table.User.{User}
 use Rattle.fo_users.specs.Rights.{may}
@@ -81,7 +82,7 @@ most_cut f i m = if cuts i m then step.most_need f.place else 0
 -- the mode that a byte says, where the file's view and its kind allow it
 unfoldable pub allowed_mode : Fid → Info → ℕ → Result Mode Refusal
 allowed_mode f i mode =
-    and_then (some_or (mode_of mode) refusal.BadOpenMode) (λ m.
+    and_then (ok_or (mode_of mode) refusal.BadOpenMode) (λ m.
     refuse_if (not (step.is_active f.place.view) && changes m) (refusal.File error.ReadOnly) (
     refuse_if (is_dir i.mode && is_more m) (refusal.File error.IsDir) (Ok m)))
 
@@ -104,5 +105,5 @@ allowed_new f above name perm mode =
     refuse_if (not (is_dir above.mode)) (refusal.File error.NotDir) (
     refuse_if (not (step.is_active f.place.view)) (refusal.File error.ReadOnly) (
     refuse_if (is_bad_name name) refusal.BadName (
-    and_then (some_or (mode_of mode) refusal.BadOpenMode) (λ m.
+    and_then (ok_or (mode_of mode) refusal.BadOpenMode) (λ m.
     refuse_if (is_dir perm && is_more m) refusal.BadOpenMode (Ok m)))))

@@ -12,7 +12,8 @@ use Rattle.nine_fids.specs.declared.fid.Fid.{Fid}
 use Rattle.nine_fids.specs.declared.refusal.Refusal.{Refusal}
 use Rattle.nine_fids.specs.declared.refusal.Refusal.TheVariants as refusal
 use Rattle.fo_world.specs.Chain.{and_then}
-use Rattle.nine_fids.specs.Refusing.{some_or, is_failure}
+use Rattle.std.specs.Option.{ok_or}
+use Rattle.nine_fids.specs.Refusing.{is_failure}
 use Rattle.nine_fids.specs.Fids.{State, known, fid_of, fid_at, version_of, without, released, clunked, in_world, least, lesser}
 use Rattle.nine_fids.specs.Told.{Files, info_at}
 use Rattle.nine_fids.specs.Looking.{IsRefused}
@@ -25,7 +26,7 @@ use Rattle.nine_session.proofs.Kept.{fid_number}
 
 -- ---- chains
 
-pub some_err : {A : Type 0} (o : Option A) (r s : Refusal) → some_or o r ≡ Err s → o ≡ None
+pub some_err : {A : Type 0} (o : Option A) (r s : Refusal) → ok_or o r ≡ Err s → o ≡ None
 some_err (Some y) r s h = absurd cc
 some_err None r s h = refl
 
@@ -43,7 +44,7 @@ end_refused (Err x) rest fails r h = ⊎_elim (λ t. inl cc) (λ m. inr m) h
 
 -- ---- what a refusal leaves
 
-pub left_as_was : (z : State) (m : Option ℕ) (o : Option Fid) (s r : Refusal) → some_or m s ≡ Err r → without_fid z m o ≡ z
+pub left_as_was : (z : State) (m : Option ℕ) (o : Option Fid) (s r : Refusal) → ok_or m s ≡ Err r → without_fid z m o ≡ z
 left_as_was z None o s r h = refl
 left_as_was z (Some m) o s r h = absurd cc
 
@@ -51,7 +52,7 @@ pub left_unknown : (z : State) (m : Option ℕ) → without_fid z m None ≡ z
 left_unknown z None = refl
 left_unknown z (Some m) = refl
 
-pub left_known : (z : State) (m : Option ℕ) (f : Fid) (s : Refusal) (n : ℕ) → some_or m s ≡ Ok n → without_fid z m (Some f) ≡ clunked z f
+pub left_known : (z : State) (m : Option ℕ) (f : Fid) (s : Refusal) (n : ℕ) → ok_or m s ≡ Ok n → without_fid z m (Some f) ≡ clunked z f
 left_known z None f s n h = absurd cc
 left_known z (Some m) f s n h = refl
 

@@ -9,10 +9,10 @@ use Rattle.nine_fids.specs.declared.refusal.Refusal.TheVariants as refusal
 use Rattle.nine_fids.specs.Fids.{Fids, State, AreUsers, nofid, fid_of, known, fid_at, with_fid, with_fids, without}
 use Rattle.nine_wire.specs.declared.message.Reply.{Reply}
 use Rattle.nine_wire.specs.declared.message.Reply.TheVariants as reply
-use Rattle.nine_fids.specs.Refusing.{some_or}
+use Rattle.std.specs.Option.{ok_or}
 use Rattle.nine_session.specs.Attempting.{state}
 use Rattle.nine_session.specs.Session.{Told, need_at}
-use Rattle.nine_session.proofs.Links.{some_or_ok}
+use Rattle.nine_session.proofs.Links.{ok_or_ok}
 
 -- ---- a fid that is asked for
 
@@ -24,7 +24,7 @@ pub known_fid : (k : ℕ) (fids : List Fid) (f : Fid) → known k fids ≡ Some 
 known_fid k fids f h = not_nofid (k == nofid) (fid_of k fids) f h
 
 pub known_there : (z : State) (k : ℕ) (f : Fid) → fid_at z k ≡ Ok f → known k z.session.fids ≡ Some f
-known_there z k f h = some_or_ok (known k z.session.fids) refusal.UnknownFid f h
+known_there z k f h = ok_or_ok (known k z.session.fids) refusal.UnknownFid f h
 
 pub fid_there : (z : State) (k : ℕ) (f : Fid) → fid_at z k ≡ Ok f → fid_of k z.session.fids ≡ Some f
 fid_there z k f h = known_fid k z.session.fids f (known_there z k f h)
@@ -41,7 +41,7 @@ pub number_there : (z : State) (k : ℕ) (f : Fid) → fid_at z k ≡ Ok f → f
 number_there z k f h = fid_number k z.session.fids f (fid_there z k f h)
 
 -- the blocks that its file needs
-pub need_there : (o : Option Fid) (f : Fid) (need : Fid → ℕ) → some_or o refusal.UnknownFid ≡ Ok f → need_at o need ≡ need f
+pub need_there : (o : Option Fid) (f : Fid) (need : Fid → ℕ) → ok_or o refusal.UnknownFid ≡ Ok f → need_at o need ≡ need f
 need_there (Some g) f need h = let same : g ≡ f = cc in ap need same
 need_there None f need h = absurd cc
 

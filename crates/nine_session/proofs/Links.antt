@@ -5,7 +5,7 @@ use Rattle.fo_world.specs.World.{World, Faults}
 use Rattle.fo_world.specs.Answers.{NotFewer, MayFail, granted_world, world_beside}
 use Rattle.nine_fids.specs.declared.refusal.Refusal.{Refusal}
 use Rattle.fo_world.specs.Chain.{and_then, refuse_if}
-use Rattle.nine_fids.specs.Refusing.{some_or}
+use Rattle.std.specs.Option.{ok_or}
 use Rattle.nine_fids.specs.Looking.{MayMiss, IsRefused}
 use Rattle.nine_fids.proofs.Missing.{refused_by, fails_since}
 use Rattle.nine_fids.specs.Fids.{State}
@@ -79,6 +79,6 @@ world_with told (Err r) go old is same = ap (λ (r : Told). granted_world world_
 
 -- ---- options
 
-pub some_or_ok : {A : Type 0} (o : Option A) (e : Refusal) (x : A) → some_or o e ≡ Ok x → o ≡ Some x
-some_or_ok None e x h = absurd cc
-some_or_ok (Some y) e x h = cc
+pub ok_or_ok : {A : Type 0} (o : Option A) (e : Refusal) (x : A) → ok_or o e ≡ Ok x → o ≡ Some x
+ok_or_ok None e x h = absurd cc
+ok_or_ok (Some y) e x h = cc

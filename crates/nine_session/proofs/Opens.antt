@@ -16,10 +16,12 @@ use Rattle.nine_fids.specs.declared.mode.Mode.{Mode}
 use Rattle.nine_fids.specs.declared.refusal.Refusal.{Refusal}
 use Rattle.nine_fids.specs.declared.refusal.Refusal.TheVariants as refusal
 use Rattle.fo_world.specs.Chain.{and_then, refuse_if}
-use Rattle.nine_fids.specs.Refusing.{some_or, changed}
+use Rattle.std.specs.Option.{ok_or}
+use Rattle.nine_fids.specs.Refusing.{changed}
 use Rattle.nine_fids.specs.Fids.{Fids, State, version_of, fid_at, is_open}
 use Rattle.nine_fids.specs.declared.fid.Opened.{Opened}
-use Rattle.nine_fids.specs.Told.{Files, has_bit, info_at, is_dir, is_exclusive, qid_of, iounit}
+use Rattle.fo_users.specs.Rights.{has_bit}
+use Rattle.nine_fids.specs.Told.{Files, info_at, is_dir, is_exclusive, qid_of, iounit}
 use Rattle.nine_fids.specs.Modes.{access_of, mode_of, is_more, changes}
 use Rattle.nine_fids.proofs.Missing.{ok_same}
 use Rattle.nine_fids.specs.Rights.{table_of}
@@ -30,7 +32,7 @@ use Rattle.nine_session.specs.Attempting.{state, with_put}
 use Rattle.nine_session.specs.Opening.{create_file, open_file, with_open}
 use Rattle.nine_session.specs.Session.{need_at}
 use Rattle.nine_session.proofs.Kept.{need_there}
-use Rattle.nine_session.proofs.Links.{past_refuse, refuse_same, some_or_ok, then_same}
+use Rattle.nine_session.proofs.Links.{past_refuse, refuse_same, ok_or_ok, then_same}
 
 -- ---- Topen
 
@@ -91,11 +93,11 @@ cut_bit : (f : Fid) (i : Info) (mode : ℕ) (m : Mode) → allowed_mode f i mode
 unfolding allowed_mode
 cut_bit f i mode m h =
     let go : Mode → Result Mode Refusal = λ m. refuse_if (not (step.is_active f.place.view) && changes m) (refusal.File error.ReadOnly) (refuse_if (is_dir i.mode && is_more m) (refusal.File error.IsDir) (Ok m)) in
-    let first = then_ok_parts (some_or (mode_of mode) refusal.BadOpenMode) go m h in
+    let first = then_ok_parts (ok_or (mode_of mode) refusal.BadOpenMode) go m h in
     let second = refuse_ok (not (step.is_active f.place.view) && changes first.0) (refusal.File error.ReadOnly) (refuse_if (is_dir i.mode && is_more first.0) (refusal.File error.IsDir) (Ok first.0)) m first.2 in
     let third = refuse_ok (is_dir i.mode && is_more first.0) (refusal.File error.IsDir) (Ok first.0) m second.1 in
     let same : first.0 ≡ m = ok_same _ _ third.1 in
-    ap (λ (x : Mode). x.truncate) (sym same) ∙ mode_bit mode first.0 (some_or_ok (mode_of mode) refusal.BadOpenMode first.0 first.1)
+    ap (λ (x : Mode). x.truncate) (sym same) ∙ mode_bit mode first.0 (ok_or_ok (mode_of mode) refusal.BadOpenMode first.0 first.1)
 
 -- no more blocks than the mode may need
 most_within : (b t c : Bool) (n n' : ℕ) → t ≡ b → (t ≡ false → c ≡ false) → n ≡ n' → (if c then n else 0) ≤ (if b then n' else 0)
@@ -103,7 +105,7 @@ most_within true t true n n' is none same = omega (arith, same)
 most_within true t false n n' is none same = omega arith
 most_within false t c n n' is none same = let zero : c ≡ false = none is in rw zero (omega arith)
 
-pub cut_within : (o : Option Fid) (f : Fid) (i : Info) (mode : ℕ) (m : Mode) → allowed_mode f i mode ≡ Ok m → some_or o refusal.UnknownFid ≡ Ok f → most_cut f i m ≤ (if has_bit mode 16 then need_at o (λ f. step.most_need f.place) else 0)
+pub cut_within : (o : Option Fid) (f : Fid) (i : Info) (mode : ℕ) (m : Mode) → allowed_mode f i mode ≡ Ok m → ok_or o refusal.UnknownFid ≡ Ok f → most_cut f i m ≤ (if has_bit mode 16 then need_at o (λ f. step.most_need f.place) else 0)
 cut_within o f i mode m h there = most_within (has_bit mode 16) m.truncate (cuts i m) (step.most_need f.place) (need_at o (λ f. step.most_need f.place)) (cut_bit f i mode m h) (λ none. rw none refl) (sym (need_there o f (λ f. step.most_need f.place) there))
 
 -- ---- Tcreate
@@ -111,7 +113,7 @@ cut_within o f i mode m h there = most_within (has_bit mode 16) m.truncate (cuts
 pub named_well : (f : Fid) (above : Info) (name : List ℕ) (perm mode : ℕ) (m : Mode) → allowed_new f above name perm mode ≡ Ok m → is_bad_name name ≡ false
 unfolding allowed_new
 named_well f above name perm mode m h =
-    let t3 : Result Mode Refusal = and_then (some_or (mode_of mode) refusal.BadOpenMode) (λ k. refuse_if (is_dir perm && is_more k) refusal.BadOpenMode (Ok k)) in
+    let t3 : Result Mode Refusal = and_then (ok_or (mode_of mode) refusal.BadOpenMode) (λ k. refuse_if (is_dir perm && is_more k) refusal.BadOpenMode (Ok k)) in
     let t2 : Result Mode Refusal = refuse_if (is_bad_name name) refusal.BadName t3 in
     let t1 : Result Mode Refusal = refuse_if (not (step.is_active f.place.view)) (refusal.File error.ReadOnly) t2 in
     let first = refuse_ok (not (is_dir above.mode)) (refusal.File error.NotDir) t1 m h in

@@ -12,7 +12,8 @@ use Rattle.fo_world.specs.Answers.{is_fault, granted_world, tried}
 use Rattle.nine_fids.specs.declared.refusal.Refusal.{Refusal}
 use Rattle.nine_fids.specs.declared.refusal.Refusal.TheVariants as refusal
 use Rattle.fo_world.specs.Chain.{and_then}
-use Rattle.nine_fids.specs.Refusing.{is_failure, refusal_text, some_or}
+use Rattle.std.specs.Option.{ok_or}
+use Rattle.nine_fids.specs.Refusing.{is_failure, refusal_text}
 use Rattle.nine_fids.specs.Fids.{State, restarted}
 use Rattle.nine_fids.specs.Told.{Files}
 use Rattle.nine_fids.specs.Looking.{FilesState, HasCause, MayMiss}
@@ -161,7 +162,7 @@ module _ (old new : FilesState) (within : Touches) (k k' : Kept) (now : ℕ) (q 
 -- ---- Tauth, Tflush and Tversion
 
 abbrev denied : Option ℕ → Told
-denied m = and_then (some_or m refusal.NoVersion) (λ _. Err refusal.NoAuthentication)
+denied m = and_then (ok_or m refusal.NoVersion) (λ _. Err refusal.NoAuthentication)
 
 denied_plain : (m : Option ℕ) (why : Refusal) → denied m ≡ Err why → is_failure why ≡ false
 denied_plain None why is = let e : refusal.NoVersion ≡ why = cc in subst (λ r. is_failure r ≡ false) e refl
@@ -172,7 +173,7 @@ denied_ever None p is = cc
 denied_ever (Some n) p is = cc
 
 abbrev idle : Option ℕ → State → Told
-idle m z = and_then (some_or m refusal.NoVersion) (λ _. Ok (reply.Flush, z))
+idle m z = and_then (ok_or m refusal.NoVersion) (λ _. Ok (reply.Flush, z))
 
 idle_plain : (m : Option ℕ) (z : State) (why : Refusal) → idle m z ≡ Err why → is_failure why ≡ false
 idle_plain None z why is = let e : refusal.NoVersion ≡ why = cc in subst (λ r. is_failure r ≡ false) e refl

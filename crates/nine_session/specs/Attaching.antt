@@ -10,7 +10,7 @@ use Rattle.fo_world.specs.Step as step
 use Rattle.nine_fids.specs.declared.refusal.Refusal.{Refusal}
 use Rattle.nine_fids.specs.declared.refusal.Refusal.TheVariants as refusal
 use Rattle.fo_world.specs.Chain.{and_then, refuse_if}
-use Rattle.nine_fids.specs.Refusing.{some_or}
+use Rattle.std.specs.Option.{ok_or}
 use Rattle.nine_fids.specs.Fids.{State, nofid, most_fids, in_use, version_of, with_fids, restarted}
 use Rattle.nine_fids.specs.Told.{Files, info_at, qid_of}
 use Rattle.nine_fids.specs.Rights.{table_of, user_of}
@@ -61,6 +61,6 @@ attach e z fid afid uname aname =
     refuse_if (not (afid == nofid)) refusal.NoAuthentication (
     refuse_if (in_use fid z.session.fids) refusal.FidInUse (
     refuse_if (nat_le most_fids (length z.session.fids)) refusal.TooManyFids (
-    and_then (some_or (tree_of aname) refusal.UnknownTree) (λ view.
+    and_then (ok_or (tree_of aname) refusal.UnknownTree) (λ view.
     and_then (info_at e z.world (step.root_at view)) (λ i.
     Ok (reply.Attach (qid_of i), with_fids z (z.session.fids ++ (record { number = fid; user = user_of (table_of e z.world) uname; place = step.root_at view; opened = None }) ∷ []))))))))

@@ -17,7 +17,8 @@ use Rattle.nine_fids.specs.declared.refusal.Refusal.TheVariants as refusal
 use Rattle.nine_fids.specs.Refusing.{refusal_text}
 use Rattle.nine_fids.specs.Fids.{Fids, State, known, clunked, restarted}
 use Rattle.nine_fids.specs.declared.mode.Mode.{Mode}
-use Rattle.nine_fids.specs.Told.{Files, has_bit}
+use Rattle.fo_users.specs.Rights.{has_bit}
+use Rattle.nine_fids.specs.Told.{Files}
 use Rattle.nine_fids.specs.Looking.{FilesState, HasCause}
 use Rattle.fo_world.specs.declared.place.Info.{Info}
 use Rattle.nine_files.specs.Answering.{FailsBy}

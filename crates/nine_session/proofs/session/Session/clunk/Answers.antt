@@ -8,7 +8,7 @@ use Rattle.nine_session.specs.Session.{kept_of, without_fid}
 use Rattle.nine_session.proofs.Attempted.{attempted_as, attempted_denied}
 use Rattle.nine_session.proofs.Ends.{clunk_known, clunk_no_version, clunk_unknown, left_as_was, left_known, left_unknown, version_plain, some_err, fid_plain}
 use Rattle.nine_session.proofs.Kept.{known_fid, need_there}
-use Rattle.nine_session.proofs.Links.{some_or_ok}
+use Rattle.nine_session.proofs.Links.{ok_or_ok}
 use Rattle.nine_session.proofs.session.Session.clunk.Goals as goal
 
 pub returns-in_err-version-clause-attempted : goal.returns-in_err-version-clause-attempted
@@ -43,7 +43,7 @@ returns-clause-attempted g c =
     let z : State = state c.args.self.now c.args.exclusive.now.items (g.F.FileOps.world f) in
     let v : version_of z ≡ Ok _ = sym (c.in_ok-version.ensures z.exclusive z.world) in
     let k = c.in_ok-fid.ensures z.exclusive z.world in
-    let is : known c.args.fid z.session.fids ≡ Some _ = some_or_ok _ refusal.UnknownFid _ k in
+    let is : known c.args.fid z.session.fids ≡ Some _ = ok_or_ok _ refusal.UnknownFid _ k in
     let found = known_fid c.args.fid z.session.fids _ is in
     attempted_as _ _ _ _ _ _ _ _ _ _ _ _ _ _ (λ h. sym (clunk_known _ z c.args.now c.args.fid _ _ v k))
     (λ h. sym (need_there (known c.args.fid z.session.fids) _ (close_need _ z.world) k))

@@ -10,7 +10,7 @@ use Rattle.nine_session.specs.Session.{kept_of, without_fid}
 use Rattle.nine_session.proofs.Attempted.{attempted_denied, attempted_as, led_granted, led_refused}
 use Rattle.nine_session.proofs.Ends.{gone_is, left_as_was, left_known, left_unknown, version_plain, remove_known, remove_no_version, remove_unknown, some_err, fid_plain}
 use Rattle.nine_session.proofs.Kept.{fid_user, known_fid, need_there}
-use Rattle.nine_session.proofs.Links.{some_or_ok}
+use Rattle.nine_session.proofs.Links.{ok_or_ok}
 use Rattle.nine_session.proofs.session.Session.remove.Goals as goal
 
 pub returns-in_err-version-clause-attempted : goal.returns-in_err-version-clause-attempted
@@ -43,7 +43,7 @@ pub remove_there-removed-requires-clause-user : goal.remove_there-removed-requir
 remove_there-removed-requires-clause-user g c =
     let fids = c.self.inside.fids.items in
     let k = rw (← c.self.view_is) at (c.in_ok-from.ensures c.args.exclusive.now.items (g.F.FileOps.world c.args.files.now)) in
-    fid_user c.args.fid fids _ c.self.invariant (known_fid c.args.fid fids _ (some_or_ok _ refusal.UnknownFid _ k))
+    fid_user c.args.fid fids _ c.self.invariant (known_fid c.args.fid fids _ (ok_or_ok _ refusal.UnknownFid _ k))
 
 pub returns-in_err-removed-clause-attempted : goal.returns-in_err-removed-clause-attempted
 returns-in_err-removed-clause-attempted g c =
@@ -54,7 +54,7 @@ returns-in_err-removed-clause-attempted g c =
     let p = err_from_is_err_and c.from_residual-in_err-removed.result c.from_residual-in_err-removed.ensures.1 in
     let v : version_of z ≡ Ok _ = sym (c.in_ok-version.ensures z.exclusive z.world) in
     let k = c.in_ok-from.ensures z.exclusive z.world in
-    let is : known c.args.fid z.session.fids ≡ Some _ = some_or_ok _ refusal.UnknownFid _ k in
+    let is : known c.args.fid z.session.fids ≡ Some _ = ok_or_ok _ refusal.UnknownFid _ k in
     let found = known_fid c.args.fid z.session.fids _ is in
     rw (p.1, p.2) (attempted_as _ _ _ _ _ (λ e x. remove e x c.args.now c.args.fid) _ (λ e x. remove_need f) _ (remove_need f) _ (λ x. clunked x f) _ _ (λ h. refl)
     (λ h. sym (need_there (known c.args.fid z.session.fids) f remove_need k))
@@ -73,7 +73,7 @@ returns-clause-attempted g c =
     let f = c.in_ok-from.from.now in
     let v : version_of z ≡ Ok _ = sym (c.in_ok-version.ensures z.exclusive z.world) in
     let k = c.in_ok-from.ensures z.exclusive z.world in
-    let is : known c.args.fid z.session.fids ≡ Some _ = some_or_ok _ refusal.UnknownFid _ k in
+    let is : known c.args.fid z.session.fids ≡ Some _ = ok_or_ok _ refusal.UnknownFid _ k in
     let found = known_fid c.args.fid z.session.fids _ is in
     attempted_as _ _ _ _ _ (λ e x. remove e x c.args.now c.args.fid) _ (λ e x. remove_need f) _ (remove_need f) _ (λ x. clunked x f) _ _ (λ h. refl)
     (λ h. sym (need_there (known c.args.fid z.session.fids) f remove_need k))

@@ -1,4 +1,4 @@
-//! Dates in UTC.
+//! Dates, and the times of a day.
 ghost use Rattle.std.specs.Prelude.{◌≡◌, ℕ, ◌+◌, ◌/◌, ◌<◌, ◌≤◌};
 ghost use Rattle.fo_world.specs.Date as calendar;
 ghost use Rattle.fo_world.specs.Date.{is_leap_year, days_in_month};
@@ -7,7 +7,7 @@ use std::marker::Model;
 
 /// A date of the Gregorian calendar.
 #[derive(Drop)]
-pub(crate) struct Date {
+pub struct Date {
     year: u32,
     month: u32,
     day: u32,
@@ -78,14 +78,14 @@ impl Date {
     }
 
     /// The year.
-    pub(crate) fn year(&self) -> u32
+    pub fn year(&self) -> u32
         ensures { result ≡ self.now.year }
     {
         self.year
     }
 
     /// The month and the day as one number, mmdd.
-    pub(crate) fn monthday(&self) -> u32
+    pub fn monthday(&self) -> u32
         ensures number { result ≡ monthday_of self.now }
         ensures small { result < 10000 }
     {
@@ -94,7 +94,7 @@ impl Date {
 }
 
 /// The date of a moment, in seconds since 1970-01-01.
-pub(crate) fn date_of(time: u32) -> Date
+pub fn date_of(time: u32) -> Date
     ensures date { result ≡ calendar.date_of time }
     ensures year { result.year < 65536 }
 {
@@ -110,7 +110,7 @@ pub(crate) fn date_of(time: u32) -> Date
 }
 
 /// The hour and the minute of a moment as one number, hhmm.
-pub(crate) fn hour_minute_of(time: u32) -> u32
+pub fn hour_minute_of(time: u32) -> u32
     ensures { result ≡ calendar.hour_minute_of time }
 {
     time % 86400 / 3600 * 100 + time % 3600 / 60

@@ -1,6 +1,6 @@
 use Rattle.std.proofs.Common.{◌≡◌, ◌∙◌, refl, sym, ap, ℕ, zero, suc, ◌+◌, add-one, arith}
 use Rattle.fo_world.specs.Date.{Date, date_of_day, day_after}
-use Rattle.fo_plain.proofs.date.date_of.Goals as goal
+use Rattle.fo_dates.proofs.date.date_of.Goals as goal
 
 first_day : date_of_day 0 ≡ record { year = 1970; month = 1; day = 1 }
 unfolding date_of_day
