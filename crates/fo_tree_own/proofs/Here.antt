@@ -1,5 +1,5 @@
 -- A block below a slot of a current block is current already; and what is told of one that is owned.
-use Rattle.std.proofs.Common.{◌≡◌, ◌+◌, ◌*◌, ◌<◌, ◌≤◌, ℕ, suc, inl, inr, ⊎_elim, subst, arith}
+use Rattle.std.proofs.Common.{◌≡◌, ◌+◌, ◌*◌, ℕ, suc, inl, inr, ⊎_elim, subst, arith}
 use Rattle.fo_image.specs.declared.types.Pointer.TheVariants.{Local}
 use Rattle.fo_crash.specs.Images.{target}
 use Rattle.fo_crash.specs.Places.{place}
