@@ -15,7 +15,7 @@ use Rattle.fo_tree_look.specs.Source.{IsPrepared, IsTopCurrent}
 use Rattle.fo_tree_read.specs.declared.tree.Tree.{Tree}
 use Rattle.fo_tree_read.specs.Tree.{kind_at, kind_down, below, block_at}
 use Rattle.fo_tree_own.specs.Step.{IsOwn, OwnTold, Links}
-use Rattle.fo_tree_down.specs.Way.{OnWay, Comes, Replaces, LeadsBeside, Leads, with_top, IsTopOf, WayCurrent}
+use Rattle.fo_tree_down.specs.Way.{OnWay, Replaces, LeadsBeside, Leads, with_top, IsTopOf, WayCurrent}
 use Rattle.fo_tree_down.proofs.Join.{level_same}
 
 -- a block that is owned is prepared
@@ -104,14 +104,6 @@ module _ (s m u : State) (t : Tree) (kept : List Kept) (top n above i result lev
         replaces_on (suc n') j at le leads.1,
       )
 
-  top_own : (n' j at : ℕ) → Leads s m t kept top n' j at → (i : ℕ) × IsOwn m t (t.depth - 0) i top
-  top_own zero j at leads = (j, subst (λ y. IsOwn m t (t.depth - 0) j y) leads.0 leads.1.own)
-  top_own (suc n') j at leads = top_own n' (j / 409) leads.0.0 leads.0.1
-
-  -- the slot did not lead to the top
-  pub top_not_was : (j at : ℕ) → Leads s m t kept top n j at → was ≡ Local top → ⊥
-  top_not_was j at leads = let q = top_own n j at leads in not_was 0 q.0 top (omega arith) q.1
-
   -- beside the slot that was put
   pub beside_on : (j : ℕ) → LeadsBeside s m t kept n j above i → LeadsBeside s u t kept n j above i
   beside_on j beside x few ne = ap (λ (q : Slot). target q) (step.slots above x (ne_result above own.live) (inr ne)) ∙ beside x few ne
@@ -133,11 +125,10 @@ module _ (s m u : State) (t : Tree) (kept : List Kept) (top n above i result lev
 
 -- ---- the top
 
-pub top_stays : {s m u : State} {t : Tree} {level k at i result top : ℕ} {was : Pointer} → KeepsAll s m → KeepsAll m u → IsTopOf s m t top → Links t level k at i was result m u → (was ≡ Local top → ⊥) → IsTopOf s u t top
-top_stays {s = s} {m = m} {u = u} {result = result} {top = top} first more is step not = record {
+pub top_stays : {s m u : State} {t : Tree} {level k at i result top : ℕ} {was : Pointer} → KeepsAll m u → IsTopOf s m t top → Links t level k at i was result m u → IsTopOf s u t top
+top_stays {m = m} {u = u} {result = result} {top = top} more is step = record {
   from = ⊎_elim (λ made. inl (made.0, ap (λ (l : Label). l.state) same ∙ made.1)) (λ e. inr e) is.from;
   apart = λ made. (step.apart top ne).1 (is.apart (made.0, ap (λ (l : Label). l.state) (sym same) ∙ made.1));
-  in_tree = λ told r. step.reached (first.still_tells.1 told) top not (is.in_tree told r);
   live = ap (λ (l : Label). l.state) same ∙ is.live;
   current = ap (λ (l : Label). l.epoch) same ∙ is.current ∙ sym more.same_high;
 }

@@ -177,10 +177,11 @@ module _ {s u : State} {t : Tree} {kept : List Kept} {top n k at : ℕ} (x : Was
       subst (λ y. u.apart y ⊎ Reaches u.now (to_block 1) y) (local_eq e)
       (⊎_elim
       (λ made. inl (is_top.apart made))
-      (λ was. ⊎_elim
-      (λ h. let is = over.told told top (record { down = 0; index = 0; within = omega arith; is = was }) in inl ((x.descends.apart top (λ made. made.0 is.live)).1 h))
-      (λ r. inr (is_top.in_tree told r))
-      (over.free told top was))
+      (λ was.
+      let is = over.told told top (record { down = 0; index = 0; within = omega arith; is = was }) in
+      let not : Made s u top → ⊥ = λ made. made.0 is.live in
+      let current : (s.label top).epoch ≡ s.high = ap (λ (l : Label). l.epoch) (sym (x.descends.others top not).label) ∙ is_top.current ∙ x.all.same_high in
+      ⊎_elim (λ h. inl ((x.descends.apart top not).1 h)) (λ r. inr (x.descends.current told top current r)) (over.free told top was))
       is_top.from)
 
   pub over_end : {limit level : ℕ} → SaysApart s u → (s.tells → WentDown s u t kept top n k at level) → 0 < t.size → Over s t kept limit → Over u (with_top t top) kept limit

@@ -172,7 +172,6 @@ module _ {t : Tree} {kept : List Kept} {l : Label} {result : ℕ} {s m : State} 
   top_topped = record {
     from = inl made_result;
     apart = λ made. x.came.is.3;
-    in_tree = λ told r. in_tree told result r;
     live = ap (λ (q : Label). q.state) x.came.label ∙ x.is_live;
     current = ap (λ (q : Label). q.epoch) x.came.label ∙ x.is_current ∙ sym x.all.same_high;
   }

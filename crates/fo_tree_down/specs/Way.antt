@@ -117,12 +117,10 @@ pub record StaysBeside (s u : State) (t new : Tree) (n k : ℕ) : Type 0 where
 abbrev pub with_top : Tree → ℕ → Tree
 with_top t top = record t { top = Local top }
 
--- The top of a source once it was made current: one that was given out, which is put nowhere yet, or the one that was there, which hangs
--- where it did.
+-- The top of a source once it was made current: one that was given out, which is put nowhere yet, or the one that was there.
 pub record IsTopOf (s u : State) (t : Tree) (top : ℕ) : Type 0 where
   pub from : Made s u top ⊎ (t.top ≡ Local top)
   pub apart : Made s u top → u.apart top
-  pub in_tree : s.tells → Reaches s.now (to_block 1) top → Reaches u.now (to_block 1) top
   pub live : (u.label top).state ≡ Live
   pub current : (u.label top).epoch ≡ u.high
 

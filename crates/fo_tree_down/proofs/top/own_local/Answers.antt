@@ -1,4 +1,4 @@
-use Rattle.std.proofs.Common.{◌≡◌, ◌<◌, ◌+◌, inr, length, refl, sym, ap, ◌∙◌, subst, arith}
+use Rattle.std.proofs.Common.{◌<◌, ◌+◌, inr, length, refl, sym, ap, ◌∙◌, subst, arith}
 use Rattle.fo_image.specs.declared.types.Pointer.{Pointer}
 use Rattle.fo_image.specs.declared.types.Pointer.TheVariants.{Local}
 use Rattle.fo_crash.specs.Places.{place}
@@ -92,7 +92,6 @@ pub returns-then-is_current-clause-top : goal.returns-then-is_current-clause-top
 returns-then-is_current-clause-top g c = record {
   from = inr c.requires.is;
   apart = λ made. absurd (made.0 made.1);
-  in_tree = λ told r. r;
   live = c.requires.ready.live;
   current = c.is_current.ensures.yes c.if-is_current.true;
 }

@@ -10,7 +10,7 @@ use Rattle.fo_tree_look.specs.Source.{seen, IsTold, WayReady}
 use Rattle.fo_tree_own.specs.Step.{IsOwn, CanOwn, Becomes, Links}
 use Rattle.fo_tree_down.specs.Way.{OnWay, Comes, Leads, IsTopOf, WayCurrent, with_top}
 use Rattle.fo_tree_down.proofs.Next.{Says, local_seen, leads_next, leads_beside, above_own, can_next, was_below, comes_same, comes_new, not_current, replaces_same, replaces_new}
-use Rattle.fo_tree_down.proofs.Leading.{block_of, leads_on, beside_on, given_on, top_not_was, top_stays, way_top}
+use Rattle.fo_tree_down.proofs.Leading.{block_of, leads_on, beside_on, given_on, top_stays, way_top}
 use Rattle.fo_tree_down.proofs.way.+own_down.Goals as goal
 
 pub own_top-top-requires-clause-ready : goal.own_top-top-requires-clause-ready
@@ -367,17 +367,10 @@ returns-clause-top g t' c =
     let s = g.B.Blocks.state on in
     let m = g.B.Blocks.state mid in
     let t = c.args.tree.now in
-    let kept = c.args.kept.now in
     let n = c.args.down - 1 in
     let k = c.args.k in
     let is : c.args.down ≡ suc (c.args.down - 1) = omega arith in
-    let all = g.met.B.Blocks.keeps_all on mid c.own_down-above.ensures.keeps in
-    let down : suc (c.args.down - 1) ≤ t.depth = subst (λ d. d ≤ t.depth) is c.requires.down.0 in
-    let ready : WayReady s t kept (suc (c.args.down - 1)) k = subst (λ d. WayReady s t kept d k) is c.requires.ready in
-    let says : s.tells → Says s = λ told. record { placed = g.met.B.Blocks.placed on s.now (g.met.B.Blocks.present on told); one = g.met.B.Blocks.one_place on } in
-    let told : s.tells → (b : ℕ) → OnWay s t (suc (c.args.down - 1)) k b → IsTold s t.top b = subst (λ d. s.tells → (b : ℕ) → OnWay s t d k b → IsTold s t.top b) is c.requires.told in
     let above = c.own_down-above.result.at in
-    let comes = c.own_down-above.ensures.comes in
     let end = c.own_block-at.new.on in
     let u = g.B.Blocks.state end in
     let at = c.own_block-at.result in
@@ -386,9 +379,7 @@ returns-clause-top g t' c =
     subst (λ d. ((was ≡ Local at) × (end ≡ mid) × IsOwn m t (t.depth - d) (409 * (k / 409) + k % 409) at) ⊎ Links t (t.depth - d) (k / 409) above (k % 409) was at m u) is c.own_block-at.ensures.step in
     ⊎_elim
     (λ same. subst (λ x. IsTopOf s (g.B.Blocks.state x) t c.own_down-above.result.top) (sym same.1) c.own_down-above.ensures.top)
-    (λ links. top_stays all (g.met.B.Blocks.keeps_all mid end c.own_block-at.ensures.keeps) c.own_down-above.ensures.top links
-    (top_not_was s m u t kept c.own_down-above.result.top n above (k % 409) at (t.depth - suc n) (k / 409) (omega (arith, down)) (block_of n (k / 409) above comes.own) was
-    (was_below s m t kept n k above all c.requires.hangs down ready comes says told) (g.met.B.Blocks.keeps_all mid end c.own_block-at.ensures.keeps) links (k / 409) above c.own_down-above.ensures.leads))
+    (λ links. top_stays (g.met.B.Blocks.keeps_all mid end c.own_block-at.ensures.keeps) c.own_down-above.ensures.top links)
     step
 
 pub returns-then-down-eq0-clause-given : goal.returns-then-down-eq0-clause-given
