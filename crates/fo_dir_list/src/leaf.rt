@@ -1,7 +1,7 @@
 //! The records of a leaf, one after the other.
 ghost use Rattle.std.specs.Prelude.{◌≡◌, ◌+◌, ◌≤◌, [], ◌∷◌, ◌++◌, ℕ, List, true, length, drop, IfOk, IfErr, IfSome, Option, Some, None, MatchOption};
 ghost use Rattle.fo_image.specs.declared.record.Record.{Record};
-ghost use Rattle.fo_image.specs.Record.{record_len};
+ghost use Rattle.fo_image.specs.Record.{RecordHolds, record_len};
 ghost use Rattle.fo_meta.specs.Leaf.{HasSpelling, SpellsLeaf, IsLeaf, BeginsRecord, record_bytes, records_bytes};
 ghost use Rattle.fo_ports.specs.declared.error.BlockError.TheVariants.{Memory};
 ghost use Rattle.fo_dir_list.specs.Next.{comes_before, Answers, StandsAt, NextStands};
@@ -83,6 +83,7 @@ fn place_after(leaf: &[u8], after: &[u8]) -> Option<(usize, usize)>
 pub fn next_in(alloc: Global, leaf: &[u8], after: &[u8]) -> Result<Option<Record>, BlockError>
     requires { IsLeaf leaf.now }
     ensures next { (rs : List Record) → SpellsLeaf rs leaf.now → IfOk result (λ found. Answers after.now rs found) }
+    ensures holds { IfOk result (λ found. IfSome found RecordHolds) }
     ensures memory { IfErr result (λ e. e ≡ Memory) }
 {
     let Some((at, end)) = place_after(leaf, after) else {

@@ -1,4 +1,4 @@
-//! The records of a directory, leaf by leaf: the next name, how many there are, and where one more goes.
+//! The records of a directory, leaf by leaf: the next name, that of a number, how many there are, and where one more goes.
 //!
 //! A name is *after* another where it is greater, byte by byte; each name is after the empty one, which no record has.
 //!
@@ -11,7 +11,9 @@
 
 mod leaf;
 mod list;
+mod number;
 mod rooms;
 
 pub use list::next;
+pub use number::numbered;
 pub use rooms::{count, leaf_for};

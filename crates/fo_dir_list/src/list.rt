@@ -1,7 +1,8 @@
 //! The records of a directory in the order of their names.
-ghost use Rattle.std.specs.Prelude.{◌≡◌, ◌+◌, ◌*◌, ◌≤◌, ◌++◌, ℕ, List, IfOk, IfErr, Option, Some, None};
+ghost use Rattle.std.specs.Prelude.{◌≡◌, ◌+◌, ◌*◌, ◌≤◌, ◌++◌, ℕ, List, IfOk, IfErr, IfSome, Option, Some, None};
 ghost use Rattle.fo_base.specs.Cause.{Rose};
 ghost use Rattle.fo_image.specs.declared.record.Record.{Record};
+ghost use Rattle.fo_image.specs.Record.{RecordHolds};
 ghost use Rattle.fo_ports.specs.Causes.{Caused};
 ghost use Rattle.fo_ports.specs.State.{Looks};
 ghost use Rattle.fo_ports.specs.Sources.{SameLeaves, depth_for};
@@ -27,6 +28,7 @@ fn next_at<B: Blocks, S: Bytes<B>>(
     requires over { S.is_over records.old on.old }
     requires form { OfRecords (S.form records.old) rank }
     ensures next { IfOk result (λ found. (B.state on.old).tells → NextIn (B.state on.new).now (S.leaves records.new on.new) after.now i found) }
+    ensures holds { IfOk result (λ found. IfSome found RecordHolds) }
     ensures over { S.is_over records.new on.new }
     ensures same { (S.form records.new ≡ S.form records.old) × (S.size records.new ≡ S.size records.old) × SameLeaves (B.state on.old).tells (S.leaves records.old on.old) (S.leaves records.new on.new) }
     ensures pins { (B.state on.old).pins_left ≤ (B.state on.new).pins_left + (depth_for (S.size records.old) + 1) }
@@ -56,7 +58,8 @@ fn is_better(best: &Option<Record>, found: &Option<Record>) -> bool
 
 /// Of two records the one whose name comes before the other's.
 fn lesser(best: Option<Record>, found: Option<Record>) -> Option<Record>
-    ensures { (after : List ℕ) (front last : List Record) → Answers after front best → Answers after last found → Answers after (front ++ last) result }
+    ensures answers { (after : List ℕ) (front last : List Record) → Answers after front best → Answers after last found → Answers after (front ++ last) result }
+    ensures holds { IfSome best RecordHolds → IfSome found RecordHolds → IfSome result RecordHolds }
 {
     if is_better(&best, &found) {
         found
@@ -77,6 +80,7 @@ pub fn next<B: Blocks, S: Bytes<B>>(
     requires over { S.is_over records.old on.old }
     requires form { OfRecords (S.form records.old) rank }
     ensures next { IfOk result (λ found. (B.state on.old).tells → NextBelow (B.state on.new).now (S.leaves records.new on.new) after.now (leaf_count (S.size records.new)) found) }
+    ensures holds { IfOk result (λ found. IfSome found RecordHolds) }
     ensures over { S.is_over records.new on.new }
     ensures same { (S.form records.new ≡ S.form records.old) × (S.size records.new ≡ S.size records.old) × SameLeaves (B.state on.old).tells (S.leaves records.old on.old) (S.leaves records.new on.new) }
     ensures pins { (B.state on.old).pins_left ≤ (B.state on.new).pins_left + leaf_count (S.size records.old) * (depth_for (S.size records.old) + 1) }

@@ -1,4 +1,5 @@
-use Rattle.std.proofs.Common.{◌≡◌, ◌+◌, ◌*◌, ◌≤◌}
+use Rattle.std.proofs.Common.{◌≡◌, ◌+◌, ◌*◌, ◌≤◌, IfSome}
+use Rattle.fo_image.specs.Record.{RecordHolds}
 use Rattle.fo_ports.specs.State.{Looks}
 use Rattle.fo_ports.specs.Sources.{SameLeaves, depth_for}
 use Rattle.fo_dir_list.specs.Next.{NextBelow}
@@ -14,3 +15,4 @@ invariant-loop-i g l =
     × g.B.Blocks.keeps l.initial.on l.on
     × (a.pins_left ≤ b.pins_left + l.i * (depth_for (g.S.Bytes.size l.initial.records) + 1))
     × (a.tells → NextBelow b.now (g.S.Bytes.leaves l.records l.on) l.after l.i l.best)
+    × IfSome l.best RecordHolds
