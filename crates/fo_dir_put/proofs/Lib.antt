@@ -1,5 +1,6 @@
 pub mod Aparts
 pub mod Calms
+pub mod Clearing
 pub mod Leaves
 pub mod Nothing
 pub mod Named

@@ -1,13 +1,12 @@
 -- Records of a directory keep apart where bytes of a leaf are put.
-use Rattle.std.proofs.Common.{◌≡◌, ◌≢◌, ◌⊎◌, inl, inr, ⊎_elim, ℕ, List, [], ◌∷◌, ◌++◌, Contains, refl, sym, ◌∙◌, ap, subst, arith}
+use Rattle.std.proofs.Common.{◌≡◌, ◌≢◌, ⊎_elim, ℕ, List, [], ◌∷◌, ◌++◌, Contains, sym, ◌∙◌, ap, subst, arith}
 use Rattle.std.proofs.lemmas.Bool.{cases_eq}
 use Rattle.std.proofs.lemmas.List.Elements.{Contains-push, Contains-push_cases, Contains-append_left, Contains-append_right}
 use Rattle.fo_image.specs.declared.record.Record.{Record}
-use Rattle.fo_good.specs.Reading.{leaf_records}
 use Rattle.fo_crash.specs.Images.{Content, Image, with_bytes}
-use Rattle.fo_crash.specs.Steps.{AddsBytes, AddsNothing}
+use Rattle.fo_crash.specs.Steps.{AddsBytes}
 use Rattle.fo_crash.proofs.Updates.{bytes_other}
-use Rattle.fo_dir_put.specs.Names.{Clash, AllApart, MayStand, ShowsBytes}
+use Rattle.fo_dir_put.specs.Names.{Clash, AllApart, ShowsBytes}
 use Rattle.fo_dir_put.specs.Differ.{Distinct, AreDistinct, AllDiffer, MayName}
 use Rattle.fo_dir_put.proofs.Aparts.{bytes_apart, bytes_rest, rest_but, others_apart, apart_back, shows_apart, may_later}
 

@@ -1,5 +1,5 @@
 -- Each record keeps both entries of its pair.
-use Rattle.std.proofs.Common.{◌≡◌, ◌≢◌, ◌⊎◌, inl, inr, ⊎_elim, ℕ, ◌+◌, ◌*◌, ◌/◌, ◌%◌, List, Contains, refl, sym, ◌∙◌, ap, subst, arith}
+use Rattle.std.proofs.Common.{◌≡◌, ◌≢◌, ◌⊎◌, inl, inr, ⊎_elim, ℕ, ◌+◌, ◌*◌, ◌/◌, ◌%◌, List, Contains, sym, ◌∙◌, ap, subst, arith}
 use Rattle.std.proofs.lemmas.Bool.{cases_eq}
 use Rattle.fo_image.specs.declared.record.Record.{Record}
 use Rattle.fo_image.specs.declared.types.Entry.{Entry}
@@ -9,11 +9,11 @@ use Rattle.fo_good.specs.Trees.{IsFirst, IsSecond}
 use Rattle.fo_crash.specs.Images.{Content, Image, SameImage, with_bytes, with_slot}
 use Rattle.fo_crash.specs.declared.slot.Slot.{Slot}
 use Rattle.fo_crash.specs.declared.slot.Slot.TheVariants.{Pointer as To, Entry as Head, Prev}
-use Rattle.fo_crash.specs.Steps.{AddsBytes, AddsSlot, AddsNothing, PutsSlot, PutsBytes, HasBytes}
+use Rattle.fo_crash.specs.Steps.{AddsBytes, AddsSlot, AddsNothing, PutsSlot, HasBytes}
 use Rattle.fo_crash.specs.Names.{IsInUse, SameUse}
 use Rattle.fo_crash.proofs.Updates.{slot_bytes, slot_other, bytes_other, bytes_here, bytes_slot}
 use Rattle.fo_ports.specs.State.{State, WaitsForPairs, WaitsInUse}
-use Rattle.fo_dir_put.specs.Names.{ListsIn, AllFit}
+use Rattle.fo_dir_put.specs.Names.{AllFit}
 use Rattle.fo_dir_put.specs.Puts.{PutsPair}
 use Rattle.fo_dir_put.specs.Paired.{HasBoth, AllPaired, StoodAs, ArePaired, AddsPaired, LacksPair, IsUnnamed}
 

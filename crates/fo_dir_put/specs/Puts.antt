@@ -5,10 +5,10 @@ use Rattle.fo_image.specs.declared.types.Kind.TheVariants.{Data, Dir}
 use Rattle.fo_image.specs.declared.types.Pointer.TheVariants.{Nil}
 use Rattle.fo_crash.specs.declared.place.Place.{Place}
 use Rattle.fo_crash.specs.declared.slot.Slot.TheVariants.{Entry as Head}
-use Rattle.fo_crash.specs.Images.{Reaches, to_block}
+use Rattle.fo_crash.specs.Images.{Image, Reaches, to_block}
 use Rattle.fo_crash.specs.Names.{IsInUse}
 use Rattle.fo_ports.specs.Blocks.{SlotFits}
-use Rattle.fo_ports.specs.State.{State, KeepsOrder, none}
+use Rattle.fo_ports.specs.State.{State, AddsNoWait, KeepsOrder, KeepsNumbers, none}
 
 -- A leaf of entries that is owned, and linked where the device tells.
 pub record IsOwnedEntries (s : State) (at : ℕ) : Type 0 where
@@ -39,17 +39,20 @@ pub record IsNewEntry (e : Entry) : Type 0 where
   pub fits : SlotFits (Dir 0) 0 (Head e)
   pub empty : e.top ≡ Nil
 
--- Labels, pins and places stay, no slot begins to wait to be cleared, and nothing more is to be closed.
+-- Labels, pins and places stay, the same slots wait to be cleared, the same blocks are to be closed, and no device call is made.
 pub record StaysCalm (old new : State) : Type 0 where
   pub labels : (b : ℕ) → new.label b ≡ old.label b
   pub marks : (b : ℕ) → (old.pinned b → new.pinned b) × (old.sealed b → new.sealed b)
   pub places : old.tells → (b : ℕ) (p : Place) → (old.covered b → ⊥) → old.stands b p → new.stands b p
   pub order : KeepsOrder none old new
   pub uncovered : (b : ℕ) → (old.covered b → ⊥) → new.covered b → ⊥
+  pub covered : (b : ℕ) → old.covered b → new.covered b
   pub linked : old.tells → (b : ℕ) → Reaches old.now (to_block 1) b → Reaches new.now (to_block 1) b
   pub apart : (b : ℕ) → old.apart b → new.apart b
   pub instead : (b x : ℕ) → new.instead b x → old.instead b x
-  pub left : (new.spare ≡ old.spare) × (new.pins_left ≡ old.pins_left)
+  pub left : (new.spare ≡ old.spare) × (new.pins_left ≡ old.pins_left) × (new.usable ≡ old.usable)
+  pub passes : (new.moments ≡ old.moments) × ((k : ℕ) (image : Image) → new.left k image → old.left k image)
+  pub numbers : KeepsNumbers old new
 
 -- In memory these two entries are put, and all else stays.
 pub record PutsPair (at p : ℕ) (first second : Entry) (old new : State) : Type 0 where
@@ -90,3 +93,19 @@ pub record MayClear (s : State) (at j : ℕ) : Type 0 where
   pub is_sealed : s.sealed at
   pub none_comes : (y x : ℕ) → s.instead y x → ⊥
   pub quiet : (b i : ℕ) → s.clearing b i → Reaches s.now ((s.now at).slot j) b → ⊥
+
+-- An entry of a leaf was cleared or waits for it, and all else in memory stays. Labels, pins and places stay, nothing begins to wait for a
+-- leaf, no device call is made, and what didn't hang below the entry hangs from block 1 where it did.
+pub record ClearsAlone (at j : ℕ) (old new : State) : Type 0 where
+  pub bytes : (b : ℕ) → (new.now b).bytes ≡ (old.now b).bytes
+  pub slots : (b i : ℕ) → (b ≢ at) ⊎ (i ≢ j) → (new.now b).slot i ≡ (old.now b).slot i
+  pub labels : (b : ℕ) → new.label b ≡ old.label b
+  pub marks : (b : ℕ) → (old.pinned b → new.pinned b) × (old.sealed b → new.sealed b)
+  pub places : old.tells → (b : ℕ) (p : Place) → (new.covered b → ⊥) → old.stands b p → new.stands b p
+  pub linked : old.tells → (b : ℕ) → (Reaches old.now ((old.now at).slot j) b → ⊥) → Reaches old.now (to_block 1) b → Reaches new.now (to_block 1) b
+  pub apart : (b : ℕ) → old.apart b → new.apart b
+  pub instead : (b x : ℕ) → new.instead b x → old.instead b x
+  pub no_wait : AddsNoWait none old new
+  pub left : (new.spare ≡ old.spare) × (new.pins_left ≡ old.pins_left) × (new.usable ≡ old.usable)
+  pub passes : (new.moments ≡ old.moments) × ((k : ℕ) (image : Image) → new.left k image → old.left k image)
+  pub numbers : KeepsNumbers old new

@@ -1,11 +1,12 @@
 //! A name is added, and its entry cleared.
 ghost use Rattle.std.specs.Prelude.{◌≡◌, ◌≢◌, ◌⊎◌, ◌+◌, ◌*◌, ◌/◌, ◌<◌, ℕ, List, true};
-ghost use Rattle.fo_crash.specs.Steps.{cleared};
+ghost use Rattle.fo_crash.specs.Steps.{Covers, cleared};
 ghost use Rattle.fo_meta.specs.Leaf.{IsLeaf};
+ghost use Rattle.fo_ports.specs.State.{IsPointers};
 ghost use Rattle.fo_dir_put.specs.Names.{ListsIn, AllFit, AddsOne, Lacks, AllApart, MayStand, ShowsBut, ShowsBytes};
 ghost use Rattle.fo_dir_put.specs.Differ.{AllDiffer, MayName};
 ghost use Rattle.fo_dir_put.specs.Paired.{AllPaired, AddsPaired, IsUnnamed};
-ghost use Rattle.fo_dir_put.specs.Puts.{IsOwnedEntries, IsOwnedRecords, IsInPlace, IsUnused, IsNewEntry, MayClear, StaysCalm, PutsName};
+ghost use Rattle.fo_dir_put.specs.Puts.{IsOwnedEntries, IsOwnedRecords, IsInPlace, IsUnused, IsNewEntry, MayClear, StaysCalm, PutsName, ClearsAlone};
 
 use crate::pair::put_pair;
 use crate::record::put_record;
@@ -54,11 +55,13 @@ pub fn clear_entry<B: Blocks>(on: &mut B, leaf: u32, entries: u32, j: u32)
     requires settled { (B.state on.old).clearing entries j → ⊥ }
     requires may { (B.state on.old).tells → MayClear (B.state on.old) entries j }
     requires room { 0 < (B.state on.old).room }
-    ensures entry { (((B.state on.new).now entries).slot j ≡ cleared (((B.state on.old).now entries).slot j)) ⊎ (B.state on.new).clearing entries j }
+    ensures entry { ((((B.state on.new).now entries).slot j ≡ cleared (((B.state on.old).now entries).slot j)) × ((B.state on.new).clearing entries j → ⊥)) ⊎ ((((B.state on.new).now entries).slot j ≡ ((B.state on.old).now entries).slot j) × (B.state on.new).clearing entries j) }
     ensures fit { (n : ℕ) → Lacks n j (((B.state on.old).now leaf).bytes) → AllFit n leaf entries (B.state on.old).may_leave → AllFit n leaf entries (B.state on.new).may_leave }
     ensures paired { (n a e : ℕ) → (e ≡ entries → IsUnnamed n (j / 2) a leaf (B.state on.old)) → AllPaired n a e (B.state on.old) → AllPaired n a e (B.state on.new) }
     ensures shows { ShowsBytes (B.state on.old).may_leave (B.state on.new).may_leave }
-    ensures order { (b i : ℕ) → (B.state on.new).clearing b i → (B.state on.old).clearing b i ⊎ ((b ≡ entries) × (i ≡ j)) }
+    ensures alone { ClearsAlone entries j (B.state on.old) (B.state on.new) }
+    ensures covers { (B.state on.old).tells → Covers (IsPointers (B.state on.old)) (((B.state on.old).now entries).slot j) (B.state on.old).now (B.state on.new).now (B.state on.old).covered (B.state on.new).covered }
+    ensures order { (b i : ℕ) → ((B.state on.new).clearing b i → (B.state on.old).clearing b i ⊎ ((b ≡ entries) × (i ≡ j))) × ((B.state on.old).clearing b i → (B.state on.new).clearing b i) }
     ensures room { (B.state on.new).room + 1 ≡ (B.state on.old).room }
     ensures keeps { B.keeps on.old on.new }
 {

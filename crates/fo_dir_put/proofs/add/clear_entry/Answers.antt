@@ -1,9 +1,12 @@
-use Rattle.std.proofs.Common.{◌≡◌, ◌⊎◌, inl, inr, ⊎_elim, ℕ, ◌+◌, ◌*◌, ◌/◌, ◌%◌, arith}
+use Rattle.std.proofs.Common.{◌≡◌, ◌⊎◌, inl, inr, ⊎_elim, ℕ, ◌+◌, ◌*◌, ◌/◌, ◌%◌, ◌<◌, sym, subst, arith}
 use Rattle.std.proofs.lemmas.Bool.{cases_lt}
+use Rattle.fo_image.specs.declared.types.Kind.{Kind}
 use Rattle.fo_crash.proofs.Names.{entry_cleared}
 use Rattle.fo_dir_put.specs.Names.{ListsIn}
 use Rattle.fo_dir_put.proofs.Nothing.{may_remove}
 use Rattle.fo_dir_put.proofs.Aparts.{slot_shows}
+use Rattle.fo_ports.specs.Blocks.{slot_count}
+use Rattle.fo_dir_put.proofs.Clearing.{cleared_nil, clears_alone}
 use Rattle.fo_dir_put.proofs.Paired.{clear_paired}
 use Rattle.fo_dir_put.proofs.add.clear_entry.Goals as goal
 
@@ -26,3 +29,13 @@ returns-clause-paired g c = λ n a e free all.
     let s = g.B.Blocks.state c.args.on.now in
     let t = g.B.Blocks.state c.remove_slot.new.self in
     clear_paired s t n a e (c.args.j / 2) c.args.leaf (halves c.args.j) c.remove_slot.ensures.images (⊎_elim (λ h. inl (h.0, h.2)) (λ h. inr h.0) c.remove_slot.ensures.now) free all
+
+pub returns-clause-entry : goal.returns-clause-entry
+returns-clause-entry g c = ⊎_elim (λ h. inl (h.0.here, h.1)) (λ h. inr ((h.0.each c.args.entries).slots c.args.j, h.1)) c.remove_slot.ensures.now
+
+pub returns-clause-alone : goal.returns-clause-alone
+returns-clause-alone g c =
+    let s = g.B.Blocks.state c.args.on.now in
+    let within = subst (λ (k : Kind). c.args.j < slot_count k) (sym c.requires.entries.leaf_kind) c.requires.within in
+    let nil = cleared_nil (s.label c.args.entries).kind c.args.j ((s.now c.args.entries).slot c.args.j) c.requires.entries.leaf_kind (g.met.B.Blocks.spelled c.args.on.now c.args.entries c.args.j c.requires.entries.is_pinned within) in
+    clears_alone c.remove_slot.ensures.frame c.remove_slot.ensures.hangs c.remove_slot.ensures.no_wait nil (⊎_elim (λ h. inl h.0) (λ h. inr h.0) c.remove_slot.ensures.now)
