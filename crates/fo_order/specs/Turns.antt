@@ -1,12 +1,12 @@
 -- The order of writing.
-use Rattle.std.specs.Prelude.{◌≡◌, ◌≢◌, ◌-◌, ◌<◌, ◌≤◌, ◌&&◌, ℕ, Bool, true, false, if◌then◌else◌, nat_eq, [], ◌∷◌, ◌++◌, length, map, slice_set}
+use Rattle.std.specs.Prelude.{◌≡◌, ◌≢◌, ◌-◌, ◌<◌, ◌≤◌, ◌&&◌, ℕ, Bool, true, false, if◌then◌else◌, nat_eq, [], ◌∷◌, ◌++◌, length, map, slice_set, count_by}
 use Rattle.std.specs.List.{Contains}
 use Rattle.fo_order.specs.declared.marks.Flags.{Flags}
 use Rattle.fo_order.specs.declared.marks.Tried.{Tried}
 use Rattle.fo_order.specs.declared.marks.Tried.TheVariants.{Settled, Written, Failed}
 use Rattle.fo_order.specs.declared.order.Turn.{Turn}
 use Rattle.fo_order.specs.declared.order.Turn.TheVariants.{Write, Sync, Idle}
-use Rattle.fo_order.specs.Flags.{flags_of, flag, settled_tried}
+use Rattle.fo_order.specs.Flags.{flags_of, flag, is_dirty, settled_tried}
 use Rattle.fo_order.specs.Marks.{mark, mark_rank}
 use Rattle.fo_order.specs.Keeps.{Turns}
 
@@ -45,10 +45,11 @@ closed Failed f = f
 abbrev pub forgotten : Turns → ℕ → Turns
 forgotten t at = noted t at (closed (flag_at t at).tried (flag_at t at))
 
--- A sync answered Ok: what was written is settled.
+-- A sync answered Ok: what was written is settled, and as many are dirty as before.
 pub record IsSynced (old new : Turns) : Type 0 where
   pub each : (q : ℕ) → flag_at new q ≡ record (flag_at old q) { tried = settled_tried (flag_at old q).tried }
   pub count : length new.flags ≡ length old.flags
+  pub dirty : count_by is_dirty new.flags ≡ count_by is_dirty old.flags
   pub none : new.written ≡ []
   pub room : new.room ≡ old.room
 

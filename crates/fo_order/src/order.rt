@@ -1,6 +1,6 @@
 //! The order of writing.
 ghost use Rattle.std.specs.Bool.{OnTrue, OnFalse};
-ghost use Rattle.std.specs.Prelude.{◌≡◌, ◌-◌, ◌<◌, ◌≤◌, true, false, [], length, replicate, max, count_by, IfOk, OnOk, OnErr};
+ghost use Rattle.std.specs.Prelude.{◌≡◌, ◌+◌, ◌-◌, ◌<◌, ◌≤◌, true, false, [], length, replicate, max, count_by, IfOk, OnOk, OnErr};
 ghost use Rattle.fo_order.specs.Flags.{quiet, flags_of, is_dirty};
 ghost use Rattle.fo_order.specs.Turns.{flag_at, noted, is_ranked, changed, wrote, forgotten, IsSynced, IsTurn};
 
@@ -156,7 +156,8 @@ impl Order {
     /// A write of a dirty block was answered: Ok or not.
     pub fn wrote(&mut self, at: u32, ok: bool)
         requires { (flag_at self.old at).dirty ≡ true }
-        ensures { self.new ≡ wrote self.old at ok }
+        ensures is { self.new ≡ wrote self.old at ok }
+        ensures fewer { ok ≡ true → count_by is_dirty self.new.flags + 1 ≡ count_by is_dirty self.old.flags }
     {
         let was = self.flags[at as usize];
         if !ok {

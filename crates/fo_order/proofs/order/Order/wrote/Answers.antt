@@ -29,3 +29,9 @@ invariant_of-self-2 c =
       room_to_mark = c.self.invariant.room_to_mark;
       room_to_write = omega (arith, down, c.self.invariant.counted, c.self.invariant.room_to_write, c.push_reserved.ensures.len, c.push_reserved.ensures.capacity);
     }
+
+pub returns-clause-fewer : goal.returns-clause-fewer
+returns-clause-fewer c = λ _.
+    let dirty : (flag c.self.inside.flags.items c.args.at).dirty ≡ true = subst (λ (t : Turns). (flag t.flags c.args.at).dirty ≡ true) (sym c.self.view_is) c.requires in
+    let down = counted_down c.self.inside.flags.items c.args.at c.index-was.result.now.rank dirty in
+    rw (← c.self.view_is) down
