@@ -1,13 +1,14 @@
 -- A block is brought into memory.
-use Rattle.std.proofs.Common.{◌≡◌, ◌↔◌, ⊎_elim, ℕ, true, false, ◌<◌, nat_eq, List, length, Option, Some, None, is_some, Contains, refl, sym, ap, ◌∙◌, subst, arith}
-use Rattle.std.specs.Option.{option_map, MatchOption}
-use Rattle.std.specs.Map.{lookup}
+use Rattle.std.proofs.Common.{◌≡◌, ◌↔◌, ◌⊎◌, inl, inr, ⊎_elim, ℕ, true, false, ◌-◌, ◌<◌, nat_eq, eqb-true, List, ◌∷◌, take, length, Option, Some, None, is_some, Contains, refl, sym, ap, ◌∙◌, subst, arith}
+use Rattle.std.specs.Option.{option_map, option_map_or, MatchOption}
+use Rattle.std.specs.Map.{lookup, lookup_entry, remove_entry}
 use Rattle.std.specs.Ordering.{nat_cmp}
 use Rattle.std.specs.FinMap.{FinMap, get}
 use Rattle.std.proofs.lemmas.Bool.{cases_eq}
 use Rattle.std.specs.Cmp.{nat_eq_equiv}
 use Rattle.lru.specs.LruCache.{lru_cache}
-use Rattle.lru.proofs.CallerLemmas.{lookup-put_entries}
+use Rattle.lru.proofs.CallerLemmas.{lookup-put_entries, Contains-lookup_entry, Contains-remove_entry, Contains-take}
+use Rattle.lru.proofs.Splits.{Contains-cons}
 use Rattle.fo_buffers.specs.Reading.{Looked}
 use Rattle.fo_disk.specs.Disk.{versions_of}
 use Rattle.fo_disk.specs.Disk.{Content as Holds}
@@ -15,7 +16,7 @@ use Rattle.fo_image.specs.declared.types.Kind.{Kind}
 use Rattle.fo_buffers.specs.declared.block.Buffer.{Buffer}
 use Rattle.fo_buffers.specs.Held.{Held, held_at, buffer_of, put, unlisted, used, cut, block_in}
 use Rattle.fo_bring.specs.Blocks.{Good, Gets}
-use Rattle.fo_bring.specs.Holds.{Others, GoodIn, GetsIn, GetsGood, GetsClean, IsFound, Loaded, Brought, Seen}
+use Rattle.fo_bring.specs.Holds.{Others, GoodIn, GetsIn, GetsGood, GetsClean, IsFound, Loaded, Brought, Seen, StaysClean}
 use Rattle.fo_bring.proofs.Buffering.{put_same, put_other, cut_same, cut_other, lookup_other}
 
 -- what is clean of a block
@@ -137,3 +138,44 @@ gets_in kind rank None bytes into e g = absurd (cc)
 
 pub gets_clean : (first count : ℕ) (kind : Kind) (rank : ℕ) (o : Option (List ℕ)) (bytes into : List ℕ) → Some bytes ≡ o → GetsGood first count kind rank bytes into → GetsClean first count kind rank o into
 gets_clean first count kind rank o bytes into e g = subst (λ (o : Option (List ℕ)). GetsClean first count kind rank o into) e g
+
+-- ---- what is clean
+
+pub clean_at_once : (disk : Holds) {old new : Held} → new ≡ old → StaysClean disk old new
+clean_at_once disk {old} {new} is = record { each = λ q bytes c. inl (subst (λ (h : Held). Contains h.clean (q, bytes)) is c) }
+
+pub clean_joins : {disk : Holds} {old mid new : Held} → StaysClean disk old mid → StaysClean disk mid new → StaysClean disk old new
+clean_joins first second = record { each = λ q bytes c. ⊎_elim (λ m. first.each q bytes m) (λ v. inr v) (second.each q bytes c) }
+
+-- one block is clean no more
+pub clean_unlisted : (disk : Holds) (at : ℕ) {old new : Held} → new.clean ≡ remove_entry (nat_eq at) old.clean → StaysClean disk old new
+clean_unlisted disk at {old} {new} is = record {
+  each = λ q bytes c. inl (Contains-remove_entry (nat_eq at) old.clean (q, bytes) (subst (λ (es : List (ℕ × List ℕ)). Contains es (q, bytes)) is c));
+}
+
+pub clean_gone : (disk : Holds) (at : ℕ) (mid new : Held) → new ≡ cut (unlisted mid at) at → StaysClean disk mid new
+clean_gone disk at mid new is = clean_unlisted disk at (ap (λ (h : Held). h.clean) is)
+
+pub clean_loaded : {disk : Holds} {at : ℕ} {old new : Held} → Loaded disk at old new → StaysClean disk old new
+clean_loaded {disk} {at} {old} {new} l = clean_unlisted disk at (ap (λ (h : Held). h.clean) l.is)
+
+pub clean_read : {disk : Holds} {at : ℕ} {old new : Held} → Looked disk at old new → StaysClean disk old new
+clean_read {disk} {at} {old} {new} l = record {
+  each = λ q bytes c. by (lookup_entry (nat_eq at) old.clean) refl q bytes (subst (λ (h : Held). Contains h.clean (q, bytes)) l.is c);
+}
+  where
+    is_now : (k q : ℕ) (bytes : List ℕ) → k ≡ at → ◌≡◌ {A = ℕ × List ℕ} (k, l.bytes) (q, bytes) → q < length disk → Contains (versions_of disk q) bytes
+    is_now k q bytes same e lt =
+        let key : q ≡ at = sym (ap (λ (x : ℕ × List ℕ). x.0) e) ∙ same in
+        let value : l.bytes ≡ bytes = ap (λ (x : ℕ × List ℕ). x.1) e in
+        subst (λ n. Contains (versions_of disk n) bytes) (sym key) (subst (Contains (versions_of disk at)) value (l.found (subst (λ n. n < length disk) key lt)))
+
+    by : (o : Option (ℕ × List ℕ)) → lookup_entry (nat_eq at) old.clean ≡ o → (q : ℕ) (bytes : List ℕ) → Contains (option_map_or (λ e. (e.0, l.bytes) ∷ remove_entry (nat_eq at) old.clean) o ((at, l.bytes) ∷ take (1024 - 1) old.clean)) (q, bytes) → Contains old.clean (q, bytes) ⊎ (q < length disk → Contains (versions_of disk q) bytes)
+    by (Some e) is q bytes c = ⊎_elim
+        (λ here. inr (is_now e.0 q bytes (sym (eqb-true at e.0 (Contains-lookup_entry (nat_eq at) old.clean e is).1)) here))
+        (λ rest. inl (Contains-remove_entry (nat_eq at) old.clean (q, bytes) rest))
+        (Contains-cons (e.0, l.bytes) (remove_entry (nat_eq at) old.clean) (q, bytes) c)
+    by None is q bytes c = ⊎_elim
+        (λ here. inr (is_now at q bytes refl here))
+        (λ rest. inl (Contains-take (1024 - 1) old.clean (q, bytes) rest))
+        (Contains-cons (at, l.bytes) (take (1024 - 1) old.clean) (q, bytes) c)

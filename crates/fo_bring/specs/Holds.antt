@@ -1,5 +1,5 @@
 -- What is held of blocks, and what a reading adds to it.
-use Rattle.std.specs.Prelude.{◌≡◌, ◌≢◌, ◌+◌, ◌<◌, ◌≤◌, ℕ, true, false, List, length, nat_eq, Option, Some, None}
+use Rattle.std.specs.Prelude.{◌≡◌, ◌≢◌, ◌⊎◌, ◌+◌, ◌<◌, ◌≤◌, ℕ, true, false, List, length, nat_eq, Option, Some, None}
 use Rattle.std.specs.List.{Contains}
 use Rattle.std.specs.Map.{lookup}
 use Rattle.fo_disk.specs.Disk.{versions_of}
@@ -34,6 +34,10 @@ IsFromIn disk at None clean bytes = IsFound disk at clean bytes
 
 abbrev pub IsFrom : Holds → ℕ → Held → List ℕ → Type 0
 IsFrom disk at h bytes = IsFromIn disk at (held_at h at) (lookup (nat_eq at) h.clean) bytes
+
+-- What is clean was clean with these bytes, or they are one of the versions of the device.
+pub record StaysClean (disk : Holds) (old new : Held) : Type 0 where
+  pub each : (q : ℕ) (bytes : List ℕ) → Contains new.clean (q, bytes) → Contains old.clean (q, bytes) ⊎ (q < length disk → Contains (versions_of disk q) bytes)
 
 -- A block that was not held is held and pinned: as a clean one had it, else with one of the versions of the device.
 pub record Loaded (disk : Holds) (at : ℕ) (old new : Held) : Type 0 where

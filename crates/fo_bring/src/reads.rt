@@ -5,7 +5,7 @@ ghost use Rattle.std.specs.Map.{lookup};
 ghost use Rattle.fo_base.specs.Cause.{Rose};
 ghost use Rattle.fo_buffers.specs.Held.{held_at, cut, unlisted};
 ghost use Rattle.fo_ports.specs.Causes.{Caused};
-ghost use Rattle.fo_bring.specs.Holds.{Others, GoodIn, Loaded, Brought, Seen, Glanced};
+ghost use Rattle.fo_bring.specs.Holds.{Others, GoodIn, Loaded, Brought, Seen, Glanced, StaysClean};
 
 use crate::copies::copy_clean;
 use crate::good::is_good;
@@ -74,6 +74,7 @@ pub fn bring<D: Disk>(
     ensures ok { OnOk result (Brought first count kind (D.state main.old).holds at buffers.old buffers.new) }
     ensures err { OnErr result (held_at buffers.new at ≡ None) }
     ensures others { Others at buffers.old buffers.new }
+    ensures clean { StaysClean (D.state main.old).holds buffers.old buffers.new }
     ensures size { D.size main.new ≡ D.size main.old }
     ensures state { D.state main.new ≡ D.state main.old }
     ensures cause { IfErr result (Caused ⊥ (λ b. b ≡ at) (Rose (D.faults main.old) (D.faults main.new)) ⊥) }
@@ -105,6 +106,7 @@ fn see<D: Disk>(
     requires block { at < D.size main.old }
     requires none { held_at buffers.old at ≡ None }
     ensures ok { OnOk result (Seen (D.state main.old).holds at buffers.old buffers.new) }
+    ensures clean { StaysClean (D.state main.old).holds buffers.old buffers.new }
     ensures err { OnErr result (buffers.new ≡ buffers.old) }
     ensures size { D.size main.new ≡ D.size main.old }
     ensures state { D.state main.new ≡ D.state main.old }
@@ -140,6 +142,7 @@ pub fn glance<D: Disk>(
     ensures ok { OnOk result (Glanced first count kind rank (D.state main.old).holds at buffers.old buffers.new into.new) }
     ensures nothing { OnErr result (into.new ≡ into.old) }
     ensures held { (q : ℕ) → held_at buffers.new q ≡ held_at buffers.old q }
+    ensures clean { StaysClean (D.state main.old).holds buffers.old buffers.new }
     ensures room { buffers.new.room ≡ buffers.old.room }
     ensures size { D.size main.new ≡ D.size main.old }
     ensures state { D.state main.new ≡ D.state main.old }
