@@ -93,7 +93,7 @@ pub from_source : (disk : Holds) (at : ℕ) (h : Held) (o : Option Buffer) (into
 from_source disk at h (Some y) into source is = subst (λ (b : List ℕ). IsFrom disk at h b) (sym is) source
 from_source disk at h None into source is = absurd is
 
-from_none : (disk : Holds) (at : ℕ) (h : Held) (bytes : List ℕ) → held_at h at ≡ None → IsFound disk at (lookup (nat_eq at) h.clean) bytes → IsFrom disk at h bytes
+pub from_none : (disk : Holds) (at : ℕ) (h : Held) (bytes : List ℕ) → held_at h at ≡ None → IsFound disk at (lookup (nat_eq at) h.clean) bytes → IsFrom disk at h bytes
 from_none disk at h bytes none found = subst (λ (o : Option Buffer). IsFromIn disk at o (lookup (nat_eq at) h.clean) bytes) (sym none) found
 
 pub from_glance : {first count : ℕ} {kind : Kind} {rank : ℕ} {disk : Holds} {at : ℕ} {old new : Held} {into : List ℕ} → held_at old at ≡ None → Glanced first count kind rank disk at old new into → IsFrom disk at old into

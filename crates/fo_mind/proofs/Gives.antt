@@ -19,7 +19,7 @@ use Rattle.fo_buffers.specs.Held.{Held, held_at, buffer_of, put, unlisted, used,
 use Rattle.fo_order.specs.declared.marks.Flags.{Flags}
 use Rattle.fo_order.specs.Keeps.{Turns}
 use Rattle.fo_order.specs.Turns.{changed}
-use Rattle.fo_labels.specs.Region.{Region, IsDataBlock, label_of, relabeled}
+use Rattle.fo_labels.specs.Region.{Region, IsDataBlock, label_of, relabeled, usable_count}
 use Rattle.fo_crash.specs.Images.{Content, SameContent}
 use Rattle.fo_slots.specs.Read.{read}
 use Rattle.fo_ports.specs.State.{Gives}
@@ -35,7 +35,8 @@ use Rattle.fo_mind.proofs.Giving.{label_here, label_other, data_label, not_live,
 module _ (p : Parts) (first count at : ℕ) (kind : Kind) (tag rank : ℕ) (bytes : List ℕ) (origin : Option ℕ) (s : ℕ)
     (placed : Placed p.region p.turns p.facts first count) (holding : Holding p.one.low first count p.region p.held)
     (waiting : Waiting p.region p.held p.waits) (clearable : Clearable p.region p.one.low p.one.high p.clears)
-    (is : IsDataBlock p.region at) (usable : is_usable p.one.low (label_of p.region at) ≡ true) (less : s + 1 ≡ p.spare) where
+    (is : IsDataBlock p.region at) (usable : is_usable p.one.low (label_of p.region at) ≡ true) (less : s + 1 ≡ p.spare)
+    (fewer : usable_count p.one.low (relabeled p.region at (live_label kind tag p.one.high)) + 1 ≡ usable_count p.one.low p.region) where
   abbrev l : Label
   l = live_label kind tag p.one.high
 
@@ -141,11 +142,11 @@ module _ (p : Parts) (first count at : ℕ) (kind : Kind) (tag rank : ℕ) (byte
       );
       waits = λ a on j _ _ _ w. w;
     };
-    order = record { clearing = λ b j c. (λ e. not_cleared b j c e, c) };
+    order = record { clearing = λ b j c. (λ e. not_cleared b j c e, c); goes_on = λ b j _ c. c };
     covered = λ b ne. (λ h. h, λ h. h);
     no_wait = record { each = λ a on j _ w. w };
     dirty = dirty_was;
-    uses = record { spare = less; room = omega arith; pins = refl; moments = refl; left = λ k image h. h };
+    uses = record { spare = less; usable = fewer; room = omega arith; pins = refl; moments = refl; left = λ k image h. h };
     numbers = record { next = refl; grants = λ h. h };
   }
 
@@ -162,7 +163,7 @@ gives {p} {q} {first} {count} {at} {kind} {tag} {rank} {bytes} {origin} c placed
     ∙ ap (λ (fs : List Fact). record p { region = relabeled p.region at (live_label kind tag p.one.high); held = used (put (unlisted p.held at) at (buffer_of bytes true true)); turns = changed p.turns (label_block at) 0; facts = fs; spare = q.spare }) g.facts
     in
     subst (λ (z : Parts). Gives at c (live_label kind tag p.one.high) (state_of p) (state_of z)) (sym all)
-    (given_at_rest p first count at kind tag rank bytes origin q.spare placed holding waiting clearable g.usable.block g.usable.usable g.spare c same)
+    (given_at_rest p first count at kind tag rank bytes origin q.spare placed holding waiting clearable g.usable.block g.usable.usable g.spare (ap (λ (r : Region). usable_count p.one.low r + 1) (sym g.region) ∙ g.count) c same)
 
 pub level_holds : (kind : Kind) → IsLevel kind → KindHolds kind
 level_holds (Data level) is = is

@@ -154,6 +154,7 @@ pub record Pins (at : ℕ) (old new : Held) : Type 0 where
   pub held : held_at old at ≡ Some was
   pub here : held_at new at ≡ Some (pinned_as true was)
   pub others : (q : ℕ) → q ≢ at → held_at new q ≡ held_at old q
+  pub clean : new.clean ≡ old.clean
   pub room : old.room ≤ new.room + 1
 
 pub pins_of : (at : ℕ) (old new : Held) → is_some (held_at old at) ≡ true
@@ -173,6 +174,7 @@ pins_of at old new some free same = by (held_at old at) refl some
               held = is;
               here = ap (λ (h : Held). held_at h at) e2 ∙ is ∙ ap (λ (p : Bool). Some (pinned_as p x)) e;
               others = λ q ne. ap (λ (h : Held). held_at h q) e2;
+              clean = ap (λ (h : Held). h.clean) e2;
               room = let r = ap (λ (h : Held). h.room) e2 in omega (arith, r);
             }
         it false e =
@@ -183,6 +185,7 @@ pins_of at old new some free same = by (held_at old at) refl some
               held = is;
               here = ap (λ (h : Held). held_at h at) e2 ∙ put_same old at (pinned_as true x);
               others = λ q ne. ap (λ (h : Held). held_at h q) e2 ∙ put_other old at (pinned_as true x) q ne;
+              clean = ap (λ (h : Held). h.clean) e2;
               room = let r = ap (λ (h : Held). h.room) e2 in omega (arith, r);
             }
 

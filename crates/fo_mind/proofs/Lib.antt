@@ -1,4 +1,5 @@
 pub mod Blanks
+pub mod Coming
 pub mod Getting
 pub mod Gives
 pub mod Giving

@@ -72,11 +72,12 @@ module _ (p q : Parts) (at : ℕ) (b : Brings at p q) where
           instead = λ k x _ _. (λ h. (sym (m.apart k) ∙ h.0, sym (m.origin k) ∙ h.1), λ h. (m.apart k ∙ h.0, m.origin k ∙ h.1));
           waits = λ a on j _ _ _ w. w;
         };
-        order = record { clearing = λ k j h. (λ none. none, h) };
+        order = record { clearing = λ k j h. (λ none. none, h); goes_on = λ k j _ h. h };
         covered = record { covered = λ k. (λ h. h, λ h. h) };
         no_wait = record { each = λ a on j _ w. w };
         dirty = dirty_was;
         room = (refl, refl);
+        usable = (refl, refl);
         numbers = record { next = refl; grants = λ h. h };
       }
 

@@ -264,11 +264,12 @@ module _ (p : Parts) (first count at : ℕ) (bytes : List ℕ) (g : Held) (t : T
         waits = λ a on j _ _ _ w. w;
       };
       dirty = dirty_was;
-      uses = record { spare = omega arith; room = omega arith; pins = refl; moments = refl; left = λ k image h. h };
+      uses = record { spare = omega arith; usable = omega arith; room = omega arith; pins = refl; moments = refl; left = λ k image h. h };
       numbers = record { next = refl; grants = λ h. h };
     };
-    order = record { clearing = λ b j h. (λ none. none, h) };
+    order = record { clearing = λ b j h. (λ none. none, h); goes_on = λ b j _ h. h };
     covered = record { covered = λ b. (λ h. h, λ h. h) };
+    queued = refl;
   }
 
 -- ---- bytes

@@ -27,7 +27,7 @@ module _ (p : Parts) (next : ℕ) (granted : Bool) (room queued : ℕ) where
   }
 
   pub order_counts : KeepsOrder none (state_of p) (state_of q)
-  order_counts = record { clearing = λ b j h. (λ none. none, h) }
+  order_counts = record { clearing = λ b j h. (λ none. none, h); goes_on = λ b j _ h. h }
 
   pub covered_counts : KeepsCovered (state_of p) (state_of q)
   covered_counts = record { covered = λ b. (λ h. h, λ h. h) }
@@ -39,12 +39,12 @@ module _ (p : Parts) (next : ℕ) (granted : Bool) (room queued : ℕ) where
   keeps_counts = record { first = refl; count = refl; high = refl; root = refl; faults = omega arith }
 
 pub uses_none : (p : Parts) (next : ℕ) (granted : Bool) → Uses 0 0 (state_of p) (state_of (but_counts p next granted p.room p.queued))
-uses_none p next granted = record { spare = omega arith; room = omega arith; pins = refl; moments = refl; left = λ k image h. h }
+uses_none p next granted = record { spare = omega arith; usable = omega arith; room = omega arith; pins = refl; moments = refl; left = λ k image h. h }
 
 pub frame_counts : (p : Parts) (room queued : ℕ) → room + 1 ≡ p.room → Frame none none 1 (state_of p) (state_of (but_counts p p.next p.granted room queued))
 frame_counts p room queued used = record {
   stays = stays_counts p p.next p.granted room queued;
   dirty = λ b d. inl d;
-  uses = record { spare = omega arith; room = used; pins = refl; moments = refl; left = λ k image h. h };
+  uses = record { spare = omega arith; usable = omega arith; room = used; pins = refl; moments = refl; left = λ k image h. h };
   numbers = record { next = refl; grants = λ h. h };
 }

@@ -143,11 +143,12 @@ module _ (p : Parts) (at on room : ℕ) (bytes : List ℕ) (new : List Wait) (us
         waits = λ a b j _ _ _ w. lists.still a b (j / 2) w;
       };
       dirty = λ b d. inl d;
-      uses = record { spare = omega arith; room = used; pins = refl; moments = refl; left = λ k image h. h };
+      uses = record { spare = omega arith; usable = omega arith; room = used; pins = refl; moments = refl; left = λ k image h. h };
       numbers = record { next = refl; grants = λ h. h };
     };
-    order = record { clearing = λ b j h. (λ none. none, h) };
+    order = record { clearing = λ b j h. (λ none. none, h); goes_on = λ b j _ h. h };
     covered = record { covered = λ b. (λ h. h, λ h. h) };
+    queued = refl;
   }
 
   pub keeps_pairs : CacheKeeps p q

@@ -6,7 +6,7 @@ use Rattle.fo_image.specs.Usable.{live_label}
 use Rattle.fo_buffers.specs.Held.{buffer_of, put, unlisted, updated, used, with_bytes}
 use Rattle.fo_order.specs.Keeps.{Turns}
 use Rattle.fo_order.specs.Turns.{changed, flag_at}
-use Rattle.fo_labels.specs.Region.{IsUsableBlock, least_usable, relabeled}
+use Rattle.fo_labels.specs.Region.{IsUsableBlock, least_usable, relabeled, usable_count}
 use Rattle.fo_mind.specs.declared.facts.Fact.{Fact}
 use Rattle.fo_mind.specs.Parts.{Parts, fact_at}
 
@@ -14,12 +14,13 @@ use Rattle.fo_mind.specs.Parts.{Parts, fact_at}
 abbrev pub made_fact : Option ℕ → ℕ → Fact
 made_fact origin rank = record { apart = true; origin = origin; linked = false; fresh = true; sealed = false; owes = true; rank = rank }
 
--- The least usable block was given out with these bytes, to come in the place of another: its label is live, it is held, dirty and
--- pinned, it has no turn yet, and the block of its label has one.
+-- The least usable block was given out with these bytes, to come in the place of another: its label is live, so one less is usable, it is
+-- held, dirty and pinned, it has no turn yet, and the block of its label has one.
 pub record Given (at : ℕ) (kind : Kind) (tag rank : ℕ) (bytes : List ℕ) (origin : Option ℕ) (old new : Parts) : Type 0 where
   pub least : Some at ≡ least_usable old.one.low old.region
   pub usable : IsUsableBlock old.one.low old.region at
   pub region : new.region ≡ relabeled old.region at (live_label kind tag old.one.high)
+  pub count : usable_count old.one.low new.region + 1 ≡ usable_count old.one.low old.region
   pub held : new.held ≡ used (put (unlisted old.held at) at (buffer_of bytes true true))
   pub turns : new.turns ≡ changed old.turns (label_block at) 0
   pub facts : new.facts ≡ slice_set old.facts at (made_fact origin rank)

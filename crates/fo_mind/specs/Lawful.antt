@@ -1,5 +1,5 @@
 -- The laws of blocks, of one state, where the device tells nothing.
-use Rattle.std.specs.Prelude.{◌≡◌, ◌^◌, ◌-◌, ◌<◌, ℕ}
+use Rattle.std.specs.Prelude.{◌≡◌, ◌^◌, ◌-◌, ◌<◌, ◌≤◌, ℕ}
 use Rattle.fo_image.specs.declared.types.Kind.TheVariants.{Dir}
 use Rattle.fo_image.specs.declared.types.Pointer.TheVariants.{Local}
 use Rattle.fo_crash.specs.Images.{Content, Image, SameContent, target}
@@ -11,6 +11,7 @@ pub record IsLawful (s : State) : Type 0 where
   pub silent : s.tells → ⊥
   pub no_image : (image : Image) → s.may_leave image → ⊥
   pub uncovered : (at : ℕ) → s.covered at → ⊥
+  pub enough : s.spare ≤ s.usable
   pub active : s.tops 1 × (s.is_block 1 → ⊥)
   pub root_is : s.is_block s.root
   pub within : (at i below : ℕ) → s.pinned at → target ((s.now at).slot i) ≡ Local below → s.is_block below

@@ -128,9 +128,9 @@ abbrev pub Clears : List Clearing → ℕ → ℕ → Type 0
 Clears [] at j = ⊥
 Clears (c ∷ cs) at j = ((c.at ≡ at) × (c.slot ≡ j)) ⊎ Clears cs at j
 
--- One version, no change, and no slot that waits.
+-- One version, no change, and no slot that waits; block 1, which has no turn, isn't in doubt.
 abbrev pub IsSure : Parts → ℕ → Type 0
-IsSure p b = ((flag_at p.turns b).tried ≡ Settled) × (IsDirty p.turns p.held b → ⊥) × ((j : ℕ) → Clears p.clears b j → ⊥)
+IsSure p b = ((flag_at p.turns b).tried ≡ Settled) × (IsDirty p.turns p.held b → ⊥) × ((j : ℕ) → Clears p.clears b j → ⊥) × (b ≡ 1 → p.doubt ≡ None)
 
 abbrev pub IsDoubt : Super → Option (List ℕ) → Content → Type 0
 IsDoubt s None c = ⊥

@@ -11,7 +11,7 @@ ghost use Rattle.fo_ports.specs.declared.error.BlockError.TheVariants.{Damaged};
 ghost use Rattle.fo_bring.specs.Blocks.{IsData};
 ghost use Rattle.fo_bring.specs.Holds.{RanksIn, IsFrom};
 ghost use Rattle.fo_mind.specs.Parts.{CacheKeeps, IsPinned, label_at, memory, state_of};
-ghost use Rattle.fo_mind.specs.Got.{Got, IsHeldAs, IsSource};
+ghost use Rattle.fo_mind.specs.Got.{ComesFrom, Got, IsHeldAs, IsSource};
 ghost use Rattle.fo_mind.specs.Frames.{Brings};
 ghost use Rattle.fo_mind.specs.MindParts.{parts};
 
@@ -67,6 +67,7 @@ impl Mind {
         requires held { is_some (held_at self.old.buffers at) ≡ true }
         ensures here { IsPinned self.new.buffers at }
         ensures source { (disk : Holds) → IsSource disk at self.old.buffers (held_at self.new.buffers at) }
+        ensures comes { (disk : Holds) → ComesFrom disk at self.old.buffers self.new.buffers }
         ensures labels { self.new.labels ≡ self.old.labels }
         ensures pins { self.new.pins + 1 ≡ self.old.pins }
         ensures brings { (disk : Holds) (faults : ℕ) → Brings at (parts self.old disk faults) (parts self.new disk faults) }
@@ -95,6 +96,7 @@ impl Mind {
         ensures labels { self.new.labels ≡ self.old.labels }
         ensures pins { self.new.pins + 1 ≡ self.old.pins }
         ensures brings { Brings at (parts self.old (D.state main.old).holds (D.faults main.old)) (parts self.new (D.state main.new).holds (D.faults main.new)) }
+        ensures comes { ComesFrom (D.state main.old).holds at self.old.buffers self.new.buffers }
         ensures size { D.size main.new ≡ D.size main.old }
         ensures state { D.state main.new ≡ D.state main.old }
         ensures cause { IfErr result (Caused ⊥ (λ b. b ≡ at) (Rose (D.faults main.old) (D.faults main.new)) ⊥) }
@@ -124,6 +126,7 @@ impl Mind {
         ensures labels { self.new.labels ≡ self.old.labels }
         ensures pins { self.new.pins + 1 ≡ self.old.pins }
         ensures brings { Brings at (parts self.old (D.state main.old).holds (D.faults main.old)) (parts self.new (D.state main.new).holds (D.faults main.new)) }
+        ensures comes { ComesFrom (D.state main.old).holds at self.old.buffers self.new.buffers }
         ensures size { D.size main.new ≡ D.size main.old }
         ensures state { D.state main.new ≡ D.state main.old }
         ensures cause { IfErr result (Caused ⊥ (λ b. b ≡ at) (Rose (D.faults main.old) (D.faults main.new)) ⊥) }
@@ -153,6 +156,7 @@ impl Mind {
         ensures nothing { OnErr result (into.new ≡ into.old) }
         ensures pins { self.new.pins ≡ self.old.pins }
         ensures brings { Brings at (parts self.old (D.state main.old).holds (D.faults main.old)) (parts self.new (D.state main.new).holds (D.faults main.new)) }
+        ensures comes { ComesFrom (D.state main.old).holds at self.old.buffers self.new.buffers }
         ensures size { D.size main.new ≡ D.size main.old }
         ensures state { D.state main.new ≡ D.state main.old }
         ensures cause { IfErr result (Caused ⊥ (λ b. b ≡ at) (Rose (D.faults main.old) (D.faults main.new)) ⊥) }
@@ -194,6 +198,7 @@ impl Mind {
         ensures pinned { OnOk result (0 < self.old.pins → IsPinned self.new.buffers at) }
         ensures pins { self.old.pins ≤ self.new.pins + 1 }
         ensures brings { Brings at (parts self.old (D.state main.old).holds (D.faults main.old)) (parts self.new (D.state main.new).holds (D.faults main.new)) }
+        ensures comes { ComesFrom (D.state main.old).holds at self.old.buffers self.new.buffers }
         ensures size { D.size main.new ≡ D.size main.old }
         ensures state { D.state main.new ≡ D.state main.old }
         ensures cause { IfErr result (Caused ⊥ (λ b. b ≡ at) (Rose (D.faults main.old) (D.faults main.new)) ⊥) }
@@ -231,6 +236,7 @@ impl Mind {
         ensures no_pin { IsPinned self.old.buffers at → (label_at self.old.labels at).kind ≡ kind → self.new.pins ≡ self.old.pins }
         ensures pins { self.old.pins ≤ self.new.pins + 1 }
         ensures brings { Brings at (parts self.old (D.state main.old).holds (D.faults main.old)) (parts self.new (D.state main.new).holds (D.faults main.new)) }
+        ensures comes { ComesFrom (D.state main.old).holds at self.old.buffers self.new.buffers }
         ensures size { D.size main.new ≡ D.size main.old }
         ensures state { D.state main.new ≡ D.state main.old }
         ensures cause { IfErr result (Caused ⊥ (λ b. b ≡ at) (Rose (D.faults main.old) (D.faults main.new)) ⊥) }
@@ -266,6 +272,7 @@ impl Mind {
         ensures no_pin { IsPinned self.old.buffers at → (label_at self.old.labels at).kind ≡ kind → self.new.pins ≡ self.old.pins }
         ensures pins { self.old.pins ≤ self.new.pins + 1 }
         ensures brings { Brings at (parts self.old (D.state main.old).holds (D.faults main.old)) (parts self.new (D.state main.new).holds (D.faults main.new)) }
+        ensures comes { ComesFrom (D.state main.old).holds at self.old.buffers self.new.buffers }
         ensures looks { Looks (state_of (parts self.old (D.state main.old).holds (D.faults main.old))) (state_of (parts self.new (D.state main.new).holds (D.faults main.new))) }
         ensures keeps { CacheKeeps (parts self.old (D.state main.old).holds (D.faults main.old)) (parts self.new (D.state main.new).holds (D.faults main.new)) }
         ensures size { D.size main.new ≡ D.size main.old }

@@ -1,5 +1,5 @@
 //! Blocks that are new, and copies.
-ghost use Rattle.std.specs.Prelude.{◌≡◌, ◌-◌, ◌^◌, ◌<◌, ◌↔◌, ℕ, true, length, Some, is_some, option_map};
+ghost use Rattle.std.specs.Prelude.{◌≡◌, ◌-◌, ◌^◌, ◌<◌, ◌↔◌, ℕ, true, List, length, Some, None, is_some, option_map};
 ghost use Rattle.fo_disk.specs.Disk.{Content as Holds};
 ghost use Rattle.fo_image.specs.declared.types.State.TheVariants.{Live};
 ghost use Rattle.fo_image.specs.Usable.{live_label};
@@ -9,8 +9,9 @@ ghost use Rattle.fo_ports.specs.Blocks.{IsLevel, blank, zero_bytes};
 ghost use Rattle.fo_ports.specs.State.{Gives};
 ghost use Rattle.fo_slots.specs.Read.{read};
 ghost use Rattle.fo_bring.specs.Blocks.{Good};
+ghost use Rattle.fo_mind.specs.Changes.{Given};
 ghost use Rattle.fo_mind.specs.MindParts.{parts};
-ghost use Rattle.fo_mind.specs.Parts.{Instead, IsPinned, label_at, memory, state_of};
+ghost use Rattle.fo_mind.specs.Parts.{Instead, IsPinned, fact_at, label_at, memory, state_of};
 
 use crate::facts::Fact;
 use crate::mind::Mind;
@@ -31,6 +32,7 @@ fn blank_block(kind: Kind) -> [u8; BLOCK]
     requires { IsLevel kind }
     ensures content { SameContent (read kind result) (blank kind) }
     ensures good { (first count : ℕ) → Good first count kind result }
+    ensures zeros { result ≡ zero_bytes }
 {
     spelled_is_meant();
     no_bytes()
@@ -58,7 +60,9 @@ fn bytes_of(held: &[u8]) -> [u8; BLOCK]
 }
 
 // The rank that is kept of a block.
-fn rank_of(facts: &[Fact], at: u32) -> u32 {
+fn rank_of(facts: &Vec<Fact>, at: u32) -> u32
+    ensures { result ≡ (fact_at facts.now.items at).rank }
+{
     match facts.get(at as usize) {
         Some(fact) => fact.rank,
         None => 0,
@@ -72,6 +76,7 @@ impl Mind {
         requires level { IsLevel kind }
         ensures gives { (disk : Holds) (faults : ℕ) → Gives result (blank kind) (live_label kind tag self.old.one.high) (state_of (parts self.old disk faults)) (state_of (parts self.new disk faults)) }
         ensures instead { (x : ℕ) → Instead self.new.facts.items result x → ⊥ }
+        ensures given { (disk : Holds) (faults : ℕ) → Given result kind tag rank zero_bytes None (parts self.old disk faults) (parts self.new disk faults) }
     {
         let bytes = blank_block(kind);
         self.give(kind, tag, rank, &bytes, None)
@@ -83,6 +88,7 @@ impl Mind {
         requires pinned { IsPinned self.old.buffers at }
         ensures gives { (disk : Holds) (faults : ℕ) → Gives result (memory (parts self.old disk faults) at) (record (label_at self.old.labels at) { state = Live; epoch = self.old.one.high; closing = 2 ^ 32 - 1 }) (state_of (parts self.old disk faults)) (state_of (parts self.new disk faults)) }
         ensures instead { (x : ℕ) → Instead self.new.facts.items result x ↔ (x ≡ at) }
+        ensures given { (bytes : List ℕ) → Some bytes ≡ option_map block_in (held_at self.old.buffers at) → (disk : Holds) (faults : ℕ) → Given result (label_at self.old.labels at).kind (label_at self.old.labels at).tag (fact_at self.old.facts.items at).rank bytes (Some at) (parts self.old disk faults) (parts self.new disk faults) }
     {
         let label = self.label(at);
         let rank = rank_of(&self.facts, at);

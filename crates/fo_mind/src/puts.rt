@@ -1,7 +1,8 @@
 //! Bytes are put into blocks.
-ghost use Rattle.std.specs.Prelude.{◌≡◌, ◌+◌, ◌*◌, ◌<◌, ◌≤◌, ℕ, true, false, length, slice_set};
+ghost use Rattle.std.specs.Prelude.{◌≡◌, ◌+◌, ◌*◌, ◌<◌, ◌≤◌, ℕ, true, false, List, length, slice_set, Some, option_map};
 ghost use Rattle.std.specs.Vec.{vec_len, vec_capacity};
 ghost use Rattle.fo_disk.specs.Disk.{Content as Holds};
+ghost use Rattle.fo_buffers.specs.Held.{held_at, block_in};
 ghost use Rattle.fo_crash.specs.Steps.{PutsBytes};
 ghost use Rattle.fo_ports.specs.Blocks.{MayPut, put_at};
 ghost use Rattle.fo_ports.specs.State.{AddsNoWait, Calm, none};
@@ -91,6 +92,7 @@ impl Mind {
         ensures now { (disk : Holds) (faults : ℕ) → PutsBytes at (put_at from bytes.now ((memory (parts self.old disk faults) at).bytes)) (memory (parts self.old disk faults)) (memory (parts self.new disk faults)) }
         ensures calm { (disk : Holds) (faults : ℕ) → Calm (λ b. b ≡ at) 0 (state_of (parts self.old disk faults)) (state_of (parts self.new disk faults)) }
         ensures no_wait { (disk : Holds) (faults : ℕ) → AddsNoWait none (state_of (parts self.old disk faults)) (state_of (parts self.new disk faults)) }
+        ensures refilled { (was : List ℕ) → Some was ≡ option_map block_in (held_at self.old.buffers at) → (disk : Holds) (faults : ℕ) → Refilled at (put_at from bytes.now was) (parts self.old disk faults) (parts self.new disk faults) }
     {
         let label = self.label(at);
         let mut block = copied(&self.buffers, at);

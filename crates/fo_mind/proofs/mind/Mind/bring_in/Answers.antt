@@ -3,6 +3,7 @@ use Rattle.fo_disk.specs.Disk.{DiskState}
 use Rattle.fo_mind.specs.MindParts.{parts}
 use Rattle.fo_mind.proofs.Keeping.{may_bring, holding_brought, waiting_brought, placed_owed, owing_owed, roomy_owed}
 use Rattle.fo_mind.proofs.Getting.{source_brought, pinned_brought, marks_owed, brings_brought}
+use Rattle.fo_mind.proofs.Coming.{comes_brought}
 use Rattle.fo_mind.proofs.mind.Mind.bring_in.Goals as goal
 
 pub invariant_of-self-clause-placed : goal.invariant_of-self-clause-placed
@@ -51,3 +52,6 @@ returns-clause-brings g c =
     brings_brought (parts self (g.D.Disk.state c.args.main.now).holds (g.D.Disk.faults c.args.main.now)) _ c.args.at (ap (λ (s : DiskState). s.holds) c.bring.ensures.state) c.bring.ensures.later refl
     (marks_owed self.facts.items c.owe.new.facts.items c.args.at c.args.rank lt c.owe.ensures.items)
     c.requires.none c.bring.ensures.others (may_bring c.bring.result c.bring.ensures.ok c.bring.ensures.err)
+
+pub returns-clause-comes : goal.returns-clause-comes
+returns-clause-comes g c = comes_brought (g.D.Disk.state c.args.main.now).holds c.requires.none (may_bring c.bring.result c.bring.ensures.ok c.bring.ensures.err) c.bring.ensures.clean

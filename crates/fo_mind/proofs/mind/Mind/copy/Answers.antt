@@ -1,11 +1,14 @@
-use Rattle.std.proofs.Common.{◌≡◌, ◌^◌, ◌-◌, ℕ, [], Some, sym, ap, subst}
+use Rattle.std.proofs.Common.{◌≡◌, ◌^◌, ◌-◌, ◌∙◌, ℕ, List, [], Option, Some, sym, ap, subst}
+use Rattle.std.specs.Option.{option_map}
 use Rattle.fo_image.specs.declared.types.Label.{Label}
 use Rattle.fo_image.specs.declared.types.State.TheVariants.{Live}
-use Rattle.fo_buffers.specs.Held.{held_at}
+use Rattle.fo_buffers.specs.declared.block.Buffer.{Buffer}
+use Rattle.fo_buffers.specs.Held.{held_at, block_in}
 use Rattle.fo_bring.proofs.Copying.{good_held as bytes_good}
 use Rattle.fo_ports.specs.State.{Gives}
+use Rattle.fo_mind.specs.Changes.{Given}
 use Rattle.fo_mind.specs.MindParts.{parts}
-use Rattle.fo_mind.specs.Parts.{memory, state_of}
+use Rattle.fo_mind.specs.Parts.{fact_at, label_at, memory, state_of}
 use Rattle.fo_mind.specs.Laws.{pinned_held}
 use Rattle.fo_mind.proofs.Getting.{good_held, held_is, is_held}
 use Rattle.fo_mind.proofs.Gives.{gives, instead_given, kind_held, same_as}
@@ -48,3 +51,17 @@ returns-clause-instead c = λ x.
     let self = c.args.self.now in
     let i = instead_given self.placed (c.give.ensures [] 0) x in
     (λ h. same_some (i.0 h), λ e. i.1 (ap Some (sym e)))
+
+same_bytes : {a b : List ℕ} (o : Option Buffer) → Some a ≡ option_map block_in o → Some b ≡ option_map block_in o → a ≡ b
+same_bytes o e f = some_same (e ∙ sym f)
+  where
+    some_same : {a b : List ℕ} → Some a ≡ Some b → a ≡ b
+    some_same e = cc
+
+pub returns-clause-given : goal.returns-clause-given
+returns-clause-given c = λ bytes is disk faults.
+    let self = c.args.self.now in
+    subst (λ (b : List ℕ). Given c.give.result (label_at self.labels c.args.at).kind (label_at self.labels c.args.at).tag (fact_at self.facts.items c.args.at).rank b (Some c.args.at) (parts self disk faults) (parts c.give.new.self disk faults)) (same_bytes (held_at self.buffers c.args.at) c.copied-bytes.ensures is)
+    (subst (λ (r : ℕ). Given c.give.result (label_at self.labels c.args.at).kind (label_at self.labels c.args.at).tag r c.copied-bytes.result (Some c.args.at) (parts self disk faults) (parts c.give.new.self disk faults)) c.rank_of-rank.ensures
+    (subst (λ (z : Label). Given c.give.result z.kind z.tag c.rank_of-rank.result c.copied-bytes.result (Some c.args.at) (parts self disk faults) (parts c.give.new.self disk faults)) c.label-label.ensures
+    (c.give.ensures disk faults)))

@@ -126,6 +126,7 @@ returns c =
       least = c.alloc_in-at.ensures.least;
       usable = u;
       region = c.alloc_in-at.ensures.is;
+      count = c.alloc_in-at.ensures.count;
       held = c.make.ensures;
       turns = c.change.ensures ∙ ap (λ n. changed self.order n 0) c.label_place.ensures.block;
       facts = c.note_made.ensures.items;

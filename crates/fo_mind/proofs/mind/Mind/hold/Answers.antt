@@ -10,3 +10,6 @@ returns-then-is_held-clause-source g c = c.pin.ensures.source (g.D.Disk.state c.
 
 pub returns-then-is_held-clause-brings : goal.returns-then-is_held-clause-brings
 returns-then-is_held-clause-brings g c = c.pin.ensures.brings (g.D.Disk.state c.args.main.now).holds (g.D.Disk.faults c.args.main.now)
+
+pub returns-then-is_held-clause-comes : goal.returns-then-is_held-clause-comes
+returns-then-is_held-clause-comes g c = c.pin.ensures.comes (g.D.Disk.state c.args.main.now).holds

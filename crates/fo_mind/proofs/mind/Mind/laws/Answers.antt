@@ -10,6 +10,7 @@ returns c = λ disk faults.
       silent = λ t. t;
       no_image = λ image h. h;
       uncovered = λ at h. h;
+      enough = self.roomy.usable;
       active = active p self.first self.count self.placed;
       root_is = (root_is p self.first self.count self.placed self.rooted).0;
       within = within p self.first self.count self.placed self.holding;

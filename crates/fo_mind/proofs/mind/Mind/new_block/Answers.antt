@@ -1,5 +1,7 @@
-use Rattle.std.proofs.Common.{◌≡◌, ℕ, [], None, Some}
+use Rattle.std.proofs.Common.{◌≡◌, ℕ, List, [], None, Some, subst}
 use Rattle.fo_ports.specs.Blocks.{blank}
+use Rattle.fo_mind.specs.Changes.{Given}
+use Rattle.fo_mind.specs.MindParts.{parts}
 use Rattle.fo_mind.proofs.Gives.{gives, level_holds, instead_given}
 use Rattle.fo_mind.proofs.mind.Mind.new_block.Goals as goal
 
@@ -21,3 +23,6 @@ pub returns-clause-instead : goal.returns-clause-instead
 returns-clause-instead c = λ x h.
     let self = c.args.self.now in
     none_some ((instead_given self.placed (c.give.ensures [] 0) x).0 h)
+
+pub returns-clause-given : goal.returns-clause-given
+returns-clause-given c = λ disk faults. subst (λ (bytes : List ℕ). Given c.give.result c.args.kind c.args.tag c.args.rank bytes None (parts c.args.self.now disk faults) (parts c.give.new.self disk faults)) c.blank_block-bytes.ensures.zeros (c.give.ensures disk faults)

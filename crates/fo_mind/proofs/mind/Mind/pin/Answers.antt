@@ -2,6 +2,7 @@ use Rattle.std.proofs.Common.{◌<◌, length, refl, arith}
 use Rattle.fo_mind.specs.MindParts.{parts}
 use Rattle.fo_mind.proofs.Keeping.{pins_of, holding_pins, waiting_pins, is_pinned_now, placed_owed, owing_owed, roomy_owed}
 use Rattle.fo_mind.proofs.Getting.{source_pins, marks_owed, brings_pins}
+use Rattle.fo_mind.proofs.Coming.{comes_pins}
 use Rattle.fo_mind.proofs.mind.Mind.pin.Goals as goal
 
 pub invariant_of-self-clause-placed : goal.invariant_of-self-clause-placed
@@ -55,3 +56,6 @@ returns-clause-brings c = λ disk faults.
     brings_pins (parts self disk faults) _ c.args.at refl (omega arith) refl
     (marks_owed self.facts.items c.owe.new.facts.items c.args.at c.args.rank lt c.owe.ensures.items)
     (pins_of c.args.at self.buffers c.pin.new.self c.requires.held c.pin.ensures.free c.pin.ensures.same)
+
+pub returns-clause-comes : goal.returns-clause-comes
+returns-clause-comes c = λ disk. comes_pins disk (pins_of c.args.at c.args.self.now.buffers c.pin.new.self c.requires.held c.pin.ensures.free c.pin.ensures.same)

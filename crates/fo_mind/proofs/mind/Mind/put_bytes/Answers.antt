@@ -1,10 +1,13 @@
-use Rattle.std.proofs.Common.{◌≡◌, ◌+◌, ◌≤◌, ℕ, length, refl, sym, ap, ◌∙◌, subst}
+use Rattle.std.proofs.Common.{◌≡◌, ◌+◌, ◌≤◌, ℕ, List, Option, Some, length, refl, sym, ap, ◌∙◌, subst}
+use Rattle.std.specs.Option.{option_map}
 use Rattle.fo_image.specs.declared.types.Label.{Label}
-use Rattle.fo_buffers.specs.Held.{held_at}
+use Rattle.fo_buffers.specs.declared.block.Buffer.{Buffer}
+use Rattle.fo_buffers.specs.Held.{held_at, block_in}
 use Rattle.fo_slots.specs.Read.{read}
-use Rattle.fo_ports.specs.Blocks.{MayPut, ReadsSlots}
+use Rattle.fo_ports.specs.Blocks.{MayPut, ReadsSlots, put_at}
 use Rattle.fo_ports.proofs.Lengths.{length_put_at}
 use Rattle.fo_bring.proofs.Copying.{good_held as bytes_good}
+use Rattle.fo_mind.specs.Changes.{Refilled}
 use Rattle.fo_mind.specs.MindParts.{parts}
 use Rattle.fo_mind.specs.Parts.{label_at}
 use Rattle.fo_mind.specs.Laws.{pinned_held}
@@ -63,3 +66,15 @@ returns-clause-calm c = λ disk faults.
 
 pub returns-clause-no_wait : goal.returns-clause-no_wait
 returns-clause-no_wait c = λ disk faults. no_wait_put (c.refill.ensures disk faults)
+
+same_bytes : {a b : List ℕ} (o : Option Buffer) → Some a ≡ option_map block_in o → Some b ≡ option_map block_in o → a ≡ b
+same_bytes o e f = some_same (e ∙ sym f)
+  where
+    some_same : {a b : List ℕ} → Some a ≡ Some b → a ≡ b
+    some_same e = cc
+
+pub returns-clause-refilled : goal.returns-clause-refilled
+returns-clause-refilled c = λ was is disk faults.
+    let self = c.args.self.now in
+    let same = same_bytes (held_at self.buffers c.args.at) c.copied-block.ensures is in
+    subst (λ (b : List ℕ). Refilled c.args.at b (parts self disk faults) (parts c.refill.new.self disk faults)) (c.put_bytes_into.ensures.is ∙ ap (put_at c.args.from c.args.bytes.now) same) (c.refill.ensures disk faults)

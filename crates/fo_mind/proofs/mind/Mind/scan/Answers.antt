@@ -5,6 +5,7 @@ use Rattle.fo_mind.specs.Laws.{beyond}
 use Rattle.fo_mind.proofs.Keeping.{none_held, holding_same, waiting_same, owing_same, roomy_same}
 use Rattle.fo_mind.proofs.Getting.{got_clean, from_held, from_glance, nothing_brought, brings_same}
 use Rattle.fo_mind.proofs.Results.{on_ok, damaged}
+use Rattle.fo_mind.proofs.Coming.{comes_at_once, comes_same}
 use Rattle.fo_mind.proofs.mind.Mind.scan.Goals as goal
 
 pub returns-then-is_held-clause-got : goal.returns-then-is_held-clause-got
@@ -48,3 +49,9 @@ returns-clause-source g c =
 pub returns-clause-brings : goal.returns-clause-brings
 returns-clause-brings g c =
     brings_same (parts c.args.self.now (g.D.Disk.state c.args.main.now).holds (g.D.Disk.faults c.args.main.now)) _ c.args.at (ap (λ (s : DiskState). s.holds) c.glance.ensures.state) c.glance.ensures.later refl refl c.glance.ensures.held
+
+pub returns-then-is_held-clause-comes : goal.returns-then-is_held-clause-comes
+returns-then-is_held-clause-comes g c = comes_at_once (g.D.Disk.state c.args.main.now).holds c.args.at c.args.self.now.buffers
+
+pub returns-clause-comes : goal.returns-clause-comes
+returns-clause-comes g c = comes_same (g.D.Disk.state c.args.main.now).holds c.args.at (c.glance.ensures.held c.args.at) c.glance.ensures.clean
