@@ -1,5 +1,5 @@
 -- A leaf of names in small: byte i is the generation of the entry that name i has, or 0 where there is no such name.
-use Rattle.std.specs.Prelude.{◌≡◌, ◌≢◌, ◌+◌, ◌%◌, ◌<◌, ℕ, List, [], ◌∷◌, length, slice_index, true}
+use Rattle.std.specs.Prelude.{◌≡◌, ◌≢◌, ◌↔◌, ◌+◌, ◌%◌, ◌<◌, ℕ, List, [], ◌∷◌, length, slice_index, true}
 use Rattle.fo_image.specs.declared.types.Entry.{Entry}
 use Rattle.fo_image.specs.declared.types.Kind.TheVariants.{Data, Dir}
 use Rattle.fo_image.specs.declared.types.Pointer.TheVariants.{Nil}
@@ -51,7 +51,8 @@ pub record AddsName (leaf entries i : ℕ) (entry : Entry) (generation : ℕ) (o
   pub name : (new.now leaf).bytes ≡ put_at i (generation ∷ []) ((old.now leaf).bytes)
   pub entry_is : (new.now entries).slot i ≡ Head entry
   pub blocks : (b : ℕ) → (new.label b ≡ old.label b) × (old.pinned b → new.pinned b)
-  pub order : (b j : ℕ) → new.clearing b j → old.clearing b j
+  pub order : (b j : ℕ) → new.clearing b j ↔ old.clearing b j
+  pub usable : (new.spare ≡ old.spare) × (new.usable ≡ old.usable)
   pub place : old.tells → (p : Place) → old.stands leaf p → new.stands leaf p
   pub instead : (y x : ℕ) → new.instead y x → old.instead y x
   pub room : new.room + 1 ≡ old.room

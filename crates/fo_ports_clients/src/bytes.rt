@@ -59,10 +59,11 @@ fn own_below<B: Blocks>(on: &mut B, at: u32, i: u32, below: u32) -> u32
     ensures pinned { (B.state on.new).pinned result }
     ensures block { (B.state on.new).is_block result }
     ensures order { (b j : ℕ) → (B.state on.new).clearing b j → (b ≢ result) × (B.state on.old).clearing b j }
+    ensures goes_on { (b j : ℕ) → b ≢ result → (B.state on.old).clearing b j → (B.state on.new).clearing b j }
     ensures place { (B.state on.old).tells → (p : Place) → (B.state on.old).stands below p → (B.state on.new).stands result p }
     ensures places { (B.state on.old).tells → (b : ℕ) (p : Place) → b ≢ result → (B.state on.old).stands b p → ((B.state on.new).covered b → ⊥) → (B.state on.new).stands b p }
     ensures linked { (B.state on.new).tells → (y x : ℕ) → (B.state on.new).instead y x → ⊥ }
-    ensures spare { (B.state on.new).spare + 1 ≡ (B.state on.old).spare }
+    ensures spare { ((B.state on.new).spare + 1 ≡ (B.state on.old).spare) × ((B.state on.new).usable + 1 ≡ (B.state on.old).usable) }
     ensures keeps { B.keeps on.old on.new }
 {
     let slot = on.slot(at, i);
@@ -103,6 +104,8 @@ pub fn write_byte<B: Blocks>(on: &mut B, top: u32, k: u32, leaf: u32, from: u32,
     ensures leads { (above : ℕ) × (target (((B.state on.new).now (B.state on.new).root).slot 0) ≡ Local above) × (target (((B.state on.new).now above).slot k) ≡ Local result) }
     ensures linked { (B.state on.new).tells → (y x : ℕ) → (B.state on.new).instead y x → ⊥ }
     ensures block { (B.state on.new).is_block result × (B.state on.new).pinned result }
+    ensures settled { (b j : ℕ) → (B.state on.new).clearing b j → ⊥ }
+    ensures spare { ((B.state on.new).spare + 2 ≡ (B.state on.old).spare) × ((B.state on.new).usable + 2 ≡ (B.state on.old).usable) }
     ensures written { ((B.state on.new).now result).bytes ≡ put_at from (byte ∷ []) (((B.state on.old).now leaf).bytes) }
     ensures keeps { B.keeps on.old on.new }
 {

@@ -8,7 +8,8 @@
 //! one only where the leaf is sealed; after `raise_top` a source has one level more, and an image has the new top whole; a byte that
 //! `older_byte` gives is in every image. Each call gives what it makes its place in the tree, so nothing more is left that is to come in
 //! the place of another block. Where the device tells what it holds, a name is put only into a leaf that hung in the tree when all was
-//! last settled. What no client may put is the contract of `puts_are_refused`. Not said: what is found once the device was read anew.
+//! last settled. What waits to be cleared goes on to wait, and only what is given out is usable no more. What no client may put is the
+//! contract of `puts_are_refused`. Not said: what is found once the device was read anew.
 #![tactic(auto)]
 
 mod bytes;

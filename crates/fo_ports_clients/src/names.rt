@@ -51,7 +51,8 @@ pub fn add_name<B: Blocks>(
     ensures name { ((B.state on.new).now leaf).bytes ≡ put_at i (generation ∷ []) (((B.state on.old).now leaf).bytes) }
     ensures entry { ((B.state on.new).now entries).slot i ≡ Head entry }
     ensures blocks { (b : ℕ) → ((B.state on.new).label b ≡ (B.state on.old).label b) × ((B.state on.old).pinned b → (B.state on.new).pinned b) }
-    ensures order { (b j : ℕ) → (B.state on.new).clearing b j → (B.state on.old).clearing b j }
+    ensures order { (b j : ℕ) → (B.state on.new).clearing b j ↔ (B.state on.old).clearing b j }
+    ensures usable { ((B.state on.new).spare ≡ (B.state on.old).spare) × ((B.state on.new).usable ≡ (B.state on.old).usable) }
     ensures place { (B.state on.old).tells → (p : Place) → (B.state on.old).stands leaf p → (B.state on.new).stands leaf p }
     ensures instead { (y x : ℕ) → (B.state on.new).instead y x → (B.state on.old).instead y x }
     ensures room { (B.state on.new).room + 1 ≡ (B.state on.old).room }
@@ -109,6 +110,8 @@ pub fn remove_name<B: Blocks>(on: &mut B, leaf: u32, entries: u32, i: u32)
     ensures fit { InAll (NamesFit Lists leaf entries) (B.state on.new).may_leave }
     ensures name { ((B.state on.new).now leaf).bytes ≡ put_at i (0 ∷ []) (((B.state on.old).now leaf).bytes) }
     ensures entry { (((B.state on.new).now entries).slot i ≡ cleared (((B.state on.old).now entries).slot i)) ⊎ (B.state on.new).clearing entries i }
+    ensures order { (b j : ℕ) → ((B.state on.new).clearing b j → (B.state on.old).clearing b j ⊎ ((b ≡ entries) × (j ≡ i))) × ((B.state on.old).clearing b j → (B.state on.new).clearing b j) }
+    ensures usable { ((B.state on.new).spare ≡ (B.state on.old).spare) × ((B.state on.new).usable ≡ (B.state on.old).usable) }
     ensures blocks { (b : ℕ) → ((B.state on.new).label b ≡ (B.state on.old).label b) × ((B.state on.old).pinned b → (B.state on.new).pinned b) }
     ensures instead { (y x : ℕ) → (B.state on.new).instead y x → (B.state on.old).instead y x }
     ensures room { (B.state on.new).room + 1 ≡ (B.state on.old).room }

@@ -57,7 +57,8 @@ pub fn raise_top<B: Blocks>(on: &mut B, at: u32, place: Place, i: u32, below: u3
     ensures others { (b : ℕ) → b ≢ result → ((B.state on.new).label b ≡ (B.state on.old).label b) × ((B.state on.old).pinned b → (B.state on.new).pinned b) }
     ensures place { (B.state on.old).tells → (B.state on.new).stands result (place_below place i (raised (((B.state on.old).now at).slot i) size result)) }
     ensures instead { (y x : ℕ) → (B.state on.new).instead y x → (B.state on.old).instead y x }
-    ensures spare { ((B.state on.new).spare + 1 ≡ (B.state on.old).spare) × ((B.state on.new).room ≡ (B.state on.old).room) }
+    ensures order { (b j : ℕ) → ((B.state on.new).clearing b j → (b ≢ result) × (B.state on.old).clearing b j) × (b ≢ result → (B.state on.old).clearing b j → (B.state on.new).clearing b j) }
+    ensures spare { ((B.state on.new).spare + 1 ≡ (B.state on.old).spare) × ((B.state on.new).room ≡ (B.state on.old).room) × ((B.state on.new).usable + 1 ≡ (B.state on.old).usable) }
     ensures keeps { B.keeps on.old on.new }
 {
     let slot = on.slot(at, i);

@@ -198,3 +198,6 @@ returns-clause-linked g c = λ told y x is.
 
 pub returns-clause-block : goal.returns-clause-block
 returns-clause-block g c = ((g.met.B.Blocks.keeps_all c.copy-copy.new.self c.put_slot.new.self c.put_slot.ensures.keeps).same_blocks c.copy-copy.result).1 c.copy-copy.ensures.gives.is.0
+
+pub returns-clause-goes_on : goal.returns-clause-goes_on
+returns-clause-goes_on g c = λ b j ne h. c.put_slot.ensures.order.goes_on b j (λ n. n) (c.copy-copy.ensures.gives.order.goes_on b j ne h)

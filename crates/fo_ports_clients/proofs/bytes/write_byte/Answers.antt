@@ -98,3 +98,16 @@ returns-clause-block g c =
       ((g.met.B.Blocks.keeps_all c.own_below-own_leaf.new.on c.put_bytes.new.self put.keeps).same_blocks own_leaf).1 c.own_below-own_leaf.ensures.block,
       (put.calm.frame.stays.marks own_leaf (λ n. n)).0 c.own_below-own_leaf.ensures.pinned,
     )
+
+pub returns-clause-settled : goal.returns-clause-settled
+returns-clause-settled g c = λ b j h. c.requires.settled b j (c.own_below-own_top.ensures.order b j (c.own_below-own_leaf.ensures.order b j (c.put_bytes.ensures.calm.order.clearing b j h).1).1).1
+
+pub returns-clause-spare : goal.returns-clause-spare
+returns-clause-spare g c =
+    let top_spare = c.own_below-own_top.ensures.spare.0 in
+    let leaf_spare = c.own_below-own_leaf.ensures.spare.0 in
+    let put_spare = c.put_bytes.ensures.calm.frame.uses.spare in
+    let top_usable = c.own_below-own_top.ensures.spare.1 in
+    let leaf_usable = c.own_below-own_leaf.ensures.spare.1 in
+    let put_usable = c.put_bytes.ensures.calm.frame.uses.usable in
+    (omega (arith, top_spare, leaf_spare, put_spare), omega (arith, top_usable, leaf_usable, put_usable))

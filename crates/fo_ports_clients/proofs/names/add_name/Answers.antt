@@ -141,7 +141,10 @@ returns-clause-fit g c =
     (put_lists ((u.now c.args.leaf).bytes) i c.args.generation lt j n lists))
 
 pub returns-clause-order : goal.returns-clause-order
-returns-clause-order g c = λ b j h. (c.put_slot.ensures.order.clearing b j (c.wait_for.ensures.calm.order.clearing b j (c.put_bytes.ensures.calm.order.clearing b j h).1).1).1
+returns-clause-order g c = λ b j. (
+  λ h. (c.put_slot.ensures.order.clearing b j (c.wait_for.ensures.calm.order.clearing b j (c.put_bytes.ensures.calm.order.clearing b j h).1).1).1,
+  λ h. c.put_bytes.ensures.calm.order.goes_on b j (λ n. n) (c.wait_for.ensures.calm.order.goes_on b j (λ n. n) (c.put_slot.ensures.order.goes_on b j (λ n. n) h)),
+)
 
 pub returns-clause-room : goal.returns-clause-room
 returns-clause-room g c =
@@ -175,3 +178,16 @@ returns-clause-instead g c = λ y x is.
     let wait = c.wait_for.ensures.calm.frame.stays in
     let put = c.put_bytes.ensures.calm.frame.stays in
     nil_instead c.put_slot.ensures.frame c.put_slot.ensures.hangs (λ b e. nil_local c.requires.empty e) (λ b h. h) y x ((wait.instead y x (λ n. n) (λ n. n)).0 ((put.instead y x (λ n. n) (λ n. n)).0 is))
+
+pub returns-clause-usable : goal.returns-clause-usable
+returns-clause-usable g c =
+    let put = c.put_slot.ensures.frame.uses in
+    let wait = c.wait_for.ensures.calm.frame.uses in
+    let bytes = c.put_bytes.ensures.calm.frame.uses in
+    let put_spare = put.spare in
+    let wait_spare = wait.spare in
+    let bytes_spare = bytes.spare in
+    let put_usable = put.usable in
+    let wait_usable = wait.usable in
+    let bytes_usable = bytes.usable in
+    (omega (arith, put_spare, wait_spare, bytes_spare), omega (arith, put_usable, wait_usable, bytes_usable))

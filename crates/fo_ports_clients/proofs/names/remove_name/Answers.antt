@@ -68,3 +68,19 @@ returns-clause-instead g c = λ y x is.
     let put = c.put_bytes.ensures.calm.frame.stays in
     let slot = ((g.B.Blocks.state c.put_bytes.new.self).now c.args.entries).slot c.args.i in
     (put.instead y x (λ n. n) (λ n. n)).0 (nil_instead c.remove_slot.ensures.frame c.remove_slot.ensures.hangs (cleared_nowhere slot) (λ b h. inl h) y x is)
+
+pub returns-clause-order : goal.returns-clause-order
+returns-clause-order g c = λ b j.
+    let put = c.put_bytes.ensures.calm.order in
+    let order = c.remove_slot.ensures.order b j in
+    (λ h. ⊎_elim (λ was. inl (put.clearing b j was).1) (λ is. inr is) (order.0 h), λ h. order.1 (put.goes_on b j (λ n. n) h))
+
+pub returns-clause-usable : goal.returns-clause-usable
+returns-clause-usable g c =
+    let put = c.put_bytes.ensures.calm.frame.uses in
+    let remove = c.remove_slot.ensures.frame.uses in
+    let put_spare = put.spare in
+    let remove_spare = remove.spare in
+    let put_usable = put.usable in
+    let remove_usable = remove.usable in
+    (omega (arith, put_spare, remove_spare), omega (arith, put_usable, remove_usable))

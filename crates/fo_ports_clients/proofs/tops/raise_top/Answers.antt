@@ -183,3 +183,12 @@ returns-clause-label g c =
     let label = c.put_slot-2.ensures.frame.stays.labels top (λ n. n) ∙ c.put_slot.ensures.frame.stays.labels top (λ n. n) ∙ gives.label in
     let pinned = (c.put_slot-2.ensures.frame.stays.marks top (λ n. n)).0 ((c.put_slot.ensures.frame.stays.marks top (λ n. n)).0 gives.is.1) in
     (gives.was.0, pinned, label ∙ ap (λ (q : Place). label_of q s.high) over_is)
+
+pub returns-clause-order : goal.returns-clause-order
+returns-clause-order g c = λ b j.
+    let gives = c.new_block-top.ensures.gives.order in
+    let first = c.put_slot.ensures.order in
+    let second = c.put_slot-2.ensures.order in (
+      λ h. gives.clearing b j (first.clearing b j (second.clearing b j h).1).1,
+      λ ne h. second.goes_on b j (λ n. n) (first.goes_on b j (λ n. n) (gives.goes_on b j ne h)),
+    )
