@@ -24,10 +24,11 @@ looks {k} x y kept settled l = record {
     instead = λ b a unmade unput. l.instead b a;
     waits = λ a on j ua uo po w. w;
   };
-  order = record { clearing = λ b j c. (λ none. none, c) };
+  order = record { clearing = λ b j c. (λ none. none, c); goes_on = λ b j made c. c };
   covered = record { covered = l.covered };
   no_wait = record { each = λ a on j but w. w };
   dirty = l.dirty;
   room = l.room;
+  usable = l.usable;
   numbers = record { next = l.numbers.0; grants = l.numbers.1 };
 }

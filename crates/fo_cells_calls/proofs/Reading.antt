@@ -1,5 +1,5 @@
 -- Laws of the trait, read off what a cache knows.
-use Rattle.std.proofs.Common.{inl, inr, ⊎_elim, ℕ, List, sym, subst}
+use Rattle.std.proofs.Common.{inl, inr, ⊎_elim, ℕ, List, [], refl, sym, subst}
 use Rattle.std.specs.List.{Contains}
 use Rattle.fo_crash.specs.declared.place.Place.{Place}
 use Rattle.fo_crash.specs.Images.{Content, Reaches, to_block}
@@ -58,6 +58,7 @@ laws_hold k x doubts h = record {
   };
   sure = λ at is. ⊎_elim (λ s. told_sure (set_sure (h.sure at s))) (λ f. told_sure (fresh_sure (h.fresh at f))) is;
   super_known = record { each = λ image m. ⊎_elim (λ memory. inl memory) (λ d. inr (d.0, h.doubt d.0 d.1, d.2)) ((safe_super (h.safe m.0)).each image m.1) };
+  one_stays = λ told c. h.covered 1 told c (record { path = []; leads = refl });
   waits_in_use = λ a on j w. w.1;
   clears_entries = λ at j c. h.waits at j c.0 c.1;
 }

@@ -82,6 +82,7 @@ pub record TraitLaws (s : State) : Type 0 where
   pub old_is_sure : (t at : ℕ) → s.tops t → at ≢ 1 → Reaches s.now (to_block t) at → (s.label at).epoch < s.high → IsSure s.now at s.may_leave
   pub sure : (at : ℕ) → s.sure at ⊎ s.fresh at → IsSure s.now at s.may_leave
   pub super_known : HasSuper s.now s.doubt s.may_leave
+  pub one_stays : s.tells → s.covered 1 → ⊥
   pub waits_in_use : (a on j : ℕ) → s.waits a on j → IsPairUsed s.now on j
   pub clears_entries : (at j : ℕ) → s.clearing at j → ((s.label at).kind ≡ Dir 0) × ((s.label at).epoch ≡ s.high)
 

@@ -95,6 +95,7 @@ pub record Looked (k : Known) (x y : Rest) : Type 0 where
   pub covered : (b : ℕ) → y.covered b ↔ x.covered b
   pub dirty : (b : ℕ) → y.dirty b → x.dirty b
   pub room : (y.spare ≡ x.spare) × (y.room ≡ x.room)
+  pub usable : (y.usable ≡ x.usable) × (y.queued ≡ x.queued)
   pub numbers : (y.next ≡ x.next) × (x.grants → y.grants)
 
 -- No other slot waits less than before.
