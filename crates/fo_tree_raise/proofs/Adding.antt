@@ -35,10 +35,12 @@ adds_nothing s = record {
   waits = λ a on j not_a not_on w. w;
   no_wait = record { each = λ a on j h w. w };
   clearing = λ b j h. (λ made. made.0 made.1, h);
+  goes_on = λ b j not h. h;
   dirty = λ b d. inl d;
   moments = refl;
   left = λ k image h. h;
   pins = refl;
+  usable = refl;
   room = refl;
   numbers = record { next = refl; grants = λ h. h };
 }
@@ -195,6 +197,7 @@ module _ {t : Tree} {mine : ℕ → Type 0} {top : ℕ} {s m u : State} (x : Add
         let last = x.step.clearing b j h in
         let old = x.first.clearing b j last.1 in
         (λ made. ⊎_elim old.0 last.0 (made_back b made), old.1);
+    goes_on = λ b j not h. x.step.goes_on b j (not_top b not) (x.first.goes_on b j (not_mid b not) h);
     dirty = λ b d. ⊎_elim
         (λ mid. ⊎_elim
         (λ old. inl old)
@@ -205,6 +208,7 @@ module _ {t : Tree} {mine : ℕ → Type 0} {top : ℕ} {s m u : State} (x : Add
     moments = x.step.moments ∙ x.first.moments;
     left = λ k image h. x.first.left k image (x.step.left k image h);
     pins = x.step.pins ∙ x.first.pins;
+    usable = let first = x.first.usable in let last = x.step.usable in let spent = x.step.spare in omega (arith, first, last, spent);
     room = x.step.room ∙ x.first.room;
     numbers = record { next = x.step.numbers.next ∙ x.first.numbers.next; grants = λ h. x.step.numbers.grants (x.first.numbers.grants h) };
   }
@@ -237,10 +241,12 @@ adds_changes {t = t} {s = s} {u = u} x = record {
   waits = x.waits;
   no_wait = x.no_wait;
   clearing = x.clearing;
+  goes_on = x.goes_on;
   dirty = λ b d. ⊎_elim (λ old. inl old) (λ h. inr (⊎_elim (λ made. inl (inl made)) (λ label. inr label) h)) (x.dirty b d);
   moments = x.moments;
   left = x.left;
   pins = x.pins;
+  usable = x.usable;
   numbers = x.numbers;
 }
   where

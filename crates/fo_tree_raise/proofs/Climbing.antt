@@ -7,8 +7,9 @@ use Rattle.fo_image.specs.declared.types.Pointer.TheVariants.{Local}
 use Rattle.fo_ports.specs.State.{State}
 use Rattle.fo_ports.specs.Sources.{Made}
 use Rattle.fo_tree_read.specs.declared.tree.Tree.{Tree}
-use Rattle.fo_tree_raise.specs.Raise.{CanRaise, Raises, raised}
-use Rattle.fo_tree_raise.specs.Levels.{IsTopAfter, grown}
+use Rattle.fo_tree_read.specs.Tree.{block_at}
+use Rattle.fo_tree_raise.specs.Raise.{CanRaise, Raises, SameBelow, raised}
+use Rattle.fo_tree_raise.specs.Levels.{Adds, IsTopAfter, InStead, grown}
 
 pub grown_none : (t : Tree) (levels : ℕ) → levels ≡ 0 → t ≡ grown t levels t.top
 grown_none t levels none = let same : t.depth ≡ t.depth + levels = omega (arith, none) in ap (λ d. record t { depth = d; top = t.top }) same
@@ -38,19 +39,42 @@ over_by {s = s} {m = m} {t = t} {levels = levels} can is b e = ⊎_elim
     inr (subst (λ y. Made s m y) here new.2, subst (λ y. m.apart y) here new.3))
     (cases_eq levels 0)
 
--- a top that was apart is, and so is one that was given out since
-pub apart_by : {s m : State} {t : Tree} {levels : ℕ} {p : Pointer} → IsTopAfter s m t levels p → (b : ℕ) → t.top ≡ Local b → s.apart b → (c : ℕ) → p ≡ Local c → m.apart c
-apart_by {m = m} {levels = levels} is b top apart c e = ⊎_elim
-    (λ none. let here : b ≡ c = local_eq (sym top ∙ sym (is.same none).0 ∙ e) in subst (λ y. m.apart y) here ((is.same none).1 b apart))
+-- what a new top comes in the place of
+pub stead_by : {s m u : State} {t : Tree} {levels top : ℕ} {p : Pointer} → CanRaise s t → IsTopAfter s m t levels p → Adds t.tag (λ b. t.top ≡ Local b) s m → Raises (grown t levels p) top m u
+    → ((b y : ℕ) → Made s m b → m.instead b y → InStead s t y) → (y : ℕ) → u.instead top y → InStead s t y
+stead_by {s = s} {m = m} {t = t} {levels = levels} can is first step before y h =
+    let r = step.raises y h in
+    ⊎_elim
+    (λ none.
+    let same = is.same none in
+    let here : t.top ≡ Local r.0 = sym same.0 ∙ r.1 in (
+      r.0,
+      here,
+      ⊎_elim
+          (λ own. inl (own.0, λ apart. own.1 (same.1 r.0 apart)))
+          (λ was. ⊎_elim (λ old. inr old.1) (λ made. absurd (made.0.0 (can.under r.0 here).live)) (first.instead r.0 y was))
+          r.2,
+    ))
     (λ some.
     let new = is.new (omega (arith, some)) in
-    let here : new.0 ≡ c = local_eq (sym new.1 ∙ e) in
-    subst (λ y. m.apart y) here new.3)
+    let here : new.0 ≡ r.0 = local_eq (sym new.1 ∙ r.1) in
+    ⊎_elim
+    (λ own. absurd (own.1 (subst (λ b. m.apart b) here new.3)))
+    (λ was. before r.0 y (subst (λ b. Made s m b) here new.2) was)
+    r.2)
     (cases_eq levels 0)
 
--- what a new top comes in the place of, where the old one was apart
-pub stead_by : {s m u : State} {t : Tree} {levels top : ℕ} {p : Pointer} → IsTopAfter s m t levels p → Raises (grown t levels p) top m u → (b : ℕ) → t.top ≡ Local b → s.apart b
-    → ((c at : ℕ) → p ≡ Local c → m.instead c at → s.instead b at) → (at : ℕ) → u.instead top at → s.instead b at
-stead_by is step b top_is apart before at h =
-    let r = step.raises at h in
-    ⊎_elim (λ here. absurd (here.1 (apart_by is b top_is apart r.0 r.1))) (λ was. before r.0 at r.1 was) r.2
+-- ---- leaves
+
+pub leaves_none : (s : State) (t : Tree) (levels : ℕ) → levels ≡ 0 → (k : ℕ) → block_at s (grown t levels t.top) (t.depth + levels) k ≡ block_at s t t.depth k
+leaves_none s t levels none k = let same : t.depth ≡ t.depth + levels = omega (arith, none) in sym (ap (λ d. block_at s (record t { depth = d; top = t.top }) d k) same)
+
+pub leaves_more : (s m u : State) (t : Tree) (levels top : ℕ) (p : Pointer) → 0 < levels → SameBelow m u (grown t (levels - 1) p) top
+    → ((k : ℕ) → k < 409 ^ t.depth → block_at m (grown t (levels - 1) p) (t.depth + (levels - 1)) k ≡ block_at s t t.depth k)
+    → (k : ℕ) → k < 409 ^ t.depth → block_at u (grown t levels (Local top)) (t.depth + levels) k ≡ block_at s t t.depth k
+leaves_more s m u t levels top p some below first k few =
+    let room : 8192 * (k + 1) ≤ 8192 * 409 ^ (t.depth + (levels - 1)) = room_more (8192 * (k + 1)) t.depth (levels - 1) (omega (arith, few)) in
+    let level : suc (t.depth + (levels - 1)) ≡ t.depth + levels = omega (arith, some) in
+    subst (λ (x : Tree). block_at u x (t.depth + levels) k ≡ block_at s t t.depth k) (grown_more t levels top p some)
+    (subst (λ n. block_at u (raised (grown t (levels - 1) p) top) n k ≡ block_at s t t.depth k) level
+    (below.each (t.depth + (levels - 1)) k (omega arith) (omega (arith, room)) ∙ first k few))

@@ -52,7 +52,7 @@ module _ {t : Tree} {at : ℕ} {l : Label} {result : ℕ} {s m : State} (x : Hol
   ne_result : (b : ℕ) → (Made s m b → ⊥) → b ≢ result
   ne_result b not e = not (subst (λ y. Made s m y) (sym e) made_result)
 
-  made_is : (b : ℕ) → Made s m b → b ≡ result
+  pub made_is : (b : ℕ) → Made s m b → b ≡ result
   made_is b made = ⊎_elim (λ e. e) (λ ne. absurd (made.0 (ap (λ (q : Label). q.state) (sym (x.came.stays.labels b ne)) ∙ made.1))) (cases_eq b result)
 
   away : s.tells → (w : ℕ) (p : Place) → s.stands w p → Reaches s.now (to_block w) result → ⊥
@@ -125,6 +125,7 @@ module _ {t : Tree} {at : ℕ} {l : Label} {result : ℕ} {s m : State} (x : Hol
     waits = λ a b j not_a not_b w. x.came.stays.waits a b j (ne_result a not_a) (ne_result b not_b) (λ h. h) w;
     no_wait = x.came.no_wait;
     clearing = λ b j h. let old = x.came.order.clearing b j h in (λ made. old.0 (made_is b made), old.1);
+    goes_on = λ b j not h. x.came.order.goes_on b j (ne_result b not) h;
     dirty = λ b d. ⊎_elim
         (λ old. inl old)
         (λ h. inr (⊎_elim (λ e. inl (subst (λ y. Made s m y) (sym e) made_result)) (λ e. inr (result, made_result, e)) h))
@@ -132,6 +133,7 @@ module _ {t : Tree} {at : ℕ} {l : Label} {result : ℕ} {s m : State} (x : Hol
     moments = x.came.uses.moments;
     left = x.came.uses.left;
     pins = x.came.uses.pins;
+    usable = let left = x.came.uses.usable in let spent = x.came.uses.spare in omega (arith, left, spent);
     room = let r = x.came.uses.room in omega (arith, r);
     numbers = x.came.numbers;
   }

@@ -274,6 +274,7 @@ module _ {t : Tree} {l : Label} {result n : ℕ} {beside : Image → Type 0} {s 
     waits = λ a on j not_a not_on w. x.hangs.waits a on j (inl not_on) (came.stays.waits a on j not_a not_on (λ h. h) w);
     no_wait = record { each = λ a on j h w. came.no_wait.each a on j h (x.no_wait.each a on j h w) };
     clearing = λ b j h. let old = came.order.clearing b j (x.order.clearing b j h).1 in (old.0, old.1);
+    goes_on = λ b j ne h. x.order.goes_on b j (λ z. z) (came.order.goes_on b j ne h);
     dirty = λ b d. ⊎_elim
         (λ before. ⊎_elim
         (λ old. inl old)
@@ -286,6 +287,7 @@ module _ {t : Tree} {l : Label} {result n : ℕ} {beside : Image → Type 0} {s 
     pins = x.frame.uses.pins ∙ came.uses.pins;
     room = let first = came.uses.room in let last = x.frame.uses.room in let none = x.no_cost in omega (arith, first, last, none);
     spare = let first = came.uses.spare in let last = x.frame.uses.spare in omega (arith, first, last);
+    usable = let first = came.uses.usable in let last = x.frame.uses.usable in omega (arith, first, last);
     numbers = record { next = x.frame.numbers.next ∙ came.numbers.next; grants = λ h. x.frame.numbers.grants (came.numbers.grants h) };
   }
 

@@ -34,10 +34,12 @@ pub record Adds (tag : ℕ) (mine : ℕ → Type 0) (s u : State) : Type 0 where
   pub waits : (a on j : ℕ) → (Made s u a → ⊥) → (Made s u on → ⊥) → s.waits a on j → u.waits a on j
   pub no_wait : AddsNoWait none s u
   pub clearing : (b j : ℕ) → u.clearing b j → (Made s u b → ⊥) × s.clearing b j
+  pub goes_on : (b j : ℕ) → (Made s u b → ⊥) → s.clearing b j → u.clearing b j
   pub dirty : (b : ℕ) → u.dirty b → s.dirty b ⊎ (Made s u b ⊎ ((x : ℕ) × Made s u x × (b ≡ u.label_block x)))
   pub moments : u.moments ≡ s.moments
   pub left : (k : ℕ) (image : Image) → u.left k image → s.left k image
   pub pins : u.pins_left ≡ s.pins_left
+  pub usable : s.usable + u.spare ≡ u.usable + s.spare
   pub room : u.room ≡ s.room
   pub numbers : KeepsNumbers s u
 
@@ -49,3 +51,7 @@ grown t levels top = record t { depth = t.depth + levels; top = top }
 pub record IsTopAfter (s u : State) (t : Tree) (levels : ℕ) (top : Pointer) : Type 0 where
   pub same : levels ≡ 0 → (top ≡ t.top) × ((b : ℕ) → s.apart b → u.apart b)
   pub new : 0 < levels → (b : ℕ) × (top ≡ Local b) × Made s u b × u.apart b
+
+-- What a new top comes in the place of: the source's top, where that was put into a slot, or what that came in the place of.
+abbrev pub InStead : State → Tree → ℕ → Type 0
+InStead s t x = (c : ℕ) × (t.top ≡ Local c) × (((c ≡ x) × (s.apart c → ⊥)) ⊎ s.instead c x)

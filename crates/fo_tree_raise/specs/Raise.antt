@@ -70,12 +70,14 @@ pub record Raises (t : Tree) (top : ℕ) (s u : State) : Type 0 where
   pub waits : (a on j : ℕ) → a ≢ top → on ≢ top → s.waits a on j → u.waits a on j
   pub no_wait : AddsNoWait none s u
   pub clearing : (b j : ℕ) → u.clearing b j → (b ≢ top) × s.clearing b j
+  pub goes_on : (b j : ℕ) → b ≢ top → s.clearing b j → u.clearing b j
   pub dirty : (b : ℕ) → u.dirty b → s.dirty b ⊎ ((b ≡ top) ⊎ (b ≡ u.label_block top))
   pub moments : u.moments ≡ s.moments
   pub left : (k : ℕ) (image : Image) → u.left k image → s.left k image
   pub pins : u.pins_left ≡ s.pins_left
   pub room : u.room ≡ s.room
   pub spare : u.spare + 1 ≡ s.spare
+  pub usable : u.usable + 1 ≡ s.usable
   pub numbers : KeepsNumbers s u
 
 -- the number of the last leaf

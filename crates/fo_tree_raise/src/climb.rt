@@ -3,10 +3,11 @@ ghost use Rattle.std.specs.Prelude.{◌≡◌, ◌⊎◌, ◌+◌, ◌*◌, ◌^
 ghost use Rattle.fo_image.specs.declared.types.Pointer.TheVariants.{Local};
 ghost use Rattle.fo_ports.specs.State.{none};
 ghost use Rattle.fo_ports.specs.Sources.{Made, Changes};
+ghost use Rattle.fo_tree_read.specs.Tree.{block_at};
 ghost use Rattle.fo_tree_look.specs.declared.ways.Kept.{Kept};
 ghost use Rattle.fo_tree_look.specs.Source.{HasBlock, Prepared};
 ghost use Rattle.fo_tree_raise.specs.Raise.{CanRaise, EndsClear, Bears};
-ghost use Rattle.fo_tree_raise.specs.Levels.{Adds, IsTopAfter, grown};
+ghost use Rattle.fo_tree_raise.specs.Levels.{Adds, IsTopAfter, InStead, grown};
 
 use crate::raise::raise_once;
 use fo_image::Pointer;
@@ -21,10 +22,11 @@ pub fn raise_levels<B: Blocks>(tree: &Tree, on: &mut B, levels: u8) -> Pointer
     requires spare { levels ≤ (B.state on.old).spare }
     ensures top { IsTopAfter (B.state on.old) (B.state on.new) tree.now levels result }
     ensures adds { Adds tree.now.tag (λ b. tree.now.top ≡ Local b) (B.state on.old) (B.state on.new) }
-    ensures instead { (b top x : ℕ) → tree.now.top ≡ Local b → (B.state on.old).apart b → result ≡ Local top → (B.state on.new).instead top x → (B.state on.old).instead b x }
+    ensures instead { (b x : ℕ) → Made (B.state on.old) (B.state on.new) b → (B.state on.new).instead b x → InStead (B.state on.old) tree.now x }
     ensures changes { Changes tree.now.tag (HasBlock (B.state on.old) tree.now) none (B.state on.old) (B.state on.new) }
     ensures again { CanRaise (B.state on.new) (grown tree.now levels result) }
     ensures bears { (kept : List Kept) → 0 < tree.now.size → Bears (B.state on.old) tree.now kept → Bears (B.state on.new) (grown tree.now levels result) kept }
+    ensures leaves { (B.state on.old).tells → (kept : List Kept) → 0 < tree.now.size → Bears (B.state on.old) tree.now kept → (k : ℕ) → k < 409 ^ tree.now.depth → block_at (B.state on.new) (grown tree.now levels result) (tree.now.depth + levels) k ≡ block_at (B.state on.old) tree.now tree.now.depth k }
     ensures owns { (B.state on.old).tells → (kept : List Kept) → 0 < tree.now.size → Bears (B.state on.old) tree.now kept → (b : ℕ) → (HasBlock (B.state on.new) (grown tree.now levels result) b → HasBlock (B.state on.old) tree.now b ⊎ Made (B.state on.old) (B.state on.new) b) × (Made (B.state on.old) (B.state on.new) b ⊎ HasBlock (B.state on.old) tree.now b → HasBlock (B.state on.new) (grown tree.now levels result) b) }
     ensures still { (kept : List Kept) (limit o n : ℕ) → tree.now.size ≤ 8192 * 409 ^ tree.now.depth → Prepared (B.state on.old) tree.now kept limit o n → Prepared (B.state on.new) (grown tree.now levels result) kept limit o n }
     ensures clear { (kept : List Kept) → 0 < tree.now.size → tree.now.size ≤ 8192 * 409 ^ tree.now.depth → EndsClear (B.state on.old) tree.now kept → EndsClear (B.state on.new) (grown tree.now levels result) kept }

@@ -21,6 +21,7 @@ pub fn copy_top<B: Blocks>(tree: &Tree, kept: &[Kept], on: &mut B, at: u32) -> u
     requires spare { 0 < (B.state on.old).spare }
     ensures comes { Comes (B.state on.old) (B.state on.new) tree.now kept.now 0 0 result }
     ensures made { Made (B.state on.old) (B.state on.new) result × (B.state on.new).apart result }
+    ensures given { (b : ℕ) → Made (B.state on.old) (B.state on.new) b → b ≡ result }
     ensures changes { Changes tree.now.tag (HasBlock (B.state on.old) tree.now) (λ b. HasBlock (B.state on.old) tree.now b × (((B.state on.old).label b).kind ≢ kind_at tree.now.dir 0)) (B.state on.old) (B.state on.new) }
     ensures adds { Adds tree.now.tag (λ b. tree.now.top ≡ Local b) (B.state on.old) (B.state on.new) }
     ensures under { CanRaise (B.state on.new) (with_top tree.now result) }

@@ -16,5 +16,5 @@ pub fn may_raise<B: Blocks>(tree: &Tree, kept: &[Kept], on: &B)
     requires over { (limit : ℕ) × Over (B.state on.now) tree.now kept.now limit }
     requires current { (b : ℕ) → tree.now.top ≡ Local b → (((B.state on.now).label b).state ≡ Live) × (((B.state on.now).label b).epoch ≡ (B.state on.now).high) }
     requires linked { (B.state on.now).tells → tree.now.dir ≡ true → (b : ℕ) → HasBlock (B.state on.now) tree.now b → Reaches (B.state on.now).now (to_block 1) b }
-    ensures can { CanRaise (B.state on.now) tree.now }
+    ensures { CanRaise (B.state on.now) tree.now }
 {}

@@ -1,4 +1,4 @@
-use Rattle.std.proofs.Common.{◌≡◌, ◌-◌, ◌*◌, ◌^◌, ◌<◌, ◌≤◌, inl, inr, ⊎_elim, refl, sym, ◌∙◌, subst, arith}
+use Rattle.std.proofs.Common.{◌≡◌, ◌-◌, ◌*◌, ◌^◌, ◌<◌, ◌≤◌, inl, inr, ⊎_elim, refl, sym, ap, ◌∙◌, subst, arith}
 use Rattle.fo_image.specs.declared.types.Pointer.TheVariants.{Local}
 use Rattle.fo_ports.specs.Sources.{Made}
 use Rattle.fo_tree_read.specs.declared.tree.Tree.{Tree}
@@ -8,7 +8,7 @@ use Rattle.fo_tree_raise.specs.Levels.{grown}
 use Rattle.fo_tree_read.specs.Tree.{Hangs}
 use Rattle.fo_tree_raise.proofs.Levels.{owned_top}
 use Rattle.fo_tree_raise.proofs.Adding.{AddsMore, adds_nothing, adds_changes, added, made_top, made_back, made_on}
-use Rattle.fo_tree_raise.proofs.Climbing.{local_eq, grown_none, grown_more, room_more, over_by, stead_by}
+use Rattle.fo_tree_raise.proofs.Climbing.{grown_none, grown_more, room_more, over_by, stead_by, leaves_none, leaves_more}
 use Rattle.fo_tree_raise.proofs.climb.+raise_levels.Goals as goal
 
 -- no level
@@ -20,7 +20,10 @@ pub returns-then-levels-eq0-clause-adds : goal.returns-then-levels-eq0-clause-ad
 returns-then-levels-eq0-clause-adds g t' c = adds_nothing (g.B.Blocks.state c.args.on.now)
 
 pub returns-then-levels-eq0-clause-instead : goal.returns-then-levels-eq0-clause-instead
-returns-then-levels-eq0-clause-instead g t' c = λ b top at is apart e h. subst (λ z. (g.B.Blocks.state c.args.on.now).instead z at) (local_eq (sym e ∙ is)) h
+returns-then-levels-eq0-clause-instead g t' c = λ b at made h. absurd (made.0 made.1)
+
+pub returns-then-levels-eq0-clause-leaves : goal.returns-then-levels-eq0-clause-leaves
+returns-then-levels-eq0-clause-leaves g t' c = λ told kept some bears k few. leaves_none (g.B.Blocks.state c.args.on.now) c.args.tree.now c.args.levels c.if-levels-eq0.true k
 
 pub returns-then-levels-eq0-clause-changes : goal.returns-then-levels-eq0-clause-changes
 returns-then-levels-eq0-clause-changes g t' c = adds_changes {t = c.args.tree.now} {s = g.B.Blocks.state c.args.on.now} {u = g.B.Blocks.state c.args.on.now} (adds_nothing (g.B.Blocks.state c.args.on.now))
@@ -125,7 +128,7 @@ returns-clause-adds g t' c =
     added x
 
 pub returns-clause-instead : goal.returns-clause-instead
-returns-clause-instead g t' c = λ b y at is apart named h.
+returns-clause-instead g t' c = λ b y made h.
     let on = c.args.on.now in
     let mid = c.raise_levels-below.new.on in
     let end = c.raise_once-top.new.on in
@@ -138,8 +141,18 @@ returns-clause-instead g t' c = λ b y at is apart named h.
     let e = c.with_levels-lower.ensures in
     let more = grown_more t c.args.levels top c.raise_levels-below.result (let some = c.if-levels-eq0.false in omega (arith, some)) in
     let step : Raises (grown t (c.args.levels - 1) c.raise_levels-below.result) top m u = subst (λ (x : Tree). Raises x top m u) e c.raise_once-top.ensures.raises in
-    let here : top ≡ y = local_eq named in
-    stead_by c.raise_levels-below.ensures.top step b is apart (λ d x f was. c.raise_levels-below.ensures.instead b d x is apart f was) at (subst (λ z. u.instead z at) (sym here) h)
+    let x : AddsMore (grown t (c.args.levels - 1) c.raise_levels-below.result) (λ b. t.top ≡ Local b) top s m u = record {
+      first = c.raise_levels-below.ensures.adds;
+      step = step;
+      all = g.met.B.Blocks.keeps_all on mid c.raise_levels-below.ensures.keeps;
+      more = g.met.B.Blocks.keeps_all mid end c.raise_once-top.ensures.keeps;
+      over = over_by c.requires.top c.raise_levels-below.ensures.top;
+      covers_told = g.met.B.Blocks.covers_told end;
+    } in
+    ⊎_elim
+    (λ mid. c.raise_levels-below.ensures.instead b y mid (step.instead b y (λ same. step.made.0 (ap (λ z. (m.label z).state) (sym same) ∙ mid.1)) h))
+    (λ own. stead_by c.requires.top c.raise_levels-below.ensures.top c.raise_levels-below.ensures.adds step c.raise_levels-below.ensures.instead y (subst (λ z. u.instead z y) own h))
+    (made_back x b made)
 
 pub returns-clause-changes : goal.returns-clause-changes
 returns-clause-changes g t' c =
@@ -194,6 +207,22 @@ returns-clause-bears g t' c = λ kept some b.
     let e = c.with_levels-lower.ensures in
     let more = grown_more t c.args.levels top c.raise_levels-below.result (let some = c.if-levels-eq0.false in omega (arith, some)) in
     subst (λ (x : Tree). Bears u x kept) more ((subst (λ (x : Tree). 0 < x.size → Bears m x kept → Bears u (raised x top) kept) e (c.raise_once-top.ensures.bears kept)) some (c.raise_levels-below.ensures.bears kept some b))
+
+pub returns-clause-leaves : goal.returns-clause-leaves
+returns-clause-leaves g t' c = λ told kept some bears k few.
+    let on = c.args.on.now in
+    let mid = c.raise_levels-below.new.on in
+    let end = c.raise_once-top.new.on in
+    let s = g.B.Blocks.state on in
+    let m = g.B.Blocks.state mid in
+    let u = g.B.Blocks.state end in
+    let t = c.args.tree.now in
+    let top = c.raise_once-top.result in
+    let e = c.with_levels-lower.ensures in
+    let all = g.met.B.Blocks.keeps_all on mid c.raise_levels-below.ensures.keeps in
+    let under = c.raise_levels-below.ensures.bears kept some bears in
+    let below : SameBelow m u (grown t (c.args.levels - 1) c.raise_levels-below.result) top = (subst (λ (x : Tree). m.tells → Hangs m x → SameBelow m u x top) e c.raise_once-top.ensures.below) (all.still_tells.1 told) under.hangs in
+    leaves_more s m u t c.args.levels top c.raise_levels-below.result (let more = c.if-levels-eq0.false in omega (arith, more)) below (λ j lt. c.raise_levels-below.ensures.leaves told kept some bears j lt) k few
 
 pub returns-clause-owns : goal.returns-clause-owns
 returns-clause-owns g t' c = λ told kept some bears b.

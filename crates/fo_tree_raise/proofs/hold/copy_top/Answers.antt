@@ -15,7 +15,7 @@ use Rattle.fo_tree_down.proofs.Join.{changes_of}
 use Rattle.fo_tree_down.proofs.Beside.{WentDown, last_leads, on_way_block}
 use Rattle.fo_tree_down.proofs.Stilling.{WasOwned, prepared_still}
 use Rattle.fo_tree_down.proofs.Telling.{over_end}
-use Rattle.fo_tree_raise.proofs.Holding.{Holding, made_result, adds_copy, can_copy, clear_copy}
+use Rattle.fo_tree_raise.proofs.Holding.{Holding, made_result, made_is, adds_copy, can_copy, clear_copy}
 use Rattle.fo_tree_raise.proofs.hold.copy_top.Given as given
 use Rattle.fo_tree_raise.proofs.hold.copy_top.Goals as goal
 
@@ -118,6 +118,9 @@ returns-clause-comes g c = comes g c
 
 pub returns-clause-made : goal.returns-clause-made
 returns-clause-made g c = (made_result (holding g c), (holding g c).came.is.3)
+
+pub returns-clause-given : goal.returns-clause-given
+returns-clause-given g c = λ b made. made_is (holding g c) b made
 
 pub returns-clause-adds : goal.returns-clause-adds
 returns-clause-adds g c = adds_copy (holding g c)
