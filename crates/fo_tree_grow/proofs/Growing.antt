@@ -39,10 +39,12 @@ changes_of {tag = tag} {inner = inner} {more = more} {s = s} {u = u} within deep
   waits = x.waits;
   no_wait = x.no_wait;
   clearing = x.clearing;
+  goes_on = x.goes_on;
   dirty = λ b d. ⊎_elim (λ old. inl old) (λ h. inr (⊎_elim (λ t. inl (⊎_elim (λ made. inl made) (λ own. inr (within b own.0, own.1, own.2)) t)) (λ label. inr label) h)) (x.dirty b d);
   moments = x.moments;
   left = x.left;
   pins = x.pins;
+  usable = x.usable;
   numbers = x.numbers;
 }
   where
