@@ -55,10 +55,12 @@ module _ {t : Tree} {mine : ℕ → Type 0} {level : ℕ} {s u : State} (all : K
     waits = d.waits;
     no_wait = d.no_wait;
     clearing = d.clearing;
+    goes_on = d.goes_on;
     dirty = d.dirty;
     moments = d.moments;
     left = d.left;
     pins = d.pins;
+    usable = d.usable;
     room = d.room;
     numbers = d.numbers;
     all = all;
@@ -163,10 +165,12 @@ module _ {tag at : ℕ} {mine : ℕ → Type 0} {bytes : List ℕ} {beside : Ima
     waits = λ a b j not_a not_b w. x.calm.frame.stays.waits a b j (λ z. z) (λ z. z) (λ z. z) (c.waits a b j (λ made. not_a (made_on a made)) (λ made. not_b (made_on b made)) w);
     no_wait = record { each = λ a b j h w. c.no_wait.each a b j h (x.no_wait.each a b j h w) };
     clearing = λ b j h. let old = c.clearing b j (x.calm.order.clearing b j h).1 in (λ made. old.0 (made_back b made), old.1);
+    goes_on = λ b j not h. x.calm.order.goes_on b j (λ z. z) (c.goes_on b j (λ made. not (made_on b made)) h);
     dirty = dirty_end;
     moments = x.calm.frame.uses.moments ∙ c.moments;
     left = λ n image h. c.left n image (x.calm.frame.uses.left n image h);
     pins = x.calm.frame.uses.pins ∙ c.pins;
+    usable = let first = c.usable in let last = x.calm.frame.uses.usable in let spare = x.calm.frame.uses.spare in omega (arith, first, last, spare);
     room = let r = x.calm.frame.uses.room in let q = c.room in omega (arith, r, q);
     numbers = record { next = x.calm.frame.numbers.next ∙ c.numbers.next; grants = λ h. x.calm.frame.numbers.grants (c.numbers.grants h) };
     all = all;

@@ -205,10 +205,12 @@ module _ {tag at : ℕ} {mine inner outer : ℕ → Type 0} {bytes : List ℕ} {
     waits = λ a b j not_a not_b w. x.calm.frame.stays.waits a b j (λ z. z) (λ z. z) (λ z. z) (c.waits a b j (λ made. not_a (made_on a made)) (λ made. not_b (made_on b made)) w);
     no_wait = record { each = λ a b j h w. c.no_wait.each a b j h (x.no_wait.each a b j h w) };
     clearing = λ b j h. let old = c.clearing b j (x.calm.order.clearing b j h).1 in (λ made. old.0 (made_back b made), old.1);
+    goes_on = λ b j not h. x.calm.order.goes_on b j (λ z. z) (c.goes_on b j (λ made. not (made_on b made)) h);
     dirty = dirty_end;
     moments = x.calm.frame.uses.moments ∙ c.moments;
     left = λ n image h. c.left n image (x.calm.frame.uses.left n image h);
     pins = x.calm.frame.uses.pins ∙ c.pins;
+    usable = let first = c.usable in let last = x.calm.frame.uses.usable in let spare = x.calm.frame.uses.spare in omega (arith, first, last, spare);
     numbers = record { next = x.calm.frame.numbers.next ∙ c.numbers.next; grants = λ h. x.calm.frame.numbers.grants (c.numbers.grants h) };
   }
 
@@ -229,10 +231,12 @@ changes_wider {tag = tag} {inner = inner} {outer = outer} {s = s} {u = u} furthe
   waits = c.waits;
   no_wait = c.no_wait;
   clearing = c.clearing;
+  goes_on = c.goes_on;
   dirty = c.dirty;
   moments = c.moments;
   left = c.left;
   pins = c.pins;
+  usable = c.usable;
   numbers = c.numbers;
 }
   where
@@ -254,9 +258,11 @@ changes_none tag mine inner s = record {
   waits = λ a on j not_a not_on w. w;
   no_wait = record { each = λ a on j h w. w };
   clearing = λ b j h. (λ made. made.0 made.1, h);
+  goes_on = λ b j not h. h;
   dirty = λ b d. inl d;
   moments = refl;
   left = λ k image h. h;
   pins = refl;
+  usable = refl;
   numbers = record { next = refl; grants = λ h. h };
 }

@@ -47,10 +47,12 @@ steps_changes x = record {
   waits = x.waits;
   no_wait = x.no_wait;
   clearing = x.clearing;
+  goes_on = x.goes_on;
   dirty = x.dirty;
   moments = x.moments;
   left = x.left;
   pins = x.pins;
+  usable = x.usable;
   numbers = x.numbers;
 }
 
@@ -75,10 +77,12 @@ steps_none tag mine inner s all = record {
   waits = λ a on j not_a not_on w. w;
   no_wait = record { each = λ a on j h w. w };
   clearing = λ b j h. (λ made. made.0 made.1, h);
+  goes_on = λ b j not h. h;
   dirty = λ b d. inl d;
   moments = refl;
   left = λ k image h. h;
   pins = refl;
+  usable = refl;
   room = refl;
   numbers = record { next = refl; grants = λ h. h };
   all = all;
@@ -335,6 +339,7 @@ module _ {tag : ℕ} {mine inner more outer : ℕ → Type 0} {a b c : State} (x
     waits = λ y on j m n w. x.second.waits y on j (λ h. m (made_second y h)) (λ h. n (made_second on h)) (x.first.waits y on j (λ h. m (made_first y h)) (λ h. n (made_first on h)) w);
     no_wait = record { each = λ y on j h w. x.first.no_wait.each y on j h (x.second.no_wait.each y on j h w) };
     clearing = λ at j h. let mid = x.second.clearing at j h in let old = x.first.clearing at j mid.1 in (λ m. ⊎_elim old.0 mid.0 (made_either at m), old.1);
+    goes_on = λ at j not h. x.second.goes_on at j (λ m. not (made_second at m)) (x.first.goes_on at j (λ m. not (made_first at m)) h);
     dirty = λ at d. ⊎_elim
         (λ mid. ⊎_elim
         (λ was. inl was)
@@ -345,6 +350,7 @@ module _ {tag : ℕ} {mine inner more outer : ℕ → Type 0} {a b c : State} (x
     moments = x.second.moments ∙ x.first.moments;
     left = λ k image h. x.first.left k image (x.second.left k image h);
     pins = x.second.pins ∙ x.first.pins;
+    usable = let first = x.first.usable in let last = x.second.usable in omega (arith, first, last);
     room = x.second.room ∙ x.first.room;
     numbers = record { next = x.second.numbers.next ∙ x.first.numbers.next; grants = λ h. x.second.numbers.grants (x.first.numbers.grants h) };
     all = x.all;

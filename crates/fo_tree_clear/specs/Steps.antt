@@ -1,5 +1,5 @@
 -- What calls on a source change, one after another.
-use Rattle.std.specs.Prelude.{◌≡◌, ◌⊎◌, ◌↔◌, ◌<◌, ℕ}
+use Rattle.std.specs.Prelude.{◌≡◌, ◌⊎◌, ◌↔◌, ◌+◌, ◌<◌, ℕ}
 use Rattle.fo_crash.specs.declared.place.Place.{Place}
 use Rattle.fo_crash.specs.Images.{Image, SameContent, Reaches, to_block}
 use Rattle.fo_ports.specs.State.{State, KeepsAll, KeepsNumbers, AddsNoWait, none}
@@ -34,10 +34,12 @@ pub record Steps (tag : ℕ) (mine inner : ℕ → Type 0) (old new : State) : T
   pub waits : (a on j : ℕ) → (Made old new a → ⊥) → (Made old new on → ⊥) → old.waits a on j → new.waits a on j
   pub no_wait : AddsNoWait none old new
   pub clearing : (b j : ℕ) → new.clearing b j → (Made old new b → ⊥) × old.clearing b j
+  pub goes_on : (b j : ℕ) → (Made old new b → ⊥) → old.clearing b j → new.clearing b j
   pub dirty : (b : ℕ) → new.dirty b → old.dirty b ⊎ (Touched old new tag mine b ⊎ ((x : ℕ) × Made old new x × (b ≡ new.label_block x)))
   pub moments : new.moments ≡ old.moments
   pub left : (k : ℕ) (image : Image) → new.left k image → old.left k image
   pub pins : new.pins_left ≡ old.pins_left
+  pub usable : old.usable + new.spare ≡ new.usable + old.spare
   pub room : new.room ≡ old.room
   pub numbers : KeepsNumbers old new
   pub all : KeepsAll old new
