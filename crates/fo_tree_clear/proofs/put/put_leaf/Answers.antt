@@ -129,7 +129,6 @@ returns-clause-top g c =
       apart = λ made.
           let stays = (bytes_put g c).calm.frame.stays.apart c.own_way-current.result.top (λ z. z) (λ z. z) in
           stays.1 (is.apart (made.0, ap (λ (l : Label). l.state) (sym same) ∙ made.1));
-      in_tree = λ told r. reaches_on (bytes_put g c) (to_block 1) c.own_way-current.result.top (is.in_tree told r);
       live = ap (λ l. l.state) same ∙ is.live;
       current = ap (λ l. l.epoch) same ∙ is.current ∙ sym more.same_high;
     }
