@@ -157,7 +157,6 @@ returns-clause-over g c = λ limit whole.
     over_end o (record {
       from = inl (made_result (holding g c));
       apart = λ made. (holding g c).came.is.3;
-      in_tree = λ told r. ((adds_copy (holding g c)).reached told c.copy.result).0 r;
       live = is.own.live;
       current = is.own.current;
     }) (record {
