@@ -91,11 +91,11 @@ gives p x c l waiting begun few same is_label apart =
         instead = λ b y ne _. (λ h. (sym (ap (λ (z : Block). z.apart) (up.others b ne)) ∙ h.0, sym (ap (λ (z : Block). z.origin) (up.others b ne)) ∙ h.1), λ h. (ap (λ (z : Block). z.apart) (up.others b ne) ∙ h.0, ap (λ (z : Block). z.origin) (up.others b ne) ∙ h.1));
         waits = λ a on j _ _ _ w. w;
       };
-      order = record { clearing = λ b j h. absurd h };
+      order = record { clearing = λ b j h. absurd h; goes_on = λ b j _ h. h };
       covered = λ b ne. (λ h. h, λ h. h);
       no_wait = record { each = λ a on j _ w. w };
       dirty = λ b h. absurd h;
-      uses = record { spare = omega (arith, long, few); room = omega arith; pins = refl; moments = refl; left = λ k image h. h };
+      uses = record { spare = omega (arith, long, few); usable = omega (arith, long, few); room = omega arith; pins = refl; moments = refl; left = λ k image h. h };
       numbers = record { next = refl; grants = λ h. h };
     }
 

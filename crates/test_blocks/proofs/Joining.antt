@@ -53,7 +53,7 @@ frame p new waits room n at i slot joins used still put is_put = let long = join
     waits = λ a on j _ _ no w. still a on j (λ is. no (is_put on (inl is))) w;
   };
   dirty = λ b h. absurd h;
-  uses = record { spare = omega (arith, long); room = used; pins = refl; moments = refl; left = λ k image h. h };
+  uses = record { spare = omega (arith, long); usable = omega (arith, long); room = used; pins = refl; moments = refl; left = λ k image h. h };
   numbers = record { next = refl; grants = λ h. h };
 }
 

@@ -26,6 +26,9 @@ active p = (refl, λ h. let lt : 1 < 1 = h.0 in omega (arith, lt))
 pub root_is : (p : Silent) → 2 < length p.blocks → length p.blocks ≤ p.count → (state_of p).is_block 2 × (⊥ → ((((state_of p).label 2).state ≡ Live) × (((state_of p).label 2).kind ≡ Root) × (((state_of p).label 2).epoch ≡ (state_of p).high)))
 root_is p begun few = ((omega arith, omega (arith, begun, few)), λ t. absurd t)
 
+pub enough : (p : Silent) → (state_of p).spare ≤ (state_of p).usable
+enough p = omega arith
+
 pub one_place : (p : Silent) → OnePlace (state_of p).stands
 one_place p = record { each = λ b x y s t. absurd s }
 

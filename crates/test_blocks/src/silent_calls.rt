@@ -197,6 +197,10 @@ impl Blocks for CarelessBlocks {
 
     ghost none_queued = { λ b at q h. h };
 
+    ghost one_stays = { λ b h. h };
+
+    ghost enough = { λ b. law.enough (parts b) };
+
     ghost apart_hangs = { λ b image t at a h. absurd h };
 
     ghost instead_of = { λ b y x z t. absurd t };
