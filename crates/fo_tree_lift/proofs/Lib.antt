@@ -1,0 +1,5 @@
+pub mod Join
+pub mod Lifting
+pub mod Above
+pub mod Having
+pub mod Ending

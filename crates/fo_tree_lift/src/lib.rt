@@ -1,0 +1,12 @@
+//! A source in a tree of blocks grows by a leaf for which its levels have no room, over any blocks.
+//!
+//! Proved, over any blocks and any device: where nothing stands behind the source's end, an older top is copied, levels are put above it,
+//! and the leaf is current, with which the source ends then. All that `Bytes` asks of an owned leaf holds (`Owned`), of what changes, of
+//! what was prepared, and of how many blocks it takes; the source stands over the blocks, and where the device tells it has its bytes, and
+//! zeros behind them. No block that was there changes.
+#![tactic(auto)]
+
+mod levels;
+mod own;
+
+pub use own::own_raised;
