@@ -1,22 +1,23 @@
 -- What a move leaves, over its three calls: bytes of one leaf, the settling, bytes of one leaf.
-use Rattle.std.proofs.Common.{◌≡◌, ◌≢◌, ◌⊎◌, inl, inr, ⊎_elim, ℕ, List, [], ◌∷◌, length, refl, sym, ◌∙◌, ap, subst}
+use Rattle.std.proofs.Common.{◌≡◌, ◌≢◌, ◌⊎◌, inl, inr, ⊎_elim, ℕ, ◌≤◌, List, [], ◌∷◌, length, refl, sym, ◌∙◌, ap, subst, arith}
 use Rattle.std.proofs.lemmas.Bool.{cases_eq}
 use Rattle.fo_image.specs.declared.types.Label.{Label}
+use Rattle.fo_image.specs.declared.types.State.TheVariants.{Live}
 use Rattle.fo_image.specs.declared.types.Pointer.{Pointer}
 use Rattle.fo_image.specs.declared.types.Pointer.TheVariants.{Nil, Local, Score as Held}
-use Rattle.fo_crash.specs.declared.place.Place.{Place}
 use Rattle.fo_crash.specs.declared.slot.Slot.{Slot}
 use Rattle.fo_crash.specs.declared.slot.Slot.TheVariants.{Pointer as To}
 use Rattle.fo_crash.specs.Images.{Image, Reaches, to_block, target, local, walk}
-use Rattle.fo_crash.specs.Steps.{AddsNothing, AllAre, PutsBytes, cleared}
-use Rattle.fo_crash.proofs.Reach.{lost, reaches_joins, reaches_on, reaches_from}
+use Rattle.fo_crash.specs.Steps.{AddsNothing, AllAre, PutsBytes, Through, cleared}
+use Rattle.fo_crash.proofs.Reach.{lost, reaches_joins, reaches_on, reaches_from, same_walk}
 use Rattle.fo_crash.proofs.Covers.{bytes_reach}
-use Rattle.fo_ports.specs.State.{State, KeepsAll, Rests, StaysKnown, IsDoomed, IsRooted, KeepsSlot}
+use Rattle.fo_ports.specs.Blocks.{IsInner}
+use Rattle.fo_ports.specs.State.{State, KeepsAll, Rests, StaysKnown, IsDoomed, IsPointers, KeepsSlot, WasCleared}
 use Rattle.fo_dir_put.specs.Names.{LeavesRest}
-use Rattle.fo_dir_put.specs.Puts.{StaysCalm, IsOwnedRecords, IsInPlace}
+use Rattle.fo_dir_put.specs.Puts.{StaysCalm, IsOwnedRecords}
 use Rattle.fo_dir_put.proofs.Calms.{records_on, records_put, in_place_on}
 use Rattle.fo_dir_put.proofs.Leaves.{bytes_reached}
-use Rattle.fo_dir_move.specs.Moves.{AreReady, StaysOrCleared, StaysBut, StaysSpared, MovesAlone, IsSettledBut}
+use Rattle.fo_dir_move.specs.Moves.{AreReady, StaysBut, StaysSpared, MovesAlone, IsSettledBut}
 use Rattle.fo_dir_move.proofs.Settled.{SameMarks, undoomed, rooted_taken}
 
 -- one slot before
@@ -60,14 +61,36 @@ module _ {a m : State} {c : ℕ} (rests : Rests a m) (told : a.tells) (top : a.c
 
 -- ---- all three calls
 
+more_usable : {a b c d : ℕ} → d ≡ c → b ≤ c → b ≡ a → a ≤ d
+more_usable e le f = omega (arith, e, le, f)
+
 module _ {o a m n : State} {from to at : ℕ} {one two : List ℕ} (first_all : KeepsAll o a) (first_calm : StaysCalm o a) (first : PutsBytes from one o.now a.now) (rests : Rests a m) (known : (b : ℕ) → a.pinned b → StaysKnown a m b) (marks : SameMarks a m)
     (mid_all : KeepsAll a m) (last_calm : StaysCalm m n) (last : PutsBytes at two m.now n.now) (which : (at ≡ from) ⊎ (at ≡ to)) where
   other : (b : ℕ) → b ≢ from → b ≢ to → b ≢ at
   other b one_not two_not e = ⊎_elim (λ is. one_not (e ∙ is)) (λ is. two_not (e ∙ is)) which
 
-  slot_stays : (b j : ℕ) → KeepsSlot a m b j → StaysOrCleared o n b j
-  slot_stays b j (inl same) = inl (last.slots b j ∙ same.0 ∙ first.slots b j)
-  slot_stays b j (inr was) = inr ((first_calm.order.clearing b j was.0).1, last.slots b j ∙ was.1 ∙ ap cleared (first.slots b j))
+  slot_stays : (b j : ℕ) → KeepsSlot a m b j → KeepsSlot o n b j
+  slot_stays b j (inl same) = inl (last.slots b j ∙ same.0 ∙ first.slots b j, λ h. last_calm.order.goes_on b j (λ x. x) (same.1 (first_calm.order.goes_on b j (λ x. x) h)))
+  slot_stays b j (inr was) = inr ((first_calm.order.clearing b j was.0).1, λ h. was.1 (last_calm.order.clearing b j h).1, last.slots b j ∙ was.2 ∙ ap cleared (first.slots b j))
+
+  -- a slot that was cleared was so by the settling
+  cleared_between : (b j : ℕ) → WasCleared o n b j → WasCleared a m b j
+  cleared_between b j was = (
+    first_calm.order.goes_on b j (λ x. x) was.0,
+    λ h. was.1 (last_calm.order.goes_on b j (λ x. x) h),
+    sym (last.slots b j) ∙ was.2 ∙ ap cleared (sym (first.slots b j)),
+  )
+
+  -- a block that is to be closed, or no more live
+  closed_on : (b : ℕ) → m.covered b ⊎ ((m.label b).state ≢ Live) → n.covered b ⊎ ((n.label b).state ≢ Live)
+  closed_on b h = ⊎_elim (λ c. inl (last_calm.covered b c)) (λ dead. inr (λ live. dead (ap (λ (l : Label). l.state) (sym (last_calm.labels b)) ∙ live))) h
+
+  through_on : {s t : Slot} {b : ℕ} → t ≡ s → Through (IsPointers o) o.now s b → Through (IsPointers a) a.now t b
+  through_on {s = s} {t = t} {b = b} is r = subst (λ u. Through (IsPointers a) a.now u b) (sym is) (record {
+    path = r.path;
+    leads = ap target (same_walk a.now o.now first.slots r.path s) ∙ r.leads;
+    within = λ front i rest x split leads. subst (λ (l : Label). IsInner l.kind) (sym (first_calm.labels x)) (r.within front i rest x split (ap target (sym (same_walk a.now o.now first.slots front s)) ∙ leads));
+  })
 
   stays : (b : ℕ) → (m.now b).bytes ≡ (a.now b).bytes → ((j : ℕ) → KeepsSlot a m b j) → StaysBut from to b o n
   stays b bytes slots = record {
@@ -85,20 +108,23 @@ module _ {o a m n : State} {from to at : ℕ} {one two : List ℕ} (first_all : 
         places = λ rooted p stands. last_calm.places (mid_all.still_tells.1 was) b p s.uncovered (s.places (rooted_taken first_all first_calm first b rooted) p (first_calm.places told b p (λ h. spared (inl h)) stands));
       }
 
-  pub moves_alone : AddsNothing a.may_leave m.may_leave → LeavesRest from o.may_leave a.may_leave → LeavesRest at m.may_leave n.may_leave → (a.tells → (x : ℕ) → x ≢ 1 → Reaches a.now (to_block 1) x → a.covered x → ⊥)
+  pub moves_alone : AddsNothing a.may_leave m.may_leave → LeavesRest from o.may_leave a.may_leave → LeavesRest at m.may_leave n.may_leave → (a.covered 1 → ⊥) → (a.tells → (x : ℕ) → x ≢ 1 → Reaches a.now (to_block 1) x → a.covered x → ⊥)
       → (m.spare ≡ a.spare) × (m.pins_left ≡ a.pins_left) → MovesAlone from to o n
-  moves_alone adds first_rest last_rest live left = record {
+  moves_alone adds first_rest last_rest top live left = record {
     labels = λ b. last_calm.labels b ∙ (marks b).0 ∙ first_calm.labels b;
     marks = λ b. (λ h. (last_calm.marks b).0 ((marks b).1 ((first_calm.marks b).0 h)), λ h. (last_calm.marks b).1 ((marks b).2 ((first_calm.marks b).1 h)));
     known = λ b pinned. let k = known b ((first_calm.marks b).0 pinned) in stays b k.bytes k.slots;
     blocks = spared_stays;
-    linked = λ told top b spared r.
+    linked = λ told b spared r.
         let was = first_all.still_tells.1 told in
-        bytes_reached last (still_linked rests was (first_calm.uncovered 1 top) (live was) (undoomed first_calm first b spared) (bytes_reached first r));
+        bytes_reached last (still_linked rests was top (live was) (undoomed first_calm first b spared) (bytes_reached first r));
     order = λ b j h. (first_calm.order.clearing b j (rests.order b j (last_calm.order.clearing b j h).1)).1;
     apart = λ b h. last_calm.apart b ((rests.apart b).1 (first_calm.apart b h));
     instead = λ b x h. first_calm.instead b x ((rests.instead b x).0 (last_calm.instead b x h));
-    left = (last_calm.left.0 ∙ left.0 ∙ first_calm.left.0, last_calm.left.1 ∙ left.1 ∙ first_calm.left.1);
+    closes = λ told b h. closed_on b (rests.closes (first_all.still_tells.1 told) b (first_calm.covered b h));
+    leaves = λ told x j b was way r gone. closed_on b (rests.leaves (first_all.still_tells.1 told) x j b (cleared_between x j was) (through_on (first.slots x j) way) (bytes_reached first r) (λ h. gone (bytes_reached last h)));
+    left = (last_calm.left.0 ∙ left.0 ∙ first_calm.left.0, last_calm.left.1 ∙ left.1 ∙ first_calm.left.1, more_usable last_calm.left.2 rests.usable first_calm.left.2);
+    numbers = record { next = last_calm.numbers.next ∙ rests.numbers.next ∙ first_calm.numbers.next; grants = λ h. last_calm.numbers.grants (rests.numbers.grants (first_calm.numbers.grants h)) };
     images = λ image is.
         let h = last_rest.each image is in
         let k = first_rest.each h.0 (adds.each h.0 h.1) in

@@ -1,12 +1,12 @@
 -- A record that moves is never in two leaves.
-use Rattle.std.proofs.Common.{◌≡◌, ◌≢◌, ◌⊎◌, inl, inr, ⊎_elim, ℕ, List, Contains, refl, sym, ◌∙◌, ap, subst}
+use Rattle.std.proofs.Common.{◌≡◌, ◌≢◌, inl, inr, ⊎_elim, ℕ, List, Contains, ◌∙◌, subst}
 use Rattle.fo_image.specs.declared.record.Record.{Record}
 use Rattle.fo_good.specs.Reading.{leaf_records}
-use Rattle.fo_crash.specs.Images.{Image, SameImage}
+use Rattle.fo_crash.specs.Images.{Image}
 use Rattle.fo_crash.specs.Steps.{AddsNothing, AllAre}
-use Rattle.fo_dir_put.specs.Names.{Clash, AllApart, MayStand, LeavesRest, ShowsBut}
-use Rattle.fo_dir_put.proofs.Aparts.{clash_from, rest_but, others_apart, nothing_shows, shows_apart, apart_back}
-use Rattle.fo_dir_move.specs.Moves.{HasKeys, MovesKeys}
+use Rattle.fo_dir_put.specs.Names.{Clash, AllApart, MayStand, LeavesRest}
+use Rattle.fo_dir_put.proofs.Aparts.{clash_from, rest_but, others_apart, nothing_shows, shows_apart}
+use Rattle.fo_dir_move.specs.Moves.{MovesKeys}
 
 -- what is left may be put
 pub kept_stands : {b : ℕ} {from_bytes to_bytes without with : List ℕ} {images : Image → Type 0} → MovesKeys from_bytes to_bytes without with → MayStand b without from_bytes images

@@ -1,12 +1,10 @@
 -- Each record keeps its pair over a move.
-use Rattle.std.proofs.Common.{◌≡◌, ◌⊎◌, inl, inr, ⊎_elim, ℕ, ◌+◌, ◌*◌, ◌/◌, ◌%◌, List, Contains, sym, ◌∙◌, subst}
-use Rattle.fo_image.specs.declared.record.Record.{Record}
-use Rattle.fo_good.specs.Reading.{leaf_records}
+use Rattle.std.proofs.Common.{◌≡◌, ◌⊎◌, inl, inr, ⊎_elim, ℕ, ◌+◌, ◌*◌, ◌%◌, List}
 use Rattle.fo_crash.specs.Images.{Image}
 use Rattle.fo_crash.specs.Steps.{AddsNothing, PutsBytes}
 use Rattle.fo_ports.specs.State.{State, KeepsAll, Rests, StaysKnown, KeepsSlot, IsDoomed}
 use Rattle.fo_dir_put.specs.Puts.{StaysCalm}
-use Rattle.fo_dir_put.specs.Paired.{HasBoth, AllPaired, StoodAs, ArePaired}
+use Rattle.fo_dir_put.specs.Paired.{AllPaired, ArePaired}
 use Rattle.fo_dir_put.proofs.Paired.{both_on, stood_on}
 use Rattle.fo_dir_move.specs.Moves.{BacksBoth}
 use Rattle.fo_dir_move.proofs.Settled.{undoomed}

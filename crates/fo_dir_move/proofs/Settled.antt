@@ -1,17 +1,17 @@
 -- What a settling between the two halves of a move keeps, and what each half adds.
-use Rattle.std.proofs.Common.{◌≡◌, ◌≢◌, ◌⊎◌, inl, inr, ⊎_elim, ℕ, ◌+◌, ◌<◌, List, length, refl, sym, ◌∙◌, ap, subst}
+use Rattle.std.proofs.Common.{◌≡◌, ◌≢◌, inl, inr, ⊎_elim, ℕ, List, length, refl, sym, ◌∙◌, ap, subst}
 use Rattle.fo_image.specs.declared.types.Label.{Label}
-use Rattle.fo_crash.specs.Images.{Image, Reaches, to_block}
+use Rattle.fo_crash.specs.Images.{Image, Reaches}
 use Rattle.fo_crash.specs.Steps.{AddsNothing, PutsBytes}
 use Rattle.fo_crash.specs.declared.slot.Slot.{Slot}
-use Rattle.fo_crash.specs.Names.{IsInUse, InAll}
+use Rattle.fo_crash.specs.Names.{IsInUse}
 use Rattle.fo_crash.proofs.Covers.{bytes_reach}
-use Rattle.fo_ports.specs.State.{State, KeepsAll, Rests, StaysKnown, IsDoomed, IsRooted, KeepsSlot}
+use Rattle.fo_ports.specs.State.{State, KeepsAll, Rests, StaysKnown, IsDoomed, IsRooted}
 use Rattle.fo_dir_put.specs.Names.{ListsIn, AllFit, AreBacked}
-use Rattle.fo_dir_put.specs.Puts.{StaysCalm, IsOwnedRecords, IsHeldEntries, IsInPlace}
+use Rattle.fo_dir_put.specs.Puts.{StaysCalm, IsOwnedRecords, IsInPlace}
 use Rattle.fo_dir_put.proofs.Calms.{records_on, records_put, in_place_on}
 use Rattle.fo_dir_put.proofs.Leaves.{bytes_reached, still_all}
-use Rattle.fo_dir_move.specs.Moves.{MaySettle, AreReady, KeepsEntries, HasLeaves, Backs}
+use Rattle.fo_dir_move.specs.Moves.{MaySettle, AreReady, KeepsEntries, Backs}
 
 -- ---- the settling
 

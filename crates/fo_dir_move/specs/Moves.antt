@@ -1,14 +1,15 @@
 -- What a move of a record asks of the settling in between, and what it leaves.
-use Rattle.std.specs.Prelude.{◌≡◌, ◌≢◌, ◌⊎◌, ◌+◌, ◌/◌, ◌<◌, ℕ, List}
+use Rattle.std.specs.Prelude.{◌≡◌, ◌≢◌, ◌⊎◌, ◌/◌, ◌≤◌, ℕ, List}
 use Rattle.std.specs.List.{Contains}
 use Rattle.fo_image.specs.declared.record.Record.{Record}
+use Rattle.fo_image.specs.declared.types.State.TheVariants.{Live}
 use Rattle.fo_good.specs.Reading.{leaf_records}
 use Rattle.fo_crash.specs.declared.place.Place.{Place}
 use Rattle.fo_crash.specs.Images.{Image, Reaches, to_block}
-use Rattle.fo_crash.specs.Steps.{cleared}
+use Rattle.fo_crash.specs.Steps.{Through}
 use Rattle.fo_crash.specs.Names.{IsInUse}
-use Rattle.fo_ports.specs.State.{State, IsDoomed, IsRooted}
-use Rattle.fo_dir_put.specs.Names.{ListsIn, AllFit, AreKept, AllApart, Clash}
+use Rattle.fo_ports.specs.State.{State, IsDoomed, IsRooted, IsPointers, KeepsSlot, WasCleared, KeepsNumbers}
+use Rattle.fo_dir_put.specs.Names.{ListsIn, AreKept, Clash}
 use Rattle.fo_dir_put.specs.Paired.{HasBoth, StoodAs, AllStood}
 use Rattle.fo_dir_put.specs.Puts.{IsHeldEntries, IsOwnedRecords, IsInPlace}
 
@@ -55,14 +56,10 @@ pub record MovesKeys (from_bytes to_bytes without with : List ℕ) : Type 0 wher
   pub kept : (r : Record) → Contains (leaf_records without) r → HasKeys from_bytes r
   pub moved : (r : Record) → Contains (leaf_records with) r → HasKeys to_bytes r ⊎ (HasKeys from_bytes r × ((q : Record) → Contains (leaf_records without) q → Clash r q → ⊥))
 
--- A slot stays; or it waited to be cleared, and is.
-abbrev pub StaysOrCleared : State → State → ℕ → ℕ → Type 0
-StaysOrCleared old new b j = ((new.now b).slot j ≡ (old.now b).slot j) ⊎ (old.clearing b j × ((new.now b).slot j ≡ cleared ((old.now b).slot j)))
-
--- Memory keeps a block, but for the bytes of the two leaves and for slots that waited.
+-- Memory keeps a block, but for the bytes of the two leaves; each slot stays, and waits on where it waited, or it waited and was cleared.
 pub record StaysBut (from to b : ℕ) (old new : State) : Type 0 where
   pub bytes : b ≢ from → b ≢ to → (new.now b).bytes ≡ (old.now b).bytes
-  pub slots : (j : ℕ) → StaysOrCleared old new b j
+  pub slots : (j : ℕ) → KeepsSlot old new b j
 
 -- The same of a block that is not doomed; it is not to be closed, and keeps its place where it hangs in memory.
 pub record StaysSpared (from to b : ℕ) (old new : State) : Type 0 where
@@ -71,17 +68,21 @@ pub record StaysSpared (from to b : ℕ) (old new : State) : Type 0 where
   pub places : IsRooted old b → (p : Place) → old.stands b p → new.stands b p
 
 -- A move leaves all but the bytes of its two leaves: blocks that are pinned, and where the device tells all that no removal and no
--- slot that waits takes out of the tree. Slots that waited may be cleared. Each image is one of before but for these bytes.
+-- slot that waits takes out of the tree. Slots that waited may be cleared; what was to be closed, or hung from such a slot through blocks
+-- of pointers and hangs from block 1 no more, is to be closed, until it is. Each image is one of before but for these bytes.
 pub record MovesAlone (from to : ℕ) (old new : State) : Type 0 where
   pub labels : (b : ℕ) → new.label b ≡ old.label b
   pub marks : (b : ℕ) → (old.pinned b → new.pinned b) × (old.sealed b → new.sealed b)
   pub known : (b : ℕ) → old.pinned b → StaysBut from to b old new
   pub blocks : old.tells → (b : ℕ) → (IsDoomed old b → ⊥) → StaysSpared from to b old new
-  pub linked : old.tells → (old.covered 1 → ⊥) → (b : ℕ) → (IsDoomed old b → ⊥) → Reaches old.now (to_block 1) b → Reaches new.now (to_block 1) b
+  pub linked : old.tells → (b : ℕ) → (IsDoomed old b → ⊥) → Reaches old.now (to_block 1) b → Reaches new.now (to_block 1) b
   pub order : (b j : ℕ) → new.clearing b j → old.clearing b j
   pub apart : (b : ℕ) → old.apart b → new.apart b
   pub instead : (b x : ℕ) → new.instead b x → old.instead b x
-  pub left : (new.spare ≡ old.spare) × (new.pins_left ≡ old.pins_left)
+  pub closes : old.tells → (b : ℕ) → old.covered b → new.covered b ⊎ ((new.label b).state ≢ Live)
+  pub leaves : old.tells → (at j b : ℕ) → WasCleared old new at j → Through (IsPointers old) old.now ((old.now at).slot j) b → Reaches old.now (to_block 1) b → (Reaches new.now (to_block 1) b → ⊥) → new.covered b ⊎ ((new.label b).state ≢ Live)
+  pub left : (new.spare ≡ old.spare) × (new.pins_left ≡ old.pins_left) × (old.usable ≤ new.usable)
+  pub numbers : KeepsNumbers old new
   pub images : (image : Image) → new.may_leave image → (other : Image) × old.may_leave other × ((b : ℕ) → b ≢ from → b ≢ to → (image b).bytes ≡ (other b).bytes) × ((b j : ℕ) → (image b).slot j ≡ (other b).slot j)
 
 -- All is settled but the bytes of one leaf: every image has the rest as memory has it, no slot waits, and all blocks of the tree are in place.

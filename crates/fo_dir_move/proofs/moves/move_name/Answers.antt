@@ -1,4 +1,4 @@
-use Rattle.std.proofs.Common.{◌≡◌, ◌≢◌, ◌∙◌, ℕ, List, Contains, inl, inr, ⊎_elim, refl, sym, subst}
+use Rattle.std.proofs.Common.{◌≡◌, ◌≢◌, ◌∙◌, ℕ, Contains, inl, inr, ⊎_elim, refl, sym, subst}
 use Rattle.std.proofs.lemmas.Bool.{cases_eq}
 use Rattle.fo_crash.specs.Images.{Image}
 use Rattle.fo_dir_put.specs.Differ.{AreDistinct, AllDiffer}
@@ -101,7 +101,7 @@ returns-in-Ok-clause-alone g c =
     let s = c.settle_between.ensures in
     moves_alone (g.met.B.Blocks.keeps_all o a c.change_leaf.ensures.keeps) c.change_leaf.ensures.calm c.change_leaf.ensures.puts s.rests s.known s.blocks
     (g.met.B.Blocks.keeps_all a m s.keeps) c.put_record.ensures.calm c.put_record.ensures.puts (inr refl)
-    s.images c.change_leaf.ensures.others c.put_record.ensures.others (λ told x ne r. (g.met.B.Blocks.live a x told ne r).2) s.left
+    s.images c.change_leaf.ensures.others c.put_record.ensures.others (λ h. g.met.B.Blocks.one_stays a h) (λ told x ne r. (g.met.B.Blocks.live a x told ne r).2) s.left
 
 pub returns-in-Ok-clause-ready : goal.returns-in-Ok-clause-ready
 returns-in-Ok-clause-ready g c =
@@ -119,7 +119,7 @@ returns-in-Err-clause-alone g c =
     let s = c.settle_between.ensures in
     moves_alone (g.met.B.Blocks.keeps_all o a c.change_leaf.ensures.keeps) c.change_leaf.ensures.calm c.change_leaf.ensures.puts s.rests s.known s.blocks
     (g.met.B.Blocks.keeps_all a m s.keeps) c.put_record-in-Err.ensures.calm c.put_record-in-Err.ensures.puts (inl refl)
-    s.images c.change_leaf.ensures.others c.put_record-in-Err.ensures.others (λ told x ne r. (g.met.B.Blocks.live a x told ne r).2) s.left
+    s.images c.change_leaf.ensures.others c.put_record-in-Err.ensures.others (λ h. g.met.B.Blocks.one_stays a h) (λ told x ne r. (g.met.B.Blocks.live a x told ne r).2) s.left
 
 pub returns-in-Err-clause-ready : goal.returns-in-Err-clause-ready
 returns-in-Err-clause-ready g c =
