@@ -1,10 +1,9 @@
 -- The records of a directory stay where one of its leaves is owned.
-use Rattle.std.proofs.Common.{◌≡◌, ◌≢◌, ◌⊎◌, inl, inr, ⊎_elim, ◌+◌, ◌*◌, ◌/◌, ◌%◌, ◌<◌, ◌≤◌, ℕ, zero, suc, List, [], ◌++◌, max, length, Option, Some, None, MatchOption, refl, sym, ◌∙◌, ap, subst, arith, add-one}
-use Rattle.std.proofs.lemmas.Bool.{cases_eq, cases_lt}
+use Rattle.std.proofs.Common.{◌≡◌, ◌⊎◌, inl, inr, ⊎_elim, ◌+◌, ◌*◌, ◌%◌, ◌<◌, ◌≤◌, ℕ, List, [], ◌++◌, max, Option, Some, None, MatchOption, refl, sym, ◌∙◌, ap, subst, arith}
+use Rattle.std.proofs.lemmas.Bool.{cases_lt}
 use Rattle.std.specs.Prelude.{replicate}
 use Rattle.std.proofs.lemmas.List.{append-nil, replicate-append-replicate}
 use Rattle.fo_image.specs.declared.record.Record.{Record}
-use Rattle.fo_image.specs.declared.types.Kind.{Kind}
 use Rattle.fo_image.specs.declared.types.Kind.TheVariants.{Data, Root}
 use Rattle.fo_image.specs.declared.types.State.TheVariants.{Live}
 use Rattle.fo_image.specs.Field.{Two, number, zeros}
@@ -12,7 +11,7 @@ use Rattle.fo_meta.specs.Leaf.{SpellsLeaf}
 use Rattle.fo_crash.specs.Images.{Image, SameContent}
 use Rattle.fo_ports.specs.Blocks.{blank, zero_bytes}
 use Rattle.fo_ports.specs.State.{State}
-use Rattle.fo_ports.specs.Sources.{Form, Leaves, Changes, Owned, Renewed, StaysLeaf, MayZero, Touched, Made, IsPlain, EndsWithin, IsCut}
+use Rattle.fo_ports.specs.Sources.{Form, Leaves, Owned, Renewed, MayZero, Touched, IsPlain, EndsWithin, IsCut}
 use Rattle.fo_dir_read.specs.Names.{OfRecords, HasRecords, AreRecords, leaf_count}
 use Rattle.fo_dir_read.proofs.Rows.{rows_more}
 

@@ -1,7 +1,7 @@
 //! A leaf of entries is owned.
 ghost use Rattle.std.specs.Prelude.{◌≡◌, ◌+◌, ◌*◌, ◌≤◌, ℕ, max, Some};
 ghost use Rattle.fo_image.specs.declared.types.Entry.{Entry};
-ghost use Rattle.fo_ports.specs.Sources.{Grows, Changes, MayZero, most_to_own, most_cleared};
+ghost use Rattle.fo_ports.specs.Sources.{Owned, Grows, Changes, MayZero, most_to_own, most_cleared};
 ghost use Rattle.fo_dir_read.specs.Pairs.{OfEntries, IsPair, IsFree, AreTaken};
 ghost use Rattle.fo_dir_put.specs.Puts.{IsHeldEntries};
 ghost use Rattle.fo_dir_ready.specs.Entries.{SameEntries};
@@ -20,6 +20,7 @@ fn own_kept<B: Blocks, S: Bytes<B>>(entries: &mut S, on: &mut B, rank: u32, i: u
     ensures at { (S.leaves entries.new on.new).at i ≡ Some result }
     ensures size { S.size entries.new ≡ max (S.size entries.old) (8192 * (i + 1)) }
     ensures same { (B.state on.old).tells → (j : ℕ) → SameEntries (B.state on.old) (B.state on.new) (S.leaves entries.old on.old) (S.leaves entries.new on.new) j }
+    ensures owned_leaf { Owned (S.form entries.old) (S.size entries.old) i result (B.state on.old) (B.state on.new) (S.leaves entries.old on.old) (S.leaves entries.new on.new) }
     ensures over { S.is_over entries.new on.new × (S.form entries.new ≡ S.form entries.old) }
     ensures grows { Grows (B.state on.old) (B.state on.new) (S.leaves entries.old on.old) (S.leaves entries.new on.new) }
     ensures current { (S.leaves entries.new on.new).current }
@@ -45,6 +46,7 @@ pub fn own_entries<B: Blocks, S: Bytes<B>>(entries: &mut S, on: &mut B, rank: u3
     ensures pairs { (B.state on.old).tells → (k : ℕ) (first second : Entry) → IsPair (B.state on.old).now (S.leaves entries.old on.old) k first second → IsPair (B.state on.new).now (S.leaves entries.new on.new) k first second }
     ensures free { (B.state on.old).tells → (k : ℕ) → IsFree (B.state on.old) (S.leaves entries.old on.old) (S.size entries.old) k → IsFree (B.state on.new) (S.leaves entries.new on.new) (S.size entries.new) k }
     ensures taken { (B.state on.old).tells → (k : ℕ) → AreTaken (B.state on.old) (S.leaves entries.old on.old) k → AreTaken (B.state on.new) (S.leaves entries.new on.new) k }
+    ensures owned_leaf { Owned (S.form entries.old) (S.size entries.old) i result (B.state on.old) (B.state on.new) (S.leaves entries.old on.old) (S.leaves entries.new on.new) }
     ensures over { S.is_over entries.new on.new × (S.form entries.new ≡ S.form entries.old) }
     ensures grows { Grows (B.state on.old) (B.state on.new) (S.leaves entries.old on.old) (S.leaves entries.new on.new) }
     ensures current { (S.leaves entries.new on.new).current }

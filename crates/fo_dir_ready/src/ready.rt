@@ -5,11 +5,11 @@ ghost use Rattle.fo_image.specs.declared.record.Record.{Record};
 ghost use Rattle.fo_image.specs.declared.types.Entry.{Entry};
 ghost use Rattle.fo_ports.specs.Causes.{Caused};
 ghost use Rattle.fo_ports.specs.State.{Looks};
-ghost use Rattle.fo_ports.specs.Sources.{SameLeaves, Lacks};
+ghost use Rattle.fo_ports.specs.Sources.{Grows, SameLeaves, Lacks, most_cleared, most_to_own};
 ghost use Rattle.fo_dir_read.specs.Names.{OfRecords, AreRecords, leaf_count};
 ghost use Rattle.fo_dir_read.specs.Pairs.{OfEntries, IsPair, IsFree, AreTaken};
 ghost use Rattle.fo_dir_put.specs.Puts.{IsOwnedRecords, IsHeldEntries};
-ghost use Rattle.fo_dir_ready.specs.Owning.{MayReady, IsLinked};
+ghost use Rattle.fo_dir_ready.specs.Owning.{MayReady, IsLinked, Readies};
 
 use crate::entries::own_entries;
 use crate::records::own_records;
@@ -40,6 +40,11 @@ pub fn ready_records<B: Blocks, S: Bytes<B>>(
     ensures size { OnOk result (S.size records.new ≡ max (S.size records.old) (8192 * (i + 1))) }
     ensures nothing { OnErr result (Looks (B.state on.old) (B.state on.new) × (S.size records.new ≡ S.size records.old) × SameLeaves (B.state on.old).tells (S.leaves records.old on.old) (S.leaves records.new on.new)) }
     ensures rows { OnOk result ((B.state on.old).tells → (rs : List Record) → AreRecords (B.state on.old).now (S.leaves records.old on.old) (leaf_count (S.size records.old)) rs → AreRecords (B.state on.new).now (S.leaves records.new on.new) (leaf_count (S.size records.new)) rs) }
+    ensures grows { OnOk result (Grows (B.state on.old) (B.state on.new) (S.leaves records.old on.old) (S.leaves records.new on.new)) }
+    ensures current { OnOk result (S.leaves records.new on.new).current }
+    ensures spare { OnOk result ((B.state on.old).spare ≤ (B.state on.new).spare + most_to_own (S.size records.old) i) }
+    ensures room { OnOk result ((B.state on.old).room ≤ (B.state on.new).room + most_cleared (S.size records.old) (8192 * (i + 1))) }
+    ensures changes { IfOk result (λ leaf. (s : S) × (b : B) × S.is_over s b × B.keeps on.old b × B.keeps b on.new × Readies (S.form records.old) (S.size records.old) i leaf.at (B.state on.old) (B.state b) (B.state on.new) (S.leaves records.old on.old) (S.leaves s b) (S.leaves records.new on.new)) }
     ensures over { S.is_over records.new on.new × (S.form records.new ≡ S.form records.old) }
     ensures cause { IfErr result (Caused ⊥ (λ b. (((B.state on.old).tells → ⊥) × (B.state on.old).is_block b) ⊎ ((b ≡ 1) × ((B.state on.old).tells → Lacks (S.leaves records.old on.old).named (B.state on.old).held))) (Rose (B.state on.old).faults (B.state on.new).faults) (Rose (B.state on.old).arena_faults (B.state on.new).arena_faults)) }
     ensures keeps { B.keeps on.old on.new }
@@ -73,6 +78,11 @@ pub fn ready_entries<B: Blocks, S: Bytes<B>>(
     ensures pairs { OnOk result ((B.state on.old).tells → (k : ℕ) (first second : Entry) → IsPair (B.state on.old).now (S.leaves entries.old on.old) k first second → IsPair (B.state on.new).now (S.leaves entries.new on.new) k first second) }
     ensures free { OnOk result ((B.state on.old).tells → (k : ℕ) → IsFree (B.state on.old) (S.leaves entries.old on.old) (S.size entries.old) k → IsFree (B.state on.new) (S.leaves entries.new on.new) (S.size entries.new) k) }
     ensures taken { OnOk result ((B.state on.old).tells → (k : ℕ) → AreTaken (B.state on.old) (S.leaves entries.old on.old) k → AreTaken (B.state on.new) (S.leaves entries.new on.new) k) }
+    ensures grows { OnOk result (Grows (B.state on.old) (B.state on.new) (S.leaves entries.old on.old) (S.leaves entries.new on.new)) }
+    ensures current { OnOk result (S.leaves entries.new on.new).current }
+    ensures spare { OnOk result ((B.state on.old).spare ≤ (B.state on.new).spare + most_to_own (S.size entries.old) i) }
+    ensures room { OnOk result ((B.state on.old).room ≤ (B.state on.new).room + most_cleared (S.size entries.old) (8192 * (i + 1))) }
+    ensures changes { IfOk result (λ leaf. (s : S) × (b : B) × S.is_over s b × B.keeps on.old b × B.keeps b on.new × Readies (S.form entries.old) (S.size entries.old) i leaf.at (B.state on.old) (B.state b) (B.state on.new) (S.leaves entries.old on.old) (S.leaves s b) (S.leaves entries.new on.new)) }
     ensures over { S.is_over entries.new on.new × (S.form entries.new ≡ S.form entries.old) }
     ensures cause { IfErr result (Caused ⊥ (λ b. (((B.state on.old).tells → ⊥) × (B.state on.old).is_block b) ⊎ ((b ≡ 1) × ((B.state on.old).tells → Lacks (S.leaves entries.old on.old).named (B.state on.old).held))) (Rose (B.state on.old).faults (B.state on.new).faults) (Rose (B.state on.old).arena_faults (B.state on.new).arena_faults)) }
     ensures keeps { B.keeps on.old on.new }

@@ -1,7 +1,7 @@
 //! A leaf of records is owned.
 ghost use Rattle.std.specs.Prelude.{◌≡◌, ◌+◌, ◌*◌, ◌≤◌, ℕ, List, max, Some};
 ghost use Rattle.fo_image.specs.declared.record.Record.{Record};
-ghost use Rattle.fo_ports.specs.Sources.{Grows, Changes, MayZero, most_to_own, most_cleared};
+ghost use Rattle.fo_ports.specs.Sources.{Owned, Grows, Changes, MayZero, most_to_own, most_cleared};
 ghost use Rattle.fo_dir_read.specs.Names.{OfRecords, AreRecords, leaf_count};
 ghost use Rattle.fo_dir_put.specs.Puts.{IsOwnedRecords};
 ghost use Rattle.fo_dir_ready.specs.Owning.{MayOwn};
@@ -17,6 +17,7 @@ pub fn own_records<B: Blocks, S: Bytes<B>>(records: &mut S, on: &mut B, rank: u3
     ensures at { (S.leaves records.new on.new).at i ≡ Some result }
     ensures size { S.size records.new ≡ max (S.size records.old) (8192 * (i + 1)) }
     ensures rows { (B.state on.old).tells → (rs : List Record) → AreRecords (B.state on.old).now (S.leaves records.old on.old) (leaf_count (S.size records.old)) rs → AreRecords (B.state on.new).now (S.leaves records.new on.new) (leaf_count (S.size records.new)) rs }
+    ensures owned_leaf { Owned (S.form records.old) (S.size records.old) i result (B.state on.old) (B.state on.new) (S.leaves records.old on.old) (S.leaves records.new on.new) }
     ensures over { S.is_over records.new on.new × (S.form records.new ≡ S.form records.old) }
     ensures grows { Grows (B.state on.old) (B.state on.new) (S.leaves records.old on.old) (S.leaves records.new on.new) }
     ensures current { (S.leaves records.new on.new).current }

@@ -1,4 +1,4 @@
-use Rattle.std.proofs.Common.{◌/◌, sym, ◌∙◌}
+use Rattle.std.proofs.Common.{◌/◌}
 use Rattle.fo_dir_ready.proofs.Rowed.{ends_before}
 use Rattle.fo_dir_ready.proofs.Paired.{pair_on, free_on, taken_on}
 use Rattle.fo_dir_ready.proofs.entries.own_entries.Goals as goal

@@ -1,12 +1,11 @@
-use Rattle.std.proofs.Common.{ℕ, ◌≡◌, ◌+◌, ◌*◌, ◌/◌, ◌<◌, Option, None, sym, ap, ◌∙◌, subst}
+use Rattle.std.proofs.Common.{◌≤◌, ◌+◌, ◌*◌, ◌/◌, ◌<◌, sym, ap, ◌∙◌, subst}
 use Rattle.fo_crash.specs.Images.{target, to_block}
 use Rattle.fo_crash.proofs.Reach.{same_walk}
-use Rattle.fo_ports.specs.Sources.{Form, depth_for}
-use Rattle.fo_dir_read.specs.Names.{leaf_count}
-use Rattle.fo_dir_read.specs.Pairs.{OfEntries, IsFree}
+use Rattle.fo_ports.specs.Sources.{Form, depth_for, most_cleared, most_to_own}
+use Rattle.fo_dir_read.specs.Pairs.{OfEntries}
 use Rattle.fo_dir_ready.proofs.Rowed.{ends_before}
 use Rattle.fo_dir_ready.proofs.Paired.{entries_looked, pair_on, free_on, taken_on}
-use Rattle.fo_dir_ready.proofs.Later.{own_later}
+use Rattle.fo_dir_ready.proofs.Later.{own_later, grows_later, readied}
 use Rattle.fo_dir_ready.proofs.ready.ready_entries.Goals as goal
 
 pub own_entries-at-requires-clause-form : goal.own_entries-at-requires-clause-form
@@ -40,3 +39,31 @@ pub returns-in-Ok-clause-taken : goal.returns-in-Ok-clause-taken
 returns-in-Ok-clause-taken g c = λ told k taken.
     let now = (g.met.B.Blocks.keeps_all c.args.on.now c.prepare.new.on c.prepare.ensures.looks.1).still_tells.1 told in
     c.own_entries-at.ensures.taken now k (taken_on (g.met.B.Blocks.clears_used c.args.on.now told) (λ j. entries_looked told c.prepare.ensures.looks.0 c.prepare.ensures.same.2 j) taken)
+
+pub returns-in-Ok-clause-grows : goal.returns-in-Ok-clause-grows
+returns-in-Ok-clause-grows g c =
+    let k = c.prepare.ensures in
+    grows_later (g.met.B.Blocks.keeps_all c.args.on.now c.prepare.new.on k.looks.1).still_tells.1 k.looks.0 k.same.2 c.own_entries-at.ensures.grows
+
+pub returns-in-Ok-clause-spare : goal.returns-in-Ok-clause-spare
+returns-in-Ok-clause-spare g c =
+    let k = c.prepare.ensures in
+    let b = g.B.Blocks.state c.own_entries-at.new.on in
+    let left : (g.B.Blocks.state c.prepare.new.on).spare ≤ b.spare + most_to_own (g.S.Bytes.size c.args.entries.now) c.args.i = subst (λ n. (g.B.Blocks.state c.prepare.new.on).spare ≤ b.spare + most_to_own n c.args.i) k.same.1 c.own_entries-at.ensures.spare in
+    subst (λ n. n ≤ b.spare + most_to_own (g.S.Bytes.size c.args.entries.now) c.args.i) k.looks.0.room.0 left
+
+pub returns-in-Ok-clause-room : goal.returns-in-Ok-clause-room
+returns-in-Ok-clause-room g c =
+    let k = c.prepare.ensures in
+    let b = g.B.Blocks.state c.own_entries-at.new.on in
+    let end = 8192 * (c.args.i + 1) in
+    let left : (g.B.Blocks.state c.prepare.new.on).room ≤ b.room + most_cleared (g.S.Bytes.size c.args.entries.now) end = subst (λ n. (g.B.Blocks.state c.prepare.new.on).room ≤ b.room + most_cleared n end) k.same.1 c.own_entries-at.ensures.room in
+    subst (λ n. n ≤ b.room + most_cleared (g.S.Bytes.size c.args.entries.now) end) k.looks.0.room.1 left
+
+pub returns-in-Ok-clause-changes : goal.returns-in-Ok-clause-changes
+returns-in-Ok-clause-changes g c =
+    let k = c.prepare.ensures in
+    let o = c.own_entries-at.ensures in
+    let s = c.prepare.new.self in
+    let m = c.prepare.new.on in
+    (s, m, k.over, k.looks.1, o.keeps, readied k.same.0 k.same.1 k.looks.0 k.same.2 o.owned_leaf o.grows o.changes)

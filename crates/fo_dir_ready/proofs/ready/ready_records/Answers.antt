@@ -1,9 +1,8 @@
-use Rattle.std.proofs.Common.{ℕ, List, ◌≡◌, sym, subst}
-use Rattle.fo_image.specs.declared.record.Record.{Record}
-use Rattle.fo_ports.specs.Sources.{Form}
+use Rattle.std.proofs.Common.{◌≤◌, ◌*◌, ◌+◌, sym, subst}
+use Rattle.fo_ports.specs.Sources.{Form, most_cleared, most_to_own}
 use Rattle.fo_dir_read.specs.Names.{OfRecords, AreRecords, leaf_count}
 use Rattle.fo_dir_read.proofs.Rows.{rows_on}
-use Rattle.fo_dir_ready.proofs.Later.{own_later}
+use Rattle.fo_dir_ready.proofs.Later.{own_later, grows_later, readied}
 use Rattle.fo_dir_ready.proofs.ready.ready_records.Goals as goal
 
 pub own_records-at-requires-clause-form : goal.own_records-at-requires-clause-form
@@ -21,3 +20,31 @@ returns-in-Ok-clause-rows g c = λ told rs are.
     let same = c.prepare.ensures.same.2 in
     let there = rows_on (c.prepare.ensures.looks.0.memory told) (λ j. (same.leaves told j).0) are in
     c.own_records-at.ensures.rows now rs (subst (λ n. AreRecords (g.B.Blocks.state p).now (g.S.Bytes.leaves c.prepare.new.self p) (leaf_count n) rs) (sym size) there)
+
+pub returns-in-Ok-clause-grows : goal.returns-in-Ok-clause-grows
+returns-in-Ok-clause-grows g c =
+    let k = c.prepare.ensures in
+    grows_later (g.met.B.Blocks.keeps_all c.args.on.now c.prepare.new.on k.looks.1).still_tells.1 k.looks.0 k.same.2 c.own_records-at.ensures.grows
+
+pub returns-in-Ok-clause-spare : goal.returns-in-Ok-clause-spare
+returns-in-Ok-clause-spare g c =
+    let k = c.prepare.ensures in
+    let b = g.B.Blocks.state c.own_records-at.new.on in
+    let left : (g.B.Blocks.state c.prepare.new.on).spare ≤ b.spare + most_to_own (g.S.Bytes.size c.args.records.now) c.args.i = subst (λ n. (g.B.Blocks.state c.prepare.new.on).spare ≤ b.spare + most_to_own n c.args.i) k.same.1 c.own_records-at.ensures.spare in
+    subst (λ n. n ≤ b.spare + most_to_own (g.S.Bytes.size c.args.records.now) c.args.i) k.looks.0.room.0 left
+
+pub returns-in-Ok-clause-room : goal.returns-in-Ok-clause-room
+returns-in-Ok-clause-room g c =
+    let k = c.prepare.ensures in
+    let b = g.B.Blocks.state c.own_records-at.new.on in
+    let end = 8192 * (c.args.i + 1) in
+    let left : (g.B.Blocks.state c.prepare.new.on).room ≤ b.room + most_cleared (g.S.Bytes.size c.args.records.now) end = subst (λ n. (g.B.Blocks.state c.prepare.new.on).room ≤ b.room + most_cleared n end) k.same.1 c.own_records-at.ensures.room in
+    subst (λ n. n ≤ b.room + most_cleared (g.S.Bytes.size c.args.records.now) end) k.looks.0.room.1 left
+
+pub returns-in-Ok-clause-changes : goal.returns-in-Ok-clause-changes
+returns-in-Ok-clause-changes g c =
+    let k = c.prepare.ensures in
+    let o = c.own_records-at.ensures in
+    let s = c.prepare.new.self in
+    let m = c.prepare.new.on in
+    (s, m, k.over, k.looks.1, o.keeps, readied k.same.0 k.same.1 k.looks.0 k.same.2 o.owned_leaf o.grows o.changes)
