@@ -1,5 +1,5 @@
 -- What a move of a record asks of the settling in between, and what it leaves.
-use Rattle.std.specs.Prelude.{◌≡◌, ◌≢◌, ◌⊎◌, ◌/◌, ◌≤◌, ℕ, List}
+use Rattle.std.specs.Prelude.{◌≡◌, ◌≢◌, ◌⊎◌, ◌+◌, ◌*◌, ◌/◌, ◌%◌, ◌≤◌, ℕ, List}
 use Rattle.std.specs.List.{Contains}
 use Rattle.fo_image.specs.declared.record.Record.{Record}
 use Rattle.fo_image.specs.declared.types.State.TheVariants.{Live}
@@ -92,15 +92,15 @@ pub record IsSettledBut (leaf : ℕ) (s : State) : Type 0 where
   pub none : (b j : ℕ) → s.clearing b j → ⊥
   pub sealed : s.tells → (b : ℕ) → Reaches s.now (to_block 1) b → s.sealed b
 
--- Each record of these bytes stood in those, or has its pair in memory, in the leaf of entries that is waited for.
+-- Each record of these bytes stood in those, or has its pair in memory, in the leaf of entries that is waited for, where neither entry waits
+-- to be cleared.
 pub record BacksBoth (n e entries : ℕ) (bytes others : List ℕ) (s : State) : Type 0 where
-  pub each : (r : Record) → Contains (leaf_records bytes) r → r.slot / 102 ≡ n → StoodAs others r ⊎ ((e ≡ entries) × HasBoth entries s.now r)
+  pub each : (r : Record) → Contains (leaf_records bytes) r → r.slot / 102 ≡ n → StoodAs others r ⊎ ((e ≡ entries) × HasBoth entries s.now r × (s.clearing entries (2 * (r.slot % 102)) → ⊥) × (s.clearing entries (2 * (r.slot % 102) + 1) → ⊥))
 
--- What is left in the first leaf stood there; what is put into the other, and what is put back, stood there or has its pair. In the leaf
--- of entries nothing waits to be cleared, and the settling leaves it.
+-- What is left in the first leaf stood there; what is put into the other, and what is put back, stood there or has its pair. The settling
+-- leaves the leaf of entries, but for slots that wait to be cleared.
 pub record MovesPaired (n a from to e entries : ℕ) (without with : List ℕ) (s : State) : Type 0 where
   pub kept : a ≡ from → AllStood n without ((s.now from).bytes)
   pub put : a ≡ to → BacksBoth n e entries with ((s.now to).bytes) s
   pub back : a ≡ from → BacksBoth n e entries ((s.now from).bytes) without s
-  pub still : (j : ℕ) → s.clearing e j → ⊥
   pub stays : s.pinned e ⊎ (IsDoomed s e → ⊥)

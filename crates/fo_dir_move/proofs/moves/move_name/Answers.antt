@@ -166,11 +166,10 @@ returns-in-Ok-clause-paired g c = λ n a e may all.
     let differ : c.args.to ≢ c.args.from = λ e. c.requires.differ (sym e) in
     let told : (image : Image) → u.may_leave image → o.tells = λ image is. keeps.still_tells.0 (g.met.B.Blocks.told c.change_leaf.new.on image (s.images.each image is)) in
     let one : AllPaired n a e t = k.paired n a e may.kept all in
-    let two : AllPaired n a e u = rests_paired {a = t} {m = u} s.images (λ image is j. slots_over {o = o} {a = t} {m = u} e keeps k.calm k.puts s.rests s.known may.still may.stays (told image is) j) one in
+    let two : AllPaired n a e u = rests_paired {a = t} {m = u} s.images (λ image is. (s.rests.fills (keeps.still_tells.1 (told image is)), slots_over {o = o} {a = t} {m = u} e keeps k.calm k.puts s.rests s.known may.stays (told image is))) one in
     let same = s.leaves.to_is ∙ k.puts.others c.args.to differ in
-    let still : (j : ℕ) → e ≡ c.args.entries → t.clearing c.args.entries j → ⊥ = λ j f h. may.still j (subst (λ x. o.clearing x j) (sym f) (k.calm.order.clearing c.args.entries j h).1) in
-    let slots : (j : ℕ) → e ≡ c.args.entries → (u.now c.args.entries).slot j ≡ (o.now c.args.entries).slot j = λ j f. (s.entries.each j (still j f)).0 ∙ k.puts.slots c.args.entries j in
-    c.put_record.ensures.paired n a e (λ is. paired_later {o = o} {m = u} (may.put is) same slots (λ j f h. still j f (s.rests.order c.args.entries j h))) two
+    let slots : (j : ℕ) → (o.clearing c.args.entries j → ⊥) → ((u.now c.args.entries).slot j ≡ (o.now c.args.entries).slot j) × (u.clearing c.args.entries j → ⊥) = λ j free. let still = s.entries.each j (λ h. free (k.calm.order.clearing c.args.entries j h).1) in (still.0 ∙ k.puts.slots c.args.entries j, still.1) in
+    c.put_record.ensures.paired n a e (λ is. paired_later {o = o} {m = u} (may.put is) same slots) two
 
 pub returns-in-Err-clause-paired : goal.returns-in-Err-clause-paired
 returns-in-Err-clause-paired g c = λ n a e may all.
@@ -183,8 +182,7 @@ returns-in-Err-clause-paired g c = λ n a e may all.
     let keeps = g.met.B.Blocks.keeps_all b c.change_leaf.new.on k.keeps in
     let told : (image : Image) → u.may_leave image → o.tells = λ image is. keeps.still_tells.0 (g.met.B.Blocks.told c.change_leaf.new.on image (s.images.each image is)) in
     let one : AllPaired n a e t = k.paired n a e may.kept all in
-    let two : AllPaired n a e u = rests_paired {a = t} {m = u} s.images (λ image is j. slots_over {o = o} {a = t} {m = u} e keeps k.calm k.puts s.rests s.known may.still may.stays (told image is) j) one in
+    let two : AllPaired n a e u = rests_paired {a = t} {m = u} s.images (λ image is. (s.rests.fills (keeps.still_tells.1 (told image is)), slots_over {o = o} {a = t} {m = u} e keeps k.calm k.puts s.rests s.known may.stays (told image is))) one in
     let left = s.leaves.from_is ∙ k.puts.here in
-    let still : (j : ℕ) → e ≡ c.args.entries → t.clearing c.args.entries j → ⊥ = λ j f h. may.still j (subst (λ x. o.clearing x j) (sym f) (k.calm.order.clearing c.args.entries j h).1) in
-    let slots : (j : ℕ) → e ≡ c.args.entries → (u.now c.args.entries).slot j ≡ (o.now c.args.entries).slot j = λ j f. (s.entries.each j (still j f)).0 ∙ k.puts.slots c.args.entries j in
-    c.put_record-in-Err.ensures.paired n a e (λ is. subst (λ xs. ArePaired n c.args.from e c.args.entries xs u) (sym c.requires.back.1) (paired_later {o = o} {m = u} (may.back is) left slots (λ j f h. still j f (s.rests.order c.args.entries j h)))) two
+    let slots : (j : ℕ) → (o.clearing c.args.entries j → ⊥) → ((u.now c.args.entries).slot j ≡ (o.now c.args.entries).slot j) × (u.clearing c.args.entries j → ⊥) = λ j free. let still = s.entries.each j (λ h. free (k.calm.order.clearing c.args.entries j h).1) in (still.0 ∙ k.puts.slots c.args.entries j, still.1) in
+    c.put_record-in-Err.ensures.paired n a e (λ is. subst (λ xs. ArePaired n c.args.from e c.args.entries xs u) (sym c.requires.back.1) (paired_later {o = o} {m = u} (may.back is) left slots)) two
