@@ -13,7 +13,7 @@ use Rattle.fo_unlink.specs.declared.way.Frame.{Frame}
 use Rattle.fo_unlink.specs.declared.removal.Step.{Step}
 use Rattle.fo_unlink.specs.declared.removal.Step.TheVariants.{Closes, Reads, Waits, Empty}
 use Rattle.fo_unlink.specs.Closing.{Tree, targets, level_of, blocks_under, blocks_of}
-use Rattle.fo_unlink.specs.Pending.{Pending, frame_left, at_epoch, closes_of, left_of, left, reads_left, remaining, start_level, closed, entered, IsContent, IsRemoval, first_removal, reads_of}
+use Rattle.fo_unlink.specs.Pending.{Pending, frame_left, first_left, at_epoch, closes_of, left_of, left, reads_left, remaining, start_level, closed, entered, IsContent, IsRemoval, first_removal, reads_of}
 use Rattle.fo_unlink.specs.Kept.{HasLevels}
 use Rattle.fo_unlink.specs.Slots.{IsNextTarget}
 use Rattle.fo_unlink.specs.Steps.{Answers, AsksFor, unasked}
@@ -203,3 +203,20 @@ waits-exactly settled old new block (Closes b) h = (λ e. absurd (cc), λ w. abs
 waits-exactly settled old new block (Reads b) h = (λ e. absurd (cc), λ w. absurd (true_not_false settled h.goes_on.settled_is w.1))
 waits-exactly settled old new block Waits h = (λ _. (h.0, h.1), λ _. refl)
 waits-exactly settled old new block Empty h = (λ e. absurd (cc), λ w. absurd (w.0 h.0))
+
+-- the first removal is dropped
+dropped_next : (tree : Tree) (removals : List Removal) (way : List Frame) (r : Removal) → slice_get removals 0 ≡ Some r → left_of tree removals way ≡ at_epoch r.epoch (first_left tree r way) ++ left_of tree (drop 1 removals) []
+dropped_next tree [] way r is = absurd (none_some is)
+  where
+    none_some : None ≡ Some r → ⊥
+    none_some e = cc
+dropped_next tree (x ∷ xs) way r is =
+    let same : x ≡ r = some_same is in
+    ap (λ (es : List (ℕ × ℕ)). at_epoch x.epoch (first_left tree x way) ++ es) (sym (left-none tree xs))
+    ∙ ap (λ (z : Removal). at_epoch z.epoch (first_left tree z way) ++ left_of tree xs []) same
+  where
+    some_same : Some x ≡ Some r → x ≡ r
+    some_same e = cc
+
+pub dropped-left : (tree : Tree) (removals rest : List Removal) (way begun : List Frame) (r : Removal) → rest ≡ drop 1 removals → begun ≡ [] → slice_get removals 0 ≡ Some r → left_of tree removals way ≡ at_epoch r.epoch (first_left tree r way) ++ left_of tree rest begun
+dropped-left tree removals rest way begun r is none first = rw (is, none) (dropped_next tree removals way r first)

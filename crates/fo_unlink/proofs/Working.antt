@@ -8,7 +8,7 @@ use Rattle.fo_unlink.specs.declared.removal.Step.{Step}
 use Rattle.fo_unlink.specs.declared.removal.Step.TheVariants.{Closes, Reads}
 use Rattle.fo_unlink.specs.Pending.{Pending, reads_left, reads_of, remaining, start_level, closed, entered, first_removal}
 use Rattle.fo_unlink.specs.Steps.{unasked}
-use Rattle.fo_unlink.specs.Work.{block_work, work_of, slots_work, frames_work, removals_work, work_left, work, Lowers}
+use Rattle.fo_unlink.specs.Work.{block_work, work_of, slots_work, frames_work, first_work, removals_work, work_left, work, Lowers}
 
 -- ---- closing, and going down
 
@@ -113,3 +113,24 @@ pub pushed : (rs : List Removal) (asked : Bool) (way : List Frame) (r : Removal)
 pushed [] asked [] r begun = omega arith
 pushed [] asked (f ∷ fs) r begun = let h : 0 < 0 = begun (omega arith) in absurd (omega (arith, h))
 pushed (x ∷ xs) asked way r begun = omega (arith, removals_more xs r)
+
+-- ---- the first removal is dropped
+
+some_work : (level : ℕ) → 0 < block_work level
+some_work zero = omega arith
+some_work (suc level) = omega arith
+
+some_left : (r : Removal) (asked : Bool) (way : List Frame) → 0 < first_work r asked way
+some_left r asked [] = some_work (start_level r)
+some_left r true (f ∷ fs) = omega arith
+some_left r false (f ∷ fs) = omega arith
+
+dropped_less : (removals : List Removal) (asked : Bool) (way : List Frame) → 0 < length removals → work_left (drop 1 removals) false [] < work_left removals asked way
+dropped_less [] asked way some = absurd (omega (arith, some))
+dropped_less (r ∷ rs) asked way some =
+    let is = none_begun rs in
+    let left = some_left r asked way in
+    omega (arith, is, left)
+
+pub dropped_work : (removals rest : List Removal) (asked : Bool) (way begun : List Frame) → rest ≡ drop 1 removals → begun ≡ [] → 0 < length removals → work_left rest false begun < work_left removals asked way
+dropped_work removals rest asked way begun is none some = rw (is, none) (dropped_less removals asked way some)

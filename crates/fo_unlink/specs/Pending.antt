@@ -73,6 +73,10 @@ abbrev pub remaining : List Removal → List Frame → List Removal
 remaining removals [] = drop 1 removals
 remaining removals (f ∷ fs) = removals
 
+-- the first removal is gone, with all that it has left
+abbrev pub dropped : Pending → Pending
+dropped q = record q { removals = drop 1 q.removals; way = []; asked = false }
+
 -- ---- what may be queued
 
 -- A kind has a level of at most 4, and a root block is closed alone: a root of a snapshot shares what is below it.

@@ -1,8 +1,9 @@
 //! The queue of removals.
-ghost use Rattle.std.specs.Prelude.{◌≡◌, ◌≢◌, ◌↔◌, ◌+◌, ◌-◌, ◌^◌, ◌<◌, ◌≤◌, ◌++◌, ◌∷◌, [], List, true, false, length, drop, max, IfOk, IsOk, IsSome, MatchResult};
+ghost use Rattle.std.specs.Prelude.{◌≡◌, ◌≢◌, ◌↔◌, ◌+◌, ◌-◌, ◌^◌, ◌<◌, ◌≤◌, ◌++◌, ◌∷◌, [], List, true, false, length, drop, max, Some, IfOk, IsOk, IsSome, MatchResult};
 ghost use Rattle.fo_unlink.specs.Closing.{Tree};
-ghost use Rattle.fo_unlink.specs.Pending.{IsRemoval, left, closes_of, wanted, first_removal, start_level, closed, entered};
+ghost use Rattle.fo_unlink.specs.Pending.{IsRemoval, at_epoch, first_left, left, closes_of, wanted, first_removal, start_level, closed, dropped, entered};
 ghost use Rattle.fo_unlink.specs.Steps.{Answers, unasked};
+ghost use Rattle.fo_unlink.specs.declared.removal.Removal.{Removal};
 ghost use Rattle.fo_unlink.specs.Work.{work, work_of, readings, Lowers};
 ghost use Rattle.fo_unlink.specs.declared.removal.Step.TheVariants.{Closes, Reads, Waits, Empty};
 
@@ -103,6 +104,18 @@ impl Queue {
         ensures { result ≡ self.now.room }
     {
         self.room
+    }
+
+    /// Takes away the first removal: what it has left is not closed.
+    pub fn drop_first(&mut self)
+        requires { 0 < length self.old.removals }
+        ensures dropped { self.new ≡ dropped self.old }
+        ensures left { (tree : Tree) (r : Removal) → first_removal self.old ≡ Some r → left tree self.old ≡ at_epoch r.epoch (first_left tree r self.old.way) ++ left tree self.new }
+        ensures work { work self.new < work self.old }
+    {
+        self.removals.pop_front();
+        self.way = Way::new();
+        self.asked = false;
     }
 
     /// Takes back what was asked for, as where the block could not be read: the next step asks again, which is one reading more.
