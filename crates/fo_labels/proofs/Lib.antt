@@ -1,4 +1,5 @@
 pub mod Leaves
 pub mod RegionLaws
+pub mod Spelling
 pub mod Trees
 pub mod Usable

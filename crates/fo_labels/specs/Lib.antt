@@ -3,3 +3,4 @@ pub mod Indexed
 pub mod Mins
 pub mod Minima
 pub mod Region
+pub mod Spelled

@@ -5,6 +5,7 @@ ghost use Rattle.fo_image.specs.Format.{LabelHolds};
 ghost use Rattle.fo_labels.specs.Floor.{floor};
 ghost use Rattle.fo_image.specs.Usable.{free_label, live_label, is_usable};
 ghost use Rattle.fo_labels.specs.Region.{IsDataBlock, IsUsableBlock, closed_label, label_of, relabeled, least_usable, usable_count};
+ghost use Rattle.fo_labels.specs.Spelled.{label_at};
 
 use crate::index::Minima;
 use fo_base::Memory;
@@ -149,6 +150,20 @@ impl Labels {
         ensures { result ≡ label_of self.now at }
     {
         self.labels[(at - self.first) as usize]
+    }
+
+    // The label of an address; what is no data block counts as free.
+    pub(crate) fn label_or_free(&self, at: u64) -> Label
+        ensures { result ≡ label_at self.now at }
+    {
+        let first = u64::from(self.first);
+        if at < first {
+            return FREE;
+        }
+        match self.labels.get((at - first) as usize) {
+            Some(label) => *label,
+            None => FREE,
+        }
     }
 
     // The label at a place of the list, which starts at the first data block.

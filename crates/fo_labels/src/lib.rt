@@ -3,13 +3,14 @@
 //! A block is usable where it may be given out: free, or closed where no snapshot that is kept holds it (the labels and epochs of
 //! the Fossil paper). The labels stand in a list, and a tree of minima over it says from which low epoch on each block is usable.
 //!
-//! Proved: `alloc` gives the least usable block and none only where there is none, `close` and `restore` change one label, and
-//! `usable` counts. Want of memory may be answered by `new` alone.
+//! Proved: `alloc` gives the least usable block and none only where there is none, `close` and `restore` change one label, `usable`
+//! counts, and `spell` fills a block of the label table with the labels whose place it is. Want of memory may be answered by `new` alone.
 //!
 //! Not proved: how long a search takes (`test_disk` makes 100,000 of them over 2^20 labels).
 #![tactic(auto)]
 
 mod index;
 mod labels;
+mod spell;
 
 pub use labels::Labels;
