@@ -12,3 +12,5 @@ pub mod Results
 pub mod Starting
 pub mod Still
 pub mod Waits
+pub mod Turning
+pub mod Landing

@@ -103,7 +103,7 @@ module _ (facts : List Fact) (t : Turns) (at : ℕ) (lt : at < length facts) (wi
   abbrev off : Fact
   off = record (fact_at facts at) { owes = false }
 
-  by_case : (P : Turns → List Fact → Type 0) → (takes_turn facts t at ≡ false → P t facts) → (takes_turn facts t at ≡ true → P (changed t at (fact_at facts at).rank) (set facts at (record (fact_at facts at) { owes = false }))) → P (turned facts t at) (turned_facts facts t at)
+  pub by_case : (P : Turns → List Fact → Type 0) → (takes_turn facts t at ≡ false → P t facts) → (takes_turn facts t at ≡ true → P (changed t at (fact_at facts at).rank) (set facts at (record (fact_at facts at) { owes = false }))) → P (turned facts t at) (turned_facts facts t at)
   by_case P calm due = by (takes_turn facts t at) refl
     where
       by : (b : Bool) → takes_turn facts t at ≡ b → P (cond b (changed t at (fact_at facts at).rank) t) (cond b (set facts at (record (fact_at facts at) { owes = false })) facts)
@@ -122,7 +122,7 @@ module _ (facts : List Fact) (t : Turns) (at : ℕ) (lt : at < length facts) (wi
       by true true e = absurd (cc)
       by false d e = absurd (cc)
 
-  dirty_here : takes_turn facts t at ≡ true → (flag_at (changed t at (fact_at facts at).rank) at).dirty ≡ true
+  pub dirty_here : takes_turn facts t at ≡ true → (flag_at (changed t at (fact_at facts at).rank) at).dirty ≡ true
   dirty_here e = ap (λ (x : Turns). (flag_at x at).dirty) (has_turn (not_dirty e)) ∙ ap (λ (f : Flags). f.dirty) (get_or-set_same t.flags at (flags_of true (flag_at t at).tried (fact_at facts at).rank) quiet within)
 
   pub placed_turned : {region : Region} {first count : ℕ} → Placed region t facts first count → Placed region (turned facts t at) (turned_facts facts t at) first count

@@ -18,7 +18,7 @@ use Rattle.fo_mind.specs.Sound.{Placed, Holding, Waiting, Clearable, Owing, Room
 none_some : {A : Type 0} (x : Buffer) → None ≡ Some x → A
 none_some x e = cc
 
-none : (q : ℕ) → held_at no_buffers q ≡ None
+pub none : (q : ℕ) → held_at no_buffers q ≡ None
 none q = get-empty nat_cmp q
 
 pub placed_opened : (r : Region) (t : Turns) (fs : List Fact) (first n : ℕ) → first ≡ r.first → n ≡ count_of r → t ≡ no_turns n → fs ≡ replicate n no_fact → r.first ≡ first_data (count_of r) → count_of r < 2 ^ 32 - 1 → Placed r t fs first n

@@ -9,3 +9,4 @@ pub mod Parts
 pub mod Props
 pub mod Sound
 pub mod Waited
+pub mod Turning

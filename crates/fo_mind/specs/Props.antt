@@ -18,12 +18,17 @@ use Rattle.fo_image.specs.declared.types.State.{State}
 use Rattle.fo_image.specs.declared.types.State.TheVariants.{Free, Live, Closed}
 use Rattle.fo_image.specs.Format.{KindHolds, StateHolds}
 use Rattle.fo_buffers.specs.Held.{Held}
+use Rattle.fo_order.specs.declared.marks.Flags.{Flags}
+use Rattle.fo_order.specs.declared.marks.Tried.{Tried}
+use Rattle.fo_buffers.specs.declared.block.Buffer.{Buffer}
+use Rattle.std.specs.Prelude.{Option}
 use Rattle.fo_order.specs.Keeps.{Turns}
 use Rattle.fo_labels.specs.Region.{Region}
 use Rattle.fo_mind.specs.declared.facts.Fact.{Fact}
 use Rattle.fo_mind.specs.declared.facts.Wait.{Wait}
 use Rattle.fo_mind.specs.declared.facts.Clearing.{Clearing}
 use Rattle.fo_bring.specs.Blocks.{HasZeros}
+use Rattle.fo_mind.specs.Turning.{TurnsAt, Turning}
 use Rattle.fo_mind.specs.Sound.{Placed, Rooted, Labelled, Holding, Waiting, Clearable, Owing, Roomy}
 
 holds_prop : (p : Pointer) → IsProp (PointerHolds p)
@@ -111,3 +116,9 @@ owing_prop held turns facts = Prim.hlevel props
 
 pub roomy_prop : (held : Held) (turns : Turns) (region : Region) (facts : List Fact) (low spare pins : ℕ) → IsProp (Roomy held turns region facts low spare pins)
 roomy_prop held turns region facts low spare pins = Prim.hlevel props
+
+turns_at_prop : (first b : ℕ) (o : Option Buffer) (f : Flags) (linked : Bool) → IsProp (TurnsAt first b o f linked)
+turns_at_prop first b o f linked = Prim.hlevel props
+
+pub turning_prop : (first : ℕ) (held : Held) (turns : Turns) (facts : List Fact) → IsProp (Turning first held turns facts)
+turning_prop first held turns facts = Prim.hlevel (props, turns_at_prop)

@@ -10,7 +10,8 @@
 //! label is of another kind, it may be given out, or its bytes aren't good; a fault comes only where the device's count rose. With no
 //! pin left `get` needs no room, and may want memory. `new_block` and `copy` give out the least usable block, and `put_bytes` puts
 //! bytes beside the slots of a pinned one, each with the clauses of `Blocks`; neither wants memory. A slot, a label and what waits are
-//! as memory has them. What calls see keeps the laws of `Blocks`.
+//! as memory has them. What calls see keeps the laws of `Blocks`. What is to be written next has its bytes in memory, or is a block of
+//! labels; what a write or a sync does to each field is said by its answer alone, and only `keep_turn_of` may want memory for it.
 //!
 //! Not proved here: what is said of crash images, places and moments.
 #![tactic(auto)]
@@ -24,6 +25,7 @@ mod news;
 mod numbers;
 mod opening;
 mod puts;
+mod turns;
 mod views;
 mod waiting;
 

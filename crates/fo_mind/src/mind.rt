@@ -3,7 +3,8 @@ ghost use Rattle.std.specs.Prelude.{◌≡◌, ◌+◌, ◌*◌, ◌^◌, ◌<�
 ghost use Rattle.std.specs.Vec.{vec_len, vec_capacity};
 ghost use Rattle.fo_mind.specs.Parts.{fact_at, owing_as};
 ghost use Rattle.fo_mind.specs.Sound.{Placed, Rooted, Labelled, Holding, Waiting, Clearable, Owing, Roomy};
-ghost use Rattle.fo_mind.specs.Props.{placed_prop, rooted_prop, labelled_prop, holding_prop, waiting_prop, clearable_prop, owing_prop, roomy_prop};
+ghost use Rattle.fo_mind.specs.Turning.{Turning};
+ghost use Rattle.fo_mind.specs.Props.{placed_prop, rooted_prop, labelled_prop, holding_prop, waiting_prop, clearable_prop, owing_prop, roomy_prop, turning_prop};
 
 use crate::facts::{Clearing, Fact, Wait};
 use fo_buffers::{Block, Buffers};
@@ -42,6 +43,7 @@ pub struct Mind {
     ghost clearable: { Clearable labels one.low one.high clears.items } by { clearable_prop labels one.low one.high clears.items },
     ghost owing: { Owing buffers order facts.items } by { owing_prop buffers order facts.items },
     ghost roomy: { Roomy buffers order labels facts.items one.low spare pins } by { roomy_prop buffers order labels facts.items one.low spare pins },
+    ghost turning: { Turning first buffers order facts.items } by { turning_prop first buffers order facts.items },
     ghost queues: { room ≤ queue.room },
     ghost awaits: { vec_len waits + 205 * room ≤ vec_capacity waits },
     ghost clears_more: { vec_len clears + room ≤ vec_capacity clears },

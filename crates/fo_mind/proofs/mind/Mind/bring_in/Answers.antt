@@ -4,6 +4,7 @@ use Rattle.fo_mind.specs.MindParts.{parts}
 use Rattle.fo_mind.proofs.Keeping.{may_bring, holding_brought, waiting_brought, placed_owed, owing_owed, roomy_owed}
 use Rattle.fo_mind.proofs.Getting.{source_brought, pinned_brought, marks_owed, brings_brought}
 use Rattle.fo_mind.proofs.Coming.{comes_brought}
+use Rattle.fo_mind.proofs.Turning.{turning_brought}
 use Rattle.fo_mind.proofs.mind.Mind.bring_in.Goals as goal
 
 pub invariant_of-self-clause-placed : goal.invariant_of-self-clause-placed
@@ -55,3 +56,11 @@ returns-clause-brings g c =
 
 pub returns-clause-comes : goal.returns-clause-comes
 returns-clause-comes g c = comes_brought (g.D.Disk.state c.args.main.now).holds c.requires.none (may_bring c.bring.result c.bring.ensures.ok c.bring.ensures.err) c.bring.ensures.clean
+
+pub invariant_of-self-clause-turning : goal.invariant_of-self-clause-turning
+invariant_of-self-clause-turning g c =
+    let self = c.args.self.now in
+    let n = self.placed.fact_count in
+    let b = c.requires.block.1 in
+    let lt : c.args.at < length self.facts.items = omega (arith, b, n) in
+    turning_brought self.facts.items c.owe.new.facts.items c.args.rank lt c.owe.ensures.items c.requires.block c.requires.none c.bring.ensures.others (may_bring c.bring.result c.bring.ensures.ok c.bring.ensures.err) self.turning

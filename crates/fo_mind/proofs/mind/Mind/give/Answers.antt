@@ -11,6 +11,8 @@ use Rattle.fo_mind.specs.Changes.{made_fact}
 use Rattle.fo_mind.specs.Sound.{Placed, Labelled, Holding, Waiting, Clearable, Owing, Roomy}
 use Rattle.fo_mind.proofs.Giving.{clearable_given, holding_given, labelled_given, owing_given, placed_given, roomy_given, waiting_given}
 use Rattle.fo_mind.proofs.Results.{both, three}
+use Rattle.fo_mind.specs.Turning.{Turning}
+use Rattle.fo_mind.proofs.Turning.{turning_given}
 use Rattle.fo_mind.proofs.mind.Mind.give.Goals as goal
 
 pub alloc_in-at-requires-clause-label : goal.alloc_in-at-requires-clause-label
@@ -133,3 +135,11 @@ returns c =
       spare = omega (arith, spare);
       rest = refl;
     }
+
+pub invariant_of-self-clause-turning : goal.invariant_of-self-clause-turning
+invariant_of-self-clause-turning c =
+    let self = c.args.self.now in
+    let at = c.alloc_in-at.result in
+    let u = c.alloc_in-at.ensures.usable in
+    let block : IsData self.first self.count at = (subst (λ n. n ≤ at) self.placed.is_first u.block.from, subst (λ n. at < n) self.placed.is_count u.block.to) in
+    three (λ (h : Held) (t : Turns) (fs : List Fact). Turning self.first h t fs) c.make.ensures c.change.ensures c.note_made.ensures.items (turning_given self.facts.items at c.label_place.result.0 (made_fact c.args.origin c.args.rank) c.args.bytes.now block c.label_place.ensures.block refl self.placed self.holding self.turning)

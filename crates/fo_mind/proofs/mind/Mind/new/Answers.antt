@@ -10,6 +10,8 @@ use Rattle.fo_mind.specs.Opened.{no_turns}
 use Rattle.fo_mind.specs.Sound.{Clearable, Holding, Owing, Roomy, Rooted, Waiting}
 use Rattle.fo_mind.proofs.Results.{both, three}
 use Rattle.fo_mind.proofs.Starting.{clearable_opened, holding_opened, owing_opened, placed_opened, roomy_opened, waiting_opened}
+use Rattle.fo_mind.specs.Turning.{Turning}
+use Rattle.fo_mind.proofs.Turning.{turning_opened}
 use Rattle.fo_mind.proofs.mind.Mind.new.Goals as goal
 
 pub invariant_of-result-clause-placed : goal.invariant_of-result-clause-placed
@@ -73,3 +75,6 @@ returns c =
       disk = [];
       faults = 0;
     }
+
+pub invariant_of-result-clause-turning : goal.invariant_of-result-clause-turning
+invariant_of-result-clause-turning c = three (λ (h : Held) (t : Turns) (fs : List Fact). Turning c.first-first.result h t fs) c.in_ok-buffers.ensures c.in_ok-order.ensures c.in_ok-facts.ensures (turning_opened c.first-first.result (c.first-first.result + c.len.result))

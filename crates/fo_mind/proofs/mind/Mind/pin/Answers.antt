@@ -3,6 +3,7 @@ use Rattle.fo_mind.specs.MindParts.{parts}
 use Rattle.fo_mind.proofs.Keeping.{pins_of, holding_pins, waiting_pins, is_pinned_now, placed_owed, owing_owed, roomy_owed}
 use Rattle.fo_mind.proofs.Getting.{source_pins, marks_owed, brings_pins}
 use Rattle.fo_mind.proofs.Coming.{comes_pins}
+use Rattle.fo_mind.proofs.Turning.{turning_pins}
 use Rattle.fo_mind.proofs.mind.Mind.pin.Goals as goal
 
 pub invariant_of-self-clause-placed : goal.invariant_of-self-clause-placed
@@ -59,3 +60,11 @@ returns-clause-brings c = λ disk faults.
 
 pub returns-clause-comes : goal.returns-clause-comes
 returns-clause-comes c = λ disk. comes_pins disk (pins_of c.args.at c.args.self.now.buffers c.pin.new.self c.requires.held c.pin.ensures.free c.pin.ensures.same)
+
+pub invariant_of-self-clause-turning : goal.invariant_of-self-clause-turning
+invariant_of-self-clause-turning c =
+    let self = c.args.self.now in
+    let n = self.placed.fact_count in
+    let b = c.requires.block.1 in
+    let lt : c.args.at < length self.facts.items = omega (arith, b, n) in
+    turning_pins self.facts.items c.owe.new.facts.items c.args.rank lt c.owe.ensures.items (pins_of c.args.at self.buffers c.pin.new.self c.requires.held c.pin.ensures.free c.pin.ensures.same) self.turning

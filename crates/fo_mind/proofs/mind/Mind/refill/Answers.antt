@@ -4,6 +4,8 @@ use Rattle.fo_mind.specs.declared.facts.Fact.{Fact}
 use Rattle.fo_mind.specs.Sound.{Placed, Owing, Roomy}
 use Rattle.fo_mind.proofs.Refilling.{refills_of, holding_refilled, waiting_refilled, owing_refilled, roomy_refilled, pinned_refilled, placed_turned, owing_turned, roomy_turned, turn_room, within_facts}
 use Rattle.fo_mind.proofs.Results.{both}
+use Rattle.fo_mind.specs.Turning.{Turning}
+use Rattle.fo_mind.proofs.Turning.{turning_refilled}
 use Rattle.fo_mind.proofs.mind.Mind.refill.Goals as goal
 
 pub take_turn-requires-clause-flags : goal.take_turn-requires-clause-flags
@@ -51,3 +53,10 @@ invariant_of-self-clause-roomy c =
 
 pub returns : goal.returns
 returns c = λ disk faults. record { held = c.write.ensures; turns = c.take_turn.ensures.turns; facts = c.take_turn.ensures.items; rest = refl }
+
+pub invariant_of-self-clause-turning : goal.invariant_of-self-clause-turning
+invariant_of-self-clause-turning c =
+    let self = c.args.self.now in
+    let w = within_facts c.args.at self.placed self.holding c.requires.pinned in
+    let r = refills_of c.args.at c.args.bytes.now self.buffers c.write.new.self self.holding c.requires.pinned c.requires.good.long c.write.ensures in
+    both (λ (t : Turns) (fs : List Fact). Turning self.first c.write.new.self t fs) c.take_turn.ensures.turns c.take_turn.ensures.items (turning_refilled self.facts.items self.order c.args.at w.0 w.1 r self.placed self.holding self.turning)

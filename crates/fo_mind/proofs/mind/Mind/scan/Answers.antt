@@ -6,6 +6,7 @@ use Rattle.fo_mind.proofs.Keeping.{none_held, holding_same, waiting_same, owing_
 use Rattle.fo_mind.proofs.Getting.{got_clean, from_held, from_glance, nothing_brought, brings_same}
 use Rattle.fo_mind.proofs.Results.{on_ok, damaged}
 use Rattle.fo_mind.proofs.Coming.{comes_at_once, comes_same}
+use Rattle.fo_mind.proofs.Turning.{same_held}
 use Rattle.fo_mind.proofs.mind.Mind.scan.Goals as goal
 
 pub returns-then-is_held-clause-got : goal.returns-then-is_held-clause-got
@@ -55,3 +56,6 @@ returns-then-is_held-clause-comes g c = comes_at_once (g.D.Disk.state c.args.mai
 
 pub returns-clause-comes : goal.returns-clause-comes
 returns-clause-comes g c = comes_same (g.D.Disk.state c.args.main.now).holds c.args.at (c.glance.ensures.held c.args.at) c.glance.ensures.clean
+
+pub invariant_of-self-clause-turning : goal.invariant_of-self-clause-turning
+invariant_of-self-clause-turning g c = same_held c.glance.ensures.held c.args.self.now.turning
