@@ -1,2 +1,3 @@
+mod Finding
+pub mod Moved
 mod Orders
-mod Moved

@@ -1,13 +1,15 @@
 //! The records of a directory, pairs of entries, and file numbers, as the check of a tree judges them: lists, and no device.
 //!
-//! Proved: names, pairs and numbers are answered to differ exactly where they do; a record is without its pair, and a number that of no
-//! file, exactly where that is so, at a leaf that has it; what a pair of entries names is what its flags say.
+//! Proved: names, pairs and numbers are answered to differ exactly where they do; the record of a slot pair is marked exactly where the
+//! two entries are its own; a record is without its pair, and a number that of no file, exactly where that is so, at a leaf that has it;
+//! what a pair of entries names is what its flags say.
 #![tactic(auto)]
 
 mod names;
 mod pairs;
 
 pub use names::{
-    Named, Number, add_named, add_numbers, no_file, same_name, same_number, same_pair, without_pair,
+    Named, Number, add_named, add_numbers, find_pair, no_file, same_name, same_number, same_pair,
+    without_pair,
 };
 pub use pairs::{is_alone, is_both, is_folder, is_source, records_of};

@@ -2,9 +2,11 @@
 ghost use Rattle.std.specs.Prelude.{◌≡◌, ◌≢◌, ◌↔◌, ◌++◌, length, map, IsTrue, OnOk, MatchOption};
 ghost use Rattle.std.specs.List.{All, Any, AllAdjacentBelow};
 ghost use Rattle.std.specs.List.Sorted.{IsPermutation, IsNonDecreasingBy};
+ghost use Rattle.fo_check_names.specs.Finds.{Finds};
 ghost use Rattle.fo_check_names.specs.Names.{name_of, slot_of, leaf_of, IsPaired, IsUnpaired, Differ, IsTwice, number_of, holder_of, number_in, named_in, IsFileNumber, IsNoFile};
 
-use fo_image::Record;
+use fo_image::{Entry, Record};
+use fo_rules::has_pair;
 use std::alloc::AllocError;
 
 /// A record of the directory in course.
@@ -58,6 +60,22 @@ fn repeated_pair(named: &[Named]) -> Option<u32>
         }
     }
     None
+}
+
+/// Marks the record of this slot pair, if any, with whether the two entries are its own, and answers that.
+pub fn find_pair(named: &mut [Named], slot: u64, first: &Entry, second: &Entry) -> bool
+    ensures { Finds slot first.now second.now result named.old named.new }
+{
+    let at = named.partition_point(|n| u64::from(n.listed.slot) < slot);
+    if at == named.len() {
+        return false;
+    }
+    if u64::from(named[at].listed.slot) != slot {
+        return false;
+    }
+    let fits = has_pair(&named[at].listed, first, second);
+    named[at].found = fits;
+    fits
 }
 
 /// Whether the record's pair was found within the size of the entries.
