@@ -20,6 +20,7 @@ use Rattle.fo_good.specs.Means.{HasPointer}
 use Rattle.fo_meta.specs.Leaf.{IsLeaf}
 use Rattle.fo_sound.specs.Image.{block_of}
 use Rattle.fo_check_tree.specs.declared.labels.Labels.{Labels}
+use Rattle.fo_check_tree.specs.declared.walk.Folder.{Folder}
 use Rattle.fo_check_tree.specs.declared.walk.Holder.{Holder}
 use Rattle.fo_check_tree.specs.declared.walk.Step.{Step}
 use Rattle.fo_check_tree.specs.declared.walk.Holds.TheVariants.{Bytes, Records}
@@ -30,6 +31,7 @@ use Rattle.fo_check_tree.specs.Follows.Reaches.{enters}
 use Rattle.fo_check_tree.specs.Known.{Marks}
 use Rattle.fo_check_tree.specs.Listing.{AddsNamed, Adds}
 use Rattle.fo_check_tree.specs.Listing.AddsNamed.{none as none_added}
+use Rattle.fo_check_tree.specs.Pairing.{Searches, Seeks}
 use Rattle.fo_check_tree.specs.Slots.{unless, HasSlot, HasSlots, steps_below, steps_of}
 use Rattle.fo_check_tree.specs.Slots.HasSlot.{entry, other}
 use Rattle.fo_check_tree.specs.Steps.{IsAllowed}
@@ -94,9 +96,11 @@ pub reaches_by : {A E : Type 0} (r : Result A E) (device : List Block) (image : 
     → OnOk r (Reads step.kind (image at) (block_of device at) new.noted)
     → OnOk r (Adds step at (block_of device at) step.kind old.named.items new.named.items)
     → (step.kind ≡ Data 0 → step.holds ≡ Records → OnOk r (5 < level new.noted → IsLeaf (block_of device at)))
+    → (HasSlots step.kind (image at) (block_of device at) → OnOk r (Seeks step (image at) named step.kind old.named.items new.named.items new.folders.items))
+    → (step.kind ≡ Data 0 → step.holds ≡ Bytes → OnOk r (new.named.items ≡ old.named.items))
     → OnOk r (Reaches device image depth named step at old new)
-reaches_by (Ok x) device image depth named step at old new label marked allowed marks same pushed put notes read adds leafs = enters label allowed (subst (λ (l : Labels). Marks at old.labels.known.items l.known.items) (sym same) marks) pushed put notes read adds leafs
-reaches_by (Err e) device image depth named step at old new label marked allowed marks same pushed put notes read adds leafs = same
+reaches_by (Ok x) device image depth named step at old new label marked allowed marks same pushed put notes read adds leafs seeks bytes = enters label allowed (subst (λ (l : Labels). Marks at old.labels.known.items l.known.items) (sym same) marks) pushed put notes read adds leafs seeks bytes
+reaches_by (Err e) device image depth named step at old new label marked allowed marks same pushed put notes read adds leafs seeks bytes = same
 
 -- ---- what a block says by itself
 
@@ -140,6 +144,23 @@ bytes_records e = cc
 -- A leaf of a file's bytes has no records.
 pub file_names : (step : Step) (at : ℕ) (bytes : Block) (old new : List Named) (kind : Kind) → kind ≡ Data zero → step.holds ≡ Bytes → new ≡ old → Adds step at bytes kind old new
 file_names step at bytes old new kind is holds same = subst (λ (k : Kind). Adds step at bytes k old new) (sym is) (none_added same (λ records leaf. absurd (bytes_records (sym holds ∙ records))))
+
+-- ---- what is found in it
+
+module _ {A E : Type 0} (r : Result A E) (step : Step) (c : Content) (named : Bool) (old new : List Named) (folders : List Folder) where
+  pub leaf_seeks : (kind : Kind) → kind ≡ Dir zero → OnOk r (Searches step.index c named 102 old new folders) → OnOk r (Seeks step c named kind old new folders)
+  leaf_seeks kind is h = subst (λ (k : Kind). OnOk r (Seeks step c named k old new folders)) (sym is) h
+
+  pub inner_seeks : (level : ℕ) (kind : Kind) → kind ≡ Dir level → 0 < level → OnOk r (new ≡ old) → OnOk r (Seeks step c named kind old new folders)
+  inner_seeks zero kind is some h = absurd (omega (arith, some))
+  inner_seeks (suc level) kind is some h = subst (λ (k : Kind). OnOk r (Seeks step c named k old new folders)) (sym is) h
+
+pub data_seeks : {A E : Type 0} (r : Result A E) (step : Step) (c : Content) (named : Bool) (old new : List Named) (folders : List Folder) (level : ℕ) (kind : Kind) → kind ≡ Data level → OnOk r (Seeks step c named kind old new folders)
+data_seeks (Ok x) step c named old new folders level kind is = subst (λ (k : Kind). Seeks step c named k old new folders) (sym is) tt
+data_seeks (Err e) step c named old new folders level kind is = tt
+
+pub root_seeks : (step : Step) (c : Content) (named : Bool) (old new : List Named) (folders : List Folder) (kind : Kind) → kind ≡ Root → Seeks step c named kind old new folders
+root_seeks step c named old new folders kind is = subst (λ (k : Kind). Seeks step c named k old new folders) (sym is) tt
 
 -- ---- which kind it is not
 

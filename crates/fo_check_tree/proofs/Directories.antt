@@ -1,11 +1,9 @@
 -- The directories of a tree, once nothing is left to be followed: no name stands twice in any.
-use Rattle.std.proofs.Common.{◌≡◌, ◌⊎◌, ⊎_elim, inl, inr, ℕ, zero, suc, ◌+◌, ◌*◌, ◌/◌, ◌%◌, ◌<◌, ◌≤◌, Bool, true, false, List, [], ◌∷◌, ◌++◌, append_assoc, Option, refl, sym, ap, ◌∙◌, subst, arith}
+use Rattle.std.proofs.Common.{◌≡◌, ◌⊎◌, ⊎_elim, ℕ, zero, suc, ◌+◌, ◌*◌, ◌/◌, ◌%◌, ◌<◌, Bool, List, [], ◌∷◌, ◌++◌, append_assoc, Option, refl, sym, ap, ◌∙◌, subst, arith}
 use Rattle.std.specs.Prelude.{cond, MatchOption}
 use Rattle.fo_disk.specs.Disk.{Block}
 use Rattle.fo_image.specs.declared.types.Kind.{Kind}
 use Rattle.fo_image.specs.declared.types.Kind.TheVariants.{Data, Dir, Root}
-use Rattle.fo_image.specs.declared.types.Entry.{Entry}
-use Rattle.fo_image.specs.declared.types.Label.{Label}
 use Rattle.fo_image.specs.declared.types.Super.{Super}
 use Rattle.fo_image.specs.declared.types.Score.{Score}
 use Rattle.fo_image.specs.declared.types.Pointer.{Pointer}
@@ -20,7 +18,6 @@ use Rattle.fo_good.specs.Trees.InTree.{top as tree_top, below as tree_below}
 use Rattle.fo_good.specs.Trees.HasRecords.{top as root_records, pair as pair_records}
 use Rattle.fo_good.specs.Sound.{Kept}
 use Rattle.fo_check_tree.specs.declared.broken.Broken.{Broken}
-use Rattle.fo_check_tree.specs.declared.labels.Known.{Known}
 use Rattle.fo_check_tree.specs.declared.tree.Found.{Found}
 use Rattle.fo_check_tree.specs.declared.walk.Folder.{Folder}
 use Rattle.fo_check_tree.specs.declared.walk.Step.{Step}
@@ -33,9 +30,11 @@ use Rattle.fo_check_tree.specs.Listing.{SomeOf}
 use Rattle.fo_check_tree.specs.Lower.{level, JudgesRoot}
 use Rattle.fo_check_tree.specs.Known.{reached, leaked}
 use Rattle.fo_check_tree.specs.Walking.{Goes, Fits, all_tops, Walking}
+use Rattle.fo_check_tree.specs.Pairing.{AreSettled}
+use Rattle.fo_check_tree.proofs.Settling.{tree_pairs}
 use Rattle.fo_check_tree.proofs.Ending.{whole, tree_labels, tree_formats, tree_once, tree_scores, tree_used, tree_leaked}
 use Rattle.fo_check_tree.proofs.Leaves.{goes_join}
-use Rattle.fo_check_tree.proofs.Paths.{goes_end, slot_end, found_is}
+use Rattle.fo_check_tree.proofs.Paths.{goes_end, found_is}
 
 module _ (arena : Arena) (image : Image) (empty : (kind : Kind) (score : Score) → arena kind score ≡ nothing) where
   -- ---- kinds on the way to a leaf of entries
@@ -48,7 +47,7 @@ module _ (arena : Arena) (image : Image) (empty : (kind : Kind) (score : Score) 
       ap (λ (u : Link). u.kind) (goes_way arena image v d (n / 409) (n % 409 ∷ []))
       ∙ ap (λ (x : Kind). kind_below x ((found arena image (goes arena image v (way d (n / 409) []))).slot (n % 409))) up
 
-  leaf_kind : (n : ℕ) (v : Link) → v.kind ≡ Dir (depth_of v.slot) → (goes arena image v (leaf_path v.slot n)).kind ≡ Dir zero
+  pub leaf_kind : (n : ℕ) (v : Link) → v.kind ≡ Dir (depth_of v.slot) → (goes arena image v (leaf_path v.slot n)).kind ≡ Dir zero
   leaf_kind n v is = let same : depth_of v.slot ≡ depth_of v.slot + 0 = omega arith in kind_down (depth_of v.slot) 0 n v (is ∙ ap (λ (x : ℕ). Dir x) same)
 
   top_kind : (s : Slot) → IsEntries s → kind_of_top s ≡ Dir (depth_of s)
@@ -205,8 +204,8 @@ fits_empty : (device : List Block) (image : Image) (steps : List Step) (n : ℕ 
 fits_empty device image steps n is fits = (subst (λ (xs : List Step). Fits device image xs n) is fits).each
 
 pub walked : (arena : Arena) (device : List Block) (image : Image) (s : Super) (k : Kept) (walk : Walk) (found : Found) → walk.steps.items ≡ [] → walk.folders.items ≡ []
-    → found.broken ≡ walk.noted → found.used ≡ reached walk.labels.known.items → found.leaked ≡ leaked s.low walk.labels.known.items → JudgesRoot k.root walk.noted → AreJudged arena image k [] walk → AreFormed arena image k walk.labels.known.items walk.noted walk.steps.items walk.folders.items → Walking arena device image s k [] walk → IsWalked arena device image s k found
-walked arena device image s k walk found steps folders broken used leaks judged dirs formed w =
+    → found.broken ≡ walk.noted → found.used ≡ reached walk.labels.known.items → found.leaked ≡ leaked s.low walk.labels.known.items → JudgesRoot k.root walk.noted → AreJudged arena image k [] walk → AreFormed arena image k walk.labels.known.items walk.noted walk.steps.items walk.folders.items → AreSettled arena image k walk.noted walk.folders.items → Walking arena device image s k [] walk → IsWalked arena device image s k found
+walked arena device image s k walk found steps folders broken used leaks judged dirs formed settled w =
     let known = walk.labels.known.items in
     let n : ℕ → ℕ → ℕ = λ b j. w.others b j + w.steps b j + w.folders b j in
     let none : (b j : ℕ) → w.others b j + w.steps b j + w.folders b j ≡ 0 = λ b j. omega (
@@ -222,6 +221,7 @@ walked arena device image s k walk found steps folders broken used leaks judged 
       once = λ quiet. tree_once arena device image s k w.holds.empty known walk.noted n w.goes none (subst (λ (o : Option Broken). 7 < level o) broken quiet);
       scores = λ quiet. tree_scores arena device image s k w.holds.empty known walk.noted n w.goes none (subst (λ (o : Option Broken). 9 < level o) broken quiet);
       leaves = λ quiet tree entries. tree_leaves arena device image s k w.holds walk n w.goes none judged steps folders dirs formed (subst (λ (o : Option Broken). 5 < level o) broken quiet) tree entries;
+      pairs = λ quiet tree. tree_pairs arena image k walk.noted (subst (λ (fs : List Folder). AreSettled arena image k walk.noted fs) folders settled) (subst (λ (o : Option Broken). 6 < level o) broken quiet) tree;
       named = subst (λ (o : Option Broken). MatchOption o (Unit {0}) (IsNamed arena image k)) (sym broken) w.goes.notes;
       used = tree_used arena device image s k w.holds.empty known walk.noted n w.goes none found.used used;
       leaked = tree_leaked arena device image s k w.holds.empty known walk.noted n w.goes none found.leaked leaks;

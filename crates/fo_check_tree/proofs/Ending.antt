@@ -1,6 +1,6 @@
 -- What is known once nothing is left to be followed.
 use Rattle.std.proofs.Common.{◌≡◌, ◌≢◌, ◌⊎◌, ⊎_elim, inl, inr, ℕ, zero, suc, ◌+◌, ◌<◌, ◌≤◌, Bool, true, false, not, List, [], ◌∷◌, ◌++◌, length, length-append, get_or, Option, refl, sym, ap, ◌∙◌, subst, arith}
-use Rattle.std.specs.Prelude.{◌&&◌, MatchOption}
+use Rattle.std.specs.Prelude.{◌&&◌}
 use Rattle.std.specs.List.{All, Any, Contains}
 use Rattle.std.proofs.lemmas.Bool.{false≢true}
 use Rattle.std.proofs.lemmas.List.{get_or_default}
@@ -27,17 +27,13 @@ use Rattle.fo_good.specs.Sound.{Kept}
 use Rattle.fo_good.specs.Lost.{IsUsed, IsLeaked, AreSoMany}
 use Rattle.fo_check_tree.specs.declared.broken.Broken.{Broken}
 use Rattle.fo_check_tree.specs.declared.labels.Known.{Known}
-use Rattle.fo_check_tree.specs.declared.tree.Found.{Found}
-use Rattle.fo_check_tree.specs.declared.walk.Walk.{Walk}
-use Rattle.fo_check_tree.specs.declared.walk.Step.{Step}
-use Rattle.fo_check_tree.specs.declared.walk.Folder.{Folder}
-use Rattle.fo_check_tree.specs.Answer.{IsNamed, IsWalked, RefusesTree, RefusesCheck}
+use Rattle.fo_check_tree.specs.Answer.{RefusesTree, RefusesCheck}
 use Rattle.fo_check_tree.specs.Table.{RefusesTable}
 use Rattle.fo_check_tree.specs.declared.error.TreeError.{TreeError}
 use Rattle.fo_check_tree.specs.declared.error.TreeError.TheVariants.{Label as BadLabel, Read, Memory}
 use Rattle.fo_check_tree.specs.Known.{reached, leaked}
-use Rattle.fo_check_tree.specs.Lower.{level, JudgesRoot}
-use Rattle.fo_check_tree.specs.Walking.{Reached, IsTaken, HasPath, place_under, tag_below, IsDone, Goes, Fits, all_tops, Walking}
+use Rattle.fo_check_tree.specs.Lower.{level}
+use Rattle.fo_check_tree.specs.Walking.{Reached, IsTaken, HasPath, place_under, tag_below, IsDone, Goes}
 use Rattle.fo_check_tree.specs.Walking.IsDone.{nowhere, left, held, local}
 use Rattle.fo_check_tree.proofs.Counting.{IsOne, so_many}
 use Rattle.fo_check_tree.proofs.Going.{local_is}

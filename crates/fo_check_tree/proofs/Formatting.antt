@@ -12,7 +12,7 @@ use Rattle.fo_image.specs.declared.types.Score.{Score}
 use Rattle.fo_image.specs.declared.types.Pointer.{Pointer}
 use Rattle.fo_image.specs.declared.types.Pointer.TheVariants.{Nil, Local, Score as Held}
 use Rattle.fo_crash.specs.declared.slot.Slot.{Slot}
-use Rattle.fo_crash.specs.declared.slot.Slot.TheVariants.{Pointer as To, Entry as Head, Prev}
+use Rattle.fo_crash.specs.declared.slot.Slot.TheVariants.{Entry as Head}
 use Rattle.fo_crash.specs.Images.{Content, Image, Arena, Link, target, found, goes, step as step_to, kind_below, kind_of_top}
 use Rattle.fo_meta.specs.Leaf.{IsLeaf}
 use Rattle.fo_sound.specs.Image.{block_of, IsDataBlock, HasLabel}
@@ -24,8 +24,7 @@ use Rattle.fo_check_tree.specs.declared.broken.Broken.{Broken}
 use Rattle.fo_check_tree.specs.declared.labels.Known.{Known}
 use Rattle.fo_check_tree.specs.declared.walk.Folder.{Folder}
 use Rattle.fo_check_tree.specs.declared.walk.Holder.{Holder}
-use Rattle.fo_check_tree.specs.declared.walk.Holds.{Holds}
-use Rattle.fo_check_tree.specs.declared.walk.Holds.TheVariants.{Bytes, Records}
+use Rattle.fo_check_tree.specs.declared.walk.Holds.TheVariants.{Records}
 use Rattle.fo_check_tree.specs.declared.walk.Step.{Step}
 use Rattle.fo_check_tree.specs.declared.walk.Walk.{Walk}
 use Rattle.fo_check_tree.specs.Dirs.{link_at, HasMeta}
@@ -38,13 +37,14 @@ use Rattle.fo_check_tree.specs.Lower.{lower, level}
 use Rattle.fo_check_tree.specs.Slots.{HasSlots, entry_of, top_step, step_below, steps_by, steps_below, steps_by_pairs, steps_of, first_steps, second_steps, pair_steps, pair_folders, folders_by, AreFolders, AddsFolders}
 use Rattle.fo_check_tree.specs.Slots.AreFolders.{none, more}
 use Rattle.fo_check_tree.specs.Walking.{Reached, Walking}
-use Rattle.fo_check_tree.proofs.Judging.{Entry', records_is, Grows, puts_more}
+use Rattle.fo_check_tree.specs.Pairing.{Grows}
+use Rattle.fo_check_tree.proofs.Judging.{Entry', records_is, puts_more}
 use Rattle.fo_check_tree.proofs.Leaves.{some_left, some_right, some_parts, goes_join, lost}
 use Rattle.fo_check_tree.proofs.Levels.{level-lower}
 use Rattle.fo_check_tree.proofs.Listed.{not_once}
-use Rattle.fo_check_tree.proofs.Paths.{slot_end, goes_end, found_is}
+use Rattle.fo_check_tree.proofs.Paths.{slot_end, goes_end}
 use Rattle.fo_check_tree.proofs.Reaching.{same_label, reached_cases, table_kept, reached_new}
-use Rattle.fo_check_tree.proofs.Slots.{none_below, one_below, no_pairs, one_pair}
+use Rattle.fo_check_tree.proofs.Slots.{one_below, one_pair}
 use Rattle.fo_check_tree.proofs.Stepping.{again_breaks, taken_of}
 
 -- ---- one of the steps or folders by the slots of a block
@@ -327,7 +327,7 @@ module _ (arena : Arena) (device : List Block) (image : Image) (s : Super) (k : 
     after_block at is (again m allowed marks same same' noted kept) =
         formed_like arena image k old.labels.known.items new.labels.known.items old.noted new.noted old.steps.items new.steps.items (others ++ old.folders.items) (others ++ new.folders.items) marks.same low same (ap (λ (fs : List Folder). others ++ fs) same')
         (shorter (λ link path b tree v kind leads. not_once arena device image s k link at (again_breaks arena device image s k rest step old new w at m is marks.none allowed.known) tree))
-    after_block at is (enters m allowed marks steps folders notes read adds leafs) = record {
+    after_block at is (enters m allowed marks steps folders notes read adds leafs seeks bytes) = record {
       each = λ quiet tree c i l r holds odd records path b kind leads. subst (λ (xs : List Step). IsFormed arena image xs (others ++ new.folders.items) c i path b) (sym (steps slots)) (⊎_elim
           (λ (same : c ≡ at). now quiet c i l same r holds odd records path b kind leads)
           (λ (before : Reached known c l). ⊎_elim

@@ -1,5 +1,5 @@
 -- Which directories are left or judged, with one step more of the walk.
-use Rattle.std.proofs.Common.{◌≡◌, ◌≢◌, ◌⊎◌, ⊎_elim, inl, inr, ℕ, zero, suc, ◌+◌, ◌-◌, ◌*◌, ◌^◌, ◌<◌, ◌≤◌, Bool, true, false, not, List, [], ◌∷◌, ◌++◌, length, append-nil, Option, Some, None, refl, sym, ap, ◌∙◌, subst, arith}
+use Rattle.std.proofs.Common.{◌≡◌, ◌≢◌, ⊎_elim, inl, inr, ℕ, zero, suc, ◌+◌, ◌-◌, ◌*◌, ◌^◌, ◌<◌, ◌≤◌, Bool, true, false, not, List, [], ◌∷◌, ◌++◌, length, append-nil, Option, Some, None, refl, sym, ap, ◌∙◌, subst, arith}
 use Rattle.std.specs.Prelude.{◌&&◌, cond, min}
 use Rattle.std.proofs.lemmas.Bool.{cases_eq}
 use Rattle.fo_disk.specs.Disk.{Block}
@@ -8,8 +8,8 @@ use Rattle.fo_image.specs.declared.types.Kind.TheVariants.{Data, Dir, Root}
 use Rattle.fo_image.specs.declared.types.Entry.{Entry}
 use Rattle.fo_image.specs.declared.types.Label.{Label}
 use Rattle.fo_image.specs.declared.types.Super.{Super}
-use Rattle.fo_image.specs.declared.types.Pointer.TheVariants.{Nil, Local}
-use Rattle.fo_image.specs.Format.{ActiveHolds, IsDepth}
+use Rattle.fo_image.specs.declared.types.Pointer.TheVariants.{Nil}
+use Rattle.fo_image.specs.Format.{ActiveHolds}
 use Rattle.fo_crash.specs.declared.slot.Slot.{Slot}
 use Rattle.fo_crash.specs.declared.slot.Slot.TheVariants.{Pointer as To, Entry as Head, Prev}
 use Rattle.fo_crash.specs.Images.{Content, Image, Arena, Link, kind_of_top}
@@ -32,6 +32,7 @@ use Rattle.fo_check_tree.specs.Follows.Reaches.{again, enters}
 use Rattle.fo_check_tree.specs.Follows.Follows.{nowhere, held, local}
 use Rattle.fo_check_tree.specs.Listing.{SomeOf, IsMetaOf}
 use Rattle.fo_check_tree.specs.Lower.{lower, level}
+use Rattle.fo_check_tree.specs.Pairing.{Grows}
 use Rattle.fo_check_tree.specs.Slots.{HasSlots, entry_of, pair_folders, folders_by, AreFolders, AddsFolders}
 use Rattle.fo_check_tree.specs.Slots.AreFolders.{none, more}
 use Rattle.fo_check_tree.specs.Walking.{Reached, Walking}
@@ -88,15 +89,15 @@ module _ (image : Image) (at : ℕ) (here : Holder) (depth : ℕ) where
       (λ (apart : p ≢ k). some_left (HasMeta image at (2 * p + 1)) old added (in_folders named k old are p (omega (arith, lt, apart)) a b))
       (cases_eq p k)
 
-pub record Grows (old new : List Folder) : Type 0 where
-  pub added : List Folder
-  pub is : new ≡ old ++ added
-
 pub puts_more : (here : Holder) (c : Content) (depth : ℕ) (named : Bool) (kind : Kind) (old new : List Folder) → Puts here c depth named kind old new → Grows old new
 puts_more here c depth named (Data level) old new w = record { added = []; is = w ∙ sym (append-nil old) }
 puts_more here c depth named (Dir zero) old new w = record { added = w.added; is = w.behind }
 puts_more here c depth named (Dir (suc level)) old new w = record { added = []; is = w ∙ sym (append-nil old) }
 puts_more here c depth named Root old new w = record { added = []; is = w ∙ sym (append-nil old) }
+
+pub holds_active : (e : Entry) → (a : Bool) → a ≡ true → ActiveHolds a e → e.size ≤ 8192 * 409 ^ e.depth
+holds_active e true is h = h.0.room
+holds_active e false is h = absurd (cc)
 
 module _ (arena : Arena) (device : List Block) (image : Image) (s : Super) (k : Kept) where
   -- ---- folders that are added
@@ -120,7 +121,7 @@ module _ (arena : Arena) (device : List Block) (image : Image) (s : Super) (k : 
   module _ (rest : List Step) (step : Step) (old new : Walk) (w : Walking arena device image s k (step ∷ rest) old) (others : List Folder) (j : AreJudged arena image k others old) (depth : ℕ) (named : Bool) (lower' : level new.noted ≤ level old.noted) where
     after_block : (at : ℕ) → Reaches device image depth named step at old new → AreJudged arena image k others new
     after_block at (again m allowed marks same same' noted kept) = judged_like others old new marks.same same' lower' j
-    after_block at (enters m allowed marks steps folders notes read adds leafs) = record {
+    after_block at (enters m allowed marks steps folders notes read adds leafs seeks bytes) = record {
       top = λ entries quiet tree. judged_more others old.folders.items new.folders.items grows.added k.at 1 grows.is (j.top entries (omega (arith, quiet, lower')) tree);
       pairs = λ quiet tree b p l r leaf lt x y. ⊎_elim
           (λ (same : b ≡ at).
@@ -173,10 +174,6 @@ module _ (arena : Arena) (device : List Block) (image : Image) (s : Super) (k : 
           (some_parts (HasMeta image at i) new.folders.items (f ∷ []) (subst (λ (fs : List Folder). SomeOf (HasMeta image at i) fs) folders x)))
           (λ (n : HasOwnNames arena image (link_at image at i)). inr n)
           h
-
-  holds_active : (e : Entry) → (a : Bool) → a ≡ true → ActiveHolds a e → e.size ≤ 8192 * 409 ^ e.depth
-  holds_active e true is h = h.0.room
-  holds_active e false is h = absurd (cc)
 
   head_is : (a b : Entry) → Head a ≡ Head b → a ≡ b
   head_is a b e = cc

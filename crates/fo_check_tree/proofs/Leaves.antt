@@ -1,20 +1,19 @@
 -- The leaves of a source of records, with one step more of the walk.
 use Rattle.std.proofs.Common.{◌≡◌, ◌≢◌, ◌⊎◌, ⊎_elim, inl, inr, ℕ, zero, suc, ◌+◌, ◌*◌, ◌/◌, ◌%◌, ◌^◌, ◌<◌, ◌≤◌, List, [], ◌∷◌, ◌++◌, map, length, length-append, append-nil, append_assoc, refl, sym, ap, ◌∙◌, subst, arith}
 use Rattle.std.proofs.Math.Nat.{pow-succ'}
-use Rattle.std.specs.List.{All, Any, AllByRecursion}
+use Rattle.std.specs.List.{Any, AllByRecursion}
 use Rattle.std.proofs.lemmas.Bool.{cases_eq, cases_lt}
 use Rattle.fo_disk.specs.Disk.{Block}
 use Rattle.fo_image.specs.declared.types.Kind.{Kind}
-use Rattle.fo_image.specs.declared.types.Kind.TheVariants.{Data, Dir, Root}
+use Rattle.fo_image.specs.declared.types.Kind.TheVariants.{Data}
 use Rattle.fo_image.specs.declared.types.Label.{Label}
 use Rattle.fo_image.specs.declared.types.Score.{Score}
 use Rattle.fo_image.specs.declared.types.Pointer.{Pointer}
 use Rattle.fo_image.specs.declared.types.Pointer.TheVariants.{Nil, Local, Score as Held}
-use Rattle.fo_image.specs.declared.record.Record.{Record}
-use Rattle.fo_crash.specs.Images.{Content, Image, Arena, Link, target, meant, found, step as step_to, goes, way, leaf_path, depth_of, nothing}
+use Rattle.fo_crash.specs.Images.{Content, Image, Arena, Link, target, meant, step as step_to, goes, way, leaf_path, depth_of, nothing}
 use Rattle.fo_meta.specs.Leaf.{IsLeaf, SpellsLeaf}
 use Rattle.fo_good.specs.Means.{EndsAt}
-use Rattle.fo_good.specs.Trees.{IsTree, IsWithin, size_of}
+use Rattle.fo_good.specs.Trees.{IsTree, IsWithin}
 use Rattle.fo_good.specs.Sound.{Kept}
 use Rattle.fo_check_names.specs.Names.{named_in}
 use Rattle.fo_check_names.specs.declared.names.Named.{Named}
@@ -24,7 +23,7 @@ use Rattle.fo_check_tree.specs.declared.walk.Step.{Step}
 use Rattle.fo_check_tree.specs.Known.{Ascend, IsKnown, Marks}
 use Rattle.fo_check_tree.specs.Walking.{Reached}
 use Rattle.fo_check_tree.specs.Slots.{index_below, step_below, steps_by, steps_below}
-use Rattle.fo_check_tree.specs.Listing.{AddsNamed, SomeOf, Leaf, IsLeafIn, all_named, Apart, IsSeen, IsInSource, IsOnWay, IsListed, IsListing}
+use Rattle.fo_check_tree.specs.Listing.{AddsNamed, SomeOf, Leaf, IsSeen, IsInSource, IsOnWay, IsListed, IsListing}
 use Rattle.fo_check_tree.specs.Listing.AddsNamed.{none, some}
 use Rattle.fo_check_tree.proofs.Paths.{slot_end}
 use Rattle.fo_check_tree.proofs.Reaching.{reached_kept, not_before, reached_new}

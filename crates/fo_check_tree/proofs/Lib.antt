@@ -14,6 +14,9 @@ mod Noting
 mod Paths
 mod Reaching
 mod Scanning
+mod Searching
+mod Seeking
+mod Settling
 mod Slots
 mod Spelled
 mod Sprouting

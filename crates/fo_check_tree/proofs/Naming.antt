@@ -1,5 +1,5 @@
 -- What is said of the names of a directory, once all its leaves were read.
-use Rattle.std.proofs.Common.{◌≡◌, ◌≢◌, ◌⊎◌, ⊎_elim, inl, inr, ℕ, zero, suc, Bool, ◌+◌, ◌-◌, ◌*◌, ◌^◌, ◌<◌, ◌≤◌, List, [], ◌∷◌, ◌++◌, map, length, length-append, get_or, refl, sym, ap, ◌∙◌, subst, arith, Option, Some, None, MatchOption}
+use Rattle.std.proofs.Common.{◌≡◌, ◌≢◌, ◌⊎◌, ⊎_elim, inl, inr, ℕ, zero, suc, Bool, false, ◌+◌, ◌-◌, ◌*◌, ◌^◌, ◌<◌, ◌≤◌, List, [], ◌∷◌, ◌++◌, map, length, length-append, get_or, refl, sym, ap, ◌∙◌, subst, arith, Option, Some, None, MatchOption}
 use Rattle.std.specs.Prelude.{cond}
 use Rattle.std.specs.List.{AllByRecursion}
 use Rattle.std.proofs.lemmas.Bool.{cases_eq, cases_lt}
@@ -11,22 +11,23 @@ use Rattle.fo_image.specs.declared.types.Score.{Score}
 use Rattle.fo_image.specs.declared.types.Pointer.{Pointer}
 use Rattle.fo_image.specs.declared.types.Pointer.TheVariants.{Nil, Local, Score as Held}
 use Rattle.fo_crash.specs.declared.slot.Slot.{Slot}
-use Rattle.fo_crash.specs.Images.{Content, Image, Arena, Link, target, meant, found, goes, leaf_path, depth_of, bytes_at, nothing}
+use Rattle.fo_crash.specs.Images.{Content, Image, Arena, Link, target, meant, goes, leaf_path, depth_of, bytes_at, nothing}
 use Rattle.fo_meta.specs.Leaf.{IsLeaf, SpellsLeaf}
-use Rattle.fo_good.specs.Trees.{IsTree, IsWithin, Lists, size_of}
+use Rattle.fo_good.specs.Trees.{IsTree, Lists, size_of}
 use Rattle.fo_good.specs.Sound.{Kept}
 use Rattle.fo_good.proofs.Leaf.{leaf_is_read}
-use Rattle.fo_check_names.specs.Names.{named_in, name_of, leaf_of, Differ, IsTwice}
+use Rattle.fo_check_names.specs.Names.{named_in, name_of, slot_of, leaf_of, Differ, IsTwice}
 use Rattle.fo_check_names.specs.declared.names.Named.{Named}
 use Rattle.fo_check_tree.specs.declared.labels.Known.{Known}
 use Rattle.fo_check_tree.specs.Answer.{HasOwnNames}
-use Rattle.fo_check_tree.specs.Listing.{SomeOf, Leaf, IsLeafIn, all_named, Apart, IsListed, IsInSource, IsListing, HasNameTwice, JudgesNames, IsMetaOf}
+use Rattle.fo_check_tree.specs.Listing.{SomeOf, Leaf, IsLeafIn, all_named, Apart, IsInSource, IsListing, HasNameTwice, JudgesNames, IsMetaOf}
 use Rattle.fo_check_tree.specs.declared.broken.Broken.{Broken}
 use Rattle.fo_check_tree.specs.declared.walk.Folder.{Folder}
 use Rattle.fo_check_tree.specs.declared.walk.Holds.TheVariants.{Records}
 use Rattle.fo_check_tree.specs.declared.walk.Step.{Step}
 use Rattle.fo_check_tree.specs.Lower.{level}
 use Rattle.fo_check_tree.specs.Notes.{NotesLeaf}
+use Rattle.fo_check_tree.specs.Pairing.{HasOwnSlots, IsNamedIn}
 use Rattle.fo_check_tree.specs.Slots.{top_step}
 use Rattle.fo_check_tree.proofs.Leaves.{way_same}
 use Rattle.fo_check_tree.proofs.Levels.{level-lower}
@@ -243,26 +244,42 @@ module _ (arena : Arena) (image : Image) (empty : (kind : Kind) (score : Score) 
         (λ (s : SomeOf (λ (v : Leaf). v.path ≡ leaf_path meta.slot n) l.leaves). let f = in_list n j b.0 r h b.1 l.leaves l.right s in record { at = f.place; leaf = f.leaf; is = f.is; number = f.number })
         (l.whole tree n b.0 (record { within = h.within; leads = b.1; leaf = leaf }))
 
+    own : {K : Type 0} (of : Record → K) → Differ (λ (x : Named). of x.listed) named → IsTree arena image k.at → (n j m i : ℕ) (r q : Record) → Lists arena image meta n j r → Lists arena image meta m i q → of r ≡ of q → (n ≡ m) × (j ≡ i)
+    own of w tree n j m i r q h g same =
+        let a = place_of tree n j r h in
+        let b = place_of tree m i q g in
+        let d : Named = named_in 0 r in
+        let size : length named ≡ length (all_named l.leaves) = ap (λ (xs : List Named). length xs) l.named_is in
+        let ra : get_or named a.at d ≡ named_in a.leaf.block r = same_name a.at a.leaf j r a.is d in
+        let rb : get_or named b.at d ≡ named_in b.leaf.block q = same_name b.at b.leaf i q b.is d in
+        let keys : of (get_or named a.at d).listed ≡ of (get_or named b.at d).listed = ap (λ (x : Named). of x.listed) ra ∙ same ∙ sym (ap (λ (x : Named). of x.listed) rb) in
+        ⊎_elim
+        (λ (less : a.at < b.at). absurd (w.each a.at b.at d less (omega (arith, size, low l.leaves b.at b.leaf i q b.is)) keys))
+        (λ (ge : b.at ≤ a.at). ⊎_elim
+        (λ (eq : a.at ≡ b.at).
+        let o = one_leaf l.leaves a.at a.leaf j r b.leaf i q a.is (subst (λ (p : ℕ). At l.leaves p b.leaf i q) (sym eq) b.is) in
+        (sym a.number ∙ ap (λ (v : Leaf). v.index) o.0 ∙ b.number, o.1))
+        (λ (apart : a.at ≢ b.at). absurd (w.each b.at a.at d (omega (arith, ge, apart)) (omega (arith, size, low l.leaves a.at a.leaf j r a.is)) (sym keys)))
+        (cases_eq a.at b.at))
+        (cases_lt a.at b.at)
+
     pub own_names : Differ name_of named → IsTree arena image k.at → HasOwnNames arena image meta
-    own_names w tree = record {
-      each = λ n j m i r q h g same.
-          let a = place_of tree n j r h in
-          let b = place_of tree m i q g in
-          let d : Named = named_in 0 r in
-          let size : length named ≡ length (all_named l.leaves) = ap (λ (xs : List Named). length xs) l.named_is in
-          let ra : get_or named a.at d ≡ named_in a.leaf.block r = same_name a.at a.leaf j r a.is d in
-          let rb : get_or named b.at d ≡ named_in b.leaf.block q = same_name b.at b.leaf i q b.is d in
-          let names : name_of (get_or named a.at d) ≡ name_of (get_or named b.at d) = ap (λ (x : Named). name_of x) ra ∙ same ∙ sym (ap (λ (x : Named). name_of x) rb) in
-          ⊎_elim
-          (λ (less : a.at < b.at). absurd (w.each a.at b.at d less (omega (arith, size, low l.leaves b.at b.leaf i q b.is)) names))
-          (λ (ge : b.at ≤ a.at). ⊎_elim
-          (λ (eq : a.at ≡ b.at).
-          let o = one_leaf l.leaves a.at a.leaf j r b.leaf i q a.is (subst (λ (p : ℕ). At l.leaves p b.leaf i q) (sym eq) b.is) in
-          (sym a.number ∙ ap (λ (v : Leaf). v.index) o.0 ∙ b.number, o.1))
-          (λ (apart : a.at ≢ b.at). absurd (w.each b.at a.at d (omega (arith, ge, apart)) (omega (arith, size, low l.leaves a.at a.leaf j r a.is)) (sym names)))
-          (cases_eq a.at b.at))
-          (cases_lt a.at b.at);
-    }
+    own_names w tree = record { each = own (λ (r : Record). r.name) w tree }
+
+    pub own_slots : Differ slot_of named → IsTree arena image k.at → HasOwnSlots arena image meta
+    own_slots w tree = record { each = own (λ (r : Record). r.slot) w tree }
+
+    pub fresh : (i : ℕ) (d : Named) → i < length named → (get_or named i d).found ≡ false
+    fresh i d lt =
+        let size : length named ≡ length (all_named l.leaves) = ap (λ (xs : List Named). length xs) l.named_is in
+        let f = find l.leaves i (omega (arith, lt, size)) in
+        ap (λ (x : Named). x.found) (same_name i f.leaf f.place f.named f.at d)
+
+    pub is_named : IsTree arena image k.at → (n j : ℕ) (r : Record) → Lists arena image meta n j r → IsNamedIn named r
+    is_named tree n j r h =
+        let a = place_of tree n j r h in
+        let size : length named ≡ length (all_named l.leaves) = ap (λ (xs : List Named). length xs) l.named_is in
+        record { at = a.at; within = omega (arith, size, low l.leaves a.at a.leaf j r a.is); is = λ d. ap (λ (x : Named). x.listed) (same_name a.at a.leaf j r a.is d) }
 
     pub judged : (o : Option ℕ) → MatchOption o (Differ name_of named) (IsTwice name_of leaf_of named) → JudgesNames arena image k meta o
     judged None w = own_names w

@@ -1,10 +1,10 @@
 -- The walk at its root.
-use Rattle.std.proofs.Common.{◌≡◌, ⊎_elim, inl, inr, ℕ, zero, suc, ◌+◌, ◌*◌, ◌%◌, ◌<◌, ◌≤◌, Bool, true, false, List, [], ◌∷◌, ◌++◌, drop, length, get_or, Option, Some, refl, sym, ap, ◌∙◌, subst, arith}
-use Rattle.std.specs.Prelude.{MatchBool, MatchOption}
+use Rattle.std.proofs.Common.{◌≡◌, ⊎_elim, inl, inr, ℕ, zero, suc, ◌+◌, ◌*◌, ◌%◌, ◌^◌, ◌<◌, ◌≤◌, Bool, true, false, List, [], ◌∷◌, ◌++◌, drop, length, get_or, Option, Some, refl, sym, ap, ◌∙◌, subst, arith}
+use Rattle.std.specs.Prelude.{cond, MatchBool, MatchOption}
 use Rattle.std.specs.List.{All, Any}
 use Rattle.std.proofs.lemmas.Bool.{false≢true}
 use Rattle.fo_disk.specs.Disk.{Block}
-use Rattle.fo_image.specs.declared.types.Kind.TheVariants.{Dir, Root}
+use Rattle.fo_image.specs.declared.types.Kind.TheVariants.{Data, Dir, Root}
 use Rattle.fo_image.specs.declared.types.State.TheVariants.{Free, Live}
 use Rattle.fo_image.specs.declared.types.Label.{Label}
 use Rattle.fo_image.specs.declared.types.Entry.{Entry}
@@ -13,9 +13,9 @@ use Rattle.fo_image.specs.declared.types.Pointer.TheVariants.{Nil, Local}
 use Rattle.fo_image.specs.Place.{label_blocks}
 use Rattle.fo_crash.specs.declared.slot.Slot.{Slot}
 use Rattle.fo_crash.specs.declared.slot.Slot.TheVariants.{Entry as Head}
-use Rattle.fo_crash.specs.Images.{Image, Arena, target, goes as goes_to, kind_below}
+use Rattle.fo_crash.specs.Images.{Image, Arena, target, goes as goes_to, kind_below, kind_of_top}
 use Rattle.fo_sound.specs.Image.{block_of, IsDataBlock, HasLabel}
-use Rattle.fo_sound.specs.Sound.{root_label}
+use Rattle.fo_sound.specs.Sound.{root_label, HasRootEntries}
 use Rattle.fo_good.specs.Sound.{Kept}
 use Rattle.fo_check_tree.specs.declared.broken.Broken.{Broken}
 use Rattle.fo_check_tree.specs.declared.labels.Known.{Known}
@@ -35,14 +35,17 @@ use Rattle.fo_good.specs.Means.{IsRead}
 use Rattle.fo_image.specs.Record.{SpellsRoot}
 use Rattle.fo_check_tree.specs.Lower.{level, JudgesRoot}
 use Rattle.fo_check_tree.specs.Notes.{Lowers}
+use Rattle.fo_check_tree.specs.Pairing.{IsHeadOf, AreSettled}
 use Rattle.fo_check_tree.specs.Slots.{top_step}
 use Rattle.fo_check_names.specs.Pairs.{no_entry}
 use Rattle.fo_check_tree.specs.Table.{IsScanned}
 use Rattle.fo_check_tree.specs.Walking.{Reached, IsTable, HasPath, IsStepOf, tag_below, one, Fits, all_tops, IsDone, Goes, IsUnbegun, Walking}
 use Rattle.fo_check_tree.specs.Walking.IsDone.{nowhere, left}
 use Rattle.fo_check_tree.proofs.Going.{named_lowers}
+use Rattle.fo_check_tree.proofs.Judging.{holds_active}
 use Rattle.fo_check_tree.proofs.Leaves.{lost}
 use Rattle.fo_check_tree.proofs.Reaching.{same_label, reached_cases, reached_new, table_kept}
+use Rattle.fo_check_tree.proofs.Settling.{settled_first}
 use Rattle.fo_check_tree.proofs.Spelled.{only_has}
 use Rattle.fo_check_tree.proofs.Sprouting.{top_not_root}
 use Rattle.fo_check_tree.proofs.Waiting.{one_here, one_slot, one_most, one_is}
@@ -280,3 +283,38 @@ module _ (arena : Arena) (device : List Block) (image : Image) (s : Super) (k : 
             let slot : (image k.at).slot 1 ≡ Head r = head.0 ∙ ap (λ (x : Entry). Head x) (sym (wr.shallow head.1)) in
             inr (inr (subst (λ (fs : List Folder). SomeOf (HasMeta image k.at 1) fs) (sym one_folder) (inl (record { entry = r; is = refl; slot = slot }))))
         by quiet path b (suc (suc i)) odd leads = absurd (lost arena image holds.empty path (link_at image k.at (suc (suc i))) (λ a x. nil_is a (sym (others_nil (suc (suc i)) (omega arith)) ∙ x)) b leads)
+
+    pub settles : (e r : Entry) → IsEntryOf k.root.entries e → IsEntryOf k.root.meta r
+        → new.folders.items ≡ old.folders.items ++ record { entries = e; records = Some r; holder = record { block = s.active; label = root_label s }; depth = 0; named = true } ∷ []
+        → JudgesRoot k.root new.noted → AreSettled arena image k new.noted new.folders.items
+    settles e r we wr folders judged = settled_first arena image k new.noted new.folders.items (λ quiet. subst (λ (fs : List Folder). SomeOf (IsHeadOf (link_at image k.at 0) (link_at image k.at 1)) fs) (sym one_folder) (inl (head quiet)))
+      where
+        f : Folder
+        f = record { entries = e; records = Some r; holder = record { block = s.active; label = root_label s }; depth = 0; named = true }
+
+        one_folder : new.folders.items ≡ record { entries = e; records = Some r; holder = record { block = s.active; label = root_label s }; depth = 0; named = true } ∷ []
+        one_folder = folders ∙ ap (λ (fs : List Folder). fs ++ record { entries = e; records = Some r; holder = record { block = s.active; label = root_label s }; depth = 0; named = true } ∷ []) u.nothing.1
+
+        head : 6 < level new.noted → IsHeadOf (link_at image k.at 0) (link_at image k.at 1) (record { entries = e; records = Some r; holder = record { block = s.active; label = root_label s }; depth = 0; named = true })
+        head quiet =
+            let root : HasRootEntries k.root = judged.entries quiet in
+            let a = is_head 0 k.root.entries (omega (arith, quiet)) judged.first holds.entries in
+            let b = is_head 1 k.root.meta (omega (arith, quiet)) judged.second holds.meta in
+            let first : k.root.entries ≡ e = sym (we.shallow a.1) in
+            let second : k.root.meta ≡ r = sym (wr.shallow b.1) in
+            record {
+              named = refl;
+              slot = a.0 ∙ ap (λ (x : Entry). Head x) first;
+              dir = subst (λ (x : Entry). x.dir ≡ true) first root.entries_dir;
+              kind = ap kind_of_top a.0 ∙ ap (λ (d : Bool). cond d (Dir k.root.entries.depth) (Data k.root.entries.depth)) root.entries_dir ∙ ap (λ (x : Entry). Dir x.depth) first;
+              shallow = subst (λ (x : Entry). x.depth ≤ 4) first a.1;
+              records = record {
+                entry = r;
+                is = refl;
+                slot = b.0 ∙ ap (λ (x : Entry). Head x) second;
+                file = subst (λ (x : Entry). x.dir ≡ false) second root.meta_dir;
+                kind = ap kind_of_top b.0 ∙ ap (λ (d : Bool). cond d (Dir k.root.meta.depth) (Data k.root.meta.depth)) root.meta_dir ∙ ap (λ (x : Entry). Data x.depth) second;
+                room = subst (λ (x : Entry). x.size ≤ 8192 * 409 ^ x.depth) second (holds_active k.root.meta k.root.meta.active root.meta_active holds.active.block.holds.meta_holds.active_holds);
+                shallow = subst (λ (x : Entry). x.depth ≤ 4) second b.1;
+              };
+            }

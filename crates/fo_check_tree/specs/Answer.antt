@@ -13,7 +13,7 @@ use Rattle.fo_crash.specs.Images.{Content, Image, Arena, Link, target, nothing, 
 use Rattle.fo_sound.specs.Image.{block_of, IsDataBlock, HasLabel}
 use Rattle.fo_sound.specs.Sound.{HasActiveRoot, HasRootEntries}
 use Rattle.fo_good.specs.Means.{EndsAt, Means}
-use Rattle.fo_good.specs.Trees.{HasLabelBelow, HasTreeLabels, HasNoScores, HasLeaves, Lists, IsTree, LeadsTo, at_path, place_of}
+use Rattle.fo_good.specs.Trees.{HasLabelBelow, HasTreeLabels, HasNoScores, HasLeaves, HasPairs, Lists, IsTree, LeadsTo, at_path, place_of}
 use Rattle.fo_good.specs.Sound.{Kept}
 use Rattle.fo_good.specs.Lost.{IsUsed, IsLeaked, AreSoMany}
 use Rattle.fo_check_tree.specs.declared.broken.Broken.{Broken}
@@ -75,7 +75,8 @@ pub record HasOwnNames (arena : Arena) (image : Image) (meta : Link) : Type 0 wh
 -- rule no higher than 5 is named, each block is of its format; unless one no higher than 6, the root's entries are those of a root; unless
 -- one no higher than 7, no block is at two places; unless one no higher than 9, no pointer is a score. Where no block is at two places and
 -- the root's entries are those of a root, leaves of records are of their format and no name stands twice in a directory, unless a rule no
--- higher than 5 is named.
+-- higher than 5 is named. Where no block is at two places each record of a directory to which names lead has its pair, and no two have
+-- one, unless a rule no higher than 6 is named.
 pub record IsWalked (arena : Arena) (device : List Block) (image : Image) (s : Super) (k : Kept) (found : Found) : Type 0 where
   pub labels : HasTreeLabels arena device image k.at k.root.epoch true
   pub entries : 6 < level found.broken → HasRootEntries k.root
@@ -83,6 +84,7 @@ pub record IsWalked (arena : Arena) (device : List Block) (image : Image) (s : S
   pub formats : 5 < level found.broken → Means arena device image (from_block k.at)
   pub scores : 9 < level found.broken → HasNoScores arena image k.at
   pub leaves : 5 < level found.broken → IsTree arena image k.at → HasRootEntries k.root → HasLeaves arena image k.at
+  pub pairs : 6 < level found.broken → IsTree arena image k.at → HasPairs arena image k.at
   pub named : MatchOption found.broken (Unit {0}) (IsNamed arena image k)
   pub used : AreSoMany (length device) (IsUsed arena image k []) found.used
   pub leaked : AreSoMany (length device) (IsLeaked arena device image s k []) found.leaked

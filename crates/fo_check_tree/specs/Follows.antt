@@ -13,7 +13,7 @@ use Rattle.fo_check_tree.specs.declared.error.TreeError.{TreeError}
 use Rattle.fo_check_tree.specs.declared.error.TreeError.TheVariants.{Label as BadLabel, Read, Memory}
 use Rattle.fo_meta.specs.Leaf.{IsLeaf}
 use Rattle.fo_check_tree.specs.declared.walk.Folder.{Folder}
-use Rattle.fo_check_tree.specs.declared.walk.Holds.TheVariants.{Records}
+use Rattle.fo_check_tree.specs.declared.walk.Holds.TheVariants.{Bytes, Records}
 use Rattle.fo_check_tree.specs.declared.walk.Holder.{Holder}
 use Rattle.fo_check_tree.specs.declared.walk.Step.{Step}
 use Rattle.fo_check_tree.specs.declared.walk.Walk.{Walk}
@@ -22,6 +22,7 @@ use Rattle.fo_check_tree.specs.Listing.{Adds}
 use Rattle.fo_check_tree.specs.declared.broken.Broken.{Broken}
 use Rattle.fo_check_tree.specs.Lower.{lower, level}
 use Rattle.fo_check_tree.specs.Notes.{NotesAt}
+use Rattle.fo_check_tree.specs.Pairing.{Seeks}
 use Rattle.fo_check_tree.specs.Slots.{HasSlots, steps_of, AddsFolders}
 use Rattle.fo_check_tree.specs.Steps.{IsAllowed, BreaksStep}
 
@@ -48,6 +49,8 @@ pub data Reaches (device : List Block) (image : Image) (depth : ℕ) (named : Bo
       → Reads step.kind (image at) (block_of device at) new.noted
       → Adds step at (block_of device at) step.kind old.named.items new.named.items
       → (step.kind ≡ Data 0 → step.holds ≡ Records → 5 < level new.noted → IsLeaf (block_of device at))
+      → (HasSlots step.kind (image at) (block_of device at) → Seeks step (image at) named step.kind old.named.items new.named.items new.folders.items)
+      → (step.kind ≡ Data 0 → step.holds ≡ Bytes → new.named.items ≡ old.named.items)
       → Reaches device image depth named step at old new
 
 -- A step was taken: it leads nowhere, to a score, for which rule 9 is noted, or to a block.

@@ -7,6 +7,7 @@ pub mod Known
 pub mod Listing
 pub mod Lower
 pub mod Notes
+pub mod Pairing
 pub mod Slots
 pub mod Steps
 pub mod Table

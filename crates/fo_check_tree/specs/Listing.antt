@@ -17,7 +17,7 @@ use Rattle.fo_check_names.specs.Names.{named_in}
 use Rattle.fo_check_names.specs.declared.names.Named.{Named}
 use Rattle.fo_check_tree.specs.declared.labels.Known.{Known}
 use Rattle.fo_check_tree.specs.declared.walk.Folder.{Folder}
-use Rattle.fo_check_tree.specs.declared.walk.Holds.TheVariants.{Bytes, Records}
+use Rattle.fo_check_tree.specs.declared.walk.Holds.TheVariants.{Records}
 use Rattle.fo_check_tree.specs.declared.walk.Step.{Step}
 use Rattle.fo_check_tree.specs.Answer.{HasOwnNames}
 use Rattle.fo_check_tree.specs.Walking.{Reached}

@@ -22,17 +22,18 @@ ghost use Rattle.fo_check_tree.specs.Lower.{lower, level};
 ghost use Rattle.fo_check_tree.specs.Slots.{top_step, entry_of, HasSlot, steps_by_pairs, AddsFolders, pair_steps, first_steps, second_steps, pair_folders, folders_by};
 ghost use Rattle.fo_check_names.specs.Pairs.{no_entry, is_folder, is_source, records_of};
 ghost use Rattle.fo_check_tree.specs.Notes.{NotesAt};
+ghost use Rattle.fo_check_tree.specs.Pairing.{Searches, AreInOrder, IsHeadOf, IsSettled, Grows};
+ghost use Rattle.fo_check_names.specs.Finds.{Finds};
 
 use crate::blocks::follow_all;
 use crate::error::TreeError;
 use crate::walk::{Folder, Holder, Holds, Step, Walk};
 use fo_check_names::{
-    add_numbers, is_alone, is_both, is_folder, is_source, records_of, same_name, same_pair,
-    without_pair,
+    add_numbers, find_pair, is_alone, is_both, is_folder, is_source, records_of, same_name,
+    same_pair, without_pair,
 };
 use fo_disk::Disk;
 use fo_image::{Entry, Pointer, read_entry};
-use fo_rules::has_pair;
 use std::alloc::{AllocError, Global};
 
 const NO_ENTRY: Entry = Entry {
@@ -58,6 +59,7 @@ pub(crate) fn shallow(walk: &mut Walk, block: u32, entry: &Entry) -> Entry
     ensures none { 4 < entry.now.depth → result ≡ no_entry }
     ensures deep { 4 < entry.now.depth → level walk.new.noted ≤ 5 }
     ensures notes { NotesAt block walk.old.noted walk.new.noted }
+    ensures named { walk.new.named.items ≡ walk.old.named.items }
 {
     if entry.depth <= 4 {
         *entry
@@ -81,6 +83,7 @@ fn entry_at(walk: &mut Walk, here: Holder, block: &[u8], i: usize) -> Entry
     ensures steps { walk.new.steps.items ≡ walk.old.steps.items }
     ensures folders { walk.new.folders.items ≡ walk.old.folders.items }
     ensures level { level walk.new.noted ≤ level walk.old.noted }
+    ensures named { walk.new.named.items ≡ walk.old.named.items }
 {
     match read_entry(&block[40 * i..40 * i + 40]) {
         Ok(entry) => shallow(walk, here.block, &entry),
@@ -112,13 +115,14 @@ pub(crate) fn add_entries(
     ensures steps { OnOk result (length walk.new.steps.items ≤ length walk.old.steps.items + 204) }
     ensures folders { OnOk result (length walk.new.folders.items ≤ length walk.old.folders.items + 204) }
     ensures level { OnOk result (level walk.new.noted ≤ level walk.old.noted) }
+    ensures sought { (c : Content) → ((i : ℕ) → i < 204 → HasSlot c block.now i) → OnOk result (Searches index c named 102 walk.old.named.items walk.new.named.items walk.new.folders.items) }
 {
     walk.note_rest(here.block, &block[8160..]);
     let below = depth.saturating_add(1);
     for k in 0..102 {
         let first = entry_at(walk, here, block, 2 * k);
         let second = entry_at(walk, here, block, 2 * k + 1);
-        let of = find_pair(
+        let of = find_here(
             walk,
             index.saturating_mul(102).saturating_add(k as u64),
             &first,
@@ -131,7 +135,8 @@ pub(crate) fn add_entries(
 }
 
 /// Whether a record of the directory in course names this pair and is its own.
-fn find_pair(walk: &mut Walk, slot: u64, first: &Entry, second: &Entry) -> bool
+fn find_here(walk: &mut Walk, slot: u64, first: &Entry, second: &Entry) -> bool
+    ensures finds { Finds slot first.now second.now result walk.old.named.items walk.new.named.items }
     ensures noted { walk.new.noted ≡ walk.old.noted }
     ensures blocks { walk.new.blocks ≡ walk.old.blocks }
     ensures tree { (walk.new.epoch ≡ walk.old.epoch) × (walk.new.active ≡ walk.old.active) }
@@ -140,16 +145,7 @@ fn find_pair(walk: &mut Walk, slot: u64, first: &Entry, second: &Entry) -> bool
     ensures folders { walk.new.folders.items ≡ walk.old.folders.items }
     ensures level { level walk.new.noted ≤ level walk.old.noted }
 {
-    let at = walk
-        .named
-        .partition_point(|n| u64::from(n.listed.slot) < slot);
-    if at < walk.named.len() && u64::from(walk.named[at].listed.slot) == slot {
-        let fits = has_pair(&walk.named[at].listed, first, second);
-        walk.named[at].found = fits;
-        fits
-    } else {
-        false
-    }
+    find_pair(&mut walk.named, slot, first, second)
 }
 
 /// A pair of entries: a directory, or sources of their own.
@@ -170,6 +166,7 @@ fn add_pair(
     ensures steps { OnOk result (length walk.new.steps.items ≤ length walk.old.steps.items + 2) }
     ensures folders { OnOk result (length walk.new.folders.items ≤ length walk.old.folders.items + 2) }
     ensures level { OnOk result (level walk.new.noted ≤ level walk.old.noted) }
+    ensures named { OnOk result (walk.new.named.items ≡ walk.old.named.items) }
 {
     let records = records_of(first, second);
     add_first(walk, here, first, records, depth, named)?;
@@ -195,6 +192,7 @@ fn add_first(
     ensures steps { OnOk result (length walk.new.steps.items ≤ length walk.old.steps.items + 1) }
     ensures folders { OnOk result (length walk.new.folders.items ≤ length walk.old.folders.items + 1) }
     ensures level { OnOk result (level walk.new.noted ≤ level walk.old.noted) }
+    ensures named { OnOk result (walk.new.named.items ≡ walk.old.named.items) }
 {
     add_entry(walk, here, entry, records, depth, named)?;
     let step = Step::top(entry, Holds::Bytes, here);
@@ -220,6 +218,7 @@ fn add_second(
     ensures steps { OnOk result (length walk.new.steps.items ≤ length walk.old.steps.items + 1) }
     ensures folders { OnOk result (length walk.new.folders.items ≤ length walk.old.folders.items + 1) }
     ensures level { OnOk result (level walk.new.noted ≤ level walk.old.noted) }
+    ensures named { OnOk result (walk.new.named.items ≡ walk.old.named.items) }
 {
     add_entry(walk, here, second, None, depth, false)?;
     let step = Step::unlisted(second, here);
@@ -237,6 +236,7 @@ fn add_source(walk: &mut Walk, step: Step, is: bool) -> Result<(), AllocError>
     ensures tree { (walk.new.epoch ≡ walk.old.epoch) × (walk.new.active ≡ walk.old.active) }
     ensures labels { walk.new.labels ≡ walk.old.labels }
     ensures folders { walk.new.folders.items ≡ walk.old.folders.items }
+    ensures named { walk.new.named.items ≡ walk.old.named.items }
 {
     if is {
         walk.steps.push(step)?;
@@ -263,6 +263,7 @@ fn add_entry(
     ensures tree { (walk.new.epoch ≡ walk.old.epoch) × (walk.new.active ≡ walk.old.active) }
     ensures labels { walk.new.labels ≡ walk.old.labels }
     ensures steps { walk.new.steps.items ≡ walk.old.steps.items }
+    ensures named { walk.new.named.items ≡ walk.old.named.items }
 {
     if is_folder(entry) {
         walk.note_depth(here.block, depth);
@@ -300,6 +301,10 @@ fn list<D: Disk>(
     ensures size { D.size main.new ≡ D.size main.old }
     ensures kept { D.state main.new ≡ D.state main.old }
     ensures cause { HasCauses (D.faults main.old) (D.faults main.new) result }
+    ensures listed { (arena : Arena) (device : List Block) (image : Image) (s : Super) (k : Kept) (meta : Link) → Shows (D.state main.old).holds device → Walking arena device image s k (tops folder.now) walk.old → IsMetaOf folder.now meta
+        → walk.old.steps.items ≡ [] → walk.old.named.items ≡ [] → OnOk result (AreInOrder arena image k meta folder.now.named walk.new.noted walk.new.named.items) }
+    ensures done { OnOk result (walk.old.steps.items ≡ [] → walk.new.steps.items ≡ []) }
+    ensures grows { (arena : Arena) (device : List Block) (image : Image) (s : Super) (k : Kept) → Shows (D.state main.old).holds device → Walking arena device image s k (tops folder.now) walk.old → OnOk result (Grows walk.old.folders.items walk.new.folders.items) }
 {
     let Some(records) = folder.records else {
         return Ok(());
@@ -346,6 +351,9 @@ pub(crate) fn walk_folder<D: Disk>(
     ensures size { D.size main.new ≡ D.size main.old }
     ensures kept { D.state main.new ≡ D.state main.old }
     ensures cause { HasCauses (D.faults main.old) (D.faults main.new) result }
+    ensures pairs { (arena : Arena) (device : List Block) (image : Image) (s : Super) (k : Kept) (entries meta : Link) → Shows (D.state main.old).holds device → Walking arena device image s k (tops folder.now) walk.old → IsHeadOf entries meta folder.now
+        → walk.old.steps.items ≡ [] → OnOk result (6 < level walk.new.noted → IsTree arena image k.at → IsSettled arena image entries meta walk.new.folders.items) }
+    ensures grows { (arena : Arena) (device : List Block) (image : Image) (s : Super) (k : Kept) → Shows (D.state main.old).holds device → Walking arena device image s k (tops folder.now) walk.old → OnOk result (Grows walk.old.folders.items walk.new.folders.items) }
 {
     walk.named = Vec::new(alloc);
     list(alloc, main, walk, folder)?;

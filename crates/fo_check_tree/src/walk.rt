@@ -125,6 +125,7 @@ impl Walk {
         ensures labels { self.new.labels ≡ self.old.labels }
         ensures steps { self.new.steps.items ≡ self.old.steps.items }
         ensures folders { self.new.folders.items ≡ self.old.folders.items }
+        ensures named { self.new.named.items ≡ self.old.named.items }
     {
         if let Some(block) = leaf {
             self.note(rule, block);
@@ -141,6 +142,7 @@ impl Walk {
         ensures labels { self.new.labels ≡ self.old.labels }
         ensures steps { self.new.steps.items ≡ self.old.steps.items }
         ensures folders { self.new.folders.items ≡ self.old.folders.items }
+        ensures named { self.new.named.items ≡ self.old.named.items }
     {
         if 64 < depth {
             self.note(8, block);

@@ -5,8 +5,8 @@ use Rattle.fo_image.specs.declared.types.Kind.{Kind}
 use Rattle.fo_check_tree.specs.Follows.{Reads}
 use Rattle.fo_sound.specs.Image.{is_zero}
 use Rattle.fo_check_tree.specs.Notes.{NotesAt}
-use Rattle.fo_check_tree.specs.Slots.{unless}
-use Rattle.fo_check_tree.proofs.Adding.{data_adds, dir_adds, on_ok, notes_unless, data_reads, dir_reads, entries_read, leaf_names, inner_names, dir_names, root_names, not_leaf_data, not_leaf_dir, not_leaf_root}
+use Rattle.fo_check_tree.specs.Slots.{unless, HasSlots}
+use Rattle.fo_check_tree.proofs.Adding.{data_adds, dir_adds, on_ok, notes_unless, data_reads, dir_reads, entries_read, leaf_names, inner_names, dir_names, root_names, not_leaf_data, not_leaf_dir, not_leaf_root, leaf_seeks, inner_seeks, data_seeks, root_seeks}
 use Rattle.fo_check_tree.proofs.blocks.add_block.Goals as goal
 
 pub returns-in-Data-clause-pushed : goal.returns-in-Data-clause-pushed
@@ -67,3 +67,21 @@ returns-in-Dir-clause-leaf c e = absurd (not_leaf_dir c.in-Dir.level c.args.step
 
 pub returns-in-Root-clause-leaf : goal.returns-in-Root-clause-leaf
 returns-in-Root-clause-leaf c e = absurd (not_leaf_root c.args.step.now.kind c.in-Root.is e)
+
+pub returns-in-Data-eq0-clause-sought : goal.returns-in-Data-eq0-clause-sought
+returns-in-Data-eq0-clause-sought c c' slots = data_seeks c.add_records.result c.args.step.now c' c.args.named c.args.walk.now.named.items c.add_records.new.walk.named.items c.add_records.new.walk.folders.items _ c.args.step.now.kind c.in-Data-eq0.is
+
+pub returns-in-Data-clause-sought : goal.returns-in-Data-clause-sought
+returns-in-Data-clause-sought c c' slots = data_seeks c.add_pointers.result c.args.step.now c' c.args.named c.args.walk.now.named.items c.add_pointers.new.walk.named.items c.add_pointers.new.walk.folders.items c.in-Data.level c.args.step.now.kind c.in-Data.is
+
+pub returns-in-Dir-eq0-clause-sought : goal.returns-in-Dir-eq0-clause-sought
+returns-in-Dir-eq0-clause-sought c c' slots =
+    let kind : c.args.step.now.kind ≡ Dir 0 = c.in-Dir-eq0.is ∙ ap (λ (n : ℕ). Dir n) (first_of (omega (arith, c.in-Dir-eq0.field-0-is), grind (arith, c.in-Dir-eq0.field-0-test), search rules)) in
+    leaf_seeks c.add_entries.result c.args.step.now c' c.args.named c.args.walk.now.named.items c.add_entries.new.walk.named.items c.add_entries.new.walk.folders.items c.args.step.now.kind kind
+    (c.add_entries.ensures.sought c' (subst (λ (k : Kind). HasSlots k c' c.args.block.now) kind slots).0)
+
+pub returns-in-Dir-clause-sought : goal.returns-in-Dir-clause-sought
+returns-in-Dir-clause-sought c c' slots = inner_seeks c.add_pointers-in-Dir.result c.args.step.now c' c.args.named c.args.walk.now.named.items c.add_pointers-in-Dir.new.walk.named.items c.add_pointers-in-Dir.new.walk.folders.items c.in-Dir.level c.args.step.now.kind c.in-Dir.is (grind (arith, c.in-Dir.level-test)) c.add_pointers-in-Dir.ensures.named
+
+pub returns-in-Root-clause-sought : goal.returns-in-Root-clause-sought
+returns-in-Root-clause-sought c c' slots = root_seeks c.args.step.now c' c.args.named c.args.walk.now.named.items c.args.walk.now.named.items c.args.walk.now.folders.items c.args.step.now.kind c.in-Root.is

@@ -1,4 +1,4 @@
-use Rattle.std.proofs.Common.{◌≡◌, List, [], ◌∷◌, ◌++◌, append-nil, refl, sym, ◌∙◌, subst, arith}
+use Rattle.std.proofs.Common.{Bool, List, [], ◌∷◌, ◌++◌, append-nil, refl, sym, ◌∙◌, subst, arith}
 use Rattle.std.proofs.lemmas.Result.{err_from_is_err_and}
 use Rattle.fo_disk.specs.Disk.{DiskState}
 use Rattle.fo_sound.specs.Device.{Shows}
@@ -11,6 +11,9 @@ use Rattle.fo_check_tree.specs.Walking.{Walking}
 use Rattle.fo_check_tree.proofs.Formatting.{formed_on}
 use Rattle.fo_check_tree.proofs.Judging.{judged_like, judged_on}
 use Rattle.fo_check_tree.proofs.Listed.{lists}
+use Rattle.fo_check_tree.specs.Pairing.{AreSought}
+use Rattle.fo_check_tree.specs.Follows.{Follows}
+use Rattle.fo_check_tree.proofs.Seeking.{grows_none, grows_then, grows_on, sought_on}
 use Rattle.fo_check_tree.proofs.Stepping.{popped, followed, refused, emptied}
 use Rattle.fo_check_tree.proofs.blocks.follow_all.Goals as goal
 
@@ -44,6 +47,21 @@ loop-step-preserved g c = record {
       subst (λ (xs : List Step). AreFormed arena image k c.loop-step.walk.labels.known.items c.loop-step.walk.noted xs (others ++ c.loop-step.walk.folders.items)) c.in-Some.ensures.items (c.loop-step.invariant.formed arena device image s k rest others shows w j) in
       formed_on arena device image s k rest c.in-Some.step old c.follow.new.walk left others formed c.args.depth c.args.named c.in_ok-follow.ensures.level
       (c.in_ok-follow.ensures.follows device image (subst (λ (x : DiskState). Shows x.holds device) (sym c.loop-step.invariant.kept) shows));
+  pairs = λ arena device image s k entries names rest shows w lead h.
+      let old : Walk = record c.loop-step.walk { steps = c.pop.new.self } in
+      let before : Walking arena device image s k rest c.loop-step.walk = c.loop-step.invariant.walks arena device image s k rest shows w in
+      let left : Walking arena device image s k (c.in-Some.step ∷ rest) old = popped arena device image s k c.loop-step.walk old (record { blocks = refl; epoch = refl; active = refl; labels = refl; noted = refl }) rest c.in-Some.step c.in-Some.ensures.items refl before in
+      let sought : AreSought arena image entries names c.loop-step.walk.noted (c.pop.new.self.items ++ c.in-Some.step ∷ []) c.loop-step.walk.named.items c.loop-step.walk.folders.items =
+      subst (λ (xs : List Step). AreSought arena image entries names c.loop-step.walk.noted xs c.loop-step.walk.named.items c.loop-step.walk.folders.items) c.in-Some.ensures.items (c.loop-step.invariant.pairs arena device image s k entries names rest shows w lead h) in
+      sought_on arena device image s k rest c.in-Some.step old c.follow.new.walk left c.in_ok-follow.ensures.level c.args.depth entries names sought
+      (subst (λ (b : Bool). Follows device image c.args.depth b c.in-Some.step old c.follow.new.walk) lead (c.in_ok-follow.ensures.follows device image (subst (λ (x : DiskState). Shows x.holds device) (sym c.loop-step.invariant.kept) shows)));
+  grows = λ arena device image s k rest shows w.
+      let old : Walk = record c.loop-step.walk { steps = c.pop.new.self } in
+      let before : Walking arena device image s k rest c.loop-step.walk = c.loop-step.invariant.walks arena device image s k rest shows w in
+      let left : Walking arena device image s k (c.in-Some.step ∷ rest) old = popped arena device image s k c.loop-step.walk old (record { blocks = refl; epoch = refl; active = refl; labels = refl; noted = refl }) rest c.in-Some.step c.in-Some.ensures.items refl before in
+      grows_then c.args.walk.now.folders.items c.loop-step.walk.folders.items c.follow.new.walk.folders.items (c.loop-step.invariant.grows arena device image s k rest shows w)
+      (grows_on arena device image s k rest c.in-Some.step old c.follow.new.walk left c.in_ok-follow.ensures.level c.args.depth c.args.named
+      (c.in_ok-follow.ensures.follows device image (subst (λ (x : DiskState). Shows x.holds device) (sym c.loop-step.invariant.kept) shows)));
   blocks = c.in_ok-follow.ensures.blocks ∙ c.loop-step.invariant.blocks;
   low = omega (arith, c.in_ok-follow.ensures.level, c.loop-step.invariant.low);
   size = c.follow.ensures.size ∙ c.loop-step.invariant.size ∙ sym c.in_ok-follow.ensures.blocks;
@@ -51,6 +69,23 @@ loop-step-preserved g c = record {
   kept = c.follow.ensures.kept ∙ c.loop-step.invariant.kept;
   later = omega (arith, c.follow.ensures.cause.later, c.loop-step.invariant.later);
   budget = omega (arith, c.in_ok-follow.ensures.budget, c.loop-step.invariant.budget);
+}
+
+pub loop-step-init : goal.loop-step-init
+loop-step-init g c = record {
+  walks = λ arena device image s k rest shows w. w;
+  lists = λ arena device image s k meta rest shows w h. h;
+  dirs = λ arena device image s k rest others shows w j. j;
+  formed = λ arena device image s k rest others shows w j. j;
+  pairs = λ arena device image s k entries names rest shows w lead h. h;
+  grows = λ arena device image s k rest shows w. grows_none c.args.walk.now.folders.items;
+  blocks = refl;
+  low = omega arith;
+  size = c.requires.size;
+  same = refl;
+  kept = refl;
+  later = omega arith;
+  budget = omega arith;
 }
 
 pub returns-in_err-follow-clause-walks : goal.returns-in_err-follow-clause-walks
@@ -76,3 +111,7 @@ returns-clause-dirs g c arena device image s k rest others shows w j =
 pub returns-clause-formed : goal.returns-clause-formed
 returns-clause-formed g c arena device image s k rest others shows w j =
     subst (λ (xs : List Step). AreFormed arena image k c.loop-step.walk.labels.known.items c.loop-step.walk.noted xs (others ++ c.loop-step.walk.folders.items)) (c.in_default.ensures.items ∙ append-nil c.pop.new.self.items) (c.loop-step.invariant.formed arena device image s k rest others shows w j)
+
+pub returns-clause-pairs : goal.returns-clause-pairs
+returns-clause-pairs g c arena device image s k entries names rest shows w lead h =
+    subst (λ (xs : List Step). AreSought arena image entries names c.loop-step.walk.noted xs c.loop-step.walk.named.items c.loop-step.walk.folders.items) (c.in_default.ensures.items ∙ append-nil c.pop.new.self.items) (c.loop-step.invariant.pairs arena device image s k entries names rest shows w lead h)

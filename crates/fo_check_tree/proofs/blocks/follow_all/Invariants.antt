@@ -1,4 +1,4 @@
-use Rattle.std.proofs.Common.{◌≡◌, ◌+◌, ◌*◌, ◌≤◌, List, ◌++◌, length}
+use Rattle.std.proofs.Common.{◌≡◌, ◌+◌, ◌*◌, ◌≤◌, true, List, ◌++◌, length}
 use Rattle.fo_crash.specs.Images.{Image, Arena, Link}
 use Rattle.fo_disk.specs.Disk.{Block}
 use Rattle.fo_good.specs.Sound.{Kept}
@@ -11,6 +11,8 @@ use Rattle.fo_check_tree.specs.Dirs.{AreJudged}
 use Rattle.fo_check_tree.specs.Listing.{IsListing}
 use Rattle.fo_check_tree.specs.Walking.{Walking}
 use Rattle.fo_check_tree.specs.Lower.{level}
+use Rattle.fo_check_tree.specs.Pairing.{AreSought, Grows}
+use Rattle.fo_check_names.specs.declared.names.Named.{Named}
 use Rattle.fo_check_tree.proofs.blocks.follow_all.Given as goal
 
 abbrev pub invariant-loop-step : goal.invariant-loop-step
@@ -23,6 +25,9 @@ invariant-loop-step g l = record {
   formed : (arena : Arena) (device : List Block) (image : Image) (s : Super) (k : Kept) (rest : List Step) (others : List Folder) → Shows (g.D.Disk.state l.fn.main).holds device → Walking arena device image s k rest l.fn.walk
       → AreFormed arena image k l.fn.walk.labels.known.items l.fn.walk.noted l.fn.walk.steps.items (others ++ l.fn.walk.folders.items)
       → AreFormed arena image k l.walk.labels.known.items l.walk.noted l.walk.steps.items (others ++ l.walk.folders.items);
+  pairs : (arena : Arena) (device : List Block) (image : Image) (s : Super) (k : Kept) (entries : Link) (names : List Named) (rest : List Step) → Shows (g.D.Disk.state l.fn.main).holds device → Walking arena device image s k rest l.fn.walk → l.named ≡ true
+      → AreSought arena image entries names l.fn.walk.noted l.fn.walk.steps.items l.fn.walk.named.items l.fn.walk.folders.items → AreSought arena image entries names l.walk.noted l.walk.steps.items l.walk.named.items l.walk.folders.items;
+  grows : (arena : Arena) (device : List Block) (image : Image) (s : Super) (k : Kept) (rest : List Step) → Shows (g.D.Disk.state l.fn.main).holds device → Walking arena device image s k rest l.fn.walk → Grows l.fn.walk.folders.items l.walk.folders.items;
   blocks : l.walk.blocks ≡ l.fn.walk.blocks;
   low : level l.walk.noted ≤ level l.fn.walk.noted;
   size : g.D.Disk.size l.main ≡ l.walk.blocks;

@@ -6,6 +6,10 @@ use Rattle.fo_check_tree.specs.declared.walk.Folder.{Folder}
 use Rattle.fo_check_tree.specs.Lower.{level}
 use Rattle.fo_check_tree.specs.Slots.{steps_by_pairs, pair_steps, pair_folders, AddsFolders}
 use Rattle.fo_check_tree.specs.Notes.NotesAt.{same as note_same}
+use Rattle.fo_check_names.specs.Finds.{Finds}
+use Rattle.fo_check_names.specs.declared.names.Named.{Named}
+use Rattle.fo_check_tree.specs.Pairing.{Searches}
+use Rattle.fo_check_tree.proofs.Searching.{searches_first, searches_on}
 use Rattle.fo_good.specs.Means.{HasEntry}
 use Rattle.std.proofs.lemmas.Bool.{cases_eq, cases_lt}
 use Rattle.fo_check_tree.proofs.Adding.{then_notes, notes_unless, entry_read}
@@ -17,6 +21,7 @@ loop-k-init c = record {
   pushed = λ c' each. rw c.note_rest.ensures.steps (pairs_first c.args.here c' c.args.walk.now.steps.items);
   put = λ c' each. rw c.note_rest.ensures.folders (folders_first c.args.here c' (min (c.args.depth + 1) (2 ^ 32 - 1)) c.args.named c.args.walk.now.folders.items);
   whole = λ c' each quiet i lt. absurd (omega (arith, lt));
+  sought = λ c' each. rw c.note_rest.ensures.named (searches_first c.args.index c' c.args.named c.args.walk.now.named.items c.note_rest.new.self.folders.items);
   rest = λ no. rw c.note_rest.ensures.noted (low_unless (is_zero (take (length c.args.block.now - 8160) (drop 8160 c.args.block.now))) c.args.here.block c.args.walk.now.noted (ap is_zero (rest_is 8160 c.args.block.now) ∙ no));
   notes = notes_unless (is_zero (take (length c.args.block.now - 8160) (drop 8160 c.args.block.now))) c.args.here.block c.args.walk.now.noted c.note_rest.new.self.noted c.note_rest.ensures.noted;
   blocks = c.note_rest.ensures.blocks;
@@ -29,17 +34,21 @@ loop-k-init c = record {
 
 pub loop-k-preserved : goal.loop-k-preserved
 loop-k-preserved c =
-    let steps : c.find_pair-of.new.walk.steps.items ≡ c.loop-k.walk.steps.items = c.find_pair-of.ensures.steps ∙ c.entry_at-second.ensures.steps ∙ c.entry_at-first.ensures.steps in
-    let folders : c.find_pair-of.new.walk.folders.items ≡ c.loop-k.walk.folders.items = c.find_pair-of.ensures.folders ∙ c.entry_at-second.ensures.folders ∙ c.entry_at-first.ensures.folders in
+    let steps : c.find_here-of.new.walk.steps.items ≡ c.loop-k.walk.steps.items = c.find_here-of.ensures.steps ∙ c.entry_at-second.ensures.steps ∙ c.entry_at-first.ensures.steps in
+    let folders : c.find_here-of.new.walk.folders.items ≡ c.loop-k.walk.folders.items = c.find_here-of.ensures.folders ∙ c.entry_at-second.ensures.folders ∙ c.entry_at-first.ensures.folders in
+    let names : c.entry_at-second.new.walk.named.items ≡ c.loop-k.walk.named.items = c.entry_at-second.ensures.named ∙ c.entry_at-first.ensures.named in
+    let found : Finds c.saturating_add.result c.entry_at-first.result c.entry_at-second.result c.find_here-of.result c.loop-k.walk.named.items c.add_pair.new.walk.named.items =
+    subst (λ (xs : List Named). Finds c.saturating_add.result c.entry_at-first.result c.entry_at-second.result c.find_here-of.result xs c.add_pair.new.walk.named.items) names
+    (subst (λ (xs : List Named). Finds c.saturating_add.result c.entry_at-first.result c.entry_at-second.result c.find_here-of.result c.entry_at-second.new.walk.named.items xs) (sym c.in_ok-add_pair.ensures.named) c.find_here-of.ensures.finds) in
     let many = ap (λ (s : List Step). length s) steps in
     let many' = ap (λ (s : List Folder). length s) folders in
     let less : c.loop-k.k < 102 = c.loop-k-test.true in
-    let low : level c.add_pair.new.walk.noted ≤ level c.loop-k.walk.noted = omega (arith, c.entry_at-first.ensures.level, c.entry_at-second.ensures.level, c.find_pair-of.ensures.level, c.in_ok-add_pair.ensures.level) in
+    let low : level c.add_pair.new.walk.noted ≤ level c.loop-k.walk.noted = omega (arith, c.entry_at-first.ensures.level, c.entry_at-second.ensures.level, c.find_here-of.ensures.level, c.in_ok-add_pair.ensures.level) in
     record {
       pushed = λ c' each. pairs_more c.args.here c' c.args.walk.now.steps.items c.loop-k.walk.steps.items c.add_pair.new.walk.steps.items c.loop-k.k c.entry_at-first.result c.entry_at-second.result
           (c.entry_at-first.ensures.is c' (each (2 * c.loop-k.k) (omega (arith, less)))) (c.entry_at-second.ensures.is c' (each (2 * c.loop-k.k + 1) (omega (arith, less))))
           (c.loop-k.invariant.pushed c' each) (c.in_ok-add_pair.ensures.pushed ∙ ap (λ (s : List Step). s ++ pair_steps c.args.here c.entry_at-first.result c.entry_at-second.result) steps);
-      put = λ c' each. folders_more c.args.here c' (min (c.args.depth + 1) (2 ^ 32 - 1)) c.saturating_add-below.result c.args.named c.find_pair-of.result c.is_both-leads.result
+      put = λ c' each. folders_more c.args.here c' (min (c.args.depth + 1) (2 ^ 32 - 1)) c.saturating_add-below.result c.args.named c.find_here-of.result c.is_both-leads.result
           c.args.walk.now.folders.items c.loop-k.walk.folders.items c.add_pair.new.walk.folders.items c.loop-k.k c.entry_at-first.result c.entry_at-second.result
           c.saturating_add-below.ensures c.is_both-leads.ensures
           (c.entry_at-first.ensures.is c' (each (2 * c.loop-k.k) (omega (arith, less)))) (c.entry_at-second.ensures.is c' (each (2 * c.loop-k.k + 1) (omega (arith, less))))
@@ -49,20 +58,24 @@ loop-k-preserved c =
           (λ new. ⊎_elim
           (λ (first : i ≡ 2 * c.loop-k.k). subst (λ (n : ℕ). HasEntry c' c.args.block.now n) (sym first)
           (entry_read c' c.args.block.now (2 * c.loop-k.k) c.entry_at-first.new.walk.noted (each (2 * c.loop-k.k) (omega (arith, less))) (λ deep. (c.entry_at-first.ensures.none deep).1)
-          (omega (arith, quiet, c.entry_at-second.ensures.level, c.find_pair-of.ensures.level, c.in_ok-add_pair.ensures.level))))
+          (omega (arith, quiet, c.entry_at-second.ensures.level, c.find_here-of.ensures.level, c.in_ok-add_pair.ensures.level))))
           (λ (apart : i ≢ 2 * c.loop-k.k).
           let second : i ≡ 2 * c.loop-k.k + 1 = omega (arith, lt, new, apart) in
           subst (λ (n : ℕ). HasEntry c' c.args.block.now n) (sym second)
           (entry_read c' c.args.block.now (2 * c.loop-k.k + 1) c.entry_at-second.new.walk.noted (each (2 * c.loop-k.k + 1) (omega (arith, less))) (λ deep. (c.entry_at-second.ensures.none deep).1)
-          (omega (arith, quiet, c.find_pair-of.ensures.level, c.in_ok-add_pair.ensures.level))))
+          (omega (arith, quiet, c.find_here-of.ensures.level, c.in_ok-add_pair.ensures.level))))
           (cases_eq i (2 * c.loop-k.k)))
           (cases_lt i (2 * c.loop-k.k));
+      sought = λ c' each. searches_on c.args.index c' c.args.named c.args.here c.saturating_add-below.result c.loop-k.k c.args.walk.now.named.items c.loop-k.walk.named.items c.add_pair.new.walk.named.items c.loop-k.walk.folders.items c.add_pair.new.walk.folders.items c.find_here-of.result c.is_both-leads.result
+          c.entry_at-first.result c.entry_at-second.result c.saturating_add.result (c.saturating_add.ensures ∙ ap (λ (n : ℕ). min (n + c.loop-k.k) (2 ^ 64 - 1)) c.saturating_mul.ensures) c.is_both-leads.ensures
+          (c.entry_at-first.ensures.is c' (each (2 * c.loop-k.k) (omega (arith, less)))) (c.entry_at-second.ensures.is c' (each (2 * c.loop-k.k + 1) (omega (arith, less))))
+          (c.loop-k.invariant.sought c' each) found (c.in_ok-add_pair.ensures.put ∙ ap (λ (s : List Folder). s ++ pair_folders c.args.here c.entry_at-first.result c.entry_at-second.result c.saturating_add-below.result c.is_both-leads.result) folders);
       rest = λ no. let before = c.loop-k.invariant.rest no in omega (arith, low, before);
-      notes = then_notes c.loop-k.invariant.notes (then_notes c.entry_at-first.ensures.notes (then_notes c.entry_at-second.ensures.notes (then_notes (note_same c.find_pair-of.ensures.noted) c.in_ok-add_pair.ensures.notes)));
-      blocks = c.in_ok-add_pair.ensures.blocks ∙ c.find_pair-of.ensures.blocks ∙ c.entry_at-second.ensures.blocks ∙ c.entry_at-first.ensures.blocks ∙ c.loop-k.invariant.blocks;
-      tree = (c.in_ok-add_pair.ensures.tree.0 ∙ c.find_pair-of.ensures.tree.0 ∙ c.entry_at-second.ensures.tree.0 ∙ c.entry_at-first.ensures.tree.0 ∙ c.loop-k.invariant.tree.0, c.in_ok-add_pair.ensures.tree.1 ∙ c.find_pair-of.ensures.tree.1 ∙ c.entry_at-second.ensures.tree.1 ∙ c.entry_at-first.ensures.tree.1 ∙ c.loop-k.invariant.tree.1);
+      notes = then_notes c.loop-k.invariant.notes (then_notes c.entry_at-first.ensures.notes (then_notes c.entry_at-second.ensures.notes (then_notes (note_same c.find_here-of.ensures.noted) c.in_ok-add_pair.ensures.notes)));
+      blocks = c.in_ok-add_pair.ensures.blocks ∙ c.find_here-of.ensures.blocks ∙ c.entry_at-second.ensures.blocks ∙ c.entry_at-first.ensures.blocks ∙ c.loop-k.invariant.blocks;
+      tree = (c.in_ok-add_pair.ensures.tree.0 ∙ c.find_here-of.ensures.tree.0 ∙ c.entry_at-second.ensures.tree.0 ∙ c.entry_at-first.ensures.tree.0 ∙ c.loop-k.invariant.tree.0, c.in_ok-add_pair.ensures.tree.1 ∙ c.find_here-of.ensures.tree.1 ∙ c.entry_at-second.ensures.tree.1 ∙ c.entry_at-first.ensures.tree.1 ∙ c.loop-k.invariant.tree.1);
       low = omega (arith, low, c.loop-k.invariant.low);
-      labels = c.in_ok-add_pair.ensures.labels ∙ c.find_pair-of.ensures.labels ∙ c.entry_at-second.ensures.labels ∙ c.entry_at-first.ensures.labels ∙ c.loop-k.invariant.labels;
+      labels = c.in_ok-add_pair.ensures.labels ∙ c.find_here-of.ensures.labels ∙ c.entry_at-second.ensures.labels ∙ c.entry_at-first.ensures.labels ∙ c.loop-k.invariant.labels;
       steps = omega (arith, many, c.in_ok-add_pair.ensures.steps, c.loop-k.invariant.steps);
       folders = omega (arith, many', c.in_ok-add_pair.ensures.folders, c.loop-k.invariant.folders);
     }
@@ -81,3 +94,8 @@ pub returns-clause-whole : goal.returns-clause-whole
 returns-clause-whole c c' each quiet i lt =
     let end : c.loop-k.k ≡ 102 = omega (arith, c.loop-k-test.false, c.loop-k.auto.k-end) in
     c.loop-k.invariant.whole c' each quiet i (omega (arith, lt, end))
+
+pub returns-clause-sought : goal.returns-clause-sought
+returns-clause-sought c c' each =
+    let end : c.loop-k.k ≡ 102 = omega (arith, c.loop-k-test.false, c.loop-k.auto.k-end) in
+    subst (λ (n : ℕ). Searches c.args.index c' c.args.named n c.args.walk.now.named.items c.loop-k.walk.named.items c.loop-k.walk.folders.items) end (c.loop-k.invariant.sought c' each)

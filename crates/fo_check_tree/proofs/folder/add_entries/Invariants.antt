@@ -5,6 +5,7 @@ use Rattle.fo_good.specs.Means.{HasEntry}
 use Rattle.fo_sound.specs.Image.{is_zero}
 use Rattle.fo_check_tree.specs.Lower.{level}
 use Rattle.fo_check_tree.specs.Notes.{NotesAt}
+use Rattle.fo_check_tree.specs.Pairing.{Searches}
 use Rattle.fo_check_tree.specs.Slots.{HasSlot, steps_by_pairs, AddsFolders}
 use Rattle.fo_check_tree.proofs.folder.add_entries.Given as goal
 
@@ -13,6 +14,7 @@ invariant-loop-k l = record {
   pushed : (c : Content) → ((i : ℕ) → i < 204 → HasSlot c l.block i) → l.walk.steps.items ≡ l.fn.walk.steps.items ++ steps_by_pairs l.here c l.k;
   put : (c : Content) → ((i : ℕ) → i < 204 → HasSlot c l.block i) → AddsFolders l.here c (min (l.depth + 1) (2 ^ 32 - 1)) l.named l.k l.fn.walk.folders.items l.walk.folders.items;
   whole : (c : Content) → ((i : ℕ) → i < 204 → HasSlot c l.block i) → 5 < level l.walk.noted → (i : ℕ) → i < 2 * l.k → HasEntry c l.block i;
+  sought : (c : Content) → ((i : ℕ) → i < 204 → HasSlot c l.block i) → Searches l.index c l.named l.k l.fn.walk.named.items l.walk.named.items l.walk.folders.items;
   rest : is_zero (drop 8160 l.block) ≡ false → level l.walk.noted ≤ 5;
   notes : NotesAt l.here.block l.fn.walk.noted l.walk.noted;
   blocks : l.walk.blocks ≡ l.fn.walk.blocks;

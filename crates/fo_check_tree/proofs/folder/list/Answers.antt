@@ -1,10 +1,13 @@
-use Rattle.std.proofs.Common.{◌≡◌, List, [], ◌∷◌, ◌++◌, Option, Some, refl, sym, ap, ◌∙◌, subst, rules, arith}
+use Rattle.std.proofs.Common.{◌≡◌, List, [], ◌∷◌, ◌++◌, IsPermutation, length, Option, Some, None, refl, sym, ap, ◌∙◌, subst, rules, arith}
 use Rattle.std.proofs.lemmas.Result.{err_from_is_err_and}
 use Rattle.fo_image.specs.declared.types.Entry.{Entry}
 use Rattle.fo_check_tree.specs.declared.walk.Holds.TheVariants.{Bytes, Records}
 use Rattle.fo_check_tree.specs.declared.walk.Step.{Step}
 use Rattle.std.specs.Prelude.{MatchOption}
-use Rattle.fo_check_names.specs.Names.{name_of, leaf_of, Differ, IsTwice}
+use Rattle.fo_check_names.specs.Names.{name_of, slot_of, leaf_of, Differ, IsTwice}
+use Rattle.fo_check_names.proofs.Moved.{moved}
+use Rattle.fo_check_tree.specs.Pairing.{AreInOrder}
+use Rattle.fo_check_tree.proofs.Searching.{written}
 use Rattle.fo_check_names.specs.declared.names.Named.{Named}
 use Rattle.fo_check_tree.specs.declared.labels.Labels.{Labels}
 use Rattle.fo_check_tree.specs.declared.walk.Folder.{Folder}
@@ -19,6 +22,9 @@ use Rattle.fo_check_tree.proofs.Listed.{listing_at}
 use Rattle.fo_check_tree.proofs.Marking.{is_pushed}
 use Rattle.fo_check_tree.proofs.Naming.{begins, judged, names_by}
 use Rattle.fo_check_tree.proofs.Noting.{lowers_then, lowers_leaf}
+use Rattle.std.proofs.lemmas.Bool.{false≢true}
+use Rattle.fo_check_tree.proofs.Seeking.{grows_none, grows_like}
+use Rattle.fo_check_tree.proofs.Settling.{in_order}
 use Rattle.fo_check_tree.proofs.Stepping.{turned, pushed, walking_like}
 use Rattle.fo_check_tree.proofs.folder.list.Goals as goal
 
@@ -81,6 +87,9 @@ returns-in-Ok-clause-walks g c arena device image s k shows w =
 
 some_is : (x y : Entry) → Some x ≡ Some y → x ≡ y
 some_is x y e = cc
+
+none_is : (x : Entry) {o : Option Entry} → o ≡ None → o ≡ Some x → ⊥
+none_is x is e = let no : None ≡ Some x = sym is ∙ e in cc
 
 pub returns-then-not-folder-clause-names : goal.returns-then-not-folder-clause-names
 returns-then-not-folder-clause-names g c arena device image s k meta shows walking w no_steps no_names quiet tree =
@@ -193,3 +202,101 @@ returns-in-Ok-clause-formed g c arena device image s k others shows walking j =
     subst (λ (xs : List Step). AreFormed arena image k c.args.walk.now.labels.known.items c.args.walk.now.noted xs (others ++ c.args.walk.now.folders.items)) (sym items) given in
     let after = c.in_ok-follow_all.ensures.formed arena device image s k (a ∷ []) others shows next pushed' in
     formed_like arena image k c.follow_all.new.walk.labels.known.items _ c.follow_all.new.walk.noted _ c.follow_all.new.walk.steps.items _ (others ++ c.follow_all.new.walk.folders.items) _ (ap (λ (x : Labels). x.known.items) (c.note_leaf-2.ensures.labels ∙ c.note_leaf.ensures.labels)) (omega (arith, c.note_leaf-2.ensures.level, c.note_leaf.ensures.level)) (c.note_leaf-2.ensures.steps ∙ c.note_leaf.ensures.steps) (ap (λ (fs : List Folder). others ++ fs) (c.note_leaf-2.ensures.folders ∙ c.note_leaf.ensures.folders)) after
+
+pub returns-in_default-clause-listed : goal.returns-in_default-clause-listed
+returns-in_default-clause-listed g c arena device image s k meta shows walking w no_steps no_names = absurd (none_is w.entry (search rules) w.is)
+
+pub returns-then-not-folder-clause-listed : goal.returns-then-not-folder-clause-listed
+returns-then-not-folder-clause-listed g c arena device image s k meta shows walking w no_steps no_names =
+    let f = c.args.folder.now in
+    let e : Entry = c.in-Some.records in
+    let same : w.entry ≡ e = some_is w.entry e (sym w.is ∙ c.in-Some.is) in
+    let a : Step = top_step f.entries Bytes f.holder in
+    let b : Step = top_step c.in-Some.records Records f.holder in
+    let both : tops f ≡ a ∷ b ∷ [] = ap (λ (o : Option Entry). top_step f.entries Bytes f.holder ∷ records_top f.holder o) c.in-Some.is in
+    let first : Walking arena device image s k (b ∷ a ∷ []) c.args.walk.now = turned arena device image s k c.args.walk.now c.args.walk.now (record { blocks = refl; epoch = refl; active = refl; labels = refl; noted = refl }) (tops f) a b both refl refl walking in
+    let items : c.push.new.self.items ≡ c.args.walk.now.steps.items ++ b ∷ [] =
+    is_pushed c.push.result c.args.walk.now.steps.items (c.args.walk.now.steps.items ++ c.top-top.result ∷ []) c.push.new.self.items (sym c.is_err.ensures.value ∙ c.if-is_err.false) c.push.ensures.items
+    ∙ ap (λ (x : Step). c.args.walk.now.steps.items ++ x ∷ []) c.top-top.ensures in
+    let next : Walking arena device image s k (a ∷ []) (record c.args.walk.now { steps = c.push.new.self }) = pushed arena device image s k c.args.walk.now (record c.args.walk.now { steps = c.push.new.self }) (record { blocks = refl; epoch = refl; active = refl; labels = refl; noted = refl }) (a ∷ []) c.in-Some.records f.holder Records Records items refl first in
+    let top : c.push.new.self.items ≡ top_step w.entry Records f.holder ∷ [] = items ∙ ap (λ (xs : List Step). xs ++ b ∷ []) no_steps ∙ ap (λ (x : Entry). top_step x Records f.holder ∷ []) (sym same) in
+    let start : IsListing arena image k meta c.args.walk.now.labels.known.items c.push.new.self.items c.args.walk.now.named.items = listing_at arena device image s k meta c.args.walk.now.labels.known.items c.args.walk.now.labels.known.items (top_step w.entry Records f.holder ∷ []) c.push.new.self.items [] c.args.walk.now.named.items refl top no_names (begins arena image k f meta w c.args.walk.now.labels.known.items) in
+    let end : IsListing arena image k meta c.follow_all.new.walk.labels.known.items c.follow_all.new.walk.steps.items c.follow_all.new.walk.named.items = c.in_ok-follow_all.ensures.lists arena device image s k meta (a ∷ []) shows next start in
+    let whole : IsListing arena image k meta c.follow_all.new.walk.labels.known.items [] c.follow_all.new.walk.named.items = subst (λ (xs : List Step). IsListing arena image k meta c.follow_all.new.walk.labels.known.items xs c.follow_all.new.walk.named.items) c.in_ok-follow_all.ensures.done end in
+    let items0 = c.follow_all.new.walk.named.items in
+    let new1 = c.same_name-named_twice.new.named in
+    let new2 = c.same_pair-twice.new.named in
+    let view1 : c.deref_mut.result.now ≡ items0 = search rules in
+    let p : IsPermutation items0 new1 = subst (λ (xs : List Named). IsPermutation xs new1) view1 c.same_name-named_twice.ensures.permutation in
+    let len1 : c.follow_all.new.walk.named.len ≡ length items0 = search rules in
+    let after1 : c.note_leaf.new.self.named.items ≡ new1 = c.note_leaf.ensures.named ∙ written items0 new1 c.follow_all.new.walk.named.len len1 (moved items0 new1 p).long in
+    let view2 : c.deref_mut-2.result.now ≡ c.note_leaf.new.self.named.items = search rules in
+    let q' : IsPermutation c.note_leaf.new.self.named.items new2 = subst (λ (xs : List Named). IsPermutation xs new2) view2 c.same_pair-twice.ensures.permutation in
+    let q : IsPermutation new1 new2 = subst (λ (xs : List Named). IsPermutation xs new2) after1 q' in
+    let len2 : c.note_leaf.new.self.named.len ≡ length c.note_leaf.new.self.named.items = search rules in
+    let after2 = written c.note_leaf.new.self.named.items new2 c.note_leaf.new.self.named.len len2 (moved c.note_leaf.new.self.named.items new2 q').long in
+    let answer : MatchOption c.same_pair-twice.result (Differ slot_of new1) (IsTwice slot_of leaf_of new1) = subst (λ (xs : List Named). MatchOption c.same_pair-twice.result (Differ slot_of xs) (IsTwice slot_of leaf_of xs)) (view2 ∙ after1) c.same_pair-twice.ensures.answer in
+    let ordered : AreInOrder arena image k meta f.named c.note_leaf.new.self.noted new2 = in_order arena image k meta walking.holds.empty c.follow_all.new.walk.labels.known.items items0 new1 new2 whole p q f.named c.same_pair-twice.result c.note_leaf.new.self.noted c.note_leaf.new.self.noted answer (λ lead. absurd (false≢true (search rules))) in
+    subst (λ (xs : List Named). AreInOrder arena image k meta f.named c.note_leaf.new.self.noted xs) (sym after2) ordered
+
+pub returns-in-Ok-clause-listed : goal.returns-in-Ok-clause-listed
+returns-in-Ok-clause-listed g c arena device image s k meta shows walking w no_steps no_names =
+    let f = c.args.folder.now in
+    let e : Entry = c.in-Some.records in
+    let same : w.entry ≡ e = some_is w.entry e (sym w.is ∙ c.in-Some.is) in
+    let a : Step = top_step f.entries Bytes f.holder in
+    let b : Step = top_step c.in-Some.records Records f.holder in
+    let both : tops f ≡ a ∷ b ∷ [] = ap (λ (o : Option Entry). top_step f.entries Bytes f.holder ∷ records_top f.holder o) c.in-Some.is in
+    let first : Walking arena device image s k (b ∷ a ∷ []) c.args.walk.now = turned arena device image s k c.args.walk.now c.args.walk.now (record { blocks = refl; epoch = refl; active = refl; labels = refl; noted = refl }) (tops f) a b both refl refl walking in
+    let items : c.push.new.self.items ≡ c.args.walk.now.steps.items ++ b ∷ [] =
+    is_pushed c.push.result c.args.walk.now.steps.items (c.args.walk.now.steps.items ++ c.top-top.result ∷ []) c.push.new.self.items (sym c.is_err.ensures.value ∙ c.if-is_err.false) c.push.ensures.items
+    ∙ ap (λ (x : Step). c.args.walk.now.steps.items ++ x ∷ []) c.top-top.ensures in
+    let next : Walking arena device image s k (a ∷ []) (record c.args.walk.now { steps = c.push.new.self }) = pushed arena device image s k c.args.walk.now (record c.args.walk.now { steps = c.push.new.self }) (record { blocks = refl; epoch = refl; active = refl; labels = refl; noted = refl }) (a ∷ []) c.in-Some.records f.holder Records Records items refl first in
+    let top : c.push.new.self.items ≡ top_step w.entry Records f.holder ∷ [] = items ∙ ap (λ (xs : List Step). xs ++ b ∷ []) no_steps ∙ ap (λ (x : Entry). top_step x Records f.holder ∷ []) (sym same) in
+    let start : IsListing arena image k meta c.args.walk.now.labels.known.items c.push.new.self.items c.args.walk.now.named.items = listing_at arena device image s k meta c.args.walk.now.labels.known.items c.args.walk.now.labels.known.items (top_step w.entry Records f.holder ∷ []) c.push.new.self.items [] c.args.walk.now.named.items refl top no_names (begins arena image k f meta w c.args.walk.now.labels.known.items) in
+    let end : IsListing arena image k meta c.follow_all.new.walk.labels.known.items c.follow_all.new.walk.steps.items c.follow_all.new.walk.named.items = c.in_ok-follow_all.ensures.lists arena device image s k meta (a ∷ []) shows next start in
+    let whole : IsListing arena image k meta c.follow_all.new.walk.labels.known.items [] c.follow_all.new.walk.named.items = subst (λ (xs : List Step). IsListing arena image k meta c.follow_all.new.walk.labels.known.items xs c.follow_all.new.walk.named.items) c.in_ok-follow_all.ensures.done end in
+    let items0 = c.follow_all.new.walk.named.items in
+    let new1 = c.same_name-named_twice.new.named in
+    let new2 = c.same_pair-twice.new.named in
+    let view1 : c.deref_mut.result.now ≡ items0 = search rules in
+    let p : IsPermutation items0 new1 = subst (λ (xs : List Named). IsPermutation xs new1) view1 c.same_name-named_twice.ensures.permutation in
+    let len1 : c.follow_all.new.walk.named.len ≡ length items0 = search rules in
+    let after1 : c.note_leaf.new.self.named.items ≡ new1 = c.note_leaf.ensures.named ∙ written items0 new1 c.follow_all.new.walk.named.len len1 (moved items0 new1 p).long in
+    let view2 : c.deref_mut-2.result.now ≡ c.note_leaf.new.self.named.items = search rules in
+    let q' : IsPermutation c.note_leaf.new.self.named.items new2 = subst (λ (xs : List Named). IsPermutation xs new2) view2 c.same_pair-twice.ensures.permutation in
+    let q : IsPermutation new1 new2 = subst (λ (xs : List Named). IsPermutation xs new2) after1 q' in
+    let len2 : c.note_leaf.new.self.named.len ≡ length c.note_leaf.new.self.named.items = search rules in
+    let after2 = written c.note_leaf.new.self.named.items new2 c.note_leaf.new.self.named.len len2 (moved c.note_leaf.new.self.named.items new2 q').long in
+    let answer : MatchOption c.same_pair-twice.result (Differ slot_of new1) (IsTwice slot_of leaf_of new1) = subst (λ (xs : List Named). MatchOption c.same_pair-twice.result (Differ slot_of xs) (IsTwice slot_of leaf_of xs)) (view2 ∙ after1) c.same_pair-twice.ensures.answer in
+    let ordered : AreInOrder arena image k meta f.named c.note_leaf-2.new.self.noted new2 = in_order arena image k meta walking.holds.empty c.follow_all.new.walk.labels.known.items items0 new1 new2 whole p q f.named c.same_pair-twice.result c.note_leaf.new.self.noted c.note_leaf-2.new.self.noted answer (λ lead. c.note_leaf-2.ensures.noted) in
+    subst (λ (xs : List Named). AreInOrder arena image k meta f.named c.note_leaf-2.new.self.noted xs) (sym (c.note_leaf-2.ensures.named ∙ after2)) ordered
+
+pub returns-in_default-clause-grows : goal.returns-in_default-clause-grows
+returns-in_default-clause-grows g c arena device image s k shows walking = grows_none c.args.walk.now.folders.items
+
+pub returns-then-not-folder-clause-grows : goal.returns-then-not-folder-clause-grows
+returns-then-not-folder-clause-grows g c arena device image s k shows w' =
+    let f = c.args.folder.now in
+    let a : Step = top_step f.entries Bytes f.holder in
+    let b : Step = top_step c.in-Some.records Records f.holder in
+    let both : tops f ≡ a ∷ b ∷ [] = ap (λ (o : Option Entry). top_step f.entries Bytes f.holder ∷ records_top f.holder o) c.in-Some.is in
+    let first : Walking arena device image s k (b ∷ a ∷ []) c.args.walk.now = turned arena device image s k c.args.walk.now c.args.walk.now (record { blocks = refl; epoch = refl; active = refl; labels = refl; noted = refl }) (tops f) a b both refl refl w' in
+    let items : c.push.new.self.items ≡ c.args.walk.now.steps.items ++ b ∷ [] =
+    is_pushed c.push.result c.args.walk.now.steps.items (c.args.walk.now.steps.items ++ c.top-top.result ∷ []) c.push.new.self.items (sym c.is_err.ensures.value ∙ c.if-is_err.false) c.push.ensures.items
+    ∙ ap (λ (x : Step). c.args.walk.now.steps.items ++ x ∷ []) c.top-top.ensures in
+    let next : Walking arena device image s k (a ∷ []) (record c.args.walk.now { steps = c.push.new.self }) = pushed arena device image s k c.args.walk.now (record c.args.walk.now { steps = c.push.new.self }) (record { blocks = refl; epoch = refl; active = refl; labels = refl; noted = refl }) (a ∷ []) c.in-Some.records f.holder Records Records items refl first in
+    grows_like c.args.walk.now.folders.items c.follow_all.new.walk.folders.items _ c.note_leaf.ensures.folders (c.in_ok-follow_all.ensures.grows arena device image s k (a ∷ []) shows next)
+
+pub returns-in-Ok-clause-grows : goal.returns-in-Ok-clause-grows
+returns-in-Ok-clause-grows g c arena device image s k shows w' =
+    let f = c.args.folder.now in
+    let a : Step = top_step f.entries Bytes f.holder in
+    let b : Step = top_step c.in-Some.records Records f.holder in
+    let both : tops f ≡ a ∷ b ∷ [] = ap (λ (o : Option Entry). top_step f.entries Bytes f.holder ∷ records_top f.holder o) c.in-Some.is in
+    let first : Walking arena device image s k (b ∷ a ∷ []) c.args.walk.now = turned arena device image s k c.args.walk.now c.args.walk.now (record { blocks = refl; epoch = refl; active = refl; labels = refl; noted = refl }) (tops f) a b both refl refl w' in
+    let items : c.push.new.self.items ≡ c.args.walk.now.steps.items ++ b ∷ [] =
+    is_pushed c.push.result c.args.walk.now.steps.items (c.args.walk.now.steps.items ++ c.top-top.result ∷ []) c.push.new.self.items (sym c.is_err.ensures.value ∙ c.if-is_err.false) c.push.ensures.items
+    ∙ ap (λ (x : Step). c.args.walk.now.steps.items ++ x ∷ []) c.top-top.ensures in
+    let next : Walking arena device image s k (a ∷ []) (record c.args.walk.now { steps = c.push.new.self }) = pushed arena device image s k c.args.walk.now (record c.args.walk.now { steps = c.push.new.self }) (record { blocks = refl; epoch = refl; active = refl; labels = refl; noted = refl }) (a ∷ []) c.in-Some.records f.holder Records Records items refl first in
+    grows_like c.args.walk.now.folders.items c.follow_all.new.walk.folders.items _ (c.note_leaf-2.ensures.folders ∙ c.note_leaf.ensures.folders) (c.in_ok-follow_all.ensures.grows arena device image s k (a ∷ []) shows next)

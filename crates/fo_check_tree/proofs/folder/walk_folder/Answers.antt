@@ -1,4 +1,4 @@
-use Rattle.std.proofs.Common.{◌≡◌, List, [], ◌∷◌, ◌++◌, refl, sym, ap, ◌∙◌, subst, arith}
+use Rattle.std.proofs.Common.{◌≡◌, Bool, true, rules, MatchOption, List, [], ◌∷◌, ◌++◌, refl, sym, ap, ◌∙◌, subst, arith}
 use Rattle.std.proofs.lemmas.Result.{err_from_is_err_and}
 use Rattle.fo_disk.specs.Disk.{DiskState}
 use Rattle.fo_sound.specs.Device.{Shows}
@@ -10,6 +10,13 @@ use Rattle.fo_check_tree.specs.Formats.{AreFormed}
 use Rattle.fo_check_tree.specs.Dirs.{AreJudged}
 use Rattle.fo_check_tree.specs.Slots.{top_step}
 use Rattle.fo_check_tree.specs.Walking.{Walking, tops}
+use Rattle.std.proofs.lemmas.Bool.{false≢true}
+use Rattle.std.specs.List.{All, Any}
+use Rattle.fo_good.specs.Trees.{size_of}
+use Rattle.fo_check_names.specs.Names.{IsPaired, IsUnpaired}
+use Rattle.fo_check_tree.specs.Pairing.{AreInOrder, AreSought, IsSettled}
+use Rattle.fo_check_tree.proofs.Seeking.{grows_then, grows_like, sought_first}
+use Rattle.fo_check_tree.proofs.Settling.{settled}
 use Rattle.fo_check_tree.proofs.Formatting.{formed_like, formed_push}
 use Rattle.fo_check_tree.proofs.Judging.{judged_like}
 use Rattle.fo_check_tree.proofs.Marking.{is_pushed}
@@ -145,3 +152,56 @@ returns-clause-formed g c arena device image s k others shows walking j =
     formed_like arena image k c.follow_all.new.walk.labels.known.items _ c.follow_all.new.walk.noted _ c.follow_all.new.walk.steps.items _ (others ++ c.follow_all.new.walk.folders.items) _
     (ap (λ (x : Labels). x.known.items) c.note_leaf.ensures.labels) c.note_leaf.ensures.level c.note_leaf.ensures.steps (ap (λ (fs : List Folder). others ++ fs) c.note_leaf.ensures.folders)
     (c.in_ok-follow_all.ensures.formed arena device image s k [] others still next next')
+
+pub returns-then-not-folder-clause-grows : goal.returns-then-not-folder-clause-grows
+returns-then-not-folder-clause-grows g c arena device image s k shows w =
+    let f = c.args.folder.now in
+    let a : Step = top_step f.entries Bytes f.holder in
+    let fresh = emptied arena device image s k c.args.walk.now (record c.args.walk.now { named = c.new.result }) (record { blocks = refl; epoch = refl; active = refl; labels = refl; noted = refl }) (tops f) refl refl w in
+    let listed : Walking arena device image s k (a ∷ []) c.list.new.walk = c.in_ok-list.ensures.walks arena device image s k shows fresh in
+    let items : c.push.new.self.items ≡ c.list.new.walk.steps.items ++ top_step f.entries c.if-folder.holds f.holder ∷ [] =
+    is_pushed c.push.result c.list.new.walk.steps.items (c.list.new.walk.steps.items ++ c.top-top.result ∷ []) c.push.new.self.items (sym c.is_err.ensures.value ∙ c.if-is_err.false) c.push.ensures.items
+    ∙ ap (λ (x : Step). c.list.new.walk.steps.items ++ x ∷ []) c.top-top.ensures in
+    let next : Walking arena device image s k [] (record c.list.new.walk { steps = c.push.new.self }) = pushed arena device image s k c.list.new.walk (record c.list.new.walk { steps = c.push.new.self }) (record { blocks = refl; epoch = refl; active = refl; labels = refl; noted = refl }) [] f.entries f.holder Bytes c.if-folder.holds items refl listed in
+    let still : Shows (g.D.Disk.state c.list.new.main).holds device = subst (λ (s : DiskState). Shows s.holds device) (sym c.list.ensures.kept) shows in
+    grows_then c.args.walk.now.folders.items c.list.new.walk.folders.items c.follow_all.new.walk.folders.items (c.in_ok-list.ensures.grows arena device image s k shows fresh) (c.in_ok-follow_all.ensures.grows arena device image s k [] still next)
+
+pub returns-clause-grows : goal.returns-clause-grows
+returns-clause-grows g c arena device image s k shows w =
+    let f = c.args.folder.now in
+    let a : Step = top_step f.entries Bytes f.holder in
+    let fresh = emptied arena device image s k c.args.walk.now (record c.args.walk.now { named = c.new.result }) (record { blocks = refl; epoch = refl; active = refl; labels = refl; noted = refl }) (tops f) refl refl w in
+    let listed : Walking arena device image s k (a ∷ []) c.list.new.walk = c.in_ok-list.ensures.walks arena device image s k shows fresh in
+    let items : c.push.new.self.items ≡ c.list.new.walk.steps.items ++ top_step f.entries c.if-folder.holds f.holder ∷ [] =
+    is_pushed c.push.result c.list.new.walk.steps.items (c.list.new.walk.steps.items ++ c.top-top.result ∷ []) c.push.new.self.items (sym c.is_err.ensures.value ∙ c.if-is_err.false) c.push.ensures.items
+    ∙ ap (λ (x : Step). c.list.new.walk.steps.items ++ x ∷ []) c.top-top.ensures in
+    let next : Walking arena device image s k [] (record c.list.new.walk { steps = c.push.new.self }) = pushed arena device image s k c.list.new.walk (record c.list.new.walk { steps = c.push.new.self }) (record { blocks = refl; epoch = refl; active = refl; labels = refl; noted = refl }) [] f.entries f.holder Bytes c.if-folder.holds items refl listed in
+    let still : Shows (g.D.Disk.state c.list.new.main).holds device = subst (λ (s : DiskState). Shows s.holds device) (sym c.list.ensures.kept) shows in
+    grows_like c.args.walk.now.folders.items c.follow_all.new.walk.folders.items c.note_leaf.new.self.folders.items c.note_leaf.ensures.folders
+    (grows_then c.args.walk.now.folders.items c.list.new.walk.folders.items c.follow_all.new.walk.folders.items (c.in_ok-list.ensures.grows arena device image s k shows fresh) (c.in_ok-follow_all.ensures.grows arena device image s k [] still next))
+
+pub returns-then-not-folder-clause-pairs : goal.returns-then-not-folder-clause-pairs
+returns-then-not-folder-clause-pairs g c arena device image s k entries meta shows w head no_steps quiet tree = absurd (false≢true (search rules))
+
+pub returns-clause-pairs : goal.returns-clause-pairs
+returns-clause-pairs g c arena device image s k entries meta shows w head no_steps =
+    let f = c.args.folder.now in
+    let a : Step = top_step f.entries Bytes f.holder in
+    let fresh = emptied arena device image s k c.args.walk.now (record c.args.walk.now { named = c.new.result }) (record { blocks = refl; epoch = refl; active = refl; labels = refl; noted = refl }) (tops f) refl refl w in
+    let listed : Walking arena device image s k (a ∷ []) c.list.new.walk = c.in_ok-list.ensures.walks arena device image s k shows fresh in
+    let items : c.push.new.self.items ≡ c.list.new.walk.steps.items ++ top_step f.entries c.if-folder.holds f.holder ∷ [] =
+    is_pushed c.push.result c.list.new.walk.steps.items (c.list.new.walk.steps.items ++ c.top-top.result ∷ []) c.push.new.self.items (sym c.is_err.ensures.value ∙ c.if-is_err.false) c.push.ensures.items
+    ∙ ap (λ (x : Step). c.list.new.walk.steps.items ++ x ∷ []) c.top-top.ensures in
+    let next : Walking arena device image s k [] (record c.list.new.walk { steps = c.push.new.self }) = pushed arena device image s k c.list.new.walk (record c.list.new.walk { steps = c.push.new.self }) (record { blocks = refl; epoch = refl; active = refl; labels = refl; noted = refl }) [] f.entries f.holder Bytes c.if-folder.holds items refl listed in
+    let still : Shows (g.D.Disk.state c.list.new.main).holds device = subst (λ (s : DiskState). Shows s.holds device) (sym c.list.ensures.kept) shows in
+    let order : AreInOrder arena image k meta f.named c.list.new.walk.noted c.list.new.walk.named.items = c.in_ok-list.ensures.listed arena device image s k meta shows fresh head.records no_steps c.new.ensures.items in
+    let order' : AreInOrder arena image k meta true c.list.new.walk.noted c.list.new.walk.named.items = subst (λ (b : Bool). AreInOrder arena image k meta b c.list.new.walk.noted c.list.new.walk.named.items) head.named order in
+    let one : c.push.new.self.items ≡ top_step f.entries c.if-folder.holds f.holder ∷ [] = items ∙ ap (λ (xs : List Step). xs ++ top_step f.entries c.if-folder.holds f.holder ∷ []) (c.in_ok-list.ensures.done no_steps) in
+    let start : AreSought arena image entries c.list.new.walk.named.items c.list.new.walk.noted c.push.new.self.items c.list.new.walk.named.items c.list.new.walk.folders.items =
+    subst (λ (xs : List Step). AreSought arena image entries c.list.new.walk.named.items c.list.new.walk.noted xs c.list.new.walk.named.items c.list.new.walk.folders.items) (sym one)
+    (sought_first arena image entries meta f head c.if-folder.holds c.list.new.walk.named.items c.list.new.walk.noted c.list.new.walk.folders.items order.fresh) in
+    let sought : AreSought arena image entries c.list.new.walk.named.items c.follow_all.new.walk.noted c.follow_all.new.walk.steps.items c.follow_all.new.walk.named.items c.follow_all.new.walk.folders.items = c.in_ok-follow_all.ensures.pairs arena device image s k entries c.list.new.walk.named.items [] still next head.named start in
+    let none : AreSought arena image entries c.list.new.walk.named.items c.follow_all.new.walk.noted [] c.follow_all.new.walk.named.items c.follow_all.new.walk.folders.items = subst (λ (xs : List Step). AreSought arena image entries c.list.new.walk.named.items c.follow_all.new.walk.noted xs c.follow_all.new.walk.named.items c.follow_all.new.walk.folders.items) c.in_ok-follow_all.ensures.done sought in
+    let answer : MatchOption c.without_pair-alone.result (All (IsPaired f.entries.size) c.follow_all.new.walk.named.items) (λ leaf. Any (IsUnpaired f.entries.size leaf) c.follow_all.new.walk.named.items) = search rules in
+    λ quiet tree. subst (λ (fs : List Folder). IsSettled arena image entries meta fs) (sym c.note_leaf.ensures.folders)
+    (settled arena image k meta entries c.follow_all.new.walk.folders.items c.list.new.walk.named.items c.follow_all.new.walk.named.items c.list.new.walk.noted c.follow_all.new.walk.noted c.note_leaf.new.self.noted order' none f.entries.size c.without_pair-alone.result answer c.note_leaf.ensures.noted c.in_ok-follow_all.ensures.level c.note_leaf.ensures.level (sym (ap size_of head.slot)) quiet tree)

@@ -15,6 +15,7 @@ use Rattle.fo_check_tree.proofs.Formatting.{formed_like, formed_open}
 use Rattle.fo_check_tree.proofs.Judging.{judged_like, judged_open, judged_folder}
 use Rattle.fo_check_tree.proofs.Levels.{judges_later}
 use Rattle.fo_check_tree.proofs.Scanning.{table_whole}
+use Rattle.fo_check_tree.proofs.Settling.{settled_like, settled_on}
 use Rattle.fo_check_tree.proofs.Starting.{read_table, read_unreached}
 use Rattle.fo_check_tree.proofs.Stepping.{opened, emptied, walking_like}
 use Rattle.fo_check_tree.proofs.tree.check_tree.Goals as goal
@@ -66,6 +67,17 @@ loop-folder-init g c = record {
         nothing = (c.new.ensures.items, c.new-2.ensures.items, refl);
       } in
       on_ok_is c.start.result _ (sym c.is_err.ensures.value ∙ c.if-is_err.false) (c.start.ensures.formed arena device image k is holds u);
+  settled = λ arena device image k len shows is holds.
+      let scan = c.in_ok-labels.ensures.table device len shows in
+      let start : Walk = record { blocks = c.args.setting.blocks; epoch = c.args.setting.s.high; active = true; labels = c.in_ok-labels.labels; noted = None; steps = c.new.result; folders = c.new-2.result; named = c.new-3.result; numbers = c.new-4.result } in
+      let u : IsUnbegun device c.args.setting.s start = record {
+        size = sym len;
+        tree = (refl, refl);
+        table = read_table device c.in_ok-labels.labels.known.items c.args.setting.blocks len scan c.in_ok-labels.labels.ascending;
+        unreached = read_unreached device c.in_ok-labels.labels.known.items c.args.setting.blocks len scan c.in_ok-labels.labels.ascending;
+        nothing = (c.new.ensures.items, c.new-2.ensures.items, refl);
+      } in
+      on_ok_is c.start.result _ (sym c.is_err.ensures.value ∙ c.if-is_err.false) (c.start.ensures.pairs arena device image k is holds u);
   judged = search rules;
   same = search rules;
   kept = search rules;
@@ -101,6 +113,17 @@ loop-folder-preserved g c = record {
       let shows' : Shows (g.D.Disk.state c.loop-folder.main).holds device = subst (λ (x : DiskState). Shows x.holds device) (sym c.loop-folder.invariant.kept) shows in
       c.in_ok-walk_folder.ensures.formed arena device image s k [] shows' open'
       (formed_open arena image k c.loop-folder.walk.labels.known.items c.loop-folder.walk.noted c.loop-folder.walk.steps.items c.loop-folder.walk.folders.items c.pop.new.self.items f c.in-Some.ensures.items (c.loop-folder.invariant.formed arena device image k len shows is holds));
+  settled = λ arena device image k len shows is holds.
+      let s = c.args.setting.s in
+      let f = c.in-Some.folder in
+      let before = c.loop-folder.invariant.walks arena device image k len shows is holds in
+      let old : Walk = record c.loop-folder.walk { folders = c.pop.new.self } in
+      let open' : Walking arena device image s k (tops f) old = opened arena device image s k c.loop-folder.walk old (record { blocks = refl; epoch = refl; active = refl; labels = refl; noted = refl }) f c.in-Some.ensures.items refl before.0 in
+      let shows' : Shows (g.D.Disk.state c.loop-folder.main).holds device = subst (λ (x : DiskState). Shows x.holds device) (sym c.loop-folder.invariant.kept) shows in
+      settled_on arena image k c.loop-folder.walk.noted c.walk_folder.new.walk.noted c.pop.new.self.items c.walk_folder.new.walk.folders.items c.loop-folder.walk.folders.items f c.in-Some.ensures.items
+      (c.in_ok-walk_folder.ensures.grows arena device image s k shows' open') c.in_ok-walk_folder.ensures.level
+      (λ entries meta head quiet tree. c.in_ok-walk_folder.ensures.pairs arena device image s k entries meta shows' open' head before.1 quiet tree)
+      (c.loop-folder.invariant.settled arena device image k len shows is holds);
   judged = judges_later c.in_ok-walk_folder.ensures.level c.loop-folder.invariant.judged;
   same = search rules;
   kept = search rules;
@@ -131,4 +154,5 @@ returns-clause-walked g c arena device image k len shows is holds =
     (judged_like arena device image s k [] c.loop-folder.walk end refl (none ∙ sym old_none) (omega arith) (c.loop-folder.invariant.dirs arena device image k len shows is holds)))
     (formed_like arena image k c.loop-folder.walk.labels.known.items _ c.loop-folder.walk.noted _ c.loop-folder.walk.steps.items _ c.loop-folder.walk.folders.items _ (ap (λ (l : Labels). l.known.items) n.labels) n.lowers.low n.steps (n.folders ∙ none ∙ sym old_none)
     (c.loop-folder.invariant.formed arena device image k len shows is holds))
+    (settled_like arena image k c.loop-folder.walk.noted c.check_numbers.new.walk.noted c.loop-folder.walk.folders.items _ n.lowers.low (n.folders ∙ none ∙ sym old_none) (c.loop-folder.invariant.settled arena device image k len shows is holds))
     (walking_like arena device image s k [] end c.check_numbers.new.walk (record { blocks = n.blocks; epoch = n.tree.0; active = n.tree.1; labels = n.labels; steps = n.steps; folders = n.folders }) n.lowers empty)

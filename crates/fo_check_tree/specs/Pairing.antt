@@ -1,0 +1,147 @@
+-- The pairs of a directory, while its entries are walked: which records have theirs, and which folders they lead to.
+use Rattle.std.specs.Prelude.{◌≡◌, ◌⊎◌, ℕ, ◌+◌, ◌-◌, ◌*◌, ◌^◌, ◌<◌, ◌≤◌, zero, suc, min, Bool, true, false, List, ◌++◌, length, slice_index_or, Option, Some}
+use Rattle.std.specs.List.{AllByRecursion}
+use Rattle.fo_image.specs.declared.types.Kind.{Kind}
+use Rattle.fo_image.specs.declared.types.Kind.TheVariants.{Data, Dir, Root}
+use Rattle.fo_image.specs.declared.types.Entry.{Entry}
+use Rattle.fo_image.specs.declared.record.Record.{Record}
+use Rattle.fo_crash.specs.declared.slot.Slot.TheVariants.{Entry as Head}
+use Rattle.fo_crash.specs.Images.{Content, Image, Arena, Link, target, goes, way, depth_of, entry_of as entry_at}
+use Rattle.fo_world.specs.Step.{is_dir_mode}
+use Rattle.fo_good.specs.Trees.{IsTree, Lists, IsDir, IsFirst, IsSecond, HasPair}
+use Rattle.fo_good.specs.Sound.{Kept}
+use Rattle.fo_check_names.specs.declared.names.Named.{Named}
+use Rattle.fo_check_tree.specs.declared.broken.Broken.{Broken}
+use Rattle.fo_check_tree.specs.declared.walk.Folder.{Folder}
+use Rattle.fo_check_tree.specs.declared.walk.Holds.TheVariants.{Bytes}
+use Rattle.fo_check_tree.specs.declared.walk.Step.{Step}
+use Rattle.fo_check_tree.specs.Listing.{SomeOf, IsMetaOf}
+use Rattle.fo_check_tree.specs.Lower.{level}
+use Rattle.fo_check_tree.specs.Slots.{entry_of}
+
+-- ---- one leaf of entries
+
+-- The lists have the same records, whatever was found of them.
+pub record SameRecords (old new : List Named) : Type 0 where
+  pub long : length new ≡ length old
+  pub each : (i : ℕ) (d : Named) → i < length new → (slice_index_or new i d).listed ≡ (slice_index_or old i d).listed
+
+-- the folder of these two entries, to which names lead
+pub record IsOfPair (first second : Entry) (f : Folder) : Type 0 where
+  pub entries : f.entries ≡ first
+  pub records : f.records ≡ Some second
+  pub named : f.named ≡ true
+
+-- the number of pair k of the leaf with this number
+abbrev pub pair_number : ℕ → ℕ → ℕ
+pair_number index k = min (min (index * 102) (2 ^ 64 - 1) + k) (2 ^ 64 - 1)
+
+-- The record has one of the first pairs of a leaf, and is a directory only where its folder is left.
+pub record HasPairHere (index : ℕ) (c : Content) (named : Bool) (pairs : ℕ) (folders : List Folder) (r : Record) : Type 0 where
+  pub pair : ℕ
+  pub within : pair < pairs
+  pub slot : r.slot ≡ pair_number index pair
+  pub first : IsFirst (Head (entry_of (c.slot (2 * pair)))) r
+  pub second : IsSecond (Head (entry_of (c.slot (2 * pair + 1)))) r
+  pub folder : named ≡ true → is_dir_mode r.mode ≡ true → SomeOf (IsOfPair (entry_of (c.slot (2 * pair))) (entry_of (c.slot (2 * pair + 1)))) folders
+
+-- What was found in the first pairs of a leaf of entries.
+pub record Searches (index : ℕ) (c : Content) (named : Bool) (pairs : ℕ) (old new : List Named) (folders : List Folder) : Type 0 where
+  pub same : SameRecords old new
+  pub each : (i : ℕ) (d : Named) → i < length new → (slice_index_or new i d).found ≡ true → ((slice_index_or old i d).found ≡ true) ⊎ HasPairHere index c named pairs folders (slice_index_or new i d).listed
+
+-- The same of a block of this kind: only in a leaf of entries anything is found.
+abbrev pub Seeks : Step → Content → Bool → Kind → List Named → List Named → List Folder → Type 0
+Seeks step c named (Data level) old new folders = Unit {0}
+Seeks step c named (Dir zero) old new folders = Searches step.index c named 102 old new folders
+Seeks step c named (Dir (suc level)) old new folders = new ≡ old
+Seeks step c named Root old new folders = Unit {0}
+
+-- ---- all leaves of entries
+
+-- The folder is of a directory to which names lead, with its entries and its records below these two links.
+pub record IsHeadOf (entries meta : Link) (f : Folder) : Type 0 where
+  pub named : f.named ≡ true
+  pub slot : entries.slot ≡ Head f.entries
+  pub dir : f.entries.dir ≡ true
+  pub kind : entries.kind ≡ Dir f.entries.depth
+  pub shallow : f.entries.depth ≤ 4
+  pub records : IsMetaOf f meta
+
+-- A step to a block of the source of entries, at the end of this path.
+pub record IsInEntries (arena : Arena) (image : Image) (entries : Link) (step : Step) : Type 0 where
+  pub path : List ℕ
+  pub level : ℕ
+  pub kind : step.kind ≡ Dir level
+  pub pointer : step.pointer ≡ target ((goes arena image entries path).slot)
+  pub depth : length path + level ≡ depth_of entries.slot
+  pub index : (more : List ℕ) → way (length path) step.index more ≡ path ++ more
+  pub few : step.index < 409 ^ length path
+
+-- A step to a block of a source of which no record is listed.
+pub record IsQuiet (step : Step) : Type 0 where
+  pub level : ℕ
+  pub kind : step.kind ≡ Data level
+  pub quiet : (step.holds ≡ Bytes) ⊎ (step.size ≡ 0)
+
+abbrev pub IsEntriesStep : Arena → Image → Link → Step → Type 0
+IsEntriesStep arena image entries step = IsInEntries arena image entries step ⊎ IsQuiet step
+
+-- The record has its pair in this source of entries, and is a directory only where its folder is left.
+pub record IsFound (arena : Arena) (image : Image) (entries : Link) (folders : List Folder) (r : Record) : Type 0 where
+  pub first : IsFirst (entry_at arena image entries (2 * r.slot)).slot r
+  pub second : IsSecond (entry_at arena image entries (2 * r.slot + 1)).slot r
+  pub folder : is_dir_mode r.mode ≡ true → SomeOf (IsHeadOf (entry_at arena image entries (2 * r.slot)) (entry_at arena image entries (2 * r.slot + 1))) folders
+
+-- While the entries are walked: these are the records of the directory, and those that are marked have their pairs.
+pub record AreSought (arena : Arena) (image : Image) (entries : Link) (names : List Named) (noted : Option Broken) (steps : List Step) (named : List Named) (folders : List Folder) : Type 0 where
+  pub shallow : depth_of entries.slot ≤ 4
+  pub kind : entries.kind ≡ Dir (depth_of entries.slot)
+  pub same : SameRecords names named
+  pub sources : AllByRecursion (IsEntriesStep arena image entries) steps
+  pub found : 5 < level noted → (i : ℕ) (d : Named) → i < length named → (slice_index_or named i d).found ≡ true → IsFound arena image entries folders (slice_index_or named i d).listed
+
+-- ---- one directory
+
+-- No two records of the source have one pair.
+pub record HasOwnSlots (arena : Arena) (image : Image) (meta : Link) : Type 0 where
+  pub each : (n j m i : ℕ) (r q : Record) → Lists arena image meta n j r → Lists arena image meta m i q → r.slot ≡ q.slot → (n ≡ m) × (j ≡ i)
+
+-- The record is in the list.
+pub record IsNamedIn (named : List Named) (r : Record) : Type 0 where
+  pub at : ℕ
+  pub within : at < length named
+  pub is : (d : Named) → (slice_index_or named at d).listed ≡ r
+
+-- The records of a directory whose entries were not walked yet.
+pub record AreInOrder (arena : Arena) (image : Image) (k : Kept) (meta : Link) (lead : Bool) (noted : Option Broken) (named : List Named) : Type 0 where
+  pub fresh : (i : ℕ) (d : Named) → i < length named → (slice_index_or named i d).found ≡ false
+  pub whole : IsTree arena image k.at → (n j : ℕ) (r : Record) → Lists arena image meta n j r → IsNamedIn named r
+  pub differ : lead ≡ true → 6 < level noted → IsTree arena image k.at → HasOwnSlots arena image meta
+
+-- Each record of the directory has its pair, no two have one, and the folder of each directory in it is left.
+pub record IsSettled (arena : Arena) (image : Image) (entries meta : Link) (folders : List Folder) : Type 0 where
+  pub fit : (n j : ℕ) (r : Record) → Lists arena image meta n j r → HasPair arena image entries r
+  pub differ : HasOwnSlots arena image meta
+  pub below : (n j : ℕ) (r : Record) → Lists arena image meta n j r → is_dir_mode r.mode ≡ true → SomeOf (IsHeadOf (entry_at arena image entries (2 * r.slot)) (entry_at arena image entries (2 * r.slot + 1))) folders
+
+-- ---- all directories
+
+pub record Grows (old new : List Folder) : Type 0 where
+  pub added : List Folder
+  pub is : new ≡ old ++ added
+
+-- A folder of the directory with these two links is left, or one of a directory above it.
+pub data IsLeft (arena : Arena) (image : Image) (folders : List Folder) : Link → Link → Type 0 where
+  here : (entries meta : Link) → SomeOf (IsHeadOf entries meta) folders → IsLeft arena image folders entries meta
+  below : (entries meta : Link) (n j : ℕ) (r : Record) → IsLeft arena image folders entries meta → Lists arena image meta n j r → is_dir_mode r.mode ≡ true
+      → IsLeft arena image folders (entry_at arena image entries (2 * r.slot)) (entry_at arena image entries (2 * r.slot + 1))
+
+-- The records of a directory have their pairs.
+pub record HasOwnPairs (arena : Arena) (image : Image) (entries meta : Link) : Type 0 where
+  pub fit : (n j : ℕ) (r : Record) → Lists arena image meta n j r → HasPair arena image entries r
+  pub differ : HasOwnSlots arena image meta
+
+-- Each directory to which names lead is left or has its pairs, where no block is at two places and no rule up to 6 is noted.
+pub record AreSettled (arena : Arena) (image : Image) (k : Kept) (noted : Option Broken) (folders : List Folder) : Type 0 where
+  pub each : 6 < level noted → IsTree arena image k.at → (trail : List ℕ) (entries meta : Link) → IsDir arena image k.at trail entries meta → IsLeft arena image folders entries meta ⊎ HasOwnPairs arena image entries meta
