@@ -1,0 +1,4 @@
+mod Clean
+mod Entered
+mod Going
+mod Saying

@@ -1,0 +1,5 @@
+pub mod Broken
+pub mod Causes
+pub mod Vac
+pub mod Stands
+pub mod Told
