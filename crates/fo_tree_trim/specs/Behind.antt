@@ -1,0 +1,13 @@
+-- What stands behind a way.
+use Rattle.std.specs.Prelude.{◌≡◌, ◌^◌, ◌<◌, ℕ, List}
+use Rattle.fo_image.specs.declared.types.Pointer.TheVariants.{Nil}
+use Rattle.fo_ports.specs.State.{State}
+use Rattle.fo_tree_read.specs.declared.tree.Tree.{Tree}
+use Rattle.fo_tree_read.specs.Tree.{block_at}
+use Rattle.fo_tree_look.specs.declared.ways.Kept.{Kept}
+use Rattle.fo_tree_look.specs.Source.{seen}
+use Rattle.fo_tree_down.specs.Way.{IsWayIndex}
+
+-- No block stands behind the way to block k of those n steps below the top, as far as its levels go.
+abbrev pub IsClearTo : State → Tree → List Kept → ℕ → ℕ → Type 0
+IsClearTo s t kept n k = (m a b : ℕ) → IsWayIndex n k m a → a < b → b < 409 ^ m → block_at (seen s kept) t m b ≡ Nil
