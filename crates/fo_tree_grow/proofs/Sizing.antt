@@ -11,7 +11,7 @@ use Rattle.fo_tree_look.specs.declared.ways.Kept.{Kept}
 use Rattle.fo_tree_look.specs.Source.{HasBlock, Over, Prepared, Ready, WayReady, IsTopCurrent, address_here, held_here, seen}
 use Rattle.fo_tree_look.proofs.Held.{seen_address}
 use Rattle.fo_tree_down.proofs.Beside.{index_last}
-use Rattle.fo_tree_raise.specs.Raise.{EndsClear, last_leaf}
+use Rattle.fo_tree_down.specs.Clear.{EndsClear, last_leaf}
 use Rattle.fo_tree_raise.proofs.Clear.{way_past, nothing_there}
 use Rattle.fo_tree_grow.specs.Grow.{sized}
 

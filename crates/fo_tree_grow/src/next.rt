@@ -5,7 +5,7 @@ ghost use Rattle.fo_ports.specs.Sources.{Changes, Grows, Owned, depth_for};
 ghost use Rattle.fo_tree_read.specs.Tree.{kind_at};
 ghost use Rattle.fo_tree_look.specs.Source.{Over, HasBlock, IsPlainTree, Prepared, IsTopCurrent, form_of, leaves_of};
 ghost use Rattle.fo_tree_down.specs.Way.{IsTopOf, with_top};
-ghost use Rattle.fo_tree_raise.specs.Raise.{EndsClear};
+ghost use Rattle.fo_tree_down.specs.Clear.{EndsClear};
 ghost use Rattle.fo_tree_grow.specs.Grow.{sized, TailClear};
 
 use fo_base::BLOCK;

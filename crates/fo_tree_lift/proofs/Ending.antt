@@ -12,7 +12,7 @@ use Rattle.fo_tree_look.specs.Source.{HasBlock, Over, IsPlainTree, Prepared, Way
 use Rattle.fo_tree_look.proofs.Shown.{held_on, top_ready}
 use Rattle.fo_tree_down.specs.Way.{OnWay, IsWayIndex, Comes, Replaces, StaysBeside, IsTopOf, with_top}
 use Rattle.fo_tree_down.proofs.Beside.{index_last}
-use Rattle.fo_tree_raise.specs.Raise.{last_leaf}
+use Rattle.fo_tree_down.specs.Clear.{last_leaf}
 use Rattle.fo_tree_raise.specs.Levels.{grown}
 use Rattle.fo_tree_raise.proofs.Climbing.{room_more}
 use Rattle.fo_tree_leaf.proofs.Owning.{LeafCame}

@@ -15,7 +15,8 @@ use Rattle.fo_tree_look.specs.declared.ways.Kept.{Kept}
 use Rattle.fo_tree_look.specs.Source.{HasBlock, Over, Prepared, Ready, WayReady, seen}
 use Rattle.fo_tree_look.proofs.Held.{seen_address}
 use Rattle.fo_tree_down.specs.Way.{OnWay, IsWayIndex, with_top}
-use Rattle.fo_tree_raise.specs.Raise.{EndsClear, Bears, last_leaf}
+use Rattle.fo_tree_down.specs.Clear.{EndsClear, last_leaf}
+use Rattle.fo_tree_raise.specs.Raise.{Bears}
 use Rattle.fo_tree_raise.specs.Levels.{IsTopAfter, InStead, Adds, grown}
 use Rattle.fo_tree_raise.proofs.Levels.{below_same}
 use Rattle.fo_tree_raise.proofs.Clear.{index_above}

@@ -9,7 +9,8 @@ use Rattle.fo_tree_read.specs.declared.tree.Tree.{Tree}
 use Rattle.fo_tree_read.specs.Tree.{block_at}
 use Rattle.fo_tree_look.specs.declared.ways.Kept.{Kept}
 use Rattle.fo_tree_look.specs.Source.{HasBlock, Prepared}
-use Rattle.fo_tree_raise.specs.Raise.{EndsClear, Bears}
+use Rattle.fo_tree_down.specs.Clear.{EndsClear}
+use Rattle.fo_tree_raise.specs.Raise.{Bears}
 use Rattle.fo_tree_raise.specs.Levels.{Adds, grown}
 
 -- The only leaf of a source is its top, was an older one, and was copied.

@@ -6,7 +6,7 @@ ghost use Rattle.fo_crash.specs.Images.{Reaches, to_block};
 ghost use Rattle.fo_tree_read.specs.Tree.{kind_at};
 ghost use Rattle.fo_tree_look.specs.Source.{Over, HasBlock, IsPrepared, Ready, IsTopCurrent};
 ghost use Rattle.fo_tree_down.specs.Way.{with_top};
-ghost use Rattle.fo_tree_raise.specs.Raise.{EndsClear};
+ghost use Rattle.fo_tree_down.specs.Clear.{EndsClear};
 ghost use Rattle.fo_tree_lift.specs.Lift.{Lifts};
 
 use fo_image::Pointer;

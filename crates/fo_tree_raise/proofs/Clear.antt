@@ -12,7 +12,8 @@ use Rattle.fo_tree_look.specs.Source.{Ready, WayReady, seen}
 use Rattle.fo_tree_look.proofs.Shown.{top_ready}
 use Rattle.fo_tree_down.specs.Way.{IsWayIndex}
 use Rattle.fo_tree_down.proofs.Beside.{index_last, index_within}
-use Rattle.fo_tree_raise.specs.Raise.{Raises, raised, EndsClear, last_leaf}
+use Rattle.fo_tree_down.specs.Clear.{EndsClear, last_leaf}
+use Rattle.fo_tree_raise.specs.Raise.{Raises, raised}
 use Rattle.fo_tree_raise.proofs.Levels.{below_same, level_up, level_none, seen_held, known, way_same, way_raised}
 
 -- ---- which blocks stand on the way to the last leaf

@@ -23,7 +23,8 @@ use Rattle.fo_tree_look.specs.declared.ways.Kept.{Kept}
 use Rattle.fo_tree_look.specs.Source.{Ready, WayReady, Prepared, or_held, find_kept, seen}
 use Rattle.fo_tree_own.proofs.Link.{Laws, Came, local_eq}
 use Rattle.fo_tree_down.specs.Way.{IsWayIndex, with_top}
-use Rattle.fo_tree_raise.specs.Raise.{IsUnder, CanRaise, EndsClear, last_leaf}
+use Rattle.fo_tree_down.specs.Clear.{EndsClear, last_leaf}
+use Rattle.fo_tree_raise.specs.Raise.{IsUnder, CanRaise}
 use Rattle.fo_tree_raise.specs.Levels.{IsAmong, Adds}
 use Rattle.fo_tree_raise.proofs.Levels.{below_same}
 use Rattle.fo_tree_raise.proofs.Clear.{index_above, way_part}

@@ -80,17 +80,6 @@ pub record Raises (t : Tree) (top : ℕ) (s u : State) : Type 0 where
   pub usable : u.usable + 1 ≡ s.usable
   pub numbers : KeepsNumbers s u
 
--- the number of the last leaf
-abbrev pub last_leaf : ℕ → ℕ
-last_leaf size = (size - 1) / 8192
-
--- No block of the source stands behind its last leaf, as far as what was prepared leads; and an empty one has no top. The way to the last
--- leaf is prepared.
-pub record EndsClear (s : State) (t : Tree) (kept : List Kept) : Type 0 where
-  pub empty : t.size ≡ 0 → t.top ≡ Nil
-  pub way : 0 < t.size → WayReady s t kept t.depth (last_leaf t.size)
-  pub behind : 0 < t.size → (n a b : ℕ) → IsWayIndex t.depth (last_leaf t.size) n a → a < b → b < 409 ^ n → block_at (seen s kept) t n b ≡ Nil
-
 -- A source stands over these blocks, with as many levels as its size asks for, or more.
 pub record Bears (s : State) (t : Tree) (kept : List Kept) : Type 0 where
   pub hangs : Hangs s t

@@ -6,7 +6,8 @@ ghost use Rattle.fo_ports.specs.Sources.{Made, Changes};
 ghost use Rattle.fo_tree_read.specs.Tree.{block_at};
 ghost use Rattle.fo_tree_look.specs.declared.ways.Kept.{Kept};
 ghost use Rattle.fo_tree_look.specs.Source.{HasBlock, Prepared};
-ghost use Rattle.fo_tree_raise.specs.Raise.{CanRaise, EndsClear, Bears};
+ghost use Rattle.fo_tree_down.specs.Clear.{EndsClear};
+ghost use Rattle.fo_tree_raise.specs.Raise.{CanRaise, Bears};
 ghost use Rattle.fo_tree_raise.specs.Levels.{Adds, IsTopAfter, InStead, grown};
 
 use crate::raise::raise_once;

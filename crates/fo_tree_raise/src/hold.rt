@@ -5,7 +5,8 @@ ghost use Rattle.fo_ports.specs.Sources.{Made, Changes};
 ghost use Rattle.fo_tree_read.specs.Tree.{kind_at};
 ghost use Rattle.fo_tree_look.specs.Source.{Over, HasBlock, IsPrepared, Prepared};
 ghost use Rattle.fo_tree_down.specs.Way.{Comes, with_top};
-ghost use Rattle.fo_tree_raise.specs.Raise.{CanRaise, EndsClear};
+ghost use Rattle.fo_tree_down.specs.Clear.{EndsClear};
+ghost use Rattle.fo_tree_raise.specs.Raise.{CanRaise};
 ghost use Rattle.fo_tree_raise.specs.Levels.{Adds};
 
 use fo_ports::Blocks;

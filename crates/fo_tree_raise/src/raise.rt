@@ -3,7 +3,8 @@ ghost use Rattle.std.specs.Prelude.{◌*◌, ◌^◌, ◌<◌, ◌≤◌, ℕ, L
 ghost use Rattle.fo_tree_read.specs.Tree.{Hangs};
 ghost use Rattle.fo_tree_look.specs.declared.ways.Kept.{Kept};
 ghost use Rattle.fo_tree_look.specs.Source.{Prepared};
-ghost use Rattle.fo_tree_raise.specs.Raise.{CanRaise, Raises, raised, EndsClear, Bears, SameBelow};
+ghost use Rattle.fo_tree_down.specs.Clear.{EndsClear};
+ghost use Rattle.fo_tree_raise.specs.Raise.{CanRaise, Raises, raised, Bears, SameBelow};
 
 use fo_crash::Slot;
 use fo_ports::Blocks;

@@ -3,7 +3,8 @@ use Rattle.fo_image.specs.declared.types.Pointer.TheVariants.{Local}
 use Rattle.fo_ports.specs.Sources.{Made}
 use Rattle.fo_tree_read.specs.declared.tree.Tree.{Tree}
 use Rattle.fo_tree_look.specs.Source.{HasBlock, Prepared}
-use Rattle.fo_tree_raise.specs.Raise.{CanRaise, Raises, SameBelow, EndsClear, Bears, raised}
+use Rattle.fo_tree_down.specs.Clear.{EndsClear}
+use Rattle.fo_tree_raise.specs.Raise.{CanRaise, Raises, SameBelow, Bears, raised}
 use Rattle.fo_tree_raise.specs.Levels.{grown}
 use Rattle.fo_tree_read.specs.Tree.{Hangs}
 use Rattle.fo_tree_raise.proofs.Levels.{owned_top}
