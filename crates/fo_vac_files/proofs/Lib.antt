@@ -1,4 +1,4 @@
 mod Clean
 mod Entered
 mod Going
-mod Saying
+pub mod Saying
