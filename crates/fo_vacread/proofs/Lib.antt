@@ -1,0 +1,3 @@
+mod Intact
+mod Refusing
+mod Ends
