@@ -126,6 +126,16 @@ module _ {t : Tree} {mine wider way : ℕ → Type 0} {level top : ℕ} {s m u :
       (λ ne. x.second.in_tree (mid told) b (away b ne) far)
       (cases_eq b top)
 
+  -- nothing comes in the place of the new top
+  pub instead_above : (b y : ℕ) → u.instead b y → m.instead b y
+  instead_above b y h = ⊎_elim
+      (λ was. was)
+      (λ new. ⊎_elim
+      (λ was. was)
+      (λ older. let now : (m.label y).epoch ≡ m.high = subst (λ z. (m.label z).epoch ≡ m.high) (sym (x.only y new.1)) top_current in absurd (omega (arith, now, older)))
+      (x.second.older b y h))
+      (x.second.instead b y h)
+
   pub changes_above : Changes t.tag wider none s u
   changes_above = record {
     memory = λ b h.
@@ -140,7 +150,7 @@ module _ {t : Tree} {mine wider way : ℕ → Type 0} {level top : ℕ} {s m u :
         let q = x.second.apart b (not_second b not) in
         (λ h. p.0 (q.0 h), λ h. ⊎_elim (λ still. inl (q.1 still)) (λ own. inr (x.within b own)) (p.1 h));
     places = λ told b p not other free stands. x.second.places (mid told) b p (not_second b not) (aside b not) free (x.first.places told b p (not_first b not) (λ h. free (x.second.still b h)) stands);
-    instead = instead_end;
+    instead = λ b y h. old_instead b y (instead_above b y h);
     covers = λ b. (λ h. x.second.still b (x.first.still b h), λ no other h. only_end b no h);
     leaves = λ told b r gone. absurd (gone (in_tree_end told b r));
     in_tree = λ told b other r. in_tree_end told b r;
@@ -164,16 +174,6 @@ module _ {t : Tree} {mine wider way : ℕ → Type 0} {level top : ℕ} {s m u :
           (λ old. inl old.1)
           (λ new. inr (made_first b new.0, ⊎_elim (λ own. inl (x.within y own)) (λ was. inr (was.0, x.within was.0 was.1, was.2)) new.1))
           (x.first.instead b y h)
-
-      -- nothing comes in the place of the new top
-      instead_end : (b y : ℕ) → u.instead b y → s.instead b y ⊎ (Made s u b × (wider y ⊎ ((z : ℕ) × wider z × s.instead z y)))
-      instead_end b y h = ⊎_elim
-          (λ was. old_instead b y was)
-          (λ new. ⊎_elim
-          (λ was. old_instead b y was)
-          (λ older. let now : (m.label y).epoch ≡ m.high = subst (λ z. (m.label z).epoch ≡ m.high) (sym (x.only y new.1)) top_current in absurd (omega (arith, now, older)))
-          (x.second.older b y h))
-          (x.second.instead b y h)
 
       dirty_end : (b : ℕ) → u.dirty b → s.dirty b ⊎ (Touched s u t.tag wider b ⊎ ((y : ℕ) × Made s u y × (b ≡ u.label_block y)))
       dirty_end b d = ⊎_elim

@@ -19,9 +19,9 @@ use Rattle.fo_tree_leaf.proofs.Owning.{LeafCame}
 use Rattle.fo_tree_grow.specs.Grow.{sized, TailClear}
 use Rattle.fo_tree_grow.proofs.Sizing.{room_for, has_back, has_sized, way_to, prepared_sized}
 use Rattle.fo_tree_grow.proofs.Empty.{least_for}
-use Rattle.fo_tree_lift.specs.Lift.{Lifts}
+use Rattle.fo_tree_lift.specs.Lift.{Lifts, InSteadOf}
 use Rattle.fo_tree_lift.proofs.Lifting.{over_lifted, way_top}
-use Rattle.fo_tree_lift.proofs.Above.{GoesBelow, changes_above, made_first, made_second, made_either}
+use Rattle.fo_tree_lift.proofs.Above.{GoesBelow, changes_above, instead_above, made_first, made_second, made_either}
 use Rattle.fo_tree_lift.proofs.Having.{LeafRaised, owned_raised, bytes_raised}
 
 local_eq : {a b : ℕ} → Local a ≡ Local b → a ≡ b
@@ -127,20 +127,28 @@ module _ {s m u : State} {t : Tree} {kept : List Kept} {levels : ℕ} {p : Point
   pub over_end : (limit : ℕ) → 8192 * (i + 1) ≤ limit → Over s t kept limit → Over u (with_top (taller t levels p i) top) kept limit
   over_end limit within over = w.over (omega arith) limit (over_mid x limit within over.low)
 
-  below : GoesBelow (taller t levels p i) (λ b. t.top ≡ Local b) (HasBlock s t) (OnWay m (taller t levels p i) (t.depth + levels) i) (t.depth + levels - (t.depth + levels)) x.lifts.new.at s m u
+  below : GoesBelow (taller t levels p i) (λ b. t.top ≡ Local b) (λ b. t.top ≡ Local b) (OnWay m (taller t levels p i) (t.depth + levels) i) (t.depth + levels - (t.depth + levels)) x.lifts.new.at s m u
   below = record {
     first = x.lifts.adds;
     second = w.comes.descends;
     made = x.lifts.new.made;
     only = only_mid x;
-    within = λ b e. record { down = 0; index = 0; within = omega arith; is = e };
+    within = λ b e. e;
     free = λ told b made. (over_last.told (w.more.still_tells.1 told) b ((w.owns told b).1 made)).uncovered;
     all = x.all;
     more = w.more;
   }
 
-  pub changes_end : Changes t.tag (HasBlock s t) none s u
+  pub changes_end : Changes t.tag (λ b. t.top ≡ Local b) none s u
   changes_end = changes_above below
+
+  pub instead_end : (b y : ℕ) → u.instead b y → s.instead b y ⊎ (Made s u b × InSteadOf s t y)
+  instead_end b y h =
+      let was = instead_above below b y h in
+      ⊎_elim
+      (λ old. inl old.1)
+      (λ new. inr (made_first below b new.0, x.lifts.instead b y new.0 was))
+      (x.lifts.adds.instead b y was)
 
   came : (limit : ℕ) → LeafCame m u (taller t levels p i) kept limit top i at
   came limit = record {

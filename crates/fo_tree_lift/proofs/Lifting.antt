@@ -22,8 +22,8 @@ use Rattle.fo_tree_raise.proofs.Levels.{below_same}
 use Rattle.fo_tree_raise.proofs.Clear.{index_above}
 use Rattle.fo_tree_grow.specs.Grow.{sized}
 use Rattle.fo_tree_grow.proofs.Sizing.{room_for, sized_block, has_back}
-use Rattle.fo_tree_lift.specs.Lift.{IsCopied, IsNewTop}
-use Rattle.fo_tree_lift.proofs.Join.{Follows, made_first, made_second, same_joins}
+use Rattle.fo_tree_lift.specs.Lift.{IsCopied, IsNewTop, InSteadOf}
+use Rattle.fo_tree_lift.proofs.Join.{Follows, made_first, made_second, made_either, same_joins}
 
 local_eq : {a b : ℕ} → Local a ≡ Local b → a ≡ b
 local_eq e = cc
@@ -106,6 +106,37 @@ module _ {s c m : State} {t : Tree} {at copy : ℕ} {top : Pointer} (x : Copied 
 
   pub new_copied : IsNewTop s m top
   new_copied = record { at = new.at; is = new.is; made = made_second f new.at new.made; is_apart = new.is_apart }
+
+module _ {s c m : State} {t : Tree} {at copy : ℕ} (x : Copied s c t at copy) (f : Follows t (λ b. t.top ≡ Local b) copy s c m) where
+  of_copy : (y : ℕ) → c.instead copy y → InSteadOf s t y
+  of_copy y h = ⊎_elim
+      (λ old. absurd (old.0 x.made))
+      (λ new. ⊎_elim
+      (λ top. (y, top, inl (same y, inr (subst (λ z. (s.label z).epoch < s.high) (local_eq (sym x.is ∙ top)) x.older))))
+      (λ was. (was.0, was.1, inr was.2))
+      new.1)
+      (x.adds.instead copy y h)
+    where
+      same : (z : ℕ) → z ≡ z
+      same z = cc
+
+  -- what a new block comes in the place of
+  pub instead_copied : (b y : ℕ) → Made s m b → m.instead b y → InSteadOf s t y
+  instead_copied b y made h = ⊎_elim
+      (λ old.
+      let here = x.given b old in
+      ⊎_elim
+      (λ was. of_copy y (subst (λ z. c.instead z y) here was.1))
+      (λ new. absurd (new.0.0 old.1))
+      (f.second.instead b y h))
+      (λ new.
+      let r = f.instead b y new h in
+      let here : r.0 ≡ copy = local_eq (sym r.1) in
+      ⊎_elim
+      (λ own. absurd (own.1 (subst (λ z. c.apart z) (sym here) f.is_apart)))
+      (λ was. of_copy y (subst (λ z. c.instead z y) here was))
+      r.2)
+      (made_either f b made)
 
 -- ---- the tree with its levels and another size
 

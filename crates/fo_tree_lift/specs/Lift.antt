@@ -33,11 +33,16 @@ pub record IsNewTop (s m : State) (top : Pointer) : Type 0 where
   pub made : Made s m at
   pub is_apart : m.apart at
 
+-- What a new block comes in the place of: the source's top, where that was put into a slot or is older, or what that came in the place of.
+abbrev pub InSteadOf : State → Tree → ℕ → Type 0
+InSteadOf s t x = (c : ℕ) × (t.top ≡ Local c) × (((c ≡ x) × ((s.apart c → ⊥) ⊎ ((s.label c).epoch < s.high))) ⊎ s.instead c x)
+
 -- So many levels were put above the top of a source, of which an older one was copied first. Only blocks differ that were given out. The
 -- source stands over the blocks with its levels, and has the leaves that it had.
 pub record Lifts (s m : State) (t : Tree) (kept : List Kept) (levels : ℕ) (top : Pointer) : Type 0 where
   pub adds : Adds t.tag (λ b. t.top ≡ Local b) s m
   pub new : IsNewTop s m top
+  pub instead : (b x : ℕ) → Made s m b → m.instead b x → InSteadOf s t x
   pub bears : Bears m (grown t levels top) kept
   pub still : (limit o n : ℕ) → Prepared s t kept limit o n → Prepared m (grown t levels top) kept limit o n
   pub clear : EndsClear m (grown t levels top) kept

@@ -3,11 +3,13 @@ ghost use Rattle.std.specs.Prelude.{◌≡◌, ◌≢◌, ◌⊎◌, ◌+◌, �
 ghost use Rattle.fo_crash.specs.Images.{Reaches, to_block};
 ghost use Rattle.fo_sparse.specs.Written.{resized};
 ghost use Rattle.fo_ports.specs.State.{none};
-ghost use Rattle.fo_ports.specs.Sources.{Changes, Grows, Owned, depth_for};
+ghost use Rattle.fo_image.specs.declared.types.Pointer.TheVariants.{Local};
+ghost use Rattle.fo_ports.specs.Sources.{Made, Changes, Grows, Owned, depth_for};
 ghost use Rattle.fo_tree_look.specs.Source.{Over, HasBlock, IsPlainTree, Prepared, IsTopCurrent, form_of, leaves_of};
 ghost use Rattle.fo_tree_down.specs.Way.{IsTopOf, with_top};
 ghost use Rattle.fo_tree_down.specs.Clear.{EndsClear};
 ghost use Rattle.fo_tree_grow.specs.Grow.{shaped, TailClear};
+ghost use Rattle.fo_tree_lift.specs.Lift.{InSteadOf};
 
 use crate::levels::lift;
 use fo_base::BLOCK;
@@ -32,7 +34,8 @@ pub fn own_raised<B: Blocks>(tree: &Tree, kept: &[Kept], on: &mut B, i: u32) -> 
     ensures top { IsTopOf (B.state on.old) (B.state on.new) tree.now result.top }
     ensures over { (limit : ℕ) → 8192 * (i + 1) ≤ limit → Over (B.state on.old) tree.now kept.now limit → Over (B.state on.new) (with_top (shaped tree.now (depth_for (8192 * (i + 1))) (8192 * (i + 1))) result.top) kept.now limit }
     ensures grows { (limit : ℕ) → Grows (B.state on.old) (B.state on.new) (leaves_of (B.state on.old) tree.now kept.now limit) (leaves_of (B.state on.new) (with_top (shaped tree.now (depth_for (8192 * (i + 1))) (8192 * (i + 1))) result.top) kept.now limit) }
-    ensures changes { Changes tree.now.tag (HasBlock (B.state on.old) tree.now) none (B.state on.old) (B.state on.new) }
+    ensures changes { Changes tree.now.tag (λ b. tree.now.top ≡ Local b) none (B.state on.old) (B.state on.new) }
+    ensures instead { (b x : ℕ) → (B.state on.new).instead b x → (B.state on.old).instead b x ⊎ (Made (B.state on.old) (B.state on.new) b × InSteadOf (B.state on.old) tree.now x) }
     ensures spare { (B.state on.old).spare + tree.now.depth ≤ (B.state on.new).spare + (2 * depth_for (8192 * (i + 1)) + 1) }
     ensures less { IsTopCurrent (B.state on.old) tree.now → (B.state on.old).spare + tree.now.depth ≤ (B.state on.new).spare + 2 * depth_for (8192 * (i + 1)) }
     ensures room { (B.state on.new).room ≡ (B.state on.old).room }

@@ -9,7 +9,7 @@ use Rattle.fo_tree_down.specs.Way.{with_top}
 use Rattle.fo_tree_raise.specs.Raise.{CanRaise}
 use Rattle.fo_tree_raise.proofs.Bearing.{bears}
 use Rattle.fo_tree_lift.proofs.Join.{Follows, adds_join, made_first, made_second, made_either}
-use Rattle.fo_tree_lift.proofs.Lifting.{Copied, Raised, new_top, copied_back, copied_top, leaf_copied, new_copied}
+use Rattle.fo_tree_lift.proofs.Lifting.{Copied, Raised, new_top, copied_back, copied_top, leaf_copied, new_copied, instead_copied}
 use Rattle.fo_tree_lift.proofs.levels.lift_copy.Goals as goal
 
 pub copy_top-copy-requires-clause-spare : goal.copy_top-copy-requires-clause-spare
@@ -79,6 +79,7 @@ returns-clause-lifts g c =
     record {
       adds = adds_join follows;
       new = new_copied first follows new;
+      instead = instead_copied first follows;
       bears = last.bears some below;
       still = λ limit o n was. last.still limit o n over.hangs.room (e.still limit o n was);
       clear = last.clear some over.hangs.room (e.clear c.requires.clear);

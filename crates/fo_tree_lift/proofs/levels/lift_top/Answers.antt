@@ -1,4 +1,4 @@
-use Rattle.std.proofs.Common.{inl}
+use Rattle.std.proofs.Common.{inl, inr, ⊎_elim}
 use Rattle.fo_tree_own.proofs.Link.{Laws}
 use Rattle.fo_tree_raise.proofs.Standing.{can_raise}
 use Rattle.fo_tree_raise.proofs.Bearing.{bears}
@@ -24,6 +24,7 @@ returns-clause-lifts g c =
     record {
       adds = e.adds;
       new = new_top c.requires.some.1 e.top;
+      instead = λ b y made h. let was = e.instead b y made h in (was.0, was.1, ⊎_elim (λ own. inl (own.0, inl own.1)) (λ old. inr old) was.2);
       bears = e.bears kept some (bears over);
       still = λ limit o n was. e.still kept limit o n over.hangs.room was;
       clear = e.clear kept some over.hangs.room c.requires.clear;

@@ -7,7 +7,7 @@ use Rattle.fo_tree_down.specs.Way.{with_top}
 use Rattle.fo_tree_grow.specs.Grow.{shaped}
 use Rattle.fo_tree_grow.proofs.Empty.{least_for, few_for}
 use Rattle.fo_tree_lift.proofs.Lifting.{top_ready}
-use Rattle.fo_tree_lift.proofs.Ending.{IsRaised, WayCame, taller, over_mid, way_mid, current_mid, over_end, changes_end, owned_end, bytes_end, grows_end, top_end, current_end, room_end}
+use Rattle.fo_tree_lift.proofs.Ending.{IsRaised, WayCame, taller, over_mid, way_mid, current_mid, over_end, changes_end, instead_end, owned_end, bytes_end, grows_end, top_end, current_end, room_end}
 use Rattle.fo_tree_lift.proofs.own.own_raised.Given as given
 use Rattle.fo_tree_lift.proofs.own.own_raised.Goals as goal
 
@@ -200,6 +200,9 @@ returns-clause-grows g c = λ limit.
 
 pub returns-clause-changes : goal.returns-clause-changes
 returns-clause-changes g c = changes_end (raised_last g c) (way_last g c)
+
+pub returns-clause-instead : goal.returns-clause-instead
+returns-clause-instead g c = λ b x h. instead_end (raised_last g c) (way_last g c) b x h
 
 used_last : (g : given.Over) (c : goal.After-own_way g) → (g.B.Blocks.state c.lift-top.new.on).spare ≤ (g.B.Blocks.state c.own_way.new.on).spare + c.least_depth-depth.result
 used_last g c = c.own_way.ensures.less (subst (λ (x : Tree). IsTopCurrent (g.B.Blocks.state c.lift-top.new.on) x) (sym (grown_last g c)) (current_mid (raised_last g c)))
