@@ -173,6 +173,15 @@ module _ {t : Tree} {level k at i n : ℕ} {was : Pointer} {l : Label} {result :
       (cases_eq b at)))
       (cases_eq b result)
 
+  -- what came in the place of another still does, but for what was put
+  still_end : (b y : ℕ) → b ≢ result → s.instead b y → u.instead b y
+  still_end b y apart h =
+      let mid = (x.link.came.stays.instead b y apart (λ z. z)).1 h in
+      ⊎_elim
+      (λ here. subst (λ z. u.instead z y) (sym here) (x.hangs.still y (subst (λ z. m.instead z y) here mid)))
+      (λ away. (x.frame.stays.instead b y (λ z. z) (λ g. ⊎_elim away (λ e. apart (sym (local_eq e))) g)).1 mid)
+      (cases_eq b at)
+
   waits_end : (a b j : ℕ) → b ≢ result → a ≢ result → s.waits a b j → u.waits a b j
   waits_end a b j apart sep w =
       let mid = x.link.came.stays.waits a b j sep apart (λ z. z) w in
@@ -420,6 +429,8 @@ module _ {t : Tree} {level k at i n : ℕ} {was : Pointer} {l : Label} {result :
     images = behind;
     apart = apart_same;
     instead = instead_end;
+    still = still_end;
+    below = λ told w b p stands not r. reaches_end w b not (reaches_mid x.link told w b p stands r);
     reached = reached_end;
     in_tree = λ told b e. back x.link told 1 b super_place (x.link.laws.super_stands told) (x.in_tree told b e);
     hung = hung_end;

@@ -102,6 +102,8 @@ pub record Links (t : Tree) (level k at i : ℕ) (was : Pointer) (result : ℕ) 
   pub images : (image : Image) → new.may_leave image → IsBehind at i result old new image
   pub apart : (b : ℕ) → b ≢ result → new.apart b ↔ old.apart b
   pub instead : (b x : ℕ) → new.instead b x → old.instead b x
+  pub still : (b x : ℕ) → b ≢ result → old.instead b x → new.instead b x
+  pub below : old.tells → (w b : ℕ) (p : Place) → old.stands w p → (was ≡ Local b → ⊥) → Reaches old.now (to_block w) b → Reaches new.now (to_block w) b
   pub reached : old.tells → (b : ℕ) → (was ≡ Local b → ⊥) → Reaches old.now (to_block 1) b → Reaches new.now (to_block 1) b
   pub in_tree : old.tells → (b : ℕ) → was ≡ Local b → Reaches old.now (to_block 1) b
   pub hung : old.tells → (b : ℕ) → (was ≡ Local b → ⊥) → IsHung old b → IsHung new b
