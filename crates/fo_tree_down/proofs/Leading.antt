@@ -15,8 +15,9 @@ use Rattle.fo_tree_look.specs.Source.{IsPrepared, IsTopCurrent}
 use Rattle.fo_tree_read.specs.declared.tree.Tree.{Tree}
 use Rattle.fo_tree_read.specs.Tree.{kind_at, kind_down, below, block_at}
 use Rattle.fo_tree_own.specs.Step.{IsOwn, OwnTold, Links}
-use Rattle.fo_tree_down.specs.Way.{OnWay, Replaces, LeadsBeside, Leads, with_top, IsTopOf, WayCurrent}
-use Rattle.fo_tree_down.proofs.Join.{level_same}
+use Rattle.fo_tree_down.specs.Way.{OnWay, Replaces, LeadsBeside, Leads, with_top, IsInstead, ComesFor, IsTopOf, WayCurrent}
+use Rattle.fo_tree_own.proofs.Link.{local_eq}
+use Rattle.fo_tree_down.proofs.Join.{level_same, local_cases}
 
 -- a block that is owned is prepared
 pub block_of : {s : State} {t : Tree} (n k at : ℕ) → IsOwn s t (t.depth - n) k at → IsPrepared s (kind_down t n) t.tag at
@@ -125,19 +126,55 @@ module _ (s m u : State) (t : Tree) (kept : List Kept) (top n above i result lev
 
 -- ---- the top
 
-pub top_stays : {s m u : State} {t : Tree} {level k at i result top : ℕ} {was : Pointer} → KeepsAll m u → IsTopOf s m t top → Links t level k at i was result m u → IsTopOf s u t top
-top_stays {m = m} {u = u} {result = result} {top = top} more is step = record {
+pub top_stays : {s m u : State} {t : Tree} {level k at i result top : ℕ} {was : Pointer} → KeepsAll s m → KeepsAll m u → IsTopOf s m t top → Links t level k at i was result m u → IsTopOf s u t top
+top_stays {s = s} {m = m} {u = u} {t = t} {result = result} {top = top} {was = was} first more is step = record {
   from = ⊎_elim (λ made. inl (made.0, ap (λ (l : Label). l.state) same ∙ made.1)) (λ e. inr e) is.from;
   apart = λ made. (step.apart top ne).1 (is.apart (made.0, ap (λ (l : Label). l.state) (sym same) ∙ made.1));
+  comes = λ told from h. comes_on (first.still_tells.1 told) from (is.comes told from h);
+  only = λ told y x h. is.only told y x (step.instead y x h);
   live = ap (λ (l : Label). l.state) same ∙ is.live;
   current = ap (λ (l : Label). l.epoch) same ∙ is.current ∙ sym more.same_high;
 }
   where
+    ne_live : (x : ℕ) → (m.label x).state ≡ Live → x ≢ result
+    ne_live x live e = step.made.0 (ap (λ y. (m.label y).state) (sym e) ∙ live)
+
     ne : top ≢ result
-    ne e = step.made.0 (ap (λ y. (m.label y).state) (sym e) ∙ is.live)
+    ne = ne_live top is.live
 
     same : u.label top ≡ m.label top
     same = step.labels top ne
+
+    -- an older block is so still
+    older_on : (x : ℕ) → (m.label x).state ≡ Live → (m.label x).epoch < m.high → (u.label x).epoch < u.high
+    older_on x live older =
+        let label : (u.label x).epoch ≡ (m.label x).epoch = ap (λ (l : Label). l.epoch) (step.labels x (ne_live x live)) in
+        let high = more.same_high in
+        omega (arith, label, high, older)
+
+    spared : (m.covered top → ⊥) → u.covered top → ⊥
+    spared free = step.covers.only top free (λ e. let older = step.older top e in let current = is.current in absurd (omega (arith, older, current)))
+
+    instead_on : m.tells → (from : Pointer) → IsInstead m from top → IsInstead u from top
+    instead_on told from i = record {
+      is_apart = (step.apart top ne).1 i.is_apart;
+      place = i.place;
+      stands = step.places told top i.place ne (spared i.uncovered) i.stands;
+      uncovered = spared i.uncovered;
+      instead = λ x. (λ h. (i.instead x).0 (step.instead top x h), λ e. step.still top x ne ((i.instead x).1 e));
+      live = λ x e. ap (λ (l : Label). l.state) (step.labels x (ne_live x (i.live x e))) ∙ i.live x e;
+      keeps = λ x e. ⊎_elim
+          (λ older. inl (older_on x (i.live x e) older))
+          (λ r. ⊎_elim
+          (λ left. inl (older_on x (i.live x e) (step.older x left)))
+          (λ other. inr (step.below told top x i.place i.stands other r))
+          (local_cases was x))
+          (i.keeps x e);
+    }
+
+    comes_on : m.tells → (from : Pointer) → ComesFor m (Local top) from → ComesFor u (Local top) from
+    comes_on told from (inl h) = inl (h.0, λ b e apart. h.1 b e (subst (λ y. m.apart y) (local_eq e) ((step.apart top ne).0 (subst (λ y. u.apart y) (sym (local_eq e)) apart))))
+    comes_on told from (inr h) = inr (top, refl, instead_on told from (subst (λ y. IsInstead m from y) (sym (local_eq h.1)) h.2))
 
 -- the way of the new top is current
 pub way_owned : (s u : State) (t : Tree) (kept : List Kept) (top n k at : ℕ) → Leads s u t kept top n k at → WayCurrent u (with_top t top) n k

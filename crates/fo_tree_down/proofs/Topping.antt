@@ -1,5 +1,5 @@
 -- The top of a source is made current.
-use Rattle.std.proofs.Common.{◌≡◌, ◌≢◌, ◌+◌, ◌-◌, ◌^◌, ◌<◌, ◌≤◌, ℕ, zero, Bool, true, false, List, length, inl, inr, ⊎_elim, sym, ◌∙◌, ap, subst, arith}
+use Rattle.std.proofs.Common.{◌≡◌, ◌≢◌, ◌⊎◌, ◌+◌, ◌-◌, ◌^◌, ◌<◌, ◌≤◌, ℕ, zero, Bool, true, false, List, length, inl, inr, ⊎_elim, refl, sym, ◌∙◌, ap, subst, arith}
 use Rattle.std.proofs.lemmas.Bool.{cases_eq}
 use Rattle.fo_image.specs.declared.types.Label.{Label}
 use Rattle.fo_image.specs.declared.types.State.TheVariants.{Live}
@@ -21,7 +21,7 @@ use Rattle.fo_tree_look.specs.Source.{IsTold, IsPrepared, IsKept, Ready, IsTopCu
 use Rattle.fo_image.specs.Format.{kind_code}
 use Rattle.fo_tree_own.specs.Step.{IsOwn, Becomes}
 use Rattle.fo_tree_own.proofs.Link.{Laws, Came}
-use Rattle.fo_tree_down.specs.Way.{OnWay, IsBefore, Descends, Comes, IsTopOf}
+use Rattle.fo_tree_down.specs.Way.{OnWay, IsBefore, Descends, Comes, IsInstead, ComesFor, IsTopOf}
 
 -- A top came: it was given out for the place of a top, and comes in the place of the top that was, if of any.
 pub record Topped (t : Tree) (kept : List Kept) (l : Label) (result : ℕ) (s m : State) : Type 0 where
@@ -35,6 +35,9 @@ pub record Topped (t : Tree) (kept : List Kept) (l : Label) (result : ℕ) (s m 
   pub long : length ((m.now result).bytes) ≡ 8192
   pub raised : (y : ℕ) → m.instead result y → t.top ≡ Local y
   pub raised_old : (y : ℕ) → m.instead result y → (s.label y).epoch < s.high
+  pub raises : (y : ℕ) → t.top ≡ Local y → m.instead result y
+  pub was : s.tells → (y : ℕ) → t.top ≡ Local y → ((s.label y).state ≡ Live) × ((s.label y).epoch < s.high) × (s.apart y → ⊥)
+  pub made_apart : s.tells → (y z : ℕ) → s.instead y z → s.apart y
   pub stands : s.tells → m.stands result (place (kind_at t.dir t.depth) t.tag 0 (t.rank + t.depth))
   pub content : Becomes s m t kept t.depth t.top result
 
@@ -168,10 +171,42 @@ module _ {t : Tree} {kept : List Kept} {l : Label} {result : ℕ} {s m : State} 
         };
       }
 
+  -- it comes in the place of the top that was
+  instead_end : s.tells → IsInstead m t.top result
+  instead_end told = record {
+    is_apart = x.came.is.3;
+    place = place (kind_at t.dir t.depth) t.tag 0 (t.rank + t.depth);
+    stands = x.stands told;
+    uncovered = x.came.is.4;
+    instead = λ y. (x.raised y, x.raises y);
+    live = λ y e. let is = x.was told y e in ap (λ (q : Label). q.state) (x.came.stays.labels y (ne_live y is.0)) ∙ is.0;
+    keeps = λ y e.
+        let is = x.was told y e in
+        let same : (m.label y).epoch ≡ (s.label y).epoch = ap (λ (q : Label). q.epoch) (x.came.stays.labels y (ne_live y is.0)) in
+        let high = x.all.same_high in
+        let older = is.1 in
+        inl (omega (arith, same, high, older));
+  }
+    where
+      ne_live : (y : ℕ) → (s.label y).state ≡ Live → y ≢ result
+      ne_live y live e = x.came.was.0 (ap (λ z. (s.label z).state) (sym e) ∙ live)
+
+  comes_end : s.tells → (from : Pointer) → ComesFor s t.top from → ComesFor m (Local result) from
+  comes_end told from (inl h) = inr (result, refl, subst (λ p. IsInstead m p result) h.0 (instead_end told))
+  comes_end told from (inr h) = absurd ((x.was told h.0 h.1).2 h.2.is_apart)
+
+  only_comes : s.tells → (y z : ℕ) → m.instead y z → (y ≡ result) ⊎ (s.instead y z × (t.top ≡ Local y → ⊥))
+  only_comes told y z h = ⊎_elim
+      (λ e. inl e)
+      (λ ne. let was = (x.came.stays.instead y z ne (λ n. n)).0 h in inr (was, λ e. (x.was told y e).2 (x.made_apart told y z was)))
+      (cases_eq y result)
+
   pub top_topped : IsTopOf s m t result
   top_topped = record {
     from = inl made_result;
     apart = λ made. x.came.is.3;
+    comes = comes_end;
+    only = only_comes;
     live = ap (λ (q : Label). q.state) x.came.label ∙ x.is_live;
     current = ap (λ (q : Label). q.epoch) x.came.label ∙ x.is_current ∙ sym x.all.same_high;
   }
@@ -203,6 +238,17 @@ own_here s t at hangs top is told current = record {
   current = current;
   long = is.long;
   told = λ now. record { stands = (hangs.told now at top).0; uncovered = (told now).uncovered; hung = (told now).hung; alone = λ y h. ((told now).alone y h).0 };
+}
+
+-- a current top stays, and so does what comes in the place of what
+pub top_here : (s : State) (t : Tree) (at : ℕ) → t.top ≡ Local at → (s.label at).state ≡ Live → (s.label at).epoch ≡ s.high → IsTopOf s s t at
+top_here s t at is live current = record {
+  from = inr is;
+  apart = λ made. absurd (made.0 made.1);
+  comes = λ told from h. subst (λ p. ComesFor s p from) is h;
+  only = λ told y z h. ⊎_elim (λ e. inl e) (λ ne. inr (h, λ e. ne (let same : Local y ≡ Local at = sym e ∙ is in cc))) (cases_eq y at);
+  live = live;
+  current = current;
 }
 
 pub nil_local : (b : ℕ) → Nil ≡ Local b → ⊥

@@ -1,4 +1,4 @@
-use Rattle.std.proofs.Common.{◌+◌, ◌-◌, ◌^◌, refl, sym, ap, subst, arith}
+use Rattle.std.proofs.Common.{◌+◌, ◌-◌, ◌^◌, refl, sym, ap, ◌∙◌, subst, arith}
 use Rattle.fo_image.specs.declared.types.State.TheVariants.{Live}
 use Rattle.fo_image.specs.declared.types.Pointer.{Pointer}
 use Rattle.fo_crash.specs.declared.place.Place.{Place}
@@ -9,7 +9,7 @@ use Rattle.fo_tree_read.specs.Tree.{kind_at}
 use Rattle.fo_tree_own.specs.Step.{Becomes}
 use Rattle.fo_tree_own.proofs.Link.{blank_leads, came, came_filled}
 use Rattle.fo_tree_own.proofs.Filling.{bare_gives}
-use Rattle.fo_tree_down.proofs.Topping.{comes_topped, top_topped, came_made, level_at}
+use Rattle.fo_tree_down.proofs.Topping.{comes_topped, top_topped, came_made, level_at, held_local}
 use Rattle.fo_tree_down.proofs.top.kept_top.Goals as goal
 
 pub new_block-made-requires-clause-level : goal.new_block-made-requires-clause-level
@@ -81,6 +81,9 @@ returns-clause-comes g c =
       tagged = refl;
       long = c.fill_kept.ensures.bare.long;
       raised = λ y h. absurd (e.instead y ((filled.instead c.new_block-made.result y).0 h));
+      raises = λ y e. absurd (held_local c.args.score.now y (sym c.requires.is ∙ e));
+      was = λ told y e. absurd (held_local c.args.score.now y (sym c.requires.is ∙ e));
+      made_apart = λ told y z h. (g.met.B.Blocks.instead_of on y z z told h).0;
       raised_old = λ y h. absurd (e.instead y ((filled.instead c.new_block-made.result y).0 h));
       stands = λ told. filled.places (first.still_tells.1 told) c.new_block-made.result (place (kind_at t.dir t.depth) t.tag 0 (t.rank + t.depth)) c.fill_kept.ensures.bare.uncovered (there told);
       content = subst (λ (p : Pointer). Becomes s m t c.args.kept.now t.depth p c.new_block-made.result) (sym c.requires.is) c.fill_kept.ensures.content;
@@ -126,6 +129,9 @@ returns-clause-top g c =
       tagged = refl;
       long = c.fill_kept.ensures.bare.long;
       raised = λ y h. absurd (e.instead y ((filled.instead c.new_block-made.result y).0 h));
+      raises = λ y e. absurd (held_local c.args.score.now y (sym c.requires.is ∙ e));
+      was = λ told y e. absurd (held_local c.args.score.now y (sym c.requires.is ∙ e));
+      made_apart = λ told y z h. (g.met.B.Blocks.instead_of on y z z told h).0;
       raised_old = λ y h. absurd (e.instead y ((filled.instead c.new_block-made.result y).0 h));
       stands = λ told. filled.places (first.still_tells.1 told) c.new_block-made.result (place (kind_at t.dir t.depth) t.tag 0 (t.rank + t.depth)) c.fill_kept.ensures.bare.uncovered (there told);
       content = subst (λ (p : Pointer). Becomes s m t c.args.kept.now t.depth p c.new_block-made.result) (sym c.requires.is) c.fill_kept.ensures.content;

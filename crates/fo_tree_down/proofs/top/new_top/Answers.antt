@@ -8,7 +8,7 @@ use Rattle.fo_ports.proofs.Lengths.{length_zero_bytes}
 use Rattle.fo_tree_read.specs.Tree.{kind_at}
 use Rattle.fo_tree_own.specs.Step.{Becomes}
 use Rattle.fo_tree_own.proofs.Link.{came}
-use Rattle.fo_tree_down.proofs.Topping.{comes_topped, top_topped, came_made, level_at}
+use Rattle.fo_tree_down.proofs.Topping.{comes_topped, top_topped, came_made, level_at, nil_local}
 use Rattle.fo_tree_down.proofs.top.new_top.Goals as goal
 
 pub new_block-requires-clause-level : goal.new_block-requires-clause-level
@@ -36,6 +36,9 @@ returns-clause-comes g c =
       tagged = refl;
       long = ap length gives.memory.here.bytes ∙ length_zero_bytes;
       raised = λ y h. absurd (e.instead y h);
+      raises = λ y e. absurd (nil_local y (sym c.requires.is ∙ e));
+      was = λ told y e. absurd (nil_local y (sym c.requires.is ∙ e));
+      made_apart = λ told y z h. (g.met.B.Blocks.instead_of on y z z told h).0;
       raised_old = λ y h. absurd (e.instead y h);
       stands = there;
       content = subst (λ (p : Pointer). Becomes s r t c.args.kept.now t.depth p c.new_block.result) (sym c.requires.is) gives.memory.here;
@@ -69,6 +72,9 @@ returns-clause-top g c =
       tagged = refl;
       long = ap length gives.memory.here.bytes ∙ length_zero_bytes;
       raised = λ y h. absurd (e.instead y h);
+      raises = λ y e. absurd (nil_local y (sym c.requires.is ∙ e));
+      was = λ told y e. absurd (nil_local y (sym c.requires.is ∙ e));
+      made_apart = λ told y z h. (g.met.B.Blocks.instead_of on y z z told h).0;
       raised_old = λ y h. absurd (e.instead y h);
       stands = there;
       content = subst (λ (p : Pointer). Becomes s r t c.args.kept.now t.depth p c.new_block.result) (sym c.requires.is) gives.memory.here;

@@ -1,11 +1,12 @@
-use Rattle.std.proofs.Common.{◌<◌, ◌+◌, inr, length, refl, sym, ap, ◌∙◌, subst, arith}
+use Rattle.std.proofs.Common.{◌≡◌, ◌<◌, ◌+◌, length, refl, sym, ap, ◌∙◌, subst, arith}
+use Rattle.fo_image.specs.declared.types.State.TheVariants.{Live}
 use Rattle.fo_image.specs.declared.types.Pointer.{Pointer}
 use Rattle.fo_image.specs.declared.types.Pointer.TheVariants.{Local}
 use Rattle.fo_crash.specs.Places.{place}
 use Rattle.fo_tree_read.specs.Tree.{kind_at}
 use Rattle.fo_tree_own.specs.Step.{Becomes}
 use Rattle.fo_tree_own.proofs.Link.{came}
-use Rattle.fo_tree_down.proofs.Topping.{comes_topped, top_topped, came_made, own_here}
+use Rattle.fo_tree_down.proofs.Topping.{comes_topped, top_topped, top_here, came_made, own_here, local_eq}
 use Rattle.fo_tree_down.proofs.Next.{comes_top}
 use Rattle.fo_tree_down.proofs.top.own_local.Goals as goal
 
@@ -39,6 +40,9 @@ returns-else-is_current-clause-comes g c =
       long = ap length e.gives.memory.here.bytes ∙ c.requires.ready.long;
       raised_old = λ y h. subst (λ b. (s.label b).epoch < s.high) (sym ((e.instead y).0 h)) (c.is_current.ensures.older c.if-is_current.false);
       raised = λ y h. c.requires.is ∙ ap (λ b. Local b) (sym ((e.instead y).0 h));
+      raises = λ y h. (e.instead y).1 (local_eq (sym h ∙ c.requires.is));
+      was = λ told y h. let same : c.args.at ≡ y = local_eq (sym c.requires.is ∙ h) in subst (λ b. ((s.label b).state ≡ Live) × ((s.label b).epoch < s.high) × (s.apart b → ⊥)) same (c.requires.ready.live, c.is_current.ensures.older c.if-is_current.false, λ apart. g.met.B.Blocks.apart_hangs on s.now 1 c.args.at apart (g.met.B.Blocks.present on told) (g.met.B.Blocks.active on).0 ((c.requires.told told).in_tree (c.is_current.ensures.older c.if-is_current.false)));
+      made_apart = λ told y z h. (g.met.B.Blocks.instead_of on y z z told h).0;
       stands = λ told. e.place told (place (kind_at t.dir t.depth) t.tag 0 (t.rank + t.depth)) (c.requires.hangs.told told c.args.at c.requires.is).0;
       content = subst (λ (p : Pointer). Becomes s r t c.args.kept.now t.depth p c.copy.result) (sym c.requires.is) e.gives.memory.here;
     })
@@ -84,14 +88,13 @@ returns-else-is_current-clause-top g c =
       long = ap length e.gives.memory.here.bytes ∙ c.requires.ready.long;
       raised_old = λ y h. subst (λ b. (s.label b).epoch < s.high) (sym ((e.instead y).0 h)) (c.is_current.ensures.older c.if-is_current.false);
       raised = λ y h. c.requires.is ∙ ap (λ b. Local b) (sym ((e.instead y).0 h));
+      raises = λ y h. (e.instead y).1 (local_eq (sym h ∙ c.requires.is));
+      was = λ told y h. let same : c.args.at ≡ y = local_eq (sym c.requires.is ∙ h) in subst (λ b. ((s.label b).state ≡ Live) × ((s.label b).epoch < s.high) × (s.apart b → ⊥)) same (c.requires.ready.live, c.is_current.ensures.older c.if-is_current.false, λ apart. g.met.B.Blocks.apart_hangs on s.now 1 c.args.at apart (g.met.B.Blocks.present on told) (g.met.B.Blocks.active on).0 ((c.requires.told told).in_tree (c.is_current.ensures.older c.if-is_current.false)));
+      made_apart = λ told y z h. (g.met.B.Blocks.instead_of on y z z told h).0;
       stands = λ told. e.place told (place (kind_at t.dir t.depth) t.tag 0 (t.rank + t.depth)) (c.requires.hangs.told told c.args.at c.requires.is).0;
       content = subst (λ (p : Pointer). Becomes s r t c.args.kept.now t.depth p c.copy.result) (sym c.requires.is) e.gives.memory.here;
     })
 
 pub returns-then-is_current-clause-top : goal.returns-then-is_current-clause-top
-returns-then-is_current-clause-top g c = record {
-  from = inr c.requires.is;
-  apart = λ made. absurd (made.0 made.1);
-  live = c.requires.ready.live;
-  current = c.is_current.ensures.yes c.if-is_current.true;
-}
+returns-then-is_current-clause-top g c =
+    top_here (g.B.Blocks.state c.args.on.now) c.args.tree.now c.args.at c.requires.is c.requires.ready.live (c.is_current.ensures.yes c.if-is_current.true)

@@ -379,7 +379,7 @@ returns-clause-top g t' c =
     subst (λ d. ((was ≡ Local at) × (end ≡ mid) × IsOwn m t (t.depth - d) (409 * (k / 409) + k % 409) at) ⊎ Links t (t.depth - d) (k / 409) above (k % 409) was at m u) is c.own_block-at.ensures.step in
     ⊎_elim
     (λ same. subst (λ x. IsTopOf s (g.B.Blocks.state x) t c.own_down-above.result.top) (sym same.1) c.own_down-above.ensures.top)
-    (λ links. top_stays (g.met.B.Blocks.keeps_all mid end c.own_block-at.ensures.keeps) c.own_down-above.ensures.top links)
+    (λ links. top_stays (g.met.B.Blocks.keeps_all on mid c.own_down-above.ensures.keeps) (g.met.B.Blocks.keeps_all mid end c.own_block-at.ensures.keeps) c.own_down-above.ensures.top links)
     step
 
 pub returns-then-down-eq0-clause-given : goal.returns-then-down-eq0-clause-given
