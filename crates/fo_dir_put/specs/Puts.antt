@@ -8,7 +8,7 @@ use Rattle.fo_crash.specs.declared.slot.Slot.TheVariants.{Entry as Head}
 use Rattle.fo_crash.specs.Images.{Image, Reaches, to_block}
 use Rattle.fo_crash.specs.Names.{IsInUse}
 use Rattle.fo_ports.specs.Blocks.{SlotFits}
-use Rattle.fo_ports.specs.State.{State, AddsNoWait, KeepsOrder, KeepsNumbers, none}
+use Rattle.fo_ports.specs.State.{State, AddsNoWait, KeepsOrder, KeepsNumbers, MayClearLater, none}
 
 -- A leaf of entries that is owned, and linked where the device tells.
 pub record IsOwnedEntries (s : State) (at : ℕ) : Type 0 where
@@ -87,10 +87,11 @@ pub record PutsName (leaf at p : ℕ) (first second : Entry) (bytes : List ℕ) 
   pub other_bytes : (b : ℕ) → b ≢ leaf → (new.now b).bytes ≡ (old.now b).bytes
   pub other_slots : (b j : ℕ) → (b ≢ at) ⊎ ((j ≢ 2 * p) × (j ≢ 2 * p + 1)) → (new.now b).slot j ≡ (old.now b).slot j
 
--- An entry of a leaf that hung from block 1 when all was last settled may be cleared: nothing is still to come in the place of another
--- block, and no slot below the entry waits to be cleared.
+-- An entry of a leaf that hung from block 1 when all was last settled may be cleared: it is in use and the first of its pair, or the first
+-- waits; nothing is still to come in the place of another block, and no slot below the entry waits to be cleared.
 pub record MayClear (s : State) (at j : ℕ) : Type 0 where
   pub is_sealed : s.sealed at
+  pub waits : MayClearLater s at j
   pub none_comes : (y x : ℕ) → s.instead y x → ⊥
   pub quiet : (b i : ℕ) → s.clearing b i → Reaches s.now ((s.now at).slot j) b → ⊥
 

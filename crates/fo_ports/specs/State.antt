@@ -337,6 +337,11 @@ pub record WaitsInUse (s : State) : Type 0 where
   pub first : (at k : ℕ) → s.clearing at (2 * k + 1) → s.clearing at (2 * k)
   pub used : (at k : ℕ) → s.clearing at (2 * k) → (g : ℕ) × IsInUse ((s.now at).slot (2 * k)) g
 
+-- A slot may wait to be cleared: the first entry of a pair, in use, or the second of one whose first waits. (What is in no use, or whose
+-- first was cleared, has nothing to wait for.)
+abbrev pub MayClearLater : State → ℕ → ℕ → Type 0
+MayClearLater s at i = ((k : ℕ) × (i ≡ 2 * k) × ((g : ℕ) × IsInUse ((s.now at).slot i) g)) ⊎ ((k : ℕ) × (i ≡ 2 * k + 1) × s.clearing at (2 * k))
+
 -- A block that nothing uses and nothing will close: live, below no top, and not to be closed.
 pub record IsLost (s : State) (b : ℕ) : Type 0 where
   pub is_one : s.is_block b

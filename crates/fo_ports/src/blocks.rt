@@ -11,7 +11,7 @@ ghost use Rattle.fo_crash.specs.Names.{SameUse};
 ghost use Rattle.fo_crash.specs.Places.{place, super_place, root_place, IsPlaced, OnePlace, RanksFall};
 ghost use Rattle.fo_crash.specs.Spots.{FewSlots, OneSpot};
 ghost use Rattle.fo_ports.specs.Blocks.{slot_count, IsLevel, IsFormed, IsRanked, blank, SlotFits, Reads, ReadsSlots, MayPut, put_at, zeros, dropped, cost, OnChain};
-ghost use Rattle.fo_ports.specs.State.{State, KeepsAll, none, Stays, KeepsOrder, KeepsCovered, Uses, KeepsNumbers, Frame, Calm, Gives, Looks, Numbers, Rests, StaysKnown, IsUnlinked, MayPutSlot, MayRemoveSlot, Hangs, IsDoomed, IsPointers, IsPairUsed, AddsNoWait, WaitsForPairs, WaitsInUse};
+ghost use Rattle.fo_ports.specs.State.{State, KeepsAll, none, Stays, KeepsOrder, KeepsCovered, Uses, KeepsNumbers, Frame, Calm, Gives, Looks, Numbers, Rests, StaysKnown, IsUnlinked, MayPutSlot, MayRemoveSlot, Hangs, IsDoomed, IsPointers, IsPairUsed, MayClearLater, AddsNoWait, WaitsForPairs, WaitsInUse};
 ghost use Rattle.fo_ports.specs.Causes.{Caused, IsFull};
 
 use crate::error::BlockError;
@@ -160,7 +160,7 @@ pub trait Blocks {
         requires room { 0 < (state self.old).room }
         requires settled { (state self.old).clearing at i → ⊥ }
         requires after { IfSome after (λ leaf. (((state self.old).label at).kind ≡ Dir 0) × (state self.old).pinned leaf × (((state self.old).label leaf).epoch ≡ (state self.old).high)) }
-        requires may { (state self.old).tells → MayRemoveSlot (state self.old) at i × ((after ≡ None) ⊎ (state self.old).sealed at) }
+        requires may { (state self.old).tells → MayRemoveSlot (state self.old) at i × ((after ≡ None) ⊎ ((state self.old).sealed at × MayClearLater (state self.old) at i)) }
         ensures now { (PutsSlot at i (cleared (((state self.old).now at).slot i)) (state self.old).now (state self.new).now × ((state self.new).clearing at i → ⊥) × IfSome after (λ leaf. HasBytes (state self.old).now leaf (state self.new).may_leave)) ⊎ (SameImage (state self.new).now (state self.old).now × (state self.new).clearing at i × (after ≢ None)) }
         ensures images { AddsSlot (state self.old).now at i (cleared (((state self.old).now at).slot i)) (λ image. IfSome after (λ leaf. (image leaf).bytes ≡ ((state self.old).now leaf).bytes)) (state self.old).may_leave (state self.new).may_leave }
         ensures frame { Frame (λ b. b ≡ at) (λ b. b ≡ at) 1 (state self.old) (state self.new) }

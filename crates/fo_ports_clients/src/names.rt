@@ -8,7 +8,7 @@ ghost use Rattle.fo_crash.specs.Images.{Reaches, to_block};
 ghost use Rattle.fo_crash.specs.Steps.{cleared};
 ghost use Rattle.fo_crash.specs.Names.{NamesFit, InAll, IsInUse};
 ghost use Rattle.fo_ports.specs.Blocks.{slot_count, SlotFits, put_at};
-ghost use Rattle.fo_ports.specs.State.{IsHeld};
+ghost use Rattle.fo_ports.specs.State.{IsHeld, MayClearLater};
 ghost use Rattle.fo_ports_clients.specs.Leaf.{Lists, StandsBelow, MayAddName, AddsName};
 
 use fo_crash::Slot;
@@ -100,6 +100,7 @@ pub fn remove_name<B: Blocks>(on: &mut B, leaf: u32, entries: u32, i: u32)
     requires entries_current { ((B.state on.old).label entries).epoch ≡ (B.state on.old).high }
     requires entries_kind { ((B.state on.old).label entries).kind ≡ Dir 0 }
     requires entries_sealed { (B.state on.old).tells → (B.state on.old).sealed entries }
+    requires waits { (B.state on.old).tells → MayClearLater (B.state on.old) entries i }
     requires reached { (B.state on.old).tells → Reaches (B.state on.old).now (to_block 1) entries }
     requires uncovered { (B.state on.old).tells → (B.state on.old).covered entries → ⊥ }
     requires linked { (B.state on.old).tells → (y x : ℕ) → (B.state on.old).instead y x → ⊥ }

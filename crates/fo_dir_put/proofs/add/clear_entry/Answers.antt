@@ -13,7 +13,7 @@ use Rattle.fo_dir_put.proofs.add.clear_entry.Goals as goal
 pub remove_slot-requires-clause-may : goal.remove_slot-requires-clause-may
 remove_slot-requires-clause-may g c = λ told.
     let may = c.requires.may told in
-    (may_remove c.args.entries c.args.j c.requires.entries.leaf_kind may.none_comes may.quiet c.requires.entries.uncovered (c.requires.entries.linked told), inr may.is_sealed)
+    (may_remove c.args.entries c.args.j c.requires.entries.leaf_kind may.none_comes may.quiet c.requires.entries.uncovered (c.requires.entries.linked told), inr (may.is_sealed, may.waits))
 
 pub returns-clause-fit : goal.returns-clause-fit
 returns-clause-fit g c = λ n lacks all. record { are = entry_cleared (ListsIn n) c.args.leaf c.args.entries all.are c.remove_slot.ensures.images (λ g' lists. lacks.each g' lists) }

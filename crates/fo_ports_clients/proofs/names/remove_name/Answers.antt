@@ -1,8 +1,9 @@
-use Rattle.std.proofs.Common.{◌≡◌, inl, inr, ⊎_elim, ◌+◌, ◌<◌, ℕ, List, [], ◌∷◌, length, get_or, sym, ◌∙◌, ap, subst, arith}
+use Rattle.std.proofs.Common.{◌≡◌, inl, inr, ⊎_elim, ◌+◌, ◌*◌, ◌<◌, ℕ, List, [], ◌∷◌, length, get_or, sym, ◌∙◌, ap, subst, arith}
 use Rattle.fo_image.specs.declared.types.Kind.{Kind}
 use Rattle.fo_image.specs.declared.types.Label.{Label}
 use Rattle.fo_crash.specs.declared.slot.Slot.{Slot}
 use Rattle.fo_crash.specs.Images.{Reaches}
+use Rattle.fo_crash.specs.Names.{IsInUse}
 use Rattle.fo_crash.proofs.Names.{leaf_put, entry_cleared}
 use Rattle.fo_crash.proofs.Covers.{bytes_reach}
 use Rattle.fo_ports.specs.Blocks.{MayPut, put_at}
@@ -43,7 +44,13 @@ remove_slot-requires-clause-may g c = λ told.
           (λ b j waits r. c.requires.quiet was b j (calm.order.clearing b j waits).1 (subst (λ (x : Slot). Reaches s.now x b) (puts.slots c.args.entries c.args.i) (bytes_reach puts r)))
           (λ h. c.requires.uncovered was ((calm.covered.covered c.args.entries).0 h))
           (bytes_reached puts (c.requires.reached was)),
-      inr ((calm.frame.stays.marks c.args.entries (λ n. n)).1 (c.requires.entries_sealed was)),
+      inr (
+        (calm.frame.stays.marks c.args.entries (λ n. n)).1 (c.requires.entries_sealed was),
+        ⊎_elim
+            (λ h. inl (h.0, h.1, (h.2.0, subst (λ (x : Slot). IsInUse x h.2.0) (sym (puts.slots c.args.entries c.args.i)) h.2.1)))
+            (λ h. inr (h.0, h.1, calm.order.goes_on c.args.entries (2 * h.0) (λ n. n) h.2))
+            (c.requires.waits was),
+      ),
     )
 
 pub returns-clause-fit : goal.returns-clause-fit
