@@ -27,9 +27,6 @@ use Rattle.fo_tree_lift.proofs.Having.{LeafRaised, owned_raised, bytes_raised}
 local_eq : {a b : ℕ} → Local a ≡ Local b → a ≡ b
 local_eq e = cc
 
-abbrev pub end_of : ℕ → ℕ
-end_of i = 8192 * (i + 1)
-
 -- The source with its levels, and with the leaf.
 abbrev pub taller : Tree → ℕ → Pointer → ℕ → Tree
 taller t levels p i = sized (grown t levels p) (8192 * (i + 1))

@@ -3,3 +3,4 @@ pub mod Lifting
 pub mod Above
 pub mod Having
 pub mod Ending
+pub mod Choosing
