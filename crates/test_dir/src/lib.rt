@@ -2,4 +2,10 @@
 #![tactic(auto)]
 
 #[cfg(test)]
+mod leaves;
+#[cfg(test)]
 mod looking;
+#[cfg(test)]
+mod reads;
+#[cfg(test)]
+mod records;
