@@ -1,10 +1,11 @@
 //! Blocks are written and settled in their turns.
-ghost use Rattle.std.specs.Prelude.{◌≡◌, ◌+◌, ◌<◌, ℕ, [], true, false, cond, length, slice_set, Some, is_some, OnOk, OnErr};
+ghost use Rattle.std.specs.Prelude.{◌≡◌, ◌+◌, ◌<◌, ◌≤◌, ℕ, [], true, false, cond, length, slice_set, Some, is_some, OnOk, OnErr};
 ghost use Rattle.std.specs.Option.{option_map};
 ghost use Rattle.std.specs.Vec.{vec_len, vec_capacity};
 ghost use Rattle.fo_disk.specs.Disk.{Content as Holds};
 ghost use Rattle.fo_buffers.specs.Held.{held_at, block_in, settled, updated};
 ghost use Rattle.fo_order.specs.Turns.{IsTurn, flag_at};
+ghost use Rattle.fo_labels.specs.Spelled.{SpellsLabels};
 ghost use Rattle.fo_mind.specs.MindParts.{parts};
 ghost use Rattle.fo_mind.specs.Parts.{IsPinned, fact_at};
 ghost use Rattle.fo_mind.specs.Turning.{HasTurn, KeepsTurn, Landed, Missed, Synced, written_fact};
@@ -61,6 +62,15 @@ impl Mind {
         ensures len { length result.now ≡ 8192 }
     {
         self.buffers.bytes(at).unwrap()
+    }
+
+    /// Fills a block with what this block of the label table has to have.
+    pub fn spell_labels(&self, at: u32, into: &mut [u8])
+        requires table { 2 ≤ at }
+        requires length { length into.old ≡ 8192 }
+        ensures { SpellsLabels self.now.labels at into.new }
+    {
+        self.labels.spell(at, into);
     }
 
     // Makes room for one turn more. This may want memory, and then nothing changes.
