@@ -1,0 +1,4 @@
+pub mod Calling
+pub mod Fitting
+pub mod Opening
+pub mod Outcomes

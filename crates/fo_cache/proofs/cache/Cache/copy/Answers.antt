@@ -1,0 +1,26 @@
+use Rattle.std.proofs.Common.{◌≡◌, ◌<◌, ◌≤◌, [], sym, ap, subst}
+use Rattle.std.specs.Option.{option_map}
+use Rattle.fo_buffers.specs.Held.{block_in, held_at}
+use Rattle.fo_labels.specs.Region.{Region}
+use Rattle.fo_mind.specs.Laws.{pinned_held}
+use Rattle.fo_mind.specs.MindParts.{parts}
+use Rattle.fo_cache.proofs.Calling.{count_relabeled, fits_given, labels_before}
+use Rattle.fo_cache.proofs.cache.Cache.copy.Goals as goal
+
+pub invariant_of-self-clause-fits : goal.invariant_of-self-clause-fits
+invariant_of-self-clause-fits g c =
+    let self = c.args.self.now in
+    let s = g.D.Disk.state self.main in
+    let x = pinned_held (held_at self.mind.buffers c.args.at) c.requires.pinned in
+    let given = c.copy.ensures.given x.0.block (sym (ap (option_map block_in) x.1)) [] 0 in
+    fits_given (parts self.mind [] 0) (parts c.copy.new.self [] 0) c.copy.result x.0.block s.holds s.unsure given.held given.turns (ap (λ (r : Region). r.first) given.region) (labels_before self.mind.placed given.usable.block) self.fits
+
+pub invariant_of-self-clause-sized : goal.invariant_of-self-clause-sized
+invariant_of-self-clause-sized g c =
+    let self = c.args.self.now in
+    let x = pinned_held (held_at self.mind.buffers c.args.at) c.requires.pinned in
+    let given = c.copy.ensures.given x.0.block (sym (ap (option_map block_in) x.1)) [] 0 in
+    subst (λ n. n ≤ g.D.Disk.size self.main) (sym (count_relabeled _ _ _ _ given.region)) self.sized
+
+pub returns-clause-gives : goal.returns-clause-gives
+returns-clause-gives g c = let self = c.args.self.now in c.copy.ensures.gives (g.D.Disk.state self.main).holds (g.D.Disk.faults self.main)

@@ -1,0 +1,43 @@
+use Rattle.std.proofs.Common.{[], ◌∙◌, ◌≤◌, sym, ap, subst}
+use Rattle.fo_labels.specs.Region.{Region}
+use Rattle.fo_mind.specs.MindParts.{parts}
+use Rattle.fo_mind.specs.Parts.{count_of}
+use Rattle.fo_cache.proofs.Outcomes.{fits_answered, if_err, if_ok, last_written, others_written, region_answered, turn_held, turn_within}
+use Rattle.fo_cache.proofs.cache.Cache.write_data.Goals as goal
+
+pub bytes_of-requires : goal.bytes_of-requires
+bytes_of-requires g c = let self = c.args.self.now in turn_held (parts self.mind [] 0) c.args.at self.mind.turning c.requires.turn (subst (λ n. n ≤ c.args.at) self.mind.placed.is_first c.requires.data)
+
+pub write-wrote-requires-clause-block : goal.write-wrote-requires-clause-block
+write-wrote-requires-clause-block g c = let self = c.args.self.now in turn_within (parts self.mind [] 0) (g.D.Disk.size self.main) c.args.at self.mind.placed self.sized c.requires.turn
+
+pub invariant_of-self-clause-fits : goal.invariant_of-self-clause-fits
+invariant_of-self-clause-fits g c =
+    let self = c.args.self.now in
+    let r = c.write-wrote.result in
+    fits_answered (parts self.mind [] 0) (parts c.wrote.new.self [] 0) self.mind.placed self.mind.turning c.requires.turn (subst (λ n. n ≤ c.args.at) self.mind.placed.is_first c.requires.data) c.bytes_of.ensures.value r c.write-wrote.ensures.state
+    (if_ok r c.is_ok.ensures.value (λ e. c.wrote.ensures.landed e [] 0)) (if_err r c.is_ok.ensures.value (λ e. c.wrote.ensures.missed e [] 0)) self.fits
+
+pub invariant_of-self-clause-sized : goal.invariant_of-self-clause-sized
+invariant_of-self-clause-sized g c =
+    let self = c.args.self.now in
+    let r = c.write-wrote.result in
+    subst (λ n. count_of (parts c.wrote.new.self [] 0).region ≤ n) (sym c.write-wrote.ensures.size)
+    (subst (λ (x : Region). count_of x ≤ g.D.Disk.size self.main) (sym (region_answered (parts self.mind [] 0) (parts c.wrote.new.self [] 0) c.args.at r (if_ok r c.is_ok.ensures.value (λ e. c.wrote.ensures.landed e [] 0)) (if_err r c.is_ok.ensures.value (λ e. c.wrote.ensures.missed e [] 0)))) self.sized)
+
+pub returns-clause-wrote : goal.returns-clause-wrote
+returns-clause-wrote g c =
+    let r = c.write-wrote.result in
+    record {
+      bytes = c.bytes_of.result.now;
+      held = c.bytes_of.ensures.value;
+      device = c.write-wrote.ensures.state;
+      landed = if_ok r c.is_ok.ensures.value (λ e. c.wrote.ensures.landed e [] 0);
+      missed = if_err r c.is_ok.ensures.value (λ e. c.wrote.ensures.missed e [] 0);
+    }
+
+pub returns-clause-last : goal.returns-clause-last
+returns-clause-last g c = last_written c.args.self.now.mind.buffers c.write-wrote.result c.write-wrote.ensures.state c.bytes_of.ensures.value
+
+pub returns-clause-others : goal.returns-clause-others
+returns-clause-others g c = others_written c.write-wrote.result c.write-wrote.ensures.state

@@ -1,0 +1,15 @@
+-- What a write of a data block does.
+use Rattle.std.specs.Prelude.{◌≡◌, ℕ, List, Some, Result, OnOk, OnErr}
+use Rattle.std.specs.Option.{option_map}
+use Rattle.fo_disk.specs.Disk.{DiskState, IsWrite}
+use Rattle.fo_buffers.specs.Held.{block_in, held_at}
+use Rattle.fo_mind.specs.Parts.{Parts}
+use Rattle.fo_mind.specs.Turning.{Landed, Missed}
+
+-- A held block was written with its bytes. It is dirty no more where that answered Ok and it is in the tree of memory.
+pub record IsWritten {E : Type 0} (at : ℕ) (result : Result Unit E) (before after : DiskState) (old new : Parts) : Type 0 where
+  pub bytes : List ℕ
+  pub held : Some bytes ≡ option_map block_in (held_at old.held at)
+  pub device : IsWrite at bytes result before after
+  pub landed : OnOk result (Landed at old new)
+  pub missed : OnErr result (Missed at old new)

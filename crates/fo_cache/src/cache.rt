@@ -1,0 +1,41 @@
+//! A cache with its device.
+ghost use Rattle.std.specs.Prelude.{◌≤◌, []};
+ghost use Rattle.fo_mind.specs.MindParts.{parts};
+ghost use Rattle.fo_mind.specs.Parts.{count_of};
+ghost use Rattle.fo_cache.specs.Fits.{Fits, fits_prop};
+
+use fo_disk::Disk;
+use fo_mind::Mind;
+
+/// A cache with its device.
+#[derive(Drop)]
+pub struct Cache<D: Disk> {
+    pub(crate) main: D,
+    pub(crate) mind: Mind,
+    ghost sized: { count_of (parts mind [] 0).region ≤ D.size main },
+    ghost fits: { Fits (parts mind (D.state main).holds 0) (D.state main).unsure } by { fits_prop (parts mind (D.state main).holds 0) (D.state main).unsure },
+}
+
+impl<D: Disk> Cache<D> {
+    ghost use Rattle.std.specs.Prelude.{◌≡◌, ◌<◌, ℕ, length};
+    ghost use Rattle.fo_disk.specs.Disk.{IsSettled};
+    ghost use Rattle.fo_mind.specs.Opened.{opened};
+
+    /// A cache in which nothing is held, over a device that is settled as far as it tells.
+    pub fn open(main: D, mind: Mind) -> Cache<D>
+        requires empty { parts mind [] 0 ≡ opened (parts mind [] 0).region (parts mind [] 0).one (parts mind [] 0).one_bytes }
+        requires size { count_of (parts mind [] 0).region ≤ D.size main }
+        requires settled { (b : ℕ) → b < length (D.state main).holds → IsSettled (D.state main).holds b }
+        ensures main { result.main ≡ main }
+        ensures mind { result.mind ≡ mind }
+    {
+        Cache { main, mind }
+    }
+
+    /// The device, with what it holds.
+    pub fn close(self) -> D
+        ensures { result ≡ self.main }
+    {
+        self.main
+    }
+}

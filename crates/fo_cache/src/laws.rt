@@ -1,0 +1,16 @@
+//! What a cache is at each moment.
+use crate::cache::Cache;
+use fo_disk::Disk;
+
+impl<D: Disk> Cache<D> {
+    ghost use Rattle.std.specs.Prelude.{◌≡◌, ◌<◌, ◌≤◌, ℕ, [], ◌∷◌, true, length};
+    ghost use Rattle.fo_disk.specs.Disk.{versions_of};
+    ghost use Rattle.fo_order.specs.Turns.{IsQuiet};
+    ghost use Rattle.fo_mind.specs.MindParts.{parts};
+    ghost use Rattle.fo_mind.specs.Parts.{bytes_at, fact_at};
+
+    /// Where all is settled, the device has of each block that is in the tree of memory one version, which is memory's.
+    pub fn quiet_is_memory(&self)
+        ensures { IsQuiet (parts self.now.mind [] 0).turns → (b : ℕ) → (parts self.now.mind [] 0).region.first ≤ b → b < length (D.state self.now.main).holds → (fact_at (parts self.now.mind [] 0).facts b).linked ≡ true → versions_of (D.state self.now.main).holds b ≡ bytes_at (parts self.now.mind [] 0).held (D.state self.now.main).holds b ∷ [] }
+    {}
+}

@@ -1,0 +1,45 @@
+//! Blocks are written and settled.
+use crate::cache::Cache;
+use fo_disk::{Disk, Failed};
+
+impl<D: Disk> Cache<D> {
+    ghost use Rattle.std.specs.Prelude.{◌≡◌, ◌≢◌, ◌<◌, ◌≤◌, ℕ, [], true, length, OnOk, OnErr};
+    ghost use Rattle.fo_base.specs.Cause.{HasCause};
+    ghost use Rattle.fo_disk.specs.Disk.{IsSettled, IsSync, latest_of, versions_of};
+    ghost use Rattle.fo_order.specs.declared.marks.Tried.TheVariants.{Written};
+    ghost use Rattle.fo_order.specs.Turns.{flag_at};
+    ghost use Rattle.fo_mind.specs.MindParts.{parts};
+    ghost use Rattle.fo_mind.specs.Parts.{IsPinned, bytes_at};
+    ghost use Rattle.fo_mind.specs.Turning.{HasTurn, Synced};
+    ghost use Rattle.fo_cache.specs.Written.{IsWritten};
+
+    /// Writes a data block that has a turn, with the bytes that memory has.
+    fn write_data(&mut self, at: u32) -> Result<(), Failed>
+        requires turn { (flag_at (parts self.old.mind [] 0).turns at).dirty ≡ true }
+        requires data { (parts self.old.mind [] 0).region.first ≤ at }
+        requires room { IsPinned (parts self.old.mind [] 0).held at → HasTurn (parts self.old.mind [] 0) }
+        ensures wrote { IsWritten at result (D.state self.old.main) (D.state self.new.main) (parts self.old.mind [] 0) (parts self.new.mind [] 0) }
+        ensures last { OnOk result (at < length (D.state self.old.main).holds → latest_of (versions_of (D.state self.new.main).holds at) ≡ bytes_at (parts self.old.mind [] 0).held (D.state self.old.main).holds at) }
+        ensures others { (k : ℕ) → k ≢ at → versions_of (D.state self.new.main).holds k ≡ versions_of (D.state self.old.main).holds k }
+        ensures size { D.size self.new.main ≡ D.size self.old.main }
+        ensures cause { HasCause (D.faults self.old.main) (D.faults self.new.main) result }
+    {
+        let wrote = self.main.write(at, self.mind.bytes_of(at));
+        self.mind.wrote(at, wrote.is_ok());
+        wrote
+    }
+
+    /// Settles what was written. Where it fails nothing counts as settled.
+    fn sync_all(&mut self) -> Result<(), Failed>
+        ensures synced { OnOk result (Synced (parts self.old.mind [] 0) (parts self.new.mind [] 0)) }
+        ensures nothing { OnErr result (parts self.new.mind [] 0 ≡ parts self.old.mind [] 0) }
+        ensures each { OnOk result ((b : ℕ) → (parts self.old.mind [] 0).region.first ≤ b → b < length (D.state self.new.main).holds → (flag_at (parts self.old.mind [] 0).turns b).tried ≡ Written → IsSettled (D.state self.new.main).holds b) }
+        ensures state { IsSync result (D.state self.old.main) (D.state self.new.main) }
+        ensures size { D.size self.new.main ≡ D.size self.old.main }
+        ensures cause { HasCause (D.faults self.old.main) (D.faults self.new.main) result }
+    {
+        let synced = self.main.sync();
+        self.mind.settled(synced.is_ok());
+        synced
+    }
+}
