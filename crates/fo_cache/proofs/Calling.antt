@@ -154,7 +154,7 @@ module _ (p q : Parts) (at : ℕ) (bytes : List ℕ) (holds : Content) (unsure :
 
 -- ---- a pinned block gets other bytes
 
-tried_changed : (t : Turns) (at rank : ℕ) → at < length t.flags → (flag_at (changed t at rank) at).tried ≡ (flag_at t at).tried
+pub tried_changed : (t : Turns) (at rank : ℕ) → at < length t.flags → (flag_at (changed t at rank) at).tried ≡ (flag_at t at).tried
 tried_changed t at rank within = by ((flag_at t at).dirty && nat_eq (flag_at t at).rank rank)
   where
     by : (b : Bool) → (flag_at (cond b t (record t { flags = set t.flags at (flags_of true (flag_at t at).tried rank); room = t.room - 1 })) at).tried ≡ (flag_at t at).tried

@@ -44,7 +44,7 @@ same_some x y e = cc
 pub latest_push : (versions : Versions) (b : Block) → latest_of (versions ++ b ∷ []) ≡ b
 latest_push versions b = get_or_push versions b [] _ (omega (arith, length_push versions b))
 
-newest_alone : (versions : Versions) → 0 < length versions → newest versions ≡ latest_of versions ∷ []
+pub newest_alone : (versions : Versions) → 0 < length versions → newest versions ≡ latest_of versions ∷ []
 newest_alone [] some = absurd (omega arith)
 newest_alone (v ∷ []) some = refl
 newest_alone (v ∷ w ∷ versions) some = further v (newest_alone (w ∷ versions) (omega arith))

@@ -1,4 +1,5 @@
 pub mod Calling
 pub mod Fitting
+pub mod Labelling
 pub mod Opening
 pub mod Outcomes

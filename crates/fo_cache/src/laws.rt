@@ -4,7 +4,8 @@ use fo_disk::Disk;
 
 impl<D: Disk> Cache<D> {
     ghost use Rattle.std.specs.Prelude.{◌≡◌, ◌<◌, ◌≤◌, ℕ, [], ◌∷◌, true, length};
-    ghost use Rattle.fo_disk.specs.Disk.{versions_of};
+    ghost use Rattle.fo_disk.specs.Disk.{IsSettled, latest_of, versions_of};
+    ghost use Rattle.fo_labels.specs.Spelled.{SpellsLabels};
     ghost use Rattle.fo_order.specs.Turns.{IsQuiet};
     ghost use Rattle.fo_mind.specs.MindParts.{parts};
     ghost use Rattle.fo_mind.specs.Parts.{bytes_at, fact_at};
@@ -12,5 +13,10 @@ impl<D: Disk> Cache<D> {
     /// Where all is settled, the device has of each block that is in the tree of memory one version, which is memory's.
     pub fn quiet_is_memory(&self)
         ensures { IsQuiet (parts self.now.mind [] 0).turns → (b : ℕ) → (parts self.now.mind [] 0).region.first ≤ b → b < length (D.state self.now.main).holds → (fact_at (parts self.now.mind [] 0).facts b).linked ≡ true → versions_of (D.state self.now.main).holds b ≡ bytes_at (parts self.now.mind [] 0).held (D.state self.now.main).holds b ∷ [] }
+    {}
+
+    /// Where all is settled, the device has of each block of the label table one version, with the labels that memory has.
+    pub fn quiet_has_labels(&self)
+        ensures { IsQuiet (parts self.now.mind [] 0).turns → (b : ℕ) → 2 ≤ b → b < (parts self.now.mind [] 0).region.first → b < length (D.state self.now.main).holds → IsSettled (D.state self.now.main).holds b × SpellsLabels (parts self.now.mind [] 0).region b (latest_of (versions_of (D.state self.now.main).holds b)) }
     {}
 }

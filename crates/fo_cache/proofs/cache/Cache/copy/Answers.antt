@@ -1,10 +1,12 @@
 use Rattle.std.proofs.Common.{◌≡◌, ◌<◌, ◌≤◌, [], sym, ap, subst}
 use Rattle.std.specs.Option.{option_map}
 use Rattle.fo_buffers.specs.Held.{block_in, held_at}
+use Rattle.fo_image.specs.Place.{label_block}
 use Rattle.fo_labels.specs.Region.{Region}
 use Rattle.fo_mind.specs.Laws.{pinned_held}
 use Rattle.fo_mind.specs.MindParts.{parts}
 use Rattle.fo_cache.proofs.Calling.{count_relabeled, fits_given, labels_before}
+use Rattle.fo_cache.proofs.Labelling.{dirty_changed, label_within, labels_given}
 use Rattle.fo_cache.proofs.cache.Cache.copy.Goals as goal
 
 pub invariant_of-self-clause-fits : goal.invariant_of-self-clause-fits
@@ -24,3 +26,12 @@ invariant_of-self-clause-sized g c =
 
 pub returns-clause-gives : goal.returns-clause-gives
 returns-clause-gives g c = let self = c.args.self.now in c.copy.ensures.gives (g.D.Disk.state self.main).holds (g.D.Disk.faults self.main)
+
+pub invariant_of-self-clause-spelled : goal.invariant_of-self-clause-spelled
+invariant_of-self-clause-spelled g c =
+    let self = c.args.self.now in
+    let s = g.D.Disk.state self.main in
+    let x = pinned_held (held_at self.mind.buffers c.args.at) c.requires.pinned in
+    let given = c.copy.ensures.given x.0.block (sym (ap (option_map block_in) x.1)) [] 0 in
+    let within = label_within self.mind.placed given.usable.block in
+    labels_given (parts self.mind [] 0) (parts c.copy.new.self [] 0) c.copy.result _ s.holds s.unsure given.region given.turns within given.usable.block (dirty_changed self.mind.order (label_block c.copy.result) within) self.spelled

@@ -8,6 +8,10 @@ use Rattle.fo_mind.specs.Turning.{Turning}
 use Rattle.fo_mind.proofs.Results.{on_ok}
 use Rattle.fo_cache.specs.Fits.{Fits}
 use Rattle.fo_cache.proofs.Calling.{fits_got}
+use Rattle.fo_cache.specs.Fits.{FitsLabels}
+use Rattle.fo_order.specs.Keeps.{Turns}
+use Rattle.fo_order.specs.Turns.{flag_at}
+use Rattle.fo_cache.proofs.Labelling.{labels_kept}
 use Rattle.fo_cache.proofs.cache.Cache.get.Goals as goal
 
 and_ok : {T E : Type 0} (P Q : Type 0) (r : Result T E) → OnOk r P → OnOk r Q → OnOk r (P × Q)
@@ -50,3 +54,12 @@ pub returns-clause-names : goal.returns-clause-names
 returns-clause-names g c =
     let new = c.get.new.self in
     on_ok c.get.result (λ got i below e. let b = got.names i below e in (subst (λ n. n ≤ below) (sym new.placed.is_first) b.0, subst (λ n. below < n) (sym new.placed.is_count) b.1)) c.get.ensures.got
+
+pub invariant_of-self-clause-spelled : goal.invariant_of-self-clause-spelled
+invariant_of-self-clause-spelled g c =
+    let self = c.args.self.now in
+    let s = g.D.Disk.state self.main in
+    let q = parts c.get.new.self [] 0 in
+    let b = c.get.ensures.brings in
+    subst (λ (t : DiskState). FitsLabels (record q { disk = t.holds }) t.unsure) (sym c.get.ensures.state)
+    (labels_kept (parts self.mind [] 0) q s.holds s.unsure (ap (λ (x : Parts). x.region) b.rest) (λ k lt. ap (λ (t : Turns). flag_at t k) (ap (λ (x : Parts). x.turns) b.rest)) self.spelled)

@@ -5,6 +5,7 @@ use Rattle.fo_mind.specs.MindParts.{parts}
 use Rattle.fo_mind.specs.Parts.{Parts, count_of}
 use Rattle.fo_ports.specs.Blocks.{zero_bytes}
 use Rattle.fo_cache.proofs.Calling.{count_relabeled, fits_given, labels_before}
+use Rattle.fo_cache.proofs.Labelling.{dirty_changed, label_within, labels_given}
 use Rattle.fo_cache.proofs.cache.Cache.new_block.Goals as goal
 
 pub invariant_of-self-clause-fits : goal.invariant_of-self-clause-fits
@@ -22,3 +23,11 @@ invariant_of-self-clause-sized g c =
 
 pub returns-clause-gives : goal.returns-clause-gives
 returns-clause-gives g c = let self = c.args.self.now in c.new_block.ensures.gives (g.D.Disk.state self.main).holds (g.D.Disk.faults self.main)
+
+pub invariant_of-self-clause-spelled : goal.invariant_of-self-clause-spelled
+invariant_of-self-clause-spelled g c =
+    let self = c.args.self.now in
+    let s = g.D.Disk.state self.main in
+    let given = c.new_block.ensures.given [] 0 in
+    let within = label_within self.mind.placed given.usable.block in
+    labels_given (parts self.mind [] 0) (parts c.new_block.new.self [] 0) c.new_block.result _ s.holds s.unsure given.region given.turns within given.usable.block (dirty_changed self.mind.order (label_block c.new_block.result) within) self.spelled

@@ -1,4 +1,4 @@
-use Rattle.std.proofs.Common.{◌≡◌, ◌+◌, ◌≤◌, [], length, sym, ap, ◌∙◌, subst}
+use Rattle.std.proofs.Common.{◌≡◌, ◌+◌, ◌≤◌, [], length, sym, ap, ◌∙◌, subst, arith}
 use Rattle.std.specs.Option.{option_map}
 use Rattle.fo_buffers.specs.Held.{block_in, held_at}
 use Rattle.fo_labels.specs.Region.{Region}
@@ -9,6 +9,10 @@ use Rattle.fo_mind.specs.MindParts.{parts}
 use Rattle.fo_mind.specs.Parts.{Parts, count_of}
 use Rattle.fo_mind.proofs.Refilling.{refills_of, within_facts}
 use Rattle.fo_cache.proofs.Calling.{fits_refilled}
+use Rattle.fo_order.specs.Keeps.{Turns}
+use Rattle.fo_order.specs.Turns.{flag_at}
+use Rattle.fo_mind.proofs.Refilling.{flags_turned}
+use Rattle.fo_cache.proofs.Labelling.{labels_kept}
 use Rattle.fo_cache.proofs.cache.Cache.put_bytes.Goals as goal
 
 pub invariant_of-self-clause-fits : goal.invariant_of-self-clause-fits
@@ -41,3 +45,18 @@ returns-clause-calm g c = let self = c.args.self.now in c.put_bytes.ensures.calm
 
 pub returns-clause-no_wait : goal.returns-clause-no_wait
 returns-clause-no_wait g c = let self = c.args.self.now in c.put_bytes.ensures.no_wait (g.D.Disk.state self.main).holds (g.D.Disk.faults self.main)
+
+pub invariant_of-self-clause-spelled : goal.invariant_of-self-clause-spelled
+invariant_of-self-clause-spelled g c =
+    let self = c.args.self.now in
+    let s = g.D.Disk.state self.main in
+    let p = parts self.mind [] 0 in
+    let q = parts c.put_bytes.new.self [] 0 in
+    let x = pinned_held (held_at p.held c.args.at) c.requires.pinned in
+    let refilled = c.put_bytes.ensures.refilled x.0.block (sym (ap (option_map block_in) x.1)) [] 0 in
+    let w = within_facts c.args.at self.mind.placed self.mind.holding c.requires.pinned in
+    let lo = (self.mind.holding.block c.args.at x.0 x.1).0 in
+    let f = self.mind.placed.is_first in
+    labels_kept p q s.holds s.unsure (ap (λ (z : Parts). z.region) refilled.rest)
+    (λ k lt. ap (λ (t : Turns). flag_at t k) refilled.turns ∙ flags_turned p.facts p.turns c.args.at w.0 w.1 k (λ e. omega (arith, e, lt, lo, f)))
+    self.spelled

@@ -1,8 +1,10 @@
-use Rattle.std.proofs.Common.{[], ◌∙◌, ◌≤◌, sym, ap, subst}
+use Rattle.std.proofs.Common.{[], ◌∙◌, ◌<◌, ◌≤◌, sym, ap, subst, arith}
 use Rattle.fo_labels.specs.Region.{Region}
 use Rattle.fo_mind.specs.MindParts.{parts}
 use Rattle.fo_mind.specs.Parts.{count_of}
 use Rattle.fo_cache.proofs.Outcomes.{fits_answered, if_err, if_ok, last_written, others_written, region_answered, turn_held, turn_within}
+use Rattle.fo_mind.proofs.Landing.{within_count}
+use Rattle.fo_cache.proofs.Labelling.{labels_answered}
 use Rattle.fo_cache.proofs.cache.Cache.write_data.Goals as goal
 
 pub bytes_of-requires : goal.bytes_of-requires
@@ -30,7 +32,8 @@ returns-clause-wrote g c =
     let r = c.write-wrote.result in
     record {
       bytes = c.bytes_of.result.now;
-      held = c.bytes_of.ensures.value;
+      held = λ le. c.bytes_of.ensures.value;
+      labels = λ lt. let le = c.requires.data in absurd (omega (arith, lt, le));
       device = c.write-wrote.ensures.state;
       landed = if_ok r c.is_ok.ensures.value (λ e. c.wrote.ensures.landed e [] 0);
       missed = if_err r c.is_ok.ensures.value (λ e. c.wrote.ensures.missed e [] 0);
@@ -41,3 +44,14 @@ returns-clause-last g c = last_written c.args.self.now.mind.buffers c.write-wrot
 
 pub returns-clause-others : goal.returns-clause-others
 returns-clause-others g c = others_written c.write-wrote.result c.write-wrote.ensures.state
+
+pub invariant_of-self-clause-spelled : goal.invariant_of-self-clause-spelled
+invariant_of-self-clause-spelled g c =
+    let self = c.args.self.now in
+    let p = parts self.mind [] 0 in
+    let q = parts c.wrote.new.self [] 0 in
+    let r = c.write-wrote.result in
+    let landed = if_ok r c.is_ok.ensures.value (λ e. c.wrote.ensures.landed e [] 0) in
+    let missed = if_err r c.is_ok.ensures.value (λ e. c.wrote.ensures.missed e [] 0) in
+    let le = c.requires.data in
+    labels_answered p q c.args.at (within_count c.args.at self.mind.placed c.requires.turn).1 (region_answered p q c.args.at r landed missed) r c.write-wrote.ensures.state landed missed (λ lt. absurd (omega (arith, lt, le))) self.spelled

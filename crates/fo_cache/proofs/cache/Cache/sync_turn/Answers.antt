@@ -3,7 +3,8 @@ use Rattle.fo_labels.specs.Region.{Region}
 use Rattle.fo_mind.specs.MindParts.{parts}
 use Rattle.fo_mind.specs.Parts.{count_of}
 use Rattle.fo_cache.proofs.Outcomes.{each_settled, fits_settled, if_err, if_ok, region_settled}
-use Rattle.fo_cache.proofs.cache.Cache.sync_all.Goals as goal
+use Rattle.fo_cache.proofs.Labelling.{labels_settled}
+use Rattle.fo_cache.proofs.cache.Cache.sync_turn.Goals as goal
 
 pub invariant_of-self-clause-fits : goal.invariant_of-self-clause-fits
 invariant_of-self-clause-fits g c =
@@ -29,3 +30,9 @@ returns-clause-each g c =
     let self = c.args.self.now in
     let r = c.sync-synced.result in
     each_settled (parts self.mind [] 0) (parts c.settled.new.self [] 0) r c.sync-synced.ensures.state (if_ok r c.is_ok.ensures.value (λ e. c.settled.ensures.synced e [] 0)) (if_err r c.is_ok.ensures.value (λ e. c.settled.ensures.same e [] 0)) self.fits
+
+pub invariant_of-self-clause-spelled : goal.invariant_of-self-clause-spelled
+invariant_of-self-clause-spelled g c =
+    let self = c.args.self.now in
+    let r = c.sync-synced.result in
+    labels_settled (parts self.mind [] 0) (parts c.settled.new.self [] 0) r c.sync-synced.ensures.state (if_ok r c.is_ok.ensures.value (λ e. c.settled.ensures.synced e [] 0)) (if_err r c.is_ok.ensures.value (λ e. c.settled.ensures.same e [] 0)) self.spelled

@@ -1,0 +1,27 @@
+use Rattle.std.proofs.Common.{◌≤◌, [], refl, sym, ap, subst}
+use Rattle.fo_labels.specs.Region.{Region}
+use Rattle.fo_order.specs.Keeps.{Turns}
+use Rattle.fo_order.specs.Turns.{flag_at}
+use Rattle.fo_mind.specs.MindParts.{parts}
+use Rattle.fo_mind.specs.Parts.{Parts, count_of}
+use Rattle.fo_cache.proofs.Fitting.{fits_kept}
+use Rattle.fo_cache.proofs.Labelling.{labels_kept}
+use Rattle.fo_cache.proofs.cache.Cache.keep_turn_of.Goals as goal
+
+pub invariant_of-self-clause-fits : goal.invariant_of-self-clause-fits
+invariant_of-self-clause-fits g c = fits_kept (c.keep_turn_of.ensures.kept [] 0) c.args.self.now.fits
+
+pub invariant_of-self-clause-spelled : goal.invariant_of-self-clause-spelled
+invariant_of-self-clause-spelled g c =
+    let self = c.args.self.now in
+    let s = g.D.Disk.state self.main in
+    let kept = c.keep_turn_of.ensures.kept [] 0 in
+    labels_kept (parts self.mind [] 0) (parts c.keep_turn_of.new.self [] 0) s.holds s.unsure (ap (λ (z : Parts). z.region) kept.rest) (λ k lt. ap (λ (z : Parts). flag_at z.turns k) kept.rest) self.spelled
+
+pub invariant_of-self-clause-sized : goal.invariant_of-self-clause-sized
+invariant_of-self-clause-sized g c =
+    let self = c.args.self.now in
+    subst (λ (x : Region). count_of x ≤ g.D.Disk.size self.main) (sym (ap (λ (z : Parts). z.region) (c.keep_turn_of.ensures.kept [] 0).rest)) self.sized
+
+pub returns-clause-kept : goal.returns-clause-kept
+returns-clause-kept g c = c.keep_turn_of.ensures.kept [] 0
