@@ -30,7 +30,11 @@ use Rattle.fo_check_tree.specs.Listing.{SomeOf}
 use Rattle.fo_check_tree.specs.Lower.{level, JudgesRoot}
 use Rattle.fo_check_tree.specs.Known.{reached, leaked}
 use Rattle.fo_check_tree.specs.Walking.{Goes, Fits, all_tops, Walking}
-use Rattle.fo_check_tree.specs.Pairing.{AreSettled}
+use Rattle.std.specs.List.{All}
+use Rattle.fo_check_names.specs.Names.{number_of, Differ, IsFileNumber}
+use Rattle.fo_check_names.specs.declared.names.Number.{Number}
+use Rattle.fo_check_tree.specs.Pairing.{AreCounted, AreSettled}
+use Rattle.fo_check_tree.proofs.Numbers.{tag_at, own_numbers}
 use Rattle.fo_check_tree.proofs.Settling.{tree_pairs}
 use Rattle.fo_check_tree.proofs.Ending.{whole, tree_labels, tree_formats, tree_once, tree_scores, tree_used, tree_leaked}
 use Rattle.fo_check_tree.proofs.Leaves.{goes_join}
@@ -204,8 +208,8 @@ fits_empty : (device : List Block) (image : Image) (steps : List Step) (n : ℕ 
 fits_empty device image steps n is fits = (subst (λ (xs : List Step). Fits device image xs n) is fits).each
 
 pub walked : (arena : Arena) (device : List Block) (image : Image) (s : Super) (k : Kept) (walk : Walk) (found : Found) → walk.steps.items ≡ [] → walk.folders.items ≡ []
-    → found.broken ≡ walk.noted → found.used ≡ reached walk.labels.known.items → found.leaked ≡ leaked s.low walk.labels.known.items → JudgesRoot k.root walk.noted → AreJudged arena image k [] walk → AreFormed arena image k walk.labels.known.items walk.noted walk.steps.items walk.folders.items → AreSettled arena image k walk.noted walk.folders.items → Walking arena device image s k [] walk → IsWalked arena device image s k found
-walked arena device image s k walk found steps folders broken used leaks judged dirs formed settled w =
+    → found.broken ≡ walk.noted → found.used ≡ reached walk.labels.known.items → found.leaked ≡ leaked s.low walk.labels.known.items → JudgesRoot k.root walk.noted → AreJudged arena image k [] walk → AreFormed arena image k walk.labels.known.items walk.noted walk.steps.items walk.folders.items → (numbers : List Number) → AreSettled arena image k walk.noted walk.folders.items numbers → (8 < level walk.noted → Differ number_of numbers × All (IsFileNumber s.numbers) numbers) → Walking arena device image s k [] walk → IsWalked arena device image s k found
+walked arena device image s k walk found steps folders broken used leaks judged dirs formed numbers settled checked w =
     let known = walk.labels.known.items in
     let n : ℕ → ℕ → ℕ = λ b j. w.others b j + w.steps b j + w.folders b j in
     let none : (b j : ℕ) → w.others b j + w.steps b j + w.folders b j ≡ 0 = λ b j. omega (
@@ -214,6 +218,12 @@ walked arena device image s k walk found steps folders broken used leaks judged 
       fits_empty device image walk.steps.items w.steps steps w.steps_fit b j,
       fits_empty device image (all_tops walk.folders.items) w.folders (ap (λ (fs : List Folder). all_tops fs) folders) w.folders_fit b j,
     ) in
+    let counted : 6 < level walk.noted → IsTree arena image k.at → AreCounted arena image k [] numbers = λ quiet tree. subst (λ (fs : List Folder). AreCounted arena image k fs numbers) folders (settled.counts quiet tree) in
+    let root_tag : 6 < level walk.noted → tag_at ((image k.at).slot 0) ≡ 32 = λ quiet.
+    ⊎_elim
+    (λ shallow. ap tag_at shallow.0 ∙ (judged.entries quiet).entries_tag)
+    (λ deep. absurd (omega (arith, quiet, judged.first deep.1)))
+    w.holds.entries in
     record {
       labels = tree_labels arena device image s k w.holds.empty known walk.noted n w.goes none;
       formats = λ quiet. tree_formats arena device image s k w.holds.empty known walk.noted n w.goes none (subst (λ (o : Option Broken). 5 < level o) broken quiet);
@@ -221,7 +231,10 @@ walked arena device image s k walk found steps folders broken used leaks judged 
       once = λ quiet. tree_once arena device image s k w.holds.empty known walk.noted n w.goes none (subst (λ (o : Option Broken). 7 < level o) broken quiet);
       scores = λ quiet. tree_scores arena device image s k w.holds.empty known walk.noted n w.goes none (subst (λ (o : Option Broken). 9 < level o) broken quiet);
       leaves = λ quiet tree entries. tree_leaves arena device image s k w.holds walk n w.goes none judged steps folders dirs formed (subst (λ (o : Option Broken). 5 < level o) broken quiet) tree entries;
-      pairs = λ quiet tree. tree_pairs arena image k walk.noted (subst (λ (fs : List Folder). AreSettled arena image k walk.noted fs) folders settled) (subst (λ (o : Option Broken). 6 < level o) broken quiet) tree;
+      pairs = λ quiet tree. tree_pairs arena image k numbers (counted (subst (λ (o : Option Broken). 6 < level o) broken quiet) tree);
+      numbers = λ quiet tree.
+          let quiet' : 8 < level walk.noted = subst (λ (o : Option Broken). 8 < level o) broken quiet in
+          own_numbers arena image k s.numbers numbers (counted (omega (arith, quiet')) tree) (root_tag (omega (arith, quiet'))) (checked quiet').0 (checked quiet').1;
       named = subst (λ (o : Option Broken). MatchOption o (Unit {0}) (IsNamed arena image k)) (sym broken) w.goes.notes;
       used = tree_used arena device image s k w.holds.empty known walk.noted n w.goes none found.used used;
       leaked = tree_leaked arena device image s k w.holds.empty known walk.noted n w.goes none found.leaked leaks;

@@ -11,6 +11,7 @@ mod Listed
 mod Marking
 mod Naming
 mod Noting
+mod Numbers
 mod Paths
 mod Reaching
 mod Scanning

@@ -286,7 +286,7 @@ module _ (arena : Arena) (device : List Block) (image : Image) (s : Super) (k : 
 
     pub settles : (e r : Entry) → IsEntryOf k.root.entries e → IsEntryOf k.root.meta r
         → new.folders.items ≡ old.folders.items ++ record { entries = e; records = Some r; holder = record { block = s.active; label = root_label s }; depth = 0; named = true } ∷ []
-        → JudgesRoot k.root new.noted → AreSettled arena image k new.noted new.folders.items
+        → JudgesRoot k.root new.noted → AreSettled arena image k new.noted new.folders.items []
     settles e r we wr folders judged = settled_first arena image k new.noted new.folders.items (λ quiet. subst (λ (fs : List Folder). SomeOf (IsHeadOf (link_at image k.at 0) (link_at image k.at 1)) fs) (sym one_folder) (inl (head quiet)))
       where
         f : Folder

@@ -1,5 +1,5 @@
 -- The pairs of a directory, while its entries are walked: which records have theirs, and which folders they lead to.
-use Rattle.std.specs.Prelude.{◌≡◌, ◌⊎◌, ℕ, ◌+◌, ◌-◌, ◌*◌, ◌^◌, ◌<◌, ◌≤◌, zero, suc, min, Bool, true, false, List, ◌++◌, length, slice_index_or, Option, Some}
+use Rattle.std.specs.Prelude.{◌≡◌, ◌⊎◌, ℕ, ◌+◌, ◌-◌, ◌*◌, ◌^◌, ◌<◌, ◌≤◌, zero, suc, min, Bool, true, false, List, map, ◌∷◌, [], ◌++◌, length, slice_index_or, Option, Some}
 use Rattle.std.specs.List.{AllByRecursion}
 use Rattle.fo_image.specs.declared.types.Kind.{Kind}
 use Rattle.fo_image.specs.declared.types.Kind.TheVariants.{Data, Dir, Root}
@@ -10,7 +10,9 @@ use Rattle.fo_crash.specs.Images.{Content, Image, Arena, Link, target, goes, way
 use Rattle.fo_world.specs.Step.{is_dir_mode}
 use Rattle.fo_good.specs.Trees.{IsTree, Lists, IsDir, IsFirst, IsSecond, HasPair}
 use Rattle.fo_good.specs.Sound.{Kept}
+use Rattle.fo_check_names.specs.Names.{number_in}
 use Rattle.fo_check_names.specs.declared.names.Named.{Named}
+use Rattle.fo_check_names.specs.declared.names.Number.{Number}
 use Rattle.fo_check_tree.specs.declared.broken.Broken.{Broken}
 use Rattle.fo_check_tree.specs.declared.walk.Folder.{Folder}
 use Rattle.fo_check_tree.specs.declared.walk.Holds.TheVariants.{Bytes}
@@ -119,11 +121,19 @@ pub record AreInOrder (arena : Arena) (image : Image) (k : Kept) (meta : Link) (
   pub whole : IsTree arena image k.at → (n j : ℕ) (r : Record) → Lists arena image meta n j r → IsNamedIn named r
   pub differ : lead ≡ true → 6 < level noted → IsTree arena image k.at → HasOwnSlots arena image meta
 
--- Each record of the directory has its pair, no two have one, and the folder of each directory in it is left.
-pub record IsSettled (arena : Arena) (image : Image) (entries meta : Link) (folders : List Folder) : Type 0 where
+-- Each record of the directory is in the list and has its pair, no two have one, and the folder of each directory in it is left.
+pub record IsSettled (arena : Arena) (image : Image) (entries meta : Link) (names : List Named) (folders : List Folder) : Type 0 where
+  pub whole : (n j : ℕ) (r : Record) → Lists arena image meta n j r → IsNamedIn names r
   pub fit : (n j : ℕ) (r : Record) → Lists arena image meta n j r → HasPair arena image entries r
   pub differ : HasOwnSlots arena image meta
   pub below : (n j : ℕ) (r : Record) → Lists arena image meta n j r → is_dir_mode r.mode ≡ true → SomeOf (IsHeadOf (entry_at arena image entries (2 * r.slot)) (entry_at arena image entries (2 * r.slot + 1))) folders
+
+-- A folder to which names lead was walked: these numbers came to the others, and where no block is at two places and no rule up to 6 is
+-- noted, they are those of its directory.
+pub record Settles (arena : Arena) (image : Image) (k : Kept) (f : Folder) (noted : Option Broken) (folders : List Folder) (old new : List Number) : Type 0 where
+  pub names : List Named
+  pub grown : new ≡ old ++ map number_in names
+  pub each : (entries meta : Link) → IsHeadOf entries meta f → 6 < level noted → IsTree arena image k.at → IsSettled arena image entries meta names folders
 
 -- ---- all directories
 
@@ -142,6 +152,28 @@ pub record HasOwnPairs (arena : Arena) (image : Image) (entries meta : Link) : T
   pub fit : (n j : ℕ) (r : Record) → Lists arena image meta n j r → HasPair arena image entries r
   pub differ : HasOwnSlots arena image meta
 
--- Each directory to which names lead is left or has its pairs, where no block is at two places and no rule up to 6 is noted.
-pub record AreSettled (arena : Arena) (image : Image) (k : Kept) (noted : Option Broken) (folders : List Folder) : Type 0 where
-  pub each : 6 < level noted → IsTree arena image k.at → (trail : List ℕ) (entries meta : Link) → IsDir arena image k.at trail entries meta → IsLeft arena image folders entries meta ⊎ HasOwnPairs arena image entries meta
+-- a folder that was walked, and its records
+pub record Counted : Type 0 where
+  pub folder : Folder
+  pub names : List Named
+
+-- the numbers of their records, those of the newest folder last
+abbrev pub all_numbers : List Counted → List Number
+all_numbers [] = []
+all_numbers (c ∷ counted) = all_numbers counted ++ map number_in c.names
+
+-- Each directory whose folder it may be has its pairs, and all its records are among these.
+pub record IsCounted (arena : Arena) (image : Image) (c : Counted) : Type 0 where
+  pub whole : (entries meta : Link) → IsHeadOf entries meta c.folder → (n j : ℕ) (r : Record) → Lists arena image meta n j r → IsNamedIn c.names r
+  pub own : (entries meta : Link) → IsHeadOf entries meta c.folder → HasOwnPairs arena image entries meta
+
+-- Each directory to which names lead is left or was walked, and the numbers are those of all that were walked.
+pub record AreCounted (arena : Arena) (image : Image) (k : Kept) (folders : List Folder) (numbers : List Number) : Type 0 where
+  pub counted : List Counted
+  pub numbers_are : numbers ≡ all_numbers counted
+  pub right : AllByRecursion (IsCounted arena image) counted
+  pub each : (trail : List ℕ) (entries meta : Link) → IsDir arena image k.at trail entries meta → IsLeft arena image folders entries meta ⊎ SomeOf (λ (c : Counted). IsHeadOf entries meta c.folder) counted
+
+-- This is so where no block is at two places and no rule up to 6 is noted.
+pub record AreSettled (arena : Arena) (image : Image) (k : Kept) (noted : Option Broken) (folders : List Folder) (numbers : List Number) : Type 0 where
+  pub counts : 6 < level noted → IsTree arena image k.at → AreCounted arena image k folders numbers

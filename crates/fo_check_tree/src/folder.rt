@@ -22,14 +22,15 @@ ghost use Rattle.fo_check_tree.specs.Lower.{lower, level};
 ghost use Rattle.fo_check_tree.specs.Slots.{top_step, entry_of, HasSlot, steps_by_pairs, AddsFolders, pair_steps, first_steps, second_steps, pair_folders, folders_by};
 ghost use Rattle.fo_check_names.specs.Pairs.{no_entry, is_folder, is_source, records_of};
 ghost use Rattle.fo_check_tree.specs.Notes.{NotesAt};
-ghost use Rattle.fo_check_tree.specs.Pairing.{Searches, AreInOrder, IsHeadOf, IsSettled, Grows};
+ghost use Rattle.fo_check_tree.specs.Pairing.{Searches, AreInOrder, Settles, Grows};
+ghost use Rattle.fo_check_names.specs.Names.{number_in};
 ghost use Rattle.fo_check_names.specs.Finds.{Finds};
 
 use crate::blocks::follow_all;
 use crate::error::TreeError;
 use crate::walk::{Folder, Holder, Holds, Step, Walk};
 use fo_check_names::{
-    add_numbers, find_pair, is_alone, is_both, is_folder, is_source, records_of, same_name,
+    Number, add_numbers, find_pair, is_alone, is_both, is_folder, is_source, records_of, same_name,
     same_pair, without_pair,
 };
 use fo_disk::Disk;
@@ -283,6 +284,7 @@ fn list<D: Disk>(
     alloc: Global,
     main: &mut D,
     walk: &mut Walk,
+    numbers: &mut Vec<Number>,
     folder: &Folder,
 ) -> Result<(), TreeError>
     requires size { D.size main.old ≡ walk.old.blocks }
@@ -303,6 +305,8 @@ fn list<D: Disk>(
     ensures cause { HasCauses (D.faults main.old) (D.faults main.new) result }
     ensures listed { (arena : Arena) (device : List Block) (image : Image) (s : Super) (k : Kept) (meta : Link) → Shows (D.state main.old).holds device → Walking arena device image s k (tops folder.now) walk.old → IsMetaOf folder.now meta
         → walk.old.steps.items ≡ [] → walk.old.named.items ≡ [] → OnOk result (AreInOrder arena image k meta folder.now.named walk.new.noted walk.new.named.items) }
+    ensures counted { walk.old.named.items ≡ [] → folder.now.named ≡ true → OnOk result (numbers.new.items ≡ numbers.old.items ++ map number_in walk.new.named.items) }
+    ensures uncounted { folder.now.named ≡ false → OnOk result (numbers.new.items ≡ numbers.old.items) }
     ensures done { OnOk result (walk.old.steps.items ≡ [] → walk.new.steps.items ≡ []) }
     ensures grows { (arena : Arena) (device : List Block) (image : Image) (s : Super) (k : Kept) → Shows (D.state main.old).holds device → Walking arena device image s k (tops folder.now) walk.old → OnOk result (Grows walk.old.folders.items walk.new.folders.items) }
 {
@@ -321,7 +325,7 @@ fn list<D: Disk>(
         return Ok(());
     }
     walk.note_leaf(6, twice);
-    match add_numbers(&walk.named, &mut walk.numbers) {
+    match add_numbers(&walk.named, numbers) {
         Ok(()) => Ok(()),
         Err(_) => Err(TreeError::Memory),
     }
@@ -332,6 +336,7 @@ pub(crate) fn walk_folder<D: Disk>(
     alloc: Global,
     main: &mut D,
     walk: &mut Walk,
+    numbers: &mut Vec<Number>,
     folder: &Folder,
 ) -> Result<(), TreeError>
     requires size { D.size main.old ≡ walk.old.blocks }
@@ -351,12 +356,13 @@ pub(crate) fn walk_folder<D: Disk>(
     ensures size { D.size main.new ≡ D.size main.old }
     ensures kept { D.state main.new ≡ D.state main.old }
     ensures cause { HasCauses (D.faults main.old) (D.faults main.new) result }
-    ensures pairs { (arena : Arena) (device : List Block) (image : Image) (s : Super) (k : Kept) (entries meta : Link) → Shows (D.state main.old).holds device → Walking arena device image s k (tops folder.now) walk.old → IsHeadOf entries meta folder.now
-        → walk.old.steps.items ≡ [] → OnOk result (6 < level walk.new.noted → IsTree arena image k.at → IsSettled arena image entries meta walk.new.folders.items) }
+    ensures pairs { (arena : Arena) (device : List Block) (image : Image) (s : Super) (k : Kept) → Shows (D.state main.old).holds device → Walking arena device image s k (tops folder.now) walk.old → walk.old.steps.items ≡ [] → folder.now.named ≡ true
+        → OnOk result (Settles arena image k folder.now walk.new.noted walk.new.folders.items numbers.old.items numbers.new.items) }
+    ensures uncounted { folder.now.named ≡ false → OnOk result (numbers.new.items ≡ numbers.old.items) }
     ensures grows { (arena : Arena) (device : List Block) (image : Image) (s : Super) (k : Kept) → Shows (D.state main.old).holds device → Walking arena device image s k (tops folder.now) walk.old → OnOk result (Grows walk.old.folders.items walk.new.folders.items) }
 {
     walk.named = Vec::new(alloc);
-    list(alloc, main, walk, folder)?;
+    list(alloc, main, walk, numbers, folder)?;
     let holds = if folder.entries.dir {
         Holds::Entries
     } else {

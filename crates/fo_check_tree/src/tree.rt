@@ -6,6 +6,8 @@ ghost use Rattle.fo_check_tree.specs.Answer.{HoldsAny, IsWalked, RefusesCheck};
 ghost use Rattle.fo_check_tree.specs.Dirs.{AreJudged};
 ghost use Rattle.fo_check_tree.specs.Formats.{AreFormed};
 ghost use Rattle.fo_check_tree.specs.Notes.{Lowers};
+ghost use Rattle.std.specs.List.{All};
+ghost use Rattle.fo_check_names.specs.Names.{number_of, Differ, IsFileNumber};
 ghost use Rattle.fo_check_tree.specs.Pairing.{AreSettled};
 ghost use Rattle.fo_check_tree.specs.Walking.{IsUnbegun, Walking};
 ghost use Rattle.fo_disk.specs.Disk.{Block};
@@ -19,7 +21,7 @@ use crate::error::TreeError;
 use crate::folder::{shallow, walk_folder};
 use crate::labels::Labels;
 use crate::walk::{Folder, Holder, Walk};
-use fo_check_names::{no_file, same_number};
+use fo_check_names::{Number, no_file, same_number};
 use fo_disk::Disk;
 use fo_image::{RootBlock, Super};
 use fo_sound::root_label;
@@ -77,15 +79,15 @@ pub fn check_tree<D: Disk>(
         steps: Vec::new(alloc),
         folders: Vec::new(alloc),
         named: Vec::new(alloc),
-        numbers: Vec::new(alloc),
     };
+    let mut numbers = Vec::new(alloc);
     if start(&mut walk, &s, root).is_err() {
         return Err(TreeError::Memory);
     }
     while let Some(folder) = walk.folders.pop() {
-        walk_folder(alloc, main, &mut walk, &folder)?;
+        walk_folder(alloc, main, &mut walk, &mut numbers, &folder)?;
     }
-    check_numbers(&mut walk, s.numbers);
+    check_numbers(&mut walk, &mut numbers, s.numbers);
     Ok(Found {
         broken: walk.noted,
         used: walk.labels.used(),
@@ -94,7 +96,8 @@ pub fn check_tree<D: Disk>(
 }
 
 /// The numbers of all files that names lead to.
-fn check_numbers(walk: &mut Walk, limit: u32)
+fn check_numbers(walk: &mut Walk, numbers: &mut Vec<Number>, limit: u32)
+    ensures judged { 8 < level walk.new.noted → Differ number_of numbers.old.items × All (IsFileNumber limit) numbers.old.items }
     ensures lowers { Lowers walk.old.noted walk.new.noted }
     ensures blocks { walk.new.blocks ≡ walk.old.blocks }
     ensures tree { (walk.new.epoch ≡ walk.old.epoch) × (walk.new.active ≡ walk.old.active) }
@@ -102,9 +105,9 @@ fn check_numbers(walk: &mut Walk, limit: u32)
     ensures steps { walk.new.steps.items ≡ walk.old.steps.items }
     ensures folders { walk.new.folders.items ≡ walk.old.folders.items }
 {
-    let outside = no_file(&walk.numbers, limit);
+    let outside = no_file(numbers, limit);
     walk.note_leaf(8, outside);
-    let twice = same_number(&mut walk.numbers);
+    let twice = same_number(numbers);
     walk.note_leaf(8, twice);
 }
 
@@ -134,7 +137,7 @@ fn start(walk: &mut Walk, s: &Super, root: &RootBlock) -> Result<(), AllocError>
         → OnOk result (AreFormed arena image k walk.new.labels.known.items walk.new.noted walk.new.steps.items walk.new.folders.items) }
     ensures blocks { OnOk result (walk.new.blocks ≡ walk.old.blocks) }
     ensures judged { OnOk result (JudgesRoot root.now walk.new.noted) }
-    ensures pairs { (arena : Arena) (device : List Block) (image : Image) (k : Kept) → k.root ≡ root.now → HoldsAny arena device image s.now k → IsUnbegun device s.now walk.old → OnOk result (AreSettled arena image k walk.new.noted walk.new.folders.items) }
+    ensures pairs { (arena : Arena) (device : List Block) (image : Image) (k : Kept) → k.root ≡ root.now → HoldsAny arena device image s.now k → IsUnbegun device s.now walk.old → OnOk result (AreSettled arena image k walk.new.noted walk.new.folders.items []) }
 {
     let active = s.active;
     let _ = walk.labels.reach(active);

@@ -8,7 +8,7 @@ ghost use Rattle.fo_check_tree.specs.declared.walk.Holds.TheVariants.{Records};
 
 use crate::broken::{Broken, lower};
 use crate::labels::Labels;
-use fo_check_names::{Named, Number};
+use fo_check_names::Named;
 use fo_image::{Entry, Kind, Label, Pointer, is_zero};
 
 /// The block that holds a pointer or an entry, and its label.
@@ -96,8 +96,6 @@ pub(crate) struct Walk {
     pub(crate) folders: Vec<Folder>,
     /// The records of the directory in course.
     pub(crate) named: Vec<Named>,
-    /// The numbers of all files that names lead to.
-    pub(crate) numbers: Vec<Number>,
 }
 
 impl Walk {

@@ -1,10 +1,10 @@
-use Rattle.std.proofs.Common.{◌≡◌, List, [], ◌∷◌, ◌++◌, IsPermutation, length, Option, Some, None, refl, sym, ap, ◌∙◌, subst, rules, arith}
+use Rattle.std.proofs.Common.{◌≡◌, List, [], ◌∷◌, ◌++◌, append-nil, map, IsPermutation, length, Option, Some, None, refl, sym, ap, ◌∙◌, subst, rules, arith}
 use Rattle.std.proofs.lemmas.Result.{err_from_is_err_and}
 use Rattle.fo_image.specs.declared.types.Entry.{Entry}
 use Rattle.fo_check_tree.specs.declared.walk.Holds.TheVariants.{Bytes, Records}
 use Rattle.fo_check_tree.specs.declared.walk.Step.{Step}
 use Rattle.std.specs.Prelude.{MatchOption}
-use Rattle.fo_check_names.specs.Names.{name_of, slot_of, leaf_of, Differ, IsTwice}
+use Rattle.fo_check_names.specs.Names.{number_in, name_of, slot_of, leaf_of, Differ, IsTwice}
 use Rattle.fo_check_names.proofs.Moved.{moved}
 use Rattle.fo_check_tree.specs.Pairing.{AreInOrder}
 use Rattle.fo_check_tree.proofs.Searching.{written}
@@ -300,3 +300,6 @@ returns-in-Ok-clause-grows g c arena device image s k shows w' =
     ∙ ap (λ (x : Step). c.args.walk.now.steps.items ++ x ∷ []) c.top-top.ensures in
     let next : Walking arena device image s k (a ∷ []) (record c.args.walk.now { steps = c.push.new.self }) = pushed arena device image s k c.args.walk.now (record c.args.walk.now { steps = c.push.new.self }) (record { blocks = refl; epoch = refl; active = refl; labels = refl; noted = refl }) (a ∷ []) c.in-Some.records f.holder Records Records items refl first in
     grows_like c.args.walk.now.folders.items c.follow_all.new.walk.folders.items _ (c.note_leaf-2.ensures.folders ∙ c.note_leaf.ensures.folders) (c.in_ok-follow_all.ensures.grows arena device image s k (a ∷ []) shows next)
+
+pub returns-in_default-clause-counted : goal.returns-in_default-clause-counted
+returns-in_default-clause-counted g c no_names lead = sym (append-nil c.args.numbers.now.items) ∙ ap (λ (xs : List Named). c.args.numbers.now.items ++ map number_in xs) (sym no_names)

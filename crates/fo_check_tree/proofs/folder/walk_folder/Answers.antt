@@ -181,10 +181,10 @@ returns-clause-grows g c arena device image s k shows w =
     (grows_then c.args.walk.now.folders.items c.list.new.walk.folders.items c.follow_all.new.walk.folders.items (c.in_ok-list.ensures.grows arena device image s k shows fresh) (c.in_ok-follow_all.ensures.grows arena device image s k [] still next))
 
 pub returns-then-not-folder-clause-pairs : goal.returns-then-not-folder-clause-pairs
-returns-then-not-folder-clause-pairs g c arena device image s k entries meta shows w head no_steps quiet tree = absurd (false≢true (search rules))
+returns-then-not-folder-clause-pairs g c arena device image s k shows w no_steps lead = absurd (false≢true (search rules))
 
 pub returns-clause-pairs : goal.returns-clause-pairs
-returns-clause-pairs g c arena device image s k entries meta shows w head no_steps =
+returns-clause-pairs g c arena device image s k shows w no_steps lead =
     let f = c.args.folder.now in
     let a : Step = top_step f.entries Bytes f.holder in
     let fresh = emptied arena device image s k c.args.walk.now (record c.args.walk.now { named = c.new.result }) (record { blocks = refl; epoch = refl; active = refl; labels = refl; noted = refl }) (tops f) refl refl w in
@@ -194,14 +194,19 @@ returns-clause-pairs g c arena device image s k entries meta shows w head no_ste
     ∙ ap (λ (x : Step). c.list.new.walk.steps.items ++ x ∷ []) c.top-top.ensures in
     let next : Walking arena device image s k [] (record c.list.new.walk { steps = c.push.new.self }) = pushed arena device image s k c.list.new.walk (record c.list.new.walk { steps = c.push.new.self }) (record { blocks = refl; epoch = refl; active = refl; labels = refl; noted = refl }) [] f.entries f.holder Bytes c.if-folder.holds items refl listed in
     let still : Shows (g.D.Disk.state c.list.new.main).holds device = subst (λ (s : DiskState). Shows s.holds device) (sym c.list.ensures.kept) shows in
-    let order : AreInOrder arena image k meta f.named c.list.new.walk.noted c.list.new.walk.named.items = c.in_ok-list.ensures.listed arena device image s k meta shows fresh head.records no_steps c.new.ensures.items in
-    let order' : AreInOrder arena image k meta true c.list.new.walk.noted c.list.new.walk.named.items = subst (λ (b : Bool). AreInOrder arena image k meta b c.list.new.walk.noted c.list.new.walk.named.items) head.named order in
-    let one : c.push.new.self.items ≡ top_step f.entries c.if-folder.holds f.holder ∷ [] = items ∙ ap (λ (xs : List Step). xs ++ top_step f.entries c.if-folder.holds f.holder ∷ []) (c.in_ok-list.ensures.done no_steps) in
-    let start : AreSought arena image entries c.list.new.walk.named.items c.list.new.walk.noted c.push.new.self.items c.list.new.walk.named.items c.list.new.walk.folders.items =
-    subst (λ (xs : List Step). AreSought arena image entries c.list.new.walk.named.items c.list.new.walk.noted xs c.list.new.walk.named.items c.list.new.walk.folders.items) (sym one)
-    (sought_first arena image entries meta f head c.if-folder.holds c.list.new.walk.named.items c.list.new.walk.noted c.list.new.walk.folders.items order.fresh) in
-    let sought : AreSought arena image entries c.list.new.walk.named.items c.follow_all.new.walk.noted c.follow_all.new.walk.steps.items c.follow_all.new.walk.named.items c.follow_all.new.walk.folders.items = c.in_ok-follow_all.ensures.pairs arena device image s k entries c.list.new.walk.named.items [] still next head.named start in
-    let none : AreSought arena image entries c.list.new.walk.named.items c.follow_all.new.walk.noted [] c.follow_all.new.walk.named.items c.follow_all.new.walk.folders.items = subst (λ (xs : List Step). AreSought arena image entries c.list.new.walk.named.items c.follow_all.new.walk.noted xs c.follow_all.new.walk.named.items c.follow_all.new.walk.folders.items) c.in_ok-follow_all.ensures.done sought in
-    let answer : MatchOption c.without_pair-alone.result (All (IsPaired f.entries.size) c.follow_all.new.walk.named.items) (λ leaf. Any (IsUnpaired f.entries.size leaf) c.follow_all.new.walk.named.items) = search rules in
-    λ quiet tree. subst (λ (fs : List Folder). IsSettled arena image entries meta fs) (sym c.note_leaf.ensures.folders)
-    (settled arena image k meta entries c.follow_all.new.walk.folders.items c.list.new.walk.named.items c.follow_all.new.walk.named.items c.list.new.walk.noted c.follow_all.new.walk.noted c.note_leaf.new.self.noted order' none f.entries.size c.without_pair-alone.result answer c.note_leaf.ensures.noted c.in_ok-follow_all.ensures.level c.note_leaf.ensures.level (sym (ap size_of head.slot)) quiet tree)
+    record {
+      names = c.list.new.walk.named.items;
+      grown = c.in_ok-list.ensures.counted c.new.ensures.items lead;
+      each = λ entries meta head.
+          let order : AreInOrder arena image k meta f.named c.list.new.walk.noted c.list.new.walk.named.items = c.in_ok-list.ensures.listed arena device image s k meta shows fresh head.records no_steps c.new.ensures.items in
+          let order' : AreInOrder arena image k meta true c.list.new.walk.noted c.list.new.walk.named.items = subst (λ (b : Bool). AreInOrder arena image k meta b c.list.new.walk.noted c.list.new.walk.named.items) head.named order in
+          let one : c.push.new.self.items ≡ top_step f.entries c.if-folder.holds f.holder ∷ [] = items ∙ ap (λ (xs : List Step). xs ++ top_step f.entries c.if-folder.holds f.holder ∷ []) (c.in_ok-list.ensures.done no_steps) in
+          let start : AreSought arena image entries c.list.new.walk.named.items c.list.new.walk.noted c.push.new.self.items c.list.new.walk.named.items c.list.new.walk.folders.items =
+          subst (λ (xs : List Step). AreSought arena image entries c.list.new.walk.named.items c.list.new.walk.noted xs c.list.new.walk.named.items c.list.new.walk.folders.items) (sym one)
+          (sought_first arena image entries meta f head c.if-folder.holds c.list.new.walk.named.items c.list.new.walk.noted c.list.new.walk.folders.items order.fresh) in
+          let sought : AreSought arena image entries c.list.new.walk.named.items c.follow_all.new.walk.noted c.follow_all.new.walk.steps.items c.follow_all.new.walk.named.items c.follow_all.new.walk.folders.items = c.in_ok-follow_all.ensures.pairs arena device image s k entries c.list.new.walk.named.items [] still next head.named start in
+          let none : AreSought arena image entries c.list.new.walk.named.items c.follow_all.new.walk.noted [] c.follow_all.new.walk.named.items c.follow_all.new.walk.folders.items = subst (λ (xs : List Step). AreSought arena image entries c.list.new.walk.named.items c.follow_all.new.walk.noted xs c.follow_all.new.walk.named.items c.follow_all.new.walk.folders.items) c.in_ok-follow_all.ensures.done sought in
+          let answer : MatchOption c.without_pair-alone.result (All (IsPaired f.entries.size) c.follow_all.new.walk.named.items) (λ leaf. Any (IsUnpaired f.entries.size leaf) c.follow_all.new.walk.named.items) = search rules in
+          λ quiet tree. subst (λ (fs : List Folder). IsSettled arena image entries meta c.list.new.walk.named.items fs) (sym c.note_leaf.ensures.folders)
+          (settled arena image k meta entries c.follow_all.new.walk.folders.items c.list.new.walk.named.items c.follow_all.new.walk.named.items c.list.new.walk.noted c.follow_all.new.walk.noted c.note_leaf.new.self.noted order' none f.entries.size c.without_pair-alone.result answer c.note_leaf.ensures.noted c.in_ok-follow_all.ensures.level c.note_leaf.ensures.level (sym (ap size_of head.slot)) quiet tree);
+    }

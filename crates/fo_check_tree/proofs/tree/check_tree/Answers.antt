@@ -1,4 +1,4 @@
-use Rattle.std.proofs.Common.{◌≡◌, ℕ, ◌-◌, true, None, take, [], ◌∷◌, append-nil, refl, sym, ap, ◌∙◌, subst, rules, arith}
+use Rattle.std.proofs.Common.{◌≡◌, ℕ, ◌-◌, true, None, take, List, [], ◌∷◌, append-nil, refl, sym, ap, ◌∙◌, subst, rules, arith}
 use Rattle.std.proofs.lemmas.Result.{err_from_is_err_and}
 use Rattle.fo_disk.specs.Disk.{DiskState}
 use Rattle.fo_sound.specs.Device.{Shows}
@@ -15,6 +15,8 @@ use Rattle.fo_check_tree.proofs.Formatting.{formed_like, formed_open}
 use Rattle.fo_check_tree.proofs.Judging.{judged_like, judged_open, judged_folder}
 use Rattle.fo_check_tree.proofs.Levels.{judges_later}
 use Rattle.fo_check_tree.proofs.Scanning.{table_whole}
+use Rattle.fo_check_names.specs.declared.names.Number.{Number}
+use Rattle.fo_check_tree.specs.Pairing.{AreSettled}
 use Rattle.fo_check_tree.proofs.Settling.{settled_like, settled_on}
 use Rattle.fo_check_tree.proofs.Starting.{read_table, read_unreached}
 use Rattle.fo_check_tree.proofs.Stepping.{opened, emptied, walking_like}
@@ -36,7 +38,7 @@ loop-folder-init g c = record {
   size = search rules;
   walks = λ arena device image k len shows is holds.
       let scan = c.in_ok-labels.ensures.table device len shows in
-      let start : Walk = record { blocks = c.args.setting.blocks; epoch = c.args.setting.s.high; active = true; labels = c.in_ok-labels.labels; noted = None; steps = c.new.result; folders = c.new-2.result; named = c.new-3.result; numbers = c.new-4.result } in
+      let start : Walk = record { blocks = c.args.setting.blocks; epoch = c.args.setting.s.high; active = true; labels = c.in_ok-labels.labels; noted = None; steps = c.new.result; folders = c.new-2.result; named = c.new-3.result } in
       let u : IsUnbegun device c.args.setting.s start = record {
         size = sym len;
         tree = (refl, refl);
@@ -47,7 +49,7 @@ loop-folder-init g c = record {
       on_ok_is c.start.result _ (sym c.is_err.ensures.value ∙ c.if-is_err.false) (c.start.ensures.begun arena device image k is holds u);
   dirs = λ arena device image k len shows is holds.
       let scan = c.in_ok-labels.ensures.table device len shows in
-      let start : Walk = record { blocks = c.args.setting.blocks; epoch = c.args.setting.s.high; active = true; labels = c.in_ok-labels.labels; noted = None; steps = c.new.result; folders = c.new-2.result; named = c.new-3.result; numbers = c.new-4.result } in
+      let start : Walk = record { blocks = c.args.setting.blocks; epoch = c.args.setting.s.high; active = true; labels = c.in_ok-labels.labels; noted = None; steps = c.new.result; folders = c.new-2.result; named = c.new-3.result } in
       let u : IsUnbegun device c.args.setting.s start = record {
         size = sym len;
         tree = (refl, refl);
@@ -58,7 +60,7 @@ loop-folder-init g c = record {
       on_ok_is c.start.result _ (sym c.is_err.ensures.value ∙ c.if-is_err.false) (c.start.ensures.dirs arena device image k is holds u);
   formed = λ arena device image k len shows is holds.
       let scan = c.in_ok-labels.ensures.table device len shows in
-      let start : Walk = record { blocks = c.args.setting.blocks; epoch = c.args.setting.s.high; active = true; labels = c.in_ok-labels.labels; noted = None; steps = c.new.result; folders = c.new-2.result; named = c.new-3.result; numbers = c.new-4.result } in
+      let start : Walk = record { blocks = c.args.setting.blocks; epoch = c.args.setting.s.high; active = true; labels = c.in_ok-labels.labels; noted = None; steps = c.new.result; folders = c.new-2.result; named = c.new-3.result } in
       let u : IsUnbegun device c.args.setting.s start = record {
         size = sym len;
         tree = (refl, refl);
@@ -69,7 +71,7 @@ loop-folder-init g c = record {
       on_ok_is c.start.result _ (sym c.is_err.ensures.value ∙ c.if-is_err.false) (c.start.ensures.formed arena device image k is holds u);
   settled = λ arena device image k len shows is holds.
       let scan = c.in_ok-labels.ensures.table device len shows in
-      let start : Walk = record { blocks = c.args.setting.blocks; epoch = c.args.setting.s.high; active = true; labels = c.in_ok-labels.labels; noted = None; steps = c.new.result; folders = c.new-2.result; named = c.new-3.result; numbers = c.new-4.result } in
+      let start : Walk = record { blocks = c.args.setting.blocks; epoch = c.args.setting.s.high; active = true; labels = c.in_ok-labels.labels; noted = None; steps = c.new.result; folders = c.new-2.result; named = c.new-3.result } in
       let u : IsUnbegun device c.args.setting.s start = record {
         size = sym len;
         tree = (refl, refl);
@@ -77,7 +79,8 @@ loop-folder-init g c = record {
         unreached = read_unreached device c.in_ok-labels.labels.known.items c.args.setting.blocks len scan c.in_ok-labels.labels.ascending;
         nothing = (c.new.ensures.items, c.new-2.ensures.items, refl);
       } in
-      on_ok_is c.start.result _ (sym c.is_err.ensures.value ∙ c.if-is_err.false) (c.start.ensures.pairs arena device image k is holds u);
+      subst (λ (xs : List Number). AreSettled arena image k c.start.new.walk.noted c.start.new.walk.folders.items xs) (sym c.new-numbers.ensures.items)
+      (on_ok_is c.start.result _ (sym c.is_err.ensures.value ∙ c.if-is_err.false) (c.start.ensures.pairs arena device image k is holds u));
   judged = search rules;
   same = search rules;
   kept = search rules;
@@ -121,9 +124,10 @@ loop-folder-preserved g c = record {
       let open' : Walking arena device image s k (tops f) old = opened arena device image s k c.loop-folder.walk old (record { blocks = refl; epoch = refl; active = refl; labels = refl; noted = refl }) f c.in-Some.ensures.items refl before.0 in
       let shows' : Shows (g.D.Disk.state c.loop-folder.main).holds device = subst (λ (x : DiskState). Shows x.holds device) (sym c.loop-folder.invariant.kept) shows in
       settled_on arena image k c.loop-folder.walk.noted c.walk_folder.new.walk.noted c.pop.new.self.items c.walk_folder.new.walk.folders.items c.loop-folder.walk.folders.items f c.in-Some.ensures.items
-      (c.in_ok-walk_folder.ensures.grows arena device image s k shows' open') c.in_ok-walk_folder.ensures.level
-      (λ entries meta head quiet tree. c.in_ok-walk_folder.ensures.pairs arena device image s k entries meta shows' open' head before.1 quiet tree)
-      (c.loop-folder.invariant.settled arena device image k len shows is holds);
+      (c.in_ok-walk_folder.ensures.grows arena device image s k shows' open') c.in_ok-walk_folder.ensures.level c.loop-folder.numbers.items c.walk_folder.new.numbers.items
+      (c.loop-folder.invariant.settled arena device image k len shows is holds)
+      (λ lead. c.in_ok-walk_folder.ensures.pairs arena device image s k shows' open' before.1 lead)
+      c.in_ok-walk_folder.ensures.uncounted;
   judged = judges_later c.in_ok-walk_folder.ensures.level c.loop-folder.invariant.judged;
   same = search rules;
   kept = search rules;
@@ -154,5 +158,7 @@ returns-clause-walked g c arena device image k len shows is holds =
     (judged_like arena device image s k [] c.loop-folder.walk end refl (none ∙ sym old_none) (omega arith) (c.loop-folder.invariant.dirs arena device image k len shows is holds)))
     (formed_like arena image k c.loop-folder.walk.labels.known.items _ c.loop-folder.walk.noted _ c.loop-folder.walk.steps.items _ c.loop-folder.walk.folders.items _ (ap (λ (l : Labels). l.known.items) n.labels) n.lowers.low n.steps (n.folders ∙ none ∙ sym old_none)
     (c.loop-folder.invariant.formed arena device image k len shows is holds))
-    (settled_like arena image k c.loop-folder.walk.noted c.check_numbers.new.walk.noted c.loop-folder.walk.folders.items _ n.lowers.low (n.folders ∙ none ∙ sym old_none) (c.loop-folder.invariant.settled arena device image k len shows is holds))
+    c.loop-folder.numbers.items
+    (settled_like arena image k c.loop-folder.walk.noted c.check_numbers.new.walk.noted c.loop-folder.walk.folders.items _ c.loop-folder.numbers.items n.lowers.low (n.folders ∙ none ∙ sym old_none) (c.loop-folder.invariant.settled arena device image k len shows is holds))
+    n.judged
     (walking_like arena device image s k [] end c.check_numbers.new.walk (record { blocks = n.blocks; epoch = n.tree.0; active = n.tree.1; labels = n.labels; steps = n.steps; folders = n.folders }) n.lowers empty)

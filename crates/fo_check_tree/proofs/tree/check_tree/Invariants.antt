@@ -21,7 +21,7 @@ invariant-loop-folder g l = record {
   formed : (arena : Arena) (device : List Block) (image : Image) (k : Kept) → length device ≡ l.fn.setting.blocks → Shows (g.D.Disk.state l.fn.main).holds device → k.root ≡ l.root → HoldsAny arena device image l.fn.setting.s k
       → AreFormed arena image k l.walk.labels.known.items l.walk.noted l.walk.steps.items l.walk.folders.items;
   settled : (arena : Arena) (device : List Block) (image : Image) (k : Kept) → length device ≡ l.fn.setting.blocks → Shows (g.D.Disk.state l.fn.main).holds device → k.root ≡ l.root → HoldsAny arena device image l.fn.setting.s k
-      → AreSettled arena image k l.walk.noted l.walk.folders.items;
+      → AreSettled arena image k l.walk.noted l.walk.folders.items l.numbers.items;
   judged : JudgesRoot l.root l.walk.noted;
   same : g.D.Disk.size l.main ≡ g.D.Disk.size l.fn.main;
   kept : g.D.Disk.state l.main ≡ g.D.Disk.state l.fn.main;
