@@ -1,6 +1,6 @@
 -- The steps by the slots of a block, by its kind, and what a step leaves.
-use Rattle.std.proofs.Common.{◌≡◌, ℕ, zero, suc, ◌-◌, ◌*◌, ◌<◌, ◌≤◌, take, drop, ap, Bool, true, false, leb, List, ◌++◌, Option, Some, None, refl, sym, subst, ◌∙◌, Result, Ok, Err, arith}
-use Rattle.std.specs.Prelude.{OnOk, is_err, if◌then◌else◌}
+use Rattle.std.proofs.Common.{◌≡◌, ℕ, zero, suc, ◌+◌, ◌^◌, ◌-◌, ◌*◌, ◌<◌, ◌≤◌, take, drop, ap, Bool, true, false, leb, List, ◌++◌, Option, Some, None, refl, sym, subst, ◌∙◌, Result, Ok, Err, arith}
+use Rattle.std.specs.Prelude.{min, OnOk, is_err, if◌then◌else◌}
 use Rattle.std.proofs.lemmas.Bool.{false≢true}
 use Rattle.fo_check_tree.specs.declared.broken.Broken.{Broken}
 use Rattle.fo_image.specs.declared.types.Entry.{Entry}
@@ -26,6 +26,7 @@ use Rattle.fo_check_tree.specs.declared.walk.Step.{Step}
 use Rattle.fo_check_tree.specs.declared.walk.Holds.TheVariants.{Bytes, Records}
 use Rattle.fo_check_names.specs.declared.names.Named.{Named}
 use Rattle.fo_check_tree.specs.declared.walk.Walk.{Walk}
+use Rattle.fo_check_tree.specs.Depths.{Deepens}
 use Rattle.fo_check_tree.specs.Follows.{Reaches, Puts, Reads}
 use Rattle.fo_check_tree.specs.Follows.Reaches.{enters}
 use Rattle.fo_check_tree.specs.Known.{Marks}
@@ -98,9 +99,10 @@ pub reaches_by : {A E : Type 0} (r : Result A E) (device : List Block) (image : 
     → (step.kind ≡ Data 0 → step.holds ≡ Records → OnOk r (5 < level new.noted → IsLeaf (block_of device at)))
     → (HasSlots step.kind (image at) (block_of device at) → OnOk r (Seeks step (image at) named step.kind old.named.items new.named.items new.folders.items))
     → (step.kind ≡ Data 0 → step.holds ≡ Bytes → OnOk r (new.named.items ≡ old.named.items))
+    → (HasSlots step.kind (image at) (block_of device at) → OnOk r (Deepens (image at) (min (depth + 1) (2 ^ 32 - 1)) step.kind new.noted))
     → OnOk r (Reaches device image depth named step at old new)
-reaches_by (Ok x) device image depth named step at old new label marked allowed marks same pushed put notes read adds leafs seeks bytes = enters label allowed (subst (λ (l : Labels). Marks at old.labels.known.items l.known.items) (sym same) marks) pushed put notes read adds leafs seeks bytes
-reaches_by (Err e) device image depth named step at old new label marked allowed marks same pushed put notes read adds leafs seeks bytes = same
+reaches_by (Ok x) device image depth named step at old new label marked allowed marks same pushed put notes read adds leafs seeks bytes deeps = enters label allowed (subst (λ (l : Labels). Marks at old.labels.known.items l.known.items) (sym same) marks) pushed put notes read adds leafs seeks bytes deeps
+reaches_by (Err e) device image depth named step at old new label marked allowed marks same pushed put notes read adds leafs seeks bytes deeps = same
 
 -- ---- what a block says by itself
 
@@ -161,6 +163,33 @@ data_seeks (Err e) step c named old new folders level kind is = tt
 
 pub root_seeks : (step : Step) (c : Content) (named : Bool) (old new : List Named) (folders : List Folder) (kind : Kind) → kind ≡ Root → Seeks step c named kind old new folders
 root_seeks step c named old new folders kind is = subst (λ (k : Kind). Seeks step c named k old new folders) (sym is) tt
+
+-- ---- how deep it leads
+
+pub leaf_deepens : {A E : Type 0} (r : Result A E) (c : Content) (deep : ℕ) (noted : Option Broken) (kind : Kind) → kind ≡ Dir zero → OnOk r (Deepens c deep (Dir zero) noted) → OnOk r (Deepens c deep kind noted)
+leaf_deepens r c deep noted kind is h = subst (λ (k : Kind). OnOk r (Deepens c deep k noted)) (sym is) h
+
+pub nothing_deepens : (c : Content) (deep : ℕ) (noted : Option Broken) (kind : Kind) → (kind ≡ Dir zero → ⊥) → Deepens c deep kind noted
+nothing_deepens c deep noted (Data level') isnt = tt
+nothing_deepens c deep noted (Dir zero) isnt = absurd (isnt refl)
+nothing_deepens c deep noted (Dir (suc level')) isnt = tt
+nothing_deepens c deep noted Root isnt = tt
+
+pub other_deepens : {A E : Type 0} (r : Result A E) (c : Content) (deep : ℕ) (noted : Option Broken) (kind : Kind) → (kind ≡ Dir zero → ⊥) → OnOk r (Deepens c deep kind noted)
+other_deepens (Ok x) c deep noted kind isnt = nothing_deepens c deep noted kind isnt
+other_deepens (Err e) c deep noted kind isnt = tt
+
+dir_is : {a b : ℕ} → Dir a ≡ Dir b → a ≡ b
+dir_is e = cc
+
+pub not_entries_data : (level : ℕ) (kind : Kind) → kind ≡ Data level → kind ≡ Dir zero → ⊥
+not_entries_data level kind is leaf = let e : Data level ≡ Dir zero = sym is ∙ leaf in cc
+
+pub not_entries_dir : (level : ℕ) (kind : Kind) → kind ≡ Dir level → 0 < level → kind ≡ Dir zero → ⊥
+not_entries_dir level kind is some leaf = omega (arith, some, dir_is (sym is ∙ leaf))
+
+pub not_entries_root : (kind : Kind) → kind ≡ Root → kind ≡ Dir zero → ⊥
+not_entries_root kind is leaf = let e : Root ≡ Dir zero = sym is ∙ leaf in cc
 
 -- ---- which kind it is not
 

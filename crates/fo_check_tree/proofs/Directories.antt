@@ -1,5 +1,5 @@
 -- The directories of a tree, once nothing is left to be followed: no name stands twice in any.
-use Rattle.std.proofs.Common.{◌≡◌, ◌⊎◌, ⊎_elim, ℕ, zero, suc, ◌+◌, ◌*◌, ◌/◌, ◌%◌, ◌<◌, Bool, List, [], ◌∷◌, ◌++◌, append_assoc, Option, refl, sym, ap, ◌∙◌, subst, arith}
+use Rattle.std.proofs.Common.{◌≡◌, ◌≤◌, ◌⊎◌, ⊎_elim, ℕ, zero, suc, ◌+◌, ◌*◌, ◌/◌, ◌%◌, ◌<◌, Bool, List, [], ◌∷◌, ◌++◌, append_assoc, true, Option, Some, None, refl, sym, ap, ◌∙◌, subst, arith}
 use Rattle.std.specs.Prelude.{cond, MatchOption}
 use Rattle.fo_disk.specs.Disk.{Block}
 use Rattle.fo_image.specs.declared.types.Kind.{Kind}
@@ -13,10 +13,11 @@ use Rattle.fo_crash.specs.declared.slot.Slot.TheVariants.{Pointer as To, Entry a
 use Rattle.fo_crash.specs.Images.{Content, Image, Arena, Link, target, meant, found, step, goes, way, leaf_path, depth_of, entry_of, from_block, kind_below, kind_of_top, nothing}
 use Rattle.fo_crash.proofs.Places.{goes_way}
 use Rattle.fo_sound.specs.Sound.{HasRootEntries}
-use Rattle.fo_good.specs.Trees.{IsTree, IsEntries, IsRecords, HoldsEntries, NamesRecords, InTree, HasRecords, HasLeaves, LeadsTo, at_path}
+use Rattle.fo_good.specs.Trees.{HasNumbers, HasPairs, HasNoScores, HasTreeLabels, IsTree, IsEntries, IsRecords, HoldsEntries, NamesRecords, InTree, HasRecords, HasLeaves, LeadsTo, at_path}
 use Rattle.fo_good.specs.Trees.InTree.{top as tree_top, below as tree_below}
 use Rattle.fo_good.specs.Trees.HasRecords.{top as root_records, pair as pair_records}
-use Rattle.fo_good.specs.Sound.{Kept}
+use Rattle.fo_good.specs.Means.{Means}
+use Rattle.fo_good.specs.Sound.{Kept, IsSoundTree}
 use Rattle.fo_check_tree.specs.declared.broken.Broken.{Broken}
 use Rattle.fo_check_tree.specs.declared.tree.Found.{Found}
 use Rattle.fo_check_tree.specs.declared.walk.Folder.{Folder}
@@ -207,9 +208,13 @@ module _ (arena : Arena) (device : List Block) (image : Image) (s : Super) (k : 
 fits_empty : (device : List Block) (image : Image) (steps : List Step) (n : ℕ → ℕ → ℕ) → steps ≡ [] → Fits device image steps n → (b j : ℕ) → n b j ≡ 0
 fits_empty device image steps n is fits = (subst (λ (xs : List Step). Fits device image xs n) is fits).each
 
+named_or : (o : Option Broken) (P : Type 0) (Q : Broken → Type 0) → (9 < level o → P) → MatchOption o (Unit {0}) Q → MatchOption o P Q
+named_or None P Q f m = f (omega arith)
+named_or (Some b) P Q f m = m
+
 pub walked : (arena : Arena) (device : List Block) (image : Image) (s : Super) (k : Kept) (walk : Walk) (found : Found) → walk.steps.items ≡ [] → walk.folders.items ≡ []
-    → found.broken ≡ walk.noted → found.used ≡ reached walk.labels.known.items → found.leaked ≡ leaked s.low walk.labels.known.items → JudgesRoot k.root walk.noted → AreJudged arena image k [] walk → AreFormed arena image k walk.labels.known.items walk.noted walk.steps.items walk.folders.items → (numbers : List Number) → AreSettled arena image k walk.noted walk.folders.items numbers → (8 < level walk.noted → Differ number_of numbers × All (IsFileNumber s.numbers) numbers) → Walking arena device image s k [] walk → IsWalked arena device image s k found
-walked arena device image s k walk found steps folders broken used leaks judged dirs formed numbers settled checked w =
+    → found.broken ≡ walk.noted → found.used ≡ reached walk.labels.known.items → found.leaked ≡ leaked s.low walk.labels.known.items → JudgesRoot k.root walk.noted → AreJudged arena image k [] walk → AreFormed arena image k walk.labels.known.items walk.noted walk.steps.items walk.folders.items → (numbers : List Number) → AreSettled arena image k walk.noted walk.folders.items numbers → (8 < level walk.noted → Differ number_of numbers × All (IsFileNumber s.numbers) numbers) → ((quiet : 8 < level walk.noted) → IsTree arena image k.at → (depth : ℕ) (w : Link) → InTree arena image k.at depth w → depth ≤ 64) → Walking arena device image s k [] walk → IsWalked arena device image s k found
+walked arena device image s k walk found steps folders broken used leaks judged dirs formed numbers settled checked depths w =
     let known = walk.labels.known.items in
     let n : ℕ → ℕ → ℕ = λ b j. w.others b j + w.steps b j + w.folders b j in
     let none : (b j : ℕ) → w.others b j + w.steps b j + w.folders b j ≡ 0 = λ b j. omega (
@@ -224,18 +229,37 @@ walked arena device image s k walk found steps folders broken used leaks judged 
     (λ shallow. ap tag_at shallow.0 ∙ (judged.entries quiet).entries_tag)
     (λ deep. absurd (omega (arith, quiet, judged.first deep.1)))
     w.holds.entries in
+    let labels : HasTreeLabels arena device image k.at k.root.epoch true = tree_labels arena device image s k w.holds.empty known walk.noted n w.goes none in
+    let formats : 5 < level walk.noted → Means arena device image (from_block k.at) = λ quiet. tree_formats arena device image s k w.holds.empty known walk.noted n w.goes none quiet in
+    let once : 7 < level walk.noted → IsTree arena image k.at = λ quiet. tree_once arena device image s k w.holds.empty known walk.noted n w.goes none quiet in
+    let scores : 9 < level walk.noted → HasNoScores arena image k.at = λ quiet. tree_scores arena device image s k w.holds.empty known walk.noted n w.goes none quiet in
+    let leaves : 5 < level walk.noted → IsTree arena image k.at → HasRootEntries k.root → HasLeaves arena image k.at = λ quiet tree entries. tree_leaves arena device image s k w.holds walk n w.goes none judged steps folders dirs formed quiet tree entries in
+    let pairs : 6 < level walk.noted → IsTree arena image k.at → HasPairs arena image k.at = λ quiet tree. tree_pairs arena image k numbers (counted quiet tree) in
+    let numbers' : 8 < level walk.noted → IsTree arena image k.at → HasNumbers arena image k.at s.numbers =
+    λ quiet tree. own_numbers arena image k s.numbers numbers (counted (omega (arith, quiet)) tree) (root_tag (omega (arith, quiet))) (checked quiet).0 (checked quiet).1 (depths quiet tree) in
+    let sound : 9 < level walk.noted → IsSoundTree arena device image s.numbers true k = λ quiet.
+    let tree : IsTree arena image k.at = once (omega (arith, quiet)) in
+    let entries : HasRootEntries k.root = judged.entries (omega (arith, quiet)) in
     record {
-      labels = tree_labels arena device image s k w.holds.empty known walk.noted n w.goes none;
-      formats = λ quiet. tree_formats arena device image s k w.holds.empty known walk.noted n w.goes none (subst (λ (o : Option Broken). 5 < level o) broken quiet);
+      labels = labels;
+      read = formats (omega (arith, quiet));
+      leaves = leaves (omega (arith, quiet)) tree entries;
+      entries = entries;
+      pairs = pairs (omega (arith, quiet)) tree;
+      once = tree;
+      named = numbers' (omega (arith, quiet)) tree;
+      scores = scores quiet;
+    } in
+    record {
+      labels = labels;
+      formats = λ quiet. formats (subst (λ (o : Option Broken). 5 < level o) broken quiet);
       entries = λ quiet. judged.entries (subst (λ (o : Option Broken). 6 < level o) broken quiet);
-      once = λ quiet. tree_once arena device image s k w.holds.empty known walk.noted n w.goes none (subst (λ (o : Option Broken). 7 < level o) broken quiet);
-      scores = λ quiet. tree_scores arena device image s k w.holds.empty known walk.noted n w.goes none (subst (λ (o : Option Broken). 9 < level o) broken quiet);
-      leaves = λ quiet tree entries. tree_leaves arena device image s k w.holds walk n w.goes none judged steps folders dirs formed (subst (λ (o : Option Broken). 5 < level o) broken quiet) tree entries;
-      pairs = λ quiet tree. tree_pairs arena image k numbers (counted (subst (λ (o : Option Broken). 6 < level o) broken quiet) tree);
-      numbers = λ quiet tree.
-          let quiet' : 8 < level walk.noted = subst (λ (o : Option Broken). 8 < level o) broken quiet in
-          own_numbers arena image k s.numbers numbers (counted (omega (arith, quiet')) tree) (root_tag (omega (arith, quiet'))) (checked quiet').0 (checked quiet').1;
-      named = subst (λ (o : Option Broken). MatchOption o (Unit {0}) (IsNamed arena image k)) (sym broken) w.goes.notes;
+      once = λ quiet. once (subst (λ (o : Option Broken). 7 < level o) broken quiet);
+      scores = λ quiet. scores (subst (λ (o : Option Broken). 9 < level o) broken quiet);
+      leaves = λ quiet tree entries. leaves (subst (λ (o : Option Broken). 5 < level o) broken quiet) tree entries;
+      pairs = λ quiet tree. pairs (subst (λ (o : Option Broken). 6 < level o) broken quiet) tree;
+      numbers = λ quiet tree. numbers' (subst (λ (o : Option Broken). 8 < level o) broken quiet) tree;
+      named = subst (λ (o : Option Broken). MatchOption o (IsSoundTree arena device image s.numbers true k) (IsNamed arena image k)) (sym broken) (named_or walk.noted (IsSoundTree arena device image s.numbers true k) (IsNamed arena image k) sound w.goes.notes);
       used = tree_used arena device image s k w.holds.empty known walk.noted n w.goes none found.used used;
       leaked = tree_leaked arena device image s k w.holds.empty known walk.noted n w.goes none found.leaked leaks;
     }

@@ -49,7 +49,7 @@ use Rattle.fo_check_tree.proofs.Stepping.{again_breaks, taken_of}
 
 -- ---- one of the steps or folders by the slots of a block
 
-some_slot : (P : Step → Type 0) (step : Step) (kind : Kind) (here : Holder) (c : Content) (n j a : ℕ) → j < n → target (c.slot j) ≡ Local a → P (step_below step kind here j (Local a)) → SomeOf P (steps_below step kind here c n)
+pub some_slot : (P : Step → Type 0) (step : Step) (kind : Kind) (here : Holder) (c : Content) (n j a : ℕ) → j < n → target (c.slot j) ≡ Local a → P (step_below step kind here j (Local a)) → SomeOf P (steps_below step kind here c n)
 some_slot P step kind here c zero j a lt leads w = absurd (omega (arith, lt))
 some_slot P step kind here c (suc n) j a lt leads w = subst (λ (s : List Step). SomeOf P s) (sym (one_below step kind here c n)) (⊎_elim
     (λ (same : j ≡ n). some_right P (steps_below step kind here c n) (steps_by step kind here n (target (c.slot n)))
@@ -72,7 +72,7 @@ module _ (here : Holder) (c : Content) where
   abbrev folders_at : ℕ → ℕ → Bool → List Folder
   folders_at i depth named = pair_folders here (entry_of (c.slot (2 * i))) (entry_of (c.slot (2 * i + 1))) depth named
 
-  some_folder : (P : Folder → Type 0) (depth : ℕ) (named : Bool) (n : ℕ) (folders : List Folder) → AreFolders here c depth named n folders → (i : ℕ) → i < n → ((t : Bool) → SomeOf P (folders_at i depth t)) → SomeOf P folders
+  pub some_folder : (P : Folder → Type 0) (depth : ℕ) (named : Bool) (n : ℕ) (folders : List Folder) → AreFolders here c depth named n folders → (i : ℕ) → i < n → ((t : Bool) → SomeOf P (folders_at i depth t)) → SomeOf P folders
   some_folder P depth named n folders none i lt w = absurd (omega (arith, lt))
   some_folder P depth named n folders (more k found' old are) i lt w =
       let t : Bool = named && found' in
@@ -327,7 +327,7 @@ module _ (arena : Arena) (device : List Block) (image : Image) (s : Super) (k : 
     after_block at is (again m allowed marks same same' noted kept) =
         formed_like arena image k old.labels.known.items new.labels.known.items old.noted new.noted old.steps.items new.steps.items (others ++ old.folders.items) (others ++ new.folders.items) marks.same low same (ap (λ (fs : List Folder). others ++ fs) same')
         (shorter (λ link path b tree v kind leads. not_once arena device image s k link at (again_breaks arena device image s k rest step old new w at m is marks.none allowed.known) tree))
-    after_block at is (enters m allowed marks steps folders notes read adds leafs seeks bytes) = record {
+    after_block at is (enters m allowed marks steps folders notes read adds leafs seeks bytes deeps) = record {
       each = λ quiet tree c i l r holds odd records path b kind leads. subst (λ (xs : List Step). IsFormed arena image xs (others ++ new.folders.items) c i path b) (sym (steps slots)) (⊎_elim
           (λ (same : c ≡ at). now quiet c i l same r holds odd records path b kind leads)
           (λ (before : Reached known c l). ⊎_elim

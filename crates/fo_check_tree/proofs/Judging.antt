@@ -49,7 +49,7 @@ pub record Entry' (s : Slot) (dir : Bool) : Type 0 where
   pub active : entry.active ≡ true
   pub flag : entry.dir ≡ dir
 
-entries_is : (s : Slot) → IsEntries s → Entry' s true
+pub entries_is : (s : Slot) → IsEntries s → Entry' s true
 entries_is (Head e) h = record { entry = e; slot = refl; active = h.0; flag = h.1 }
 entries_is (To p) h = absurd h
 entries_is (Prev epoch at) h = absurd h
@@ -121,7 +121,7 @@ module _ (arena : Arena) (device : List Block) (image : Image) (s : Super) (k : 
   module _ (rest : List Step) (step : Step) (old new : Walk) (w : Walking arena device image s k (step ∷ rest) old) (others : List Folder) (j : AreJudged arena image k others old) (depth : ℕ) (named : Bool) (lower' : level new.noted ≤ level old.noted) where
     after_block : (at : ℕ) → Reaches device image depth named step at old new → AreJudged arena image k others new
     after_block at (again m allowed marks same same' noted kept) = judged_like others old new marks.same same' lower' j
-    after_block at (enters m allowed marks steps folders notes read adds leafs seeks bytes) = record {
+    after_block at (enters m allowed marks steps folders notes read adds leafs seeks bytes deeps) = record {
       top = λ entries quiet tree. judged_more others old.folders.items new.folders.items grows.added k.at 1 grows.is (j.top entries (omega (arith, quiet, lower')) tree);
       pairs = λ quiet tree b p l r leaf lt x y. ⊎_elim
           (λ (same : b ≡ at).

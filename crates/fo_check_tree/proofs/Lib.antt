@@ -20,6 +20,7 @@ mod Seeking
 mod Settling
 mod Slots
 mod Spelled
+mod Spreading
 mod Sprouting
 mod Starting
 mod Stepping

@@ -9,14 +9,13 @@ use Rattle.fo_image.specs.declared.record.Record.{Record}
 use Rattle.fo_crash.specs.declared.slot.Slot.{Slot}
 use Rattle.fo_crash.specs.declared.slot.Slot.TheVariants.{Pointer as To, Entry as Head, Prev}
 use Rattle.fo_crash.specs.Images.{Image, Arena, Link, from_block, step as link_below, entry_of as entry_at}
-use Rattle.fo_good.specs.Trees.{Lists, IsDir, IsFirst}
+use Rattle.fo_good.specs.Trees.{InTree, HasNumbers, Lists, IsDir, IsFirst}
 use Rattle.fo_good.specs.Trees.IsDir.{top as dir_top, below as dir_below}
 use Rattle.fo_good.specs.Sound.{Kept}
 use Rattle.fo_check_names.specs.Names.{number_of, number_in, named_in, Differ, IsFileNumber}
 use Rattle.fo_check_names.specs.declared.names.Named.{Named}
 use Rattle.fo_check_names.specs.declared.names.Number.{Number}
 use Rattle.fo_check_tree.specs.declared.walk.Folder.{Folder}
-use Rattle.fo_check_tree.specs.Answer.{HasOwnNumbers}
 use Rattle.fo_check_tree.specs.Listing.{SomeOf, IsMetaOf}
 use Rattle.fo_check_tree.specs.Pairing.{IsHeadOf, IsNamedIn, IsLeft, HasOwnPairs, Counted, all_numbers, IsCounted, AreCounted}
 use Rattle.fo_check_tree.proofs.Settling.{no_left}
@@ -201,10 +200,11 @@ module _ (arena : Arena) (image : Image) (k : Kept) (limit : ℕ) (numbers : Lis
       let s = one_record t t' e m e' m' n j n' j' r r' (λ slots. one_trail len t t' e m e' m' (omega (arith, le, length_end t r.slot)) dir dir' slots) dir dir' h h' (omega (arith, number)) in
       ap (λ (xs : List ℕ). xs ++ r.slot ∷ []) s.trails ∙ ap (λ (x : Record). t' ++ x.slot ∷ []) s.is
 
-  pub own_numbers : HasOwnNumbers arena image k.at limit
-  own_numbers = record {
+  pub own_numbers : ((depth : ℕ) (w : Link) → InTree arena image k.at depth w → depth ≤ 64) → HasNumbers arena image k.at limit
+  own_numbers depths = record {
     differ = λ trail other entries meta entries' meta' n j m i r q dir dir' h g same.
         let s = one_record trail other entries meta entries' meta' n j m i r q (λ slots. one_trail (length trail) trail other entries meta entries' meta' (omega arith) dir dir' slots) dir dir' h g same in
         (s.trails, s.leaf, s.place);
     below = below_limit;
+    depths = depths;
   }

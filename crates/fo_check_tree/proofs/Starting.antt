@@ -35,6 +35,8 @@ use Rattle.fo_good.specs.Means.{IsRead}
 use Rattle.fo_image.specs.Record.{SpellsRoot}
 use Rattle.fo_check_tree.specs.Lower.{level, JudgesRoot}
 use Rattle.fo_check_tree.specs.Notes.{Lowers}
+use Rattle.fo_check_tree.specs.Depths.{IsSourceOf, AreAbove}
+use Rattle.fo_check_tree.proofs.Spreading.{above_first}
 use Rattle.fo_check_tree.specs.Pairing.{IsHeadOf, AreSettled}
 use Rattle.fo_check_tree.specs.Slots.{top_step}
 use Rattle.fo_check_names.specs.Pairs.{no_entry}
@@ -317,4 +319,25 @@ module _ (arena : Arena) (device : List Block) (image : Image) (s : Super) (k : 
                 room = subst (λ (x : Entry). x.size ≤ 8192 * 409 ^ x.depth) second (holds_active k.root.meta k.root.meta.active root.meta_active holds.active.block.holds.meta_holds.active_holds);
                 shallow = subst (λ (x : Entry). x.depth ≤ 4) second b.1;
               };
+            }
+
+    pub depths_begin : (e r : Entry) → IsEntryOf k.root.entries e
+        → new.folders.items ≡ old.folders.items ++ record { entries = e; records = Some r; holder = record { block = s.active; label = root_label s }; depth = 0; named = true } ∷ []
+        → JudgesRoot k.root new.noted → AreAbove arena image k new.noted new.folders.items
+    depths_begin e r we folders judged = above_first arena image k new.noted new.folders.items (λ quiet. subst (λ (fs : List Folder). SomeOf (IsSourceOf 0 (link_at image k.at 0)) fs) (sym one_folder) (inl (head quiet)))
+      where
+        one_folder : new.folders.items ≡ record { entries = e; records = Some r; holder = record { block = s.active; label = root_label s }; depth = 0; named = true } ∷ []
+        one_folder = folders ∙ ap (λ (fs : List Folder). fs ++ record { entries = e; records = Some r; holder = record { block = s.active; label = root_label s }; depth = 0; named = true } ∷ []) u.nothing.1
+
+        head : 8 < level new.noted → IsSourceOf 0 (link_at image k.at 0) (record { entries = e; records = Some r; holder = record { block = s.active; label = root_label s }; depth = 0; named = true })
+        head quiet =
+            let root : HasRootEntries k.root = judged.entries (omega (arith, quiet)) in
+            let a = is_head 0 k.root.entries (omega (arith, quiet)) judged.first holds.entries in
+            let first : k.root.entries ≡ e = sym (we.shallow a.1) in
+            record {
+              slot = a.0 ∙ ap (λ (x : Entry). Head x) first;
+              dir = subst (λ (x : Entry). x.dir ≡ true) first root.entries_dir;
+              kind = ap kind_of_top a.0 ∙ ap (λ (d : Bool). cond d (Dir k.root.entries.depth) (Data k.root.entries.depth)) root.entries_dir ∙ ap (λ (x : Entry). Dir x.depth) first;
+              depth = refl;
+              low = omega arith;
             }

@@ -13,8 +13,8 @@ use Rattle.fo_crash.specs.Images.{Content, Image, Arena, Link, target, nothing, 
 use Rattle.fo_sound.specs.Image.{block_of, IsDataBlock, HasLabel}
 use Rattle.fo_sound.specs.Sound.{HasActiveRoot, HasRootEntries}
 use Rattle.fo_good.specs.Means.{EndsAt, Means}
-use Rattle.fo_good.specs.Trees.{HasLabelBelow, HasTreeLabels, HasNoScores, HasLeaves, HasPairs, IsDir, IsSamePlace, Lists, IsTree, LeadsTo, at_path, place_of}
-use Rattle.fo_good.specs.Sound.{Kept}
+use Rattle.fo_good.specs.Trees.{HasLabelBelow, HasTreeLabels, HasNoScores, HasLeaves, HasPairs, HasNumbers, Lists, IsTree, LeadsTo, at_path, place_of}
+use Rattle.fo_good.specs.Sound.{Kept, IsSoundTree}
 use Rattle.fo_good.specs.Lost.{IsUsed, IsLeaked, AreSoMany}
 use Rattle.fo_check_tree.specs.declared.broken.Broken.{Broken}
 use Rattle.fo_check_tree.specs.declared.error.TreeError.{TreeError}
@@ -69,13 +69,6 @@ pub record IsNamed (arena : Arena) (image : Image) (k : Kept) (b : Broken) : Typ
 pub record HasOwnNames (arena : Arena) (image : Image) (meta : Link) : Type 0 where
   pub each : (n j m i : ℕ) (r q : Record) → Lists arena image meta n j r → Lists arena image meta m i q → r.name ≡ q.name → (n ≡ m) × (j ≡ i)
 
--- ---- numbers
-
--- File numbers differ in the whole tree, from the root's too, and are below the limit.
-pub record HasOwnNumbers (arena : Arena) (image : Image) (root numbers : ℕ) : Type 0 where
-  pub differ : (trail other : List ℕ) (entries meta entries' meta' : Link) (n j m i : ℕ) (r q : Record) → IsDir arena image root trail entries meta → IsDir arena image root other entries' meta' → Lists arena image meta n j r → Lists arena image meta' m i q → r.number ≡ q.number → IsSamePlace trail n j other m i
-  pub below : (trail : List ℕ) (entries meta : Link) (n j : ℕ) (r : Record) → IsDir arena image root trail entries meta → Lists arena image meta n j r → (0 < r.number) × (r.number < numbers)
-
 -- ---- the walk
 
 -- Every block that a path from the root leads to has a label that may stand at its place, and the numbers are those of the tree. Unless a
@@ -83,7 +76,8 @@ pub record HasOwnNumbers (arena : Arena) (image : Image) (root numbers : ℕ) : 
 -- one no higher than 7, no block is at two places; unless one no higher than 9, no pointer is a score. Where no block is at two places and
 -- the root's entries are those of a root, leaves of records are of their format and no name stands twice in a directory, unless a rule no
 -- higher than 5 is named. Where no block is at two places each record of a directory to which names lead has its pair, and no two have
--- one, unless a rule no higher than 6 is named, and all their numbers differ and are below the limit, unless one no higher than 8 is.
+-- one, unless a rule no higher than 6 is named; all their numbers differ and are below the limit, and no directory is too deep, unless one
+-- no higher than 8 is. A report that names no rule says that the tree is sound.
 pub record IsWalked (arena : Arena) (device : List Block) (image : Image) (s : Super) (k : Kept) (found : Found) : Type 0 where
   pub labels : HasTreeLabels arena device image k.at k.root.epoch true
   pub entries : 6 < level found.broken → HasRootEntries k.root
@@ -92,8 +86,8 @@ pub record IsWalked (arena : Arena) (device : List Block) (image : Image) (s : S
   pub scores : 9 < level found.broken → HasNoScores arena image k.at
   pub leaves : 5 < level found.broken → IsTree arena image k.at → HasRootEntries k.root → HasLeaves arena image k.at
   pub pairs : 6 < level found.broken → IsTree arena image k.at → HasPairs arena image k.at
-  pub numbers : 8 < level found.broken → IsTree arena image k.at → HasOwnNumbers arena image k.at s.numbers
-  pub named : MatchOption found.broken (Unit {0}) (IsNamed arena image k)
+  pub numbers : 8 < level found.broken → IsTree arena image k.at → HasNumbers arena image k.at s.numbers
+  pub named : MatchOption found.broken (IsSoundTree arena device image s.numbers true k) (IsNamed arena image k)
   pub used : AreSoMany (length device) (IsUsed arena image k []) found.used
   pub leaked : AreSoMany (length device) (IsLeaked arena device image s k []) found.leaked
 

@@ -17,6 +17,7 @@ use Rattle.fo_check_tree.specs.declared.walk.Holds.TheVariants.{Bytes, Records}
 use Rattle.fo_check_tree.specs.declared.walk.Holder.{Holder}
 use Rattle.fo_check_tree.specs.declared.walk.Step.{Step}
 use Rattle.fo_check_tree.specs.declared.walk.Walk.{Walk}
+use Rattle.fo_check_tree.specs.Depths.{Deepens}
 use Rattle.fo_check_tree.specs.Known.{Marks, MarksNone}
 use Rattle.fo_check_tree.specs.Listing.{Adds}
 use Rattle.fo_check_tree.specs.declared.broken.Broken.{Broken}
@@ -51,6 +52,7 @@ pub data Reaches (device : List Block) (image : Image) (depth : ℕ) (named : Bo
       → (step.kind ≡ Data 0 → step.holds ≡ Records → 5 < level new.noted → IsLeaf (block_of device at))
       → (HasSlots step.kind (image at) (block_of device at) → Seeks step (image at) named step.kind old.named.items new.named.items new.folders.items)
       → (step.kind ≡ Data 0 → step.holds ≡ Bytes → new.named.items ≡ old.named.items)
+      → (HasSlots step.kind (image at) (block_of device at) → Deepens (image at) (min (depth + 1) (2 ^ 32 - 1)) step.kind new.noted)
       → Reaches device image depth named step at old new
 
 -- A step was taken: it leads nowhere, to a score, for which rule 9 is noted, or to a block.

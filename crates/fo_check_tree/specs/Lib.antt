@@ -1,5 +1,6 @@
 pub mod Answer
 pub mod Cause
+pub mod Depths
 pub mod Dirs
 pub mod Follows
 pub mod Formats

@@ -1,5 +1,5 @@
 //! The blocks of sources, one pointer after another.
-ghost use Rattle.std.specs.Prelude.{◌≡◌, ℕ, ◌+◌, ◌*◌, ◌<◌, ◌≤◌, true, List, [], ◌++◌, length, drop, IfErr, IfOk, MatchResult, OnOk};
+ghost use Rattle.std.specs.Prelude.{◌≡◌, ℕ, ◌+◌, ◌-◌, ◌*◌, ◌^◌, ◌<◌, ◌≤◌, min, true, List, [], ◌++◌, length, drop, IfErr, IfOk, MatchResult, OnOk};
 ghost use Rattle.fo_crash.specs.Images.{Arena, Content, Image, Link};
 ghost use Rattle.fo_good.specs.Means.{HasPointer};
 ghost use Rattle.fo_disk.specs.Disk.{Block};
@@ -19,6 +19,7 @@ ghost use Rattle.fo_check_tree.specs.Dirs.{AreJudged};
 ghost use Rattle.fo_check_tree.specs.Formats.{AreFormed};
 ghost use Rattle.fo_check_tree.specs.Listing.{AddsNamed, Adds, IsListing};
 ghost use Rattle.fo_check_tree.specs.Notes.{NotesAt};
+ghost use Rattle.fo_check_tree.specs.Depths.{Deepens, AreSpread};
 ghost use Rattle.fo_check_tree.specs.Pairing.{Seeks, AreSought, Grows};
 ghost use Rattle.fo_check_names.specs.declared.names.Named.{Named};
 ghost use Rattle.fo_check_tree.specs.Walking.{Walking};
@@ -90,6 +91,8 @@ pub(crate) fn follow_all<D: Disk>(
     ensures pairs { (arena : Arena) (device : List Block) (image : Image) (s : Super) (k : Kept) (entries : Link) (names : List Named) (rest : List Step) → Shows (D.state main.old).holds device → Walking arena device image s k rest walk.old → named ≡ true
         → AreSought arena image entries names walk.old.noted walk.old.steps.items walk.old.named.items walk.old.folders.items → OnOk result (AreSought arena image entries names walk.new.noted walk.new.steps.items walk.new.named.items walk.new.folders.items) }
     ensures grows { (arena : Arena) (device : List Block) (image : Image) (s : Super) (k : Kept) (rest : List Step) → Shows (D.state main.old).holds device → Walking arena device image s k rest walk.old → OnOk result (Grows walk.old.folders.items walk.new.folders.items) }
+    ensures spread { (arena : Arena) (device : List Block) (image : Image) (s : Super) (k : Kept) (w : Link) (deep : ℕ) (rest : List Step) → Shows (D.state main.old).holds device → Walking arena device image s k rest walk.old → deep ≡ min (depth + 1) (2 ^ 32 - 1)
+        → AreSpread arena image k w deep walk.old.noted walk.old.steps.items walk.old.folders.items → OnOk result (AreSpread arena image k w deep walk.new.noted walk.new.steps.items walk.new.folders.items) }
 {
     while let Some(step) = walk.steps.pop() {
         follow(alloc, main, walk, &step, depth, named)?;
@@ -194,6 +197,7 @@ fn enter<D: Disk>(
     ensures leaf { (device : List Block) → Shows (D.state main.old).holds device → step.now.kind ≡ Data 0 → step.now.holds ≡ Records → OnOk result (5 < level walk.new.noted → IsLeaf (block_of device here.block)) }
     ensures sought { (device : List Block) (c : Content) → Shows (D.state main.old).holds device → HasSlots step.now.kind c (block_of device here.block) → OnOk result (Seeks step.now c named step.now.kind walk.old.named.items walk.new.named.items walk.new.folders.items) }
     ensures file { step.now.kind ≡ Data 0 → step.now.holds ≡ Bytes → OnOk result (walk.new.named.items ≡ walk.old.named.items) }
+    ensures deep { (device : List Block) (c : Content) → Shows (D.state main.old).holds device → HasSlots step.now.kind c (block_of device here.block) → OnOk result (Deepens c (min (depth + 1) (2 ^ 32 - 1)) step.now.kind walk.new.noted) }
 {
     if step.kind == Kind::Data(0) && step.holds == Holds::Bytes {
         return Ok(());
@@ -230,6 +234,7 @@ fn add_block(
     ensures named { OnOk result (Adds step.now here.block block.now step.now.kind walk.old.named.items walk.new.named.items) }
     ensures leaf { step.now.kind ≡ Data 0 → OnOk result (5 < level walk.new.noted → IsLeaf block.now) }
     ensures sought { (c : Content) → HasSlots step.now.kind c block.now → OnOk result (Seeks step.now c named step.now.kind walk.old.named.items walk.new.named.items walk.new.folders.items) }
+    ensures deep { (c : Content) → HasSlots step.now.kind c block.now → OnOk result (Deepens c (min (depth + 1) (2 ^ 32 - 1)) step.now.kind walk.new.noted) }
 {
     match step.kind {
         Kind::Data(0) => add_records(alloc, walk, step, here, block),

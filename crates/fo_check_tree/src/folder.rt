@@ -1,16 +1,16 @@
 //! Leaves of entries, and directories.
-ghost use Rattle.std.specs.Prelude.{◌≡◌, ℕ, List, MatchResult, ◌+◌, ◌-◌, ◌*◌, ◌^◌, ◌<◌, ◌≤◌, not, ◌&&◌, None, cond, min, true, false, length, take, drop, map, [], ◌∷◌, ◌++◌, OnOk};
+ghost use Rattle.std.specs.Prelude.{◌≡◌, ℕ, List, MatchResult, suc, ◌+◌, ◌-◌, ◌*◌, ◌^◌, ◌<◌, ◌≤◌, not, ◌&&◌, None, cond, min, true, false, length, take, drop, map, [], ◌∷◌, ◌++◌, OnOk};
 ghost use Rattle.fo_image.specs.declared.types.Entry.{Entry};
 ghost use Rattle.fo_image.specs.Format.{SpellsEntry};
-ghost use Rattle.fo_crash.specs.Images.{Arena, Content, Image, Link};
+ghost use Rattle.fo_crash.specs.Images.{Arena, Content, Image, Link, entry_of as entry_at};
 ghost use Rattle.fo_disk.specs.Disk.{Block};
 ghost use Rattle.fo_good.specs.Means.{HasEntry};
 ghost use Rattle.fo_good.specs.Sound.{Kept};
-ghost use Rattle.fo_good.specs.Trees.{IsTree};
+ghost use Rattle.fo_good.specs.Trees.{IsTree, IsEntries};
 ghost use Rattle.fo_check_tree.specs.Answer.{HasOwnNames};
 ghost use Rattle.fo_check_tree.specs.Dirs.{AreJudged};
 ghost use Rattle.fo_check_tree.specs.Formats.{AreFormed};
-ghost use Rattle.fo_check_tree.specs.Listing.{IsMetaOf};
+ghost use Rattle.fo_check_tree.specs.Listing.{IsMetaOf, SomeOf};
 ghost use Rattle.fo_image.specs.declared.types.Super.{Super};
 ghost use Rattle.fo_sound.specs.Image.{is_zero};
 ghost use Rattle.fo_sound.specs.Device.{Shows};
@@ -22,6 +22,7 @@ ghost use Rattle.fo_check_tree.specs.Lower.{lower, level};
 ghost use Rattle.fo_check_tree.specs.Slots.{top_step, entry_of, HasSlot, steps_by_pairs, AddsFolders, pair_steps, first_steps, second_steps, pair_folders, folders_by};
 ghost use Rattle.fo_check_names.specs.Pairs.{no_entry, is_folder, is_source, records_of};
 ghost use Rattle.fo_check_tree.specs.Notes.{NotesAt};
+ghost use Rattle.fo_check_tree.specs.Depths.{IsSourceOf};
 ghost use Rattle.fo_check_tree.specs.Pairing.{Searches, AreInOrder, Settles, Grows};
 ghost use Rattle.fo_check_names.specs.Names.{number_in};
 ghost use Rattle.fo_check_names.specs.Finds.{Finds};
@@ -117,6 +118,7 @@ pub(crate) fn add_entries(
     ensures folders { OnOk result (length walk.new.folders.items ≤ length walk.old.folders.items + 204) }
     ensures level { OnOk result (level walk.new.noted ≤ level walk.old.noted) }
     ensures sought { (c : Content) → ((i : ℕ) → i < 204 → HasSlot c block.now i) → OnOk result (Searches index c named 102 walk.old.named.items walk.new.named.items walk.new.folders.items) }
+    ensures deep { (c : Content) → ((i : ℕ) → i < 204 → HasSlot c block.now i) → OnOk result (8 < level walk.new.noted → (i : ℕ) → i < 204 → is_folder (entry_of (c.slot i)) ≡ true → min (depth + 1) (2 ^ 32 - 1) ≤ 64) }
 {
     walk.note_rest(here.block, &block[8160..]);
     let below = depth.saturating_add(1);
@@ -168,6 +170,8 @@ fn add_pair(
     ensures folders { OnOk result (length walk.new.folders.items ≤ length walk.old.folders.items + 2) }
     ensures level { OnOk result (level walk.new.noted ≤ level walk.old.noted) }
     ensures named { OnOk result (walk.new.named.items ≡ walk.old.named.items) }
+    ensures first_deep { is_folder first.now ≡ true → 64 < depth → OnOk result (level walk.new.noted ≤ 8) }
+    ensures second_deep { is_folder second.now ≡ true → 64 < depth → OnOk result (level walk.new.noted ≤ 8) }
 {
     let records = records_of(first, second);
     add_first(walk, here, first, records, depth, named)?;
@@ -194,6 +198,7 @@ fn add_first(
     ensures folders { OnOk result (length walk.new.folders.items ≤ length walk.old.folders.items + 1) }
     ensures level { OnOk result (level walk.new.noted ≤ level walk.old.noted) }
     ensures named { OnOk result (walk.new.named.items ≡ walk.old.named.items) }
+    ensures deep { is_folder entry.now ≡ true → 64 < depth → OnOk result (level walk.new.noted ≤ 8) }
 {
     add_entry(walk, here, entry, records, depth, named)?;
     let step = Step::top(entry, Holds::Bytes, here);
@@ -220,6 +225,7 @@ fn add_second(
     ensures folders { OnOk result (length walk.new.folders.items ≤ length walk.old.folders.items + 1) }
     ensures level { OnOk result (level walk.new.noted ≤ level walk.old.noted) }
     ensures named { OnOk result (walk.new.named.items ≡ walk.old.named.items) }
+    ensures deep { is_folder second.now ≡ true → 64 < depth → OnOk result (level walk.new.noted ≤ 8) }
 {
     add_entry(walk, here, second, None, depth, false)?;
     let step = Step::unlisted(second, here);
@@ -360,6 +366,8 @@ pub(crate) fn walk_folder<D: Disk>(
         → OnOk result (Settles arena image k folder.now walk.new.noted walk.new.folders.items numbers.old.items numbers.new.items) }
     ensures uncounted { folder.now.named ≡ false → OnOk result (numbers.new.items ≡ numbers.old.items) }
     ensures grows { (arena : Arena) (device : List Block) (image : Image) (s : Super) (k : Kept) → Shows (D.state main.old).holds device → Walking arena device image s k (tops folder.now) walk.old → OnOk result (Grows walk.old.folders.items walk.new.folders.items) }
+    ensures spread { (arena : Arena) (device : List Block) (image : Image) (s : Super) (k : Kept) (deep : ℕ) (w : Link) → Shows (D.state main.old).holds device → Walking arena device image s k (tops folder.now) walk.old → walk.old.steps.items ≡ [] → IsSourceOf deep w folder.now
+        → OnOk result (8 < level walk.new.noted → IsTree arena image k.at → (j : ℕ) → IsEntries (entry_at arena image w j).slot → SomeOf (IsSourceOf (suc deep) (entry_at arena image w j)) walk.new.folders.items) }
 {
     walk.named = Vec::new(alloc);
     list(alloc, main, walk, numbers, folder)?;

@@ -3,6 +3,7 @@ ghost use Rattle.std.specs.Prelude.{◌≡◌, ◌^◌, ◌<◌, ◌≤◌, ◌�
 ghost use Rattle.fo_crash.specs.Images.{Arena, Image};
 ghost use Rattle.fo_good.specs.Sound.{Kept};
 ghost use Rattle.fo_check_tree.specs.Answer.{HoldsAny, IsWalked, RefusesCheck};
+ghost use Rattle.fo_check_tree.specs.Depths.{AreAbove};
 ghost use Rattle.fo_check_tree.specs.Dirs.{AreJudged};
 ghost use Rattle.fo_check_tree.specs.Formats.{AreFormed};
 ghost use Rattle.fo_check_tree.specs.Notes.{Lowers};
@@ -138,6 +139,7 @@ fn start(walk: &mut Walk, s: &Super, root: &RootBlock) -> Result<(), AllocError>
     ensures blocks { OnOk result (walk.new.blocks ≡ walk.old.blocks) }
     ensures judged { OnOk result (JudgesRoot root.now walk.new.noted) }
     ensures pairs { (arena : Arena) (device : List Block) (image : Image) (k : Kept) → k.root ≡ root.now → HoldsAny arena device image s.now k → IsUnbegun device s.now walk.old → OnOk result (AreSettled arena image k walk.new.noted walk.new.folders.items []) }
+    ensures depths { (arena : Arena) (device : List Block) (image : Image) (k : Kept) → k.root ≡ root.now → HoldsAny arena device image s.now k → IsUnbegun device s.now walk.old → OnOk result (AreAbove arena image k walk.new.noted walk.new.folders.items) }
 {
     let active = s.active;
     let _ = walk.labels.reach(active);

@@ -1,12 +1,12 @@
-use Rattle.std.proofs.Common.{◌≡◌, ℕ, drop, sym, ap, ◌∙◌, subst, rules, arith}
+use Rattle.std.proofs.Common.{◌≡◌, ℕ, ◌^◌, ◌-◌, ◌+◌, drop, sym, ap, ◌∙◌, subst, rules, arith}
 use Rattle.fo_image.specs.declared.types.Kind.TheVariants.{Data, Dir}
-use Rattle.std.specs.Prelude.{OnOk}
+use Rattle.std.specs.Prelude.{min, OnOk}
 use Rattle.fo_image.specs.declared.types.Kind.{Kind}
 use Rattle.fo_check_tree.specs.Follows.{Reads}
 use Rattle.fo_sound.specs.Image.{is_zero}
 use Rattle.fo_check_tree.specs.Notes.{NotesAt}
 use Rattle.fo_check_tree.specs.Slots.{unless, HasSlots}
-use Rattle.fo_check_tree.proofs.Adding.{data_adds, dir_adds, on_ok, notes_unless, data_reads, dir_reads, entries_read, leaf_names, inner_names, dir_names, root_names, not_leaf_data, not_leaf_dir, not_leaf_root, leaf_seeks, inner_seeks, data_seeks, root_seeks}
+use Rattle.fo_check_tree.proofs.Adding.{data_adds, dir_adds, on_ok, notes_unless, data_reads, dir_reads, entries_read, leaf_names, inner_names, dir_names, root_names, not_leaf_data, not_leaf_dir, not_leaf_root, leaf_seeks, inner_seeks, data_seeks, root_seeks, leaf_deepens, nothing_deepens, other_deepens, not_entries_data, not_entries_dir, not_entries_root}
 use Rattle.fo_check_tree.proofs.blocks.add_block.Goals as goal
 
 pub returns-in-Data-clause-pushed : goal.returns-in-Data-clause-pushed
@@ -85,3 +85,21 @@ returns-in-Dir-clause-sought c c' slots = inner_seeks c.add_pointers-in-Dir.resu
 
 pub returns-in-Root-clause-sought : goal.returns-in-Root-clause-sought
 returns-in-Root-clause-sought c c' slots = root_seeks c.args.step.now c' c.args.named c.args.walk.now.named.items c.args.walk.now.named.items c.args.walk.now.folders.items c.args.step.now.kind c.in-Root.is
+
+pub returns-in-Data-eq0-clause-deep : goal.returns-in-Data-eq0-clause-deep
+returns-in-Data-eq0-clause-deep c c' slots = other_deepens c.add_records.result c' (min (c.args.depth + 1) (2 ^ 32 - 1)) c.add_records.new.walk.noted c.args.step.now.kind (not_entries_data _ c.args.step.now.kind c.in-Data-eq0.is)
+
+pub returns-in-Data-clause-deep : goal.returns-in-Data-clause-deep
+returns-in-Data-clause-deep c c' slots = other_deepens c.add_pointers.result c' (min (c.args.depth + 1) (2 ^ 32 - 1)) c.add_pointers.new.walk.noted c.args.step.now.kind (not_entries_data c.in-Data.level c.args.step.now.kind c.in-Data.is)
+
+pub returns-in-Dir-eq0-clause-deep : goal.returns-in-Dir-eq0-clause-deep
+returns-in-Dir-eq0-clause-deep c c' slots =
+    let kind : c.args.step.now.kind ≡ Dir 0 = c.in-Dir-eq0.is ∙ ap (λ (n : ℕ). Dir n) (first_of (omega (arith, c.in-Dir-eq0.field-0-is), grind (arith, c.in-Dir-eq0.field-0-test), search rules)) in
+    leaf_deepens c.add_entries.result c' (min (c.args.depth + 1) (2 ^ 32 - 1)) c.add_entries.new.walk.noted c.args.step.now.kind kind
+    (c.add_entries.ensures.deep c' (subst (λ (k : Kind). HasSlots k c' c.args.block.now) kind slots).0)
+
+pub returns-in-Dir-clause-deep : goal.returns-in-Dir-clause-deep
+returns-in-Dir-clause-deep c c' slots = other_deepens c.add_pointers-in-Dir.result c' (min (c.args.depth + 1) (2 ^ 32 - 1)) c.add_pointers-in-Dir.new.walk.noted c.args.step.now.kind (not_entries_dir c.in-Dir.level c.args.step.now.kind c.in-Dir.is (grind (arith, c.in-Dir.level-test)))
+
+pub returns-in-Root-clause-deep : goal.returns-in-Root-clause-deep
+returns-in-Root-clause-deep c c' slots = nothing_deepens c' (min (c.args.depth + 1) (2 ^ 32 - 1)) c.args.walk.now.noted c.args.step.now.kind (not_entries_root c.args.step.now.kind c.in-Root.is)

@@ -14,6 +14,8 @@ use Rattle.fo_check_tree.proofs.Listed.{lists}
 use Rattle.fo_check_tree.specs.Pairing.{AreSought}
 use Rattle.fo_check_tree.specs.Follows.{Follows}
 use Rattle.fo_check_tree.proofs.Seeking.{grows_none, grows_then, grows_on, sought_on}
+use Rattle.fo_check_tree.specs.Depths.{AreSpread}
+use Rattle.fo_check_tree.proofs.Spreading.{spread_on}
 use Rattle.fo_check_tree.proofs.Stepping.{popped, followed, refused, emptied}
 use Rattle.fo_check_tree.proofs.blocks.follow_all.Goals as goal
 
@@ -55,6 +57,14 @@ loop-step-preserved g c = record {
       subst (λ (xs : List Step). AreSought arena image entries names c.loop-step.walk.noted xs c.loop-step.walk.named.items c.loop-step.walk.folders.items) c.in-Some.ensures.items (c.loop-step.invariant.pairs arena device image s k entries names rest shows w lead h) in
       sought_on arena device image s k rest c.in-Some.step old c.follow.new.walk left c.in_ok-follow.ensures.level c.args.depth entries names sought
       (subst (λ (b : Bool). Follows device image c.args.depth b c.in-Some.step old c.follow.new.walk) lead (c.in_ok-follow.ensures.follows device image (subst (λ (x : DiskState). Shows x.holds device) (sym c.loop-step.invariant.kept) shows)));
+  spread = λ arena device image s k link deep rest shows w is h.
+      let old : Walk = record c.loop-step.walk { steps = c.pop.new.self } in
+      let before : Walking arena device image s k rest c.loop-step.walk = c.loop-step.invariant.walks arena device image s k rest shows w in
+      let left : Walking arena device image s k (c.in-Some.step ∷ rest) old = popped arena device image s k c.loop-step.walk old (record { blocks = refl; epoch = refl; active = refl; labels = refl; noted = refl }) rest c.in-Some.step c.in-Some.ensures.items refl before in
+      let spread : AreSpread arena image k link deep c.loop-step.walk.noted (c.pop.new.self.items ++ c.in-Some.step ∷ []) c.loop-step.walk.folders.items =
+      subst (λ (xs : List Step). AreSpread arena image k link deep c.loop-step.walk.noted xs c.loop-step.walk.folders.items) c.in-Some.ensures.items (c.loop-step.invariant.spread arena device image s k link deep rest shows w is h) in
+      spread_on arena device image s k rest c.in-Some.step old c.follow.new.walk left link deep spread c.args.depth c.args.named is c.in_ok-follow.ensures.level
+      (c.in_ok-follow.ensures.follows device image (subst (λ (x : DiskState). Shows x.holds device) (sym c.loop-step.invariant.kept) shows));
   grows = λ arena device image s k rest shows w.
       let old : Walk = record c.loop-step.walk { steps = c.pop.new.self } in
       let before : Walking arena device image s k rest c.loop-step.walk = c.loop-step.invariant.walks arena device image s k rest shows w in
@@ -78,6 +88,7 @@ loop-step-init g c = record {
   dirs = λ arena device image s k rest others shows w j. j;
   formed = λ arena device image s k rest others shows w j. j;
   pairs = λ arena device image s k entries names rest shows w lead h. h;
+  spread = λ arena device image s k link deep rest shows w is h. h;
   grows = λ arena device image s k rest shows w. grows_none c.args.walk.now.folders.items;
   blocks = refl;
   low = omega arith;
@@ -115,3 +126,7 @@ returns-clause-formed g c arena device image s k rest others shows w j =
 pub returns-clause-pairs : goal.returns-clause-pairs
 returns-clause-pairs g c arena device image s k entries names rest shows w lead h =
     subst (λ (xs : List Step). AreSought arena image entries names c.loop-step.walk.noted xs c.loop-step.walk.named.items c.loop-step.walk.folders.items) (c.in_default.ensures.items ∙ append-nil c.pop.new.self.items) (c.loop-step.invariant.pairs arena device image s k entries names rest shows w lead h)
+
+pub returns-clause-spread : goal.returns-clause-spread
+returns-clause-spread g c arena device image s k link deep rest shows w is h =
+    subst (λ (xs : List Step). AreSpread arena image k link deep c.loop-step.walk.noted xs c.loop-step.walk.folders.items) (c.in_default.ensures.items ∙ append-nil c.pop.new.self.items) (c.loop-step.invariant.spread arena device image s k link deep rest shows w is h)

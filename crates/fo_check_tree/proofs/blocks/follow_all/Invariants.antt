@@ -1,4 +1,6 @@
-use Rattle.std.proofs.Common.{◌≡◌, ◌+◌, ◌*◌, ◌≤◌, true, List, ◌++◌, length}
+use Rattle.std.proofs.Common.{◌≡◌, ◌+◌, ℕ, ◌^◌, ◌-◌, ◌*◌, ◌≤◌, true, List, ◌++◌, length}
+use Rattle.std.specs.Prelude.{min}
+use Rattle.fo_check_tree.specs.Depths.{AreSpread}
 use Rattle.fo_crash.specs.Images.{Image, Arena, Link}
 use Rattle.fo_disk.specs.Disk.{Block}
 use Rattle.fo_good.specs.Sound.{Kept}
@@ -27,6 +29,8 @@ invariant-loop-step g l = record {
       → AreFormed arena image k l.walk.labels.known.items l.walk.noted l.walk.steps.items (others ++ l.walk.folders.items);
   pairs : (arena : Arena) (device : List Block) (image : Image) (s : Super) (k : Kept) (entries : Link) (names : List Named) (rest : List Step) → Shows (g.D.Disk.state l.fn.main).holds device → Walking arena device image s k rest l.fn.walk → l.named ≡ true
       → AreSought arena image entries names l.fn.walk.noted l.fn.walk.steps.items l.fn.walk.named.items l.fn.walk.folders.items → AreSought arena image entries names l.walk.noted l.walk.steps.items l.walk.named.items l.walk.folders.items;
+  spread : (arena : Arena) (device : List Block) (image : Image) (s : Super) (k : Kept) (w : Link) (deep : ℕ) (rest : List Step) → Shows (g.D.Disk.state l.fn.main).holds device → Walking arena device image s k rest l.fn.walk → deep ≡ min (l.depth + 1) (2 ^ 32 - 1)
+      → AreSpread arena image k w deep l.fn.walk.noted l.fn.walk.steps.items l.fn.walk.folders.items → AreSpread arena image k w deep l.walk.noted l.walk.steps.items l.walk.folders.items;
   grows : (arena : Arena) (device : List Block) (image : Image) (s : Super) (k : Kept) (rest : List Step) → Shows (g.D.Disk.state l.fn.main).holds device → Walking arena device image s k rest l.fn.walk → Grows l.fn.walk.folders.items l.walk.folders.items;
   blocks : l.walk.blocks ≡ l.fn.walk.blocks;
   low : level l.walk.noted ≤ level l.fn.walk.noted;

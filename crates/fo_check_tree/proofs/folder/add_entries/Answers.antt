@@ -1,10 +1,11 @@
-use Rattle.std.proofs.Common.{◌≡◌, ◌≢◌, ⊎_elim, sym, ℕ, ◌+◌, ◌-◌, ◌*◌, ◌^◌, ◌<◌, ◌≤◌, List, ◌++◌, length, take, drop, ◌∙◌, ap, subst, arith}
+use Rattle.std.proofs.Common.{◌≡◌, ◌≢◌, ⊎_elim, sym, true, ℕ, ◌+◌, ◌-◌, ◌*◌, ◌^◌, ◌<◌, ◌≤◌, List, ◌++◌, length, take, drop, ◌∙◌, ap, subst, arith}
 use Rattle.std.specs.Prelude.{min}
 use Rattle.fo_sound.specs.Image.{is_zero}
 use Rattle.fo_check_tree.specs.declared.walk.Step.{Step}
 use Rattle.fo_check_tree.specs.declared.walk.Folder.{Folder}
 use Rattle.fo_check_tree.specs.Lower.{level}
-use Rattle.fo_check_tree.specs.Slots.{steps_by_pairs, pair_steps, pair_folders, AddsFolders}
+use Rattle.fo_check_names.specs.Pairs.{is_folder}
+use Rattle.fo_check_tree.specs.Slots.{entry_of, steps_by_pairs, pair_steps, pair_folders, AddsFolders}
 use Rattle.fo_check_tree.specs.Notes.NotesAt.{same as note_same}
 use Rattle.fo_check_names.specs.Finds.{Finds}
 use Rattle.fo_check_names.specs.declared.names.Named.{Named}
@@ -16,12 +17,16 @@ use Rattle.fo_check_tree.proofs.Adding.{then_notes, notes_unless, entry_read}
 use Rattle.fo_check_tree.proofs.Slots.{pairs_first, pairs_more, folders_first, folders_more, low_unless, rest_is}
 use Rattle.fo_check_tree.proofs.folder.add_entries.Goals as goal
 
+shallow_by : (a b d n : ℕ) → d ≡ min a b → 8 < n → (64 < d → n ≤ 8) → min a b ≤ 64
+shallow_by a b d n is quiet deep = ⊎_elim (λ (less : 64 < d). absurd (omega (arith, quiet, deep less))) (λ (low : d ≤ 64). subst (λ (x : ℕ). x ≤ 64) is low) (cases_lt 64 d)
+
 pub loop-k-init : goal.loop-k-init
 loop-k-init c = record {
   pushed = λ c' each. rw c.note_rest.ensures.steps (pairs_first c.args.here c' c.args.walk.now.steps.items);
   put = λ c' each. rw c.note_rest.ensures.folders (folders_first c.args.here c' (min (c.args.depth + 1) (2 ^ 32 - 1)) c.args.named c.args.walk.now.folders.items);
   whole = λ c' each quiet i lt. absurd (omega (arith, lt));
   sought = λ c' each. rw c.note_rest.ensures.named (searches_first c.args.index c' c.args.named c.args.walk.now.named.items c.note_rest.new.self.folders.items);
+  deep = λ c' each quiet i lt. absurd (omega (arith, lt));
   rest = λ no. rw c.note_rest.ensures.noted (low_unless (is_zero (take (length c.args.block.now - 8160) (drop 8160 c.args.block.now))) c.args.here.block c.args.walk.now.noted (ap is_zero (rest_is 8160 c.args.block.now) ∙ no));
   notes = notes_unless (is_zero (take (length c.args.block.now - 8160) (drop 8160 c.args.block.now))) c.args.here.block c.args.walk.now.noted c.note_rest.new.self.noted c.note_rest.ensures.noted;
   blocks = c.note_rest.ensures.blocks;
@@ -70,6 +75,18 @@ loop-k-preserved c =
           c.entry_at-first.result c.entry_at-second.result c.saturating_add.result (c.saturating_add.ensures ∙ ap (λ (n : ℕ). min (n + c.loop-k.k) (2 ^ 64 - 1)) c.saturating_mul.ensures) c.is_both-leads.ensures
           (c.entry_at-first.ensures.is c' (each (2 * c.loop-k.k) (omega (arith, less)))) (c.entry_at-second.ensures.is c' (each (2 * c.loop-k.k + 1) (omega (arith, less))))
           (c.loop-k.invariant.sought c' each) found (c.in_ok-add_pair.ensures.put ∙ ap (λ (s : List Folder). s ++ pair_folders c.args.here c.entry_at-first.result c.entry_at-second.result c.saturating_add-below.result c.is_both-leads.result) folders);
+      deep = λ c' each quiet i lt yes. ⊎_elim
+          (λ old. c.loop-k.invariant.deep c' each (omega (arith, quiet, low)) i old yes)
+          (λ new. ⊎_elim
+          (λ (first : i ≡ 2 * c.loop-k.k).
+          let folder : is_folder c.entry_at-first.result ≡ true = ap is_folder (c.entry_at-first.ensures.is c' (each (2 * c.loop-k.k) (omega (arith, less)))) ∙ ap (λ (n : ℕ). is_folder (entry_of (c'.slot n))) (sym first) ∙ yes in
+          shallow_by (c.args.depth + 1) (2 ^ 32 - 1) c.saturating_add-below.result (level c.add_pair.new.walk.noted) c.saturating_add-below.ensures quiet (c.in_ok-add_pair.ensures.first_deep folder))
+          (λ (apart : i ≢ 2 * c.loop-k.k).
+          let second : i ≡ 2 * c.loop-k.k + 1 = omega (arith, lt, new, apart) in
+          let folder : is_folder c.entry_at-second.result ≡ true = ap is_folder (c.entry_at-second.ensures.is c' (each (2 * c.loop-k.k + 1) (omega (arith, less)))) ∙ ap (λ (n : ℕ). is_folder (entry_of (c'.slot n))) (sym second) ∙ yes in
+          shallow_by (c.args.depth + 1) (2 ^ 32 - 1) c.saturating_add-below.result (level c.add_pair.new.walk.noted) c.saturating_add-below.ensures quiet (c.in_ok-add_pair.ensures.second_deep folder))
+          (cases_eq i (2 * c.loop-k.k)))
+          (cases_lt i (2 * c.loop-k.k));
       rest = λ no. let before = c.loop-k.invariant.rest no in omega (arith, low, before);
       notes = then_notes c.loop-k.invariant.notes (then_notes c.entry_at-first.ensures.notes (then_notes c.entry_at-second.ensures.notes (then_notes (note_same c.find_here-of.ensures.noted) c.in_ok-add_pair.ensures.notes)));
       blocks = c.in_ok-add_pair.ensures.blocks ∙ c.find_here-of.ensures.blocks ∙ c.entry_at-second.ensures.blocks ∙ c.entry_at-first.ensures.blocks ∙ c.loop-k.invariant.blocks;
@@ -99,3 +116,8 @@ pub returns-clause-sought : goal.returns-clause-sought
 returns-clause-sought c c' each =
     let end : c.loop-k.k ≡ 102 = omega (arith, c.loop-k-test.false, c.loop-k.auto.k-end) in
     subst (λ (n : ℕ). Searches c.args.index c' c.args.named n c.args.walk.now.named.items c.loop-k.walk.named.items c.loop-k.walk.folders.items) end (c.loop-k.invariant.sought c' each)
+
+pub returns-clause-deep : goal.returns-clause-deep
+returns-clause-deep c c' each quiet i lt folder =
+    let end : c.loop-k.k ≡ 102 = omega (arith, c.loop-k-test.false, c.loop-k.auto.k-end) in
+    c.loop-k.invariant.deep c' each quiet i (omega (arith, lt, end)) folder

@@ -1,4 +1,4 @@
-use Rattle.std.proofs.Common.{◌≡◌, ℕ, ◌+◌, ◌-◌, ◌*◌, ◌^◌, ◌<◌, ◌≤◌, false, ◌++◌, length, drop}
+use Rattle.std.proofs.Common.{◌≡◌, ℕ, ◌+◌, ◌-◌, ◌*◌, ◌^◌, ◌<◌, ◌≤◌, true, false, ◌++◌, length, drop}
 use Rattle.std.specs.Prelude.{min}
 use Rattle.fo_crash.specs.Images.{Content}
 use Rattle.fo_good.specs.Means.{HasEntry}
@@ -6,7 +6,8 @@ use Rattle.fo_sound.specs.Image.{is_zero}
 use Rattle.fo_check_tree.specs.Lower.{level}
 use Rattle.fo_check_tree.specs.Notes.{NotesAt}
 use Rattle.fo_check_tree.specs.Pairing.{Searches}
-use Rattle.fo_check_tree.specs.Slots.{HasSlot, steps_by_pairs, AddsFolders}
+use Rattle.fo_check_names.specs.Pairs.{is_folder}
+use Rattle.fo_check_tree.specs.Slots.{entry_of, HasSlot, steps_by_pairs, AddsFolders}
 use Rattle.fo_check_tree.proofs.folder.add_entries.Given as goal
 
 abbrev pub invariant-loop-k : goal.invariant-loop-k
@@ -15,6 +16,7 @@ invariant-loop-k l = record {
   put : (c : Content) → ((i : ℕ) → i < 204 → HasSlot c l.block i) → AddsFolders l.here c (min (l.depth + 1) (2 ^ 32 - 1)) l.named l.k l.fn.walk.folders.items l.walk.folders.items;
   whole : (c : Content) → ((i : ℕ) → i < 204 → HasSlot c l.block i) → 5 < level l.walk.noted → (i : ℕ) → i < 2 * l.k → HasEntry c l.block i;
   sought : (c : Content) → ((i : ℕ) → i < 204 → HasSlot c l.block i) → Searches l.index c l.named l.k l.fn.walk.named.items l.walk.named.items l.walk.folders.items;
+  deep : (c : Content) → ((i : ℕ) → i < 204 → HasSlot c l.block i) → 8 < level l.walk.noted → (i : ℕ) → i < 2 * l.k → is_folder (entry_of (c.slot i)) ≡ true → min (l.depth + 1) (2 ^ 32 - 1) ≤ 64;
   rest : is_zero (drop 8160 l.block) ≡ false → level l.walk.noted ≤ 5;
   notes : NotesAt l.here.block l.fn.walk.noted l.walk.noted;
   blocks : l.walk.blocks ≡ l.fn.walk.blocks;

@@ -1,4 +1,4 @@
-use Rattle.std.proofs.Common.{Option, List, ◌++◌, false, None, ◌∙◌, ap, append_assoc}
+use Rattle.std.proofs.Common.{Option, List, ◌++◌, false, None, ◌∙◌, ap, append_assoc, arith}
 use Rattle.fo_image.specs.declared.types.Entry.{Entry}
 use Rattle.fo_check_tree.specs.declared.walk.Step.{Step}
 use Rattle.fo_check_tree.specs.declared.walk.Folder.{Folder}
@@ -17,3 +17,9 @@ returns-clause-put c =
     c.in_ok-add_second.ensures.put
     ∙ ap (λ (s : List Folder). s ++ folders_by c.args.here c.args.second.now None c.args.depth false) (c.in_ok-add_first.ensures.put ∙ ap (λ (o : Option Entry). c.args.walk.now.folders.items ++ folders_by c.args.here c.args.first.now o c.args.depth c.args.named) c.records_of-records.ensures)
     ∙ append_assoc c.args.walk.now.folders.items (folders_by c.args.here c.args.first.now (records_of c.args.first.now c.args.second.now) c.args.depth c.args.named) (folders_by c.args.here c.args.second.now None c.args.depth false)
+
+pub returns-clause-first_deep : goal.returns-clause-first_deep
+returns-clause-first_deep c folder less = omega (arith, c.in_ok-add_first.ensures.deep folder less, c.in_ok-add_second.ensures.level)
+
+pub returns-clause-second_deep : goal.returns-clause-second_deep
+returns-clause-second_deep c folder less = c.in_ok-add_second.ensures.deep folder less

@@ -1,7 +1,9 @@
-use Rattle.std.proofs.Common.{Bool, List, [], ◌∷◌, ◌++◌, ◌∙◌, ap}
+use Rattle.std.proofs.Common.{Bool, List, [], ◌∷◌, ◌++◌, ◌∙◌, ap, arith}
 use Rattle.std.specs.Prelude.{cond, not, ◌&&◌}
 use Rattle.fo_check_tree.specs.declared.walk.Step.{Step}
 use Rattle.fo_check_names.specs.Pairs.{is_source, is_folder}
+use Rattle.fo_check_tree.specs.Lower.{level}
+use Rattle.fo_check_tree.proofs.Levels.{level-lower}
 use Rattle.fo_check_tree.proofs.folder.add_second.Goals as goal
 
 pub returns-clause-pushed : goal.returns-clause-pushed
@@ -13,3 +15,6 @@ returns-clause-pushed c =
 
 pub returns-clause-put : goal.returns-clause-put
 returns-clause-put c = c.add_source.ensures.folders ∙ c.in_ok-add_entry.ensures.put
+
+pub returns-clause-deep : goal.returns-clause-deep
+returns-clause-deep c folder less = omega (arith, ap level (c.add_source.ensures.noted ∙ c.in_ok-add_entry.ensures.deep folder less), (level-lower c.args.walk.now.noted 8 c.args.here.block (omega arith)).1)

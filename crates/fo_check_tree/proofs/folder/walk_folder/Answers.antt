@@ -1,4 +1,4 @@
-use Rattle.std.proofs.Common.{◌≡◌, Bool, true, rules, MatchOption, List, [], ◌∷◌, ◌++◌, refl, sym, ap, ◌∙◌, subst, arith}
+use Rattle.std.proofs.Common.{◌≡◌, ℕ, suc, ◌^◌, ◌-◌, ◌+◌, Bool, true, rules, MatchOption, List, [], ◌∷◌, ◌++◌, refl, sym, ap, ◌∙◌, subst, arith}
 use Rattle.std.proofs.lemmas.Result.{err_from_is_err_and}
 use Rattle.fo_disk.specs.Disk.{DiskState}
 use Rattle.fo_sound.specs.Device.{Shows}
@@ -21,6 +21,12 @@ use Rattle.fo_check_tree.proofs.Formatting.{formed_like, formed_push}
 use Rattle.fo_check_tree.proofs.Judging.{judged_like}
 use Rattle.fo_check_tree.proofs.Marking.{is_pushed}
 use Rattle.fo_check_tree.proofs.Noting.{lowers_leaf}
+use Rattle.std.specs.Prelude.{min}
+use Rattle.fo_image.specs.declared.types.Kind.TheVariants.{Dir}
+use Rattle.fo_crash.specs.Images.{depth_of, entry_of as entry_at}
+use Rattle.fo_check_tree.specs.Depths.{IsSourceOf, AreSpread}
+use Rattle.fo_check_tree.specs.Listing.{SomeOf}
+use Rattle.fo_check_tree.proofs.Spreading.{spread_first, spread_whole}
 use Rattle.fo_check_tree.proofs.Stepping.{emptied, pushed, walking_like}
 use Rattle.fo_check_tree.proofs.folder.walk_folder.Goals as goal
 
@@ -210,3 +216,44 @@ returns-clause-pairs g c arena device image s k shows w no_steps lead =
           λ quiet tree. subst (λ (fs : List Folder). IsSettled arena image entries meta c.list.new.walk.named.items fs) (sym c.note_leaf.ensures.folders)
           (settled arena image k meta entries c.follow_all.new.walk.folders.items c.list.new.walk.named.items c.follow_all.new.walk.named.items c.list.new.walk.noted c.follow_all.new.walk.noted c.note_leaf.new.self.noted order' none f.entries.size c.without_pair-alone.result answer c.note_leaf.ensures.noted c.in_ok-follow_all.ensures.level c.note_leaf.ensures.level (sym (ap size_of head.slot)) quiet tree);
     }
+
+pub returns-then-not-folder-clause-spread : goal.returns-then-not-folder-clause-spread
+returns-then-not-folder-clause-spread g c arena device image s k deep link shows w no_steps source quiet tree j h =
+    let f = c.args.folder.now in
+    let a : Step = top_step f.entries Bytes f.holder in
+    let fresh = emptied arena device image s k c.args.walk.now (record c.args.walk.now { named = c.new.result }) (record { blocks = refl; epoch = refl; active = refl; labels = refl; noted = refl }) (tops f) refl refl w in
+    let listed : Walking arena device image s k (a ∷ []) c.list.new.walk = c.in_ok-list.ensures.walks arena device image s k shows fresh in
+    let items : c.push.new.self.items ≡ c.list.new.walk.steps.items ++ top_step f.entries c.if-folder.holds f.holder ∷ [] =
+    is_pushed c.push.result c.list.new.walk.steps.items (c.list.new.walk.steps.items ++ c.top-top.result ∷ []) c.push.new.self.items (sym c.is_err.ensures.value ∙ c.if-is_err.false) c.push.ensures.items
+    ∙ ap (λ (x : Step). c.list.new.walk.steps.items ++ x ∷ []) c.top-top.ensures in
+    let next : Walking arena device image s k [] (record c.list.new.walk { steps = c.push.new.self }) = pushed arena device image s k c.list.new.walk (record c.list.new.walk { steps = c.push.new.self }) (record { blocks = refl; epoch = refl; active = refl; labels = refl; noted = refl }) [] f.entries f.holder Bytes c.if-folder.holds items refl listed in
+    let still : Shows (g.D.Disk.state c.list.new.main).holds device = subst (λ (s : DiskState). Shows s.holds device) (sym c.list.ensures.kept) shows in
+    let one : c.push.new.self.items ≡ top_step f.entries c.if-folder.holds f.holder ∷ [] = items ∙ ap (λ (xs : List Step). xs ++ top_step f.entries c.if-folder.holds f.holder ∷ []) (c.in_ok-list.ensures.done no_steps) in
+    let start : AreSpread arena image k link (suc deep) c.list.new.walk.noted c.push.new.self.items c.list.new.walk.folders.items =
+    subst (λ (xs : List Step). AreSpread arena image k link (suc deep) c.list.new.walk.noted xs c.list.new.walk.folders.items) (sym one) (spread_first arena image k deep (suc deep) link f source c.if-folder.holds c.list.new.walk.noted c.list.new.walk.folders.items) in
+    let deep_is : suc deep ≡ min (f.depth + 1) (2 ^ 32 - 1) = omega (arith, source.depth, source.low) in
+    let end : AreSpread arena image k link (suc deep) c.follow_all.new.walk.noted c.follow_all.new.walk.steps.items c.follow_all.new.walk.folders.items = c.in_ok-follow_all.ensures.spread arena device image s k link (suc deep) [] still next deep_is start in
+    let none : AreSpread arena image k link (suc deep) c.follow_all.new.walk.noted [] c.follow_all.new.walk.folders.items = subst (λ (xs : List Step). AreSpread arena image k link (suc deep) c.follow_all.new.walk.noted xs c.follow_all.new.walk.folders.items) c.in_ok-follow_all.ensures.done end in
+    let kind : link.kind ≡ Dir (depth_of link.slot) = source.kind ∙ ap (λ (n : ℕ). Dir n) (sym (ap depth_of source.slot)) in
+    spread_whole arena image w.holds.empty k link (suc deep) c.follow_all.new.walk.noted c.follow_all.new.walk.folders.items kind none quiet tree j h
+
+pub returns-clause-spread : goal.returns-clause-spread
+returns-clause-spread g c arena device image s k deep link shows w no_steps source quiet tree j h =
+    let f = c.args.folder.now in
+    let a : Step = top_step f.entries Bytes f.holder in
+    let fresh = emptied arena device image s k c.args.walk.now (record c.args.walk.now { named = c.new.result }) (record { blocks = refl; epoch = refl; active = refl; labels = refl; noted = refl }) (tops f) refl refl w in
+    let listed : Walking arena device image s k (a ∷ []) c.list.new.walk = c.in_ok-list.ensures.walks arena device image s k shows fresh in
+    let items : c.push.new.self.items ≡ c.list.new.walk.steps.items ++ top_step f.entries c.if-folder.holds f.holder ∷ [] =
+    is_pushed c.push.result c.list.new.walk.steps.items (c.list.new.walk.steps.items ++ c.top-top.result ∷ []) c.push.new.self.items (sym c.is_err.ensures.value ∙ c.if-is_err.false) c.push.ensures.items
+    ∙ ap (λ (x : Step). c.list.new.walk.steps.items ++ x ∷ []) c.top-top.ensures in
+    let next : Walking arena device image s k [] (record c.list.new.walk { steps = c.push.new.self }) = pushed arena device image s k c.list.new.walk (record c.list.new.walk { steps = c.push.new.self }) (record { blocks = refl; epoch = refl; active = refl; labels = refl; noted = refl }) [] f.entries f.holder Bytes c.if-folder.holds items refl listed in
+    let still : Shows (g.D.Disk.state c.list.new.main).holds device = subst (λ (s : DiskState). Shows s.holds device) (sym c.list.ensures.kept) shows in
+    let one : c.push.new.self.items ≡ top_step f.entries c.if-folder.holds f.holder ∷ [] = items ∙ ap (λ (xs : List Step). xs ++ top_step f.entries c.if-folder.holds f.holder ∷ []) (c.in_ok-list.ensures.done no_steps) in
+    let start : AreSpread arena image k link (suc deep) c.list.new.walk.noted c.push.new.self.items c.list.new.walk.folders.items =
+    subst (λ (xs : List Step). AreSpread arena image k link (suc deep) c.list.new.walk.noted xs c.list.new.walk.folders.items) (sym one) (spread_first arena image k deep (suc deep) link f source c.if-folder.holds c.list.new.walk.noted c.list.new.walk.folders.items) in
+    let deep_is : suc deep ≡ min (f.depth + 1) (2 ^ 32 - 1) = omega (arith, source.depth, source.low) in
+    let end : AreSpread arena image k link (suc deep) c.follow_all.new.walk.noted c.follow_all.new.walk.steps.items c.follow_all.new.walk.folders.items = c.in_ok-follow_all.ensures.spread arena device image s k link (suc deep) [] still next deep_is start in
+    let none : AreSpread arena image k link (suc deep) c.follow_all.new.walk.noted [] c.follow_all.new.walk.folders.items = subst (λ (xs : List Step). AreSpread arena image k link (suc deep) c.follow_all.new.walk.noted xs c.follow_all.new.walk.folders.items) c.in_ok-follow_all.ensures.done end in
+    let kind : link.kind ≡ Dir (depth_of link.slot) = source.kind ∙ ap (λ (n : ℕ). Dir n) (sym (ap depth_of source.slot)) in
+    subst (λ (fs : List Folder). SomeOf (IsSourceOf (suc deep) (entry_at arena image link j)) fs) (sym c.note_leaf.ensures.folders)
+    (spread_whole arena image w.holds.empty k link (suc deep) c.follow_all.new.walk.noted c.follow_all.new.walk.folders.items kind none (omega (arith, quiet, c.note_leaf.ensures.level)) tree j h)

@@ -18,6 +18,7 @@ use Rattle.fo_check_tree.proofs.Scanning.{table_whole}
 use Rattle.fo_check_names.specs.declared.names.Number.{Number}
 use Rattle.fo_check_tree.specs.Pairing.{AreSettled}
 use Rattle.fo_check_tree.proofs.Settling.{settled_like, settled_on}
+use Rattle.fo_check_tree.proofs.Spreading.{tree_depths, above_like, above_on}
 use Rattle.fo_check_tree.proofs.Starting.{read_table, read_unreached}
 use Rattle.fo_check_tree.proofs.Stepping.{opened, emptied, walking_like}
 use Rattle.fo_check_tree.proofs.tree.check_tree.Goals as goal
@@ -69,6 +70,17 @@ loop-folder-init g c = record {
         nothing = (c.new.ensures.items, c.new-2.ensures.items, refl);
       } in
       on_ok_is c.start.result _ (sym c.is_err.ensures.value ∙ c.if-is_err.false) (c.start.ensures.formed arena device image k is holds u);
+  depths = λ arena device image k len shows is holds.
+      let scan = c.in_ok-labels.ensures.table device len shows in
+      let start : Walk = record { blocks = c.args.setting.blocks; epoch = c.args.setting.s.high; active = true; labels = c.in_ok-labels.labels; noted = None; steps = c.new.result; folders = c.new-2.result; named = c.new-3.result } in
+      let u : IsUnbegun device c.args.setting.s start = record {
+        size = sym len;
+        tree = (refl, refl);
+        table = read_table device c.in_ok-labels.labels.known.items c.args.setting.blocks len scan c.in_ok-labels.labels.ascending;
+        unreached = read_unreached device c.in_ok-labels.labels.known.items c.args.setting.blocks len scan c.in_ok-labels.labels.ascending;
+        nothing = (c.new.ensures.items, c.new-2.ensures.items, refl);
+      } in
+      on_ok_is c.start.result _ (sym c.is_err.ensures.value ∙ c.if-is_err.false) (c.start.ensures.depths arena device image k is holds u);
   settled = λ arena device image k len shows is holds.
       let scan = c.in_ok-labels.ensures.table device len shows in
       let start : Walk = record { blocks = c.args.setting.blocks; epoch = c.args.setting.s.high; active = true; labels = c.in_ok-labels.labels; noted = None; steps = c.new.result; folders = c.new-2.result; named = c.new-3.result } in
@@ -128,6 +140,17 @@ loop-folder-preserved g c = record {
       (c.loop-folder.invariant.settled arena device image k len shows is holds)
       (λ lead. c.in_ok-walk_folder.ensures.pairs arena device image s k shows' open' before.1 lead)
       c.in_ok-walk_folder.ensures.uncounted;
+  depths = λ arena device image k len shows is holds.
+      let s = c.args.setting.s in
+      let f = c.in-Some.folder in
+      let before = c.loop-folder.invariant.walks arena device image k len shows is holds in
+      let old : Walk = record c.loop-folder.walk { folders = c.pop.new.self } in
+      let open' : Walking arena device image s k (tops f) old = opened arena device image s k c.loop-folder.walk old (record { blocks = refl; epoch = refl; active = refl; labels = refl; noted = refl }) f c.in-Some.ensures.items refl before.0 in
+      let shows' : Shows (g.D.Disk.state c.loop-folder.main).holds device = subst (λ (x : DiskState). Shows x.holds device) (sym c.loop-folder.invariant.kept) shows in
+      above_on arena image k c.loop-folder.walk.noted c.walk_folder.new.walk.noted c.pop.new.self.items c.walk_folder.new.walk.folders.items c.loop-folder.walk.folders.items f c.in-Some.ensures.items
+      (c.in_ok-walk_folder.ensures.grows arena device image s k shows' open') c.in_ok-walk_folder.ensures.level
+      (λ deep w source quiet tree j h. c.in_ok-walk_folder.ensures.spread arena device image s k deep w shows' open' before.1 source quiet tree j h)
+      (c.loop-folder.invariant.depths arena device image k len shows is holds);
   judged = judges_later c.in_ok-walk_folder.ensures.level c.loop-folder.invariant.judged;
   same = search rules;
   kept = search rules;
@@ -161,4 +184,6 @@ returns-clause-walked g c arena device image k len shows is holds =
     c.loop-folder.numbers.items
     (settled_like arena image k c.loop-folder.walk.noted c.check_numbers.new.walk.noted c.loop-folder.walk.folders.items _ c.loop-folder.numbers.items n.lowers.low (n.folders ∙ none ∙ sym old_none) (c.loop-folder.invariant.settled arena device image k len shows is holds))
     n.judged
+    (λ quiet tree. tree_depths arena image k c.check_numbers.new.walk.noted
+    (above_like arena image k c.loop-folder.walk.noted c.check_numbers.new.walk.noted c.loop-folder.walk.folders.items [] n.lowers.low (sym old_none) (c.loop-folder.invariant.depths arena device image k len shows is holds)) quiet tree)
     (walking_like arena device image s k [] end c.check_numbers.new.walk (record { blocks = n.blocks; epoch = n.tree.0; active = n.tree.1; labels = n.labels; steps = n.steps; folders = n.folders }) n.lowers empty)

@@ -4,7 +4,7 @@ use Rattle.fo_image.specs.declared.types.Label.{Label}
 use Rattle.fo_check_tree.specs.declared.walk.Folder.{Folder}
 use Rattle.fo_check_tree.specs.Lower.{JudgesRoot}
 use Rattle.fo_check_tree.proofs.Noting.{lowers_then, lowers_at}
-use Rattle.fo_check_tree.proofs.Starting.{IsEntryOf, begun, directories, formats, settles}
+use Rattle.fo_check_tree.proofs.Starting.{IsEntryOf, begun, directories, formats, settles, depths_begin}
 use Rattle.fo_check_tree.proofs.tree.start.Goals as goal
 
 pub returns-clause-judged : goal.returns-clause-judged
@@ -88,6 +88,19 @@ returns-clause-pairs c arena device image k is holds u =
     let we : IsEntryOf k.root.entries e = subst (λ (x : RootBlock). IsEntryOf x.entries e) (sym is) (record { shallow = c.shallow-entries.ensures.entry; deep = c.shallow-entries.ensures.none }) in
     let wr : IsEntryOf k.root.meta r = subst (λ (x : RootBlock). IsEntryOf x.meta r) (sym is) (record { shallow = c.shallow-records.ensures.entry; deep = c.shallow-records.ensures.none }) in
     settles arena device image s k holds old (record c.note_entries.new.walk { folders = c.push.new.self }) u e r we wr
+    (c.in_ok-push.ensures.items
+    ∙ ap (λ (fs : List Folder). fs ++ record { entries = e; records = Some r; holder = record { block = s.active; label = c.root_label.result }; depth = 0; named = true } ∷ []) (c.note_entries.ensures.folders ∙ c.shallow-records.ensures.folders ∙ c.shallow-entries.ensures.folders)
+    ∙ ap (λ (l : Label). old.folders.items ++ record { entries = e; records = Some r; holder = record { block = s.active; label = l }; depth = 0; named = true } ∷ []) c.root_label.ensures)
+    (subst (λ (x : RootBlock). JudgesRoot x c.note_entries.new.walk.noted) (sym is) (returns-clause-judged c))
+
+pub returns-clause-depths : goal.returns-clause-depths
+returns-clause-depths c arena device image k is holds u =
+    let s = c.args.s.now in
+    let old = c.args.walk.now in
+    let e = c.shallow-entries.result in
+    let r = c.shallow-records.result in
+    let we : IsEntryOf k.root.entries e = subst (λ (x : RootBlock). IsEntryOf x.entries e) (sym is) (record { shallow = c.shallow-entries.ensures.entry; deep = c.shallow-entries.ensures.none }) in
+    depths_begin arena device image s k holds old (record c.note_entries.new.walk { folders = c.push.new.self }) u e r we
     (c.in_ok-push.ensures.items
     ∙ ap (λ (fs : List Folder). fs ++ record { entries = e; records = Some r; holder = record { block = s.active; label = c.root_label.result }; depth = 0; named = true } ∷ []) (c.note_entries.ensures.folders ∙ c.shallow-records.ensures.folders ∙ c.shallow-entries.ensures.folders)
     ∙ ap (λ (l : Label). old.folders.items ++ record { entries = e; records = Some r; holder = record { block = s.active; label = l }; depth = 0; named = true } ∷ []) c.root_label.ensures)
