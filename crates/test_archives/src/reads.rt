@@ -13,14 +13,14 @@ use std::test::Fail;
 use venti_store::Arena;
 
 /// A leaf of one record: file 7 with the name `hi`, of mode 0644 and slot pair 0.
-const HI: [u8; 49] = [
+pub(crate) const HI: [u8; 49] = [
     0, 1, 0, 45, //
     0, 45, 0, 0, 0, 7, 0, 0, 0, 0, 0, 0, 0, 0, 0, 0, 0, 0, 0, 0, 1, 0xa4, 0, 0, 0, 3, 0, 0, 0, 3, //
     2, b'h', b'i', 3, b'a', b'd', b'm', 3, b'a', b'd', b'm', 3, b'a', b'd', b'm',
 ];
 
 /// The entry of a source of this depth and of fewer than 65,536 bytes.
-fn entry_of(depth: u8, size: u16, score: &Score) -> [u8; 40]
+pub(crate) fn entry_of(depth: u8, size: u16, score: &Score) -> [u8; 40]
     ensures { length result ≡ 40 }
 {
     let mut bytes = [0; 40];
@@ -51,7 +51,7 @@ fn top_of(entries: &Score, meta: &Score) -> [u8; 124]
 }
 
 /// Puts an archive: the entries in block 3 of the device, the records in block 4, the top block in block 5, where block 2 is taken.
-fn put_archive(
+pub(crate) fn put_archive(
     arena: &mut Arena<MemDisk>,
     entry: &[u8; 40],
     meta: &[u8; 49],
