@@ -7,7 +7,7 @@ ghost use Rattle.fo_ports.specs.Sources.{Changes, Grows, Owned, IsEnough, depth_
 ghost use Rattle.fo_tree_read.specs.Tree.{kind_at};
 ghost use Rattle.fo_tree_look.specs.Source.{Over, HasBlock, IsPlainTree, Prepared, IsTopCurrent, form_of, leaves_of};
 ghost use Rattle.fo_tree_down.specs.Way.{IsTopOf};
-ghost use Rattle.fo_tree_raise.specs.Raise.{EndsClear};
+ghost use Rattle.fo_tree_down.specs.Clear.{EndsClear};
 ghost use Rattle.fo_tree_grow.specs.Grow.{TailClear};
 ghost use Rattle.fo_tree_lift.specs.Owns.{with_leaf, OwnsLeaf};
 

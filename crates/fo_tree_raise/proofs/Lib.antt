@@ -7,3 +7,4 @@ pub mod Adding
 pub mod Climbing
 pub mod Holding
 pub mod Standing
+pub mod Coming

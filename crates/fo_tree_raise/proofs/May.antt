@@ -12,7 +12,7 @@ use Rattle.fo_crash.specs.Places.{place, place_below, super_place}
 use Rattle.fo_crash.proofs.Places.{stands_below}
 use Rattle.fo_crash.proofs.Reach.{lost, reach_aside, reach_into, reaches_itself}
 use Rattle.fo_ports.specs.Blocks.{IsInner, SlotFits, slot_count, cost, dropped, blank_slot, IsLevel}
-use Rattle.fo_ports.specs.State.{State, KeepsAll, Comes, IsLoose, MayPutSlot}
+use Rattle.fo_ports.specs.State.{State, KeepsAll, Comes, IsLoose, IsRaised, MayPutSlot}
 use Rattle.fo_tree_read.specs.declared.tree.Tree.{Tree}
 use Rattle.fo_tree_read.specs.Tree.{kind_at}
 use Rattle.fo_tree_read.proofs.Walk.{inner_kind}
@@ -137,6 +137,10 @@ module _ {t : Tree} {l : Label} {result : ℕ} {s m : State} (x : Lifting t l re
   loose : IsLoose m result
   loose = ((x.came.is.3, x.instead), bare_none)
 
+  -- it is raised over what its slot is led to
+  pub raised_over : IsRaised m result 0
+  raised_over = (loose, subst (λ q. IsInner q) (sym label_kind) (inner_kind t.dir (suc t.depth) (omega arith)), refl)
+
   free_mid : s.tells → (b : ℕ) → t.top ≡ Local b → m.apart b ⊎ Reaches m.now (to_block 1) b
   free_mid told b e = ⊎_elim
       (λ apart. inl ((x.came.stays.apart b (under_ne b e) (λ h. h)).1 apart))
@@ -144,7 +148,7 @@ module _ {t : Tree} {l : Label} {result : ℕ} {s m : State} (x : Lifting t l re
       ((x.can.under b e).told told).free
 
   comes : s.tells → (b : ℕ) → t.top ≡ Local b → Comes m result 0 ((m.now result).slot 0) (To t.top) b
-  comes told b e = inr (inr (bare_none 0, inr (inr ((loose, subst (λ q. IsInner q) (sym label_kind) (inner_kind t.dir (suc t.depth) (omega arith)), refl), free_mid told b e))))
+  comes told b e = inr (inr (bare_none 0, inr (inr (raised_over, free_mid told b e))))
 
   pub may_put : s.tells → MayPutSlot m result 0 (To t.top)
   may_put told = record {

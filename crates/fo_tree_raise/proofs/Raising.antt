@@ -20,7 +20,7 @@ use Rattle.fo_tree_own.specs.Step.{IsOwn, IsBeside}
 use Rattle.fo_tree_own.proofs.Link.{Laws, Came, local_eq}
 use Rattle.fo_tree_down.proofs.Join.{local_cases}
 use Rattle.fo_tree_raise.specs.Raise.{IsUnder, CanRaise, IsWithout, Raises, raised}
-use Rattle.fo_tree_raise.proofs.May.{Lifting, told_mid, under_ne, bare_none, away, reaches_mid, back, place_is}
+use Rattle.fo_tree_raise.proofs.May.{Lifting, told_mid, under_ne, bare_none, away, reaches_mid, back, place_is, raised_over}
 
 -- The slot was put.
 pub record Lifted (t : Tree) (l : Label) (result n : ℕ) (beside : Image → Type 0) (s m u : State) : Type 0 where
@@ -175,6 +175,14 @@ module _ {t : Tree} {l : Label} {result n : ℕ} {beside : Image → Type 0} {s 
       (λ not. (came.stays.instead b y ne (λ z. z)).0 ((x.frame.stays.instead b y (λ z. z) (λ g. ⊎_elim ne not g)).0 h))
       (local_cases t.top b)
 
+  comes_end : (b y : ℕ) → t.top ≡ Local b → s.instead b y ⊎ ((b ≡ y) × (s.apart b → ⊥)) → u.instead result y
+  comes_end b y e h =
+      let ne = under_ne x.lifting b e in
+      x.hangs.raises b y (raised_over x.lifting) e (⊎_elim
+      (λ old. inl ((came.stays.instead b y ne (λ z. z)).1 old))
+      (λ own. inr (own.0, λ apart. own.1 ((came.stays.apart b ne (λ z. z)).0 apart)))
+      h)
+
   raises_end : (y : ℕ) → u.instead result y → (b : ℕ) × (t.top ≡ Local b) × (((b ≡ y) × (s.apart b → ⊥)) ⊎ s.instead b y)
   raises_end y h = ⊎_elim
       (λ old. absurd (x.lifting.instead y old))
@@ -266,6 +274,7 @@ module _ {t : Tree} {l : Label} {result n : ℕ} {beside : Image → Type 0} {s 
     instead = instead_end;
     alone = alone_end;
     raises = raises_end;
+    comes = comes_end;
     places = places_end;
     still = still_end;
     only = only_end;

@@ -62,6 +62,7 @@ pub record Raises (t : Tree) (top : ℕ) (s u : State) : Type 0 where
   pub instead : (b x : ℕ) → b ≢ top → u.instead b x → s.instead b x
   pub alone : s.tells → (y : ℕ) → u.instead y top → ⊥
   pub raises : (x : ℕ) → u.instead top x → (b : ℕ) × (t.top ≡ Local b) × (((b ≡ x) × (s.apart b → ⊥)) ⊎ s.instead b x)
+  pub comes : (b x : ℕ) → t.top ≡ Local b → s.instead b x ⊎ ((b ≡ x) × (s.apart b → ⊥)) → u.instead top x
   pub places : s.tells → (b : ℕ) (p : Place) → b ≢ top → (u.covered b → ⊥) → s.stands b p → u.stands b p
   pub still : (b : ℕ) → s.covered b → u.covered b
   pub only : (b : ℕ) → (s.covered b → ⊥) → u.covered b → ⊥

@@ -1,11 +1,13 @@
 //! Levels are put above the top of a source.
 ghost use Rattle.std.specs.Prelude.{◌≡◌, ◌⊎◌, ◌+◌, ◌*◌, ◌^◌, ◌<◌, ◌≤◌, ℕ, List};
+ghost use Rattle.fo_image.specs.declared.types.Pointer.{Pointer};
 ghost use Rattle.fo_image.specs.declared.types.Pointer.TheVariants.{Local};
 ghost use Rattle.fo_ports.specs.State.{none};
 ghost use Rattle.fo_ports.specs.Sources.{Made, Changes};
 ghost use Rattle.fo_tree_read.specs.Tree.{block_at};
 ghost use Rattle.fo_tree_look.specs.declared.ways.Kept.{Kept};
 ghost use Rattle.fo_tree_look.specs.Source.{HasBlock, Prepared};
+ghost use Rattle.fo_tree_down.specs.Way.{ComesFor};
 ghost use Rattle.fo_tree_down.specs.Clear.{EndsClear};
 ghost use Rattle.fo_tree_raise.specs.Raise.{CanRaise, Bears};
 ghost use Rattle.fo_tree_raise.specs.Levels.{Adds, IsTopAfter, InStead, grown};
@@ -24,6 +26,8 @@ pub fn raise_levels<B: Blocks>(tree: &Tree, on: &mut B, levels: u8) -> Pointer
     ensures top { IsTopAfter (B.state on.old) (B.state on.new) tree.now levels result }
     ensures adds { Adds tree.now.tag (λ b. tree.now.top ≡ Local b) (B.state on.old) (B.state on.new) }
     ensures instead { (b x : ℕ) → Made (B.state on.old) (B.state on.new) b → (B.state on.new).instead b x → InStead (B.state on.old) tree.now x }
+    ensures comes { (B.state on.old).tells → (from : Pointer) → ComesFor (B.state on.old) tree.now.top from → ComesFor (B.state on.new) result from }
+    ensures only { (B.state on.old).tells → (y x : ℕ) → (B.state on.new).instead y x → (result ≡ Local y) ⊎ ((B.state on.old).instead y x × (tree.now.top ≡ Local y → ⊥)) }
     ensures changes { Changes tree.now.tag (HasBlock (B.state on.old) tree.now) none (B.state on.old) (B.state on.new) }
     ensures again { CanRaise (B.state on.new) (grown tree.now levels result) }
     ensures bears { (kept : List Kept) → 0 < tree.now.size → Bears (B.state on.old) tree.now kept → Bears (B.state on.new) (grown tree.now levels result) kept }

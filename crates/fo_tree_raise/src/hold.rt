@@ -4,7 +4,7 @@ ghost use Rattle.fo_image.specs.declared.types.Pointer.TheVariants.{Local};
 ghost use Rattle.fo_ports.specs.Sources.{Made, Changes};
 ghost use Rattle.fo_tree_read.specs.Tree.{kind_at};
 ghost use Rattle.fo_tree_look.specs.Source.{Over, HasBlock, IsPrepared, Prepared};
-ghost use Rattle.fo_tree_down.specs.Way.{Comes, with_top};
+ghost use Rattle.fo_tree_down.specs.Way.{Comes, IsTopOf, with_top};
 ghost use Rattle.fo_tree_down.specs.Clear.{EndsClear};
 ghost use Rattle.fo_tree_raise.specs.Raise.{CanRaise};
 ghost use Rattle.fo_tree_raise.specs.Levels.{Adds};
@@ -23,6 +23,7 @@ pub fn copy_top<B: Blocks>(tree: &Tree, kept: &[Kept], on: &mut B, at: u32) -> u
     ensures comes { Comes (B.state on.old) (B.state on.new) tree.now kept.now 0 0 result }
     ensures made { Made (B.state on.old) (B.state on.new) result × (B.state on.new).apart result }
     ensures given { (b : ℕ) → Made (B.state on.old) (B.state on.new) b → b ≡ result }
+    ensures top { IsTopOf (B.state on.old) (B.state on.new) tree.now result }
     ensures changes { Changes tree.now.tag (HasBlock (B.state on.old) tree.now) (λ b. HasBlock (B.state on.old) tree.now b × (((B.state on.old).label b).kind ≢ kind_at tree.now.dir 0)) (B.state on.old) (B.state on.new) }
     ensures adds { Adds tree.now.tag (λ b. tree.now.top ≡ Local b) (B.state on.old) (B.state on.new) }
     ensures under { CanRaise (B.state on.new) (with_top tree.now result) }

@@ -3,6 +3,8 @@ use Rattle.fo_image.specs.declared.types.Pointer.TheVariants.{Local}
 use Rattle.fo_ports.specs.Sources.{Made}
 use Rattle.fo_tree_read.specs.declared.tree.Tree.{Tree}
 use Rattle.fo_tree_look.specs.Source.{HasBlock, Prepared}
+use Rattle.fo_tree_down.specs.Way.{ComesFor}
+use Rattle.fo_tree_down.proofs.Join.{local_cases}
 use Rattle.fo_tree_down.specs.Clear.{EndsClear}
 use Rattle.fo_tree_raise.specs.Raise.{CanRaise, Raises, SameBelow, Bears, raised}
 use Rattle.fo_tree_raise.specs.Levels.{grown}
@@ -51,6 +53,12 @@ returns-then-levels-eq0-clause-clear g t' c = λ kept some room was. subst (λ (
 
 pub returns-then-levels-eq0-clause-spare : goal.returns-then-levels-eq0-clause-spare
 returns-then-levels-eq0-clause-spare g t' c = let none = c.if-levels-eq0.true in omega (arith, none)
+
+pub returns-then-levels-eq0-clause-comes : goal.returns-then-levels-eq0-clause-comes
+returns-then-levels-eq0-clause-comes g t' c = λ told from h. h
+
+pub returns-then-levels-eq0-clause-only : goal.returns-then-levels-eq0-clause-only
+returns-then-levels-eq0-clause-only g t' c = λ told y z h. ⊎_elim (λ e. inl e) (λ ne. inr (h, ne)) (local_cases c.args.tree.now.top y)
 
 -- one level after others
 
@@ -319,3 +327,22 @@ returns-clause-spare g t' c =
 
 pub returns-clause-keeps : goal.returns-clause-keeps
 returns-clause-keeps g t' c = g.met.B.Blocks.keeps_joins c.args.on.now c.raise_levels-below.new.on c.raise_once-top.new.on c.raise_levels-below.ensures.keeps c.raise_once-top.ensures.keeps
+
+pub returns-clause-comes : goal.returns-clause-comes
+returns-clause-comes g t' c = λ told from h.
+    let mid = c.raise_levels-below.new.on in
+    let all = g.met.B.Blocks.keeps_all c.args.on.now mid c.raise_levels-below.ensures.keeps in
+    c.raise_once-top.ensures.comes (all.still_tells.1 told) from
+    (subst (λ (x : Tree). ComesFor (g.B.Blocks.state mid) x.top from) (sym c.with_levels-lower.ensures) (c.raise_levels-below.ensures.comes told from h))
+
+pub returns-clause-only : goal.returns-clause-only
+returns-clause-only g t' c = λ told y z h.
+    let mid = c.raise_levels-below.new.on in
+    let all = g.met.B.Blocks.keeps_all c.args.on.now mid c.raise_levels-below.ensures.keeps in
+    ⊎_elim
+    (λ e. inl (ap (λ b. Local b) (sym e)))
+    (λ old. ⊎_elim
+    (λ e. absurd (old.1 (ap (λ (x : Tree). x.top) c.with_levels-lower.ensures ∙ e)))
+    (λ was. inr was)
+    (c.raise_levels-below.ensures.only told y z old.0))
+    (c.raise_once-top.ensures.only (all.still_tells.1 told) y z h)

@@ -8,9 +8,9 @@ use Rattle.fo_crash.specs.Places.{place}
 use Rattle.fo_tree_read.specs.Tree.{kind_at}
 use Rattle.fo_tree_look.specs.Source.{IsPrepared, WayReady, Ready}
 use Rattle.fo_tree_own.specs.Step.{Becomes}
-use Rattle.fo_tree_own.proofs.Link.{Laws, came}
+use Rattle.fo_tree_own.proofs.Link.{Laws, came, local_eq}
 use Rattle.fo_tree_down.specs.Way.{Comes}
-use Rattle.fo_tree_down.proofs.Topping.{comes_topped}
+use Rattle.fo_tree_down.proofs.Topping.{Topped, comes_topped, top_topped}
 use Rattle.fo_tree_down.proofs.Join.{changes_of}
 use Rattle.fo_tree_down.proofs.Beside.{WentDown, last_leads, on_way_block}
 use Rattle.fo_tree_down.proofs.Stilling.{WasOwned, prepared_still}
@@ -54,14 +54,15 @@ holding g c =
       stands = λ told. e.place told (place (kind_at t.dir t.depth) t.tag 0 (t.rank + t.depth)) (over.hangs.told told c.args.at c.requires.is).0;
     }
 
-comes : (g : given.Over) (c : goal.After-copy g) → Comes (g.B.Blocks.state c.args.on.now) (g.B.Blocks.state c.copy.new.self) c.args.tree.now c.args.kept.now 0 0 c.copy.result
-comes g c =
+topped : (g : given.Over) (c : goal.After-copy g) → Topped c.args.tree.now c.args.kept.now (label_at g c) c.copy.result (g.B.Blocks.state c.args.on.now) (g.B.Blocks.state c.copy.new.self)
+topped g c =
+    let on = c.args.on.now in
     let s = g.B.Blocks.state c.args.on.now in
     let m = g.B.Blocks.state c.copy.new.self in
     let t = c.args.tree.now in
     let e = c.copy.ensures in
     let x = holding g c in
-    comes_topped {s = s} {m = m} (record {
+    record {
       came = x.came;
       all = x.all;
       laws = x.laws;
@@ -71,10 +72,19 @@ comes g c =
       tagged = c.requires.ready.tagged;
       long = ap length e.gives.memory.here.bytes ∙ c.requires.ready.long;
       raised = λ y h. c.requires.is ∙ ap (λ b. Local b) (sym ((e.instead y).0 h));
+      raises = λ y h. (e.instead y).1 (local_eq (sym h ∙ c.requires.is));
+      was = λ told y h.
+          let same : c.args.at ≡ y = local_eq (sym c.requires.is ∙ h) in
+          subst (λ b. ((s.label b).state ≡ Live) × ((s.label b).epoch < s.high) × (s.apart b → ⊥)) same
+          (c.requires.ready.live, c.requires.older, λ apart. x.laws.apart_hangs told c.args.at apart (x.in_tree told));
+      made_apart = λ told y z h. (g.met.B.Blocks.instead_of on y z z told h).0;
       raised_old = λ y h. subst (λ b. (s.label b).epoch < s.high) (sym ((e.instead y).0 h)) c.requires.older;
       stands = x.stands;
       content = subst (λ (p : Pointer). Becomes s m t c.args.kept.now t.depth p c.copy.result) (sym c.requires.is) e.gives.memory.here;
-    }) 0 (omega arith)
+    }
+
+comes : (g : given.Over) (c : goal.After-copy g) → Comes (g.B.Blocks.state c.args.on.now) (g.B.Blocks.state c.copy.new.self) c.args.tree.now c.args.kept.now 0 0 c.copy.result
+comes g c = comes_topped (topped g c) 0 (omega arith)
 
 ready : (g : given.Over) (c : goal.After-copy g) → WayReady (g.B.Blocks.state c.args.on.now) c.args.tree.now c.args.kept.now 0 0
 ready g c =
@@ -109,12 +119,12 @@ owned g c =
       last = last_leads s m t c.args.kept.now 0 0 c.copy.result (ready g c) is;
       descends = is.descends;
     }
-  where
-    local_eq : {a b : ℕ} → Local a ≡ Local b → a ≡ b
-    local_eq e = cc
 
 pub returns-clause-comes : goal.returns-clause-comes
 returns-clause-comes g c = comes g c
+
+pub returns-clause-top : goal.returns-clause-top
+returns-clause-top g c = top_topped (topped g c)
 
 pub returns-clause-made : goal.returns-clause-made
 returns-clause-made g c = (made_result (holding g c), (holding g c).came.is.3)
@@ -154,12 +164,7 @@ returns-clause-over g c = λ limit whole.
       descends = is.descends;
     } in
     let some : 0 < t.size = ⊎_elim (λ none. absurd (nil_top c.args.at (sym (whole.empty none) ∙ c.requires.is))) (λ ne. omega (arith, ne)) (cases_eq t.size 0) in
-    over_end o (record {
-      from = inl (made_result (holding g c));
-      apart = λ made. (holding g c).came.is.3;
-      live = is.own.live;
-      current = is.own.current;
-    }) (record {
+    over_end o (top_topped (topped g c)) (record {
       small = (laws_of g c.copy.new.self).small;
       unlinked = (laws_of g on).apart_hangs;
       comes = λ now y z h. (g.met.B.Blocks.instead_of c.copy.new.self y z z now h).0;

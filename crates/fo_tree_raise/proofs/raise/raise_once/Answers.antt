@@ -14,6 +14,7 @@ use Rattle.fo_tree_raise.proofs.Raising.{Lifted, raises, again}
 use Rattle.fo_tree_raise.proofs.Levels.{still_prepared, block_raised, block_none, owned_back, owned_on}
 use Rattle.fo_tree_raise.proofs.Clear.{clear_raised}
 use Rattle.fo_tree_raise.proofs.Bearing.{bears_raised}
+use Rattle.fo_tree_raise.proofs.Coming.{Coming, comes_raised, only_raised}
 use Rattle.fo_tree_raise.proofs.raise.raise_once.Given as given
 use Rattle.fo_tree_raise.proofs.raise.raise_once.Goals as goal
 
@@ -171,3 +172,24 @@ returns-clause-still g c = λ kept limit o n room was. let l = lifted g c in sti
 
 pub returns-clause-clear : goal.returns-clause-clear
 returns-clause-clear g c = λ kept some room clear. let l = lifted g c in clear_raised l.whole (raises l) kept some room clear
+
+coming : (g : given.Over) (c : goal.After-put_slot g) → (g.B.Blocks.state c.args.on.now).tells → Coming c.args.tree.now c.new_block-made.result (g.B.Blocks.state c.args.on.now) (g.B.Blocks.state c.put_slot.new.self)
+coming g c told =
+    let on = c.args.on.now in
+    let s = g.B.Blocks.state on in
+    let l = lifted g c in
+    record {
+      raises = raises l;
+      can = c.requires.top;
+      all = l.whole;
+      told = told;
+      placed = placed_of g on told;
+      ranked = g.met.B.Blocks.ranked on s.now (g.met.B.Blocks.present on told);
+      made_apart = λ y z h. (g.met.B.Blocks.instead_of on y z z told h).0;
+    }
+
+pub returns-clause-comes : goal.returns-clause-comes
+returns-clause-comes g c = λ told from h. comes_raised (coming g c told) from h
+
+pub returns-clause-only : goal.returns-clause-only
+returns-clause-only g c = λ told y z h. only_raised (coming g c told) y z h
