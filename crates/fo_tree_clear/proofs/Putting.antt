@@ -18,6 +18,7 @@ use Rattle.fo_tree_look.specs.declared.ways.Kept.{Kept}
 use Rattle.fo_tree_look.specs.Source.{IsTold, Over, Prepared}
 use Rattle.fo_tree_look.proofs.Still.{source_prepared}
 use Rattle.fo_tree_look.proofs.Shown.{held_on}
+use Rattle.fo_tree_down.specs.Way.{IsInstead, ComesFor}
 use Rattle.fo_tree_clear.proofs.Same.{SameSlots, block_same, has_back}
 
 -- Bytes were put into a block, as long as those that were there.
@@ -47,6 +48,30 @@ module _ {at : ℕ} {bytes : List ℕ} {beside : Image → Type 0} {u v : State}
 
   stands_on : u.tells → (b : ℕ) (p : Place) → (u.covered b → ⊥) → u.stands b p → v.stands b p
   stands_on told b p free stands = x.calm.frame.stays.places told b p (λ z. z) (λ z. z) (λ c. free ((x.calm.covered.covered b).0 c)) stands
+
+  -- what a source may come in the place of stays
+  instead_on : u.tells → (from : Pointer) (top : ℕ) → IsInstead u from top → IsInstead v from top
+  instead_on told from top i =
+      let apart = x.calm.frame.stays.apart top (λ z. z) (λ z. z) in
+      record {
+        is_apart = apart.1 i.is_apart;
+        place = i.place;
+        stands = stands_on told top i.place i.uncovered i.stands;
+        uncovered = λ h. i.uncovered ((x.calm.covered.covered top).0 h);
+        instead = λ y. let same = x.calm.frame.stays.instead top y (λ z. z) (λ z. z) in (λ h. (i.instead y).0 (same.0 h), λ e. same.1 ((i.instead y).1 e));
+        live = λ y e. ap (λ (l : Label). l.state) (label_same y) ∙ i.live y e;
+        keeps = λ y e.
+            let label : (v.label y).epoch ≡ (u.label y).epoch = ap (λ (l : Label). l.epoch) (label_same y) in
+            let high = x.all.same_high in
+            ⊎_elim (λ older. inl (omega (arith, label, high, older))) (λ r. inr (reaches_on (to_block top) y r)) (i.keeps y e);
+      }
+
+  pub comes_on : u.tells → (top from : Pointer) → ComesFor u top from → ComesFor v top from
+  comes_on told top from (inl h) = inl (h.0, λ b e apart. h.1 b e ((x.calm.frame.stays.apart b (λ z. z) (λ z. z)).0 apart))
+  comes_on told top from (inr h) = inr (h.0, h.1, instead_on told from h.0 h.2)
+
+  pub only_on : (y z : ℕ) → v.instead y z → u.instead y z
+  only_on y z h = (x.calm.frame.stays.instead y z (λ n. n) (λ n. n)).0 h
 
   hung_on : u.tells → (b : ℕ) → IsHung u b → IsHung v b
   hung_on told b h = ⊎_elim

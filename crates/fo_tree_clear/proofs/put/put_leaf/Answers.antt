@@ -2,7 +2,8 @@ use Rattle.std.proofs.Common.{◌≡◌, ◌≢◌, ◌+◌, ◌-◌, ◌%◌, �
 use Rattle.fo_image.specs.declared.types.Label.{Label}
 use Rattle.fo_image.specs.declared.types.Kind.{Kind}
 use Rattle.fo_image.specs.declared.types.Kind.TheVariants.{Data}
-use Rattle.fo_crash.specs.Images.{Image, to_block}
+use Rattle.fo_image.specs.declared.types.Pointer.TheVariants.{Local}
+use Rattle.fo_crash.specs.Images.{Image}
 use Rattle.fo_crash.specs.Names.{SameUse}
 use Rattle.fo_ports.specs.State.{State}
 use Rattle.fo_crash.specs.declared.place.Place.{Place}
@@ -18,7 +19,7 @@ use Rattle.fo_tree_clear.specs.Put.{IsInnerOr}
 use Rattle.fo_tree_down.proofs.Next.{on_way_last}
 use Rattle.fo_tree_clear.proofs.Same.{has_back, has_on, way_back, current_on}
 use Rattle.fo_tree_clear.proofs.Descending.{steps_down, steps_put}
-use Rattle.fo_tree_clear.proofs.Putting.{BytesPut, same_slots, reaches_on, label_same, over_put, prepared_put, changes_put}
+use Rattle.fo_tree_clear.proofs.Putting.{BytesPut, same_slots, label_same, comes_on, only_on, over_put, prepared_put, changes_put}
 use Rattle.fo_tree_clear.proofs.Leaf.{PieceCame, puts_end, leaf_put}
 use Rattle.fo_tree_clear.proofs.put.put_leaf.Given as given
 use Rattle.fo_tree_clear.proofs.put.put_leaf.Goals as goal
@@ -123,12 +124,15 @@ pub returns-clause-top : goal.returns-clause-top
 returns-clause-top g c =
     let is = c.own_way-current.ensures.top in
     let same = label_same (bytes_put g c) c.own_way-current.result.top in
+    let first = g.met.B.Blocks.keeps_all c.args.on.now c.own_way-current.new.on c.own_way-current.ensures.keeps in
     let more = g.met.B.Blocks.keeps_all c.own_way-current.new.on c.put_bytes.new.self c.put_bytes.ensures.keeps in
     record {
       from = ⊎_elim (λ made. inl (made.0, ap (λ l. l.state) same ∙ made.1)) (λ e. inr e) is.from;
       apart = λ made.
           let stays = (bytes_put g c).calm.frame.stays.apart c.own_way-current.result.top (λ z. z) (λ z. z) in
           stays.1 (is.apart (made.0, ap (λ (l : Label). l.state) (sym same) ∙ made.1));
+      comes = λ told from h. comes_on (bytes_put g c) (first.still_tells.1 told) (Local c.own_way-current.result.top) from (is.comes told from h);
+      only = λ told y z h. is.only told y z (only_on (bytes_put g c) y z h);
       live = ap (λ l. l.state) same ∙ is.live;
       current = ap (λ l. l.epoch) same ∙ is.current ∙ sym more.same_high;
     }
