@@ -52,7 +52,7 @@ changes_of {tag = tag} {inner = inner} {more = more} {s = s} {u = u} within deep
     touched b h = ⊎_elim (λ made. inl made) (λ own. inr (deeper b own.0, own.1, own.2)) h
 
 pub top_of_sized : {s u : State} {t : Tree} {d z top : ℕ} → IsTopOf s u (shaped t d z) top → IsTopOf s u t top
-top_of_sized is = record { from = is.from; apart = is.apart; live = is.live; current = is.current }
+top_of_sized is = record { from = is.from; apart = is.apart; comes = is.comes; only = is.only; live = is.live; current = is.current }
 
 -- a list whose end is zeros
 pub ends_in_zeros : (was : List ℕ) (m : ℕ) → length was ≡ 8192 → ((k : ℕ) → m ≤ k → k < 8192 → slice_index was k ≡ 0) → was ≡ resized (take m was) 8192
