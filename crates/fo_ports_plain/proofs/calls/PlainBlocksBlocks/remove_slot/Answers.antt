@@ -14,7 +14,7 @@ use Rattle.fo_ports_plain.specs.Meaning.{Plain, state_of}
 use Rattle.fo_ports_plain.specs.Parts.{parts}
 use Rattle.fo_ports_plain.proofs.Comes.{few_slots}
 use Rattle.fo_ports_plain.proofs.Puts.{all_slot}
-use Rattle.fo_ports_plain.proofs.Removes.{cleared_nowhere, waits_kept, waits_fewer, waits_still, cleared_fits}
+use Rattle.fo_ports_plain.proofs.Removes.{cleared_nowhere, ended_use, waits_kept, waits_fewer, waits_still, cleared_fits}
 use Rattle.fo_ports_plain.proofs.Frames.{put_frame, put_hangs, put_covers}
 use Rattle.fo_ports_plain.proofs.calls.PlainBlocksBlocks.remove_slot.Goals as goal
 
@@ -23,6 +23,9 @@ end_waits-requires c =
     let few : c.args.i < slot_count (label_at c.args.self.now.blocks.items c.args.self.now.made c.args.at).kind = c.requires.slots in
     let most = few_slots (label_at c.args.self.now.blocks.items c.args.self.now.made c.args.at).kind in
     omega (arith, few, most)
+
+pub set_slot-requires-clause-used : goal.set_slot-requires-clause-used
+set_slot-requires-clause-used c = ended_use c.cleared-slot.result c.end_waits.ensures.waits
 
 pub returns-clause-frame : goal.returns-clause-frame
 returns-clause-frame c =
