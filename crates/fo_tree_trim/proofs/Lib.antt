@@ -1,1 +1,12 @@
 pub mod Clearing
+pub mod One
+pub mod Paths
+pub mod Past
+pub mod Cutting
+pub mod Along
+pub mod Removing
+pub mod Looping
+pub mod Above
+pub mod Trimming
+pub mod Keeping
+pub mod Ending

@@ -1,6 +1,6 @@
 -- What stands behind a way.
-use Rattle.std.specs.Prelude.{◌≡◌, ◌^◌, ◌<◌, ℕ, List}
-use Rattle.fo_image.specs.declared.types.Pointer.TheVariants.{Nil}
+use Rattle.std.specs.Prelude.{◌≡◌, ◌^◌, ◌<◌, ◌≤◌, ℕ, List}
+use Rattle.fo_image.specs.declared.types.Pointer.TheVariants.{Nil, Local}
 use Rattle.fo_ports.specs.State.{State}
 use Rattle.fo_tree_read.specs.declared.tree.Tree.{Tree}
 use Rattle.fo_tree_read.specs.Tree.{block_at}
@@ -11,3 +11,14 @@ use Rattle.fo_tree_down.specs.Way.{IsWayIndex}
 -- No block stands behind the way to block k of those n steps below the top, as far as its levels go.
 abbrev pub IsClearTo : State → Tree → List Kept → ℕ → ℕ → Type 0
 IsClearTo s t kept n k = (m a b : ℕ) → IsWayIndex n k m a → a < b → b < 409 ^ m → block_at (seen s kept) t m b ≡ Nil
+
+-- A block of the source stands behind the way to leaf `last`, at its level.
+pub record IsPast (s : State) (t : Tree) (last b : ℕ) : Type 0 where
+  pub down : ℕ
+  pub index : ℕ
+  pub way : ℕ
+  pub within : down ≤ t.depth
+  pub few : index < 409 ^ down
+  pub is_way : IsWayIndex t.depth last down way
+  pub behind : way < index
+  pub is : block_at s t down index ≡ Local b

@@ -1,1 +1,3 @@
 pub mod Behind
+pub mod Cut
+pub mod Trim

@@ -14,7 +14,7 @@ use fo_tree_look::Kept;
 use fo_tree_read::Tree;
 
 /// How many bytes a leaf has.
-const LEAF: u64 = BLOCK as u64;
+pub(crate) const LEAF: u64 = BLOCK as u64;
 
 /// Whether nothing stands behind the end of a source, as far as the blocks on the way to its last leaf say, which were prepared. An empty
 /// source has no top.

@@ -1,0 +1,22 @@
+-- What stands behind an end is cleared.
+use Rattle.std.specs.Prelude.{◌≡◌, ◌≤◌, ℕ, Option, Some, None}
+use Rattle.fo_image.specs.declared.types.Pointer.TheVariants.{Local}
+use Rattle.fo_crash.specs.Images.{SameContent}
+use Rattle.fo_ports.specs.State.{State}
+use Rattle.fo_tree_read.specs.declared.tree.Tree.{Tree}
+use Rattle.fo_tree_read.specs.Tree.{block_at}
+use Rattle.fo_tree_down.specs.Way.{with_top}
+
+-- the tree of a source with this end
+abbrev pub ending : Tree → ℕ → Tree
+ending t end = record t { size = end }
+
+-- the tree, where its top may have been made current
+abbrev pub topped : Tree → Option ℕ → Tree
+topped t None = t
+topped t (Some top) = with_top t top
+
+-- The leaves up to this one are those that were there, and have what they had.
+pub record LeavesStay (s u : State) (t new : Tree) (last : ℕ) : Type 0 where
+  pub each : (i : ℕ) → i ≤ last → block_at u new t.depth i ≡ block_at s t t.depth i
+  pub content : (i b : ℕ) → i ≤ last → block_at s t t.depth i ≡ Local b → SameContent (u.now b) (s.now b)

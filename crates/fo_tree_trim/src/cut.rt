@@ -1,0 +1,69 @@
+//! Slots behind a way are cleared.
+ghost use Rattle.std.specs.Prelude.{◌≡◌, ◌⊎◌, ◌+◌, ◌-◌, ◌*◌, ◌/◌, ◌%◌, ◌^◌, ◌<◌, ◌≤◌, ℕ};
+ghost use Rattle.fo_image.specs.declared.types.Pointer.TheVariants.{Nil};
+ghost use Rattle.fo_crash.specs.Images.{target};
+ghost use Rattle.fo_ports.specs.Blocks.{IsInner};
+ghost use Rattle.fo_ports.specs.State.{MayRemoveSlot};
+ghost use Rattle.fo_tree_look.specs.Source.{Over, WayReady};
+ghost use Rattle.fo_tree_down.specs.Way.{IsWayIndex, WayCurrent};
+ghost use Rattle.fo_tree_trim.specs.Cut.{CutsOne, CutSlot, Cuts, MayCut};
+
+use crate::clear::is_nil;
+use crate::here::{SLOTS, pointer_here};
+use fo_image::Pointer;
+use fo_ports::Blocks;
+use fo_tree_look::Kept;
+use fo_tree_read::Tree;
+
+/// Clears each slot behind the way to a leaf, in the blocks above it, which are current: from the lowest level up.
+pub(crate) fn cut_behind<B: Blocks>(tree: &Tree, kept: &[Kept], on: &mut B, last: u64)
+    requires over { (limit : ℕ) × Over (B.state on.old) tree.now kept.now limit }
+    requires deep { 0 < tree.now.depth }
+    requires few { last < 409 ^ tree.now.depth }
+    requires ready { WayReady (B.state on.old) tree.now kept.now tree.now.depth last }
+    requires current { WayCurrent (B.state on.old) tree.now (tree.now.depth - 1) (last / 409) }
+    requires may { (B.state on.old).tells → MayCut (B.state on.old) tree.now last }
+    requires room { 409 * tree.now.depth ≤ (B.state on.old).room }
+    ensures cuts { Cuts (CutSlot (B.state on.old) tree.now last (409 * tree.now.depth)) (B.state on.old) (B.state on.new) }
+    ensures room { (B.state on.old).room ≤ (B.state on.new).room + 409 * tree.now.depth }
+    ensures keeps { B.keeps on.old on.new }
+{
+    for x in 0..SLOTS as u32 * tree.depth as u32 {
+        let down = tree.depth - 1 - (x / SLOTS as u32) as u8;
+        let next = index_at(tree.depth, last, down + 1);
+        let i = x % SLOTS as u32;
+        if i as u64 > next % SLOTS {
+            let above = pointer_here(tree, kept, on, down, next / SLOTS);
+            if let Pointer::Local(at) = above {
+                cut_slot(on, at, i);
+            }
+        }
+    }
+}
+
+/// The number of the block on the way to block `k` of those `n` steps below the top that stands so many steps below it.
+fn index_at(n: u8, k: u64, down: u8) -> u64
+    requires down { down ≤ n }
+    ensures { IsWayIndex n k down result }
+{
+    if n == down {
+        return k;
+    }
+    index_at(n - 1, k / SLOTS, down)
+}
+
+/// Clears a slot of a block of pointers, where it leads anywhere.
+fn cut_slot<B: Blocks>(on: &mut B, at: u32, i: u32)
+    requires pinned { (B.state on.old).pinned at }
+    requires current { ((B.state on.old).label at).epoch ≡ (B.state on.old).high }
+    requires inner { IsInner ((B.state on.old).label at).kind }
+    requires slot { i < 409 }
+    requires room { 0 < (B.state on.old).room }
+    requires may { (B.state on.old).tells → MayRemoveSlot (B.state on.old) at i }
+    ensures cut { CutsOne at i (B.state on.old) (B.state on.new) ⊎ ((target (((B.state on.old).now at).slot i) ≡ Nil) × (on.new ≡ on.old)) }
+    ensures keeps { B.keeps on.old on.new }
+{
+    if !is_nil(on.slot(at, i).target()) {
+        on.remove_slot(at, i, None);
+    }
+}
