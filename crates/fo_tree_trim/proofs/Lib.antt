@@ -10,3 +10,4 @@ pub mod Above
 pub mod Trimming
 pub mod Keeping
 pub mod Ending
+pub mod Linked

@@ -13,7 +13,9 @@
 mod clear;
 mod cut;
 mod here;
+mod laws;
 mod trim;
 
 pub use clear::is_clear_behind;
+pub use laws::may_cut;
 pub use trim::clear_behind;

@@ -1,0 +1,20 @@
+//! What may be cleared.
+ghost use Rattle.std.specs.Prelude.{◌≡◌, ◌^◌, ◌<◌, ℕ, true};
+ghost use Rattle.fo_image.specs.declared.types.Pointer.TheVariants.{Local};
+ghost use Rattle.fo_crash.specs.Images.{Reaches, to_block};
+ghost use Rattle.fo_tree_read.specs.Tree.{block_at};
+ghost use Rattle.fo_tree_look.specs.Source.{Over};
+ghost use Rattle.fo_tree_trim.specs.Cut.{IsBareLeaf, MayCut};
+
+use fo_ports::Blocks;
+use fo_tree_look::Kept;
+use fo_tree_read::Tree;
+
+/// What stands behind the way to a leaf may be cleared where the source hangs from block 1, as it does when a request begins, and leaves of
+/// entries behind it lead on to nothing.
+pub fn may_cut<B: Blocks>(tree: &Tree, kept: &[Kept], on: &B, last: u64)
+    requires over { (limit : ℕ) × Over (B.state on.now) tree.now kept.now limit }
+    requires linked { (B.state on.now).tells → (b : ℕ) → tree.now.top ≡ Local b → Reaches (B.state on.now).now (to_block 1) b }
+    requires bare { (B.state on.now).tells → tree.now.dir ≡ true → (i b : ℕ) → last < i → i < 409 ^ tree.now.depth → block_at (B.state on.now) tree.now tree.now.depth i ≡ Local b → IsBareLeaf (B.state on.now) b }
+    ensures may { (B.state on.now).tells → MayCut (B.state on.now) tree.now last }
+{}
