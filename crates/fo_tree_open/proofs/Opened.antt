@@ -141,6 +141,9 @@ module _ {s : State} {at i : ℕ} {e : Entry} {tag rank limit : ℕ} (x : Opens 
         alone = λ y h. absurd ((x.told told).alone y b h r);
       }
 
+  pub linked_opened : s.tells → (b : ℕ) → HasBlock s t b → Reaches s.now (to_block 1) b
+  linked_opened told b has = hung told b (hangs_below s t (Head e) refl has.down has.index b has.is)
+
   pub over_opened : Over s t [] limit
   over_opened = record {
     hangs = record {

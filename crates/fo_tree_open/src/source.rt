@@ -2,8 +2,9 @@
 ghost use Rattle.std.specs.Prelude.{◌≡◌, ◌^◌, ◌<◌, ◌≤◌, ℕ, true, List, [], MatchOption, IfSome};
 ghost use Rattle.fo_image.specs.declared.types.Pointer.TheVariants.{Nil};
 ghost use Rattle.fo_crash.specs.declared.slot.Slot.TheVariants.{Entry as Head};
+ghost use Rattle.fo_crash.specs.Images.{Reaches, to_block};
 ghost use Rattle.fo_tree_look.specs.declared.ways.Kept.{Kept};
-ghost use Rattle.fo_tree_look.specs.Source.{Over};
+ghost use Rattle.fo_tree_look.specs.Source.{Over, HasBlock};
 ghost use Rattle.fo_tree_open.specs.Open.{HasEntry, IsFit, CanOpen, tree_of};
 
 use fo_image::{Entry, Pointer};
@@ -32,6 +33,7 @@ pub fn open<B: Blocks>(
     ensures fits { MatchOption result (IsFit entry.now tag limit → ⊥) (λ ways. IsFit entry.now tag limit) }
     ensures is { IfSome result (λ ways. (ways.tree ≡ tree_of entry.now rank) × (ways.generation ≡ entry.now.generation) × (ways.limit ≡ limit) × (ways.kept.items ≡ [])) }
     ensures over { IfSome result (λ ways. Over (B.state on.now) ways.tree ways.kept.items ways.limit) }
+    ensures linked { IfSome result (λ ways. (B.state on.now).tells → (b : ℕ) → HasBlock (B.state on.now) ways.tree b → Reaches (B.state on.now).now (to_block 1) b) }
 {
     let _ = on;
     let _ = at;

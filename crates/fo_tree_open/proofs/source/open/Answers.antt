@@ -1,30 +1,46 @@
-use Rattle.std.proofs.Common.{[], subst, sym}
-use Rattle.fo_tree_look.specs.Source.{Over}
-use Rattle.fo_tree_open.specs.Open.{tree_of}
-use Rattle.fo_tree_open.proofs.Opened.{entry_within, over_opened}
+use Rattle.std.proofs.Common.{◌≡◌, ◌^◌, ◌<◌, ◌≤◌, ℕ, [], subst, sym}
+use Rattle.fo_image.specs.declared.types.Entry.{Entry}
+use Rattle.fo_crash.specs.declared.slot.Slot.TheVariants.{Entry as Head}
+use Rattle.fo_crash.specs.Images.{Reaches, to_block}
+use Rattle.fo_tree_look.specs.Source.{Over, HasBlock}
+use Rattle.fo_tree_open.specs.Open.{HasEntry, IsFit, CanOpen, tree_of}
+use Rattle.fo_tree_open.proofs.Opened.{Opens, entry_within, over_opened, linked_opened}
+use Rattle.fo_tree_open.proofs.source.open.Given as given
 use Rattle.fo_tree_open.proofs.source.open.Goals as goal
+
+opens : (g : given.Over) (on : g.row.B.Denot) {at i : ℕ} {e : Entry} {tag rank limit : ℕ} → (g.B.Blocks.state on).pinned at → ((g.B.Blocks.state on).now at).slot i ≡ Head e → HasEntry ((g.B.Blocks.state on).label at).kind i → (rank < 2 ^ 31) × (limit ≤ 2 ^ 47)
+    → ((g.B.Blocks.state on).tells → CanOpen (g.B.Blocks.state on) at i e rank) → IsFit e tag limit → Opens (g.B.Blocks.state on) at i e tag rank limit
+opens g on {at = at} {i = i} pinned is leaf low told fit =
+    let s = g.B.Blocks.state on in
+    record {
+      says = record {
+        placed = λ tells. g.met.B.Blocks.placed on s.now (g.met.B.Blocks.present on tells);
+        ranked = λ tells. g.met.B.Blocks.ranked on s.now (g.met.B.Blocks.present on tells);
+        one = g.met.B.Blocks.one_place on;
+        super_stands = g.met.B.Blocks.super_stands on;
+        live = λ b tells ne r. g.met.B.Blocks.live on b tells ne r;
+      };
+      is = is;
+      leaf = leaf;
+      fits = g.met.B.Blocks.spelled on at i pinned (entry_within ((s.label at).kind) i leaf);
+      within = λ b leads. g.met.B.Blocks.within on at i b pinned leads;
+      low = low;
+      told = told;
+      fit = fit;
+    }
 
 pub returns-clause-over : goal.returns-clause-over
 returns-clause-over g c =
-    let on = c.args.on.now in
-    let s = g.B.Blocks.state on in
+    let s = g.B.Blocks.state c.args.on.now in
     let e = c.args.entry.now in
     let is = c.source_of.ensures in
-    let over = over_opened {s = s} {at = c.args.at} {i = c.args.i} {e = e} {tag = c.args.tag} {rank = c.args.rank} {limit = c.args.limit} (record {
-      says = record {
-        placed = λ told. g.met.B.Blocks.placed on s.now (g.met.B.Blocks.present on told);
-        ranked = λ told. g.met.B.Blocks.ranked on s.now (g.met.B.Blocks.present on told);
-        one = g.met.B.Blocks.one_place on;
-        super_stands = g.met.B.Blocks.super_stands on;
-        live = λ b told ne r. g.met.B.Blocks.live on b told ne r;
-      };
-      is = c.requires.entry;
-      leaf = c.requires.leaf;
-      fits = g.met.B.Blocks.spelled on c.args.at c.args.i c.requires.pinned (entry_within ((s.label c.args.at).kind) c.args.i c.requires.leaf);
-      within = λ b leads. g.met.B.Blocks.within on c.args.at c.args.i b c.requires.pinned leads;
-      low = c.requires.low;
-      told = c.requires.told;
-      fit = c.is_fit.ensures.yes c.if-not-is_fit.false;
-    }) in
+    let over = over_opened (opens g c.args.on.now c.requires.pinned c.requires.entry c.requires.leaf c.requires.low c.requires.told (c.is_fit.ensures.yes c.if-not-is_fit.false)) in
     subst (λ w. Over s w c.source_of.result.kept.items c.source_of.result.limit) (sym is.0)
     (subst (λ k. Over s (tree_of e c.args.rank) k c.source_of.result.limit) (sym is.3) (subst (λ n. Over s (tree_of e c.args.rank) [] n) (sym is.2) over))
+
+pub returns-clause-linked : goal.returns-clause-linked
+returns-clause-linked g c =
+    let s = g.B.Blocks.state c.args.on.now in
+    let is = c.source_of.ensures in
+    let linked = linked_opened (opens g c.args.on.now c.requires.pinned c.requires.entry c.requires.leaf c.requires.low c.requires.told (c.is_fit.ensures.yes c.if-not-is_fit.false)) in
+    subst (λ w. s.tells → (b : ℕ) → HasBlock s w b → Reaches s.now (to_block 1) b) (sym is.0) linked
