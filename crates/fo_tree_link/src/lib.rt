@@ -1,0 +1,15 @@
+//! A source's entry is put into its slot, over any blocks.
+//!
+//! A source that was changed may hang from a new top, which is put nowhere yet. Its entry leads there once it is *linked*: put into the
+//! slot of the leaf of entries, or root block, in which its old entry stands.
+//!
+//! Proved, over any blocks and any device: memory has the entry there, and is else the same; an image has it, or is one of before. The
+//! source stands over the blocks, and nothing is to come in the place of its top. Where the device tells, what hangs from the new top hangs
+//! from block 1 now, and so does all that did, but what hung from the old entry alone, which is to be closed; and each block that hangs from
+//! block 1 stays in place for other sources. Where the source comes in the place of what its entry had (`ComesFor`), the put is one that
+//! `Blocks` asks for.
+#![tactic(auto)]
+
+mod put;
+
+pub use put::link;
