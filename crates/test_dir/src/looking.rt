@@ -3,6 +3,7 @@ ghost use Rattle.std.specs.Prelude.{IfOk};
 ghost use Rattle.fo_image.specs.declared.types.Kind.TheVariants.{Data, Dir};
 ghost use Rattle.fo_ports_source.specs.Source.{IsEmpty};
 
+use crate::leaves::is_ready;
 use fo_base::Memory;
 use fo_dir_list::{count, leaf_for, next};
 use fo_dir_read::{free_pair, lookup, pair};
@@ -65,16 +66,14 @@ fn empty(rt: HostRuntime) -> Result<(), Fail> {
     Ok(())
 }
 
-/// The first pair is free where there is no leaf, and where no entry of the first leaf is in use.
+/// The first pair is free where there is no leaf, and in one that was made ready.
 #[test]
 fn free(rt: HostRuntime) -> Result<(), Fail> {
     let mut entries = entries(rt.alloc())?;
     let mut on = PlainBlocks::new(rt.alloc(), 40)?;
     on.reserve(40, 40, 0)?;
     assert_eq!(rt; free_pair(&mut entries, &mut on, 2048)?, 0);
-    entries.prepare(&mut on, 0, 8192)?;
-    entries.own_leaf(&mut on, 0);
-    assert_eq!(rt; free_pair(&mut entries, &mut on, 2048)?, 0);
+    assert!(rt; is_ready(&mut entries, &mut on, 2048)?);
     Ok(())
 }
 

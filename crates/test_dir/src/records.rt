@@ -1,8 +1,7 @@
 //! Directories whose leaves have records.
-ghost use Rattle.std.specs.Prelude.{◌≡◌, ◌+◌, ◌*◌, ◌≤◌, length, IfOk};
+ghost use Rattle.std.specs.Prelude.{◌≡◌, ◌+◌, ◌*◌, ◌≤◌, length, max, IfOk};
 ghost use Rattle.fo_image.specs.declared.types.Kind.TheVariants.{Data};
-ghost use Rattle.fo_meta.specs.Leaf.{IsLeaf};
-ghost use Rattle.fo_ports.specs.Sources.{IsEnough, most_cleared};
+ghost use Rattle.fo_ports.specs.Sources.{IsEnough, most_cleared, most_for};
 ghost use Rattle.fo_ports_source.specs.Source.{IsEmpty};
 ghost use Rattle.fo_dir_read.specs.Names.{OfRecords, leaf_count};
 
@@ -51,16 +50,19 @@ fn has_two<B: Blocks, S: Bytes<B>>(
     records: &mut S,
     on: &mut B,
     rank: u32,
-    leaf: &[u8],
 ) -> Result<bool, BlockError>
     requires over { S.is_over records.old on.old }
     requires form { OfRecords (S.form records.old) rank }
-    requires prepared { (S.leaves records.old on.old).prepared 0 8192 }
+    requires limit { 8192 ≤ (S.form records.old).limit }
+    requires pins { most_for (max (S.size records.old) 8192) 8192 ≤ (B.state on.old).pins_left }
     requires spare { IsEnough (S.leaves records.old on.old).current (S.size records.old) 0 (B.state on.old).spare }
     requires room { most_cleared (S.size records.old) 8192 ≤ (B.state on.old).room }
-    requires bytes { IsLeaf leaf.now }
 {
-    fill(records, on, rank, leaf);
+    let leaf = two();
+    if !is_leaf(&leaf) {
+        return Ok(false);
+    }
+    fill(records, on, rank, &leaf)?;
     if !named(alloc, records, on, rank)? || !numbers(alloc, records, on, rank)? {
         return Ok(false);
     }
@@ -84,9 +86,6 @@ fn ample(rt: HostRuntime) -> Result<(), Fail> {
     let mut on = PlainBlocks::new(rt.alloc(), 40)?;
     on.reserve(40, 40, 0)?;
     let mut records = source(rt.alloc())?;
-    records.prepare(&mut on, 0, 8192)?;
-    let leaf = two();
-    assert!(rt; is_leaf(&leaf));
-    assert!(rt; has_two(rt.alloc(), &mut records, &mut on, RANK, &leaf)?);
+    assert!(rt; has_two(rt.alloc(), &mut records, &mut on, RANK)?);
     Ok(())
 }
