@@ -92,7 +92,21 @@ fn is_read_only<F: FileOps>(alloc: Global, files: &mut F) -> Result<bool, Fail>
     Ok(matches!(written, Err(FileError::ReadOnly)))
 }
 
-/// What is answered by the files of an archive of epoch 12.
+/// Whether these files answer a question as they should.
+fn told<F: FileOps>(alloc: Global, files: &mut F, asked: Question) -> Result<bool, Fail>
+    requires { F.serves files.old (Archive 12) }
+{
+    match asked {
+        Question::Listing => lists(alloc, files),
+        Question::Name => finds(alloc, files),
+        Question::Bytes => reads(alloc, files),
+        Question::Above => leads_up(alloc, files),
+        Question::NoFile => is_gone(alloc, files),
+        Question::Change => is_read_only(alloc, files),
+    }
+}
+
+/// Whether the files of an archive of epoch 12 answer a question as they should.
 fn answers(
     alloc: Global,
     arena: &mut Arena<MemDisk>,
@@ -104,14 +118,7 @@ fn answers(
         return Ok(false);
     }
     let mut files = VacFiles::new(alloc, arena, opened);
-    match asked {
-        Question::Listing => lists(alloc, &mut files),
-        Question::Name => finds(alloc, &mut files),
-        Question::Bytes => reads(alloc, &mut files),
-        Question::Above => leads_up(alloc, &mut files),
-        Question::NoFile => is_gone(alloc, &mut files),
-        Question::Change => is_read_only(alloc, &mut files),
-    }
+    told(alloc, &mut files, asked)
 }
 
 /// An archive of one file, `hi`, with the bytes `hello`.
