@@ -1,4 +1,7 @@
 //! Calls that look at the files of an archive.
+//!
+//! `held`: whatever the arena holds, where its device tells, what the file step says of the world with the archive is answered, or why it
+//! was not read. The other clauses are so over any device.
 ghost use Rattle.std.specs.Prelude.{◌≡◌, ◌≤◌, ℕ, List, Option, false, length, take, drop, IfOk, IfSome, MatchResult, Ok};
 ghost use Rattle.std.specs.Option.{option_copied};
 ghost use Rattle.fo_image.specs.Record.{RecordHolds};

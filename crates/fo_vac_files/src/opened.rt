@@ -73,6 +73,8 @@ impl Opened {
         ensures score { IfOk result (λ o. o.score ≡ score.now) }
         ensures hashes { IfOk result (λ o. ArchiveHashes (lines_of arena.old.shelf) score.now.0 o.found) }
         ensures refused { IfErr result (ArchiveRefused (lines_of arena.old.shelf) score.now.0) }
+
+        // The arena's block that has the top block: it is named where what the top block names is broken.
         ensures block { IfOk result (λ o. StandsIn (lines_of arena.old.shelf) 0 o.found.root.top.0 17 o.root.entries.holder × StandsIn (lines_of arena.old.shelf) 0 o.found.root.top.0 17 o.root.meta.holder) }
 
         // Over a device that tells what it holds: just what is held. `BadVac` comes exactly where that is no archive.
