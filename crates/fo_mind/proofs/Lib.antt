@@ -8,9 +8,11 @@ pub mod Listing
 pub mod Looking
 pub mod Putting
 pub mod Refilling
+pub mod Releasing
 pub mod Results
 pub mod Starting
 pub mod Still
 pub mod Waits
 pub mod Turning
+pub mod Unpinning
 pub mod Landing

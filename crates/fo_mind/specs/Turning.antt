@@ -1,14 +1,17 @@
 -- Which blocks have a turn in the order of writing, and what an answer of the device does to the fields of a cache.
-use Rattle.std.specs.Prelude.{◌≡◌, ◌+◌, ◌*◌, ◌<◌, ◌≤◌, ◌||◌, ℕ, Bool, true, false, cond, List, count_by, slice_set, Option, None}
+use Rattle.std.specs.Prelude.{◌≡◌, ◌⊎◌, ◌==◌, nat_eq, Some, ◌+◌, ◌*◌, ◌<◌, ◌≤◌, ◌&&◌, ◌||◌, ℕ, Bool, true, false, not, cond, List, count_by, slice_set, Option, None}
+use Rattle.std.specs.List.{list_any}
 use Rattle.std.specs.Option.{option_map_or}
+use Rattle.lru.specs.LruCache.{lru_cache, put_entries}
 use Rattle.fo_buffers.specs.declared.block.Buffer.{Buffer}
-use Rattle.fo_buffers.specs.Held.{Held, held_at, is_dirty, is_pinned, settled, updated}
+use Rattle.fo_buffers.specs.Held.{Held, cut, held_at, is_dirty, is_pinned, pinned_as, settled, updated}
 use Rattle.fo_order.specs.declared.marks.Flags.{Flags}
-use Rattle.fo_order.specs.declared.marks.Tried.TheVariants.{Settled}
+use Rattle.fo_order.specs.declared.marks.Tried.{Tried}
+use Rattle.fo_order.specs.declared.marks.Tried.TheVariants.{Settled, Written, Failed}
 use Rattle.fo_order.specs.Keeps.{Turns}
 use Rattle.fo_order.specs.Turns.{IsSynced, flag_at, wrote}
 use Rattle.fo_mind.specs.declared.facts.Fact.{Fact}
-use Rattle.fo_mind.specs.Parts.{Parts, fact_at}
+use Rattle.fo_mind.specs.Parts.{IsPinned, Parts, fact_at}
 use Rattle.fo_mind.specs.Sound.{owes}
 
 -- memory has this block changed
@@ -60,3 +63,30 @@ pub record Missed (at : ℕ) (old new : Parts) : Type 0 where
 pub record Synced (old new : Parts) : Type 0 where
   pub turns : IsSynced old.turns new.turns
   pub rest : new ≡ record old { turns = new.turns }
+
+-- No room is kept for a block that is not pinned any more, but for one that has no turn yet since it isn't linked.
+abbrev pub unpinned_fact : Fact → Fact
+unpinned_fact f = record f { owes = f.owes && not f.linked }
+
+-- A pinned block isn't pinned any more.
+pub record Unpinned (at : ℕ) (old new : Parts) : Type 0 where
+  pub pinned : IsPinned old.held at
+  pub held : new.held ≡ updated old.held at (pinned_as false)
+  pub facts : new.facts ≡ slice_set old.facts at (unpinned_fact (fact_at old.facts at))
+  pub rest : new ≡ record old { held = new.held; facts = new.facts }
+
+abbrev pub is_settled : Tried → Bool
+is_settled Settled = true
+is_settled Written = false
+is_settled Failed = false
+
+-- A block may be given up: it is held, not pinned and not changed, settled, in the tree of memory, and nothing waits for its entries.
+abbrev pub may_release : Parts → ℕ → Bool
+may_release p at = not (option_map_or is_pinned (held_at p.held at) true) && (not (is_changed (held_at p.held at)) && (is_settled (flag_at p.turns at).tried && (not (list_any (λ w. w.on == at) p.waits) && (fact_at p.facts at).linked)))
+
+-- It isn't held any more, and is the first of the clean ones, or forgotten for want of memory.
+pub record Released (at : ℕ) (old new : Parts) : Type 0 where
+  pub was : Buffer
+  pub held : held_at old.held at ≡ Some was
+  pub is : (new.held ≡ record (cut old.held at) { clean = put_entries nat_eq (lru_cache old.held.clean 1024) at was.block }) ⊎ (new.held ≡ cut old.held at)
+  pub rest : new ≡ record old { held = new.held }

@@ -24,6 +24,7 @@ mod mind;
 mod news;
 mod numbers;
 mod opening;
+mod pins;
 mod puts;
 mod turns;
 mod views;
