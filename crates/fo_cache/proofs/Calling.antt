@@ -2,6 +2,7 @@
 use Rattle.std.proofs.Common.{◌≡◌, ◌≢◌, ⊎_elim, ℕ, ◌+◌, ◌-◌, ◌<◌, ◌≤◌, ◌&&◌, Bool, true, false, cond, nat_eq, List, [], ◌∷◌, length, get_or, set, Option, Some, None, refl, sym, ap, ◌∙◌, subst, arith, get_or-set_same, length-set}
 use Rattle.std.specs.List.{Contains}
 use Rattle.std.specs.Map.{lookup}
+use Rattle.std.specs.Option.{MatchOption}
 use Rattle.std.proofs.lemmas.Bool.{cases_eq}
 use Rattle.lru.proofs.CallerLemmas.{Contains-remove_entry}
 use Rattle.lru.proofs.Splits.{Contains-cons, Contains-nil}
@@ -11,7 +12,6 @@ use Rattle.fo_disk.specs.Disk.{Block, Content, Versions, latest_of, versions_of}
 use Rattle.fo_buffers.specs.declared.block.Buffer.{Buffer}
 use Rattle.fo_buffers.specs.Held.{Held, buffer_of, held_at, put, unlisted, used}
 use Rattle.fo_order.specs.declared.marks.Flags.{Flags}
-use Rattle.fo_order.specs.declared.marks.Tried.{Tried}
 use Rattle.fo_order.specs.Flags.{flags_of, quiet}
 use Rattle.fo_order.specs.Keeps.{Turns}
 use Rattle.fo_order.specs.Turns.{changed, flag_at}
@@ -19,11 +19,12 @@ use Rattle.fo_labels.specs.Region.{IsDataBlock, Region, relabeled}
 use Rattle.fo_bring.specs.Holds.{IsFound, IsFromIn}
 use Rattle.fo_bring.proofs.Buffering.{put_other, put_same}
 use Rattle.fo_mind.specs.declared.facts.Fact.{Fact}
-use Rattle.fo_mind.specs.Changes.{takes_turn, turned, turned_facts}
+use Rattle.fo_mind.specs.Changes.{takes_turn, turned}
 use Rattle.fo_mind.specs.Got.{ComesFrom}
 use Rattle.fo_mind.specs.Parts.{Parts, count_of, fact_at}
 use Rattle.fo_mind.specs.Sound.{Placed}
-use Rattle.fo_mind.specs.Turning.{Turning}
+use Rattle.fo_mind.specs.Turning.{Turning, Unpinned}
+use Rattle.fo_mind.proofs.Unpinning.{Unpins, unpins_of}
 use Rattle.fo_mind.proofs.Giving.{change_other}
 use Rattle.fo_mind.proofs.Refilling.{Refills, flags_turned}
 use Rattle.fo_cache.specs.Fits.{Fits, FitsAt}
@@ -195,3 +196,42 @@ module _ (p q : Parts) (at : ℕ) {bytes : List ℕ} (holds : Content) (unsure :
           (λ e. subst (λ n. (flag_at (turned p.facts p.turns at) n).tried ≡ (flag_at p.turns n).tried) (sym e) (tried_turned p.facts p.turns at within))
           (λ ne. ap (λ (f : Flags). f.tried) (flags_turned p.facts p.turns at lt within b ne))
           (cases_eq b at)
+
+-- ---- a block is pinned no more
+
+module _ (p q : Parts) (at : ℕ) (holds : Content) (unsure : List Bool) (u : Unpins at p.held q.held) (turns : q.turns ≡ p.turns) (region : q.region ≡ p.region) where
+  fits_one : Fits (record p { disk = holds }) unsure → Fits (record q { disk = holds }) unsure
+  fits_one fits = record {
+    each = λ b le inside.
+        let old : p.region.first ≤ b = subst (λ (r : Region). r.first ≤ b) region le in
+        let was = fits.each b old inside in
+        let same = ap (λ (t : Turns). flag_at t b) turns in
+        record {
+          some = was.some;
+          settled = λ e. was.settled (sym (ap (λ (f : Flags). f.tried) same) ∙ e);
+          sure = λ e. was.sure (sym (ap (λ (f : Flags). f.tried) same) ∙ e);
+          held = λ x is clean. ⊎_elim
+              (λ e.
+              let it = same_some (sym u.here ∙ ap (held_at q.held) (sym e) ∙ is) in
+              was.held u.was (ap (held_at p.held) e ∙ u.held) (ap (λ (z : Buffer). z.dirty) it ∙ clean) ∙ ap (λ (z : Buffer). z.block) it)
+              (λ ne. was.held x (sym (u.others b ne) ∙ is) clean)
+              (cases_eq b at);
+          listed = λ bs none c. ⊎_elim
+              (λ e. some_none (sym u.here ∙ ap (held_at q.held) (sym e) ∙ none))
+              (λ ne. was.listed bs (sym (u.others b ne) ∙ none) (subst (λ (es : List (ℕ × List ℕ)). Contains es (b, bs)) u.clean c))
+              (cases_eq b at);
+        };
+  }
+
+module _ (p q : Parts) (none : Type 0) where
+  pub region_unpinned : (o : Option ℕ) → MatchOption o ((q ≡ p) × none) (λ at. Unpinned at p q) → q.region ≡ p.region
+  region_unpinned None m = ap (λ (z : Parts). z.region) m.0
+  region_unpinned (Some at) m = ap (λ (z : Parts). z.region) m.rest
+
+  pub turns_unpinned : (o : Option ℕ) → MatchOption o ((q ≡ p) × none) (λ at. Unpinned at p q) → q.turns ≡ p.turns
+  turns_unpinned None m = ap (λ (z : Parts). z.turns) m.0
+  turns_unpinned (Some at) m = ap (λ (z : Parts). z.turns) m.rest
+
+  pub fits_unpinned : (holds : Content) (unsure : List Bool) (o : Option ℕ) → MatchOption o ((q ≡ p) × none) (λ at. Unpinned at p q) → Fits (record p { disk = holds }) unsure → Fits (record q { disk = holds }) unsure
+  fits_unpinned holds unsure None m fits = subst (λ (z : Parts). Fits (record z { disk = holds }) unsure) (sym m.0) fits
+  fits_unpinned holds unsure (Some at) m fits = fits_one p q at holds unsure (unpins_of at p.held q.held (record { is = m.pinned }) m.held) (ap (λ (z : Parts). z.turns) m.rest) (ap (λ (z : Parts). z.region) m.rest) fits

@@ -1,9 +1,9 @@
 -- What ties blocks of labels to the device is kept.
-use Rattle.std.proofs.Common.{◌≡◌, ◌≢◌, ◌⊎◌, ⊎_elim, ℕ, ◌+◌, ◌-◌, ◌<◌, ◌≤◌, ◌&&◌, Bool, true, false, cond, nat_eq, nat_lt, List, [], length, drop, get_or, set, Result, Ok, Err, refl, sym, ap, ◌∙◌, subst, arith, get_or-set_same, get_or-set_other}
+use Rattle.std.proofs.Common.{◌≡◌, ◌≢◌, ⊎_elim, ℕ, ◌-◌, ◌<◌, ◌≤◌, ◌&&◌, Bool, true, false, cond, nat_eq, nat_lt, List, length, drop, get_or, set, Result, Ok, Err, refl, sym, ap, ◌∙◌, subst, arith, get_or-set_same, get_or-set_other}
 use Rattle.std.specs.Result.{OnOk, OnErr}
 use Rattle.std.proofs.lemmas.Bool.{and_parts, cases_eq, cases_lt, lt-ltb}
 use Rattle.std.proofs.lemmas.List.{length_push}
-use Rattle.fo_disk.specs.Disk.{Adds, Appends, Content, DiskState, IsSync, IsWrite, Versions, latest_of, newest, versions_of}
+use Rattle.fo_disk.specs.Disk.{Content, DiskState, IsSync, IsWrite, Versions, latest_of, newest, versions_of}
 use Rattle.fo_disk.specs.Disk.{Settles as Leaves}
 use Rattle.fo_disk.specs.declared.disk.Failed.{Failed}
 use Rattle.fo_disk.proofs.Images.{adds-count, adds-here, adds-other, appends-adds, newest-one, sure as no_flag}

@@ -1,15 +1,14 @@
 -- A cache in which nothing is held fits a device that is settled.
-use Rattle.std.proofs.Common.{◌≡◌, ⊎_elim, ℕ, ◌<◌, ◌≤◌, Bool, List, [], length, replicate, Option, Some, None, refl, sym, ap, ◌∙◌, subst, arith}
+use Rattle.std.proofs.Common.{◌≡◌, ⊎_elim, ℕ, ◌<◌, ◌≤◌, Bool, List, length, replicate, Some, None, sym, ap, ◌∙◌, subst, arith}
 use Rattle.std.specs.List.{Contains}
 use Rattle.std.proofs.lemmas.Bool.{cases_lt}
 use Rattle.std.proofs.lemmas.List.{length-replicate, get_or-replicate, get_or_past}
 use Rattle.lru.proofs.Splits.{Contains-nil}
 use Rattle.fo_disk.specs.Disk.{Content, IsSettled, latest_of, versions_of}
 use Rattle.fo_buffers.specs.declared.block.Buffer.{Buffer}
-use Rattle.fo_buffers.specs.Held.{Held, held_at}
+use Rattle.fo_buffers.specs.Held.{held_at}
 use Rattle.fo_order.specs.declared.marks.Tried.TheVariants.{Settled, Written}
 use Rattle.fo_order.specs.Flags.{quiet}
-use Rattle.fo_order.specs.Keeps.{Turns}
 use Rattle.fo_order.specs.Turns.{flag_at}
 use Rattle.fo_mind.specs.Opened.{no_turns, opened}
 use Rattle.fo_mind.specs.Parts.{Parts, count_of}

@@ -1,5 +1,5 @@
 -- What a device answered, and what a cache is after it.
-use Rattle.std.proofs.Common.{◌≡◌, ◌≢◌, ⊎_elim, ℕ, ◌+◌, ◌<◌, ◌≤◌, Bool, true, false, nat_eq, eqb-true, List, [], ◌∷◌, length, drop, get_or, Some, None, is_some, Option, Result, Ok, Err, refl, sym, ap, ◌∙◌, subst, arith}
+use Rattle.std.proofs.Common.{◌≡◌, ◌≢◌, ⊎_elim, ℕ, ◌<◌, ◌≤◌, Bool, true, false, nat_eq, eqb-true, List, [], ◌∷◌, length, drop, get_or, Some, None, is_some, Option, Result, Ok, Err, refl, sym, ap, ◌∙◌, subst, arith}
 use Rattle.std.specs.List.{Contains}
 use Rattle.std.specs.Map.{lookup, lookup_entry}
 use Rattle.lru.proofs.CallerLemmas.{Contains-lookup_entry}
@@ -21,7 +21,6 @@ use Rattle.fo_mind.specs.Sound.{Placed}
 use Rattle.fo_mind.specs.Turning.{Landed, Missed, Synced, Turning, is_changed}
 use Rattle.fo_mind.proofs.Landing.{within_count}
 use Rattle.fo_cache.specs.Fits.{Fits, FitsAt}
-use Rattle.fo_cache.specs.Written.{IsWritten}
 use Rattle.fo_cache.proofs.Fitting.{fits_landed, fits_missed, fits_synced, latest_push}
 
 -- what has a turn is held

@@ -5,7 +5,7 @@ use fo_image::Kind;
 use fo_ports::BlockError;
 
 impl<D: Disk> Cache<D> {
-    ghost use Rattle.std.specs.Prelude.{◌≡◌, ◌↔◌, ◌+◌, ◌-◌, ◌^◌, ◌<◌, ◌≤◌, ℕ, [], length, IsOk, OnOk, OnErr, IfErr};
+    ghost use Rattle.std.specs.Prelude.{◌≡◌, ◌↔◌, ◌+◌, ◌-◌, ◌^◌, ◌<◌, ◌≤◌, ℕ, [], length, MatchOption, IsOk, OnOk, OnErr, IfErr};
     ghost use Rattle.fo_base.specs.Cause.{Rose};
     ghost use Rattle.fo_image.specs.declared.types.State.TheVariants.{Live};
     ghost use Rattle.fo_image.specs.declared.types.Pointer.TheVariants.{Local};
@@ -16,6 +16,7 @@ impl<D: Disk> Cache<D> {
     ghost use Rattle.fo_ports.specs.Causes.{Caused};
     ghost use Rattle.fo_ports.specs.State.{AddsNoWait, Calm, Gives, Looks, none};
     ghost use Rattle.fo_mind.specs.MindParts.{parts};
+    ghost use Rattle.fo_mind.specs.Turning.{Unpinned};
     ghost use Rattle.fo_mind.specs.Parts.{CacheKeeps, Instead, IsBlock, IsPinned, label_at, memory, state_of};
 
     /// Copies a block of this kind and rank, as it was last put, and pins it while pins are left (`Mind::get`).
@@ -58,6 +59,14 @@ impl<D: Disk> Cache<D> {
         ensures device { self.new.main ≡ self.old.main }
     {
         self.mind.copy(at)
+    }
+
+    /// Unpins one pinned block and gives its address, and None exactly where none is pinned.
+    pub fn unpin(&mut self) -> Option<u32>
+        ensures unpinned { MatchOption result ((parts self.new.mind [] 0 ≡ parts self.old.mind [] 0) × ((q : ℕ) → IsPinned (parts self.old.mind [] 0).held q → ⊥)) (λ at. Unpinned at (parts self.old.mind [] 0) (parts self.new.mind [] 0)) }
+        ensures device { self.new.main ≡ self.old.main }
+    {
+        self.mind.unpin()
     }
 
     /// Puts bytes into a pinned block, none of which spells a slot.

@@ -1,4 +1,4 @@
-use Rattle.std.proofs.Common.{◌≡◌, ◌<◌, ◌≤◌, [], sym, ap, subst}
+use Rattle.std.proofs.Common.{◌≤◌, [], sym, ap, subst}
 use Rattle.std.specs.Option.{option_map}
 use Rattle.fo_buffers.specs.Held.{block_in, held_at}
 use Rattle.fo_image.specs.Place.{label_block}

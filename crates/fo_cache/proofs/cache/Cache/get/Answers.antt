@@ -1,4 +1,4 @@
-use Rattle.std.proofs.Common.{◌≡◌, ◌<◌, ◌≤◌, [], Result, Ok, Err, sym, ap, subst}
+use Rattle.std.proofs.Common.{◌<◌, ◌≤◌, [], Result, Ok, Err, sym, ap, subst}
 use Rattle.std.specs.Result.{OnOk}
 use Rattle.fo_disk.specs.Disk.{DiskState}
 use Rattle.fo_labels.specs.Region.{Region}

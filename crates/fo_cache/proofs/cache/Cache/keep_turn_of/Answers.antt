@@ -1,6 +1,5 @@
-use Rattle.std.proofs.Common.{◌≤◌, [], refl, sym, ap, subst}
+use Rattle.std.proofs.Common.{◌≤◌, [], sym, ap, subst}
 use Rattle.fo_labels.specs.Region.{Region}
-use Rattle.fo_order.specs.Keeps.{Turns}
 use Rattle.fo_order.specs.Turns.{flag_at}
 use Rattle.fo_mind.specs.MindParts.{parts}
 use Rattle.fo_mind.specs.Parts.{Parts, count_of}

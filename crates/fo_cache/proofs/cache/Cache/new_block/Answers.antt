@@ -1,8 +1,7 @@
-use Rattle.std.proofs.Common.{◌≡◌, ◌<◌, ◌≤◌, [], sym, ap, subst, arith}
+use Rattle.std.proofs.Common.{◌≤◌, [], sym, ap, subst}
 use Rattle.fo_image.specs.Place.{label_block}
 use Rattle.fo_labels.specs.Region.{Region}
 use Rattle.fo_mind.specs.MindParts.{parts}
-use Rattle.fo_mind.specs.Parts.{Parts, count_of}
 use Rattle.fo_ports.specs.Blocks.{zero_bytes}
 use Rattle.fo_cache.proofs.Calling.{count_relabeled, fits_given, labels_before}
 use Rattle.fo_cache.proofs.Labelling.{dirty_changed, label_within, labels_given}

@@ -1,5 +1,4 @@
 use Rattle.std.proofs.Common.{◌≤◌, [], sym, subst}
-use Rattle.fo_mind.specs.MindParts.{parts}
 use Rattle.fo_mind.specs.Parts.{Parts, count_of}
 use Rattle.fo_cache.specs.Fits.{Fits, FitsLabels}
 use Rattle.fo_cache.proofs.cache.Cache.next_turn.Goals as goal

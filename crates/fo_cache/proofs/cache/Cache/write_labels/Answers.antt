@@ -1,10 +1,9 @@
-use Rattle.std.proofs.Common.{◌≡◌, ◌<◌, ◌≤◌, [], true, length, sym, ap, subst, arith}
+use Rattle.std.proofs.Common.{◌≤◌, [], sym, subst, arith}
 use Rattle.fo_buffers.specs.Held.{held_at}
 use Rattle.fo_labels.specs.Region.{Region}
-use Rattle.fo_labels.specs.Spelled.{SpellsLabels}
 use Rattle.fo_mind.specs.Laws.{pinned_held}
 use Rattle.fo_mind.specs.MindParts.{parts}
-use Rattle.fo_mind.specs.Parts.{Parts, count_of}
+use Rattle.fo_mind.specs.Parts.{count_of}
 use Rattle.fo_mind.proofs.Landing.{within_count}
 use Rattle.fo_cache.proofs.Labelling.{fits_elsewhere, labels_answered, versions_kept}
 use Rattle.fo_cache.proofs.Outcomes.{if_err, if_ok, region_answered, turn_within}

@@ -1,4 +1,4 @@
-use Rattle.std.proofs.Common.{◌≡◌, ◌<◌, ◌≤◌, [], false, true, ⊎_elim, subst, sym, arith}
+use Rattle.std.proofs.Common.{◌≡◌, ◌≤◌, [], false, true, ⊎_elim, subst, sym, arith}
 use Rattle.std.proofs.lemmas.Bool.{cases_lt}
 use Rattle.fo_mind.specs.MindParts.{parts}
 use Rattle.fo_mind.proofs.Landing.{within_count}
