@@ -1,15 +1,15 @@
 -- What holds of the fields of a cache stays when the device answers.
-use Rattle.std.proofs.Common.{◌≡◌, ◌≢◌, ⊎_elim, ℕ, ◌+◌, ◌*◌, ◌<◌, ◌≤◌, ◌||◌, Bool, true, false, cond, List, length, set, count_by, Option, Some, None, Result, Ok, Err, refl, sym, ap, ◌∙◌, subst, arith}
+use Rattle.std.proofs.Common.{◌≡◌, ⊎_elim, ℕ, ◌+◌, ◌*◌, ◌<◌, ◌≤◌, ◌||◌, Bool, true, false, cond, List, length, set, count_by, Option, Some, None, Result, Ok, Err, refl, sym, ap, ◌∙◌, subst, arith}
 use Rattle.std.specs.Option.{option_map_or}
 use Rattle.std.specs.Result.{OnOk, OnErr}
 use Rattle.fo_disk.specs.Disk.{Content as Holds}
 use Rattle.std.proofs.lemmas.Bool.{cases_eq}
-use Rattle.std.proofs.lemmas.List.{length-set, get_or-set_same, get_or-set_other}
+use Rattle.std.proofs.lemmas.List.{length-set, get_or-set_same}
 use Rattle.std.proofs.lemmas.List.Sums.{sum_by-set}
 use Rattle.fo_buffers.specs.declared.block.Buffer.{Buffer}
 use Rattle.fo_buffers.specs.Held.{Held, held_at, is_pinned, settled, updated}
 use Rattle.fo_order.specs.declared.marks.Flags.{Flags}
-use Rattle.fo_order.specs.Flags.{flags_of, quiet}
+use Rattle.fo_order.specs.Flags.{flags_of}
 use Rattle.fo_order.specs.declared.marks.Tried.TheVariants.{Written, Failed}
 use Rattle.fo_order.specs.Keeps.{Turns}
 use Rattle.fo_order.specs.Turns.{IsSynced, flag_at, wrote}
@@ -23,7 +23,7 @@ use Rattle.fo_mind.specs.Parts.{Parts, fact_at, is_active, label_at, no_fact}
 use Rattle.fo_mind.specs.Sound.{Placed, Holding, Waiting, Owing, Roomy, owes}
 use Rattle.fo_mind.specs.Turning.{KeepsTurn, is_pinned_at, written_fact}
 use Rattle.fo_mind.proofs.Keeping.{waiting_like}
-use Rattle.fo_mind.proofs.Turning.{Settles, settles_of, landed_here, landed_other, missed_here, missed_other, other_written}
+use Rattle.fo_mind.proofs.Turning.{Settles, settles_of, landed_other, missed_here, missed_other, other_written}
 
 same_some : (x y : Buffer) → Some x ≡ Some y → x ≡ y
 same_some x y e = cc

@@ -1,5 +1,5 @@
 -- A block is given up.
-use Rattle.std.proofs.Common.{◌≡◌, ◌≢◌, ◌⊎◌, ⊎_elim, ℕ, ◌*◌, ◌<◌, ◌≤◌, ◌&&◌, ◌||◌, ◌==◌, Bool, true, false, not, nat_eq, cond, List, [], ◌∷◌, Option, Some, None, is_some, refl, sym, ap, ◌∙◌, subst}
+use Rattle.std.proofs.Common.{◌≡◌, ◌≢◌, ◌⊎◌, ⊎_elim, ℕ, ◌*◌, ◌||◌, ◌==◌, Bool, true, false, not, nat_eq, List, [], ◌∷◌, Option, Some, None, is_some, refl, sym, ap, ◌∙◌, subst}
 use Rattle.std.specs.Cmp.{nat_eq_equiv}
 use Rattle.std.specs.List.{list_any}
 use Rattle.std.specs.Option.{IfSome, MatchOption, option_map_or}
@@ -7,7 +7,6 @@ use Rattle.std.proofs.lemmas.Bool.{and_parts, cases_eq}
 use Rattle.lru.specs.LruCache.{lru_cache, put_entries}
 use Rattle.fo_buffers.specs.declared.block.Buffer.{Buffer}
 use Rattle.fo_buffers.specs.Held.{Held, cut, held_at, is_pinned}
-use Rattle.fo_order.specs.declared.marks.Flags.{Flags}
 use Rattle.fo_order.specs.declared.marks.Tried.TheVariants.{Settled, Written, Failed}
 use Rattle.fo_order.specs.declared.marks.Tried.{Tried}
 use Rattle.fo_order.specs.Keeps.{Turns}
@@ -17,8 +16,8 @@ use Rattle.fo_slots.specs.Read.{read}
 use Rattle.fo_bring.proofs.Buffering.{cut_other, cut_same}
 use Rattle.fo_mind.specs.declared.facts.Fact.{Fact}
 use Rattle.fo_mind.specs.declared.facts.Wait.{Wait}
-use Rattle.fo_mind.specs.Parts.{Listed, Parts, fact_at, is_active, label_at}
-use Rattle.fo_mind.specs.Sound.{Holding, Waiting, Owing, Roomy}
+use Rattle.fo_mind.specs.Parts.{Listed, Parts, is_active, label_at}
+use Rattle.fo_mind.specs.Sound.{Holding, Waiting, Owing}
 use Rattle.fo_mind.specs.Turning.{Released, Turning, is_changed, is_settled, may_release}
 use Rattle.fo_mind.proofs.Keeping.{holding_less}
 use Rattle.fo_mind.proofs.Turning.{one_differs}

@@ -1,25 +1,25 @@
 -- Which blocks have a turn stays known.
-use Rattle.std.proofs.Common.{◌≡◌, ◌≢◌, ⊎_elim, ℕ, ◌+◌, ◌-◌, ◌*◌, ◌<◌, ◌≤◌, ◌&&◌, ◌||◌, Bool, true, false, not, cond, List, length, set, replicate, count_by, Option, Some, None, refl, sym, ap, ◌∙◌, subst, arith}
+use Rattle.std.proofs.Common.{◌≡◌, ◌≢◌, ⊎_elim, ℕ, ◌<◌, ◌&&◌, Bool, true, false, not, cond, List, length, set, replicate, Option, Some, None, refl, sym, ap, ◌∙◌, subst, arith}
 use Rattle.std.specs.Option.{option_map_or}
 use Rattle.std.proofs.lemmas.Bool.{cases_eq, cases_lt}
-use Rattle.std.proofs.lemmas.List.{length-set, length-replicate, get_or-replicate, get_or_past, get_or-set_same, get_or-set_other}
-use Rattle.fo_image.specs.Place.{first_data, label_block}
+use Rattle.std.proofs.lemmas.List.{length-replicate, get_or-replicate, get_or_past, get_or-set_same, get_or-set_other}
+use Rattle.fo_image.specs.Place.{label_block}
 use Rattle.fo_disk.specs.Disk.{Content as Holds}
 use Rattle.fo_image.specs.declared.types.Kind.{Kind}
 use Rattle.fo_buffers.specs.declared.block.Buffer.{Buffer}
-use Rattle.fo_buffers.specs.Held.{Held, held_at, buffer_of, is_dirty, is_pinned, pinned_as, put, settled, unlisted, updated, used}
+use Rattle.fo_buffers.specs.Held.{Held, held_at, buffer_of, pinned_as, put, settled, unlisted, updated, used}
 use Rattle.fo_order.specs.declared.marks.Flags.{Flags}
 use Rattle.fo_order.specs.Flags.{flags_of, quiet, settled_tried}
 use Rattle.fo_order.specs.Keeps.{Turns}
 use Rattle.fo_order.specs.Turns.{IsSynced, changed, flag_at, wrote}
-use Rattle.fo_order.specs.declared.marks.Tried.TheVariants.{Settled, Written, Failed}
+use Rattle.fo_order.specs.declared.marks.Tried.TheVariants.{Written, Failed}
 use Rattle.fo_labels.specs.Region.{Region}
 use Rattle.fo_bring.specs.Blocks.{IsData}
 use Rattle.fo_bring.specs.Holds.{Others, Brought}
 use Rattle.fo_bring.proofs.Bringing.{loaded_here}
 use Rattle.fo_bring.proofs.Buffering.{put_same, put_other}
 use Rattle.fo_mind.specs.declared.facts.Fact.{Fact}
-use Rattle.fo_mind.specs.Changes.{takes_turn, turned, turned_facts}
+use Rattle.fo_mind.specs.Changes.{turned, turned_facts}
 use Rattle.fo_mind.specs.Opened.{no_buffers, no_turns}
 use Rattle.fo_mind.specs.Parts.{fact_at, no_fact, owing_as}
 use Rattle.fo_mind.specs.Sound.{Holding, Placed}

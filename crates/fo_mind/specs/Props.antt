@@ -19,7 +19,6 @@ use Rattle.fo_image.specs.declared.types.State.TheVariants.{Free, Live, Closed}
 use Rattle.fo_image.specs.Format.{KindHolds, StateHolds}
 use Rattle.fo_buffers.specs.Held.{Held}
 use Rattle.fo_order.specs.declared.marks.Flags.{Flags}
-use Rattle.fo_order.specs.declared.marks.Tried.{Tried}
 use Rattle.fo_buffers.specs.declared.block.Buffer.{Buffer}
 use Rattle.std.specs.Prelude.{Option}
 use Rattle.fo_order.specs.Keeps.{Turns}

@@ -1,6 +1,5 @@
-use Rattle.std.proofs.Common.{refl}
 use Rattle.fo_mind.specs.MindParts.{parts}
-use Rattle.fo_mind.proofs.Landing.{keeps_turn, same_turn}
+use Rattle.fo_mind.proofs.Landing.{keeps_turn}
 use Rattle.fo_mind.proofs.Results.{on_ok}
 use Rattle.fo_mind.proofs.mind.Mind.keep_turn_of.Goals as goal
 

@@ -1,11 +1,10 @@
-use Rattle.std.proofs.Common.{◌≡◌, Bool, true, List, length, set, cond, refl, sym, ap, ◌∙◌, subst}
-use Rattle.fo_buffers.specs.Held.{Held, settled, updated}
+use Rattle.std.proofs.Common.{Bool, true, List, cond, refl, sym, ap, ◌∙◌}
+use Rattle.fo_buffers.specs.Held.{settled, updated}
 use Rattle.fo_order.specs.Keeps.{Turns}
-use Rattle.fo_order.specs.Turns.{wrote}
 use Rattle.fo_mind.specs.declared.facts.Fact.{Fact}
 use Rattle.fo_mind.specs.Parts.{fact_at}
 use Rattle.fo_mind.specs.Sound.{Placed, Owing, Roomy}
-use Rattle.fo_mind.specs.Turning.{Turning, is_pinned_at, written_fact}
+use Rattle.fo_mind.specs.Turning.{Turning, written_fact}
 use Rattle.fo_mind.proofs.Landing.{facts_landed, holding_settles, owing_landed, placed_wrote, roomy_landed, settles_landed, waiting_settles, within_count}
 use Rattle.fo_mind.proofs.Results.{both}
 use Rattle.fo_mind.proofs.Turning.{turning_landed}

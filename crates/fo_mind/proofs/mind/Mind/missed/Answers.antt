@@ -1,4 +1,4 @@
-use Rattle.std.proofs.Common.{false, List, refl, sym, ap, subst}
+use Rattle.std.proofs.Common.{false, List, refl}
 use Rattle.fo_order.specs.Keeps.{Turns}
 use Rattle.fo_mind.specs.declared.facts.Fact.{Fact}
 use Rattle.fo_mind.specs.Parts.{fact_at}
