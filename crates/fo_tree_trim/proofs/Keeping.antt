@@ -31,11 +31,11 @@ use Rattle.fo_tree_trim.proofs.Removing.{hangs_past}
 use Rattle.fo_tree_trim.proofs.Above.{past_back, past_live, leaf_off}
 use Rattle.fo_tree_trim.proofs.Trimming.{Trims}
 
-abbrev index_of : ℕ → ℕ → ℕ
+abbrev pub index_of : ℕ → ℕ → ℕ
 index_of zero j = 0
 index_of (suc m) j = 409 * index_of m (j / 409) + j % 409
 
-index_room : (m j : ℕ) → index_of m j < 409 ^ m
+pub index_room : (m j : ℕ) → index_of m j < 409 ^ m
 index_room zero j = omega arith
 index_room (suc m) j =
     let more : 409 ^ suc m ≡ 409 * 409 ^ m = pow-succ' 409 m in
@@ -44,7 +44,7 @@ index_room (suc m) j =
     less : (a r p q : ℕ) → a < p → r < 409 → q ≡ 409 * p → 409 * a + r < q
     less a r p q lt few is = omega (arith, lt, few, is)
 
-index_same : (s : State) (t : Tree) (m j : ℕ) → block_at s t m (index_of m j) ≡ block_at s t m j
+pub index_same : (s : State) (t : Tree) (m j : ℕ) → block_at s t m (index_of m j) ≡ block_at s t m j
 index_same s t zero j = refl
 index_same s t (suc m) j =
     let up : (409 * index_of m (j / 409) + j % 409) / 409 ≡ index_of m (j / 409) = omega arith in

@@ -11,3 +11,5 @@ pub mod Trimming
 pub mod Keeping
 pub mod Ending
 pub mod Linked
+pub mod Least
+pub mod Lowering

@@ -1,10 +1,13 @@
 -- What stands behind an end is cleared.
-use Rattle.std.specs.Prelude.{◌≡◌, ◌≤◌, ℕ, Option, Some, None}
+use Rattle.std.specs.Prelude.{◌≡◌, ◌-◌, ◌≤◌, ℕ, List, Option, Some, None}
 use Rattle.fo_image.specs.declared.types.Pointer.TheVariants.{Local}
 use Rattle.fo_crash.specs.Images.{SameContent}
 use Rattle.fo_ports.specs.State.{State}
+use Rattle.fo_ports.specs.Sources.{depth_for}
 use Rattle.fo_tree_read.specs.declared.tree.Tree.{Tree}
 use Rattle.fo_tree_read.specs.Tree.{block_at}
+use Rattle.fo_tree_look.specs.declared.ways.Kept.{Kept}
+use Rattle.fo_tree_look.specs.Source.{seen}
 use Rattle.fo_tree_down.specs.Way.{with_top}
 
 -- the tree of a source with this end
@@ -20,3 +23,7 @@ topped t (Some top) = with_top t top
 pub record LeavesStay (s u : State) (t new : Tree) (last : ℕ) : Type 0 where
   pub each : (i : ℕ) → i ≤ last → block_at u new t.depth i ≡ block_at s t t.depth i
   pub content : (i b : ℕ) → i ≤ last → block_at s t t.depth i ≡ Local b → SameContent (u.now b) (s.now b)
+
+-- the tree of a source with this end and the least depth for it, below the block on the way to the first leaf
+abbrev pub lower_tree : State → Tree → List Kept → ℕ → Tree
+lower_tree s t kept end = record t { depth = depth_for end; size = end; top = block_at (seen s kept) t (t.depth - depth_for end) 0 }

@@ -7,15 +7,18 @@
 //! blocks on the way are made current, and each slot behind it is cleared in them, for one unit of room each; the end may be the source's
 //! own, or one within it. Nothing stands behind that end then, the source stands over the blocks, what was prepared stays so, what changes
 //! is what `Changes` says, and nothing does where nothing stood there. Where the device tells, the leaves up to the end are those that were
-//! there, with what they had.
+//! there, with what they had. A source that hangs from block 1 stands over the blocks with an end within it, too, and the least depth for
+//! that end.
 #![tactic(auto)]
 
 mod clear;
 mod cut;
 mod here;
 mod laws;
+mod lower;
 mod trim;
 
 pub use clear::is_clear_behind;
 pub use laws::may_cut;
+pub use lower::lowered;
 pub use trim::clear_behind;
