@@ -206,7 +206,14 @@ module _ {s m u : State} {t : Tree} {kept : List Kept} {levels : ℕ} {p : Point
       record {
         from = inl (⊎_elim (λ made. made_second below top made) (λ e. made_first below top (old_made e)) is.from);
         apart = λ made. ⊎_elim (λ new. is.apart new) (λ e. stays_apart e) is.from;
-        in_tree = λ told r. is.in_tree (mid told) ((x.lifts.adds.reached told top).0 r);
+        comes = λ told from h. is.comes (mid told) from (x.lifts.comes told from h);
+        only = λ told y z h. ⊎_elim
+            (λ own. inl own)
+            (λ old. ⊎_elim
+            (λ e. absurd (old.1 e))
+            (λ was. inr was)
+            (x.lifts.only told y z old.0))
+            (is.only (mid told) y z h);
         live = is.live;
         current = is.current;
       }

@@ -10,6 +10,7 @@ use Rattle.fo_tree_read.specs.Tree.{block_at}
 use Rattle.fo_tree_look.specs.declared.ways.Kept.{Kept}
 use Rattle.fo_tree_look.specs.Source.{HasBlock, Prepared}
 use Rattle.fo_tree_down.specs.Clear.{EndsClear}
+use Rattle.fo_tree_down.specs.Way.{ComesFor}
 use Rattle.fo_tree_raise.specs.Raise.{Bears}
 use Rattle.fo_tree_raise.specs.Levels.{Adds, grown}
 
@@ -43,6 +44,8 @@ pub record Lifts (s m : State) (t : Tree) (kept : List Kept) (levels : ℕ) (top
   pub adds : Adds t.tag (λ b. t.top ≡ Local b) s m
   pub new : IsNewTop s m top
   pub instead : (b x : ℕ) → Made s m b → m.instead b x → InSteadOf s t x
+  pub comes : s.tells → (from : Pointer) → ComesFor s t.top from → ComesFor m top from
+  pub only : s.tells → (y x : ℕ) → m.instead y x → (top ≡ Local y) ⊎ (s.instead y x × (t.top ≡ Local y → ⊥))
   pub bears : Bears m (grown t levels top) kept
   pub still : (limit o n : ℕ) → Prepared s t kept limit o n → Prepared m (grown t levels top) kept limit o n
   pub clear : EndsClear m (grown t levels top) kept

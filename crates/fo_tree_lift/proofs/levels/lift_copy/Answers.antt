@@ -1,11 +1,11 @@
-use Rattle.std.proofs.Common.{◌≡◌, ◌+◌, ◌-◌, ◌<◌, ◌≤◌, ◌^◌, inl, inr, ⊎_elim, sym, subst, arith}
+use Rattle.std.proofs.Common.{◌≡◌, ◌+◌, ◌-◌, ◌<◌, ◌≤◌, ◌^◌, inl, inr, ⊎_elim, sym, ap, ◌∙◌, subst, arith}
 use Rattle.fo_image.specs.declared.types.Pointer.{Pointer}
 use Rattle.fo_image.specs.declared.types.Pointer.TheVariants.{Local}
 use Rattle.fo_ports.specs.Sources.{Made}
 use Rattle.fo_tree_read.specs.declared.tree.Tree.{Tree}
 use Rattle.fo_tree_look.specs.Source.{HasBlock}
 use Rattle.fo_tree_own.specs.Step.{Becomes}
-use Rattle.fo_tree_down.specs.Way.{with_top}
+use Rattle.fo_tree_down.specs.Way.{ComesFor, with_top}
 use Rattle.fo_tree_raise.specs.Raise.{CanRaise}
 use Rattle.fo_tree_raise.proofs.Bearing.{bears}
 use Rattle.fo_tree_lift.proofs.Join.{Follows, adds_join, made_first, made_second, made_either}
@@ -80,6 +80,14 @@ returns-clause-lifts g c =
       adds = adds_join follows;
       new = new_copied first follows new;
       instead = instead_copied first follows;
+      comes = λ told from h. f.comes (first.all.still_tells.1 told) from (subst (λ (x : Tree). ComesFor b x.top from) (sym c.below_copy-below.ensures) (e.top.comes told from h));
+      only = λ told y z h. ⊎_elim
+          (λ new. inl new)
+          (λ old. ⊎_elim
+          (λ own. absurd (old.1 (ap (λ (x : Tree). x.top) c.below_copy-below.ensures ∙ ap (λ w. Local w) (sym own))))
+          (λ was. inr was)
+          (e.top.only told y z old.0))
+          (f.only (first.all.still_tells.1 told) y z h);
       bears = last.bears some below;
       still = λ limit o n was. last.still limit o n over.hangs.room (e.still limit o n was);
       clear = last.clear some over.hangs.room (e.clear c.requires.clear);

@@ -25,6 +25,8 @@ returns-clause-lifts g c =
       adds = e.adds;
       new = new_top c.requires.some.1 e.top;
       instead = λ b y made h. let was = e.instead b y made h in (was.0, was.1, ⊎_elim (λ own. inl (own.0, inl own.1)) (λ old. inr old) was.2);
+      comes = e.comes;
+      only = e.only;
       bears = e.bears kept some (bears over);
       still = λ limit o n was. e.still kept limit o n over.hangs.room was;
       clear = e.clear kept some over.hangs.room c.requires.clear;
