@@ -18,7 +18,7 @@ use Rattle.fo_tree_read.specs.Tree.{block_at, above}
 use Rattle.fo_tree_read.specs.Reading.{passed, most}
 use Rattle.fo_tree_look.specs.declared.ways.Kept.{Kept}
 use Rattle.fo_tree_look.specs.Source.{HasBlock, IsTold, IsTopCurrent, Over, Prepared, WayReady, address_here, held_here}
-use Rattle.fo_tree_down.specs.Way.{OnWay, WayCurrent, with_top}
+use Rattle.fo_tree_down.specs.Way.{OnWay, IsTopOf, WayCurrent, with_top}
 use Rattle.fo_tree_down.proofs.Beside.{on_way_block}
 use Rattle.fo_tree_down.proofs.Join.{local_cases}
 use Rattle.fo_tree_down.proofs.Leading.{way_top}
@@ -233,6 +233,7 @@ pub record OneMore (s u v : State) (t : Tree) (top : Pointer) (next : ℕ) (kept
   pub top_stands : (image : Image) → s.may_leave image → (up : ℕ) → s.tops up → (p : Place) × s.stands up p
   pub told : (image : Image) → s.may_leave image → s.tells
   -- what the leaf's own step says
+  pub top_of : IsTopOf u v (at_top t top) next
   pub over : (limit : ℕ) → Over u (at_top t top) kept limit → Over v (with_top t next) kept limit
   pub bytes : u.tells → Puts (byte_here u (at_top t top) kept) (byte_here v (with_top t next) kept) (8192 * ((offset + done) / 8192) + (offset + done) % 8192) (take n (drop done piece))
   pub still : (limit o m : ℕ) → Prepared u (at_top t top) kept limit o m → Prepared v (with_top t next) kept limit o m
@@ -303,6 +304,14 @@ module _ {s u v : State} {t : Tree} {top : Pointer} {next : ℕ} {kept : List Ke
     still = λ limit o m was. x.still limit o m (x.wrote.still limit o m was);
     owns = owns_end;
     ways = ways_end;
+    comes = λ told from h. x.top_of.comes (mid told) from (x.wrote.comes told from h);
+    only = λ told y z h. ⊎_elim
+        (λ own. inl (ap (λ b. Local b) (sym own)))
+        (λ old. ⊎_elim
+        (λ e. absurd (old.1 e))
+        (λ was. inr was)
+        (x.wrote.only told y z old.0))
+        (x.top_of.only (mid told) y z h);
     steps = steps_join follows;
     spent = spent_more u v (at_top t top) (with_top t next) s.spare offset done n refl x.some x.part x.most x.used x.way x.wrote.spent;
   }
@@ -314,6 +323,8 @@ wrote_none s t kept offset piece all = record {
   still = λ limit o n was. was;
   owns = λ told b. (λ has. inl has, λ made. absurd (made.0 made.1));
   ways = λ j b lt way on. inl on;
+  comes = λ told from h. h;
+  only = λ told y z h. ⊎_elim (λ e. inl e) (λ ne. inr (h, ne)) (local_cases t.top y);
   steps = steps_none t.tag (HasBlock s t) (HasBlock s t) s all;
   spent = spent_none s t offset;
 }

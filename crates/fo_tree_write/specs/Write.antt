@@ -1,13 +1,14 @@
 -- A piece is put into a source, leaf by leaf.
 use Rattle.std.specs.Prelude.{◌≡◌, ◌⊎◌, ◌+◌, ◌-◌, ◌*◌, ◌/◌, ◌<◌, ◌≤◌, ℕ, List, take}
 use Rattle.fo_image.specs.declared.types.Pointer.{Pointer}
+use Rattle.fo_image.specs.declared.types.Pointer.TheVariants.{Local}
 use Rattle.fo_ports.specs.State.{State}
 use Rattle.fo_ports.specs.Sources.{Made}
 use Rattle.fo_tree_read.specs.declared.tree.Tree.{Tree}
 use Rattle.fo_tree_read.specs.Reading.{passed}
 use Rattle.fo_tree_look.specs.declared.ways.Kept.{Kept}
 use Rattle.fo_tree_look.specs.Source.{HasBlock, Over, Prepared, WayReady}
-use Rattle.fo_tree_down.specs.Way.{OnWay, WayCurrent}
+use Rattle.fo_tree_down.specs.Way.{OnWay, ComesFor, WayCurrent}
 use Rattle.fo_tree_clear.specs.Put.{byte_here, Puts}
 use Rattle.fo_tree_clear.specs.Steps.{Steps}
 
@@ -27,5 +28,7 @@ pub record Wrote (s u : State) (t : Tree) (top : Pointer) (kept : List Kept) (of
   pub still : (limit o n : ℕ) → Prepared s t kept limit o n → Prepared u (at_top t top) kept limit o n
   pub owns : s.tells → (b : ℕ) → (HasBlock u (at_top t top) b → HasBlock s t b ⊎ Made s u b) × (Made s u b → HasBlock u (at_top t top) b)
   pub ways : (j b : ℕ) → 8192 * j < t.size → WayReady s t kept t.depth j → OnWay u (at_top t top) t.depth j b → OnWay s t t.depth j b ⊎ Made s u b
+  pub comes : s.tells → (from : Pointer) → ComesFor s t.top from → ComesFor u top from
+  pub only : s.tells → (y x : ℕ) → u.instead y x → (top ≡ Local y) ⊎ (s.instead y x × (t.top ≡ Local y → ⊥))
   pub steps : Steps t.tag (HasBlock s t) (HasBlock s t) s u
   pub spent : Spent u (at_top t top) s.spare offset done

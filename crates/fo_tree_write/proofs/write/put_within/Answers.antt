@@ -78,6 +78,7 @@ loop-done-preserved g c =
             (λ ne. (root_place, g.met.B.Blocks.top_stands on up (g.met.B.Blocks.told on image is) is_top ne))
             (cases_eq up 1);
         told = λ image is. g.met.B.Blocks.told on image is;
+        top_of = e.top;
         over = e.over;
         bytes = λ told. subst (λ m. Puts (byte_here u (at_top t c.loop-done.top) kept) (byte_here v (with_top t c.put_leaf-current.result.top) kept) (8192 * (place / 8192) + place % 8192) (take m (drop done c.args.piece.now))) len (e.bytes told);
         still = λ limit o m was. (e.grows limit).still o m was;
