@@ -20,7 +20,9 @@ use Rattle.fo_tree_own.proofs.Link.{Laws}
 use Rattle.fo_tree_down.specs.Way.{ComesFor}
 use Rattle.fo_tree_down.proofs.Join.{local_cases}
 use Rattle.fo_tree_open.proofs.Opened.{place_named, hangs_below}
+use Rattle.fo_tree_open.specs.Open.{NamesRank}
 use Rattle.fo_tree_link.specs.Link.{entry_of}
+use Rattle.fo_tree_link.specs.Change.{IsLinked}
 use Rattle.fo_tree_link.proofs.Walks.{from_slot, walks_until, not_inner}
 use Rattle.fo_tree_link.proofs.May.{Linking, there, top_never, old_never}
 
@@ -126,6 +128,20 @@ module _ {s u : State} {t : Tree} {kept : List Kept} {limit generation at i n : 
       linked = λ was. inr r;
       uncovered = λ free. free_end b r;
       instead = λ y h. (only_end y b h).0;
+    }
+
+    ranked_end : (p : Place) → u.stands at p → NamesRank p.kind p.rank i t.dir t.rank
+    ranked_end p stands =
+        let q = there x.before told in
+        let is : q.0 ≡ p = x.end.one.each at q.0 p (places_end at q.0 (free_end at at_end) q.1) stands in
+        subst (λ (r : Place). NamesRank r.kind r.rank i t.dir t.rank) is ((x.before.told told).ranked q.0 q.1)
+
+    pub again_end : ((y z : ℕ) → s.instead y z → t.top ≡ Local y) → IsLinked u t at i
+    again_end alone = record {
+      in_tree = at_end;
+      ranked = ranked_end;
+      owned = owned_end;
+      none = λ y z h. let was = only_end y z h in was.1 (alone y z was.0);
     }
 
     undisturbed : Undisturbed (leaves_of s t kept limit) t.size s u

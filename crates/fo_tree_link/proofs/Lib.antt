@@ -1,3 +1,4 @@
 pub mod Walks
 pub mod May
 pub mod After
+pub mod Changed

@@ -7,9 +7,11 @@
 //! source stands over the blocks, and nothing is to come in the place of its top. Where the device tells, what hangs from the new top hangs
 //! from block 1 now, and so does all that did, but what hung from the old entry alone, which is to be closed; and each block that hangs from
 //! block 1 stays in place for other sources. Where the source comes in the place of what its entry had (`ComesFor`), the put is one that
-//! `Blocks` asks for.
+//! `Blocks` asks for; a source that was linked and then changed comes so (`may_link`), and is linked again (`IsLinked`).
 #![tactic(auto)]
 
+mod laws;
 mod put;
 
+pub use laws::may_link;
 pub use put::link;

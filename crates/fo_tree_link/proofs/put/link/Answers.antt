@@ -13,7 +13,7 @@ use Rattle.fo_tree_own.proofs.Link.{Laws}
 use Rattle.fo_tree_open.specs.Open.{HasEntry}
 use Rattle.fo_tree_link.specs.Link.{entry_of, CanLink}
 use Rattle.fo_tree_link.proofs.May.{Linking, may_spell, may_put}
-use Rattle.fo_tree_link.proofs.After.{WasPut, comes_end, owned_end, only_end, in_tree_end, linked_end, in_place_end, over_end}
+use Rattle.fo_tree_link.proofs.After.{WasPut, again_end, comes_end, owned_end, only_end, in_tree_end, linked_end, in_place_end, over_end}
 use Rattle.fo_tree_link.proofs.put.link.Given as given
 use Rattle.fo_tree_link.proofs.put.link.Goals as goal
 
@@ -99,3 +99,8 @@ pub returns-clause-owned : goal.returns-clause-owned
 returns-clause-owned g c =
     let p = c.put_slot.ensures in
     owned_end (was_put g c.args.on.now c.put_slot.new.self c.entry_of-entry.result c.entry_of-entry.ensures (linking g c.args.on.now c.requires.over c.requires.leaf c.requires.told) p.keeps p.now p.frame p.hangs)
+
+pub returns-clause-again : goal.returns-clause-again
+returns-clause-again g c =
+    let p = c.put_slot.ensures in
+    again_end (was_put g c.args.on.now c.put_slot.new.self c.entry_of-entry.result c.entry_of-entry.ensures (linking g c.args.on.now c.requires.over c.requires.leaf c.requires.told) p.keeps p.now p.frame p.hangs)

@@ -1,0 +1,31 @@
+use Rattle.fo_tree_own.proofs.Link.{Laws}
+use Rattle.fo_tree_link.proofs.Changed.{can_link}
+use Rattle.fo_tree_link.proofs.laws.may_link.Given as given
+use Rattle.fo_tree_link.proofs.laws.may_link.Goals as goal
+
+laws_of : (g : given.Over) (b : g.row.B.Denot) → Laws (g.B.Blocks.state b)
+laws_of g b =
+    let s = g.B.Blocks.state b in
+    record { present = g.met.B.Blocks.present b; active = (g.met.B.Blocks.active b).0; not_one = (g.met.B.Blocks.active b).1; one = g.met.B.Blocks.one_place b; super_stands = g.met.B.Blocks.super_stands b; placed = λ told. g.met.B.Blocks.placed b s.now (g.met.B.Blocks.present b told); ranked = λ told. g.met.B.Blocks.ranked b s.now (g.met.B.Blocks.present b told); live = λ y told ne r. g.met.B.Blocks.live b y told ne r; clears = g.met.B.Blocks.clears_entries b; waits_within = g.met.B.Blocks.waits_within b; covers_told = g.met.B.Blocks.covers_told b; within = g.met.B.Blocks.within b; spelled = g.met.B.Blocks.spelled b; apart_hangs = λ told w is r. g.met.B.Blocks.apart_hangs b s.now 1 w is (g.met.B.Blocks.present b told) (g.met.B.Blocks.active b).0 r; small = g.met.B.Blocks.small b }
+
+pub returns : goal.returns
+returns g c = λ now.
+    let before = c.args.before.now in
+    let after = c.args.after.now in
+    let all = g.met.B.Blocks.keeps_all before after c.requires.keeps in
+    let told = all.still_tells.0 now in
+    can_link {kept = c.args.kept.now} {limit = c.requires.over.0} {top = c.requires.top.0} (record {
+      laws = laws_of g before;
+      end = laws_of g after;
+      one_stays = g.met.B.Blocks.one_stays after;
+      all = all;
+      over = c.requires.over.1;
+      entry = c.requires.entry.1;
+      same = c.requires.same;
+      is_top = c.requires.top.1;
+      top_of = c.requires.top.2;
+      others = c.requires.others;
+      told = told;
+      linked = c.requires.linked told;
+      leaves = c.requires.leaves told;
+    })

@@ -1,0 +1,35 @@
+//! Where a source that was changed may be linked.
+ghost use Rattle.std.specs.Prelude.{◌≡◌, ℕ};
+ghost use Rattle.fo_image.specs.declared.types.Pointer.TheVariants.{Local};
+ghost use Rattle.fo_crash.specs.declared.slot.Slot.TheVariants.{Entry as Head};
+ghost use Rattle.fo_tree_look.specs.Source.{Over};
+ghost use Rattle.fo_tree_down.specs.Way.{IsTopOf};
+ghost use Rattle.fo_tree_link.specs.Link.{entry_of, CanLink};
+ghost use Rattle.fo_tree_link.specs.Change.{IsLinked, SameSource, SameLeaves, KeepsOthers};
+
+use fo_ports::Blocks;
+use fo_tree_look::Kept;
+use fo_tree_read::Tree;
+
+/// A source that hung from its entry in slot `i` of block `at`, and was changed by a call that made ways current or put levels above its
+/// top, may be linked: its new top comes in the place of the one that the entry leads to.
+pub fn may_link<B: Blocks>(
+    tree: &Tree,
+    new: &Tree,
+    kept: &[Kept],
+    before: &B,
+    after: &B,
+    generation: u32,
+    at: u32,
+    i: u32,
+)
+    requires over { (limit : ℕ) × Over (B.state before.now) tree.now kept.now limit }
+    requires keeps { B.keeps before.now after.now }
+    requires entry { (((B.state before.now).now at).slot i ≡ Head (entry_of tree.now generation)) × (((B.state after.now).now at).slot i ≡ Head (entry_of tree.now generation)) }
+    requires same { SameSource tree.now new.now }
+    requires top { (top : ℕ) × (new.now.top ≡ Local top) × IsTopOf (B.state before.now) (B.state after.now) tree.now top }
+    requires others { KeepsOthers (B.state before.now) (B.state after.now) tree.now }
+    requires linked { (B.state before.now).tells → IsLinked (B.state before.now) tree.now at i }
+    requires leaves { (B.state before.now).tells → SameLeaves (B.state before.now) (B.state after.now) tree.now new.now }
+    ensures { (B.state after.now).tells → CanLink (B.state after.now) new.now generation at i }
+{}
