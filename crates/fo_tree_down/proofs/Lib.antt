@@ -5,3 +5,4 @@ pub mod Leading
 pub mod Beside
 pub mod Stilling
 pub mod Telling
+pub mod Ending

@@ -6,7 +6,8 @@
 //! Proved, over any blocks and any device: the block at the end is current, pinned, whole and at its place, and has what was there,
 //! what was kept under a score, or zeros. Only blocks that were given out and current ones of the way differ, in memory and in every
 //! image; only blocks of the way are to be closed, and all are that leave the tree. A slot is put once, and what is current stays. The
-//! source with the new top stands over the blocks. Not said: what it reads then.
+//! source with the new top stands over the blocks. What is clear behind its end stays so, where the way is the last one or the device
+//! tells. Not said: what it reads then.
 #![tactic(auto)]
 
 mod top;

@@ -4,6 +4,7 @@ ghost use Rattle.fo_image.specs.declared.types.Pointer.TheVariants.{Local};
 ghost use Rattle.fo_ports.specs.Sources.{Made, Changes};
 ghost use Rattle.fo_tree_read.specs.Tree.{Hangs, kind_at, block_at, above};
 ghost use Rattle.fo_tree_look.specs.Source.{IsTold, Over, HasBlock, Prepared, WayReady, IsTopCurrent};
+ghost use Rattle.fo_tree_down.specs.Clear.{EndsClear, last_leaf};
 ghost use Rattle.fo_tree_down.specs.Way.{OnWay, Comes, Leads, IsTopOf, Replaces, StaysBeside, WayCurrent, with_top};
 
 use crate::top::own_top;
@@ -39,6 +40,7 @@ pub fn own_way<B: Blocks>(tree: &Tree, kept: &[Kept], on: &mut B, down: u8, k: u
     ensures still { (limit o n : ℕ) → Prepared (B.state on.old) tree.now kept.now limit o n → Prepared (B.state on.new) (with_top tree.now result.top) kept.now limit o n }
     ensures ways { (j b : ℕ) → WayReady (B.state on.old) tree.now kept.now tree.now.depth j → OnWay (B.state on.new) (with_top tree.now result.top) tree.now.depth j b → OnWay (B.state on.old) tree.now tree.now.depth j b ⊎ Made (B.state on.old) (B.state on.new) b }
     ensures current { WayCurrent (B.state on.new) (with_top tree.now result.top) down k }
+    ensures clear { down ≡ tree.now.depth → 8192 * k < tree.now.size → (B.state on.old).tells ⊎ (k ≡ last_leaf tree.now.size) → EndsClear (B.state on.old) tree.now kept.now → EndsClear (B.state on.new) (with_top tree.now result.top) kept.now }
     ensures changes { Changes tree.now.tag (HasBlock (B.state on.old) tree.now) (λ b. HasBlock (B.state on.old) tree.now b × (((B.state on.old).label b).kind ≢ kind_at tree.now.dir 0)) (B.state on.old) (B.state on.new) }
     ensures spare { (B.state on.old).spare ≤ (B.state on.new).spare + (down + 1) }
     ensures less { IsTopCurrent (B.state on.old) tree.now → (B.state on.old).spare ≤ (B.state on.new).spare + down }

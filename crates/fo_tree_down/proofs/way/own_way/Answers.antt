@@ -1,10 +1,11 @@
 use Rattle.std.proofs.Common.{◌-◌, arith}
-use Rattle.fo_tree_look.proofs.Shown.{top_ready}
+use Rattle.fo_tree_look.proofs.Shown.{top_ready, held_on}
 use Rattle.fo_tree_down.proofs.Join.{changes_of}
 use Rattle.fo_tree_down.proofs.Leading.{leads_to, last_of, way_owned}
 use Rattle.fo_tree_down.proofs.Beside.{WentDown, stays_beside, on_way_block, last_leads}
 use Rattle.fo_tree_down.proofs.Stilling.{WasOwned, prepared_still, way_from}
 use Rattle.fo_tree_down.proofs.Telling.{over_end, owned_back, given_owned, stays_owned}
+use Rattle.fo_tree_down.proofs.Ending.{clear_end}
 use Rattle.fo_tree_down.proofs.way.own_way.Goals as goal
 
 pub own_down-requires-clause-hangs : goal.own_down-requires-clause-hangs
@@ -169,3 +170,24 @@ returns-clause-ways g c = λ j b way on_way.
       descends = comes.descends;
     })
     t.depth j b (omega arith) way on_way
+
+pub returns-clause-clear : goal.returns-clause-clear
+returns-clause-clear g c = λ whole inside which clear.
+    let on = c.args.on.now in
+    let s = g.B.Blocks.state on in
+    let u = g.B.Blocks.state c.own_down.new.on in
+    let t = c.args.tree.now in
+    let kept = c.args.kept.now in
+    let comes = c.own_down.ensures.comes in
+    let all = g.met.B.Blocks.keeps_all on c.own_down.new.on c.own_down.ensures.keeps in
+    let held = c.requires.over.1.held in
+    let owned : WasOwned s u t kept c.own_down.result.top c.args.down c.args.k c.own_down.result.at = record {
+      all = all;
+      within = c.requires.down.0;
+      few = c.requires.down.1;
+      ready = c.requires.ready;
+      leads = c.own_down.ensures.leads;
+      last = last_leads s u t kept c.args.down c.args.k c.own_down.result.at (top_ready s t kept c.args.down c.args.k c.requires.ready) comes;
+      descends = comes.descends;
+    } in
+    clear_end owned whole inside clear (λ told. returns-clause-beside g c told) held (held_on all kept held) which
