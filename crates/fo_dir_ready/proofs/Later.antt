@@ -2,7 +2,7 @@
 use Rattle.std.proofs.Common.{◌≡◌, inl, inr, ⊎_elim, ◌+◌, ◌*◌, ◌≤◌, ℕ, max, sym, ap, ◌∙◌, subst}
 use Rattle.fo_image.specs.declared.types.Label.{Label}
 use Rattle.fo_ports.specs.State.{State, Looks}
-use Rattle.fo_ports.specs.Sources.{Form, Leaves, Owned, Grows, Changes, MayZero, Made, IsEnough, most_cleared, most_for, SameLeaves}
+use Rattle.fo_ports.specs.Sources.{Form, Leaves, Owned, Grows, Changes, MayZero, Made, IsEnough, most_for, SameLeaves}
 use Rattle.fo_dir_read.specs.Names.{leaf_count}
 use Rattle.fo_dir_ready.specs.Owning.{MayOwn, MayReady, Readies}
 
@@ -11,7 +11,6 @@ own_later {x = x} {y = y} {size = size} {now = now} {i = i} {a = a} {b = b} may 
   within = subst (λ n. i ≤ leaf_count n) (sym is) may.within;
   prepared = prepares may.pins;
   spare = subst (λ n. IsEnough y.current n i b.spare) (sym is) (subst (λ n. IsEnough y.current size i n) (sym left.0) (⊎_elim (λ e. inl e) (λ e. inr (same.current e.0, e.1)) may.spare));
-  room = subst (λ n. most_cleared n (8192 * (i + 1)) ≤ b.room) (sym is) (subst (λ n. most_cleared size (8192 * (i + 1)) ≤ n) (sym left.1) may.room);
 }
 
 -- a source that grew after a look

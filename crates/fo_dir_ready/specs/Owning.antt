@@ -2,23 +2,22 @@
 use Rattle.std.specs.Prelude.{◌+◌, ◌*◌, ◌<◌, ◌≤◌, ℕ, max}
 use Rattle.fo_crash.specs.Images.{Reaches, to_block}
 use Rattle.fo_ports.specs.State.{State, Looks}
-use Rattle.fo_ports.specs.Sources.{Form, Leaves, SameLeaves, Owned, Grows, Changes, MayZero, IsEnough, depth_for, most_cleared, most_for}
+use Rattle.fo_ports.specs.Sources.{Form, Leaves, SameLeaves, Owned, Grows, Changes, MayZero, IsEnough, depth_for, most_for}
 use Rattle.fo_dir_read.specs.Names.{leaf_count}
 
--- Leaf i of a source was prepared, stands in it or behind its last one, and there is room to own it.
+-- Leaf i of a source was prepared, stands in it or behind its last one, and there are blocks to own it.
 pub record MayOwn (leaves : Leaves) (size i : ℕ) (s : State) : Type 0 where
   pub within : i ≤ leaf_count size
   pub prepared : leaves.prepared (8192 * i) 8192
   pub spare : IsEnough leaves.current size i s.spare
-  pub room : most_cleared size (8192 * (i + 1)) ≤ s.room
 
--- Leaf i of a source stands in it or behind its last one, within its limit, and there are pins to prepare it and room to own it.
+-- Leaf i of a source stands in it or behind its last one, within its limit, and there are pins to prepare it and blocks to own
+-- it.
 pub record MayReady (leaves : Leaves) (size limit i : ℕ) (s : State) : Type 0 where
   pub within : i ≤ leaf_count size
   pub limited : 8192 * i + 8192 ≤ limit
   pub pins : most_for (max size (8192 * i + 8192)) 8192 ≤ s.pins_left
   pub spare : IsEnough leaves.current size i s.spare
-  pub room : most_cleared size (8192 * (i + 1)) ≤ s.room
 
 -- Where owning leaf i gives a source more levels, all its blocks hang from block 1, as far as the device tells.
 abbrev pub IsLinked : (leaves : Leaves) (size i : ℕ) → State → Type 0

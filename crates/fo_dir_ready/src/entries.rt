@@ -1,7 +1,7 @@
 //! A leaf of entries is owned.
-ghost use Rattle.std.specs.Prelude.{◌≡◌, ◌+◌, ◌*◌, ◌≤◌, ℕ, max, Some};
+ghost use Rattle.std.specs.Prelude.{◌≡◌, ◌+◌, ◌*◌, ◌<◌, ◌≤◌, ℕ, max, Some};
 ghost use Rattle.fo_image.specs.declared.types.Entry.{Entry};
-ghost use Rattle.fo_ports.specs.Sources.{Owned, Grows, Changes, MayZero, most_to_own, most_cleared};
+ghost use Rattle.fo_ports.specs.Sources.{Owned, Grows, Changes, MayZero, most_to_own};
 ghost use Rattle.fo_dir_read.specs.Pairs.{OfEntries, IsPair, IsFree, AreTaken};
 ghost use Rattle.fo_dir_put.specs.Puts.{IsHeldEntries};
 ghost use Rattle.fo_dir_ready.specs.Entries.{SameEntries};
@@ -14,6 +14,7 @@ fn own_kept<B: Blocks, S: Bytes<B>>(entries: &mut S, on: &mut B, rank: u32, i: u
     requires over { S.is_over entries.old on.old }
     requires form { OfEntries (S.form entries.old) rank }
     requires may { MayOwn (S.leaves entries.old on.old) (S.size entries.old) i (B.state on.old) }
+    requires trimmed { S.size entries.old < 8192 * (i + 1) → S.is_trimmed entries.old on.old }
     requires linked { IsLinked (S.leaves entries.old on.old) (S.size entries.old) i (B.state on.old) }
     ensures held { IsHeldEntries (B.state on.new) result }
     ensures epoch { ((B.state on.new).label result).epoch ≡ (B.state on.new).high }
@@ -25,7 +26,8 @@ fn own_kept<B: Blocks, S: Bytes<B>>(entries: &mut S, on: &mut B, rank: u32, i: u
     ensures grows { Grows (B.state on.old) (B.state on.new) (S.leaves entries.old on.old) (S.leaves entries.new on.new) }
     ensures current { (S.leaves entries.new on.new).current }
     ensures spare { (B.state on.old).spare ≤ (B.state on.new).spare + most_to_own (S.size entries.old) i }
-    ensures room { (B.state on.old).room ≤ (B.state on.new).room + most_cleared (S.size entries.old) (8192 * (i + 1)) }
+    ensures room { (B.state on.new).room ≡ (B.state on.old).room }
+    ensures trimmed { S.is_trimmed entries.old on.old → S.is_trimmed entries.new on.new }
     ensures changes { Changes (S.form entries.old).tag (S.leaves entries.old on.old).owns (MayZero (S.form entries.old) (S.size entries.old) i (B.state on.old) (S.leaves entries.old on.old)) (B.state on.old) (B.state on.new) }
     ensures keeps { B.keeps on.old on.new }
 {
@@ -38,6 +40,7 @@ pub fn own_entries<B: Blocks, S: Bytes<B>>(entries: &mut S, on: &mut B, rank: u3
     requires over { S.is_over entries.old on.old }
     requires form { OfEntries (S.form entries.old) rank }
     requires may { MayOwn (S.leaves entries.old on.old) (S.size entries.old) i (B.state on.old) }
+    requires trimmed { S.size entries.old < 8192 * (i + 1) → S.is_trimmed entries.old on.old }
     requires linked { IsLinked (S.leaves entries.old on.old) (S.size entries.old) i (B.state on.old) }
     ensures held { IsHeldEntries (B.state on.new) result }
     ensures epoch { ((B.state on.new).label result).epoch ≡ (B.state on.new).high }
@@ -51,7 +54,8 @@ pub fn own_entries<B: Blocks, S: Bytes<B>>(entries: &mut S, on: &mut B, rank: u3
     ensures grows { Grows (B.state on.old) (B.state on.new) (S.leaves entries.old on.old) (S.leaves entries.new on.new) }
     ensures current { (S.leaves entries.new on.new).current }
     ensures spare { (B.state on.old).spare ≤ (B.state on.new).spare + most_to_own (S.size entries.old) i }
-    ensures room { (B.state on.old).room ≤ (B.state on.new).room + most_cleared (S.size entries.old) (8192 * (i + 1)) }
+    ensures room { (B.state on.new).room ≡ (B.state on.old).room }
+    ensures trimmed { S.is_trimmed entries.old on.old → S.is_trimmed entries.new on.new }
     ensures changes { Changes (S.form entries.old).tag (S.leaves entries.old on.old).owns (MayZero (S.form entries.old) (S.size entries.old) i (B.state on.old) (S.leaves entries.old on.old)) (B.state on.old) (B.state on.new) }
     ensures keeps { B.keeps on.old on.new }
 {

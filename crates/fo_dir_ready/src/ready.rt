@@ -1,11 +1,11 @@
 //! A leaf is prepared and owned.
-ghost use Rattle.std.specs.Prelude.{◌≡◌, ◌⊎◌, ◌↔◌, ◌+◌, ◌*◌, ◌≤◌, ℕ, List, max, Some, IfOk, IfErr, OnOk, OnErr, IsTrue};
+ghost use Rattle.std.specs.Prelude.{◌≡◌, ◌⊎◌, ◌↔◌, ◌+◌, ◌*◌, ◌<◌, ◌≤◌, ℕ, List, max, Some, IfOk, IfErr, OnOk, OnErr, IsTrue};
 ghost use Rattle.fo_base.specs.Cause.{Rose};
 ghost use Rattle.fo_image.specs.declared.record.Record.{Record};
 ghost use Rattle.fo_image.specs.declared.types.Entry.{Entry};
 ghost use Rattle.fo_ports.specs.Causes.{Caused};
 ghost use Rattle.fo_ports.specs.State.{Looks};
-ghost use Rattle.fo_ports.specs.Sources.{Grows, SameLeaves, Lacks, most_cleared, most_to_own};
+ghost use Rattle.fo_ports.specs.Sources.{Grows, SameLeaves, Lacks, most_to_own};
 ghost use Rattle.fo_dir_read.specs.Names.{OfRecords, AreRecords, leaf_count};
 ghost use Rattle.fo_dir_read.specs.Pairs.{OfEntries, IsPair, IsFree, AreTaken};
 ghost use Rattle.fo_dir_put.specs.Puts.{IsOwnedRecords, IsHeldEntries};
@@ -34,6 +34,7 @@ pub fn ready_records<B: Blocks, S: Bytes<B>>(
     requires over { S.is_over records.old on.old }
     requires form { OfRecords (S.form records.old) rank }
     requires may { MayReady (S.leaves records.old on.old) (S.size records.old) (S.form records.old).limit i (B.state on.old) }
+    requires trimmed { S.size records.old < 8192 * (i + 1) → S.is_trimmed records.old on.old }
     ensures owned { IfOk result (λ leaf. IsOwnedRecords (B.state on.new) leaf.at) }
     ensures at { IfOk result (λ leaf. (S.leaves records.new on.new).at i ≡ Some leaf.at) }
     ensures sealed { IfOk result (λ leaf. IsTrue leaf.sealed ↔ (B.state on.new).sealed leaf.at) }
@@ -43,7 +44,8 @@ pub fn ready_records<B: Blocks, S: Bytes<B>>(
     ensures grows { OnOk result (Grows (B.state on.old) (B.state on.new) (S.leaves records.old on.old) (S.leaves records.new on.new)) }
     ensures current { OnOk result (S.leaves records.new on.new).current }
     ensures spare { OnOk result ((B.state on.old).spare ≤ (B.state on.new).spare + most_to_own (S.size records.old) i) }
-    ensures room { OnOk result ((B.state on.old).room ≤ (B.state on.new).room + most_cleared (S.size records.old) (8192 * (i + 1))) }
+    ensures room { OnOk result ((B.state on.new).room ≡ (B.state on.old).room) }
+    ensures trimmed { S.is_trimmed records.old on.old → S.is_trimmed records.new on.new }
     ensures changes { IfOk result (λ leaf. (s : S) × (b : B) × S.is_over s b × B.keeps on.old b × B.keeps b on.new × Readies (S.form records.old) (S.size records.old) i leaf.at (B.state on.old) (B.state b) (B.state on.new) (S.leaves records.old on.old) (S.leaves s b) (S.leaves records.new on.new)) }
     ensures over { S.is_over records.new on.new × (S.form records.new ≡ S.form records.old) }
     ensures cause { IfErr result (Caused ⊥ (λ b. (((B.state on.old).tells → ⊥) × (B.state on.old).is_block b) ⊎ ((b ≡ 1) × ((B.state on.old).tells → Lacks (S.leaves records.old on.old).named (B.state on.old).held))) (Rose (B.state on.old).faults (B.state on.new).faults) (Rose (B.state on.old).arena_faults (B.state on.new).arena_faults)) }
@@ -69,6 +71,7 @@ pub fn ready_entries<B: Blocks, S: Bytes<B>>(
     requires over { S.is_over entries.old on.old }
     requires form { OfEntries (S.form entries.old) rank }
     requires may { MayReady (S.leaves entries.old on.old) (S.size entries.old) (S.form entries.old).limit i (B.state on.old) }
+    requires trimmed { S.size entries.old < 8192 * (i + 1) → S.is_trimmed entries.old on.old }
     requires linked { IsLinked (S.leaves entries.old on.old) (S.size entries.old) i (B.state on.old) }
     ensures held { IfOk result (λ leaf. IsHeldEntries (B.state on.new) leaf.at × (((B.state on.new).label leaf.at).epoch ≡ (B.state on.new).high)) }
     ensures at { IfOk result (λ leaf. (S.leaves entries.new on.new).at i ≡ Some leaf.at) }
@@ -81,7 +84,8 @@ pub fn ready_entries<B: Blocks, S: Bytes<B>>(
     ensures grows { OnOk result (Grows (B.state on.old) (B.state on.new) (S.leaves entries.old on.old) (S.leaves entries.new on.new)) }
     ensures current { OnOk result (S.leaves entries.new on.new).current }
     ensures spare { OnOk result ((B.state on.old).spare ≤ (B.state on.new).spare + most_to_own (S.size entries.old) i) }
-    ensures room { OnOk result ((B.state on.old).room ≤ (B.state on.new).room + most_cleared (S.size entries.old) (8192 * (i + 1))) }
+    ensures room { OnOk result ((B.state on.new).room ≡ (B.state on.old).room) }
+    ensures trimmed { S.is_trimmed entries.old on.old → S.is_trimmed entries.new on.new }
     ensures changes { IfOk result (λ leaf. (s : S) × (b : B) × S.is_over s b × B.keeps on.old b × B.keeps b on.new × Readies (S.form entries.old) (S.size entries.old) i leaf.at (B.state on.old) (B.state b) (B.state on.new) (S.leaves entries.old on.old) (S.leaves s b) (S.leaves entries.new on.new)) }
     ensures over { S.is_over entries.new on.new × (S.form entries.new ≡ S.form entries.old) }
     ensures cause { IfErr result (Caused ⊥ (λ b. (((B.state on.old).tells → ⊥) × (B.state on.old).is_block b) ⊎ ((b ≡ 1) × ((B.state on.old).tells → Lacks (S.leaves entries.old on.old).named (B.state on.old).held))) (Rose (B.state on.old).faults (B.state on.new).faults) (Rose (B.state on.old).arena_faults (B.state on.new).arena_faults)) }

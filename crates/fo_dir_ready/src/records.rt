@@ -1,7 +1,7 @@
 //! A leaf of records is owned.
-ghost use Rattle.std.specs.Prelude.{◌≡◌, ◌+◌, ◌*◌, ◌≤◌, ℕ, List, max, Some};
+ghost use Rattle.std.specs.Prelude.{◌≡◌, ◌+◌, ◌*◌, ◌<◌, ◌≤◌, ℕ, List, max, Some};
 ghost use Rattle.fo_image.specs.declared.record.Record.{Record};
-ghost use Rattle.fo_ports.specs.Sources.{Owned, Grows, Changes, MayZero, most_to_own, most_cleared};
+ghost use Rattle.fo_ports.specs.Sources.{Owned, Grows, Changes, MayZero, most_to_own};
 ghost use Rattle.fo_dir_read.specs.Names.{OfRecords, AreRecords, leaf_count};
 ghost use Rattle.fo_dir_put.specs.Puts.{IsOwnedRecords};
 ghost use Rattle.fo_dir_ready.specs.Owning.{MayOwn};
@@ -13,6 +13,7 @@ pub fn own_records<B: Blocks, S: Bytes<B>>(records: &mut S, on: &mut B, rank: u3
     requires over { S.is_over records.old on.old }
     requires form { OfRecords (S.form records.old) rank }
     requires may { MayOwn (S.leaves records.old on.old) (S.size records.old) i (B.state on.old) }
+    requires trimmed { S.size records.old < 8192 * (i + 1) → S.is_trimmed records.old on.old }
     ensures owned { IsOwnedRecords (B.state on.new) result }
     ensures at { (S.leaves records.new on.new).at i ≡ Some result }
     ensures size { S.size records.new ≡ max (S.size records.old) (8192 * (i + 1)) }
@@ -22,7 +23,8 @@ pub fn own_records<B: Blocks, S: Bytes<B>>(records: &mut S, on: &mut B, rank: u3
     ensures grows { Grows (B.state on.old) (B.state on.new) (S.leaves records.old on.old) (S.leaves records.new on.new) }
     ensures current { (S.leaves records.new on.new).current }
     ensures spare { (B.state on.old).spare ≤ (B.state on.new).spare + most_to_own (S.size records.old) i }
-    ensures room { (B.state on.old).room ≤ (B.state on.new).room + most_cleared (S.size records.old) (8192 * (i + 1)) }
+    ensures room { (B.state on.new).room ≡ (B.state on.old).room }
+    ensures trimmed { S.is_trimmed records.old on.old → S.is_trimmed records.new on.new }
     ensures changes { Changes (S.form records.old).tag (S.leaves records.old on.old).owns (MayZero (S.form records.old) (S.size records.old) i (B.state on.old) (S.leaves records.old on.old)) (B.state on.old) (B.state on.new) }
     ensures keeps { B.keeps on.old on.new }
 {

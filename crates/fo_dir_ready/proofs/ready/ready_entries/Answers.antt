@@ -1,7 +1,7 @@
 use Rattle.std.proofs.Common.{◌≤◌, ◌+◌, ◌*◌, ◌/◌, ◌<◌, sym, ap, ◌∙◌, subst}
 use Rattle.fo_crash.specs.Images.{target, to_block}
 use Rattle.fo_crash.proofs.Reach.{same_walk}
-use Rattle.fo_ports.specs.Sources.{Form, depth_for, most_cleared, most_to_own}
+use Rattle.fo_ports.specs.Sources.{Form, depth_for, most_to_own}
 use Rattle.fo_dir_read.specs.Pairs.{OfEntries}
 use Rattle.fo_dir_ready.proofs.Rowed.{ends_before}
 use Rattle.fo_dir_ready.proofs.Paired.{entries_looked, pair_on, free_on, taken_on}
@@ -10,6 +10,9 @@ use Rattle.fo_dir_ready.proofs.ready.ready_entries.Goals as goal
 
 pub own_entries-at-requires-clause-form : goal.own_entries-at-requires-clause-form
 own_entries-at-requires-clause-form g c = subst (λ (f : Form). OfEntries f c.args.rank) (sym c.prepare.ensures.same.0) c.requires.form
+
+pub own_entries-at-requires-clause-trimmed : goal.own_entries-at-requires-clause-trimmed
+own_entries-at-requires-clause-trimmed g c = λ past. c.prepare.ensures.trimmed (c.requires.trimmed (subst (λ n. n < 8192 * (c.args.i + 1)) c.prepare.ensures.same.1 past))
 
 pub own_entries-at-requires-clause-may : goal.own_entries-at-requires-clause-may
 own_entries-at-requires-clause-may g c = own_later c.requires.may c.prepare.ensures.same.1 c.prepare.ensures.same.2 c.prepare.ensures.looks.0.room c.in-Ok.ensures.prepared
@@ -53,12 +56,7 @@ returns-in-Ok-clause-spare g c =
     subst (λ n. n ≤ b.spare + most_to_own (g.S.Bytes.size c.args.entries.now) c.args.i) k.looks.0.room.0 left
 
 pub returns-in-Ok-clause-room : goal.returns-in-Ok-clause-room
-returns-in-Ok-clause-room g c =
-    let k = c.prepare.ensures in
-    let b = g.B.Blocks.state c.own_entries-at.new.on in
-    let end = 8192 * (c.args.i + 1) in
-    let left : (g.B.Blocks.state c.prepare.new.on).room ≤ b.room + most_cleared (g.S.Bytes.size c.args.entries.now) end = subst (λ n. (g.B.Blocks.state c.prepare.new.on).room ≤ b.room + most_cleared n end) k.same.1 c.own_entries-at.ensures.room in
-    subst (λ n. n ≤ b.room + most_cleared (g.S.Bytes.size c.args.entries.now) end) k.looks.0.room.1 left
+returns-in-Ok-clause-room g c = c.own_entries-at.ensures.room ∙ c.prepare.ensures.looks.0.room.1
 
 pub returns-in-Ok-clause-changes : goal.returns-in-Ok-clause-changes
 returns-in-Ok-clause-changes g c =

@@ -1,5 +1,5 @@
-use Rattle.std.proofs.Common.{◌≤◌, ◌*◌, ◌+◌, sym, subst}
-use Rattle.fo_ports.specs.Sources.{Form, most_cleared, most_to_own}
+use Rattle.std.proofs.Common.{◌<◌, ◌≤◌, ◌*◌, ◌+◌, ◌∙◌, sym, subst}
+use Rattle.fo_ports.specs.Sources.{Form, most_to_own}
 use Rattle.fo_dir_read.specs.Names.{OfRecords, AreRecords, leaf_count}
 use Rattle.fo_dir_read.proofs.Rows.{rows_on}
 use Rattle.fo_dir_ready.proofs.Later.{own_later, grows_later, readied}
@@ -7,6 +7,9 @@ use Rattle.fo_dir_ready.proofs.ready.ready_records.Goals as goal
 
 pub own_records-at-requires-clause-form : goal.own_records-at-requires-clause-form
 own_records-at-requires-clause-form g c = subst (λ (f : Form). OfRecords f c.args.rank) (sym c.prepare.ensures.same.0) c.requires.form
+
+pub own_records-at-requires-clause-trimmed : goal.own_records-at-requires-clause-trimmed
+own_records-at-requires-clause-trimmed g c = λ past. c.prepare.ensures.trimmed (c.requires.trimmed (subst (λ n. n < 8192 * (c.args.i + 1)) c.prepare.ensures.same.1 past))
 
 pub own_records-at-requires-clause-may : goal.own_records-at-requires-clause-may
 own_records-at-requires-clause-may g c = own_later c.requires.may c.prepare.ensures.same.1 c.prepare.ensures.same.2 c.prepare.ensures.looks.0.room c.in-Ok.ensures.prepared
@@ -34,12 +37,7 @@ returns-in-Ok-clause-spare g c =
     subst (λ n. n ≤ b.spare + most_to_own (g.S.Bytes.size c.args.records.now) c.args.i) k.looks.0.room.0 left
 
 pub returns-in-Ok-clause-room : goal.returns-in-Ok-clause-room
-returns-in-Ok-clause-room g c =
-    let k = c.prepare.ensures in
-    let b = g.B.Blocks.state c.own_records-at.new.on in
-    let end = 8192 * (c.args.i + 1) in
-    let left : (g.B.Blocks.state c.prepare.new.on).room ≤ b.room + most_cleared (g.S.Bytes.size c.args.records.now) end = subst (λ n. (g.B.Blocks.state c.prepare.new.on).room ≤ b.room + most_cleared n end) k.same.1 c.own_records-at.ensures.room in
-    subst (λ n. n ≤ b.room + most_cleared (g.S.Bytes.size c.args.records.now) end) k.looks.0.room.1 left
+returns-in-Ok-clause-room g c = c.own_records-at.ensures.room ∙ c.prepare.ensures.looks.0.room.1
 
 pub returns-in-Ok-clause-changes : goal.returns-in-Ok-clause-changes
 returns-in-Ok-clause-changes g c =
