@@ -1,5 +1,6 @@
 pub mod Calling
 pub mod Fitting
 pub mod Labelling
+pub mod Lessening
 pub mod Opening
 pub mod Outcomes

@@ -1,13 +1,13 @@
 //! A cache with its device: blocks are written and settled in their turns.
 //!
 //! `Cache` is a `Mind` with the device that it speaks of. What the two have to do with one another is `Fits`: a block that counts as
-//! settled has one version, a buffer that isn't dirty has the bytes of the last one, and a block of the label table that has no turn has
-//! the labels of memory. Over a device that tells nothing it says nothing.
+//! settled has one version, a buffer that isn't dirty has the bytes of the last one, and a block of the label table that has no turn
+//! has the labels of memory. Over a device that tells nothing it says nothing.
 //!
 //! Proved: what is got, given out and filled is said as `Blocks` says it, but for images; a block is written with the bytes or the
-//! labels that memory has, and no other changes; a write that fails leaves it dirty; a sync that answers Ok settles each block whose last write answered
-//! Ok, and one that fails changes nothing. Where all is settled, the device has one version of each block of the tree and of the label
-//! table: memory's.
+//! labels that memory has, and no other changes; a write that fails leaves it dirty; a sync that answers Ok settles each block whose
+//! last write answered Ok, and one that fails changes nothing. Turns are taken until none is left, whatever memory has, and this
+//! ends. Where all is settled, the device has one version of each block of the tree and of the label table: memory's.
 //!
 //! Not here yet: puts into slots, removals, block 1, closing, and so `Blocks` itself. Not proved here: what is said of crash images,
 //! places and moments.
@@ -16,6 +16,7 @@
 mod cache;
 mod calls;
 mod laws;
+mod settles;
 mod turns;
 
 pub use cache::Cache;

@@ -1,0 +1,13 @@
+use Rattle.std.proofs.Common.{◌≡◌, ◌≤◌, []}
+use Rattle.fo_mind.specs.MindParts.{parts}
+use Rattle.fo_cache.specs.Work.{work}
+use Rattle.fo_cache.proofs.cache.Cache.settle_turns.Given as goal
+
+abbrev pub invariant-loop : goal.invariant-loop
+invariant-loop g l = record {
+  size : g.D.Disk.size l.self.main ≡ g.D.Disk.size l.fn.self.main;
+  later : g.D.Disk.faults l.fn.self.main ≤ g.D.Disk.faults l.self.main;
+}
+
+abbrev pub decreases-loop : goal.decreases-loop
+decreases-loop g l = work (parts l.self.mind [] 0).turns

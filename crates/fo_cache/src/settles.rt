@@ -1,0 +1,74 @@
+//! All that has a turn is written and settled.
+use crate::cache::Cache;
+use fo_disk::{Disk, DiskFault};
+use fo_order::Turn;
+use fo_ports::BlockError;
+
+impl<D: Disk> Cache<D> {
+    ghost use Rattle.std.specs.Prelude.{◌≡◌, ◌<◌, ◌≤◌, [], true, false, OnOk, IfOk, IfErr};
+    ghost use Rattle.fo_base.specs.Cause.{Rose};
+    ghost use Rattle.fo_order.specs.Turns.{IsDue, IsNext, IsQuiet};
+    ghost use Rattle.fo_ports.specs.Causes.{Caused};
+    ghost use Rattle.fo_mind.specs.MindParts.{parts};
+    ghost use Rattle.fo_cache.specs.Work.{work};
+
+    /// Writes and settles blocks in their turns, until nothing is to be written and all is settled. Where a write or a sync fails, or
+    /// memory is wanting for the next turn of a pinned block, it ends; what was written until then stays so.
+    pub fn settle_turns(&mut self) -> Result<(), BlockError>
+        ensures quiet { OnOk result (IsQuiet (parts self.new.mind [] 0).turns) }
+        ensures size { D.size self.new.main ≡ D.size self.old.main }
+        ensures cause { IfErr result (Caused ⊥ (λ b. ⊥) (Rose (D.faults self.old.main) (D.faults self.new.main)) ⊥) }
+        ensures later { D.faults self.old.main ≤ D.faults self.new.main }
+    {
+        while !self.take_turn()? {}
+        Ok(())
+    }
+
+    // Does what is to be done next, and answers whether that was nothing. Else less is left to do.
+    fn take_turn(&mut self) -> Result<bool, BlockError>
+        ensures idle { IfOk result (λ b. b ≡ true → IsQuiet (parts self.new.mind [] 0).turns) }
+        ensures less { IfOk result (λ b. b ≡ false → work (parts self.new.mind [] 0).turns < work (parts self.old.mind [] 0).turns) }
+        ensures size { D.size self.new.main ≡ D.size self.old.main }
+        ensures cause { IfErr result (Caused ⊥ (λ b. ⊥) (Rose (D.faults self.old.main) (D.faults self.new.main)) ⊥) }
+        ensures later { D.faults self.old.main ≤ D.faults self.new.main }
+    {
+        match self.next_turn() {
+            Turn::Idle => Ok(true),
+            Turn::Write(at) => self.write_next(at),
+            Turn::Sync => self.sync_next(),
+        }
+    }
+
+    // Writes the block that is next.
+    fn write_next(&mut self, at: u32) -> Result<bool, BlockError>
+        requires next { IsNext (parts self.old.mind [] 0).turns at }
+        ensures idle { IfOk result (λ b. b ≡ false) }
+        ensures less { OnOk result (work (parts self.new.mind [] 0).turns < work (parts self.old.mind [] 0).turns) }
+        ensures size { D.size self.new.main ≡ D.size self.old.main }
+        ensures cause { IfErr result (Caused ⊥ (λ b. ⊥) (Rose (D.faults self.old.main) (D.faults self.new.main)) ⊥) }
+        ensures later { D.faults self.old.main ≤ D.faults self.new.main }
+    {
+        let Ok(()) = self.keep_turn_of(at) else {
+            return Err(BlockError::Memory);
+        };
+        let Ok(()) = self.write_turn(at) else {
+            return Err(BlockError::Fault(DiskFault::Write));
+        };
+        Ok(false)
+    }
+
+    // Settles what was written.
+    fn sync_next(&mut self) -> Result<bool, BlockError>
+        requires due { IsDue (parts self.old.mind [] 0).turns }
+        ensures idle { IfOk result (λ b. b ≡ false) }
+        ensures less { OnOk result (work (parts self.new.mind [] 0).turns < work (parts self.old.mind [] 0).turns) }
+        ensures size { D.size self.new.main ≡ D.size self.old.main }
+        ensures cause { IfErr result (Caused ⊥ (λ b. ⊥) (Rose (D.faults self.old.main) (D.faults self.new.main)) ⊥) }
+        ensures later { D.faults self.old.main ≤ D.faults self.new.main }
+    {
+        let Ok(()) = self.sync_turn() else {
+            return Err(BlockError::Fault(DiskFault::Sync));
+        };
+        Ok(false)
+    }
+}
