@@ -13,3 +13,4 @@ pub mod Ending
 pub mod Linked
 pub mod Least
 pub mod Lowering
+pub mod Fronts

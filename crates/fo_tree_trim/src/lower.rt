@@ -1,10 +1,10 @@
 //! A source gets another end within it.
-ghost use Rattle.std.specs.Prelude.{◌≡◌, ◌-◌, ◌^◌, ◌<◌, ◌≤◌, ℕ};
+ghost use Rattle.std.specs.Prelude.{◌≡◌, ◌-◌, ◌^◌, ◌<◌, ◌≤◌, ℕ, take};
 ghost use Rattle.fo_image.specs.declared.types.Pointer.TheVariants.{Local};
 ghost use Rattle.fo_crash.specs.Images.{Reaches, to_block};
 ghost use Rattle.fo_ports.specs.Sources.{depth_for};
 ghost use Rattle.fo_tree_read.specs.Tree.{block_at};
-ghost use Rattle.fo_tree_look.specs.Source.{Over, WayReady};
+ghost use Rattle.fo_tree_look.specs.Source.{Over, WayReady, leaves_of};
 ghost use Rattle.fo_tree_down.specs.Clear.{last_leaf};
 ghost use Rattle.fo_tree_trim.specs.Trim.{lower_tree};
 
@@ -24,6 +24,7 @@ pub fn lowered<B: Blocks>(tree: &Tree, kept: &[Kept], on: &B, end: u64) -> Tree
     ensures tree { result ≡ lower_tree (B.state on.now) tree.now kept.now end }
     ensures over { (limit : ℕ) → Over (B.state on.now) tree.now kept.now limit → Over (B.state on.now) (lower_tree (B.state on.now) tree.now kept.now end) kept.now limit }
     ensures leaves { (B.state on.now).tells → (i : ℕ) → i < 409 ^ depth_for end → block_at (B.state on.now) (lower_tree (B.state on.now) tree.now kept.now end) (depth_for end) i ≡ block_at (B.state on.now) tree.now tree.now.depth i }
+    ensures bytes { (B.state on.now).tells → (limit : ℕ) → (leaves_of (B.state on.now) (lower_tree (B.state on.now) tree.now kept.now end) kept.now limit).bytes ≡ take end (leaves_of (B.state on.now) tree.now kept.now limit).bytes }
     ensures ready { WayReady (B.state on.now) (lower_tree (B.state on.now) tree.now kept.now end) kept.now (depth_for end) (last_leaf end) }
     ensures linked { (B.state on.now).tells → (b : ℕ) → (lower_tree (B.state on.now) tree.now kept.now end).top ≡ Local b → Reaches (B.state on.now).now (to_block 1) b }
     ensures tops { (n b : ℕ) → n < tree.now.depth - depth_for end → block_at (B.state on.now) tree.now n 0 ≡ Local b → (B.state on.now).pinned b }

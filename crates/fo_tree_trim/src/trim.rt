@@ -1,5 +1,5 @@
 //! What stands behind an end is cleared.
-ghost use Rattle.std.specs.Prelude.{◌≡◌, ◌≢◌, ◌⊎◌, ◌+◌, ◌-◌, ◌*◌, ◌≤◌, ◌<◌, ℕ, MatchOption};
+ghost use Rattle.std.specs.Prelude.{◌≡◌, ◌≢◌, ◌⊎◌, ◌+◌, ◌-◌, ◌*◌, ◌≤◌, ◌<◌, ℕ, take, MatchOption};
 ghost use Rattle.fo_ports.specs.Sources.{Made, Changes, Grows};
 ghost use Rattle.fo_tree_read.specs.Tree.{kind_at};
 ghost use Rattle.fo_tree_look.specs.Source.{Over, HasBlock, Prepared, WayReady, IsTopCurrent, leaves_of};
@@ -31,6 +31,7 @@ pub fn clear_behind<B: Blocks>(tree: &Tree, kept: &[Kept], on: &mut B, end: u64)
     ensures clear { EndsClear (B.state on.new) (ending (topped tree.now result) end) kept.now }
     ensures over { (limit : ℕ) → Over (B.state on.old) tree.now kept.now limit → Over (B.state on.new) (topped tree.now result) kept.now limit }
     ensures leaves { (B.state on.old).tells → LeavesStay (B.state on.old) (B.state on.new) tree.now (topped tree.now result) (last_leaf end) }
+    ensures bytes { (B.state on.old).tells → (limit : ℕ) → (leaves_of (B.state on.new) (ending (topped tree.now result) end) kept.now limit).bytes ≡ take end (leaves_of (B.state on.old) tree.now kept.now limit).bytes }
     ensures grows { (limit : ℕ) → Grows (B.state on.old) (B.state on.new) (leaves_of (B.state on.old) tree.now kept.now limit) (leaves_of (B.state on.new) (topped tree.now result) kept.now limit) }
     ensures changes { Changes tree.now.tag (HasBlock (B.state on.old) tree.now) (λ b. HasBlock (B.state on.old) tree.now b × (((B.state on.old).label b).kind ≢ kind_at tree.now.dir 0)) (B.state on.old) (B.state on.new) }
     ensures spare { (B.state on.old).spare ≤ (B.state on.new).spare + tree.now.depth }

@@ -1,9 +1,11 @@
-use Rattle.std.proofs.Common.{◌≡◌, ◌-◌, ℕ, sym, ◌∙◌, ap, subst, arith}
+use Rattle.std.proofs.Common.{◌≡◌, ◌-◌, ℕ, sym, ◌∙◌, ap, subst, arith, refl}
 use Rattle.fo_image.specs.declared.types.Pointer.{Pointer}
 use Rattle.fo_ports.specs.Sources.{depth_for}
 use Rattle.fo_tree_read.specs.declared.tree.Tree.{Tree}
 use Rattle.fo_tree_read.specs.Tree.{block_at}
 use Rattle.fo_tree_look.specs.Source.{WayReady, seen}
+use Rattle.fo_tree_trim.specs.Trim.{lower_tree}
+use Rattle.fo_tree_trim.proofs.Fronts.{bytes_front}
 use Rattle.fo_tree_trim.proofs.Least.{least_for}
 use Rattle.fo_tree_trim.proofs.Lowering.{Lowers, end_small, tops_ready, tops_pinned, low_over, low_ready, low_leaves, low_linked}
 use Rattle.fo_tree_trim.proofs.lower.lowered.Goals as goal
@@ -151,3 +153,39 @@ returns-clause-tops g c = λ n b lt e.
       alone = λ told y b h r. g.met.B.Blocks.apart_hangs on s.now 1 y (g.met.B.Blocks.instead_of on y b b told h).0 (g.met.B.Blocks.present on told) (g.met.B.Blocks.active on).0 r;
     } in
     tops_pinned x n b lt e
+
+pub returns-clause-bytes : goal.returns-clause-bytes
+returns-clause-bytes g c = λ told limit.
+    let on = c.args.on.now in
+    let s = g.B.Blocks.state on in
+    let t = c.args.tree.now in
+    let kept = c.args.kept.now in
+    let end = c.args.end in
+    let x : Lowers s t kept end c.requires.over.0 = record {
+      over = c.requires.over.1;
+      some = c.requires.end.0;
+      within = c.requires.end.1;
+      ready = c.requires.ready;
+      linked = c.requires.linked;
+      placed = λ told. g.met.B.Blocks.placed on s.now (g.met.B.Blocks.present on told);
+      is_block = g.met.B.Blocks.within on;
+      spelled = g.met.B.Blocks.spelled on;
+      alone = λ told y b h r. g.met.B.Blocks.apart_hangs on s.now 1 y (g.met.B.Blocks.instead_of on y b b told h).0 (g.met.B.Blocks.present on told) (g.met.B.Blocks.active on).0 r;
+    } in
+    let over = c.requires.over.1 in
+    let lower = low_over x in
+    let some = c.requires.end.0 in
+    let room = lower.hangs.room in
+    bytes_front {s = s} {u = s} {t = t} {new = lower_tree s t kept end} {kept = kept} (record {
+      told = told;
+      now = told;
+      held = over.held;
+      held_now = over.held;
+      same_held = λ score kind. refl;
+      dir = refl;
+      within = c.requires.end.1;
+      room = over.hangs.room;
+      room_now = room;
+      each = λ i lt. low_leaves x told i (omega (arith, lt, room));
+      content = λ i b lt e. refl;
+    })
