@@ -144,6 +144,12 @@ module _ {first cut : ℕ → ℕ → Type 0} {at i : ℕ} {s m u : State} (x : 
       (λ away. (x.step.frame.stays.instead b y (λ z. z) away).0 h)
       (cases_eq b at)
 
+  instead_still : (b y : ℕ) → m.instead b y → u.instead b y
+  instead_still b y h = ⊎_elim
+      (λ e. subst (λ z. u.instead z y) (sym e) (x.step.hangs.still y (subst (λ z. m.instead z y) e h)))
+      (λ away. (x.step.frame.stays.instead b y (λ z. z) away).1 h)
+      (cases_eq b at)
+
   leaves_end : s.tells → (b : ℕ) → Reaches s.now (to_block 1) b → Reaches u.now (to_block 1) b ⊎ u.covered b
   leaves_end told b r = ⊎_elim
       (λ before. ⊎_elim
@@ -177,7 +183,7 @@ module _ {first cut : ℕ → ℕ → Type 0} {at i : ℕ} {s m u : State} (x : 
     marks = λ b. let p = x.before.marks b in let q = x.step.frame.stays.marks b (λ h. h) in (λ h. q.0 (p.0 h), λ h. q.1 (p.1 h), λ h. q.2 (p.2 h));
     places = places_end;
     apart = λ b. let p = x.before.apart b in let q = apart_step b in (λ h. p.0 (q.0 h), λ h. q.1 (p.1 h));
-    instead = λ b y h. x.before.instead b y (instead_step b y h);
+    instead = λ b y. let was = x.before.instead b y in (λ h. was.0 (instead_step b y h), λ h. instead_still b y (was.1 h));
     still = λ b h. let before = x.before.still b h in (x.step.covers (x.covers_told b before)).still b before;
     only = λ told b free not h. (x.step.covers (mid told)).only b (x.before.only told b free (λ f. not (wider b f))) (λ r. not (below_back b r)) h;
     leaves = leaves_end;
@@ -208,7 +214,7 @@ cut_none cut s none = record {
   marks = λ b. (λ h. h, λ h. h, λ h. h);
   places = λ told b p free stands. stands;
   apart = λ b. (λ h. h, λ h. h);
-  instead = λ b y h. h;
+  instead = λ b y. (λ h. h, λ h. h);
   still = λ b h. h;
   only = λ told b free not h. free h;
   leaves = λ told b r. inl r;

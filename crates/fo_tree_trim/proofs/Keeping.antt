@@ -18,7 +18,7 @@ use Rattle.fo_tree_read.specs.Tree.{kind_at, kind_down, score_in, below, block_a
 use Rattle.fo_tree_look.specs.declared.ways.Kept.{Kept}
 use Rattle.fo_tree_look.specs.Source.{HasBlock, IsTold, Over, Prepared}
 use Rattle.fo_tree_look.proofs.Shown.{held_on}
-use Rattle.fo_tree_down.specs.Way.{IsTopOf, IsWayIndex, with_top}
+use Rattle.fo_tree_down.specs.Way.{IsInstead, ComesFor, IsTopOf, IsWayIndex, with_top}
 use Rattle.fo_tree_down.proofs.Beside.{index_last, index_within, way_block}
 use Rattle.fo_tree_down.proofs.Next.{local_seen}
 use Rattle.fo_tree_down.proofs.Stilling.{index_one}
@@ -143,7 +143,7 @@ module _ {s m u : State} {t : Tree} {kept : List Kept} {last top : ℕ} (x : Tri
           uncovered = cuts.only (mid told) b is.uncovered off;
           in_tree = λ older. cuts.reached (mid told) 1 b off (is.in_tree (omega (arith, epoch, high, older)));
           hung = hung_on told b off is.hung;
-          alone = λ y h. let a = is.alone y (cuts.instead y b h) in (a.0, epoch ∙ a.1 ∙ sym high);
+          alone = λ y h. let a = is.alone y ((cuts.instead y b).0 h) in (a.0, epoch ∙ a.1 ∙ sym high);
         }
 
     pub trim_over : {limit : ℕ} → Over m new kept limit → Over u new kept limit
@@ -179,13 +179,44 @@ module _ {s m u : State} {t : Tree} {kept : List Kept} {last top : ℕ} (x : Tri
           held = held_on x.aside.all kept over.held;
         }
 
+  -- what a source may come in the place of hangs from no slot that was cleared
+  instead_on : s.tells → (from : Pointer) → IsInstead m from top → IsInstead u from top
+  instead_on told from is =
+      let said = x.said_mid told in
+      let uncovered = cuts.only (mid told) top is.uncovered (free told top top_has) in
+      record {
+        is_apart = (cuts.apart top).1 is.is_apart;
+        place = is.place;
+        stands = cuts.places (mid told) top is.place uncovered is.stands;
+        uncovered = uncovered;
+        instead = λ y. let same = cuts.instead top y in (λ h. (is.instead y).0 (same.0 h), λ e. same.1 ((is.instead y).1 e));
+        live = λ y e. ap (λ (l : Label). l.state) (cuts.labels y) ∙ is.live y e;
+        keeps = λ y e.
+            let epoch : (u.label y).epoch ≡ (m.label y).epoch = ap (λ (l : Label). l.epoch) (cuts.labels y) in
+            let high = x.aside.all.same_high in
+            ⊎_elim
+            (λ older. inl (omega (arith, epoch, high, older)))
+            (λ r. inr (cuts.reached (mid told) top y (λ h. said.may.alone top y (hangs_past said y h) ((is.instead y).1 e)) r))
+            (is.keeps y e);
+      }
+
+  comes_on : s.tells → (from : Pointer) → ComesFor m (Local top) from → ComesFor u (Local top) from
+  comes_on told from (inl h) = inl (h.0, λ b e apart. h.1 b e ((cuts.apart b).0 apart))
+  comes_on told from (inr h) =
+      let same : top ≡ h.0 = local_eq h.1 in
+      inr (top, refl, instead_on told from (subst (λ y. IsInstead m from y) (sym same) h.2))
+    where
+      local_eq : {a b : ℕ} → Local a ≡ Local b → a ≡ b
+      local_eq e = cc
+
   pub trim_top : IsTopOf s m t top → IsTopOf s u t top
   trim_top is =
       let same = cuts.labels top in
       record {
         from = ⊎_elim (λ made. inl (made.0, ap (λ (l : Label). l.state) same ∙ made.1)) (λ was. inr was) is.from;
         apart = λ made. (cuts.apart top).1 (is.apart (made.0, ap (λ (l : Label). l.state) (sym same) ∙ made.1));
-        in_tree = λ told r. cuts.reached (mid told) 1 top (free told top top_has) (is.in_tree told r);
+        comes = λ told from h. comes_on told from (is.comes told from h);
+        only = λ told y z h. is.only told y z ((cuts.instead y z).0 h);
         live = ap (λ (l : Label). l.state) same ∙ is.live;
         current = ap (λ (l : Label). l.epoch) same ∙ is.current ∙ sym x.aside.all.same_high;
       }

@@ -137,7 +137,7 @@ module _ {s : State} {t : Tree} {last : ℕ} (x : Said s t last) where
     pub may_remove : MayRemoveSlot m a i
     may_remove = record {
       leaves = record {
-        each = λ y z is r. absurd (x.may.alone y z (below_past z r) (c.instead y z is));
+        each = λ y z is r. absurd (x.may.alone y z (below_past z r) ((c.instead y z).0 is));
         still = λ b j waits r. absurd (never_waits b j waits (below_past b r));
       };
       uncovered = c.only x.told a (told a has).uncovered holder_free;

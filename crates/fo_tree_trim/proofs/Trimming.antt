@@ -225,7 +225,7 @@ module _ {s m u : State} {t : Tree} {kept : List Kept} {last top : ℕ} (x : Tri
     others = others_end;
     apart = λ b not. let p = x.above.first.apart b (λ made. not (made_on b made)) in let q = cuts.apart b in (λ h. p.0 (q.0 h), λ h. ⊎_elim (λ on. inl (q.1 on)) (λ own. inr own) (p.1 h));
     places = λ told b p not other free stands. cuts.places (mid told) b p free (x.above.first.places told b p (λ made. not (made_on b made)) other (λ h. free (cuts.still b h)) stands);
-    instead = λ b y h. ⊎_elim (λ old. inl old) (λ new. inr (made_on b new.0, new.1)) (x.above.first.instead b y (cuts.instead b y h));
+    instead = λ b y h. ⊎_elim (λ old. inl old) (λ new. inr (made_on b new.0, new.1)) (x.above.first.instead b y ((cuts.instead b y).0 h));
     covers = λ b. (
       λ h. cuts.still b ((x.above.first.covers b).0 h),
       λ free other h.

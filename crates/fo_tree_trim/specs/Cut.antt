@@ -53,7 +53,7 @@ pub record Cuts (cut : ℕ → ℕ → Type 0) (s u : State) : Type 0 where
   pub marks : (b : ℕ) → (s.pinned b → u.pinned b) × (s.sealed b → u.sealed b) × (s.fresh b → u.fresh b)
   pub places : s.tells → (b : ℕ) (p : Place) → (u.covered b → ⊥) → s.stands b p → u.stands b p
   pub apart : (b : ℕ) → u.apart b ↔ s.apart b
-  pub instead : (b x : ℕ) → u.instead b x → s.instead b x
+  pub instead : (b x : ℕ) → u.instead b x ↔ s.instead b x
   pub still : (b : ℕ) → s.covered b → u.covered b
   pub only : s.tells → (b : ℕ) → (s.covered b → ⊥) → (HangsFrom cut s b → ⊥) → u.covered b → ⊥
   pub leaves : s.tells → (b : ℕ) → Reaches s.now (to_block 1) b → Reaches u.now (to_block 1) b ⊎ u.covered b
