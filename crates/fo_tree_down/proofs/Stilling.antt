@@ -35,7 +35,7 @@ index_one (suc n) k m i j a b = ⊎_elim
     a
 
 -- a level has a block of the way
-index_at : (n k m : ℕ) → m ≤ n → (j : ℕ) × IsWayIndex n k m j
+pub index_at : (n k m : ℕ) → m ≤ n → (j : ℕ) × IsWayIndex n k m j
 index_at zero k m le = (k, (omega (arith, le), refl))
 index_at (suc n) k m le = ⊎_elim
     (λ e. (k, inl (e, refl)))
