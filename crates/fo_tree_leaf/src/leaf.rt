@@ -1,9 +1,10 @@
 //! A leaf below the end of a source is made current.
 ghost use Rattle.std.specs.Prelude.{◌≡◌, ◌≢◌, ◌⊎◌, ◌+◌, ◌*◌, ◌≤◌, ℕ};
-ghost use Rattle.fo_ports.specs.Sources.{Changes, Grows, Owned, most_to_own, IsEnough};
+ghost use Rattle.fo_ports.specs.Sources.{Made, Changes, Grows, Owned, most_to_own, IsEnough};
 ghost use Rattle.fo_tree_read.specs.Tree.{kind_at};
-ghost use Rattle.fo_tree_look.specs.Source.{Over, HasBlock, Prepared, IsTopCurrent, form_of, leaves_of};
-ghost use Rattle.fo_tree_down.specs.Way.{IsTopOf, with_top};
+ghost use Rattle.fo_tree_look.specs.Source.{Over, HasBlock, Prepared, WayReady, IsTopCurrent, form_of, leaves_of};
+ghost use Rattle.fo_tree_down.specs.Clear.{EndsClear, last_leaf};
+ghost use Rattle.fo_tree_down.specs.Way.{OnWay, Descends, IsTopOf, with_top};
 
 use fo_ports::Blocks;
 use fo_tree_down::{Current, own_way};
@@ -26,6 +27,10 @@ pub fn own_within<B: Blocks>(tree: &Tree, kept: &[Kept], on: &mut B, i: u32) -> 
     ensures spare { (B.state on.old).spare ≤ (B.state on.new).spare + most_to_own tree.now.size i }
     ensures less { IsTopCurrent (B.state on.old) tree.now → (B.state on.old).spare + 1 ≤ (B.state on.new).spare + most_to_own tree.now.size i }
     ensures current { IsTopCurrent (B.state on.new) (with_top tree.now result.top) }
+    ensures clear { (B.state on.old).tells ⊎ (i ≡ last_leaf tree.now.size) → EndsClear (B.state on.old) tree.now kept.now → EndsClear (B.state on.new) (with_top tree.now result.top) kept.now }
+    ensures descends { Descends tree.now (OnWay (B.state on.old) tree.now tree.now.depth i) 0 (B.state on.old) (B.state on.new) }
+    ensures ways { (j b : ℕ) → WayReady (B.state on.old) tree.now kept.now tree.now.depth j → OnWay (B.state on.new) (with_top tree.now result.top) tree.now.depth j b → OnWay (B.state on.old) tree.now tree.now.depth j b ⊎ Made (B.state on.old) (B.state on.new) b }
+    ensures room { (B.state on.new).room ≡ (B.state on.old).room }
     ensures keeps { B.keeps on.old on.new }
 {
     own_way(tree, kept, on, tree.depth, i as u64)

@@ -1,6 +1,7 @@
-use Rattle.std.proofs.Common.{◌≡◌, ◌*◌, ◌/◌, inl, inr, ⊎_elim, subst, arith}
+use Rattle.std.proofs.Common.{◌≡◌, ◌-◌, ◌*◌, ◌/◌, inl, inr, ⊎_elim, refl, subst, arith}
 use Rattle.fo_tree_look.specs.Source.{WayReady}
 use Rattle.fo_tree_look.proofs.Shown.{top_ready, held_on}
+use Rattle.fo_tree_down.specs.Way.{OnWay, Descends}
 use Rattle.fo_tree_leaf.proofs.Owning.{LeafCame, owned, bytes_end, top_current, most_within}
 use Rattle.fo_tree_leaf.proofs.leaf.own_within.Goals as goal
 
@@ -102,3 +103,17 @@ returns-clause-over g c = λ limit whole. let le = c.requires.within in c.own_wa
 
 pub returns-clause-grows : goal.returns-clause-grows
 returns-clause-grows g c = λ limit. record { owns = c.own_way.ensures.owns; still = λ o n was. c.own_way.ensures.still limit o n was }
+
+pub returns-clause-clear : goal.returns-clause-clear
+returns-clause-clear g c = λ which clear. let le = c.requires.within in c.own_way.ensures.clear refl (omega (arith, le)) which clear
+
+pub returns-clause-descends : goal.returns-clause-descends
+returns-clause-descends g c =
+    let s = g.B.Blocks.state c.args.on.now in
+    let u = g.B.Blocks.state c.own_way.new.on in
+    let t = c.args.tree.now in
+    let none : t.depth - t.depth ≡ 0 = omega arith in
+    subst (λ l. Descends t (OnWay s t t.depth c.args.i) l s u) none c.own_way.ensures.comes.descends
+
+pub returns-clause-room : goal.returns-clause-room
+returns-clause-room g c = c.own_way.ensures.comes.descends.room
