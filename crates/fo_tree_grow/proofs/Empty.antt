@@ -10,7 +10,8 @@ use Rattle.fo_tree_read.specs.declared.tree.Tree.{Tree}
 use Rattle.fo_tree_read.specs.Tree.{kind_at, kind_down, below, block_at, leaf_at, address_of, held_of}
 use Rattle.fo_tree_look.specs.declared.ways.Kept.{Kept}
 use Rattle.fo_tree_look.specs.Source.{HasBlock, NoneHeld, Over, Prepared, address_here, held_here, seen}
-use Rattle.fo_tree_raise.proofs.Clear.{way_nothing}
+use Rattle.fo_tree_down.specs.Clear.{EndsClear, last_leaf}
+use Rattle.fo_tree_raise.proofs.Clear.{nothing_there, way_nothing}
 use Rattle.fo_tree_grow.specs.Grow.{shaped, TailClear}
 use Rattle.fo_tree_grow.proofs.Sizing.{room_for}
 
@@ -56,6 +57,13 @@ nil_local : (b : ℕ) → Nil ≡ Local b → ⊥
 nil_local b e = cc
 
 module _ (s : State) (t : Tree) (empty : t.top ≡ Nil) where
+  pub clear_none : (kept : List Kept) → EndsClear s t kept
+  clear_none kept = record {
+    empty = λ none. empty;
+    way = λ some. way_nothing s t kept empty t.depth (last_leaf t.size);
+    behind = λ some n a b is lt few. nothing_there s t kept empty n b;
+  }
+
   pub none_at : (n k : ℕ) → block_at s t n k ≡ Nil
   none_at zero k = empty
   none_at (suc n) k = ap (λ (p : Pointer). below s (kind_down t n) p (k % 409)) (none_at n (k / 409))

@@ -10,7 +10,9 @@ use Rattle.fo_tree_read.specs.Tree.{kind_at, kind_down, below, block_at, leaf_at
 use Rattle.fo_tree_look.specs.declared.ways.Kept.{Kept}
 use Rattle.fo_tree_look.specs.Source.{HasBlock, Over, Prepared, Ready, WayReady, IsTopCurrent, address_here, held_here, seen}
 use Rattle.fo_tree_look.proofs.Held.{seen_address}
-use Rattle.fo_tree_down.proofs.Beside.{index_last}
+use Rattle.fo_tree_down.proofs.Beside.{index_last, index_within}
+use Rattle.fo_tree_down.proofs.Stilling.{index_at}
+use Rattle.fo_tree_down.proofs.Ending.{index_order}
 use Rattle.fo_tree_down.specs.Clear.{EndsClear, last_leaf}
 use Rattle.fo_tree_raise.proofs.Clear.{way_past, nothing_there}
 use Rattle.fo_tree_grow.specs.Grow.{sized}
@@ -89,6 +91,22 @@ module _ (s : State) (t : Tree) (z : ℕ) (kept : List Kept) where
           (cases_lt k t.size);
       last = λ past some. way_to ((z - 1) / 8192) (omega (arith, more, some)) (omega (arith, some, room));
       end = was.end;
+    }
+
+    -- nothing stands behind the later end, either
+    pub clear_sized : 0 < z → EndsClear s (sized t z) kept
+    clear_sized some = record {
+      empty = λ (none : z ≡ 0). absurd (omega (arith, none, some));
+      way = λ again. way_to ((z - 1) / 8192) (omega (arith, more, some)) (omega (arith, some, room));
+      behind = λ again n a b is lt few.
+          sized_block (seen s kept) t z n b
+          ∙ ⊎_elim
+          (λ old.
+          let first = index_at t.depth (last_leaf t.size) n (index_within t.depth (last_leaf z) n a is) in
+          let le = index_order t.depth (last_leaf t.size) (last_leaf z) n first.0 a (omega (arith, more)) first.1 is in
+          clear.behind old n first.0 b first.1 (omega (arith, le, lt)) few)
+          (λ none. nothing_there s t kept (clear.empty (omega (arith, none))) n b)
+          (cases_lt 0 t.size);
     }
 
     -- no leaf stands behind the end

@@ -1,10 +1,10 @@
 //! A leaf past the end of a source is made current, where its levels have room for it.
 ghost use Rattle.std.specs.Prelude.{◌≡◌, ◌≢◌, ◌⊎◌, ◌+◌, ◌-◌, ◌*◌, ◌%◌, ◌<◌, ◌≤◌, ℕ};
 ghost use Rattle.fo_sparse.specs.Written.{resized};
-ghost use Rattle.fo_ports.specs.Sources.{Changes, Grows, Owned, depth_for};
+ghost use Rattle.fo_ports.specs.Sources.{Made, Changes, Grows, Owned, depth_for};
 ghost use Rattle.fo_tree_read.specs.Tree.{kind_at};
-ghost use Rattle.fo_tree_look.specs.Source.{Over, HasBlock, IsPlainTree, Prepared, IsTopCurrent, form_of, leaves_of};
-ghost use Rattle.fo_tree_down.specs.Way.{IsTopOf, with_top};
+ghost use Rattle.fo_tree_look.specs.Source.{Over, HasBlock, IsPlainTree, Prepared, WayReady, IsTopCurrent, form_of, leaves_of};
+ghost use Rattle.fo_tree_down.specs.Way.{OnWay, Descends, IsTopOf, with_top};
 ghost use Rattle.fo_tree_down.specs.Clear.{EndsClear};
 ghost use Rattle.fo_tree_grow.specs.Grow.{sized, TailClear};
 
@@ -33,6 +33,10 @@ pub fn own_next<B: Blocks>(tree: &Tree, kept: &[Kept], on: &mut B, i: u32) -> Cu
     ensures spare { (B.state on.old).spare ≤ (B.state on.new).spare + (tree.now.depth + 1) }
     ensures less { IsTopCurrent (B.state on.old) tree.now → (B.state on.old).spare ≤ (B.state on.new).spare + tree.now.depth }
     ensures current { IsTopCurrent (B.state on.new) (with_top (sized tree.now (8192 * (i + 1))) result.top) }
+    ensures clear { EndsClear (B.state on.new) (with_top (sized tree.now (8192 * (i + 1))) result.top) kept.now }
+    ensures descends { Descends (sized tree.now (8192 * (i + 1))) (OnWay (B.state on.old) (sized tree.now (8192 * (i + 1))) tree.now.depth i) 0 (B.state on.old) (B.state on.new) }
+    ensures ways { (j b : ℕ) → WayReady (B.state on.old) (sized tree.now (8192 * (i + 1))) kept.now tree.now.depth j → OnWay (B.state on.new) (with_top (sized tree.now (8192 * (i + 1))) result.top) tree.now.depth j b → OnWay (B.state on.old) (sized tree.now (8192 * (i + 1))) tree.now.depth j b ⊎ Made (B.state on.old) (B.state on.new) b }
+    ensures room { (B.state on.new).room ≡ (B.state on.old).room }
     ensures keeps { B.keeps on.old on.new }
 {
     let grown = with_size(tree, BLOCK as u64 * (i as u64 + 1));

@@ -1,13 +1,14 @@
-use Rattle.std.proofs.Common.{◌≡◌, ◌≢◌, ◌+◌, ◌*◌, ◌≤◌, ℕ, inl, inr, ⊎_elim, refl, sym, ◌∙◌, ap, subst, arith}
+use Rattle.std.proofs.Common.{◌≡◌, ◌≢◌, ◌⊎◌, ◌+◌, ◌*◌, ◌≤◌, ℕ, inl, inr, ⊎_elim, refl, sym, ◌∙◌, ap, subst, arith}
 use Rattle.fo_ports.specs.Sources.{IsEnough, Owned, Changes, Grows, depth_for, most_to_own}
 use Rattle.fo_tree_read.specs.declared.tree.Tree.{Tree}
 use Rattle.fo_tree_read.specs.Tree.{kind_at}
 use Rattle.fo_tree_look.specs.Source.{Over, Prepared, IsTopCurrent, HasBlock, form_of, leaves_of}
 use Rattle.fo_tree_down.specs.Way.{IsTopOf, with_top}
+use Rattle.fo_tree_down.specs.Clear.{EndsClear, last_leaf}
 use Rattle.fo_tree_leaf.proofs.Owning.{most_within}
 use Rattle.fo_tree_grow.specs.Grow.{shaped}
 use Rattle.fo_tree_grow.proofs.Growing.{changes_of, top_of_sized, owned_sized, bytes_none}
-use Rattle.fo_tree_grow.proofs.Empty.{least_for, few_for, has_none, address_none, held_none, over_shaped, prepared_any, tail_none, byte_none}
+use Rattle.fo_tree_grow.proofs.Empty.{least_for, few_for, has_none, address_none, held_none, over_shaped, prepared_any, tail_none, byte_none, clear_none}
 use Rattle.fo_tree_grow.proofs.first.own_first.Given as given
 use Rattle.fo_tree_grow.proofs.first.own_first.Goals as goal
 
@@ -136,3 +137,15 @@ pub returns-clause-current : goal.returns-clause-current
 returns-clause-current g c =
     let u = g.B.Blocks.state c.own_within.new.on in
     subst (λ (x : Tree). IsTopCurrent u (with_top x c.own_within.result.top)) (grown_end g c) c.own_within.ensures.current
+
+pub returns-clause-clear : goal.returns-clause-clear
+returns-clause-clear g c =
+    let s = g.B.Blocks.state c.args.on.now in
+    let u = g.B.Blocks.state c.own_within.new.on in
+    let t = c.args.tree.now in
+    let kept = c.args.kept.now in
+    let z = 8192 * (c.args.i + 1) in
+    let d = depth_for (8192 * (c.args.i + 1)) in
+    (subst (λ (x : Tree). s.tells ⊎ (c.args.i ≡ last_leaf x.size) → EndsClear s x kept → EndsClear u (with_top x c.own_within.result.top) kept) (grown_end g c) c.own_within.ensures.clear)
+    (inr (omega arith))
+    (clear_none s (shaped t d z) c.requires.empty kept)

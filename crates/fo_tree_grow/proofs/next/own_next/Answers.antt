@@ -1,12 +1,13 @@
-use Rattle.std.proofs.Common.{◌≡◌, ◌≢◌, ◌+◌, ◌*◌, ◌^◌, ◌≤◌, ℕ, inl, inr, ⊎_elim, refl, sym, ◌∙◌, subst, arith}
-use Rattle.fo_ports.specs.Sources.{IsEnough, Owned, Changes, Grows, most_to_own}
+use Rattle.std.proofs.Common.{◌≡◌, ◌≢◌, ◌⊎◌, ◌+◌, ◌*◌, ◌^◌, ◌≤◌, ℕ, inl, inr, ⊎_elim, refl, sym, ◌∙◌, subst, arith}
+use Rattle.fo_ports.specs.Sources.{Made, IsEnough, Owned, Changes, Grows, most_to_own}
 use Rattle.fo_tree_read.specs.declared.tree.Tree.{Tree}
 use Rattle.fo_tree_read.specs.Tree.{kind_at}
-use Rattle.fo_tree_look.specs.Source.{Over, Prepared, IsTopCurrent, HasBlock, form_of, leaves_of}
-use Rattle.fo_tree_down.specs.Way.{IsTopOf, with_top}
+use Rattle.fo_tree_look.specs.Source.{Over, Prepared, WayReady, IsTopCurrent, HasBlock, form_of, leaves_of}
+use Rattle.fo_tree_down.specs.Way.{OnWay, Descends, IsTopOf, with_top}
+use Rattle.fo_tree_down.specs.Clear.{EndsClear, last_leaf}
 use Rattle.fo_tree_leaf.proofs.Owning.{most_within}
 use Rattle.fo_tree_grow.specs.Grow.{sized}
-use Rattle.fo_tree_grow.proofs.Sizing.{room_for, has_back, top_sized, over_sized, prepared_sized, address_sized, held_sized}
+use Rattle.fo_tree_grow.proofs.Sizing.{room_for, has_back, top_sized, over_sized, prepared_sized, address_sized, held_sized, clear_sized}
 use Rattle.fo_tree_grow.proofs.Growing.{changes_of, top_of_sized, owned_sized, bytes_sized}
 use Rattle.fo_tree_grow.proofs.next.own_next.Given as given
 use Rattle.fo_tree_grow.proofs.next.own_next.Goals as goal
@@ -144,3 +145,27 @@ pub returns-clause-current : goal.returns-clause-current
 returns-clause-current g c =
     let u = g.B.Blocks.state c.own_within.new.on in
     subst (λ (x : Tree). IsTopCurrent u (with_top x c.own_within.result.top)) c.with_size-grown.ensures c.own_within.ensures.current
+
+pub returns-clause-clear : goal.returns-clause-clear
+returns-clause-clear g c =
+    let s = g.B.Blocks.state c.args.on.now in
+    let u = g.B.Blocks.state c.own_within.new.on in
+    let t = c.args.tree.now in
+    let kept = c.args.kept.now in
+    let z = 8192 * (c.args.i + 1) in
+    (subst (λ (x : Tree). s.tells ⊎ (c.args.i ≡ last_leaf x.size) → EndsClear s x kept → EndsClear u (with_top x c.own_within.result.top) kept) c.with_size-grown.ensures c.own_within.ensures.clear)
+    (inr (omega arith))
+    (clear_sized s t z kept c.requires.clear (more_end g c) (room_end g c) (omega arith))
+
+pub returns-clause-descends : goal.returns-clause-descends
+returns-clause-descends g c =
+    let s = g.B.Blocks.state c.args.on.now in
+    let u = g.B.Blocks.state c.own_within.new.on in
+    subst (λ (x : Tree). Descends x (OnWay s x x.depth c.args.i) 0 s u) c.with_size-grown.ensures c.own_within.ensures.descends
+
+pub returns-clause-ways : goal.returns-clause-ways
+returns-clause-ways g c =
+    let s = g.B.Blocks.state c.args.on.now in
+    let u = g.B.Blocks.state c.own_within.new.on in
+    let kept = c.args.kept.now in
+    subst (λ (x : Tree). (j b : ℕ) → WayReady s x kept x.depth j → OnWay u (with_top x c.own_within.result.top) x.depth j b → OnWay s x x.depth j b ⊎ Made s u b) c.with_size-grown.ensures c.own_within.ensures.ways
