@@ -2,3 +2,4 @@ pub mod Walks
 pub mod May
 pub mod After
 pub mod Changed
+pub mod Named

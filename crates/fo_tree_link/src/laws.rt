@@ -1,9 +1,11 @@
 //! Where a source that was changed may be linked.
-ghost use Rattle.std.specs.Prelude.{◌≡◌, ℕ};
+ghost use Rattle.std.specs.Prelude.{◌≡◌, ◌≢◌, ◌^◌, ◌<◌, ℕ};
 ghost use Rattle.fo_image.specs.declared.types.Pointer.TheVariants.{Local};
 ghost use Rattle.fo_crash.specs.declared.slot.Slot.TheVariants.{Entry as Head};
-ghost use Rattle.fo_tree_look.specs.Source.{Over};
-ghost use Rattle.fo_tree_down.specs.Way.{IsTopOf};
+ghost use Rattle.fo_ports.specs.Sources.{Changes};
+ghost use Rattle.fo_tree_read.specs.Tree.{kind_at, block_at};
+ghost use Rattle.fo_tree_look.specs.Source.{Over, HasBlock};
+ghost use Rattle.fo_tree_down.specs.Way.{Comes, StaysBeside, IsTopOf, with_top};
 ghost use Rattle.fo_tree_link.specs.Link.{entry_of, CanLink};
 ghost use Rattle.fo_tree_link.specs.Change.{IsLinked, SameSource, SameLeaves, KeepsOthers};
 
@@ -32,4 +34,25 @@ pub fn may_link<B: Blocks>(
     requires linked { (B.state before.now).tells → IsLinked (B.state before.now) tree.now at i }
     requires leaves { (B.state before.now).tells → SameLeaves (B.state before.now) (B.state after.now) tree.now new.now }
     ensures { (B.state after.now).tells → CanLink (B.state after.now) new.now generation at i }
+{}
+
+/// Where the way to a leaf of a source of entries was made current, each of its leaves has the slots of a leaf that it had, or leads to no
+/// block.
+pub fn same_leaves<B: Blocks>(
+    tree: &Tree,
+    kept: &[Kept],
+    before: &B,
+    after: &B,
+    i: u64,
+    top: u32,
+    at: u32,
+)
+    requires over { (limit : ℕ) × Over (B.state before.now) tree.now kept.now limit }
+    requires keeps { B.keeps before.now after.now }
+    requires few { i < 409 ^ tree.now.depth }
+    requires comes { Comes (B.state before.now) (B.state after.now) tree.now kept.now tree.now.depth i at }
+    requires leads { block_at (B.state after.now) (with_top tree.now top) tree.now.depth i ≡ Local at }
+    requires beside { (B.state before.now).tells → StaysBeside (B.state before.now) (B.state after.now) tree.now (with_top tree.now top) tree.now.depth i }
+    requires changes { Changes tree.now.tag (HasBlock (B.state before.now) tree.now) (λ b. HasBlock (B.state before.now) tree.now b × (((B.state before.now).label b).kind ≢ kind_at tree.now.dir 0)) (B.state before.now) (B.state after.now) }
+    ensures { (B.state before.now).tells → SameLeaves (B.state before.now) (B.state after.now) tree.now (with_top tree.now top) }
 {}

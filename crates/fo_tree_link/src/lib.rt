@@ -13,5 +13,5 @@
 mod laws;
 mod put;
 
-pub use laws::may_link;
+pub use laws::{may_link, same_leaves};
 pub use put::link;

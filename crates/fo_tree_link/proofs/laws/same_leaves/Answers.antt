@@ -1,0 +1,27 @@
+use Rattle.std.proofs.Common.{◌≡◌, ◌+◌, ◌-◌, subst, sym, ◌∙◌, ap, arith}
+use Rattle.fo_crash.specs.declared.place.Place.{Place}
+use Rattle.fo_crash.specs.Places.{place, super_place}
+use Rattle.fo_tree_read.specs.Tree.{kind_down}
+use Rattle.fo_tree_read.proofs.Walk.{is_down}
+use Rattle.fo_tree_link.proofs.Named.{same_named, leaf_is, leaf_not_root}
+use Rattle.fo_tree_link.proofs.laws.same_leaves.Goals as goal
+
+pub returns : goal.returns
+returns g c = λ told.
+    let on = c.args.before.now in
+    let s = g.B.Blocks.state on in
+    let t = c.args.tree.now in
+    same_named {limit = c.requires.over.0} (record {
+      over = c.requires.over.1;
+      told = told;
+      few = c.requires.few;
+      comes = c.requires.comes;
+      leads = c.requires.leads;
+      beside = c.requires.beside told;
+      changes = c.requires.changes;
+      leaf_kind = λ k a is.
+          let down = is_down s t (g.met.B.Blocks.placed on s.now (g.met.B.Blocks.present on told)) c.requires.over.1.hangs told t.depth k a (omega arith) is in
+          let p = place (kind_down t t.depth) t.tag down.index (t.rank + (t.depth - t.depth)) in
+          let ne : a ≡ 1 → ⊥ = λ one. leaf_not_root t.dir (t.depth - t.depth) (ap (λ (q : Place). q.kind) ((g.met.B.Blocks.one_place on).each a p super_place down.stands (subst (λ y. s.stands y super_place) (sym one) (g.met.B.Blocks.super_stands on told)))) in
+          (g.met.B.Blocks.labelled on a p told ne down.stands).1 ∙ leaf_is t.dir t.depth;
+    })
