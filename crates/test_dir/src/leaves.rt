@@ -1,7 +1,7 @@
 //! Leaves that have records, over any blocks and any source.
-ghost use Rattle.std.specs.Prelude.{◌≡◌, ◌+◌, ◌≤◌, length, max, true};
+ghost use Rattle.std.specs.Prelude.{◌≡◌, ◌+◌, ◌<◌, ◌≤◌, length, max, true};
 ghost use Rattle.fo_meta.specs.Leaf.{IsLeaf};
-ghost use Rattle.fo_ports.specs.Sources.{IsEnough, most_cleared, most_for};
+ghost use Rattle.fo_ports.specs.Sources.{IsEnough, most_for};
 ghost use Rattle.fo_dir_read.specs.Names.{OfRecords};
 ghost use Rattle.fo_dir_read.specs.Pairs.{OfEntries};
 
@@ -48,7 +48,7 @@ pub fn fill<B: Blocks, S: Bytes<B>>(
     requires limit { 8192 ≤ (S.form records.old).limit }
     requires pins { most_for (max (S.size records.old) 8192) 8192 ≤ (B.state on.old).pins_left }
     requires spare { IsEnough (S.leaves records.old on.old).current (S.size records.old) 0 (B.state on.old).spare }
-    requires room { most_cleared (S.size records.old) 8192 ≤ (B.state on.old).room }
+    requires trimmed { S.size records.old < 8192 → S.is_trimmed records.old on.old }
     requires bytes { IsLeaf bytes.now }
     ensures over { S.is_over records.new on.new }
     ensures form { S.form records.new ≡ S.form records.old }
@@ -73,7 +73,7 @@ pub fn is_ready<B: Blocks, S: Bytes<B>>(
     requires limit { 8192 ≤ (S.form entries.old).limit }
     requires pins { most_for (max (S.size entries.old) 8192) 8192 ≤ (B.state on.old).pins_left }
     requires spare { IsEnough (S.leaves entries.old on.old).current (S.size entries.old) 0 (B.state on.old).spare }
-    requires room { most_cleared (S.size entries.old) 8192 ≤ (B.state on.old).room }
+    requires trimmed { S.size entries.old < 8192 → S.is_trimmed entries.old on.old }
 {
     match ready_entries(entries, on, rank, 0) {
         Ok(leaf) => match free_pair(entries, on, rank) {

@@ -1,7 +1,7 @@
 //! Directories whose leaves have records.
-ghost use Rattle.std.specs.Prelude.{◌≡◌, ◌+◌, ◌*◌, ◌≤◌, length, max, IfOk};
+ghost use Rattle.std.specs.Prelude.{◌≡◌, ◌+◌, ◌*◌, ◌<◌, ◌≤◌, length, max, IfOk};
 ghost use Rattle.fo_image.specs.declared.types.Kind.TheVariants.{Data};
-ghost use Rattle.fo_ports.specs.Sources.{IsEnough, most_cleared, most_for};
+ghost use Rattle.fo_ports.specs.Sources.{IsEnough, most_for};
 ghost use Rattle.fo_ports_source.specs.Source.{IsEmpty};
 ghost use Rattle.fo_dir_read.specs.Names.{OfRecords, leaf_count};
 
@@ -56,7 +56,7 @@ fn has_two<B: Blocks, S: Bytes<B>>(
     requires limit { 8192 ≤ (S.form records.old).limit }
     requires pins { most_for (max (S.size records.old) 8192) 8192 ≤ (B.state on.old).pins_left }
     requires spare { IsEnough (S.leaves records.old on.old).current (S.size records.old) 0 (B.state on.old).spare }
-    requires room { most_cleared (S.size records.old) 8192 ≤ (B.state on.old).room }
+    requires trimmed { S.size records.old < 8192 → S.is_trimmed records.old on.old }
 {
     let leaf = two();
     if !is_leaf(&leaf) {

@@ -4,7 +4,7 @@ use Rattle.test_dir.proofs.Laid.{put_undisturbed}
 use Rattle.test_dir.proofs.leaves.fill.Goals as goal
 
 pub ready_records-requires-clause-may : goal.ready_records-requires-clause-may
-ready_records-requires-clause-may g c = record { within = omega arith; limited = c.requires.limit; pins = c.requires.pins; spare = c.requires.spare; room = c.requires.room }
+ready_records-requires-clause-may g c = record { within = omega arith; limited = c.requires.limit; pins = c.requires.pins; spare = c.requires.spare }
 
 pub returns-in-Ok-clause-over : goal.returns-in-Ok-clause-over
 returns-in-Ok-clause-over g c =

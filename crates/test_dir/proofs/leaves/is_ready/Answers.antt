@@ -7,7 +7,7 @@ none_below : (n : ℕ) → n < 0 → ⊥
 none_below n lt = omega (arith, lt)
 
 pub ready_entries-requires-clause-may : goal.ready_entries-requires-clause-may
-ready_entries-requires-clause-may g c = record { within = omega arith; limited = c.requires.limit; pins = c.requires.pins; spare = c.requires.spare; room = c.requires.room }
+ready_entries-requires-clause-may g c = record { within = omega arith; limited = c.requires.limit; pins = c.requires.pins; spare = c.requires.spare }
 
 pub ready_entries-requires-clause-linked : goal.ready_entries-requires-clause-linked
 ready_entries-requires-clause-linked g c = λ told deeper b has. absurd (none_below _ deeper)
