@@ -14,3 +14,4 @@ pub mod Linked
 pub mod Least
 pub mod Lowering
 pub mod Fronts
+pub mod Holding

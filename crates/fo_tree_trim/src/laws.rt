@@ -2,8 +2,11 @@
 ghost use Rattle.std.specs.Prelude.{◌≡◌, ◌^◌, ◌<◌, ℕ, true};
 ghost use Rattle.fo_image.specs.declared.types.Pointer.TheVariants.{Local};
 ghost use Rattle.fo_crash.specs.Images.{Reaches, to_block};
+ghost use Rattle.fo_ports.specs.State.{Looks};
+ghost use Rattle.fo_ports.specs.Sources.{IsReady, StaysReady};
 ghost use Rattle.fo_tree_read.specs.Tree.{block_at};
-ghost use Rattle.fo_tree_look.specs.Source.{Over};
+ghost use Rattle.fo_tree_look.specs.Source.{Over, Extends};
+ghost use Rattle.fo_tree_down.specs.Clear.{EndsClear};
 ghost use Rattle.fo_tree_trim.specs.Cut.{IsBareLeaf, MayCut};
 
 use fo_ports::Blocks;
@@ -17,4 +20,11 @@ pub fn may_cut<B: Blocks>(tree: &Tree, kept: &[Kept], on: &B, last: u64)
     requires linked { (B.state on.now).tells → (b : ℕ) → tree.now.top ≡ Local b → Reaches (B.state on.now).now (to_block 1) b }
     requires bare { (B.state on.now).tells → tree.now.dir ≡ true → (i b : ℕ) → last < i → i < 409 ^ tree.now.depth → block_at (B.state on.now) tree.now tree.now.depth i ≡ Local b → IsBareLeaf (B.state on.now) b }
     ensures may { (B.state on.now).tells → MayCut (B.state on.now) tree.now last }
+{}
+
+/// What is clear behind the end of a source stays so where its blocks are only looked at, and where those that are ready stay so.
+pub fn stays_clear<B: Blocks>(tree: &Tree, kept: &[Kept], more: &[Kept], before: &B, after: &B)
+    requires keeps { B.keeps before.now after.now }
+    ensures looks { Looks (B.state before.now) (B.state after.now) → Extends (B.state after.now) kept.now more.now → EndsClear (B.state before.now) tree.now kept.now → EndsClear (B.state after.now) tree.now more.now }
+    ensures stays { ((at : ℕ) → IsReady tree.now.tag (B.state before.now) at → StaysReady (B.state before.now) (B.state after.now) at) → EndsClear (B.state before.now) tree.now kept.now → EndsClear (B.state after.now) tree.now kept.now }
 {}

@@ -19,6 +19,6 @@ mod lower;
 mod trim;
 
 pub use clear::is_clear_behind;
-pub use laws::may_cut;
+pub use laws::{may_cut, stays_clear};
 pub use lower::lowered;
 pub use trim::clear_behind;
