@@ -12,12 +12,12 @@ use Rattle.fo_tree_look.specs.Source.{HasBlock, Over, IsPlainTree, Prepared, Way
 use Rattle.fo_tree_look.proofs.Shown.{held_on, top_ready}
 use Rattle.fo_tree_down.specs.Way.{OnWay, IsWayIndex, Comes, Replaces, StaysBeside, IsTopOf, with_top}
 use Rattle.fo_tree_down.proofs.Beside.{index_last}
-use Rattle.fo_tree_down.specs.Clear.{last_leaf}
+use Rattle.fo_tree_down.specs.Clear.{EndsClear, last_leaf}
 use Rattle.fo_tree_raise.specs.Levels.{grown}
 use Rattle.fo_tree_raise.proofs.Climbing.{room_more}
 use Rattle.fo_tree_leaf.proofs.Owning.{LeafCame}
 use Rattle.fo_tree_grow.specs.Grow.{sized, TailClear}
-use Rattle.fo_tree_grow.proofs.Sizing.{room_for, has_back, has_sized, way_to, prepared_sized}
+use Rattle.fo_tree_grow.proofs.Sizing.{room_for, has_back, has_sized, way_to, prepared_sized, clear_sized}
 use Rattle.fo_tree_grow.proofs.Empty.{least_for}
 use Rattle.fo_tree_lift.specs.Lift.{Lifts, InSteadOf}
 use Rattle.fo_tree_lift.proofs.Lifting.{over_lifted, way_top}
@@ -80,6 +80,9 @@ module _ {s m : State} {t : Tree} {kept : List Kept} {levels : ℕ} {p : Pointer
 
   pub current_mid : IsTopCurrent m (taller t levels p i)
   current_mid = record { at = x.lifts.new.at; is = x.lifts.new.is; current = (x.lifts.adds.made x.lifts.new.at x.lifts.new.made).labelled.0 ∙ sym x.all.same_high }
+
+  pub clear_mid : EndsClear m (taller t levels p i) kept
+  clear_mid = clear_sized m (grown t levels p) (8192 * (i + 1)) kept x.lifts.clear longer room (omega arith)
 
   only_mid : (b : ℕ) → OnWay m (taller t levels p i) (t.depth + levels) i b → b ≡ x.lifts.new.at
   only_mid b way =

@@ -8,6 +8,7 @@ use Rattle.fo_tree_read.specs.Tree.{kind_at}
 use Rattle.fo_tree_look.specs.declared.ways.Kept.{Kept}
 use Rattle.fo_tree_look.specs.Source.{Over, HasBlock, IsPlainTree, IsTopCurrent, form_of, leaves_of}
 use Rattle.fo_tree_down.specs.Way.{IsTopOf, with_top}
+use Rattle.fo_tree_down.specs.Clear.{EndsClear}
 use Rattle.fo_tree_grow.specs.Grow.{shaped}
 
 -- the tree of a source that ends with leaf i or behind it, below this top
@@ -25,3 +26,5 @@ pub record OwnsLeaf (s u : State) (t new : Tree) (kept : List Kept) (i top at : 
   pub most : s.spare ≤ u.spare + most_to_own t.size i
   pub less : IsTopCurrent s t → s.spare + 1 ≤ u.spare + most_to_own t.size i
   pub current : IsTopCurrent u new
+  pub clear : s.tells ⊎ (t.size ≤ 8192 * (i + 1)) → EndsClear s t kept → EndsClear u new kept
+  pub room : u.room ≡ s.room

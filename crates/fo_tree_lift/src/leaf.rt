@@ -38,6 +38,8 @@ pub fn own_leaf<B: Blocks>(tree: &Tree, kept: &[Kept], on: &mut B, i: u32) -> Cu
     ensures changes { Changes tree.now.tag (HasBlock (B.state on.old) tree.now) (λ b. HasBlock (B.state on.old) tree.now b × (((B.state on.old).label b).kind ≢ kind_at tree.now.dir 0)) (B.state on.old) (B.state on.new) }
     ensures spare { ((B.state on.old).spare ≤ (B.state on.new).spare + most_to_own tree.now.size i) × (IsTopCurrent (B.state on.old) tree.now → (B.state on.old).spare + 1 ≤ (B.state on.new).spare + most_to_own tree.now.size i) }
     ensures current { IsTopCurrent (B.state on.new) (with_leaf tree.now i result.top) }
+    ensures clear { (B.state on.old).tells ⊎ (tree.now.size ≤ 8192 * (i + 1)) → EndsClear (B.state on.old) tree.now kept.now → EndsClear (B.state on.new) (with_leaf tree.now i result.top) kept.now }
+    ensures room { (B.state on.new).room ≡ (B.state on.old).room }
     ensures keeps { B.keeps on.old on.new }
 {
     own_any(tree, kept, on, i)

@@ -40,6 +40,7 @@ pub fn own_raised<B: Blocks>(tree: &Tree, kept: &[Kept], on: &mut B, i: u32) -> 
     ensures less { IsTopCurrent (B.state on.old) tree.now → (B.state on.old).spare + tree.now.depth ≤ (B.state on.new).spare + 2 * depth_for (8192 * (i + 1)) }
     ensures room { (B.state on.new).room ≡ (B.state on.old).room }
     ensures current { IsTopCurrent (B.state on.new) (with_top (shaped tree.now (depth_for (8192 * (i + 1))) (8192 * (i + 1))) result.top) }
+    ensures clear { EndsClear (B.state on.new) (with_top (shaped tree.now (depth_for (8192 * (i + 1))) (8192 * (i + 1))) result.top) kept.now }
     ensures keeps { B.keeps on.old on.new }
 {
     let end = BLOCK as u64 * (i as u64 + 1);

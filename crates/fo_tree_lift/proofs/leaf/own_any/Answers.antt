@@ -1,4 +1,4 @@
-use Rattle.std.proofs.Common.{◌+◌, ◌*◌, ◌/◌, ◌%◌, ◌≤◌, max, ◌∙◌, subst, arith}
+use Rattle.std.proofs.Common.{◌+◌, ◌*◌, ◌/◌, ◌%◌, ◌≤◌, max, inl, inr, ⊎_elim, ◌∙◌, subst, arith}
 use Rattle.fo_ports.specs.Sources.{byte_at}
 use Rattle.fo_tree_read.specs.declared.tree.Tree.{Tree}
 use Rattle.fo_tree_look.specs.Source.{address_here, held_here}
@@ -28,4 +28,6 @@ returns-then-end_of-tree-clause-owns g c =
       most = e.spare;
       less = e.less;
       current = e.current;
+      clear = λ which. e.clear (⊎_elim (λ told. inl told) (λ ends. inr (omega (arith, ends, le))) which);
+      room = e.room;
     })

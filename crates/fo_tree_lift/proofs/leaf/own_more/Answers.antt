@@ -29,6 +29,8 @@ returns-then-has_levels-clause-owns g c =
       most = omega (arith, past, used, levels);
       less = λ top. let less = e.less top in omega (arith, past, less, levels);
       current = e.current;
+      clear = λ which was. e.clear;
+      room = e.room;
     })
 
 pub returns-else-has_levels-clause-owns : goal.returns-else-has_levels-clause-owns
@@ -53,4 +55,6 @@ returns-else-has_levels-clause-owns g c =
       most = omega (arith, past, used);
       less = λ top. let less = e.less top in omega (arith, past, less);
       current = e.current;
+      clear = λ which was. e.clear;
+      room = e.room;
     })

@@ -28,4 +28,6 @@ returns-in-Nil-clause-owns g c =
       most = omega (arith, past, used);
       less = λ top. absurd (none_current s t c.in-Nil.is top);
       current = e.current;
+      clear = λ which was. e.clear;
+      room = e.room;
     })

@@ -1,13 +1,14 @@
-use Rattle.std.proofs.Common.{◌≡◌, ◌+◌, ◌-◌, ◌*◌, ◌/◌, ◌≤◌, inl, inr, ⊎_elim, sym, ◌∙◌, ap, subst, arith}
+use Rattle.std.proofs.Common.{◌≡◌, ◌⊎◌, ◌+◌, ◌-◌, ◌*◌, ◌/◌, ◌<◌, ◌≤◌, inl, inr, ⊎_elim, sym, ◌∙◌, ap, subst, arith}
 use Rattle.fo_sparse.specs.Written.{resized}
 use Rattle.fo_ports.specs.Sources.{Grows, Owned, depth_for}
 use Rattle.fo_tree_read.specs.declared.tree.Tree.{Tree}
 use Rattle.fo_tree_look.specs.Source.{Over, WayReady, IsTopCurrent, form_of, leaves_of}
 use Rattle.fo_tree_down.specs.Way.{with_top}
+use Rattle.fo_tree_down.specs.Clear.{EndsClear, last_leaf}
 use Rattle.fo_tree_grow.specs.Grow.{shaped}
 use Rattle.fo_tree_grow.proofs.Empty.{least_for, few_for}
 use Rattle.fo_tree_lift.proofs.Lifting.{top_ready}
-use Rattle.fo_tree_lift.proofs.Ending.{IsRaised, WayCame, taller, over_mid, way_mid, current_mid, over_end, changes_end, instead_end, owned_end, bytes_end, grows_end, top_end, current_end, room_end}
+use Rattle.fo_tree_lift.proofs.Ending.{IsRaised, WayCame, taller, over_mid, way_mid, current_mid, clear_mid, over_end, changes_end, instead_end, owned_end, bytes_end, grows_end, top_end, current_end, room_end}
 use Rattle.fo_tree_lift.proofs.own.own_raised.Given as given
 use Rattle.fo_tree_lift.proofs.own.own_raised.Goals as goal
 
@@ -231,3 +232,14 @@ returns-clause-current g c =
     let u = g.B.Blocks.state c.own_way.new.on in
     let t = c.args.tree.now in
     subst (λ d. IsTopCurrent u (with_top (shaped t d (8192 * (c.args.i + 1))) c.own_way.result.top)) (raised_last g c).depth (current_end (raised_last g c) (way_last g c))
+
+pub returns-clause-clear : goal.returns-clause-clear
+returns-clause-clear g c =
+    let m = g.B.Blocks.state c.lift-top.new.on in
+    let u = g.B.Blocks.state c.own_way.new.on in
+    let t = c.args.tree.now in
+    let kept = c.args.kept.now in
+    let r = c.own_way.result in
+    subst (λ d. EndsClear u (with_top (shaped t d (8192 * (c.args.i + 1))) r.top) kept) (raised_last g c).depth
+    ((subst (λ (x : Tree). c.least_depth-depth.result ≡ x.depth → 8192 * c.args.i < x.size → m.tells ⊎ (c.args.i ≡ last_leaf x.size) → EndsClear m x kept → EndsClear u (with_top x r.top) kept) (grown_last g c) c.own_way.ensures.clear)
+    (deep_last g c) (omega arith) (inr (omega arith)) (clear_mid (raised_last g c)))
