@@ -1,5 +1,5 @@
 -- Bytes are put into a block, and all slots stay.
-use Rattle.std.proofs.Common.{◌≡◌, ◌≢◌, ◌⊎◌, ◌+◌, ℕ, List, length, inl, inr, ⊎_elim, refl, sym, ap, ◌∙◌, subst, arith}
+use Rattle.std.proofs.Common.{◌≡◌, ◌≢◌, ◌⊎◌, ◌+◌, ◌-◌, ◌/◌, ℕ, List, length, inl, inr, ⊎_elim, refl, sym, ap, ◌∙◌, subst, arith}
 use Rattle.std.proofs.lemmas.Bool.{cases_eq}
 use Rattle.fo_image.specs.declared.types.Label.{Label}
 use Rattle.fo_image.specs.declared.types.Pointer.{Pointer}
@@ -15,11 +15,12 @@ use Rattle.fo_ports.specs.Sources.{IsHung, Made, Touched, IsMade, StaysMarked, U
 use Rattle.fo_tree_read.specs.declared.tree.Tree.{Tree}
 use Rattle.fo_tree_read.specs.Tree.{kind_at}
 use Rattle.fo_tree_look.specs.declared.ways.Kept.{Kept}
-use Rattle.fo_tree_look.specs.Source.{IsTold, Over, Prepared}
+use Rattle.fo_tree_look.specs.Source.{IsTold, Over, Prepared, WayReady}
 use Rattle.fo_tree_look.proofs.Still.{source_prepared}
 use Rattle.fo_tree_look.proofs.Shown.{held_on}
 use Rattle.fo_tree_down.specs.Way.{IsInstead, ComesFor}
-use Rattle.fo_tree_clear.proofs.Same.{SameSlots, block_same, has_back}
+use Rattle.fo_tree_down.specs.Clear.{EndsClear}
+use Rattle.fo_tree_clear.proofs.Same.{SameSlots, same_seen, block_same, has_back}
 
 -- Bytes were put into a block, as long as those that were there.
 pub record BytesPut (at : ℕ) (bytes : List ℕ) (beside : Image → Type 0) (u v : State) : Type 0 where
@@ -135,6 +136,20 @@ module _ {at : ℕ} {bytes : List ℕ} {beside : Image → Type 0} {u v : State}
         same_length = long_same b;
       })
       limit o n was
+
+  -- nothing stands behind an end
+  pub clear_put : (t : Tree) (kept : List Kept) → EndsClear u t kept → EndsClear v t kept
+  clear_put t kept was = record {
+    empty = was.empty;
+    way = λ some.
+        let last : Prepared u t kept t.size (t.size - 1) 1 = record {
+          each = λ i from to below. let e : t.size - 1 ≡ i = omega (arith, from, to, some) in subst (λ y. WayReady u t kept t.depth (y / 8192)) e (was.way some);
+          last = λ past less. was.way less;
+          end = omega (arith, some);
+        } in
+        (prepared_put t kept t.size (t.size - 1) 1 last).each (t.size - 1) (omega arith) (omega (arith, some)) (omega (arith, some));
+    behind = λ some n a b is lt few. block_same (same_seen same_slots kept) t n b ∙ was.behind some n a b is lt few;
+  }
 
 -- ---- what a call changed, with the bytes that were put then
 

@@ -1,10 +1,13 @@
 -- What calls on a source change, one after another.
-use Rattle.std.specs.Prelude.{◌≡◌, ◌⊎◌, ◌↔◌, ◌+◌, ◌<◌, ℕ}
+use Rattle.std.specs.Prelude.{◌≡◌, ◌⊎◌, ◌↔◌, ◌+◌, ◌<◌, ℕ, List}
 use Rattle.fo_crash.specs.declared.place.Place.{Place}
 use Rattle.fo_crash.specs.Images.{Image, SameContent, Reaches, to_block}
 use Rattle.fo_ports.specs.State.{State, KeepsAll, KeepsNumbers, AddsNoWait, none}
 use Rattle.fo_ports.specs.Sources.{Made, Touched, IsMade, StaysMarked}
-use Rattle.fo_tree_down.specs.Way.{IsLed}
+use Rattle.fo_tree_read.specs.declared.tree.Tree.{Tree}
+use Rattle.fo_tree_look.specs.declared.ways.Kept.{Kept}
+use Rattle.fo_tree_look.specs.Source.{HasBlock, WayReady}
+use Rattle.fo_tree_down.specs.Way.{OnWay, IsLed, WayCurrent, with_top}
 
 -- As `Undone` of the trait of sources, and a slot that isn't the one of before was led to a block that was given out.
 pub record Behind (touched : ℕ → Type 0) (old new : State) (image : Image) : Type 0 where
@@ -43,3 +46,10 @@ pub record Steps (tag : ℕ) (mine inner : ℕ → Type 0) (old new : State) : T
   pub room : new.room ≡ old.room
   pub numbers : KeepsNumbers old new
   pub all : KeepsAll old new
+
+-- What the step that put bytes into leaf k of a source says to one that follows: it was by the way to that leaf, which is current now.
+pub record IsStep (s u : State) (t : Tree) (kept : List Kept) (k top : ℕ) : Type 0 where
+  pub steps : Steps t.tag (OnWay s t t.depth k) (OnWay s t t.depth k) s u
+  pub ways : (j b : ℕ) → WayReady s t kept t.depth j → OnWay u (with_top t top) t.depth j b → OnWay s t t.depth j b ⊎ Made s u b
+  pub stays : s.tells → (b : ℕ) → HasBlock s t b → (s.label b).epoch ≡ s.high → HasBlock u (with_top t top) b
+  pub way : WayCurrent u (with_top t top) t.depth k

@@ -3,7 +3,8 @@
 //! Proved, over any blocks and any device: a piece that is put into a leaf below the end stands in the place of the bytes that were there,
 //! in a leaf of the current epoch; the last leaf of a source of data that holds no records has zeros behind the end of data, where there
 //! is one; what changes is what `Changes` says, what was prepared stays so, and the source stands over the blocks. Where the device
-//! tells, all other bytes and leaves are those that were there. Not here: a piece over several leaves, a source that grows or is shortened.
+//! tells, all other bytes and leaves are those that were there. What is clear behind the end stays so, where the device tells or the leaf
+//! is the last one. Not here: a piece over several leaves, a source that grows or is shortened.
 #![tactic(auto)]
 
 mod here;

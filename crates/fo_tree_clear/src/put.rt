@@ -4,6 +4,7 @@ ghost use Rattle.fo_ports.specs.Sources.{Made, Changes, Grows};
 ghost use Rattle.fo_tree_read.specs.Tree.{above};
 ghost use Rattle.fo_tree_look.specs.Source.{Over, HasBlock, IsPlainTree, WayReady, IsTopCurrent, form_of, leaves_of};
 ghost use Rattle.fo_tree_down.specs.Way.{OnWay, IsTopOf, WayCurrent, with_top};
+ghost use Rattle.fo_tree_down.specs.Clear.{EndsClear, last_leaf};
 ghost use Rattle.fo_tree_clear.specs.Put.{byte_here, Puts, IsInnerOr, LeafPut};
 ghost use Rattle.fo_tree_clear.specs.Steps.{Steps};
 
@@ -43,6 +44,7 @@ pub fn put_leaf<B: Blocks>(
     ensures used { (j : ℕ) → WayCurrent (B.state on.old) tree.now tree.now.depth j → j ≤ i → i ≤ j + 1 → (B.state on.old).spare + (j + above tree.now.depth j) ≤ (B.state on.new).spare + (i + above tree.now.depth i) }
     ensures room { (B.state on.new).room ≡ (B.state on.old).room }
     ensures current { IsTopCurrent (B.state on.new) (with_top tree.now result.top) }
+    ensures clear { (B.state on.old).tells ⊎ (i ≡ last_leaf tree.now.size) → EndsClear (B.state on.old) tree.now kept.now → EndsClear (B.state on.new) (with_top tree.now result.top) kept.now }
     ensures keeps { B.keeps on.old on.new }
 {
     let current = own_way(tree, kept, on, tree.depth, i);

@@ -5,7 +5,9 @@ ghost use Rattle.fo_ports.specs.Sources.{Changes, EndsWithin, Grows, Owned};
 ghost use Rattle.fo_tree_read.specs.Tree.{block_at};
 ghost use Rattle.fo_tree_look.specs.Source.{Over, HasBlock, IsPlainTree, WayReady, IsTopCurrent, seen, form_of, leaves_of};
 ghost use Rattle.fo_tree_down.specs.Way.{IsTopOf, with_top};
+ghost use Rattle.fo_tree_down.specs.Clear.{EndsClear};
 ghost use Rattle.fo_tree_clear.specs.Put.{byte_here, EndsHere, top_after, IsInnerOrEnd};
+ghost use Rattle.fo_tree_clear.specs.Steps.{IsStep};
 
 use crate::here::pointer_here;
 use crate::put::put_leaf;
@@ -34,6 +36,8 @@ pub fn clear_tail<B: Blocks>(tree: &Tree, kept: &[Kept], on: &mut B) -> Option<C
     ensures changes { Changes tree.now.tag (HasBlock (B.state on.old) tree.now) (IsInnerOrEnd (B.state on.old) tree.now) (B.state on.old) (B.state on.new) }
     ensures spare { (B.state on.old).spare ≤ (B.state on.new).spare + (tree.now.depth + 1) }
     ensures less { IsTopCurrent (B.state on.old) tree.now → (B.state on.old).spare ≤ (B.state on.new).spare + tree.now.depth }
+    ensures clear { EndsClear (B.state on.old) tree.now kept.now → EndsClear (B.state on.new) (top_after tree.now result) kept.now }
+    ensures step { MatchOption result (Unit {0}) (λ c. EndsHere (B.state on.old) tree.now kept.now × IsStep (B.state on.old) (B.state on.new) tree.now kept.now (tree.now.size / 8192) c.top) }
     ensures room { (B.state on.new).room ≡ (B.state on.old).room }
     ensures keeps { B.keeps on.old on.new }
 {
@@ -82,6 +86,8 @@ fn zero_tail<B: Blocks>(tree: &Tree, kept: &[Kept], on: &mut B) -> Current
     ensures changes { Changes tree.now.tag (HasBlock (B.state on.old) tree.now) (IsInnerOrEnd (B.state on.old) tree.now) (B.state on.old) (B.state on.new) }
     ensures spare { (B.state on.old).spare ≤ (B.state on.new).spare + (tree.now.depth + 1) }
     ensures less { IsTopCurrent (B.state on.old) tree.now → (B.state on.old).spare ≤ (B.state on.new).spare + tree.now.depth }
+    ensures clear { EndsClear (B.state on.old) tree.now kept.now → EndsClear (B.state on.new) (with_top tree.now result.top) kept.now }
+    ensures step { IsStep (B.state on.old) (B.state on.new) tree.now kept.now (tree.now.size / 8192) result.top }
     ensures room { (B.state on.new).room ≡ (B.state on.old).room }
     ensures keeps { B.keeps on.old on.new }
 {

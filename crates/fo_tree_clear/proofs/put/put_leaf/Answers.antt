@@ -1,4 +1,4 @@
-use Rattle.std.proofs.Common.{◌≡◌, ◌≢◌, ◌+◌, ◌-◌, ◌%◌, ℕ, List, length, inl, inr, ⊎_elim, sym, ◌∙◌, ap, subst, arith}
+use Rattle.std.proofs.Common.{◌≡◌, ◌≢◌, ◌+◌, ◌-◌, ◌%◌, ℕ, List, length, inl, inr, ⊎_elim, refl, sym, ◌∙◌, ap, subst, arith}
 use Rattle.fo_image.specs.declared.types.Label.{Label}
 use Rattle.fo_image.specs.declared.types.Kind.{Kind}
 use Rattle.fo_image.specs.declared.types.Kind.TheVariants.{Data}
@@ -19,7 +19,7 @@ use Rattle.fo_tree_clear.specs.Put.{IsInnerOr}
 use Rattle.fo_tree_down.proofs.Next.{on_way_last}
 use Rattle.fo_tree_clear.proofs.Same.{has_back, has_on, way_back, current_on}
 use Rattle.fo_tree_clear.proofs.Descending.{steps_down, steps_put}
-use Rattle.fo_tree_clear.proofs.Putting.{BytesPut, same_slots, label_same, comes_on, only_on, over_put, prepared_put, changes_put}
+use Rattle.fo_tree_clear.proofs.Putting.{BytesPut, same_slots, label_same, comes_on, only_on, over_put, prepared_put, clear_put, changes_put}
 use Rattle.fo_tree_clear.proofs.Leaf.{PieceCame, puts_end, leaf_put}
 use Rattle.fo_tree_clear.proofs.put.put_leaf.Given as given
 use Rattle.fo_tree_clear.proofs.put.put_leaf.Goals as goal
@@ -228,3 +228,6 @@ returns-clause-way g c =
 
 pub returns-clause-used : goal.returns-clause-used
 returns-clause-used g c = λ j way le next. let used = c.own_way-current.ensures.used j way le next in let same = c.put_bytes.ensures.calm.frame.uses.spare in omega (arith, used, same)
+
+pub returns-clause-clear : goal.returns-clause-clear
+returns-clause-clear g c = λ which was. let lt = c.requires.inside in clear_put (bytes_put g c) (with_top c.args.tree.now c.own_way-current.result.top) c.args.kept.now (c.own_way-current.ensures.clear refl (omega (arith, lt)) which was)

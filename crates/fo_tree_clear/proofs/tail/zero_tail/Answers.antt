@@ -55,3 +55,9 @@ returns-clause-changes g c =
     changes_wider {outer = IsInnerOrEnd s t}
     (λ b h. ⊎_elim (λ inner. inl inner) (λ e. inr (c.requires.ends.plain, c.requires.ends.within, end_block s t (t.size / 8192) b (omega (arith, some)) room e)) h)
     c.put_leaf.ensures.changes
+
+pub returns-clause-clear : goal.returns-clause-clear
+returns-clause-clear g c = λ was. let some = c.requires.ends.within in c.put_leaf.ensures.clear (inr (omega (arith, some))) was
+
+pub returns-clause-step : goal.returns-clause-step
+returns-clause-step g c = record { steps = c.put_leaf.ensures.steps; ways = c.put_leaf.ensures.ways; stays = c.put_leaf.ensures.stays; way = c.put_leaf.ensures.way }
