@@ -2,8 +2,9 @@
 //!
 //! Proved, over any blocks and any device: where nothing stands behind the source's end, an older top is copied, levels are put above it,
 //! and the leaf is current, with which the source ends then. All that `Bytes` asks of an owned leaf holds (`Owned`), of what changes, of
-//! what was prepared, and of how many blocks it takes; the source stands over the blocks, and where the device tells it has its bytes, and
-//! zeros behind them, and nothing stands behind its end. No block that was there changes. `own_leaf` is this and the other cases in one, for a leaf within the end or past it.
+//! what was prepared, and of how many blocks it takes; the source stands over the blocks, nothing stands behind its new end, and where
+//! the device tells it has its bytes, and zeros behind them. No block that was there changes. `own_leaf` is this and the other cases in
+//! one, for a leaf within the end or past it.
 #![tactic(auto)]
 
 mod leaf;
