@@ -36,6 +36,7 @@ pub fn own_next<B: Blocks>(tree: &Tree, kept: &[Kept], on: &mut B, i: u32) -> Cu
     ensures clear { EndsClear (B.state on.new) (with_top (sized tree.now (8192 * (i + 1))) result.top) kept.now }
     ensures descends { Descends (sized tree.now (8192 * (i + 1))) (OnWay (B.state on.old) (sized tree.now (8192 * (i + 1))) tree.now.depth i) 0 (B.state on.old) (B.state on.new) }
     ensures ways { (j b : ℕ) → WayReady (B.state on.old) (sized tree.now (8192 * (i + 1))) kept.now tree.now.depth j → OnWay (B.state on.new) (with_top (sized tree.now (8192 * (i + 1))) result.top) tree.now.depth j b → OnWay (B.state on.old) (sized tree.now (8192 * (i + 1))) tree.now.depth j b ⊎ Made (B.state on.old) (B.state on.new) b }
+    ensures stays { (B.state on.old).tells → (b : ℕ) → HasBlock (B.state on.old) tree.now b → ((B.state on.old).label b).epoch ≡ (B.state on.old).high → HasBlock (B.state on.new) (with_top (sized tree.now (8192 * (i + 1))) result.top) b }
     ensures room { (B.state on.new).room ≡ (B.state on.old).room }
     ensures keeps { B.keeps on.old on.new }
 {

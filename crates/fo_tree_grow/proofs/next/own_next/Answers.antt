@@ -7,7 +7,7 @@ use Rattle.fo_tree_down.specs.Way.{OnWay, Descends, IsTopOf, with_top}
 use Rattle.fo_tree_down.specs.Clear.{EndsClear, last_leaf}
 use Rattle.fo_tree_leaf.proofs.Owning.{most_within}
 use Rattle.fo_tree_grow.specs.Grow.{sized}
-use Rattle.fo_tree_grow.proofs.Sizing.{room_for, has_back, top_sized, over_sized, prepared_sized, address_sized, held_sized, clear_sized}
+use Rattle.fo_tree_grow.proofs.Sizing.{room_for, has_back, has_sized, top_sized, over_sized, prepared_sized, address_sized, held_sized, clear_sized}
 use Rattle.fo_tree_grow.proofs.Growing.{changes_of, top_of_sized, owned_sized, bytes_sized}
 use Rattle.fo_tree_grow.proofs.next.own_next.Given as given
 use Rattle.fo_tree_grow.proofs.next.own_next.Goals as goal
@@ -169,3 +169,12 @@ returns-clause-ways g c =
     let u = g.B.Blocks.state c.own_within.new.on in
     let kept = c.args.kept.now in
     subst (λ (x : Tree). (j b : ℕ) → WayReady s x kept x.depth j → OnWay u (with_top x c.own_within.result.top) x.depth j b → OnWay s x x.depth j b ⊎ Made s u b) c.with_size-grown.ensures c.own_within.ensures.ways
+
+pub returns-clause-stays : goal.returns-clause-stays
+returns-clause-stays g c = λ told b has current.
+    let s = g.B.Blocks.state c.args.on.now in
+    let u = g.B.Blocks.state c.own_within.new.on in
+    let t = c.args.tree.now in
+    let z = 8192 * (c.args.i + 1) in
+    (subst (λ (x : Tree). s.tells → (b : ℕ) → HasBlock s x b → (s.label b).epoch ≡ s.high → HasBlock u (with_top x c.own_within.result.top) b) c.with_size-grown.ensures c.own_within.ensures.stays)
+    told b (has_sized s t z b has) current
