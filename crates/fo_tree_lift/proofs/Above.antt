@@ -112,13 +112,13 @@ module _ {t : Tree} {mine wider way : ℕ → Type 0} {level top : ℕ} {s m u :
         marks = (λ h. q.marks.0 (p.0 h), λ h. q.marks.1 (p.1 h), λ h. q.marks.2 (p.2 h));
       }
 
-  only_end : (b : ℕ) → (s.covered b → ⊥) → u.covered b → ⊥
+  pub only_end : (b : ℕ) → (s.covered b → ⊥) → u.covered b → ⊥
   only_end b not h =
       let free = x.first.only b not in
       let older = x.second.aged b free h in
       x.second.only b free (λ on. let now : (m.label b).epoch ≡ m.high = subst (λ y. (m.label y).epoch ≡ m.high) (sym (x.only b on)) top_current in omega (arith, now, older)) h
 
-  in_tree_end : s.tells → (b : ℕ) → Reaches s.now (to_block 1) b → Reaches u.now (to_block 1) b
+  pub in_tree_end : s.tells → (b : ℕ) → Reaches s.now (to_block 1) b → Reaches u.now (to_block 1) b
   in_tree_end told b r =
       let far = (x.first.reached told b).0 r in
       ⊎_elim

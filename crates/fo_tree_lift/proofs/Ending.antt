@@ -1,8 +1,10 @@
 -- A leaf past the levels of a source was owned.
 use Rattle.std.proofs.Common.{◌≡◌, ◌⊎◌, ◌+◌, ◌-◌, ◌*◌, ◌%◌, ◌^◌, ◌<◌, ◌≤◌, ℕ, suc, List, inl, inr, ⊎_elim, refl, sym, ◌∙◌, ap, subst, arith}
 use Rattle.fo_sparse.specs.Written.{resized}
+use Rattle.fo_image.specs.declared.types.Label.{Label}
 use Rattle.fo_image.specs.declared.types.Pointer.{Pointer}
 use Rattle.fo_image.specs.declared.types.Pointer.TheVariants.{Local}
+use Rattle.fo_crash.specs.Images.{Reaches, to_block}
 use Rattle.fo_ports.specs.State.{State, KeepsAll, none}
 use Rattle.fo_ports.specs.Sources.{Made, Owned, Grows, Changes, depth_for}
 use Rattle.fo_tree_read.specs.declared.tree.Tree.{Tree}
@@ -21,11 +23,15 @@ use Rattle.fo_tree_grow.proofs.Sizing.{room_for, has_back, has_sized, way_to, pr
 use Rattle.fo_tree_grow.proofs.Empty.{least_for}
 use Rattle.fo_tree_lift.specs.Lift.{Lifts, InSteadOf}
 use Rattle.fo_tree_lift.proofs.Lifting.{over_lifted, way_top}
-use Rattle.fo_tree_lift.proofs.Above.{GoesBelow, changes_above, instead_above, made_first, made_second, made_either}
+use Rattle.fo_tree_lift.proofs.Above.{GoesBelow, changes_above, in_tree_end, only_end, instead_above, made_first, made_second, made_either}
+use Rattle.fo_tree_lift.proofs.Join.{live_cases}
 use Rattle.fo_tree_lift.proofs.Having.{LeafRaised, owned_raised, bytes_raised}
 
 local_eq : {a b : ℕ} → Local a ≡ Local b → a ≡ b
 local_eq e = cc
+
+cases_made : (old new : State) (at : ℕ) → Made old new at ⊎ (Made old new at → ⊥)
+cases_made old new at = ⊎_elim (λ was. inr (λ m. m.0 was)) (λ no. ⊎_elim (λ is. inl (no, is)) (λ not. inr (λ m. not m.1)) (live_cases (new.label at).state)) (live_cases (old.label at).state)
 
 -- The source with its levels, and with the leaf.
 abbrev pub taller : Tree → ℕ → Pointer → ℕ → Tree
@@ -202,6 +208,24 @@ module _ {s m u : State} {t : Tree} {kept : List Kept} {levels : ℕ} {p : Point
     owns = λ told b. (has_old told b, made_has told b);
     still = λ o n was. w.still limit o n (prepared_mid x limit o n was);
   }
+
+  pub stays_end : s.tells → (b : ℕ) → HasBlock s t b → (s.label b).epoch ≡ s.high → HasBlock u (with_top (taller t levels p i) top) b
+  stays_end told b has current =
+      let on = x.lifts.stays told b has current in
+      let now : (m.label b).epoch ≡ m.high = ⊎_elim
+      (λ made. (x.lifts.adds.made b made).labelled.0 ∙ sym x.all.same_high)
+      (λ not. ap (λ (l : Label). l.epoch) (x.lifts.adds.labels b not) ∙ current ∙ sym x.all.same_high)
+      (cases_made s m b) in
+      w.stays (mid told) b (has_sized m (grown t levels p) (8192 * (i + 1)) b on) now
+
+  pub tree_end : s.tells → (b : ℕ) → Reaches s.now (to_block 1) b → Reaches u.now (to_block 1) b
+  tree_end told b r = in_tree_end below told b r
+
+  pub covered_end : (b : ℕ) → (s.covered b → ⊥) → u.covered b → ⊥
+  covered_end b not h = only_end below b not h
+
+  pub new_end : Made s u top
+  new_end = ⊎_elim (λ made. made_second below top made) (λ e. made_first below top (subst (λ y. Made s m y) (local_eq (sym x.lifts.new.is ∙ e)) x.lifts.new.made)) w.top_of.from
 
   pub top_end : IsTopOf s u t top
   top_end =

@@ -76,6 +76,16 @@ module _ {s c : State} {t : Tree} {at copy : ℕ} (x : Copied s c t at copy) (to
       by zero le e = inr (sym (local_eq e))
       by (suc n) le e = inl (record { down = suc n; index = has.index; within = le; is = sym (copied_block n has.index le) ∙ e })
 
+  pub copied_on : (b : ℕ) → HasBlock s t b → (s.label b).epoch ≡ s.high → HasBlock c (with_top t copy) b
+  copied_on b has current = by has.down has.within has.is
+    where
+      by : (n : ℕ) → n ≤ t.depth → block_at s t n has.index ≡ Local b → HasBlock c (with_top t copy) b
+      by zero le e =
+          let same : at ≡ b = local_eq (sym x.is ∙ e) in
+          let older : (s.label b).epoch < s.high = subst (λ y. (s.label y).epoch < s.high) same x.older in
+          absurd (omega (arith, older, current))
+      by (suc n) le e = record { down = suc n; index = has.index; within = le; is = copied_block n has.index le ∙ e }
+
 pub copied_top : (c : State) (t : Tree) (copy : ℕ) → HasBlock c (with_top t copy) copy
 copied_top c t copy = record { down = 0; index = 0; within = omega arith; is = refl_local }
   where

@@ -50,4 +50,5 @@ pub record Lifts (s m : State) (t : Tree) (kept : List Kept) (levels : ℕ) (top
   pub still : (limit o n : ℕ) → Prepared s t kept limit o n → Prepared m (grown t levels top) kept limit o n
   pub clear : EndsClear m (grown t levels top) kept
   pub owns : s.tells → (b : ℕ) → (HasBlock m (grown t levels top) b → HasBlock s t b ⊎ Made s m b) × (Made s m b → HasBlock m (grown t levels top) b)
+  pub stays : s.tells → (b : ℕ) → HasBlock s t b → (s.label b).epoch ≡ s.high → HasBlock m (grown t levels top) b
   pub leaves : s.tells → (k : ℕ) → k < 409 ^ t.depth → (block_at m (grown t levels top) (t.depth + levels) k ≡ block_at s t t.depth k) ⊎ IsCopied s m t top (block_at s t t.depth k) (block_at m (grown t levels top) (t.depth + levels) k)

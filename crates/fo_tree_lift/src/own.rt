@@ -36,6 +36,10 @@ pub fn own_raised<B: Blocks>(tree: &Tree, kept: &[Kept], on: &mut B, i: u32) -> 
     ensures grows { (limit : ℕ) → Grows (B.state on.old) (B.state on.new) (leaves_of (B.state on.old) tree.now kept.now limit) (leaves_of (B.state on.new) (with_top (shaped tree.now (depth_for (8192 * (i + 1))) (8192 * (i + 1))) result.top) kept.now limit) }
     ensures changes { Changes tree.now.tag (λ b. tree.now.top ≡ Local b) none (B.state on.old) (B.state on.new) }
     ensures instead { (b x : ℕ) → (B.state on.new).instead b x → (B.state on.old).instead b x ⊎ (Made (B.state on.old) (B.state on.new) b × InSteadOf (B.state on.old) tree.now x) }
+    ensures stays { (B.state on.old).tells → (b : ℕ) → HasBlock (B.state on.old) tree.now b → ((B.state on.old).label b).epoch ≡ (B.state on.old).high → HasBlock (B.state on.new) (with_top (shaped tree.now (depth_for (8192 * (i + 1))) (8192 * (i + 1))) result.top) b }
+    ensures in_tree { (B.state on.old).tells → (b : ℕ) → Reaches (B.state on.old).now (to_block 1) b → Reaches (B.state on.new).now (to_block 1) b }
+    ensures covers { (b : ℕ) → ((B.state on.old).covered b → ⊥) → (B.state on.new).covered b → ⊥ }
+    ensures made { Made (B.state on.old) (B.state on.new) result.top }
     ensures spare { (B.state on.old).spare + tree.now.depth ≤ (B.state on.new).spare + (2 * depth_for (8192 * (i + 1)) + 1) }
     ensures less { IsTopCurrent (B.state on.old) tree.now → (B.state on.old).spare + tree.now.depth ≤ (B.state on.new).spare + 2 * depth_for (8192 * (i + 1)) }
     ensures room { (B.state on.new).room ≡ (B.state on.old).room }

@@ -9,7 +9,7 @@ use Rattle.fo_tree_down.specs.Way.{ComesFor, with_top}
 use Rattle.fo_tree_raise.specs.Raise.{CanRaise}
 use Rattle.fo_tree_raise.proofs.Bearing.{bears}
 use Rattle.fo_tree_lift.proofs.Join.{Follows, adds_join, made_first, made_second, made_either}
-use Rattle.fo_tree_lift.proofs.Lifting.{Copied, Raised, new_top, copied_back, copied_top, leaf_copied, new_copied, instead_copied}
+use Rattle.fo_tree_lift.proofs.Lifting.{Copied, Raised, new_top, copied_back, copied_on, copied_top, leaf_copied, new_copied, instead_copied}
 use Rattle.fo_tree_lift.proofs.levels.lift_copy.Goals as goal
 
 pub copy_top-copy-requires-clause-spare : goal.copy_top-copy-requires-clause-spare
@@ -102,5 +102,6 @@ returns-clause-lifts g c =
                 (λ more. inl more)
                 (made_either follows y made)),
           );
+      stays = λ told y has current. (last.owns (first.all.still_tells.1 told) some below y).1 (inr (copied_on first told y has current));
       leaves = λ told k few. leaf_copied first follows new levels told k (last.leaves (first.all.still_tells.1 told) some below k few);
     }

@@ -2,13 +2,13 @@ use Rattle.std.proofs.Common.{◌≡◌, ◌⊎◌, ◌+◌, ◌-◌, ◌*◌, �
 use Rattle.fo_sparse.specs.Written.{resized}
 use Rattle.fo_ports.specs.Sources.{Grows, Owned, depth_for}
 use Rattle.fo_tree_read.specs.declared.tree.Tree.{Tree}
-use Rattle.fo_tree_look.specs.Source.{Over, WayReady, IsTopCurrent, form_of, leaves_of}
+use Rattle.fo_tree_look.specs.Source.{Over, HasBlock, WayReady, IsTopCurrent, form_of, leaves_of}
 use Rattle.fo_tree_down.specs.Way.{with_top}
 use Rattle.fo_tree_down.specs.Clear.{EndsClear, last_leaf}
 use Rattle.fo_tree_grow.specs.Grow.{shaped}
 use Rattle.fo_tree_grow.proofs.Empty.{least_for, few_for}
 use Rattle.fo_tree_lift.proofs.Lifting.{top_ready}
-use Rattle.fo_tree_lift.proofs.Ending.{IsRaised, WayCame, taller, over_mid, way_mid, current_mid, clear_mid, over_end, changes_end, instead_end, owned_end, bytes_end, grows_end, top_end, current_end, room_end}
+use Rattle.fo_tree_lift.proofs.Ending.{IsRaised, WayCame, taller, over_mid, way_mid, current_mid, clear_mid, over_end, changes_end, instead_end, owned_end, bytes_end, grows_end, top_end, stays_end, tree_end, covered_end, new_end, current_end, room_end}
 use Rattle.fo_tree_lift.proofs.own.own_raised.Given as given
 use Rattle.fo_tree_lift.proofs.own.own_raised.Goals as goal
 
@@ -243,3 +243,18 @@ returns-clause-clear g c =
     subst (λ d. EndsClear u (with_top (shaped t d (8192 * (c.args.i + 1))) r.top) kept) (raised_last g c).depth
     ((subst (λ (x : Tree). c.least_depth-depth.result ≡ x.depth → 8192 * c.args.i < x.size → m.tells ⊎ (c.args.i ≡ last_leaf x.size) → EndsClear m x kept → EndsClear u (with_top x r.top) kept) (grown_last g c) c.own_way.ensures.clear)
     (deep_last g c) (omega arith) (inr (omega arith)) (clear_mid (raised_last g c)))
+
+pub returns-clause-stays : goal.returns-clause-stays
+returns-clause-stays g c = λ told b has current.
+    let u = g.B.Blocks.state c.own_way.new.on in
+    let t = c.args.tree.now in
+    subst (λ d. HasBlock u (with_top (shaped t d (8192 * (c.args.i + 1))) c.own_way.result.top) b) (raised_last g c).depth (stays_end (raised_last g c) (way_last g c) told b has current)
+
+pub returns-clause-in_tree : goal.returns-clause-in_tree
+returns-clause-in_tree g c = λ told b r. tree_end (raised_last g c) (way_last g c) told b r
+
+pub returns-clause-covers : goal.returns-clause-covers
+returns-clause-covers g c = λ b not h. covered_end (raised_last g c) (way_last g c) b not h
+
+pub returns-clause-made : goal.returns-clause-made
+returns-clause-made g c = new_end (raised_last g c) (way_last g c)
