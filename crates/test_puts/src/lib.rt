@@ -1,7 +1,12 @@
-//! Tests of the crates that a put of a slot stands on, by their public names: what is known of addresses (`fo_facts`).
+//! Tests of the crates that a put of a slot stands on, by their public names: what is known of addresses (`fo_facts`), what a put costs and
+//! whom it raises (`fo_raising`), and the list of what is linked (`fo_linking`).
 //!
 //! What is wanted follows from docs/CACHE.md. Nothing here is said of any caller.
 #![tactic(auto)]
 
 #[cfg(test)]
 mod facts;
+#[cfg(test)]
+mod linking;
+#[cfg(test)]
+mod raising;
