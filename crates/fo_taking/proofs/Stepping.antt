@@ -1,5 +1,5 @@
 -- A walk over what memory has.
-use Rattle.std.proofs.Common.{◌≡◌, ◌≢◌, inl, inr, ℕ, zero, suc, ◌+◌, ◌-◌, ◌<◌, ◌≤◌, ◌==◌, Bool, true, false, if◌then◌else◌, List, ◌++◌, length, Option, Some, None, MatchOption, refl, sym, ap, ◌∙◌, subst, arith}
+use Rattle.std.proofs.Common.{◌≡◌, ◌≢◌, inl, inr, ℕ, zero, suc, ◌+◌, ◌-◌, ◌<◌, ◌≤◌, ◌==◌, Bool, true, false, if◌then◌else◌, List, [], ◌++◌, length, Option, Some, None, MatchOption, refl, sym, ap, ◌∙◌, subst, arith}
 use Rattle.std.proofs.lemmas.List.{append_assoc, append-nil, length-append}
 use Rattle.fo_image.specs.declared.types.Kind.{Kind}
 use Rattle.fo_image.specs.declared.types.Pointer.{Pointer}
@@ -217,18 +217,27 @@ module _ (w : Walking) (p : Pair) (is : first_pair w ≡ Some p) (ob nb : List �
 
 -- ---- a whole walk
 
-pub ends_spent : {now : Image} {region : Region} {held : Held} {w new : Walking} {before queued : List Removal} {budget left : ℕ} → left ≡ 0 → Taking now w new before queued budget left → Ends now region held w before queued budget
-ends_spent {now} {region} {held} {w} {new} {before} {queued} {budget} {left} none t = record { new = new; left = left; taking = t; why = inl none }
+pub ends_spent : {now : Image} {region : Region} {held : Held} {w new : Walking} {before queued : List Removal} {budget left : ℕ} → left ≡ 0 → Taking now w new before queued budget left → Ends now region held w new before queued budget
+ends_spent {now} {region} {held} {w} {new} {before} {queued} {budget} {left} none t = record { left = left; taking = t; why = inl none }
 
-pub ends_lacks : {now : Image} {region : Region} {held : Held} {w mid new : Walking} {before queued : List Removal} {budget left : ℕ} → (new ≡ mid) × Lacks region held (first_pair mid) → Taking now w mid before queued budget left → Ends now region held w before queued budget
-ends_lacks {now} {region} {held} {w} {mid} {new} {before} {queued} {budget} {left} l t = record { new = mid; left = left; taking = t; why = inr l.1 }
+-- the walk is as it was, and lacks what it needs
+lacks_of : {region : Region} {held : Held} {w new : Walking} (r : Option Answer) → ((a : Answer) → r ≡ Some a → ⊥) → StepsIf region held w new r → (now : Image) → Shows now region held → (new ≡ w) × Lacks region held (first_pair w)
+lacks_of None none s now shows = s.steps now shows
+lacks_of (Some a) none s now shows = absurd (none a refl)
+
+pub ends_lacks : {now : Image} {region : Region} {held : Held} {w mid new : Walking} {before queued : List Removal} {budget left : ℕ} (r : Option Answer) → ((a : Answer) → r ≡ Some a → ⊥) → StepsIf region held mid new r → Shows now region held → Taking now w mid before queued budget left → Ends now region held w new before queued budget
+ends_lacks {now} {region} {held} {w} {mid} {new} {before} {queued} {budget} {left} r none s shows t =
+    let l = lacks_of r none s now shows in
+    record { left = left; taking = subst (λ (v : Walking). Taking now w v before queued budget left) (sym l.0) t; why = inr (subst (λ (v : Walking). Lacks region held (first_pair v)) (sym l.0) l.1) }
 
 -- a put, from its first answer and its walk
-pub takes_put : {now : Image} {region : Region} {held : Held} {w begun_walk : Walking} {at epoch : ℕ} {kind : Kind} {old new : Slot} {before first queued : List Removal} {budget left : ℕ} (a : Answer)
+pub takes_put : {now : Image} {region : Region} {held : Held} {w begun_walk last over : Walking} {at epoch : ℕ} {kind : Kind} {old new : Slot} {before first queued : List Removal} {budget left : ℕ} (a : Answer)
     → begun_walk ≡ added (begun w at epoch) (met kind old new) → a ≡ answer (begun w at epoch) (met kind old new) → first ≡ before ++ removals_of a → length (removals_of a) + left ≡ budget
-    → Ends now region held begun_walk first queued left → TakesOut now region held w at epoch kind old new before queued budget
-takes_put {now} {region} {held} {w} {begun_walk} {at} {epoch} {kind} {old} {new} {before} {first} {queued} {budget} {left} a begins is first_is count walked = record {
+    → over ≡ record last { pairs = []; done = 0 } → Ends now region held begun_walk last first queued left → TakesOut now region held w over at epoch kind old new before queued budget
+takes_put {now} {region} {held} {w} {begun_walk} {last} {over} {at} {epoch} {kind} {old} {new} {before} {first} {queued} {budget} {left} a begins is first_is count stops walked = record {
   left = left;
   first = ap (λ (x : Answer). length (removals_of x) + left) (sym is) ∙ count;
-  ends = subst (λ (x : Walking). Ends now region held x (before ++ removals_of (answer (begun w at epoch) (met kind old new))) queued left) begins (subst (λ (rs : List Removal). Ends now region held begun_walk rs queued left) (first_is ∙ ap (λ (x : Answer). before ++ removals_of x) is) walked);
+  last = last;
+  ends = subst (λ (x : Walking). Ends now region held x last (before ++ removals_of (answer (begun w at epoch) (met kind old new))) queued left) begins (subst (λ (rs : List Removal). Ends now region held begun_walk last rs queued left) (first_is ∙ ap (λ (x : Answer). before ++ removals_of x) is) walked);
+  stops = stops;
 }

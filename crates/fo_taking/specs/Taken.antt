@@ -1,5 +1,5 @@
 -- What leaves the tree of memory with one put.
-use Rattle.std.specs.Prelude.{◌≡◌, ◌⊎◌, ◌+◌, ℕ, List, ◌++◌, ◌<◌, length, Option, Some, None, MatchOption, IfSome}
+use Rattle.std.specs.Prelude.{◌≡◌, ◌⊎◌, ◌+◌, ℕ, List, [], ◌++◌, ◌<◌, length, Option, Some, None, MatchOption, IfSome}
 use Rattle.fo_image.specs.declared.types.Kind.{Kind}
 use Rattle.fo_buffers.specs.Held.{Held}
 use Rattle.fo_labels.specs.Region.{Region}
@@ -51,8 +51,7 @@ pub record Taking (now : Image) (w new : Walking) (before queued : List Removal)
   pub count : length (given now steps w) + left ≡ budget
 
 -- The walk came to its end, or to a block that is missing, or nothing is left of the removals that it may give.
-pub record Ends (now : Image) (region : Region) (held : Held) (w : Walking) (before queued : List Removal) (budget : ℕ) : Type 0 where
-  pub new : Walking
+pub record Ends (now : Image) (region : Region) (held : Held) (w new : Walking) (before queued : List Removal) (budget : ℕ) : Type 0 where
   pub left : ℕ
   pub taking : Taking now w new before queued budget left
   pub why : (left ≡ 0) ⊎ Lacks region held (first_pair new)
@@ -64,8 +63,11 @@ begun w at epoch = record w { after = at; epoch = epoch }
 abbrev pub met : Kind → Slot → Slot → Met
 met kind old new = meeting (led_to kind old) (led_to kind new)
 
--- What a put of a slot of block `at` gives: what the slots say, and then what a walk gives over what memory has.
-pub record TakesOut (now : Image) (region : Region) (held : Held) (w : Walking) (at epoch : ℕ) (kind : Kind) (old new : Slot) (before queued : List Removal) (budget : ℕ) : Type 0 where
+-- What a put of a slot of block `at` gives: what the slots say, and then what a walk gives over what memory has. The walk is over then;
+-- its room is what its steps left.
+pub record TakesOut (now : Image) (region : Region) (held : Held) (w over : Walking) (at epoch : ℕ) (kind : Kind) (old new : Slot) (before queued : List Removal) (budget : ℕ) : Type 0 where
   pub left : ℕ
   pub first : length (removals_of (answer (begun w at epoch) (met kind old new))) + left ≡ budget
-  pub ends : Ends now region held (added (begun w at epoch) (met kind old new)) (before ++ removals_of (answer (begun w at epoch) (met kind old new))) queued left
+  pub last : Walking
+  pub ends : Ends now region held (added (begun w at epoch) (met kind old new)) last (before ++ removals_of (answer (begun w at epoch) (met kind old new))) queued left
+  pub stops : over ≡ record last { pairs = []; done = 0 }

@@ -149,7 +149,7 @@ fn take_out(walk: &mut Walk, queue: &mut Queue, buffers: &Buffers, labels: &Labe
     requires good { AreGood labels.now buffers.now }
     requires room { budget ≤ queue.old.room }
     ensures pushed { (n : ℕ) × (n ≤ budget) × Pushed n queue.old queue.new }
-    ensures ends { (now : Image) → Shows now labels.now buffers.now → Ends now labels.now buffers.now walk.old queue.old.removals queue.new.removals budget }
+    ensures ends { (now : Image) → Shows now labels.now buffers.now → Ends now labels.now buffers.now walk.old walk.new queue.old.removals queue.new.removals budget }
 {
     let mut left = budget;
     while 0 < left {
@@ -179,7 +179,7 @@ pub fn take_put(
     requires room { budget ≤ queue.old.room }
     ensures over { walk.new.pairs ≡ [] }
     ensures pushed { (n : ℕ) × (n ≤ budget) × Pushed n queue.old queue.new }
-    ensures takes { (now : Image) → Shows now labels.now buffers.now → TakesOut now labels.now buffers.now walk.old put.now.at epoch put.now.kind put.now.old put.now.new queue.old.removals queue.new.removals budget }
+    ensures takes { (now : Image) → Shows now labels.now buffers.now → TakesOut now labels.now buffers.now walk.old walk.new put.now.at epoch put.now.kind put.now.old put.now.new queue.old.removals queue.new.removals budget }
 {
     let answer = walk.begin(epoch, put);
     let first = push(queue, &answer);
