@@ -146,7 +146,7 @@ module _ {s u : State} {t : Tree} {kept : List Kept} {limit top at : ℕ} {zeros
       cond_true (nat_lt (8192 * last) t.size) (held_leaf (seen s kept) t last) None inside
       ∙ ap (λ (p : Pointer). held_of (seen s kept) (kind_at t.dir 0) p) (cond_true (nat_lt last (409 ^ t.depth)) (block_at (seen s kept) t t.depth last) Nil (lt-ltb last (409 ^ t.depth) few))
 
-  there : address_here s t last ≡ None → held_here s t kept last ≡ None → ⊥
+  pub there : address_here s t last ≡ None → held_here s t kept last ≡ None → ⊥
   there e f = was_there (block_at (seen s kept) t t.depth last) x.ends.leaf x.ready (sym old_address ∙ e) (sym old_held ∙ f)
 
   -- what it has now

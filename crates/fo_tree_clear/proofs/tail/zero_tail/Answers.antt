@@ -5,7 +5,7 @@ use Rattle.fo_tree_look.proofs.Shown.{top_ready}
 use Rattle.fo_tree_down.specs.Way.{with_top}
 use Rattle.fo_tree_clear.specs.Put.{IsInnerOrEnd}
 use Rattle.fo_tree_clear.proofs.Putting.{changes_wider}
-use Rattle.fo_tree_clear.proofs.Zeros.{TailPut, part_zero, owned_tail, zeros_end, bytes_before, end_block}
+use Rattle.fo_tree_clear.proofs.Zeros.{TailPut, part_zero, owned_tail, zeros_end, bytes_before, end_block, there}
 use Rattle.fo_tree_clear.proofs.tail.zero_tail.Given as given
 use Rattle.fo_tree_clear.proofs.tail.zero_tail.Goals as goal
 
@@ -61,3 +61,6 @@ returns-clause-clear g c = λ was. let some = c.requires.ends.within in c.put_le
 
 pub returns-clause-step : goal.returns-clause-step
 returns-clause-step g c = record { steps = c.put_leaf.ensures.steps; ways = c.put_leaf.ensures.ways; stays = c.put_leaf.ensures.stays; way = c.put_leaf.ensures.way }
+
+pub returns-clause-there : goal.returns-clause-there
+returns-clause-there g c = λ e f. there (tail g c c.requires.over.0 c.requires.over.1) e f
