@@ -9,14 +9,15 @@ use Rattle.fo_sound.specs.Image.{is_zero}
 use Rattle.fo_good.specs.Means.{HasEntry}
 use Rattle.fo_check_tree.specs.Lower.{lower, level}
 use Rattle.fo_check_tree.proofs.Levels.{level-lower}
-use Rattle.fo_check_tree.specs.Notes.{NotesAt}
+use Rattle.fo_check_tree.proofs.Noting.{keeps_zero}
+use Rattle.fo_check_tree.specs.Notes.{NotesAt, KeepsFormats}
 use Rattle.fo_check_tree.specs.Notes.NotesAt.{same as note_same, format as note_format, deep as note_deep}
 use Rattle.fo_disk.specs.Disk.{Block}
 use Rattle.fo_image.specs.declared.types.Kind.{Kind}
 use Rattle.fo_image.specs.declared.types.Kind.TheVariants.{Data, Dir, Root}
 use Rattle.fo_image.specs.declared.types.Label.{Label}
 use Rattle.fo_crash.specs.Images.{Content, Image}
-use Rattle.fo_good.specs.Means.{HasPointer}
+use Rattle.fo_good.specs.Means.{HasPointer, ArePointers, IsRead}
 use Rattle.fo_meta.specs.Leaf.{IsLeaf}
 use Rattle.fo_sound.specs.Image.{block_of}
 use Rattle.fo_check_tree.specs.declared.labels.Labels.{Labels}
@@ -73,6 +74,19 @@ module _ {A E : Type 0} (r : Result A E) (c : Content) (bytes : Block) (block : 
   dir_reads (suc n) kind is some noted = subst (λ (k : Kind). OnOk r (Reads k c bytes new)) (sym is)
       (on_ok r (new ≡ unless (is_zero (drop 8180 bytes)) 5 block old) (Reads (Dir (suc n)) c bytes new) (λ e not_root slots same quiet. record { each = slots.0; ends = slots.1; rest = rest_zero (is_zero (drop 8180 bytes)) e quiet }) noted)
 
+module _ {A E : Type 0} (r : Result A E) (c : Content) (bytes : Block) (block : ℕ) (old new : Option Broken) where
+  pub data_clean : (n : ℕ) (kind : Kind) → kind ≡ Data n → 0 < n → OnOk r (new ≡ unless (is_zero (drop 8180 bytes)) 5 block old) → IsRead kind c bytes → OnOk r (KeepsFormats old new)
+  data_clean zero kind is some noted read = absurd (omega (arith, some))
+  data_clean (suc n) kind is some noted read =
+      let p : ArePointers c bytes = subst (λ (k : Kind). IsRead k c bytes) is read in
+      on_ok r (new ≡ unless (is_zero (drop 8180 bytes)) 5 block old) (KeepsFormats old new) (λ e. keeps_zero (is_zero (drop 8180 bytes)) p.rest block old new e) noted
+
+  pub dir_clean : (n : ℕ) (kind : Kind) → kind ≡ Dir n → 0 < n → OnOk r (new ≡ unless (is_zero (drop 8180 bytes)) 5 block old) → IsRead kind c bytes → OnOk r (KeepsFormats old new)
+  dir_clean zero kind is some noted read = absurd (omega (arith, some))
+  dir_clean (suc n) kind is some noted read =
+      let p : ArePointers c bytes = subst (λ (k : Kind). IsRead k c bytes) is read in
+      on_ok r (new ≡ unless (is_zero (drop 8180 bytes)) 5 block old) (KeepsFormats old new) (λ e. keeps_zero (is_zero (drop 8180 bytes)) p.rest block old new e) noted
+
 by_zero : (new : Option Broken) (t : Bool) → (t ≡ false → level new ≤ 5) → 5 < level new → t ≡ true
 by_zero new true low quiet = refl
 by_zero new false low quiet = absurd (omega (arith, quiet, low refl))
@@ -100,9 +114,10 @@ pub reaches_by : {A E : Type 0} (r : Result A E) (device : List Block) (image : 
     → (HasSlots step.kind (image at) (block_of device at) → OnOk r (Seeks step (image at) named step.kind old.named.items new.named.items new.folders.items))
     → (step.kind ≡ Data 0 → step.holds ≡ Bytes → OnOk r (new.named.items ≡ old.named.items))
     → (HasSlots step.kind (image at) (block_of device at) → OnOk r (Deepens (image at) (min (depth + 1) (2 ^ 32 - 1)) step.kind new.noted))
+    → (IsRead step.kind (image at) (block_of device at) → (step.kind ≡ Data 0 → (step.holds ≡ Bytes → ⊥) → IsLeaf (block_of device at)) → OnOk r (KeepsFormats old.noted new.noted))
     → OnOk r (Reaches device image depth named step at old new)
-reaches_by (Ok x) device image depth named step at old new label marked allowed marks same pushed put notes read adds leafs seeks bytes deeps = enters label allowed (subst (λ (l : Labels). Marks at old.labels.known.items l.known.items) (sym same) marks) pushed put notes read adds leafs seeks bytes deeps
-reaches_by (Err e) device image depth named step at old new label marked allowed marks same pushed put notes read adds leafs seeks bytes deeps = same
+reaches_by (Ok x) device image depth named step at old new label marked allowed marks same pushed put notes read adds leafs seeks bytes deeps clean = enters label allowed (subst (λ (l : Labels). Marks at old.labels.known.items l.known.items) (sym same) marks) pushed put notes read adds leafs seeks bytes deeps clean
+reaches_by (Err e) device image depth named step at old new label marked allowed marks same pushed put notes read adds leafs seeks bytes deeps clean = same
 
 -- ---- what a block says by itself
 

@@ -25,7 +25,7 @@ use Rattle.fo_check_tree.specs.declared.walk.Step.{Step}
 use Rattle.fo_check_tree.specs.declared.walk.Walk.{Walk}
 use Rattle.fo_meta.specs.Leaf.{IsLeaf}
 use Rattle.fo_check_tree.specs.Formats.{IsRecordsWay, IsFormed, AreFormed}
-use Rattle.fo_check_tree.specs.Answer.{HasOwnNames, HoldsAny, IsNamed, IsWalked}
+use Rattle.fo_check_tree.specs.Answer.{HasOwnNames, HoldsAny, IsNamed, NamesFormats, IsWalked}
 use Rattle.fo_check_tree.specs.Dirs.{link_at, IsJudged, HasMeta, AreJudged}
 use Rattle.fo_check_tree.specs.Listing.{SomeOf}
 use Rattle.fo_check_tree.specs.Lower.{level, JudgesRoot}
@@ -212,9 +212,9 @@ named_or : (o : Option Broken) (P : Type 0) (Q : Broken → Type 0) → (9 < lev
 named_or None P Q f m = f (omega arith)
 named_or (Some b) P Q f m = m
 
-pub walked : (arena : Arena) (device : List Block) (image : Image) (s : Super) (k : Kept) (walk : Walk) (found : Found) → walk.steps.items ≡ [] → walk.folders.items ≡ []
+pub walked : (arena : Arena) (device : List Block) (image : Image) (s : Super) (k : Kept) (walk : Walk) (found : Found) → NamesFormats arena image k walk.noted → walk.steps.items ≡ [] → walk.folders.items ≡ []
     → found.broken ≡ walk.noted → found.used ≡ reached walk.labels.known.items → found.leaked ≡ leaked s.low walk.labels.known.items → JudgesRoot k.root walk.noted → AreJudged arena image k [] walk → AreFormed arena image k walk.labels.known.items walk.noted walk.steps.items walk.folders.items → (numbers : List Number) → AreSettled arena image k walk.noted walk.folders.items numbers → (8 < level walk.noted → Differ number_of numbers × All (IsFileNumber s.numbers) numbers) → ((quiet : 8 < level walk.noted) → IsTree arena image k.at → (depth : ℕ) (w : Link) → InTree arena image k.at depth w → depth ≤ 64) → Walking arena device image s k [] walk → IsWalked arena device image s k found
-walked arena device image s k walk found steps folders broken used leaks judged dirs formed numbers settled checked depths w =
+walked arena device image s k walk found five steps folders broken used leaks judged dirs formed numbers settled checked depths w =
     let known = walk.labels.known.items in
     let n : ℕ → ℕ → ℕ = λ b j. w.others b j + w.steps b j + w.folders b j in
     let none : (b j : ℕ) → w.others b j + w.steps b j + w.folders b j ≡ 0 = λ b j. omega (
@@ -260,6 +260,7 @@ walked arena device image s k walk found steps folders broken used leaks judged 
       pairs = λ quiet tree. pairs (subst (λ (o : Option Broken). 6 < level o) broken quiet) tree;
       numbers = λ quiet tree. numbers' (subst (λ (o : Option Broken). 8 < level o) broken quiet) tree;
       named = subst (λ (o : Option Broken). MatchOption o (IsSoundTree arena device image s.numbers true k) (IsNamed arena image k)) (sym broken) (named_or walk.noted (IsSoundTree arena device image s.numbers true k) (IsNamed arena image k) sound w.goes.notes);
+      five = subst (λ (o : Option Broken). NamesFormats arena image k o) (sym broken) five;
       used = tree_used arena device image s k w.holds.empty known walk.noted n w.goes none found.used used;
       leaked = tree_leaked arena device image s k w.holds.empty known walk.noted n w.goes none found.leaked leaks;
     }

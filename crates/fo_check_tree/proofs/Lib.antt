@@ -4,6 +4,8 @@ mod Directories
 mod Ending
 mod Formatting
 mod Going
+mod Granting
+mod Grounding
 mod Judging
 mod Leaves
 mod Levels

@@ -19,8 +19,8 @@ use Rattle.fo_good.proofs.Leaf.{leaf_is_read}
 use Rattle.fo_check_names.specs.Names.{named_in, name_of, slot_of, leaf_of, Differ, IsTwice}
 use Rattle.fo_check_names.specs.declared.names.Named.{Named}
 use Rattle.fo_check_tree.specs.declared.labels.Known.{Known}
-use Rattle.fo_check_tree.specs.Answer.{HasOwnNames}
-use Rattle.fo_check_tree.specs.Listing.{SomeOf, Leaf, IsLeafIn, all_named, Apart, IsInSource, IsListing, HasNameTwice, JudgesNames, IsMetaOf}
+use Rattle.fo_check_tree.specs.Answer.{HasOwnNames, HasNameTwice}
+use Rattle.fo_check_tree.specs.Listing.{SomeOf, Leaf, IsLeafIn, all_named, Apart, IsInSource, IsListing, JudgesNames, IsMetaOf}
 use Rattle.fo_check_tree.specs.declared.broken.Broken.{Broken}
 use Rattle.fo_check_tree.specs.declared.walk.Folder.{Folder}
 use Rattle.fo_check_tree.specs.declared.walk.Holds.TheVariants.{Records}

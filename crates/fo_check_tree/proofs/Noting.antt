@@ -1,9 +1,12 @@
 -- What was noted falls, and keeps the rules of the walk.
-use Rattle.std.proofs.Common.{◌≡◌, ◌≢◌, ◌⊎◌, ⊎_elim, ℕ, ◌≤◌, Bool, true, false, leb, Option, Some, None, sym, ap, ◌∙◌, subst, arith}
+use Rattle.std.proofs.Common.{◌≡◌, ◌≢◌, ◌⊎◌, ⊎_elim, inl, inr, ℕ, ◌≤◌, Bool, true, false, leb, Option, Some, None, sym, ap, ◌∙◌, subst, arith}
 use Rattle.std.specs.Prelude.{if◌then◌else◌}
+use Rattle.std.proofs.lemmas.Bool.{false≢true}
 use Rattle.fo_check_tree.specs.declared.broken.Broken.{Broken}
 use Rattle.fo_check_tree.specs.Lower.{lower, level}
-use Rattle.fo_check_tree.specs.Notes.{NotesAt, NotesLeaf, Lowers}
+use Rattle.fo_check_tree.specs.Notes.{NotesAt, NotesDeep, NotesLeaf, KeepsFormats, Lowers}
+use Rattle.fo_check_tree.specs.Notes.NotesDeep.{same as deep_same, deep as deep_deep}
+use Rattle.fo_check_tree.specs.Slots.{unless}
 use Rattle.fo_check_tree.specs.Notes.NotesAt.{same as note_same, format as note_format, deep as note_deep}
 
 is_some : (x b : Broken) → Some x ≡ Some b → x ≡ b
@@ -39,3 +42,42 @@ pub lowers_at : (block : ℕ) (old new : Option Broken) → level new ≤ level 
 lowers_at block old new low (note_same is) = lowers_same old new is
 lowers_at block old new low (note_format is) = record { low = low; same = λ b e r. absurd (other_rule 5 block b (λ h. omega (arith, h)) (λ h. omega (arith, h)) (sym is ∙ e) r) }
 lowers_at block old new low (note_deep is) = record { low = low; same = λ b e r. absurd (other_rule 8 block b (λ h. omega (arith, h)) (λ h. omega (arith, h)) (sym is ∙ e) r) }
+
+-- ---- rule 5
+
+pub keeps_same : (old new : Option Broken) → new ≡ old → KeepsFormats old new
+keeps_same old new is = record { same = λ b e five. sym is ∙ e }
+
+pub keeps_then : (a b c : Option Broken) → KeepsFormats a b → KeepsFormats b c → KeepsFormats a c
+keeps_then a b c v w = record { same = λ x e five. v.same x (w.same x e five) five }
+
+other_five : (rule block : ℕ) (b : Broken) → rule ≢ 5 → Some (record { rule = rule; block = block }) ≡ Some b → b.rule ≡ 5 → ⊥
+other_five rule block b isnt e five = isnt (ap (λ (x : Broken). x.rule) (is_some (record { rule = rule; block = block }) b e) ∙ five)
+
+pub keeps_deep : (block : ℕ) (old new : Option Broken) → NotesDeep block old new → KeepsFormats old new
+keeps_deep block old new (deep_same is) = keeps_same old new is
+keeps_deep block old new (deep_deep is) = record { same = λ b e five. absurd (other_five 8 block b (λ h. omega (arith, h)) (sym is ∙ e) five) }
+
+pub deep_at : (block : ℕ) (old new : Option Broken) → NotesDeep block old new → NotesAt block old new
+deep_at block old new (deep_same is) = note_same is
+deep_at block old new (deep_deep is) = note_deep is
+
+pub keeps_zero : (t : Bool) → t ≡ true → (block : ℕ) (old new : Option Broken) → new ≡ unless t 5 block old → KeepsFormats old new
+keeps_zero true same block old new is = keeps_same old new is
+keeps_zero false same block old new is = absurd (false≢true same)
+
+five_by_test : (t : Bool) (o : Broken) (rule block : ℕ) (b : Broken) → (if t then Some o else Some (record { rule = rule; block = block })) ≡ Some b → (Some o ≡ Some b) ⊎ ((rule ≡ b.rule) × (block ≡ b.block))
+five_by_test true o rule block b e = inl e
+five_by_test false o rule block b e = inr (ap (λ (x : Broken). x.rule) (is_some (record { rule = rule; block = block }) b e), ap (λ (x : Broken). x.block) (is_some (record { rule = rule; block = block }) b e))
+
+-- What is noted stood there before, or is this.
+pub lowered : (noted : Option Broken) (rule block : ℕ) (b : Broken) → lower noted rule block ≡ Some b → (noted ≡ Some b) ⊎ ((rule ≡ b.rule) × (block ≡ b.block))
+lowered None rule block b e = inr (ap (λ (x : Broken). x.rule) (is_some (record { rule = rule; block = block }) b e), ap (λ (x : Broken). x.block) (is_some (record { rule = rule; block = block }) b e))
+lowered (Some o) rule block b e = five_by_test (leb o.rule rule) o rule block b e
+
+pub keeps_lower : (old new : Option Broken) (rule block : ℕ) → rule ≢ 5 → new ≡ lower old rule block → KeepsFormats old new
+keeps_lower old new rule block isnt is = record { same = λ b e five. ⊎_elim (λ before. before) (λ now. absurd (isnt (now.0 ∙ five))) (lowered old rule block b (sym is ∙ e)) }
+
+pub keeps_leaf : (old new : Option Broken) (rule : ℕ) (leaf : Option ℕ) → rule ≢ 5 → NotesLeaf rule leaf old new → KeepsFormats old new
+keeps_leaf old new rule None isnt is = keeps_same old new is
+keeps_leaf old new rule (Some block) isnt is = keeps_lower old new rule block isnt is

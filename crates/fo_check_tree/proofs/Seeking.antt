@@ -294,7 +294,7 @@ module _ (arena : Arena) (device : List Block) (image : Image) (s : Super) (k : 
   module _ (named : Bool) where
     block_grows : (at : ℕ) → Reaches device image depth named step at old new → Grows old.folders.items new.folders.items
     block_grows at (again m allowed marks same same' noted kept) = record { added = []; is = same' ∙ sym (append-nil old.folders.items) }
-    block_grows at (enters m allowed marks steps folders notes read adds leafs seeks bytes deeps) =
+    block_grows at (enters m allowed marks steps folders notes read adds leafs seeks bytes deeps clean) =
         puts_more (here at m) (image at) depth named step.kind old.folders.items new.folders.items (folders (slots_at at m (taken_of device old.labels.known.items at m w.goes.table allowed.known) allowed.may.kind))
 
     pub grows_on : Follows device image depth named step old new → Grows old.folders.items new.folders.items
@@ -351,7 +351,7 @@ module _ (arena : Arena) (device : List Block) (image : Image) (s : Super) (k : 
 
     after_block : (at : ℕ) → step.pointer ≡ Local at → Reaches device image depth true step at old new → AreSought arena image entries names new.noted new.steps.items new.named.items new.folders.items
     after_block at is (again m allowed marks same same' noted kept) = same_names new.noted new.steps.items [] new.named.items new.folders.items low (none_left new.steps.items same) tt kept same'
-    after_block at is (enters m allowed marks steps folders notes read adds leafs seeks bytes deeps) = ⊎_elim (λ (v : IsInEntries arena image entries step). inside v v.level v.kind) (λ (q : IsQuiet step). outside q q.level q.kind) this
+    after_block at is (enters m allowed marks steps folders notes read adds leafs seeks bytes deeps clean) = ⊎_elim (λ (v : IsInEntries arena image entries step). inside v v.level v.kind) (λ (q : IsQuiet step). outside q q.level q.kind) this
       where
         slots : HasSlots step.kind (image at) (block_of device at)
         slots = slots_at at m (taken_of device old.labels.known.items at m w.goes.table allowed.known) allowed.may.kind

@@ -22,7 +22,7 @@ use Rattle.fo_check_tree.specs.Known.{Marks, MarksNone}
 use Rattle.fo_check_tree.specs.Listing.{Adds}
 use Rattle.fo_check_tree.specs.declared.broken.Broken.{Broken}
 use Rattle.fo_check_tree.specs.Lower.{lower, level}
-use Rattle.fo_check_tree.specs.Notes.{NotesAt}
+use Rattle.fo_check_tree.specs.Notes.{NotesAt, KeepsFormats}
 use Rattle.fo_check_tree.specs.Pairing.{Seeks}
 use Rattle.fo_check_tree.specs.Slots.{HasSlots, steps_of, AddsFolders}
 use Rattle.fo_check_tree.specs.Steps.{IsAllowed, BreaksStep}
@@ -37,6 +37,10 @@ Puts here c depth named Root old new = new ≡ old
 -- A block of this kind is of its format, unless a rule no higher than 5 is noted.
 abbrev pub Reads : Kind → Content → Block → Option Broken → Type 0
 Reads kind c bytes noted = (kind ≡ Root → ⊥) → HasSlots kind c bytes → c.bytes ≡ bytes → 5 < level noted → IsRead kind c bytes
+
+-- Rule 5 is noted for a block of this kind only if that is not of its format, or as a leaf of records none.
+abbrev pub Clean : Step → Content → Block → Option Broken → Option Broken → Type 0
+Clean step c bytes old new = IsRead step.kind c bytes → (step.kind ≡ Data 0 → (step.holds ≡ Bytes → ⊥) → IsLeaf bytes) → KeepsFormats old new
 
 -- A step to this block was taken. The block may stand there. Where it was reached before, rule 7 is noted; else it is reached now, and
 -- the steps and folders by its slots are left.
@@ -53,6 +57,7 @@ pub data Reaches (device : List Block) (image : Image) (depth : ℕ) (named : Bo
       → (HasSlots step.kind (image at) (block_of device at) → Seeks step (image at) named step.kind old.named.items new.named.items new.folders.items)
       → (step.kind ≡ Data 0 → step.holds ≡ Bytes → new.named.items ≡ old.named.items)
       → (HasSlots step.kind (image at) (block_of device at) → Deepens (image at) (min (depth + 1) (2 ^ 32 - 1)) step.kind new.noted)
+      → Clean step (image at) (block_of device at) old.noted new.noted
       → Reaches device image depth named step at old new
 
 -- A step was taken: it leads nowhere, to a score, for which rule 9 is noted, or to a block.

@@ -4,6 +4,7 @@ pub mod Depths
 pub mod Dirs
 pub mod Follows
 pub mod Formats
+pub mod Grounds
 pub mod Known
 pub mod Listing
 pub mod Lower

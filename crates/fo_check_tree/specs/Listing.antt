@@ -11,7 +11,7 @@ use Rattle.fo_image.specs.declared.record.Record.{Record}
 use Rattle.fo_crash.specs.declared.slot.Slot.TheVariants.{Entry as Head}
 use Rattle.fo_crash.specs.Images.{Image, Arena, Link, target, goes, way, leaf_path, depth_of}
 use Rattle.fo_meta.specs.Leaf.{IsLeaf, SpellsLeaf}
-use Rattle.fo_good.specs.Trees.{IsTree, IsWithin, Lists, size_of}
+use Rattle.fo_good.specs.Trees.{IsTree, IsWithin, size_of}
 use Rattle.fo_good.specs.Sound.{Kept}
 use Rattle.fo_check_names.specs.Names.{named_in}
 use Rattle.fo_check_names.specs.declared.names.Named.{Named}
@@ -19,7 +19,7 @@ use Rattle.fo_check_tree.specs.declared.labels.Known.{Known}
 use Rattle.fo_check_tree.specs.declared.walk.Folder.{Folder}
 use Rattle.fo_check_tree.specs.declared.walk.Holds.TheVariants.{Records}
 use Rattle.fo_check_tree.specs.declared.walk.Step.{Step}
-use Rattle.fo_check_tree.specs.Answer.{HasOwnNames}
+use Rattle.fo_check_tree.specs.Answer.{HasOwnNames, HasNameTwice}
 use Rattle.fo_check_tree.specs.Walking.{Reached}
 
 -- ---- one leaf
@@ -110,20 +110,6 @@ pub record IsListing (arena : Arena) (image : Image) (k : Kept) (meta : Link) (k
   pub whole : IsTree arena image k.at → (n at : ℕ) → IsListed arena image meta n at → SomeOf (IsOnWay arena image meta (leaf_path meta.slot n)) steps ⊎ SomeOf (λ (v : Leaf). v.path ≡ leaf_path meta.slot n) leaves
 
 -- ---- names
-
--- A record of the leaf in this block has a name that another record of the source has.
-pub record HasNameTwice (arena : Arena) (image : Image) (meta : Link) (at : ℕ) : Type 0 where
-  pub leaf : ℕ
-  pub place : ℕ
-  pub other_leaf : ℕ
-  pub other_place : ℕ
-  pub one : Record
-  pub other : Record
-  pub first : Lists arena image meta leaf place one
-  pub second : Lists arena image meta other_leaf other_place other
-  pub same : one.name ≡ other.name
-  pub apart : ¬ ((leaf ≡ other_leaf) × (place ≡ other_place))
-  pub leads : target ((goes arena image meta (leaf_path meta.slot leaf)).slot) ≡ Local at
 
 -- The answer of whether a name stands twice: so it is, or where no block is at two places none does.
 abbrev pub JudgesNames : Arena → Image → Kept → Link → Option ℕ → Type 0

@@ -9,6 +9,15 @@ pub data NotesAt (block : ℕ) (old new : Option Broken) : Type 0 where
   format : new ≡ Some (record { rule = 5; block = block }) → NotesAt block old new
   deep : new ≡ Some (record { rule = 8; block = block }) → NotesAt block old new
 
+-- Rule 8 is noted for the block, or nothing.
+pub data NotesDeep (block : ℕ) (old new : Option Broken) : Type 0 where
+  same : new ≡ old → NotesDeep block old new
+  deep : new ≡ Some (record { rule = 8; block = block }) → NotesDeep block old new
+
+-- Rule 5 is noted only if it stood there before.
+pub record KeepsFormats (old new : Option Broken) : Type 0 where
+  pub same : (b : Broken) → new ≡ Some b → b.rule ≡ 5 → old ≡ Some b
+
 -- The rule is noted for this leaf, if any.
 abbrev pub NotesLeaf : ℕ → Option ℕ → Option Broken → Option Broken → Type 0
 NotesLeaf rule leaf old new = MatchOption leaf (new ≡ old) (λ block. new ≡ lower old rule block)

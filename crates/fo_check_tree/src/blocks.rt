@@ -1,7 +1,7 @@
 //! The blocks of sources, one pointer after another.
 ghost use Rattle.std.specs.Prelude.{◌≡◌, ℕ, ◌+◌, ◌-◌, ◌*◌, ◌^◌, ◌<◌, ◌≤◌, min, true, List, [], ◌++◌, length, drop, IfErr, IfOk, MatchResult, OnOk};
 ghost use Rattle.fo_crash.specs.Images.{Arena, Content, Image, Link};
-ghost use Rattle.fo_good.specs.Means.{HasPointer};
+ghost use Rattle.fo_good.specs.Means.{HasPointer, IsRead};
 ghost use Rattle.fo_disk.specs.Disk.{Block};
 ghost use Rattle.fo_meta.specs.Leaf.{IsLeaf};
 ghost use Rattle.fo_sound.specs.Image.{block_of, is_zero};
@@ -17,8 +17,9 @@ ghost use Rattle.fo_image.specs.declared.types.Kind.TheVariants.{Data};
 ghost use Rattle.fo_check_tree.specs.declared.walk.Holds.TheVariants.{Bytes, Records};
 ghost use Rattle.fo_check_tree.specs.Dirs.{AreJudged};
 ghost use Rattle.fo_check_tree.specs.Formats.{AreFormed};
+ghost use Rattle.fo_check_tree.specs.Grounds.{HasGrounds};
 ghost use Rattle.fo_check_tree.specs.Listing.{AddsNamed, Adds, IsListing};
-ghost use Rattle.fo_check_tree.specs.Notes.{NotesAt};
+ghost use Rattle.fo_check_tree.specs.Notes.{NotesAt, KeepsFormats};
 ghost use Rattle.fo_check_tree.specs.Depths.{Deepens, AreSpread};
 ghost use Rattle.fo_check_tree.specs.Pairing.{Seeks, AreSought, Grows};
 ghost use Rattle.fo_check_names.specs.declared.names.Named.{Named};
@@ -81,6 +82,8 @@ pub(crate) fn follow_all<D: Disk>(
     ensures formed { (arena : Arena) (device : List Block) (image : Image) (s : Super) (k : Kept) (rest : List Step) (others : List Folder) → Shows (D.state main.old).holds device → Walking arena device image s k rest walk.old
         → AreFormed arena image k walk.old.labels.known.items walk.old.noted walk.old.steps.items (others ++ walk.old.folders.items)
         → OnOk result (AreFormed arena image k walk.new.labels.known.items walk.new.noted walk.new.steps.items (others ++ walk.new.folders.items)) }
+    ensures grounds { (arena : Arena) (device : List Block) (image : Image) (s : Super) (k : Kept) (rest : List Step) → Shows (D.state main.old).holds device → Walking arena device image s k rest walk.old
+        → HasGrounds arena image k walk.old.noted walk.old.steps.items walk.old.folders.items → OnOk result (HasGrounds arena image k walk.new.noted walk.new.steps.items walk.new.folders.items) }
     ensures done { OnOk result (walk.new.steps.items ≡ []) }
     ensures blocks { OnOk result (walk.new.blocks ≡ walk.old.blocks) }
     ensures budget { OnOk result (205 * walk.new.labels.left + length walk.new.folders.items ≤ 205 * walk.old.labels.left + length walk.old.folders.items) }
@@ -182,6 +185,7 @@ fn enter<D: Disk>(
         → OnOk result (Puts here c depth named step.now.kind walk.old.folders.items walk.new.folders.items) }
     ensures notes { OnOk result (NotesAt here.block walk.old.noted walk.new.noted) }
     ensures format { (device : List Block) (c : Content) → Shows (D.state main.old).holds device → OnOk result (Reads step.now.kind c (block_of device here.block) walk.new.noted) }
+    ensures clean { (device : List Block) (c : Content) → Shows (D.state main.old).holds device → IsRead step.now.kind c (block_of device here.block) → (step.now.kind ≡ Data 0 → (step.now.holds ≡ Bytes → ⊥) → IsLeaf (block_of device here.block)) → OnOk result (KeepsFormats walk.old.noted walk.new.noted) }
     ensures refuses { IfErr result NotLabel }
     ensures blocks { OnOk result (walk.new.blocks ≡ walk.old.blocks) }
     ensures tree { OnOk result ((walk.new.epoch ≡ walk.old.epoch) × (walk.new.active ≡ walk.old.active)) }
@@ -232,6 +236,7 @@ fn add_block(
     ensures folders { OnOk result (length walk.new.folders.items ≤ length walk.old.folders.items + 204) }
     ensures level { OnOk result (level walk.new.noted ≤ level walk.old.noted) }
     ensures named { OnOk result (Adds step.now here.block block.now step.now.kind walk.old.named.items walk.new.named.items) }
+    ensures clean { (c : Content) → IsRead step.now.kind c block.now → (step.now.kind ≡ Data 0 → IsLeaf block.now) → OnOk result (KeepsFormats walk.old.noted walk.new.noted) }
     ensures leaf { step.now.kind ≡ Data 0 → OnOk result (5 < level walk.new.noted → IsLeaf block.now) }
     ensures sought { (c : Content) → HasSlots step.now.kind c block.now → OnOk result (Seeks step.now c named step.now.kind walk.old.named.items walk.new.named.items walk.new.folders.items) }
     ensures deep { (c : Content) → HasSlots step.now.kind c block.now → OnOk result (Deepens c (min (depth + 1) (2 ^ 32 - 1)) step.now.kind walk.new.noted) }

@@ -10,18 +10,19 @@ ghost use Rattle.fo_good.specs.Trees.{IsTree, IsEntries};
 ghost use Rattle.fo_check_tree.specs.Answer.{HasOwnNames};
 ghost use Rattle.fo_check_tree.specs.Dirs.{AreJudged};
 ghost use Rattle.fo_check_tree.specs.Formats.{AreFormed};
+ghost use Rattle.fo_check_tree.specs.Grounds.{HasRecordsOf, HasGrounds};
 ghost use Rattle.fo_check_tree.specs.Listing.{IsMetaOf, SomeOf};
 ghost use Rattle.fo_image.specs.declared.types.Super.{Super};
 ghost use Rattle.fo_sound.specs.Image.{is_zero};
 ghost use Rattle.fo_sound.specs.Device.{Shows};
-ghost use Rattle.fo_check_tree.specs.declared.walk.Holds.TheVariants.{Bytes};
+ghost use Rattle.fo_check_tree.specs.declared.walk.Holds.TheVariants.{Bytes, Entries};
 ghost use Rattle.fo_check_tree.specs.Answer.{RefusesTree};
 ghost use Rattle.fo_check_tree.specs.Walking.{Walking, tops};
 ghost use Rattle.fo_check_tree.specs.Cause.{HasCauses};
 ghost use Rattle.fo_check_tree.specs.Lower.{lower, level};
 ghost use Rattle.fo_check_tree.specs.Slots.{top_step, entry_of, HasSlot, steps_by_pairs, AddsFolders, pair_steps, first_steps, second_steps, pair_folders, folders_by};
 ghost use Rattle.fo_check_names.specs.Pairs.{no_entry, is_folder, is_source, records_of};
-ghost use Rattle.fo_check_tree.specs.Notes.{NotesAt};
+ghost use Rattle.fo_check_tree.specs.Notes.{NotesAt, NotesDeep, KeepsFormats};
 ghost use Rattle.fo_check_tree.specs.Depths.{IsSourceOf};
 ghost use Rattle.fo_check_tree.specs.Pairing.{Searches, AreInOrder, Settles, Grows};
 ghost use Rattle.fo_check_names.specs.Names.{number_in};
@@ -78,6 +79,7 @@ fn entry_at(walk: &mut Walk, here: Holder, block: &[u8], i: usize) -> Entry
     ensures found { (e : Entry) → SpellsEntry e (take 40 (drop (40 * i) block.now)) → e.depth ≤ 4 → result ≡ e }
     ensures is { (c : Content) → HasSlot c block.now i → result ≡ entry_of (c.slot i) }
     ensures none { ((e : Entry) → SpellsEntry e (take 40 (drop (40 * i) block.now)) → 4 < e.depth) → (result ≡ no_entry) × (level walk.new.noted ≤ 5) }
+    ensures kept { (c : Content) → HasEntry c block.now i → walk.new.noted ≡ walk.old.noted }
     ensures notes { NotesAt here.block walk.old.noted walk.new.noted }
     ensures blocks { walk.new.blocks ≡ walk.old.blocks }
     ensures tree { (walk.new.epoch ≡ walk.old.epoch) × (walk.new.active ≡ walk.old.active) }
@@ -110,6 +112,7 @@ pub(crate) fn add_entries(
     ensures put { (c : Content) → ((i : ℕ) → i < 204 → HasSlot c block.now i) → OnOk result (AddsFolders here c (min (depth + 1) (2 ^ 32 - 1)) named 102 walk.old.folders.items walk.new.folders.items) }
     ensures whole { (c : Content) → ((i : ℕ) → i < 204 → HasSlot c block.now i) → OnOk result (5 < level walk.new.noted → (i : ℕ) → i < 204 → HasEntry c block.now i) }
     ensures rest { is_zero (drop 8160 block.now) ≡ false → OnOk result (level walk.new.noted ≤ 5) }
+    ensures clean { (c : Content) → ((i : ℕ) → i < 204 → HasEntry c block.now i) → is_zero (drop 8160 block.now) ≡ true → OnOk result (KeepsFormats walk.old.noted walk.new.noted) }
     ensures notes { OnOk result (NotesAt here.block walk.old.noted walk.new.noted) }
     ensures blocks { OnOk result (walk.new.blocks ≡ walk.old.blocks) }
     ensures tree { OnOk result ((walk.new.epoch ≡ walk.old.epoch) × (walk.new.active ≡ walk.old.active)) }
@@ -162,7 +165,7 @@ fn add_pair(
 ) -> Result<(), AllocError>
     ensures pushed { OnOk result (walk.new.steps.items ≡ walk.old.steps.items ++ pair_steps here first.now second.now) }
     ensures put { OnOk result (walk.new.folders.items ≡ walk.old.folders.items ++ pair_folders here first.now second.now depth named) }
-    ensures notes { OnOk result (NotesAt here.block walk.old.noted walk.new.noted) }
+    ensures notes { OnOk result (NotesDeep here.block walk.old.noted walk.new.noted) }
     ensures blocks { OnOk result (walk.new.blocks ≡ walk.old.blocks) }
     ensures tree { OnOk result ((walk.new.epoch ≡ walk.old.epoch) × (walk.new.active ≡ walk.old.active)) }
     ensures labels { OnOk result (walk.new.labels ≡ walk.old.labels) }
@@ -190,7 +193,7 @@ fn add_first(
 ) -> Result<(), AllocError>
     ensures pushed { OnOk result (walk.new.steps.items ≡ walk.old.steps.items ++ first_steps here entry.now) }
     ensures put { OnOk result (walk.new.folders.items ≡ walk.old.folders.items ++ folders_by here entry.now records depth named) }
-    ensures notes { OnOk result (NotesAt here.block walk.old.noted walk.new.noted) }
+    ensures notes { OnOk result (NotesDeep here.block walk.old.noted walk.new.noted) }
     ensures blocks { OnOk result (walk.new.blocks ≡ walk.old.blocks) }
     ensures tree { OnOk result ((walk.new.epoch ≡ walk.old.epoch) × (walk.new.active ≡ walk.old.active)) }
     ensures labels { OnOk result (walk.new.labels ≡ walk.old.labels) }
@@ -217,7 +220,7 @@ fn add_second(
 ) -> Result<(), AllocError>
     ensures pushed { OnOk result (walk.new.steps.items ≡ walk.old.steps.items ++ second_steps here (is_folder first.now) second.now) }
     ensures put { OnOk result (walk.new.folders.items ≡ walk.old.folders.items ++ folders_by here second.now None depth false) }
-    ensures notes { OnOk result (NotesAt here.block walk.old.noted walk.new.noted) }
+    ensures notes { OnOk result (NotesDeep here.block walk.old.noted walk.new.noted) }
     ensures blocks { OnOk result (walk.new.blocks ≡ walk.old.blocks) }
     ensures tree { OnOk result ((walk.new.epoch ≡ walk.old.epoch) × (walk.new.active ≡ walk.old.active)) }
     ensures labels { OnOk result (walk.new.labels ≡ walk.old.labels) }
@@ -261,7 +264,7 @@ fn add_entry(
     named: bool,
 ) -> Result<(), AllocError>
     ensures put { OnOk result (walk.new.folders.items ≡ walk.old.folders.items ++ folders_by here entry.now records depth named) }
-    ensures notes { OnOk result (NotesAt here.block walk.old.noted walk.new.noted) }
+    ensures notes { OnOk result (NotesDeep here.block walk.old.noted walk.new.noted) }
     ensures folders { OnOk result (length walk.new.folders.items ≤ length walk.old.folders.items + 1) }
     ensures deep { is_folder entry.now ≡ true → 64 < depth → OnOk result (walk.new.noted ≡ lower walk.old.noted 8 here.block) }
     ensures quiet { depth ≤ 64 → walk.new.noted ≡ walk.old.noted }
@@ -283,6 +286,26 @@ fn add_entry(
         })?;
     }
     Ok(())
+}
+
+/// A leaf of records, where the entry names any.
+fn of_records(entry: &Entry, leaf: Option<u32>) -> Option<u32>
+    ensures { result ≡ cond entry.now.dir None leaf }
+{
+    if entry.dir {
+        return None;
+    }
+    leaf
+}
+
+/// What the leaves of the first source of a pair hold.
+fn holds_in(entry: &Entry) -> Holds
+    ensures { result ≡ cond entry.now.dir Entries Bytes }
+{
+    if entry.dir {
+        return Holds::Entries;
+    }
+    Holds::Bytes
 }
 
 /// The records of a directory, and the rules that they have to keep by themselves.
@@ -314,6 +337,8 @@ fn list<D: Disk>(
     ensures counted { walk.old.named.items ≡ [] → folder.now.named ≡ true → OnOk result (numbers.new.items ≡ numbers.old.items ++ map number_in walk.new.named.items) }
     ensures uncounted { folder.now.named ≡ false → OnOk result (numbers.new.items ≡ numbers.old.items) }
     ensures done { OnOk result (walk.old.steps.items ≡ [] → walk.new.steps.items ≡ []) }
+    ensures grounds { (arena : Arena) (device : List Block) (image : Image) (s : Super) (k : Kept) → Shows (D.state main.old).holds device → Walking arena device image s k (tops folder.now) walk.old → walk.old.steps.items ≡ [] → walk.old.named.items ≡ [] → HasRecordsOf arena image k folder.now
+        → HasGrounds arena image k walk.old.noted walk.old.steps.items walk.old.folders.items → OnOk result (HasGrounds arena image k walk.new.noted walk.new.steps.items walk.new.folders.items) }
     ensures grows { (arena : Arena) (device : List Block) (image : Image) (s : Super) (k : Kept) → Shows (D.state main.old).holds device → Walking arena device image s k (tops folder.now) walk.old → OnOk result (Grows walk.old.folders.items walk.new.folders.items) }
 {
     let Some(records) = folder.records else {
@@ -324,7 +349,8 @@ fn list<D: Disk>(
         return Err(TreeError::Memory);
     }
     follow_all(alloc, main, walk, folder.depth, false)?;
-    let named_twice = same_name(&mut walk.named);
+    let repeated = same_name(&mut walk.named);
+    let named_twice = of_records(&records, repeated);
     walk.note_leaf(5, named_twice);
     let twice = same_pair(&mut walk.named);
     if !folder.named {
@@ -365,17 +391,15 @@ pub(crate) fn walk_folder<D: Disk>(
     ensures pairs { (arena : Arena) (device : List Block) (image : Image) (s : Super) (k : Kept) → Shows (D.state main.old).holds device → Walking arena device image s k (tops folder.now) walk.old → walk.old.steps.items ≡ [] → folder.now.named ≡ true
         → OnOk result (Settles arena image k folder.now walk.new.noted walk.new.folders.items numbers.old.items numbers.new.items) }
     ensures uncounted { folder.now.named ≡ false → OnOk result (numbers.new.items ≡ numbers.old.items) }
+    ensures grounds { (arena : Arena) (device : List Block) (image : Image) (s : Super) (k : Kept) → Shows (D.state main.old).holds device → Walking arena device image s k (tops folder.now) walk.old → walk.old.steps.items ≡ [] → HasRecordsOf arena image k folder.now
+        → HasGrounds arena image k walk.old.noted walk.old.steps.items walk.old.folders.items → OnOk result (HasGrounds arena image k walk.new.noted walk.new.steps.items walk.new.folders.items) }
     ensures grows { (arena : Arena) (device : List Block) (image : Image) (s : Super) (k : Kept) → Shows (D.state main.old).holds device → Walking arena device image s k (tops folder.now) walk.old → OnOk result (Grows walk.old.folders.items walk.new.folders.items) }
     ensures spread { (arena : Arena) (device : List Block) (image : Image) (s : Super) (k : Kept) (deep : ℕ) (w : Link) → Shows (D.state main.old).holds device → Walking arena device image s k (tops folder.now) walk.old → walk.old.steps.items ≡ [] → IsSourceOf deep w folder.now
         → OnOk result (8 < level walk.new.noted → IsTree arena image k.at → (j : ℕ) → IsEntries (entry_at arena image w j).slot → SomeOf (IsSourceOf (suc deep) (entry_at arena image w j)) walk.new.folders.items) }
 {
     walk.named = Vec::new(alloc);
     list(alloc, main, walk, numbers, folder)?;
-    let holds = if folder.entries.dir {
-        Holds::Entries
-    } else {
-        Holds::Bytes
-    };
+    let holds = holds_in(&folder.entries);
     let top = Step::top(&folder.entries, holds, folder.holder);
     if walk.steps.push(top).is_err() {
         return Err(TreeError::Memory);

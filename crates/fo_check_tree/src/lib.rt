@@ -11,9 +11,11 @@
 //! format and no name stands twice in a directory, unless a rule no higher than 5 is named (S5). Where no block is at two places each
 //! record of a directory to which names lead has its pair, and no two have one, unless a rule no higher than 6 is named (S6); all file
 //! numbers differ and are below the limit and no directory is too deep, unless one no higher than 8 is named (S8). **A report that names
-//! no rule says that the tree is sound.** Where rule 7 or 9 is named it is broken at that block. What is refused breaks S4 at that block.
+//! no rule says that the tree is sound.** Where rule 5, 7 or 9 is named it is broken at that block: for rule 5 it is the root block with an
+//! entry that is too deep, a block that is not of its format, a leaf below an entry that names records and that is none, or a leaf with a
+//! name that stands twice in its directory. What is refused breaks S4 at that block.
 //!
-//! **What is not proved yet**: that rule 5, 6 or 8 is broken where it is named. That rests on the tests of `test_check_tree`.
+//! **What is not proved yet**: that rule 6 or 8 is broken where it is named. That rests on the tests of `test_check_tree`.
 //!
 //! Proved of its parts: of two rules that are broken the lower is noted, and none is forgotten; what is noted of a directory's names is so
 //! of the records of its leaves. The root's entries are not those of a root exactly where that is so.

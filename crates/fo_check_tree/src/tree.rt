@@ -6,7 +6,8 @@ ghost use Rattle.fo_check_tree.specs.Answer.{HoldsAny, IsWalked, RefusesCheck};
 ghost use Rattle.fo_check_tree.specs.Depths.{AreAbove};
 ghost use Rattle.fo_check_tree.specs.Dirs.{AreJudged};
 ghost use Rattle.fo_check_tree.specs.Formats.{AreFormed};
-ghost use Rattle.fo_check_tree.specs.Notes.{Lowers};
+ghost use Rattle.fo_check_tree.specs.Grounds.{HasGrounds};
+ghost use Rattle.fo_check_tree.specs.Notes.{KeepsFormats, Lowers};
 ghost use Rattle.std.specs.List.{All};
 ghost use Rattle.fo_check_names.specs.Names.{number_of, Differ, IsFileNumber};
 ghost use Rattle.fo_check_tree.specs.Pairing.{AreSettled};
@@ -100,6 +101,7 @@ pub fn check_tree<D: Disk>(
 fn check_numbers(walk: &mut Walk, numbers: &mut Vec<Number>, limit: u32)
     ensures judged { 8 < level walk.new.noted → Differ number_of numbers.old.items × All (IsFileNumber limit) numbers.old.items }
     ensures lowers { Lowers walk.old.noted walk.new.noted }
+    ensures formats { KeepsFormats walk.old.noted walk.new.noted }
     ensures blocks { walk.new.blocks ≡ walk.old.blocks }
     ensures tree { (walk.new.epoch ≡ walk.old.epoch) × (walk.new.active ≡ walk.old.active) }
     ensures labels { walk.new.labels ≡ walk.old.labels }
@@ -115,6 +117,7 @@ fn check_numbers(walk: &mut Walk, numbers: &mut Vec<Number>, limit: u32)
 /// Notes entries that are not those of a root.
 fn note_entries(walk: &mut Walk, block: u32, root: &RootBlock)
     ensures lowers { Lowers walk.old.noted walk.new.noted }
+    ensures formats { KeepsFormats walk.old.noted walk.new.noted }
     ensures blocks { walk.new.blocks ≡ walk.old.blocks }
     ensures tree { (walk.new.epoch ≡ walk.old.epoch) × (walk.new.active ≡ walk.old.active) }
     ensures labels { walk.new.labels ≡ walk.old.labels }
@@ -136,6 +139,7 @@ fn start(walk: &mut Walk, s: &Super, root: &RootBlock) -> Result<(), AllocError>
     ensures dirs { (arena : Arena) (device : List Block) (image : Image) (k : Kept) → k.root ≡ root.now → HoldsAny arena device image s.now k → IsUnbegun device s.now walk.old → OnOk result (AreJudged arena image k [] walk.new) }
     ensures formed { (arena : Arena) (device : List Block) (image : Image) (k : Kept) → k.root ≡ root.now → HoldsAny arena device image s.now k → IsUnbegun device s.now walk.old
         → OnOk result (AreFormed arena image k walk.new.labels.known.items walk.new.noted walk.new.steps.items walk.new.folders.items) }
+    ensures grounds { (arena : Arena) (device : List Block) (image : Image) (k : Kept) → k.root ≡ root.now → HoldsAny arena device image s.now k → IsUnbegun device s.now walk.old → OnOk result (HasGrounds arena image k walk.new.noted walk.new.steps.items walk.new.folders.items) }
     ensures blocks { OnOk result (walk.new.blocks ≡ walk.old.blocks) }
     ensures judged { OnOk result (JudgesRoot root.now walk.new.noted) }
     ensures pairs { (arena : Arena) (device : List Block) (image : Image) (k : Kept) → k.root ≡ root.now → HoldsAny arena device image s.now k → IsUnbegun device s.now walk.old → OnOk result (AreSettled arena image k walk.new.noted walk.new.folders.items []) }

@@ -1,12 +1,14 @@
-use Rattle.std.proofs.Common.{◌≡◌, ℕ, ◌^◌, ◌-◌, ◌+◌, drop, sym, ap, ◌∙◌, subst, rules, arith}
+use Rattle.std.proofs.Common.{◌≡◌, ℕ, ◌^◌, ◌-◌, ◌+◌, drop, refl, sym, ap, ◌∙◌, subst, rules, arith}
 use Rattle.fo_image.specs.declared.types.Kind.TheVariants.{Data, Dir}
 use Rattle.std.specs.Prelude.{min, OnOk}
 use Rattle.fo_image.specs.declared.types.Kind.{Kind}
 use Rattle.fo_check_tree.specs.Follows.{Reads}
 use Rattle.fo_sound.specs.Image.{is_zero}
-use Rattle.fo_check_tree.specs.Notes.{NotesAt}
+use Rattle.fo_check_tree.specs.Notes.{NotesAt, KeepsFormats}
 use Rattle.fo_check_tree.specs.Slots.{unless, HasSlots}
-use Rattle.fo_check_tree.proofs.Adding.{data_adds, dir_adds, on_ok, notes_unless, data_reads, dir_reads, entries_read, leaf_names, inner_names, dir_names, root_names, not_leaf_data, not_leaf_dir, not_leaf_root, leaf_seeks, inner_seeks, data_seeks, root_seeks, leaf_deepens, nothing_deepens, other_deepens, not_entries_data, not_entries_dir, not_entries_root}
+use Rattle.fo_check_tree.proofs.Adding.{data_adds, dir_adds, on_ok, notes_unless, data_reads, dir_reads, data_clean, dir_clean, entries_read, leaf_names, inner_names, dir_names, root_names, not_leaf_data, not_leaf_dir, not_leaf_root, leaf_seeks, inner_seeks, data_seeks, root_seeks, leaf_deepens, nothing_deepens, other_deepens, not_entries_data, not_entries_dir, not_entries_root}
+use Rattle.fo_check_tree.proofs.Noting.{keeps_same}
+use Rattle.fo_good.specs.Means.{IsRead}
 use Rattle.fo_check_tree.proofs.blocks.add_block.Goals as goal
 
 pub returns-in-Data-clause-pushed : goal.returns-in-Data-clause-pushed
@@ -103,3 +105,23 @@ returns-in-Dir-clause-deep c c' slots = other_deepens c.add_pointers-in-Dir.resu
 
 pub returns-in-Root-clause-deep : goal.returns-in-Root-clause-deep
 returns-in-Root-clause-deep c c' slots = nothing_deepens c' (min (c.args.depth + 1) (2 ^ 32 - 1)) c.args.walk.now.noted c.args.step.now.kind (not_entries_root c.args.step.now.kind c.in-Root.is)
+
+pub returns-in-Data-eq0-clause-clean : goal.returns-in-Data-eq0-clause-clean
+returns-in-Data-eq0-clause-clean c c' read leaf =
+    let kind : c.args.step.now.kind ≡ Data 0 = c.in-Data-eq0.is ∙ ap (λ (n : ℕ). Data n) (first_of (omega (arith, c.in-Data-eq0.field-0-is), grind (arith, c.in-Data-eq0.field-0-test), search rules)) in
+    on_ok c.add_records.result (c.add_records.new.walk.noted ≡ c.args.walk.now.noted) (KeepsFormats c.args.walk.now.noted c.add_records.new.walk.noted) (λ is. keeps_same c.args.walk.now.noted c.add_records.new.walk.noted is) (c.add_records.ensures.quiet (leaf kind))
+
+pub returns-in-Data-clause-clean : goal.returns-in-Data-clause-clean
+returns-in-Data-clause-clean c c' read leaf = data_clean c.add_pointers.result c' c.args.block.now c.args.here.block c.args.walk.now.noted c.add_pointers.new.walk.noted c.in-Data.level c.args.step.now.kind c.in-Data.is (grind (arith, c.in-Data.level-test)) c.add_pointers.ensures.noted read
+
+pub returns-in-Dir-clause-clean : goal.returns-in-Dir-clause-clean
+returns-in-Dir-clause-clean c c' read leaf = dir_clean c.add_pointers-in-Dir.result c' c.args.block.now c.args.here.block c.args.walk.now.noted c.add_pointers-in-Dir.new.walk.noted c.in-Dir.level c.args.step.now.kind c.in-Dir.is (grind (arith, c.in-Dir.level-test)) c.add_pointers-in-Dir.ensures.noted read
+
+pub returns-in-Dir-eq0-clause-clean : goal.returns-in-Dir-eq0-clause-clean
+returns-in-Dir-eq0-clause-clean c c' read leaf =
+    let kind : c.args.step.now.kind ≡ Dir 0 = c.in-Dir-eq0.is ∙ ap (λ (n : ℕ). Dir n) (first_of (omega (arith, c.in-Dir-eq0.field-0-is), grind (arith, c.in-Dir-eq0.field-0-test), search rules)) in
+    let entries = subst (λ (k : Kind). IsRead k c' c.args.block.now) kind read in
+    c.add_entries.ensures.clean c' entries.each entries.rest
+
+pub returns-in-Root-clause-clean : goal.returns-in-Root-clause-clean
+returns-in-Root-clause-clean c c' read leaf = keeps_same c.args.walk.now.noted c.args.walk.now.noted refl

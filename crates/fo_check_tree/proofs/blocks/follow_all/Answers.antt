@@ -5,6 +5,8 @@ use Rattle.fo_sound.specs.Device.{Shows}
 use Rattle.fo_check_tree.specs.declared.walk.Walk.{Walk}
 use Rattle.fo_check_tree.specs.declared.walk.Step.{Step}
 use Rattle.fo_check_tree.specs.Formats.{AreFormed}
+use Rattle.fo_check_tree.specs.Grounds.{HasGrounds}
+use Rattle.fo_check_tree.proofs.Grounding.{grounds_on}
 use Rattle.fo_check_tree.specs.Dirs.{AreJudged}
 use Rattle.fo_check_tree.specs.Listing.{IsListing}
 use Rattle.fo_check_tree.specs.Walking.{Walking}
@@ -49,6 +51,15 @@ loop-step-preserved g c = record {
       subst (λ (xs : List Step). AreFormed arena image k c.loop-step.walk.labels.known.items c.loop-step.walk.noted xs (others ++ c.loop-step.walk.folders.items)) c.in-Some.ensures.items (c.loop-step.invariant.formed arena device image s k rest others shows w j) in
       formed_on arena device image s k rest c.in-Some.step old c.follow.new.walk left others formed c.args.depth c.args.named c.in_ok-follow.ensures.level
       (c.in_ok-follow.ensures.follows device image (subst (λ (x : DiskState). Shows x.holds device) (sym c.loop-step.invariant.kept) shows));
+  grounds = λ arena device image s k rest shows w h.
+      let old : Walk = record c.loop-step.walk { steps = c.pop.new.self } in
+      let before : Walking arena device image s k rest c.loop-step.walk = c.loop-step.invariant.walks arena device image s k rest shows w in
+      let left : Walking arena device image s k (c.in-Some.step ∷ rest) old = popped arena device image s k c.loop-step.walk old (record { blocks = refl; epoch = refl; active = refl; labels = refl; noted = refl }) rest c.in-Some.step c.in-Some.ensures.items refl before in
+      let step = c.in_ok-follow.ensures.follows device image (subst (λ (x : DiskState). Shows x.holds device) (sym c.loop-step.invariant.kept) shows) in
+      let after : Walking arena device image s k rest c.follow.new.walk = followed arena device image s k rest c.in-Some.step old c.follow.new.walk left c.args.depth c.args.named c.in_ok-follow.ensures.blocks c.in_ok-follow.ensures.tree c.in_ok-follow.ensures.level step in
+      let grounds : HasGrounds arena image k c.loop-step.walk.noted (c.pop.new.self.items ++ c.in-Some.step ∷ []) c.loop-step.walk.folders.items =
+      subst (λ (xs : List Step). HasGrounds arena image k c.loop-step.walk.noted xs c.loop-step.walk.folders.items) c.in-Some.ensures.items (c.loop-step.invariant.grounds arena device image s k rest shows w h) in
+      grounds_on arena device image s k rest c.in-Some.step old c.follow.new.walk left after c.args.depth c.args.named grounds step;
   pairs = λ arena device image s k entries names rest shows w lead h.
       let old : Walk = record c.loop-step.walk { steps = c.pop.new.self } in
       let before : Walking arena device image s k rest c.loop-step.walk = c.loop-step.invariant.walks arena device image s k rest shows w in
@@ -87,6 +98,7 @@ loop-step-init g c = record {
   lists = λ arena device image s k meta rest shows w h. h;
   dirs = λ arena device image s k rest others shows w j. j;
   formed = λ arena device image s k rest others shows w j. j;
+  grounds = λ arena device image s k rest shows w h. h;
   pairs = λ arena device image s k entries names rest shows w lead h. h;
   spread = λ arena device image s k link deep rest shows w is h. h;
   grows = λ arena device image s k rest shows w. grows_none c.args.walk.now.folders.items;
@@ -130,3 +142,7 @@ returns-clause-pairs g c arena device image s k entries names rest shows w lead 
 pub returns-clause-spread : goal.returns-clause-spread
 returns-clause-spread g c arena device image s k link deep rest shows w is h =
     subst (λ (xs : List Step). AreSpread arena image k link deep c.loop-step.walk.noted xs c.loop-step.walk.folders.items) (c.in_default.ensures.items ∙ append-nil c.pop.new.self.items) (c.loop-step.invariant.spread arena device image s k link deep rest shows w is h)
+
+pub returns-clause-grounds : goal.returns-clause-grounds
+returns-clause-grounds g c arena device image s k rest shows w h =
+    subst (λ (xs : List Step). HasGrounds arena image k c.loop-step.walk.noted xs c.loop-step.walk.folders.items) (c.in_default.ensures.items ∙ append-nil c.pop.new.self.items) (c.loop-step.invariant.grounds arena device image s k rest shows w h)

@@ -9,6 +9,7 @@ use Rattle.fo_sound.specs.Device.{Shows}
 use Rattle.fo_check_tree.specs.declared.walk.Step.{Step}
 use Rattle.fo_check_tree.specs.declared.walk.Folder.{Folder}
 use Rattle.fo_check_tree.specs.Formats.{AreFormed}
+use Rattle.fo_check_tree.specs.Grounds.{HasGrounds}
 use Rattle.fo_check_tree.specs.Dirs.{AreJudged}
 use Rattle.fo_check_tree.specs.Listing.{IsListing}
 use Rattle.fo_check_tree.specs.Walking.{Walking}
@@ -27,6 +28,8 @@ invariant-loop-step g l = record {
   formed : (arena : Arena) (device : List Block) (image : Image) (s : Super) (k : Kept) (rest : List Step) (others : List Folder) → Shows (g.D.Disk.state l.fn.main).holds device → Walking arena device image s k rest l.fn.walk
       → AreFormed arena image k l.fn.walk.labels.known.items l.fn.walk.noted l.fn.walk.steps.items (others ++ l.fn.walk.folders.items)
       → AreFormed arena image k l.walk.labels.known.items l.walk.noted l.walk.steps.items (others ++ l.walk.folders.items);
+  grounds : (arena : Arena) (device : List Block) (image : Image) (s : Super) (k : Kept) (rest : List Step) → Shows (g.D.Disk.state l.fn.main).holds device → Walking arena device image s k rest l.fn.walk
+      → HasGrounds arena image k l.fn.walk.noted l.fn.walk.steps.items l.fn.walk.folders.items → HasGrounds arena image k l.walk.noted l.walk.steps.items l.walk.folders.items;
   pairs : (arena : Arena) (device : List Block) (image : Image) (s : Super) (k : Kept) (entries : Link) (names : List Named) (rest : List Step) → Shows (g.D.Disk.state l.fn.main).holds device → Walking arena device image s k rest l.fn.walk → l.named ≡ true
       → AreSought arena image entries names l.fn.walk.noted l.fn.walk.steps.items l.fn.walk.named.items l.fn.walk.folders.items → AreSought arena image entries names l.walk.noted l.walk.steps.items l.walk.named.items l.walk.folders.items;
   spread : (arena : Arena) (device : List Block) (image : Image) (s : Super) (k : Kept) (w : Link) (deep : ℕ) (rest : List Step) → Shows (g.D.Disk.state l.fn.main).holds device → Walking arena device image s k rest l.fn.walk → deep ≡ min (l.depth + 1) (2 ^ 32 - 1)

@@ -14,6 +14,7 @@ use Rattle.fo_check_tree.proofs.Searching.{searches_first, searches_on}
 use Rattle.fo_good.specs.Means.{HasEntry}
 use Rattle.std.proofs.lemmas.Bool.{cases_eq, cases_lt}
 use Rattle.fo_check_tree.proofs.Adding.{then_notes, notes_unless, entry_read}
+use Rattle.fo_check_tree.proofs.Noting.{keeps_same, keeps_then, keeps_deep, deep_at, keeps_zero}
 use Rattle.fo_check_tree.proofs.Slots.{pairs_first, pairs_more, folders_first, folders_more, low_unless, rest_is}
 use Rattle.fo_check_tree.proofs.folder.add_entries.Goals as goal
 
@@ -28,6 +29,7 @@ loop-k-init c = record {
   sought = λ c' each. rw c.note_rest.ensures.named (searches_first c.args.index c' c.args.named c.args.walk.now.named.items c.note_rest.new.self.folders.items);
   deep = λ c' each quiet i lt. absurd (omega (arith, lt));
   rest = λ no. rw c.note_rest.ensures.noted (low_unless (is_zero (take (length c.args.block.now - 8160) (drop 8160 c.args.block.now))) c.args.here.block c.args.walk.now.noted (ap is_zero (rest_is 8160 c.args.block.now) ∙ no));
+  clean = λ c' each zero. keeps_zero (is_zero (take (length c.args.block.now - 8160) (drop 8160 c.args.block.now))) (ap is_zero (rest_is 8160 c.args.block.now) ∙ zero) c.args.here.block c.args.walk.now.noted c.note_rest.new.self.noted c.note_rest.ensures.noted;
   notes = notes_unless (is_zero (take (length c.args.block.now - 8160) (drop 8160 c.args.block.now))) c.args.here.block c.args.walk.now.noted c.note_rest.new.self.noted c.note_rest.ensures.noted;
   blocks = c.note_rest.ensures.blocks;
   tree = c.note_rest.ensures.tree;
@@ -88,7 +90,11 @@ loop-k-preserved c =
           (cases_eq i (2 * c.loop-k.k)))
           (cases_lt i (2 * c.loop-k.k));
       rest = λ no. let before = c.loop-k.invariant.rest no in omega (arith, low, before);
-      notes = then_notes c.loop-k.invariant.notes (then_notes c.entry_at-first.ensures.notes (then_notes c.entry_at-second.ensures.notes (then_notes (note_same c.find_here-of.ensures.noted) c.in_ok-add_pair.ensures.notes)));
+      clean = λ c' each zero. keeps_then c.args.walk.now.noted c.loop-k.walk.noted c.add_pair.new.walk.noted (c.loop-k.invariant.clean c' each zero)
+          (keeps_then c.loop-k.walk.noted c.find_here-of.new.walk.noted c.add_pair.new.walk.noted
+          (keeps_same c.loop-k.walk.noted c.find_here-of.new.walk.noted (c.find_here-of.ensures.noted ∙ c.entry_at-second.ensures.kept c' (each (2 * c.loop-k.k + 1) (omega (arith, less))) ∙ c.entry_at-first.ensures.kept c' (each (2 * c.loop-k.k) (omega (arith, less)))))
+          (keeps_deep c.args.here.block c.find_here-of.new.walk.noted c.add_pair.new.walk.noted c.in_ok-add_pair.ensures.notes));
+      notes = then_notes c.loop-k.invariant.notes (then_notes c.entry_at-first.ensures.notes (then_notes c.entry_at-second.ensures.notes (then_notes (note_same c.find_here-of.ensures.noted) (deep_at c.args.here.block c.find_here-of.new.walk.noted c.add_pair.new.walk.noted c.in_ok-add_pair.ensures.notes))));
       blocks = c.in_ok-add_pair.ensures.blocks ∙ c.find_here-of.ensures.blocks ∙ c.entry_at-second.ensures.blocks ∙ c.entry_at-first.ensures.blocks ∙ c.loop-k.invariant.blocks;
       tree = (c.in_ok-add_pair.ensures.tree.0 ∙ c.find_here-of.ensures.tree.0 ∙ c.entry_at-second.ensures.tree.0 ∙ c.entry_at-first.ensures.tree.0 ∙ c.loop-k.invariant.tree.0, c.in_ok-add_pair.ensures.tree.1 ∙ c.find_here-of.ensures.tree.1 ∙ c.entry_at-second.ensures.tree.1 ∙ c.entry_at-first.ensures.tree.1 ∙ c.loop-k.invariant.tree.1);
       low = omega (arith, low, c.loop-k.invariant.low);

@@ -4,7 +4,7 @@ use Rattle.fo_crash.specs.Images.{Content}
 use Rattle.fo_good.specs.Means.{HasEntry}
 use Rattle.fo_sound.specs.Image.{is_zero}
 use Rattle.fo_check_tree.specs.Lower.{level}
-use Rattle.fo_check_tree.specs.Notes.{NotesAt}
+use Rattle.fo_check_tree.specs.Notes.{NotesAt, KeepsFormats}
 use Rattle.fo_check_tree.specs.Pairing.{Searches}
 use Rattle.fo_check_names.specs.Pairs.{is_folder}
 use Rattle.fo_check_tree.specs.Slots.{entry_of, HasSlot, steps_by_pairs, AddsFolders}
@@ -18,6 +18,7 @@ invariant-loop-k l = record {
   sought : (c : Content) → ((i : ℕ) → i < 204 → HasSlot c l.block i) → Searches l.index c l.named l.k l.fn.walk.named.items l.walk.named.items l.walk.folders.items;
   deep : (c : Content) → ((i : ℕ) → i < 204 → HasSlot c l.block i) → 8 < level l.walk.noted → (i : ℕ) → i < 2 * l.k → is_folder (entry_of (c.slot i)) ≡ true → min (l.depth + 1) (2 ^ 32 - 1) ≤ 64;
   rest : is_zero (drop 8160 l.block) ≡ false → level l.walk.noted ≤ 5;
+  clean : (c : Content) → ((i : ℕ) → i < 204 → HasEntry c l.block i) → is_zero (drop 8160 l.block) ≡ true → KeepsFormats l.fn.walk.noted l.walk.noted;
   notes : NotesAt l.here.block l.fn.walk.noted l.walk.noted;
   blocks : l.walk.blocks ≡ l.fn.walk.blocks;
   tree : (l.walk.epoch ≡ l.fn.walk.epoch) × (l.walk.active ≡ l.fn.walk.active);

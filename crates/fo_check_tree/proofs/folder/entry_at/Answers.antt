@@ -29,3 +29,11 @@ returns-in-Ok-clause-is c c' h = as_slot c' c.args.block.now c.args.i c.shallow.
 
 pub returns-in-Err-clause-is : goal.returns-in-Err-clause-is
 returns-in-Err-clause-is c c' h = as_slot c' c.args.block.now c.args.i no_entry (returns-in-Err-clause-found c) (λ deep. (returns-in-Err-clause-none c deep).0) h
+
+pub returns-in-Ok-clause-kept : goal.returns-in-Ok-clause-kept
+returns-in-Ok-clause-kept c c' h =
+    let same : h.entry ≡ c.in-Ok.entry = let only = c.in-Ok.ensures.only h.entry (subst (SpellsEntry h.entry) (sym (part c.args.i c.args.block.now)) h.spelled) in cc in
+    c.shallow.ensures.quiet (subst (λ (x : Entry). x.depth ≤ 4) same h.shallow)
+
+pub returns-in-Err-clause-kept : goal.returns-in-Err-clause-kept
+returns-in-Err-clause-kept c c' h = absurd (c.in-Err.ensures.refused.1 h.entry (subst (SpellsEntry h.entry) (sym (part c.args.i c.args.block.now)) h.spelled))

@@ -1,4 +1,4 @@
-use Rattle.std.proofs.Common.{◌≡◌, List, [], ◌∷◌, ◌++◌, append-nil, map, IsPermutation, length, Option, Some, None, refl, sym, ap, ◌∙◌, subst, rules, arith}
+use Rattle.std.proofs.Common.{◌≡◌, ℕ, false, List, [], ◌∷◌, ◌++◌, append-nil, map, IsPermutation, length, Option, Some, None, refl, sym, ap, ◌∙◌, subst, rules, arith}
 use Rattle.std.proofs.lemmas.Result.{err_from_is_err_and}
 use Rattle.fo_image.specs.declared.types.Entry.{Entry}
 use Rattle.fo_check_tree.specs.declared.walk.Holds.TheVariants.{Bytes, Records}
@@ -13,7 +13,14 @@ use Rattle.fo_check_tree.specs.declared.labels.Labels.{Labels}
 use Rattle.fo_check_tree.specs.declared.walk.Folder.{Folder}
 use Rattle.fo_check_tree.specs.Formats.{AreFormed}
 use Rattle.fo_check_tree.specs.Dirs.{AreJudged}
-use Rattle.fo_check_tree.specs.Listing.{IsListing}
+use Rattle.fo_check_tree.specs.Listing.{IsListing, IsMetaOf, JudgesNames}
+use Rattle.fo_check_tree.specs.Notes.{NotesLeaf}
+use Rattle.fo_crash.specs.Images.{Link}
+use Rattle.fo_image.specs.declared.types.Kind.TheVariants.{Data}
+use Rattle.fo_crash.specs.declared.slot.Slot.TheVariants.{Entry as Head}
+use Rattle.fo_check_tree.specs.Grounds.{IsRecordsOf, HasGrounds}
+use Rattle.fo_check_tree.proofs.Grounding.{formats_kept}
+use Rattle.fo_check_tree.proofs.Granting.{grounds_like, grounds_push, records_top as placed_top, is_meta, formats_named, of_file}
 use Rattle.fo_check_tree.specs.Slots.{top_step}
 use Rattle.fo_check_tree.specs.Walking.{Walking, tops, records_top}
 use Rattle.fo_check_tree.proofs.Formatting.{formed_like, formed_alone, formed_top}
@@ -21,7 +28,7 @@ use Rattle.fo_check_tree.proofs.Judging.{judged_like}
 use Rattle.fo_check_tree.proofs.Listed.{listing_at}
 use Rattle.fo_check_tree.proofs.Marking.{is_pushed}
 use Rattle.fo_check_tree.proofs.Naming.{begins, judged, names_by}
-use Rattle.fo_check_tree.proofs.Noting.{lowers_then, lowers_leaf}
+use Rattle.fo_check_tree.proofs.Noting.{lowers_then, lowers_leaf, keeps_leaf}
 use Rattle.std.proofs.lemmas.Bool.{false≢true}
 use Rattle.fo_check_tree.proofs.Seeking.{grows_none, grows_like}
 use Rattle.fo_check_tree.proofs.Settling.{in_order}
@@ -56,7 +63,7 @@ returns-then-not-folder-clause-walks g c arena device image s k shows w =
     let then' : Walking arena device image s k (a ∷ []) c.follow_all.new.walk = c.in_ok-follow_all.ensures.walks arena device image s k (a ∷ []) shows next in
     walking_like arena device image s k (a ∷ []) c.follow_all.new.walk _
     (record { blocks = c.note_leaf.ensures.blocks; epoch = c.note_leaf.ensures.tree.0; active = c.note_leaf.ensures.tree.1; labels = c.note_leaf.ensures.labels; steps = c.note_leaf.ensures.steps; folders = c.note_leaf.ensures.folders })
-    (lowers_leaf c.follow_all.new.walk.noted c.note_leaf.new.self.noted 5 c.same_name-named_twice.result (λ e. omega (arith, e)) (λ e. omega (arith, e)) c.note_leaf.ensures.level c.note_leaf.ensures.noted)
+    (lowers_leaf c.follow_all.new.walk.noted c.note_leaf.new.self.noted 5 c.of_records-named_twice.result (λ e. omega (arith, e)) (λ e. omega (arith, e)) c.note_leaf.ensures.level c.note_leaf.ensures.noted)
     then'
 
 pub returns-in-Ok-clause-walks : goal.returns-in-Ok-clause-walks
@@ -81,7 +88,7 @@ returns-in-Ok-clause-walks g c arena device image s k shows w =
       folders = c.note_leaf-2.ensures.folders ∙ c.note_leaf.ensures.folders;
     })
     (lowers_then c.follow_all.new.walk.noted c.note_leaf.new.self.noted c.note_leaf-2.new.self.noted
-    (lowers_leaf c.follow_all.new.walk.noted c.note_leaf.new.self.noted 5 c.same_name-named_twice.result (λ e. omega (arith, e)) (λ e. omega (arith, e)) c.note_leaf.ensures.level c.note_leaf.ensures.noted)
+    (lowers_leaf c.follow_all.new.walk.noted c.note_leaf.new.self.noted 5 c.of_records-named_twice.result (λ e. omega (arith, e)) (λ e. omega (arith, e)) c.note_leaf.ensures.level c.note_leaf.ensures.noted)
     (lowers_leaf c.note_leaf.new.self.noted c.note_leaf-2.new.self.noted 6 c.same_pair-twice.result (λ e. omega (arith, e)) (λ e. omega (arith, e)) c.note_leaf-2.ensures.level c.note_leaf-2.ensures.noted))
     then'
 
@@ -109,8 +116,10 @@ returns-then-not-folder-clause-names g c arena device image s k meta shows walki
     let end : IsListing arena image k meta c.follow_all.new.walk.labels.known.items c.follow_all.new.walk.steps.items c.follow_all.new.walk.named.items = c.in_ok-follow_all.ensures.lists arena device image s k meta (a ∷ []) shows next start in
     let whole : IsListing arena image k meta c.follow_all.new.walk.labels.known.items [] c.follow_all.new.walk.named.items = subst (λ (xs : List Step). IsListing arena image k meta c.follow_all.new.walk.labels.known.items xs c.follow_all.new.walk.named.items) c.in_ok-follow_all.ensures.done end in
     let view : c.deref_mut.result.now ≡ c.follow_all.new.walk.named.items = search rules in
-    let judges = judged arena image walking.holds.empty k meta c.follow_all.new.walk.labels.known.items c.follow_all.new.walk.named.items whole c.same_name-named_twice.result (subst (λ (xs : List Named). MatchOption c.same_name-named_twice.result (Differ name_of xs) (IsTwice name_of leaf_of xs)) view c.same_name-named_twice.ensures.answer) in
-    names_by arena image k meta c.same_name-named_twice.result c.follow_all.new.walk.noted c.note_leaf.new.self.noted judges c.note_leaf.ensures.noted quiet tree
+    let judges = judged arena image walking.holds.empty k meta c.follow_all.new.walk.labels.known.items c.follow_all.new.walk.named.items whole c.same_name-repeated.result (subst (λ (xs : List Named). MatchOption c.same_name-repeated.result (Differ name_of xs) (IsTwice name_of leaf_of xs)) view c.same_name-repeated.ensures.answer) in
+    let file : c.in-Some.records.dir ≡ false = subst (λ (x : Entry). x.dir ≡ false) same w.file in
+    let noted : NotesLeaf 5 c.same_name-repeated.result c.follow_all.new.walk.noted c.note_leaf.new.self.noted = subst (λ (o : Option ℕ). NotesLeaf 5 o c.follow_all.new.walk.noted c.note_leaf.new.self.noted) (of_file c.in-Some.records.dir file c.same_name-repeated.result c.of_records-named_twice.result c.of_records-named_twice.ensures) c.note_leaf.ensures.noted in
+    names_by arena image k meta c.same_name-repeated.result c.follow_all.new.walk.noted c.note_leaf.new.self.noted judges noted quiet tree
 
 pub returns-in-Ok-clause-names : goal.returns-in-Ok-clause-names
 returns-in-Ok-clause-names g c arena device image s k meta shows walking w no_steps no_names quiet tree =
@@ -130,8 +139,10 @@ returns-in-Ok-clause-names g c arena device image s k meta shows walking w no_st
     let end : IsListing arena image k meta c.follow_all.new.walk.labels.known.items c.follow_all.new.walk.steps.items c.follow_all.new.walk.named.items = c.in_ok-follow_all.ensures.lists arena device image s k meta (a ∷ []) shows next start in
     let whole : IsListing arena image k meta c.follow_all.new.walk.labels.known.items [] c.follow_all.new.walk.named.items = subst (λ (xs : List Step). IsListing arena image k meta c.follow_all.new.walk.labels.known.items xs c.follow_all.new.walk.named.items) c.in_ok-follow_all.ensures.done end in
     let view : c.deref_mut.result.now ≡ c.follow_all.new.walk.named.items = search rules in
-    let judges = judged arena image walking.holds.empty k meta c.follow_all.new.walk.labels.known.items c.follow_all.new.walk.named.items whole c.same_name-named_twice.result (subst (λ (xs : List Named). MatchOption c.same_name-named_twice.result (Differ name_of xs) (IsTwice name_of leaf_of xs)) view c.same_name-named_twice.ensures.answer) in
-    names_by arena image k meta c.same_name-named_twice.result c.follow_all.new.walk.noted c.note_leaf.new.self.noted judges c.note_leaf.ensures.noted (omega (arith, quiet, c.note_leaf-2.ensures.level)) tree
+    let judges = judged arena image walking.holds.empty k meta c.follow_all.new.walk.labels.known.items c.follow_all.new.walk.named.items whole c.same_name-repeated.result (subst (λ (xs : List Named). MatchOption c.same_name-repeated.result (Differ name_of xs) (IsTwice name_of leaf_of xs)) view c.same_name-repeated.ensures.answer) in
+    let file : c.in-Some.records.dir ≡ false = subst (λ (x : Entry). x.dir ≡ false) same w.file in
+    let noted : NotesLeaf 5 c.same_name-repeated.result c.follow_all.new.walk.noted c.note_leaf.new.self.noted = subst (λ (o : Option ℕ). NotesLeaf 5 o c.follow_all.new.walk.noted c.note_leaf.new.self.noted) (of_file c.in-Some.records.dir file c.same_name-repeated.result c.of_records-named_twice.result c.of_records-named_twice.ensures) c.note_leaf.ensures.noted in
+    names_by arena image k meta c.same_name-repeated.result c.follow_all.new.walk.noted c.note_leaf.new.self.noted judges noted (omega (arith, quiet, c.note_leaf-2.ensures.level)) tree
 
 pub returns-then-not-folder-clause-dirs : goal.returns-then-not-folder-clause-dirs
 returns-then-not-folder-clause-dirs g c arena device image s k others shows walking j =
@@ -224,10 +235,10 @@ returns-then-not-folder-clause-listed g c arena device image s k meta shows walk
     let end : IsListing arena image k meta c.follow_all.new.walk.labels.known.items c.follow_all.new.walk.steps.items c.follow_all.new.walk.named.items = c.in_ok-follow_all.ensures.lists arena device image s k meta (a ∷ []) shows next start in
     let whole : IsListing arena image k meta c.follow_all.new.walk.labels.known.items [] c.follow_all.new.walk.named.items = subst (λ (xs : List Step). IsListing arena image k meta c.follow_all.new.walk.labels.known.items xs c.follow_all.new.walk.named.items) c.in_ok-follow_all.ensures.done end in
     let items0 = c.follow_all.new.walk.named.items in
-    let new1 = c.same_name-named_twice.new.named in
+    let new1 = c.same_name-repeated.new.named in
     let new2 = c.same_pair-twice.new.named in
     let view1 : c.deref_mut.result.now ≡ items0 = search rules in
-    let p : IsPermutation items0 new1 = subst (λ (xs : List Named). IsPermutation xs new1) view1 c.same_name-named_twice.ensures.permutation in
+    let p : IsPermutation items0 new1 = subst (λ (xs : List Named). IsPermutation xs new1) view1 c.same_name-repeated.ensures.permutation in
     let len1 : c.follow_all.new.walk.named.len ≡ length items0 = search rules in
     let after1 : c.note_leaf.new.self.named.items ≡ new1 = c.note_leaf.ensures.named ∙ written items0 new1 c.follow_all.new.walk.named.len len1 (moved items0 new1 p).long in
     let view2 : c.deref_mut-2.result.now ≡ c.note_leaf.new.self.named.items = search rules in
@@ -257,10 +268,10 @@ returns-in-Ok-clause-listed g c arena device image s k meta shows walking w no_s
     let end : IsListing arena image k meta c.follow_all.new.walk.labels.known.items c.follow_all.new.walk.steps.items c.follow_all.new.walk.named.items = c.in_ok-follow_all.ensures.lists arena device image s k meta (a ∷ []) shows next start in
     let whole : IsListing arena image k meta c.follow_all.new.walk.labels.known.items [] c.follow_all.new.walk.named.items = subst (λ (xs : List Step). IsListing arena image k meta c.follow_all.new.walk.labels.known.items xs c.follow_all.new.walk.named.items) c.in_ok-follow_all.ensures.done end in
     let items0 = c.follow_all.new.walk.named.items in
-    let new1 = c.same_name-named_twice.new.named in
+    let new1 = c.same_name-repeated.new.named in
     let new2 = c.same_pair-twice.new.named in
     let view1 : c.deref_mut.result.now ≡ items0 = search rules in
-    let p : IsPermutation items0 new1 = subst (λ (xs : List Named). IsPermutation xs new1) view1 c.same_name-named_twice.ensures.permutation in
+    let p : IsPermutation items0 new1 = subst (λ (xs : List Named). IsPermutation xs new1) view1 c.same_name-repeated.ensures.permutation in
     let len1 : c.follow_all.new.walk.named.len ≡ length items0 = search rules in
     let after1 : c.note_leaf.new.self.named.items ≡ new1 = c.note_leaf.ensures.named ∙ written items0 new1 c.follow_all.new.walk.named.len len1 (moved items0 new1 p).long in
     let view2 : c.deref_mut-2.result.now ≡ c.note_leaf.new.self.named.items = search rules in
@@ -303,3 +314,68 @@ returns-in-Ok-clause-grows g c arena device image s k shows w' =
 
 pub returns-in_default-clause-counted : goal.returns-in_default-clause-counted
 returns-in_default-clause-counted g c no_names lead = sym (append-nil c.args.numbers.now.items) ∙ ap (λ (xs : List Named). c.args.numbers.now.items ++ map number_in xs) (sym no_names)
+
+pub returns-in_default-clause-grounds : goal.returns-in_default-clause-grounds
+returns-in_default-clause-grounds g c arena device image s k shows walking no_steps no_names has grounds = grounds
+
+pub returns-then-not-folder-clause-grounds : goal.returns-then-not-folder-clause-grounds
+returns-then-not-folder-clause-grounds g c arena device image s k shows walking no_steps no_names has grounds =
+    let f = c.args.folder.now in
+    let e : Entry = c.in-Some.records in
+    let a : Step = top_step f.entries Bytes f.holder in
+    let b : Step = top_step c.in-Some.records Records f.holder in
+    let both : tops f ≡ a ∷ b ∷ [] = ap (λ (o : Option Entry). top_step f.entries Bytes f.holder ∷ records_top f.holder o) c.in-Some.is in
+    let first : Walking arena device image s k (b ∷ a ∷ []) c.args.walk.now = turned arena device image s k c.args.walk.now c.args.walk.now (record { blocks = refl; epoch = refl; active = refl; labels = refl; noted = refl }) (tops f) a b both refl refl walking in
+    let items : c.push.new.self.items ≡ c.args.walk.now.steps.items ++ b ∷ [] =
+    is_pushed c.push.result c.args.walk.now.steps.items (c.args.walk.now.steps.items ++ c.top-top.result ∷ []) c.push.new.self.items (sym c.is_err.ensures.value ∙ c.if-is_err.false) c.push.ensures.items
+    ∙ ap (λ (x : Step). c.args.walk.now.steps.items ++ x ∷ []) c.top-top.ensures in
+    let next : Walking arena device image s k (a ∷ []) (record c.args.walk.now { steps = c.push.new.self }) = pushed arena device image s k c.args.walk.now (record c.args.walk.now { steps = c.push.new.self }) (record { blocks = refl; epoch = refl; active = refl; labels = refl; noted = refl }) (a ∷ []) c.in-Some.records f.holder Records Records items refl first in
+    let own : IsRecordsOf arena image k e = has.each e c.in-Some.is in
+    let meta : Link = record { kind = Data e.depth; slot = Head e } in
+    let start' : HasGrounds arena image k c.args.walk.now.noted c.push.new.self.items c.args.walk.now.folders.items = grounds_push arena image k c.args.walk.now.noted c.args.walk.now.steps.items c.push.new.self.items b c.args.walk.now.folders.items items (placed_top arena image k e own f.holder) grounds in
+    let end' : HasGrounds arena image k c.follow_all.new.walk.noted c.follow_all.new.walk.steps.items c.follow_all.new.walk.folders.items = c.in_ok-follow_all.ensures.grounds arena device image s k (a ∷ []) shows next start' in
+    let judges : e.dir ≡ false → JudgesNames arena image k meta c.same_name-repeated.result = λ file.
+    let w : IsMetaOf f meta = is_meta arena image k e own f c.in-Some.is file in
+    let top : c.push.new.self.items ≡ top_step e Records f.holder ∷ [] = items ∙ ap (λ (xs : List Step). xs ++ b ∷ []) no_steps in
+    let start : IsListing arena image k meta c.args.walk.now.labels.known.items c.push.new.self.items c.args.walk.now.named.items = listing_at arena device image s k meta c.args.walk.now.labels.known.items c.args.walk.now.labels.known.items (top_step e Records f.holder ∷ []) c.push.new.self.items [] c.args.walk.now.named.items refl top no_names (begins arena image k f meta w c.args.walk.now.labels.known.items) in
+    let end : IsListing arena image k meta c.follow_all.new.walk.labels.known.items c.follow_all.new.walk.steps.items c.follow_all.new.walk.named.items = c.in_ok-follow_all.ensures.lists arena device image s k meta (a ∷ []) shows next start in
+    let whole : IsListing arena image k meta c.follow_all.new.walk.labels.known.items [] c.follow_all.new.walk.named.items = subst (λ (xs : List Step). IsListing arena image k meta c.follow_all.new.walk.labels.known.items xs c.follow_all.new.walk.named.items) c.in_ok-follow_all.ensures.done end in
+    let view : c.deref_mut.result.now ≡ c.follow_all.new.walk.named.items = search rules in
+    judged arena image walking.holds.empty k meta c.follow_all.new.walk.labels.known.items c.follow_all.new.walk.named.items whole c.same_name-repeated.result (subst (λ (xs : List Named). MatchOption c.same_name-repeated.result (Differ name_of xs) (IsTwice name_of leaf_of xs)) view c.same_name-repeated.ensures.answer) in
+    let named : HasGrounds arena image k c.note_leaf.new.self.noted c.note_leaf.new.self.steps.items c.note_leaf.new.self.folders.items =
+    grounds_like arena image k c.follow_all.new.walk.noted c.note_leaf.new.self.noted c.follow_all.new.walk.steps.items c.note_leaf.new.self.steps.items c.follow_all.new.walk.folders.items c.note_leaf.new.self.folders.items
+    (λ n. formats_named arena image k e own walking.holds.empty c.same_name-repeated.result c.of_records-named_twice.result c.follow_all.new.walk.noted c.note_leaf.new.self.noted c.of_records-named_twice.ensures judges c.note_leaf.ensures.noted n)
+    c.note_leaf.ensures.steps c.note_leaf.ensures.folders end' in
+    named
+
+pub returns-in-Ok-clause-grounds : goal.returns-in-Ok-clause-grounds
+returns-in-Ok-clause-grounds g c arena device image s k shows walking no_steps no_names has grounds =
+    let f = c.args.folder.now in
+    let e : Entry = c.in-Some.records in
+    let a : Step = top_step f.entries Bytes f.holder in
+    let b : Step = top_step c.in-Some.records Records f.holder in
+    let both : tops f ≡ a ∷ b ∷ [] = ap (λ (o : Option Entry). top_step f.entries Bytes f.holder ∷ records_top f.holder o) c.in-Some.is in
+    let first : Walking arena device image s k (b ∷ a ∷ []) c.args.walk.now = turned arena device image s k c.args.walk.now c.args.walk.now (record { blocks = refl; epoch = refl; active = refl; labels = refl; noted = refl }) (tops f) a b both refl refl walking in
+    let items : c.push.new.self.items ≡ c.args.walk.now.steps.items ++ b ∷ [] =
+    is_pushed c.push.result c.args.walk.now.steps.items (c.args.walk.now.steps.items ++ c.top-top.result ∷ []) c.push.new.self.items (sym c.is_err.ensures.value ∙ c.if-is_err.false) c.push.ensures.items
+    ∙ ap (λ (x : Step). c.args.walk.now.steps.items ++ x ∷ []) c.top-top.ensures in
+    let next : Walking arena device image s k (a ∷ []) (record c.args.walk.now { steps = c.push.new.self }) = pushed arena device image s k c.args.walk.now (record c.args.walk.now { steps = c.push.new.self }) (record { blocks = refl; epoch = refl; active = refl; labels = refl; noted = refl }) (a ∷ []) c.in-Some.records f.holder Records Records items refl first in
+    let own : IsRecordsOf arena image k e = has.each e c.in-Some.is in
+    let meta : Link = record { kind = Data e.depth; slot = Head e } in
+    let start' : HasGrounds arena image k c.args.walk.now.noted c.push.new.self.items c.args.walk.now.folders.items = grounds_push arena image k c.args.walk.now.noted c.args.walk.now.steps.items c.push.new.self.items b c.args.walk.now.folders.items items (placed_top arena image k e own f.holder) grounds in
+    let end' : HasGrounds arena image k c.follow_all.new.walk.noted c.follow_all.new.walk.steps.items c.follow_all.new.walk.folders.items = c.in_ok-follow_all.ensures.grounds arena device image s k (a ∷ []) shows next start' in
+    let judges : e.dir ≡ false → JudgesNames arena image k meta c.same_name-repeated.result = λ file.
+    let w : IsMetaOf f meta = is_meta arena image k e own f c.in-Some.is file in
+    let top : c.push.new.self.items ≡ top_step e Records f.holder ∷ [] = items ∙ ap (λ (xs : List Step). xs ++ b ∷ []) no_steps in
+    let start : IsListing arena image k meta c.args.walk.now.labels.known.items c.push.new.self.items c.args.walk.now.named.items = listing_at arena device image s k meta c.args.walk.now.labels.known.items c.args.walk.now.labels.known.items (top_step e Records f.holder ∷ []) c.push.new.self.items [] c.args.walk.now.named.items refl top no_names (begins arena image k f meta w c.args.walk.now.labels.known.items) in
+    let end : IsListing arena image k meta c.follow_all.new.walk.labels.known.items c.follow_all.new.walk.steps.items c.follow_all.new.walk.named.items = c.in_ok-follow_all.ensures.lists arena device image s k meta (a ∷ []) shows next start in
+    let whole : IsListing arena image k meta c.follow_all.new.walk.labels.known.items [] c.follow_all.new.walk.named.items = subst (λ (xs : List Step). IsListing arena image k meta c.follow_all.new.walk.labels.known.items xs c.follow_all.new.walk.named.items) c.in_ok-follow_all.ensures.done end in
+    let view : c.deref_mut.result.now ≡ c.follow_all.new.walk.named.items = search rules in
+    judged arena image walking.holds.empty k meta c.follow_all.new.walk.labels.known.items c.follow_all.new.walk.named.items whole c.same_name-repeated.result (subst (λ (xs : List Named). MatchOption c.same_name-repeated.result (Differ name_of xs) (IsTwice name_of leaf_of xs)) view c.same_name-repeated.ensures.answer) in
+    let named : HasGrounds arena image k c.note_leaf.new.self.noted c.note_leaf.new.self.steps.items c.note_leaf.new.self.folders.items =
+    grounds_like arena image k c.follow_all.new.walk.noted c.note_leaf.new.self.noted c.follow_all.new.walk.steps.items c.note_leaf.new.self.steps.items c.follow_all.new.walk.folders.items c.note_leaf.new.self.folders.items
+    (λ n. formats_named arena image k e own walking.holds.empty c.same_name-repeated.result c.of_records-named_twice.result c.follow_all.new.walk.noted c.note_leaf.new.self.noted c.of_records-named_twice.ensures judges c.note_leaf.ensures.noted n)
+    c.note_leaf.ensures.steps c.note_leaf.ensures.folders end' in
+    grounds_like arena image k c.note_leaf.new.self.noted c.note_leaf-2.new.self.noted c.note_leaf.new.self.steps.items c.note_leaf-2.new.self.steps.items c.note_leaf.new.self.folders.items c.note_leaf-2.new.self.folders.items
+    (λ n. formats_kept arena image k c.note_leaf.new.self.noted c.note_leaf-2.new.self.noted (keeps_leaf c.note_leaf.new.self.noted c.note_leaf-2.new.self.noted 6 c.same_pair-twice.result (λ e. omega (arith, e)) c.note_leaf-2.ensures.noted) n)
+    c.note_leaf-2.ensures.steps c.note_leaf-2.ensures.folders named

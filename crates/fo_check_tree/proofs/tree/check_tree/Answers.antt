@@ -7,6 +7,10 @@ use Rattle.fo_image.specs.declared.record.RootBlock.{RootBlock}
 use Rattle.fo_check_tree.specs.declared.labels.Labels.{Labels}
 use Rattle.fo_check_tree.specs.Dirs.{AreJudged}
 use Rattle.fo_check_tree.specs.Lower.{JudgesRoot}
+use Rattle.fo_check_tree.specs.Answer.{NamesFormats}
+use Rattle.fo_check_tree.specs.Grounds.{HasGrounds}
+use Rattle.fo_check_tree.proofs.Grounding.{formats_kept}
+use Rattle.fo_check_tree.proofs.Granting.{grounds_open}
 use Rattle.fo_check_tree.specs.Walking.{IsUnbegun, Walking, tops}
 use Rattle.fo_check_tree.proofs.Adding.{on_ok_is}
 use Rattle.fo_check_tree.proofs.Directories.{walked}
@@ -81,6 +85,17 @@ loop-folder-init g c = record {
         nothing = (c.new.ensures.items, c.new-2.ensures.items, refl);
       } in
       on_ok_is c.start.result _ (sym c.is_err.ensures.value ∙ c.if-is_err.false) (c.start.ensures.depths arena device image k is holds u);
+  grounds = λ arena device image k len shows is holds.
+      let scan = c.in_ok-labels.ensures.table device len shows in
+      let start : Walk = record { blocks = c.args.setting.blocks; epoch = c.args.setting.s.high; active = true; labels = c.in_ok-labels.labels; noted = None; steps = c.new.result; folders = c.new-2.result; named = c.new-3.result } in
+      let u : IsUnbegun device c.args.setting.s start = record {
+        size = sym len;
+        tree = (refl, refl);
+        table = read_table device c.in_ok-labels.labels.known.items c.args.setting.blocks len scan c.in_ok-labels.labels.ascending;
+        unreached = read_unreached device c.in_ok-labels.labels.known.items c.args.setting.blocks len scan c.in_ok-labels.labels.ascending;
+        nothing = (c.new.ensures.items, c.new-2.ensures.items, refl);
+      } in
+      on_ok_is c.start.result _ (sym c.is_err.ensures.value ∙ c.if-is_err.false) (c.start.ensures.grounds arena device image k is holds u);
   settled = λ arena device image k len shows is holds.
       let scan = c.in_ok-labels.ensures.table device len shows in
       let start : Walk = record { blocks = c.args.setting.blocks; epoch = c.args.setting.s.high; active = true; labels = c.in_ok-labels.labels; noted = None; steps = c.new.result; folders = c.new-2.result; named = c.new-3.result } in
@@ -151,6 +166,15 @@ loop-folder-preserved g c = record {
       (c.in_ok-walk_folder.ensures.grows arena device image s k shows' open') c.in_ok-walk_folder.ensures.level
       (λ deep w source quiet tree j h. c.in_ok-walk_folder.ensures.spread arena device image s k deep w shows' open' before.1 source quiet tree j h)
       (c.loop-folder.invariant.depths arena device image k len shows is holds);
+  grounds = λ arena device image k len shows is holds.
+      let s = c.args.setting.s in
+      let f = c.in-Some.folder in
+      let before = c.loop-folder.invariant.walks arena device image k len shows is holds in
+      let old : Walk = record c.loop-folder.walk { folders = c.pop.new.self } in
+      let open' : Walking arena device image s k (tops f) old = opened arena device image s k c.loop-folder.walk old (record { blocks = refl; epoch = refl; active = refl; labels = refl; noted = refl }) f c.in-Some.ensures.items refl before.0 in
+      let shows' : Shows (g.D.Disk.state c.loop-folder.main).holds device = subst (λ (x : DiskState). Shows x.holds device) (sym c.loop-folder.invariant.kept) shows in
+      let left = grounds_open arena image k c.loop-folder.walk.noted c.loop-folder.walk.steps.items c.loop-folder.walk.folders.items c.pop.new.self.items f c.in-Some.ensures.items (c.loop-folder.invariant.grounds arena device image k len shows is holds) in
+      c.in_ok-walk_folder.ensures.grounds arena device image s k shows' open' before.1 left.1 left.0;
   judged = judges_later c.in_ok-walk_folder.ensures.level c.loop-folder.invariant.judged;
   same = search rules;
   kept = search rules;
@@ -175,7 +199,9 @@ returns-clause-walked g c arena device image k len shows is holds =
     let old_none : c.loop-folder.walk.folders.items ≡ [] = c.in_default.ensures.items ∙ append-nil c.pop.new.self.items ∙ none in
     let empty : Walking arena device image s k [] end = emptied arena device image s k c.loop-folder.walk end (record { blocks = refl; epoch = refl; active = refl; labels = refl; noted = refl }) [] refl (sym (append-nil c.pop.new.self.items) ∙ sym c.in_default.ensures.items) before.0 in
     let n = c.check_numbers.ensures in
-    walked arena device image s k c.check_numbers.new.walk _ (n.steps ∙ before.1) (n.folders ∙ none) refl c.used.ensures c.leaked.ensures
+    let grounds : HasGrounds arena image k c.loop-folder.walk.noted c.loop-folder.walk.steps.items c.loop-folder.walk.folders.items = c.loop-folder.invariant.grounds arena device image k len shows is holds in
+    let five : NamesFormats arena image k c.check_numbers.new.walk.noted = formats_kept arena image k c.loop-folder.walk.noted c.check_numbers.new.walk.noted n.formats grounds.formats in
+    walked arena device image s k c.check_numbers.new.walk _ five (n.steps ∙ before.1) (n.folders ∙ none) refl c.used.ensures c.leaked.ensures
     (judges_later n.lowers.low (subst (λ (r : RootBlock). JudgesRoot r c.loop-folder.walk.noted) (sym is) c.loop-folder.invariant.judged))
     (judged_like arena device image s k [] end c.check_numbers.new.walk (ap (λ (l : Labels). l.known.items) n.labels) n.folders n.lowers.low
     (judged_like arena device image s k [] c.loop-folder.walk end refl (none ∙ sym old_none) (omega arith) (c.loop-folder.invariant.dirs arena device image k len shows is holds)))

@@ -6,6 +6,7 @@ use Rattle.fo_sound.specs.Device.{Shows}
 use Rattle.fo_check_tree.specs.Answer.{HoldsAny}
 use Rattle.fo_check_tree.specs.Formats.{AreFormed}
 use Rattle.fo_check_tree.specs.Dirs.{AreJudged}
+use Rattle.fo_check_tree.specs.Grounds.{HasGrounds}
 use Rattle.fo_check_tree.specs.Depths.{AreAbove}
 use Rattle.fo_check_tree.specs.Pairing.{AreSettled}
 use Rattle.fo_check_tree.specs.Walking.{Walking}
@@ -25,6 +26,8 @@ invariant-loop-folder g l = record {
       → AreSettled arena image k l.walk.noted l.walk.folders.items l.numbers.items;
   depths : (arena : Arena) (device : List Block) (image : Image) (k : Kept) → length device ≡ l.fn.setting.blocks → Shows (g.D.Disk.state l.fn.main).holds device → k.root ≡ l.root → HoldsAny arena device image l.fn.setting.s k
       → AreAbove arena image k l.walk.noted l.walk.folders.items;
+  grounds : (arena : Arena) (device : List Block) (image : Image) (k : Kept) → length device ≡ l.fn.setting.blocks → Shows (g.D.Disk.state l.fn.main).holds device → k.root ≡ l.root → HoldsAny arena device image l.fn.setting.s k
+      → HasGrounds arena image k l.walk.noted l.walk.steps.items l.walk.folders.items;
   judged : JudgesRoot l.root l.walk.noted;
   same : g.D.Disk.size l.main ≡ g.D.Disk.size l.fn.main;
   kept : g.D.Disk.state l.main ≡ g.D.Disk.state l.fn.main;

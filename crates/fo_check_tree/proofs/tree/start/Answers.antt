@@ -1,8 +1,11 @@
-use Rattle.std.proofs.Common.{List, [], ◌∷◌, ◌++◌, Some, true, sym, ap, ◌∙◌, subst, arith}
+use Rattle.std.proofs.Common.{◌≡◌, ◌<◌, inl, inr, refl, List, [], ◌∷◌, ◌++◌, Some, true, sym, ap, ◌∙◌, subst, arith}
 use Rattle.fo_image.specs.declared.record.RootBlock.{RootBlock}
 use Rattle.fo_image.specs.declared.types.Label.{Label}
 use Rattle.fo_check_tree.specs.declared.walk.Folder.{Folder}
 use Rattle.fo_check_tree.specs.Lower.{JudgesRoot}
+use Rattle.fo_sound.specs.Sound.{root_label}
+use Rattle.fo_check_tree.proofs.Grounding.{formats_kept}
+use Rattle.fo_check_tree.proofs.Granting.{formats_root, formats_none, grounds_begin}
 use Rattle.fo_check_tree.proofs.Noting.{lowers_then, lowers_at}
 use Rattle.fo_check_tree.proofs.Starting.{IsEntryOf, begun, directories, formats, settles, depths_begin}
 use Rattle.fo_check_tree.proofs.tree.start.Goals as goal
@@ -105,3 +108,22 @@ returns-clause-depths c arena device image k is holds u =
     ∙ ap (λ (fs : List Folder). fs ++ record { entries = e; records = Some r; holder = record { block = s.active; label = c.root_label.result }; depth = 0; named = true } ∷ []) (c.note_entries.ensures.folders ∙ c.shallow-records.ensures.folders ∙ c.shallow-entries.ensures.folders)
     ∙ ap (λ (l : Label). old.folders.items ++ record { entries = e; records = Some r; holder = record { block = s.active; label = l }; depth = 0; named = true } ∷ []) c.root_label.ensures)
     (subst (λ (x : RootBlock). JudgesRoot x c.note_entries.new.walk.noted) (sym is) (returns-clause-judged c))
+
+pub returns-clause-grounds : goal.returns-clause-grounds
+returns-clause-grounds c arena device image k is holds u =
+    let s = c.args.s.now in
+    let old = c.args.walk.now in
+    let e = c.shallow-entries.result in
+    let r = c.shallow-records.result in
+    let f : Folder = record { entries = e; records = Some r; holder = record { block = s.active; label = root_label s }; depth = 0; named = true } in
+    let wr : IsEntryOf k.root.meta r = subst (λ (x : RootBlock). IsEntryOf x.meta r) (sym is) (record { shallow = c.shallow-records.ensures.entry; deep = c.shallow-records.ensures.none }) in
+    let first = formats_root arena device image s k holds c.args.root.now.entries.depth old.noted c.shallow-entries.new.walk.noted (λ deep. inl (subst (λ (x : RootBlock). 4 < x.entries.depth) (sym is) deep)) c.shallow-entries.ensures.notes c.shallow-entries.ensures.quiet
+    (formats_none arena device image s k holds old.noted u.nothing.2) in
+    let second = formats_root arena device image s k holds c.args.root.now.meta.depth c.shallow-entries.new.walk.noted c.shallow-records.new.walk.noted (λ deep. inr (subst (λ (x : RootBlock). 4 < x.meta.depth) (sym is) deep)) c.shallow-records.ensures.notes c.shallow-records.ensures.quiet first in
+    let folders : c.push.new.self.items ≡ f ∷ [] = c.in_ok-push.ensures.items
+    ∙ ap (λ (fs : List Folder). fs ++ record { entries = e; records = Some r; holder = record { block = s.active; label = c.root_label.result }; depth = 0; named = true } ∷ []) (c.note_entries.ensures.folders ∙ c.shallow-records.ensures.folders ∙ c.shallow-entries.ensures.folders)
+    ∙ ap (λ (l : Label). old.folders.items ++ record { entries = e; records = Some r; holder = record { block = s.active; label = l }; depth = 0; named = true } ∷ []) c.root_label.ensures
+    ∙ ap (λ (fs : List Folder). fs ++ f ∷ []) u.nothing.1 in
+    grounds_begin arena device image s k holds c.note_entries.new.walk.noted c.note_entries.new.walk.steps.items c.push.new.self.items f r
+    (formats_kept arena image k c.shallow-records.new.walk.noted c.note_entries.new.walk.noted c.note_entries.ensures.formats second)
+    (c.note_entries.ensures.steps ∙ c.shallow-records.ensures.steps ∙ c.shallow-entries.ensures.steps ∙ u.nothing.0) folders refl wr
