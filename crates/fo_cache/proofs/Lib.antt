@@ -4,3 +4,5 @@ pub mod Labelling
 pub mod Lessening
 pub mod Opening
 pub mod Outcomes
+pub mod Resting
+pub mod Settling

@@ -1,3 +1,4 @@
 pub mod Fits
-pub mod Written
+pub mod Settling
 pub mod Work
+pub mod Written

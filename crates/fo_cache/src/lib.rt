@@ -7,7 +7,8 @@
 //! Proved: what is got, given out and filled is said as `Blocks` says it, but for images; a block is written with the bytes or the
 //! labels that memory has, and no other changes; a write that fails leaves it dirty; a sync that answers Ok settles each block whose
 //! last write answered Ok, and one that fails changes nothing. Turns are taken until none is left, whatever memory has, and this
-//! ends. Where all is settled, the device has one version of each block of the tree and of the label table: memory's.
+//! ends; memory keeps its bytes and pins, and blocks that had no turn are not written. Where all is settled, the device has one
+//! version of each block of the tree and of the label table: memory's.
 //!
 //! Not here yet: puts into slots, removals, block 1, closing, and so `Blocks` itself. Not proved here: what is said of crash images,
 //! places and moments.

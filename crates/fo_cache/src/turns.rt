@@ -76,7 +76,8 @@ impl<D: Disk> Cache<D> {
         ensures cause { HasCause (D.faults self.old.main) (D.faults self.new.main) result }
     {
         let wrote = self.main.write(at, self.mind.bytes_of(at));
-        self.mind.wrote(at, wrote.is_ok());
+        let ok = wrote.is_ok();
+        self.mind.wrote(at, ok);
         wrote
     }
 

@@ -18,14 +18,14 @@ invariant_of-self-clause-fits g c =
     let self = c.args.self.now in
     let r = c.write-wrote.result in
     fits_answered (parts self.mind [] 0) (parts c.wrote.new.self [] 0) self.mind.placed self.mind.turning c.requires.turn (subst (λ n. n ≤ c.args.at) self.mind.placed.is_first c.requires.data) c.bytes_of.ensures.value r c.write-wrote.ensures.state
-    (if_ok r c.is_ok.ensures.value (λ e. c.wrote.ensures.landed e [] 0)) (if_err r c.is_ok.ensures.value (λ e. c.wrote.ensures.missed e [] 0)) self.fits
+    (if_ok r c.is_ok-ok.ensures.value (λ e. c.wrote.ensures.landed e [] 0)) (if_err r c.is_ok-ok.ensures.value (λ e. c.wrote.ensures.missed e [] 0)) self.fits
 
 pub invariant_of-self-clause-sized : goal.invariant_of-self-clause-sized
 invariant_of-self-clause-sized g c =
     let self = c.args.self.now in
     let r = c.write-wrote.result in
     subst (λ n. count_of (parts c.wrote.new.self [] 0).region ≤ n) (sym c.write-wrote.ensures.size)
-    (subst (λ (x : Region). count_of x ≤ g.D.Disk.size self.main) (sym (region_answered (parts self.mind [] 0) (parts c.wrote.new.self [] 0) c.args.at r (if_ok r c.is_ok.ensures.value (λ e. c.wrote.ensures.landed e [] 0)) (if_err r c.is_ok.ensures.value (λ e. c.wrote.ensures.missed e [] 0)))) self.sized)
+    (subst (λ (x : Region). count_of x ≤ g.D.Disk.size self.main) (sym (region_answered (parts self.mind [] 0) (parts c.wrote.new.self [] 0) c.args.at r (if_ok r c.is_ok-ok.ensures.value (λ e. c.wrote.ensures.landed e [] 0)) (if_err r c.is_ok-ok.ensures.value (λ e. c.wrote.ensures.missed e [] 0)))) self.sized)
 
 pub returns-clause-wrote : goal.returns-clause-wrote
 returns-clause-wrote g c =
@@ -35,8 +35,8 @@ returns-clause-wrote g c =
       held = λ le. c.bytes_of.ensures.value;
       labels = λ lt. let le = c.requires.data in absurd (omega (arith, lt, le));
       device = c.write-wrote.ensures.state;
-      landed = if_ok r c.is_ok.ensures.value (λ e. c.wrote.ensures.landed e [] 0);
-      missed = if_err r c.is_ok.ensures.value (λ e. c.wrote.ensures.missed e [] 0);
+      landed = if_ok r c.is_ok-ok.ensures.value (λ e. c.wrote.ensures.landed e [] 0);
+      missed = if_err r c.is_ok-ok.ensures.value (λ e. c.wrote.ensures.missed e [] 0);
     }
 
 pub returns-clause-last : goal.returns-clause-last
@@ -51,7 +51,7 @@ invariant_of-self-clause-spelled g c =
     let p = parts self.mind [] 0 in
     let q = parts c.wrote.new.self [] 0 in
     let r = c.write-wrote.result in
-    let landed = if_ok r c.is_ok.ensures.value (λ e. c.wrote.ensures.landed e [] 0) in
-    let missed = if_err r c.is_ok.ensures.value (λ e. c.wrote.ensures.missed e [] 0) in
+    let landed = if_ok r c.is_ok-ok.ensures.value (λ e. c.wrote.ensures.landed e [] 0) in
+    let missed = if_err r c.is_ok-ok.ensures.value (λ e. c.wrote.ensures.missed e [] 0) in
     let le = c.requires.data in
     labels_answered p q c.args.at (within_count c.args.at self.mind.placed c.requires.turn).1 (region_answered p q c.args.at r landed missed) r c.write-wrote.ensures.state landed missed (λ lt. absurd (omega (arith, lt, le))) self.spelled

@@ -1,7 +1,39 @@
-use Rattle.std.proofs.Common.{[]}
+use Rattle.std.proofs.Common.{[], sym, ap, subst}
+use Rattle.fo_disk.specs.Disk.{DiskState}
 use Rattle.fo_mind.specs.MindParts.{parts}
-use Rattle.fo_cache.proofs.Lessening.{next_kept}
+use Rattle.fo_cache.specs.Settling.{Settles}
+use Rattle.fo_cache.proofs.Lessening.{next_kept, written_less}
+use Rattle.fo_cache.proofs.Settling.{room_settles, then, wrote_settles}
 use Rattle.fo_cache.proofs.cache.Cache.write_next.Goals as goal
 
 pub write_turn-requires-clause-turn : goal.write_turn-requires-clause-turn
 write_turn-requires-clause-turn g c = next_kept (parts c.args.self.now.mind [] 0) (parts c.keep_turn_of.new.self.mind [] 0) c.args.at c.keep_turn_of.ensures.kept c.requires.next
+
+pub returns-in_default-write_turn-clause-settles : goal.returns-in_default-write_turn-clause-settles
+returns-in_default-write_turn-clause-settles g c =
+    let self = c.args.self.now in
+    let mid = c.keep_turn_of.new.self in
+    let new = c.write_turn.new.self in
+    let kept = c.keep_turn_of.ensures.kept in
+    let p = parts self.mind [] 0 in
+    let m = parts mid.mind [] 0 in
+    let s = g.D.Disk.state self.main in
+    let room = subst (λ (t : DiskState). Settles s t p m) (ap g.D.Disk.state (sym c.keep_turn_of.ensures.device)) (room_settles s p m kept) in
+    then s (g.D.Disk.state mid.main) (g.D.Disk.state new.main) p m (parts new.mind [] 0) room
+    (wrote_settles (g.D.Disk.state mid.main) (g.D.Disk.state new.main) m (parts new.mind [] 0) c.args.at mid.mind.placed mid.mind.turning (next_kept p m c.args.at kept c.requires.next) c.write_turn.result c.write_turn.ensures.wrote)
+
+pub returns-clause-settles : goal.returns-clause-settles
+returns-clause-settles g c =
+    let self = c.args.self.now in
+    let mid = c.keep_turn_of.new.self in
+    let new = c.write_turn.new.self in
+    let kept = c.keep_turn_of.ensures.kept in
+    let p = parts self.mind [] 0 in
+    let m = parts mid.mind [] 0 in
+    let s = g.D.Disk.state self.main in
+    let room = subst (λ (t : DiskState). Settles s t p m) (ap g.D.Disk.state (sym c.keep_turn_of.ensures.device)) (room_settles s p m kept) in
+    then s (g.D.Disk.state mid.main) (g.D.Disk.state new.main) p m (parts new.mind [] 0) room
+    (wrote_settles (g.D.Disk.state mid.main) (g.D.Disk.state new.main) m (parts new.mind [] 0) c.args.at mid.mind.placed mid.mind.turning (next_kept p m c.args.at kept c.requires.next) c.write_turn.result c.write_turn.ensures.wrote)
+
+pub returns-clause-less : goal.returns-clause-less
+returns-clause-less g c = written_less (parts c.args.self.now.mind [] 0) (parts c.keep_turn_of.new.self.mind [] 0) (parts c.write_turn.new.self.mind [] 0) c.args.at c.keep_turn_of.ensures.kept c.requires.next c.in-Ok-write_turn.ensures.wrote.landed

@@ -1,10 +1,12 @@
 use Rattle.std.proofs.Common.{◌≡◌, ◌≤◌, []}
 use Rattle.fo_mind.specs.MindParts.{parts}
+use Rattle.fo_cache.specs.Settling.{Settles}
 use Rattle.fo_cache.specs.Work.{work}
-use Rattle.fo_cache.proofs.cache.Cache.settle_turns.Given as goal
+use Rattle.fo_cache.proofs.cache.Cache.take_turns.Given as goal
 
 abbrev pub invariant-loop : goal.invariant-loop
 invariant-loop g l = record {
+  settles : Settles (g.D.Disk.state l.fn.self.main) (g.D.Disk.state l.self.main) (parts l.fn.self.mind [] 0) (parts l.self.mind [] 0);
   size : g.D.Disk.size l.self.main ≡ g.D.Disk.size l.fn.self.main;
   later : g.D.Disk.faults l.fn.self.main ≤ g.D.Disk.faults l.self.main;
 }
