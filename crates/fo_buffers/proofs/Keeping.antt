@@ -7,7 +7,7 @@ use Rattle.std.specs.Ordering.{nat_cmp}
 use Rattle.std.specs.Map.{lookup, remove_entry}
 use Rattle.std.specs.HashMap.{HashMap, get, Updates, IsUnchanged}
 use Rattle.lru.specs.LruCache.{LruCache, lru_cache, put_entries}
-use Rattle.std.specs.Result.{OnOk, OnErr}
+use Rattle.std.specs.Result.{OnErr}
 use Rattle.std.specs.FinMap.{FinMap, from_entries, insert, remove}
 use Rattle.std.specs.FinMap.{get as get_in}
 use Rattle.fo_buffers.specs.declared.block.Buffer.{Buffer}
@@ -158,11 +158,6 @@ never e = absurd (clash e)
 pub on_err : {T E P : Type 0} (r : Result T E) → P → OnErr r P
 on_err (Ok x) p = tt
 on_err (Err e) p = p
-
--- a clean block is listed, or there was no memory for that
-pub listed_or_not : {T E X : Type 0} (r : Result T E) (new old listed : X) → OnOk r (new ≡ listed) → OnErr r (new ≡ old) → (new ≡ listed) ⊎ (new ≡ old)
-listed_or_not (Ok x) new old listed a b = inl a
-listed_or_not (Err e) new old listed a b = inr b
 
 -- what a release leaves
 pub view_released : {S : Type 0} (m n : HashMap ℕ Buffer S) (at : ℕ) (block : List ℕ) (clean new : LruCache ℕ (List ℕ)) (room : ℕ) → Updates nat_eq m n at None → clean.cap ≡ 1024 → (new ≡ lru_cache (put_entries nat_eq clean at block) clean.cap) ⊎ (new ≡ clean)

@@ -3,7 +3,7 @@ ghost use Rattle.std.specs.Prelude.{◌≡◌, ◌⊎◌, ◌+◌, ◌<◌, ◌�
 ghost use Rattle.std.specs.Bool.{OnTrue, OnFalse};
 ghost use Rattle.std.specs.Option.{option_copied, option_map, option_map_or};
 ghost use Rattle.std.specs.List.{Contains};
-ghost use Rattle.std.specs.Map.{lookup};
+ghost use Rattle.std.specs.Map.{lookup, remove_entry};
 ghost use Rattle.std.specs.HashMap.{get, spare, Updates, IsUnchanged};
 ghost use Rattle.std.specs.FinMap as map;
 ghost use Rattle.lru.specs.LruCache.{lru_cache, put_entries};
@@ -16,6 +16,7 @@ ghost use Rattle.fo_buffers.specs.Tables.{Changes, Listed};
 use crate::block::{Block, Buffer};
 use crate::buffers::Buffers;
 use fo_disk::{Disk, Failed};
+use lru::LruCache;
 use std::alloc::Global;
 use std::collections::HashMap;
 
@@ -184,19 +185,20 @@ impl Buffers {
         next_pinned(&mut self.held, &mut self.pins)
     }
 
-    /// A held block that is neither dirty nor pinned becomes the first of the clean ones. It is forgotten where there is no memory for
-    /// that.
+    /// A held block that is neither dirty nor pinned becomes the first of the clean ones, and is among them once. It is forgotten where
+    /// there is no memory for that.
     pub fn release(&mut self, at: u32)
         requires { IfSome (held_at self.old at) (λ b. (b.dirty ≡ false) × (b.pinned ≡ false)) }
-        ensures { MatchOption (held_at self.old at) (self.new ≡ self.old)
-            (λ b. (self.new ≡ record (cut self.old at) { clean = put_entries nat_eq (lru_cache self.old.clean 1024) at b.block })
-            ⊎ (self.new ≡ cut self.old at)) }
+        ensures is { MatchOption (held_at self.old at) (self.new ≡ self.old)
+            (λ b. (self.new ≡ record (cut self.old at) { clean = put_entries nat_eq (lru_cache (remove_entry (nat_eq at) self.old.clean) 1024) at b.block })
+            ⊎ (self.new ≡ cut (unlisted self.old at) at)) }
+        ensures alone { IfSome (held_at self.old at) (λ b. (bytes : List ℕ) → Contains self.new.clean (at, bytes) → bytes ≡ b.block) }
     {
         if !self.held.contains_key(&at) {
             return;
         }
         let buffer = self.held.remove(&at).unwrap();
-        let _listed = self.clean.put(at, buffer.block);
+        list_once(&mut self.clean, at, buffer.block);
     }
 
     /// A block is neither held nor clean any more.
@@ -285,6 +287,19 @@ fn write_held(held: &mut HashMap<u32, Buffer>, at: u32, from: usize, bytes: &[u8
         buffer.block.write(from, bytes);
         buffer.dirty = true;
     }
+}
+
+// Puts a block among the clean ones as the first, in the place of what was there under its address; no other is there then. It is
+// forgotten where there is no memory for that.
+fn list_once(clean: &mut LruCache<u32, Block>, at: u32, block: Block)
+    ensures is { (clean.new ≡ lru_cache (put_entries nat_eq (lru_cache (remove_entry (nat_eq at) clean.old.entries) clean.old.cap) at block) clean.old.cap)
+        ⊎ (clean.new ≡ lru_cache (remove_entry (nat_eq at) clean.old.entries) clean.old.cap) }
+    ensures alone { (bytes : List ℕ) → Contains clean.new.entries (at, bytes) → bytes ≡ block }
+{
+    // No address is there twice.
+    let _count = clean.len();
+    clean.pop(&at);
+    let _listed = clean.put(at, block);
 }
 
 // A held block is not dirty.

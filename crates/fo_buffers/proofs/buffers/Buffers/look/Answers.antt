@@ -1,7 +1,5 @@
-use Rattle.std.proofs.Common.{rules, ◌≡◌, ℕ, List, length, nat_eq, sym, ap, ◌∙◌}
+use Rattle.std.proofs.Common.{rules, ◌≡◌, ℕ, List, length, nat_eq, ap, ◌∙◌}
 use Rattle.lru.specs.LruCache.{LruCache, lru_cache, put_entries}
-use Rattle.fo_buffers.specs.Held.{Held}
-use Rattle.fo_buffers.specs.Reading.{Looked}
 use Rattle.fo_buffers.proofs.Keeping.{table, view3}
 use Rattle.fo_buffers.proofs.buffers.Buffers.look.Goals as goal
 
