@@ -23,6 +23,7 @@ pub(crate) fn own_top<B: Blocks>(tree: &Tree, kept: &[Kept], on: &mut B) -> u32
     ensures comes { (k : ℕ) → k < 409 ^ 0 → Comes (B.state on.old) (B.state on.new) tree.now kept.now 0 k result }
     ensures given { (b : ℕ) → Made (B.state on.old) (B.state on.new) b → b ≡ result }
     ensures top { IsTopOf (B.state on.old) (B.state on.new) tree.now result }
+    ensures stead { (x : ℕ) → Made (B.state on.old) (B.state on.new) result → (B.state on.new).instead result x → tree.now.top ≡ Local x }
     ensures spare { (B.state on.old).spare ≤ (B.state on.new).spare + 1 }
     ensures less { IsTopCurrent (B.state on.old) tree.now → (B.state on.old).spare ≤ (B.state on.new).spare }
     ensures same { (b : ℕ) → tree.now.top ≡ Local b → ((B.state on.old).label b).epoch ≡ (B.state on.old).high → result ≡ b }
@@ -45,6 +46,7 @@ fn own_local<B: Blocks>(tree: &Tree, kept: &[Kept], on: &mut B, at: u32) -> u32
     ensures comes { (k : ℕ) → k < 409 ^ 0 → Comes (B.state on.old) (B.state on.new) tree.now kept.now 0 k result }
     ensures given { (b : ℕ) → Made (B.state on.old) (B.state on.new) b → b ≡ result }
     ensures top { IsTopOf (B.state on.old) (B.state on.new) tree.now result }
+    ensures stead { (x : ℕ) → Made (B.state on.old) (B.state on.new) result → (B.state on.new).instead result x → tree.now.top ≡ Local x }
     ensures spare { (B.state on.old).spare ≤ (B.state on.new).spare + 1 }
     ensures less { ((B.state on.old).label at).epoch ≡ (B.state on.old).high → (B.state on.old).spare ≤ (B.state on.new).spare }
     ensures same { ((B.state on.old).label at).epoch ≡ (B.state on.old).high → result ≡ at }
@@ -63,6 +65,7 @@ fn new_top<B: Blocks>(tree: &Tree, kept: &[Kept], on: &mut B) -> u32
     ensures comes { (k : ℕ) → k < 409 ^ 0 → Comes (B.state on.old) (B.state on.new) tree.now kept.now 0 k result }
     ensures given { (b : ℕ) → Made (B.state on.old) (B.state on.new) b → b ≡ result }
     ensures top { IsTopOf (B.state on.old) (B.state on.new) tree.now result }
+    ensures stead { (x : ℕ) → Made (B.state on.old) (B.state on.new) result → (B.state on.new).instead result x → tree.now.top ≡ Local x }
     ensures spare { (B.state on.old).spare ≤ (B.state on.new).spare + 1 }
     ensures keeps { B.keeps on.old on.new }
 {
@@ -81,6 +84,7 @@ fn kept_top<B: Blocks>(tree: &Tree, kept: &[Kept], on: &mut B, score: &Score) ->
     ensures comes { (k : ℕ) → k < 409 ^ 0 → Comes (B.state on.old) (B.state on.new) tree.now kept.now 0 k result }
     ensures given { (b : ℕ) → Made (B.state on.old) (B.state on.new) b → b ≡ result }
     ensures top { IsTopOf (B.state on.old) (B.state on.new) tree.now result }
+    ensures stead { (x : ℕ) → Made (B.state on.old) (B.state on.new) result → (B.state on.new).instead result x → tree.now.top ≡ Local x }
     ensures spare { (B.state on.old).spare ≤ (B.state on.new).spare + 1 }
     ensures keeps { B.keeps on.old on.new }
 {

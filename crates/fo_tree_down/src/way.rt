@@ -33,6 +33,7 @@ pub fn own_way<B: Blocks>(tree: &Tree, kept: &[Kept], on: &mut B, down: u8, k: u
     ensures leads { block_at (B.state on.new) (with_top tree.now result.top) down k ≡ Local result.at }
     ensures replaces { Replaces (B.state on.old) (B.state on.new) tree.now down k result.at }
     ensures top { IsTopOf (B.state on.old) (B.state on.new) tree.now result.top }
+    ensures stead { (x : ℕ) → Made (B.state on.old) (B.state on.new) result.top → (B.state on.new).instead result.top x → tree.now.top ≡ Local x }
     ensures beside { (B.state on.old).tells → StaysBeside (B.state on.old) (B.state on.new) tree.now (with_top tree.now result.top) down k }
     ensures over { 0 < tree.now.size → (limit : ℕ) → Over (B.state on.old) tree.now kept.now limit → Over (B.state on.new) (with_top tree.now result.top) kept.now limit }
     ensures owns { (B.state on.old).tells → (b : ℕ) → (HasBlock (B.state on.new) (with_top tree.now result.top) b → HasBlock (B.state on.old) tree.now b ⊎ Made (B.state on.old) (B.state on.new) b) × (Made (B.state on.old) (B.state on.new) b → HasBlock (B.state on.new) (with_top tree.now result.top) b) }
@@ -61,6 +62,7 @@ pub fn own_down<B: Blocks>(tree: &Tree, kept: &[Kept], on: &mut B, down: u8, k: 
     ensures leads { Leads (B.state on.old) (B.state on.new) tree.now kept.now result.top down k result.at }
     ensures given { (b : ℕ) → Made (B.state on.old) (B.state on.new) b → OnWay (B.state on.new) (with_top tree.now result.top) down k b }
     ensures top { IsTopOf (B.state on.old) (B.state on.new) tree.now result.top }
+    ensures stead { (x : ℕ) → Made (B.state on.old) (B.state on.new) result.top → (B.state on.new).instead result.top x → tree.now.top ≡ Local x }
     ensures spare { (B.state on.old).spare ≤ (B.state on.new).spare + (down + 1) }
     ensures less { IsTopCurrent (B.state on.old) tree.now → (B.state on.old).spare ≤ (B.state on.new).spare + down }
     ensures used { (j : ℕ) → WayCurrent (B.state on.old) tree.now down j → j ≤ k → k ≤ j + 1 → (B.state on.old).spare + (j + above down j) ≤ (B.state on.new).spare + (k + above down k) }

@@ -136,3 +136,6 @@ returns-clause-top g c =
       stands = λ told. filled.places (first.still_tells.1 told) c.new_block-made.result (place (kind_at t.dir t.depth) t.tag 0 (t.rank + t.depth)) c.fill_kept.ensures.bare.uncovered (there told);
       content = subst (λ (p : Pointer). Becomes s m t c.args.kept.now t.depth p c.new_block-made.result) (sym c.requires.is) c.fill_kept.ensures.content;
     })
+
+pub returns-clause-stead : goal.returns-clause-stead
+returns-clause-stead g c = λ x made h. absurd (c.new_block-made.ensures.instead x ((c.fill_kept.ensures.filled.instead c.new_block-made.result x).0 h))

@@ -79,3 +79,6 @@ returns-clause-top g c =
       stands = there;
       content = subst (λ (p : Pointer). Becomes s r t c.args.kept.now t.depth p c.new_block.result) (sym c.requires.is) gives.memory.here;
     })
+
+pub returns-clause-stead : goal.returns-clause-stead
+returns-clause-stead g c = λ x made h. absurd (c.new_block.ensures.instead x h)

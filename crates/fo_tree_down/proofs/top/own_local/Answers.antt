@@ -98,3 +98,9 @@ returns-else-is_current-clause-top g c =
 pub returns-then-is_current-clause-top : goal.returns-then-is_current-clause-top
 returns-then-is_current-clause-top g c =
     top_here (g.B.Blocks.state c.args.on.now) c.args.tree.now c.args.at c.requires.is c.requires.ready.live (c.is_current.ensures.yes c.if-is_current.true)
+
+pub returns-then-is_current-clause-stead : goal.returns-then-is_current-clause-stead
+returns-then-is_current-clause-stead g c = λ x made h. absurd (made.0 made.1)
+
+pub returns-else-is_current-clause-stead : goal.returns-else-is_current-clause-stead
+returns-else-is_current-clause-stead g c = λ x made h. c.requires.is ∙ ap (λ b. Local b) (sym ((c.copy.ensures.instead x).0 h))

@@ -418,3 +418,24 @@ returns-clause-given g t' c =
     (λ links. given_on s m u t kept top n above (k % 409) at (t.depth - suc n) (k / 409) (omega (arith, down)) (block_of n (k / 409) above comes.own) was (was_below s m t kept n k above all c.requires.hangs down ready comes says told)
     (g.met.B.Blocks.keeps_all mid end c.own_block-at.ensures.keeps) links k c.own_down-above.ensures.leads links.leads c.own_down-above.ensures.given)
     step)
+
+pub returns-clause-stead : goal.returns-clause-stead
+returns-clause-stead g t' c = λ x made h.
+    let on = c.args.on.now in
+    let mid = c.own_down-above.new.on in
+    let s = g.B.Blocks.state on in
+    let m = g.B.Blocks.state mid in
+    let t = c.args.tree.now in
+    let k = c.args.k in
+    let above = c.own_down-above.result.at in
+    let end = c.own_block-at.new.on in
+    let u = g.B.Blocks.state end in
+    let at = c.own_block-at.result in
+    let top = c.own_down-above.result.top in
+    let was = target ((m.now above).slot (k % 409)) in
+    let step : ((was ≡ Local at) × (end ≡ mid) × IsOwn m t (t.depth - c.args.down) (409 * (k / 409) + k % 409) at) ⊎ Links t (t.depth - c.args.down) (k / 409) above (k % 409) was at m u = c.own_block-at.ensures.step in
+    let first : Made s m top = (made.0, c.own_down-above.ensures.top.live) in
+    ⊎_elim
+    (λ same. c.own_down-above.ensures.stead x first (subst (λ b. (g.B.Blocks.state b).instead top x) same.1 h))
+    (λ links. c.own_down-above.ensures.stead x first (links.instead top x h))
+    step
