@@ -1,5 +1,6 @@
 -- What calls on a source change, one after another.
 use Rattle.std.specs.Prelude.{◌≡◌, ◌⊎◌, ◌↔◌, ◌+◌, ◌<◌, ℕ, List}
+use Rattle.fo_image.specs.declared.types.Pointer.TheVariants.{Local}
 use Rattle.fo_crash.specs.declared.place.Place.{Place}
 use Rattle.fo_crash.specs.Images.{Image, SameContent, Reaches, to_block}
 use Rattle.fo_ports.specs.State.{State, KeepsAll, KeepsNumbers, AddsNoWait, none}
@@ -53,3 +54,4 @@ pub record IsStep (s u : State) (t : Tree) (kept : List Kept) (k top : ℕ) : Ty
   pub ways : (j b : ℕ) → WayReady s t kept t.depth j → OnWay u (with_top t top) t.depth j b → OnWay s t t.depth j b ⊎ Made s u b
   pub stays : s.tells → (b : ℕ) → HasBlock s t b → (s.label b).epoch ≡ s.high → HasBlock u (with_top t top) b
   pub way : WayCurrent u (with_top t top) t.depth k
+  pub stead : (x : ℕ) → Made s u top → u.instead top x → t.top ≡ Local x

@@ -1,5 +1,6 @@
 //! Bytes are put into a leaf.
 ghost use Rattle.std.specs.Prelude.{◌≡◌, ◌≢◌, ◌⊎◌, ◌+◌, ◌*◌, ◌<◌, ◌≤◌, ℕ, length};
+ghost use Rattle.fo_image.specs.declared.types.Pointer.TheVariants.{Local};
 ghost use Rattle.fo_ports.specs.Sources.{Made, Changes, Grows};
 ghost use Rattle.fo_tree_read.specs.Tree.{above};
 ghost use Rattle.fo_tree_look.specs.Source.{Over, HasBlock, IsPlainTree, WayReady, IsTopCurrent, form_of, leaves_of};
@@ -32,6 +33,7 @@ pub fn put_leaf<B: Blocks>(
     ensures put { (generation limit : ℕ) → Over (B.state on.old) tree.now kept.now limit → LeafPut (form_of tree.now generation limit) i result.at from piece.now (B.state on.old) (B.state on.new) (leaves_of (B.state on.old) tree.now kept.now limit) (leaves_of (B.state on.new) (with_top tree.now result.top) kept.now limit) }
     ensures bytes { (B.state on.old).tells → Puts (byte_here (B.state on.old) tree.now kept.now) (byte_here (B.state on.new) (with_top tree.now result.top) kept.now) (8192 * i + from) piece.now }
     ensures top { IsTopOf (B.state on.old) (B.state on.new) tree.now result.top }
+    ensures stead { (x : ℕ) → Made (B.state on.old) (B.state on.new) result.top → (B.state on.new).instead result.top x → tree.now.top ≡ Local x }
     ensures over { (limit : ℕ) → Over (B.state on.old) tree.now kept.now limit → Over (B.state on.new) (with_top tree.now result.top) kept.now limit }
     ensures grows { (limit : ℕ) → Grows (B.state on.old) (B.state on.new) (leaves_of (B.state on.old) tree.now kept.now limit) (leaves_of (B.state on.new) (with_top tree.now result.top) kept.now limit) }
     ensures changes { Changes tree.now.tag (HasBlock (B.state on.old) tree.now) (IsInnerOr (B.state on.old) tree.now i) (B.state on.old) (B.state on.new) }

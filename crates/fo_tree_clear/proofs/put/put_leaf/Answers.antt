@@ -231,3 +231,9 @@ returns-clause-used g c = λ j way le next. let used = c.own_way-current.ensures
 
 pub returns-clause-clear : goal.returns-clause-clear
 returns-clause-clear g c = λ which was. let lt = c.requires.inside in clear_put (bytes_put g c) (with_top c.args.tree.now c.own_way-current.result.top) c.args.kept.now (c.own_way-current.ensures.clear refl (omega (arith, lt)) which was)
+
+pub returns-clause-stead : goal.returns-clause-stead
+returns-clause-stead g c = λ x made h.
+    let put = bytes_put g c in
+    let top = c.own_way-current.result.top in
+    c.own_way-current.ensures.stead x (made.0, ap (λ (l : Label). l.state) (sym (label_same put top)) ∙ made.1) (only_on put top x h)

@@ -60,7 +60,7 @@ pub returns-clause-clear : goal.returns-clause-clear
 returns-clause-clear g c = λ was. let some = c.requires.ends.within in c.put_leaf.ensures.clear (inr (omega (arith, some))) was
 
 pub returns-clause-step : goal.returns-clause-step
-returns-clause-step g c = record { steps = c.put_leaf.ensures.steps; ways = c.put_leaf.ensures.ways; stays = c.put_leaf.ensures.stays; way = c.put_leaf.ensures.way }
+returns-clause-step g c = record { steps = c.put_leaf.ensures.steps; ways = c.put_leaf.ensures.ways; stays = c.put_leaf.ensures.stays; way = c.put_leaf.ensures.way; stead = c.put_leaf.ensures.stead }
 
 pub returns-clause-there : goal.returns-clause-there
 returns-clause-there g c = λ e f. there (tail g c c.requires.over.0 c.requires.over.1) e f
