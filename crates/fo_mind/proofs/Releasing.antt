@@ -1,12 +1,13 @@
 -- A block is given up.
 use Rattle.std.proofs.Common.{◌≡◌, ◌≢◌, ◌⊎◌, ⊎_elim, ℕ, ◌*◌, ◌||◌, ◌==◌, Bool, true, false, not, nat_eq, List, [], ◌∷◌, Option, Some, None, is_some, refl, sym, ap, ◌∙◌, subst}
 use Rattle.std.specs.Cmp.{nat_eq_equiv}
-use Rattle.std.specs.List.{list_any}
+use Rattle.std.specs.List.{Contains, list_any}
+use Rattle.std.specs.Map.{remove_entry}
 use Rattle.std.specs.Option.{IfSome, MatchOption, option_map_or}
 use Rattle.std.proofs.lemmas.Bool.{and_parts, cases_eq}
 use Rattle.lru.specs.LruCache.{lru_cache, put_entries}
 use Rattle.fo_buffers.specs.declared.block.Buffer.{Buffer}
-use Rattle.fo_buffers.specs.Held.{Held, cut, held_at, is_pinned}
+use Rattle.fo_buffers.specs.Held.{Held, cut, held_at, is_pinned, unlisted}
 use Rattle.fo_order.specs.declared.marks.Tried.TheVariants.{Settled, Written, Failed}
 use Rattle.fo_order.specs.declared.marks.Tried.{Tried}
 use Rattle.fo_order.specs.Keeps.{Turns}
@@ -34,7 +35,7 @@ pub record Cuts (at : ℕ) (old new : Held) : Type 0 where
   pub others : (q : ℕ) → q ≢ at → held_at new q ≡ held_at old q
   pub room : new.room ≡ old.room
 
-pub cuts_of : (at : ℕ) (old new : Held) (bytes : List ℕ) → (new ≡ record (cut old at) { clean = put_entries nat_eq (lru_cache old.clean 1024) at bytes }) ⊎ (new ≡ cut old at) → Cuts at old new
+pub cuts_of : (at : ℕ) (old new : Held) (bytes : List ℕ) → (new ≡ record (cut old at) { clean = put_entries nat_eq (lru_cache (remove_entry (nat_eq at) old.clean) 1024) at bytes }) ⊎ (new ≡ cut (unlisted old at) at) → Cuts at old new
 cuts_of at old new bytes is = ⊎_elim
     (λ e. record {
       here = ap (λ (h : Held). held_at h at) e ∙ cut_same old at;
@@ -42,8 +43,8 @@ cuts_of at old new bytes is = ⊎_elim
       room = ap (λ (h : Held). h.room) e;
     })
     (λ e. record {
-      here = ap (λ (h : Held). held_at h at) e ∙ cut_same old at;
-      others = λ q ne. ap (λ (h : Held). held_at h q) e ∙ cut_other old at q ne;
+      here = ap (λ (h : Held). held_at h at) e ∙ cut_same (unlisted old at) at;
+      others = λ q ne. ap (λ (h : Held). held_at h q) e ∙ cut_other (unlisted old at) at q ne;
       room = ap (λ (h : Held). h.room) e;
     })
     is
@@ -144,10 +145,18 @@ else_free None e = refl
 pub if_free : (o : Option Buffer) (x : Buffer) → o ≡ Some x → x.dirty ≡ false → x.pinned ≡ false → IfSome o (λ b. (b.dirty ≡ false) × (b.pinned ≡ false))
 if_free o x is clean free = subst (λ (z : Option Buffer). IfSome z (λ b. (b.dirty ≡ false) × (b.pinned ≡ false))) (sym is) (clean, free)
 
-pub given_up : (p : Parts) (at : ℕ) (new : Held) → MayBe p at → MatchOption (held_at p.held at) (new ≡ p.held) (λ b. (new ≡ record (cut p.held at) { clean = put_entries nat_eq (lru_cache p.held.clean 1024) at b.block }) ⊎ (new ≡ cut p.held at)) → Released at p (record p { held = new })
-given_up p at new m is = record {
-  was = m.was;
-  held = m.held;
-  is = subst (λ (o : Option Buffer). MatchOption o (new ≡ p.held) (λ b. (new ≡ record (cut p.held at) { clean = put_entries nat_eq (lru_cache p.held.clean 1024) at b.block }) ⊎ (new ≡ cut p.held at))) m.held is;
-  rest = refl;
-}
+module _ (p : Parts) (at : ℕ) (new : Held) where
+  abbrev Is : Buffer → Type 0
+  Is b = (new ≡ record (cut p.held at) { clean = put_entries nat_eq (lru_cache (remove_entry (nat_eq at) p.held.clean) 1024) at b.block }) ⊎ (new ≡ cut (unlisted p.held at) at)
+
+  abbrev Alone : Buffer → Type 0
+  Alone b = (bytes : List ℕ) → Contains new.clean (at, bytes) → bytes ≡ b.block
+
+  pub given_up : MayBe p at → MatchOption (held_at p.held at) (new ≡ p.held) (λ b. Is b) → IfSome (held_at p.held at) (λ b. Alone b) → Released at p (record p { held = new })
+  given_up m is alone = record {
+    was = m.was;
+    held = m.held;
+    is = subst (λ (o : Option Buffer). MatchOption o (new ≡ p.held) (λ b. Is b)) m.held is;
+    alone = subst (λ (o : Option Buffer). IfSome o (λ b. Alone b)) m.held alone;
+    rest = refl;
+  }

@@ -1,10 +1,11 @@
 -- Which blocks have a turn in the order of writing, and what an answer of the device does to the fields of a cache.
 use Rattle.std.specs.Prelude.{◌≡◌, ◌⊎◌, ◌==◌, nat_eq, Some, ◌+◌, ◌*◌, ◌<◌, ◌≤◌, ◌&&◌, ◌||◌, ℕ, Bool, true, false, not, cond, List, count_by, slice_set, Option, None}
-use Rattle.std.specs.List.{list_any}
+use Rattle.std.specs.List.{Contains, list_any}
+use Rattle.std.specs.Map.{remove_entry}
 use Rattle.std.specs.Option.{option_map_or}
 use Rattle.lru.specs.LruCache.{lru_cache, put_entries}
 use Rattle.fo_buffers.specs.declared.block.Buffer.{Buffer}
-use Rattle.fo_buffers.specs.Held.{Held, cut, held_at, is_dirty, is_pinned, pinned_as, settled, updated}
+use Rattle.fo_buffers.specs.Held.{Held, cut, held_at, is_dirty, is_pinned, pinned_as, settled, unlisted, updated}
 use Rattle.fo_order.specs.declared.marks.Flags.{Flags}
 use Rattle.fo_order.specs.declared.marks.Tried.{Tried}
 use Rattle.fo_order.specs.declared.marks.Tried.TheVariants.{Settled, Written, Failed}
@@ -84,9 +85,10 @@ is_settled Failed = false
 abbrev pub may_release : Parts → ℕ → Bool
 may_release p at = not (option_map_or is_pinned (held_at p.held at) true) && (not (is_changed (held_at p.held at)) && (is_settled (flag_at p.turns at).tried && (not (list_any (λ w. w.on == at) p.waits) && (fact_at p.facts at).linked)))
 
--- It isn't held any more, and is the first of the clean ones, or forgotten for want of memory.
+-- It isn't held any more, and is the first of the clean ones, where it is once; or it is forgotten for want of memory.
 pub record Released (at : ℕ) (old new : Parts) : Type 0 where
   pub was : Buffer
   pub held : held_at old.held at ≡ Some was
-  pub is : (new.held ≡ record (cut old.held at) { clean = put_entries nat_eq (lru_cache old.held.clean 1024) at was.block }) ⊎ (new.held ≡ cut old.held at)
+  pub is : (new.held ≡ record (cut old.held at) { clean = put_entries nat_eq (lru_cache (remove_entry (nat_eq at) old.held.clean) 1024) at was.block }) ⊎ (new.held ≡ cut (unlisted old.held at) at)
+  pub alone : (bytes : List ℕ) → Contains new.held.clean (at, bytes) → bytes ≡ was.block
   pub rest : new ≡ record old { held = new.held }

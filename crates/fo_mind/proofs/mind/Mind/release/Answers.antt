@@ -18,7 +18,7 @@ pub invariant_of-self-clause-holding : goal.invariant_of-self-clause-holding
 invariant_of-self-clause-holding c =
     let self = c.args.self.now in
     let m = may_be (parts self [] 0) c.args.at (sym c.may_release.ensures ∙ c.if-may_release.true) in
-    let r = given_up (parts self [] 0) c.args.at c.release.new.self m c.release.ensures in
+    let r = given_up (parts self [] 0) c.args.at c.release.new.self m c.release.ensures.is c.release.ensures.alone in
     let k = cuts_of c.args.at self.buffers c.release.new.self r.was.block r.is in
     holding_cut k self.holding
 
@@ -26,7 +26,7 @@ pub invariant_of-self-clause-waiting : goal.invariant_of-self-clause-waiting
 invariant_of-self-clause-waiting c =
     let self = c.args.self.now in
     let m = may_be (parts self [] 0) c.args.at (sym c.may_release.ensures ∙ c.if-may_release.true) in
-    let r = given_up (parts self [] 0) c.args.at c.release.new.self m c.release.ensures in
+    let r = given_up (parts self [] 0) c.args.at c.release.new.self m c.release.ensures.is c.release.ensures.alone in
     let k = cuts_of c.args.at self.buffers c.release.new.self r.was.block r.is in
     waiting_cut k self.waits.items m.unawaited self.waiting
 
@@ -34,7 +34,7 @@ pub invariant_of-self-clause-owing : goal.invariant_of-self-clause-owing
 invariant_of-self-clause-owing c =
     let self = c.args.self.now in
     let m = may_be (parts self [] 0) c.args.at (sym c.may_release.ensures ∙ c.if-may_release.true) in
-    let r = given_up (parts self [] 0) c.args.at c.release.new.self m c.release.ensures in
+    let r = given_up (parts self [] 0) c.args.at c.release.new.self m c.release.ensures.is c.release.ensures.alone in
     let k = cuts_of c.args.at self.buffers c.release.new.self r.was.block r.is in
     owing_cut k self.owing
 
@@ -42,7 +42,7 @@ pub invariant_of-self-clause-roomy : goal.invariant_of-self-clause-roomy
 invariant_of-self-clause-roomy c =
     let self = c.args.self.now in
     let m = may_be (parts self [] 0) c.args.at (sym c.may_release.ensures ∙ c.if-may_release.true) in
-    let r = given_up (parts self [] 0) c.args.at c.release.new.self m c.release.ensures in
+    let r = given_up (parts self [] 0) c.args.at c.release.new.self m c.release.ensures.is c.release.ensures.alone in
     let k = cuts_of c.args.at self.buffers c.release.new.self r.was.block r.is in
     roomy_same k.room self.roomy
 
@@ -50,6 +50,6 @@ pub invariant_of-self-clause-turning : goal.invariant_of-self-clause-turning
 invariant_of-self-clause-turning c =
     let self = c.args.self.now in
     let m = may_be (parts self [] 0) c.args.at (sym c.may_release.ensures ∙ c.if-may_release.true) in
-    let r = given_up (parts self [] 0) c.args.at c.release.new.self m c.release.ensures in
+    let r = given_up (parts self [] 0) c.args.at c.release.new.self m c.release.ensures.is c.release.ensures.alone in
     let k = cuts_of c.args.at self.buffers c.release.new.self r.was.block r.is in
     turning_cut k m.calm m.settled self.turning
