@@ -4,5 +4,6 @@ pub mod Labelling
 pub mod Lessening
 pub mod Opening
 pub mod Outcomes
+pub mod Releasing
 pub mod Resting
 pub mod Settling

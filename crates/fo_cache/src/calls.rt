@@ -5,7 +5,7 @@ use fo_image::Kind;
 use fo_ports::BlockError;
 
 impl<D: Disk> Cache<D> {
-    ghost use Rattle.std.specs.Prelude.{◌≡◌, ◌↔◌, ◌+◌, ◌-◌, ◌^◌, ◌<◌, ◌≤◌, ℕ, [], length, MatchOption, IsOk, OnOk, OnErr, IfErr};
+    ghost use Rattle.std.specs.Prelude.{◌≡◌, ◌↔◌, ◌+◌, ◌-◌, ◌^◌, ◌<◌, ◌≤◌, ℕ, [], true, false, length, MatchOption, IsOk, OnOk, OnErr, IfErr};
     ghost use Rattle.fo_base.specs.Cause.{Rose};
     ghost use Rattle.fo_image.specs.declared.types.State.TheVariants.{Live};
     ghost use Rattle.fo_image.specs.declared.types.Pointer.TheVariants.{Local};
@@ -16,8 +16,8 @@ impl<D: Disk> Cache<D> {
     ghost use Rattle.fo_ports.specs.Causes.{Caused};
     ghost use Rattle.fo_ports.specs.State.{AddsNoWait, Calm, Gives, Looks, none};
     ghost use Rattle.fo_mind.specs.MindParts.{parts};
-    ghost use Rattle.fo_mind.specs.Turning.{Unpinned};
-    ghost use Rattle.fo_mind.specs.Parts.{CacheKeeps, Instead, IsBlock, IsPinned, label_at, memory, state_of};
+    ghost use Rattle.fo_mind.specs.Turning.{Released, Unpinned, may_release};
+    ghost use Rattle.fo_mind.specs.Parts.{CacheKeeps, Instead, IsBlock, IsPinned, bytes_at, label_at, memory, state_of};
 
     /// Copies a block of this kind and rank, as it was last put, and pins it while pins are left (`Mind::get`).
     pub fn get(&mut self, at: u32, kind: Kind, rank: u32, into: &mut [u8]) -> Result<(), BlockError>
@@ -67,6 +67,18 @@ impl<D: Disk> Cache<D> {
         ensures device { self.new.main ≡ self.old.main }
     {
         self.mind.unpin()
+    }
+
+    /// Gives a block up where it may be (`may_release`: held, neither pinned nor changed, settled, linked, and nothing waits for its
+    /// entries): it becomes the first of the clean ones, or is forgotten for want of memory. The device has its bytes.
+    pub fn release(&mut self, at: u32)
+        requires block { IsBlock (parts self.old.mind [] 0) at }
+        ensures gone { may_release (parts self.old.mind [] 0) at ≡ true → Released at (parts self.old.mind [] 0) (parts self.new.mind [] 0) }
+        ensures kept { may_release (parts self.old.mind [] 0) at ≡ false → parts self.new.mind [] 0 ≡ parts self.old.mind [] 0 }
+        ensures bytes { (b : ℕ) → (parts self.old.mind [] 0).region.first ≤ b → b < length (D.state self.old.main).holds → bytes_at (parts self.new.mind [] 0).held (D.state self.old.main).holds b ≡ bytes_at (parts self.old.mind [] 0).held (D.state self.old.main).holds b }
+        ensures device { self.new.main ≡ self.old.main }
+    {
+        self.mind.release(at);
     }
 
     /// Puts bytes into a pinned block, none of which spells a slot.

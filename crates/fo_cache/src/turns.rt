@@ -91,7 +91,8 @@ impl<D: Disk> Cache<D> {
         ensures cause { HasCause (D.faults self.old.main) (D.faults self.new.main) result }
     {
         let synced = self.main.sync();
-        self.mind.settled(synced.is_ok());
+        let ok = synced.is_ok();
+        self.mind.settled(ok);
         synced
     }
 }

@@ -10,29 +10,29 @@ pub invariant_of-self-clause-fits : goal.invariant_of-self-clause-fits
 invariant_of-self-clause-fits g c =
     let self = c.args.self.now in
     let r = c.sync-synced.result in
-    fits_settled (parts self.mind [] 0) (parts c.settled.new.self [] 0) r c.sync-synced.ensures.state (if_ok r c.is_ok.ensures.value (λ e. c.settled.ensures.synced e [] 0)) (if_err r c.is_ok.ensures.value (λ e. c.settled.ensures.same e [] 0)) self.fits
+    fits_settled (parts self.mind [] 0) (parts c.settled.new.self [] 0) r c.sync-synced.ensures.state (if_ok r c.is_ok-ok.ensures.value (λ e. c.settled.ensures.synced e [] 0)) (if_err r c.is_ok-ok.ensures.value (λ e. c.settled.ensures.same e [] 0)) self.fits
 
 pub invariant_of-self-clause-sized : goal.invariant_of-self-clause-sized
 invariant_of-self-clause-sized g c =
     let self = c.args.self.now in
     let r = c.sync-synced.result in
     subst (λ n. count_of (parts c.settled.new.self [] 0).region ≤ n) (sym c.sync-synced.ensures.size)
-    (subst (λ (x : Region). count_of x ≤ g.D.Disk.size self.main) (sym (region_settled (parts self.mind [] 0) (parts c.settled.new.self [] 0) r (if_ok r c.is_ok.ensures.value (λ e. c.settled.ensures.synced e [] 0)) (if_err r c.is_ok.ensures.value (λ e. c.settled.ensures.same e [] 0)))) self.sized)
+    (subst (λ (x : Region). count_of x ≤ g.D.Disk.size self.main) (sym (region_settled (parts self.mind [] 0) (parts c.settled.new.self [] 0) r (if_ok r c.is_ok-ok.ensures.value (λ e. c.settled.ensures.synced e [] 0)) (if_err r c.is_ok-ok.ensures.value (λ e. c.settled.ensures.same e [] 0)))) self.sized)
 
 pub returns-clause-synced : goal.returns-clause-synced
-returns-clause-synced g c = if_ok c.sync-synced.result c.is_ok.ensures.value (λ e. c.settled.ensures.synced e [] 0)
+returns-clause-synced g c = if_ok c.sync-synced.result c.is_ok-ok.ensures.value (λ e. c.settled.ensures.synced e [] 0)
 
 pub returns-clause-nothing : goal.returns-clause-nothing
-returns-clause-nothing g c = if_err c.sync-synced.result c.is_ok.ensures.value (λ e. c.settled.ensures.same e [] 0)
+returns-clause-nothing g c = if_err c.sync-synced.result c.is_ok-ok.ensures.value (λ e. c.settled.ensures.same e [] 0)
 
 pub returns-clause-each : goal.returns-clause-each
 returns-clause-each g c =
     let self = c.args.self.now in
     let r = c.sync-synced.result in
-    each_settled (parts self.mind [] 0) (parts c.settled.new.self [] 0) r c.sync-synced.ensures.state (if_ok r c.is_ok.ensures.value (λ e. c.settled.ensures.synced e [] 0)) (if_err r c.is_ok.ensures.value (λ e. c.settled.ensures.same e [] 0)) self.fits
+    each_settled (parts self.mind [] 0) (parts c.settled.new.self [] 0) r c.sync-synced.ensures.state (if_ok r c.is_ok-ok.ensures.value (λ e. c.settled.ensures.synced e [] 0)) (if_err r c.is_ok-ok.ensures.value (λ e. c.settled.ensures.same e [] 0)) self.fits
 
 pub invariant_of-self-clause-spelled : goal.invariant_of-self-clause-spelled
 invariant_of-self-clause-spelled g c =
     let self = c.args.self.now in
     let r = c.sync-synced.result in
-    labels_settled (parts self.mind [] 0) (parts c.settled.new.self [] 0) r c.sync-synced.ensures.state (if_ok r c.is_ok.ensures.value (λ e. c.settled.ensures.synced e [] 0)) (if_err r c.is_ok.ensures.value (λ e. c.settled.ensures.same e [] 0)) self.spelled
+    labels_settled (parts self.mind [] 0) (parts c.settled.new.self [] 0) r c.sync-synced.ensures.state (if_ok r c.is_ok-ok.ensures.value (λ e. c.settled.ensures.synced e [] 0)) (if_err r c.is_ok-ok.ensures.value (λ e. c.settled.ensures.same e [] 0)) self.spelled

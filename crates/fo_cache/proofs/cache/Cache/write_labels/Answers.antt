@@ -15,9 +15,6 @@ spell_labels-requires-clause-table g c = let self = c.args.self.now in (self.min
 pub write-wrote-requires-clause-block : goal.write-wrote-requires-clause-block
 write-wrote-requires-clause-block g c = let self = c.args.self.now in turn_within (parts self.mind [] 0) (g.D.Disk.size self.main) c.args.at self.mind.placed self.sized c.requires.turn
 
-pub write-wrote-requires-clause-length : goal.write-wrote-requires-clause-length
-write-wrote-requires-clause-length g c = c.spell_labels.ensures.long
-
 pub wrote-requires-clause-room : goal.wrote-requires-clause-room
 wrote-requires-clause-room g c = λ pinned.
     let self = c.args.self.now in
