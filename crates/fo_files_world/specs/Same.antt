@@ -63,7 +63,7 @@ pub data Changed (arena : Arena) (image other : Image) (f : Node → Node) : ℕ
 abbrev pub touched_stat : List ℕ → ℕ → Stat → Stat
 touched_stat who now s = record s { vers = (s.vers + 1) % 2 ^ 32; mtime = now; muid = who }
 
--- A record was added to a directory; no other has its name, and the other records and their files are the same.
+-- A record was added to a directory; none before it has its name, and the other records and their files are the same.
 pub record AddsRecord (arena : Arena) (image other : Image) (n : ℕ) (s t : Spot) (new : Record) : Type 0 where
   pub front : List Record
   pub back : List Record
