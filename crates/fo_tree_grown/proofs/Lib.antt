@@ -1,0 +1,4 @@
+pub mod Leaves
+pub mod Tops
+pub mod Joining
+pub mod Raising
