@@ -35,4 +35,5 @@ pub record Puts (from : ℕ) (bytes old new : List ℕ) : Type 0 where
 pub record PutsEntry (i : ℕ) (e : VacEntry) (old new : List ℕ) : Type 0 where
   pub bytes : List ℕ
   pub spelled : SpellsVacEntry e bytes
+  pub long : length bytes ≡ 40
   pub puts : Puts (40 * i) bytes old new
