@@ -1,0 +1,3 @@
+mod Leaves
+mod Map
+mod Slots

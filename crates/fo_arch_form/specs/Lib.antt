@@ -1,0 +1,4 @@
+pub mod Entries
+pub mod Keys
+pub mod Pointers
+pub mod Stored
