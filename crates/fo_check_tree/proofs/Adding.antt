@@ -33,7 +33,7 @@ use Rattle.fo_check_tree.specs.Follows.Reaches.{enters}
 use Rattle.fo_check_tree.specs.Known.{Marks}
 use Rattle.fo_check_tree.specs.Listing.{AddsNamed, Adds}
 use Rattle.fo_check_tree.specs.Listing.AddsNamed.{none as none_added}
-use Rattle.fo_check_tree.specs.Pairing.{Searches, Seeks}
+use Rattle.fo_check_tree.specs.Pairing.{Searches, Seeks, IsApart, Asks, AsksOf}
 use Rattle.fo_check_tree.specs.Slots.{unless, HasSlot, HasSlots, steps_below, steps_of}
 use Rattle.fo_check_tree.specs.Slots.HasSlot.{entry, other}
 use Rattle.fo_check_tree.specs.Steps.{IsAllowed}
@@ -115,9 +115,10 @@ pub reaches_by : {A E : Type 0} (r : Result A E) (device : List Block) (image : 
     → (step.kind ≡ Data 0 → step.holds ≡ Bytes → OnOk r (new.named.items ≡ old.named.items))
     → (HasSlots step.kind (image at) (block_of device at) → OnOk r (Deepens (image at) (min (depth + 1) (2 ^ 32 - 1)) step.kind new.noted))
     → (IsRead step.kind (image at) (block_of device at) → (step.kind ≡ Data 0 → (step.holds ≡ Bytes → ⊥) → IsLeaf (block_of device at)) → OnOk r (KeepsFormats old.noted new.noted))
+    → (HasSlots step.kind (image at) (block_of device at) → OnOk r (AsksOf step (image at) step.kind old.named.items new.named.items))
     → OnOk r (Reaches device image depth named step at old new)
-reaches_by (Ok x) device image depth named step at old new label marked allowed marks same pushed put notes read adds leafs seeks bytes deeps clean = enters label allowed (subst (λ (l : Labels). Marks at old.labels.known.items l.known.items) (sym same) marks) pushed put notes read adds leafs seeks bytes deeps clean
-reaches_by (Err e) device image depth named step at old new label marked allowed marks same pushed put notes read adds leafs seeks bytes deeps clean = same
+reaches_by (Ok x) device image depth named step at old new label marked allowed marks same pushed put notes read adds leafs seeks bytes deeps clean asks = enters label allowed (subst (λ (l : Labels). Marks at old.labels.known.items l.known.items) (sym same) marks) pushed put notes read adds leafs seeks bytes deeps clean asks
+reaches_by (Err e) device image depth named step at old new label marked allowed marks same pushed put notes read adds leafs seeks bytes deeps clean asks = same
 
 -- ---- what a block says by itself
 
@@ -178,6 +179,20 @@ data_seeks (Err e) step c named old new folders level kind is = tt
 
 pub root_seeks : (step : Step) (c : Content) (named : Bool) (old new : List Named) (folders : List Folder) (kind : Kind) → kind ≡ Root → Seeks step c named kind old new folders
 root_seeks step c named old new folders kind is = subst (λ (k : Kind). Seeks step c named k old new folders) (sym is) tt
+
+pub leaf_asks : {A E : Type 0} (r : Result A E) (step : Step) (c : Content) (old new : List Named) (kind : Kind) → kind ≡ Dir zero → (step.index < 27982932961 → IsApart old → OnOk r (Asks step.index c 102 old new)) → OnOk r (AsksOf step c kind old new)
+leaf_asks (Ok x) step c old new kind is h = subst (λ (k : Kind). AsksOf step c k old new) (sym is) h
+leaf_asks (Err e) step c old new kind is h = tt
+
+pub nothing_asks : (step : Step) (c : Content) (old new : List Named) (kind : Kind) → (kind ≡ Dir zero → ⊥) → AsksOf step c kind old new
+nothing_asks step c old new (Data level') isnt = tt
+nothing_asks step c old new (Dir zero) isnt = absurd (isnt refl)
+nothing_asks step c old new (Dir (suc level')) isnt = tt
+nothing_asks step c old new Root isnt = tt
+
+pub other_asks : {A E : Type 0} (r : Result A E) (step : Step) (c : Content) (old new : List Named) (kind : Kind) → (kind ≡ Dir zero → ⊥) → OnOk r (AsksOf step c kind old new)
+other_asks (Ok x) step c old new kind isnt = nothing_asks step c old new kind isnt
+other_asks (Err e) step c old new kind isnt = tt
 
 -- ---- how deep it leads
 

@@ -327,7 +327,7 @@ module _ (arena : Arena) (device : List Block) (image : Image) (s : Super) (k : 
     after_block at is (again m allowed marks same same' noted kept) =
         formed_like arena image k old.labels.known.items new.labels.known.items old.noted new.noted old.steps.items new.steps.items (others ++ old.folders.items) (others ++ new.folders.items) marks.same low same (ap (λ (fs : List Folder). others ++ fs) same')
         (shorter (λ link path b tree v kind leads. not_once arena device image s k link at (again_breaks arena device image s k rest step old new w at m is marks.none allowed.known) tree))
-    after_block at is (enters m allowed marks steps folders notes read adds leafs seeks bytes deeps clean) = record {
+    after_block at is (enters m allowed marks steps folders notes read adds leafs seeks bytes deeps clean asks) = record {
       each = λ quiet tree c i l r holds odd records path b kind leads. subst (λ (xs : List Step). IsFormed arena image xs (others ++ new.folders.items) c i path b) (sym (steps slots)) (⊎_elim
           (λ (same : c ≡ at). now quiet c i l same r holds odd records path b kind leads)
           (λ (before : Reached known c l). ⊎_elim

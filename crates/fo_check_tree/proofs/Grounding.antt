@@ -385,7 +385,7 @@ module _ (arena : Arena) (device : List Block) (image : Image) (s : Super) (k : 
 
   after_block : (at : ℕ) → step.pointer ≡ Local at → Reaches device image depth named step at old new → HasGrounds arena image k new.noted new.steps.items new.folders.items
   after_block at is (again m allowed marks same same' noted kept) = fewer new.noted new.steps.items new.folders.items same same' (keeps_lower old.noted new.noted 7 at (λ e. omega (arith, e)) noted)
-  after_block at is (enters m allowed marks steps folders notes read adds leafs seeks bytes deeps clean) =
+  after_block at is (enters m allowed marks steps folders notes read adds leafs seeks bytes deeps clean asks) =
       let known = old.labels.known.items in
       let t = taken_of device known at m w.goes.table allowed.known in
       let slots : HasSlots step.kind (image at) (block_of device at) = subst (λ (d : Kind). HasSlots d (image at) (block_of device at)) allowed.may.kind (w.holds.slots at m t.0 t.1) in

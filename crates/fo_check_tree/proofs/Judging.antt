@@ -121,7 +121,7 @@ module _ (arena : Arena) (device : List Block) (image : Image) (s : Super) (k : 
   module _ (rest : List Step) (step : Step) (old new : Walk) (w : Walking arena device image s k (step ∷ rest) old) (others : List Folder) (j : AreJudged arena image k others old) (depth : ℕ) (named : Bool) (lower' : level new.noted ≤ level old.noted) where
     after_block : (at : ℕ) → Reaches device image depth named step at old new → AreJudged arena image k others new
     after_block at (again m allowed marks same same' noted kept) = judged_like others old new marks.same same' lower' j
-    after_block at (enters m allowed marks steps folders notes read adds leafs seeks bytes deeps clean) = record {
+    after_block at (enters m allowed marks steps folders notes read adds leafs seeks bytes deeps clean asks) = record {
       top = λ entries quiet tree. judged_more others old.folders.items new.folders.items grows.added k.at 1 grows.is (j.top entries (omega (arith, quiet, lower')) tree);
       pairs = λ quiet tree b p l r leaf lt x y. ⊎_elim
           (λ (same : b ≡ at).

@@ -1,4 +1,6 @@
 mod Adding
+mod Asked
+mod Asking
 mod Counting
 mod Directories
 mod Ending

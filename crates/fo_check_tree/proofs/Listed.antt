@@ -43,7 +43,7 @@ module _ (arena : Arena) (device : List Block) (image : Image) (s : Super) (k : 
           listing_at old.labels.known.items new.labels.known.items old.steps.items new.steps.items old.named.items new.named.items marks.same same kept
           (shorter arena image w.holds.empty k meta old.labels.known.items old.steps.items step old.named.items l
           (λ tree n b h v. not_once at (again_breaks arena device image s k rest step old new w at m is marks.none allowed.known) tree))
-      after_block at is (enters m allowed marks steps folders notes read adds leafs seeks bytes deeps clean) = by o.level o.kind
+      after_block at is (enters m allowed marks steps folders notes read adds leafs seeks bytes deeps clean asks) = by o.level o.kind
         where
           o : IsInSource arena image meta step
           o = one_source arena image w.holds.empty k meta old.labels.known.items old.steps.items step old.named.items l

@@ -50,7 +50,7 @@ use Rattle.fo_check_tree.proofs.Searching.{same_refl, same_then}
 use Rattle.fo_check_tree.proofs.Slots.{none_below, one_below, no_pairs, one_pair}
 use Rattle.fo_check_tree.proofs.Stepping.{taken_of}
 
-pow_small : (n : ℕ) → n ≤ 4 → 409 ^ n ≤ 27982932961
+pub pow_small : (n : ℕ) → n ≤ 4 → 409 ^ n ≤ 27982932961
 pow_small zero le = omega arith
 pow_small (suc zero) le = omega arith
 pow_small (suc (suc zero)) le = omega arith
@@ -134,10 +134,10 @@ module _ (arena : Arena) (image : Image) (entries : Link) where
   -- ---- a block of pointers
 
   module _ (step : Step) (level below : ℕ) (here : Holder) (s : IsInEntries arena image entries step) (inner : step.kind ≡ Dir (suc level)) (leads : target ((goes arena image entries s.path).slot) ≡ Local below) (shallow : depth_of entries.slot ≤ 4) where
-    level_is : s.level ≡ suc level
+    pub level_is : s.level ≡ suc level
     level_is = dir_level (sym s.kind ∙ inner)
 
-    long_is : (i : ℕ) → length (s.path ++ i ∷ []) ≡ suc (length s.path)
+    pub long_is : (i : ℕ) → length (s.path ++ i ∷ []) ≡ suc (length s.path)
     long_is i = let e : length (s.path ++ i ∷ []) ≡ length s.path + 1 = length-append s.path (i ∷ []) in omega (arith, e)
 
     index_is : (i : ℕ) → i < 409 → index_below step.index i ≡ step.index * 409 + i
@@ -145,7 +145,7 @@ module _ (arena : Arena) (image : Image) (entries : Link) where
         let few : step.index < 27982932961 = omega (arith, s.few, pow_small (length s.path) (omega (arith, s.depth, shallow))) in
         omega (arith, few, lt)
 
-    index_on : (i : ℕ) → i < 409 → (more : List ℕ) → way (length (s.path ++ i ∷ [])) (index_below step.index i) more ≡ (s.path ++ i ∷ []) ++ more
+    pub index_on : (i : ℕ) → i < 409 → (more : List ℕ) → way (length (s.path ++ i ∷ [])) (index_below step.index i) more ≡ (s.path ++ i ∷ []) ++ more
     index_on i lt more =
         let div : (step.index * 409 + i) / 409 ≡ step.index = omega (arith, lt) in
         let rem : (step.index * 409 + i) % 409 ≡ i = omega (arith, lt) in
@@ -156,13 +156,13 @@ module _ (arena : Arena) (image : Image) (entries : Link) where
         ∙ s.index (i ∷ more)
         ∙ sym (append_assoc s.path (i ∷ []) more)
 
-    few_on : (i : ℕ) → i < 409 → index_below step.index i < 409 ^ length (s.path ++ i ∷ [])
+    pub few_on : (i : ℕ) → i < 409 → index_below step.index i < 409 ^ length (s.path ++ i ∷ [])
     few_on i lt =
         let up : 409 ^ suc (length s.path) ≡ 409 * 409 ^ length s.path = pow-succ' 409 (length s.path) in
         let low : index_below step.index i < 409 ^ suc (length s.path) = omega (arith, up, s.few, lt, index_is i lt) in
         subst (λ (d : ℕ). index_below step.index i < 409 ^ d) (sym (long_is i)) low
 
-    source_on : (i : ℕ) (p : Pointer) → i < 409 → target ((image below).slot i) ≡ p → IsInEntries arena image entries (step_below step (Dir level) here i p)
+    abbrev pub source_on : (i : ℕ) (p : Pointer) → i < 409 → target ((image below).slot i) ≡ p → IsInEntries arena image entries (step_below step (Dir level) here i p)
     source_on i p lt is = record {
       path = s.path ++ i ∷ [];
       level = level;
@@ -190,13 +190,13 @@ module _ (arena : Arena) (image : Image) (entries : Link) where
     full : length s.path ≡ depth_of entries.slot
     full = let none' : s.level ≡ 0 = dir_level (sym s.kind ∙ leaf) in omega (arith, none', s.depth)
 
-    path_here : leaf_path entries.slot step.index ≡ s.path
+    pub path_here : leaf_path entries.slot step.index ≡ s.path
     path_here = ap (λ (d : ℕ). way d step.index []) (sym full) ∙ s.index [] ∙ append-nil s.path
 
     leaf_is : (goes arena image entries s.path).kind ≡ Dir zero
     leaf_is = ap (λ (p : List ℕ). (goes arena image entries p).kind) (sym path_here) ∙ leaf_kind arena image empty step.index entries kind
 
-    number_is : (pair : ℕ) → pair < 102 → pair_number step.index pair ≡ step.index * 102 + pair
+    pub number_is : (pair : ℕ) → pair < 102 → pair_number step.index pair ≡ step.index * 102 + pair
     number_is pair lt =
         let few : step.index < 27982932961 = omega (arith, s.few, pow_small (length s.path) (omega (arith, full, shallow))) in
         omega (arith, few, lt)
@@ -294,7 +294,7 @@ module _ (arena : Arena) (device : List Block) (image : Image) (s : Super) (k : 
   module _ (named : Bool) where
     block_grows : (at : ℕ) → Reaches device image depth named step at old new → Grows old.folders.items new.folders.items
     block_grows at (again m allowed marks same same' noted kept) = record { added = []; is = same' ∙ sym (append-nil old.folders.items) }
-    block_grows at (enters m allowed marks steps folders notes read adds leafs seeks bytes deeps clean) =
+    block_grows at (enters m allowed marks steps folders notes read adds leafs seeks bytes deeps clean asks) =
         puts_more (here at m) (image at) depth named step.kind old.folders.items new.folders.items (folders (slots_at at m (taken_of device old.labels.known.items at m w.goes.table allowed.known) allowed.may.kind))
 
     pub grows_on : Follows device image depth named step old new → Grows old.folders.items new.folders.items
@@ -345,13 +345,13 @@ module _ (arena : Arena) (device : List Block) (image : Image) (s : Super) (k : 
           (found'.each i d lt yes);
     }
 
-    no_names : (at : ℕ) → (step.holds ≡ Bytes) ⊎ (step.size ≡ 0) → step.kind ≡ Data 0 → (step.kind ≡ Data 0 → step.holds ≡ Bytes → new.named.items ≡ old.named.items) → AddsNamed step at (block_of device at) old.named.items new.named.items → new.named.items ≡ old.named.items
+    pub no_names : (at : ℕ) → (step.holds ≡ Bytes) ⊎ (step.size ≡ 0) → step.kind ≡ Data 0 → (step.kind ≡ Data 0 → step.holds ≡ Bytes → new.named.items ≡ old.named.items) → AddsNamed step at (block_of device at) old.named.items new.named.items → new.named.items ≡ old.named.items
     no_names at q kind bytes (added_none same past) = same
     no_names at q kind bytes (added_some records spelled within grown) = ⊎_elim (λ (file : step.holds ≡ Bytes). bytes kind file) (λ (none' : step.size ≡ 0). absurd (omega (arith, within, none'))) q
 
     after_block : (at : ℕ) → step.pointer ≡ Local at → Reaches device image depth true step at old new → AreSought arena image entries names new.noted new.steps.items new.named.items new.folders.items
     after_block at is (again m allowed marks same same' noted kept) = same_names new.noted new.steps.items [] new.named.items new.folders.items low (none_left new.steps.items same) tt kept same'
-    after_block at is (enters m allowed marks steps folders notes read adds leafs seeks bytes deeps clean) = ⊎_elim (λ (v : IsInEntries arena image entries step). inside v v.level v.kind) (λ (q : IsQuiet step). outside q q.level q.kind) this
+    after_block at is (enters m allowed marks steps folders notes read adds leafs seeks bytes deeps clean asks) = ⊎_elim (λ (v : IsInEntries arena image entries step). inside v v.level v.kind) (λ (q : IsQuiet step). outside q q.level q.kind) this
       where
         slots : HasSlots step.kind (image at) (block_of device at)
         slots = slots_at at m (taken_of device old.labels.known.items at m w.goes.table allowed.known) allowed.may.kind

@@ -191,7 +191,7 @@ module _ (arena : Arena) (device : List Block) (image : Image) (s : Super) (k : 
     after_block : (at : ℕ) → step.pointer ≡ Local at → Reaches device image depth named step at old new → AreSpread arena image k link deep new.noted new.steps.items new.folders.items
     after_block at is (again m allowed marks same same' noted kept) = spread_by new.noted new.steps.items [] new.folders.items low (same ∙ sym (append-nil old.steps.items)) (record { added = []; is = same' ∙ sym (append-nil old.folders.items) })
         (λ quiet tree path b long leads v. absurd (not_once arena device image s k link at (again_breaks arena device image s k rest step old new w at m is marks.none allowed.known) tree))
-    after_block at is (enters m allowed marks steps folders notes read adds leafs seeks bytes deeps clean) = spread_by new.noted new.steps.items (steps_of step here' (image at) step.kind) new.folders.items low (steps slots) grown
+    after_block at is (enters m allowed marks steps folders notes read adds leafs seeks bytes deeps clean asks) = spread_by new.noted new.steps.items (steps_of step here' (image at) step.kind) new.folders.items low (steps slots) grown
         (λ quiet tree path b long leads v. by quiet path b long leads v v.level refl)
       where
         here' : Holder

@@ -263,7 +263,7 @@ module _ (arena : Arena) (device : List Block) (image : Image) (s : Super) (k : 
             (goes_again arena device image s k old.labels.known.items old.noted left_before w.goes left_then w.others_fit.at w.others_fit.slot at m sum (leads (Local at) is)
             (was_reached at m marks.none allowed.known) (may_of (λ nil. nil_local (sym nil ∙ is)) m allowed.may));
       }
-      after_block at is (enters m allowed marks steps folders notes read adds leafs seeks bytes deeps clean) =
+      after_block at is (enters m allowed marks steps folders notes read adds leafs seeks bytes deeps clean asks) =
           let known = old.labels.known.items in
           let t = taken_of device known at m w.goes.table allowed.known in
           let slots : HasSlots step.kind (image at) (block_of device at) = subst (λ (d : Kind). HasSlots d (image at) (block_of device at)) allowed.may.kind (w.holds.slots at m t.0 t.1) in

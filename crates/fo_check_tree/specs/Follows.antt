@@ -23,7 +23,7 @@ use Rattle.fo_check_tree.specs.Listing.{Adds}
 use Rattle.fo_check_tree.specs.declared.broken.Broken.{Broken}
 use Rattle.fo_check_tree.specs.Lower.{lower, level}
 use Rattle.fo_check_tree.specs.Notes.{NotesAt, KeepsFormats}
-use Rattle.fo_check_tree.specs.Pairing.{Seeks}
+use Rattle.fo_check_tree.specs.Pairing.{Seeks, AsksOf}
 use Rattle.fo_check_tree.specs.Slots.{HasSlots, steps_of, AddsFolders}
 use Rattle.fo_check_tree.specs.Steps.{IsAllowed, BreaksStep}
 
@@ -58,6 +58,7 @@ pub data Reaches (device : List Block) (image : Image) (depth : ℕ) (named : Bo
       → (step.kind ≡ Data 0 → step.holds ≡ Bytes → new.named.items ≡ old.named.items)
       → (HasSlots step.kind (image at) (block_of device at) → Deepens (image at) (min (depth + 1) (2 ^ 32 - 1)) step.kind new.noted)
       → Clean step (image at) (block_of device at) old.noted new.noted
+      → (HasSlots step.kind (image at) (block_of device at) → AsksOf step (image at) step.kind old.named.items new.named.items)
       → Reaches device image depth named step at old new
 
 -- A step was taken: it leads nowhere, to a score, for which rule 9 is noted, or to a block.

@@ -1,16 +1,18 @@
 -- The pairs of a directory, while its entries are walked: which records have theirs, and which folders they lead to.
 use Rattle.std.specs.Prelude.{◌≡◌, ◌⊎◌, ℕ, ◌+◌, ◌-◌, ◌*◌, ◌^◌, ◌<◌, ◌≤◌, zero, suc, min, Bool, true, false, List, map, ◌∷◌, [], ◌++◌, length, slice_index_or, Option, Some}
 use Rattle.std.specs.List.{AllByRecursion}
+use Rattle.std.specs.List.Sorted.{IsNonDecreasingBy}
 use Rattle.fo_image.specs.declared.types.Kind.{Kind}
 use Rattle.fo_image.specs.declared.types.Kind.TheVariants.{Data, Dir, Root}
 use Rattle.fo_image.specs.declared.types.Entry.{Entry}
 use Rattle.fo_image.specs.declared.record.Record.{Record}
+use Rattle.fo_image.specs.declared.types.Pointer.TheVariants.{Local}
 use Rattle.fo_crash.specs.declared.slot.Slot.TheVariants.{Entry as Head}
-use Rattle.fo_crash.specs.Images.{Content, Image, Arena, Link, target, goes, way, depth_of, entry_of as entry_at}
+use Rattle.fo_crash.specs.Images.{Content, Image, Arena, Link, target, goes, way, leaf_path, depth_of, entry_of as entry_at}
 use Rattle.fo_world.specs.Step.{is_dir_mode}
 use Rattle.fo_good.specs.Trees.{IsTree, Lists, IsDir, IsFirst, IsSecond, HasPair}
 use Rattle.fo_good.specs.Sound.{Kept}
-use Rattle.fo_check_names.specs.Names.{number_in}
+use Rattle.fo_check_names.specs.Names.{number_in, slot_of}
 use Rattle.fo_check_names.specs.declared.names.Named.{Named}
 use Rattle.fo_check_names.specs.declared.names.Number.{Number}
 use Rattle.fo_check_tree.specs.declared.broken.Broken.{Broken}
@@ -52,12 +54,29 @@ pub record Searches (index : ℕ) (c : Content) (named : Bool) (pairs : ℕ) (ol
   pub same : SameRecords old new
   pub each : (i : ℕ) (d : Named) → i < length new → (slice_index_or new i d).found ≡ true → ((slice_index_or old i d).found ≡ true) ⊎ HasPairHere index c named pairs folders (slice_index_or new i d).listed
 
+-- The records ascend by their slot pairs, and no two have one.
+pub record IsApart (named : List Named) : Type 0 where
+  pub sorted : IsNonDecreasingBy slot_of named
+  pub differ : (i j : ℕ) (d : Named) → i < j → j < length named → slot_of (slice_index_or named i d) ≡ slot_of (slice_index_or named j d) → ⊥
+
+-- In the first pairs of a leaf of entries each record was marked whose pair is there, and others stayed marked.
+pub record Asks (index : ℕ) (c : Content) (pairs : ℕ) (old new : List Named) : Type 0 where
+  pub each : (p : ℕ) → p < pairs → (i : ℕ) (d : Named) → i < length new → slot_of (slice_index_or new i d) ≡ pair_number index p → IsFirst (Head (entry_of (c.slot (2 * p)))) (slice_index_or new i d).listed → IsSecond (Head (entry_of (c.slot (2 * p + 1)))) (slice_index_or new i d).listed
+      → (slice_index_or new i d).found ≡ true
+  pub kept : (i : ℕ) (d : Named) → i < length new → (slice_index_or old i d).found ≡ true → ((p : ℕ) → p < pairs → slot_of (slice_index_or new i d) ≡ pair_number index p → ⊥) → (slice_index_or new i d).found ≡ true
+
 -- The same of a block of this kind: only in a leaf of entries anything is found.
 abbrev pub Seeks : Step → Content → Bool → Kind → List Named → List Named → List Folder → Type 0
 Seeks step c named (Data level) old new folders = Unit {0}
 Seeks step c named (Dir zero) old new folders = Searches step.index c named 102 old new folders
 Seeks step c named (Dir (suc level)) old new folders = new ≡ old
 Seeks step c named Root old new folders = Unit {0}
+
+abbrev pub AsksOf : Step → Content → Kind → List Named → List Named → Type 0
+AsksOf step c (Data level) old new = Unit {0}
+AsksOf step c (Dir zero) old new = step.index < 27982932961 → IsApart old → Asks step.index c 102 old new
+AsksOf step c (Dir (suc level)) old new = Unit {0}
+AsksOf step c Root old new = Unit {0}
 
 -- ---- all leaves of entries
 
@@ -102,6 +121,20 @@ pub record AreSought (arena : Arena) (image : Image) (entries : Link) (names : L
   pub same : SameRecords names named
   pub sources : AllByRecursion (IsEntriesStep arena image entries) steps
   pub found : 5 < level noted → (i : ℕ) (d : Named) → i < length named → (slice_index_or named i d).found ≡ true → IsFound arena image entries folders (slice_index_or named i d).listed
+
+-- A step to a block of the source of entries, on the way to its leaf with this number.
+pub record IsOnEntries (arena : Arena) (image : Image) (entries : Link) (index : ℕ) (step : Step) : Type 0 where
+  pub source : IsInEntries arena image entries step
+  pub more : List ℕ
+  pub is : leaf_path entries.slot index ≡ source.path ++ more
+
+-- Each record whose pair is in the leaf with this number, in this block, is marked.
+pub record IsAsked (image : Image) (index at : ℕ) (named : List Named) : Type 0 where
+  pub each : (p : ℕ) → p < 102 → (i : ℕ) (d : Named) → i < length named → slot_of (slice_index_or named i d) ≡ index * 102 + p → IsFirst ((image at).slot (2 * p)) (slice_index_or named i d).listed → IsSecond ((image at).slot (2 * p + 1)) (slice_index_or named i d).listed → (slice_index_or named i d).found ≡ true
+
+-- This is so of each leaf of entries, or it is behind a step that is left, where no block is at two places.
+pub record AreAsked (arena : Arena) (image : Image) (k : Kept) (entries : Link) (steps : List Step) (named : List Named) : Type 0 where
+  pub whole : IsTree arena image k.at → (index at : ℕ) → index < 409 ^ depth_of entries.slot → target ((goes arena image entries (leaf_path entries.slot index)).slot) ≡ Local at → SomeOf (IsOnEntries arena image entries index) steps ⊎ IsAsked image index at named
 
 -- ---- one directory
 

@@ -21,7 +21,7 @@ ghost use Rattle.fo_check_tree.specs.Grounds.{HasGrounds};
 ghost use Rattle.fo_check_tree.specs.Listing.{AddsNamed, Adds, IsListing};
 ghost use Rattle.fo_check_tree.specs.Notes.{NotesAt, KeepsFormats};
 ghost use Rattle.fo_check_tree.specs.Depths.{Deepens, AreSpread};
-ghost use Rattle.fo_check_tree.specs.Pairing.{Seeks, AreSought, Grows};
+ghost use Rattle.fo_check_tree.specs.Pairing.{Seeks, AsksOf, IsApart, AreSought, AreAsked, Grows};
 ghost use Rattle.fo_check_names.specs.declared.names.Named.{Named};
 ghost use Rattle.fo_check_tree.specs.Walking.{Walking};
 ghost use Rattle.fo_check_tree.specs.Lower.{lower, level};
@@ -93,6 +93,8 @@ pub(crate) fn follow_all<D: Disk>(
     ensures cause { HasCauses (D.faults main.old) (D.faults main.new) result }
     ensures pairs { (arena : Arena) (device : List Block) (image : Image) (s : Super) (k : Kept) (entries : Link) (names : List Named) (rest : List Step) → Shows (D.state main.old).holds device → Walking arena device image s k rest walk.old → named ≡ true
         → AreSought arena image entries names walk.old.noted walk.old.steps.items walk.old.named.items walk.old.folders.items → OnOk result (AreSought arena image entries names walk.new.noted walk.new.steps.items walk.new.named.items walk.new.folders.items) }
+    ensures asked { (arena : Arena) (device : List Block) (image : Image) (s : Super) (k : Kept) (entries : Link) (names : List Named) (rest : List Step) → Shows (D.state main.old).holds device → Walking arena device image s k rest walk.old → named ≡ true → IsApart names
+        → AreSought arena image entries names walk.old.noted walk.old.steps.items walk.old.named.items walk.old.folders.items → AreAsked arena image k entries walk.old.steps.items walk.old.named.items → OnOk result (AreAsked arena image k entries walk.new.steps.items walk.new.named.items) }
     ensures grows { (arena : Arena) (device : List Block) (image : Image) (s : Super) (k : Kept) (rest : List Step) → Shows (D.state main.old).holds device → Walking arena device image s k rest walk.old → OnOk result (Grows walk.old.folders.items walk.new.folders.items) }
     ensures spread { (arena : Arena) (device : List Block) (image : Image) (s : Super) (k : Kept) (w : Link) (deep : ℕ) (rest : List Step) → Shows (D.state main.old).holds device → Walking arena device image s k rest walk.old → deep ≡ min (depth + 1) (2 ^ 32 - 1)
         → AreSpread arena image k w deep walk.old.noted walk.old.steps.items walk.old.folders.items → OnOk result (AreSpread arena image k w deep walk.new.noted walk.new.steps.items walk.new.folders.items) }
@@ -200,6 +202,7 @@ fn enter<D: Disk>(
     ensures named { (device : List Block) → Shows (D.state main.old).holds device → OnOk result (Adds step.now here.block (block_of device here.block) step.now.kind walk.old.named.items walk.new.named.items) }
     ensures leaf { (device : List Block) → Shows (D.state main.old).holds device → step.now.kind ≡ Data 0 → step.now.holds ≡ Records → OnOk result (5 < level walk.new.noted → IsLeaf (block_of device here.block)) }
     ensures sought { (device : List Block) (c : Content) → Shows (D.state main.old).holds device → HasSlots step.now.kind c (block_of device here.block) → OnOk result (Seeks step.now c named step.now.kind walk.old.named.items walk.new.named.items walk.new.folders.items) }
+    ensures asks { (device : List Block) (c : Content) → Shows (D.state main.old).holds device → HasSlots step.now.kind c (block_of device here.block) → OnOk result (AsksOf step.now c step.now.kind walk.old.named.items walk.new.named.items) }
     ensures file { step.now.kind ≡ Data 0 → step.now.holds ≡ Bytes → OnOk result (walk.new.named.items ≡ walk.old.named.items) }
     ensures deep { (device : List Block) (c : Content) → Shows (D.state main.old).holds device → HasSlots step.now.kind c (block_of device here.block) → OnOk result (Deepens c (min (depth + 1) (2 ^ 32 - 1)) step.now.kind walk.new.noted) }
 {
@@ -239,6 +242,7 @@ fn add_block(
     ensures clean { (c : Content) → IsRead step.now.kind c block.now → (step.now.kind ≡ Data 0 → IsLeaf block.now) → OnOk result (KeepsFormats walk.old.noted walk.new.noted) }
     ensures leaf { step.now.kind ≡ Data 0 → OnOk result (5 < level walk.new.noted → IsLeaf block.now) }
     ensures sought { (c : Content) → HasSlots step.now.kind c block.now → OnOk result (Seeks step.now c named step.now.kind walk.old.named.items walk.new.named.items walk.new.folders.items) }
+    ensures asks { (c : Content) → HasSlots step.now.kind c block.now → OnOk result (AsksOf step.now c step.now.kind walk.old.named.items walk.new.named.items) }
     ensures deep { (c : Content) → HasSlots step.now.kind c block.now → OnOk result (Deepens c (min (depth + 1) (2 ^ 32 - 1)) step.now.kind walk.new.noted) }
 {
     match step.kind {

@@ -24,7 +24,7 @@ ghost use Rattle.fo_check_tree.specs.Slots.{top_step, entry_of, HasSlot, steps_b
 ghost use Rattle.fo_check_names.specs.Pairs.{no_entry, is_folder, is_source, records_of};
 ghost use Rattle.fo_check_tree.specs.Notes.{NotesAt, NotesDeep, KeepsFormats};
 ghost use Rattle.fo_check_tree.specs.Depths.{IsSourceOf};
-ghost use Rattle.fo_check_tree.specs.Pairing.{Searches, AreInOrder, Settles, Grows};
+ghost use Rattle.fo_check_tree.specs.Pairing.{Searches, IsApart, Asks, AreInOrder, Settles, Grows};
 ghost use Rattle.fo_check_names.specs.Names.{number_in};
 ghost use Rattle.fo_check_names.specs.Finds.{Finds};
 
@@ -121,6 +121,7 @@ pub(crate) fn add_entries(
     ensures folders { OnOk result (length walk.new.folders.items ≤ length walk.old.folders.items + 204) }
     ensures level { OnOk result (level walk.new.noted ≤ level walk.old.noted) }
     ensures sought { (c : Content) → ((i : ℕ) → i < 204 → HasSlot c block.now i) → OnOk result (Searches index c named 102 walk.old.named.items walk.new.named.items walk.new.folders.items) }
+    ensures asks { (c : Content) → ((i : ℕ) → i < 204 → HasSlot c block.now i) → index < 27982932961 → IsApart walk.old.named.items → OnOk result (Asks index c 102 walk.old.named.items walk.new.named.items) }
     ensures deep { (c : Content) → ((i : ℕ) → i < 204 → HasSlot c block.now i) → OnOk result (8 < level walk.new.noted → (i : ℕ) → i < 204 → is_folder (entry_of (c.slot i)) ≡ true → min (depth + 1) (2 ^ 32 - 1) ≤ 64) }
 {
     walk.note_rest(here.block, &block[8160..]);

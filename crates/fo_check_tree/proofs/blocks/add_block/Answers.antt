@@ -6,7 +6,7 @@ use Rattle.fo_check_tree.specs.Follows.{Reads}
 use Rattle.fo_sound.specs.Image.{is_zero}
 use Rattle.fo_check_tree.specs.Notes.{NotesAt, KeepsFormats}
 use Rattle.fo_check_tree.specs.Slots.{unless, HasSlots}
-use Rattle.fo_check_tree.proofs.Adding.{data_adds, dir_adds, on_ok, notes_unless, data_reads, dir_reads, data_clean, dir_clean, entries_read, leaf_names, inner_names, dir_names, root_names, not_leaf_data, not_leaf_dir, not_leaf_root, leaf_seeks, inner_seeks, data_seeks, root_seeks, leaf_deepens, nothing_deepens, other_deepens, not_entries_data, not_entries_dir, not_entries_root}
+use Rattle.fo_check_tree.proofs.Adding.{data_adds, dir_adds, on_ok, notes_unless, data_reads, dir_reads, data_clean, dir_clean, entries_read, leaf_names, inner_names, dir_names, root_names, not_leaf_data, not_leaf_dir, not_leaf_root, leaf_seeks, inner_seeks, data_seeks, root_seeks, leaf_deepens, nothing_deepens, other_deepens, leaf_asks, nothing_asks, other_asks, not_entries_data, not_entries_dir, not_entries_root}
 use Rattle.fo_check_tree.proofs.Noting.{keeps_same}
 use Rattle.fo_good.specs.Means.{IsRead}
 use Rattle.fo_check_tree.proofs.blocks.add_block.Goals as goal
@@ -125,3 +125,21 @@ returns-in-Dir-eq0-clause-clean c c' read leaf =
 
 pub returns-in-Root-clause-clean : goal.returns-in-Root-clause-clean
 returns-in-Root-clause-clean c c' read leaf = keeps_same c.args.walk.now.noted c.args.walk.now.noted refl
+
+pub returns-in-Data-eq0-clause-asks : goal.returns-in-Data-eq0-clause-asks
+returns-in-Data-eq0-clause-asks c c' slots = other_asks c.add_records.result c.args.step.now c' c.args.walk.now.named.items c.add_records.new.walk.named.items c.args.step.now.kind (not_entries_data _ c.args.step.now.kind c.in-Data-eq0.is)
+
+pub returns-in-Data-clause-asks : goal.returns-in-Data-clause-asks
+returns-in-Data-clause-asks c c' slots = other_asks c.add_pointers.result c.args.step.now c' c.args.walk.now.named.items c.add_pointers.new.walk.named.items c.args.step.now.kind (not_entries_data c.in-Data.level c.args.step.now.kind c.in-Data.is)
+
+pub returns-in-Dir-eq0-clause-asks : goal.returns-in-Dir-eq0-clause-asks
+returns-in-Dir-eq0-clause-asks c c' slots =
+    let kind : c.args.step.now.kind ≡ Dir 0 = c.in-Dir-eq0.is ∙ ap (λ (n : ℕ). Dir n) (first_of (omega (arith, c.in-Dir-eq0.field-0-is), grind (arith, c.in-Dir-eq0.field-0-test), search rules)) in
+    leaf_asks c.add_entries.result c.args.step.now c' c.args.walk.now.named.items c.add_entries.new.walk.named.items c.args.step.now.kind kind
+    (c.add_entries.ensures.asks c' (subst (λ (k : Kind). HasSlots k c' c.args.block.now) kind slots).0)
+
+pub returns-in-Dir-clause-asks : goal.returns-in-Dir-clause-asks
+returns-in-Dir-clause-asks c c' slots = other_asks c.add_pointers-in-Dir.result c.args.step.now c' c.args.walk.now.named.items c.add_pointers-in-Dir.new.walk.named.items c.args.step.now.kind (not_entries_dir c.in-Dir.level c.args.step.now.kind c.in-Dir.is (grind (arith, c.in-Dir.level-test)))
+
+pub returns-in-Root-clause-asks : goal.returns-in-Root-clause-asks
+returns-in-Root-clause-asks c c' slots = nothing_asks c.args.step.now c' c.args.walk.now.named.items c.args.walk.now.named.items c.args.step.now.kind (not_entries_root c.args.step.now.kind c.in-Root.is)

@@ -1,4 +1,4 @@
-use Rattle.std.proofs.Common.{Bool, List, [], ◌∷◌, ◌++◌, append-nil, refl, sym, ◌∙◌, subst, arith}
+use Rattle.std.proofs.Common.{Bool, true, List, [], ◌∷◌, ◌++◌, append-nil, refl, sym, ◌∙◌, subst, arith}
 use Rattle.std.proofs.lemmas.Result.{err_from_is_err_and}
 use Rattle.fo_disk.specs.Disk.{DiskState}
 use Rattle.fo_sound.specs.Device.{Shows}
@@ -13,8 +13,9 @@ use Rattle.fo_check_tree.specs.Walking.{Walking}
 use Rattle.fo_check_tree.proofs.Formatting.{formed_on}
 use Rattle.fo_check_tree.proofs.Judging.{judged_like, judged_on}
 use Rattle.fo_check_tree.proofs.Listed.{lists}
-use Rattle.fo_check_tree.specs.Pairing.{AreSought}
+use Rattle.fo_check_tree.specs.Pairing.{AreSought, AreAsked}
 use Rattle.fo_check_tree.specs.Follows.{Follows}
+use Rattle.fo_check_tree.proofs.Asked.{asked_on}
 use Rattle.fo_check_tree.proofs.Seeking.{grows_none, grows_then, grows_on, sought_on}
 use Rattle.fo_check_tree.specs.Depths.{AreSpread}
 use Rattle.fo_check_tree.proofs.Spreading.{spread_on}
@@ -68,6 +69,16 @@ loop-step-preserved g c = record {
       subst (λ (xs : List Step). AreSought arena image entries names c.loop-step.walk.noted xs c.loop-step.walk.named.items c.loop-step.walk.folders.items) c.in-Some.ensures.items (c.loop-step.invariant.pairs arena device image s k entries names rest shows w lead h) in
       sought_on arena device image s k rest c.in-Some.step old c.follow.new.walk left c.in_ok-follow.ensures.level c.args.depth entries names sought
       (subst (λ (b : Bool). Follows device image c.args.depth b c.in-Some.step old c.follow.new.walk) lead (c.in_ok-follow.ensures.follows device image (subst (λ (x : DiskState). Shows x.holds device) (sym c.loop-step.invariant.kept) shows)));
+  asked = λ arena device image s k entries names rest shows w lead apart h b.
+      let old : Walk = record c.loop-step.walk { steps = c.pop.new.self } in
+      let before : Walking arena device image s k rest c.loop-step.walk = c.loop-step.invariant.walks arena device image s k rest shows w in
+      let left : Walking arena device image s k (c.in-Some.step ∷ rest) old = popped arena device image s k c.loop-step.walk old (record { blocks = refl; epoch = refl; active = refl; labels = refl; noted = refl }) rest c.in-Some.step c.in-Some.ensures.items refl before in
+      let sought : AreSought arena image entries names c.loop-step.walk.noted (c.pop.new.self.items ++ c.in-Some.step ∷ []) c.loop-step.walk.named.items c.loop-step.walk.folders.items =
+      subst (λ (xs : List Step). AreSought arena image entries names c.loop-step.walk.noted xs c.loop-step.walk.named.items c.loop-step.walk.folders.items) c.in-Some.ensures.items (c.loop-step.invariant.pairs arena device image s k entries names rest shows w lead h) in
+      let step : Follows device image c.args.depth true c.in-Some.step old c.follow.new.walk = subst (λ (b : Bool). Follows device image c.args.depth b c.in-Some.step old c.follow.new.walk) lead (c.in_ok-follow.ensures.follows device image (subst (λ (x : DiskState). Shows x.holds device) (sym c.loop-step.invariant.kept) shows)) in
+      let before' : AreAsked arena image k entries (c.pop.new.self.items ++ c.in-Some.step ∷ []) c.loop-step.walk.named.items =
+      subst (λ (xs : List Step). AreAsked arena image k entries xs c.loop-step.walk.named.items) c.in-Some.ensures.items (c.loop-step.invariant.asked arena device image s k entries names rest shows w lead apart h b) in
+      asked_on arena device image s k rest c.in-Some.step old c.follow.new.walk left c.in_ok-follow.ensures.level c.args.depth entries names sought apart before' step;
   spread = λ arena device image s k link deep rest shows w is h.
       let old : Walk = record c.loop-step.walk { steps = c.pop.new.self } in
       let before : Walking arena device image s k rest c.loop-step.walk = c.loop-step.invariant.walks arena device image s k rest shows w in
@@ -100,6 +111,7 @@ loop-step-init g c = record {
   formed = λ arena device image s k rest others shows w j. j;
   grounds = λ arena device image s k rest shows w h. h;
   pairs = λ arena device image s k entries names rest shows w lead h. h;
+  asked = λ arena device image s k entries names rest shows w lead apart h b. b;
   spread = λ arena device image s k link deep rest shows w is h. h;
   grows = λ arena device image s k rest shows w. grows_none c.args.walk.now.folders.items;
   blocks = refl;
@@ -146,3 +158,7 @@ returns-clause-spread g c arena device image s k link deep rest shows w is h =
 pub returns-clause-grounds : goal.returns-clause-grounds
 returns-clause-grounds g c arena device image s k rest shows w h =
     subst (λ (xs : List Step). HasGrounds arena image k c.loop-step.walk.noted xs c.loop-step.walk.folders.items) (c.in_default.ensures.items ∙ append-nil c.pop.new.self.items) (c.loop-step.invariant.grounds arena device image s k rest shows w h)
+
+pub returns-clause-asked : goal.returns-clause-asked
+returns-clause-asked g c arena device image s k entries names rest shows w lead apart h b =
+    subst (λ (xs : List Step). AreAsked arena image k entries xs c.loop-step.walk.named.items) (c.in_default.ensures.items ∙ append-nil c.pop.new.self.items) (c.loop-step.invariant.asked arena device image s k entries names rest shows w lead apart h b)

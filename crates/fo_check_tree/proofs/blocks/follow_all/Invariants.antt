@@ -14,7 +14,7 @@ use Rattle.fo_check_tree.specs.Dirs.{AreJudged}
 use Rattle.fo_check_tree.specs.Listing.{IsListing}
 use Rattle.fo_check_tree.specs.Walking.{Walking}
 use Rattle.fo_check_tree.specs.Lower.{level}
-use Rattle.fo_check_tree.specs.Pairing.{AreSought, Grows}
+use Rattle.fo_check_tree.specs.Pairing.{IsApart, AreSought, AreAsked, Grows}
 use Rattle.fo_check_names.specs.declared.names.Named.{Named}
 use Rattle.fo_check_tree.proofs.blocks.follow_all.Given as goal
 
@@ -32,6 +32,8 @@ invariant-loop-step g l = record {
       → HasGrounds arena image k l.fn.walk.noted l.fn.walk.steps.items l.fn.walk.folders.items → HasGrounds arena image k l.walk.noted l.walk.steps.items l.walk.folders.items;
   pairs : (arena : Arena) (device : List Block) (image : Image) (s : Super) (k : Kept) (entries : Link) (names : List Named) (rest : List Step) → Shows (g.D.Disk.state l.fn.main).holds device → Walking arena device image s k rest l.fn.walk → l.named ≡ true
       → AreSought arena image entries names l.fn.walk.noted l.fn.walk.steps.items l.fn.walk.named.items l.fn.walk.folders.items → AreSought arena image entries names l.walk.noted l.walk.steps.items l.walk.named.items l.walk.folders.items;
+  asked : (arena : Arena) (device : List Block) (image : Image) (s : Super) (k : Kept) (entries : Link) (names : List Named) (rest : List Step) → Shows (g.D.Disk.state l.fn.main).holds device → Walking arena device image s k rest l.fn.walk → l.named ≡ true → IsApart names
+      → AreSought arena image entries names l.fn.walk.noted l.fn.walk.steps.items l.fn.walk.named.items l.fn.walk.folders.items → AreAsked arena image k entries l.fn.walk.steps.items l.fn.walk.named.items → AreAsked arena image k entries l.walk.steps.items l.walk.named.items;
   spread : (arena : Arena) (device : List Block) (image : Image) (s : Super) (k : Kept) (w : Link) (deep : ℕ) (rest : List Step) → Shows (g.D.Disk.state l.fn.main).holds device → Walking arena device image s k rest l.fn.walk → deep ≡ min (l.depth + 1) (2 ^ 32 - 1)
       → AreSpread arena image k w deep l.fn.walk.noted l.fn.walk.steps.items l.fn.walk.folders.items → AreSpread arena image k w deep l.walk.noted l.walk.steps.items l.walk.folders.items;
   grows : (arena : Arena) (device : List Block) (image : Image) (s : Super) (k : Kept) (rest : List Step) → Shows (g.D.Disk.state l.fn.main).holds device → Walking arena device image s k rest l.fn.walk → Grows l.fn.walk.folders.items l.walk.folders.items;

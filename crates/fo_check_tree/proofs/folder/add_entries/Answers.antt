@@ -9,10 +9,11 @@ use Rattle.fo_check_tree.specs.Slots.{entry_of, steps_by_pairs, pair_steps, pair
 use Rattle.fo_check_tree.specs.Notes.NotesAt.{same as note_same}
 use Rattle.fo_check_names.specs.Finds.{Finds}
 use Rattle.fo_check_names.specs.declared.names.Named.{Named}
-use Rattle.fo_check_tree.specs.Pairing.{Searches}
+use Rattle.fo_check_tree.specs.Pairing.{Searches, Asks}
 use Rattle.fo_check_tree.proofs.Searching.{searches_first, searches_on}
 use Rattle.fo_good.specs.Means.{HasEntry}
 use Rattle.std.proofs.lemmas.Bool.{cases_eq, cases_lt}
+use Rattle.fo_check_tree.proofs.Asking.{apart_same, asks_first, asks_on}
 use Rattle.fo_check_tree.proofs.Adding.{then_notes, notes_unless, entry_read}
 use Rattle.fo_check_tree.proofs.Noting.{keeps_same, keeps_then, keeps_deep, deep_at, keeps_zero}
 use Rattle.fo_check_tree.proofs.Slots.{pairs_first, pairs_more, folders_first, folders_more, low_unless, rest_is}
@@ -27,6 +28,7 @@ loop-k-init c = record {
   put = λ c' each. rw c.note_rest.ensures.folders (folders_first c.args.here c' (min (c.args.depth + 1) (2 ^ 32 - 1)) c.args.named c.args.walk.now.folders.items);
   whole = λ c' each quiet i lt. absurd (omega (arith, lt));
   sought = λ c' each. rw c.note_rest.ensures.named (searches_first c.args.index c' c.args.named c.args.walk.now.named.items c.note_rest.new.self.folders.items);
+  asks = λ c' each small apart. rw c.note_rest.ensures.named (asks_first c.args.index c' small c.args.walk.now.named.items);
   deep = λ c' each quiet i lt. absurd (omega (arith, lt));
   rest = λ no. rw c.note_rest.ensures.noted (low_unless (is_zero (take (length c.args.block.now - 8160) (drop 8160 c.args.block.now))) c.args.here.block c.args.walk.now.noted (ap is_zero (rest_is 8160 c.args.block.now) ∙ no));
   clean = λ c' each zero. keeps_zero (is_zero (take (length c.args.block.now - 8160) (drop 8160 c.args.block.now))) (ap is_zero (rest_is 8160 c.args.block.now) ∙ zero) c.args.here.block c.args.walk.now.noted c.note_rest.new.self.noted c.note_rest.ensures.noted;
@@ -77,6 +79,11 @@ loop-k-preserved c =
           c.entry_at-first.result c.entry_at-second.result c.saturating_add.result (c.saturating_add.ensures ∙ ap (λ (n : ℕ). min (n + c.loop-k.k) (2 ^ 64 - 1)) c.saturating_mul.ensures) c.is_both-leads.ensures
           (c.entry_at-first.ensures.is c' (each (2 * c.loop-k.k) (omega (arith, less)))) (c.entry_at-second.ensures.is c' (each (2 * c.loop-k.k + 1) (omega (arith, less))))
           (c.loop-k.invariant.sought c' each) found (c.in_ok-add_pair.ensures.put ∙ ap (λ (s : List Folder). s ++ pair_folders c.args.here c.entry_at-first.result c.entry_at-second.result c.saturating_add-below.result c.is_both-leads.result) folders);
+      asks = λ c' each small apart.
+          let before = c.loop-k.invariant.sought c' each in
+          asks_on c.args.index c' small c.loop-k.k less c.args.walk.now.named.items c.loop-k.walk.named.items c.find_here-of.result (apart_same c.args.walk.now.named.items c.loop-k.walk.named.items before.same apart) (c.loop-k.invariant.asks c' each small apart)
+          c.add_pair.new.walk.named.items c.entry_at-first.result c.entry_at-second.result c.saturating_add.result (c.saturating_add.ensures ∙ ap (λ (n : ℕ). min (n + c.loop-k.k) (2 ^ 64 - 1)) c.saturating_mul.ensures)
+          (c.entry_at-first.ensures.is c' (each (2 * c.loop-k.k) (omega (arith, less)))) (c.entry_at-second.ensures.is c' (each (2 * c.loop-k.k + 1) (omega (arith, less)))) found;
       deep = λ c' each quiet i lt yes. ⊎_elim
           (λ old. c.loop-k.invariant.deep c' each (omega (arith, quiet, low)) i old yes)
           (λ new. ⊎_elim
@@ -127,3 +134,8 @@ pub returns-clause-deep : goal.returns-clause-deep
 returns-clause-deep c c' each quiet i lt folder =
     let end : c.loop-k.k ≡ 102 = omega (arith, c.loop-k-test.false, c.loop-k.auto.k-end) in
     c.loop-k.invariant.deep c' each quiet i (omega (arith, lt, end)) folder
+
+pub returns-clause-asks : goal.returns-clause-asks
+returns-clause-asks c c' each small apart =
+    let end : c.loop-k.k ≡ 102 = omega (arith, c.loop-k-test.false, c.loop-k.auto.k-end) in
+    subst (λ (n : ℕ). Asks c.args.index c' n c.args.walk.now.named.items c.loop-k.walk.named.items) end (c.loop-k.invariant.asks c' each small apart)

@@ -5,7 +5,7 @@ use Rattle.fo_good.specs.Means.{HasEntry}
 use Rattle.fo_sound.specs.Image.{is_zero}
 use Rattle.fo_check_tree.specs.Lower.{level}
 use Rattle.fo_check_tree.specs.Notes.{NotesAt, KeepsFormats}
-use Rattle.fo_check_tree.specs.Pairing.{Searches}
+use Rattle.fo_check_tree.specs.Pairing.{Searches, IsApart, Asks}
 use Rattle.fo_check_names.specs.Pairs.{is_folder}
 use Rattle.fo_check_tree.specs.Slots.{entry_of, HasSlot, steps_by_pairs, AddsFolders}
 use Rattle.fo_check_tree.proofs.folder.add_entries.Given as goal
@@ -16,6 +16,7 @@ invariant-loop-k l = record {
   put : (c : Content) → ((i : ℕ) → i < 204 → HasSlot c l.block i) → AddsFolders l.here c (min (l.depth + 1) (2 ^ 32 - 1)) l.named l.k l.fn.walk.folders.items l.walk.folders.items;
   whole : (c : Content) → ((i : ℕ) → i < 204 → HasSlot c l.block i) → 5 < level l.walk.noted → (i : ℕ) → i < 2 * l.k → HasEntry c l.block i;
   sought : (c : Content) → ((i : ℕ) → i < 204 → HasSlot c l.block i) → Searches l.index c l.named l.k l.fn.walk.named.items l.walk.named.items l.walk.folders.items;
+  asks : (c : Content) → ((i : ℕ) → i < 204 → HasSlot c l.block i) → l.index < 27982932961 → IsApart l.fn.walk.named.items → Asks l.index c l.k l.fn.walk.named.items l.walk.named.items;
   deep : (c : Content) → ((i : ℕ) → i < 204 → HasSlot c l.block i) → 8 < level l.walk.noted → (i : ℕ) → i < 2 * l.k → is_folder (entry_of (c.slot i)) ≡ true → min (l.depth + 1) (2 ^ 32 - 1) ≤ 64;
   rest : is_zero (drop 8160 l.block) ≡ false → level l.walk.noted ≤ 5;
   clean : (c : Content) → ((i : ℕ) → i < 204 → HasEntry c l.block i) → is_zero (drop 8160 l.block) ≡ true → KeepsFormats l.fn.walk.noted l.walk.noted;
