@@ -36,14 +36,14 @@ use Rattle.fo_check_tree.specs.Follows.Reaches.{again, enters}
 use Rattle.fo_check_tree.specs.Follows.Follows.{nowhere, held, local}
 use Rattle.fo_check_tree.specs.Grounds.{IsAtRecords, IsPlaced, IsRecordsOf, HasRecordsOf, HasGrounds}
 use Rattle.fo_check_tree.specs.Lower.{lower}
-use Rattle.fo_check_tree.specs.Notes.{NotesAt, KeepsFormats}
+use Rattle.fo_check_tree.specs.Notes.{NotesAt, KeepsFormats, KeepsPairs}
 use Rattle.fo_check_tree.specs.Notes.NotesAt.{same as note_same, format as note_format, deep as note_deep}
 use Rattle.fo_check_tree.specs.Slots.{HasSlot, HasSlots, AreFolders, steps_by, step_below, steps_below, steps_of, steps_by_pairs, pair_steps, first_steps, second_steps, pair_folders, folders_by, top_step, entry_of}
 use Rattle.fo_check_tree.specs.Slots.HasSlot.{entry, other}
 use Rattle.fo_check_tree.specs.Slots.AreFolders.{none, more}
 use Rattle.fo_check_tree.specs.Walking.{HasPath, Walking}
 use Rattle.fo_check_tree.proofs.Leaves.{all_join, all_front, all_back}
-use Rattle.fo_check_tree.proofs.Noting.{lowered, keeps_lower}
+use Rattle.fo_check_tree.proofs.Noting.{lowered, keeps_lower, pairs_same, pairs_lower, pairs_at}
 use Rattle.fo_check_tree.proofs.Paths.{goes_end, slot_end, found_is}
 use Rattle.fo_check_tree.proofs.Reaching.{reached_new}
 use Rattle.fo_check_tree.proofs.Slots.{none_below, one_below, no_pairs, one_pair}
@@ -401,3 +401,11 @@ module _ (arena : Arena) (device : List Block) (image : Image) (s : Super) (k : 
   grounds_on (held x is same) = subst (λ (y : Walk). HasGrounds arena image k y.noted y.steps.items y.folders.items) (sym same)
       (fewer (lower old.noted 9 step.holder.block) old.steps.items old.folders.items refl refl (keeps_lower old.noted (lower old.noted 9 step.holder.block) 9 step.holder.block (λ e. omega (arith, e)) refl))
   grounds_on (local at is r) = after_block at is r
+
+-- ---- rule 6
+
+pub follow_keeps : (device : List Block) (image : Image) (depth : ℕ) (named : Bool) (step : Step) (old new : Walk) → Follows device image depth named step old new → KeepsPairs old.noted new.noted
+follow_keeps device image depth named step old new (nowhere nil same) = pairs_same old.noted new.noted (ap (λ (x : Walk). x.noted) same)
+follow_keeps device image depth named step old new (held x is same) = pairs_lower old.noted new.noted 9 step.holder.block (λ e. omega (arith, e)) (ap (λ (y : Walk). y.noted) same)
+follow_keeps device image depth named step old new (local at is (again m allowed marks same same' noted kept)) = pairs_lower old.noted new.noted 7 at (λ e. omega (arith, e)) noted
+follow_keeps device image depth named step old new (local at is (enters m allowed marks steps folders notes read adds leafs seeks bytes deeps clean asks)) = pairs_at at old.noted new.noted notes

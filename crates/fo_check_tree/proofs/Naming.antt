@@ -20,7 +20,7 @@ use Rattle.fo_check_names.specs.Names.{named_in, name_of, slot_of, leaf_of, Diff
 use Rattle.fo_check_names.specs.declared.names.Named.{Named}
 use Rattle.fo_check_tree.specs.declared.labels.Known.{Known}
 use Rattle.fo_check_tree.specs.Answer.{HasOwnNames, HasNameTwice}
-use Rattle.fo_check_tree.specs.Listing.{SomeOf, Leaf, IsLeafIn, all_named, Apart, IsInSource, IsListing, JudgesNames, IsMetaOf}
+use Rattle.fo_check_tree.specs.Listing.{SomeOf, Leaf, IsLeafIn, all_named, Apart, IsInSource, IsListing, HasSlotTwice, JudgesNames, IsMetaOf}
 use Rattle.fo_check_tree.specs.declared.broken.Broken.{Broken}
 use Rattle.fo_check_tree.specs.declared.walk.Folder.{Folder}
 use Rattle.fo_check_tree.specs.declared.walk.Holds.TheVariants.{Records}
@@ -195,6 +195,30 @@ module _ (arena : Arena) (image : Image) (empty : (kind : Kind) (score : Score) 
           first = lists_at w.second g.leaf g.place g.named g.at;
           second = lists_at w.first f.leaf f.place f.named f.at;
           same = ap (λ (x : Named). name_of x) (sym (same_name w.second g.leaf g.place g.named g.at d)) ∙ sym (w.same d) ∙ ap (λ (x : Named). name_of x) (same_name w.first f.leaf f.place f.named f.at d);
+          apart = λ e.
+              let a : Local f.leaf.block ≡ Local g.leaf.block = sym (leads_at w.first f.leaf f.place f.named f.at) ∙ ap (λ (n : ℕ). target ((goes arena image meta (leaf_path meta.slot n)).slot)) (sym e.0) ∙ leads_at w.second g.leaf g.place g.named g.at in
+              let b : f.leaf.block ≡ g.leaf.block = cc in
+              two_places l.leaves l.apart w.first f.leaf f.place f.named w.second g.leaf g.place g.named f.at g.at w.apart b (sym e.1);
+          leads = leads_at w.second g.leaf g.place g.named g.at ∙ ap (λ (b : ℕ). Local b) block;
+        }
+
+    pub slot_twice : (leaf : ℕ) → IsTwice slot_of leaf_of named leaf → HasSlotTwice arena image meta leaf
+    slot_twice leaf w =
+        let size : length named ≡ length (all_named l.leaves) = ap (λ (xs : List Named). length xs) l.named_is in
+        let f = find l.leaves w.first (omega (arith, w.before, size)) in
+        let g = find l.leaves w.second (omega (arith, w.within, size)) in
+        let d : Named = named_in 0 f.named in
+        let block : g.leaf.block ≡ leaf = ap (λ (x : Named). x.leaf) (sym (same_name w.second g.leaf g.place g.named g.at d)) ∙ w.leaf_is d in
+        record {
+          leaf = g.leaf.index;
+          place = g.place;
+          other_leaf = f.leaf.index;
+          other_place = f.place;
+          one = g.named;
+          other = f.named;
+          first = lists_at w.second g.leaf g.place g.named g.at;
+          second = lists_at w.first f.leaf f.place f.named f.at;
+          same = ap (λ (x : Named). slot_of x) (sym (same_name w.second g.leaf g.place g.named g.at d)) ∙ sym (w.same d) ∙ ap (λ (x : Named). slot_of x) (same_name w.first f.leaf f.place f.named f.at d);
           apart = λ e.
               let a : Local f.leaf.block ≡ Local g.leaf.block = sym (leads_at w.first f.leaf f.place f.named f.at) ∙ ap (λ (n : ℕ). target ((goes arena image meta (leaf_path meta.slot n)).slot)) (sym e.0) ∙ leads_at w.second g.leaf g.place g.named g.at in
               let b : f.leaf.block ≡ g.leaf.block = cc in

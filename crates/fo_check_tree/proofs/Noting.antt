@@ -4,7 +4,7 @@ use Rattle.std.specs.Prelude.{if◌then◌else◌}
 use Rattle.std.proofs.lemmas.Bool.{false≢true}
 use Rattle.fo_check_tree.specs.declared.broken.Broken.{Broken}
 use Rattle.fo_check_tree.specs.Lower.{lower, level}
-use Rattle.fo_check_tree.specs.Notes.{NotesAt, NotesDeep, NotesLeaf, KeepsFormats, Lowers}
+use Rattle.fo_check_tree.specs.Notes.{NotesAt, NotesDeep, NotesLeaf, KeepsFormats, KeepsPairs, Lowers}
 use Rattle.fo_check_tree.specs.Notes.NotesDeep.{same as deep_same, deep as deep_deep}
 use Rattle.fo_check_tree.specs.Slots.{unless}
 use Rattle.fo_check_tree.specs.Notes.NotesAt.{same as note_same, format as note_format, deep as note_deep}
@@ -81,3 +81,26 @@ keeps_lower old new rule block isnt is = record { same = λ b e five. ⊎_elim (
 pub keeps_leaf : (old new : Option Broken) (rule : ℕ) (leaf : Option ℕ) → rule ≢ 5 → NotesLeaf rule leaf old new → KeepsFormats old new
 keeps_leaf old new rule None isnt is = keeps_same old new is
 keeps_leaf old new rule (Some block) isnt is = keeps_lower old new rule block isnt is
+
+-- ---- rule 6
+
+other_six : (rule block : ℕ) (b : Broken) → rule ≢ 6 → Some (record { rule = rule; block = block }) ≡ Some b → b.rule ≡ 6 → ⊥
+other_six rule block b isnt e six = isnt (ap (λ (x : Broken). x.rule) (is_some (record { rule = rule; block = block }) b e) ∙ six)
+
+pub pairs_same : (old new : Option Broken) → new ≡ old → KeepsPairs old new
+pairs_same old new is = record { same = λ b e six. sym is ∙ e }
+
+pub pairs_then : (a b c : Option Broken) → KeepsPairs a b → KeepsPairs b c → KeepsPairs a c
+pairs_then a b c v w = record { same = λ x e six. v.same x (w.same x e six) six }
+
+pub pairs_lower : (old new : Option Broken) (rule block : ℕ) → rule ≢ 6 → new ≡ lower old rule block → KeepsPairs old new
+pairs_lower old new rule block isnt is = record { same = λ b e six. ⊎_elim (λ before. before) (λ now. absurd (isnt (now.0 ∙ six))) (lowered old rule block b (sym is ∙ e)) }
+
+pub pairs_leaf : (old new : Option Broken) (rule : ℕ) (leaf : Option ℕ) → rule ≢ 6 → NotesLeaf rule leaf old new → KeepsPairs old new
+pairs_leaf old new rule None isnt is = pairs_same old new is
+pairs_leaf old new rule (Some block) isnt is = pairs_lower old new rule block isnt is
+
+pub pairs_at : (block : ℕ) (old new : Option Broken) → NotesAt block old new → KeepsPairs old new
+pairs_at block old new (note_same is) = pairs_same old new is
+pairs_at block old new (note_format is) = record { same = λ b e six. absurd (other_six 5 block b (λ h. omega (arith, h)) (sym is ∙ e) six) }
+pairs_at block old new (note_deep is) = record { same = λ b e six. absurd (other_six 8 block b (λ h. omega (arith, h)) (sym is ∙ e) six) }

@@ -14,18 +14,19 @@ use Rattle.fo_good.specs.Sound.{Kept}
 use Rattle.fo_check_names.specs.Names.{slot_of, leaf_of, Differ, IsTwice, IsPaired, IsUnpaired, named_in, number_in}
 use Rattle.fo_check_names.specs.declared.names.Named.{Named}
 use Rattle.fo_check_names.specs.declared.names.Number.{Number}
-use Rattle.fo_check_names.proofs.Moved.{moved, differ_before}
+use Rattle.fo_check_names.proofs.Moved.{moved, differ_before, twice_before}
 use Rattle.fo_check_tree.specs.declared.broken.Broken.{Broken}
 use Rattle.fo_check_tree.specs.declared.labels.Known.{Known}
 use Rattle.fo_check_tree.specs.declared.walk.Folder.{Folder}
-use Rattle.fo_check_tree.specs.Listing.{SomeOf, IsListing}
+use Rattle.fo_check_tree.specs.Listing.{SomeOf, IsListing, HasSlotTwice, NotesSlots}
 use Rattle.fo_check_tree.specs.Lower.{level}
-use Rattle.fo_check_tree.specs.Notes.{NotesLeaf}
+use Rattle.fo_check_tree.specs.Notes.{KeepsPairs, NotesLeaf}
 use Rattle.fo_check_tree.specs.Pairing.{IsHeadOf, IsFound, AreSought, IsNamedIn, AreInOrder, IsSettled, Settles, Grows, IsLeft, HasOwnPairs, Counted, IsCounted, AreCounted, AreSettled}
 use Rattle.fo_check_tree.specs.Pairing.IsLeft.{here, below}
 use Rattle.fo_check_tree.proofs.Leaves.{some_left, some_parts}
 use Rattle.fo_check_tree.proofs.Levels.{level-lower}
-use Rattle.fo_check_tree.proofs.Naming.{fresh, is_named, own_slots}
+use Rattle.fo_check_tree.proofs.Naming.{fresh, is_named, own_slots, slot_twice}
+use Rattle.fo_check_tree.proofs.Noting.{lowered}
 
 -- ---- one directory
 
@@ -53,6 +54,23 @@ module _ (arena : Arena) (image : Image) (k : Kept) (meta : Link) where
         whole = λ tree n j r h. is_named arena image empty k meta known names l tree n j r h;
         differ = λ yes quiet tree. own_slots arena image empty k meta known names l (differ_before slot_of names by_name p (quiet_leaf 6 (omega arith) twice old new (noted yes) quiet (Differ slot_of by_name) (IsTwice slot_of leaf_of by_name) answer)) tree;
       }))
+
+  pub notes_before : (a b c : Option Broken) → KeepsPairs a b → NotesSlots arena image meta b c → NotesSlots arena image meta a c
+  notes_before a b c v w = record { each = λ x e six. ⊎_elim (λ (before : b ≡ Some x). inl (v.same x before six)) (λ (h : HasSlotTwice arena image meta x.block). inr h) (w.each x e six) }
+
+  pub notes_kept : (a b : Option Broken) → KeepsPairs a b → NotesSlots arena image meta a b
+  notes_kept a b v = record { each = λ x e six. inl (v.same x e six) }
+
+  -- What is noted of slot pairs is so.
+  pub notes_twice : ((kind : Kind) (score : Score) → arena kind score ≡ nothing) → (known : List Known) (names by_name : List Named) → IsListing arena image k meta known [] names → IsPermutation names by_name
+      → (twice : Option ℕ) (old new : Option Broken) → MatchOption twice (Differ slot_of by_name) (IsTwice slot_of leaf_of by_name) → NotesLeaf 6 twice old new → NotesSlots arena image meta old new
+  notes_twice empty known names by_name l p None old new answer noted = record { each = λ b e six. inl (sym noted ∙ e) }
+  notes_twice empty known names by_name l p (Some leaf) old new answer noted = record {
+    each = λ b e six. ⊎_elim
+        (λ (before : old ≡ Some b). inl before)
+        (λ now. inr (subst (λ (n : ℕ). HasSlotTwice arena image meta n) now.1 (slot_twice arena image empty k meta known names l leaf (twice_before slot_of names by_name p leaf_of leaf answer))))
+        (lowered old 6 leaf b (sym noted ∙ e));
+  }
 
   module _ (entries : Link) (folders : List Folder) (names named : List Named) (before old new : Option Broken) (o : AreInOrder arena image k meta true before names) (a : AreSought arena image entries names old [] named folders) (size : ℕ) (alone : Option ℕ)
       (answer : MatchOption alone (All (IsPaired size) named) (λ leaf. Any (IsUnpaired size leaf) named)) (noted : NotesLeaf 6 alone old new) (low : level old ≤ level before) (low' : level new ≤ level old) (size_is : size ≡ size_of entries.slot) where

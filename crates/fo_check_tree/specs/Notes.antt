@@ -18,6 +18,10 @@ pub data NotesDeep (block : ℕ) (old new : Option Broken) : Type 0 where
 pub record KeepsFormats (old new : Option Broken) : Type 0 where
   pub same : (b : Broken) → new ≡ Some b → b.rule ≡ 5 → old ≡ Some b
 
+-- The same of rule 6.
+pub record KeepsPairs (old new : Option Broken) : Type 0 where
+  pub same : (b : Broken) → new ≡ Some b → b.rule ≡ 6 → old ≡ Some b
+
 -- The rule is noted for this leaf, if any.
 abbrev pub NotesLeaf : ℕ → Option ℕ → Option Broken → Option Broken → Type 0
 NotesLeaf rule leaf old new = MatchOption leaf (new ≡ old) (λ block. new ≡ lower old rule block)

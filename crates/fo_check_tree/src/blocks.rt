@@ -19,7 +19,7 @@ ghost use Rattle.fo_check_tree.specs.Dirs.{AreJudged};
 ghost use Rattle.fo_check_tree.specs.Formats.{AreFormed};
 ghost use Rattle.fo_check_tree.specs.Grounds.{HasGrounds};
 ghost use Rattle.fo_check_tree.specs.Listing.{AddsNamed, Adds, IsListing};
-ghost use Rattle.fo_check_tree.specs.Notes.{NotesAt, KeepsFormats};
+ghost use Rattle.fo_check_tree.specs.Notes.{NotesAt, KeepsFormats, KeepsPairs};
 ghost use Rattle.fo_check_tree.specs.Depths.{Deepens, AreSpread};
 ghost use Rattle.fo_check_tree.specs.Pairing.{Seeks, AsksOf, IsApart, AreSought, AreAsked, Grows};
 ghost use Rattle.fo_check_names.specs.declared.names.Named.{Named};
@@ -84,6 +84,7 @@ pub(crate) fn follow_all<D: Disk>(
         → OnOk result (AreFormed arena image k walk.new.labels.known.items walk.new.noted walk.new.steps.items (others ++ walk.new.folders.items)) }
     ensures grounds { (arena : Arena) (device : List Block) (image : Image) (s : Super) (k : Kept) (rest : List Step) → Shows (D.state main.old).holds device → Walking arena device image s k rest walk.old
         → HasGrounds arena image k walk.old.noted walk.old.steps.items walk.old.folders.items → OnOk result (HasGrounds arena image k walk.new.noted walk.new.steps.items walk.new.folders.items) }
+    ensures six { (device : List Block) (image : Image) → Shows (D.state main.old).holds device → OnOk result (KeepsPairs walk.old.noted walk.new.noted) }
     ensures done { OnOk result (walk.new.steps.items ≡ []) }
     ensures blocks { OnOk result (walk.new.blocks ≡ walk.old.blocks) }
     ensures budget { OnOk result (205 * walk.new.labels.left + length walk.new.folders.items ≤ 205 * walk.old.labels.left + length walk.old.folders.items) }

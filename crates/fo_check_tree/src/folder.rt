@@ -11,7 +11,7 @@ ghost use Rattle.fo_check_tree.specs.Answer.{HasOwnNames};
 ghost use Rattle.fo_check_tree.specs.Dirs.{AreJudged};
 ghost use Rattle.fo_check_tree.specs.Formats.{AreFormed};
 ghost use Rattle.fo_check_tree.specs.Grounds.{HasRecordsOf, HasGrounds};
-ghost use Rattle.fo_check_tree.specs.Listing.{IsMetaOf, SomeOf};
+ghost use Rattle.fo_check_tree.specs.Listing.{IsMetaOf, SomeOf, NotesSlots};
 ghost use Rattle.fo_image.specs.declared.types.Super.{Super};
 ghost use Rattle.fo_sound.specs.Image.{is_zero};
 ghost use Rattle.fo_sound.specs.Device.{Shows};
@@ -335,6 +335,8 @@ fn list<D: Disk>(
     ensures cause { HasCauses (D.faults main.old) (D.faults main.new) result }
     ensures listed { (arena : Arena) (device : List Block) (image : Image) (s : Super) (k : Kept) (meta : Link) → Shows (D.state main.old).holds device → Walking arena device image s k (tops folder.now) walk.old → IsMetaOf folder.now meta
         → walk.old.steps.items ≡ [] → walk.old.named.items ≡ [] → OnOk result (AreInOrder arena image k meta folder.now.named walk.new.noted walk.new.named.items) }
+    ensures slots { (arena : Arena) (device : List Block) (image : Image) (s : Super) (k : Kept) (meta : Link) → Shows (D.state main.old).holds device → Walking arena device image s k (tops folder.now) walk.old → IsMetaOf folder.now meta
+        → walk.old.steps.items ≡ [] → walk.old.named.items ≡ [] → OnOk result (NotesSlots arena image meta walk.old.noted walk.new.noted) }
     ensures counted { walk.old.named.items ≡ [] → folder.now.named ≡ true → OnOk result (numbers.new.items ≡ numbers.old.items ++ map number_in walk.new.named.items) }
     ensures uncounted { folder.now.named ≡ false → OnOk result (numbers.new.items ≡ numbers.old.items) }
     ensures done { OnOk result (walk.old.steps.items ≡ [] → walk.new.steps.items ≡ []) }

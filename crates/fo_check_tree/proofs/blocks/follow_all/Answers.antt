@@ -6,7 +6,8 @@ use Rattle.fo_check_tree.specs.declared.walk.Walk.{Walk}
 use Rattle.fo_check_tree.specs.declared.walk.Step.{Step}
 use Rattle.fo_check_tree.specs.Formats.{AreFormed}
 use Rattle.fo_check_tree.specs.Grounds.{HasGrounds}
-use Rattle.fo_check_tree.proofs.Grounding.{grounds_on}
+use Rattle.fo_check_tree.proofs.Grounding.{grounds_on, follow_keeps}
+use Rattle.fo_check_tree.proofs.Noting.{pairs_same, pairs_then}
 use Rattle.fo_check_tree.specs.Dirs.{AreJudged}
 use Rattle.fo_check_tree.specs.Listing.{IsListing}
 use Rattle.fo_check_tree.specs.Walking.{Walking}
@@ -79,6 +80,8 @@ loop-step-preserved g c = record {
       let before' : AreAsked arena image k entries (c.pop.new.self.items ++ c.in-Some.step ∷ []) c.loop-step.walk.named.items =
       subst (λ (xs : List Step). AreAsked arena image k entries xs c.loop-step.walk.named.items) c.in-Some.ensures.items (c.loop-step.invariant.asked arena device image s k entries names rest shows w lead apart h b) in
       asked_on arena device image s k rest c.in-Some.step old c.follow.new.walk left c.in_ok-follow.ensures.level c.args.depth entries names sought apart before' step;
+  six = λ device image shows. pairs_then c.args.walk.now.noted c.loop-step.walk.noted c.follow.new.walk.noted (c.loop-step.invariant.six device image shows)
+      (follow_keeps device image c.args.depth c.args.named c.in-Some.step (record c.loop-step.walk { steps = c.pop.new.self }) c.follow.new.walk (c.in_ok-follow.ensures.follows device image (subst (λ (x : DiskState). Shows x.holds device) (sym c.loop-step.invariant.kept) shows)));
   spread = λ arena device image s k link deep rest shows w is h.
       let old : Walk = record c.loop-step.walk { steps = c.pop.new.self } in
       let before : Walking arena device image s k rest c.loop-step.walk = c.loop-step.invariant.walks arena device image s k rest shows w in
@@ -112,6 +115,7 @@ loop-step-init g c = record {
   grounds = λ arena device image s k rest shows w h. h;
   pairs = λ arena device image s k entries names rest shows w lead h. h;
   asked = λ arena device image s k entries names rest shows w lead apart h b. b;
+  six = λ device image shows. pairs_same c.args.walk.now.noted c.args.walk.now.noted refl;
   spread = λ arena device image s k link deep rest shows w is h. h;
   grows = λ arena device image s k rest shows w. grows_none c.args.walk.now.folders.items;
   blocks = refl;
@@ -162,3 +166,6 @@ returns-clause-grounds g c arena device image s k rest shows w h =
 pub returns-clause-asked : goal.returns-clause-asked
 returns-clause-asked g c arena device image s k entries names rest shows w lead apart h b =
     subst (λ (xs : List Step). AreAsked arena image k entries xs c.loop-step.walk.named.items) (c.in_default.ensures.items ∙ append-nil c.pop.new.self.items) (c.loop-step.invariant.asked arena device image s k entries names rest shows w lead apart h b)
+
+pub returns-clause-six : goal.returns-clause-six
+returns-clause-six g c device image shows = c.loop-step.invariant.six device image shows

@@ -10,6 +10,7 @@ use Rattle.fo_check_tree.specs.declared.walk.Step.{Step}
 use Rattle.fo_check_tree.specs.declared.walk.Folder.{Folder}
 use Rattle.fo_check_tree.specs.Formats.{AreFormed}
 use Rattle.fo_check_tree.specs.Grounds.{HasGrounds}
+use Rattle.fo_check_tree.specs.Notes.{KeepsPairs}
 use Rattle.fo_check_tree.specs.Dirs.{AreJudged}
 use Rattle.fo_check_tree.specs.Listing.{IsListing}
 use Rattle.fo_check_tree.specs.Walking.{Walking}
@@ -34,6 +35,7 @@ invariant-loop-step g l = record {
       → AreSought arena image entries names l.fn.walk.noted l.fn.walk.steps.items l.fn.walk.named.items l.fn.walk.folders.items → AreSought arena image entries names l.walk.noted l.walk.steps.items l.walk.named.items l.walk.folders.items;
   asked : (arena : Arena) (device : List Block) (image : Image) (s : Super) (k : Kept) (entries : Link) (names : List Named) (rest : List Step) → Shows (g.D.Disk.state l.fn.main).holds device → Walking arena device image s k rest l.fn.walk → l.named ≡ true → IsApart names
       → AreSought arena image entries names l.fn.walk.noted l.fn.walk.steps.items l.fn.walk.named.items l.fn.walk.folders.items → AreAsked arena image k entries l.fn.walk.steps.items l.fn.walk.named.items → AreAsked arena image k entries l.walk.steps.items l.walk.named.items;
+  six : (device : List Block) (image : Image) → Shows (g.D.Disk.state l.fn.main).holds device → KeepsPairs l.fn.walk.noted l.walk.noted;
   spread : (arena : Arena) (device : List Block) (image : Image) (s : Super) (k : Kept) (w : Link) (deep : ℕ) (rest : List Step) → Shows (g.D.Disk.state l.fn.main).holds device → Walking arena device image s k rest l.fn.walk → deep ≡ min (l.depth + 1) (2 ^ 32 - 1)
       → AreSpread arena image k w deep l.fn.walk.noted l.fn.walk.steps.items l.fn.walk.folders.items → AreSpread arena image k w deep l.walk.noted l.walk.steps.items l.walk.folders.items;
   grows : (arena : Arena) (device : List Block) (image : Image) (s : Super) (k : Kept) (rest : List Step) → Shows (g.D.Disk.state l.fn.main).holds device → Walking arena device image s k rest l.fn.walk → Grows l.fn.walk.folders.items l.walk.folders.items;

@@ -28,10 +28,10 @@ use Rattle.fo_check_tree.proofs.Judging.{judged_like}
 use Rattle.fo_check_tree.proofs.Listed.{listing_at}
 use Rattle.fo_check_tree.proofs.Marking.{is_pushed}
 use Rattle.fo_check_tree.proofs.Naming.{begins, judged, names_by}
-use Rattle.fo_check_tree.proofs.Noting.{lowers_then, lowers_leaf, keeps_leaf}
+use Rattle.fo_check_tree.proofs.Noting.{lowers_then, lowers_leaf, keeps_leaf, pairs_same, pairs_then, pairs_leaf}
 use Rattle.std.proofs.lemmas.Bool.{false≢true}
 use Rattle.fo_check_tree.proofs.Seeking.{grows_none, grows_like}
-use Rattle.fo_check_tree.proofs.Settling.{in_order}
+use Rattle.fo_check_tree.proofs.Settling.{in_order, notes_before, notes_kept, notes_twice}
 use Rattle.fo_check_tree.proofs.Stepping.{turned, pushed, walking_like}
 use Rattle.fo_check_tree.proofs.folder.list.Goals as goal
 
@@ -379,3 +379,47 @@ returns-in-Ok-clause-grounds g c arena device image s k shows walking no_steps n
     grounds_like arena image k c.note_leaf.new.self.noted c.note_leaf-2.new.self.noted c.note_leaf.new.self.steps.items c.note_leaf-2.new.self.steps.items c.note_leaf.new.self.folders.items c.note_leaf-2.new.self.folders.items
     (λ n. formats_kept arena image k c.note_leaf.new.self.noted c.note_leaf-2.new.self.noted (keeps_leaf c.note_leaf.new.self.noted c.note_leaf-2.new.self.noted 6 c.same_pair-twice.result (λ e. omega (arith, e)) c.note_leaf-2.ensures.noted) n)
     c.note_leaf-2.ensures.steps c.note_leaf-2.ensures.folders named
+
+pub returns-in_default-clause-slots : goal.returns-in_default-clause-slots
+returns-in_default-clause-slots g c arena device image s k meta shows walking w no_steps no_names = notes_kept arena image k meta c.args.walk.now.noted c.args.walk.now.noted (pairs_same c.args.walk.now.noted c.args.walk.now.noted refl)
+
+pub returns-then-not-folder-clause-slots : goal.returns-then-not-folder-clause-slots
+returns-then-not-folder-clause-slots g c arena device image s k meta shows walking w no_steps no_names =
+    notes_kept arena image k meta c.args.walk.now.noted c.note_leaf.new.self.noted
+    (pairs_then c.args.walk.now.noted c.follow_all.new.walk.noted c.note_leaf.new.self.noted (c.in_ok-follow_all.ensures.six device image shows)
+    (pairs_leaf c.follow_all.new.walk.noted c.note_leaf.new.self.noted 5 c.of_records-named_twice.result (λ e. omega (arith, e)) c.note_leaf.ensures.noted))
+
+pub returns-in-Ok-clause-slots : goal.returns-in-Ok-clause-slots
+returns-in-Ok-clause-slots g c arena device image s k meta shows walking w no_steps no_names =
+    let f = c.args.folder.now in
+    let e : Entry = c.in-Some.records in
+    let same : w.entry ≡ e = some_is w.entry e (sym w.is ∙ c.in-Some.is) in
+    let a : Step = top_step f.entries Bytes f.holder in
+    let b : Step = top_step c.in-Some.records Records f.holder in
+    let both : tops f ≡ a ∷ b ∷ [] = ap (λ (o : Option Entry). top_step f.entries Bytes f.holder ∷ records_top f.holder o) c.in-Some.is in
+    let first : Walking arena device image s k (b ∷ a ∷ []) c.args.walk.now = turned arena device image s k c.args.walk.now c.args.walk.now (record { blocks = refl; epoch = refl; active = refl; labels = refl; noted = refl }) (tops f) a b both refl refl walking in
+    let items : c.push.new.self.items ≡ c.args.walk.now.steps.items ++ b ∷ [] =
+    is_pushed c.push.result c.args.walk.now.steps.items (c.args.walk.now.steps.items ++ c.top-top.result ∷ []) c.push.new.self.items (sym c.is_err.ensures.value ∙ c.if-is_err.false) c.push.ensures.items
+    ∙ ap (λ (x : Step). c.args.walk.now.steps.items ++ x ∷ []) c.top-top.ensures in
+    let next : Walking arena device image s k (a ∷ []) (record c.args.walk.now { steps = c.push.new.self }) = pushed arena device image s k c.args.walk.now (record c.args.walk.now { steps = c.push.new.self }) (record { blocks = refl; epoch = refl; active = refl; labels = refl; noted = refl }) (a ∷ []) c.in-Some.records f.holder Records Records items refl first in
+    let top : c.push.new.self.items ≡ top_step w.entry Records f.holder ∷ [] = items ∙ ap (λ (xs : List Step). xs ++ b ∷ []) no_steps ∙ ap (λ (x : Entry). top_step x Records f.holder ∷ []) (sym same) in
+    let start : IsListing arena image k meta c.args.walk.now.labels.known.items c.push.new.self.items c.args.walk.now.named.items = listing_at arena device image s k meta c.args.walk.now.labels.known.items c.args.walk.now.labels.known.items (top_step w.entry Records f.holder ∷ []) c.push.new.self.items [] c.args.walk.now.named.items refl top no_names (begins arena image k f meta w c.args.walk.now.labels.known.items) in
+    let end : IsListing arena image k meta c.follow_all.new.walk.labels.known.items c.follow_all.new.walk.steps.items c.follow_all.new.walk.named.items = c.in_ok-follow_all.ensures.lists arena device image s k meta (a ∷ []) shows next start in
+    let whole : IsListing arena image k meta c.follow_all.new.walk.labels.known.items [] c.follow_all.new.walk.named.items = subst (λ (xs : List Step). IsListing arena image k meta c.follow_all.new.walk.labels.known.items xs c.follow_all.new.walk.named.items) c.in_ok-follow_all.ensures.done end in
+    let items0 = c.follow_all.new.walk.named.items in
+    let new1 = c.same_name-repeated.new.named in
+    let new2 = c.same_pair-twice.new.named in
+    let view1 : c.deref_mut.result.now ≡ items0 = search rules in
+    let p : IsPermutation items0 new1 = subst (λ (xs : List Named). IsPermutation xs new1) view1 c.same_name-repeated.ensures.permutation in
+    let len1 : c.follow_all.new.walk.named.len ≡ length items0 = search rules in
+    let after1 : c.note_leaf.new.self.named.items ≡ new1 = c.note_leaf.ensures.named ∙ written items0 new1 c.follow_all.new.walk.named.len len1 (moved items0 new1 p).long in
+    let view2 : c.deref_mut-2.result.now ≡ c.note_leaf.new.self.named.items = search rules in
+    let q' : IsPermutation c.note_leaf.new.self.named.items new2 = subst (λ (xs : List Named). IsPermutation xs new2) view2 c.same_pair-twice.ensures.permutation in
+    let q : IsPermutation new1 new2 = subst (λ (xs : List Named). IsPermutation xs new2) after1 q' in
+    let len2 : c.note_leaf.new.self.named.len ≡ length c.note_leaf.new.self.named.items = search rules in
+    let after2 = written c.note_leaf.new.self.named.items new2 c.note_leaf.new.self.named.len len2 (moved c.note_leaf.new.self.named.items new2 q').long in
+    let answer : MatchOption c.same_pair-twice.result (Differ slot_of new1) (IsTwice slot_of leaf_of new1) = subst (λ (xs : List Named). MatchOption c.same_pair-twice.result (Differ slot_of xs) (IsTwice slot_of leaf_of xs)) (view2 ∙ after1) c.same_pair-twice.ensures.answer in
+    notes_before arena image k meta c.args.walk.now.noted c.note_leaf.new.self.noted c.note_leaf-2.new.self.noted
+    (pairs_then c.args.walk.now.noted c.follow_all.new.walk.noted c.note_leaf.new.self.noted (c.in_ok-follow_all.ensures.six device image shows)
+    (pairs_leaf c.follow_all.new.walk.noted c.note_leaf.new.self.noted 5 c.of_records-named_twice.result (λ e. omega (arith, e)) c.note_leaf.ensures.noted))
+    (notes_twice arena image k meta walking.holds.empty c.follow_all.new.walk.labels.known.items items0 new1 whole p c.same_pair-twice.result c.note_leaf.new.self.noted c.note_leaf-2.new.self.noted answer c.note_leaf-2.ensures.noted)
