@@ -1,0 +1,4 @@
+mod Leaf
+mod Once
+mod Places
+mod Reading
