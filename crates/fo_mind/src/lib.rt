@@ -12,6 +12,7 @@
 //! bytes beside the slots of a pinned one, each with the clauses of `Blocks`; neither wants memory. A slot, a label and what waits are
 //! as memory has them. What calls see keeps the laws of `Blocks`. What is to be written next has its bytes in memory, or is a block of
 //! labels; what a write or a sync does to each field is said by its answer alone, and only `keep_turn_of` may want memory for it.
+//! Another super block is tried, in doubt, and then counts or is overruled.
 //!
 //! Not proved here: what is said of crash images, places and moments.
 #![tactic(auto)]
@@ -26,6 +27,7 @@ mod numbers;
 mod opening;
 mod pins;
 mod puts;
+mod supers;
 mod turns;
 mod views;
 mod waiting;
