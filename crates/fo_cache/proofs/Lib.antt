@@ -7,3 +7,4 @@ pub mod Outcomes
 pub mod Releasing
 pub mod Resting
 pub mod Settling
+pub mod Trials

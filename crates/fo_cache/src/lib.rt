@@ -10,7 +10,10 @@
 //! ends; memory keeps its bytes and pins, and blocks that had no turn are not written. Where all is settled, the device has one
 //! version of each block of the tree and of the label table: memory's.
 //!
-//! Not here yet: puts into slots, removals, block 1, closing, and so `Blocks` itself. Not proved here: what is said of crash images,
+//! Another super block is written and settled before it counts; where that fails it is in doubt, until block 1 is settled again as
+//! memory has it.
+//!
+//! Not here yet: puts into slots, removals, closing, and so `Blocks` itself. Not proved here: what is said of crash images,
 //! places and moments.
 #![tactic(auto)]
 
@@ -18,6 +21,7 @@ mod cache;
 mod calls;
 mod laws;
 mod settles;
+mod supers;
 mod turns;
 
 pub use cache::Cache;

@@ -1,0 +1,21 @@
+use Rattle.std.proofs.Common.{◌≤◌, [], sym, subst}
+use Rattle.fo_mind.specs.MindParts.{parts}
+use Rattle.fo_mind.specs.Parts.{count_of}
+use Rattle.fo_cache.proofs.Trials.{fits_one, labels_one, one_within}
+use Rattle.fo_cache.proofs.cache.Cache.write_one.Goals as goal
+
+pub write-requires-clause-block : goal.write-requires-clause-block
+write-requires-clause-block g c = let self = c.args.self.now in one_within (parts self.mind [] 0) (g.D.Disk.size self.main) self.mind.placed self.sized
+
+pub invariant_of-self-clause-fits : goal.invariant_of-self-clause-fits
+invariant_of-self-clause-fits g c =
+    let self = c.args.self.now in
+    fits_one (g.D.Disk.state self.main) (g.D.Disk.state c.write.new.self) (parts self.mind [] 0) self.mind.placed c.write.result c.write.ensures.state self.fits
+
+pub invariant_of-self-clause-spelled : goal.invariant_of-self-clause-spelled
+invariant_of-self-clause-spelled g c =
+    let self = c.args.self.now in
+    labels_one (g.D.Disk.state self.main) (g.D.Disk.state c.write.new.self) (parts self.mind [] 0) self.mind.placed c.write.result c.write.ensures.state self.spelled
+
+pub invariant_of-self-clause-sized : goal.invariant_of-self-clause-sized
+invariant_of-self-clause-sized g c = let self = c.args.self.now in subst (λ n. count_of (parts self.mind [] 0).region ≤ n) (sym c.write.ensures.size) self.sized
