@@ -22,7 +22,7 @@ use Rattle.fo_tree_down.proofs.Join.{local_cases}
 use Rattle.fo_tree_open.proofs.Opened.{place_named, hangs_below}
 use Rattle.fo_tree_open.specs.Open.{NamesRank}
 use Rattle.fo_tree_link.specs.Link.{entry_of}
-use Rattle.fo_tree_link.specs.Change.{IsLinked}
+use Rattle.fo_tree_link.specs.Change.{HangsInTree}
 use Rattle.fo_tree_link.proofs.Walks.{from_slot, walks_until, not_inner}
 use Rattle.fo_tree_link.proofs.May.{Linking, there, top_never, old_never}
 
@@ -136,7 +136,7 @@ module _ {s u : State} {t : Tree} {kept : List Kept} {limit generation at i n : 
         let is : q.0 ≡ p = x.end.one.each at q.0 p (places_end at q.0 (free_end at at_end) q.1) stands in
         subst (λ (r : Place). NamesRank r.kind r.rank i t.dir t.rank) is ((x.before.told told).ranked q.0 q.1)
 
-    pub again_end : ((y z : ℕ) → s.instead y z → t.top ≡ Local y) → IsLinked u t at i
+    pub again_end : ((y z : ℕ) → s.instead y z → t.top ≡ Local y) → HangsInTree u t at i
     again_end alone = record {
       in_tree = at_end;
       ranked = ranked_end;

@@ -1,6 +1,7 @@
 -- A source that was changed may be linked.
-use Rattle.std.proofs.Common.{◌≡◌, ◌⊎◌, ◌+◌, ◌-◌, ◌<◌, ◌≤◌, ℕ, true, List, inl, ⊎_elim, refl, sym, ◌∙◌, ap, subst, arith}
+use Rattle.std.proofs.Common.{◌≡◌, ◌⊎◌, ◌+◌, ◌-◌, ◌<◌, ◌≤◌, ℕ, true, List, inl, inr, ⊎_elim, refl, sym, ◌∙◌, ap, subst, arith}
 use Rattle.std.proofs.lemmas.Bool.{cases_eq}
+use Rattle.fo_image.specs.declared.types.Pointer.{Pointer}
 use Rattle.fo_image.specs.declared.types.Pointer.TheVariants.{Local}
 use Rattle.fo_crash.specs.declared.slot.Slot.{Slot}
 use Rattle.fo_crash.specs.declared.slot.Slot.TheVariants.{Entry as Head}
@@ -18,13 +19,13 @@ use Rattle.fo_tree_read.proofs.Walk.{is_down}
 use Rattle.fo_tree_look.specs.declared.ways.Kept.{Kept}
 use Rattle.fo_tree_look.specs.Source.{HasBlock, Over}
 use Rattle.fo_tree_own.proofs.Link.{Laws}
-use Rattle.fo_tree_down.specs.Way.{ComesFor, IsTopOf}
+use Rattle.fo_tree_down.specs.Way.{ComesFor}
 use Rattle.fo_tree_open.specs.Open.{NamesRank}
 use Rattle.fo_tree_link.specs.Link.{entry_of, led_from, CanLink}
-use Rattle.fo_tree_link.specs.Change.{IsLinked, SameSource, SameLeaves, KeepsOthers}
+use Rattle.fo_tree_link.specs.Change.{HangsInTree, SameSource, KeepsEntries, KeepsOthers}
 use Rattle.fo_tree_link.proofs.Walks.{rank_lower}
 
-pub record Changed (s u : State) (t new : Tree) (kept : List Kept) (limit generation at i top : ℕ) : Type 0 where
+pub record Changed (s u : State) (t new : Tree) (kept : List Kept) (limit generation at i : ℕ) : Type 0 where
   pub laws : Laws s
   pub end : Laws u
   pub one_stays : u.covered 1 → ⊥
@@ -32,14 +33,14 @@ pub record Changed (s u : State) (t new : Tree) (kept : List Kept) (limit genera
   pub over : Over s t kept limit
   pub entry : (u.now at).slot i ≡ Head (entry_of t generation)
   pub same : SameSource t new
-  pub is_top : new.top ≡ Local top
-  pub top_of : IsTopOf s u t top
+  pub comes : (from : Pointer) → ComesFor s t.top from → ComesFor u new.top from
+  pub only : (y z : ℕ) → u.instead y z → (new.top ≡ Local y) ⊎ (s.instead y z × (t.top ≡ Local y → ⊥))
   pub others : KeepsOthers s u t
   pub told : s.tells
-  pub linked : IsLinked s t at i
-  pub leaves : SameLeaves s u t new
+  pub linked : HangsInTree s t at i
+  pub leaves : KeepsEntries s u t new
 
-module _ {s u : State} {t new : Tree} {kept : List Kept} {limit generation at i top : ℕ} (x : Changed s u t new kept limit generation at i top) where
+module _ {s u : State} {t new : Tree} {kept : List Kept} {limit generation at i : ℕ} (x : Changed s u t new kept limit generation at i) where
   -- the rank of a block of the source
   rank_of : (b : ℕ) → HasBlock s t b → (p : Place) → s.stands b p → (t.rank ≤ p.rank) × (p.rank ≤ t.rank + t.depth)
   rank_of b has p stands =
@@ -91,8 +92,7 @@ module _ {s u : State} {t new : Tree} {kept : List Kept} {limit generation at i 
   comes_end : ComesFor u new.top (target (led_from u at i (entry_of new generation)))
   comes_end =
       let first : ComesFor s t.top t.top = inl (refl, λ b is apart. x.laws.apart_hangs x.told b apart (x.linked.owned b (record { down = 0; index = 0; within = omega arith; is = is }))) in
-      subst (λ p. ComesFor u p (target (led_from u at i (entry_of new generation)))) (sym x.is_top)
-      (subst (λ p. ComesFor u (Local top) p) (sym led_is) (x.top_of.comes x.told t.top first))
+      subst (λ p. ComesFor u new.top p) (sym led_is) (x.comes t.top first)
 
   -- ---- what its entries name
 
@@ -125,8 +125,8 @@ module _ {s u : State} {t new : Tree} {kept : List Kept} {limit generation at i 
   can_link = record {
     in_tree = in_tree_end;
     ranked = ranked_end;
-    comes = comes_end;
-    only = λ y z h r. ⊎_elim (λ own. x.is_top ∙ ap (λ b. Local b) (sym own)) (λ old. absurd (x.linked.none y z old.0)) (x.top_of.only x.told y z h);
+    comes = inr comes_end;
+    only = λ y z h r. ⊎_elim (λ own. own) (λ old. absurd (x.linked.none y z old.0)) (x.only y z h);
     names = names_end;
     down = λ some. let none = none_dropped in absurd (omega (arith, some, none));
     still = λ some. let none = none_dropped in absurd (omega (arith, some, none));

@@ -206,6 +206,10 @@ module _ {s : State} {t : Tree} {kept : List Kept} {limit generation at i : ℕ}
     led_under : (b : ℕ) → target led ≡ Local b → Reaches s.now old b
     led_under b is = record { path = zeros (dropped old (Head e)); leads = is }
 
+    -- a source with a top comes in the place of what its entry leads to
+    comes_at : (b : ℕ) → t.top ≡ Local b → ComesFor s t.top (target led)
+    comes_at b is = ⊎_elim (λ gone. absurd (nil_local b (sym (x.over.empty gone.none) ∙ is))) (λ comes. comes) can.comes
+
     top_reached : (b : ℕ) → t.top ≡ Local b → Reaches s.now (Head e) b
     top_reached b is = record { path = []; leads = is }
 
@@ -250,11 +254,11 @@ module _ {s : State} {t : Tree} {kept : List Kept} {limit generation at i : ℕ}
           let at_place : (place_below p i (Head e)).rank ≡ t.rank + t.depth = ap (λ (q : Place). q.rank) (place_named p i e t.rank (can.ranked p stands)) in
           let lt = rank_lower p.kind p.rank i t.dir t.rank t.depth (can.ranked p stands) x.over.hangs.few in
           omega (arith, at_place, lt);
-      parent = record { each = λ b is older. parent_here b is older can.comes };
-      comes = λ b is. comes_here b is can.comes;
+      parent = record { each = λ b is older. parent_here b is older (comes_at b is) };
+      comes = λ b is. comes_here b is (comes_at b is);
       leaves = record {
         each = λ y z is r. inr (top_reached y (can.only y z is r));
-        still = λ b j waits r. still_under b j waits (still_here b j waits r) can.comes;
+        still = λ b j waits r. ⊎_elim (λ gone. absurd (gone.still b j waits r)) (λ comes. still_under b j waits (still_here b j waits r) comes) can.comes;
       };
       uncovered = ⊎_elim (λ one h. x.one_stays (subst (λ y. s.covered y) one h)) (λ ne. (x.laws.live at told ne can.in_tree).2) (cases_eq at 1);
       first = λ inner first y g. absurd (not_inner (s.label at).kind i x.leaf inner);

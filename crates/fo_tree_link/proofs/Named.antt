@@ -18,7 +18,7 @@ use Rattle.fo_tree_own.specs.Step.{Becomes}
 use Rattle.fo_tree_own.proofs.Link.{blank_leads}
 use Rattle.fo_tree_down.specs.Way.{IsWayIndex, Comes, StaysBeside, with_top}
 use Rattle.fo_tree_down.proofs.Beside.{index_within}
-use Rattle.fo_tree_link.specs.Change.{SameLeaves}
+use Rattle.fo_tree_link.specs.Change.{KeepsEntries}
 use Rattle.fo_tree_link.proofs.Walks.{local_eq}
 
 -- an index within the room of its level
@@ -90,7 +90,7 @@ module _ {s u : State} {t : Tree} {kept : List Kept} {limit i top at : ℕ} (x :
       let own = x.over.told x.told a (record { down = t.depth; index = m; within = omega arith; is = is }) in
       x.changes.memory a (λ touched. ⊎_elim (λ made. made.0 own.live) (λ inner. inner.0.1 (x.leaf_kind m a is)) touched)
 
-  pub same_named : SameLeaves s u t (with_top t top)
+  pub same_named : KeepsEntries s u t (with_top t top)
   same_named = record {
     each = λ dir k a is.
         let m : ℕ = index_of t.depth k in

@@ -12,7 +12,7 @@ use Rattle.fo_tree_open.specs.Open.{NamesRank}
 
 -- What a device that tells has of a source that is linked: the block with its entry hangs from block 1, at a place from which the leaves
 -- have this rank; each block of the source hangs from block 1; and nothing is to come in the place of another block.
-pub record IsLinked (s : State) (t : Tree) (at i : ℕ) : Type 0 where
+pub record HangsInTree (s : State) (t : Tree) (at i : ℕ) : Type 0 where
   pub in_tree : Reaches s.now (to_block 1) at
   pub ranked : (p : Place) → s.stands at p → NamesRank p.kind p.rank i t.dir t.rank
   pub owned : (b : ℕ) → HasBlock s t b → Reaches s.now (to_block 1) b
@@ -25,7 +25,7 @@ pub record SameSource (t new : Tree) : Type 0 where
   pub more : t.depth ≤ new.depth
 
 -- Each leaf of a source of entries has the slots of a leaf that it had, or leads to no block.
-pub record SameLeaves (s u : State) (t new : Tree) : Type 0 where
+pub record KeepsEntries (s u : State) (t new : Tree) : Type 0 where
   pub each : t.dir ≡ true → (k a : ℕ) → block_at u new new.depth k ≡ Local a → ((m b : ℕ) × (block_at s t t.depth m ≡ Local b) × ((j : ℕ) → (u.now a).slot j ≡ (s.now b).slot j)) ⊎ ((j b : ℕ) → target ((u.now a).slot j) ≢ Local b)
 
 -- What a call on a source leaves of other blocks, as `Changes` of the trait of sources has it: they hang from block 1 and stand where they

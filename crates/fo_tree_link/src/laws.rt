@@ -1,20 +1,21 @@
 //! Where a source that was changed may be linked.
-ghost use Rattle.std.specs.Prelude.{◌≡◌, ◌≢◌, ◌^◌, ◌<◌, ℕ};
+ghost use Rattle.std.specs.Prelude.{◌≡◌, ◌≢◌, ◌⊎◌, ◌^◌, ◌<◌, ℕ};
+ghost use Rattle.fo_image.specs.declared.types.Pointer.{Pointer};
 ghost use Rattle.fo_image.specs.declared.types.Pointer.TheVariants.{Local};
 ghost use Rattle.fo_crash.specs.declared.slot.Slot.TheVariants.{Entry as Head};
 ghost use Rattle.fo_ports.specs.Sources.{Changes};
 ghost use Rattle.fo_tree_read.specs.Tree.{kind_at, block_at};
 ghost use Rattle.fo_tree_look.specs.Source.{Over, HasBlock};
-ghost use Rattle.fo_tree_down.specs.Way.{Comes, StaysBeside, IsTopOf, with_top};
+ghost use Rattle.fo_tree_down.specs.Way.{Comes, ComesFor, StaysBeside, with_top};
 ghost use Rattle.fo_tree_link.specs.Link.{entry_of, CanLink};
-ghost use Rattle.fo_tree_link.specs.Change.{IsLinked, SameSource, SameLeaves, KeepsOthers};
+ghost use Rattle.fo_tree_link.specs.Change.{HangsInTree, SameSource, KeepsEntries, KeepsOthers};
 
 use fo_ports::Blocks;
 use fo_tree_look::Kept;
 use fo_tree_read::Tree;
 
-/// A source that hung from its entry in slot `i` of block `at`, and was changed by a call that made ways current or put levels above its
-/// top, may be linked: its new top comes in the place of the one that the entry leads to.
+/// A source that hung from its entry in slot `i` of block `at`, and was changed by calls that make ways current, put levels above its top or
+/// put bytes, may be linked: its new top comes in the place of what the entry leads to.
 pub fn may_link<B: Blocks>(
     tree: &Tree,
     new: &Tree,
@@ -29,16 +30,17 @@ pub fn may_link<B: Blocks>(
     requires keeps { B.keeps before.now after.now }
     requires entry { (((B.state before.now).now at).slot i ≡ Head (entry_of tree.now generation)) × (((B.state after.now).now at).slot i ≡ Head (entry_of tree.now generation)) }
     requires same { SameSource tree.now new.now }
-    requires top { (top : ℕ) × (new.now.top ≡ Local top) × IsTopOf (B.state before.now) (B.state after.now) tree.now top }
+    requires comes { (B.state before.now).tells → (from : Pointer) → ComesFor (B.state before.now) tree.now.top from → ComesFor (B.state after.now) new.now.top from }
+    requires only { (B.state before.now).tells → (y x : ℕ) → (B.state after.now).instead y x → (new.now.top ≡ Local y) ⊎ ((B.state before.now).instead y x × (tree.now.top ≡ Local y → ⊥)) }
     requires others { KeepsOthers (B.state before.now) (B.state after.now) tree.now }
-    requires linked { (B.state before.now).tells → IsLinked (B.state before.now) tree.now at i }
-    requires leaves { (B.state before.now).tells → SameLeaves (B.state before.now) (B.state after.now) tree.now new.now }
+    requires linked { (B.state before.now).tells → HangsInTree (B.state before.now) tree.now at i }
+    requires leaves { (B.state before.now).tells → KeepsEntries (B.state before.now) (B.state after.now) tree.now new.now }
     ensures { (B.state after.now).tells → CanLink (B.state after.now) new.now generation at i }
 {}
 
 /// Where the way to a leaf of a source of entries was made current, each of its leaves has the slots of a leaf that it had, or leads to no
 /// block.
-pub fn same_leaves<B: Blocks>(
+pub fn keeps_entries<B: Blocks>(
     tree: &Tree,
     kept: &[Kept],
     before: &B,
@@ -54,5 +56,5 @@ pub fn same_leaves<B: Blocks>(
     requires leads { block_at (B.state after.now) (with_top tree.now top) tree.now.depth i ≡ Local at }
     requires beside { (B.state before.now).tells → StaysBeside (B.state before.now) (B.state after.now) tree.now (with_top tree.now top) tree.now.depth i }
     requires changes { Changes tree.now.tag (HasBlock (B.state before.now) tree.now) (λ b. HasBlock (B.state before.now) tree.now b × (((B.state before.now).label b).kind ≢ kind_at tree.now.dir 0)) (B.state before.now) (B.state after.now) }
-    ensures { (B.state before.now).tells → SameLeaves (B.state before.now) (B.state after.now) tree.now (with_top tree.now top) }
+    ensures { (B.state before.now).tells → KeepsEntries (B.state before.now) (B.state after.now) tree.now (with_top tree.now top) }
 {}

@@ -6,12 +6,12 @@
 //! Proved, over any blocks and any device: memory has the entry there, and is else the same; an image has it, or is one of before. The
 //! source stands over the blocks, and nothing is to come in the place of its top. Where the device tells, what hangs from the new top hangs
 //! from block 1 now, and so does all that did, but what hung from the old entry alone, which is to be closed; and each block that hangs from
-//! block 1 stays in place for other sources. Where the source comes in the place of what its entry had (`ComesFor`), the put is one that
-//! `Blocks` asks for; a source that was linked and then changed comes so (`may_link`), and is linked again (`IsLinked`).
+//! block 1 stays in place for other sources. Where the source comes in the place of what its entry had (`ComesFor`), or was emptied, the put
+//! is one that `Blocks` asks for; a source that was linked and then changed comes so (`may_link`), and is linked again (`HangsInTree`).
 #![tactic(auto)]
 
 mod laws;
 mod put;
 
-pub use laws::{may_link, same_leaves};
+pub use laws::{keeps_entries, may_link};
 pub use put::link;

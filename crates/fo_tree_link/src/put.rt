@@ -13,7 +13,7 @@ ghost use Rattle.fo_tree_look.specs.Source.{Over, HasBlock};
 ghost use Rattle.fo_tree_down.specs.Way.{ComesFor};
 ghost use Rattle.fo_tree_open.specs.Open.{HasEntry};
 ghost use Rattle.fo_tree_link.specs.Link.{entry_of, CanLink};
-ghost use Rattle.fo_tree_link.specs.Change.{IsLinked};
+ghost use Rattle.fo_tree_link.specs.Change.{HangsInTree};
 
 use fo_crash::Slot;
 use fo_image::Entry;
@@ -41,7 +41,7 @@ pub fn link<B: Blocks>(ways: &Ways, on: &mut B, at: u32, i: u32)
     ensures instead { (y x : ℕ) → (B.state on.new).instead y x → (B.state on.old).instead y x × (ways.now.tree.top ≡ Local y → ⊥) }
     ensures linked { (B.state on.old).tells → (b : ℕ) → Reaches (B.state on.old).now (Head (entry_of ways.now.tree ways.now.generation)) b → Reaches (B.state on.new).now (to_block 1) b }
     ensures owned { (B.state on.old).tells → (b : ℕ) → HasBlock (B.state on.new) ways.now.tree b → Reaches (B.state on.new).now (to_block 1) b }
-    ensures again { (B.state on.old).tells → ((y x : ℕ) → (B.state on.old).instead y x → ways.now.tree.top ≡ Local y) → IsLinked (B.state on.new) ways.now.tree at i }
+    ensures again { (B.state on.old).tells → ((y x : ℕ) → (B.state on.old).instead y x → ways.now.tree.top ≡ Local y) → HangsInTree (B.state on.new) ways.now.tree at i }
     ensures in_tree { (B.state on.old).tells → (b : ℕ) → (Reaches (B.state on.old).now (((B.state on.old).now at).slot i) b → ⊥) → Reaches (B.state on.old).now (to_block 1) b → Reaches (B.state on.new).now (to_block 1) b }
     ensures in_place { (B.state on.old).tells → (b : ℕ) → (b ≢ at) ⊎ (((B.state on.old).label b).kind ≡ Dir 0) → Reaches (B.state on.new).now (to_block 1) b → StaysInPlace (B.state on.old) (B.state on.new) b }
     ensures ready { (b : ℕ) → (b ≢ at) ⊎ (((B.state on.old).label b).kind ≡ Dir 0) → (B.state on.old).pinned b → StaysReady (B.state on.old) (B.state on.new) b }

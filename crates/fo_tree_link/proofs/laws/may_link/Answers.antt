@@ -14,7 +14,7 @@ returns g c = λ now.
     let after = c.args.after.now in
     let all = g.met.B.Blocks.keeps_all before after c.requires.keeps in
     let told = all.still_tells.0 now in
-    can_link {kept = c.args.kept.now} {limit = c.requires.over.0} {top = c.requires.top.0} (record {
+    can_link {kept = c.args.kept.now} {limit = c.requires.over.0} (record {
       laws = laws_of g before;
       end = laws_of g after;
       one_stays = g.met.B.Blocks.one_stays after;
@@ -22,8 +22,8 @@ returns g c = λ now.
       over = c.requires.over.1;
       entry = c.requires.entry.1;
       same = c.requires.same;
-      is_top = c.requires.top.1;
-      top_of = c.requires.top.2;
+      comes = c.requires.comes told;
+      only = c.requires.only told;
       others = c.requires.others;
       told = told;
       linked = c.requires.linked told;

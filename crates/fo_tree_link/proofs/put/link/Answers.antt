@@ -104,3 +104,8 @@ pub returns-clause-again : goal.returns-clause-again
 returns-clause-again g c =
     let p = c.put_slot.ensures in
     again_end (was_put g c.args.on.now c.put_slot.new.self c.entry_of-entry.result c.entry_of-entry.ensures (linking g c.args.on.now c.requires.over c.requires.leaf c.requires.told) p.keeps p.now p.frame p.hangs)
+
+pub returns-clause-frame : goal.returns-clause-frame
+returns-clause-frame g c =
+    let p = c.put_slot.ensures in
+    (was_put g c.args.on.now c.put_slot.new.self c.entry_of-entry.result c.entry_of-entry.ensures (linking g c.args.on.now c.requires.over c.requires.leaf c.requires.told) p.keeps p.now p.frame p.hangs).frame

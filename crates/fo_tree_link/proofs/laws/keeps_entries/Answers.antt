@@ -4,7 +4,7 @@ use Rattle.fo_crash.specs.Places.{place, super_place}
 use Rattle.fo_tree_read.specs.Tree.{kind_down}
 use Rattle.fo_tree_read.proofs.Walk.{is_down}
 use Rattle.fo_tree_link.proofs.Named.{same_named, leaf_is, leaf_not_root}
-use Rattle.fo_tree_link.proofs.laws.same_leaves.Goals as goal
+use Rattle.fo_tree_link.proofs.laws.keeps_entries.Goals as goal
 
 pub returns : goal.returns
 returns g c = λ told.
