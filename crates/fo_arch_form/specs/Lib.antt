@@ -1,4 +1,5 @@
 pub mod Entries
 pub mod Keys
 pub mod Pointers
+pub mod Root
 pub mod Stored
