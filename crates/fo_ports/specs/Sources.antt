@@ -5,6 +5,8 @@ use Rattle.fo_image.specs.declared.types.Kind.{Kind}
 use Rattle.fo_image.specs.declared.types.Score.{Score}
 use Rattle.fo_image.specs.declared.types.Kind.TheVariants.{Data, Dir, Root}
 use Rattle.fo_image.specs.declared.types.State.TheVariants.{Live}
+use Rattle.fo_image.specs.declared.types.Pointer.{Pointer}
+use Rattle.fo_image.specs.declared.types.Pointer.TheVariants.{Local}
 use Rattle.fo_crash.specs.declared.place.Place.{Place}
 use Rattle.fo_crash.specs.Images.{Image, SameContent, Reaches, to_block}
 use Rattle.fo_sparse.specs.Written.{resized}
@@ -82,6 +84,21 @@ pub record HangsApart (s : State) (at : ℕ) : Type 0 where
 -- A block hangs from block 1, or from such a one: something may be put into it.
 abbrev pub IsHung : State → ℕ → Type 0
 IsHung s at = Reaches s.now (to_block 1) at ⊎ HangsApart s at
+
+-- A block was made to come in the place of that to which an entry leads, if to any. What the entry leads to is an older block, or hangs
+-- from this one: so no slot that waits leaves with it.
+pub record IsInstead (s : State) (from : Pointer) (at : ℕ) : Type 0 where
+  pub is_apart : s.apart at
+  pub place : Place
+  pub stands : s.stands at place
+  pub uncovered : s.covered at → ⊥
+  pub instead : (x : ℕ) → s.instead at x ↔ (from ≡ Local x)
+  pub live : (x : ℕ) → from ≡ Local x → (s.label x).state ≡ Live
+  pub keeps : (x : ℕ) → from ≡ Local x → ((s.label x).epoch < s.high) ⊎ Reaches s.now (to_block at) x
+
+-- A source with this top may come in the place of what its entry leads to: that is its top, which was put, or its top was made for it.
+abbrev pub ComesFor : State → (top from : Pointer) → Type 0
+ComesFor s top from = ((top ≡ from) × ((b : ℕ) → top ≡ Local b → s.apart b → ⊥)) ⊎ ((at : ℕ) × (top ≡ Local at) × IsInstead s from at)
 
 -- A block stays in place: its slots where it is no leaf of entries, how long it is, its label and its places stay, it hangs in memory and
 -- from block 1 where it did, one that was put into no slot yet was at most linked into the tree, no removal is to close it that was not,

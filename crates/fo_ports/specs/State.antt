@@ -233,9 +233,14 @@ pub record IsSettled (s : State) : Type 0 where
   pub empty : s.queued ≡ 0
   pub cleared : (b j : ℕ) → s.clearing b j → ⊥
 
+-- Something may be closed: a removal is queued, or a slot waits to be cleared.
+abbrev pub IsClosing : State → Type 0
+IsClosing s = (0 < s.queued) ⊎ ((at : ℕ) × (j : ℕ) × s.clearing at j)
+
 -- Flushing, settling and closing: no image is added, slots that waited may be cleared, and blocks that were doomed may be closed. What
 -- hung from a slot that was cleared, through blocks of pointers, and hangs from block 1 no more is to be closed, until it is closed.
--- What was settled stays so, and then no block is closed.
+-- What was settled stays so, and then no block is closed. Over any device a label stays, or is that of a live block that is closed now,
+-- where a removal was queued or a slot waited.
 pub record Rests (old new : State) : Type 0 where
   pub blocks : old.tells → (b : ℕ) → (IsDoomed old b → ⊥) → StaysUndoomed old new b
   pub images : AddsNothing old.may_leave new.may_leave
@@ -248,6 +253,8 @@ pub record Rests (old new : State) : Type 0 where
   pub leaves : old.tells → (at j b : ℕ) → WasCleared old new at j → Through (IsPointers old) old.now ((old.now at).slot j) b → Reaches old.now (to_block 1) b → (Reaches new.now (to_block 1) b → ⊥) → new.covered b ⊎ ((new.label b).state ≢ Live)
   pub apart : (b : ℕ) → new.apart b ↔ old.apart b
   pub instead : (b x : ℕ) → new.instead b x ↔ old.instead b x
+  pub labels : (b : ℕ) → (new.label b ≡ old.label b) ⊎ (IsClosing old × ((old.label b).state ≡ Live) × ((new.label b).state ≢ Live))
+  pub queues : 0 < new.queued → IsClosing old
   pub usable : old.usable ≤ new.usable
   pub settled : IsSettled old → IsSettled new × (new.usable ≡ old.usable)
   pub numbers : KeepsNumbers old new

@@ -222,7 +222,7 @@ pub trait Blocks {
         ensures all { OnOk result (AllAre (state self.new).now (state self.new).may_leave) }
         ensures none { OnOk result ((b j : ℕ) → (state self.new).clearing b j → ⊥) }
         ensures clean { OnOk result ((b : ℕ) → (state self.new).dirty b → IsUnlinked (state self.new) b) }
-        ensures sealed { OnOk result ((state self.old).tells → (b : ℕ) → (state self.new).sure b × (Reaches (state self.new).now (to_block 1) b → (state self.new).sealed b)) }
+        ensures sealed { OnOk result ((state self.old).tells → (b : ℕ) → (IsUnlinked (state self.new) b ⊎ (state self.new).sure b) × (Reaches (state self.new).now (to_block 1) b → (state self.new).sealed b)) }
         ensures rests { Rests (state self.old) (state self.new) }
         ensures known { (b : ℕ) → (state self.old).pinned b → StaysKnown (state self.old) (state self.new) b }
         ensures blocks { (b : ℕ) → ((state self.new).label b ≡ (state self.old).label b) × ((state self.old).pinned b → (state self.new).pinned b) × ((state self.old).sealed b → (state self.new).sealed b) }

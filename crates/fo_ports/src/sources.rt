@@ -1,14 +1,16 @@
 //! Sources of bytes over blocks.
-ghost use Rattle.std.specs.Prelude.{◌≡◌, ◌≢◌, ◌⊎◌, ◌↔◌, ◌+◌, ◌-◌, ◌*◌, ◌%◌, ◌<◌, ◌≤◌, ℕ, true, List, length, take, drop, min, max, IfOk, OnOk, IfErr, IfSome, Option, Some, None};
+ghost use Rattle.std.specs.Prelude.{◌≡◌, ◌≢◌, ◌⊎◌, ◌↔◌, ◌+◌, ◌-◌, ◌*◌, ◌%◌, ◌/◌, ◌<◌, ◌≤◌, ℕ, true, false, List, length, take, drop, min, max, IfOk, OnOk, IfErr, IfSome, Option, Some, None};
 ghost use Rattle.fo_base.specs.Cause.{Rose};
 ghost use Rattle.fo_sparse.specs.Written.{written, resized};
 ghost use Rattle.fo_image.specs.declared.types.State.TheVariants.{Live};
 ghost use Rattle.fo_image.specs.declared.types.Kind.TheVariants.{Data};
+ghost use Rattle.fo_image.specs.declared.types.Pointer.{Pointer};
+ghost use Rattle.fo_image.specs.declared.types.Pointer.TheVariants.{Nil, Local};
 ghost use Rattle.fo_crash.specs.declared.place.Place.{Place};
 ghost use Rattle.fo_crash.specs.Images.{Reaches, to_block};
 ghost use Rattle.fo_ports.specs.Causes.{Caused};
 ghost use Rattle.fo_ports.specs.State.{Looks};
-ghost use Rattle.fo_ports.specs.Sources.{Form, Leaves, is_dir, source_bytes, Lacks, depth_for, most_for, most_to_own, IsEnough, Finds, AreLocal, IsReady, StaysReady, Changes, SameLeaves, Grows, IsPlain, Owned, MayZero, Undisturbed};
+ghost use Rattle.fo_ports.specs.Sources.{Form, Leaves, is_dir, source_bytes, Lacks, depth_for, most_for, most_to_own, IsEnough, Finds, AreLocal, ComesFor, IsReady, StaysReady, Changes, SameLeaves, Grows, IsPlain, Owned, MayZero, Undisturbed};
 
 use crate::blocks::Blocks;
 use crate::error::BlockError;
@@ -32,6 +34,9 @@ pub trait Bytes<B: Blocks> {
     /// How many bytes it has.
     ghost size: { Self → ℕ };
 
+    /// To what its entry leads: the block from which all others hang.
+    ghost top: { Self → Pointer };
+
     /// The source stands over these blocks, which are as it needs them.
     ghost is_over: { Self → B → Type 0 };
 
@@ -45,10 +50,19 @@ pub trait Bytes<B: Blocks> {
     fn len(&self) -> u64
         ensures { result ≡ size self.now };
 
-    /// The source's entry as it is now, in use.
+    /// The source's entry as it is now, in use, with the least depth for its size.
     fn entry(&self) -> Entry
         ensures used { (result.active ≡ true) × (result.generation ≡ (form self.now).generation) }
-        ensures is { (result.dir ≡ is_dir (form self.now).kind) × (result.tag ≡ (form self.now).tag) × (result.size ≡ size self.now) };
+        ensures is { (result.dir ≡ is_dir (form self.now).kind) × (result.tag ≡ (form self.now).tag) × (result.size ≡ size self.now) }
+        ensures hangs { (result.top ≡ top self.now) × ((b : B) → is_over self.now b → result.depth ≡ depth_for (size self.now)) };
+
+    /// Whether nothing is named behind the source's end, where the blocks on the way to its last leaf are prepared: by bytes that have
+    /// the source's last one, or end past it.
+    fn trimmed(&self, on: &B) -> bool
+        requires over { is_over self.now on.now }
+        requires prepared { 0 < size self.now → (o : ℕ) × (n : ℕ) × (leaves self.now on.now).prepared o n × (0 < n) × (size self.now ≤ o + n) }
+        ensures yes { result ≡ true → is_trimmed self.now on.now }
+        ensures no { result ≡ false → is_trimmed self.now on.now → ⊥ };
 
     /// Copies the bytes from the offset on to the front of the slice, as many as there are and fit, and says how many. Where it is
     /// refused the front of the slice may have been changed. Of a source of entries nothing is said of the bytes given, since its
@@ -60,6 +74,7 @@ pub trait Bytes<B: Blocks> {
         ensures behind { IfOk result (λ n. drop n into.new ≡ drop n into.old) }
         ensures over { is_over self.new on.new }
         ensures same { (form self.new ≡ form self.old) × (size self.new ≡ size self.old) × SameLeaves (B.state on.old).tells (leaves self.old on.old) (leaves self.new on.new) }
+        ensures top { top self.new ≡ top self.old }
         ensures trimmed { is_trimmed self.old on.old → is_trimmed self.new on.new }
         ensures pins { (B.state on.old).pins_left ≤ (B.state on.new).pins_left + most_for (size self.old) (length into.old) }
         ensures looks { Looks (B.state on.old) (B.state on.new) × B.keeps on.old on.new }
@@ -72,6 +87,7 @@ pub trait Bytes<B: Blocks> {
         ensures block { IfOk result (λ at. IfSome at (λ b. (B.state on.new).is_block b)) }
         ensures over { is_over self.new on.new }
         ensures same { (form self.new ≡ form self.old) × (size self.new ≡ size self.old) × SameLeaves (B.state on.old).tells (leaves self.old on.old) (leaves self.new on.new) }
+        ensures top { top self.new ≡ top self.old }
         ensures trimmed { is_trimmed self.old on.old → is_trimmed self.new on.new }
         ensures pins { (B.state on.old).pins_left ≤ (B.state on.new).pins_left + depth_for (size self.old) }
         ensures looks { Looks (B.state on.old) (B.state on.new) × B.keeps on.old on.new }
@@ -85,13 +101,15 @@ pub trait Bytes<B: Blocks> {
         ensures prepared { OnOk result (most_for (max (size self.old) (offset + len)) len ≤ (B.state on.old).pins_left → (leaves self.new on.new).prepared offset len) }
         ensures over { is_over self.new on.new }
         ensures same { (form self.new ≡ form self.old) × (size self.new ≡ size self.old) × SameLeaves (B.state on.old).tells (leaves self.old on.old) (leaves self.new on.new) }
+        ensures top { top self.new ≡ top self.old }
         ensures trimmed { is_trimmed self.old on.old → is_trimmed self.new on.new }
         ensures pins { (B.state on.old).pins_left ≤ (B.state on.new).pins_left + most_for (max (size self.old) (offset + len)) len }
         ensures looks { Looks (B.state on.old) (B.state on.new) × B.keeps on.old on.new }
         ensures cause { IfErr result (Caused ⊥ (λ b. (((B.state on.old).tells → ⊥) × (B.state on.old).is_block b) ⊎ ((b ≡ 1) × ((B.state on.old).tells → Lacks (leaves self.old on.old).named (B.state on.old).held))) (Rose (B.state on.old).faults (B.state on.new).faults) (Rose (B.state on.old).arena_faults (B.state on.new).arena_faults)) };
 
     /// Puts the piece in the place of the bytes from the offset on, with zeros between the end and it. Older blocks are copied
-    /// first. Of a source of data that holds no records.
+    /// first. Of a source of data that holds no records. Over a device that tells nothing a write below the last leaf may leave something
+    /// behind the end, as one block may stand on two ways there.
     fn write(&mut self, on: &mut B, offset: u64, piece: &[u8])
         requires over { is_over self.old on.old }
         requires kind { IsPlain (form self.old) }
@@ -104,7 +122,9 @@ pub trait Bytes<B: Blocks> {
         ensures grows { Grows (B.state on.old) (B.state on.new) (leaves self.old on.old) (leaves self.new on.new) }
         ensures spare { (B.state on.old).spare ≤ (B.state on.new).spare + most_for (max (size self.old) (offset + length piece.now)) (length piece.now) }
         ensures room { (B.state on.new).room ≡ (B.state on.old).room }
-        ensures trimmed { is_trimmed self.old on.old → is_trimmed self.new on.new }
+        ensures trimmed { (B.state on.old).tells ⊎ (size self.old ≤ 8192 * (offset / 8192 + 1)) → is_trimmed self.old on.old → is_trimmed self.new on.new }
+        ensures comes { (B.state on.old).tells → (from : Pointer) → ComesFor (B.state on.old) (top self.old) from → ComesFor (B.state on.new) (top self.new) from }
+        ensures only { (B.state on.old).tells → top self.new ≢ Nil → (y x : ℕ) → (B.state on.new).instead y x → (top self.new ≡ Local y) ⊎ ((B.state on.old).instead y x × (top self.old ≡ Local y → ⊥)) }
         ensures changes { Changes (form self.old).tag (leaves self.old on.old).owns (leaves self.old on.old).owns (B.state on.old) (B.state on.new) × B.keeps on.old on.new };
 
     /// Makes leaf `i` one of the current epoch, and gives its address: an older leaf is copied, so is one that is held under its
@@ -125,7 +145,9 @@ pub trait Bytes<B: Blocks> {
         ensures spare { ((B.state on.old).spare ≤ (B.state on.new).spare + most_to_own (size self.old) i) × ((leaves self.old on.old).current → (B.state on.old).spare + 1 ≤ (B.state on.new).spare + most_to_own (size self.old) i) }
         ensures current { (leaves self.new on.new).current }
         ensures room { (B.state on.new).room ≡ (B.state on.old).room }
-        ensures trimmed { is_trimmed self.old on.old → is_trimmed self.new on.new }
+        ensures trimmed { (B.state on.old).tells ⊎ (size self.old ≤ 8192 * (i + 1)) → is_trimmed self.old on.old → is_trimmed self.new on.new }
+        ensures comes { (B.state on.old).tells → (from : Pointer) → ComesFor (B.state on.old) (top self.old) from → ComesFor (B.state on.new) (top self.new) from }
+        ensures only { (B.state on.old).tells → top self.new ≢ Nil → (y x : ℕ) → (B.state on.new).instead y x → (top self.new ≡ Local y) ⊎ ((B.state on.old).instead y x × (top self.old ≡ Local y → ⊥)) }
         ensures changes { Changes (form self.old).tag (leaves self.old on.old).owns (MayZero (form self.old) (size self.old) i (B.state on.old) (leaves self.old on.old)) (B.state on.old) (B.state on.new) × B.keeps on.old on.new };
 
     // LAWS
@@ -144,6 +166,9 @@ pub trait Bytes<B: Blocks> {
     ghost apart: { (s : Self) (b : B) (i j at : ℕ) → is_over s b → (B.state b).tells → (leaves s b).at i ≡ Some at → (leaves s b).at j ≡ Some at → i ≡ j };
 
     ghost leaf_owned: { (s : Self) (b : B) (i at : ℕ) → is_over s b → (leaves s b).at i ≡ Some at → (leaves s b).owns at };
+
+    /// The block to which its entry leads is one of its own.
+    ghost top_owned: { (s : Self) (b : B) (at : ℕ) → is_over s b → top s ≡ Local at → (leaves s b).owns at };
 
     /// A leaf stands at a place, which is of the source's kind, tag and rank.
     ghost leaf_stands: { (s : Self) (b : B) (i at : ℕ) → is_over s b → (B.state b).tells → (leaves s b).at i ≡ Some at → (p : Place) × (B.state b).stands at p };
