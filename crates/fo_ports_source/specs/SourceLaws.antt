@@ -1,13 +1,18 @@
 -- Why a plain source keeps the laws.
-use Rattle.std.specs.Prelude.{◌≡◌, ◌⊎◌, ◌+◌, ◌*◌, ◌/◌, ◌%◌, ◌<◌, ◌≤◌, ℕ, List, slice_index, Option, Some, None, refl}
+use Rattle.std.specs.Prelude.{◌≡◌, ◌≢◌, ◌⊎◌, ◌+◌, ◌*◌, ◌/◌, ◌%◌, ◌<◌, ◌≤◌, ℕ, List, slice_index, Option, Some, None, refl}
 use Rattle.std.proofs.Common.{inl, inr, ⊎_elim, sym, ◌∙◌, ap, subst, arith}
 use Rattle.fo_image.specs.declared.types.Kind.{Kind}
 use Rattle.fo_image.specs.declared.types.Label.{Label}
+use Rattle.fo_image.specs.declared.types.Pointer.TheVariants.{Nil, Local}
 use Rattle.fo_crash.specs.declared.place.Place.{Place}
 use Rattle.fo_crash.specs.Places.{place, OnePlace}
 use Rattle.fo_ports.specs.State.{State, KeepsAll}
 use Rattle.fo_ports.specs.Sources.{StaysInPlace, IsReady, StaysReady, Undisturbed, byte_at}
 use Rattle.fo_ports_source.specs.Source.{leaf_of, leaves_of, HasLeaf, HasLabel, IsTold, Over, IsHeld, Prepared, IsTopCurrent}
+
+-- no pointer to nothing leads to a block
+pub no_top : (at : ℕ) → Nil ≢ Local at
+no_top at e = (cc)
 
 -- a leaf stands at its place alone
 pub only_place : {s : State} {kind : Kind} {tag rank at : ℕ} → OnePlace s.stands → IsTold s kind tag rank at → (p : Place) → s.stands at p → (p.kind ≡ kind) × (p.tag ≡ tag) × (p.rank ≡ rank)

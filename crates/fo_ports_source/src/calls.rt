@@ -1,6 +1,6 @@
 //! The calls on a plain source.
 ghost use Rattle.std.specs.Prelude.{◌≡◌, Option};
-ghost use Rattle.fo_ports.specs.Sources.{is_dir};
+ghost use Rattle.fo_ports.specs.Sources.{is_dir, depth_for};
 ghost use Rattle.fo_ports_source.specs.Source.{leaf_of};
 
 use crate::source::{LEAF, PlainSource};
@@ -9,13 +9,17 @@ use fo_ports::{BlockError, Blocks, Bytes};
 
 impl<B: Blocks> Bytes<B> for PlainSource {
     ghost use Rattle.std.specs.Prelude.{refl};
+    ghost use Rattle.fo_image.specs.declared.types.Pointer.TheVariants.{Nil};
     ghost use Rattle.fo_crash.specs.Places.{place};
     ghost use Rattle.fo_ports_source.specs.Source.{form_of, leaves_of, Over};
-    ghost use Rattle.fo_ports_source.specs.SourceLaws.{only_place, source_stays, source_prepared, part_prepared, top_stays};
+    ghost use Rattle.fo_ports_source.specs.SourceLaws.{only_place, source_stays, source_prepared, part_prepared, top_stays, no_top};
 
     ghost form = { λ s. form_of s.kind s.tag s.rank s.leaves.items };
 
     ghost size = { λ s. s.size };
+
+    // It has no top: its leaves hang from no block of its own.
+    ghost top = { λ s. Nil };
 
     ghost is_over = { λ s b. Over (B.state b) s.kind s.tag s.rank s.size s.leaves.items };
 
@@ -33,11 +37,16 @@ impl<B: Blocks> Bytes<B> for PlainSource {
             generation: 0,
             active: true,
             dir: is_dir(self.kind),
-            depth: 0,
+            depth: depth_for(self.size),
             tag: self.tag,
             size: self.size,
             top: Pointer::Nil,
         }
+    }
+
+    fn trimmed(&self, on: &B) -> bool {
+        let _ = on;
+        true
     }
 
     fn read(&mut self, on: &mut B, offset: u64, into: &mut [u8]) -> Result<usize, BlockError> {
@@ -88,6 +97,8 @@ impl<B: Blocks> Bytes<B> for PlainSource {
 
     ghost leaf_owned = { λ s b i at over e. record { number = i; is = e } };
 
+    ghost top_owned = { λ s b at over e. absurd (no_top at e) };
+
     ghost leaf_stands = { λ s b i at over told e. (place s.kind s.tag 0 s.rank, ((over.leaf i at e).told told).there) };
 
     ghost leaf_place = { λ s b i at p over told e stands. only_place (B.one_place b) ((over.leaf i at e).told told) p stands };
@@ -112,6 +123,23 @@ fn is_dir(kind: Kind) -> bool
     ensures { result ≡ is_dir kind }
 {
     matches!(kind, Kind::Dir(_))
+}
+
+/// The least depth of a tree of blocks for so many bytes.
+fn depth_for(size: u64) -> u8
+    ensures { result ≡ depth_for size }
+{
+    if size <= LEAF {
+        0
+    } else if size <= LEAF * 409 {
+        1
+    } else if size <= LEAF * 167_281 {
+        2
+    } else if size <= LEAF * 68_417_929 {
+        3
+    } else {
+        4
+    }
 }
 
 /// The leaf of a number.

@@ -5,8 +5,9 @@
 //! at.
 //!
 //! Proved: all that the trait of sources promises, over any blocks. This source has no blocks of pointers and puts no slot, so what it
-//! gives out stays apart, its entry has a nil top, and no image leads to its leaves; where the device tells what it holds, only a leaf
-//! that hangs in the tree, by a slot that somebody else put, may be of an older epoch. Not said: that there is memory for its list.
+//! gives out stays apart, its entry has a nil top and the least depth, and no image leads to its leaves; where the device tells what it
+//! holds, only a leaf that hangs in the tree, by a slot that somebody else put, may be of an older epoch. Not said: that there is memory
+//! for its list.
 #![tactic(auto)]
 
 mod calls;
