@@ -42,6 +42,15 @@ still_stands s t at rank stands rests told =
     let p = stands.place told in
     (p.0, (rests.blocks told at (stands.undoomed told)).places (stands.rooted told) p.0 p.1)
 
+pub rested_so : (s t : State) (at rank : ℕ) → StandsOnce s at rank → KeepsAll s t → Rests s t → OnePlace t.stands → t.tells → (p : Place) → t.stands at p → (p.kind ≡ Data 0) × (p.rank ≡ rank)
+rested_so s t at rank stands first rests one told p here =
+    let told_s = first.still_tells.0 told in
+    let was = stands.place told_s in
+    let still = rests.blocks told_s at (stands.undoomed told_s) in
+    let same = one.each at p was.0 here (still.places (stands.rooted told_s) was.0 was.1) in
+    let P : Place → Type 0 = λ q. (q.kind ≡ Data 0) × (q.rank ≡ rank) in
+    subst P (sym same) (was.2, was.3)
+
 pub stands_so : (s t u : State) (at rank : ℕ) → StandsOnce s at rank → KeepsAll s t → Rests s t → KeepsAll t u → Looks t u → OnePlace u.stands → StandsSo u at rank
 stands_so s t u at rank stands first rests second looks one = record {
   each = λ told p here.

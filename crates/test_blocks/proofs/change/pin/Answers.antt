@@ -1,5 +1,11 @@
-use Rattle.test_blocks.proofs.Causing.{of_get, still_stands, stands_so}
+use Rattle.test_blocks.proofs.Causing.{of_get, still_stands, rested_so, stands_so}
 use Rattle.test_blocks.proofs.change.pin.Goals as goal
+
+pub get-requires-clause-place : goal.get-requires-clause-place
+get-requires-clause-place g c =
+    let old = c.args.blocks.now in
+    let mid = c.reserve.new.self in
+    rested_so (g.B.Blocks.state old) (g.B.Blocks.state mid) c.args.at c.args.rank c.requires.stands (g.met.B.Blocks.keeps_all old mid c.reserve.ensures.keeps) c.reserve.ensures.rests (g.met.B.Blocks.one_place mid)
 
 pub returns-in-Err-get-clause-cause : goal.returns-in-Err-get-clause-cause
 returns-in-Err-get-clause-cause g c =
