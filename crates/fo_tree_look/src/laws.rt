@@ -1,5 +1,6 @@
 //! What holds of a source over blocks between calls.
 ghost use Rattle.std.specs.Prelude.{◌≡◌, ◌+◌, ◌*◌, ◌≤◌, ◌↔◌, ℕ, Some, None};
+ghost use Rattle.fo_image.specs.declared.types.Pointer.TheVariants.{Local};
 ghost use Rattle.fo_image.specs.declared.types.State.TheVariants.{Live};
 ghost use Rattle.fo_crash.specs.declared.place.Place.{Place};
 ghost use Rattle.fo_ports.specs.Sources.{source_bytes, IsReady, StaysReady, Undisturbed};
@@ -9,8 +10,8 @@ use crate::ways::Ways;
 use fo_ports::Blocks;
 
 /// The bytes are those of the leaves in memory; two leaves are two blocks, which stand at places of the source's kind, tag and rank. The
-/// source's blocks have its tag, are live, of an epoch up to the high one, and not to be closed. A source of entries or of records has
-/// no leaf under a score. No leaf stands at the end and behind it.
+/// source's blocks have its tag, are live, of an epoch up to the high one, and not to be closed; its top is one of them. A source of
+/// entries or of records has no leaf under a score. No leaf stands at the end and behind it.
 pub fn holds<B: Blocks>(source: &Ways, on: &B)
     requires over { Over (B.state on.now) source.now.tree source.now.kept.items source.now.limit }
     ensures bytes_are { (leaves_of (B.state on.now) source.now.tree source.now.kept.items source.now.limit).bytes ≡ source_bytes (address_here (B.state on.now) source.now.tree) (held_here (B.state on.now) source.now.tree source.now.kept.items) (B.state on.now).now source.now.tree.size }
@@ -19,6 +20,7 @@ pub fn holds<B: Blocks>(source: &Ways, on: &B)
     ensures in_limit { source.now.tree.size ≤ source.now.limit }
     ensures apart { (i j at : ℕ) → (B.state on.now).tells → address_here (B.state on.now) source.now.tree i ≡ Some at → address_here (B.state on.now) source.now.tree j ≡ Some at → i ≡ j }
     ensures leaf_owned { (i at : ℕ) → address_here (B.state on.now) source.now.tree i ≡ Some at → HasBlock (B.state on.now) source.now.tree at }
+    ensures top_owned { (at : ℕ) → source.now.tree.top ≡ Local at → HasBlock (B.state on.now) source.now.tree at }
     ensures leaf_stands { (i at : ℕ) → (B.state on.now).tells → address_here (B.state on.now) source.now.tree i ≡ Some at → (p : Place) × (B.state on.now).stands at p }
     ensures leaf_place { (i at : ℕ) (p : Place) → (B.state on.now).tells → address_here (B.state on.now) source.now.tree i ≡ Some at → (B.state on.now).stands at p → (p.kind ≡ (form_of source.now.tree source.now.generation source.now.limit).kind) × (p.tag ≡ source.now.tree.tag) × (p.rank ≡ source.now.tree.rank) }
     ensures owned { (at : ℕ) (p : Place) → (B.state on.now).tells → HasBlock (B.state on.now) source.now.tree at → (B.state on.now).stands at p → p.tag ≡ source.now.tree.tag }

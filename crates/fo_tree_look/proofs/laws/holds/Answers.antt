@@ -1,3 +1,4 @@
+use Rattle.std.proofs.Common.{arith}
 use Rattle.fo_crash.specs.Places.{place}
 use Rattle.fo_tree_read.specs.Tree.{kind_at}
 use Rattle.fo_tree_look.proofs.Places.{is_here, here_owned, none_here, leaf_there, leaves_apart, leaf_at_place, block_tag}
@@ -39,3 +40,6 @@ returns-clause-owned g c = λ at p told has stands.
 
 pub returns-clause-live : goal.returns-clause-live
 returns-clause-live g c = λ at told has. let is = c.requires.over.told told at has in (is.live, is.up_to, is.uncovered)
+
+pub returns-clause-top_owned : goal.returns-clause-top_owned
+returns-clause-top_owned g c = λ at e. record { down = 0; index = 0; within = omega arith; is = e }
