@@ -9,13 +9,13 @@ use Rattle.fo_crash.specs.declared.slot.Slot.{Slot}
 use Rattle.fo_crash.specs.Images.{target}
 use Rattle.fo_crash.specs.Places.{place}
 use Rattle.fo_ports.specs.State.{State, KeepsAll}
-use Rattle.fo_ports.specs.Sources.{Made}
+use Rattle.fo_ports.specs.Sources.{Made, IsInstead, ComesFor}
 use Rattle.fo_tree_look.specs.declared.ways.Kept.{Kept}
 use Rattle.fo_tree_look.specs.Source.{IsPrepared, IsTopCurrent}
 use Rattle.fo_tree_read.specs.declared.tree.Tree.{Tree}
 use Rattle.fo_tree_read.specs.Tree.{kind_at, kind_down, below, block_at}
 use Rattle.fo_tree_own.specs.Step.{IsOwn, OwnTold, Links}
-use Rattle.fo_tree_down.specs.Way.{OnWay, Replaces, LeadsBeside, Leads, with_top, IsInstead, ComesFor, IsTopOf, WayCurrent}
+use Rattle.fo_tree_down.specs.Way.{OnWay, Replaces, LeadsBeside, Leads, with_top, IsTopOf, WayCurrent}
 use Rattle.fo_tree_own.proofs.Link.{local_eq}
 use Rattle.fo_tree_down.proofs.Join.{level_same, local_cases}
 

@@ -13,7 +13,7 @@ use Rattle.fo_crash.proofs.Places.{stands_below}
 use Rattle.fo_crash.proofs.Reach.{reach_aside, reach_into, reaches_itself}
 use Rattle.fo_ports.specs.Blocks.{IsLevel}
 use Rattle.fo_ports.specs.State.{State, KeepsAll}
-use Rattle.fo_ports.specs.Sources.{IsHung, Made, IsMade, StaysMarked}
+use Rattle.fo_ports.specs.Sources.{IsHung, Made, IsMade, StaysMarked, IsInstead, ComesFor}
 use Rattle.fo_tree_read.specs.declared.tree.Tree.{Tree}
 use Rattle.fo_tree_read.specs.Tree.{kind_at, Hangs}
 use Rattle.fo_tree_look.specs.declared.ways.Kept.{Kept}
@@ -21,7 +21,7 @@ use Rattle.fo_tree_look.specs.Source.{IsTold, IsPrepared, IsKept, Ready, IsTopCu
 use Rattle.fo_image.specs.Format.{kind_code}
 use Rattle.fo_tree_own.specs.Step.{IsOwn, Becomes}
 use Rattle.fo_tree_own.proofs.Link.{Laws, Came}
-use Rattle.fo_tree_down.specs.Way.{OnWay, IsBefore, Descends, Comes, IsInstead, ComesFor, IsTopOf}
+use Rattle.fo_tree_down.specs.Way.{OnWay, IsBefore, Descends, Comes, IsTopOf}
 
 -- A top came: it was given out for the place of a top, and comes in the place of the top that was, if of any.
 pub record Topped (t : Tree) (kept : List Kept) (l : Label) (result : ℕ) (s m : State) : Type 0 where

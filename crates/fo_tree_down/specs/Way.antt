@@ -7,7 +7,7 @@ use Rattle.fo_image.specs.declared.types.State.TheVariants.{Live}
 use Rattle.fo_crash.specs.declared.place.Place.{Place}
 use Rattle.fo_crash.specs.Images.{Image, Reaches, target, to_block}
 use Rattle.fo_ports.specs.State.{State, none, AddsNoWait, KeepsNumbers}
-use Rattle.fo_ports.specs.Sources.{IsHung, Made, Touched, IsMade, StaysMarked}
+use Rattle.fo_ports.specs.Sources.{IsHung, ComesFor, Made, Touched, IsMade, StaysMarked}
 use Rattle.fo_tree_read.specs.declared.tree.Tree.{Tree}
 use Rattle.fo_tree_read.specs.Tree.{kind_at, kind_down, below, block_at}
 use Rattle.fo_tree_look.specs.declared.ways.Kept.{Kept}
@@ -116,21 +116,6 @@ pub record StaysBeside (s u : State) (t new : Tree) (n k : ℕ) : Type 0 where
 -- the tree with another top
 abbrev pub with_top : Tree → ℕ → Tree
 with_top t top = record t { top = Local top }
-
--- A block was made to come in the place of that to which an entry leads, if to any. What the entry leads to is an older block, or hangs
--- from this one: so no slot that waits leaves with it.
-pub record IsInstead (s : State) (from : Pointer) (at : ℕ) : Type 0 where
-  pub is_apart : s.apart at
-  pub place : Place
-  pub stands : s.stands at place
-  pub uncovered : s.covered at → ⊥
-  pub instead : (x : ℕ) → s.instead at x ↔ (from ≡ Local x)
-  pub live : (x : ℕ) → from ≡ Local x → (s.label x).state ≡ Live
-  pub keeps : (x : ℕ) → from ≡ Local x → ((s.label x).epoch < s.high) ⊎ Reaches s.now (to_block at) x
-
--- A source with this top may come in the place of what its entry leads to: that is its top, which was put, or its top was made for it.
-abbrev pub ComesFor : State → (top from : Pointer) → Type 0
-ComesFor s top from = ((top ≡ from) × ((b : ℕ) → top ≡ Local b → s.apart b → ⊥)) ⊎ ((at : ℕ) × (top ≡ Local at) × IsInstead s from at)
 
 -- The top of a source once it was made current: one that was given out, which is put nowhere yet, or the one that was there. Where the
 -- device tells, it comes in the place of what the source's top came in the place of, and is the only block that comes so now and didn't.
