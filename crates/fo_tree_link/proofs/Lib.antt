@@ -3,3 +3,4 @@ pub mod May
 pub mod After
 pub mod Changed
 pub mod Named
+pub mod Emptied

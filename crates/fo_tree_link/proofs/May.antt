@@ -53,6 +53,9 @@ nil_local b e = cc
 held_local : (score : Score) (b : ℕ) → Held score ≡ Local b → ⊥
 held_local score b e = cc
 
+not_both : {d : Bool} → d ≡ true → d ≡ false → ⊥
+not_both is isnt = let e : true ≡ false = sym is ∙ isnt in cc
+
 abbrev pub Fine : State → ℕ → Type 0
 Fine s b = ((s.label b).state ≡ Live) × ((s.label b).epoch ≤ s.high) × (s.covered b → ⊥)
 
@@ -129,10 +132,13 @@ module _ {s : State} {t : Tree} {kept : List Kept} {limit generation at i : ℕ}
         ∙ ap (λ (p : Pointer). below s (kind_down t n) p j) is
         ∙ f
 
-    -- it is a block of the source, or hangs from block 1
-    own_or_linked : (path : List ℕ) (n k a b : ℕ) → n ≤ t.depth → block_at s t n k ≡ Local a → target (walk s.now (to_block a) path) ≡ Local b → HasBlock s t b ⊎ Reaches s.now (to_block 1) b
-    own_or_linked [] n k a b le is f = inl (record { down = n; index = k; within = le; is = is ∙ f })
-    own_or_linked (j ∷ path) n k a b le is f = by (λ m c k' near here leads. own_or_linked path m k' c b near here leads) (target ((s.now a).slot j)) refl
+    -- it is a block of the source, or hangs from one that the source's entries name, and so from block 1
+    abbrev OwnOrNamed : ℕ → Type 0
+    OwnOrNamed b = HasBlock s t b ⊎ ((t.dir ≡ true) × Reaches s.now (to_block 1) b)
+
+    own_or_named : (path : List ℕ) (n k a b : ℕ) → n ≤ t.depth → block_at s t n k ≡ Local a → target (walk s.now (to_block a) path) ≡ Local b → OwnOrNamed b
+    own_or_named [] n k a b le is f = inl (record { down = n; index = k; within = le; is = is ∙ f })
+    own_or_named (j ∷ path) n k a b le is f = by (λ m c k' near here leads. own_or_named path m k' c b near here leads) (target ((s.now a).slot j)) refl
       where
         from : (c : ℕ) → target ((s.now a).slot j) ≡ Local c → target (walk s.now (to_block c) path) ≡ Local b
         from c g = (reaches_path path g f)
@@ -141,7 +147,7 @@ module _ {s : State} {t : Tree} {kept : List Kept} {limit generation at i : ℕ}
             reaches_path [] g h = sym g ∙ h
             reaches_path (m ∷ rest) g h = ap (λ (p : Pointer). target (walk s.now ((local s.now p).slot m) rest)) (sym g) ∙ h
 
-        by : ((m c k' : ℕ) → m ≤ t.depth → block_at s t m k' ≡ Local c → target (walk s.now (to_block c) path) ≡ Local b → HasBlock s t b ⊎ Reaches s.now (to_block 1) b) → (p : Pointer) → target ((s.now a).slot j) ≡ p → HasBlock s t b ⊎ Reaches s.now (to_block 1) b
+        by : ((m c k' : ℕ) → m ≤ t.depth → block_at s t m k' ≡ Local c → target (walk s.now (to_block c) path) ≡ Local b → OwnOrNamed b) → (p : Pointer) → target ((s.now a).slot j) ≡ p → OwnOrNamed b
         by on Nil g = absurd (let w = step_down s.now a j b path f in nil_local w.block (sym g ∙ w.is))
         by on (Held score) g = absurd (let w = step_down s.now a j b path f in held_local score w.block (sym g ∙ w.is))
         by on (Local c) g =
@@ -152,17 +158,23 @@ module _ {s : State} {t : Tree} {kept : List Kept} {limit generation at i : ℕ}
             (λ leaf. by_kind t.dir refl lt (omega (arith, le, leaf)))
             (cases_lt n t.depth)
           where
-            by_kind : (d : Bool) → t.dir ≡ d → j < slots_of (kind_down t n) → n ≡ t.depth → HasBlock s t b ⊎ Reaches s.now (to_block 1) b
-            by_kind true dir lt last = inr (reaches_joins (can.names dir k a j c (subst (λ m. block_at s t m k ≡ Local a) last is) g) (record { path = path; leads = from c g }))
+            by_kind : (d : Bool) → t.dir ≡ d → j < slots_of (kind_down t n) → n ≡ t.depth → OwnOrNamed b
+            by_kind true dir lt last = inr (dir, reaches_joins (can.names dir k a j c (subst (λ m. block_at s t m k ≡ Local a) last is) g) (record { path = path; leads = from c g }))
             by_kind false dir lt last = let none : slots_of (kind_down t n) ≡ 0 = no_slots t.dir (t.depth - n) dir (omega (arith, last)) in absurd (omega (arith, lt, none))
+
+    -- all that hangs from a source of data is its own
+    pub all_own : t.dir ≡ false → (b : ℕ) → Reaches s.now (Head e) b → HasBlock s t b
+    all_own plain b r =
+        let f = from_slot s.now (Head e) b r in
+        ⊎_elim (λ own. own) (λ named. absurd (not_both named.0 plain)) (own_or_named f.reaches.path 0 0 f.block b (omega arith) f.is f.reaches.leads)
 
     pub new_fine : (b : ℕ) → Reaches s.now (Head e) b → Fine s b
     new_fine b r =
         let f = from_slot s.now (Head e) b r in
         ⊎_elim
         (λ own. let is = x.over.told told b own in (is.live, is.up_to, is.uncovered))
-        (λ linked. x.laws.live b told (λ one. top_not_one f.block f.is (subst (λ y. Reaches s.now (to_block f.block) y) one f.reaches)) linked)
-        (own_or_linked f.reaches.path 0 0 f.block b (omega arith) f.is f.reaches.leads)
+        (λ named. x.laws.live b told (λ one. top_not_one f.block f.is (subst (λ y. Reaches s.now (to_block f.block) y) one f.reaches)) named.1)
+        (own_or_named f.reaches.path 0 0 f.block b (omega arith) f.is f.reaches.leads)
 
     -- ---- what leaves
 

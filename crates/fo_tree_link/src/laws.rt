@@ -1,12 +1,14 @@
 //! Where a source that was changed may be linked.
-ghost use Rattle.std.specs.Prelude.{◌≡◌, ◌≢◌, ◌⊎◌, ◌^◌, ◌<◌, ℕ};
+ghost use Rattle.std.specs.Prelude.{◌≡◌, ◌≢◌, ◌⊎◌, ◌^◌, ◌<◌, ℕ, true};
 ghost use Rattle.fo_image.specs.declared.types.Pointer.{Pointer};
-ghost use Rattle.fo_image.specs.declared.types.Pointer.TheVariants.{Local};
+ghost use Rattle.fo_image.specs.declared.types.Pointer.TheVariants.{Nil, Local};
 ghost use Rattle.fo_crash.specs.declared.slot.Slot.TheVariants.{Entry as Head};
+ghost use Rattle.fo_crash.specs.Images.{Reaches};
 ghost use Rattle.fo_ports.specs.Sources.{Changes};
 ghost use Rattle.fo_tree_read.specs.Tree.{kind_at, block_at};
 ghost use Rattle.fo_tree_look.specs.Source.{Over, HasBlock};
 ghost use Rattle.fo_tree_down.specs.Way.{Comes, ComesFor, StaysBeside, with_top};
+ghost use Rattle.fo_tree_open.specs.Open.{HasEntry};
 ghost use Rattle.fo_tree_link.specs.Link.{entry_of, CanLink};
 ghost use Rattle.fo_tree_link.specs.Change.{HangsInTree, SameSource, KeepsEntries, KeepsOthers};
 
@@ -36,6 +38,27 @@ pub fn may_link<B: Blocks>(
     requires linked { (B.state before.now).tells → HangsInTree (B.state before.now) tree.now at i }
     requires leaves { (B.state before.now).tells → KeepsEntries (B.state before.now) (B.state after.now) tree.now new.now }
     ensures { (B.state after.now).tells → CanLink (B.state after.now) new.now generation at i }
+{}
+
+/// A source that hung from its entry may be linked once it has no bytes left, and no top: so all that hung from the entry leaves. Of a
+/// source of entries no slot of what hangs there may wait; a source of data has none that does.
+pub fn may_empty<B: Blocks>(
+    tree: &Tree,
+    empty: &Tree,
+    kept: &[Kept],
+    on: &B,
+    generation: u32,
+    at: u32,
+    i: u32,
+)
+    requires over { (limit : ℕ) × Over (B.state on.now) tree.now kept.now limit }
+    requires leaf { HasEntry ((B.state on.now).label at).kind i }
+    requires entry { ((B.state on.now).now at).slot i ≡ Head (entry_of tree.now generation) }
+    requires same { (empty.now.dir ≡ tree.now.dir) × (empty.now.rank ≡ tree.now.rank) }
+    requires empty { (empty.now.size ≡ 0) × (empty.now.depth ≡ 0) × (empty.now.top ≡ Nil) }
+    requires linked { (B.state on.now).tells → HangsInTree (B.state on.now) tree.now at i }
+    requires settled { (B.state on.now).tells → tree.now.dir ≡ true → (b j : ℕ) → (B.state on.now).clearing b j → Reaches (B.state on.now).now (Head (entry_of tree.now generation)) b → ⊥ }
+    ensures { (B.state on.now).tells → CanLink (B.state on.now) empty.now generation at i }
 {}
 
 /// Where the way to a leaf of a source of entries was made current, each of its leaves has the slots of a leaf that it had, or leads to no

@@ -13,5 +13,5 @@
 mod laws;
 mod put;
 
-pub use laws::{keeps_entries, may_link};
+pub use laws::{keeps_entries, may_empty, may_link};
 pub use put::link;
