@@ -10,10 +10,10 @@ use Rattle.fo_crash.specs.Places.{place, IsPlaced, RanksFall}
 use Rattle.fo_crash.proofs.Places.{stands_below}
 use Rattle.fo_crash.proofs.Reach.{reach_aside, reaches_joins}
 use Rattle.fo_ports.specs.State.{State, KeepsAll}
+use Rattle.fo_ports.specs.Sources.{IsInstead, ComesFor}
 use Rattle.fo_tree_read.specs.declared.tree.Tree.{Tree}
 use Rattle.fo_tree_read.specs.Tree.{kind_at}
 use Rattle.fo_tree_own.proofs.Link.{local_eq}
-use Rattle.fo_tree_down.specs.Way.{IsInstead, ComesFor}
 use Rattle.fo_tree_raise.specs.Raise.{CanRaise, Raises}
 
 -- A top was raised over another, over a device that tells.

@@ -3,11 +3,10 @@ ghost use Rattle.std.specs.Prelude.{◌≡◌, ◌⊎◌, ◌+◌, ◌*◌, ◌^
 ghost use Rattle.fo_image.specs.declared.types.Pointer.{Pointer};
 ghost use Rattle.fo_image.specs.declared.types.Pointer.TheVariants.{Local};
 ghost use Rattle.fo_ports.specs.State.{none};
-ghost use Rattle.fo_ports.specs.Sources.{Made, Changes};
+ghost use Rattle.fo_ports.specs.Sources.{Made, Changes, ComesFor};
 ghost use Rattle.fo_tree_read.specs.Tree.{block_at};
 ghost use Rattle.fo_tree_look.specs.declared.ways.Kept.{Kept};
 ghost use Rattle.fo_tree_look.specs.Source.{HasBlock, Prepared};
-ghost use Rattle.fo_tree_down.specs.Way.{ComesFor};
 ghost use Rattle.fo_tree_down.specs.Clear.{EndsClear};
 ghost use Rattle.fo_tree_raise.specs.Raise.{CanRaise, Bears};
 ghost use Rattle.fo_tree_raise.specs.Levels.{Adds, IsTopAfter, InStead, grown};

@@ -2,10 +2,10 @@
 ghost use Rattle.std.specs.Prelude.{◌≡◌, ◌⊎◌, ◌*◌, ◌^◌, ◌<◌, ◌≤◌, ℕ, List};
 ghost use Rattle.fo_image.specs.declared.types.Pointer.{Pointer};
 ghost use Rattle.fo_image.specs.declared.types.Pointer.TheVariants.{Local};
+ghost use Rattle.fo_ports.specs.Sources.{ComesFor};
 ghost use Rattle.fo_tree_read.specs.Tree.{Hangs};
 ghost use Rattle.fo_tree_look.specs.declared.ways.Kept.{Kept};
 ghost use Rattle.fo_tree_look.specs.Source.{Prepared};
-ghost use Rattle.fo_tree_down.specs.Way.{ComesFor};
 ghost use Rattle.fo_tree_down.specs.Clear.{EndsClear};
 ghost use Rattle.fo_tree_raise.specs.Raise.{CanRaise, Raises, raised, Bears, SameBelow};
 

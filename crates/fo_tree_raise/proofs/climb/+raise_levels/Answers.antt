@@ -1,9 +1,8 @@
 use Rattle.std.proofs.Common.{◌≡◌, ◌-◌, ◌*◌, ◌^◌, ◌<◌, ◌≤◌, inl, inr, ⊎_elim, refl, sym, ap, ◌∙◌, subst, arith}
 use Rattle.fo_image.specs.declared.types.Pointer.TheVariants.{Local}
-use Rattle.fo_ports.specs.Sources.{Made}
+use Rattle.fo_ports.specs.Sources.{Made, ComesFor}
 use Rattle.fo_tree_read.specs.declared.tree.Tree.{Tree}
 use Rattle.fo_tree_look.specs.Source.{HasBlock, Prepared}
-use Rattle.fo_tree_down.specs.Way.{ComesFor}
 use Rattle.fo_tree_down.proofs.Join.{local_cases}
 use Rattle.fo_tree_down.specs.Clear.{EndsClear}
 use Rattle.fo_tree_raise.specs.Raise.{CanRaise, Raises, SameBelow, Bears, raised}
