@@ -11,14 +11,13 @@ use Rattle.fo_crash.specs.Places.{place}
 use Rattle.fo_crash.proofs.Reach.{same_walk}
 use Rattle.fo_crash.proofs.Updates.{bytes_other, bytes_slot}
 use Rattle.fo_ports.specs.State.{State, KeepsAll, Calm, AddsNoWait, none}
-use Rattle.fo_ports.specs.Sources.{IsHung, Made, Touched, IsMade, StaysMarked, Undone, Changes}
+use Rattle.fo_ports.specs.Sources.{IsHung, Made, Touched, IsMade, StaysMarked, Undone, Changes, IsInstead, ComesFor}
 use Rattle.fo_tree_read.specs.declared.tree.Tree.{Tree}
 use Rattle.fo_tree_read.specs.Tree.{kind_at}
 use Rattle.fo_tree_look.specs.declared.ways.Kept.{Kept}
 use Rattle.fo_tree_look.specs.Source.{IsTold, Over, Prepared, WayReady}
 use Rattle.fo_tree_look.proofs.Still.{source_prepared}
 use Rattle.fo_tree_look.proofs.Shown.{held_on}
-use Rattle.fo_tree_down.specs.Way.{IsInstead, ComesFor}
 use Rattle.fo_tree_down.specs.Clear.{EndsClear}
 use Rattle.fo_tree_clear.proofs.Same.{SameSlots, same_seen, block_same, has_back}
 
