@@ -19,7 +19,7 @@ use Rattle.fo_tree_read.specs.Reading.{passed, most}
 use Rattle.fo_tree_look.specs.declared.ways.Kept.{Kept}
 use Rattle.fo_tree_look.specs.Source.{HasBlock, IsTold, IsTopCurrent, Over, Prepared, WayReady, address_here, held_here}
 use Rattle.fo_tree_down.specs.Way.{OnWay, IsTopOf, WayCurrent, with_top}
-use Rattle.fo_tree_down.specs.Clear.{EndsClear}
+use Rattle.fo_tree_down.specs.Clear.{EndsClear, last_leaf}
 use Rattle.fo_tree_down.proofs.Beside.{on_way_block}
 use Rattle.fo_tree_down.proofs.Join.{local_cases}
 use Rattle.fo_tree_down.proofs.Leading.{way_top}
@@ -241,7 +241,7 @@ pub record OneMore (s u v : State) (t : Tree) (top : Pointer) (next : ℕ) (kept
   pub owns : u.tells → (b : ℕ) → (HasBlock v (with_top t next) b → HasBlock u (at_top t top) b ⊎ Made u v b) × (Made u v b → HasBlock v (with_top t next) b)
   pub stays : u.tells → (b : ℕ) → HasBlock u (at_top t top) b → (u.label b).epoch ≡ u.high → HasBlock v (with_top t next) b
   pub ways : (j b : ℕ) → WayReady u (at_top t top) kept t.depth j → OnWay v (with_top t next) t.depth j b → OnWay u (at_top t top) t.depth j b ⊎ Made u v b
-  pub clear : u.tells → EndsClear u (at_top t top) kept → EndsClear v (with_top t next) kept
+  pub clear : u.tells ⊎ ((offset + done) / 8192 ≡ last_leaf t.size) → EndsClear u (at_top t top) kept → EndsClear v (with_top t next) kept
   pub steps : Steps t.tag (OnWay u (at_top t top) t.depth ((offset + done) / 8192)) (OnWay u (at_top t top) t.depth ((offset + done) / 8192)) u v
   pub most : u.spare ≤ v.spare + (t.depth + 1)
   pub used : (j : ℕ) → WayCurrent u (at_top t top) t.depth j → j ≤ (offset + done) / 8192 → (offset + done) / 8192 ≤ j + 1 → u.spare + (j + above t.depth j) ≤ v.spare + ((offset + done) / 8192 + above t.depth ((offset + done) / 8192))
@@ -296,6 +296,10 @@ module _ {s u v : State} {t : Tree} {top : Pointer} {next : ℕ} {kept : List Ke
       (λ made. inr (made_second follows b made))
       (x.ways j b (way_still s u t (at_top t top) kept j refl refl lt x.wrote.still way) on)
 
+  -- a piece that begins in the last leaf stays there
+  last_here : t.size ≤ 8192 * (offset / 8192 + 1) → (offset + done) / 8192 ≡ last_leaf t.size
+  last_here last = let inside = x.inside in omega (arith, last, inside)
+
   pub wrote_more : Wrote s v t (Local next) kept offset (done + n) piece
   wrote_more = record {
     over = λ limit was. x.over limit (x.wrote.over limit was);
@@ -314,7 +318,7 @@ module _ {s u v : State} {t : Tree} {top : Pointer} {next : ℕ} {kept : List Ke
         (λ was. inr was)
         (x.wrote.only told y z old.0))
         (x.top_of.only (mid told) y z h);
-    clear = λ told was. x.clear (mid told) (x.wrote.clear told was);
+    clear = λ which was. x.clear (⊎_elim (λ told. inl (mid told)) (λ last. inr (last_here last)) which) (x.wrote.clear which was);
     steps = steps_join follows;
     spent = spent_more u v (at_top t top) (with_top t next) s.spare offset done n refl x.some x.part x.most x.used x.way x.wrote.spent;
   }
@@ -328,7 +332,7 @@ wrote_none s t kept offset piece all = record {
   ways = λ j b lt way on. inl on;
   comes = λ told from h. h;
   only = λ told y z h. ⊎_elim (λ e. inl e) (λ ne. inr (h, ne)) (local_cases t.top y);
-  clear = λ told was. was;
+  clear = λ which was. was;
   steps = steps_none t.tag (HasBlock s t) (HasBlock s t) s all;
   spent = spent_none s t offset;
 }

@@ -3,12 +3,12 @@ use Rattle.std.specs.Prelude.{◌≡◌, ◌⊎◌, ◌+◌, ◌-◌, ◌*◌, �
 use Rattle.fo_image.specs.declared.types.Pointer.{Pointer}
 use Rattle.fo_image.specs.declared.types.Pointer.TheVariants.{Local}
 use Rattle.fo_ports.specs.State.{State}
-use Rattle.fo_ports.specs.Sources.{Made}
+use Rattle.fo_ports.specs.Sources.{Made, ComesFor}
 use Rattle.fo_tree_read.specs.declared.tree.Tree.{Tree}
 use Rattle.fo_tree_read.specs.Reading.{passed}
 use Rattle.fo_tree_look.specs.declared.ways.Kept.{Kept}
 use Rattle.fo_tree_look.specs.Source.{HasBlock, Over, Prepared, WayReady}
-use Rattle.fo_tree_down.specs.Way.{OnWay, ComesFor, WayCurrent}
+use Rattle.fo_tree_down.specs.Way.{OnWay, WayCurrent}
 use Rattle.fo_tree_down.specs.Clear.{EndsClear}
 use Rattle.fo_tree_clear.specs.Put.{byte_here, Puts}
 use Rattle.fo_tree_clear.specs.Steps.{Steps}
@@ -31,6 +31,6 @@ pub record Wrote (s u : State) (t : Tree) (top : Pointer) (kept : List Kept) (of
   pub ways : (j b : ℕ) → 8192 * j < t.size → WayReady s t kept t.depth j → OnWay u (at_top t top) t.depth j b → OnWay s t t.depth j b ⊎ Made s u b
   pub comes : s.tells → (from : Pointer) → ComesFor s t.top from → ComesFor u top from
   pub only : s.tells → (y x : ℕ) → u.instead y x → (top ≡ Local y) ⊎ (s.instead y x × (t.top ≡ Local y → ⊥))
-  pub clear : s.tells → EndsClear s t kept → EndsClear u (at_top t top) kept
+  pub clear : s.tells ⊎ (t.size ≤ 8192 * (offset / 8192 + 1)) → EndsClear s t kept → EndsClear u (at_top t top) kept
   pub steps : Steps t.tag (HasBlock s t) (HasBlock s t) s u
   pub spent : Spent u (at_top t top) s.spare offset done

@@ -1,10 +1,9 @@
 //! A piece is put below the end.
-ghost use Rattle.std.specs.Prelude.{◌≡◌, ◌≢◌, ◌⊎◌, ◌+◌, ◌*◌, ◌<◌, ◌≤◌, ℕ, length};
+ghost use Rattle.std.specs.Prelude.{◌≡◌, ◌≢◌, ◌⊎◌, ◌+◌, ◌*◌, ◌/◌, ◌<◌, ◌≤◌, ℕ, length};
 ghost use Rattle.fo_sparse.specs.Written.{written};
-ghost use Rattle.fo_ports.specs.Sources.{Changes, Grows, most_for};
+ghost use Rattle.fo_ports.specs.Sources.{Changes, Grows, most_for, ComesFor};
 ghost use Rattle.fo_image.specs.declared.types.Pointer.{Pointer};
 ghost use Rattle.fo_image.specs.declared.types.Pointer.TheVariants.{Local};
-ghost use Rattle.fo_tree_down.specs.Way.{ComesFor};
 ghost use Rattle.fo_tree_down.specs.Clear.{EndsClear};
 ghost use Rattle.fo_tree_look.specs.Source.{Over, HasBlock, IsPlainTree, Prepared, leaves_of};
 ghost use Rattle.fo_tree_write.specs.Write.{at_top};
@@ -20,7 +19,8 @@ use fo_tree_read::Tree;
 const LEAF: u64 = BLOCK as u64;
 
 /// Puts a piece in the place of the bytes from the offset on, all of which the source has, and gives the pointer to its top. Leaf by leaf,
-/// each is made current first; a new top is put nowhere yet.
+/// each is made current first; a new top is put nowhere yet. What is clear behind the end stays so where the device tells, or the piece
+/// begins in the last leaf.
 pub fn put_within<B: Blocks>(
     tree: &Tree,
     kept: &[Kept],
@@ -37,7 +37,7 @@ pub fn put_within<B: Blocks>(
     ensures grows { (limit : ℕ) → Grows (B.state on.old) (B.state on.new) (leaves_of (B.state on.old) tree.now kept.now limit) (leaves_of (B.state on.new) (at_top tree.now result) kept.now limit) }
     ensures comes { (B.state on.old).tells → (from : Pointer) → ComesFor (B.state on.old) tree.now.top from → ComesFor (B.state on.new) result from }
     ensures only { (B.state on.old).tells → (y x : ℕ) → (B.state on.new).instead y x → (result ≡ Local y) ⊎ ((B.state on.old).instead y x × (tree.now.top ≡ Local y → ⊥)) }
-    ensures clear { (B.state on.old).tells → EndsClear (B.state on.old) tree.now kept.now → EndsClear (B.state on.new) (at_top tree.now result) kept.now }
+    ensures clear { (B.state on.old).tells ⊎ (tree.now.size ≤ 8192 * (offset / 8192 + 1)) → EndsClear (B.state on.old) tree.now kept.now → EndsClear (B.state on.new) (at_top tree.now result) kept.now }
     ensures changes { Changes tree.now.tag (HasBlock (B.state on.old) tree.now) (HasBlock (B.state on.old) tree.now) (B.state on.old) (B.state on.new) }
     ensures spare { (B.state on.old).spare ≤ (B.state on.new).spare + most_for tree.now.size (length piece.now) }
     ensures room { (B.state on.new).room ≡ (B.state on.old).room }

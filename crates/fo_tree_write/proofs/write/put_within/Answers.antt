@@ -1,4 +1,4 @@
-use Rattle.std.proofs.Common.{◌≡◌, ◌+◌, ◌-◌, ◌*◌, ◌/◌, ◌%◌, ◌<◌, length, take, drop, inl, refl, sym, ap, ◌∙◌, subst, arith, ⊎_elim}
+use Rattle.std.proofs.Common.{◌≡◌, ◌+◌, ◌-◌, ◌*◌, ◌/◌, ◌%◌, ◌<◌, length, take, drop, refl, sym, ap, ◌∙◌, subst, arith, ⊎_elim}
 use Rattle.std.proofs.lemmas.Bool.{cases_eq}
 use Rattle.std.proofs.lemmas.List.{take_all}
 use Rattle.fo_crash.specs.Places.{super_place, root_place}
@@ -85,7 +85,7 @@ loop-done-preserved g c =
         owns = (e.grows c.requires.over.0).owns;
         stays = e.stays;
         ways = e.ways;
-        clear = λ told was. e.clear (inl told) was;
+        clear = λ which was. e.clear which was;
         steps = e.steps;
         most = e.spare;
         used = e.used;
