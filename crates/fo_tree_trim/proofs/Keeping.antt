@@ -12,13 +12,13 @@ use Rattle.fo_crash.specs.declared.slot.Slot.{Slot}
 use Rattle.fo_crash.specs.Images.{SameContent, Reaches, target, to_block}
 use Rattle.fo_crash.specs.Places.{place}
 use Rattle.fo_ports.specs.State.{State}
-use Rattle.fo_ports.specs.Sources.{IsHung, Made}
+use Rattle.fo_ports.specs.Sources.{IsHung, Made, IsInstead, ComesFor}
 use Rattle.fo_tree_read.specs.declared.tree.Tree.{Tree}
 use Rattle.fo_tree_read.specs.Tree.{kind_at, kind_down, score_in, below, block_at}
 use Rattle.fo_tree_look.specs.declared.ways.Kept.{Kept}
 use Rattle.fo_tree_look.specs.Source.{HasBlock, IsTold, Over, Prepared}
 use Rattle.fo_tree_look.proofs.Shown.{held_on}
-use Rattle.fo_tree_down.specs.Way.{IsInstead, ComesFor, IsTopOf, IsWayIndex, with_top}
+use Rattle.fo_tree_down.specs.Way.{IsTopOf, IsWayIndex, with_top}
 use Rattle.fo_tree_down.proofs.Beside.{index_last, index_within, way_block}
 use Rattle.fo_tree_down.proofs.Next.{local_seen}
 use Rattle.fo_tree_down.proofs.Stilling.{index_one}
