@@ -4,13 +4,12 @@ use Rattle.fo_image.specs.declared.types.Pointer.{Pointer}
 use Rattle.fo_image.specs.declared.types.Pointer.TheVariants.{Local}
 use Rattle.fo_crash.specs.Images.{SameContent}
 use Rattle.fo_ports.specs.State.{State}
-use Rattle.fo_ports.specs.Sources.{Made}
+use Rattle.fo_ports.specs.Sources.{Made, ComesFor}
 use Rattle.fo_tree_read.specs.declared.tree.Tree.{Tree}
 use Rattle.fo_tree_read.specs.Tree.{block_at}
 use Rattle.fo_tree_look.specs.declared.ways.Kept.{Kept}
 use Rattle.fo_tree_look.specs.Source.{HasBlock, Prepared}
 use Rattle.fo_tree_down.specs.Clear.{EndsClear}
-use Rattle.fo_tree_down.specs.Way.{ComesFor}
 use Rattle.fo_tree_raise.specs.Raise.{Bears}
 use Rattle.fo_tree_raise.specs.Levels.{Adds, grown}
 

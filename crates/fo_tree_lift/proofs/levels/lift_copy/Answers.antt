@@ -1,11 +1,11 @@
 use Rattle.std.proofs.Common.{◌≡◌, ◌+◌, ◌-◌, ◌<◌, ◌≤◌, ◌^◌, inl, inr, ⊎_elim, sym, ap, ◌∙◌, subst, arith}
 use Rattle.fo_image.specs.declared.types.Pointer.{Pointer}
 use Rattle.fo_image.specs.declared.types.Pointer.TheVariants.{Local}
-use Rattle.fo_ports.specs.Sources.{Made}
+use Rattle.fo_ports.specs.Sources.{Made, ComesFor}
 use Rattle.fo_tree_read.specs.declared.tree.Tree.{Tree}
 use Rattle.fo_tree_look.specs.Source.{HasBlock}
 use Rattle.fo_tree_own.specs.Step.{Becomes}
-use Rattle.fo_tree_down.specs.Way.{ComesFor, with_top}
+use Rattle.fo_tree_down.specs.Way.{with_top}
 use Rattle.fo_tree_raise.specs.Raise.{CanRaise}
 use Rattle.fo_tree_raise.proofs.Bearing.{bears}
 use Rattle.fo_tree_lift.proofs.Join.{Follows, adds_join, made_first, made_second, made_either}
