@@ -1,5 +1,5 @@
 -- A new top is raised over the top of a source.
-use Rattle.std.specs.Prelude.{◌≡◌, ◌≢◌, ◌⊎◌, ◌↔◌, ◌+◌, ◌-◌, ◌/◌, ◌^◌, ◌<◌, ◌≤◌, ℕ, suc, List}
+use Rattle.std.specs.Prelude.{◌≡◌, ◌≢◌, ◌⊎◌, ◌↔◌, ◌+◌, ◌-◌, ◌^◌, ◌<◌, ◌≤◌, ℕ, suc, List}
 use Rattle.fo_image.specs.declared.types.State.TheVariants.{Live}
 use Rattle.fo_image.specs.declared.types.Pointer.TheVariants.{Nil, Local}
 use Rattle.fo_image.specs.Format.{PointerHolds}
@@ -12,9 +12,8 @@ use Rattle.fo_ports.specs.Sources.{IsHung, Made}
 use Rattle.fo_tree_read.specs.declared.tree.Tree.{Tree}
 use Rattle.fo_tree_read.specs.Tree.{kind_at, block_at, Hangs}
 use Rattle.fo_tree_look.specs.declared.ways.Kept.{Kept}
-use Rattle.fo_tree_look.specs.Source.{HasBlock, IsTold, IsPlainTree, NoneHeld, AllHeld, WayReady, seen}
+use Rattle.fo_tree_look.specs.Source.{HasBlock, IsTold, IsPlainTree, NoneHeld, AllHeld}
 use Rattle.fo_tree_own.specs.Step.{IsOwn, IsBeside}
-use Rattle.fo_tree_down.specs.Way.{IsWayIndex}
 
 -- the tree below this block, with one level more
 abbrev pub raised : Tree → ℕ → Tree
