@@ -99,6 +99,8 @@ module _ (s t : DiskState) (p q : Parts) (f g : ℕ) (k : Settles s t p q) where
     leaves = λ tells. absurd tells;
     apart = λ b. (λ h. sym (apart_same b) ∙ h, λ h. apart_same b ∙ h);
     instead = λ b x. (λ h. (sym (apart_same b) ∙ h.0, sym (origin_same b) ∙ h.1), λ h. (apart_same b ∙ h.0, origin_same b ∙ h.1));
+    labels = λ b. inl refl;
+    queues = λ some. inl some;
     usable = omega arith;
     settled = λ was. (record { settled = record { each = λ image h. absurd h }; clean = λ b d. unlinked b (was.clean b (dirty_was b d)); empty = was.empty; cleared = was.cleared }, refl);
     numbers = record { next = refl; grants = λ h. h };
