@@ -1,8 +1,12 @@
 -- What may be owned once it is prepared.
-use Rattle.std.proofs.Common.{◌≡◌, inl, inr, ⊎_elim, ◌+◌, ◌*◌, ◌≤◌, ℕ, max, sym, ap, ◌∙◌, subst}
+use Rattle.std.proofs.Common.{◌≡◌, ◌⊎◌, inl, inr, ⊎_elim, ◌+◌, ◌*◌, ◌≤◌, ℕ, max, arith, sym, ap, ◌∙◌, subst}
 use Rattle.fo_image.specs.declared.types.Label.{Label}
-use Rattle.fo_ports.specs.State.{State, Looks}
-use Rattle.fo_ports.specs.Sources.{Form, Leaves, Owned, Grows, Changes, MayZero, Made, IsEnough, most_for, SameLeaves}
+use Rattle.fo_image.specs.declared.types.Pointer.{Pointer}
+use Rattle.fo_image.specs.declared.types.Pointer.TheVariants.{Local}
+use Rattle.fo_crash.specs.Images.{target, to_block}
+use Rattle.fo_crash.proofs.Reach.{same_walk}
+use Rattle.fo_ports.specs.State.{State, KeepsAll, Looks}
+use Rattle.fo_ports.specs.Sources.{Form, Leaves, ComesFor, IsInstead, most_to_own, Owned, Grows, Changes, MayZero, Made, IsEnough, most_for, SameLeaves}
 use Rattle.fo_dir_read.specs.Names.{leaf_count}
 use Rattle.fo_dir_ready.specs.Owning.{MayOwn, MayReady, Readies}
 
@@ -34,3 +38,41 @@ pub readied : {form form_then : Form} {size size_then i at : ℕ} {a m b : State
     → Changes form_then.tag y.owns (MayZero form_then size_then i m y) m b → Readies form size i at a m b x y z
 readied {form_then = form_then} {size = size} {i = i} {at = at} {a = a} {m = m} {b = b} {x = x} {y = y} {z = z} is count looks same owned grows changes =
     subst (λ (f : Form). Readies f size i at a m b x y z) is (subst (λ n. Readies form_then n i at a m b x y z) count (record { looks = looks; same = same; owned = owned; grows = grows; changes = changes }))
+
+-- how many blocks are left of what was there before the look
+pub spare_later : {x y : Leaves} {size now : ℕ} (i : ℕ) (a m b : State) {tells : Type 0} → now ≡ size → SameLeaves tells x y → m.spare ≡ a.spare → (m.spare ≤ b.spare + most_to_own now i) × (y.current → m.spare + 1 ≤ b.spare + most_to_own now i)
+    → (a.spare ≤ b.spare + most_to_own size i) × (x.current → a.spare + 1 ≤ b.spare + most_to_own size i)
+spare_later {x = x} {size = size} i a m b is same left h =
+    subst (λ n. (n ≤ b.spare + most_to_own size i) × (x.current → n + 1 ≤ b.spare + most_to_own size i)) left
+    (subst (λ n. (m.spare ≤ b.spare + most_to_own n i) × (x.current → m.spare + 1 ≤ b.spare + most_to_own n i)) is (h.0, λ c. h.1 (same.current c)))
+
+module _ {a m : State} (all : KeepsAll a m) (looks : Looks a m) (told : a.tells) where
+  instead_looked : (from : Pointer) (at : ℕ) → IsInstead a from at → IsInstead m from at
+  instead_looked from at i = record {
+    is_apart = (looks.stays.apart at (λ n. n) (λ n. n)).1 i.is_apart;
+    place = i.place;
+    stands = looks.stays.places told at i.place (λ n. n) (λ n. n) uncovered i.stands;
+    uncovered = uncovered;
+    instead = λ x. let same = looks.stays.instead at x (λ n. n) (λ n. n) in (λ h. (i.instead x).0 (same.0 h), λ e. same.1 ((i.instead x).1 e));
+    live = λ x e. ap (λ (l : Label). l.state) (label x) ∙ i.live x e;
+    keeps = λ x e. ⊎_elim
+        (λ older. let epoch = ap (λ (l : Label). l.epoch) (label x) in let high = all.same_high in inl (omega (arith, older, epoch, high)))
+        (λ r. inr (record { path = r.path; leads = ap target (same_walk m.now a.now (λ b j. ((looks.memory told).each b).slots j) r.path (to_block at)) ∙ r.leads }))
+        (i.keeps x e);
+  }
+    where
+      label : (k : ℕ) → m.label k ≡ a.label k
+      label k = looks.stays.labels k (λ n. n)
+
+      uncovered : m.covered at → ⊥
+      uncovered h = i.uncovered ((looks.covered.covered at).0 h)
+
+  -- what a source comes in the place of stays so where it was only looked at
+  pub comes_looked : (top from : Pointer) → ComesFor a top from → ComesFor m top from
+  comes_looked top from = ⊎_elim
+      (λ put. inl (put.0, λ b e is. put.1 b e ((looks.stays.apart b (λ n. n) (λ n. n)).0 is)))
+      (λ made. inr (made.0, made.1, instead_looked from made.0 made.2))
+
+  -- so does that nothing else comes so
+  pub only_later : (b : State) {top mid new : Pointer} → mid ≡ top → ((y x : ℕ) → b.instead y x → (new ≡ Local y) ⊎ (m.instead y x × (mid ≡ Local y → ⊥))) → (y x : ℕ) → b.instead y x → (new ≡ Local y) ⊎ (a.instead y x × (top ≡ Local y → ⊥))
+  only_later b same only y x i = ⊎_elim (λ h. inl h) (λ h. inr ((looks.stays.instead y x (λ n. n) (λ n. n)).0 h.0, λ e. h.1 (same ∙ e))) (only y x i)

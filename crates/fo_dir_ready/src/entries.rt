@@ -1,7 +1,9 @@
 //! A leaf of entries is owned.
-ghost use Rattle.std.specs.Prelude.{◌≡◌, ◌+◌, ◌*◌, ◌<◌, ◌≤◌, ℕ, max, Some};
+ghost use Rattle.std.specs.Prelude.{◌≡◌, ◌≢◌, ◌⊎◌, ◌+◌, ◌*◌, ◌<◌, ◌≤◌, ℕ, max, Some};
 ghost use Rattle.fo_image.specs.declared.types.Entry.{Entry};
-ghost use Rattle.fo_ports.specs.Sources.{Owned, Grows, Changes, MayZero, most_to_own};
+ghost use Rattle.fo_image.specs.declared.types.Pointer.{Pointer};
+ghost use Rattle.fo_image.specs.declared.types.Pointer.TheVariants.{Nil, Local};
+ghost use Rattle.fo_ports.specs.Sources.{ComesFor, Owned, Grows, Changes, MayZero, most_to_own};
 ghost use Rattle.fo_dir_read.specs.Pairs.{OfEntries, IsPair, IsFree, AreTaken};
 ghost use Rattle.fo_dir_put.specs.Puts.{IsHeldEntries};
 ghost use Rattle.fo_dir_ready.specs.Entries.{SameEntries};
@@ -25,9 +27,11 @@ fn own_kept<B: Blocks, S: Bytes<B>>(entries: &mut S, on: &mut B, rank: u32, i: u
     ensures over { S.is_over entries.new on.new × (S.form entries.new ≡ S.form entries.old) }
     ensures grows { Grows (B.state on.old) (B.state on.new) (S.leaves entries.old on.old) (S.leaves entries.new on.new) }
     ensures current { (S.leaves entries.new on.new).current }
-    ensures spare { (B.state on.old).spare ≤ (B.state on.new).spare + most_to_own (S.size entries.old) i }
+    ensures spare { ((B.state on.old).spare ≤ (B.state on.new).spare + most_to_own (S.size entries.old) i) × ((S.leaves entries.old on.old).current → (B.state on.old).spare + 1 ≤ (B.state on.new).spare + most_to_own (S.size entries.old) i) }
     ensures room { (B.state on.new).room ≡ (B.state on.old).room }
-    ensures trimmed { S.is_trimmed entries.old on.old → S.is_trimmed entries.new on.new }
+    ensures trimmed { (B.state on.old).tells ⊎ (S.size entries.old ≤ 8192 * (i + 1)) → S.is_trimmed entries.old on.old → S.is_trimmed entries.new on.new }
+    ensures comes { (B.state on.old).tells → (from : Pointer) → ComesFor (B.state on.old) (S.top entries.old) from → ComesFor (B.state on.new) (S.top entries.new) from }
+    ensures only { (B.state on.old).tells → S.top entries.new ≢ Nil → (y x : ℕ) → (B.state on.new).instead y x → (S.top entries.new ≡ Local y) ⊎ ((B.state on.old).instead y x × (S.top entries.old ≡ Local y → ⊥)) }
     ensures changes { Changes (S.form entries.old).tag (S.leaves entries.old on.old).owns (MayZero (S.form entries.old) (S.size entries.old) i (B.state on.old) (S.leaves entries.old on.old)) (B.state on.old) (B.state on.new) }
     ensures keeps { B.keeps on.old on.new }
 {
@@ -53,9 +57,11 @@ pub fn own_entries<B: Blocks, S: Bytes<B>>(entries: &mut S, on: &mut B, rank: u3
     ensures over { S.is_over entries.new on.new × (S.form entries.new ≡ S.form entries.old) }
     ensures grows { Grows (B.state on.old) (B.state on.new) (S.leaves entries.old on.old) (S.leaves entries.new on.new) }
     ensures current { (S.leaves entries.new on.new).current }
-    ensures spare { (B.state on.old).spare ≤ (B.state on.new).spare + most_to_own (S.size entries.old) i }
+    ensures spare { ((B.state on.old).spare ≤ (B.state on.new).spare + most_to_own (S.size entries.old) i) × ((S.leaves entries.old on.old).current → (B.state on.old).spare + 1 ≤ (B.state on.new).spare + most_to_own (S.size entries.old) i) }
     ensures room { (B.state on.new).room ≡ (B.state on.old).room }
-    ensures trimmed { S.is_trimmed entries.old on.old → S.is_trimmed entries.new on.new }
+    ensures trimmed { (B.state on.old).tells ⊎ (S.size entries.old ≤ 8192 * (i + 1)) → S.is_trimmed entries.old on.old → S.is_trimmed entries.new on.new }
+    ensures comes { (B.state on.old).tells → (from : Pointer) → ComesFor (B.state on.old) (S.top entries.old) from → ComesFor (B.state on.new) (S.top entries.new) from }
+    ensures only { (B.state on.old).tells → S.top entries.new ≢ Nil → (y x : ℕ) → (B.state on.new).instead y x → (S.top entries.new ≡ Local y) ⊎ ((B.state on.old).instead y x × (S.top entries.old ≡ Local y → ⊥)) }
     ensures changes { Changes (S.form entries.old).tag (S.leaves entries.old on.old).owns (MayZero (S.form entries.old) (S.size entries.old) i (B.state on.old) (S.leaves entries.old on.old)) (B.state on.old) (B.state on.new) }
     ensures keeps { B.keeps on.old on.new }
 {

@@ -6,7 +6,7 @@
 //! Proved, over any blocks and any source: the leaf is pinned, current, of its kind, and not to be closed, and it is said whether it
 //! is in place. Where the device tells, the directory has the same records as before, and each pair of entries is what it was: free,
 //! or taken with the same entries. It is said which leaves stay at their addresses and what the owned one has, and that the source alone
-//! was changed; of a leaf that is prepared first, that all before was a look.
+//! was changed, and in whose place its top comes; of a leaf that is prepared first, that all before was a look.
 #![tactic(auto)]
 
 mod entries;

@@ -1,11 +1,13 @@
 //! A leaf is prepared and owned.
-ghost use Rattle.std.specs.Prelude.{◌≡◌, ◌⊎◌, ◌↔◌, ◌+◌, ◌*◌, ◌<◌, ◌≤◌, ℕ, List, max, Some, IfOk, IfErr, OnOk, OnErr, IsTrue};
+ghost use Rattle.std.specs.Prelude.{◌≡◌, ◌≢◌, ◌⊎◌, ◌↔◌, ◌+◌, ◌*◌, ◌<◌, ◌≤◌, ℕ, List, max, Some, IfOk, IfErr, OnOk, OnErr, IsTrue};
 ghost use Rattle.fo_base.specs.Cause.{Rose};
 ghost use Rattle.fo_image.specs.declared.record.Record.{Record};
 ghost use Rattle.fo_image.specs.declared.types.Entry.{Entry};
 ghost use Rattle.fo_ports.specs.Causes.{Caused};
 ghost use Rattle.fo_ports.specs.State.{Looks};
-ghost use Rattle.fo_ports.specs.Sources.{Grows, SameLeaves, Lacks, most_to_own};
+ghost use Rattle.fo_image.specs.declared.types.Pointer.{Pointer};
+ghost use Rattle.fo_image.specs.declared.types.Pointer.TheVariants.{Nil, Local};
+ghost use Rattle.fo_ports.specs.Sources.{ComesFor, Grows, SameLeaves, Lacks, most_to_own};
 ghost use Rattle.fo_dir_read.specs.Names.{OfRecords, AreRecords, leaf_count};
 ghost use Rattle.fo_dir_read.specs.Pairs.{OfEntries, IsPair, IsFree, AreTaken};
 ghost use Rattle.fo_dir_put.specs.Puts.{IsOwnedRecords, IsHeldEntries};
@@ -43,9 +45,13 @@ pub fn ready_records<B: Blocks, S: Bytes<B>>(
     ensures rows { OnOk result ((B.state on.old).tells → (rs : List Record) → AreRecords (B.state on.old).now (S.leaves records.old on.old) (leaf_count (S.size records.old)) rs → AreRecords (B.state on.new).now (S.leaves records.new on.new) (leaf_count (S.size records.new)) rs) }
     ensures grows { OnOk result (Grows (B.state on.old) (B.state on.new) (S.leaves records.old on.old) (S.leaves records.new on.new)) }
     ensures current { OnOk result (S.leaves records.new on.new).current }
-    ensures spare { OnOk result ((B.state on.old).spare ≤ (B.state on.new).spare + most_to_own (S.size records.old) i) }
+    ensures spare { OnOk result (((B.state on.old).spare ≤ (B.state on.new).spare + most_to_own (S.size records.old) i) × ((S.leaves records.old on.old).current → (B.state on.old).spare + 1 ≤ (B.state on.new).spare + most_to_own (S.size records.old) i)) }
     ensures room { OnOk result ((B.state on.new).room ≡ (B.state on.old).room) }
-    ensures trimmed { S.is_trimmed records.old on.old → S.is_trimmed records.new on.new }
+    ensures trimmed { OnOk result ((B.state on.old).tells ⊎ (S.size records.old ≤ 8192 * (i + 1)) → S.is_trimmed records.old on.old → S.is_trimmed records.new on.new) }
+    ensures still_trimmed { OnErr result (S.is_trimmed records.old on.old → S.is_trimmed records.new on.new) }
+    ensures comes { OnOk result ((B.state on.old).tells → (from : Pointer) → ComesFor (B.state on.old) (S.top records.old) from → ComesFor (B.state on.new) (S.top records.new) from) }
+    ensures only { OnOk result ((B.state on.old).tells → S.top records.new ≢ Nil → (y x : ℕ) → (B.state on.new).instead y x → (S.top records.new ≡ Local y) ⊎ ((B.state on.old).instead y x × (S.top records.old ≡ Local y → ⊥))) }
+    ensures same_top { OnErr result (S.top records.new ≡ S.top records.old) }
     ensures changes { IfOk result (λ leaf. (s : S) × (b : B) × S.is_over s b × B.keeps on.old b × B.keeps b on.new × Readies (S.form records.old) (S.size records.old) i leaf.at (B.state on.old) (B.state b) (B.state on.new) (S.leaves records.old on.old) (S.leaves s b) (S.leaves records.new on.new)) }
     ensures over { S.is_over records.new on.new × (S.form records.new ≡ S.form records.old) }
     ensures cause { IfErr result (Caused ⊥ (λ b. (((B.state on.old).tells → ⊥) × (B.state on.old).is_block b) ⊎ ((b ≡ 1) × ((B.state on.old).tells → Lacks (S.leaves records.old on.old).named (B.state on.old).held))) (Rose (B.state on.old).faults (B.state on.new).faults) (Rose (B.state on.old).arena_faults (B.state on.new).arena_faults)) }
@@ -83,9 +89,13 @@ pub fn ready_entries<B: Blocks, S: Bytes<B>>(
     ensures taken { OnOk result ((B.state on.old).tells → (k : ℕ) → AreTaken (B.state on.old) (S.leaves entries.old on.old) k → AreTaken (B.state on.new) (S.leaves entries.new on.new) k) }
     ensures grows { OnOk result (Grows (B.state on.old) (B.state on.new) (S.leaves entries.old on.old) (S.leaves entries.new on.new)) }
     ensures current { OnOk result (S.leaves entries.new on.new).current }
-    ensures spare { OnOk result ((B.state on.old).spare ≤ (B.state on.new).spare + most_to_own (S.size entries.old) i) }
+    ensures spare { OnOk result (((B.state on.old).spare ≤ (B.state on.new).spare + most_to_own (S.size entries.old) i) × ((S.leaves entries.old on.old).current → (B.state on.old).spare + 1 ≤ (B.state on.new).spare + most_to_own (S.size entries.old) i)) }
     ensures room { OnOk result ((B.state on.new).room ≡ (B.state on.old).room) }
-    ensures trimmed { S.is_trimmed entries.old on.old → S.is_trimmed entries.new on.new }
+    ensures trimmed { OnOk result ((B.state on.old).tells ⊎ (S.size entries.old ≤ 8192 * (i + 1)) → S.is_trimmed entries.old on.old → S.is_trimmed entries.new on.new) }
+    ensures still_trimmed { OnErr result (S.is_trimmed entries.old on.old → S.is_trimmed entries.new on.new) }
+    ensures comes { OnOk result ((B.state on.old).tells → (from : Pointer) → ComesFor (B.state on.old) (S.top entries.old) from → ComesFor (B.state on.new) (S.top entries.new) from) }
+    ensures only { OnOk result ((B.state on.old).tells → S.top entries.new ≢ Nil → (y x : ℕ) → (B.state on.new).instead y x → (S.top entries.new ≡ Local y) ⊎ ((B.state on.old).instead y x × (S.top entries.old ≡ Local y → ⊥))) }
+    ensures same_top { OnErr result (S.top entries.new ≡ S.top entries.old) }
     ensures changes { IfOk result (λ leaf. (s : S) × (b : B) × S.is_over s b × B.keeps on.old b × B.keeps b on.new × Readies (S.form entries.old) (S.size entries.old) i leaf.at (B.state on.old) (B.state b) (B.state on.new) (S.leaves entries.old on.old) (S.leaves s b) (S.leaves entries.new on.new)) }
     ensures over { S.is_over entries.new on.new × (S.form entries.new ≡ S.form entries.old) }
     ensures cause { IfErr result (Caused ⊥ (λ b. (((B.state on.old).tells → ⊥) × (B.state on.old).is_block b) ⊎ ((b ≡ 1) × ((B.state on.old).tells → Lacks (S.leaves entries.old on.old).named (B.state on.old).held))) (Rose (B.state on.old).faults (B.state on.new).faults) (Rose (B.state on.old).arena_faults (B.state on.new).arena_faults)) }

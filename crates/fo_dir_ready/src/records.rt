@@ -1,7 +1,9 @@
 //! A leaf of records is owned.
-ghost use Rattle.std.specs.Prelude.{◌≡◌, ◌+◌, ◌*◌, ◌<◌, ◌≤◌, ℕ, List, max, Some};
+ghost use Rattle.std.specs.Prelude.{◌≡◌, ◌≢◌, ◌⊎◌, ◌+◌, ◌*◌, ◌<◌, ◌≤◌, ℕ, List, max, Some};
 ghost use Rattle.fo_image.specs.declared.record.Record.{Record};
-ghost use Rattle.fo_ports.specs.Sources.{Owned, Grows, Changes, MayZero, most_to_own};
+ghost use Rattle.fo_image.specs.declared.types.Pointer.{Pointer};
+ghost use Rattle.fo_image.specs.declared.types.Pointer.TheVariants.{Nil, Local};
+ghost use Rattle.fo_ports.specs.Sources.{ComesFor, Owned, Grows, Changes, MayZero, most_to_own};
 ghost use Rattle.fo_dir_read.specs.Names.{OfRecords, AreRecords, leaf_count};
 ghost use Rattle.fo_dir_put.specs.Puts.{IsOwnedRecords};
 ghost use Rattle.fo_dir_ready.specs.Owning.{MayOwn};
@@ -22,9 +24,11 @@ pub fn own_records<B: Blocks, S: Bytes<B>>(records: &mut S, on: &mut B, rank: u3
     ensures over { S.is_over records.new on.new × (S.form records.new ≡ S.form records.old) }
     ensures grows { Grows (B.state on.old) (B.state on.new) (S.leaves records.old on.old) (S.leaves records.new on.new) }
     ensures current { (S.leaves records.new on.new).current }
-    ensures spare { (B.state on.old).spare ≤ (B.state on.new).spare + most_to_own (S.size records.old) i }
+    ensures spare { ((B.state on.old).spare ≤ (B.state on.new).spare + most_to_own (S.size records.old) i) × ((S.leaves records.old on.old).current → (B.state on.old).spare + 1 ≤ (B.state on.new).spare + most_to_own (S.size records.old) i) }
     ensures room { (B.state on.new).room ≡ (B.state on.old).room }
-    ensures trimmed { S.is_trimmed records.old on.old → S.is_trimmed records.new on.new }
+    ensures trimmed { (B.state on.old).tells ⊎ (S.size records.old ≤ 8192 * (i + 1)) → S.is_trimmed records.old on.old → S.is_trimmed records.new on.new }
+    ensures comes { (B.state on.old).tells → (from : Pointer) → ComesFor (B.state on.old) (S.top records.old) from → ComesFor (B.state on.new) (S.top records.new) from }
+    ensures only { (B.state on.old).tells → S.top records.new ≢ Nil → (y x : ℕ) → (B.state on.new).instead y x → (S.top records.new ≡ Local y) ⊎ ((B.state on.old).instead y x × (S.top records.old ≡ Local y → ⊥)) }
     ensures changes { Changes (S.form records.old).tag (S.leaves records.old on.old).owns (MayZero (S.form records.old) (S.size records.old) i (B.state on.old) (S.leaves records.old on.old)) (B.state on.old) (B.state on.new) }
     ensures keeps { B.keeps on.old on.new }
 {

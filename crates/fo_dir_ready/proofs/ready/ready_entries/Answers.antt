@@ -1,11 +1,11 @@
-use Rattle.std.proofs.Common.{◌≤◌, ◌+◌, ◌*◌, ◌/◌, ◌<◌, sym, ap, ◌∙◌, subst}
+use Rattle.std.proofs.Common.{◌+◌, ◌*◌, ◌/◌, ◌<◌, sym, ap, ◌∙◌, subst}
 use Rattle.fo_crash.specs.Images.{target, to_block}
 use Rattle.fo_crash.proofs.Reach.{same_walk}
-use Rattle.fo_ports.specs.Sources.{Form, depth_for, most_to_own}
+use Rattle.fo_ports.specs.Sources.{Form, ComesFor, depth_for}
 use Rattle.fo_dir_read.specs.Pairs.{OfEntries}
 use Rattle.fo_dir_ready.proofs.Rowed.{ends_before}
 use Rattle.fo_dir_ready.proofs.Paired.{entries_looked, pair_on, free_on, taken_on}
-use Rattle.fo_dir_ready.proofs.Later.{own_later, grows_later, readied}
+use Rattle.fo_dir_ready.proofs.Later.{own_later, grows_later, readied, spare_later, comes_looked, only_later}
 use Rattle.fo_dir_ready.proofs.ready.ready_entries.Goals as goal
 
 pub own_entries-at-requires-clause-form : goal.own_entries-at-requires-clause-form
@@ -51,9 +51,20 @@ returns-in-Ok-clause-grows g c =
 pub returns-in-Ok-clause-spare : goal.returns-in-Ok-clause-spare
 returns-in-Ok-clause-spare g c =
     let k = c.prepare.ensures in
-    let b = g.B.Blocks.state c.own_entries-at.new.on in
-    let left : (g.B.Blocks.state c.prepare.new.on).spare ≤ b.spare + most_to_own (g.S.Bytes.size c.args.entries.now) c.args.i = subst (λ n. (g.B.Blocks.state c.prepare.new.on).spare ≤ b.spare + most_to_own n c.args.i) k.same.1 c.own_entries-at.ensures.spare in
-    subst (λ n. n ≤ b.spare + most_to_own (g.S.Bytes.size c.args.entries.now) c.args.i) k.looks.0.room.0 left
+    spare_later c.args.i (g.B.Blocks.state c.args.on.now) (g.B.Blocks.state c.prepare.new.on) (g.B.Blocks.state c.own_entries-at.new.on) k.same.1 k.same.2 k.looks.0.room.0 c.own_entries-at.ensures.spare
+
+pub returns-in-Ok-clause-comes : goal.returns-in-Ok-clause-comes
+returns-in-Ok-clause-comes g c = λ told from comes.
+    let k = c.prepare.ensures in
+    let all = g.met.B.Blocks.keeps_all c.args.on.now c.prepare.new.on k.looks.1 in
+    let s = g.B.Blocks.state c.args.on.now in
+    c.own_entries-at.ensures.comes (all.still_tells.1 told) from (comes_looked all k.looks.0 told (g.S.Bytes.top c.prepare.new.self) from (subst (λ p. ComesFor s p from) (sym k.top) comes))
+
+pub returns-in-Ok-clause-only : goal.returns-in-Ok-clause-only
+returns-in-Ok-clause-only g c = λ told some.
+    let k = c.prepare.ensures in
+    let all = g.met.B.Blocks.keeps_all c.args.on.now c.prepare.new.on k.looks.1 in
+    only_later all k.looks.0 told (g.B.Blocks.state c.own_entries-at.new.on) k.top (c.own_entries-at.ensures.only (all.still_tells.1 told) some)
 
 pub returns-in-Ok-clause-room : goal.returns-in-Ok-clause-room
 returns-in-Ok-clause-room g c = c.own_entries-at.ensures.room ∙ c.prepare.ensures.looks.0.room.1
