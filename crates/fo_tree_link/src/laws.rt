@@ -1,9 +1,11 @@
 //! Where a source that was changed may be linked.
-ghost use Rattle.std.specs.Prelude.{◌≡◌, ◌≢◌, ◌⊎◌, ◌^◌, ◌<◌, ℕ, true};
+ghost use Rattle.std.specs.Prelude.{◌≡◌, ◌≢◌, ◌⊎◌, ◌-◌, ◌^◌, ◌<◌, ◌≤◌, ℕ, true};
+ghost use Rattle.fo_image.specs.declared.types.Score.{Score};
 ghost use Rattle.fo_image.specs.declared.types.Pointer.{Pointer};
-ghost use Rattle.fo_image.specs.declared.types.Pointer.TheVariants.{Nil, Local};
+ghost use Rattle.fo_image.specs.declared.types.Pointer.TheVariants.{Nil, Local, Score as Held};
 ghost use Rattle.fo_crash.specs.declared.slot.Slot.TheVariants.{Entry as Head};
-ghost use Rattle.fo_crash.specs.Images.{Reaches};
+ghost use Rattle.fo_crash.specs.Images.{Reaches, target, walk};
+ghost use Rattle.fo_ports.specs.Blocks.{zeros};
 ghost use Rattle.fo_ports.specs.Sources.{Changes};
 ghost use Rattle.fo_tree_read.specs.Tree.{kind_at, block_at};
 ghost use Rattle.fo_tree_look.specs.Source.{Over, HasBlock};
@@ -40,8 +42,8 @@ pub fn may_link<B: Blocks>(
     ensures { (B.state after.now).tells → CanLink (B.state after.now) new.now generation at i }
 {}
 
-/// A source that hung from its entry may be linked once it has no bytes left, and no top: so all that hung from the entry leaves. Of a
-/// source of entries no slot of what hangs there may wait; a source of data has none that does.
+/// A source that hung from its entry stands over its blocks with no bytes left, and no top, and may be linked so: then all that hung from
+/// the entry leaves. Of a source of entries no slot of what hangs there may wait; a source of data has none that does.
 pub fn may_empty<B: Blocks>(
     tree: &Tree,
     empty: &Tree,
@@ -58,7 +60,33 @@ pub fn may_empty<B: Blocks>(
     requires empty { (empty.now.size ≡ 0) × (empty.now.depth ≡ 0) × (empty.now.top ≡ Nil) }
     requires linked { (B.state on.now).tells → HangsInTree (B.state on.now) tree.now at i }
     requires settled { (B.state on.now).tells → tree.now.dir ≡ true → (b j : ℕ) → (B.state on.now).clearing b j → Reaches (B.state on.now).now (Head (entry_of tree.now generation)) b → ⊥ }
-    ensures { (B.state on.now).tells → CanLink (B.state on.now) empty.now generation at i }
+    ensures can { (B.state on.now).tells → CanLink (B.state on.now) empty.now generation at i }
+    ensures over { (limit : ℕ) → Over (B.state on.now) tree.now kept.now limit → Over (B.state on.now) empty.now kept.now limit }
+{}
+
+/// A source that hung from its entry may be linked with fewer levels, below the first block of the level that is its top then: the entry
+/// goes down to that, and all beside it leaves. No level that goes is under a score. Of a source of entries no slot of what leaves may
+/// wait; a source of data has none that does. Over any device the tops of the levels that go are the first blocks of these.
+pub fn may_lower<B: Blocks>(
+    tree: &Tree,
+    new: &Tree,
+    kept: &[Kept],
+    on: &B,
+    generation: u32,
+    at: u32,
+    i: u32,
+)
+    requires over { (limit : ℕ) × Over (B.state on.now) tree.now kept.now limit }
+    requires leaf { HasEntry ((B.state on.now).label at).kind i }
+    requires entry { ((B.state on.now).now at).slot i ≡ Head (entry_of tree.now generation) }
+    requires same { (new.now.dir ≡ tree.now.dir) × (new.now.rank ≡ tree.now.rank) }
+    requires fewer { new.now.depth ≤ tree.now.depth }
+    requires top { (B.state on.now).tells → new.now.top ≡ block_at (B.state on.now) tree.now (tree.now.depth - new.now.depth) 0 }
+    requires local_down { (B.state on.now).tells → (n : ℕ) (score : Score) → n < tree.now.depth - new.now.depth → block_at (B.state on.now) tree.now n 0 ≢ Held score }
+    requires linked { (B.state on.now).tells → HangsInTree (B.state on.now) tree.now at i }
+    requires settled { (B.state on.now).tells → tree.now.dir ≡ true → (b j : ℕ) → (B.state on.now).clearing b j → Reaches (B.state on.now).now (Head (entry_of tree.now generation)) b → Reaches (B.state on.now).now (Head (entry_of new.now generation)) b }
+    ensures can { (B.state on.now).tells → CanLink (B.state on.now) new.now generation at i }
+    ensures tops { (n b : ℕ) → target (walk (B.state on.now).now (((B.state on.now).now at).slot i) (zeros n)) ≡ Local b → block_at (B.state on.now) tree.now n 0 ≡ Local b }
 {}
 
 /// Where the way to a leaf of a source of entries was made current, each of its leaves has the slots of a leaf that it had, or leads to no

@@ -7,11 +7,12 @@
 //! source stands over the blocks, and nothing is to come in the place of its top. Where the device tells, what hangs from the new top hangs
 //! from block 1 now, and so does all that did, but what hung from the old entry alone, which is to be closed; and each block that hangs from
 //! block 1 stays in place for other sources. Where the source comes in the place of what its entry had (`ComesFor`), or was emptied, the put
-//! is one that `Blocks` asks for; a source that was linked and then changed comes so (`may_link`), and is linked again (`HangsInTree`).
+//! is one that `Blocks` asks for; a source that was linked and then changed comes so (`may_link`), and is linked again (`HangsInTree`). So
+//! may one be that was linked and lost all its bytes (`may_empty`), or levels (`may_lower`).
 #![tactic(auto)]
 
 mod laws;
 mod put;
 
-pub use laws::{keeps_entries, may_empty, may_link};
+pub use laws::{keeps_entries, may_empty, may_link, may_lower};
 pub use put::link;
