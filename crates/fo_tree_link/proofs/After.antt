@@ -10,14 +10,13 @@ use Rattle.fo_crash.specs.Steps.{PutsSlot}
 use Rattle.fo_crash.specs.Places.{place}
 use Rattle.fo_crash.proofs.Reach.{reach_aside, reaches_on, reaches_from, reaches_joins}
 use Rattle.fo_ports.specs.State.{State, KeepsAll, Frame, Hangs}
-use Rattle.fo_ports.specs.Sources.{StaysInPlace, StaysReady, Undisturbed}
+use Rattle.fo_ports.specs.Sources.{StaysInPlace, StaysReady, Undisturbed, ComesFor}
 use Rattle.fo_tree_read.specs.declared.tree.Tree.{Tree}
 use Rattle.fo_tree_read.specs.Tree.{kind_at}
 use Rattle.fo_tree_look.specs.declared.ways.Kept.{Kept}
 use Rattle.fo_tree_look.specs.Source.{HasBlock, Over, leaves_of}
 use Rattle.fo_tree_look.proofs.Still.{Says, over_stays}
 use Rattle.fo_tree_own.proofs.Link.{Laws}
-use Rattle.fo_tree_down.specs.Way.{ComesFor}
 use Rattle.fo_tree_down.proofs.Join.{local_cases}
 use Rattle.fo_tree_open.proofs.Opened.{place_named, hangs_below}
 use Rattle.fo_tree_open.specs.Open.{NamesRank}

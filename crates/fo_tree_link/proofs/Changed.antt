@@ -12,14 +12,13 @@ use Rattle.fo_crash.proofs.Places.{stands_below}
 use Rattle.fo_crash.proofs.Reach.{reaches_on}
 use Rattle.fo_ports.specs.Blocks.{dropped, zeros}
 use Rattle.fo_ports.specs.State.{State, KeepsAll}
-use Rattle.fo_ports.specs.Sources.{Made}
+use Rattle.fo_ports.specs.Sources.{Made, ComesFor}
 use Rattle.fo_tree_read.specs.declared.tree.Tree.{Tree}
 use Rattle.fo_tree_read.specs.Tree.{kind_down, block_at}
 use Rattle.fo_tree_read.proofs.Walk.{is_down}
 use Rattle.fo_tree_look.specs.declared.ways.Kept.{Kept}
 use Rattle.fo_tree_look.specs.Source.{HasBlock, Over}
 use Rattle.fo_tree_own.proofs.Link.{Laws}
-use Rattle.fo_tree_down.specs.Way.{ComesFor}
 use Rattle.fo_tree_open.specs.Open.{NamesRank}
 use Rattle.fo_tree_link.specs.Link.{entry_of, led_from, CanLink}
 use Rattle.fo_tree_link.specs.Change.{HangsInTree, SameSource, KeepsEntries, KeepsOthers}

@@ -16,13 +16,13 @@ use Rattle.fo_crash.proofs.Places.{stands_below, never_above, never_back}
 use Rattle.fo_crash.proofs.Reach.{reaches_on, reaches_from, reaches_joins, reaches_same}
 use Rattle.fo_ports.specs.Blocks.{IsEntry, SlotFits, slot_count, zeros, dropped}
 use Rattle.fo_ports.specs.State.{State, Comes, MayPutSlot}
+use Rattle.fo_ports.specs.Sources.{ComesFor}
 use Rattle.fo_tree_read.specs.declared.tree.Tree.{Tree}
 use Rattle.fo_tree_read.specs.Tree.{kind_at, kind_down, below, block_at}
 use Rattle.fo_tree_read.proofs.Walk.{is_down}
 use Rattle.fo_tree_look.specs.declared.ways.Kept.{Kept}
 use Rattle.fo_tree_look.specs.Source.{HasBlock, Over}
 use Rattle.fo_tree_own.proofs.Link.{Laws}
-use Rattle.fo_tree_down.specs.Way.{ComesFor}
 use Rattle.fo_tree_open.specs.Open.{HasEntry}
 use Rattle.fo_tree_open.proofs.Opened.{entry_within, place_named}
 use Rattle.fo_tree_link.specs.Link.{entry_of, led_from, CanLink}

@@ -8,9 +8,9 @@ use Rattle.fo_crash.specs.declared.place.Place.{Place}
 use Rattle.fo_crash.specs.Images.{Reaches, target, walk, to_block}
 use Rattle.fo_ports.specs.Blocks.{dropped, zeros}
 use Rattle.fo_ports.specs.State.{State}
+use Rattle.fo_ports.specs.Sources.{ComesFor}
 use Rattle.fo_tree_read.specs.declared.tree.Tree.{Tree}
 use Rattle.fo_tree_read.specs.Tree.{block_at}
-use Rattle.fo_tree_down.specs.Way.{ComesFor}
 use Rattle.fo_tree_open.specs.Open.{NamesRank}
 
 -- the entry of a source, in use

@@ -6,10 +6,10 @@ ghost use Rattle.fo_image.specs.declared.types.Pointer.TheVariants.{Nil, Local, 
 ghost use Rattle.fo_crash.specs.declared.slot.Slot.TheVariants.{Entry as Head};
 ghost use Rattle.fo_crash.specs.Images.{Reaches, target, walk};
 ghost use Rattle.fo_ports.specs.Blocks.{zeros};
-ghost use Rattle.fo_ports.specs.Sources.{Changes};
+ghost use Rattle.fo_ports.specs.Sources.{Changes, ComesFor};
 ghost use Rattle.fo_tree_read.specs.Tree.{kind_at, block_at};
 ghost use Rattle.fo_tree_look.specs.Source.{Over, HasBlock};
-ghost use Rattle.fo_tree_down.specs.Way.{Comes, ComesFor, StaysBeside, with_top};
+ghost use Rattle.fo_tree_down.specs.Way.{Comes, StaysBeside, with_top};
 ghost use Rattle.fo_tree_open.specs.Open.{HasEntry};
 ghost use Rattle.fo_tree_link.specs.Link.{entry_of, CanLink};
 ghost use Rattle.fo_tree_link.specs.Change.{HangsInTree, SameSource, KeepsEntries, KeepsOthers};
