@@ -3,6 +3,7 @@ pub mod May
 pub mod After
 pub mod Changed
 pub mod Named
+pub mod Owning
 pub mod Linked
 pub mod Emptied
 pub mod Lowered

@@ -22,11 +22,11 @@ use Rattle.fo_tree_link.specs.Change.{KeepsEntries}
 use Rattle.fo_tree_link.proofs.Walks.{local_eq}
 
 -- an index within the room of its level
-abbrev index_of : ℕ → ℕ → ℕ
+abbrev pub index_of : ℕ → ℕ → ℕ
 index_of zero j = 0
 index_of (suc m) j = 409 * index_of m (j / 409) + j % 409
 
-index_few : (m j : ℕ) → index_of m j < 409 ^ m
+pub index_few : (m j : ℕ) → index_of m j < 409 ^ m
 index_few zero j = omega arith
 index_few (suc m) j =
     let more : 409 ^ suc m ≡ 409 * 409 ^ m = pow-succ' 409 m in
@@ -35,7 +35,7 @@ index_few (suc m) j =
     less : (a r p q : ℕ) → a < p → r < 409 → q ≡ 409 * p → 409 * a + r < q
     less a r p q lt few is = omega (arith, lt, few, is)
 
-index_same : (s : State) (t : Tree) (m j : ℕ) → block_at s t m (index_of m j) ≡ block_at s t m j
+pub index_same : (s : State) (t : Tree) (m j : ℕ) → block_at s t m (index_of m j) ≡ block_at s t m j
 index_same s t zero j = refl
 index_same s t (suc m) j =
     let up : (409 * index_of m (j / 409) + j % 409) / 409 ≡ index_of m (j / 409) = omega arith in
@@ -45,14 +45,14 @@ index_same s t (suc m) j =
     ∙ ap (λ (p : Pointer). below s (kind_down t m) p (j % 409)) (index_same s t m (j / 409))
 
 -- the last block of a way
-index_one : (n k j : ℕ) → IsWayIndex n k n j → j ≡ k
+pub index_one : (n k j : ℕ) → IsWayIndex n k n j → j ≡ k
 index_one zero k j is = is.1
 index_one (suc n) k j is = ⊎_elim (λ here. here.1) (λ above. let le = index_within n (k / 409) (suc n) j above in absurd (omega (arith, le))) is
 
-nil_local : (b : ℕ) → Nil ≢ Local b
+pub nil_local : (b : ℕ) → Nil ≢ Local b
 nil_local b e = cc
 
-not_plain : (dir : Bool) → dir ≡ true → kind_at dir 0 ≡ Data 0 → ⊥
+pub not_plain : (dir : Bool) → dir ≡ true → kind_at dir 0 ≡ Data 0 → ⊥
 not_plain true is e = cc
 not_plain false is e = absurd (let h = is in cc)
 

@@ -6,10 +6,11 @@ ghost use Rattle.fo_image.specs.declared.types.Pointer.TheVariants.{Nil, Local, 
 ghost use Rattle.fo_crash.specs.declared.slot.Slot.TheVariants.{Entry as Head};
 ghost use Rattle.fo_crash.specs.Images.{Reaches, target, walk};
 ghost use Rattle.fo_ports.specs.Blocks.{zeros};
-ghost use Rattle.fo_ports.specs.Sources.{Changes, ComesFor};
+ghost use Rattle.fo_ports.specs.Sources.{Changes, ComesFor, Owned, MayZero};
 ghost use Rattle.fo_tree_read.specs.Tree.{kind_at, block_at};
-ghost use Rattle.fo_tree_look.specs.Source.{Over, HasBlock};
+ghost use Rattle.fo_tree_look.specs.Source.{Over, HasBlock, form_of, leaves_of};
 ghost use Rattle.fo_tree_down.specs.Way.{Comes, StaysBeside, with_top};
+ghost use Rattle.fo_tree_down.specs.Clear.{EndsClear};
 ghost use Rattle.fo_tree_open.specs.Open.{HasEntry};
 ghost use Rattle.fo_tree_link.specs.Link.{entry_of, CanLink};
 ghost use Rattle.fo_tree_link.specs.Change.{HangsInTree, SameSource, KeepsEntries, KeepsOthers};
@@ -108,4 +109,23 @@ pub fn keeps_entries<B: Blocks>(
     requires beside { (B.state before.now).tells → StaysBeside (B.state before.now) (B.state after.now) tree.now (with_top tree.now top) tree.now.depth i }
     requires changes { Changes tree.now.tag (HasBlock (B.state before.now) tree.now) (λ b. HasBlock (B.state before.now) tree.now b × (((B.state before.now).label b).kind ≢ kind_at tree.now.dir 0)) (B.state before.now) (B.state after.now) }
     ensures { (B.state before.now).tells → KeepsEntries (B.state before.now) (B.state after.now) tree.now (with_top tree.now top) }
+{}
+
+/// Where a leaf of a source of entries was owned, within its end or past it, and nothing stands behind its end, each of its leaves has the
+/// slots of a leaf that it had, or leads to no block.
+pub fn owned_entries<B: Blocks>(
+    tree: &Tree,
+    new: &Tree,
+    kept: &[Kept],
+    before: &B,
+    after: &B,
+    i: u32,
+    at: u32,
+)
+    requires over { (limit : ℕ) × Over (B.state before.now) tree.now kept.now limit }
+    requires keeps { B.keeps before.now after.now }
+    requires owned { (generation limit : ℕ) → Owned (form_of tree.now generation limit) tree.now.size i at (B.state before.now) (B.state after.now) (leaves_of (B.state before.now) tree.now kept.now limit) (leaves_of (B.state after.now) new.now kept.now limit) }
+    requires changes { (generation limit : ℕ) → Changes tree.now.tag (HasBlock (B.state before.now) tree.now) (MayZero (form_of tree.now generation limit) tree.now.size i (B.state before.now) (leaves_of (B.state before.now) tree.now kept.now limit)) (B.state before.now) (B.state after.now) }
+    requires clear { EndsClear (B.state after.now) new.now kept.now }
+    ensures { (B.state before.now).tells → KeepsEntries (B.state before.now) (B.state after.now) tree.now new.now }
 {}
