@@ -1,0 +1,51 @@
+//! A piece is put leaf by leaf.
+ghost use Rattle.std.specs.Prelude.{◌≡◌, ◌≢◌, ◌⊎◌, ◌+◌, ◌*◌, ◌<◌, ◌≤◌, ℕ, length};
+ghost use Rattle.fo_ports.specs.Sources.{most_for};
+ghost use Rattle.fo_tree_look.specs.Source.{Over, IsPlainTree, Prepared};
+ghost use Rattle.fo_tree_write.specs.Write.{Wrote};
+
+use fo_base::BLOCK;
+use fo_image::Pointer;
+use fo_ports::Blocks;
+use fo_tree_clear::put_leaf;
+use fo_tree_look::Kept;
+use fo_tree_read::Tree;
+
+/// How many bytes a leaf has.
+const LEAF: u64 = BLOCK as u64;
+
+/// Puts a piece in the place of the bytes from the offset on, all of which the source has, and gives the pointer to its top.
+pub(crate) fn put_all<B: Blocks>(
+    tree: &Tree,
+    kept: &[Kept],
+    on: &mut B,
+    offset: u64,
+    piece: &[u8],
+) -> Pointer
+    requires over { (limit : ℕ) × Over (B.state on.old) tree.now kept.now limit × Prepared (B.state on.old) tree.now kept.now limit offset (length piece.now) }
+    requires plain { IsPlainTree tree.now }
+    requires within { offset + length piece.now ≤ tree.now.size }
+    requires spare { most_for tree.now.size (length piece.now) ≤ (B.state on.old).spare }
+    ensures wrote { Wrote (B.state on.old) (B.state on.new) tree.now result kept.now offset (length piece.now) piece.now }
+    ensures keeps { B.keeps on.old on.new }
+{
+    let mut top = tree.top;
+    let mut done = 0;
+    while done < piece.len() {
+        let place = offset + done as u64;
+        let count = ((LEAF - place % LEAF) as usize).min(piece.len() - done);
+        let here = Tree {
+            dir: tree.dir,
+            tag: tree.tag,
+            rank: tree.rank,
+            depth: tree.depth,
+            size: tree.size,
+            top,
+        };
+        let part = &piece[done..done + count];
+        let current = put_leaf(&here, kept, on, place / LEAF, (place % LEAF) as u32, part);
+        top = Pointer::Local(current.top);
+        done += count;
+    }
+    top
+}
