@@ -4,6 +4,7 @@ pub mod Getting
 pub mod Gives
 pub mod Giving
 pub mod Keeping
+pub mod Limits
 pub mod Listing
 pub mod Looking
 pub mod Putting

@@ -1,5 +1,5 @@
 -- What a cache keeps, as plain values, and what the calls on blocks see of it.
-use Rattle.std.specs.Prelude.{◌≡◌, ◌⊎◌, ◌+◌, ◌/◌, ◌≤◌, ℕ, Bool, true, false, cond, nat_eq, nat_lt, List, [], ◌∷◌, length, slice_index_or, Option, Some, None}
+use Rattle.std.specs.Prelude.{◌≡◌, ◌⊎◌, ◌+◌, ◌/◌, ◌≤◌, ℕ, Bool, true, false, cond, nat_eq, nat_lt, List, [], ◌∷◌, length, min, slice_index_or, Option, Some, None}
 use Rattle.std.specs.Option.{option_map_or}
 use Rattle.std.specs.Map.{lookup}
 use Rattle.fo_disk.specs.Disk.{versions_of, latest_of}
@@ -135,6 +135,11 @@ IsSure p b = ((flag_at p.turns b).tried ≡ Settled) × (IsDirty p.turns p.held 
 abbrev pub IsDoubt : Super → Option (List ℕ) → Content → Type 0
 IsDoubt s None c = ⊥
 IsDoubt s (Some bytes) c = SameContent c (one_content s bytes)
+
+-- The least limit of file numbers that a super block says which the device may have: that of memory, or the one in doubt.
+abbrev pub least_limit : Super → Option (List ℕ) → ℕ
+least_limit s None = s.numbers
+least_limit s (Some bytes) = min s.numbers (number_at Four 22 bytes)
 
 -- ---- what the calls on blocks see
 

@@ -16,7 +16,7 @@ use Rattle.fo_image.specs.declared.types.Label.{Label}
 use Rattle.fo_image.specs.declared.types.Super.{Super}
 use Rattle.fo_image.specs.declared.types.State.{State}
 use Rattle.fo_image.specs.declared.types.State.TheVariants.{Free, Live, Closed}
-use Rattle.fo_image.specs.Format.{KindHolds, StateHolds}
+use Rattle.fo_image.specs.Format.{KindHolds, SpellsSuper, StateHolds}
 use Rattle.fo_buffers.specs.Held.{Held}
 use Rattle.fo_order.specs.declared.marks.Flags.{Flags}
 use Rattle.fo_buffers.specs.declared.block.Buffer.{Buffer}
@@ -91,6 +91,9 @@ state_prop : (state : State) (l : Label) → IsProp (StateHolds state l)
 state_prop Free l = Prim.hlevel props
 state_prop Live l = Prim.hlevel (props, kind_prop)
 state_prop Closed l = Prim.hlevel (props, kind_prop)
+
+pub super_prop : (one : Super) (bytes : List ℕ) → IsProp (SpellsSuper one bytes)
+super_prop one bytes = Prim.hlevel (props, all_prop)
 
 pub placed_prop : (region : Region) (turns : Turns) (facts : List Fact) (first count : ℕ) → IsProp (Placed region turns facts first count)
 placed_prop region turns facts first count = Prim.hlevel props

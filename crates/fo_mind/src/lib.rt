@@ -12,7 +12,8 @@
 //! bytes beside the slots of a pinned one, each with the clauses of `Blocks`; neither wants memory. A slot, a label and what waits are
 //! as memory has them. What calls see keeps the laws of `Blocks`. What is to be written next has its bytes in memory, or is a block of
 //! labels; what a write or a sync does to each field is said by its answer alone, and only `keep_turn_of` may want memory for it.
-//! Another super block is tried, in doubt, and then counts or is overruled.
+//! Another super block is tried, in doubt, and then counts or is overruled. Memory has the bytes of the one that counts, and the next file
+//! number is up to the limit of both, and below it while it is granted.
 //!
 //! Not proved here: what is said of crash images, places and moments.
 #![tactic(auto)]

@@ -1,10 +1,11 @@
 //! What a cache keeps in memory.
-ghost use Rattle.std.specs.Prelude.{◌≡◌, ◌+◌, ◌*◌, ◌^◌, ◌<◌, ◌≤◌, true, slice_set, length};
+ghost use Rattle.std.specs.Prelude.{◌≡◌, ◌+◌, ◌*◌, ◌<◌, ◌≤◌, true, slice_set, length};
 ghost use Rattle.std.specs.Vec.{vec_len, vec_capacity};
-ghost use Rattle.fo_mind.specs.Parts.{fact_at, owing_as};
+ghost use Rattle.fo_mind.specs.Parts.{fact_at, least_limit, owing_as};
 ghost use Rattle.fo_mind.specs.Sound.{Placed, Rooted, Labelled, Holding, Waiting, Clearable, Owing, Roomy};
 ghost use Rattle.fo_mind.specs.Turning.{Turning};
-ghost use Rattle.fo_mind.specs.Props.{placed_prop, rooted_prop, labelled_prop, holding_prop, waiting_prop, clearable_prop, owing_prop, roomy_prop, turning_prop};
+ghost use Rattle.fo_image.specs.Format.{SpellsSuper};
+ghost use Rattle.fo_mind.specs.Props.{super_prop, placed_prop, rooted_prop, labelled_prop, holding_prop, waiting_prop, clearable_prop, owing_prop, roomy_prop, turning_prop};
 
 use crate::facts::{Clearing, Fact, Wait};
 use fo_buffers::{Block, Buffers};
@@ -37,6 +38,7 @@ pub struct Mind {
     pub(crate) room: u32,
     ghost placed: { Placed labels order facts.items first count } by { placed_prop labels order facts.items first count },
     ghost rooted: { Rooted first count one } by { rooted_prop first count one },
+    ghost spelled: { SpellsSuper one one_bytes } by { super_prop one one_bytes },
     ghost labelled: { Labelled labels } by { labelled_prop labels },
     ghost holding: { Holding one.low first count labels buffers } by { holding_prop one.low first count labels buffers },
     ghost waiting: { Waiting labels buffers waits.items } by { waiting_prop labels buffers waits.items },
@@ -47,8 +49,8 @@ pub struct Mind {
     ghost queues: { room ≤ queue.room },
     ghost awaits: { vec_len waits + 205 * room ≤ vec_capacity waits },
     ghost clears_more: { vec_len clears + room ≤ vec_capacity clears },
-    ghost numbered: { next ≤ 2 ^ 30 },
-    ghost granting: { granted ≡ true → next < 2 ^ 30 },
+    ghost numbered: { next ≤ least_limit one doubt },
+    ghost granting: { granted ≡ true → next < least_limit one doubt },
 }
 
 /// Keeps a unit of room in the order of writing for a block, with this rank.

@@ -1,5 +1,6 @@
 //! A cache in which nothing is held yet.
 ghost use Rattle.std.specs.Prelude.{◌≡◌, ◌+◌, ◌-◌, ◌^◌, ◌<◌, ◌≤◌, [], replicate, IfOk};
+ghost use Rattle.fo_image.specs.Format.{SpellsSuper};
 ghost use Rattle.fo_image.specs.Place.{first_data};
 ghost use Rattle.fo_mind.specs.Parts.{count_of, no_fact};
 ghost use Rattle.fo_mind.specs.Sound.{Labelled, Rooted};
@@ -40,7 +41,7 @@ impl Mind {
         requires place { labels.first ≡ first_data (count_of labels) }
         requires small { count_of labels < 2 ^ 32 - 1 }
         requires labelled { Labelled labels }
-        requires numbers { one.numbers ≤ 2 ^ 30 }
+        requires spelled { SpellsSuper one one_bytes }
         requires rooted { Rooted labels.first (count_of labels) one }
         ensures { IfOk result (λ m. parts m [] 0 ≡ opened labels one one_bytes) }
     {
