@@ -1,5 +1,6 @@
 pub mod Blanks
 pub mod Causing
+pub mod Empty
 pub mod Fetching
 pub mod Giving
 pub mod Joining
