@@ -19,7 +19,8 @@ use fo_tree_look::Kept;
 use fo_tree_read::Tree;
 
 /// Clears what stands behind this end, which is the source's own or one within it, and gives the address of the top, which is put nowhere
-/// yet where it is new; None where nothing stood there, and nothing is done. Each slot takes one unit of room.
+/// yet where it is new; None where nothing stood there, and nothing is done. Each slot takes one unit of room. An image may have some of
+/// these slots cleared, and the length that the source's entry has there: so an entry with the shorter length is put before.
 pub fn clear_behind<B: Blocks>(tree: &Tree, kept: &[Kept], on: &mut B, end: u64) -> Option<u32>
     requires over { (limit : ℕ) × Over (B.state on.old) tree.now kept.now limit }
     requires end { (0 < end) × (end ≤ tree.now.size) }
