@@ -7,3 +7,4 @@ pub mod Owning
 pub mod Linked
 pub mod Emptied
 pub mod Lowered
+pub mod Twice

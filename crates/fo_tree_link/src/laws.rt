@@ -6,7 +6,7 @@ ghost use Rattle.fo_image.specs.declared.types.Pointer.TheVariants.{Nil, Local, 
 ghost use Rattle.fo_crash.specs.declared.slot.Slot.TheVariants.{Entry as Head};
 ghost use Rattle.fo_crash.specs.Images.{Reaches, target, walk};
 ghost use Rattle.fo_ports.specs.Blocks.{zeros};
-ghost use Rattle.fo_ports.specs.Sources.{Changes, ComesFor, Owned, MayZero};
+ghost use Rattle.fo_ports.specs.Sources.{Changes, ComesFor, Made, Owned, MayZero};
 ghost use Rattle.fo_tree_read.specs.Tree.{kind_at, block_at};
 ghost use Rattle.fo_tree_look.specs.Source.{Over, HasBlock, form_of, leaves_of};
 ghost use Rattle.fo_tree_down.specs.Way.{Comes, StaysBeside, with_top};
@@ -128,4 +128,16 @@ pub fn owned_entries<B: Blocks>(
     requires changes { (generation limit : ℕ) → Changes tree.now.tag (HasBlock (B.state before.now) tree.now) (MayZero (form_of tree.now generation limit) tree.now.size i (B.state before.now) (leaves_of (B.state before.now) tree.now kept.now limit)) (B.state before.now) (B.state after.now) }
     requires clear { EndsClear (B.state after.now) new.now kept.now }
     ensures { (B.state before.now).tells → KeepsEntries (B.state before.now) (B.state after.now) tree.now new.now }
+{}
+
+/// What two calls on a source, one after another, leave of other blocks is what one leaves. (What comes in the place of what the entry has
+/// is said so that it joins by itself.)
+pub fn keeps_others<B: Blocks>(tree: &Tree, middle_tree: &Tree, before: &B, middle: &B, after: &B)
+    requires keeps { B.keeps before.now middle.now }
+    requires first { KeepsOthers (B.state before.now) (B.state middle.now) tree.now }
+    requires second { KeepsOthers (B.state middle.now) (B.state after.now) middle_tree.now }
+    requires owns { (B.state before.now).tells → (b : ℕ) → HasBlock (B.state middle.now) middle_tree.now b → HasBlock (B.state before.now) tree.now b ⊎ Made (B.state before.now) (B.state middle.now) b }
+    requires labels { ((b : ℕ) → (Made (B.state before.now) (B.state middle.now) b → ⊥) → (B.state middle.now).label b ≡ (B.state before.now).label b) × ((b : ℕ) → (Made (B.state middle.now) (B.state after.now) b → ⊥) → (B.state after.now).label b ≡ (B.state middle.now).label b) }
+    requires covered { (b : ℕ) → (B.state middle.now).covered b → (B.state after.now).covered b }
+    ensures { KeepsOthers (B.state before.now) (B.state after.now) tree.now }
 {}

@@ -14,5 +14,5 @@
 mod laws;
 mod put;
 
-pub use laws::{keeps_entries, may_empty, may_link, may_lower, owned_entries};
+pub use laws::{keeps_entries, keeps_others, may_empty, may_link, may_lower, owned_entries};
 pub use put::link;

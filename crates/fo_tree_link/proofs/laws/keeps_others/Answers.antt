@@ -1,0 +1,20 @@
+use Rattle.fo_tree_own.proofs.Link.{Laws}
+use Rattle.fo_tree_link.proofs.Twice.{others_twice}
+use Rattle.fo_tree_link.proofs.laws.keeps_others.Given as given
+use Rattle.fo_tree_link.proofs.laws.keeps_others.Goals as goal
+
+laws_of : (g : given.Over) (b : g.row.B.Denot) → Laws (g.B.Blocks.state b)
+laws_of g b =
+    let s = g.B.Blocks.state b in
+    record { present = g.met.B.Blocks.present b; active = (g.met.B.Blocks.active b).0; not_one = (g.met.B.Blocks.active b).1; one = g.met.B.Blocks.one_place b; super_stands = g.met.B.Blocks.super_stands b; placed = λ told. g.met.B.Blocks.placed b s.now (g.met.B.Blocks.present b told); ranked = λ told. g.met.B.Blocks.ranked b s.now (g.met.B.Blocks.present b told); live = λ y told ne r. g.met.B.Blocks.live b y told ne r; clears = g.met.B.Blocks.clears_entries b; waits_within = g.met.B.Blocks.waits_within b; covers_told = g.met.B.Blocks.covers_told b; within = g.met.B.Blocks.within b; spelled = g.met.B.Blocks.spelled b; apart_hangs = λ told w is r. g.met.B.Blocks.apart_hangs b s.now 1 w is (g.met.B.Blocks.present b told) (g.met.B.Blocks.active b).0 r; small = g.met.B.Blocks.small b }
+
+pub returns : goal.returns
+returns g c = others_twice {mid = c.args.middle_tree.now} (record {
+  laws = laws_of g c.args.before.now;
+  all = g.met.B.Blocks.keeps_all c.args.before.now c.args.middle.now c.requires.keeps;
+  first = c.requires.first;
+  second = c.requires.second;
+  owns = c.requires.owns;
+  labels = c.requires.labels;
+  covered = c.requires.covered;
+})
