@@ -2,6 +2,7 @@ pub mod Calling
 pub mod Fitting
 pub mod Labelling
 pub mod Lessening
+pub mod Numbering
 pub mod Opening
 pub mod Outcomes
 pub mod Releasing

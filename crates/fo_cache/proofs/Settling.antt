@@ -36,7 +36,7 @@ twice : (versions : Versions) → newest (newest versions) ≡ newest versions
 twice [] = refl
 twice (v ∷ vs) = let one = newest_alone (v ∷ vs) (omega arith) in ap newest one ∙ sym one
 
-join : (a b c : Versions) → Rested a b → Rested b c → Rested a c
+pub join : (a b c : Versions) → Rested a b → Rested b c → Rested a c
 join a b c (inl e) (inl f) = inl (f ∙ e)
 join a b c (inl e) (inr f) = inr (f ∙ ap newest e)
 join a b c (inr e) (inl f) = inr (f ∙ e)

@@ -8,13 +8,14 @@ use Rattle.fo_disk.specs.Disk.{Settles as Leaves}
 use Rattle.fo_disk.specs.declared.disk.Failed.{Failed}
 use Rattle.fo_disk.proofs.Images.{adds-here, sure as no_flag}
 use Rattle.fo_image.specs.declared.types.Super.{Super}
+use Rattle.fo_image.specs.Format.{SpellsSuper}
 use Rattle.fo_order.specs.Turns.{IsSynced}
 use Rattle.fo_mind.specs.Parts.{Parts, count_of}
 use Rattle.fo_mind.specs.Sound.{Placed}
 use Rattle.fo_mind.specs.Turning.{Synced}
 use Rattle.fo_cache.specs.Fits.{Fits, FitsLabels}
 use Rattle.fo_cache.specs.Settling.{Rested}
-use Rattle.fo_cache.specs.Supers.{Overruled}
+use Rattle.fo_cache.specs.Supers.{Counts, Overruled}
 use Rattle.fo_cache.proofs.Fitting.{fits_same, latest_push, newest_alone}
 use Rattle.fo_cache.proofs.Labelling.{count_kept, labels_same, unsure_kept, versions_kept}
 
@@ -95,6 +96,15 @@ overruled s m t p n q w y c is = record {
   turns = subst (λ (z : Parts). IsSynced p.turns z.turns) (sym is) c.turns;
   rest = is ∙ ap (λ (z : Parts). record z { doubt = None }) c.rest ∙ ap (λ (z : Parts). record p { turns = z.turns; doubt = None }) (sym is);
 }
+
+-- a trial that was written and settled counts
+pub counted : (s m t : DiskState) (p n q : Parts) (one : Super) (bytes : List ℕ) (none some : Type 0) {u v : Unit} → SpellsSuper one bytes → IsWrite {E = Failed} 1 bytes (Ok u) s m → IsSync {E = Failed} (Ok v) m t → Synced (record p { doubt = Some bytes }) n
+    → MatchOption n.doubt (none × (q ≡ n)) (λ x. some × (q ≡ record n { one = one; one_bytes = x; doubt = None })) → Counts one s t p q
+counted s m t p n q one bytes none some spells w y c h =
+    let tried : n.doubt ≡ Some bytes = ap (λ (z : Parts). z.doubt) c.rest in
+    let now = subst (λ (o : Option (List ℕ)). MatchOption o (none × (q ≡ n)) (λ x. some × (q ≡ record n { one = one; one_bytes = x; doubt = None }))) tried h in
+    let is : q ≡ record p { one = one; one_bytes = bytes; turns = n.turns; doubt = None } = now.1 ∙ ap (λ (z : Parts). record z { one = one; one_bytes = bytes; doubt = None }) c.rest in
+    subst (λ (z : Parts). Counts one s t p z) (sym is) (record { spells = spells; settled = λ lt. one_settled s m t w y lt; turns = c.turns; rest = refl })
 
 -- a trial that counts changes the super block alone
 pub accepted : (p q : Parts) (one : Super) (o : Option (List ℕ)) (none some : Type 0) → MatchOption o (none × (q ≡ p)) (λ bytes. some × (q ≡ record p { one = one; one_bytes = bytes; doubt = None })) → q ≡ record p { one = q.one; one_bytes = q.one_bytes; doubt = q.doubt }

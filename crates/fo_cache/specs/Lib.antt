@@ -1,4 +1,5 @@
 pub mod Fits
+pub mod Numbering
 pub mod Settling
 pub mod Supers
 pub mod Work

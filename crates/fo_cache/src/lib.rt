@@ -11,7 +11,8 @@
 //! version of each block of the tree and of the label table: memory's.
 //!
 //! Another super block is written and settled before it counts; where that fails it is in doubt, until block 1 is settled again as
-//! memory has it.
+//! memory has it. The next file number is granted only below the limit of each super block that the device may have; where none says so
+//! many, one that says more is written and settled first.
 //!
 //! Not here yet: puts into slots, removals, closing, and so `Blocks` itself. Not proved here: what is said of crash images,
 //! places and moments.
@@ -20,6 +21,7 @@
 mod cache;
 mod calls;
 mod laws;
+mod numbers;
 mod settles;
 mod supers;
 mod turns;

@@ -7,10 +7,11 @@ use fo_image::{Super, write_super as spell_super};
 use fo_ports::BlockError;
 
 impl<D: Disk> Cache<D> {
-    ghost use Rattle.std.specs.Prelude.{◌≡◌, ◌≢◌, ◌≤◌, ℕ, [], length, None, Some, OnOk, OnErr, IfOk, IfErr, MatchOption};
+    ghost use Rattle.std.specs.Prelude.{◌≡◌, ◌≢◌, ◌<◌, ◌≤◌, ℕ, List, [], true, length, None, Some, OnOk, OnErr, IfOk, IfErr, MatchOption};
     ghost use Rattle.fo_base.specs.Cause.{HasCause, Rose};
     ghost use Rattle.fo_disk.specs.Disk.{IsWrite, versions_of};
-    ghost use Rattle.fo_image.specs.Format.{SuperHolds};
+    ghost use Rattle.fo_image.specs.Format.{SpellsSuper, SuperHolds};
+    ghost use Rattle.fo_image.specs.Field.{Four, number_at};
     ghost use Rattle.fo_ports.specs.Causes.{Caused};
     ghost use Rattle.fo_mind.specs.MindParts.{parts};
     ghost use Rattle.fo_mind.specs.Parts.{IsBlock};
@@ -41,6 +42,8 @@ impl<D: Disk> Cache<D> {
     // Another content of block 1 is in doubt.
     fn try_one(&mut self, block: Block)
         requires none { (parts self.old.mind [] 0).doubt ≡ None }
+        requires below { (parts self.old.mind [] 0).next ≤ number_at Four 22 block }
+        requires granted { (parts self.old.mind [] 0).granted ≡ true → (parts self.old.mind [] 0).next < number_at Four 22 block }
         ensures tried { parts self.new.mind [] 0 ≡ record (parts self.old.mind [] 0) { doubt = Some block } }
         ensures device { self.new.main ≡ self.old.main }
     {
@@ -61,6 +64,7 @@ impl<D: Disk> Cache<D> {
         requires root { IsBlock (parts self.old.mind [] 0) one.active }
         requires high { one.high ≡ (parts self.old.mind [] 0).one.high }
         requires low { one.low ≡ (parts self.old.mind [] 0).one.low }
+        requires spelled { (bytes : List ℕ) → (parts self.old.mind [] 0).doubt ≡ Some bytes → SpellsSuper one bytes }
         ensures counts { MatchOption (parts self.old.mind [] 0).doubt ((result ≡ None) × (parts self.new.mind [] 0 ≡ parts self.old.mind [] 0))
             (λ bytes. (result ≡ Some (parts self.old.mind [] 0).one_bytes) × (parts self.new.mind [] 0 ≡ record (parts self.old.mind [] 0) { one = one; one_bytes = bytes; doubt = None })) }
         ensures device { self.new.main ≡ self.old.main }
@@ -89,13 +93,15 @@ impl<D: Disk> Cache<D> {
     }
 
     /// Writes another super block into block 1, and settles it with all that was written: then it counts, and the block that it replaces
-    /// is given back. Where that fails it is in doubt, and memory has the one that it had.
+    /// is given back. The next file number is up to what it says, and below it while it is granted. Where that fails it is in doubt, and memory has the one that it had.
     pub fn write_super(&mut self, one: Super, block: Block) -> Result<Option<Block>, BlockError>
         requires spelled { SuperHolds one }
         requires root { IsBlock (parts self.old.mind [] 0) one.active }
         requires high { one.high ≡ (parts self.old.mind [] 0).one.high }
         requires low { one.low ≡ (parts self.old.mind [] 0).one.low }
         requires certain { (parts self.old.mind [] 0).doubt ≡ None }
+        requires below { (parts self.old.mind [] 0).next ≤ one.numbers }
+        requires granted { (parts self.old.mind [] 0).granted ≡ true → (parts self.old.mind [] 0).next < one.numbers }
         ensures counts { OnOk result (Counts one (D.state self.old.main) (D.state self.new.main) (parts self.old.mind [] 0) (parts self.new.mind [] 0)) }
         ensures given { IfOk result (λ o. o ≡ Some (parts self.old.mind [] 0).one_bytes) }
         ensures doubted { OnErr result (Doubted one (parts self.old.mind [] 0) (parts self.new.mind [] 0)) }

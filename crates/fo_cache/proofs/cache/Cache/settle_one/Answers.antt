@@ -1,8 +1,24 @@
-use Rattle.std.proofs.Common.{sym, ap, subst}
+use Rattle.std.proofs.Common.{[], sym, ap, subst}
 use Rattle.fo_disk.specs.Disk.{DiskState, versions_of}
+use Rattle.fo_mind.specs.MindParts.{parts}
+use Rattle.fo_mind.specs.Turning.{Synced}
 use Rattle.fo_cache.specs.Settling.{Rested}
-use Rattle.fo_cache.proofs.Trials.{others_rested}
+use Rattle.fo_cache.specs.Supers.{Overruled}
+use Rattle.fo_cache.proofs.Trials.{others_rested, overruled}
 use Rattle.fo_cache.proofs.cache.Cache.settle_one.Goals as goal
+
+pub returns-clause-overruled : goal.returns-clause-overruled
+returns-clause-overruled g c =
+    let self = c.args.self.now in
+    let p = parts self.mind [] 0 in
+    let n = parts c.sync_turn.new.self.mind [] 0 in
+    let q = parts c.overrule.new.self.mind [] 0 in
+    let s = g.D.Disk.state self.main in
+    let m = g.D.Disk.state c.write_one.new.self.main in
+    let t = g.D.Disk.state c.sync_turn.new.self.main in
+    let synced = subst (λ mind. Synced (parts mind [] 0) n) c.write_one.ensures.mind c.in-Ok-sync_turn.ensures.synced in
+    subst (λ (u : DiskState). Overruled s u p q) (ap g.D.Disk.state (sym c.overrule.ensures.device))
+    (overruled s m t p n q c.in-Ok.ensures.wrote c.in-Ok-sync_turn.ensures.state synced c.overrule.ensures.settled)
 
 pub returns-clause-others : goal.returns-clause-others
 returns-clause-others g c = λ k ne.
