@@ -8,7 +8,7 @@ use Rattle.fo_tree_read.specs.declared.tree.Tree.{Tree}
 use Rattle.fo_tree_read.specs.Reading.{most}
 use Rattle.fo_tree_look.specs.declared.ways.Kept.{Kept}
 use Rattle.fo_tree_look.specs.Source.{HasBlock, Over, Prepared}
-use Rattle.fo_ports.specs.Sources.{ComesFor}
+use Rattle.fo_tree_down.specs.Way.{ComesFor}
 use Rattle.fo_tree_down.specs.Clear.{EndsClear}
 use Rattle.fo_tree_clear.specs.Put.{byte_here}
 use Rattle.fo_tree_clear.specs.Steps.{Steps}
