@@ -163,7 +163,7 @@ module _ {s u v : State} {t : Tree} {top : Pointer} {next : ℕ} {kept : List Ke
         (λ was. inr was)
         (x.wrote.only told y z old.0))
         (x.top_of.only (mid told) y z h);
-    clear = λ told was. x.clear (mid told) (x.wrote.clear told was);
+    clear = λ told was. x.clear (mid told) (x.wrote.clear (inl told) was);
     steps = steps_join follows;
     spent = spent;
   }
@@ -176,7 +176,7 @@ appends_none s u t top kept size offset piece few x bytes = record {
   owns = x.owns;
   comes = x.comes;
   only = x.only;
-  clear = x.clear;
+  clear = λ told was. x.clear (inl told) was;
   steps = x.steps;
   spent = spent_end u (at_top t top) s.spare offset (length piece) few x.spent;
 }

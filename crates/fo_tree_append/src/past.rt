@@ -3,9 +3,8 @@ ghost use Rattle.std.specs.Prelude.{◌≡◌, ◌≢◌, ◌⊎◌, ◌+◌, �
 ghost use Rattle.fo_image.specs.declared.types.Pointer.{Pointer};
 ghost use Rattle.fo_image.specs.declared.types.Pointer.TheVariants.{Nil, Local};
 ghost use Rattle.fo_sparse.specs.Written.{written};
-ghost use Rattle.fo_ports.specs.Sources.{Changes, Grows, depth_for, most_for};
+ghost use Rattle.fo_ports.specs.Sources.{Changes, Grows, ComesFor, depth_for, most_for};
 ghost use Rattle.fo_tree_look.specs.Source.{Over, HasBlock, IsPlainTree, Prepared, leaves_of};
-ghost use Rattle.fo_tree_down.specs.Way.{ComesFor};
 ghost use Rattle.fo_tree_down.specs.Clear.{EndsClear};
 ghost use Rattle.fo_tree_grow.specs.Grow.{shaped};
 ghost use Rattle.fo_tree_append.specs.Append.{ended};
