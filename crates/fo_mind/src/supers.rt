@@ -1,5 +1,5 @@
 //! The super block is tried, and counts once it is settled.
-ghost use Rattle.std.specs.Prelude.{◌≡◌, ◌<◌, ◌≤◌, ℕ, List, true, None, Some, length, MatchOption};
+ghost use Rattle.std.specs.Prelude.{◌≡◌, ◌<◌, ◌≤◌, ℕ, List, true, None, Some, is_some, length, replicate, IfOk, MatchOption};
 ghost use Rattle.fo_disk.specs.Disk.{Content as Holds};
 ghost use Rattle.fo_image.specs.Field.{Four, number_at};
 ghost use Rattle.fo_image.specs.Format.{SpellsSuper};
@@ -8,6 +8,7 @@ ghost use Rattle.fo_mind.specs.MindParts.{parts};
 ghost use Rattle.fo_mind.specs.Parts.{least_limit};
 
 use crate::mind::Mind;
+use fo_base::Memory;
 use fo_buffers::Block;
 use fo_image::{Super, u32_at};
 
@@ -25,6 +26,20 @@ impl Mind {
         ensures { result ≡ self.now.one }
     {
         self.one
+    }
+
+    /// Whether a super block that was tried is in doubt.
+    pub fn is_doubted(&self) -> bool
+        ensures { result ≡ is_some self.now.doubt }
+    {
+        self.doubt.is_some()
+    }
+
+    /// Another block of memory, of zeros. This may want memory.
+    pub fn blank(&self) -> Result<Block, Memory>
+        ensures { IfOk result (λ b. b ≡ replicate 8192 0) }
+    {
+        Block::new(self.alloc)
     }
 
     /// The next file number.
