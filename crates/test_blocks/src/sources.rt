@@ -4,7 +4,7 @@ ghost use Rattle.fo_image.specs.declared.types.Kind.TheVariants.{Data};
 ghost use Rattle.fo_ports_source.specs.Source.{IsEmpty};
 
 use fo_base::Memory;
-use fo_image::Kind;
+use fo_image::{Kind, Pointer};
 use fo_ports::{Blocks, Bytes};
 use fo_ports_plain::PlainBlocks;
 use fo_ports_source::PlainSource;
@@ -44,6 +44,8 @@ fn owned(rt: HostRuntime) -> Result<(), Fail> {
     assert_eq!(rt; source.leaf(&mut on, 1)?, Some(at));
     let entry = Bytes::<PlainBlocks>::entry(&source);
     assert_eq!(rt; (entry.size, entry.tag, entry.dir), (16384, 40, false));
+    assert_eq!(rt; (entry.depth, entry.top), (1, Pointer::Nil));
+    assert!(rt; source.trimmed(&on));
     Ok(())
 }
 
