@@ -1,13 +1,14 @@
 -- A piece is put past the end of a source.
-use Rattle.std.specs.Prelude.{◌≡◌, ◌⊎◌, ◌+◌, ◌*◌, ◌/◌, ◌%◌, ◌<◌, ◌≤◌, ℕ, List, length, slice_index}
+use Rattle.std.specs.Prelude.{◌≡◌, ◌⊎◌, ◌+◌, ◌*◌, ◌/◌, ◌%◌, ◌<◌, ◌≤◌, ℕ, zero, suc, List, length, max, slice_index}
 use Rattle.fo_image.specs.declared.types.Pointer.{Pointer}
 use Rattle.fo_image.specs.declared.types.Pointer.TheVariants.{Local}
 use Rattle.fo_ports.specs.State.{State}
-use Rattle.fo_ports.specs.Sources.{Made, ComesFor, depth_for}
+use Rattle.fo_sparse.specs.Written.{written}
+use Rattle.fo_ports.specs.Sources.{Made, Changes, Grows, ComesFor, depth_for, most_for}
 use Rattle.fo_tree_read.specs.declared.tree.Tree.{Tree}
 use Rattle.fo_tree_read.specs.Reading.{most}
 use Rattle.fo_tree_look.specs.declared.ways.Kept.{Kept}
-use Rattle.fo_tree_look.specs.Source.{HasBlock, Over, Prepared}
+use Rattle.fo_tree_look.specs.Source.{HasBlock, Over, Prepared, leaves_of}
 use Rattle.fo_tree_down.specs.Clear.{EndsClear}
 use Rattle.fo_tree_clear.specs.Put.{byte_here}
 use Rattle.fo_tree_clear.specs.Steps.{Steps}
@@ -34,3 +35,24 @@ pub record Appends (s u : State) (t : Tree) (top : Pointer) (kept : List Kept) (
   pub clear : s.tells → EndsClear s t kept → EndsClear u (at_top t top) kept
   pub steps : Steps t.tag (HasBlock s t) (HasBlock s t) s u
   pub spent : s.spare ≤ u.spare + most t.depth (length piece)
+
+-- where a source ends once so many bytes were put from an offset on; none change nothing
+abbrev pub piece_end : ℕ → ℕ → ℕ → ℕ
+piece_end size offset zero = size
+piece_end size offset (suc n) = max size (offset + suc n)
+
+-- the tree of a source into which so many bytes were put, below this top
+abbrev pub with_piece : Tree → ℕ → ℕ → Pointer → Tree
+with_piece t offset n top = ended t (piece_end t.size offset n) top
+
+-- A piece was put into a source, and this is its tree now: what `write` of the trait of sources promises.
+pub record PutsPiece (s u : State) (t new : Tree) (kept : List Kept) (offset : ℕ) (piece : List ℕ) : Type 0 where
+  pub over : (limit : ℕ) → offset + length piece ≤ limit → Over s t kept limit → Over u new kept limit
+  pub bytes : s.tells → (limit : ℕ) → (leaves_of u new kept limit).bytes ≡ written ((leaves_of s t kept limit).bytes) offset piece
+  pub grows : (limit : ℕ) → Grows s u (leaves_of s t kept limit) (leaves_of u new kept limit)
+  pub comes : s.tells → (from : Pointer) → ComesFor s t.top from → ComesFor u new.top from
+  pub only : s.tells → (y x : ℕ) → u.instead y x → (new.top ≡ Local y) ⊎ (s.instead y x × (t.top ≡ Local y → ⊥))
+  pub clear : s.tells → EndsClear s t kept → EndsClear u new kept
+  pub changes : Changes t.tag (HasBlock s t) (HasBlock s t) s u
+  pub spent : s.spare ≤ u.spare + most_for (max t.size (offset + length piece)) (length piece)
+  pub room : u.room ≡ s.room
