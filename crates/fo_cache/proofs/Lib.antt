@@ -1,4 +1,5 @@
 pub mod Calling
+pub mod Firsts
 pub mod Fitting
 pub mod Labelling
 pub mod Lessening

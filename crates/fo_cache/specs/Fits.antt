@@ -3,6 +3,7 @@ use Rattle.std.specs.Prelude.{◌≡◌, ◌<◌, ◌≤◌, ℕ, Bool, false, L
 use Rattle.std.specs.List.{AllByRecursion, Contains}
 use Rattle.std.proofs.Props.{props}
 use Rattle.fo_disk.specs.Disk.{Versions, latest_of, versions_of}
+use Rattle.fo_disk.specs.Disk.{Content as Holds}
 use Rattle.fo_buffers.specs.declared.block.Buffer.{Buffer}
 use Rattle.fo_buffers.specs.Held.{held_at}
 use Rattle.fo_order.specs.declared.marks.Flags.{Flags}
@@ -43,6 +44,22 @@ pub record LabelsFitAt (region : Region) (b : ℕ) (versions : Versions) (f : Fl
 -- Each block of the label table that the device tells is so.
 pub record FitsLabels (p : Parts) (unsure : List Bool) : Type 0 where
   pub each : (b : ℕ) → 2 ≤ b → b < p.region.first → b < length p.disk → LabelsFitAt p.region b (versions_of p.disk b) (flag_at p.turns b) (slice_index_or unsure b false)
+
+-- The device may have these bytes in block 1: those of memory, or those that were last tried, while they are in doubt.
+abbrev pub MayBeOne : List ℕ → Option (List ℕ) → List ℕ → Type 0
+MayBeOne one None bytes = bytes ≡ one
+MayBeOne one (Some tried) bytes = (bytes ≡ one → ⊥) → bytes ≡ tried
+
+-- Each version that the device tells of block 1 is so.
+pub record FitsOne (one : List ℕ) (doubt : Option (List ℕ)) (holds : Holds) : Type 0 where
+  pub each : (bytes : List ℕ) → 1 < length holds → Contains (versions_of holds 1) bytes → MayBeOne one doubt bytes
+
+may_prop : (one : List ℕ) (doubt : Option (List ℕ)) (bytes : List ℕ) → IsProp (MayBeOne one doubt bytes)
+may_prop one None bytes = Prim.hlevel props
+may_prop one (Some tried) bytes = Prim.hlevel props
+
+pub one_prop : (one : List ℕ) (doubt : Option (List ℕ)) (holds : Holds) → IsProp (FitsOne one doubt holds)
+one_prop one doubt holds = Prim.hlevel (props, may_prop)
 
 at_prop : (b : ℕ) (versions : Versions) (f : Flags) (o : Option Buffer) (clean : List (ℕ × List ℕ)) (unsure : Bool) → IsProp (FitsAt b versions f o clean unsure)
 at_prop b versions f o clean unsure = Prim.hlevel props

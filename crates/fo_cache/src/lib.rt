@@ -2,7 +2,8 @@
 //!
 //! `Cache` is a `Mind` with the device that it speaks of. What the two have to do with one another is `Fits`: a block that counts as
 //! settled has one version, a buffer that isn't dirty has the bytes of the last one, and a block of the label table that has no turn
-//! has the labels of memory. Over a device that tells nothing it says nothing.
+//! has the labels of memory. Each version of block 1 is that of memory, or the one in doubt. Over a device that tells nothing it
+//! says nothing.
 //!
 //! Proved: what is got, given out and filled is said as `Blocks` says it, but for images; a block is written with the bytes or the
 //! labels that memory has, and no other changes; a write that fails leaves it dirty; a sync that answers Ok settles each block whose

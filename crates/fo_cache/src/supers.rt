@@ -7,7 +7,7 @@ use fo_image::{Super, write_super as spell_super};
 use fo_ports::BlockError;
 
 impl<D: Disk> Cache<D> {
-    ghost use Rattle.std.specs.Prelude.{◌≡◌, ◌≢◌, ◌<◌, ◌≤◌, ℕ, List, [], true, length, None, Some, OnOk, OnErr, IfOk, IfErr, MatchOption};
+    ghost use Rattle.std.specs.Prelude.{◌≡◌, ◌≢◌, ◌<◌, ◌≤◌, ℕ, List, [], ◌∷◌, true, length, None, Some, OnOk, OnErr, IfOk, IfErr, MatchOption};
     ghost use Rattle.fo_base.specs.Cause.{HasCause, Rose};
     ghost use Rattle.fo_disk.specs.Disk.{IsWrite, versions_of};
     ghost use Rattle.fo_image.specs.Format.{SpellsSuper, SuperHolds};
@@ -30,6 +30,7 @@ impl<D: Disk> Cache<D> {
 
     // Writes block 1 with what is tried.
     fn write_trial(&mut self, bytes: &[u8]) -> Result<(), Failed>
+        requires tried { (parts self.old.mind [] 0).doubt ≡ Some bytes.now }
         requires length { length bytes.now ≡ 8192 }
         ensures wrote { IsWrite 1 bytes.now result (D.state self.old.main) (D.state self.new.main) }
         ensures mind { self.new.mind ≡ self.old.mind }
@@ -52,6 +53,7 @@ impl<D: Disk> Cache<D> {
 
     // Nothing is in doubt any more.
     fn overrule(&mut self) -> Option<Block>
+        requires { 1 < length (D.state self.old.main).holds → versions_of (D.state self.old.main).holds 1 ≡ (parts self.old.mind [] 0).one_bytes ∷ [] }
         ensures given { result ≡ (parts self.old.mind [] 0).doubt }
         ensures settled { parts self.new.mind [] 0 ≡ record (parts self.old.mind [] 0) { doubt = None } }
         ensures device { self.new.main ≡ self.old.main }
@@ -65,6 +67,7 @@ impl<D: Disk> Cache<D> {
         requires high { one.high ≡ (parts self.old.mind [] 0).one.high }
         requires low { one.low ≡ (parts self.old.mind [] 0).one.low }
         requires spelled { (bytes : List ℕ) → (parts self.old.mind [] 0).doubt ≡ Some bytes → SpellsSuper one bytes }
+        requires alone { (bytes : List ℕ) → (parts self.old.mind [] 0).doubt ≡ Some bytes → 1 < length (D.state self.old.main).holds → versions_of (D.state self.old.main).holds 1 ≡ bytes ∷ [] }
         ensures counts { MatchOption (parts self.old.mind [] 0).doubt ((result ≡ None) × (parts self.new.mind [] 0 ≡ parts self.old.mind [] 0))
             (λ bytes. (result ≡ Some (parts self.old.mind [] 0).one_bytes) × (parts self.new.mind [] 0 ≡ record (parts self.old.mind [] 0) { one = one; one_bytes = bytes; doubt = None })) }
         ensures device { self.new.main ≡ self.old.main }

@@ -1,6 +1,7 @@
 use Rattle.std.proofs.Common.{[]}
 use Rattle.fo_mind.specs.MindParts.{parts}
 use Rattle.fo_cache.proofs.Trials.{accepted, fits_alike, labels_alike, sized_alike}
+use Rattle.fo_cache.proofs.Firsts.{one_accepted}
 use Rattle.fo_cache.proofs.cache.Cache.accept.Goals as goal
 
 pub invariant_of-self-clause-fits : goal.invariant_of-self-clause-fits
@@ -29,3 +30,10 @@ invariant_of-self-clause-sized g c =
 
 pub returns-clause-counts : goal.returns-clause-counts
 returns-clause-counts g c = c.accept.ensures [] 0
+
+pub invariant_of-self-clause-first : goal.invariant_of-self-clause-first
+invariant_of-self-clause-first g c =
+    let self = c.args.self.now in
+    let s = g.D.Disk.state self.main in
+    let p = parts self.mind [] 0 in
+    one_accepted p (parts c.accept.new.self [] 0) c.args.one _ _ s.holds p.doubt (λ i. p.doubt) (c.accept.ensures [] 0) c.requires.alone self.first

@@ -7,6 +7,9 @@ use Rattle.fo_mind.specs.Laws.{pinned_held}
 use Rattle.fo_mind.specs.MindParts.{parts}
 use Rattle.fo_cache.proofs.Calling.{count_relabeled, fits_given, labels_before}
 use Rattle.fo_cache.proofs.Labelling.{dirty_changed, label_within, labels_given}
+use Rattle.fo_cache.proofs.Firsts.{one_like}
+use Rattle.std.proofs.Common.{ap as along}
+use Rattle.fo_mind.specs.Parts.{Parts as All}
 use Rattle.fo_cache.proofs.cache.Cache.copy.Goals as goal
 
 pub invariant_of-self-clause-fits : goal.invariant_of-self-clause-fits
@@ -35,3 +38,11 @@ invariant_of-self-clause-spelled g c =
     let given = c.copy.ensures.given x.0.block (sym (ap (option_map block_in) x.1)) [] 0 in
     let within = label_within self.mind.placed given.usable.block in
     labels_given (parts self.mind [] 0) (parts c.copy.new.self [] 0) c.copy.result _ s.holds s.unsure given.region given.turns within given.usable.block (dirty_changed self.mind.order (label_block c.copy.result) within) self.spelled
+
+pub invariant_of-self-clause-first : goal.invariant_of-self-clause-first
+invariant_of-self-clause-first g c =
+    let self = c.args.self.now in
+    let s = g.D.Disk.state self.main in
+    let x = pinned_held (held_at self.mind.buffers c.args.at) c.requires.pinned in
+    let given = c.copy.ensures.given x.0.block (sym (ap (option_map block_in) x.1)) [] 0 in
+    one_like (parts self.mind [] 0) (parts c.copy.new.self [] 0) s.holds (along (λ (z : All). z.one_bytes) given.rest) (along (λ (z : All). z.doubt) given.rest) self.first

@@ -12,6 +12,10 @@ use Rattle.fo_cache.specs.Fits.{FitsLabels}
 use Rattle.fo_order.specs.Keeps.{Turns}
 use Rattle.fo_order.specs.Turns.{flag_at}
 use Rattle.fo_cache.proofs.Labelling.{labels_kept}
+use Rattle.fo_cache.proofs.Firsts.{one_like}
+use Rattle.std.proofs.Common.{ap as along}
+use Rattle.fo_mind.specs.Parts.{Parts as All}
+use Rattle.fo_cache.specs.Fits.{FitsOne}
 use Rattle.fo_cache.proofs.cache.Cache.get.Goals as goal
 
 and_ok : {T E : Type 0} (P Q : Type 0) (r : Result T E) → OnOk r P → OnOk r Q → OnOk r (P × Q)
@@ -63,3 +67,10 @@ invariant_of-self-clause-spelled g c =
     let b = c.get.ensures.brings in
     subst (λ (t : DiskState). FitsLabels (record q { disk = t.holds }) t.unsure) (sym c.get.ensures.state)
     (labels_kept (parts self.mind [] 0) q s.holds s.unsure (ap (λ (x : Parts). x.region) b.rest) (λ k lt. ap (λ (t : Turns). flag_at t k) (ap (λ (x : Parts). x.turns) b.rest)) self.spelled)
+
+pub invariant_of-self-clause-first : goal.invariant_of-self-clause-first
+invariant_of-self-clause-first g c =
+    let self = c.args.self.now in
+    let s = g.D.Disk.state self.main in
+    subst (λ (t : DiskState). FitsOne (parts c.get.new.self [] 0).one_bytes (parts c.get.new.self [] 0).doubt t.holds) (sym c.get.ensures.state)
+    (one_like (parts self.mind [] 0) (parts c.get.new.self [] 0) s.holds (along (λ (z : All). z.one_bytes) c.get.ensures.brings.rest) (along (λ (z : All). z.doubt) c.get.ensures.brings.rest) self.first)

@@ -5,6 +5,9 @@ use Rattle.fo_mind.specs.MindParts.{parts}
 use Rattle.fo_mind.specs.Parts.{Parts, count_of}
 use Rattle.fo_cache.proofs.Fitting.{fits_kept}
 use Rattle.fo_cache.proofs.Labelling.{labels_kept}
+use Rattle.fo_cache.proofs.Firsts.{one_like}
+use Rattle.std.proofs.Common.{ap as along}
+use Rattle.fo_mind.specs.Parts.{Parts as All}
 use Rattle.fo_cache.proofs.cache.Cache.keep_turn_of.Goals as goal
 
 pub invariant_of-self-clause-fits : goal.invariant_of-self-clause-fits
@@ -24,3 +27,9 @@ invariant_of-self-clause-sized g c =
 
 pub returns-clause-kept : goal.returns-clause-kept
 returns-clause-kept g c = c.keep_turn_of.ensures.kept [] 0
+
+pub invariant_of-self-clause-first : goal.invariant_of-self-clause-first
+invariant_of-self-clause-first g c =
+    let self = c.args.self.now in
+    let s = g.D.Disk.state self.main in
+    one_like (parts self.mind [] 0) (parts c.keep_turn_of.new.self [] 0) s.holds (along (λ (z : All). z.one_bytes) (c.keep_turn_of.ensures.kept [] 0).rest) (along (λ (z : All). z.doubt) (c.keep_turn_of.ensures.kept [] 0).rest) self.first

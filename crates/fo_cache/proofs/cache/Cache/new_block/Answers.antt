@@ -5,6 +5,9 @@ use Rattle.fo_mind.specs.MindParts.{parts}
 use Rattle.fo_ports.specs.Blocks.{zero_bytes}
 use Rattle.fo_cache.proofs.Calling.{count_relabeled, fits_given, labels_before}
 use Rattle.fo_cache.proofs.Labelling.{dirty_changed, label_within, labels_given}
+use Rattle.fo_cache.proofs.Firsts.{one_like}
+use Rattle.std.proofs.Common.{ap as along}
+use Rattle.fo_mind.specs.Parts.{Parts as All}
 use Rattle.fo_cache.proofs.cache.Cache.new_block.Goals as goal
 
 pub invariant_of-self-clause-fits : goal.invariant_of-self-clause-fits
@@ -30,3 +33,9 @@ invariant_of-self-clause-spelled g c =
     let given = c.new_block.ensures.given [] 0 in
     let within = label_within self.mind.placed given.usable.block in
     labels_given (parts self.mind [] 0) (parts c.new_block.new.self [] 0) c.new_block.result _ s.holds s.unsure given.region given.turns within given.usable.block (dirty_changed self.mind.order (label_block c.new_block.result) within) self.spelled
+
+pub invariant_of-self-clause-first : goal.invariant_of-self-clause-first
+invariant_of-self-clause-first g c =
+    let self = c.args.self.now in
+    let s = g.D.Disk.state self.main in
+    one_like (parts self.mind [] 0) (parts c.new_block.new.self [] 0) s.holds (along (λ (z : All). z.one_bytes) (c.new_block.ensures.given [] 0).rest) (along (λ (z : All). z.doubt) (c.new_block.ensures.given [] 0).rest) self.first

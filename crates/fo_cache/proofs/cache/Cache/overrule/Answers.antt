@@ -1,6 +1,10 @@
 use Rattle.std.proofs.Common.{[], None}
 use Rattle.fo_mind.specs.MindParts.{parts}
 use Rattle.fo_cache.proofs.Trials.{fits_alike, labels_alike, sized_alike}
+use Rattle.std.proofs.Common.{subst as back, sym as mirrored}
+use Rattle.fo_mind.specs.Parts.{Parts as All}
+use Rattle.fo_cache.specs.Fits.{FitsOne}
+use Rattle.fo_cache.proofs.Firsts.{one_alone}
 use Rattle.fo_cache.proofs.cache.Cache.overrule.Goals as goal
 
 pub invariant_of-self-clause-fits : goal.invariant_of-self-clause-fits
@@ -26,3 +30,10 @@ invariant_of-self-clause-sized g c =
 
 pub returns-clause-settled : goal.returns-clause-settled
 returns-clause-settled g c = c.overrule.ensures.settled [] 0
+
+pub invariant_of-self-clause-first : goal.invariant_of-self-clause-first
+invariant_of-self-clause-first g c =
+    let self = c.args.self.now in
+    let s = g.D.Disk.state self.main in
+    let p = parts self.mind [] 0 in
+    back (λ (z : All). FitsOne z.one_bytes z.doubt s.holds) (mirrored (c.overrule.ensures.settled [] 0)) (one_alone p.one_bytes None s.holds c.requires)

@@ -13,6 +13,9 @@ use Rattle.fo_order.specs.Keeps.{Turns}
 use Rattle.fo_order.specs.Turns.{flag_at}
 use Rattle.fo_mind.proofs.Refilling.{flags_turned}
 use Rattle.fo_cache.proofs.Labelling.{labels_kept}
+use Rattle.fo_cache.proofs.Firsts.{one_like}
+use Rattle.std.proofs.Common.{ap as along}
+use Rattle.fo_mind.specs.Parts.{Parts as All}
 use Rattle.fo_cache.proofs.cache.Cache.put_bytes.Goals as goal
 
 pub invariant_of-self-clause-fits : goal.invariant_of-self-clause-fits
@@ -60,3 +63,11 @@ invariant_of-self-clause-spelled g c =
     labels_kept p q s.holds s.unsure (ap (λ (z : Parts). z.region) refilled.rest)
     (λ k lt. ap (λ (t : Turns). flag_at t k) refilled.turns ∙ flags_turned p.facts p.turns c.args.at w.0 w.1 k (λ e. omega (arith, e, lt, lo, f)))
     self.spelled
+
+pub invariant_of-self-clause-first : goal.invariant_of-self-clause-first
+invariant_of-self-clause-first g c =
+    let self = c.args.self.now in
+    let s = g.D.Disk.state self.main in
+    let x = pinned_held (held_at self.mind.buffers c.args.at) c.requires.pinned in
+    let refilled = c.put_bytes.ensures.refilled x.0.block (sym (ap (option_map block_in) x.1)) [] 0 in
+    one_like (parts self.mind [] 0) (parts c.put_bytes.new.self [] 0) s.holds (along (λ (z : All). z.one_bytes) refilled.rest) (along (λ (z : All). z.doubt) refilled.rest) self.first

@@ -6,6 +6,7 @@ use Rattle.fo_mind.specs.MindParts.{parts}
 use Rattle.fo_mind.specs.Parts.{count_of}
 use Rattle.fo_cache.proofs.Labelling.{labels_kept}
 use Rattle.fo_cache.proofs.Releasing.{bytes_given_up, fits_given_up, region_stays, turns_stay}
+use Rattle.fo_cache.proofs.Firsts.{one_released}
 use Rattle.fo_cache.proofs.cache.Cache.release.Goals as goal
 
 pub invariant_of-self-clause-fits : goal.invariant_of-self-clause-fits
@@ -43,3 +44,9 @@ returns-clause-bytes g c =
     let s = g.D.Disk.state self.main in
     let e = c.release.ensures in
     bytes_given_up (parts self.mind [] 0) (parts c.release.new.self [] 0) c.args.at (λ is. e.gone is [] 0) (λ is. e.kept is [] 0) s.holds s.unsure self.fits
+
+pub invariant_of-self-clause-first : goal.invariant_of-self-clause-first
+invariant_of-self-clause-first g c =
+    let self = c.args.self.now in
+    let s = g.D.Disk.state self.main in
+    one_released (parts self.mind [] 0) (parts c.release.new.self [] 0) c.args.at s.holds (λ is. c.release.ensures.gone is [] 0) (λ is. c.release.ensures.kept is [] 0) self.first

@@ -5,6 +5,7 @@ use Rattle.fo_mind.specs.Turning.{Synced}
 use Rattle.fo_cache.specs.Settling.{Rested}
 use Rattle.fo_cache.specs.Supers.{Overruled}
 use Rattle.fo_cache.proofs.Trials.{others_rested, overruled}
+use Rattle.fo_cache.proofs.Firsts.{memory_alone}
 use Rattle.fo_cache.proofs.cache.Cache.settle_one.Goals as goal
 
 pub returns-clause-overruled : goal.returns-clause-overruled
@@ -27,3 +28,10 @@ returns-clause-others g c = λ k ne.
     let t = g.D.Disk.state c.sync_turn.new.self.main in
     subst (λ (u : DiskState). Rested (versions_of s.holds k) (versions_of u.holds k)) (ap g.D.Disk.state (sym c.overrule.ensures.device))
     (others_rested s m t c.write_one.result c.sync_turn.result c.write_one.ensures.wrote c.sync_turn.ensures.state k ne)
+
+pub overrule-requires : goal.overrule-requires
+overrule-requires g c =
+    let self = c.args.self.now in
+    let n = parts c.sync_turn.new.self.mind [] 0 in
+    let synced = subst (λ mind. Synced (parts mind [] 0) n) c.write_one.ensures.mind c.in-Ok-sync_turn.ensures.synced in
+    memory_alone (g.D.Disk.state self.main) (g.D.Disk.state c.write_one.new.self.main) (g.D.Disk.state c.sync_turn.new.self.main) (parts self.mind [] 0) n c.in-Ok.ensures.wrote c.in-Ok-sync_turn.ensures.state synced

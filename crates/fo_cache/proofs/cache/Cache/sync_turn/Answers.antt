@@ -4,6 +4,7 @@ use Rattle.fo_mind.specs.MindParts.{parts}
 use Rattle.fo_mind.specs.Parts.{count_of}
 use Rattle.fo_cache.proofs.Outcomes.{each_settled, fits_settled, if_err, if_ok, region_settled}
 use Rattle.fo_cache.proofs.Labelling.{labels_settled}
+use Rattle.fo_cache.proofs.Firsts.{one_settled_too}
 use Rattle.fo_cache.proofs.cache.Cache.sync_turn.Goals as goal
 
 pub invariant_of-self-clause-fits : goal.invariant_of-self-clause-fits
@@ -36,3 +37,10 @@ invariant_of-self-clause-spelled g c =
     let self = c.args.self.now in
     let r = c.sync-synced.result in
     labels_settled (parts self.mind [] 0) (parts c.settled.new.self [] 0) r c.sync-synced.ensures.state (if_ok r c.is_ok-ok.ensures.value (λ e. c.settled.ensures.synced e [] 0)) (if_err r c.is_ok-ok.ensures.value (λ e. c.settled.ensures.same e [] 0)) self.spelled
+
+pub invariant_of-self-clause-first : goal.invariant_of-self-clause-first
+invariant_of-self-clause-first g c =
+    let self = c.args.self.now in
+    let s = g.D.Disk.state self.main in
+    let r = c.sync-synced.result in
+    one_settled_too (parts self.mind [] 0) (parts c.settled.new.self [] 0) s (g.D.Disk.state c.sync-synced.new.self) r c.sync-synced.ensures.state (if_ok r c.is_ok-ok.ensures.value (λ e. c.settled.ensures.synced e [] 0)) (if_err r c.is_ok-ok.ensures.value (λ e. c.settled.ensures.same e [] 0)) self.first

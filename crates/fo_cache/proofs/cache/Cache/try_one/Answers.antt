@@ -1,6 +1,10 @@
 use Rattle.std.proofs.Common.{[], Some}
 use Rattle.fo_mind.specs.MindParts.{parts}
 use Rattle.fo_cache.proofs.Trials.{fits_alike, labels_alike, sized_alike}
+use Rattle.std.proofs.Common.{subst as back, sym as mirrored}
+use Rattle.fo_mind.specs.Parts.{Parts as All}
+use Rattle.fo_cache.specs.Fits.{FitsOne}
+use Rattle.fo_cache.proofs.Firsts.{one_tried}
 use Rattle.fo_cache.proofs.cache.Cache.try_one.Goals as goal
 
 pub invariant_of-self-clause-fits : goal.invariant_of-self-clause-fits
@@ -26,3 +30,10 @@ invariant_of-self-clause-sized g c =
 
 pub returns-clause-tried : goal.returns-clause-tried
 returns-clause-tried g c = c.try_one.ensures [] 0
+
+pub invariant_of-self-clause-first : goal.invariant_of-self-clause-first
+invariant_of-self-clause-first g c =
+    let self = c.args.self.now in
+    let s = g.D.Disk.state self.main in
+    let p = parts self.mind [] 0 in
+    back (λ (z : All). FitsOne z.one_bytes z.doubt s.holds) (mirrored (c.try_one.ensures [] 0)) (one_tried p.one_bytes c.args.block p.doubt s.holds c.requires.none self.first)

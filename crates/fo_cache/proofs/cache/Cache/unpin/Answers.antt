@@ -6,6 +6,7 @@ use Rattle.fo_mind.specs.MindParts.{parts}
 use Rattle.fo_mind.specs.Parts.{count_of}
 use Rattle.fo_cache.proofs.Calling.{fits_unpinned, region_unpinned, turns_unpinned}
 use Rattle.fo_cache.proofs.Labelling.{labels_kept}
+use Rattle.fo_cache.proofs.Firsts.{one_unpinned}
 use Rattle.fo_cache.proofs.cache.Cache.unpin.Goals as goal
 
 pub invariant_of-self-clause-fits : goal.invariant_of-self-clause-fits
@@ -30,3 +31,9 @@ invariant_of-self-clause-sized g c =
 
 pub returns-clause-unpinned : goal.returns-clause-unpinned
 returns-clause-unpinned g c = c.unpin.ensures [] 0
+
+pub invariant_of-self-clause-first : goal.invariant_of-self-clause-first
+invariant_of-self-clause-first g c =
+    let self = c.args.self.now in
+    let s = g.D.Disk.state self.main in
+    one_unpinned (parts self.mind [] 0) (parts c.unpin.new.self [] 0) _ s.holds c.unpin.result (c.unpin.ensures [] 0) self.first

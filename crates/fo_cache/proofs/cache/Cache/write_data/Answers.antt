@@ -5,6 +5,7 @@ use Rattle.fo_mind.specs.Parts.{count_of}
 use Rattle.fo_cache.proofs.Outcomes.{fits_answered, if_err, if_ok, last_written, others_written, region_answered, turn_held, turn_within}
 use Rattle.fo_mind.proofs.Landing.{within_count}
 use Rattle.fo_cache.proofs.Labelling.{labels_answered}
+use Rattle.fo_cache.proofs.Firsts.{one_answered}
 use Rattle.fo_cache.proofs.cache.Cache.write_data.Goals as goal
 
 pub bytes_of-requires : goal.bytes_of-requires
@@ -55,3 +56,11 @@ invariant_of-self-clause-spelled g c =
     let missed = if_err r c.is_ok-ok.ensures.value (λ e. c.wrote.ensures.missed e [] 0) in
     let le = c.requires.data in
     labels_answered p q c.args.at (within_count c.args.at self.mind.placed c.requires.turn).1 (region_answered p q c.args.at r landed missed) r c.write-wrote.ensures.state landed missed (λ lt. absurd (omega (arith, lt, le))) self.spelled
+
+pub invariant_of-self-clause-first : goal.invariant_of-self-clause-first
+invariant_of-self-clause-first g c =
+    let self = c.args.self.now in
+    let s = g.D.Disk.state self.main in
+    let r = c.write-wrote.result in
+    one_answered (parts self.mind [] 0) (parts c.wrote.new.self [] 0) c.args.at s (g.D.Disk.state c.write-wrote.new.self) r c.write-wrote.ensures.state ((self.mind.turning.each c.args.at).begins c.requires.turn)
+    (if_ok r c.is_ok-ok.ensures.value (λ e. c.wrote.ensures.landed e [] 0)) (if_err r c.is_ok-ok.ensures.value (λ e. c.wrote.ensures.missed e [] 0)) self.first

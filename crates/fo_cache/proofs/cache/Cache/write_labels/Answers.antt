@@ -7,6 +7,7 @@ use Rattle.fo_mind.specs.Parts.{count_of}
 use Rattle.fo_mind.proofs.Landing.{within_count}
 use Rattle.fo_cache.proofs.Labelling.{fits_elsewhere, labels_answered, versions_kept}
 use Rattle.fo_cache.proofs.Outcomes.{if_err, if_ok, region_answered, turn_within}
+use Rattle.fo_cache.proofs.Firsts.{one_answered}
 use Rattle.fo_cache.proofs.cache.Cache.write_labels.Goals as goal
 
 pub spell_labels-requires-clause-table : goal.spell_labels-requires-clause-table
@@ -70,3 +71,11 @@ returns-clause-wrote g c =
 
 pub returns-clause-others : goal.returns-clause-others
 returns-clause-others g c = versions_kept c.write-wrote.result c.write-wrote.ensures.state
+
+pub invariant_of-self-clause-first : goal.invariant_of-self-clause-first
+invariant_of-self-clause-first g c =
+    let self = c.args.self.now in
+    let s = g.D.Disk.state self.main in
+    let r = c.write-wrote.result in
+    one_answered (parts self.mind [] 0) (parts c.wrote.new.self [] 0) c.args.at s (g.D.Disk.state c.write-wrote.new.self) r c.write-wrote.ensures.state ((self.mind.turning.each c.args.at).begins c.requires.turn)
+    (if_ok r c.is_ok.ensures.value (λ e. c.wrote.ensures.landed e [] 0)) (if_err r c.is_ok.ensures.value (λ e. c.wrote.ensures.missed e [] 0)) self.first

@@ -2,6 +2,7 @@ use Rattle.std.proofs.Common.{◌≤◌, [], sym, subst}
 use Rattle.fo_mind.specs.MindParts.{parts}
 use Rattle.fo_mind.specs.Parts.{count_of}
 use Rattle.fo_cache.proofs.Trials.{fits_one, labels_one, one_within}
+use Rattle.fo_cache.proofs.Firsts.{as_memory, one_written}
 use Rattle.fo_cache.proofs.cache.Cache.write_one.Goals as goal
 
 pub write-requires-clause-block : goal.write-requires-clause-block
@@ -19,3 +20,10 @@ invariant_of-self-clause-spelled g c =
 
 pub invariant_of-self-clause-sized : goal.invariant_of-self-clause-sized
 invariant_of-self-clause-sized g c = let self = c.args.self.now in subst (λ n. count_of (parts self.mind [] 0).region ≤ n) (sym c.write.ensures.size) self.sized
+
+pub invariant_of-self-clause-first : goal.invariant_of-self-clause-first
+invariant_of-self-clause-first g c =
+    let self = c.args.self.now in
+    let s = g.D.Disk.state self.main in
+    let p = parts self.mind [] 0 in
+    one_written p.one_bytes p.doubt c.one_bytes.result.now s (g.D.Disk.state c.write.new.self) self.first (as_memory p.one_bytes p.doubt c.one_bytes.result.now c.one_bytes.ensures.value) c.write.result c.write.ensures.state

@@ -9,6 +9,7 @@ use Rattle.fo_mind.proofs.Limits.{super_limit}
 use Rattle.fo_cache.specs.Settling.{Rested}
 use Rattle.fo_cache.specs.Supers.{Counts}
 use Rattle.fo_cache.proofs.Trials.{counted, others_rested}
+use Rattle.fo_cache.proofs.Firsts.{tried_alone}
 use Rattle.fo_cache.proofs.cache.Cache.write_super.Goals as goal
 
 pub try_one-requires-clause-below : goal.try_one-requires-clause-below
@@ -47,3 +48,17 @@ returns-clause-others g c = λ k ne.
     subst (λ (u : DiskState). Rested (versions_of (g.D.Disk.state c.args.self.now.main).holds k) (versions_of u.holds k)) (ap g.D.Disk.state (sym c.accept.ensures.device))
     (subst (λ (u : DiskState). Rested (versions_of u.holds k) (versions_of t.holds k)) (ap g.D.Disk.state c.try_one.ensures.device)
     (others_rested o m t c.write_trial.result c.sync_turn.result c.write_trial.ensures.wrote c.sync_turn.ensures.state k ne))
+
+pub accept-requires-clause-alone : goal.accept-requires-clause-alone
+accept-requires-clause-alone g c =
+    let self = c.args.self.now in
+    let into = c.write_super.new.into in
+    let p = parts self.mind [] 0 in
+    let n = parts c.sync_turn.new.self.mind [] 0 in
+    let s = g.D.Disk.state self.main in
+    let m = g.D.Disk.state c.write_trial.new.self.main in
+    let t = g.D.Disk.state c.sync_turn.new.self.main in
+    let tried : parts c.write_trial.new.self.mind [] 0 ≡ record p { doubt = Some into } = ap (λ z. parts z [] 0) c.write_trial.ensures.mind ∙ c.try_one.ensures.tried ∙ ap (λ (x : List ℕ). record p { doubt = Some x }) c.fill.ensures in
+    let synced = subst (λ (z : Parts). Synced z n) tried c.in-Ok-sync_turn.ensures.synced in
+    let wrote = subst (λ (u : DiskState). IsWrite {E = Failed} 1 into (Ok c.in-Ok.field-0) u m) (ap g.D.Disk.state c.try_one.ensures.device) c.in-Ok.ensures.wrote in
+    tried_alone s m t p n into wrote c.in-Ok-sync_turn.ensures.state synced
