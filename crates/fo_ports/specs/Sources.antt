@@ -7,11 +7,12 @@ use Rattle.fo_image.specs.declared.types.Kind.TheVariants.{Data, Dir, Root}
 use Rattle.fo_image.specs.declared.types.State.TheVariants.{Live}
 use Rattle.fo_image.specs.declared.types.Pointer.{Pointer}
 use Rattle.fo_image.specs.declared.types.Pointer.TheVariants.{Local}
+use Rattle.fo_image.specs.Usable.{is_usable}
 use Rattle.fo_crash.specs.declared.place.Place.{Place}
 use Rattle.fo_crash.specs.Images.{Image, SameContent, Reaches, to_block}
 use Rattle.fo_sparse.specs.Written.{resized}
 use Rattle.fo_ports.specs.Blocks.{blank, zero_bytes}
-use Rattle.fo_ports.specs.State.{State, KeepsNumbers, AddsNoWait, none}
+use Rattle.fo_ports.specs.State.{State, KeepsNumbers, AddsNoWait, IsRooted, none}
 
 -- What stays of a source: the kind, tag and rank of its leaves, the generation of its entry, and the length up to which it can grow.
 pub record Form : Type 0 where
@@ -107,7 +108,7 @@ pub record StaysInPlace (old new : State) (at : ℕ) : Type 0 where
   pub same_slots : ((old.label at).kind ≡ Dir 0) ⊎ ((j : ℕ) → (new.now at).slot j ≡ (old.now at).slot j)
   pub same_length : length ((new.now at).bytes) ≡ length ((old.now at).bytes)
   pub same_label : new.label at ≡ old.label at
-  pub same_places : (p : Place) → old.stands at p → new.stands at p
+  pub same_places : IsHung old at → (p : Place) → old.stands at p → new.stands at p
   pub in_tree : Reaches old.now (to_block 1) at → Reaches new.now (to_block 1) at
   pub hung : IsHung old at → IsHung new at
   pub linked : old.apart at → new.apart at ⊎ Reaches new.now (to_block 1) at
@@ -149,9 +150,11 @@ pub record Undone (touched : ℕ → Type 0) (old new : State) (image : Image) :
   pub slots : (b j : ℕ) → (Made old new b → ⊥) → ((image b).slot j ≡ (other b).slot j) ⊎ ((image b).slot j ≡ (new.now b).slot j)
   pub apart : (t b : ℕ) → old.tops t → Made old new b → Reaches other (to_block t) b → ⊥
 
--- A block that was given out: it hung nowhere, is of the current epoch and of this tag, pinned, and in every image what memory has.
+-- A block that was given out: by its label it was usable, so it stood nowhere (the law `standing`), it was no top, is of the current epoch
+-- and of this tag, pinned, and in every image what memory has. (That no image led to it is said of each of them, by `Undone`.)
 pub record IsMade (tag : ℕ) (old new : State) (b : ℕ) : Type 0 where
-  pub was : (b ≢ 1) × (old.tells → (old.tops b → ⊥) × ((p : Place) → old.stands b p → ⊥))
+  pub free : is_usable old.low (old.label b) ≡ true
+  pub was : (b ≢ 1) × (old.tells → old.tops b → ⊥)
   pub labelled : ((new.label b).epoch ≡ old.high) × ((new.label b).tag ≡ tag)
   pub is_one : new.is_block b
   pub is_pinned : new.pinned b
@@ -169,14 +172,15 @@ Stead s mine x = mine x ⊎ ((y : ℕ) × mine y × s.instead y x)
 -- A call on a source with these blocks changes blocks that it gives out, and those of its own that are inner ones, of the current
 -- epoch and of its tag, in memory and in every image; all else stays. Only blocks of the source are to be closed, and all are that leave
 -- the tree. Only blocks of the source are put below what was given out, and what was given out comes in the place of these alone, or of
--- what they came in the place of. No device call is made.
+-- what they came in the place of. What hangs in memory at the end hung before, or was given out. No device call is made.
 pub record Changes (tag : ℕ) (mine inner : ℕ → Type 0) (old new : State) : Type 0 where
   pub memory : (b : ℕ) → (Touched old new tag inner b → ⊥) → SameContent (new.now b) (old.now b)
   pub images : (image : Image) → new.may_leave image → Undone (Touched old new tag inner) old new image
   pub made : (b : ℕ) → Made old new b → IsMade tag old new b
   pub others : (b : ℕ) → (Made old new b → ⊥) → StaysMarked old new b
   pub apart : (b : ℕ) → (Made old new b → ⊥) → (new.apart b → old.apart b) × (old.apart b → new.apart b ⊎ mine b)
-  pub places : old.tells → (b : ℕ) (p : Place) → (Made old new b → ⊥) → (mine b → ⊥) → (new.covered b → ⊥) → old.stands b p → new.stands b p
+  pub places : old.tells → (b : ℕ) (p : Place) → (Made old new b → ⊥) → (mine b → ⊥) → (new.covered b → ⊥) → IsRooted new b → old.stands b p → new.stands b p
+  pub rooted : old.tells → (b : ℕ) → (Made old new b → ⊥) → IsRooted new b → IsRooted old b
   pub instead : (b x : ℕ) → new.instead b x → old.instead b x ⊎ (Made old new b × Stead old mine x)
   pub covers : (b : ℕ) → (old.covered b → new.covered b) × ((old.covered b → ⊥) → (mine b → ⊥) → new.covered b → ⊥)
   pub leaves : old.tells → (b : ℕ) → Reaches old.now (to_block 1) b → (Reaches new.now (to_block 1) b → ⊥) → new.covered b

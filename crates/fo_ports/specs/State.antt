@@ -1,17 +1,18 @@
 -- What blocks are at one moment, and what each kind of call leaves as it was.
-use Rattle.std.specs.Prelude.{◌≡◌, ◌≢◌, ◌⊎◌, ◌↔◌, ◌+◌, ◌*◌, ◌<◌, ◌≤◌, ℕ, List, Option}
+use Rattle.std.specs.Prelude.{◌≡◌, ◌≢◌, ◌⊎◌, ◌↔◌, ◌+◌, ◌-◌, ◌*◌, ◌^◌, ◌<◌, ◌≤◌, ℕ, List, Option, true}
 use Rattle.fo_image.specs.declared.types.Score.{Score}
 use Rattle.fo_image.specs.declared.types.Label.{Label}
 use Rattle.fo_image.specs.declared.types.State.TheVariants.{Live}
 use Rattle.fo_image.specs.declared.types.Pointer.{Pointer}
 use Rattle.fo_image.specs.declared.types.Pointer.TheVariants.{Local}
+use Rattle.fo_image.specs.Usable.{is_usable}
 use Rattle.fo_crash.specs.declared.slot.Slot.{Slot}
 use Rattle.fo_crash.specs.declared.place.Place.{Place}
 use Rattle.fo_crash.specs.Images.{Content, Image, SameContent, SameImage, Reaches, target, walk, to_block}
 use Rattle.fo_crash.specs.Steps.{AddsNothing, AddsBlock, AllAre, Passes, PutsBlock, Brings, Through, Fills, cleared}
 use Rattle.fo_crash.specs.Places.{Fits, place_below}
 use Rattle.fo_crash.specs.Names.{IsInUse, SameUse}
-use Rattle.fo_ports.specs.Blocks.{KeepsParent, IsInner, dropped, zeros}
+use Rattle.fo_ports.specs.Blocks.{KeepsParent, IsInner, dropped, zeros, cost}
 
 pub record State : Type 1 where
   -- what each block holds in memory: block 1 is the super block, whose slot 0 leads to the active root block
@@ -23,8 +24,12 @@ pub record State : Type 1 where
   -- a block that was made and put into no slot yet; and the block in whose place it was made to come
   pub apart : ℕ → Type 0
   pub instead : ℕ → ℕ → Type 0
-  -- the epoch of the active tree (blocks of older epochs are never changed), and its root block
+  -- a block that was given out, and put below nothing that the tree has, as far as calls say: it need not be written yet
+  pub newborn : ℕ → Type 0
+  -- the epoch of the active tree (blocks of older epochs are never changed), the lowest that is kept, by which a label says whether its
+  -- block is usable, and the root block of the active tree
   pub high : ℕ
+  pub low : ℕ
   pub root : ℕ
   -- block 1, from which the active tree hangs, and the root blocks of the snapshots that are kept
   pub tops : ℕ → Type 0
@@ -75,6 +80,7 @@ pub record State : Type 1 where
 -- What every call keeps.
 pub record KeepsAll (old new : State) : Type 0 where
   pub same_high : new.high ≡ old.high
+  pub same_low : new.low ≡ old.low
   pub same_root : new.root ≡ old.root
   pub same_tops : (t : ℕ) → new.tops t ↔ old.tops t
   pub same_blocks : (b : ℕ) → new.is_block b ↔ old.is_block b
@@ -85,15 +91,22 @@ pub record KeepsAll (old new : State) : Type 0 where
   pub more_faults : old.faults ≤ new.faults
   pub more_arena_faults : old.arena_faults ≤ new.arena_faults
 
+-- In memory the block hangs from a top, or from a block that is apart. One that older versions alone lead to hangs from none.
+abbrev pub IsRooted : State → ℕ → Type 0
+IsRooted s b = (t : ℕ) × (s.tops t ⊎ s.apart t) × Reaches s.now (to_block t) b
+
 -- no block
 abbrev pub none : ℕ → Type 0
 none b = ⊥
 
--- Blocks stay as they are, but for those that a call gives out (`made`), and but for the places of those that it puts (`put`).
+-- Blocks stay as they are, but for those that a call gives out (`made`), and but for the places of those that it puts (`put`). What
+-- hangs in memory keeps its place, and hung there before; what left with a leaf of entries need stand nowhere. Nothing becomes newborn.
 pub record Stays (made put : ℕ → Type 0) (old new : State) : Type 0 where
   pub labels : (b : ℕ) → (made b → ⊥) → new.label b ≡ old.label b
   pub marks : (b : ℕ) → (made b → ⊥) → (old.pinned b → new.pinned b) × (old.sealed b → new.sealed b) × (old.fresh b → new.fresh b)
-  pub places : old.tells → (b : ℕ) (p : Place) → (made b → ⊥) → (put b → ⊥) → (new.covered b → ⊥) → old.stands b p → new.stands b p
+  pub places : old.tells → (b : ℕ) (p : Place) → (made b → ⊥) → (put b → ⊥) → (new.covered b → ⊥) → IsRooted new b → old.stands b p → new.stands b p
+  pub rooted : old.tells → (b : ℕ) → (made b → ⊥) → IsRooted new b → IsRooted old b
+  pub newborn : (b : ℕ) → (made b → ⊥) → new.newborn b → old.newborn b
   pub apart : (b : ℕ) → (made b → ⊥) → (put b → ⊥) → new.apart b ↔ old.apart b
   pub instead : (b x : ℕ) → (made b → ⊥) → (put b → ⊥) → new.instead b x ↔ old.instead b x
   pub waits : (a on j : ℕ) → (made a → ⊥) → (made on → ⊥) → (put on → ⊥) → old.waits a on j → new.waits a on j
@@ -132,18 +145,21 @@ pub record Frame (here put : ℕ → Type 0) (removals : ℕ) (old new : State) 
   pub uses : Uses 0 removals old new
   pub numbers : KeepsNumbers old new
 
--- A change of one block, or of none, after which the same slots wait to be cleared and the same blocks are to be closed.
+-- A change of one block, or of none, after which the same slots wait to be cleared, and the same blocks are to be closed and newborn.
 pub record Calm (here : ℕ → Type 0) (removals : ℕ) (old new : State) : Type 0 where
   pub frame : Frame here none removals old new
   pub order : KeepsOrder none old new
   pub covered : KeepsCovered old new
+  pub newborn : (b : ℕ) → old.newborn b → new.newborn b
   pub queued : new.queued ≡ old.queued
 
--- A block was given out with this content and label, for a place: it hung nowhere, no image leads to it, it is pinned, and fresh.
+-- A block was given out with this content and label, for a place: by its label it was usable, it hung nowhere, no image leads to it, it is
+-- pinned, and fresh.
 pub record Gives (at : ℕ) (c : Content) (l : Label) (old new : State) : Type 0 where
   pub memory : PutsBlock at c old.now new.now
   pub images : AddsBlock old.tops at c old.may_leave new.may_leave
   pub label : new.label at ≡ l
+  pub free : is_usable old.low (old.label at) ≡ true
   pub was : ((old.label at).state ≢ Live) × (at ≢ 1) × (old.covered at → ⊥) × (old.tells → (old.tops at → ⊥) × ((p : Place) → old.stands at p → ⊥))
   pub alone : old.tells → (y : ℕ) → new.instead y at → ⊥
   pub is : new.is_block at × new.pinned at × new.fresh at × new.apart at × (new.covered at → ⊥) × ((a j : ℕ) → new.waits a at j → ⊥)
@@ -153,6 +169,7 @@ pub record Gives (at : ℕ) (c : Content) (l : Label) (old new : State) : Type 0
   pub no_wait : AddsNoWait none old new
   pub dirty : (b : ℕ) → new.dirty b → old.dirty b ⊎ ((b ≡ at) ⊎ (b ≡ new.label_block at))
   pub uses : Uses 1 0 old new
+  pub queued : new.queued ≡ old.queued
   pub numbers : KeepsNumbers old new
 
 -- A call only looks: what memory is known to have stays, no image is added, and marks stay.
@@ -164,15 +181,12 @@ pub record Looks (old new : State) : Type 0 where
   pub stays : Stays none none old new
   pub order : KeepsOrder none old new
   pub covered : KeepsCovered old new
+  pub newborn : (b : ℕ) → old.newborn b → new.newborn b
   pub no_wait : AddsNoWait none old new
   pub dirty : (b : ℕ) → new.dirty b → old.dirty b
   pub room : (new.spare ≡ old.spare) × (new.room ≡ old.room)
   pub usable : (new.usable ≡ old.usable) × (new.queued ≡ old.queued)
   pub numbers : KeepsNumbers old new
-
--- In memory the block hangs from a top, or from a block that is apart. One that older versions alone lead to hangs from none.
-abbrev pub IsRooted : State → ℕ → Type 0
-IsRooted s b = (t : ℕ) × (s.tops t ⊎ s.apart t) × Reaches s.now (to_block t) b
 
 -- A call for a file number leaves all but block 1 as it is.
 pub record Numbers (old new : State) : Type 0 where
@@ -181,6 +195,7 @@ pub record Numbers (old new : State) : Type 0 where
   pub places : old.tells → (b : ℕ) (p : Place) → IsRooted old b → old.stands b p → new.stands b p
   pub apart : (b : ℕ) → new.apart b ↔ old.apart b
   pub instead : (b x : ℕ) → new.instead b x ↔ old.instead b x
+  pub newborn : (b : ℕ) → new.newborn b ↔ old.newborn b
   pub waits : (a on j : ℕ) → old.waits a on j → new.waits a on j
   pub order : KeepsOrder none old new
   pub covered : KeepsCovered old new
@@ -226,10 +241,14 @@ pub record StaysUndoomed (old new : State) (b : ℕ) : Type 0 where
   pub uncovered : new.covered b → ⊥
   pub places : IsRooted old b → (p : Place) → old.stands b p → new.stands b p
 
--- All is settled, nothing is to be written but what is put into no slot yet, no slot waits to be cleared, and no removal is queued.
+-- A block that is to be written, or in which a slot waits to be cleared: memory has it, whatever the device tells.
+abbrev pub IsChanging : State → ℕ → Type 0
+IsChanging s b = s.dirty b ⊎ ((j : ℕ) × s.clearing b j)
+
+-- All is settled, nothing is to be written but what is newborn, no slot waits to be cleared, and no removal is queued.
 pub record IsSettled (s : State) : Type 0 where
   pub settled : AllAre s.now s.may_leave
-  pub clean : (b : ℕ) → s.dirty b → IsUnlinked s b
+  pub clean : (b : ℕ) → s.dirty b → s.newborn b × (s.tells → IsUnlinked s b)
   pub empty : s.queued ≡ 0
   pub cleared : (b j : ℕ) → s.clearing b j → ⊥
 
@@ -240,7 +259,7 @@ IsClosing s = (0 < s.queued) ⊎ ((at : ℕ) × (j : ℕ) × s.clearing at j)
 -- Flushing, settling and closing: no image is added, slots that waited may be cleared, and blocks that were doomed may be closed. What
 -- hung from a slot that was cleared, through blocks of pointers, and hangs from block 1 no more is to be closed, until it is closed.
 -- What was settled stays so, and then no block is closed. Over any device a label stays, or is that of a live block that is closed now,
--- where a removal was queued or a slot waited.
+-- where a removal was queued or a slot waited; and a block that was to be changed on the device, and still is, is what memory had.
 pub record Rests (old new : State) : Type 0 where
   pub blocks : old.tells → (b : ℕ) → (IsDoomed old b → ⊥) → StaysUndoomed old new b
   pub images : AddsNothing old.may_leave new.may_leave
@@ -253,11 +272,17 @@ pub record Rests (old new : State) : Type 0 where
   pub leaves : old.tells → (at j b : ℕ) → WasCleared old new at j → Through (IsPointers old) old.now ((old.now at).slot j) b → Reaches old.now (to_block 1) b → (Reaches new.now (to_block 1) b → ⊥) → new.covered b ⊎ ((new.label b).state ≢ Live)
   pub apart : (b : ℕ) → new.apart b ↔ old.apart b
   pub instead : (b x : ℕ) → new.instead b x ↔ old.instead b x
+  pub newborn : (b : ℕ) → new.newborn b → old.newborn b
+  pub kept : (b : ℕ) → old.is_block b → IsChanging old b → IsChanging new b → StaysKnown old new b
   pub labels : (b : ℕ) → (new.label b ≡ old.label b) ⊎ (IsClosing old × ((old.label b).state ≡ Live) × ((new.label b).state ≢ Live))
   pub queues : 0 < new.queued → IsClosing old
   pub usable : old.usable ≤ new.usable
   pub settled : IsSettled old → IsSettled new × (new.usable ≡ old.usable)
   pub numbers : KeepsNumbers old new
+
+-- One more removal is queued, or as many as can be counted.
+abbrev pub QueuesOne : State → State → Type 0
+QueuesOne old new = (old.queued < new.queued) ⊎ (2 ^ 32 - 1 ≤ new.queued)
 
 -- where a slot led, below the levels that its source loses
 abbrev pub led_to : Image → Slot → Slot → Pointer
@@ -295,7 +320,9 @@ IsHeld s at = Reaches s.now (to_block 1) at ⊎ ((w : ℕ) × s.apart w × Reach
 
 -- A slot may be put, where the device tells: what it brings is live and not to be closed, it fits its place and is lower, an older
 -- block keeps its parent, it comes to its one spot, the block that it is put into is in the tree or made and not to be closed, and no
--- block that was made is let go.
+-- block that was made is let go. Where the put takes removals it is into a block of the tree: what leaves a block that was made is
+-- queued when that block is put, which takes none. So is a put that leads an entry to another block: what is queued when a leaf of entries
+-- is put follows no entry.
 pub record MayPutSlot (s : State) (at i : ℕ) (slot : Slot) : Type 0 where
   pub brings : Brings s.now slot (λ b. ((s.label b).state ≡ Live) × ((s.label b).epoch ≤ s.high) × (s.covered b → ⊥))
   pub fits : Fits s.stands (IsLoose s) at i slot
@@ -306,14 +333,17 @@ pub record MayPutSlot (s : State) (at i : ℕ) (slot : Slot) : Type 0 where
   pub uncovered : s.covered at → ⊥
   pub first : IsInner (s.label at).kind → i ≡ 0 → (x : ℕ) → target ((s.now at).slot i) ≡ Local x → (b : ℕ) × (target slot ≡ Local b)
   pub holder : IsHeld s at
+  pub linked : 0 < cost ((s.now at).slot i) slot → Reaches s.now (to_block 1) at
+  pub entry : (IsInner (s.label at).kind → ⊥) → (c : ℕ) → target ((s.now at).slot i) ≡ Local c → target slot ≢ Local c → Reaches s.now (to_block 1) at
   pub keeps : (c : ℕ) → target ((s.now at).slot i) ≡ Local c → (target slot ≡ Local c) ⊎ Reaches s.now (to_block 1) c
 
--- A slot may be cleared, where the device tells.
+-- A slot may be cleared, where the device tells; one that leads to a block only in a block of the tree.
 pub record MayRemoveSlot (s : State) (at i : ℕ) : Type 0 where
   pub leaves : LeavesNone s ((s.now at).slot i) (cleared ((s.now at).slot i))
   pub uncovered : s.covered at → ⊥
   pub first : IsInner (s.label at).kind → i ≢ 0
   pub holder : IsHeld s at
+  pub linked : (c : ℕ) → target ((s.now at).slot i) ≡ Local c → Reaches s.now (to_block 1) at
   pub keeps : (c : ℕ) → target ((s.now at).slot i) ≡ Local c → Reaches s.now (to_block 1) c
 
 -- entry j is the second of the pair whose first is i

@@ -1,17 +1,18 @@
 //! The calls on blocks.
-ghost use Rattle.std.specs.Prelude.{◌≡◌, ◌≢◌, ◌⊎◌, ◌↔◌, ◌+◌, ◌-◌, ◌*◌, ◌%◌, ◌^◌, ◌<◌, ◌≤◌, ℕ, List, length, IfOk, IfErr, OnOk, OnErr, IsOk, Option, Some, None, IfSome, MatchOption, IsTrue};
+ghost use Rattle.std.specs.Prelude.{◌≡◌, ◌≢◌, ◌⊎◌, ◌↔◌, ◌+◌, ◌-◌, ◌*◌, ◌%◌, ◌^◌, ◌<◌, ◌≤◌, ℕ, List, length, IfOk, IfErr, OnOk, OnErr, IsOk, Option, Some, None, IfSome, MatchOption, IsTrue, false};
 ghost use Rattle.fo_base.specs.Cause.{Rose};
 ghost use Rattle.fo_image.specs.declared.types.State.TheVariants.{Live};
 ghost use Rattle.fo_image.specs.declared.types.Kind.TheVariants.{Dir, Root};
 ghost use Rattle.fo_image.specs.declared.types.Pointer.TheVariants.{Local};
+ghost use Rattle.fo_image.specs.Usable.{is_usable};
 ghost use Rattle.fo_crash.specs.declared.place.Place.{Place};
 ghost use Rattle.fo_crash.specs.Images.{Content, Image, to_block, target, walk, SameContent, SameImage, Reaches};
-ghost use Rattle.fo_crash.specs.Steps.{AddsSlot, AddsBytes, AddsNothing, AddsSuper, AllAre, IsSure, HasSuper, HasBytes, Covers, Passes, PutsSlot, PutsBytes, IsOneOf, cleared};
+ghost use Rattle.fo_crash.specs.Steps.{AddsSlot, AddsBytes, AddsNothing, AddsSuper, AllAre, IsSure, HasSuper, HasBytes, Covers, Passes, PutsSlot, PutsBytes, IsOneOf, Through, cleared};
 ghost use Rattle.fo_crash.specs.Names.{SameUse};
 ghost use Rattle.fo_crash.specs.Places.{place, super_place, root_place, IsPlaced, OnePlace, RanksFall};
 ghost use Rattle.fo_crash.specs.Spots.{FewSlots, OneSpot};
-ghost use Rattle.fo_ports.specs.Blocks.{slot_count, IsLevel, IsFormed, IsRanked, blank, SlotFits, Reads, ReadsSlots, MayPut, put_at, zeros, dropped, cost, OnChain};
-ghost use Rattle.fo_ports.specs.State.{State, KeepsAll, none, Stays, KeepsOrder, KeepsCovered, Uses, KeepsNumbers, Frame, Calm, Gives, Looks, Numbers, Rests, StaysKnown, IsUnlinked, MayPutSlot, MayRemoveSlot, Hangs, IsDoomed, IsPointers, IsPairUsed, MayClearLater, AddsNoWait, WaitsForPairs, WaitsInUse};
+ghost use Rattle.fo_ports.specs.Blocks.{slot_count, IsLevel, IsFormed, IsRanked, blank, SlotFits, Reads, ReadsSlots, MayPut, put_at, zeros, dropped, ends, cost, OnChain};
+ghost use Rattle.fo_ports.specs.State.{State, KeepsAll, none, Stays, KeepsOrder, KeepsCovered, Uses, KeepsNumbers, Frame, Calm, Gives, Looks, Numbers, Rests, StaysKnown, IsUnlinked, QueuesOne, MayPutSlot, MayRemoveSlot, Hangs, IsDoomed, IsPointers, IsPairUsed, MayClearLater, AddsNoWait, WaitsForPairs, WaitsInUse};
 ghost use Rattle.fo_ports.specs.Causes.{Caused, IsFull};
 
 use crate::error::BlockError;
@@ -94,6 +95,7 @@ pub trait Blocks {
         ensures stays { Stays none none (state self.old) (state self.new) × Uses 0 0 (state self.old) (state self.new) }
         ensures order { KeepsOrder none (state self.old) (state self.new) × KeepsCovered (state self.old) (state self.new) }
         ensures no_wait { AddsNoWait none (state self.old) (state self.new) }
+        ensures queued { (state self.new).queued ≡ (state self.old).queued }
         ensures dirty { (b : ℕ) → (state self.new).dirty b → (state self.old).dirty b }
         ensures keeps { keeps self.old self.new };
 
@@ -131,7 +133,8 @@ pub trait Blocks {
         ensures no_wait { AddsNoWait none (state self.old) (state self.new) }
         ensures keeps { keeps self.old self.new };
 
-    /// Puts a slot. What it takes out of the tree that memory has is queued to be closed.
+    /// Puts a slot. What it takes out of the tree that memory has is queued to be closed. Put into a block that is not newborn, what the
+    /// slot leads to is newborn no more, nor is what hangs from that by newborn blocks.
     fn put_slot(&mut self, at: u32, i: u32, slot: Slot)
         requires pinned { (state self.old).pinned at }
         requires current { ((state self.old).label at).epoch ≡ (state self.old).high }
@@ -148,6 +151,8 @@ pub trait Blocks {
         ensures hangs { Hangs at i slot (state self.old) (state self.new) }
         ensures order { KeepsOrder none (state self.old) (state self.new) }
         ensures no_wait { AddsNoWait none (state self.old) (state self.new) }
+        ensures queues { ((state self.old).queued ≤ (state self.new).queued) × (ends (target (((state self.old).now at).slot i)) (target slot) ≡ 1 → QueuesOne (state self.old) (state self.new)) }
+        ensures links { ((state self.old).newborn at → ⊥) → (b : ℕ) → Through (state self.old).newborn (state self.old).now slot b → (state self.new).newborn b → ⊥ }
         ensures covers { (state self.old).tells → Covers (IsPointers (state self.old)) (((state self.old).now at).slot i) (state self.old).now (state self.new).now (state self.old).covered (state self.new).covered }
         ensures keeps { keeps self.old self.new };
 
@@ -167,6 +172,7 @@ pub trait Blocks {
         ensures hangs { Hangs at i (cleared (((state self.old).now at).slot i)) (state self.old) (state self.new) }
         ensures order { (b j : ℕ) → ((state self.new).clearing b j → (state self.old).clearing b j ⊎ ((b ≡ at) × (j ≡ i))) × ((state self.old).clearing b j → (state self.new).clearing b j) }
         ensures no_wait { AddsNoWait none (state self.old) (state self.new) }
+        ensures queues { ((state self.old).queued ≤ (state self.new).queued) × ((c : ℕ) → target (((state self.old).now at).slot i) ≡ Local c → (state self.new).clearing at i ⊎ QueuesOne (state self.old) (state self.new)) }
         ensures covers { (state self.old).tells → Covers (IsPointers (state self.old)) (((state self.old).now at).slot i) (state self.old).now (state self.new).now (state self.old).covered (state self.new).covered }
         ensures keeps { keeps self.old self.new };
 
@@ -188,6 +194,8 @@ pub trait Blocks {
     fn retire(&mut self, at: u32, epoch: u32, after: u32)
         requires after { after ≡ 1 }
         requires room { 0 < (state self.old).room }
+        requires block { (state self.old).is_block at }
+        requires no_top { (state self.old).tells → (state self.old).tops at → ⊥ }
         requires root { (((state self.old).label at).state ≡ Live) × (((state self.old).label at).kind ≡ Root) × ((state self.old).root ≢ at) }
         requires uncovered { (state self.old).covered at → ⊥ }
         requires epoch { ((((state self.old).label at).epoch < epoch) × (epoch ≤ (state self.old).high)) ⊎ ((epoch ≡ ((state self.old).label at).epoch) × ((state self.old).tells → OnChain (state self.old).now (state self.old).root at → ⊥)) }
@@ -196,7 +204,8 @@ pub trait Blocks {
         ensures frame { Frame none none 1 (state self.old) (state self.new) }
         ensures order { KeepsOrder none (state self.old) (state self.new) }
         ensures no_wait { AddsNoWait none (state self.old) (state self.new) }
-        ensures covers { (b : ℕ) → ((state self.old).covered b → (state self.new).covered b) × ((state self.new).covered b → (state self.old).covered b ⊎ (b ≡ at)) }
+        ensures queues { ((state self.old).queued ≤ (state self.new).queued) × QueuesOne (state self.old) (state self.new) }
+        ensures covers { ((state self.old).tells → (state self.new).covered at) × ((b : ℕ) → ((state self.old).covered b → (state self.new).covered b) × ((state self.new).covered b → (state self.old).covered b ⊎ (b ≡ at))) }
         ensures keeps { keeps self.old self.new };
 
     /// Makes room for so many blocks, pinned blocks, and removals and waits, and unpins all blocks. It settles, and closes blocks,
@@ -216,14 +225,17 @@ pub trait Blocks {
     fn is_sure(&self, at: u32) -> bool
         ensures { IsTrue result ↔ (state self.now).sure at };
 
-    /// Settles everything but what was made and is put into no slot yet, and clears the slots that wait.
+    /// Settles everything but what is newborn, and clears the slots that wait. Over a device that tells nothing what stays pinned is
+    /// sealed, too. No removal is lost.
     fn settle(&mut self) -> Result<(), BlockError>
         requires apart { (state self.old).tells → (y x : ℕ) → (state self.old).instead y x → IsDoomed (state self.old) x → ⊥ }
         ensures all { OnOk result (AllAre (state self.new).now (state self.new).may_leave) }
         ensures none { OnOk result ((b j : ℕ) → (state self.new).clearing b j → ⊥) }
-        ensures clean { OnOk result ((b : ℕ) → (state self.new).dirty b → IsUnlinked (state self.new) b) }
+        ensures clean { OnOk result ((b : ℕ) → (state self.new).dirty b → (state self.new).newborn b × ((state self.new).tells → IsUnlinked (state self.new) b)) }
         ensures sealed { OnOk result ((state self.old).tells → (b : ℕ) → (IsUnlinked (state self.new) b ⊎ (state self.new).sure b) × (Reaches (state self.new).now (to_block 1) b → (state self.new).sealed b)) }
+        ensures pinned { OnOk result (((state self.old).tells → ⊥) → (b : ℕ) → (state self.new).pinned b → (state self.new).newborn b ⊎ (state self.new).sealed b) }
         ensures rests { Rests (state self.old) (state self.new) }
+        ensures queued { (state self.old).queued ≤ (state self.new).queued }
         ensures known { (b : ℕ) → (state self.old).pinned b → StaysKnown (state self.old) (state self.new) b }
         ensures blocks { (b : ℕ) → ((state self.new).label b ≡ (state self.old).label b) × ((state self.old).pinned b → (state self.new).pinned b) × ((state self.old).sealed b → (state self.new).sealed b) }
         ensures room { ((state self.new).spare ≡ (state self.old).spare) × ((state self.new).pins_left ≡ (state self.old).pins_left) × ((state self.new).room ≡ (state self.old).room) }
@@ -260,6 +272,9 @@ pub trait Blocks {
     /// The root block is a data block, over any device; where the device tells, it has the label of a current root block.
     ghost root_is: { (b : Self) → (state b).is_block (state b).root × ((state b).tells → ((((state b).label (state b).root).state ≡ Live) × (((state b).label (state b).root).kind ≡ Root) × (((state b).label (state b).root).epoch ≡ (state b).high))) };
 
+    /// The root block hangs from block 1, and is written with what memory has.
+    ghost root_linked: { (b : Self) → (state b).newborn (state b).root → ⊥ };
+
     /// In every image each block stands at its one place, is of its format, and leads on by its slots alone; and ranks fall.
     ghost one_place: { (b : Self) → OnePlace (state b).stands };
 
@@ -281,6 +296,9 @@ pub trait Blocks {
 
     /// A block that stands at a place is a data block of its kind and tag.
     ghost labelled: { (b : Self) (at : ℕ) (p : Place) → (state b).tells → at ≢ 1 → (state b).stands at p → (state b).is_block at × (((state b).label at).kind ≡ p.kind) × (((state b).label at).tag ≡ p.tag) };
+
+    /// A block that stands at a place is not usable by its label: none is given out.
+    ghost standing: { (b : Self) (at : ℕ) (p : Place) → (state b).tells → at ≢ 1 → (state b).stands at p → is_usable (state b).low ((state b).label at) ≡ false };
 
     /// What memory names is a data block, over any device.
     ghost within: { (b : Self) (at i below : ℕ) → (state b).pinned at → target (((state b).now at).slot i) ≡ Local below → (state b).is_block below };

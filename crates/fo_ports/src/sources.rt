@@ -108,8 +108,8 @@ pub trait Bytes<B: Blocks> {
         ensures cause { IfErr result (Caused ⊥ (λ b. (((B.state on.old).tells → ⊥) × (B.state on.old).is_block b) ⊎ ((b ≡ 1) × ((B.state on.old).tells → Lacks (leaves self.old on.old).named (B.state on.old).held))) (Rose (B.state on.old).faults (B.state on.new).faults) (Rose (B.state on.old).arena_faults (B.state on.new).arena_faults)) };
 
     /// Puts the piece in the place of the bytes from the offset on, with zeros between the end and it. Older blocks are copied
-    /// first. Of a source of data that holds no records. Over a device that tells nothing a write below the last leaf may leave something
-    /// behind the end, as one block may stand on two ways there.
+    /// first. Of a source of data that holds no records. Over a device that tells nothing a write below the last leaf, or of more than one,
+    /// may leave something behind the end, as one block may stand on two ways there.
     fn write(&mut self, on: &mut B, offset: u64, piece: &[u8])
         requires over { is_over self.old on.old }
         requires kind { IsPlain (form self.old) }
@@ -122,7 +122,7 @@ pub trait Bytes<B: Blocks> {
         ensures grows { Grows (B.state on.old) (B.state on.new) (leaves self.old on.old) (leaves self.new on.new) }
         ensures spare { (B.state on.old).spare ≤ (B.state on.new).spare + most_for (max (size self.old) (offset + length piece.now)) (length piece.now) }
         ensures room { (B.state on.new).room ≡ (B.state on.old).room }
-        ensures trimmed { (B.state on.old).tells ⊎ (size self.old ≤ 8192 * (offset / 8192 + 1)) → is_trimmed self.old on.old → is_trimmed self.new on.new }
+        ensures trimmed { (B.state on.old).tells ⊎ ((size self.old ≤ 8192 * (offset / 8192 + 1)) × (offset + length piece.now ≤ 8192 * (offset / 8192 + 1))) → is_trimmed self.old on.old → is_trimmed self.new on.new }
         ensures comes { (B.state on.old).tells → (from : Pointer) → ComesFor (B.state on.old) (top self.old) from → ComesFor (B.state on.new) (top self.new) from }
         ensures only { (B.state on.old).tells → top self.new ≢ Nil → (y x : ℕ) → (B.state on.new).instead y x → (top self.new ≡ Local y) ⊎ ((B.state on.old).instead y x × (top self.old ≡ Local y → ⊥)) }
         ensures changes { Changes (form self.old).tag (leaves self.old on.old).owns (leaves self.old on.old).owns (B.state on.old) (B.state on.new) × B.keeps on.old on.new };

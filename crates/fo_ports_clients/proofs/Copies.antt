@@ -12,7 +12,7 @@ use Rattle.fo_crash.specs.Images.{Image, note, target, local, walk, to_block, de
 use Rattle.fo_crash.specs.Places.{OnePlace}
 use Rattle.fo_crash.proofs.Reach.{reaches_on, reach_aside}
 use Rattle.fo_ports.specs.Blocks.{dropped, zeros}
-use Rattle.fo_ports.specs.State.{State, KeepsAll, Gives, Frame, Hangs, Comes, MayPutSlot, led_to}
+use Rattle.fo_ports.specs.State.{State, KeepsAll, Gives, Frame, Hangs, Comes, IsRooted, MayPutSlot, led_to}
 use Rattle.fo_ports_clients.proofs.Tree.{Tree, led_place, led_falls, led_brings}
 
 -- where no level goes, a slot led where it leads
@@ -31,6 +31,10 @@ same_depth s t e = sym (note_depth s) ∙ ap depth_of e ∙ note_depth t
 pub local_eq : {a b : ℕ} → Local a ≡ Local b → a ≡ b
 local_eq e = cc
 
+-- what hangs from block 1 hangs
+pub tree_rooted : (s : State) (b : ℕ) → s.tops 1 → Reaches s.now (to_block 1) b → IsRooted s b
+tree_rooted s b top r = (1, inl top, r)
+
 -- An older block was copied, which hangs from a slot of a block of the tree; and the slot is to be led to the copy.
 pub record Copies (at i below copy : ℕ) (slot : Slot) (s t : State) : Type 0 where
   pub tells : s.tells
@@ -46,6 +50,7 @@ pub record Copies (at i below copy : ℕ) (slot : Slot) (s t : State) : Type 0 w
   pub to : target slot ≡ Local copy
   pub all : KeepsAll s t
   -- the laws of blocks
+  pub active : t.tops 1
   pub tree : Tree s.stands s.now
   pub one : OnePlace t.stands
   pub live : (b : ℕ) → b ≢ 1 → Reaches s.now (to_block 1) b → ((s.label b).state ≡ Live) × ((s.label b).epoch ≤ s.high) × (s.covered b → ⊥)
@@ -75,8 +80,8 @@ module _ {at i below copy : ℕ} {slot : Slot} {s t : State} (c : Copies at i be
       by : (x : ℕ) → x ≡ copy → Reaches s.now (to_block 1) x → ⊥
       by x e far = c.gives.was.0 (ap (λ k. (s.label k).state) (sym e) ∙ (c.live x (λ one. c.gives.was.1 (sym e ∙ one)) far).0)
 
-  at_stays : (p : Place) → s.stands at p → t.stands at p
-  at_stays p at_p = c.gives.stays.places c.tells at p at_ne (λ h. h) (λ h. at_live.2 ((c.gives.covered at at_ne).0 h)) at_p
+  pub at_stays : (p : Place) → s.stands at p → t.stands at p
+  at_stays p at_p = c.gives.stays.places c.tells at p at_ne (λ h. h) (λ h. at_live.2 ((c.gives.covered at at_ne).0 h)) (tree_rooted t at c.active (still_reached at c.reached)) at_p
 
   epoch : (t.label copy).epoch ≡ s.high
   epoch = ap (λ (l : Label). l.epoch) c.gives.label
@@ -126,6 +131,8 @@ module _ {at i below copy : ℕ} {slot : Slot} {s t : State} (c : Copies at i be
         uncovered = λ h. at_live.2 ((c.gives.covered at at_ne).0 h);
         first = λ inner zero x h. (copy, c.to);
         holder = inl (still_reached at c.reached);
+        linked = λ some. still_reached at c.reached;
+        entry = λ outer x e ne. still_reached at c.reached;
         keeps = λ x e. inr (reaches_on i (still_reached at c.reached) e);
       }
     where
@@ -135,11 +142,11 @@ module _ {at i below copy : ℕ} {slot : Slot} {s t : State} (c : Copies at i be
           let none : dropped ((t.now at).slot i) slot ≡ 0 = omega (arith, depth) in
           inr (inl (below, (c.instead below).1 refl, led_here t.now ((t.now at).slot i) slot none ∙ ap target same ∙ c.leads))
 
--- After a put all blocks but the one that was put stand where they stood.
-pub put_places : {at i : ℕ} {slot : Slot} {n : ℕ} {old new : State} → old.tells → Frame (λ b. b ≡ at) (λ b. (b ≡ at) ⊎ (target slot ≡ Local b)) n old new → Hangs at i slot old new → (b : ℕ) (p : Place) → (target slot ≡ Local b → ⊥) → (new.covered b → ⊥) → old.stands b p → new.stands b p
-put_places {at = at} {old = old} {new = new} told frame hangs b p apart spared stands = ⊎_elim
+-- After a put all blocks that hang, but the one that was put, stand where they stood.
+pub put_places : {at i : ℕ} {slot : Slot} {n : ℕ} {old new : State} → old.tells → Frame (λ b. b ≡ at) (λ b. (b ≡ at) ⊎ (target slot ≡ Local b)) n old new → Hangs at i slot old new → (b : ℕ) (p : Place) → (target slot ≡ Local b → ⊥) → (new.covered b → ⊥) → IsRooted new b → old.stands b p → new.stands b p
+put_places {at = at} {old = old} {new = new} told frame hangs b p apart spared rooted stands = ⊎_elim
     (λ is. subst (λ x. new.stands x p) (sym is) (hangs.at_place told p (λ h. spared (subst (λ x. new.covered x) (sym is) h)) (subst (λ x. old.stands x p) is stands)))
-    (λ ne. frame.stays.places told b p (λ n. n) (λ h. ⊎_elim (λ e. ne e) (λ e. apart e) h) spared stands)
+    (λ ne. frame.stays.places told b p (λ n. n) (λ h. ⊎_elim (λ e. ne e) (λ e. apart e) h) spared rooted stands)
     (cases_eq b at)
 
 -- Where a copy alone was to come in the place of another, and was put into a slot that led to a block, nothing is.

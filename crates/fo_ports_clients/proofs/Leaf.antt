@@ -10,13 +10,14 @@ use Rattle.fo_image.specs.Format.{ActiveHolds}
 use Rattle.fo_crash.specs.declared.slot.Slot.{Slot}
 use Rattle.fo_crash.specs.declared.slot.Slot.TheVariants.{Pointer as To, Entry as Head, Prev}
 use Rattle.fo_crash.specs.Images.{Image, target, depth_of, to_block, Reaches}
-use Rattle.fo_crash.specs.Steps.{AddsBytes, AddsNothing, Covers, PutsBytes, cleared}
+use Rattle.fo_crash.specs.Steps.{AddsBytes, AddsNothing, Covers, PutsBytes, PutsSlot, cleared}
 use Rattle.fo_crash.specs.Names.{InAll, IsInUse}
 use Rattle.fo_crash.specs.Places.{OnePlace}
 use Rattle.fo_crash.specs.declared.place.Place.{Place}
 use Rattle.fo_crash.proofs.Reach.{lost, reaches_on, same_walk}
+use Rattle.fo_crash.proofs.Covers.{slot_reaches}
 use Rattle.fo_ports.specs.Blocks.{slot_count, SlotFits, IsFormed, IsInner, put_at, dropped, cost, ends}
-use Rattle.fo_ports.specs.State.{State, IsHeld, IsPointers, Frame, Hangs, MayPutSlot, MayRemoveSlot}
+use Rattle.fo_ports.specs.State.{State, KeepsAll, IsHeld, IsPointers, IsRooted, Calm, Frame, Hangs, MayPutSlot, MayRemoveSlot}
 use Rattle.fo_ports_clients.proofs.Copies.{put_places}
 use Rattle.fo_ports_clients.specs.Leaf.{Lists}
 
@@ -106,9 +107,16 @@ plain_formed kind rank bytes is plain long = subst (λ (k : Kind). IsFormed k ra
 pub nil_local : {a : ℕ} {p : Pointer} → p ≡ Nil → p ≡ Local a → ⊥
 nil_local nil e = cc
 
+-- What leads nowhere and has no depth costs no removal to replace.
+pub nil_cost : (old new : Slot) → depth_of old ≡ 0 → target old ≡ Nil → cost old new ≡ 0
+nil_cost old new flat nil =
+    let none : dropped old new ≡ 0 = omega (arith, flat) in
+    let ends_none : ends (target old) (target new) ≡ 0 = ap (λ p. ends p (target new)) nil in
+    omega (arith, none, ends_none)
+
 -- A slot that leads nowhere may be put where nothing hangs.
-pub may_put_nil : {s : State} (at i : ℕ) (slot : Slot) → target slot ≡ Nil → target ((s.now at).slot i) ≡ Nil → (s.covered at → ⊥) → IsHeld s at → MayPutSlot s at i slot
-may_put_nil {s = s} at i slot nil none uncovered held = record {
+pub may_put_nil : {s : State} (at i : ℕ) (slot : Slot) → target slot ≡ Nil → target ((s.now at).slot i) ≡ Nil → depth_of ((s.now at).slot i) ≡ 0 → (s.covered at → ⊥) → IsHeld s at → MayPutSlot s at i slot
+may_put_nil {s = s} at i slot nil none flat uncovered held = record {
   brings = record { each = λ b r. absurd (nil_reaches slot b nil r) };
   fits = record { each = λ b p stands e. absurd (nil_local nil e) };
   lower = λ b p stands e. absurd (nil_local nil e);
@@ -118,6 +126,8 @@ may_put_nil {s = s} at i slot nil none uncovered held = record {
   uncovered = uncovered;
   first = λ inner zero x e. absurd (nil_local none e);
   holder = held;
+  entry = λ outer x e ne. absurd (nil_local none e);
+  linked = λ some. let free = nil_cost ((s.now at).slot i) slot flat none in absurd (omega (arith, some, free));
   keeps = λ c e. absurd (nil_local none e);
 }
 
@@ -128,6 +138,7 @@ may_remove {s = s} at i kind linked quiet uncovered reached = record {
   uncovered = uncovered;
   first = λ inner zero. let none : 0 < 0 = subst (λ (k : Kind). IsInner k) kind inner in omega (arith, none);
   holder = inl reached;
+  linked = λ c e. reached;
   keeps = λ c e. reaches_on i reached e;
 }
 
@@ -143,18 +154,40 @@ cleared_nowhere (To p) b e = cc
 cleared_nowhere (Head x) b e = cc
 cleared_nowhere (Prev epoch at) b e = cc
 
--- What leads nowhere and has no depth costs no removal to replace.
-pub nil_cost : (old new : Slot) → depth_of old ≡ 0 → target old ≡ Nil → cost old new ≡ 0
-nil_cost old new flat nil =
-    let none : dropped old new ≡ 0 = omega (arith, flat) in
-    let ends_none : ends (target old) (target new) ≡ 0 = ap (λ p. ends p (target new)) nil in
-    omega (arith, none, ends_none)
-
--- After a put of a slot that leads nowhere, where nothing hung, all stand where they stood.
+-- After a put of a slot that leads nowhere, where nothing hung, all that hang stand where they stood.
 pub nil_places : {at i : ℕ} {slot : Slot} {n : ℕ} {old new : State} → old.tells → Frame (λ b. b ≡ at) (λ b. (b ≡ at) ⊎ (target slot ≡ Local b)) n old new → Hangs at i slot old new → Covers (IsPointers old) ((old.now at).slot i) old.now new.now old.covered new.covered
-    → target slot ≡ Nil → target ((old.now at).slot i) ≡ Nil → (b : ℕ) (p : Place) → (old.covered b → ⊥) → old.stands b p → new.stands b p
-nil_places {at = at} {i = i} {slot = slot} {old = old} {new = new} told frame hangs covers nil none b p uncovered stands = put_places told frame hangs b p (λ e. nil_local nil e) (still_uncovered b covers none uncovered) stands
+    → target slot ≡ Nil → target ((old.now at).slot i) ≡ Nil → (b : ℕ) (p : Place) → (old.covered b → ⊥) → IsRooted new b → old.stands b p → new.stands b p
+nil_places {at = at} {i = i} {slot = slot} {old = old} {new = new} told frame hangs covers nil none b p uncovered rooted stands = put_places told frame hangs b p (λ e. nil_local nil e) (still_uncovered b covers none uncovered) rooted stands
 
 -- Where bytes are put, what was reached still is.
 pub bytes_reached : {now next : Image} {at : ℕ} {bytes : List ℕ} {t : Slot} {c : ℕ} → PutsBytes at bytes now next → Reaches now t c → Reaches next t c
 bytes_reached {now = now} {next = next} {t = t} puts r = record { path = r.path; leads = ap target (same_walk next now puts.slots r.path t) ∙ r.leads }
+
+-- What hangs from block 1, or from a block that is apart, hangs.
+pub held_rooted : (s : State) (b : ℕ) → s.tops 1 → IsHeld s b → IsRooted s b
+held_rooted s b top h = ⊎_elim (λ r. (1, inl top, r)) (λ w. (w.0, inr w.1, w.2)) h
+
+-- After a put of a slot that leads nowhere, where nothing hung, what hung hangs.
+pub nil_rooted : {at i n : ℕ} {slot : Slot} {old new : State} → KeepsAll old new → Frame (λ b. b ≡ at) (λ b. (b ≡ at) ⊎ (target slot ≡ Local b)) n old new → Hangs at i slot old new → PutsSlot at i slot old.now new.now → target slot ≡ Nil → target ((old.now at).slot i) ≡ Nil → (b : ℕ) → IsRooted old b → IsRooted new b
+nil_rooted {at = at} {i = i} {slot = slot} {old = old} {new = new} all frame hangs puts nil none b h = (
+  h.0,
+  ⊎_elim (λ top. inl ((all.same_tops h.0).1 top)) (λ apart. inr (still h.0 apart)) h.1,
+  ⊎_elim
+      (λ r. r)
+      (λ r. absurd (nil_reaches ((old.now at).slot i) b none r))
+      (slot_reaches {now = new.now} {next = old.now} {at = at} {i = i} (record { bytes = λ x. sym (puts.bytes x); here = refl; others = λ x j ne. sym (puts.others x j ne) }) h.2),
+)
+  where
+    still : (t : ℕ) → old.apart t → new.apart t
+    still t = ⊎_elim
+        (λ e. subst (λ x. old.apart x → new.apart x) (sym e) (hangs.at_apart (λ to. nil_local nil to)).1)
+        (λ ne. (frame.stays.apart t (λ n. n) (⊎_elim ne (λ to. nil_local nil to))).1)
+        (cases_eq t at)
+
+-- So does what hung before a call that leaves slots as they are.
+pub calm_rooted : {here : ℕ → Type 0} {n : ℕ} {old new : State} → KeepsAll old new → Calm here n old new → ((x j : ℕ) → (new.now x).slot j ≡ (old.now x).slot j) → (b : ℕ) → IsRooted old b → IsRooted new b
+calm_rooted {old = old} {new = new} all calm slots b h = (
+  h.0,
+  ⊎_elim (λ top. inl ((all.same_tops h.0).1 top)) (λ apart. inr ((calm.frame.stays.apart h.0 (λ n. n) (λ n. n)).1 apart)) h.1,
+  record { path = h.2.path; leads = ap target (same_walk new.now old.now slots h.2.path (to_block h.0)) ∙ h.2.leads },
+)

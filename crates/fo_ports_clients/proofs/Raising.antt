@@ -13,10 +13,10 @@ use Rattle.fo_crash.specs.Places.{OnePlace, place_below, super_place}
 use Rattle.fo_crash.specs.Steps.{PutsSlot, Covers}
 use Rattle.fo_crash.proofs.Reach.{reaches_itself, reaches_on, reaches_from, reaches_joins, reaches_same, reach_aside}
 use Rattle.fo_crash.proofs.Covers.{slot_reaches, block_reaches}
-use Rattle.fo_ports.specs.Blocks.{IsInner, IsEntry, blank, dropped}
+use Rattle.fo_ports.specs.Blocks.{IsInner, IsEntry, blank, dropped, cost}
 use Rattle.fo_ports.specs.State.{State, KeepsAll, Gives, Frame, Hangs, IsPointers, IsRaised, Comes, MayPutSlot}
 use Rattle.fo_ports_clients.specs.Top.{raised}
-use Rattle.fo_ports_clients.proofs.Copies.{local_eq, led_here, put_places}
+use Rattle.fo_ports_clients.proofs.Copies.{local_eq, led_here, put_places, tree_rooted}
 use Rattle.fo_ports_clients.proofs.Leaf.{nil_local, nil_reaches, still_uncovered}
 use Rattle.fo_ports_clients.proofs.Raise.{IsOver, raised_target, raised_drops, inner_blank}
 use Rattle.fo_ports_clients.proofs.Tree.{Tree, MayBring, never_one}
@@ -38,6 +38,7 @@ pub record Tops (at i below size top : ℕ) (p over : Place) (s t : State) : Typ
   pub instead : (x : ℕ) → t.instead top x → ⊥
   pub all : KeepsAll s t
   -- the laws of blocks
+  pub active : t.tops 1
   pub tree : Tree s.stands s.now
   pub one : OnePlace t.stands
   pub live : (b : ℕ) → b ≢ 1 → Reaches s.now (to_block 1) b → MayBring s.label s.covered s.high b
@@ -67,8 +68,15 @@ module _ {at i below size top : ℕ} {p over : Place} {s t : State} (c : Tops at
   below_stands : s.stands below under
   below_stands = c.tree.placed.each at i below p c.stands c.leads
 
-  stays : (b : ℕ) (q : Place) → MayBring s.label s.covered s.high b → s.stands b q → t.stands b q
-  stays b q may is = let ne = live_ne b may.0 in c.gives.stays.places c.tells b q ne (λ h. h) (λ h. may.2 ((c.gives.covered b ne).0 h)) is
+  -- what block 1 reached it reaches still
+  still_reached : (b : ℕ) → Reaches s.now (to_block 1) b → Reaches t.now (to_block 1) b
+  still_reached b r = reach_aside s.now t.now (λ x. x ≡ top) 1 (λ x j ne. sym ((c.gives.memory.others x ne).slots j)) (λ x e far. never x e far) b r
+    where
+      never : (x : ℕ) → x ≡ top → Reaches s.now (to_block 1) x → ⊥
+      never x e far = c.gives.was.0 (ap (λ k. (s.label k).state) (sym e) ∙ (c.live x (λ one. c.gives.was.1 (sym e ∙ one)) far).0)
+
+  stays : (b : ℕ) (q : Place) → MayBring s.label s.covered s.high b → Reaches s.now (to_block 1) b → s.stands b q → t.stands b q
+  stays b q may r is = let ne = live_ne b may.0 in c.gives.stays.places c.tells b q ne (λ h. h) (λ h. may.2 ((c.gives.covered b ne).0 h)) (tree_rooted t b c.active (still_reached b r)) is
 
   top_nil : (j : ℕ) → target ((t.now top).slot j) ≡ Nil
   top_nil j = ap target (c.gives.memory.here.slots j ∙ inner_blank over.kind j c.is_over.inner)
@@ -104,7 +112,7 @@ module _ {at i below size top : ℕ} {p over : Place} {s t : State} (c : Tops at
       each = λ b q stands e.
           let is : over ≡ q = c.one.each top over q c.place stands in
           let fits : under ≡ place_below q 0 (to_block below) = sym (c.is_over.below (to_block below)) ∙ ap (λ x. place_below x 0 (to_block below)) is in
-          (under, subst (λ x. t.stands x under) (local_eq e) (stays below under below_live below_stands), inl fits);
+          (under, subst (λ x. t.stands x under) (local_eq e) (stays below under below_live below_reached below_stands), inl fits);
     };
     lower = λ b q stands e. subst (λ (x : Place). (place_below x 0 (to_block below)).rank < x.rank) (c.one.each top over q c.place stands) (c.is_over.lower (to_block below));
     parent = record {
@@ -123,16 +131,14 @@ module _ {at i below size top : ℕ} {p over : Place} {s t : State} (c : Tops at
     ));
     leaves = record { each = λ y x is r. absurd (nil_reaches ((t.now top).slot 0) x (top_nil 0) r); still = λ b j waits r. absurd (nil_reaches ((t.now top).slot 0) b (top_nil 0) r) };
     uncovered = c.gives.is.4;
+    entry = λ outer x to ne. absurd (nil_local (top_nil 0) to);
+    linked = λ some.
+        let free : cost ((t.now top).slot 0) (to_block below) ≡ 0 = ap (λ (x : Slot). cost x (to_block below)) (c.gives.memory.here.slots 0 ∙ inner_blank over.kind 0 c.is_over.inner) in
+        absurd (omega (arith, some, free));
     first = λ inner zero x to. absurd (nil_local (top_nil 0) to);
     holder = inr (top, c.gives.is.3, reaches_itself t.now top);
     keeps = λ x to. absurd (nil_local (top_nil 0) to);
   }
-    where
-      still_reached : (b : ℕ) → Reaches s.now (to_block 1) b → Reaches t.now (to_block 1) b
-      still_reached b r = reach_aside s.now t.now (λ x. x ≡ top) 1 (λ x j ne. sym ((c.gives.memory.others x ne).slots j)) (λ x e far. never x e far) b r
-        where
-          never : (x : ℕ) → x ≡ top → Reaches s.now (to_block 1) x → ⊥
-          never x e far = c.gives.was.0 (ap (λ k. (s.label k).state) (sym e) ∙ (c.live x (λ one. c.gives.was.1 (sym e ∙ one)) far).0)
 
   -- The old top hangs from the new one now.
   module _ {n : ℕ} {u : State} (frame : Frame (λ b. b ≡ top) (λ b. (b ≡ top) ⊎ (Local below ≡ Local b)) n t u) (hangs : Hangs top 0 (to_block below) t u) (puts : PutsSlot top 0 (to_block below) t.now u.now) (covers : Covers (IsPointers t) ((t.now top).slot 0) t.now u.now t.covered u.covered) (all : KeepsAll t u) (one : OnePlace u.stands) (joined : t.apart below → ⊥) where
@@ -189,7 +195,7 @@ module _ {at i below size top : ℕ} {p over : Place} {s t : State} (c : Tops at
         omega (arith, low, rank)
 
     pub at_stands : u.stands at p
-    at_stands = put_places (c.all.still_tells.1 c.tells) frame hangs at p (λ e. at_below (sym (local_eq e))) (λ h. still_uncovered at covers (top_nil 0) (kept at at_live).2 h) (stays at p at_live c.stands)
+    at_stands = put_places (c.all.still_tells.1 c.tells) frame hangs at p (λ e. at_below (sym (local_eq e))) (λ h. still_uncovered at covers (top_nil 0) (kept at at_live).2 h) (tree_rooted u at ((all.same_tops 1).1 c.active) (now_reached at c.reached)) (stays at p at_live c.reached c.stands)
 
     pub may_raise : MayPutSlot u at i new_slot
     may_raise = record {
@@ -220,6 +226,8 @@ module _ {at i below size top : ℕ} {p over : Place} {s t : State} (c : Tops at
       uncovered = λ h. still_uncovered at covers (top_nil 0) (kept at at_live).2 h;
       first = λ inner. absurd (points_not inner);
       holder = inl (now_reached at c.reached);
+      linked = λ some. now_reached at c.reached;
+      entry = λ outer x e ne. now_reached at c.reached;
       keeps = λ x e. inr (reaches_on i (now_reached at c.reached) e);
     }
       where

@@ -5,10 +5,12 @@ use Rattle.std.proofs.lemmas.Grind.{common_steps}
 use Rattle.fo_crash.specs.declared.place.Place.{Place}
 use Rattle.fo_crash.specs.Places.{root_place, super_place}
 use Rattle.fo_crash.specs.Spots.{Spot, top_spot}
-use Rattle.fo_crash.specs.Images.{Reaches, to_block}
-use Rattle.fo_ports.specs.Blocks.{dropped, zeros}
+use Rattle.fo_image.specs.declared.types.Pointer.{Pointer}
+use Rattle.fo_image.specs.declared.types.Pointer.TheVariants.{Nil, Local, Score as Held}
+use Rattle.fo_crash.specs.Images.{Reaches, target, to_block}
+use Rattle.fo_ports.specs.Blocks.{dropped, ends, zeros}
 use Rattle.fo_ports.specs.State.{State}
-use Rattle.fo_ports_clients.specs.Refused.{LinksOnce, RaisesOnce, KeepsFirst, KeepsOutClosed, KeepsInTree, LetsNoneGo}
+use Rattle.fo_ports_clients.specs.Refused.{LinksOnce, RaisesOnce, KeepsFirst, KeepsOutClosed, KeepsInTree, LetsNoneGo, CutsInTree}
 use Rattle.fo_ports_clients.proofs.Leaf.{nil_reaches}
 
 pub once : (s : State) → ((b : ℕ) → s.apart b → Reaches s.now (to_block 1) b → ⊥) → LinksOnce s
@@ -68,6 +70,24 @@ pub made : (s : State) → LetsNoneGo s
 made s = record {
   put = λ at i c slot leads free other may. ⊎_elim other free (may.keeps c leads);
   cleared = λ at i c leads free may. free (may.keeps c leads);
+}
+
+-- a slot that led to a block and leads to none takes a removal to put
+ends_one : (old new : Pointer) (c : ℕ) → old ≡ Local c → ((b : ℕ) → new ≢ Local b) → ends old new ≡ 1
+ends_one (Local x) Nil c e none = refl
+ends_one (Local x) (Held score) c e none = refl
+ends_one (Local x) (Local y) c e none = absurd (none y refl)
+ends_one Nil new c e none = absurd (cc)
+ends_one (Held score) new c e none = absurd (cc)
+
+pub cut : (s : State) → CutsInTree s
+cut s = record {
+  put = λ at i c slot leads none out may.
+      let one = ends_one (target ((s.now at).slot i)) (target slot) c leads none in
+      out (may.linked (omega (arith, one)));
+  entries = λ at i c slot outer leads other out may. out (may.entry outer c leads other);
+  levels = λ at i slot fewer out may. out (may.linked (omega (arith, fewer)));
+  cleared = λ at i c leads out may. out (may.linked c leads);
 }
 
 abbrev spot_by : Bool → Spot

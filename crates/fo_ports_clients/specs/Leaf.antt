@@ -7,7 +7,7 @@ use Rattle.fo_crash.specs.declared.place.Place.{Place}
 use Rattle.fo_crash.specs.declared.slot.Slot.TheVariants.{Entry as Head}
 use Rattle.fo_crash.specs.Names.{NamesFit, InAll, IsInUse}
 use Rattle.fo_ports.specs.Blocks.{slot_count, SlotFits, put_at}
-use Rattle.fo_ports.specs.State.{State, IsHeld}
+use Rattle.fo_ports.specs.State.{State, IsHeld, IsRooted}
 
 abbrev pub Lists : List ℕ → ℕ → ℕ → Type 0
 Lists bytes i generation = (slice_index bytes i ≡ generation) × (0 < generation)
@@ -20,7 +20,7 @@ pub record StandsBelow (stands : ℕ → Place → Type 0) (lower upper : ℕ) :
   pub upper_stands : stands upper upper_at
   pub falls : lower_at.rank < upper_at.rank
 
--- A name and its entry may be added once the leaf of names is sealed: name i fits the entries, whose entry i is free, is the first of its
+-- A name and its entry may be added once the leaf of names is sealed, where it hangs in memory: name i fits the entries, whose entry i is free, is the first of its
 -- pair, and is to be one in use that names nothing yet.
 pub record MayAddName (s : State) (leaf entries i : ℕ) (entry : Entry) (generation : ℕ) : Type 0 where
   pub fit : InAll (NamesFit Lists leaf entries) s.may_leave
@@ -34,7 +34,7 @@ pub record MayAddName (s : State) (leaf entries i : ℕ) (entry : Entry) (genera
   pub entries_kind : (s.label entries).kind ≡ Dir 0
   pub lower : s.tells → StandsBelow s.stands entries leaf
   pub uncovered : (s.covered leaf → ⊥) × (s.covered entries → ⊥)
-  pub held : s.tells → IsHeld s entries
+  pub held : s.tells → IsHeld s entries × IsRooted s leaf
   pub first : i % 2 ≡ 0
   pub slots : i < slot_count (s.label entries).kind
   pub room : 0 < s.room

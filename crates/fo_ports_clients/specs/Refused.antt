@@ -1,8 +1,8 @@
 -- Slots that may not be put.
-use Rattle.std.specs.Prelude.{◌≡◌, ◌≢◌, ℕ}
+use Rattle.std.specs.Prelude.{◌≡◌, ◌≢◌, ◌<◌, ℕ}
 use Rattle.fo_image.specs.declared.types.Pointer.TheVariants.{Nil, Local}
 use Rattle.fo_crash.specs.declared.slot.Slot.{Slot}
-use Rattle.fo_crash.specs.Images.{Reaches, target, to_block}
+use Rattle.fo_crash.specs.Images.{Reaches, depth_of, target, to_block}
 use Rattle.fo_ports.specs.Blocks.{IsInner}
 use Rattle.fo_ports.specs.State.{State, IsHeld, MayPutSlot, MayRemoveSlot}
 
@@ -34,3 +34,11 @@ pub record KeepsInTree (s : State) : Type 0 where
 pub record LetsNoneGo (s : State) : Type 0 where
   pub put : (at i c : ℕ) (slot : Slot) → target ((s.now at).slot i) ≡ Local c → (Reaches s.now (to_block 1) c → ⊥) → target slot ≢ Local c → MayPutSlot s at i slot → ⊥
   pub cleared : (at i c : ℕ) → target ((s.now at).slot i) ≡ Local c → (Reaches s.now (to_block 1) c → ⊥) → MayRemoveSlot s at i → ⊥
+
+-- Nothing is cut in a block that doesn't hang from block 1: no slot of it that leads to a block is led to none or cleared, no source
+-- loses levels there, and no entry is led from a block to another.
+pub record CutsInTree (s : State) : Type 0 where
+  pub put : (at i c : ℕ) (slot : Slot) → target ((s.now at).slot i) ≡ Local c → ((b : ℕ) → target slot ≢ Local b) → (Reaches s.now (to_block 1) at → ⊥) → MayPutSlot s at i slot → ⊥
+  pub entries : (at i c : ℕ) (slot : Slot) → (IsInner (s.label at).kind → ⊥) → target ((s.now at).slot i) ≡ Local c → target slot ≢ Local c → (Reaches s.now (to_block 1) at → ⊥) → MayPutSlot s at i slot → ⊥
+  pub levels : (at i : ℕ) (slot : Slot) → depth_of slot < depth_of ((s.now at).slot i) → (Reaches s.now (to_block 1) at → ⊥) → MayPutSlot s at i slot → ⊥
+  pub cleared : (at i c : ℕ) → target ((s.now at).slot i) ≡ Local c → (Reaches s.now (to_block 1) at → ⊥) → MayRemoveSlot s at i → ⊥

@@ -7,6 +7,7 @@ ghost use Rattle.fo_crash.specs.declared.place.Place.{Place};
 ghost use Rattle.fo_crash.specs.Images.{target, note, to_block, Reaches, SameContent};
 ghost use Rattle.fo_crash.specs.Shows.{Everywhere};
 ghost use Rattle.fo_ports.specs.Blocks.{slot_count, put_at};
+ghost use Rattle.fo_ports.specs.State.{IsRooted};
 ghost use Rattle.fo_ports_clients.specs.Own.{led, HasOneWay, MovesOne, IsOtherLeaf, KeepsAll};
 
 use fo_crash::Slot;
@@ -61,7 +62,7 @@ fn own_below<B: Blocks>(on: &mut B, at: u32, i: u32, below: u32) -> u32
     ensures order { (b j : ℕ) → (B.state on.new).clearing b j → (b ≢ result) × (B.state on.old).clearing b j }
     ensures goes_on { (b j : ℕ) → b ≢ result → (B.state on.old).clearing b j → (B.state on.new).clearing b j }
     ensures place { (B.state on.old).tells → (p : Place) → (B.state on.old).stands below p → (B.state on.new).stands result p }
-    ensures places { (B.state on.old).tells → (b : ℕ) (p : Place) → b ≢ result → (B.state on.old).stands b p → ((B.state on.new).covered b → ⊥) → (B.state on.new).stands b p }
+    ensures places { (B.state on.old).tells → (b : ℕ) (p : Place) → b ≢ result → (B.state on.old).stands b p → ((B.state on.new).covered b → ⊥) → IsRooted (B.state on.new) b → (B.state on.new).stands b p }
     ensures linked { (B.state on.new).tells → (y x : ℕ) → (B.state on.new).instead y x → ⊥ }
     ensures spare { ((B.state on.new).spare + 1 ≡ (B.state on.old).spare) × ((B.state on.new).usable + 1 ≡ (B.state on.old).usable) }
     ensures keeps { B.keeps on.old on.new }

@@ -8,15 +8,15 @@ ghost use Rattle.fo_crash.specs.Images.{Reaches, to_block};
 ghost use Rattle.fo_crash.specs.Steps.{cleared};
 ghost use Rattle.fo_crash.specs.Names.{NamesFit, InAll, IsInUse};
 ghost use Rattle.fo_ports.specs.Blocks.{slot_count, SlotFits, put_at};
-ghost use Rattle.fo_ports.specs.State.{IsHeld, MayClearLater};
+ghost use Rattle.fo_ports.specs.State.{IsHeld, IsRooted, MayClearLater};
 ghost use Rattle.fo_ports_clients.specs.Leaf.{Lists, StandsBelow, MayAddName, AddsName};
 
 use fo_crash::Slot;
 use fo_image::Entry;
 use fo_ports::Blocks;
 
-/// Adds name `i` with its entry, which is free and names nothing yet, and is the first of its pair. The leaf of names hung from
-/// block 1 when all was last settled.
+/// Adds name `i` with its entry, which is free and names nothing yet, and is the first of its pair. The leaf of names hangs in memory,
+/// and hung from block 1 when all was last settled.
 pub fn add_name<B: Blocks>(
     on: &mut B,
     leaf: u32,
@@ -36,7 +36,7 @@ pub fn add_name<B: Blocks>(
     requires entries_kind { ((B.state on.old).label entries).kind ≡ Dir 0 }
     requires lower { (B.state on.old).tells → StandsBelow (B.state on.old).stands entries leaf }
     requires uncovered { ((B.state on.old).covered leaf → ⊥) × ((B.state on.old).covered entries → ⊥) }
-    requires held { (B.state on.old).tells → IsHeld (B.state on.old) entries }
+    requires held { (B.state on.old).tells → IsHeld (B.state on.old) entries × IsRooted (B.state on.old) leaf }
     requires sealed { (B.state on.old).tells → (B.state on.old).sealed leaf }
     requires first { i % 2 ≡ 0 }
     requires slots { i < slot_count ((B.state on.old).label entries).kind }

@@ -25,6 +25,7 @@ pub record IsNext (high at : ℕ) (was x : PlainBlock) : Type 0 where
   pub source : x.source ≡ was.source
   pub ends : x.home.hangs ≡ false
   pub taken : x.taken ≡ false
+  pub retired : x.retired ≡ false
   pub kept : x.kept ≡ was.kept
   pub bytes : x.bytes ≡ was.bytes
   pub before : slot_of x 2 ≡ Prev was.epoch at
@@ -34,6 +35,7 @@ pub record IsNext (high at : ℕ) (was x : PlainBlock) : Type 0 where
 pub record LeadsOn (made : ℕ) (was x : PlainBlock) : Type 0 where
   pub same : Alike x was
   pub taken : x.taken ≡ was.taken
+  pub retired : x.retired ≡ was.retired
   pub bytes : x.bytes ≡ was.bytes
   pub way : slot_of x 0 ≡ To (Local made)
   pub slots : (i : ℕ) → i ≢ 0 → slot_of x i ≡ slot_of was i
@@ -224,6 +226,7 @@ module _ {old new : List PlainBlock} {made high root queued : ℕ} {waits : List
       joined = g.top.same.apart ∙ sound.super_at.joined;
       source = g.top.same.source ∙ sound.super_at.source;
       ends = ap (λ (h : Home). h.hangs) g.top.same.home ∙ sound.super_at.ends;
+      others = λ j c ne e. sound.super_at.others j c ne (ap target (sym (g.top.slots j ne)) ∙ e);
     };
     root_kept = (g.next.kept ∙ sound.root_kept.0, g.next.epoch);
     links = links;
@@ -275,5 +278,8 @@ module _ {old new : List PlainBlock} {made high root queued : ℕ} {waits : List
         let w = well.waiting n k lt is in
         let small = w.was_made in
         record { was_made = omega (arith, small); entries = kind_was (wait_at waits n).on small ∙ w.entries; used = used_was (wait_at waits n).on k small w.used };
-    queue = λ none. three_cases (λ b. (block_at new b).taken ≡ false) g.next.taken (g.top.taken ∙ well.queue none 1) (λ b n m. ap (λ (z : PlainBlock). z.taken) (g.others b n m) ∙ well.queue none b);
+    queue = λ none. three_cases (λ b. ((block_at new b).taken ≡ false) × ((block_at new b).retired ≡ false))
+        (g.next.taken, g.next.retired)
+        (g.top.taken ∙ (well.queue none 1).0, g.top.retired ∙ (well.queue none 1).1)
+        (λ b n m. (ap (λ (z : PlainBlock). z.taken) (g.others b n m) ∙ (well.queue none b).0, ap (λ (z : PlainBlock). z.retired) (g.others b n m) ∙ (well.queue none b).1));
   }

@@ -22,6 +22,7 @@ pub record SuperOf (s : PlainBlock) : Type 0 where
   pub super_at : IsSuper 2 s
   pub epoch : s.epoch ≡ 1
   pub taken : s.taken ≡ false
+  pub retired : s.retired ≡ false
   pub kept : s.kept ≡ false
   pub root : slot_of s 0 ≡ To (Local 2)
   pub others : (i : ℕ) → i ≢ 0 → slot_of s i ≡ To Nil
@@ -32,6 +33,7 @@ pub record RootOf (r : PlainBlock) : Type 0 where
   pub source : r.source ≡ 2
   pub joined : r.apart ≡ false
   pub taken : r.taken ≡ false
+  pub retired : r.retired ≡ false
   pub kept : r.kept ≡ true
   pub home : HangsAt r.home 1 0 0
   pub slots : (i : ℕ) → slot_of r i ≡ blank_slot Root i
@@ -40,6 +42,7 @@ pub record RootOf (r : PlainBlock) : Type 0 where
 pub record EmptyOf (u : PlainBlock) : Type 0 where
   pub joined : u.apart ≡ false
   pub stays : u.taken ≡ false
+  pub goes_on : u.retired ≡ false
   pub loses : u.kept ≡ false
   pub ends : u.home.hangs ≡ false
   pub epoch : u.epoch ≤ 1
@@ -68,12 +71,13 @@ blank_spelled x place slots i lt =
     subst (λ (p : Place). SlotFits p.kind i (slot_of x i)) (sym place) (subst (λ s. SlotFits Root i s) (sym (slots i)) (root_fits i few))
 
 pub none_empty : EmptyOf no_block
-none_empty = record { joined = refl; stays = refl; loses = refl; ends = refl; epoch = omega arith; unused = λ i. refl; nowhere = λ i b e. cc; spelled = λ i lt. absurd (omega (arith, lt)) }
+none_empty = record { joined = refl; stays = refl; goes_on = refl; loses = refl; ends = refl; epoch = omega arith; unused = λ i. refl; nowhere = λ i b e. cc; spelled = λ i lt. absurd (omega (arith, lt)) }
 
-pub unmade_empty : (u : PlainBlock) → u.place ≡ root_place → u.epoch ≡ 0 → u.apart ≡ false → u.taken ≡ false → u.kept ≡ false → u.home ≡ nowhere → ((i : ℕ) → slot_of u i ≡ blank_slot Root i) → EmptyOf u
-unmade_empty u place epoch joined stays loses home slots = record {
+pub unmade_empty : (u : PlainBlock) → u.place ≡ root_place → u.epoch ≡ 0 → u.apart ≡ false → u.taken ≡ false → u.kept ≡ false → u.home ≡ nowhere → u.retired ≡ false → ((i : ℕ) → slot_of u i ≡ blank_slot Root i) → EmptyOf u
+unmade_empty u place epoch joined stays loses home goes_on slots = record {
   joined = joined;
   stays = stays;
+  goes_on = goes_on;
   loses = loses;
   ends = ap (λ (h : Home). h.hangs) home;
   epoch = omega (arith, epoch);
@@ -103,6 +107,9 @@ module _ {blocks : List PlainBlock} {s r : PlainBlock} (n : NewBlocks blocks s r
 
   pub taken : (b : ℕ) → (block_at blocks b).taken ≡ false
   taken = three_cases (λ b. (block_at blocks b).taken ≡ false) (ap (λ (x : PlainBlock). x.taken) n.super_is ∙ n.super_of.taken) (ap (λ (x : PlainBlock). x.taken) n.root_is ∙ n.root_of.taken) (λ b a c. (n.empty b a c).stays)
+
+  pub retired : (b : ℕ) → (block_at blocks b).retired ≡ false
+  retired = three_cases (λ b. (block_at blocks b).retired ≡ false) (ap (λ (x : PlainBlock). x.retired) n.super_is ∙ n.super_of.retired) (ap (λ (x : PlainBlock). x.retired) n.root_is ∙ n.root_of.retired) (λ b a c. (n.empty b a c).goes_on)
 
   pub new_none : (b : ℕ) → ((block_at blocks b).apart ≡ false) × ((block_at blocks b).taken ≡ false)
   new_none b = (apart b, taken b)
@@ -164,7 +171,7 @@ module _ {blocks : List PlainBlock} {s r : PlainBlock} (n : NewBlocks blocks s r
         (λ _. let e : (block_at blocks 2).epoch ≡ 1 = ap (λ (x : PlainBlock). x.epoch) n.root_is ∙ n.root_of.epoch in omega (arith, e))
         (λ b a c _. (n.empty b a c).epoch);
     tops = kept;
-    rest = λ b le. let e = n.empty b (λ is. omega (arith, le, is)) (λ is. omega (arith, le, is)) in record { joined = e.joined; stays = e.stays; loses = e.loses; ends = e.ends; unused = e.unused };
+    rest = λ b le. let e = n.empty b (λ is. omega (arith, le, is)) (λ is. omega (arith, le, is)) in record { joined = e.joined; stays = e.stays; goes_on = e.goes_on; loses = e.loses; ends = e.ends; unused = e.unused };
     sources = record {
       apart = λ b e. absurd (never b e);
       numbered = λ b past lt.

@@ -1,5 +1,5 @@
 -- What the calls on blocks see of bytes that are put.
-use Rattle.std.proofs.Common.{◌≡◌, inr, ⊎_elim, ℕ, List, refl, sym, ◌∙◌, ap, subst, arith}
+use Rattle.std.proofs.Common.{◌≡◌, inl, inr, ⊎_elim, ℕ, List, refl, sym, ◌∙◌, ap, subst, arith}
 use Rattle.std.proofs.lemmas.Bool.{cases_eq}
 use Rattle.fo_crash.specs.declared.slot.Slot.{Slot}
 use Rattle.fo_crash.specs.declared.slot.Slot.TheVariants.{Pointer as To, Entry as Head, Prev}
@@ -63,7 +63,16 @@ bytes_calm p {new} {at} {bytes} up = record {
     stays = record {
       labels = λ b _. label_same p.blocks new p.made b (part_kept (λ (z : PlainBlock). z.place.kind) up refl b) (part_kept (λ (z : PlainBlock). z.place.tag) up refl b) (part_kept (λ (z : PlainBlock). z.epoch) up refl b);
       marks = λ b _. (λ h. h, λ h. h, λ h. h);
-      places = λ t b x _ _ _ st. record { above = st.above; was_made = st.was_made; is = part_kept (λ (z : PlainBlock). z.place) up refl b ∙ st.is };
+      places = λ t b x _ _ _ _ st. record { above = st.above; was_made = st.was_made; is = part_kept (λ (z : PlainBlock). z.place) up refl b ∙ st.is };
+      rooted = λ t b _ r. (
+        r.0,
+        ⊎_elim
+            (λ top. inl (⊎_elim (λ e. inl e) (λ is. inr (sym (part_kept (λ (z : PlainBlock). z.kept) up refl r.0) ∙ is)) top))
+            (λ is. inr (sym (part_kept (λ (z : PlainBlock). z.apart) up refl r.0) ∙ is))
+            r.1,
+        reach_back r.2,
+      );
+      newborn = λ b _ h. h;
       apart = λ b _ _. (λ h. sym (part_kept (λ (z : PlainBlock). z.apart) up refl b) ∙ h, λ h. part_kept (λ (z : PlainBlock). z.apart) up refl b ∙ h);
       instead = λ b x _ _. (
         λ h. record { apart = sym (part_kept (λ (z : PlainBlock). z.apart) up refl b) ∙ h.apart; origin = sym (part_kept (λ (z : PlainBlock). z.origin) up refl b) ∙ h.origin; some = h.some },
@@ -77,6 +86,7 @@ bytes_calm p {new} {at} {bytes} up = record {
   };
   order = record { clearing = λ b j h. absurd h; goes_on = λ b j _ h. h };
   covered = record { covered = λ b. (back b, forth b) };
+  newborn = λ b h. h;
   queued = refl;
 }
   where
@@ -90,7 +100,11 @@ bytes_calm p {new} {at} {bytes} up = record {
     reach_back {t} {b} r = record { path = r.path; leads = ap target (same_walk (memory p.blocks) (memory new) (λ a i. sym (part_kept (λ (z : PlainBlock). slot_of z i) up refl a)) r.path (to_block t)) ∙ r.leads }
 
     back : (b : ℕ) → Covered new b → Covered p.blocks b
-    back b c = record { top = c.top; taken = sym (taken c.top) ∙ c.taken; below = reach_back c.below; gone = λ r. c.gone (reach r) }
+    back b = ⊎_elim
+        (λ c. inl (record { top = c.top; taken = sym (taken c.top) ∙ c.taken; below = reach_back c.below; gone = λ r. c.gone (reach r) }))
+        (λ c. inr (record { is = sym (part_kept (λ (z : PlainBlock). z.retired) up refl b) ∙ c.is; gone = λ r. c.gone (reach r) }))
 
     forth : (b : ℕ) → Covered p.blocks b → Covered new b
-    forth b c = record { top = c.top; taken = taken c.top ∙ c.taken; below = reach c.below; gone = λ r. c.gone (reach_back r) }
+    forth b = ⊎_elim
+        (λ c. inl (record { top = c.top; taken = taken c.top ∙ c.taken; below = reach c.below; gone = λ r. c.gone (reach_back r) }))
+        (λ c. inr (record { is = part_kept (λ (z : PlainBlock). z.retired) up refl b ∙ c.is; gone = λ r. c.gone (reach_back r) }))

@@ -1,5 +1,5 @@
 -- Why a slot that may be put leads to a block of its source, or to one that may come to be of it.
-use Rattle.std.proofs.Common.{◌≡◌, ◌≢◌, ◌⊎◌, inl, inr, ⊎_elim, ℕ, zero, suc, ◌-◌, ◌/◌, ◌^◌, ◌<◌, ◌≤◌, Bool, true, false, cond, nat_lt, List, [], refl, sym, ◌∙◌, ap, subst, arith}
+use Rattle.std.proofs.Common.{◌≡◌, ◌≢◌, ◌⊎◌, inl, inr, ⊎_elim, ℕ, zero, suc, ◌-◌, ◌/◌, ◌^◌, ◌<◌, ◌≤◌, Bool, true, false, cond, nat_lt, ◌&&◌, List, [], refl, sym, ◌∙◌, ap, subst, arith}
 use Rattle.std.proofs.lemmas.Bool.{cases_eq, cases_lt}
 use Rattle.std.proofs.lemmas.Grind.{common_steps}
 use Rattle.fo_image.specs.declared.types.Kind.{Kind}
@@ -19,12 +19,11 @@ use Rattle.fo_crash.proofs.Reach.{lost}
 use Rattle.fo_ports.specs.Blocks.{IsInner, IsPointer, slot_count, SlotFits, dropped, zeros}
 use Rattle.fo_ports.specs.State.{IsNew, IsLoose, MayPutSlot, led_to}
 use Rattle.fo_ports_plain.specs.declared.block.PlainBlock.{PlainBlock}
-use Rattle.fo_ports_plain.specs.Plain.{block_at, slot_of, memory, label_of, label_at, index_in, is_active, wait_at, pair_of, Stands, IsMade, Awaits}
+use Rattle.fo_ports_plain.specs.Plain.{block_at, slot_of, memory, is_live, label_of, label_at, index_in, is_active, wait_at, pair_of, Stands, IsMade, Awaits}
 use Rattle.fo_ports_plain.specs.Sound.{HangsAt, InSource, Linked, IsFirst, Sound, Waiting, home_of}
 use Rattle.fo_ports_plain.specs.Meaning.{Plain, state_of}
 use Rattle.fo_ports_plain.specs.Moves.{IsFree, Joins, MayLink, KeepsUse}
 use Rattle.fo_ports_plain.specs.Laws.{label_kind, epoch_made}
-use Rattle.fo_ports_plain.proofs.Fits.{fits_fixed}
 
 abbrev level : Kind → ℕ
 level (Data n) = n
@@ -143,19 +142,27 @@ pub free_loose : (p : Plain) (b : ℕ) → IsFree (block_at p.blocks b) → IsLo
 free_loose p b h = ((h.0.0, λ x is. is.some (sym is.origin ∙ h.0.1)), h.1)
 
 -- the label of a block that was not made
-label_free : (blocks : List PlainBlock) (made b : ℕ) → made ≤ b → label_at blocks made b ≡ label_of Free 0 0 (block_at blocks b)
-label_free blocks made b le =
-    let test : nat_lt b made ≡ false = grind (arith, common_steps) in
-    ap (λ t. cond t (label_of Live (block_at blocks b).epoch (2 ^ 32 - 1) (block_at blocks b)) (label_of Free 0 0 (block_at blocks b))) test
+pub label_free : (blocks : List PlainBlock) (made b : ℕ) → (b ≤ 1) ⊎ (made ≤ b) → label_at blocks made b ≡ label_of Free 0 0 (block_at blocks b)
+label_free blocks made b out = ap (λ t. cond t (label_of Live (block_at blocks b).epoch (2 ^ 32 - 1) (block_at blocks b)) (label_of Free 0 0 (block_at blocks b))) (⊎_elim low high out)
+  where
+    low : b ≤ 1 → is_live made b ≡ false
+    low le = let test : nat_lt 1 b ≡ false = grind (arith, common_steps) in ap (λ t. t && nat_lt b made) test
 
-pub live_made : (blocks : List PlainBlock) (made b : ℕ) → (label_at blocks made b).state ≡ Live → b < made
-live_made blocks made b e = ⊎_elim
-    (λ lt. lt)
-    (λ le. let free_is_live : Free ≡ Live = sym (ap (λ (l : Label). l.state) (label_free blocks made b le)) ∙ e in absurd (cc))
-    (cases_lt b made)
+    none : (t : Bool) → (t && false) ≡ false
+    none true = refl
+    none false = refl
 
-pub unmade_free : (blocks : List PlainBlock) (made b : ℕ) → made ≤ b → (label_at blocks made b).state ≢ Live
-unmade_free blocks made b le e = let free_is_live : Free ≡ Live = sym (ap (λ (l : Label). l.state) (label_free blocks made b le)) ∙ e in cc
+    high : made ≤ b → is_live made b ≡ false
+    high le = let test : nat_lt b made ≡ false = grind (arith, common_steps) in ap (λ t. nat_lt 1 b && t) test ∙ none (nat_lt 1 b)
+
+pub live_made : (blocks : List PlainBlock) (made b : ℕ) → (label_at blocks made b).state ≡ Live → (1 < b) × (b < made)
+live_made blocks made b e = (
+  ⊎_elim (λ lt. lt) (λ low. absurd (never (inl low))) (cases_lt 1 b),
+  ⊎_elim (λ lt. lt) (λ le. absurd (never (inr le))) (cases_lt b made),
+)
+  where
+    never : (b ≤ 1) ⊎ (made ≤ b) → ⊥
+    never out = let free_is_live : Free ≡ Live = sym (ap (λ (l : Label). l.state) (label_free blocks made b out)) ∙ e in cc
 
 -- no slot leads to a block at the place of a root block
 entry_below : (e : Entry) → cond e.dir (Dir e.depth) (Data e.depth) ≢ Root
@@ -165,7 +172,7 @@ entry_below e = by e.dir
     by true = λ h. cc
     by false = λ h. cc
 
-never_root : (p : Place) (k : Kind) (i : ℕ) (s : Slot) (b : ℕ) → i < slot_count k → SlotFits k i s → target s ≡ Local b → (place_below (record p { kind = k }) i s).kind ≢ Root
+pub never_root : (p : Place) (k : Kind) (i : ℕ) (s : Slot) (b : ℕ) → i < slot_count k → SlotFits k i s → target s ≡ Local b → (place_below (record p { kind = k }) i s).kind ≢ Root
 never_root p (Data zero) i s b lt fits e = absurd (omega arith)
 never_root p (Data (suc level)) i s b lt fits e = λ h. cc
 never_root p (Dir (suc level)) i s b lt fits e = λ h. cc
@@ -186,7 +193,7 @@ never_root p Root (suc (suc i)) (Head x) b lt fits e = absurd fits
 pub may_link : (p : Plain) (at i below : ℕ) (s : Slot) → Sound p.blocks p.made p.high p.root → IsMade p.made at → (label_at p.blocks p.made at).epoch ≡ p.high → i < slot_count (label_at p.blocks p.made at).kind → SlotFits (label_at p.blocks p.made at).kind i s → target s ≡ Local below → MayPutSlot (state_of p) at i s → MayLink p.blocks p.made at i below s
 may_link p at i below s sound is_made current few spelled leads may = record {
   at_made = is_made;
-  below_made = (⊎_elim (λ ok. ok) (λ low. absurd (not_super (omega (arith, low, above)))) (cases_lt 1 below), was_made);
+  below_made = was_made;
   few = few_is;
   spelled = spelled_is;
   leads = leads;
@@ -208,7 +215,7 @@ may_link p at i below s sound is_made current few spelled leads may = record {
     brought : ((label_at p.blocks p.made below).state ≡ Live) × ((label_at p.blocks p.made below).epoch ≤ p.high) × ((state_of p).covered below → ⊥)
     brought = may.brings.each below (record { path = []; leads = leads })
 
-    was_made : below < p.made
+    was_made : (1 < below) × (below < p.made)
     was_made = live_made p.blocks p.made below brought.0
 
     stands_at : Stands p.blocks p.made at (block_at p.blocks at).place
@@ -217,26 +224,17 @@ may_link p at i below s sound is_made current few spelled leads may = record {
     found : (q : Place) × Stands p.blocks p.made below q × FitsAt (IsLoose (state_of p) below) q (place_below (block_at p.blocks at).place i s)
     found = may.fits.each below (block_at p.blocks at).place stands_at leads
 
-    above : 0 < below
-    above = found.1.above
-
     fits : FitsAt (IsFree (block_at p.blocks below)) (block_at p.blocks below).place (place_below (block_at p.blocks at).place i s)
     fits = subst (λ (q : Place). FitsAt (IsFree (block_at p.blocks below)) q (place_below (block_at p.blocks at).place i s)) (sym found.1.is) (⊎_elim (λ e. inl e) (λ h. inr (loose_free p below h.0, h.1, h.2)) found.2)
 
     lower : (place_below (block_at p.blocks at).place i s).rank < (block_at p.blocks at).place.rank
     lower = may.lower below (block_at p.blocks at).place stands_at leads
 
-    below_kind : (block_at p.blocks below).place.kind ≡ (place_below (block_at p.blocks at).place i s).kind
-    below_kind = ap (λ (q : Place). q.kind) (fits_fixed (block_at p.blocks below).place (place_below (block_at p.blocks at).place i s) (IsFree (block_at p.blocks below)) fits)
-
-    not_super : below ≡ 1 → ⊥
-    not_super one = never_root (block_at p.blocks at).place (block_at p.blocks at).place.kind i s below few_is spelled_is leads (sym below_kind ∙ ap (λ n. (block_at p.blocks n).place.kind) one ∙ ap (λ (q : Place). q.kind) sound.super_at.place)
-
     own : (block_at p.blocks at).epoch ≡ p.high
-    own = sym (epoch_made p.blocks p.made at is_made.1) ∙ current
+    own = sym (epoch_made p.blocks p.made at is_made.0 is_made.1) ∙ current
 
     its : (block_at p.blocks below).epoch ≤ p.high
-    its = subst (λ n. n ≤ p.high) (epoch_made p.blocks p.made below was_made) brought.1
+    its = subst (λ n. n ≤ p.high) (epoch_made p.blocks p.made below was_made.0 was_made.1) brought.1
 
     joins : Joins p.blocks at i below
     joins = ⊎_elim

@@ -1,5 +1,5 @@
 -- What the calls on blocks see of a put slot.
-use Rattle.std.proofs.Common.{◌≡◌, ◌≢◌, ◌⊎◌, ◌↔◌, inl, inr, ⊎_elim, ℕ, ◌+◌, ◌-◌, ◌^◌, ◌<◌, Bool, true, false, cond, nat_lt, List, length, refl, sym, ◌∙◌, ap, subst, arith}
+use Rattle.std.proofs.Common.{◌≡◌, ◌≢◌, ◌⊎◌, ◌↔◌, inl, inr, ⊎_elim, ℕ, ◌+◌, ◌-◌, ◌^◌, ◌<◌, Bool, true, false, cond, List, length, refl, sym, ◌∙◌, ap, subst, arith}
 use Rattle.fo_image.specs.declared.types.Kind.{Kind}
 use Rattle.fo_image.specs.declared.types.State.TheVariants.{Free, Live}
 use Rattle.fo_image.specs.declared.types.Label.{Label}
@@ -11,16 +11,18 @@ use Rattle.fo_crash.specs.Steps.{PutsSlot, Covers}
 use Rattle.fo_crash.specs.Names.{SameUse}
 use Rattle.fo_crash.specs.Places.{place_below}
 use Rattle.fo_crash.proofs.Places.{never_back}
+use Rattle.fo_crash.proofs.Covers.{slot_reaches}
 use Rattle.fo_ports.specs.Blocks.{IsInner}
-use Rattle.fo_ports.specs.State.{Frame, Hangs, IsRaised, IsPointers, IsSecondOf}
+use Rattle.fo_ports.specs.State.{Frame, Hangs, IsRooted, IsRaised, IsPointers, IsSecondOf}
 use Rattle.fo_ports_plain.specs.declared.block.PlainBlock.{PlainBlock}
 use Rattle.fo_ports_plain.specs.declared.wait.Wait.{Wait}
-use Rattle.fo_ports_plain.specs.Plain.{block_at, slot_of, memory, label_at, Stands, IsMade, Instead, Covered, Awaits}
+use Rattle.fo_ports_plain.specs.Plain.{block_at, slot_of, memory, label_at, Stands, IsMade, Instead, IsTop, TakenOut, Covered, Awaits, is_live}
 use Rattle.fo_ports_plain.specs.Sound.{Sound}
 use Rattle.fo_ports_plain.specs.Meaning.{Plain, state_of}
 use Rattle.fo_ports_plain.specs.Moves.{IsFree}
 use Rattle.fo_ports_plain.specs.Laws.{label_kind, placed, ranked, one_place}
-use Rattle.fo_ports_plain.proofs.Taken.{Under, Marks, covers}
+use Rattle.fo_ports_plain.proofs.Taken.{Under, Marks, covers, splits, same_or_not}
+use Rattle.fo_ports_plain.proofs.Rooted.{put_rooted}
 use Rattle.fo_ports_plain.proofs.Comes.{loose_free, free_loose}
 
 -- a label, by the parts that it is made of
@@ -29,9 +31,9 @@ label_by made kind tag epoch = cond made (record { state = Live; kind = kind; ta
 
 pub label_same : (old new : List PlainBlock) (made b : ℕ) → (block_at new b).place.kind ≡ (block_at old b).place.kind → (block_at new b).place.tag ≡ (block_at old b).place.tag → (block_at new b).epoch ≡ (block_at old b).epoch → label_at new made b ≡ label_at old made b
 label_same old new made b kind tag epoch =
-    ap (λ k. label_by (nat_lt b made) k (block_at new b).place.tag (block_at new b).epoch) kind
-    ∙ ap (λ t. label_by (nat_lt b made) (block_at old b).place.kind t (block_at new b).epoch) tag
-    ∙ ap (λ e. label_by (nat_lt b made) (block_at old b).place.kind (block_at old b).place.tag e) epoch
+    ap (λ k. label_by (is_live made b) k (block_at new b).place.tag (block_at new b).epoch) kind
+    ∙ ap (λ t. label_by (is_live made b) (block_at old b).place.kind t (block_at new b).epoch) tag
+    ∙ ap (λ e. label_by (is_live made b) (block_at old b).place.kind (block_at old b).place.tag e) epoch
 
 -- A new top was raised over the block below, or the block that was put into keeps its origin.
 pub record Raised (at i : ℕ) (s : Slot) (old new : List PlainBlock) : Type 0 where
@@ -58,6 +60,7 @@ pub record PutAll (at i : ℕ) (s : Slot) (old new : List PlainBlock) : Type 0 w
   pub origins : (b : ℕ) → b ≢ at → target s ≢ Local b → (block_at new b).origin ≡ (block_at old b).origin
   pub top : NotRaised at i s old new ⊎ Raised at i s old new
   pub marks : Marks (slot_of (block_at old at) i) s (λ b. (block_at old b).taken ≡ true) (λ b. (block_at new b).taken ≡ true)
+  pub retired : (b : ℕ) → (block_at new b).retired ≡ (block_at old b).retired
 
 bool : (x : Bool) → (x ≡ true) ⊎ (x ≡ false)
 bool true = inl refl
@@ -70,7 +73,7 @@ local_is : {a b : ℕ} → Local a ≡ Local b → a ≡ b
 local_is e = cc
 
 module _ (p : Plain) (new : List PlainBlock) (waits : List Wait) (room queued : ℕ) {at i : ℕ} {s : Slot} (put : PutAll at i s p.blocks new) where
-  q : Plain
+  abbrev q : Plain
   q = record p { blocks = new; waits = waits; room = room; queued = queued }
 
   same_instead : (b : ℕ) → (block_at new b).apart ≡ (block_at p.blocks b).apart → (block_at new b).origin ≡ (block_at p.blocks b).origin → (x : ℕ) → Instead new b x ↔ Instead p.blocks b x
@@ -79,13 +82,24 @@ module _ (p : Plain) (new : List PlainBlock) (waits : List Wait) (room queued : 
     λ h. record { apart = apart ∙ h.apart; origin = origin ∙ h.origin; some = h.some },
   )
 
-  -- all but the block that was put into, and the one below, stays
-  pub put_frame : (P : ℕ → Type 0) (n : ℕ) → ((b : ℕ) → (P b → ⊥) → (b ≢ at) × (target s ≢ Local b)) → room + n ≡ p.room → ((a on j : ℕ) → on ≢ at → Awaits p.waits a on j → Awaits waits a on j) → Frame (λ b. b ≡ at) P n (state_of p) (state_of (record p { blocks = new; waits = waits; room = room; queued = queued }))
-  put_frame P n out spent wait = record {
+  was_top : (t : ℕ) → IsTop new t → IsTop p.blocks t
+  was_top t h = ⊎_elim (λ e. inl e) (λ is. inr (sym (put.labels t).3 ∙ is)) h
+
+  was_apart : (t : ℕ) → (block_at new t).apart ≡ true → (block_at p.blocks t).apart ≡ true
+  was_apart t is = ⊎_elim
+      (λ e. absurd (never_both is (put.here t e).1))
+      (λ ne. sym (put.places t ne).1 ∙ is)
+      (same_or_not t (target s))
+
+  -- all but the block that was put into, and the one below, stays; what hangs at the end hung before
+  pub put_frame : (P : ℕ → Type 0) (n : ℕ) → ((b : ℕ) → target s ≡ Local b → IsRooted (state_of p) b) → ((b : ℕ) → (P b → ⊥) → (b ≢ at) × (target s ≢ Local b)) → room + n ≡ p.room → ((a on j : ℕ) → on ≢ at → Awaits p.waits a on j → Awaits waits a on j) → Frame (λ b. b ≡ at) P n (state_of p) (state_of (record p { blocks = new; waits = waits; room = room; queued = queued }))
+  put_frame P n brought out spent wait = record {
     stays = record {
       labels = λ b _. let k = put.labels b in label_same p.blocks new p.made b k.0 k.1 k.2;
       marks = λ b _. (λ h. h, λ h. h, λ h. h);
-      places = λ t b x _ not_put _ st. record { above = st.above; was_made = st.was_made; is = (put.places b (out b not_put).1).0 ∙ st.is };
+      places = λ t b x _ not_put _ _ st. record { above = st.above; was_made = st.was_made; is = (put.places b (out b not_put).1).0 ∙ st.is };
+      rooted = λ t b _ r. put_rooted (state_of p) (state_of q) put.puts was_top was_apart brought b r;
+      newborn = λ b _ h. h;
       apart = λ b _ not_put. let same = (put.places b (out b not_put).1).1 in (λ h. sym same ∙ h, λ h. same ∙ h);
       instead = λ b x _ not_put. let o = out b not_put in same_instead b (put.places b o.1).1 (put.origins b o.0 o.1) x;
       waits = λ a on j _ _ not_put w. wait a on j (out on not_put).0 w;
@@ -161,18 +175,22 @@ module _ (p : Plain) (new : List PlainBlock) (waits : List Wait) (room queued : 
     waits = wait;
   }
 
-  under : (blocks : List PlainBlock) (b : ℕ) → Covered blocks b → Under (λ x. (block_at blocks x).taken ≡ true) (memory blocks) b
+  under : (blocks : List PlainBlock) (b : ℕ) → TakenOut blocks b → Under (λ x. (block_at blocks x).taken ≡ true) (memory blocks) b
   under blocks b c = record { top = c.top; taken = c.taken; below = c.below; gone = c.gone }
 
-  covered : (blocks : List PlainBlock) (b : ℕ) → Under (λ x. (block_at blocks x).taken ≡ true) (memory blocks) b → Covered blocks b
+  covered : (blocks : List PlainBlock) (b : ℕ) → Under (λ x. (block_at blocks x).taken ≡ true) (memory blocks) b → TakenOut blocks b
   covered blocks b c = record { top = c.top; taken = c.taken; below = c.below; gone = c.gone }
 
   -- what leaves is to be closed
   pub put_covers : Sound p.blocks p.made p.high p.root → IsMade p.made at → (Covered p.blocks at → ⊥) → ((b : ℕ) → Reaches (memory p.blocks) s b → Covered p.blocks b → ⊥) → Covers (IsPointers (state_of p)) (slot_of (block_at p.blocks at) i) (memory p.blocks) (memory new) (Covered p.blocks) (Covered new)
   put_covers sound is_made uncovered brings = record {
-    leaves = λ b t r gone. covered new b (c.leaves b t r gone);
-    still = λ b h. covered new b (c.still b (under p.blocks b h));
-    only = λ b not_old not_below h. c.only b (λ k. not_old (covered p.blocks b k)) not_below (under new b h);
+    leaves = λ b t r gone. inl (covered new b (c.leaves b t r gone));
+    still = λ b. ⊎_elim
+        (λ h. inl (covered new b (c.still b (under p.blocks b h))))
+        (λ h. inr (record { is = put.retired b ∙ h.is; gone = λ r. ⊎_elim h.gone (λ q. brings b q (inr h)) (slot_reaches put.puts r) }));
+    only = λ b not_old not_below. ⊎_elim
+        (λ h. c.only b (λ k. not_old (inl (covered p.blocks b k))) not_below (under new b h))
+        (λ h. not_old (inr (record { is = sym (put.retired b) ∙ h.is; gone = λ q. ⊎_elim h.gone (λ w. not_below w.on) (splits put.puts.others q) })));
   }
     where
       same : SameImage (memory p.blocks) (memory p.blocks)
@@ -184,6 +202,6 @@ module _ (p : Plain) (new : List PlainBlock) (waits : List Wait) (room queued : 
       c : Covers (IsPointers (state_of p)) (slot_of (block_at p.blocks at) i) (memory p.blocks) (memory new) (Under (λ x. (block_at p.blocks x).taken ≡ true) (memory p.blocks)) (Under (λ x. (block_at new x).taken ≡ true) (memory new))
       c = covers put.puts put.marks
           (λ r. never_back {i = i} (block_at p.blocks at).place (one_place p) (placed p sound (memory p.blocks) same) (ranked p sound (memory p.blocks) same) at_p r)
-          (λ h. uncovered (covered p.blocks at h))
-          (λ b r h. brings b r (covered p.blocks b h))
+          (λ h. uncovered (inl (covered p.blocks at h)))
+          (λ b r h. brings b r (inl (covered p.blocks b h)))
           (IsPointers (state_of p))

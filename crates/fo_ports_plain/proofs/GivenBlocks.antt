@@ -53,13 +53,14 @@ blank_formed (Data (suc level)) rank is = (length_zero_bytes, no_tail (slots_to 
 blank_formed (Dir level) rank is = (length_zero_bytes, no_tail (slots_to (Dir level)))
 blank_formed Root rank is = absurd is
 
-pub blank_may : (blocks : List PlainBlock) (made high : ℕ) (place : Place) {block : PlainBlock} → IsLevel place.kind → (block.place ≡ place) × (block.epoch ≡ high) × (block.source ≡ made) → (block.apart ≡ true) × (block.origin ≡ 0) × (block.taken ≡ false) × (block.kept ≡ false) × (block.home ≡ nowhere) → SameContent (content_of block) (blank place.kind) → block.bytes ≡ zero_bytes → MayMake blocks made high block
+pub blank_may : (blocks : List PlainBlock) (made high : ℕ) (place : Place) {block : PlainBlock} → IsLevel place.kind → (block.place ≡ place) × (block.epoch ≡ high) × (block.source ≡ made) → (block.apart ≡ true) × (block.origin ≡ 0) × (block.taken ≡ false) × (block.kept ≡ false) × (block.home ≡ nowhere) × (block.retired ≡ false) → SameContent (content_of block) (blank place.kind) → block.bytes ≡ zero_bytes → MayMake blocks made high block
 blank_may blocks made high place {block} level at marks content bytes = record {
   links = λ i b e. absurd (blank_nowhere place.kind i b (ap target (sym (content.slots i)) ∙ e));
   spelled = λ i lt. subst (λ s. SlotFits block.place.kind i s) (sym (content.slots i)) (subst (λ (x : Place). SlotFits x.kind i (blank_slot place.kind i)) (sym at.0) (blank_fits place.kind i (subst (λ (x : Place). i < slot_count x.kind) at.0 lt)));
   epoch = at.1;
   apart = marks.0;
   taken = marks.2;
+  retired = marks.5;
   kept = marks.3;
   home = ap (λ (h : Home). h.hangs) marks.4;
   source = inl (record { origin = marks.1; source = at.2 });
@@ -68,7 +69,7 @@ blank_may blocks made high place {block} level at marks content bytes = record {
 
 -- a copy of a block, to come in its place
 abbrev pub copied : (high at : ℕ) → PlainBlock → PlainBlock
-copied high at block = record block { epoch = high; apart = true; origin = at; home = nowhere; taken = false; kept = false }
+copied high at block = record block { epoch = high; apart = true; origin = at; home = nowhere; taken = false; retired = false; kept = false }
 
 pub copy_may : {blocks : List PlainBlock} {made high root at : ℕ} → Sound blocks made high root → Formed blocks made → 1 < at → at < made → (block_at blocks at).apart ≡ false → MayMake blocks made high (copied high at (block_at blocks at))
 copy_may {blocks} {made} {high} {root} {at} sound formed past lt joined = record {
@@ -77,6 +78,7 @@ copy_may {blocks} {made} {high} {root} {at} sound formed past lt joined = record
   epoch = refl;
   apart = refl;
   taken = refl;
+  retired = refl;
   kept = refl;
   home = refl;
   source = inr (record { some = λ e. omega (arith, past, e); was_made = lt; joined = joined; source = refl; numbered = sound.sources.numbered at past lt });

@@ -92,6 +92,7 @@ module _ {old mid new : List PlainBlock} {at i below index under source origin :
       part (λ (z : PlainBlock). z.bytes) refl (λ xs. refl) b ∙ ap (λ (z : PlainBlock). z.bytes) (m.each b),
       part (λ (z : PlainBlock). z.taken) refl (λ xs. refl) b ∙ ap (λ (z : PlainBlock). z.taken) (m.each b),
       part (λ (z : PlainBlock). z.kept) refl (λ xs. refl) b ∙ ap (λ (z : PlainBlock). z.kept) (m.each b),
+      part (λ (z : PlainBlock). z.retired) refl (λ xs. refl) b ∙ ap (λ (z : PlainBlock). z.retired) (m.each b),
     );
     put = puts.put;
     slots = slots;

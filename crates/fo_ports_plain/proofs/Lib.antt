@@ -20,3 +20,6 @@ pub mod Bytes
 pub mod BeginNew
 pub mod Begin
 pub mod BeginEpoch
+pub mod Retired
+pub mod Rooted
+pub mod Forgotten

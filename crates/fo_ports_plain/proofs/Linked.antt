@@ -218,6 +218,7 @@ module _ {old new : List PlainBlock} {made high root at i below : ℕ} {s : Slot
         joined = joined_still 1 old_super.joined;
         source = (l.origins 1 (λ e. omega (arith, a, e)) (λ e. omega (arith, b, e))).1 ∙ old_super.source;
         ends = ap (λ (h : Home). h.hangs) (other_home 1 (λ e. omega (arith, low, e))) ∙ old_super.ends;
+        others = λ j c ne e. old_super.others j c ne (ap target (sym (l.slots 1 j (inl (λ e. omega (arith, a, e))))) ∙ e);
       }
 
   spelled : (a : ℕ) → 1 < a → IsSpelled (block_at new a)
@@ -261,6 +262,7 @@ module _ {old new : List PlainBlock} {made high root at i below : ℕ} {s : Slot
       record {
         joined = joined_still b k.joined;
         stays = (l.same b).2 ∙ k.stays;
+        goes_on = (l.same b).4 ∙ k.goes_on;
         loses = (l.same b).3 ∙ k.loses;
         ends = ap (λ (h : Home). h.hangs) (other_home b (λ e. omega (arith, low, le, e))) ∙ k.ends;
         unused = λ j. ap is_active (l.slots b j (inl (λ e. omega (arith, a, le, e)))) ∙ k.unused j;
@@ -444,4 +446,4 @@ module _ {old new : List PlainBlock} {made high root at i below : ℕ} {s : Slot
       }
 
   pub link_queue : {queued : ℕ} → Queue old queued → Queue new queued
-  link_queue queue none b = (l.same b).2 ∙ queue none b
+  link_queue queue none b = ((l.same b).2 ∙ (queue none b).0, (l.same b).4 ∙ (queue none b).1)

@@ -30,6 +30,7 @@ pub record MayMake (blocks : List PlainBlock) (made high : ℕ) (block : PlainBl
   pub epoch : block.epoch ≡ high
   pub apart : block.apart ≡ true
   pub taken : block.taken ≡ false
+  pub retired : block.retired ≡ false
   pub kept : block.kept ≡ false
   pub home : block.home.hangs ≡ false
   pub source : IsOwn made block ⊎ IsCopy blocks made block
@@ -199,8 +200,8 @@ module _ {old new : List PlainBlock} {made high root queued : ℕ} {waits : List
         let small = w.was_made in
         record { was_made = omega (arith, small); entries = ap (λ (z : PlainBlock). z.place.kind) (was (wait_at waits n).on small) ∙ w.entries; used = ap (λ (z : PlainBlock). is_active (slot_of z (2 * k))) (was (wait_at waits n).on small) ∙ w.used };
     queue = λ none b. ⊎_elim
-        (λ e. ap (λ y. (block_at new y).taken) e ∙ ap (λ (z : PlainBlock). z.taken) up.here ∙ may.taken)
-        (λ ne. ap (λ (z : PlainBlock). z.taken) (up.others b ne) ∙ well.queue none b)
+        (λ e. (ap (λ y. (block_at new y).taken) e ∙ ap (λ (z : PlainBlock). z.taken) up.here ∙ may.taken, ap (λ y. (block_at new y).retired) e ∙ ap (λ (z : PlainBlock). z.retired) up.here ∙ may.retired))
+        (λ ne. (ap (λ (z : PlainBlock). z.taken) (up.others b ne) ∙ (well.queue none b).0, ap (λ (z : PlainBlock). z.retired) (up.others b ne) ∙ (well.queue none b).1))
         (cases_eq b made);
   }
 

@@ -1,13 +1,14 @@
 -- A slot was put after the block to which it led was marked.
 use Rattle.std.proofs.Common.{◌≡◌, ◌≢◌, ◌⊎◌, inl, inr, ⊎_elim, ℕ, ◌<◌, true, false, cond, List, set, get_or-set_other, refl, sym, ◌∙◌, ap, subst, arith}
 use Rattle.std.proofs.lemmas.Bool.{cases_eq}
-use Rattle.fo_image.specs.declared.types.Pointer.TheVariants.{Nil, Local}
+use Rattle.fo_image.specs.declared.types.Pointer.{Pointer}
+use Rattle.fo_image.specs.declared.types.Pointer.TheVariants.{Nil, Local, Score as Held}
 use Rattle.fo_crash.specs.declared.slot.Slot.{Slot}
 use Rattle.fo_crash.specs.declared.slot.Slot.TheVariants.{Pointer as To}
 use Rattle.fo_crash.specs.declared.place.Place.{Place}
 use Rattle.fo_crash.specs.Images.{target}
 use Rattle.fo_crash.specs.Places.{place_below, FitsAt}
-use Rattle.fo_ports.specs.Blocks.{IsInner, slot_count, SlotFits}
+use Rattle.fo_ports.specs.Blocks.{ends, IsInner, slot_count, SlotFits}
 use Rattle.fo_ports_plain.specs.declared.block.PlainBlock.{PlainBlock}
 use Rattle.fo_ports_plain.specs.Plain.{block_at, slot_of, index_in, Updates}
 use Rattle.fo_ports_plain.specs.Sound.{HangsAt, InSource, IsFirst, home_of}
@@ -70,6 +71,12 @@ module _ {old mid : List PlainBlock} {before s : Slot} (take : Takes before s ol
     only = λ x h. ⊎_elim (λ k. inl k) (λ k. inr k.0) (take.only x (sym (same x) ∙ h));
   }
 
+-- a slot that is to lead to no block more led to one
+pub ends_leads : (p q : Pointer) → ends p q ≡ 1 → (x : ℕ) × (p ≡ Local x)
+ends_leads (Local x) q e = (x, refl)
+ends_leads Nil q e = absurd (omega (arith, e))
+ends_leads (Held score) q e = absurd (omega (arith, e))
+
 -- the block to which the slot leads
 pub all_link : {old mid new : List PlainBlock} {made at i below : ℕ} {s : Slot} → Takes (slot_of (block_at old at) i) s old mid → MayLink old made at i below s → Linking at i below s mid new → PutAll at i s old new
 all_link {old} {mid} {new} {made} {at} {i} {below} {s} take may l = record {
@@ -100,6 +107,7 @@ all_link {old} {mid} {new} {made} {at} {i} {below} {s} take may l = record {
       h)
       l.way;
   marks = marks_by take new (λ b. (l.same b).2);
+  retired = λ b. (l.same b).4 ∙ ap (λ (z : PlainBlock). z.retired) (take.same b);
 }
   where
     local_is : {a b : ℕ} → Local a ≡ Local b → a ≡ b
@@ -124,6 +132,7 @@ all_slot {old} {mid} {new} {at} {i} {s} take nowhere up here = record {
   origins = λ b na ne. part (λ (z : PlainBlock). z.origin) refl b ∙ ap (λ (z : PlainBlock). z.origin) (take.same b);
   top = inl (record { origin = part (λ (z : PlainBlock). z.origin) refl at ∙ ap (λ (z : PlainBlock). z.origin) (take.same at); none = λ b e. absurd (nowhere b e) });
   marks = marks_by take new (part (λ (z : PlainBlock). z.taken) refl);
+  retired = λ b. part (λ (z : PlainBlock). z.retired) refl b ∙ ap (λ (z : PlainBlock). z.retired) (take.same b);
 }
   where
     part : {X : Type 0} (f : PlainBlock → X) → f (record (block_at mid at) { slots = set ((block_at mid at).slots) i s }) ≡ f (block_at mid at) → (b : ℕ) → f (block_at new b) ≡ f (block_at mid b)

@@ -59,6 +59,7 @@ pub record Still (made : ℕ) (old new : List PlainBlock) : Type 0 where
   pub way : slot_of (block_at new 1) 0 ≡ slot_of (block_at old 1) 0
   pub spelled : (a : ℕ) → 1 < a → IsSpelled (block_at new a)
   pub rest : (b : ℕ) → made ≤ b → ((block_at new b).taken ≡ (block_at old b).taken) × ((j : ℕ) → slot_of (block_at new b) j ≡ slot_of (block_at old b) j)
+  pub retired : (b : ℕ) → made ≤ b → (block_at new b).retired ≡ (block_at old b).retired
 
 pub still_sound : {old new : List PlainBlock} {made high root : ℕ} → Still made old new → Sound old made high root → Sound new made high root
 still_sound {old} {new} {made} {high} {root} still sound = record {
@@ -68,6 +69,7 @@ still_sound {old} {new} {made} {high} {root} still sound = record {
     joined = (still.same 1).apart ∙ sound.super_at.joined;
     source = (still.same 1).source ∙ sound.super_at.source;
     ends = ap (λ (h : Home). h.hangs) (still.same 1).home ∙ sound.super_at.ends;
+    others = λ j c ne e. sound.super_at.others j c ne (ap target (sym (still.slots 1 j c e)) ∙ e);
   };
   root_kept = ((still.same root).kept ∙ sound.root_kept.0, (still.same root).epoch ∙ sound.root_kept.1);
   links = λ a j b e.
@@ -83,6 +85,7 @@ still_sound {old} {new} {made} {high} {root} still sound = record {
       record {
         joined = (still.same b).apart ∙ k.joined;
         stays = (still.rest b le).0 ∙ k.stays;
+        goes_on = still.retired b le ∙ k.goes_on;
         loses = (still.same b).kept ∙ k.loses;
         ends = ap (λ (h : Home). h.hangs) (still.same b).home ∙ k.ends;
         unused = λ j. ap is_active ((still.rest b le).1 j) ∙ k.unused j;
@@ -123,25 +126,26 @@ spelled_same x y place slots spelled i lt =
     subst (λ k. SlotFits k i (slot_of y i)) (sym kind) (subst (λ s. SlotFits x.place.kind i s) (sym (slots i)) (spelled i (subst (λ k. i < slot_count k) kind lt)))
 
 -- Where slots stay, blocks that are alike keep all.
-pub slots_still : {old new : List PlainBlock} {made high root : ℕ} → ((b : ℕ) → Alike (block_at new b) (block_at old b)) → ((b j : ℕ) → slot_of (block_at new b) j ≡ slot_of (block_at old b) j) → ((b : ℕ) → made ≤ b → (block_at new b).taken ≡ (block_at old b).taken) → Sound old made high root → Still made old new
-slots_still {old} {new} same slots taken sound = record {
+pub slots_still : {old new : List PlainBlock} {made high root : ℕ} → ((b : ℕ) → Alike (block_at new b) (block_at old b)) → ((b j : ℕ) → slot_of (block_at new b) j ≡ slot_of (block_at old b) j) → ((b : ℕ) → made ≤ b → (block_at new b).taken ≡ (block_at old b).taken) → ((b : ℕ) → made ≤ b → (block_at new b).retired ≡ (block_at old b).retired) → Sound old made high root → Still made old new
+slots_still {old} {new} same slots taken retired sound = record {
   same = same;
   slots = λ a j x e. slots a j;
   way = slots 1 0;
   spelled = λ a past. spelled_same (block_at old a) (block_at new a) (same a).place (slots a) (sound.spelled a past);
   rest = λ b le. (taken b le, slots b);
+  retired = retired;
 }
 
 -- Bytes of a block are put that are of its format.
 pub bytes_well : {old new : List PlainBlock} {made high root queued at : ℕ} {waits : List Wait} {bytes : List ℕ} → Updates at (record (block_at old at) { bytes = bytes }) old new → IsFormed (block_at old at).place.kind (block_at old at).place.rank bytes → Well old made high root waits queued → Well new made high root waits queued
 bytes_well {old} {new} {made} {high} {root} {queued} {at} {waits} {bytes} up formed well = record {
-  sound = still_sound (slots_still same slots (λ b le. taken b) well.sound) well.sound;
+  sound = still_sound (slots_still same slots (λ b le. taken b) (λ b le. retired b) well.sound) well.sound;
   formed = λ b past lt. ⊎_elim
       (λ e. subst (λ z. ∥ IsFormed (block_at new z).place.kind (block_at new z).place.rank (block_at new z).bytes ∥₁) (sym e) (subst (λ (z : PlainBlock). ∥ IsFormed z.place.kind z.place.rank z.bytes ∥₁) (sym up.here) ∣ formed ∣₁))
       (λ ne. subst (λ (z : PlainBlock). ∥ IsFormed z.place.kind z.place.rank z.bytes ∥₁) (sym (up.others b ne)) (well.formed b past lt))
       (cases_eq b at);
   waiting = λ n k lt is. let w = well.waiting n k lt is in record { was_made = w.was_made; entries = ap (λ (p : Place). p.kind) (same (wait_at waits n).on).place ∙ w.entries; used = ap is_active (slots (wait_at waits n).on (2 * k)) ∙ w.used };
-  queue = λ none b. taken b ∙ well.queue none b;
+  queue = λ none b. (taken b ∙ (well.queue none b).0, retired b ∙ (well.queue none b).1);
 }
   where
     same : (b : ℕ) → Alike (block_at new b) (block_at old b)
@@ -152,6 +156,9 @@ bytes_well {old} {new} {made} {high} {root} {queued} {at} {waits} {bytes} up for
 
     taken : (b : ℕ) → (block_at new b).taken ≡ (block_at old b).taken
     taken b = part_kept (λ (z : PlainBlock). z.taken) up refl b
+
+    retired : (b : ℕ) → (block_at new b).retired ≡ (block_at old b).retired
+    retired b = part_kept (λ (z : PlainBlock). z.retired) up refl b
 
 -- A slot of a block comes to lead nowhere.
 pub slot_well : {old new : List PlainBlock} {made high root queued at i : ℕ} {waits : List Wait} (s : Slot) → Updates at (record (block_at old at) { slots = set ((block_at old at).slots) i s }) old new → slot_of (block_at new at) i ≡ s → IsMade made at → ((b : ℕ) → target s ≢ Local b) → SlotFits (block_at old at).place.kind i s → KeepsUse waits at i s → Well old made high root waits queued → Well new made high root waits queued
@@ -171,7 +178,7 @@ slot_well {old} {new} {made} {high} {root} {queued} {at} {i} {waits} s up here i
             (λ ne. ap is_active (other (wait_at waits n).on (2 * k) (inl ne)) ∙ w.used)
             (cases_eq (wait_at waits n).on at);
       };
-  queue = λ none b. taken b ∙ well.queue none b;
+  queue = λ none b. (taken b ∙ (well.queue none b).0, retired b ∙ (well.queue none b).1);
 }
   where
     same : (b : ℕ) → Alike (block_at new b) (block_at old b)
@@ -179,6 +186,9 @@ slot_well {old} {new} {made} {high} {root} {queued} {at} {i} {waits} s up here i
 
     taken : (b : ℕ) → (block_at new b).taken ≡ (block_at old b).taken
     taken b = part_kept (λ (z : PlainBlock). z.taken) up refl b
+
+    retired : (b : ℕ) → (block_at new b).retired ≡ (block_at old b).retired
+    retired b = part_kept (λ (z : PlainBlock). z.retired) up refl b
 
     other : (b j : ℕ) → (b ≢ at) ⊎ (j ≢ i) → slot_of (block_at new b) j ≡ slot_of (block_at old b) j
     other b j h = ⊎_elim
@@ -209,6 +219,7 @@ slot_well {old} {new} {made} {high} {root} {queued} {at} {i} {waits} s up here i
           (λ ne. subst (λ t. SlotFits (block_at old a).place.kind j t) (sym (other a j (inl ne))) (well.sound.spelled a past j (subst (λ k. j < slot_count k) kind lt)))
           (cases_eq a at));
       rest = λ b le. (taken b, λ j. other b j (inl (λ e. let lt : at < made = is_made.1 in omega (arith, lt, le, e))));
+      retired = λ b le. retired b;
     }
 
 -- A block that was made is marked.
@@ -217,6 +228,7 @@ taken_sound {old} {new} {made} {high} {root} {x} lt up sound = still_sound (slot
     (alike_by up (record { place = refl; epoch = refl; apart = refl; origin = refl; source = refl; home = refl; kept = refl }))
     (λ b j. part_kept (λ (z : PlainBlock). slot_of z j) up refl b)
     (λ b le. ap (λ (z : PlainBlock). z.taken) (up.others b (λ e. omega (arith, lt, le, e))))
+    (λ b le. part_kept (λ (z : PlainBlock). z.retired) up refl b)
     sound) sound
 
 pub taken_formed : {old new : List PlainBlock} {made x : ℕ} → Updates x (record (block_at old x) { taken = true }) old new → Formed old made → Formed new made

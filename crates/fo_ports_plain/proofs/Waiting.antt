@@ -97,7 +97,9 @@ module _ (p : Plain) (w : Wait) (at on room : ℕ) (is_at : w.at ≡ at) (is_on 
       stays = record {
         labels = λ b _. refl;
         marks = λ b _. (λ h. h, λ h. h, λ h. h);
-        places = λ t b x _ _ _ st. st;
+        places = λ t b x _ _ _ _ st. st;
+        rooted = λ t b _ r. r;
+        newborn = λ b _ h. h;
         apart = λ b _ _. (λ h. h, λ h. h);
         instead = λ b x _ _. (λ h. h, λ h. h);
         waits = λ a o j _ _ _ k. waits_still a o j k;
@@ -108,6 +110,7 @@ module _ (p : Plain) (w : Wait) (at on room : ℕ) (is_at : w.at ≡ at) (is_on 
     };
     order = record { clearing = λ b j h. absurd h; goes_on = λ b j _ h. h };
     covered = record { covered = λ b. (λ h. h, λ h. h) };
+    newborn = λ b h. h;
     queued = refl;
   }
 

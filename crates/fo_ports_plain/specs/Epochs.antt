@@ -3,7 +3,7 @@ use Rattle.std.specs.Prelude.{◌≡◌, ◌≢◌, ◌⊎◌, ◌↔◌, ◌+�
 use Rattle.fo_image.specs.declared.types.State.TheVariants.{Live}
 use Rattle.fo_crash.specs.declared.place.Place.{Place}
 use Rattle.fo_crash.specs.declared.slot.Slot.TheVariants.{Prev}
-use Rattle.fo_crash.specs.Images.{SameContent, to_block}
+use Rattle.fo_crash.specs.Images.{SameContent, SameImage, to_block}
 use Rattle.fo_crash.specs.Places.{root_place}
 use Rattle.fo_ports.specs.State.{State}
 
@@ -26,3 +26,14 @@ pub record Begins (old new : State) : Type 0 where
   pub marks : (b : ℕ) → (new.is_block b ↔ old.is_block b) × (old.pinned b → new.pinned b)
   pub waits : (a on j : ℕ) → new.waits a on j ↔ old.waits a on j
   pub numbers : (new.spare + 1 ≡ old.spare) × (new.room ≡ old.room) × (new.pins_left ≡ old.pins_left) × (new.next ≡ old.next) × (new.queued ≡ old.queued)
+
+-- The root block of an earlier epoch is kept no more, and so is no top. All else stays.
+pub record Forgets (at : ℕ) (old new : State) : Type 0 where
+  pub tops : (t : ℕ) → new.tops t ↔ (old.tops t × (t ≢ at))
+  pub memory : SameImage new.now old.now
+  pub labels : (b : ℕ) → new.label b ≡ old.label b
+  pub epochs : (new.high ≡ old.high) × (new.root ≡ old.root)
+  pub places : (b : ℕ) (p : Place) → old.stands b p → new.stands b p
+  pub apart : (b : ℕ) → (new.apart b ↔ old.apart b) × ((x : ℕ) → new.instead b x ↔ old.instead b x)
+  pub marks : (b : ℕ) → (new.is_block b ↔ old.is_block b) × (old.pinned b → new.pinned b)
+  pub numbers : (new.spare ≡ old.spare) × (new.room ≡ old.room) × (new.pins_left ≡ old.pins_left) × (new.next ≡ old.next) × (new.queued ≡ old.queued)

@@ -1,5 +1,5 @@
 -- Why blocks in memory keep the laws.
-use Rattle.std.specs.Prelude.{◌≡◌, ◌≢◌, ◌⊎◌, ◌+◌, ◌-◌, ◌*◌, ◌/◌, ◌^◌, ◌<◌, ◌≤◌, ℕ, Bool, true, false, cond, nat_lt, nat_eq, List, [], length, refl}
+use Rattle.std.specs.Prelude.{◌≡◌, ◌≢◌, ◌⊎◌, ◌+◌, ◌-◌, ◌*◌, ◌/◌, ◌^◌, ◌<◌, ◌≤◌, ℕ, Bool, true, false, cond, nat_lt, nat_eq, ◌&&◌, List, [], length, refl}
 use Rattle.std.proofs.Common.{inl, inr, ⊎_elim, sym, ◌∙◌, ap, subst, arith}
 use Rattle.std.proofs.Math.Nat.{le_refl}
 use Rattle.std.proofs.lemmas.Grind.{common_steps}
@@ -8,6 +8,7 @@ use Rattle.fo_image.specs.declared.types.Label.{Label}
 use Rattle.fo_image.specs.declared.types.State.TheVariants.{Free, Live}
 use Rattle.fo_image.specs.declared.types.Kind.TheVariants.{Dir, Root}
 use Rattle.fo_image.specs.declared.types.Pointer.TheVariants.{Nil, Local, Score as Held}
+use Rattle.fo_image.specs.Usable.{is_usable}
 use Rattle.fo_crash.specs.declared.slot.Slot.{Slot}
 use Rattle.fo_crash.specs.declared.slot.Slot.TheVariants.{Pointer as To, Entry as Head, Prev}
 use Rattle.fo_crash.specs.declared.place.Place.{Place}
@@ -20,7 +21,7 @@ use Rattle.fo_crash.proofs.Reach.{reaches_within, same_walk}
 use Rattle.fo_ports.specs.Blocks.{slot_count, SlotFits, IsFormed}
 use Rattle.fo_ports.specs.State.{KeepsAll, IsPairUsed, WaitsInUse}
 use Rattle.fo_ports_plain.specs.declared.block.PlainBlock.{PlainBlock}
-use Rattle.fo_ports_plain.specs.Plain.{block_at, slot_of, memory, label_of, label_at, is_active, Stands, IsTop}
+use Rattle.fo_ports_plain.specs.Plain.{block_at, slot_of, memory, is_live, label_of, label_at, is_active, Stands, IsTop}
 use Rattle.fo_ports_plain.specs.Sound.{Sound, Formed, Waiting, Queue, leads_to}
 use Rattle.fo_ports_plain.specs.Meaning.{Plain, state_of, PlainKeeps}
 use Rattle.fo_ports_plain.specs.Trails as trails
@@ -52,27 +53,30 @@ pub root_named : (p : Plain) → S p → (state_of p).tells → ((state_of p).no
 root_named p sound t = super_root p.root (slot_of (block_at p.blocks 1) 0) sound.super_at.way
 
 -- the label of a block that was made
-pub label_made : (blocks : List PlainBlock) (made b : ℕ) → b < made → label_at blocks made b ≡ label_of Live (block_at blocks b).epoch (2 ^ 32 - 1) (block_at blocks b)
-label_made blocks made b was = ap (λ t. cond t (label_of Live (block_at blocks b).epoch (2 ^ 32 - 1) (block_at blocks b)) (label_of Free 0 0 (block_at blocks b))) (lt-ltb b made was)
+pub live_one : (made b : ℕ) → 1 < b → b < made → is_live made b ≡ true
+live_one made b past was = ap (λ t. t && nat_lt b made) (lt-ltb 1 b past) ∙ lt-ltb b made was
+
+pub label_made : (blocks : List PlainBlock) (made b : ℕ) → 1 < b → b < made → label_at blocks made b ≡ label_of Live (block_at blocks b).epoch (2 ^ 32 - 1) (block_at blocks b)
+label_made blocks made b past was = ap (λ t. cond t (label_of Live (block_at blocks b).epoch (2 ^ 32 - 1) (block_at blocks b)) (label_of Free 0 0 (block_at blocks b))) (live_one made b past was)
 
 -- a label has the kind and the tag of the block's place
 pub label_kind : (blocks : List PlainBlock) (made b : ℕ) → ((label_at blocks made b).kind ≡ (block_at blocks b).place.kind) × ((label_at blocks made b).tag ≡ (block_at blocks b).place.tag)
-label_kind blocks made b = by (nat_lt b made)
+label_kind blocks made b = by (is_live made b)
   where
     by : (t : Bool) → ((cond t (label_of Live (block_at blocks b).epoch (2 ^ 32 - 1) (block_at blocks b)) (label_of Free 0 0 (block_at blocks b))).kind ≡ (block_at blocks b).place.kind) × ((cond t (label_of Live (block_at blocks b).epoch (2 ^ 32 - 1) (block_at blocks b)) (label_of Free 0 0 (block_at blocks b))).tag ≡ (block_at blocks b).place.tag)
     by true = (refl, refl)
     by false = (refl, refl)
 
 -- the epoch of a block that was made
-pub epoch_made : (blocks : List PlainBlock) (made b : ℕ) → b < made → (label_at blocks made b).epoch ≡ (block_at blocks b).epoch
-epoch_made blocks made b was = ap (λ (l : Label). l.epoch) (label_made blocks made b was)
+pub epoch_made : (blocks : List PlainBlock) (made b : ℕ) → 1 < b → b < made → (label_at blocks made b).epoch ≡ (block_at blocks b).epoch
+epoch_made blocks made b past was = ap (λ (l : Label). l.epoch) (label_made blocks made b past was)
 
 pub root_is : (p : Plain) → S p → p.made + p.spare ≤ length p.blocks → (state_of p).is_block (state_of p).root × ((state_of p).tells → ((((state_of p).label (state_of p).root).state ≡ Live) × (((state_of p).label (state_of p).root).kind ≡ Root) × (((state_of p).label (state_of p).root).epoch ≡ (state_of p).high)))
 root_is p sound spared =
     let kept = sound.tops p.root sound.root_kept.0 in
     let past = kept.past in
     let was = kept.was_made in
-    let label = label_made p.blocks p.made p.root was in
+    let label = label_made p.blocks p.made p.root past was in
     ((past, omega (arith, was, spared)), λ t. (ap (λ (l : Label). l.state) label, ap (λ (l : Label). l.kind) label ∙ ap (λ (q : Place). q.kind) kept.place, ap (λ (l : Label). l.epoch) label ∙ sound.root_kept.1))
 
 pub one_place : (p : Plain) → OnePlace (state_of p).stands
@@ -137,6 +141,11 @@ labelled p spared at q t ne s =
     let was = s.was_made in
     ((omega (arith, above, ne), omega (arith, spared, was)), label.0 ∙ ap (λ (x : Place). x.kind) s.is, label.1 ∙ ap (λ (x : Place). x.tag) s.is)
 
+pub standing : (p : Plain) (at : ℕ) (q : Place) → (state_of p).tells → at ≢ 1 → (state_of p).stands at q → is_usable (state_of p).low ((state_of p).label at) ≡ false
+standing p at q t ne s =
+    let above = s.above in
+    ap (λ (l : Label). is_usable 1 l) (label_made p.blocks p.made at (omega (arith, above, ne)) s.was_made)
+
 pub within : (p : Plain) → p.made + p.spare ≤ length p.blocks → S p → (at i below : ℕ) → (state_of p).pinned at → target (((state_of p).now at).slot i) ≡ Local below → (state_of p).is_block below
 within p spared sound at i below pinned e = let l = sound.links at i below e in let past = l.past in let was = l.was_made in (past, omega (arith, spared, was))
 
@@ -169,13 +178,15 @@ reached p three sound t at is_top r = reaches_within (λ b. Reached p.made t b (
 pub live : (p : Plain) → 2 < p.made → S p → (at : ℕ) → (state_of p).tells → at ≢ 1 → Reaches (state_of p).now (to_block 1) at → (((state_of p).label at).state ≡ Live) × (((state_of p).label at).epoch ≤ (state_of p).high) × ((state_of p).covered at → ⊥)
 live p three sound at t ne r =
     let was = (reached p three sound 1 at (inl refl) r).was_made in
-    (ap (λ (l : Label). l.state) (label_made p.blocks p.made at was), subst (λ n. n ≤ p.high) (sym (epoch_made p.blocks p.made at was)) (sound.aged at was), λ h. h.gone r)
+    let past = (reached p three sound 1 at (inl refl) r).past ne in
+    (ap (λ (l : Label). l.state) (label_made p.blocks p.made at past was), subst (λ n. n ≤ p.high) (sym (epoch_made p.blocks p.made at past was)) (sound.aged at was), λ h. ⊎_elim (λ k. k.gone r) (λ k. k.gone r) h)
 
 pub falls : (p : Plain) → 2 < p.made → S p → (t at i below : ℕ) → (state_of p).tells → (state_of p).tops t → at ≢ 1 → Reaches (state_of p).now (to_block t) at → target (((state_of p).now at).slot i) ≡ Local below → ((state_of p).label below).epoch ≤ ((state_of p).label at).epoch
 falls p three sound t at i below tells is_top ne r e =
     let was = (reached p three sound t at is_top r).was_made in
+    let past = (reached p three sound t at is_top r).past ne in
     let l = sound.links at i below e in
-    subst (λ n. n ≤ (label_at p.blocks p.made at).epoch) (sym (epoch_made p.blocks p.made below l.was_made)) (subst (λ n. (block_at p.blocks below).epoch ≤ n) (sym (epoch_made p.blocks p.made at was)) (l.ages ne))
+    subst (λ n. n ≤ (label_at p.blocks p.made at).epoch) (sym (epoch_made p.blocks p.made below l.past l.was_made)) (subst (λ n. (block_at p.blocks below).epoch ≤ n) (sym (epoch_made p.blocks p.made at past was)) (l.ages ne))
 
 pub old_is_sure : (p : Plain) (t at : ℕ) → (state_of p).tops t → at ≢ 1 → Reaches (state_of p).now (to_block t) at → ((state_of p).label at).epoch < (state_of p).high → IsSure (state_of p).now at (state_of p).may_leave
 old_is_sure p t at is_top ne r older = record { each = λ image same. same.each at }
@@ -233,10 +244,10 @@ pub clears_used : (p : Plain) → (state_of p).tells → WaitsInUse (state_of p)
 clears_used p t = record { first = λ at k h. absurd h; used = λ at k h. absurd h }
 
 pub none_queued : (p : Plain) → Queue p.blocks p.queued → (at : ℕ) → (state_of p).queued ≡ 0 → (state_of p).covered at → ⊥
-none_queued p queue at none c = let no : true ≡ false = sym c.taken ∙ queue none c.top in cc
+none_queued p queue at none = ⊎_elim (λ c. let no : true ≡ false = sym c.taken ∙ (queue none c.top).0 in cc) (λ c. let no : true ≡ false = sym c.is ∙ (queue none at).1 in cc)
 
 pub one_stays : (p : Plain) → (state_of p).covered 1 → ⊥
-one_stays p c = c.gone (record { path = []; leads = refl })
+one_stays p c = let own : Reaches (memory p.blocks) (to_block 1) 1 = record { path = []; leads = refl } in ⊎_elim (λ k. k.gone own) (λ k. k.gone own) c
 
 pub enough : (p : Plain) → p.made + p.spare ≤ length p.blocks → (state_of p).spare ≤ (state_of p).usable
 enough p spared = omega (arith, spared)
@@ -259,6 +270,7 @@ keeps_joins p q r x y = record { as_long = y.as_long ∙ x.as_long; held = y.hel
 pub keeps_all : (p q : Plain) → PlainKeeps p q → KeepsAll (state_of p) (state_of q)
 keeps_all p q k = record {
   same_high = k.high;
+  same_low = refl;
   same_root = k.root;
   same_tops = λ t. (λ h. ⊎_elim (λ e. inl e) (λ e. inr (sym (k.tops t) ∙ e)) h, λ h. ⊎_elim (λ e. inl e) (λ e. inr (k.tops t ∙ e)) h);
   same_blocks = λ b. (λ h. (h.0, subst (λ n. b < n) k.as_long h.1), λ h. (h.0, subst (λ n. b < n) (sym k.as_long) h.1));

@@ -20,7 +20,8 @@ pub record Plain : Type 0 where
   pub room : ℕ
   pub queued : ℕ
 
--- Every image is what memory has, so all is settled, sure and sealed, no slot waits to be cleared, and no moment passes.
+-- Every image is what memory has, so all is settled, sure and sealed, nothing is newborn, no slot waits to be cleared, and no moment
+-- passes. The root blocks of all epochs are kept.
 abbrev pub state_of : Plain → State
 state_of p = record {
   now = memory p.blocks;
@@ -28,7 +29,9 @@ state_of p = record {
   stands = Stands p.blocks p.made;
   apart = IsApart p.blocks;
   instead = Instead p.blocks;
+  newborn = λ b. ⊥;
   high = p.high;
+  low = 1;
   root = p.root;
   tops = IsTop p.blocks;
   is_block = IsData p.blocks;

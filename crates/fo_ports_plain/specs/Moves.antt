@@ -1,5 +1,5 @@
 -- What the private calls on blocks in memory do.
-use Rattle.std.specs.Prelude.{◌≡◌, ◌≢◌, ◌⊎◌, ◌*◌, ◌<◌, ◌≤◌, ℕ, Bool, true, false, cond, nat_eq, List, length, slice_set}
+use Rattle.std.specs.Prelude.{◌≡◌, ◌≢◌, ◌⊎◌, ◌-◌, ◌*◌, ◌^◌, ◌<◌, ◌≤◌, ℕ, Bool, true, false, cond, nat_eq, List, length, slice_set}
 use Rattle.fo_image.specs.declared.types.Pointer.{Pointer}
 use Rattle.fo_image.specs.declared.types.Pointer.TheVariants.{Nil, Local, Score as Held}
 use Rattle.fo_crash.specs.declared.slot.Slot.{Slot}
@@ -58,7 +58,7 @@ pub record Linking (at i below : ℕ) (s : Slot) (old new : List PlainBlock) : T
   pub place : (block_at new below).place ≡ place_below (block_at old at).place i s
   pub places : (b : ℕ) → b ≢ below → (block_at new b).place ≡ (block_at old b).place
   pub kinds : (b : ℕ) → ((block_at new b).place.kind ≡ (block_at old b).place.kind) × ((block_at new b).place.tag ≡ (block_at old b).place.tag) × ((block_at new b).place.rank ≡ (block_at old b).place.rank)
-  pub same : (b : ℕ) → ((block_at new b).epoch ≡ (block_at old b).epoch) × ((block_at new b).bytes ≡ (block_at old b).bytes) × ((block_at new b).taken ≡ (block_at old b).taken) × ((block_at new b).kept ≡ (block_at old b).kept)
+  pub same : (b : ℕ) → ((block_at new b).epoch ≡ (block_at old b).epoch) × ((block_at new b).bytes ≡ (block_at old b).bytes) × ((block_at new b).taken ≡ (block_at old b).taken) × ((block_at new b).kept ≡ (block_at old b).kept) × ((block_at new b).retired ≡ (block_at old b).retired)
   pub put : slot_of (block_at new at) i ≡ s
   pub slots : (b j : ℕ) → (b ≢ at) ⊎ (j ≢ i) → slot_of (block_at new b) j ≡ slot_of (block_at old b) j
   pub joined : (block_at new below).apart ≡ false
@@ -90,6 +90,10 @@ Joins blocks at i below = InSource i above under (home_of blocks under.source) �
 
     under : PlainBlock
     under = block_at blocks below
+
+-- One more removal is queued, or as many as can be counted.
+abbrev pub CountsOne : (old new : ℕ) → Type 0
+CountsOne old new = (old < new) ⊎ (2 ^ 32 - 1 ≤ new)
 
 -- A slot that leads to a block may be put.
 pub record MayLink (blocks : List PlainBlock) (made at i below : ℕ) (s : Slot) : Type 0 where

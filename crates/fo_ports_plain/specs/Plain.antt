@@ -23,7 +23,7 @@ nowhere = record { hangs = false; source = 0; index = 0; slot = 0 }
 
 -- what stands past the end of the list of blocks
 abbrev pub no_block : PlainBlock
-no_block = record { place = place (Data 0) 0 0 0; epoch = 0; apart = false; origin = 0; source = 0; home = nowhere; taken = false; kept = false; bytes = []; slots = [] }
+no_block = record { place = place (Data 0) 0 0 0; epoch = 0; apart = false; origin = 0; source = 0; home = nowhere; taken = false; retired = false; kept = false; bytes = []; slots = [] }
 
 abbrev pub block_at : List PlainBlock → ℕ → PlainBlock
 block_at blocks b = slice_index_or blocks b no_block
@@ -41,9 +41,13 @@ memory blocks = λ b. content_of (block_at blocks b)
 abbrev pub label_of : State → ℕ → ℕ → PlainBlock → Label
 label_of state epoch closing block = record { state = state; kind = block.place.kind; tag = block.place.tag; epoch = epoch; closing = closing }
 
+-- whether a block is a data block that was made
+abbrev pub is_live : ℕ → ℕ → Bool
+is_live made b = nat_lt 1 b && nat_lt b made
+
 -- the label of a block: all that were made are live
 abbrev pub label_at : List PlainBlock → ℕ → ℕ → Label
-label_at blocks made b = cond (nat_lt b made) (label_of Live (block_at blocks b).epoch (2 ^ 32 - 1) (block_at blocks b)) (label_of Free 0 0 (block_at blocks b))
+label_at blocks made b = cond (is_live made b) (label_of Live (block_at blocks b).epoch (2 ^ 32 - 1) (block_at blocks b)) (label_of Free 0 0 (block_at blocks b))
 
 -- A block that was made stands at its place.
 pub record Stands (blocks : List PlainBlock) (made b : ℕ) (p : Place) : Type 0 where
@@ -72,11 +76,19 @@ abbrev pub IsTop : List PlainBlock → ℕ → Type 0
 IsTop blocks t = (t ≡ 1) ⊎ ((block_at blocks t).kept ≡ true)
 
 -- A slot that led to a block was taken out; this one hangs from that block, and from block 1 no more.
-pub record Covered (blocks : List PlainBlock) (b : ℕ) : Type 0 where
+pub record TakenOut (blocks : List PlainBlock) (b : ℕ) : Type 0 where
   pub top : ℕ
   pub taken : (block_at blocks top).taken ≡ true
   pub below : Reaches (memory blocks) (to_block top) b
   pub gone : Reaches (memory blocks) (to_block 1) b → ⊥
+
+-- A root block is to be closed alone, and hangs from block 1 no more.
+pub record Retired (blocks : List PlainBlock) (b : ℕ) : Type 0 where
+  pub is : (block_at blocks b).retired ≡ true
+  pub gone : Reaches (memory blocks) (to_block 1) b → ⊥
+
+abbrev pub Covered : List PlainBlock → ℕ → Type 0
+Covered blocks b = TakenOut blocks b ⊎ Retired blocks b
 
 abbrev pub is_active : Slot → Bool
 is_active (Head e) = e.active

@@ -60,6 +60,7 @@ pub record IsSuper (root : ℕ) (block : PlainBlock) : Type 0 where
   pub joined : block.apart ≡ false
   pub source : block.source ≡ 1
   pub ends : block.home.hangs ≡ false
+  pub others : (i b : ℕ) → i ≢ 0 → target (slot_of block i) ≢ Local b
 
 -- a root block that is kept
 pub record IsKept (made b : ℕ) (block : PlainBlock) : Type 0 where
@@ -73,6 +74,7 @@ pub record IsKept (made b : ℕ) (block : PlainBlock) : Type 0 where
 pub record IsUnmade (block : PlainBlock) : Type 0 where
   pub joined : block.apart ≡ false
   pub stays : block.taken ≡ false
+  pub goes_on : block.retired ≡ false
   pub loses : block.kept ≡ false
   pub ends : block.home.hangs ≡ false
   pub unused : (i : ℕ) → is_active (slot_of block i) ≡ false
@@ -119,9 +121,9 @@ pub record IsUsed (blocks : List PlainBlock) (made : ℕ) (wait : Wait) (k : ℕ
 abbrev pub Waiting : List PlainBlock → ℕ → List Wait → Type 0
 Waiting blocks made waits = (n k : ℕ) → n < length waits → pair_of (wait_at waits n) k ≡ true → IsUsed blocks made (wait_at waits n) k
 
--- Where nothing was queued, no slot that led to a block was taken out.
+-- Where nothing was queued, no slot that led to a block was taken out, and no root block is to be closed.
 abbrev pub Queue : List PlainBlock → ℕ → Type 0
-Queue blocks queued = queued ≡ 0 → (b : ℕ) → (block_at blocks b).taken ≡ false
+Queue blocks queued = queued ≡ 0 → (b : ℕ) → ((block_at blocks b).taken ≡ false) × ((block_at blocks b).retired ≡ false)
 
 -- All that is kept of the blocks of a device.
 pub record Well (blocks : List PlainBlock) (made high root : ℕ) (waits : List Wait) (queued : ℕ) : Type 0 where

@@ -15,8 +15,8 @@ use fo_image::{Entry, Kind, Pointer};
 
 /// A block with its place and the epoch in which it was given out. `apart`: it was put into no slot yet, and is to come in the place
 /// of block `origin`, if that is not 0. `source` is the number of the source that it is of, which is the address of the block that was
-/// its first top; `home` is where the source of this block's address hangs. `taken`: a slot that led to it was taken out. `kept`: it is
-/// the root of the active tree or of a snapshot.
+/// its first top; `home` is where the source of this block's address hangs. `taken`: a slot that led to it was taken out. `retired`: a
+/// root block that is to be closed alone. `kept`: it is the root of the active tree or of a snapshot.
 #[derive(Clone, Copy)]
 pub struct PlainBlock {
     pub(crate) place: Place,
@@ -26,6 +26,7 @@ pub struct PlainBlock {
     pub(crate) source: u32,
     pub(crate) home: Home,
     pub(crate) taken: bool,
+    pub(crate) retired: bool,
     pub(crate) kept: bool,
     pub(crate) bytes: [u8; BLOCK],
     pub(crate) slots: [Slot; POINTERS],
@@ -93,9 +94,27 @@ impl PlainBlock {
         block
     }
 
+    /// The root block, to be closed alone.
+    pub(crate) fn closed_alone(self) -> PlainBlock
+        ensures { result ≡ record self { retired = true } }
+    {
+        let mut block = self;
+        block.retired = true;
+        block
+    }
+
+    /// The root block of a snapshot that is kept no more.
+    pub(crate) fn forgotten(self) -> PlainBlock
+        ensures { result ≡ record self { kept = false } }
+    {
+        let mut block = self;
+        block.kept = false;
+        block
+    }
+
     /// A copy of the block, of this epoch, to come in its place.
     pub(crate) fn copied(self, at: u32, epoch: u32) -> PlainBlock
-        ensures { result ≡ record self { epoch = epoch; apart = true; origin = at; home = nowhere; taken = false; kept = false } }
+        ensures { result ≡ record self { epoch = epoch; apart = true; origin = at; home = nowhere; taken = false; retired = false; kept = false } }
     {
         let mut block = self;
         block.epoch = epoch;
@@ -103,13 +122,14 @@ impl PlainBlock {
         block.origin = at;
         block.home = nowhere();
         block.taken = false;
+        block.retired = false;
         block.kept = false;
         block
     }
 
     /// The root block of the next epoch, after this one at this address.
     pub(crate) fn next_root(self, at: u32, epoch: u32) -> PlainBlock
-        ensures block { result ≡ record self { epoch = epoch; home = nowhere; taken = false; slots = slice_set self.slots 2 (Prev self.epoch at) } }
+        ensures block { result ≡ record self { epoch = epoch; home = nowhere; taken = false; retired = false; slots = slice_set self.slots 2 (Prev self.epoch at) } }
         ensures here { slot_of result 2 ≡ Prev self.epoch at }
     {
         let mut block = self;
@@ -117,6 +137,7 @@ impl PlainBlock {
         block.epoch = epoch;
         block.home = nowhere();
         block.taken = false;
+        block.retired = false;
         block
     }
 
@@ -307,7 +328,7 @@ pub(crate) fn no_bytes() -> [u8; BLOCK]
 /// A block of zeros, which is apart, and the first of its source.
 pub(crate) fn blank_block(place: Place, epoch: u32, source: u32) -> PlainBlock
     ensures place { (result.place ≡ place) × (result.epoch ≡ epoch) × (result.source ≡ source) }
-    ensures marks { (result.apart ≡ true) × (result.origin ≡ 0) × (result.taken ≡ false) × (result.kept ≡ false) × (result.home ≡ nowhere) }
+    ensures marks { (result.apart ≡ true) × (result.origin ≡ 0) × (result.taken ≡ false) × (result.kept ≡ false) × (result.home ≡ nowhere) × (result.retired ≡ false) }
     ensures content { SameContent (content_of result) (blank place.kind) }
     ensures bytes { result.bytes ≡ zero_bytes }
 {
@@ -319,6 +340,7 @@ pub(crate) fn blank_block(place: Place, epoch: u32, source: u32) -> PlainBlock
         source,
         home: nowhere(),
         taken: false,
+        retired: false,
         kept: false,
         bytes: no_bytes(),
         slots: blank_slots(place.kind),

@@ -32,7 +32,7 @@ impl Blocks for PlainBlocks {
     }
 
     fn label(&self, at: u32) -> Label {
-        let live = at < self.made;
+        let live = 1 < at && at < self.made;
         let block = &self.blocks[at as usize];
         Label {
             state: if live { State::Live } else { State::Free },
@@ -110,8 +110,9 @@ impl Blocks for PlainBlocks {
     }
 
     fn retire(&mut self, at: u32, epoch: u32, after: u32) {
-        let _ = (at, epoch, after);
+        let _ = (epoch, after);
         self.room -= 1;
+        self.close_alone(at);
     }
 
     /// No block is closed, so blocks that were taken out of the tree stay in use: where there are any, it is for want of memory that
@@ -169,6 +170,8 @@ impl Blocks for PlainBlocks {
 
     ghost root_is = { λ b. law.root_is (parts b) b.sound b.spared };
 
+    ghost root_linked = { λ b h. absurd h };
+
     ghost one_place = { λ b. law.one_place (parts b) };
 
     ghost super_stands = { λ b. law.super_stands (parts b) b.three b.sound };
@@ -186,6 +189,8 @@ impl Blocks for PlainBlocks {
     ghost one_spot = { λ b. law.one_spot (parts b) b.sound };
 
     ghost labelled = { λ b. law.labelled (parts b) b.spared };
+
+    ghost standing = { λ b. law.standing (parts b) };
 
     ghost within = { λ b. law.within (parts b) b.spared b.sound };
 

@@ -4,10 +4,10 @@ use fo_crash::{Place, Slot};
 use fo_image::Pointer;
 
 impl PlainBlocks {
-    ghost use Rattle.std.specs.Prelude.{◌≡◌, ◌+◌, ◌-◌, ◌^◌, ◌<◌};
+    ghost use Rattle.std.specs.Prelude.{◌≡◌, ◌≢◌, ◌+◌, ◌-◌, ◌^◌, ◌<◌};
     ghost use Rattle.fo_crash.specs.declared.place.Place.{Place};
     ghost use Rattle.fo_ports_plain.specs.Plain.{IsMade, Stands};
-    ghost use Rattle.fo_ports_plain.specs.Epochs.{Begins};
+    ghost use Rattle.fo_ports_plain.specs.Epochs.{Begins, Forgets};
     ghost use Rattle.fo_ports_plain.specs.Meaning.{state_of};
     ghost use Rattle.fo_ports_plain.specs.Parts.{parts};
 
@@ -27,6 +27,17 @@ impl PlainBlocks {
         self.root = at;
         self.made += 1;
         self.spare -= 1;
+    }
+
+    /// Keeps the root block of an earlier epoch no more, as where a snapshot is removed.
+    pub fn forget_root(&mut self, at: u32)
+        requires past { 1 < at }
+        requires block { at < self.old.made }
+        requires other { at ≢ self.old.root }
+        ensures { Forgets at (state_of (parts self.old)) (state_of (parts self.new)) }
+    {
+        let block = self.blocks[at as usize].forgotten();
+        self.set(at, block);
     }
 
     /// The place at which a block stands.

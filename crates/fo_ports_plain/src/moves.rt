@@ -10,7 +10,7 @@ use fo_image::Pointer;
 use fo_ports::BlockError;
 
 impl PlainBlocks {
-    ghost use Rattle.std.specs.Prelude.{◌≡◌, ◌≢◌, ◌⊎◌, ◌+◌, ◌*◌, ◌^◌, ◌<◌, ℕ, cond, List, ◌++◌, ◌∷◌, [], length, slice_set, ◌≤◌, OnOk, IfErr};
+    ghost use Rattle.std.specs.Prelude.{◌≡◌, ◌≢◌, ◌⊎◌, ◌+◌, ◌*◌, ◌^◌, ◌<◌, ℕ, true, cond, List, ◌++◌, ◌∷◌, [], length, slice_set, ◌≤◌, OnOk, IfErr};
     ghost use Rattle.fo_image.specs.declared.types.Pointer.TheVariants.{Local};
     ghost use Rattle.fo_image.specs.declared.types.Kind.TheVariants.{Dir};
     ghost use Rattle.fo_ports.specs.declared.error.BlockError.TheVariants.{Memory};
@@ -21,7 +21,7 @@ impl PlainBlocks {
     ghost use Rattle.fo_ports_plain.specs.declared.wait.Wait.{Wait};
     ghost use Rattle.fo_ports_plain.specs.Plain.{block_at, slot_of, index_below, is_active, pair_of, IsMade, Updates};
     ghost use Rattle.fo_ports_plain.specs.Sound.{Well};
-    ghost use Rattle.fo_ports_plain.specs.Moves.{IsFree, Linking, MayLink, KeepsUse, EndsWaits, Takes};
+    ghost use Rattle.fo_ports_plain.specs.Moves.{IsFree, Linking, MayLink, KeepsUse, EndsWaits, Takes, CountsOne};
     ghost use Rattle.fo_ports_plain.specs.Parts.{parts};
 
     /// Puts a block in place of another.
@@ -161,6 +161,7 @@ impl PlainBlocks {
         requires block { at < length self.old.blocks.items }
         requires slots { i < 409 }
         ensures takes { Takes (slot_of (block_at self.old.blocks.items at) i) slot.now self.old.blocks.items self.new.blocks.items }
+        ensures queued { (self.old.queued ≤ self.new.queued) × ((x : ℕ) → target (slot_of (block_at self.old.blocks.items at) i) ≡ Local x → target slot.now ≢ Local x → CountsOne self.old.queued self.new.queued) }
         ensures rest { parts self.new ≡ record (parts self.old) { blocks = self.new.blocks.items; queued = self.new.queued } }
     {
         let old = self.blocks[at as usize].slots[i as usize].target();
@@ -172,6 +173,18 @@ impl PlainBlocks {
             }
             _ => {}
         }
+    }
+
+    /// Marks a root block as one that is to be closed alone.
+    pub(crate) fn close_alone(&mut self, at: u32)
+        requires { at < self.old.made }
+        ensures updates { Updates at (record (block_at self.old.blocks.items at) { retired = true }) self.old.blocks.items self.new.blocks.items }
+        ensures queued { (self.old.queued ≤ self.new.queued) × CountsOne self.old.queued self.new.queued }
+        ensures rest { parts self.new ≡ record (parts self.old) { blocks = self.new.blocks.items; queued = self.new.queued } }
+    {
+        let block = self.blocks[at as usize].closed_alone();
+        self.queued = self.queued.saturating_add(1);
+        self.set(at, block);
     }
 
     /// Puts bytes.

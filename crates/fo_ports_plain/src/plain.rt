@@ -95,7 +95,7 @@ impl PlainBlocks {
 /// Block 1, which leads to the root block at address 2.
 fn super_block() -> PlainBlock
     ensures super_at { IsSuper 2 result }
-    ensures marks { (result.origin ≡ 0) × (result.epoch ≡ 1) × (result.taken ≡ false) × (result.kept ≡ false) }
+    ensures marks { (result.origin ≡ 0) × (result.epoch ≡ 1) × (result.taken ≡ false) × (result.kept ≡ false) × (result.retired ≡ false) }
     ensures root { slot_of result 0 ≡ To (Local 2) }
     ensures others { (i : ℕ) → i ≢ 0 → slot_of result i ≡ To Nil }
 {
@@ -114,6 +114,7 @@ fn super_block() -> PlainBlock
         source: 1,
         home: nowhere(),
         taken: false,
+        retired: false,
         kept: false,
         bytes: no_bytes(),
         slots,
@@ -135,7 +136,7 @@ fn root_place() -> Place
 /// A block that was not made yet: no slot leads to it, and it has a root's place.
 fn unmade_block() -> PlainBlock
     ensures place { (result.place ≡ root_place) × (result.epoch ≡ 0) }
-    ensures marks { (result.apart ≡ false) × (result.taken ≡ false) × (result.kept ≡ false) × (result.home ≡ nowhere) }
+    ensures marks { (result.apart ≡ false) × (result.taken ≡ false) × (result.kept ≡ false) × (result.home ≡ nowhere) × (result.retired ≡ false) }
     ensures slots { (i : ℕ) → slot_of result i ≡ blank_slot Root i }
 {
     let mut block = blank_block(root_place(), 0, 0);
@@ -183,7 +184,7 @@ fn root_bytes(alloc: Global) -> Result<[u8; BLOCK], Memory>
 /// The root block of an empty tree, at address 2.
 fn root_block(alloc: Global) -> Result<PlainBlock, Memory>
     ensures place { IfOk result (λ b. (b.place ≡ root_place) × (b.epoch ≡ 1) × (b.source ≡ 2)) }
-    ensures marks { IfOk result (λ b. (b.apart ≡ false) × (b.origin ≡ 0) × (b.taken ≡ false) × (b.kept ≡ true)) }
+    ensures marks { IfOk result (λ b. (b.apart ≡ false) × (b.origin ≡ 0) × (b.taken ≡ false) × (b.kept ≡ true) × (b.retired ≡ false)) }
     ensures home { IfOk result (λ b. HangsAt b.home 1 0 0) }
     ensures slots { IfOk result (λ b. (i : ℕ) → slot_of b i ≡ blank_slot Root i) }
     ensures formed { IfOk result (λ b. IsFormed Root 2144 b.bytes) }

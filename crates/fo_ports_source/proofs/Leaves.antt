@@ -14,7 +14,7 @@ use Rattle.fo_ports.specs.Sources.{Made, byte_at}
 use Rattle.fo_ports_source.specs.Source.{leaf_of, byte_of, HasLeaf, IsLeaf, Over, IsHeld, IsOwn, Prepared, Puts}
 use Rattle.fo_ports_source.specs.SourceLaws.{still_labelled, was_older}
 use Rattle.fo_ports_source.specs.Steps.{Steps, Grew}
-use Rattle.fo_ports_source.proofs.Steps.{cases_made, steps_none, steps_wider, steps_joins, made_first, made_second, made_either}
+use Rattle.fo_ports_source.proofs.Steps.{cases_made, hung_rooted, steps_none, steps_wider, steps_joins, made_first, made_second, made_either}
 
 pub never : {leaf : Option ℕ} {a : ℕ} → leaf ≡ Some a → leaf ≡ None → ⊥
 never e f = cc
@@ -85,10 +85,14 @@ module _ {kind : Kind} {tag : ℕ} where
         let was = leaf.told before in
         let not_made : Made old new at → ⊥ = λ m. m.0 was.labelled.is_live in
         let spared : new.covered at → ⊥ = λ h. was.uncovered ((s.covered at).0 h) in
+        let active = (s.all.same_tops 1).1 was.active in
+        let hung = s.hung before at was.hung in
         record {
           labelled = still_labelled s.all.same_high (s.others at not_made).label was.labelled;
-          there = s.places before at _ not_made spared was.there;
+          there = s.places before at _ not_made spared (hung_rooted new at active hung) was.there;
           uncovered = spared;
+          active = active;
+          hung = hung;
           in_tree = λ older. s.reaches before at (was.in_tree (was_older s.all.same_high (s.others at not_made).label older));
         };
   }

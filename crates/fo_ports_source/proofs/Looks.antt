@@ -3,18 +3,18 @@ use Rattle.std.proofs.Common.{◌≡◌, ◌⊎◌, ◌+◌, ◌-◌, ◌/◌, �
 use Rattle.std.proofs.lemmas.Bool.{cases_lt}
 use Rattle.fo_base.specs.Cause.{Rose}
 use Rattle.fo_image.specs.declared.types.Kind.{Kind}
-use Rattle.fo_crash.specs.Images.{Image}
+use Rattle.fo_crash.specs.Images.{Image, Reaches, to_block}
 use Rattle.fo_crash.specs.Steps.{Passes, IsOneOf}
 use Rattle.fo_ports.specs.declared.error.BlockError.{BlockError}
 use Rattle.fo_ports.specs.declared.error.BlockError.TheVariants.{Full, Damaged, Fault, Arena, Memory}
 use Rattle.fo_ports.specs.Causes.{Caused}
 use Rattle.fo_ports.specs.State.{State, KeepsAll, Looks}
-use Rattle.fo_ports.specs.Sources.{SameLeaves}
+use Rattle.fo_ports.specs.Sources.{HangsApart, IsHung, SameLeaves}
 use Rattle.fo_ports_source.specs.Source.{leaf_of, leaves_of, byte_of, Over, IsHeld, Prepared}
 use Rattle.fo_ports_source.specs.SourceLaws.{still_labelled, still_epoch, was_older}
 use Rattle.fo_ports_source.proofs.Leaves.{byte_kept}
-use Rattle.fo_crash.proofs.Reach.{reach_into}
-use Rattle.fo_ports_source.proofs.Steps.{content_joins}
+use Rattle.fo_crash.proofs.Reach.{reach_into, reaches_itself}
+use Rattle.fo_ports_source.proofs.Steps.{content_joins, hung_rooted}
 use Rattle.fo_ports_source.proofs.Values.{values_same}
 
 -- A refusal after calls that looked has its cause, too.
@@ -50,7 +50,11 @@ looks_joins {a = a} {b = b} all first second = record {
   stays = record {
     labels = λ x h. second.stays.labels x h ∙ first.stays.labels x h;
     marks = λ x h. let p = first.stays.marks x h in let q = second.stays.marks x h in (λ y. q.0 (p.0 y), λ y. q.1 (p.1 y), λ y. q.2 (p.2 y));
-    places = λ told x p h i spared s. second.stays.places (all.still_tells.1 told) x p h i spared (first.stays.places told x p h i (λ u. spared ((second.covered.covered x).1 u)) s);
+    places = λ told x p h i spared r s.
+        let mid = all.still_tells.1 told in
+        second.stays.places mid x p h i spared r (first.stays.places told x p h i (λ u. spared ((second.covered.covered x).1 u)) (second.stays.rooted mid x h r) s);
+    rooted = λ told x h r. first.stays.rooted told x h (second.stays.rooted (all.still_tells.1 told) x h r);
+    newborn = λ x h n. first.stays.newborn x h (second.stays.newborn x h n);
     apart = λ x h i. (λ y. (first.stays.apart x h i).0 ((second.stays.apart x h i).0 y), λ y. (second.stays.apart x h i).1 ((first.stays.apart x h i).1 y));
     instead = λ x z h i. (λ y. (first.stays.instead x z h i).0 ((second.stays.instead x z h i).0 y), λ y. (second.stays.instead x z h i).1 ((first.stays.instead x z h i).1 y));
     waits = λ x on j h i k w. second.stays.waits x on j h i k (first.stays.waits x on j h i k w);
@@ -60,6 +64,7 @@ looks_joins {a = a} {b = b} all first second = record {
     goes_on = λ x j n h. second.order.goes_on x j n (first.order.goes_on x j n h);
   };
   covered = record { covered = λ x. (λ h. (first.covered.covered x).0 ((second.covered.covered x).0 h), λ h. (second.covered.covered x).1 ((first.covered.covered x).1 h)) };
+  newborn = λ x n. second.newborn x (first.newborn x n);
   no_wait = record { each = λ x on j h w. first.no_wait.each x on j h (second.no_wait.each x on j h w) };
   dirty = λ x d. first.dirty x (second.dirty x d);
   room = (second.room.0 ∙ first.room.0, second.room.1 ∙ first.room.1);
@@ -92,6 +97,26 @@ prepared_looks looks all prepared = record {
   limit = prepared.limit;
 }
 
+-- what was reached is reached, and what may be put into still may be
+led_looks : {old new : State} → Looks old new → old.tells → (t b : ℕ) → Reaches old.now (to_block t) b → Reaches new.now (to_block t) b
+led_looks {old = old} {new = new} looks told t = reach_into new.now old.now (λ x. ⊥) t (λ x j h. ((looks.memory told).each x).slots j) (λ x h. absurd h)
+
+hung_looks : {old new : State} → Looks old new → old.tells → (at : ℕ) → IsHung old at → IsHung new at
+hung_looks {old = old} {new = new} looks told at = ⊎_elim (λ r. inl (led_looks looks told 1 at r)) (λ w. inr (apart_looks w))
+  where
+    apart_looks : HangsApart old at → HangsApart new at
+    apart_looks w =
+        let is_apart = (looks.stays.apart w.top (λ n. n) (λ n. n)).1 w.is_apart in
+        let clear : new.covered w.top → ⊥ = λ h. w.uncovered ((looks.covered.covered w.top).0 h) in
+        record {
+          top = w.top;
+          is_apart = is_apart;
+          place = w.place;
+          stands = looks.stays.places told w.top w.place (λ n. n) (λ n. n) clear (w.top, inr is_apart, reaches_itself new.now w.top) w.stands;
+          uncovered = clear;
+          reaches = led_looks looks told w.top at w.reaches;
+        }
+
 pub over_looks : {old new : State} {kind : Kind} {tag rank size : ℕ} {leaves : List (Option ℕ)} → Looks old new → KeepsAll old new → Over old kind tag rank size leaves → Over new kind tag rank size leaves
 over_looks {old = old} {new = new} {leaves = leaves} looks all over = record {
   leaf = λ i at e. record {
@@ -100,11 +125,15 @@ over_looks {old = old} {new = new} {leaves = leaves} looks all over = record {
         let before = all.still_tells.0 is in
         let was = (over.leaf i at e).told before in
         let spared : new.covered at → ⊥ = λ h. was.uncovered ((looks.covered.covered at).0 h) in
+        let active = (all.same_tops 1).1 was.active in
+        let hung = hung_looks looks before at was.hung in
         record {
           labelled = still_labelled all.same_high (looks.stays.labels at (λ n. n)) was.labelled;
-          there = looks.stays.places before at _ (λ n. n) (λ n. n) spared was.there;
+          there = looks.stays.places before at _ (λ n. n) (λ n. n) spared (hung_rooted new at active hung) was.there;
           uncovered = spared;
-          in_tree = λ older. reach_into new.now old.now (λ x. ⊥) 1 (λ x j h. ((looks.memory before).each x).slots j) (λ x h. absurd h) at (was.in_tree (was_older all.same_high (looks.stays.labels at (λ n. n)) older));
+          active = active;
+          hung = hung;
+          in_tree = λ older. led_looks looks before 1 at (was.in_tree (was_older all.same_high (looks.stays.labels at (λ n. n)) older));
         };
   };
   apart = λ is. over.apart (all.still_tells.0 is);

@@ -1,16 +1,19 @@
 -- The calls of a plain source, one by one and one after another.
-use Rattle.std.proofs.Common.{◌≡◌, ◌≢◌, ◌⊎◌, ◌↔◌, ◌<◌, ℕ, List, inl, inr, ⊎_elim, sym, refl, ap, ◌∙◌, subst, arith}
+use Rattle.std.proofs.Common.{◌≡◌, ◌≢◌, ◌⊎◌, ◌↔◌, ◌<◌, ℕ, true, List, inl, inr, ⊎_elim, sym, refl, ap, ◌∙◌, subst, arith}
 use Rattle.std.proofs.lemmas.Bool.{cases_eq}
 use Rattle.fo_image.specs.declared.types.Label.{Label}
 use Rattle.fo_image.specs.declared.types.State.{State as BlockState}
 use Rattle.fo_image.specs.declared.types.State.TheVariants.{Free, Live, Closed}
+use Rattle.fo_image.specs.Usable.{is_usable}
 use Rattle.fo_crash.specs.declared.place.Place.{Place}
 use Rattle.fo_crash.specs.Images.{Content, Image, SameContent, Reaches, to_block, with_bytes, with_block}
 use Rattle.fo_crash.specs.Steps.{PutsBytes, AddsBytes}
-use Rattle.fo_crash.proofs.Reach.{reach_aside, reach_into}
+use Rattle.fo_crash.specs.Places.{IsPlaced, RanksFall}
+use Rattle.fo_crash.proofs.Places.{stands_below}
+use Rattle.fo_crash.proofs.Reach.{reach_aside, reach_into, reaches_itself}
 use Rattle.fo_crash.proofs.Updates.{block_other, bytes_other, bytes_slot}
-use Rattle.fo_ports.specs.State.{State, KeepsAll, Gives, Calm, AddsNoWait, none}
-use Rattle.fo_ports.specs.Sources.{Made, Touched, IsMade, StaysMarked, Changes}
+use Rattle.fo_ports.specs.State.{State, KeepsAll, Gives, Calm, AddsNoWait, IsRooted, none}
+use Rattle.fo_ports.specs.Sources.{HangsApart, IsHung, Made, Touched, IsMade, StaysMarked, Changes}
 use Rattle.fo_ports_source.specs.Steps.{Steps, Behind}
 
 same_state : (s : BlockState) → (s ≡ Live) ⊎ (s ≢ Live)
@@ -20,6 +23,10 @@ same_state Closed = inr (λ e. (cc))
 
 pub cases_made : (old new : State) (at : ℕ) → Made old new at ⊎ (Made old new at → ⊥)
 cases_made old new at = ⊎_elim (λ was. inr (λ m. m.0 was)) (λ no. ⊎_elim (λ is. inl (no, is)) (λ not. inr (λ m. not m.1)) (same_state (new.label at).state)) (same_state (old.label at).state)
+
+-- what may be put into hangs
+pub hung_rooted : (s : State) (b : ℕ) → s.tops 1 → IsHung s b → IsRooted s b
+hung_rooted s b active = ⊎_elim (λ r. (1, inl active, r)) (λ w. (w.top, inr w.is_apart, w.reaches))
 
 pub content_once : (c : Content) → SameContent c c
 content_once c = record { bytes = refl; slots = λ i. refl }
@@ -40,6 +47,8 @@ pub record GivesOut (tag : ℕ) (mine : ℕ → Type 0) (at : ℕ) (content : Co
   pub all : KeepsAll old new
   pub present : new.tells → new.may_leave new.now
   pub active : old.tops 1
+  pub placed : old.tells → IsPlaced old.stands old.now
+  pub falls : old.tells → RanksFall old.stands old.now
 
 -- What a call says that puts bytes into a block of the current epoch.
 pub record PutsInto (tag at : ℕ) (bytes : List ℕ) (beside : Image → Type 0) (old new : State) : Type 0 where
@@ -66,6 +75,8 @@ module _ {tag : ℕ} where
         others = s.others;
         apart = s.apart;
         places = s.places;
+        rooted = s.rooted;
+        hung = s.hung;
         instead = λ b x i. ⊎_elim (λ h. inl h) (λ h. inr (h.0, wider x h.1, h.2)) (s.instead b x i);
         covered = s.covered;
         uncovered = s.uncovered;
@@ -92,6 +103,7 @@ module _ {tag : ℕ} where
     others = s.others;
     apart = λ b h. ((s.apart b h).0, λ was. inl ((s.apart b h).1 was));
     places = λ told b p not_made not_mine. s.places told b p not_made;
+    rooted = s.rooted;
     instead = λ b x i. ⊎_elim (λ h. inl h) (λ h. inr (h.0, inl h.1)) (s.instead b x i);
     covers = λ b. ((s.covered b).1, λ no mine is. no ((s.covered b).0 is));
     leaves = λ told b r away. absurd (away (s.reaches told b r));
@@ -115,7 +127,9 @@ module _ {tag : ℕ} where
     made = λ b m. absurd (m.0 m.1);
     others = λ b h. record { label = refl; marks = (λ h. h, λ h. h, λ h. h) };
     apart = λ b h. (λ h. h, λ h. h);
-    places = λ told b p h u s. s;
+    places = λ told b p h u r s. s;
+    rooted = λ told b h r. r;
+    hung = λ told b r. r;
     instead = λ b x i. inl i;
     covered = λ b. (λ h. h, λ h. h);
     uncovered = λ b m. absurd (m.0 m.1);
@@ -180,6 +194,7 @@ module _ {tag : ℕ} where
         let was = first.made at m in
         let q = second.others at (λ n. n.0 m.1) in
         record {
+          free = was.free;
           was = was.was;
           labelled = (ap (λ (l : Label). l.epoch) q.label ∙ was.labelled.0, ap (λ (l : Label). l.tag) q.label ∙ was.labelled.1);
           is_one = (second.all.same_blocks at).1 was.is_one;
@@ -189,21 +204,14 @@ module _ {tag : ℕ} where
         (λ n.
         let is = second.made at n in
         record {
-          was = (
-            is.was.0,
-            λ told.
-                let mid = is.was.1 (first.all.still_tells.1 told) in
-                (λ top. mid.0 ((first.all.same_tops at).1 top), λ p s. by told n mid.1 p s),
-          );
+          free = subst (λ (l : Label). is_usable a.low l ≡ true) (first.others at (λ m. n.0 m.1)).label (subst (λ low. is_usable low (b.label at) ≡ true) first.all.same_low is.free);
+          was = (is.was.0, λ told top. is.was.1 (first.all.still_tells.1 told) ((first.all.same_tops at).1 top));
           labelled = (is.labelled.0 ∙ first.all.same_high, is.labelled.1);
           is_one = is.is_one;
           is_pinned = is.is_pinned;
           is_fresh = is.is_fresh;
         })
         (made_either at m)
-      where
-        by : a.tells → Made b c at → ((p : Place) → b.stands at p → ⊥) → (p : Place) → a.stands at p → ⊥
-        by told n away p s = away p (first.places told at p (λ m. n.0 m.1) (second.uncovered at n) s)
 
     pub steps_joins : Steps tag mine inner a c
     steps_joins = record {
@@ -224,7 +232,11 @@ module _ {tag : ℕ} where
       made = is_made;
       others = marked;
       apart = apart_end;
-      places = λ told at p h spared s. second.places (first.all.still_tells.1 told) at p (λ n. h (made_second at n)) spared (first.places told at p (λ m. h (made_first at m)) (λ u. spared ((second.covered at).1 u)) s);
+      places = λ told at p h spared r s.
+          let mid = first.all.still_tells.1 told in
+          second.places mid at p (λ n. h (made_second at n)) spared r (first.places told at p (λ m. h (made_first at m)) (λ u. spared ((second.covered at).1 u)) (second.rooted mid at (λ n. h (made_second at n)) r) s);
+      rooted = λ told at h r. first.rooted told at (λ m. h (made_first at m)) (second.rooted (first.all.still_tells.1 told) at (λ n. h (made_second at n)) r);
+      hung = λ told at r. second.hung (first.all.still_tells.1 told) at (first.hung told at r);
       instead = λ at x i. ⊎_elim
           (λ mid. ⊎_elim (λ was. inl was) (λ h. inr (made_first at h.0, h.1, h.2)) (first.instead at x mid))
           (λ h. let own = by_older x h.1 h.2 in inr (made_second at h.0, own.0, own.1))
@@ -270,7 +282,8 @@ module _ {tag : ℕ} where
 
     at_is : IsMade tag old new at
     at_is = record {
-      was = (g.gives.was.1, g.gives.was.3);
+      free = g.gives.free;
+      was = (g.gives.was.1, λ told. (g.gives.was.3 told).0);
       labelled = (ap (λ (l : Label). l.epoch) g.gives.label ∙ g.epoch, ap (λ (l : Label). l.tag) g.gives.label ∙ g.tagged);
       is_one = g.gives.is.0;
       is_pinned = g.gives.is.1;
@@ -282,6 +295,38 @@ module _ {tag : ℕ} where
 
     same_slot : (x y : Image) → ((b : ℕ) → b ≢ at → SameContent (x b) (y b)) → (b j : ℕ) → (b ≡ at → ⊥) → (x b).slot j ≡ (y b).slot j
     same_slot x y same b j ne = (same b ne).slots j
+
+    still_reached : old.tells → (b : ℕ) → Reaches old.now (to_block 1) b → Reaches new.now (to_block 1) b
+    still_reached told b r = reach_into new.now old.now (λ x. x ≡ at) 1 (same_slot new.now old.now g.gives.memory.others)
+        (λ x e far. g.gives.images.apart new.now (g.present (g.all.still_tells.1 told)) 1 g.active (subst (λ y. Reaches new.now (to_block 1) y) e far)) b r
+
+    -- what was given out stood nowhere, so no block that stands led to it
+    still_apart : old.tells → (b : ℕ) → HangsApart old b → HangsApart new b
+    still_apart told b w = record {
+      top = w.top;
+      is_apart = is_apart;
+      place = w.place;
+      stands = g.gives.stays.places told w.top w.place ne (λ n. n) clear (w.top, inr is_apart, reaches_itself new.now w.top) w.stands;
+      uncovered = clear;
+      reaches = reach_aside old.now new.now (λ x. x ≡ at) w.top (λ x j off. sym (same_slot new.now old.now g.gives.memory.others x j off)) never b w.reaches;
+    }
+      where
+        stood : (p : Place) → old.stands at p → ⊥
+        stood = (g.gives.was.3 told).1
+
+        ne : w.top ≢ at
+        ne e = stood w.place (subst (λ x. old.stands x w.place) e w.stands)
+
+        is_apart : new.apart w.top
+        is_apart = (g.gives.stays.apart w.top ne (λ n. n)).1 w.is_apart
+
+        clear : new.covered w.top → ⊥
+        clear h = w.uncovered ((g.gives.covered w.top ne).0 h)
+
+        never : (x : ℕ) → x ≡ at → Reaches old.now (to_block w.top) x → ⊥
+        never x e far =
+            let below = stands_below w.place (g.placed told) (g.falls told) w.stands far in
+            stood below.0 (subst (λ y. old.stands y below.0) e below.1)
 
     pub given_out : Steps tag mine (λ b. ⊥) old new
     given_out = record {
@@ -298,15 +343,16 @@ module _ {tag : ℕ} where
       made = λ b m. subst (λ x. IsMade tag old new x) (sym (made_is b m)) at_is;
       others = λ b h. let ne = not_at b h in record { label = g.gives.stays.labels b ne; marks = g.gives.stays.marks b ne };
       apart = λ b h. g.gives.stays.apart b (not_at b h) (λ n. n);
-      places = λ told b p h spared s. g.gives.stays.places told b p (not_at b h) (λ n. n) spared s;
+      places = λ told b p h spared r s. g.gives.stays.places told b p (not_at b h) (λ n. n) spared r s;
+      rooted = λ told b h r. g.gives.stays.rooted told b (not_at b h) r;
+      hung = λ told b. ⊎_elim (λ r. inl (still_reached told b r)) (λ w. inr (still_apart told b w));
       instead = λ b x i. ⊎_elim
           (λ e. let own = g.instead x (subst (λ y. new.instead y x) e i) in inr (subst (λ y. Made old new y) (sym e) at_made, own.0, own.1))
           (λ ne. inl ((g.gives.stays.instead b x ne (λ n. n)).0 i))
           (cases_eq b at);
       uncovered = λ b m h. g.gives.was.2 (subst (λ x. old.covered x) (made_is b m) h);
       covered = λ b. ⊎_elim (λ e. subst (λ x. new.covered x ↔ old.covered x) (sym e) at_covered) (λ ne. g.gives.covered b ne) (cases_eq b at);
-      reaches = λ told b r. reach_into new.now old.now (λ x. x ≡ at) 1 (same_slot new.now old.now g.gives.memory.others)
-          (λ x e far. g.gives.images.apart new.now (g.present (g.all.still_tells.1 told)) 1 g.active (subst (λ y. Reaches new.now (to_block 1) y) e far)) b r;
+      reaches = still_reached;
       waits = λ x on j m n w. g.gives.stays.waits x on j (not_at x m) (not_at on n) (λ z. z) w;
       no_wait = g.gives.no_wait;
       clearing = λ b j h. let was = g.gives.order.clearing b j h in (λ m. was.0 (made_is b m), was.1);
@@ -331,6 +377,25 @@ module _ {tag : ℕ} where
     aside : (b : ℕ) → (Touched old new tag (λ x. x ≡ at) b → ⊥) → b ≢ at
     aside b h e = h (inr (e, ap (λ x. (old.label x).epoch) e ∙ g.current, ap (λ x. (old.label x).tag) e ∙ g.tagged))
 
+    still_led : (t b : ℕ) → Reaches old.now (to_block t) b → Reaches new.now (to_block t) b
+    still_led t = reach_into new.now old.now (λ x. ⊥) t (λ x j h. g.puts.slots x j) (λ x h. absurd h)
+
+    still_hung : old.tells → (b : ℕ) → HangsApart old b → HangsApart new b
+    still_hung told b w = record {
+      top = w.top;
+      is_apart = is_apart;
+      place = w.place;
+      stands = g.calm.frame.stays.places told w.top w.place (λ n. n) (λ n. n) clear (w.top, inr is_apart, reaches_itself new.now w.top) w.stands;
+      uncovered = clear;
+      reaches = still_led w.top b w.reaches;
+    }
+      where
+        is_apart : new.apart w.top
+        is_apart = (g.calm.frame.stays.apart w.top (λ n. n) (λ n. n)).1 w.is_apart
+
+        clear : new.covered w.top → ⊥
+        clear h = w.uncovered ((g.calm.covered.covered w.top).0 h)
+
     pub bytes_put : Steps tag (λ b. b ≡ at) (λ b. b ≡ at) old new
     bytes_put = record {
       memory = λ b h. record { bytes = g.puts.others b (aside b h); slots = g.puts.slots b };
@@ -347,11 +412,13 @@ module _ {tag : ℕ} where
       made = λ b m. absurd (none_made b m);
       others = λ b h. let s = g.calm.frame.stays in record { label = s.labels b (λ n. n); marks = s.marks b (λ n. n) };
       apart = λ b h. g.calm.frame.stays.apart b (λ n. n) (λ n. n);
-      places = λ told b p h spared s. g.calm.frame.stays.places told b p (λ n. n) (λ n. n) spared s;
+      places = λ told b p h spared r s. g.calm.frame.stays.places told b p (λ n. n) (λ n. n) spared r s;
+      rooted = λ told b h r. g.calm.frame.stays.rooted told b (λ n. n) r;
+      hung = λ told b. ⊎_elim (λ r. inl (still_led 1 b r)) (λ w. inr (still_hung told b w));
       instead = λ b x i. inl ((g.calm.frame.stays.instead b x (λ n. n) (λ n. n)).0 i);
       covered = g.calm.covered.covered;
       uncovered = λ b m. absurd (none_made b m);
-      reaches = λ told b r. reach_into new.now old.now (λ x. ⊥) 1 (λ x j h. g.puts.slots x j) (λ x h. absurd h) b r;
+      reaches = λ told b r. still_led 1 b r;
       waits = λ x on j m n w. g.calm.frame.stays.waits x on j (λ z. z) (λ z. z) (λ z. z) w;
       no_wait = g.no_wait;
       clearing = λ b j h. (none_made b, (g.calm.order.clearing b j h).1);

@@ -7,7 +7,7 @@ use Rattle.fo_image.specs.declared.types.State.TheVariants.{Live}
 use Rattle.fo_crash.specs.Images.{Image, Reaches, to_block}
 use Rattle.fo_crash.specs.Places.{place}
 use Rattle.fo_ports.specs.State.{State}
-use Rattle.fo_ports.specs.Sources.{Form, Leaves, byte_at, source_bytes}
+use Rattle.fo_ports.specs.Sources.{Form, IsHung, Leaves, byte_at, source_bytes}
 
 -- the leaf of a number
 abbrev pub leaf_of : List (Option ℕ) → ℕ → Option ℕ
@@ -36,12 +36,14 @@ pub record HasLabel (high : ℕ) (kind : Kind) (tag : ℕ) (l : Label) : Type 0 
   pub has_tag : l.tag ≡ tag
   pub up_to : l.epoch ≤ high
 
--- What a device that tells has of a leaf. The source puts it into no slot, so the index of its place is 0; and a leaf of an older epoch
--- hangs from block 1, since no other block is ever copied.
+-- What a device that tells has of a leaf. The source puts it into no slot, so the index of its place is 0. It hangs in memory, so that
+-- others leave it its place (block 1 is a top); and a leaf of an older epoch hangs from block 1, since no other block is ever copied.
 pub record IsTold (s : State) (kind : Kind) (tag rank at : ℕ) : Type 0 where
   pub labelled : HasLabel s.high kind tag (s.label at)
   pub there : s.stands at (place kind tag 0 rank)
   pub uncovered : s.covered at → ⊥
+  pub active : s.tops 1
+  pub hung : IsHung s at
   pub in_tree : (s.label at).epoch < s.high → Reaches s.now (to_block 1) at
 
 -- A block may be a leaf of a source of this kind, tag and rank: over a device that tells nothing it is just a block.

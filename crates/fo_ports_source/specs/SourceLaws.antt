@@ -32,12 +32,14 @@ pub was_older : {high new_high : ℕ} {l m : Label} → new_high ≡ high → m 
 was_older {high = high} {m = m} same_high same older = subst (λ (x : Label). x.epoch < high) same (subst (λ n. m.epoch < n) same_high older)
 
 module _ (kind : Kind) (tag rank size : ℕ) (leaves : List (Option ℕ)) (a b : State) where
-  still_told : b.high ≡ a.high → (at : ℕ) → StaysInPlace a b at → IsTold a kind tag rank at → IsTold b kind tag rank at
-  still_told same_high at stays leaf = record {
-    labelled = still_labelled same_high stays.same_label leaf.labelled;
-    there = stays.same_places (place kind tag 0 rank) leaf.there;
+  still_told : KeepsAll a b → (at : ℕ) → StaysInPlace a b at → IsTold a kind tag rank at → IsTold b kind tag rank at
+  still_told all at stays leaf = record {
+    labelled = still_labelled all.same_high stays.same_label leaf.labelled;
+    there = stays.same_places leaf.hung (place kind tag 0 rank) leaf.there;
     uncovered = stays.uncovered leaf.uncovered;
-    in_tree = λ older. stays.in_tree (leaf.in_tree (was_older same_high stays.same_label older));
+    active = (all.same_tops 1).1 leaf.active;
+    hung = stays.hung leaf.hung;
+    in_tree = λ older. stays.in_tree (leaf.in_tree (was_older all.same_high stays.same_label older));
   }
 
   zero_still : (k : ℕ) (leaf : Option ℕ) → ((at : ℕ) → leaf ≡ Some at → ((b.now at).bytes ≡ (a.now at).bytes) ⊎ (size ≤ k → ⊥)) → size ≤ k → byte_at a.now leaf None (k % 8192) ≡ 0 → byte_at b.now leaf None (k % 8192) ≡ 0
@@ -48,7 +50,7 @@ module _ (kind : Kind) (tag rank size : ℕ) (leaves : List (Option ℕ)) (a b :
   source_stays all over stays = record {
     leaf = λ i at e. record {
       is_one = (all.same_blocks at).1 (over.leaf i at e).is_one;
-      told = λ is. let was = all.still_tells.0 is in still_told all.same_high at ((stays was).each at (record { number = i; is = e })).0 ((over.leaf i at e).told was);
+      told = λ is. let was = all.still_tells.0 is in still_told all at ((stays was).each at (record { number = i; is = e })).0 ((over.leaf i at e).told was);
     };
     apart = λ is. over.apart (all.still_tells.0 is);
     none = over.none;

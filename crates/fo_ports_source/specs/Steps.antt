@@ -3,9 +3,9 @@ use Rattle.std.specs.Prelude.{◌≡◌, ◌≢◌, ◌⊎◌, ◌↔◌, ◌+�
 use Rattle.fo_image.specs.declared.types.Kind.{Kind}
 use Rattle.fo_crash.specs.declared.place.Place.{Place}
 use Rattle.fo_crash.specs.Images.{Image, SameContent, Reaches, to_block}
-use Rattle.fo_ports.specs.State.{State, KeepsAll, KeepsNumbers, AddsNoWait, none}
+use Rattle.fo_ports.specs.State.{State, KeepsAll, KeepsNumbers, AddsNoWait, IsRooted, none}
 use Rattle.fo_ports.specs.Blocks.{put_at}
-use Rattle.fo_ports.specs.Sources.{Form, Made, Touched, IsMade, StaysMarked, EndsWithin, IsCut}
+use Rattle.fo_ports.specs.Sources.{Form, IsHung, Made, Touched, IsMade, StaysMarked, EndsWithin, IsCut}
 use Rattle.fo_ports_source.specs.Source.{leaf_of, HasLeaf, Prepared}
 
 -- As `Undone` of the trait, and the slots stay but for those of blocks that were given out.
@@ -16,15 +16,17 @@ pub record Behind (touched : ℕ → Type 0) (old new : State) (image : Image) :
   pub same_slots : (b j : ℕ) → (Made old new b → ⊥) → (image b).slot j ≡ (other b).slot j
   pub apart : (t b : ℕ) → old.tops t → Made old new b → Reaches other (to_block t) b → ⊥
 
--- As `Changes` of the trait, and more: places stay but for those of blocks that were given out, what block 1 reaches it still reaches,
--- the same blocks are to be closed, and only an older block of the source's own is one in whose place another is to come.
+-- As `Changes` of the trait, and more: what hangs keeps its place but for blocks that were given out, what block 1 reaches it still
+-- reaches, what may be put into still may be, the same blocks are to be closed, and only an older block of the source's own is one in whose place another is to come.
 pub record Steps (tag : ℕ) (mine inner : ℕ → Type 0) (old new : State) : Type 0 where
   pub memory : (b : ℕ) → (Touched old new tag inner b → ⊥) → SameContent (new.now b) (old.now b)
   pub images : (image : Image) → new.may_leave image → Behind (Touched old new tag inner) old new image
   pub made : (b : ℕ) → Made old new b → IsMade tag old new b
   pub others : (b : ℕ) → (Made old new b → ⊥) → StaysMarked old new b
   pub apart : (b : ℕ) → (Made old new b → ⊥) → new.apart b ↔ old.apart b
-  pub places : old.tells → (b : ℕ) (p : Place) → (Made old new b → ⊥) → (new.covered b → ⊥) → old.stands b p → new.stands b p
+  pub places : old.tells → (b : ℕ) (p : Place) → (Made old new b → ⊥) → (new.covered b → ⊥) → IsRooted new b → old.stands b p → new.stands b p
+  pub rooted : old.tells → (b : ℕ) → (Made old new b → ⊥) → IsRooted new b → IsRooted old b
+  pub hung : old.tells → (b : ℕ) → IsHung old b → IsHung new b
   pub instead : (b x : ℕ) → new.instead b x → old.instead b x ⊎ (Made old new b × mine x × ((old.label x).epoch < old.high))
   pub covered : (b : ℕ) → new.covered b ↔ old.covered b
   pub uncovered : (b : ℕ) → Made old new b → old.covered b → ⊥

@@ -5,6 +5,7 @@ use Rattle.std.proofs.lemmas.List.{length-append}
 use Rattle.fo_image.specs.declared.types.Label.{Label}
 use Rattle.fo_image.specs.declared.types.State.TheVariants.{Free, Live}
 use Rattle.fo_image.specs.declared.types.Kind.TheVariants.{Data}
+use Rattle.fo_image.specs.Usable.{is_usable}
 use Rattle.fo_crash.specs.Images.{Content, SameContent}
 use Rattle.fo_ports.specs.State.{Gives}
 use Rattle.test_blocks.specs.declared.silent.Block.{Block}
@@ -68,6 +69,7 @@ gives p x c l waiting begun few same is_label apart =
       };
       images = record { apart = λ image h. absurd h; holds = λ image h. absurd h; before = λ image h. absurd h };
       label = ap (λ (z : Block). z.label) up.here ∙ is_label;
+      free = ap (λ (z : Block). is_usable 1 z.label) (past_end p.blocks no_block (length p.blocks) (omega arith));
       was = (
         λ e. let no : Free ≡ Live = sym (ap (λ (z : Block). z.label.state) (past_end p.blocks no_block (length p.blocks) (omega arith))) ∙ e in cc,
         λ e. omega (arith, begun, e),
@@ -87,6 +89,8 @@ gives p x c l waiting begun few same is_label apart =
         labels = λ b ne. ap (λ (z : Block). z.label) (up.others b ne);
         marks = λ b ne. (λ h. let lt = h.1 in (h.0, omega (arith, lt, long)), λ h. h, λ h. h);
         places = λ t. absurd t;
+        rooted = λ t. absurd t;
+        newborn = λ b _ h. h;
         apart = λ b ne _. (λ h. sym (ap (λ (z : Block). z.apart) (up.others b ne)) ∙ h, λ h. ap (λ (z : Block). z.apart) (up.others b ne) ∙ h);
         instead = λ b y ne _. (λ h. (sym (ap (λ (z : Block). z.apart) (up.others b ne)) ∙ h.0, sym (ap (λ (z : Block). z.origin) (up.others b ne)) ∙ h.1), λ h. (ap (λ (z : Block). z.apart) (up.others b ne) ∙ h.0, ap (λ (z : Block). z.origin) (up.others b ne) ∙ h.1));
         waits = λ a on j _ _ _ w. w;
@@ -96,6 +100,7 @@ gives p x c l waiting begun few same is_label apart =
       no_wait = record { each = λ a on j _ w. w };
       dirty = λ b h. absurd h;
       uses = record { spare = omega (arith, long, few); usable = omega (arith, long, few); room = omega arith; pins = refl; moments = refl; left = λ k image h. h };
+      queued = refl;
       numbers = record { next = refl; grants = λ h. h };
     }
 

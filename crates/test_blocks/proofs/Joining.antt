@@ -42,12 +42,14 @@ joins {at} {i} {s} {old} {mid} {new} {x} up size label apart rises other under o
 
 -- ---- what the calls say of it
 
-pub frame : (p : Silent) (new : List Block) (waits : List Wait) (room n at i : ℕ) (slot : Slot) → Joins at i slot p.blocks new → room + n ≡ p.room → ((a on j : ℕ) → on ≢ at → Awaits p.waits a on j → Awaits waits a on j) → (put : ℕ → Type 0) → ((b : ℕ) → (b ≡ at) ⊎ (target slot ≡ Local b) → put b) → Frame (λ b. b ≡ at) put n (state_of p) (state_of (record p { blocks = new; waits = waits; room = room }))
-frame p new waits room n at i slot joins used still put is_put = let long = joins.as_long in record {
+pub frame : (p : Silent) (new : List Block) (waits : List Wait) (room queued n at i : ℕ) (slot : Slot) → Joins at i slot p.blocks new → room + n ≡ p.room → ((a on j : ℕ) → on ≢ at → Awaits p.waits a on j → Awaits waits a on j) → (put : ℕ → Type 0) → ((b : ℕ) → (b ≡ at) ⊎ (target slot ≡ Local b) → put b) → Frame (λ b. b ≡ at) put n (state_of p) (state_of (record p { blocks = new; waits = waits; room = room; queued = queued }))
+frame p new waits room queued n at i slot joins used still put is_put = let long = joins.as_long in record {
   stays = record {
     labels = λ b _. joins.labels b;
     marks = λ b _. (λ h. (h.0, subst (λ n. b < n) (sym joins.as_long) h.1), λ h. h, λ h. h);
     places = λ t. absurd t;
+    rooted = λ t. absurd t;
+    newborn = λ b _ h. h;
     apart = λ b _ no. let e = joins.aparts b (λ is. no (is_put b (inr is))) in (λ h. sym e ∙ h, λ h. e ∙ h);
     instead = λ b x _ no. let e = joins.origins b (λ is. no (is_put b (inl is))) (λ is. no (is_put b (inr is))) in let f = joins.aparts b (λ is. no (is_put b (inr is))) in (λ h. (sym f ∙ h.0, sym e ∙ h.1), λ h. (f ∙ h.0, e ∙ h.1));
     waits = λ a on j _ _ no w. still a on j (λ is. no (is_put on (inl is))) w;
@@ -60,10 +62,10 @@ frame p new waits room n at i slot joins used still put is_put = let long = join
 never_both : {b : Bool} → b ≡ true → b ≡ false → ⊥
 never_both {b} t f = let both : true ≡ false = sym t ∙ f in cc
 
-pub hangs : (p : Silent) (new : List Block) (waits : List Wait) (room at i : ℕ) (slot : Slot) → Joins at i slot p.blocks new
+pub hangs : (p : Silent) (new : List Block) (waits : List Wait) (room queued at i : ℕ) (slot : Slot) → Joins at i slot p.blocks new
     → ((a on j : ℕ) → (on ≢ at) ⊎ (((j ≢ i) × (IsSecondOf i j → ⊥)) ⊎ SameUse slot ((memory p.blocks at).slot i)) → Awaits p.waits a on j → Awaits waits a on j)
-    → target slot ≢ Local at → Hangs at i slot (state_of p) (state_of (record p { blocks = new; waits = waits; room = room }))
-hangs p new waits room at i slot joins still other = record {
+    → target slot ≢ Local at → Hangs at i slot (state_of p) (state_of (record p { blocks = new; waits = waits; room = room; queued = queued }))
+hangs p new waits room queued at i slot joins still other = record {
   place = λ t. absurd t;
   put = λ b e. (λ h. never_both {b = (block_at new b).apart} h (joins.under b e).0, λ x h. never_both {b = (block_at new b).apart} h.0 (joins.under b e).0);
   at_place = λ t. absurd t;

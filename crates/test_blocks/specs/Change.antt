@@ -2,16 +2,17 @@
 use Rattle.std.specs.Prelude.{◌≡◌, ℕ, length}
 use Rattle.fo_image.specs.declared.types.Kind.TheVariants.{Data}
 use Rattle.fo_crash.specs.declared.place.Place.{Place}
-use Rattle.fo_ports.specs.State.{State, IsDoomed, IsRooted}
+use Rattle.fo_crash.specs.Images.{Reaches, to_block}
+use Rattle.fo_ports.specs.State.{State, IsDoomed}
 
 -- no block was made to come in the place of another
 pub record IsApartFromAll (s : State) : Type 0 where
   pub each : (y x : ℕ) → s.instead y x → ⊥
 
--- Where the device tells, the block stands at a place of data of this rank, hangs in memory, and is not to be closed.
+-- Where the device tells, the block stands at a place of data of this rank, hangs from block 1, and is not to be closed.
 pub record StandsOnce (s : State) (at rank : ℕ) : Type 0 where
   pub place : s.tells → (p : Place) × s.stands at p × (p.kind ≡ Data 0) × (p.rank ≡ rank)
-  pub rooted : s.tells → IsRooted s at
+  pub linked : s.tells → Reaches s.now (to_block 1) at
   pub undoomed : s.tells → IsDoomed s at → ⊥
 
 pub record StandsSo (s : State) (at rank : ℕ) : Type 0 where

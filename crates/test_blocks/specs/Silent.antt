@@ -21,6 +21,7 @@ pub record Silent : Type 0 where
   pub high : ℕ
   pub next : ℕ
   pub room : ℕ
+  pub queued : ℕ
 
 -- a block that was not given out
 abbrev pub no_block : Block
@@ -74,7 +75,7 @@ pub record BeginsEpoch (old new : Silent) : Type 0 where
   pub as_long : length new.blocks ≡ length old.blocks
   pub root : block_at new.blocks 2 ≡ record (block_at old.blocks 2) { label = record (block_at old.blocks 2).label { epoch = new.high } }
   pub others : (b : ℕ) → b ≢ 2 → block_at new.blocks b ≡ block_at old.blocks b
-  pub rest : (new.waits ≡ old.waits) × (new.next ≡ old.next) × (new.room ≡ old.room)
+  pub rest : (new.waits ≡ old.waits) × (new.next ≡ old.next) × (new.room ≡ old.room) × (new.queued ≡ old.queued)
 
 -- Each slot leads to a data block, if to any.
 pub record LeadsWithin (count : ℕ) (kind : Kind) (bytes : List ℕ) : Type 0 where
@@ -163,7 +164,8 @@ pub record AddsPairs (at on : ℕ) (kind : Kind) (bytes : List ℕ) (count : ℕ
 abbrev pub is_other : ℕ → ℕ → Wait → Bool
 is_other on pair w = not (w.on == on) || not (w.pair == pair)
 
--- Nothing is told, so no image is left, nothing stands, and nothing is to be closed. No slot waits to be cleared, and none is written.
+-- Nothing is told, so no image is left, nothing stands, and nothing is to be closed. No slot waits to be cleared, and none is written, so
+-- nothing is newborn and all is sealed.
 -- What is held under a score is said where the device tells alone, so nothing is.
 abbrev pub state_of : Silent → State
 state_of p = record {
@@ -172,7 +174,9 @@ state_of p = record {
   stands = λ b q. ⊥;
   apart = IsApart p.blocks;
   instead = Instead p.blocks;
+  newborn = λ b. ⊥;
   high = p.high;
+  low = 1;
   root = 2;
   tops = λ t. t ≡ 1;
   is_block = IsData p.count;
@@ -187,7 +191,7 @@ state_of p = record {
   doubt = λ c. ⊥;
   sure = λ b. ⊥;
   fresh = λ b. Unit {0};
-  sealed = λ b. ⊥;
+  sealed = λ b. Unit {0};
   spare = p.count - length p.blocks;
   pins_left = 2 ^ 32;
   room = p.room;
@@ -195,7 +199,7 @@ state_of p = record {
   usable = p.count - length p.blocks;
   label_block = λ b. 0;
   dirty = λ b. ⊥;
-  queued = 0;
+  queued = p.queued;
   waits = Awaits p.waits;
   clearing = λ b j. ⊥;
   covered = λ b. ⊥;

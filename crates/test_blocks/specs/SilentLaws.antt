@@ -110,6 +110,7 @@ keeps_joins p q r a b = record { count = b.count ∙ a.count; high = b.high ∙ 
 pub keeps_all : (p q : Silent) → SilentKeeps p q → KeepsAll (state_of p) (state_of q)
 keeps_all p q k = record {
   same_high = k.high;
+  same_low = refl;
   same_root = refl;
   same_tops = λ t. (λ h. h, λ h. h);
   same_blocks = λ b. (λ h. (h.0, subst (λ n. b < n) k.count h.1), λ h. (h.0, subst (λ n. b < n) (sym k.count) h.1));

@@ -10,4 +10,5 @@ parts s = record {
   high = s.high;
   next = s.next;
   room = s.room;
+  queued = s.queued;
 }

@@ -3,11 +3,35 @@ use fo_crash::{Place, Slot};
 use fo_image::{Kind, Score, State};
 use fo_ports::{BlockError, Blocks};
 use fo_ports_plain::PlainBlocks;
+use std::alloc::Global;
 use std::test::Fail;
 
-/// Each call that takes memory, with ample memory: a block is held under its score and its kind, and the last one counts.
+/// The last byte of the epoch that the root block of a new device spells, and the next file number.
+fn asked(alloc: Global) -> Result<(u8, Option<u32>), BlockError> {
+    let mut on = PlainBlocks::new(alloc, 2)?;
+    let mut block = [0; 8192];
+    on.get(2, Kind::Root, 2144, &mut block)?;
+    Ok((block[11], on.number()?))
+}
+
+/// A new device is settled.
+fn settled(alloc: Global) -> Result<(), BlockError> {
+    let mut on = PlainBlocks::new(alloc, 2)?;
+    on.settle()
+}
+
+/// Room for two blocks and three removals.
+fn reserved(alloc: Global) -> Result<(), BlockError> {
+    let mut on = PlainBlocks::new(alloc, 2)?;
+    on.reserve(2, 1, 3)
+}
+
+/// Each call that may want memory, with ample memory: a block is held under its score and its kind, and the last one counts.
 #[test]
 fn ample(rt: HostRuntime) -> Result<(), Fail> {
+    assert_eq!(rt; asked(rt.alloc())?, (1, Some(1)));
+    settled(rt.alloc())?;
+    reserved(rt.alloc())?;
     let mut on = PlainBlocks::new(rt.alloc(), 2)?;
     let mut into = [1; 8192];
     let score = Score([5; 20]);

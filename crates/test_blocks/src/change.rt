@@ -37,7 +37,7 @@ fn put<B: Blocks>(blocks: &mut B, at: u32, rank: u32, from: u32, byte: u8) -> Re
     requires stands { StandsSo (B.state blocks.old) at rank }
     requires plain { rank % 32 ≢ 16 }
     requires within { from < 8192 }
-    ensures clean { OnOk result ((b : ℕ) → (B.state blocks.new).dirty b → IsUnlinked (B.state blocks.new) b) }
+    ensures clean { OnOk result ((b : ℕ) → (B.state blocks.new).dirty b → (B.state blocks.new).newborn b × ((B.state blocks.new).tells → IsUnlinked (B.state blocks.new) b)) }
     ensures cause { IfErr result (Caused ⊥ (λ b. ⊥) (Rose (B.state blocks.old).faults (B.state blocks.new).faults) ⊥) }
     ensures keeps { B.keeps blocks.old blocks.new }
 {
@@ -60,7 +60,7 @@ pub fn put_byte<B: Blocks>(
     requires stands { StandsOnce (B.state blocks.old) at rank }
     requires plain { rank % 32 ≢ 16 }
     requires within { from < 8192 }
-    ensures clean { IfOk result (λ done. done ≡ true → (b : ℕ) → (B.state blocks.new).dirty b → IsUnlinked (B.state blocks.new) b) }
+    ensures clean { IfOk result (λ done. done ≡ true → (b : ℕ) → (B.state blocks.new).dirty b → (B.state blocks.new).newborn b × ((B.state blocks.new).tells → IsUnlinked (B.state blocks.new) b)) }
     ensures cause { IfErr result (Caused ⊥ (λ b. (B.state blocks.old).tells → ⊥) (Rose (B.state blocks.old).faults (B.state blocks.new).faults) ⊥) }
     ensures keeps { B.keeps blocks.old blocks.new }
 {

@@ -2,14 +2,14 @@
 //! the removals that wait (`fo_unlink`), slots in bytes (`fo_slots`), blocks in memory (`fo_ports_plain`), and
 //! sources of bytes over them (`fo_ports_source`).
 //!
-//! Beside them stand files that tell nothing of what they hold and answer whatever fits (`CarelessFiles`): so the contract of files can
-//! be kept by a silent disk, and promises no more there; `agreed_length` asks any files twice how long a file is, which honest ones answer
-//! alike. Blocks that tell nothing (`CarelessBlocks`) keep each clause and law of the
-//! contract of blocks: what was given out is in memory for good, nothing is ever closed, no slot waits to be cleared, and every other
-//! fetch finds nothing, as an arena in a file may read differently each time. So they show nothing of blocks that are read from a
-//! device, of buffers that run out, or of slots that wait. `put_byte` changes a byte of a block over any blocks, also those of a device
-//! that tells nothing, and each of its refusals has its cause. `fetch_twice` says that what was fetched is fetched again, the same,
-//! where the device tells; over `CarelessBlocks` it isn't.
+//! Beside them stand files that tell nothing of what they hold and answer whatever fits (`CarelessFiles`): so the contract of files can be
+//! kept by a silent disk, and promises no more there; `agreed_length` asks any files twice how long a file is, which honest ones answer
+//! alike. Blocks that tell nothing (`CarelessBlocks`) keep each clause and law of the contract of blocks: what was given out is in memory
+//! for good, nothing is ever closed, so what is queued stays so, no slot waits to be cleared, and every other fetch finds nothing, as an
+//! arena in a file may read differently each time. So they show nothing of blocks that are read from a device, of buffers that run out, or
+//! of slots that wait. `put_byte` changes a byte of a block over any blocks, also those of a device that tells nothing, and each of its
+//! refusals has its cause. `fetch_twice` says that what was fetched is fetched again, the same, where the device tells; over
+//! `CarelessBlocks` it isn't.
 //!
 //! Bytes that are wanted were worked out by hand from docs/FORMATS.md. Nothing here is said of any caller.
 #![tactic(auto)]
@@ -35,6 +35,8 @@ mod crash;
 mod files;
 #[cfg(test)]
 mod meta;
+#[cfg(test)]
+mod queues;
 #[cfg(test)]
 mod silence;
 #[cfg(test)]

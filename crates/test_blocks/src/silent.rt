@@ -45,8 +45,9 @@ pub struct Wait {
 
 /// Blocks over a device that tells nothing, and on which nothing was ever written.
 ///
-/// What was given out is in memory for good, pinned and never written: so `get` has these, and any other is damaged. No image is left,
-/// nothing stands, nothing is to be closed, and no slot waits to be cleared: a removal clears at once, and all is settled always.
+/// What was given out is in memory for good, pinned, sealed and never written: so `get` has these, and any other is damaged. No image is left,
+/// nothing stands, nothing is to be closed, and no slot waits to be cleared: a removal clears at once, and all is settled always. Removals
+/// are counted as queued and stay so, as none is ever done.
 /// Blocks are given out by address up to `count`, whose room is taken at the start; the root has the label of a leaf of entries. Pairs
 /// that are waited for stand in a list until they are removed, or until room is made. The arena reads differently each time: every
 /// other fetch finds nothing (`lacks`), and the others find zeros.
@@ -58,6 +59,7 @@ pub struct CarelessBlocks {
     pub(crate) high: u32,
     pub(crate) next: u32,
     pub(crate) room: u32,
+    pub(crate) queued: u32,
     pub(crate) lacks: bool,
     ghost begun: { 2 < length blocks.items },
     ghost few: { length blocks.items ≤ count },
@@ -179,6 +181,13 @@ fn ends(old: &Pointer, new: &Pointer) -> u32
         (Pointer::Local(_), _) => 1,
         _ => 0,
     }
+}
+
+/// How many removals are queued once there are so many more, up to 2^32 - 1.
+fn counted(queued: u32, removals: u32) -> u32
+    ensures { (queued ≤ result) × (0 < removals → (queued < result) ⊎ (2 ^ 32 - 1 ≤ result)) }
+{
+    queued.saturating_add(removals)
 }
 
 /// How many removals a put takes.
@@ -332,6 +341,7 @@ impl CarelessBlocks {
             high: 1,
             next: 1,
             room: 0,
+            queued: 0,
             lacks: false,
         })
     }
@@ -538,13 +548,16 @@ impl CarelessBlocks {
         }
     }
 
-    /// Takes room.
+    /// Takes room for removals, which are queued.
     pub(crate) fn take_room(&mut self, removals: u32)
         requires { removals ≤ self.old.room }
         ensures room { self.new.room + removals ≡ self.old.room }
-        ensures rest { parts self.new ≡ record (parts self.old) { room = self.new.room } }
+        ensures more { self.old.queued ≤ self.new.queued }
+        ensures some { 0 < removals → (self.old.queued < self.new.queued) ⊎ (2 ^ 32 - 1 ≤ self.new.queued) }
+        ensures rest { parts self.new ≡ record (parts self.old) { room = self.new.room; queued = self.new.queued } }
     {
         self.room -= removals;
+        self.queued = counted(self.queued, removals);
     }
 
     /// Ends all waits, since all is settled, and makes room for so many removals and waits.

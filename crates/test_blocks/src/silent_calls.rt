@@ -100,17 +100,22 @@ impl Blocks for CarelessBlocks {
         self.take_room(1);
     }
 
+    /// What is queued is never done, so it is for want of memory that no more can be made where there is any.
     fn reserve(&mut self, blocks: u32, pins: u32, removals: u32) -> Result<(), BlockError> {
         let _ = pins;
         if self.count - (self.blocks.len() as u32) < blocks {
-            return Err(BlockError::Full);
+            return Err(if self.queued == 0 {
+                BlockError::Full
+            } else {
+                BlockError::Memory
+            });
         }
         self.make_room(removals)
     }
 
     fn sealed(&self, at: u32) -> bool {
         let _ = at;
-        false
+        true
     }
 
     fn is_sure(&self, at: u32) -> bool {
@@ -145,6 +150,8 @@ impl Blocks for CarelessBlocks {
 
     ghost root_is = { λ b. law.root_is (parts b) b.begun b.few };
 
+    ghost root_linked = { λ b h. h };
+
     ghost one_place = { λ b. law.one_place (parts b) };
 
     ghost super_stands = { λ b t. absurd t };
@@ -163,6 +170,8 @@ impl Blocks for CarelessBlocks {
 
     ghost labelled = { λ b at p told. absurd told };
 
+    ghost standing = { λ b at p told. absurd told };
+
     ghost within = { λ b. law.within (parts b) b.sound };
 
     ghost small = { λ b. law.small (parts b) b.small };
@@ -177,7 +186,7 @@ impl Blocks for CarelessBlocks {
 
     ghost sure = { λ b at _. law.is_sure (parts b) at };
 
-    ghost in_place = { λ b at sealed. absurd sealed };
+    ghost in_place = { λ b at sealed doomed r image h. absurd h };
 
     ghost super_known = { λ b. law.super_known (parts b) };
 

@@ -134,11 +134,11 @@ fn sealed(rt: HostRuntime) -> Result<(), Fail> {
     Ok(())
 }
 
-/// Blocks that tell nothing never say that a leaf is sealed.
+/// So it is over blocks that tell nothing and are never written.
 #[test]
-fn unsealed(rt: HostRuntime) -> Result<(), Fail> {
+fn sealed_unwritten(rt: HostRuntime) -> Result<(), Fail> {
     let mut on = careless(rt.alloc())?;
-    assert!(rt; !added_if_sealed(&mut on, file()));
+    assert!(rt; added_if_sealed(&mut on, file()));
     Ok(())
 }
 

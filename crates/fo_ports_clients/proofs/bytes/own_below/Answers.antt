@@ -10,7 +10,7 @@ use Rattle.fo_crash.proofs.Reach.{reaches_on}
 use Rattle.fo_ports.specs.Blocks.{SlotFits, slot_count}
 use Rattle.fo_ports_clients.specs.Own.{led}
 use Rattle.fo_ports_clients.proofs.Own.{led_note, led_target, led_fits, led_use, waited_entry, one_way, apart_by, older_apart}
-use Rattle.fo_ports_clients.proofs.Copies.{may_lead, put_places, none_instead, local_eq}
+use Rattle.fo_ports_clients.proofs.Copies.{Copies, at_stays, may_lead, put_places, none_instead, local_eq}
 use Rattle.fo_ports_clients.proofs.Tree.{Tree, standing, led_stays}
 use Rattle.fo_ports_clients.proofs.bytes.own_below.Goals as goal
 
@@ -103,6 +103,7 @@ put_slot-requires-clause-may g c = λ told.
       to = to;
       all = k;
       tree = record { one = g.met.B.Blocks.one_place on; placed = g.met.B.Blocks.placed on s.now (g.met.B.Blocks.present on was); falls = g.met.B.Blocks.ranked on s.now (g.met.B.Blocks.present on was); super_stands = g.met.B.Blocks.super_stands on was };
+      active = (g.met.B.Blocks.active mid).0;
       one = g.met.B.Blocks.one_place mid;
       live = λ b ne r. g.met.B.Blocks.live on b was ne r;
       clears = g.met.B.Blocks.clears_entries mid;
@@ -150,13 +151,32 @@ returns-clause-place g c = λ was p stands.
     let k = g.met.B.Blocks.keeps_all on mid c.copy-copy.ensures.keeps in
     let tree : Tree s.stands s.now = record { one = g.met.B.Blocks.one_place on; placed = g.met.B.Blocks.placed on s.now (g.met.B.Blocks.present on was); falls = g.met.B.Blocks.ranked on s.now (g.met.B.Blocks.present on was); super_stands = g.met.B.Blocks.super_stands on was } in
     let reached = c.requires.reached was in
+    let copies : Copies at c.args.i c.args.below copy c.led.result s t = record {
+      tells = was;
+      at_apart = c.requires.at_apart;
+      reached = c.requires.reached was;
+      leads = c.requires.leads;
+      older = c.requires.older;
+      linked = c.requires.linked was;
+      gives = gives;
+      instead = c.copy-copy.ensures.instead;
+      place = c.copy-copy.ensures.place was;
+      notes = notes;
+      to = to;
+      all = k;
+      tree = record { one = g.met.B.Blocks.one_place on; placed = g.met.B.Blocks.placed on s.now (g.met.B.Blocks.present on was); falls = g.met.B.Blocks.ranked on s.now (g.met.B.Blocks.present on was); super_stands = g.met.B.Blocks.super_stands on was };
+      active = (g.met.B.Blocks.active mid).0;
+      one = g.met.B.Blocks.one_place mid;
+      live = λ b ne r. g.met.B.Blocks.live on b was ne r;
+      clears = g.met.B.Blocks.clears_entries mid;
+    } in
     let here = standing tree reached in
     let uncovered = (g.met.B.Blocks.live on at was c.requires.at_apart reached).2 in
     subst (λ q. (g.B.Blocks.state c.put_slot.new.self).stands copy q) (led_stays c.args.i c.led.result p tree reached c.requires.leads notes stands)
-    (c.put_slot.ensures.hangs.place (k.still_tells.1 was) copy here.where_at (gives.stays.places was at here.where_at at_ne (λ h. h) (λ h. uncovered ((gives.covered at at_ne).0 h)) here.is_there) to)
+    (c.put_slot.ensures.hangs.place (k.still_tells.1 was) copy here.where_at (at_stays copies here.where_at here.is_there) to)
 
 pub returns-clause-places : goal.returns-clause-places
-returns-clause-places g c = λ was b p ne stands spared.
+returns-clause-places g c = λ was b p ne stands spared rooted.
     let on = c.args.on.now in
     let mid = c.copy-copy.new.self in
     let s = g.B.Blocks.state on in
@@ -171,9 +191,9 @@ returns-clause-places g c = λ was b p ne stands spared.
     let notes : note c.led.result ≡ note old_slot = ap note led_is ∙ led_note old_slot copy in
     let to : target c.led.result ≡ Local copy = ap target led_is ∙ led_target old_slot c.args.below copy c.requires.leads in
     let told = (g.met.B.Blocks.keeps_all on mid c.copy-copy.ensures.keeps).still_tells.1 was in
-    let between = gives.stays.places was b p ne (λ h. h) (λ h. spared ((c.put_slot.ensures.covers told).still b h)) stands in
+    let between = gives.stays.places was b p ne (λ h. h) (λ h. spared ((c.put_slot.ensures.covers told).still b h)) (c.put_slot.ensures.frame.stays.rooted told b (λ n. n) rooted) stands in
     let new = g.B.Blocks.state c.put_slot.new.self in
-    put_places told c.put_slot.ensures.frame c.put_slot.ensures.hangs b p (λ e. ne (local_eq (sym e ∙ to))) spared between
+    put_places told c.put_slot.ensures.frame c.put_slot.ensures.hangs b p (λ e. ne (local_eq (sym e ∙ to))) spared rooted between
 
 pub returns-clause-linked : goal.returns-clause-linked
 returns-clause-linked g c = λ told y x is.

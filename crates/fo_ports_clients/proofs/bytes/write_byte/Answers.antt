@@ -8,6 +8,7 @@ use Rattle.fo_crash.proofs.Reach.{reaches_on}
 use Rattle.fo_crash.proofs.Keeps.{keeps_joins, keeps_fewer}
 use Rattle.fo_ports.specs.Blocks.{put_at}
 use Rattle.fo_ports.proofs.Lengths.{length_put_at}
+use Rattle.fo_ports_clients.proofs.Copies.{tree_rooted}
 use Rattle.fo_ports_clients.proofs.Leaf.{plain_formed}
 use Rattle.fo_ports_clients.proofs.Own.{other_leaf, apart_by}
 use Rattle.fo_ports_clients.proofs.Tree.{Tree, standing, root_reached}
@@ -46,8 +47,9 @@ put_bytes-requires-clause-formed g c = λ told p stands.
     let here = standing tree (reaches_on c.args.k (reaches_on 0 (from_root told_old) top_is) c.requires.leaf_leads) in
     let leaf_ne : c.args.leaf ≢ own_top = apart_by (λ x. ((g.B.Blocks.state on).label x).state) c.args.leaf own_top (λ e. first.fresh.1 (sym e ∙ c.requires.leaf_live)) in
     let mid_leads : target (((g.B.Blocks.state mid).now own_top).slot c.args.k) ≡ Local c.args.leaf = ap target (first.copied.slots c.args.k) ∙ c.requires.leaf_leads in
-    let uncovered = (g.met.B.Blocks.live mid c.args.leaf told_mid c.requires.apart.2 (reaches_on c.args.k (mid_top told_mid) mid_leads)).2 in
-    let there = second.place told_mid here.where_at (first.places told_old c.args.leaf here.where_at leaf_ne here.is_there uncovered) in
+    let mid_leaf = reaches_on c.args.k (mid_top told_mid) mid_leads in
+    let uncovered = (g.met.B.Blocks.live mid c.args.leaf told_mid c.requires.apart.2 mid_leaf).2 in
+    let there = second.place told_mid here.where_at (first.places told_old c.args.leaf here.where_at leaf_ne here.is_there uncovered (tree_rooted (g.B.Blocks.state mid) c.args.leaf (g.met.B.Blocks.active mid).0 mid_leaf)) in
     let is : here.where_at ≡ p = (g.met.B.Blocks.one_place last).each c.own_below-own_leaf.result here.where_at p there stands in
     let kind : here.where_at.kind ≡ Data 0 = sym (g.met.B.Blocks.labelled on c.args.leaf here.where_at told_old c.requires.apart.2 here.is_there).1 ∙ c.requires.leaf_kind in
     let long : length (((g.B.Blocks.state last).now c.own_below-own_leaf.result).bytes) ≡ 8192 = ap length (second.copied.bytes ∙ first.bytes c.args.leaf leaf_ne) ∙ c.requires.leaf_long in

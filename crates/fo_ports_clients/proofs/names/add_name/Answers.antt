@@ -9,9 +9,10 @@ use Rattle.fo_crash.specs.Images.{target, depth_of}
 use Rattle.fo_crash.specs.Names.{IsInUse}
 use Rattle.fo_crash.proofs.Names.{free_entry_put, leaf_put}
 use Rattle.fo_ports.specs.Blocks.{MayPut, put_at}
+use Rattle.fo_ports.specs.State.{IsRooted}
 use Rattle.fo_ports.proofs.Lengths.{length_put_at}
 use Rattle.fo_ports_clients.specs.Leaf.{Lists}
-use Rattle.fo_ports_clients.proofs.Leaf.{put_lists, bytes_beside, still_all, free_is_empty, never_drops, few_slots, place_is, plain_formed, may_put_nil, nil_cost, nil_places, still_uncovered, nil_local, nil_instead}
+use Rattle.fo_ports_clients.proofs.Leaf.{put_lists, bytes_beside, still_all, free_is_empty, never_drops, few_slots, place_is, plain_formed, may_put_nil, nil_cost, nil_places, nil_rooted, calm_rooted, held_rooted, still_uncovered, nil_local, nil_instead}
 use Rattle.fo_ports_clients.proofs.names.add_name.Given as given
 use Rattle.fo_ports_clients.proofs.names.add_name.Goals as goal
 
@@ -32,7 +33,7 @@ pub put_slot-requires-clause-may : goal.put_slot-requires-clause-may
 put_slot-requires-clause-may g c = λ told.
     let s = g.B.Blocks.state c.args.on.now in
     let empty = free_is_empty (s.label c.args.entries).kind c.args.i ((s.now c.args.entries).slot c.args.i) (g.met.B.Blocks.spelled c.args.on.now c.args.entries c.args.i c.requires.entries_pinned c.requires.slots) c.requires.free c.args.entry c.requires.spelled in
-    may_put_nil c.args.entries c.args.i (Head c.args.entry) c.requires.empty empty.0 c.requires.uncovered.1 (c.requires.held told)
+    may_put_nil c.args.entries c.args.i (Head c.args.entry) c.requires.empty empty.0 empty.1 c.requires.uncovered.1 (c.requires.held told).0
 
 pub put_slot-requires-clause-room : goal.put_slot-requires-clause-room
 put_slot-requires-clause-room g c =
@@ -62,8 +63,12 @@ same_room g c =
     let left : t.room + 0 ≡ s.room = subst (λ n. t.room + n ≡ s.room) (nil_cost slot (Head c.args.entry) empty.1 empty.0) c.put_slot.ensures.frame.uses.room in
     omega (arith, left)
 
-stays : (g : given.Over) (c : goal.After-wait_for-arg-1 g) → (g.B.Blocks.state c.args.on.now).tells → (b : ℕ) (p : Place) → ((g.B.Blocks.state c.args.on.now).covered b → ⊥) → (g.B.Blocks.state c.args.on.now).stands b p → (g.B.Blocks.state c.put_slot.new.self).stands b p
-stays g c told b p uncovered at_p = nil_places told c.put_slot.ensures.frame c.put_slot.ensures.hangs (c.put_slot.ensures.covers told) c.requires.empty (was_empty g c).0 b p uncovered at_p
+-- what hung before the put hangs after it
+put_rooted : (g : given.Over) (c : goal.After-wait_for-arg-1 g) (b : ℕ) → IsRooted (g.B.Blocks.state c.args.on.now) b → IsRooted (g.B.Blocks.state c.put_slot.new.self) b
+put_rooted g c = nil_rooted (g.met.B.Blocks.keeps_all c.args.on.now c.put_slot.new.self c.put_slot.ensures.keeps) c.put_slot.ensures.frame c.put_slot.ensures.hangs c.put_slot.ensures.now c.requires.empty (was_empty g c).0
+
+stays : (g : given.Over) (c : goal.After-wait_for-arg-1 g) → (g.B.Blocks.state c.args.on.now).tells → (b : ℕ) (p : Place) → ((g.B.Blocks.state c.args.on.now).covered b → ⊥) → IsRooted (g.B.Blocks.state c.args.on.now) b → (g.B.Blocks.state c.args.on.now).stands b p → (g.B.Blocks.state c.put_slot.new.self).stands b p
+stays g c told b p uncovered rooted at_p = nil_places told c.put_slot.ensures.frame c.put_slot.ensures.hangs (c.put_slot.ensures.covers told) c.requires.empty (was_empty g c).0 b p uncovered (put_rooted g c b rooted) at_p
 
 pub wait_for-requires-clause-room : goal.wait_for-requires-clause-room
 wait_for-requires-clause-room g c = let same = same_room g c in let room = c.requires.room in omega (arith, same, room)
@@ -72,11 +77,13 @@ pub wait_for-requires-clause-lower : goal.wait_for-requires-clause-lower
 wait_for-requires-clause-lower g c = λ told.
     let before = (g.met.B.Blocks.keeps_all c.args.on.now c.put_slot.new.self c.put_slot.ensures.keeps).still_tells.0 told in
     let low = c.requires.lower before in
+    let held = c.requires.held before in
+    let entries_held = held_rooted (g.B.Blocks.state c.args.on.now) c.args.entries (g.met.B.Blocks.active c.args.on.now).0 held.0 in
     let one = g.met.B.Blocks.one_place c.put_slot.new.self in (
       (c.put_slot.ensures.frame.stays.marks c.args.leaf (λ n. n)).1 (c.requires.sealed before),
       λ p q leaf_at entries_at.
-          let leaf_is : p ≡ low.upper_at = place_is c.args.leaf low.upper_at p one (stays g c before c.args.leaf low.upper_at c.requires.uncovered.0 low.upper_stands) leaf_at in
-          let entries_is : q ≡ low.lower_at = place_is c.args.entries low.lower_at q one (stays g c before c.args.entries low.lower_at c.requires.uncovered.1 low.lower_stands) entries_at in
+          let leaf_is : p ≡ low.upper_at = place_is c.args.leaf low.upper_at p one (stays g c before c.args.leaf low.upper_at c.requires.uncovered.0 held.1 low.upper_stands) leaf_at in
+          let entries_is : q ≡ low.lower_at = place_is c.args.entries low.lower_at q one (stays g c before c.args.entries low.lower_at c.requires.uncovered.1 entries_held low.lower_stands) entries_at in
           omega (arith, ap (λ (x : Place). x.rank) leaf_is, ap (λ (x : Place). x.rank) entries_is, low.falls),
     )
 
@@ -101,9 +108,12 @@ put_bytes-requires-clause-formed g c = λ told p stands.
     let empty = free_is_empty (s.label c.args.entries).kind c.args.i ((s.now c.args.entries).slot c.args.i) (g.met.B.Blocks.spelled on c.args.entries c.args.i c.requires.entries_pinned c.requires.slots) c.requires.free c.args.entry c.requires.spelled in
     let low = c.requires.lower before in
     let covers = c.put_slot.ensures.covers before in
-    let mid_stands = nil_places before c.put_slot.ensures.frame c.put_slot.ensures.hangs covers c.requires.empty empty.0 c.args.leaf low.upper_at c.requires.uncovered.0 low.upper_stands in
+    let put_all = g.met.B.Blocks.keeps_all on c.put_slot.new.self c.put_slot.ensures.keeps in
+    let mid_rooted = nil_rooted put_all c.put_slot.ensures.frame c.put_slot.ensures.hangs c.put_slot.ensures.now c.requires.empty empty.0 c.args.leaf (c.requires.held before).1 in
+    let wait_rooted = calm_rooted (g.met.B.Blocks.keeps_all c.put_slot.new.self c.wait_for.new.self c.wait_for.ensures.keeps) c.wait_for.ensures.calm (λ x j. (c.wait_for.ensures.now.each x).slots j) c.args.leaf mid_rooted in
+    let mid_stands = nil_places before c.put_slot.ensures.frame c.put_slot.ensures.hangs covers c.requires.empty empty.0 c.args.leaf low.upper_at c.requires.uncovered.0 mid_rooted low.upper_stands in
     let spared : (g.B.Blocks.state c.wait_for.new.self).covered c.args.leaf → ⊥ = λ h. still_uncovered c.args.leaf covers empty.0 c.requires.uncovered.0 ((c.wait_for.ensures.calm.covered.covered c.args.leaf).0 h) in
-    let there = c.wait_for.ensures.calm.frame.stays.places between c.args.leaf low.upper_at (λ n. n) (λ n. n) spared mid_stands in
+    let there = c.wait_for.ensures.calm.frame.stays.places between c.args.leaf low.upper_at (λ n. n) (λ n. n) spared wait_rooted mid_stands in
     let is : p ≡ low.upper_at = place_is c.args.leaf low.upper_at p (g.met.B.Blocks.one_place c.wait_for.new.self) there stands in
     let at_place = c.requires.leaf_place before p (subst (λ (x : Place). s.stands c.args.leaf x) (sym is) low.upper_stands) in
     let small : c.args.i < 409 = few_slots (s.label c.args.entries).kind c.args.i c.requires.slots in
@@ -169,9 +179,12 @@ returns-clause-place g c = λ told p stands.
     let wait = c.wait_for.ensures.calm in
     let put = c.put_bytes.ensures.calm in
     let spared : (g.B.Blocks.state c.wait_for.new.self).covered c.args.leaf → ⊥ = λ h. still_uncovered c.args.leaf covers empty.0 c.requires.uncovered.0 ((wait.covered.covered c.args.leaf).0 h) in
-    put.frame.stays.places later c.args.leaf p (λ n. n) (λ n. n) (λ h. spared ((put.covered.covered c.args.leaf).0 h))
-    (wait.frame.stays.places between c.args.leaf p (λ n. n) (λ n. n) spared
-    (nil_places told c.put_slot.ensures.frame c.put_slot.ensures.hangs covers c.requires.empty empty.0 c.args.leaf p c.requires.uncovered.0 stands))
+    let mid_rooted = nil_rooted (g.met.B.Blocks.keeps_all on c.put_slot.new.self c.put_slot.ensures.keeps) c.put_slot.ensures.frame c.put_slot.ensures.hangs c.put_slot.ensures.now c.requires.empty empty.0 c.args.leaf (c.requires.held told).1 in
+    let wait_rooted = calm_rooted (g.met.B.Blocks.keeps_all c.put_slot.new.self c.wait_for.new.self c.wait_for.ensures.keeps) wait (λ x j. (c.wait_for.ensures.now.each x).slots j) c.args.leaf mid_rooted in
+    let last_rooted = calm_rooted (g.met.B.Blocks.keeps_all c.wait_for.new.self c.put_bytes.new.self c.put_bytes.ensures.keeps) put c.put_bytes.ensures.now.slots c.args.leaf wait_rooted in
+    put.frame.stays.places later c.args.leaf p (λ n. n) (λ n. n) (λ h. spared ((put.covered.covered c.args.leaf).0 h)) last_rooted
+    (wait.frame.stays.places between c.args.leaf p (λ n. n) (λ n. n) spared wait_rooted
+    (nil_places told c.put_slot.ensures.frame c.put_slot.ensures.hangs covers c.requires.empty empty.0 c.args.leaf p c.requires.uncovered.0 mid_rooted stands))
 
 pub returns-clause-instead : goal.returns-clause-instead
 returns-clause-instead g c = λ y x is.

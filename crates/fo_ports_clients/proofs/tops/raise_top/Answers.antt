@@ -54,6 +54,7 @@ put_slot-requires-clause-may g c = λ told.
       instead = c.new_block-top.ensures.instead;
       all = k;
       tree = record { one = g.met.B.Blocks.one_place on; placed = g.met.B.Blocks.placed on s.now (g.met.B.Blocks.present on was); falls = g.met.B.Blocks.ranked on s.now (g.met.B.Blocks.present on was); super_stands = g.met.B.Blocks.super_stands on was };
+      active = (g.met.B.Blocks.active mid).0;
       one = g.met.B.Blocks.one_place mid;
       live = λ b ne r. g.met.B.Blocks.live on b was ne r;
     } in
@@ -100,6 +101,7 @@ put_slot-requires-2-clause-may g c = λ told.
       instead = c.new_block-top.ensures.instead;
       all = k;
       tree = record { one = g.met.B.Blocks.one_place on; placed = g.met.B.Blocks.placed on s.now (g.met.B.Blocks.present on was); falls = g.met.B.Blocks.ranked on s.now (g.met.B.Blocks.present on was); super_stands = g.met.B.Blocks.super_stands on was };
+      active = (g.met.B.Blocks.active mid).0;
       one = g.met.B.Blocks.one_place mid;
       live = λ b ne r. g.met.B.Blocks.live on b was ne r;
     } in
@@ -145,6 +147,7 @@ returns-clause-place g c = λ was.
       instead = c.new_block-top.ensures.instead;
       all = k;
       tree = record { one = g.met.B.Blocks.one_place on; placed = g.met.B.Blocks.placed on s.now (g.met.B.Blocks.present on was); falls = g.met.B.Blocks.ranked on s.now (g.met.B.Blocks.present on was); super_stands = g.met.B.Blocks.super_stands on was };
+      active = (g.met.B.Blocks.active mid).0;
       one = g.met.B.Blocks.one_place mid;
       live = λ b ne r. g.met.B.Blocks.live on b was ne r;
     } in

@@ -1,6 +1,8 @@
-use Rattle.std.proofs.Common.{◌≤◌, length, lit≤, refl, sym, ◌∙◌, ap, subst, ⊎_elim, arith}
+use Rattle.std.proofs.Common.{◌≤◌, inr, length, lit≤, refl, sym, ◌∙◌, ap, subst, ⊎_elim, arith}
 use Rattle.std.proofs.Math.Nat.{le_refl}
 use Rattle.fo_image.specs.declared.types.Label.{Label}
+use Rattle.fo_crash.specs.Places.{place}
+use Rattle.fo_crash.proofs.Reach.{reaches_itself}
 use Rattle.fo_ports.specs.Blocks.{blank, IsLevel}
 use Rattle.fo_ports.proofs.Lengths.{length_zero_bytes}
 use Rattle.fo_ports_source.specs.Source.{HasLabel}
@@ -30,6 +32,8 @@ returns-clause-own g c =
           labelled = labelled;
           there = e.place (k.still_tells.0 told);
           uncovered = e.gives.is.4;
+          active = (g.met.B.Blocks.active c.new_block.new.self).0;
+          hung = inr (record { top = c.new_block.result; is_apart = e.gives.is.3; place = place c.args.kind c.args.tag 0 c.args.rank; stands = e.place (k.still_tells.0 told); uncovered = e.gives.is.4; reaches = reaches_itself new.now c.new_block.result });
           in_tree = λ older. absurd (omega (arith, older, current));
         };
       };
@@ -49,4 +53,6 @@ returns-clause-steps g c =
       all = g.met.B.Blocks.keeps_all c.args.on.now c.new_block.new.self e.keeps;
       present = g.met.B.Blocks.present c.new_block.new.self;
       active = (g.met.B.Blocks.active c.args.on.now).0;
+      placed = λ told. g.met.B.Blocks.placed c.args.on.now (g.B.Blocks.state c.args.on.now).now (g.met.B.Blocks.present c.args.on.now told);
+      falls = λ told. g.met.B.Blocks.ranked c.args.on.now (g.B.Blocks.state c.args.on.now).now (g.met.B.Blocks.present c.args.on.now told);
     })

@@ -37,6 +37,7 @@ returns-clause-may g c =
     let kind = ap (λ (l : Label). l.kind) label ∙ ap (λ (l : Label). l.kind) first.label in
     let bare : t.covered entries → ⊥ = λ h. first.is.4 ((second.covered entries ne).0 h) in
     let slot = (second.memory.others entries ne).slots 6 ∙ first.memory.here.slots 6 in
+    let apart : t.apart entries = (second.stays.apart entries ne (λ n. n)).1 first.is.3 in
     let room = c.requires.room in
     record {
       fit = record { each = λ image is. record { each = λ i n lists. let zero_is : ◌≡◌ {A = ℕ} 0 n = sym (ap (λ (xs : List ℕ). get_or xs i 0) (second.images.holds image is).bytes ∙ none i) ∙ lists.0 in let some = lists.1 in absurd (omega (arith, zero_is, some)) } };
@@ -51,12 +52,12 @@ returns-clause-may g c =
       lower = λ told. record {
         lower_at = place (Dir 0) 32 0 2088;
         upper_at = place (Data 0) 33 0 2112;
-        lower_stands = second.stays.places (k.still_tells.0 told) entries (place (Dir 0) 32 0 2088) ne (λ h. h) bare (c.new_block-entries.ensures.place (j.still_tells.0 (k.still_tells.0 told)));
+        lower_stands = second.stays.places (k.still_tells.0 told) entries (place (Dir 0) 32 0 2088) ne (λ h. h) bare (entries, inr apart, reaches_itself t.now entries) (c.new_block-entries.ensures.place (j.still_tells.0 (k.still_tells.0 told)));
         upper_stands = c.new_block-leaf.ensures.place (k.still_tells.0 told);
         falls = omega arith;
       };
       uncovered = (second.is.4, bare);
-      held = λ told. inr (entries, (second.stays.apart entries ne (λ n. n)).1 first.is.3, reaches_itself t.now entries);
+      held = λ told. (inr (entries, apart, reaches_itself t.now entries), (leaf, inr second.is.3, reaches_itself t.now leaf));
       first = refl;
       slots = subst (λ x. 6 < slot_count x) (sym kind) (omega arith);
       room = let one = first.uses.room in let two = second.uses.room in omega (arith, room, one, two);

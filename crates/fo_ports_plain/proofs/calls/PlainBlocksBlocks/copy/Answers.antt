@@ -1,6 +1,7 @@
-use Rattle.std.proofs.Common.{◌≡◌, ◌+◌, ◌-◌, ◌^◌, ◌<◌, ◌≤◌, length, refl, sym, ◌∙◌, ap, subst, arith}
+use Rattle.std.proofs.Common.{◌≡◌, inl, ◌+◌, ◌-◌, ◌^◌, ◌<◌, ◌≤◌, length, refl, sym, ◌∙◌, ap, subst, arith}
 use Rattle.fo_image.specs.declared.types.Label.{Label}
 use Rattle.fo_image.specs.declared.types.State.TheVariants.{Live}
+use Rattle.fo_crash.proofs.Reach.{reaches_on}
 use Rattle.fo_ports.specs.State.{Gives}
 use Rattle.fo_ports_plain.specs.declared.block.PlainBlock.{PlainBlock}
 use Rattle.fo_ports_plain.specs.Plain.{block_at, content_of, label_at, Updates}
@@ -38,7 +39,7 @@ returns-clause-gives c =
     let new = c.make.new.self.blocks.items in
     let up : Updates p.made (copied self.high c.args.at (block_at p.blocks c.args.at)) p.blocks new = subst (λ (y : PlainBlock). Updates self.made y self.blocks.items new) block c.make.ensures.updates in
     let l : Label = record (label_at p.blocks p.made c.args.at) { state = Live; epoch = self.high; closing = 2 ^ 32 - 1 } in
-    let g = gives p new c.make.new.self.spare {c = content_of (block_at p.blocks c.args.at)} up may self.three well (omega (arith, spared, some)) c.make.ensures.spare (record { bytes = refl; slots = λ i. refl }) (copied_label p.blocks p.made self.high c.args.at) in
+    let g = gives p new c.make.new.self.spare {c = content_of (block_at p.blocks c.args.at)} up may self.three well (omega (arith, spared, some)) c.make.ensures.spare (record { bytes = refl; slots = λ i. refl }) (copied_label p.blocks p.made self.high c.args.at) (λ i x e. (1, inl (inl refl), reaches_on i (c.requires.in_tree tt) e)) in
     subst (λ n. Gives n (content_of (block_at p.blocks c.args.at)) l (state_of p) (state_of (parts c.make.new.self))) (sym c.make.ensures.at)
     (subst (λ z. Gives p.made (content_of (block_at p.blocks c.args.at)) l (state_of p) (state_of z)) (sym c.make.ensures.rest) g)
 

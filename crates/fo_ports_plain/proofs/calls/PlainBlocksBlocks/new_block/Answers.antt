@@ -1,7 +1,8 @@
-use Rattle.std.proofs.Common.{◌≡◌, ◌+◌, ◌-◌, ◌^◌, ◌<◌, ◌≤◌, length, sym, ap, subst, arith}
+use Rattle.std.proofs.Common.{◌≡◌, ◌∙◌, ◌+◌, ◌-◌, ◌^◌, ◌<◌, ◌≤◌, length, sym, ap, subst, arith}
 use Rattle.fo_image.specs.declared.types.Label.{Label}
 use Rattle.fo_image.specs.declared.types.State.TheVariants.{Live}
 use Rattle.fo_crash.specs.declared.place.Place.{Place}
+use Rattle.fo_crash.specs.Images.{target}
 use Rattle.fo_ports.specs.Blocks.{blank}
 use Rattle.fo_ports.specs.State.{Gives}
 use Rattle.fo_ports_plain.specs.Plain.{label_of}
@@ -11,6 +12,7 @@ use Rattle.fo_ports_plain.specs.Parts.{parts}
 use Rattle.fo_ports_plain.proofs.Made.{made_well}
 use Rattle.fo_ports_plain.proofs.Given.{gives}
 use Rattle.fo_ports_plain.proofs.GivenBlocks.{blank_may}
+use Rattle.fo_ports_plain.proofs.Memory.{blank_nowhere}
 use Rattle.fo_ports_plain.proofs.calls.PlainBlocksBlocks.new_block.Goals as goal
 
 pub make-requires-clause-well : goal.make-requires-clause-well
@@ -33,6 +35,6 @@ returns-clause-gives c =
     let some : 0 < self.spare = c.requires.spare in
     let l : Label = record { state = Live; kind = c.args.kind; tag = c.args.tag; epoch = self.high; closing = 2 ^ 32 - 1 } in
     let is_label : label_of Live p.high (2 ^ 32 - 1) c.blank_block.result ≡ l = ap (λ (x : Place). record { state = Live; kind = x.kind; tag = x.tag; epoch = self.high; closing = 2 ^ 32 - 1 }) block.place.0 in
-    let g = gives p c.make.new.self.blocks.items c.make.new.self.spare c.make.ensures.updates may self.three well (omega (arith, spared, some)) c.make.ensures.spare block.content is_label in
+    let g = gives p c.make.new.self.blocks.items c.make.new.self.spare c.make.ensures.updates may self.three well (omega (arith, spared, some)) c.make.ensures.spare block.content is_label (λ i x e. absurd (blank_nowhere c.args.kind i x (ap target (sym (block.content.slots i)) ∙ e))) in
     subst (λ n. Gives n (blank c.args.kind) l (state_of p) (state_of (parts c.make.new.self))) (sym c.make.ensures.at)
     (subst (λ z. Gives p.made (blank c.args.kind) l (state_of p) (state_of z)) (sym c.make.ensures.rest) g)

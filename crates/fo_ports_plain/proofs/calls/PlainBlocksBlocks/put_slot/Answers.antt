@@ -1,19 +1,20 @@
-use Rattle.std.proofs.Common.{◌≡◌, ◌⊎◌, inl, inr, ◌+◌, ◌-◌, ◌<◌, ◌≤◌, sym, ◌∙◌, ap, subst, arith}
+use Rattle.std.proofs.Common.{◌≡◌, ◌⊎◌, inl, inr, ◌+◌, ◌-◌, ◌<◌, ◌≤◌, refl, sym, ◌∙◌, ap, subst, arith}
 use Rattle.fo_image.specs.declared.types.Pointer.TheVariants.{Local}
 use Rattle.fo_crash.specs.Images.{target}
 use Rattle.fo_crash.specs.declared.place.Place.{Place}
 use Rattle.fo_ports.specs.Blocks.{cost, slot_count, SlotFits}
 use Rattle.fo_ports_plain.specs.declared.block.PlainBlock.{PlainBlock}
 use Rattle.fo_ports.specs.State.{Frame, Hangs}
-use Rattle.fo_ports_plain.specs.Plain.{block_at, slot_of, label_at}
-use Rattle.fo_ports_plain.specs.Moves.{MayLink, KeepsUse}
+use Rattle.fo_ports_plain.specs.Plain.{block_at, slot_of, label_at, Instead}
+use Rattle.fo_ports_plain.specs.Moves.{MayLink, KeepsUse, CountsOne}
 use Rattle.fo_ports_plain.specs.Meaning.{Plain, state_of}
 use Rattle.fo_ports_plain.specs.Parts.{parts}
 use Rattle.fo_ports_plain.specs.Laws.{label_kind}
 use Rattle.fo_ports_plain.proofs.Comes.{may_link, keeps_use, few_slots}
-use Rattle.fo_ports_plain.proofs.Puts.{may_after, all_link, all_slot}
+use Rattle.fo_ports_plain.proofs.Puts.{ends_leads, may_after, all_link, all_slot}
 use Rattle.fo_ports_plain.proofs.Frames.{put_frame, put_hangs, put_covers}
 use Rattle.fo_ports_plain.proofs.Memory.{slot_added}
+use Rattle.fo_ports_plain.proofs.Rooted.{comes_rooted}
 use Rattle.fo_ports_plain.proofs.calls.PlainBlocksBlocks.put_slot.Goals as goal
 
 pub link-requires-clause-may : goal.link-requires-clause-may
@@ -67,7 +68,7 @@ returns-in-Local-clause-frame c =
     let room : cost (slot_of (block_at p.blocks c.args.at) c.args.i) c.args.slot ≤ self.room = c.requires.room in
     let spent : self.room - c.cost.result + cost (slot_of (block_at p.blocks c.args.at) c.args.i) c.args.slot ≡ self.room = omega (arith, is, room) in
     subst (λ z. Frame (λ b. b ≡ c.args.at) (λ b. (b ≡ c.args.at) ⊎ (target c.args.slot ≡ Local b)) (cost (slot_of (block_at p.blocks c.args.at) c.args.i) c.args.slot) (state_of p) (state_of z)) (sym q_is)
-    (put_frame p new p.waits (self.room - c.cost.result) c.take_out.new.self.queued put (λ b. (b ≡ c.args.at) ⊎ (target c.args.slot ≡ Local b)) (cost (slot_of (block_at p.blocks c.args.at) c.args.i) c.args.slot) (λ b h. (λ e. h (inl e), λ e. h (inr e))) spent (λ a on j ne w. w))
+    (put_frame p new p.waits (self.room - c.cost.result) c.take_out.new.self.queued put (λ b. (b ≡ c.args.at) ⊎ (target c.args.slot ≡ Local b)) (cost (slot_of (block_at p.blocks c.args.at) c.args.i) c.args.slot) (λ b e. comes_rooted (state_of p) c.args.at c.args.i c.args.slot b (inl refl) (λ y x (k : Instead p.blocks y x). k.apart) (c.requires.may tt).holder ((c.requires.may tt).comes b e)) (λ b h. (λ e. h (inl e), λ e. h (inr e))) spent (λ a on j ne w. w))
 
 pub returns-in-Local-clause-hangs : goal.returns-in-Local-clause-hangs
 returns-in-Local-clause-hangs c =
@@ -119,7 +120,7 @@ returns-in_default-clause-frame c =
     let room : cost (slot_of (block_at p.blocks c.args.at) c.args.i) c.args.slot ≤ self.room = c.requires.room in
     let spent : self.room - c.cost.result + cost (slot_of (block_at p.blocks c.args.at) c.args.i) c.args.slot ≡ self.room = omega (arith, is, room) in
     subst (λ z. Frame (λ b. b ≡ c.args.at) (λ b. (b ≡ c.args.at) ⊎ (target c.args.slot ≡ Local b)) (cost (slot_of (block_at p.blocks c.args.at) c.args.i) c.args.slot) (state_of p) (state_of z)) (sym q_is)
-    (put_frame p new p.waits (self.room - c.cost.result) c.take_out.new.self.queued put (λ b. (b ≡ c.args.at) ⊎ (target c.args.slot ≡ Local b)) (cost (slot_of (block_at p.blocks c.args.at) c.args.i) c.args.slot) (λ b h. (λ e. h (inl e), λ e. h (inr e))) spent (λ a on j ne w. w))
+    (put_frame p new p.waits (self.room - c.cost.result) c.take_out.new.self.queued put (λ b. (b ≡ c.args.at) ⊎ (target c.args.slot ≡ Local b)) (cost (slot_of (block_at p.blocks c.args.at) c.args.i) c.args.slot) (λ b e. comes_rooted (state_of p) c.args.at c.args.i c.args.slot b (inl refl) (λ y x (k : Instead p.blocks y x). k.apart) (c.requires.may tt).holder ((c.requires.may tt).comes b e)) (λ b h. (λ e. h (inl e), λ e. h (inr e))) spent (λ a on j ne w. w))
 
 pub returns-in_default-clause-hangs : goal.returns-in_default-clause-hangs
 returns-in_default-clause-hangs c =
@@ -169,6 +170,24 @@ returns-in_default-clause-covers c = λ t.
     let new = c.set_slot.new.self.blocks.items in
     let put = all_slot c.take_out.ensures.takes (λ b e. c.in_default.not-Local b (c.target.ensures ∙ e)) c.set_slot.ensures.updates c.set_slot.ensures.here in
     put_covers p new p.waits p.room p.queued put self.sound c.requires.pinned (c.requires.may tt).uncovered (λ b r h. ((c.requires.may tt).brings.each b r).2 h)
+
+pub take_out-requires-clause-slots : goal.take_out-requires-clause-slots
+take_out-requires-clause-slots c =
+    let few : c.args.i < slot_count (label_at c.args.self.now.blocks.items c.args.self.now.made c.args.at).kind = c.requires.spelled.0 in
+    let most = few_slots (label_at c.args.self.now.blocks.items c.args.self.now.made c.args.at).kind in
+    omega (arith, few, most)
+
+pub returns-in_default-clause-queues : goal.returns-in_default-clause-queues
+returns-in_default-clause-queues c =
+    let p = parts c.args.self.now in
+    let is : c.set_slot.new.self.queued ≡ c.take_out.new.self.queued = ap (λ (z : Plain). z.queued) c.set_slot.ensures.rest in
+    let more : p.queued ≤ c.take_out.new.self.queued = c.take_out.ensures.queued.0 in (
+      omega (arith, is, more),
+      λ e.
+          let led = ends_leads (target (slot_of (block_at p.blocks c.args.at) c.args.i)) (target c.args.slot) e in
+          let one = c.take_out.ensures.queued.1 led.0 led.1 (λ to. c.in_default.not-Local led.0 (c.target.ensures ∙ to)) in
+          subst (λ n. CountsOne p.queued n) (sym is) one,
+    )
 
 pub link-requires-clause-slot : goal.link-requires-clause-slot
 link-requires-clause-slot c =

@@ -1,6 +1,6 @@
-use Rattle.std.proofs.Common.{◌≡◌, inl, ◌+◌, ◌-◌, ◌<◌, set, sym, ◌∙◌, ap, subst, arith}
+use Rattle.std.proofs.Common.{◌≡◌, inl, inr, ◌+◌, ◌-◌, ◌<◌, ◌≤◌, set, sym, ◌∙◌, ap, subst, arith}
 use Rattle.fo_crash.specs.declared.place.Place.{Place}
-use Rattle.fo_crash.specs.Images.{SameImage}
+use Rattle.fo_crash.specs.Images.{SameImage, target}
 use Rattle.fo_crash.specs.Steps.{cleared, HasBytes}
 use Rattle.fo_ports.specs.Blocks.{slot_count, SlotFits}
 use Rattle.fo_ports.specs.State.{Frame, Hangs, AddsNoWait, none}
@@ -9,7 +9,7 @@ use Rattle.fo_crash.proofs.Reach.{lost}
 use Rattle.fo_ports_plain.specs.declared.block.PlainBlock.{PlainBlock}
 use Rattle.fo_ports_plain.specs.Laws.{label_kind}
 use Rattle.fo_ports_plain.proofs.Memory.{if_some, slot_added}
-use Rattle.fo_ports_plain.specs.Moves.{Takes, EndsWaits}
+use Rattle.fo_ports_plain.specs.Moves.{Takes, EndsWaits, CountsOne}
 use Rattle.fo_ports_plain.specs.Meaning.{Plain, state_of}
 use Rattle.fo_ports_plain.specs.Parts.{parts}
 use Rattle.fo_ports_plain.proofs.Comes.{few_slots}
@@ -45,7 +45,7 @@ returns-clause-frame c =
     let some : 0 < self.room = c.requires.room in
     let spent : self.room - 1 + 1 ≡ self.room = omega (arith, some) in
     subst (λ z. Frame (λ b. b ≡ c.args.at) (λ b. b ≡ c.args.at) 1 (state_of p) (state_of z)) (sym q_is)
-    (put_frame p new waits room c.take_out.new.self.queued put (λ b. b ≡ c.args.at) 1 (λ b h. (h, cleared_nowhere (slot_of (block_at p.blocks c.args.at) c.args.i) b)) spent (λ a on j ne w. waits_kept ends a on j (inl ne) w))
+    (put_frame p new waits room c.take_out.new.self.queued put (λ b. b ≡ c.args.at) 1 (λ b e. absurd (cleared_nowhere (slot_of (block_at p.blocks c.args.at) c.args.i) b e)) (λ b h. (h, cleared_nowhere (slot_of (block_at p.blocks c.args.at) c.args.i) b)) spent (λ a on j ne w. waits_kept ends a on j (inl ne) w))
 
 pub returns-clause-hangs : goal.returns-clause-hangs
 returns-clause-hangs c =
@@ -177,3 +177,15 @@ set_slot-requires-clause-fits c =
     let was = self.sound.spelled c.args.at c.requires.pinned.0 c.args.i (subst (λ k. c.args.i < slot_count k) (label_kind p.blocks p.made c.args.at).0 few) in
     let fits = cleared_fits (block_at p.blocks c.args.at).place.kind c.args.i (slot_of (block_at p.blocks c.args.at) c.args.i) was in
     subst (λ m. SlotFits (block_at m c.args.at).place.kind c.args.i c.cleared-slot.result) (sym mid_is) (subst (λ (z : Place). SlotFits z.kind c.args.i c.cleared-slot.result) (sym place) (subst (λ x. SlotFits (block_at p.blocks c.args.at).place.kind c.args.i x) (sym is) fits))
+
+pub returns-clause-queues : goal.returns-clause-queues
+returns-clause-queues c =
+    let p = parts c.args.self.now in
+    let is : c.set_slot.new.self.queued ≡ c.take_out.new.self.queued = ap (λ (z : Plain). z.queued) (c.set_slot.ensures.rest ∙ ap (λ (z : Plain). record z { blocks = c.set_slot.new.self.blocks.items }) c.end_waits.ensures.rest) in
+    let more : p.queued ≤ c.take_out.new.self.queued = c.take_out.ensures.queued.0 in
+    let cleared_is : c.cleared-slot.result ≡ cleared (slot_of (block_at p.blocks c.args.at) c.args.i) = c.cleared-slot.ensures ∙ ap cleared c.slot.ensures in (
+      omega (arith, is, more),
+      λ x e.
+          let one = c.take_out.ensures.queued.1 x e (λ to. cleared_nowhere (slot_of (block_at p.blocks c.args.at) c.args.i) x (ap target (sym cleared_is) ∙ to)) in
+          inr (subst (λ n. CountsOne p.queued n) (sym is) one),
+    )

@@ -39,7 +39,7 @@ invariant_of-self-clause-sound c =
     let root_is = block_is blocks self.root c.index.result.now (omega (arith, spared, root_lt)) c.index.ensures in
     let top_is = block_is blocks 1 c.index-2.result.now (omega (arith, spared, three)) c.index-2.ensures in
     let grown = grows blocks self.made self.high self.root c.next_root-root.result c.with_slot-top.result three (omega (arith, spared, some))
-    (c.next_root-root.ensures.block ∙ ap (λ (y : PlainBlock). record y { epoch = self.high + 1; home = nowhere; taken = false; slots = set y.slots 2 (Prev y.epoch self.root) }) root_is)
+    (c.next_root-root.ensures.block ∙ ap (λ (y : PlainBlock). record y { epoch = self.high + 1; home = nowhere; taken = false; retired = false; slots = set y.slots 2 (Prev y.epoch self.root) }) root_is)
     (c.next_root-root.ensures.here ∙ ap (λ (y : PlainBlock). Prev y.epoch self.root) root_is)
     (c.with_slot-top.ensures.block ∙ ap (λ (y : PlainBlock). record y { slots = set y.slots 0 (To (Local self.made)) }) top_is)
     c.with_slot-top.ensures.here in
@@ -58,7 +58,7 @@ invariant_of-self-clause-formed c =
     let root_is = block_is blocks self.root c.index.result.now (omega (arith, spared, root_lt)) c.index.ensures in
     let top_is = block_is blocks 1 c.index-2.result.now (omega (arith, spared, three)) c.index-2.ensures in
     let grown = grows blocks self.made self.high self.root c.next_root-root.result c.with_slot-top.result three (omega (arith, spared, some))
-    (c.next_root-root.ensures.block ∙ ap (λ (y : PlainBlock). record y { epoch = self.high + 1; home = nowhere; taken = false; slots = set y.slots 2 (Prev y.epoch self.root) }) root_is)
+    (c.next_root-root.ensures.block ∙ ap (λ (y : PlainBlock). record y { epoch = self.high + 1; home = nowhere; taken = false; retired = false; slots = set y.slots 2 (Prev y.epoch self.root) }) root_is)
     (c.next_root-root.ensures.here ∙ ap (λ (y : PlainBlock). Prev y.epoch self.root) root_is)
     (c.with_slot-top.ensures.block ∙ ap (λ (y : PlainBlock). record y { slots = set y.slots 0 (To (Local self.made)) }) top_is)
     c.with_slot-top.ensures.here in
@@ -77,7 +77,7 @@ invariant_of-self-clause-waiting c =
     let root_is = block_is blocks self.root c.index.result.now (omega (arith, spared, root_lt)) c.index.ensures in
     let top_is = block_is blocks 1 c.index-2.result.now (omega (arith, spared, three)) c.index-2.ensures in
     let grown = grows blocks self.made self.high self.root c.next_root-root.result c.with_slot-top.result three (omega (arith, spared, some))
-    (c.next_root-root.ensures.block ∙ ap (λ (y : PlainBlock). record y { epoch = self.high + 1; home = nowhere; taken = false; slots = set y.slots 2 (Prev y.epoch self.root) }) root_is)
+    (c.next_root-root.ensures.block ∙ ap (λ (y : PlainBlock). record y { epoch = self.high + 1; home = nowhere; taken = false; retired = false; slots = set y.slots 2 (Prev y.epoch self.root) }) root_is)
     (c.next_root-root.ensures.here ∙ ap (λ (y : PlainBlock). Prev y.epoch self.root) root_is)
     (c.with_slot-top.ensures.block ∙ ap (λ (y : PlainBlock). record y { slots = set y.slots 0 (To (Local self.made)) }) top_is)
     c.with_slot-top.ensures.here in
@@ -96,7 +96,7 @@ invariant_of-self-clause-queue c =
     let root_is = block_is blocks self.root c.index.result.now (omega (arith, spared, root_lt)) c.index.ensures in
     let top_is = block_is blocks 1 c.index-2.result.now (omega (arith, spared, three)) c.index-2.ensures in
     let grown = grows blocks self.made self.high self.root c.next_root-root.result c.with_slot-top.result three (omega (arith, spared, some))
-    (c.next_root-root.ensures.block ∙ ap (λ (y : PlainBlock). record y { epoch = self.high + 1; home = nowhere; taken = false; slots = set y.slots 2 (Prev y.epoch self.root) }) root_is)
+    (c.next_root-root.ensures.block ∙ ap (λ (y : PlainBlock). record y { epoch = self.high + 1; home = nowhere; taken = false; retired = false; slots = set y.slots 2 (Prev y.epoch self.root) }) root_is)
     (c.next_root-root.ensures.here ∙ ap (λ (y : PlainBlock). Prev y.epoch self.root) root_is)
     (c.with_slot-top.ensures.block ∙ ap (λ (y : PlainBlock). record y { slots = set y.slots 0 (To (Local self.made)) }) top_is)
     c.with_slot-top.ensures.here in
@@ -115,7 +115,7 @@ returns c =
     let root_is = block_is blocks self.root c.index.result.now (omega (arith, spared, root_lt)) c.index.ensures in
     let top_is = block_is blocks 1 c.index-2.result.now (omega (arith, spared, three)) c.index-2.ensures in
     let grown = grows blocks self.made self.high self.root c.next_root-root.result c.with_slot-top.result three (omega (arith, spared, some))
-    (c.next_root-root.ensures.block ∙ ap (λ (y : PlainBlock). record y { epoch = self.high + 1; home = nowhere; taken = false; slots = set y.slots 2 (Prev y.epoch self.root) }) root_is)
+    (c.next_root-root.ensures.block ∙ ap (λ (y : PlainBlock). record y { epoch = self.high + 1; home = nowhere; taken = false; retired = false; slots = set y.slots 2 (Prev y.epoch self.root) }) root_is)
     (c.next_root-root.ensures.here ∙ ap (λ (y : PlainBlock). Prev y.epoch self.root) root_is)
     (c.with_slot-top.ensures.block ∙ ap (λ (y : PlainBlock). record y { slots = set y.slots 0 (To (Local self.made)) }) top_is)
     c.with_slot-top.ensures.here in

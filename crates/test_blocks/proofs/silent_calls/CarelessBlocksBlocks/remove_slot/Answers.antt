@@ -18,12 +18,12 @@ returns-clause-frame c =
     let bs = c.link.new.self.blocks.items in
     let room = c.take_room.new.self.room in
     let rest = c.link.ensures.rest ∙ ap (λ (z : Silent). record z { blocks = bs }) c.end_waits.ensures.rest in
-    let all : parts c.take_room.new.self ≡ record p { blocks = bs; waits = ws; room = room } = c.take_room.ensures.rest ∙ ap (λ (z : Silent). record z { room = room }) rest in
+    let all : parts c.take_room.new.self ≡ record p { blocks = bs; waits = ws; room = room; queued = c.take_room.new.self.queued } = c.take_room.ensures.rest ∙ ap (λ (z : Silent). record z { room = room; queued = c.take_room.new.self.queued }) rest in
     let joined = subst (λ (b : List Block). Joins c.args.at c.args.i c.cleared-slot.result b bs) first c.link.ensures.joins in
     let used = c.take_room.ensures.room ∙ ap (λ (z : Silent). z.room) rest in
     let still = still_waits self.blocks.items self.waits.items ws c.args.at c.args.i self.waiting c.end_waits.ensures.still in
     subst (λ (z : Silent). Frame (λ b. b ≡ c.args.at) (λ b. b ≡ c.args.at) 1 (state_of p) (state_of z)) (sym all)
-    (frame p bs ws room 1 c.args.at c.args.i c.cleared-slot.result joined used (λ a on j ne w. still a on j (inl ne) w) (λ b. b ≡ c.args.at) (λ b h. ⊎_elim (λ e. e) (λ e. absurd (cleared_nowhere c.slot_in.result b (ap target (sym c.cleared-slot.ensures) ∙ e))) h))
+    (frame p bs ws room c.take_room.new.self.queued 1 c.args.at c.args.i c.cleared-slot.result joined used (λ a on j ne w. still a on j (inl ne) w) (λ b. b ≡ c.args.at) (λ b h. ⊎_elim (λ e. e) (λ e. absurd (cleared_nowhere c.slot_in.result b (ap target (sym c.cleared-slot.ensures) ∙ e))) h))
 
 pub returns-clause-hangs : goal.returns-clause-hangs
 returns-clause-hangs c =
@@ -34,10 +34,10 @@ returns-clause-hangs c =
     let bs = c.link.new.self.blocks.items in
     let room = c.take_room.new.self.room in
     let rest = c.link.ensures.rest ∙ ap (λ (z : Silent). record z { blocks = bs }) c.end_waits.ensures.rest in
-    let all : parts c.take_room.new.self ≡ record p { blocks = bs; waits = ws; room = room } = c.take_room.ensures.rest ∙ ap (λ (z : Silent). record z { room = room }) rest in
+    let all : parts c.take_room.new.self ≡ record p { blocks = bs; waits = ws; room = room; queued = c.take_room.new.self.queued } = c.take_room.ensures.rest ∙ ap (λ (z : Silent). record z { room = room; queued = c.take_room.new.self.queued }) rest in
     let slot = c.cleared-slot.ensures ∙ ap cleared c.slot_in.ensures in
     let s = cleared ((memory self.blocks.items c.args.at).slot c.args.i) in
     let joined = subst (λ (t : Slot). Joins c.args.at c.args.i t self.blocks.items bs) slot (subst (λ (b : List Block). Joins c.args.at c.args.i c.cleared-slot.result b bs) first c.link.ensures.joins) in
     let still = still_waits self.blocks.items self.waits.items ws c.args.at c.args.i self.waiting c.end_waits.ensures.still in
     subst (λ (z : Silent). Hangs c.args.at c.args.i s (state_of p) (state_of z)) (sym all)
-    (hangs p bs ws room c.args.at c.args.i s joined still (λ e. cleared_nowhere ((memory self.blocks.items c.args.at).slot c.args.i) c.args.at e))
+    (hangs p bs ws room c.take_room.new.self.queued c.args.at c.args.i s joined still (λ e. cleared_nowhere ((memory self.blocks.items c.args.at).slot c.args.i) c.args.at e))
