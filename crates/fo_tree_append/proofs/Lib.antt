@@ -1,4 +1,10 @@
-pub mod Appending
+pub mod Joining
+pub mod Leaves
+pub mod Behind
 pub mod Pieces
+pub mod Raising
+pub mod Rising
+pub mod Seeing
 pub mod Shaping
+pub mod Spending
 pub mod Values

@@ -36,7 +36,7 @@ puts_none s t kept offset [] all none = record {
   grows = λ limit. record { owns = λ told b. (λ has. inl has, λ made. absurd (made.0 made.1)); still = λ o n was. was };
   comes = λ told from h. h;
   only = λ told y z h. ⊎_elim (λ e. inl e) (λ ne. inr (h, ne)) (local_cases t.top y);
-  clear = λ told was. was;
+  clear = λ which was. was;
   changes = steps_changes (steps_none t.tag (HasBlock s t) (HasBlock s t) s all);
   spent = omega arith;
   room = refl;

@@ -1,12 +1,12 @@
 -- What a source has whose bytes end with a piece.
 use Rattle.std.specs.List.{range_with_len}
-use Rattle.std.proofs.Common.{◌≡◌, ◌+◌, ◌*◌, ◌/◌, ◌<◌, ◌≤◌, ℕ, List, length, map, slice_index, inl, inr, ⊎_elim, sym, ◌∙◌, arith}
+use Rattle.std.proofs.Common.{◌≡◌, ◌+◌, ◌<◌, ◌≤◌, ℕ, List, length, map, slice_index, ⊎_elim, sym, ◌∙◌, arith}
 use Rattle.std.proofs.lemmas.Bool.{cases_lt}
-use Rattle.std.proofs.lemmas.List.{get_or_past}
+use Rattle.std.proofs.lemmas.List.{ext_get_or, get_or_past}
 use Rattle.std.proofs.lemmas.List.FromFn.{length-map-range_with_len, get_or-map-range_with_len}
 use Rattle.fo_sparse.specs.Written.{written}
 use Rattle.fo_sparse.proofs.Lists.{is_written}
-use Rattle.fo_tree_append.specs.Append.{PutsZeroed}
+use Rattle.fo_tree_clear.specs.Put.{Puts}
 
 length_values : (f : ℕ → ℕ) (len : ℕ) → length (map f (range_with_len 0 len)) ≡ len
 length_values f len = length-map-range_with_len f 0 len
@@ -17,21 +17,26 @@ values_below f len k lt = get_or-map-range_with_len f 0 len k k 0 lt (omega arit
 values_past : (f : ℕ → ℕ) (len k : ℕ) → len ≤ k → slice_index (map f (range_with_len 0 len)) k ≡ 0
 values_past f len k ge = get_or_past (map f (range_with_len 0 len)) k 0 (omega (arith, length_values f len, ge))
 
-pub values_past_end : (f h g : ℕ → ℕ) (size z offset : ℕ) (piece : List ℕ) → z ≡ offset + length piece → size < z → 0 < length piece → ((k : ℕ) → h k ≡ f k) → ((k : ℕ) → size ≤ 8192 * (k / 8192) → f k ≡ 0) → PutsZeroed h g size offset piece
-    → map g (range_with_len 0 z) ≡ written (map f (range_with_len 0 size)) offset piece
-values_past_end f h g size z offset piece is past some same none put =
-    let old_len = length_values f size in
+pub values_same : (f h : ℕ → ℕ) (len : ℕ) → ((k : ℕ) → k < len → h k ≡ f k) → map h (range_with_len 0 len) ≡ map f (range_with_len 0 len)
+values_same f h len same =
+    let old_len = length_values f len in
+    let new_len = length_values h len in
+    ext_get_or 0 (map h (range_with_len 0 len)) (map f (range_with_len 0 len)) (new_len ∙ sym old_len)
+    (λ k lt. let below : k < len = omega (arith, new_len, lt) in values_below h len k below ∙ same k below ∙ sym (values_below f len k below))
+
+-- a piece was put past an end behind which there are zeros
+pub values_past_end : (h g : ℕ → ℕ) (size z offset : ℕ) (piece : List ℕ) → z ≡ offset + length piece → size < z → 0 < length piece → ((k : ℕ) → size ≤ k → h k ≡ 0) → Puts h g offset piece
+    → map g (range_with_len 0 z) ≡ written (map h (range_with_len 0 size)) offset piece
+values_past_end h g size z offset piece is past some none put =
+    let old_len = length_values h size in
     let new_len = length_values g z in
-    is_written (map f (range_with_len 0 size)) (map g (range_with_len 0 z)) piece offset some (omega (arith, old_len, new_len, is, past))
+    is_written (map h (range_with_len 0 size)) (map g (range_with_len 0 z)) piece offset some (omega (arith, old_len, new_len, is, past))
     (λ i lt. values_below g z (offset + i) (omega (arith, is, lt)) ∙ put.within i lt)
-    (λ k lt. values_below g z k (omega (arith, is, lt)) ∙ front k lt)
-    (λ k ge. values_past g z k (omega (arith, is, ge)) ∙ sym (values_past f size k (omega (arith, is, ge, past))))
+    (λ k lt. values_below g z k (omega (arith, is, lt)) ∙ put.before k lt ∙ front k)
+    (λ k ge. values_past g z k (omega (arith, is, ge)) ∙ sym (values_past h size k (omega (arith, is, ge, past))))
   where
-    front : (k : ℕ) → k < offset → g k ≡ slice_index (map f (range_with_len 0 size)) k
-    front k lt = ⊎_elim
-        (λ small. put.before k lt (inl small) ∙ same k ∙ sym (values_below f size k small))
-        (λ ge. ⊎_elim
-        (λ inside. put.gap k ge lt (omega (arith, ge, inside)) (omega (arith, ge, inside)) ∙ sym (values_past f size k ge))
-        (λ beyond. put.before k lt (inr beyond) ∙ same k ∙ none k beyond ∙ sym (values_past f size k ge))
-        (cases_lt (8192 * (k / 8192)) size))
+    front : (k : ℕ) → h k ≡ slice_index (map h (range_with_len 0 size)) k
+    front k = ⊎_elim
+        (λ small. sym (values_below h size k small))
+        (λ ge. none k ge ∙ sym (values_past h size k ge))
         (cases_lt k size)

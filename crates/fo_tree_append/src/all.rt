@@ -1,8 +1,11 @@
 //! A piece is put leaf by leaf.
-ghost use Rattle.std.specs.Prelude.{◌≡◌, ◌≢◌, ◌⊎◌, ◌+◌, ◌*◌, ◌<◌, ◌≤◌, ℕ, length};
-ghost use Rattle.fo_ports.specs.Sources.{most_for};
-ghost use Rattle.fo_tree_look.specs.Source.{Over, IsPlainTree, Prepared};
-ghost use Rattle.fo_tree_write.specs.Write.{Wrote};
+ghost use Rattle.std.specs.Prelude.{◌≡◌, ◌≢◌, ◌⊎◌, ◌+◌, ◌-◌, ◌*◌, ◌/◌, ◌<◌, ◌≤◌, ℕ, length};
+ghost use Rattle.fo_tree_read.specs.Reading.{passed};
+ghost use Rattle.fo_tree_look.specs.Source.{Over, HasBlock, IsPlainTree, Prepared};
+ghost use Rattle.fo_tree_down.specs.Way.{CurrentBut};
+ghost use Rattle.fo_tree_clear.specs.Steps.{Steps};
+ghost use Rattle.fo_tree_write.specs.Write.{at_top, Wrote};
+ghost use Rattle.fo_tree_append.specs.Append.{OnLeaves, SpendsBut};
 
 use fo_base::BLOCK;
 use fo_image::Pointer;
@@ -25,8 +28,11 @@ pub(crate) fn put_all<B: Blocks>(
     requires over { (limit : ℕ) × Over (B.state on.old) tree.now kept.now limit × Prepared (B.state on.old) tree.now kept.now limit offset (length piece.now) }
     requires plain { IsPlainTree tree.now }
     requires within { offset + length piece.now ≤ tree.now.size }
-    requires spare { most_for tree.now.size (length piece.now) ≤ (B.state on.old).spare }
+    requires spare { (c : ℕ) × CurrentBut (B.state on.old) tree.now c tree.now.depth (offset / 8192) × (c + passed tree.now.depth ((offset + length piece.now - 1) / 8192) ≤ (B.state on.old).spare + passed tree.now.depth (offset / 8192)) }
     ensures wrote { Wrote (B.state on.old) (B.state on.new) tree.now result kept.now offset (length piece.now) piece.now }
+    ensures steps { Steps tree.now.tag (λ b. OnLeaves (B.state on.old) tree.now (offset / 8192) ((offset + length piece.now - 1) / 8192) b) (λ b. OnLeaves (B.state on.old) tree.now (offset / 8192) ((offset + length piece.now - 1) / 8192) b) (B.state on.old) (B.state on.new) }
+    ensures stays { (B.state on.old).tells → (b : ℕ) → HasBlock (B.state on.old) tree.now b → ((B.state on.old).label b).epoch ≡ (B.state on.old).high → HasBlock (B.state on.new) (at_top tree.now result) b }
+    ensures spends { (c : ℕ) → CurrentBut (B.state on.old) tree.now c tree.now.depth (offset / 8192) → SpendsBut c (B.state on.new) (at_top tree.now result) (B.state on.old).spare offset (length piece.now) }
     ensures keeps { B.keeps on.old on.new }
 {
     let mut top = tree.top;

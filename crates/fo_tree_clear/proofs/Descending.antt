@@ -42,6 +42,7 @@ module _ {t : Tree} {mine : ℕ → Type 0} {level : ℕ} {s u : State} (all : K
     others = d.others;
     apart = d.apart;
     places = d.places;
+    rooted = d.rooted;
     instead = λ b y h. ⊎_elim
         (λ old. inl old)
         (λ new. ⊎_elim (λ old. inl old) (λ older. inr (new.0, new.1, older)) (d.older b y h))
@@ -113,6 +114,7 @@ module _ {tag at : ℕ} {mine : ℕ → Type 0} {bytes : List ℕ} {beside : Ima
 
   made_end : (b : ℕ) → Made s v b → IsMade tag s v b
   made_end b made = let is = c.made b (made_back b made) in record {
+    free = is.free;
     was = is.was;
     labelled = (ap (λ (l : Label). l.epoch) (label_same x b) ∙ is.labelled.0, ap (λ (l : Label). l.tag) (label_same x b) ∙ is.labelled.1);
     is_one = (x.all.same_blocks b).1 is.is_one;
@@ -153,8 +155,9 @@ module _ {tag at : ℕ} {mine : ℕ → Type 0} {bytes : List ℕ} {beside : Ima
     free = λ told b made h. c.free told b (made_back b made) ((x.calm.covered.covered b).0 h);
     others = others_end;
     apart = apart_end;
-    places = λ told b p not other free stands. x.calm.frame.stays.places (c.all.still_tells.1 told) b p (λ z. z) (λ z. z) free
-        (c.places told b p (λ made. not (made_on b made)) other (λ h. free ((x.calm.covered.covered b).1 h)) stands);
+    places = λ told b p not other free r stands. let mid = c.all.still_tells.1 told in x.calm.frame.stays.places mid b p (λ z. z) (λ z. z) free r
+        (c.places told b p (λ made. not (made_on b made)) other (λ h. free ((x.calm.covered.covered b).1 h)) (x.calm.frame.stays.rooted mid b (λ z. z) r) stands);
+    rooted = λ told b not r. c.rooted told b (λ made. not (made_on b made)) (x.calm.frame.stays.rooted (c.all.still_tells.1 told) b (λ z. z) r);
     instead = λ b y h. ⊎_elim (λ old. inl old) (λ new. inr (made_on b new.0, new.1, new.2)) (c.instead b y ((x.calm.frame.stays.instead b y (λ z. z) (λ z. z)).0 h));
     still = λ b h. (x.calm.covered.covered b).1 (c.still b h);
     only = λ b no other h. c.only b no other ((x.calm.covered.covered b).0 h);

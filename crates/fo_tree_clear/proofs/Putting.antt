@@ -10,8 +10,9 @@ use Rattle.fo_crash.specs.Steps.{PutsBytes, AddsBytes}
 use Rattle.fo_crash.specs.Places.{place}
 use Rattle.fo_crash.proofs.Reach.{same_walk}
 use Rattle.fo_crash.proofs.Updates.{bytes_other, bytes_slot}
-use Rattle.fo_ports.specs.State.{State, KeepsAll, Calm, AddsNoWait, none}
+use Rattle.fo_ports.specs.State.{State, IsRooted, KeepsAll, Calm, AddsNoWait, none}
 use Rattle.fo_ports.specs.Sources.{IsHung, Made, Touched, IsMade, StaysMarked, Undone, Changes, IsInstead, ComesFor}
+use Rattle.fo_looks.proofs.Looks.{rooted_of_apart}
 use Rattle.fo_tree_read.specs.declared.tree.Tree.{Tree}
 use Rattle.fo_tree_read.specs.Tree.{kind_at}
 use Rattle.fo_tree_look.specs.declared.ways.Kept.{Kept}
@@ -46,8 +47,11 @@ module _ {at : ℕ} {bytes : List ℕ} {beside : Image → Type 0} {u v : State}
   pub reaches_on : (s : Slot) (b : ℕ) → Reaches u.now s b → Reaches v.now s b
   reaches_on s b r = record { path = r.path; leads = ap (λ (q : Slot). target q) (same_walk v.now u.now x.puts.slots r.path s) ∙ r.leads }
 
-  stands_on : u.tells → (b : ℕ) (p : Place) → (u.covered b → ⊥) → u.stands b p → v.stands b p
-  stands_on told b p free stands = x.calm.frame.stays.places told b p (λ z. z) (λ z. z) (λ c. free ((x.calm.covered.covered b).0 c)) stands
+  rooted_on : (b : ℕ) → IsRooted u b → IsRooted v b
+  rooted_on b r = (r.0, ⊎_elim (λ top. inl ((x.all.same_tops r.0).1 top)) (λ h. inr ((x.calm.frame.stays.apart r.0 (λ z. z) (λ z. z)).1 h)) r.1, reaches_on (to_block r.0) b r.2)
+
+  stands_on : u.tells → (b : ℕ) (p : Place) → (u.covered b → ⊥) → IsRooted v b → u.stands b p → v.stands b p
+  stands_on told b p free r stands = x.calm.frame.stays.places told b p (λ z. z) (λ z. z) (λ c. free ((x.calm.covered.covered b).0 c)) r stands
 
   -- what a source may come in the place of stays
   instead_on : u.tells → (from : Pointer) (top : ℕ) → IsInstead u from top → IsInstead v from top
@@ -56,7 +60,7 @@ module _ {at : ℕ} {bytes : List ℕ} {beside : Image → Type 0} {u v : State}
       record {
         is_apart = apart.1 i.is_apart;
         place = i.place;
-        stands = stands_on told top i.place i.uncovered i.stands;
+        stands = stands_on told top i.place i.uncovered (rooted_of_apart v top (apart.1 i.is_apart)) i.stands;
         uncovered = λ h. i.uncovered ((x.calm.covered.covered top).0 h);
         instead = λ y. let same = x.calm.frame.stays.instead top y (λ z. z) (λ z. z) in (λ h. (i.instead y).0 (same.0 h), λ e. same.1 ((i.instead y).1 e));
         live = λ y e. ap (λ (l : Label). l.state) (label_same y) ∙ i.live y e;
@@ -80,7 +84,7 @@ module _ {at : ℕ} {bytes : List ℕ} {beside : Image → Type 0} {u v : State}
         top = h.top;
         is_apart = (x.calm.frame.stays.apart h.top (λ z. z) (λ z. z)).1 h.is_apart;
         place = h.place;
-        stands = stands_on told h.top h.place h.uncovered h.stands;
+        stands = stands_on told h.top h.place h.uncovered (rooted_on h.top (rooted_of_apart u h.top h.is_apart)) h.stands;
         uncovered = λ c. h.uncovered ((x.calm.covered.covered h.top).0 c);
         reaches = reaches_on (to_block h.top) b h.reaches;
       }))
@@ -113,7 +117,8 @@ module _ {at : ℕ} {bytes : List ℕ} {beside : Image → Type 0} {u v : State}
       room = over.hangs.room;
       low = over.hangs.low;
       is_one = λ b e. (x.all.same_blocks b).1 (over.hangs.is_one b e);
-      told = λ now b e. let was = over.hangs.told (x.all.still_tells.0 now) b e in (stands_on (x.all.still_tells.0 now) b (place (kind_at t.dir t.depth) t.tag 0 (t.rank + t.depth)) was.1 was.0, λ h. was.1 ((x.calm.covered.covered b).0 h));
+      told = λ now b e. let was = over.hangs.told (x.all.still_tells.0 now) b e in (stands_on (x.all.still_tells.0 now) b (place (kind_at t.dir t.depth) t.tag 0 (t.rank + t.depth)) was.1 (rooted_on b (over.hangs.rooted (x.all.still_tells.0 now) b e)) was.0, λ h. was.1 ((x.calm.covered.covered b).0 h));
+      rooted = λ now b e. rooted_on b (over.hangs.rooted (x.all.still_tells.0 now) b e);
     };
     least = over.least;
     within = over.within;
@@ -197,6 +202,7 @@ module _ {tag at : ℕ} {mine inner outer : ℕ → Type 0} {bytes : List ℕ} {
 
   made_end : (b : ℕ) → Made s v b → IsMade tag s v b
   made_end b made = let is = c.made b (made_back b made) in record {
+    free = is.free;
     was = is.was;
     labelled = (ap (λ (l : Label). l.epoch) (label_same x b) ∙ is.labelled.0, ap (λ (l : Label). l.tag) (label_same x b) ∙ is.labelled.1);
     is_one = (x.all.same_blocks b).1 is.is_one;
@@ -235,8 +241,9 @@ module _ {tag at : ℕ} {mine inner outer : ℕ → Type 0} {bytes : List ℕ} {
     made = made_end;
     others = others_end;
     apart = apart_end;
-    places = λ told b p not other free stands. x.calm.frame.stays.places (all.still_tells.1 told) b p (λ z. z) (λ z. z) free
-        (c.places told b p (λ made. not (made_on b made)) other (λ h. free ((x.calm.covered.covered b).1 h)) stands);
+    places = λ told b p not other free r stands. let mid = all.still_tells.1 told in x.calm.frame.stays.places mid b p (λ z. z) (λ z. z) free r
+        (c.places told b p (λ made. not (made_on b made)) other (λ h. free ((x.calm.covered.covered b).1 h)) (x.calm.frame.stays.rooted mid b (λ z. z) r) stands);
+    rooted = λ told b not r. c.rooted told b (λ made. not (made_on b made)) (x.calm.frame.stays.rooted (all.still_tells.1 told) b (λ z. z) r);
     instead = λ b y h. ⊎_elim (λ old. inl old) (λ new. inr (made_on b new.0, new.1)) (c.instead b y ((x.calm.frame.stays.instead b y (λ z. z) (λ z. z)).0 h));
     covers = λ b. (λ h. (x.calm.covered.covered b).1 ((c.covers b).0 h), λ no other h. (c.covers b).1 no other ((x.calm.covered.covered b).0 h));
     leaves = λ told b r away. (x.calm.covered.covered b).1 (c.leaves told b r (λ q. away (reaches_on x (to_block 1) b q)));
@@ -263,6 +270,7 @@ changes_wider {tag = tag} {inner = inner} {outer = outer} {s = s} {u = u} furthe
   others = c.others;
   apart = c.apart;
   places = c.places;
+  rooted = c.rooted;
   instead = c.instead;
   covers = c.covers;
   leaves = c.leaves;
@@ -289,7 +297,8 @@ changes_none tag mine inner s = record {
   made = λ b made. absurd (made.0 made.1);
   others = λ b not. record { label = refl; marks = (λ h. h, λ h. h, λ h. h) };
   apart = λ b not. (λ h. h, λ h. inl h);
-  places = λ told b p not other free stands. stands;
+  places = λ told b p not other free r stands. stands;
+  rooted = λ told b not r. r;
   instead = λ b x h. inl h;
   covers = λ b. (λ h. h, λ no other h. no h);
   leaves = λ told b r away. absurd (away r);

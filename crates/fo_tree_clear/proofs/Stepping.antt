@@ -1,5 +1,5 @@
 -- Calls on a source, one after another.
-use Rattle.std.proofs.Common.{◌≡◌, ◌≢◌, ◌⊎◌, ◌↔◌, ◌<◌, ◌≤◌, ℕ, inl, inr, ⊎_elim, sym, refl, ap, ◌∙◌, arith}
+use Rattle.std.proofs.Common.{◌≡◌, ◌≢◌, ◌⊎◌, ◌↔◌, ◌<◌, ◌≤◌, ℕ, true, inl, inr, ⊎_elim, sym, refl, ap, ◌∙◌, arith}
 use Rattle.std.proofs.lemmas.Bool.{cases_lt}
 use Rattle.fo_image.specs.declared.types.Label.{Label}
 use Rattle.fo_image.specs.declared.types.State.{State as BlockState}
@@ -9,8 +9,10 @@ use Rattle.fo_crash.specs.declared.slot.Slot.{Slot}
 use Rattle.fo_crash.specs.Images.{Content, Image, SameContent, Reaches, target, to_block}
 use Rattle.fo_crash.specs.Places.{IsPlaced, RanksFall}
 use Rattle.fo_crash.proofs.Places.{stands_below}
-use Rattle.fo_ports.specs.State.{State, KeepsAll}
+use Rattle.fo_ports.specs.State.{State, IsRooted, KeepsAll}
 use Rattle.fo_ports.specs.Sources.{Made, Touched, IsMade, StaysMarked, Changes}
+use Rattle.fo_image.specs.Usable.{is_usable}
+use Rattle.fo_looks.proofs.Free.{Standing, free_before, free_stands}
 use Rattle.fo_tree_down.specs.Way.{IsLed}
 use Rattle.fo_tree_clear.specs.Steps.{Behind, Steps}
 
@@ -40,6 +42,7 @@ steps_changes x = record {
   others = x.others;
   apart = λ b not. let same = x.apart b not in (same.0, λ h. inl (same.1 h));
   places = x.places;
+  rooted = x.rooted;
   instead = λ b y h. ⊎_elim (λ old. inl old) (λ new. inr (new.0, inl new.1)) (x.instead b y h);
   covers = λ b. (x.still b, x.only b);
   leaves = x.leaves;
@@ -66,7 +69,8 @@ steps_none tag mine inner s all = record {
   free = λ told b made h. made.0 made.1;
   others = λ b not. record { label = refl; marks = (λ h. h, λ h. h, λ h. h) };
   apart = λ b not. (λ h. h, λ h. h);
-  places = λ told b p not other free stands. stands;
+  places = λ told b p not other free r stands. stands;
+  rooted = λ told b not r. r;
   instead = λ b x h. inl h;
   still = λ b h. h;
   only = λ b no other h. no h;
@@ -98,11 +102,11 @@ pub record Follows (tag : ℕ) (mine inner more outer : ℕ → Type 0) (a b c :
   pub cases : (at : ℕ) → more at ⊎ (more at → ⊥)
   pub rooted : b.tells → (at : ℕ) → more at → (b.label at).epoch < b.high → Reaches b.now (to_block 1) at
   pub up_to : b.tells → (at : ℕ) → more at → (b.label at).epoch ≤ b.high
-  pub live : a.tells → (at : ℕ) → mine at → (a.label at).state ≡ Live
   pub placed : (image : Image) → a.may_leave image → IsPlaced a.stands image
   pub ranked : (image : Image) → a.may_leave image → RanksFall a.stands image
   pub top_stands : (image : Image) → a.may_leave image → (top : ℕ) → a.tops top → (p : Place) × a.stands top p
   pub told : (image : Image) → a.may_leave image → a.tells
+  pub standing : Standing a
 
 module _ {tag : ℕ} {mine inner more outer : ℕ → Type 0} {a b c : State} (x : Follows tag mine inner more outer a b c) where
   pub made_first : (at : ℕ) → Made a b at → Made a c at
@@ -175,14 +179,12 @@ module _ {tag : ℕ} {mine inner more outer : ℕ → Type 0} {a b c : State} (x
       (λ n. x.second.free (mid_told told) at n h)
       (made_either at made)
 
+  -- what was given out second was usable before the first
+  free_first : (at : ℕ) → Made b c at → is_usable a.low (a.label at) ≡ true
+  free_first at n = free_before x.first.all at (x.first.others at (λ m. n.0 m.1)).label (x.second.made at n).free
+
   unplaced : a.tells → (at : ℕ) → Made b c at → (p : Place) → a.stands at p → ⊥
-  unplaced told at n p stands =
-      let not : Made a b at → ⊥ = λ m. n.0 m.1 in
-      ((x.second.made at n).was.1 (mid_told told)).1 p
-      (x.first.places told at p not
-      (λ own. n.0 (ap (λ (l : Label). l.state) (x.first.others at not).label ∙ x.live told at own))
-      (λ h. x.second.free (mid_told told) at n (x.second.still at h))
-      stands)
+  unplaced told at n p stands = free_stands a x.standing told at p (x.second.made at n).was.0 (free_first at n) stands
 
   made_end : (at : ℕ) → Made a c at → IsMade tag a c at
   made_end at made = ⊎_elim
@@ -190,6 +192,7 @@ module _ {tag : ℕ} {mine inner more outer : ℕ → Type 0} {a b c : State} (x
       let was = x.first.made at m in
       let q = x.second.others at (λ n. n.0 m.1) in
       record {
+        free = was.free;
         was = was.was;
         labelled = (ap (λ (l : Label). l.epoch) q.label ∙ was.labelled.0, ap (λ (l : Label). l.tag) q.label ∙ was.labelled.1);
         is_one = (x.second.all.same_blocks at).1 was.is_one;
@@ -199,7 +202,8 @@ module _ {tag : ℕ} {mine inner more outer : ℕ → Type 0} {a b c : State} (x
       (λ n.
       let is = x.second.made at n in
       record {
-        was = (is.was.0, λ told. (λ top. (is.was.1 (mid_told told)).0 ((x.first.all.same_tops at).1 top), unplaced told at n));
+        free = free_first at n;
+        was = (is.was.0, λ told top. is.was.1 (mid_told told) ((x.first.all.same_tops at).1 top));
         labelled = (is.labelled.0 ∙ x.first.all.same_high, is.labelled.1);
         is_one = is.is_one;
         is_pinned = is.is_pinned;
@@ -314,10 +318,13 @@ module _ {tag : ℕ} {mine inner more outer : ℕ → Type 0} {a b c : State} (x
       ))
       (x.second.instead at y h)
 
-  places_end : a.tells → (at : ℕ) (p : Place) → (Made a c at → ⊥) → (mine at → ⊥) → (c.covered at → ⊥) → a.stands at p → c.stands at p
-  places_end told at p not other free stands =
-      x.second.places (mid_told told) at p (λ n. not (made_second at n)) (λ own. ⊎_elim other (λ m. not (made_first at m)) (x.of at own)) free
-      (x.first.places told at p (λ m. not (made_first at m)) other (λ h. free (x.second.still at h)) stands)
+  rooted_mid : a.tells → (at : ℕ) → (Made a c at → ⊥) → IsRooted c at → IsRooted b at
+  rooted_mid told at not r = x.second.rooted (mid_told told) at (λ n. not (made_second at n)) r
+
+  places_end : a.tells → (at : ℕ) (p : Place) → (Made a c at → ⊥) → (mine at → ⊥) → (c.covered at → ⊥) → IsRooted c at → a.stands at p → c.stands at p
+  places_end told at p not other free r stands =
+      x.second.places (mid_told told) at p (λ n. not (made_second at n)) (λ own. ⊎_elim other (λ m. not (made_first at m)) (x.of at own)) free r
+      (x.first.places told at p (λ m. not (made_first at m)) other (λ h. free (x.second.still at h)) (rooted_mid told at not r) stands)
 
   pub steps_join : Steps tag mine inner a c
   steps_join = record {
@@ -329,6 +336,7 @@ module _ {tag : ℕ} {mine inner more outer : ℕ → Type 0} {a b c : State} (x
     others = marked_end;
     apart = apart_end;
     places = places_end;
+    rooted = λ told at not r. x.first.rooted told at (λ m. not (made_first at m)) (rooted_mid told at not r);
     instead = instead_end;
     still = λ at h. x.second.still at (x.first.still at h);
     only = only_end;

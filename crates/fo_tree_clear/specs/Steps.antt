@@ -3,7 +3,7 @@ use Rattle.std.specs.Prelude.{◌≡◌, ◌⊎◌, ◌↔◌, ◌+◌, ◌<◌,
 use Rattle.fo_image.specs.declared.types.Pointer.TheVariants.{Local}
 use Rattle.fo_crash.specs.declared.place.Place.{Place}
 use Rattle.fo_crash.specs.Images.{Image, SameContent, Reaches, to_block}
-use Rattle.fo_ports.specs.State.{State, KeepsAll, KeepsNumbers, AddsNoWait, none}
+use Rattle.fo_ports.specs.State.{State, IsRooted, KeepsAll, KeepsNumbers, AddsNoWait, none}
 use Rattle.fo_ports.specs.Sources.{Made, Touched, IsMade, StaysMarked}
 use Rattle.fo_tree_read.specs.declared.tree.Tree.{Tree}
 use Rattle.fo_tree_look.specs.declared.ways.Kept.{Kept}
@@ -27,7 +27,8 @@ pub record Steps (tag : ℕ) (mine inner : ℕ → Type 0) (old new : State) : T
   pub free : old.tells → (b : ℕ) → Made old new b → new.covered b → ⊥
   pub others : (b : ℕ) → (Made old new b → ⊥) → StaysMarked old new b
   pub apart : (b : ℕ) → (Made old new b → ⊥) → new.apart b ↔ old.apart b
-  pub places : old.tells → (b : ℕ) (p : Place) → (Made old new b → ⊥) → (mine b → ⊥) → (new.covered b → ⊥) → old.stands b p → new.stands b p
+  pub places : old.tells → (b : ℕ) (p : Place) → (Made old new b → ⊥) → (mine b → ⊥) → (new.covered b → ⊥) → IsRooted new b → old.stands b p → new.stands b p
+  pub rooted : old.tells → (b : ℕ) → (Made old new b → ⊥) → IsRooted new b → IsRooted old b
   pub instead : (b x : ℕ) → new.instead b x → old.instead b x ⊎ (Made old new b × mine x × ((old.label x).epoch < old.high))
   pub still : (b : ℕ) → old.covered b → new.covered b
   pub only : (b : ℕ) → (old.covered b → ⊥) → (mine b → ⊥) → new.covered b → ⊥

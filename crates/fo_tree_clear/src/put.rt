@@ -4,18 +4,18 @@ ghost use Rattle.fo_image.specs.declared.types.Pointer.TheVariants.{Local};
 ghost use Rattle.fo_ports.specs.Sources.{Made, Changes, Grows};
 ghost use Rattle.fo_tree_read.specs.Tree.{above};
 ghost use Rattle.fo_tree_look.specs.Source.{Over, HasBlock, IsPlainTree, WayReady, IsTopCurrent, form_of, leaves_of};
-ghost use Rattle.fo_tree_down.specs.Way.{OnWay, IsTopOf, WayCurrent, with_top};
+ghost use Rattle.fo_tree_down.specs.Way.{OnWay, IsTopOf, WayCurrent, CurrentBut, with_top};
 ghost use Rattle.fo_tree_down.specs.Clear.{EndsClear, last_leaf};
 ghost use Rattle.fo_tree_clear.specs.Put.{byte_here, Puts, IsInnerOr, LeafPut};
 ghost use Rattle.fo_tree_clear.specs.Steps.{Steps};
 
 use fo_ports::Blocks;
-use fo_tree_down::{Current, own_way};
+use fo_tree_down::{Current, own_near};
 use fo_tree_look::Kept;
 use fo_tree_read::Tree;
 
 /// Puts bytes into leaf `i` from a place in it on, and gives its address and that of the top, which is put nowhere yet where it is new. The
-/// leaf is made current first, with all on the way to it.
+/// leaf is made current first, with all on the way to it: as many blocks are taken as aren't current there.
 pub fn put_leaf<B: Blocks>(
     tree: &Tree,
     kept: &[Kept],
@@ -29,7 +29,7 @@ pub fn put_leaf<B: Blocks>(
     requires inside { 8192 * i < tree.now.size }
     requires part { from + length piece.now ≤ 8192 }
     requires ready { WayReady (B.state on.old) tree.now kept.now tree.now.depth i }
-    requires spare { (IsTopCurrent (B.state on.old) tree.now × (tree.now.depth ≤ (B.state on.old).spare)) ⊎ (tree.now.depth < (B.state on.old).spare) }
+    requires spare { (c : ℕ) × CurrentBut (B.state on.old) tree.now c tree.now.depth i × (c ≤ (B.state on.old).spare) }
     ensures put { (generation limit : ℕ) → Over (B.state on.old) tree.now kept.now limit → LeafPut (form_of tree.now generation limit) i result.at from piece.now (B.state on.old) (B.state on.new) (leaves_of (B.state on.old) tree.now kept.now limit) (leaves_of (B.state on.new) (with_top tree.now result.top) kept.now limit) }
     ensures bytes { (B.state on.old).tells → Puts (byte_here (B.state on.old) tree.now kept.now) (byte_here (B.state on.new) (with_top tree.now result.top) kept.now) (8192 * i + from) piece.now }
     ensures top { IsTopOf (B.state on.old) (B.state on.new) tree.now result.top }
@@ -47,9 +47,10 @@ pub fn put_leaf<B: Blocks>(
     ensures room { (B.state on.new).room ≡ (B.state on.old).room }
     ensures current { IsTopCurrent (B.state on.new) (with_top tree.now result.top) }
     ensures clear { (B.state on.old).tells ⊎ (i ≡ last_leaf tree.now.size) → EndsClear (B.state on.old) tree.now kept.now → EndsClear (B.state on.new) (with_top tree.now result.top) kept.now }
+    ensures few { (c : ℕ) → CurrentBut (B.state on.old) tree.now c tree.now.depth i → (B.state on.old).spare ≤ (B.state on.new).spare + c }
     ensures keeps { B.keeps on.old on.new }
 {
-    let current = own_way(tree, kept, on, tree.depth, i);
+    let current = own_near(tree, kept, on, tree.depth, i);
     on.put_bytes(current.at, from, piece);
     current
 }

@@ -6,6 +6,7 @@ use Rattle.fo_image.specs.declared.types.State.{State as BlockState}
 use Rattle.fo_image.specs.declared.types.State.TheVariants.{Free, Live, Closed}
 use Rattle.fo_image.specs.declared.types.Pointer.{Pointer}
 use Rattle.fo_image.specs.declared.types.Pointer.TheVariants.{Nil, Local, Score as Held}
+use Rattle.fo_image.specs.Usable.{is_usable}
 use Rattle.fo_crash.specs.declared.place.Place.{Place}
 use Rattle.fo_crash.specs.declared.slot.Slot.{Slot}
 use Rattle.fo_crash.specs.Images.{Image, Reaches, target, to_block}
@@ -13,6 +14,7 @@ use Rattle.fo_crash.specs.Places.{IsPlaced, RanksFall}
 use Rattle.fo_crash.proofs.Places.{stands_below}
 use Rattle.fo_ports.specs.State.{State, KeepsAll}
 use Rattle.fo_ports.specs.Sources.{Made, Touched, IsMade, StaysMarked, Changes}
+use Rattle.fo_looks.proofs.Free.{Standing, free_before, free_stands}
 use Rattle.fo_tree_read.specs.declared.tree.Tree.{Tree}
 use Rattle.fo_tree_read.specs.Tree.{kind_at}
 use Rattle.fo_tree_own.specs.Step.{IsOwn, IsBehind, Links}
@@ -45,13 +47,12 @@ pub record Continues (t : Tree) (mine wider : ℕ → Type 0) (level k at i : �
   pub is_mine : (b : ℕ) → was ≡ Local b → wider b
   pub was_old : (b : ℕ) → was ≡ Local b → Made s m b → ⊥
   pub was_is : was ≡ target ((m.now at).slot i)
-  -- the blocks of the way are live
-  pub live : s.tells → (b : ℕ) → mine b → (s.label b).state ≡ Live
   -- what stands leads to what stands, in every image
   pub placed : (image : Image) → s.may_leave image → IsPlaced s.stands image
   pub ranked : (image : Image) → s.may_leave image → RanksFall s.stands image
   pub top_stands : (image : Image) → s.may_leave image → (top : ℕ) → s.tops top → (p : Place) × s.stands top p
   pub told : (image : Image) → s.may_leave image → s.tells
+  pub standing : Standing s
 
 module _ {t : Tree} {mine wider : ℕ → Type 0} {level k at i : ℕ} {was : Pointer} {result : ℕ} {s m u : State} (x : Continues t mine wider level k at i was result s m u) where
   label_end : (b : ℕ) → b ≢ result → u.label b ≡ m.label b
@@ -119,14 +120,12 @@ module _ {t : Tree} {mine wider : ℕ → Type 0} {level k at i : ℕ} {was : Po
       (x.first.slots b j (not_mid b not)))
       (spot b j)
 
-  -- what was given out last stood nowhere
+  -- what was given out last was usable before, so it stood nowhere
+  free_result : is_usable s.low (s.label result) ≡ true
+  free_result = free_before x.all result (x.first.others result result_new).label (x.step.changes.made result x.step.made).free
+
   unplaced : s.tells → (p : Place) → s.stands result p → ⊥
-  unplaced told p stands =
-      let there = x.first.places told result p result_new
-      (λ is. made_result.0 (x.live told result is))
-      (λ h. (x.step.own.told (x.more.still_tells.1 (x.all.still_tells.1 told))).uncovered (x.step.covers.still result h))
-      stands in
-      ((x.step.changes.made result x.step.made).was.1 (x.all.still_tells.1 told)).1 p there
+  unplaced told p stands = free_stands s x.standing told result p (x.step.changes.made result x.step.made).was.0 free_result stands
 
   unreached : (image : Image) → s.may_leave image → (top : ℕ) → s.tops top → Reaches image (to_block top) result → ⊥
   unreached image is top is_top r =
@@ -225,6 +224,7 @@ module _ {t : Tree} {mine wider : ℕ → Type 0} {level k at i : ℕ} {was : Po
       let ne = ne_made b mid in
       let marks = (x.step.changes.others b (λ last. ne (mid_made b last))).marks in
       record {
+        free = is.free;
         was = is.was;
         labelled = (ap (λ (l : Label). l.epoch) (label_end b ne) ∙ is.labelled.0, ap (λ (l : Label). l.tag) (label_end b ne) ∙ is.labelled.1);
         is_one = (x.more.same_blocks b).1 is.is_one;
@@ -236,7 +236,8 @@ module _ {t : Tree} {mine wider : ℕ → Type 0} {level k at i : ℕ} {was : Po
     where
       result_made : IsMade t.tag s u result
       result_made = let is = x.step.changes.made result x.step.made in record {
-        was = (is.was.0, λ told. (λ top. (is.was.1 (x.all.still_tells.1 told)).0 ((x.all.same_tops result).1 top), unplaced told));
+        free = free_result;
+        was = (is.was.0, λ told top. is.was.1 (x.all.still_tells.1 told) ((x.all.same_tops result).1 top));
         labelled = (is.labelled.0 ∙ x.all.same_high, is.labelled.1);
         is_one = is.is_one;
         is_pinned = is.is_pinned;
@@ -331,8 +332,9 @@ module _ {t : Tree} {mine wider : ℕ → Type 0} {level k at i : ℕ} {was : Po
     made = made_end;
     others = marked_end;
     apart = apart_end;
-    places = λ told b p not other free stands. x.step.changes.places (x.all.still_tells.1 told) b p (not_last b not) (beside b not other) free
-        (x.first.places told b p (not_mid b not) (λ is. other (x.within b is)) (λ h. free (x.step.covers.still b h)) stands);
+    places = λ told b p not other free r stands. let mid = x.all.still_tells.1 told in x.step.changes.places mid b p (not_last b not) (beside b not other) free r
+        (x.first.places told b p (not_mid b not) (λ is. other (x.within b is)) (λ h. free (x.step.covers.still b h)) (x.step.changes.rooted mid b (not_last b not) r) stands);
+    rooted = λ told b not r. x.first.rooted told b (not_mid b not) (x.step.changes.rooted (x.all.still_tells.1 told) b (not_last b not) r);
     instead = λ b y h. ⊎_elim (λ old. inl old) (λ new. inr (made_on b new.0, x.within y new.1)) (x.first.instead b y (x.step.instead b y h));
     older = λ b y h. x.first.older b y (x.step.instead b y h);
     still = λ b h. x.step.covers.still b (x.first.still b h);
@@ -375,7 +377,8 @@ wider_same {t = t} {mine = mine} {wider = wider} {level = level} {s = s} {u = u}
   made = x.made;
   others = x.others;
   apart = x.apart;
-  places = λ told b p not other free stands. x.places told b p not (λ is. other (within b is)) free stands;
+  places = λ told b p not other free r stands. x.places told b p not (λ is. other (within b is)) free r stands;
+  rooted = x.rooted;
   instead = λ b y h. ⊎_elim (λ old. inl old) (λ new. inr (new.0, within y new.1)) (x.instead b y h);
   older = x.older;
   still = x.still;
@@ -415,7 +418,8 @@ changes_of {t = t} {mine = mine} {wider = wider} {level = level} {s = s} {u = u}
   made = x.made;
   others = x.others;
   apart = λ b not. let same = x.apart b not in (same.0, λ h. inl (same.1 h));
-  places = λ told b p not other free stands. x.places told b p not (λ is. other (within b is)) free stands;
+  places = λ told b p not other free r stands. x.places told b p not (λ is. other (within b is)) free r stands;
+  rooted = x.rooted;
   instead = λ b y h. ⊎_elim (λ old. inl old) (λ new. inr (new.0, inl (within y new.1))) (x.instead b y h);
   covers = λ b. (x.still b, λ no other h. x.only b no (λ is. other (within b is)) h);
   leaves = x.leaves;

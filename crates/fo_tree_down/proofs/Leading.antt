@@ -12,6 +12,7 @@ use Rattle.fo_ports.specs.State.{State, KeepsAll}
 use Rattle.fo_ports.specs.Sources.{Made, IsInstead, ComesFor}
 use Rattle.fo_tree_look.specs.declared.ways.Kept.{Kept}
 use Rattle.fo_tree_look.specs.Source.{IsPrepared, IsTopCurrent}
+use Rattle.fo_looks.proofs.Looks.{rooted_of_apart, rooted_of_hung}
 use Rattle.fo_tree_read.specs.declared.tree.Tree.{Tree}
 use Rattle.fo_tree_read.specs.Tree.{kind_at, kind_down, below, block_at}
 use Rattle.fo_tree_own.specs.Step.{IsOwn, OwnTold, Links}
@@ -41,7 +42,7 @@ leads_to s u t kept top (suc n) k at leads =
     ap (λ (p : Pointer). below u (kind_down t n) p (k % 409)) (leads_to s u t kept top n (k / 409) leads.0.0 leads.0.1) ∙ leads.0.2
 
 module _ (s m u : State) (t : Tree) (kept : List Kept) (top n above i result level k : ℕ) (within : suc n ≤ t.depth) (own : IsPrepared m (kind_down t n) t.tag above) (was : Pointer)
-    (was_below : (b : ℕ) → was ≡ Local b → IsPrepared m (kind_at t.dir (t.depth - suc n)) t.tag b) (more : KeepsAll m u) (step : Links t level k above i was result m u) where
+    (was_below : (b : ℕ) → was ≡ Local b → IsPrepared m (kind_at t.dir (t.depth - suc n)) t.tag b) (more : KeepsAll m u) (step : Links t level k above i was result m u) (active : u.tops 1) where
   ne_result : (at : ℕ) → (m.label at).state ≡ Live → at ≢ result
   ne_result at live e = step.made.0 (ap (λ y. (m.label y).state) (sym e) ∙ live)
 
@@ -58,7 +59,7 @@ module _ (s m u : State) (t : Tree) (kept : List Kept) (top n above i result lev
       let not = not_was n' j at le is in
       let free : u.covered at → ⊥ = step.covers.only at before.uncovered not in
       record {
-        stands = step.places told at (place (kind_at t.dir (t.depth - n')) t.tag j (t.rank + (t.depth - n'))) (ne_result at is.live) free before.stands;
+        stands = step.places told at (place (kind_at t.dir (t.depth - n')) t.tag j (t.rank + (t.depth - n'))) (ne_result at is.live) free (rooted_of_hung u active (step.hung told at not before.hung)) before.stands;
         uncovered = free;
         hung = step.hung told at not before.hung;
         alone = λ y h. before.alone y (step.instead y at h);
@@ -159,7 +160,7 @@ top_stays {s = s} {m = m} {u = u} {t = t} {result = result} {top = top} {was = w
     instead_on told from i = record {
       is_apart = (step.apart top ne).1 i.is_apart;
       place = i.place;
-      stands = step.places told top i.place ne (spared i.uncovered) i.stands;
+      stands = step.places told top i.place ne (spared i.uncovered) (rooted_of_apart u top ((step.apart top ne).1 i.is_apart)) i.stands;
       uncovered = spared i.uncovered;
       instead = λ x. (λ h. (i.instead x).0 (step.instead top x h), λ e. step.still top x ne ((i.instead x).1 e));
       live = λ x e. ap (λ (l : Label). l.state) (step.labels x (ne_live x (i.live x e))) ∙ i.live x e;

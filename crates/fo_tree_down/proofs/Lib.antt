@@ -3,6 +3,7 @@ pub mod Next
 pub mod Topping
 pub mod Leading
 pub mod Beside
+pub mod Sparing
 pub mod Stilling
 pub mod Telling
 pub mod Ending

@@ -10,6 +10,7 @@ use Rattle.fo_crash.specs.Images.{Image, target}
 use Rattle.fo_crash.specs.Places.{place, IsPlaced, OnePlace, RanksFall}
 use Rattle.fo_ports.specs.State.{State, KeepsAll}
 use Rattle.fo_ports.specs.Sources.{Made}
+use Rattle.fo_looks.proofs.Free.{Standing}
 use Rattle.fo_tree_read.specs.declared.tree.Tree.{Tree}
 use Rattle.fo_tree_read.specs.Tree.{kind_at, kind_down, score_in, below, block_at, address_of, Hangs}
 use Rattle.fo_tree_read.proofs.Exits.{address_local}
@@ -200,6 +201,10 @@ module _ (s m : State) (t : Tree) (kept : List Kept) (n k above : ℕ) (all : Ke
     content = content_next m at content;
   }
 
+  -- a current block below the slot still is
+  pub current_below : (b : ℕ) → target ((m.now above).slot (k % 409)) ≡ Local b → (s.label b).epoch ≡ s.high → (m.label b).epoch ≡ m.high
+  current_below b e current = ap (λ (l : Label). l.epoch) (label_on b (next_below b e)) ∙ current ∙ sym all.same_high
+
   -- what the slot led to is prepared
   pub was_below : (b : ℕ) → target ((m.now above).slot (k % 409)) ≡ Local b → IsPrepared m (kind_at t.dir (t.depth - suc n)) t.tag b
   was_below b e = prepared_on b (next_below b e)
@@ -208,7 +213,7 @@ module _ (s m : State) (t : Tree) (kept : List Kept) (n k above : ℕ) (all : Ke
   replaces_same at own e = record { own = subst (λ i. IsOwn m t (t.depth - suc n) i at) index_is own; from = inr (next_local at e); kept = λ b f current. local_eq (sym (next_local at e) ∙ f) }
 
   -- it was given out
-  module _ (u : State) (at : ℕ) (more : KeepsAll m u) (image_says : (image : Image) → s.may_leave image → IsPlaced s.stands image × RanksFall s.stands image × s.tells × ((top : ℕ) → s.tops top → (q : Place) × s.stands top q))
+  module _ (u : State) (at : ℕ) (more : KeepsAll m u) (image_says : (image : Image) → s.may_leave image → IsPlaced s.stands image × RanksFall s.stands image × s.tells × ((top : ℕ) → s.tops top → (q : Place) × s.stands top q)) (standing : Standing s)
       (step : Links t (t.depth - suc n) (k / 409) above (k % 409) (target ((m.now above).slot (k % 409))) at m u) where
     joined : Continues t (OnWay s t n (k / 409)) (OnWay s t (suc n) k) (t.depth - suc n) (k / 409) above (k % 409) (target ((m.now above).slot (k % 409))) at s m u
     joined = record {
@@ -222,11 +227,11 @@ module _ (s m : State) (t : Tree) (kept : List Kept) (n k above : ℕ) (all : Ke
       is_mine = λ b e. inr (next_local b e);
       was_old = λ b e. old_block b (next_below b e);
       was_is = refl;
-      live = λ is b on. (told is b (inl on)).live;
       placed = λ image is. (image_says image is).0;
       ranked = λ image is. (image_says image is).1;
       top_stands = λ image is. (image_says image is).3;
       told = λ image is. (image_says image is).2;
+      standing = standing;
     }
 
     pub comes_new : Becomes m u t kept (t.depth - suc n) (target ((m.now above).slot (k % 409))) at → Comes s u t kept (suc n) k at
@@ -273,7 +278,8 @@ comes_top s t kept k top is few own not = record {
       made = λ b made. absurd (none_made b made);
       others = λ b n. record { label = refl; marks = (λ h. h, λ h. h, λ h. h) };
       apart = λ b n. (λ h. h, λ h. h);
-      places = λ told b q n other free stands. stands;
+      places = λ told b q n other free r stands. stands;
+      rooted = λ told b n r. r;
       instead = λ b y h. inl h;
       older = λ b y h. inl h;
       aged = λ b free h. absurd (free h);

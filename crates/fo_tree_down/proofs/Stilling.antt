@@ -211,7 +211,7 @@ module _ {s u : State} {t : Tree} {kept : List Kept} {top n k at : ℕ} (x : Was
   follows (suc m) j le way =
       step m (block_at (seen s kept) t m (j / 409)) (block_at (seen u kept) new m (j / 409)) (j % 409) le (omega arith) (top_ready s t kept m (j / 409) way.0) (follows m (j / 409) (omega (arith, le)) way.0) way.1
 
-  way_still : (m j : ℕ) → m ≤ t.depth → WayReady s t kept m j → WayReady u new kept m j
+  pub way_still : (m j : ℕ) → m ≤ t.depth → WayReady s t kept m j → WayReady u new kept m j
   way_still zero j le way = ready_on zero (block_at (seen s kept) t zero j) (block_at (seen u kept) new zero j) way (follows zero j le way)
   way_still (suc m) j le way = (
     way_still m (j / 409) (omega (arith, le)) way.0,

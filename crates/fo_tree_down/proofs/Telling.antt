@@ -10,6 +10,7 @@ use Rattle.fo_crash.specs.Images.{Reaches, to_block}
 use Rattle.fo_crash.specs.Places.{place}
 use Rattle.fo_ports.specs.State.{State}
 use Rattle.fo_ports.specs.Sources.{Made}
+use Rattle.fo_looks.proofs.Looks.{rooted_of_apart}
 use Rattle.fo_tree_read.specs.declared.tree.Tree.{Tree}
 use Rattle.fo_tree_read.specs.Tree.{kind_at, kind_down, below, block_at, Hangs}
 use Rattle.fo_tree_look.specs.declared.ways.Kept.{Kept}
@@ -136,6 +137,7 @@ module _ {s u : State} {t : Tree} {kept : List Kept} {top n k at level : ℕ} (x
 
 -- What blocks say of what is apart, before and after.
 pub record SaysApart (s u : State) : Type 0 where
+  pub active : u.tops 1
   pub small : (b : ℕ) → u.is_block b → b < 2 ^ 32 - 1
   pub unlinked : s.tells → (y : ℕ) → s.apart y → Reaches s.now (to_block 1) y → ⊥
   pub comes : u.tells → (y x : ℕ) → u.instead y x → u.apart y
@@ -192,6 +194,7 @@ module _ {s u : State} {t : Tree} {kept : List Kept} {top n k at : ℕ} (x : Was
       low = over.hangs.low;
       is_one = top_is over.hangs;
       told = top_stands;
+      rooted = λ now b e. ⊎_elim (λ h. rooted_of_apart u b h) (λ r. (1, inl says.active, r)) (top_free over now b e);
     };
     least = over.least;
     within = over.within;

@@ -14,6 +14,7 @@ use Rattle.fo_crash.proofs.Reach.{reach_aside, reach_into, reaches_itself}
 use Rattle.fo_ports.specs.Blocks.{IsLevel}
 use Rattle.fo_ports.specs.State.{State, KeepsAll}
 use Rattle.fo_ports.specs.Sources.{IsHung, Made, IsMade, StaysMarked, IsInstead, ComesFor}
+use Rattle.fo_looks.proofs.Looks.{rooted_of_apart}
 use Rattle.fo_tree_read.specs.declared.tree.Tree.{Tree}
 use Rattle.fo_tree_read.specs.Tree.{kind_at, Hangs}
 use Rattle.fo_tree_look.specs.declared.ways.Kept.{Kept}
@@ -66,11 +67,12 @@ module _ {t : Tree} {kept : List Kept} {l : Label} {result : ℕ} {s m : State} 
       let unplaced : (p : Place) → s.stands result p → ⊥ = (x.came.was.3 told).1 in
       let ne : h.top ≢ result = λ e. unplaced h.place (subst (λ y. s.stands y h.place) e h.stands) in
       let free : m.covered h.top → ⊥ = x.came.only h.top ne h.uncovered in
+      let apart : m.apart h.top = (x.came.stays.apart h.top ne (λ n. n)).1 h.is_apart in
       inr (record {
         top = h.top;
-        is_apart = (x.came.stays.apart h.top ne (λ n. n)).1 h.is_apart;
+        is_apart = apart;
         place = h.place;
-        stands = x.came.stays.places told h.top h.place ne (λ n. n) free h.stands;
+        stands = x.came.stays.places told h.top h.place ne (λ n. n) free (rooted_of_apart m h.top apart) h.stands;
         uncovered = free;
         reaches = reach_aside s.now m.now (λ y. y ≡ result) h.top (λ y j off. sym ((x.came.others y off).slots j))
             (λ y e far. let q = stands_below h.place (x.laws.placed told) (x.laws.ranked told) h.stands (subst (λ z. Reaches s.now (to_block h.top) z) e far) in unplaced q.0 q.1) b h.reaches;
@@ -94,7 +96,8 @@ module _ {t : Tree} {kept : List Kept} {l : Label} {result : ℕ} {s m : State} 
 
   made_end : IsMade t.tag s m result
   made_end = record {
-    was = (x.came.was.1, x.came.was.3);
+    free = x.came.free;
+    was = (x.came.was.1, λ told. (x.came.was.3 told).0);
     labelled = (ap (λ (q : Label). q.epoch) x.came.label ∙ x.is_current, ap (λ (q : Label). q.tag) x.came.label ∙ x.tagged);
     is_one = x.came.is.0;
     is_pinned = x.came.is.1;
@@ -119,7 +122,8 @@ module _ {t : Tree} {kept : List Kept} {l : Label} {result : ℕ} {s m : State} 
     made = λ b made. subst (λ y. IsMade t.tag s m y) (sym (made_is b made)) made_end;
     others = marked_end;
     apart = λ b not. x.came.stays.apart b (ne_result b not) (λ h. h);
-    places = λ told b p not other free stands. x.came.stays.places told b p (ne_result b not) (λ h. h) free stands;
+    places = λ told b p not other free r stands. x.came.stays.places told b p (ne_result b not) (λ h. h) free r stands;
+    rooted = λ told b not r. x.came.stays.rooted told b (ne_result b not) r;
     instead = λ b y h. ⊎_elim
         (λ e. inr (subst (λ z. Made s m z) (sym e) made_result, x.raised y (subst (λ z. m.instead z y) e h)))
         (λ ne. inl ((x.came.stays.instead b y ne (λ n. n)).0 h))

@@ -6,7 +6,7 @@ use Rattle.fo_image.specs.declared.types.Pointer.TheVariants.{Local}
 use Rattle.fo_image.specs.declared.types.State.TheVariants.{Live}
 use Rattle.fo_crash.specs.declared.place.Place.{Place}
 use Rattle.fo_crash.specs.Images.{Image, Reaches, target, to_block}
-use Rattle.fo_ports.specs.State.{State, none, AddsNoWait, KeepsNumbers}
+use Rattle.fo_ports.specs.State.{State, IsRooted, none, AddsNoWait, KeepsNumbers}
 use Rattle.fo_ports.specs.Sources.{IsHung, ComesFor, Made, Touched, IsMade, StaysMarked}
 use Rattle.fo_tree_read.specs.declared.tree.Tree.{Tree}
 use Rattle.fo_tree_read.specs.Tree.{kind_at, kind_down, below, block_at}
@@ -59,7 +59,8 @@ pub record Descends (t : Tree) (mine : ℕ → Type 0) (level : ℕ) (s u : Stat
   pub made : (b : ℕ) → Made s u b → IsMade t.tag s u b
   pub others : (b : ℕ) → (Made s u b → ⊥) → StaysMarked s u b
   pub apart : (b : ℕ) → (Made s u b → ⊥) → u.apart b ↔ s.apart b
-  pub places : s.tells → (b : ℕ) (p : Place) → (Made s u b → ⊥) → (mine b → ⊥) → (u.covered b → ⊥) → s.stands b p → u.stands b p
+  pub places : s.tells → (b : ℕ) (p : Place) → (Made s u b → ⊥) → (mine b → ⊥) → (u.covered b → ⊥) → IsRooted u b → s.stands b p → u.stands b p
+  pub rooted : s.tells → (b : ℕ) → (Made s u b → ⊥) → IsRooted u b → IsRooted s b
   pub instead : (b x : ℕ) → u.instead b x → s.instead b x ⊎ (Made s u b × mine x)
   pub older : (b x : ℕ) → u.instead b x → s.instead b x ⊎ ((s.label x).epoch < s.high)
   pub still : (b : ℕ) → s.covered b → u.covered b
@@ -134,3 +135,9 @@ IsCurrentAt s p = (b : ℕ) × (p ≡ Local b) × ((s.label b).epoch ≡ s.high)
 abbrev pub WayCurrent : State → Tree → ℕ → ℕ → Type 0
 WayCurrent s t zero k = IsCurrentAt s t.top
 WayCurrent s t (suc n) k = WayCurrent s t n (k / 409) × IsCurrentAt s (block_at s t (suc n) k)
+
+-- The way to block k of those n steps below the top is current but for its last blocks, which are so many.
+abbrev pub CurrentBut : State → Tree → (c n k : ℕ) → Type 0
+CurrentBut s t zero n k = WayCurrent s t n k
+CurrentBut s t (suc c) zero k = Unit {0}
+CurrentBut s t (suc c) (suc n) k = CurrentBut s t c n (k / 409)

@@ -13,4 +13,4 @@
 mod top;
 mod way;
 
-pub use way::{Current, own_down, own_way};
+pub use way::{Current, own_near, own_way};

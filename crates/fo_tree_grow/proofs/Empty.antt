@@ -104,6 +104,7 @@ module _ (s : State) (t : Tree) (kept : List Kept) (empty : t.top ≡ Nil) where
       low = over.hangs.low;
       is_one = λ at e. absurd (nil_local at (sym empty ∙ e));
       told = λ told at e. absurd (nil_local at (sym empty ∙ e));
+      rooted = λ told at e. absurd (nil_local at (sym empty ∙ e));
     };
     least = least;
     within = within;

@@ -31,7 +31,8 @@ changes_of {tag = tag} {inner = inner} {more = more} {s = s} {u = u} within deep
   made = x.made;
   others = x.others;
   apart = λ b not. let was = x.apart b not in (was.0, λ h. ⊎_elim (λ still. inl still) (λ mine. inr (within b mine)) (was.1 h));
-  places = λ told b p not other free stands. x.places told b p not (λ h. other (within b h)) free stands;
+  places = λ told b p not other free r stands. x.places told b p not (λ h. other (within b h)) free r stands;
+  rooted = x.rooted;
   instead = λ b y h. ⊎_elim (λ old. inl old) (λ new. inr (new.0, ⊎_elim (λ mine. inl (within y mine)) (λ was. inr (was.0, within was.0 was.1, was.2)) new.1)) (x.instead b y h);
   covers = λ b. let c = x.covers b in (c.0, λ no other h. c.1 no (λ is. other (within b is)) h);
   leaves = x.leaves;

@@ -66,6 +66,7 @@ module _ (s : State) (t : Tree) (z : ℕ) (kept : List Kept) where
       low = over.hangs.low;
       is_one = over.hangs.is_one;
       told = over.hangs.told;
+      rooted = over.hangs.rooted;
     };
     least = least;
     within = within;

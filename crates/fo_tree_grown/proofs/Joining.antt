@@ -8,6 +8,7 @@ use Rattle.fo_crash.specs.Images.{Image}
 use Rattle.fo_crash.specs.Places.{IsPlaced, RanksFall}
 use Rattle.fo_ports.specs.State.{State, KeepsAll}
 use Rattle.fo_ports.specs.Sources.{Made, Changes, MayZero}
+use Rattle.fo_looks.proofs.Free.{Standing}
 use Rattle.fo_tree_read.specs.declared.tree.Tree.{Tree}
 use Rattle.fo_tree_read.specs.Tree.{kind_at, block_at}
 use Rattle.fo_tree_look.specs.declared.ways.Kept.{Kept}
@@ -60,7 +61,8 @@ steps_wider m n x = record {
   free = x.free;
   others = x.others;
   apart = x.apart;
-  places = λ told b p not other free stands. x.places told b p not (λ own. other (m b own)) free stands;
+  places = λ told b p not other free r stands. x.places told b p not (λ own. other (m b own)) free r stands;
+  rooted = x.rooted;
   instead = λ b y h. ⊎_elim (λ old. inl old) (λ new. inr (new.0, m y new.1, new.2)) (x.instead b y h);
   still = x.still;
   only = λ b no other h. x.only b no (λ own. other (m b own)) h;
@@ -147,6 +149,7 @@ pub record Both (s m u : State) (t : Tree) (kept : List Kept) (limit top i : ℕ
   pub ranked : (image : Image) → s.may_leave image → RanksFall s.stands image
   pub top_stands : (image : Image) → s.may_leave image → (up : ℕ) → s.tops up → (p : Place) × s.stands up p
   pub told : (image : Image) → s.may_leave image → s.tells
+  pub standing : Standing s
 
 module _ {s m u : State} {t : Tree} {kept : List Kept} {limit top i : ℕ} (x : Both s m u t kept limit top i) (generation l : ℕ) where
   abbrev Way : ℕ → Type 0
@@ -187,11 +190,11 @@ module _ {s m u : State} {t : Tree} {kept : List Kept} {limit top i : ℕ} (x : 
     cases = λ b. way_cases m (sized (with_top t top) (8192 * (i + 1))) t.depth i b;
     rooted = λ told b on older. (x.mid.told told b (has_mid b on)).in_tree older;
     up_to = λ told b on. (x.mid.told told b (has_mid b on)).up_to;
-    live = λ told b has. (x.begun.over.told told b has).live;
     placed = x.placed;
     ranked = x.ranked;
     top_stands = x.top_stands;
     told = x.told;
+    standing = x.standing;
   }
 
   pub changes_next : Changes t.tag (HasBlock s t) (Inner s t kept i generation l) s u

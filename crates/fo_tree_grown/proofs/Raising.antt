@@ -1,7 +1,6 @@
 -- The end of a source was cleared, and a leaf past its levels was owned then: what both calls change.
-use Rattle.std.proofs.Common.{◌≡◌, ◌⊎◌, ℕ, inl, inr, ⊎_elim, sym, ◌∙◌, ap, subst, arith}
+use Rattle.std.proofs.Common.{◌≡◌, ◌⊎◌, ℕ, inl, inr, ⊎_elim, sym, ◌∙◌, ap, subst, arith, true}
 use Rattle.fo_image.specs.declared.types.Label.{Label}
-use Rattle.fo_image.specs.declared.types.State.TheVariants.{Live}
 use Rattle.fo_image.specs.declared.types.Pointer.TheVariants.{Local}
 use Rattle.fo_crash.specs.declared.place.Place.{Place}
 use Rattle.fo_crash.specs.Images.{Content, Image, SameContent, Reaches, to_block}
@@ -9,6 +8,8 @@ use Rattle.fo_crash.specs.Places.{IsPlaced, RanksFall}
 use Rattle.fo_crash.proofs.Places.{stands_below}
 use Rattle.fo_ports.specs.State.{State, KeepsAll, none}
 use Rattle.fo_ports.specs.Sources.{Made, Touched, Undone, IsMade, StaysMarked, Stead, Changes}
+use Rattle.fo_image.specs.Usable.{is_usable}
+use Rattle.fo_looks.proofs.Free.{Standing, free_before, free_stands}
 use Rattle.fo_tree_read.specs.declared.tree.Tree.{Tree}
 use Rattle.fo_tree_look.specs.Source.{HasBlock}
 use Rattle.fo_tree_down.specs.Way.{with_top}
@@ -29,17 +30,16 @@ pub record Raised (s m u : State) (t : Tree) (inner : ℕ → Type 0) (top : ℕ
   pub instead : (b x : ℕ) → u.instead b x → m.instead b x ⊎ (Made m u b × InSteadOf m (with_top t top) x)
   pub tree : m.tells → (b : ℕ) → Reaches m.now (to_block 1) b → Reaches u.now (to_block 1) b
   pub covers : (b : ℕ) → (m.covered b → ⊥) → u.covered b → ⊥
-  pub free : m.tells → (b : ℕ) → Made m u b → u.covered b → ⊥
   pub all : KeepsAll s m
   pub more : KeepsAll m u
   pub from : Made s m top ⊎ (t.top ≡ Local top)
   pub is_apart : Made s m top → m.apart top
   pub stead : (x : ℕ) → Made s m top → m.instead top x → t.top ≡ Local x
-  pub live : s.tells → (b : ℕ) → HasBlock s t b → (s.label b).state ≡ Live
   pub placed : (image : Image) → s.may_leave image → IsPlaced s.stands image
   pub ranked : (image : Image) → s.may_leave image → RanksFall s.stands image
   pub top_stands : (image : Image) → s.may_leave image → (up : ℕ) → s.tops up → (p : Place) × s.stands up p
   pub told : (image : Image) → s.may_leave image → s.tells
+  pub standing : Standing s
 
 module _ {s m u : State} {t : Tree} {inner : ℕ → Type 0} {top : ℕ} (x : Raised s m u t inner top) where
   made_first : (b : ℕ) → Made s m b → Made s u b
@@ -76,14 +76,12 @@ module _ {s m u : State} {t : Tree} {inner : ℕ → Type 0} {top : ℕ} (x : Ra
   touched_first : (b : ℕ) → Touched s m t.tag inner b → Touched s u t.tag inner b
   touched_first b = ⊎_elim (λ made. inl (made_first b made)) (λ h. inr h)
 
+  -- what was given out second was usable before the first
+  free_first : (b : ℕ) → Made m u b → is_usable s.low (s.label b) ≡ true
+  free_first b n = free_before x.all b (x.first.others b (λ made. n.0 made.1)).label (x.second.made b n).free
+
   unplaced : s.tells → (b : ℕ) → Made m u b → (p : Place) → s.stands b p → ⊥
-  unplaced told b n p stands =
-      let not : Made s m b → ⊥ = λ made. n.0 made.1 in
-      ((x.second.made b n).was.1 (mid told)).1 p
-      (x.first.places told b p not
-      (λ own. n.0 (ap (λ (l : Label). l.state) (x.first.others b not).label ∙ x.live told b own))
-      (λ h. x.free (mid told) b n ((x.second.covers b).0 h))
-      stands)
+  unplaced told b n p stands = free_stands s x.standing told b p (x.second.made b n).was.0 (free_first b n) stands
 
   image_end : (image : Image) → u.may_leave image → Undone (Touched s u t.tag inner) s u image
   image_end image is =
@@ -112,6 +110,7 @@ module _ {s m u : State} {t : Tree} {inner : ℕ → Type 0} {top : ℕ} (x : Ra
       let was = x.first.made b old in
       let q = x.second.others b (λ n. n.0 old.1) in
       record {
+        free = was.free;
         was = was.was;
         labelled = (ap (λ (l : Label). l.epoch) q.label ∙ was.labelled.0, ap (λ (l : Label). l.tag) q.label ∙ was.labelled.1);
         is_one = (x.more.same_blocks b).1 was.is_one;
@@ -121,7 +120,8 @@ module _ {s m u : State} {t : Tree} {inner : ℕ → Type 0} {top : ℕ} (x : Ra
       (λ n.
       let is = x.second.made b n in
       record {
-        was = (is.was.0, λ told. (λ up. (is.was.1 (mid told)).0 ((x.all.same_tops b).1 up), unplaced told b n));
+        free = free_first b n;
+        was = (is.was.0, λ told up. is.was.1 (mid told) ((x.all.same_tops b).1 up));
         labelled = (is.labelled.0 ∙ x.all.same_high, is.labelled.1);
         is_one = is.is_one;
         is_pinned = is.is_pinned;
@@ -202,9 +202,10 @@ module _ {s m u : State} {t : Tree} {inner : ℕ → Type 0} {top : ℕ} (x : Ra
         let p = x.first.apart b (not_first b not) in
         let q = x.second.apart b (not_second b not) in
         (λ h. p.0 (q.0 h), λ h. ⊎_elim (λ still. inl still) (λ e. inr (has_top b e (not_first b not))) (q.1 (p.1 h)));
-    places = λ told b p not other free stands.
-        x.second.places (mid told) b p (not_second b not) (λ e. other (has_top b e (not_first b not))) free
-        (x.first.places told b p (not_first b not) other (λ h. free ((x.second.covers b).0 h)) stands);
+    places = λ told b p not other free r stands.
+        x.second.places (mid told) b p (not_second b not) (λ e. other (has_top b e (not_first b not))) free r
+        (x.first.places told b p (not_first b not) other (λ h. free ((x.second.covers b).0 h)) (x.second.rooted (mid told) b (not_second b not) r) stands);
+    rooted = λ told b not r. x.first.rooted told b (not_first b not) (x.second.rooted (mid told) b (not_second b not) r);
     instead = instead_end;
     covers = λ b. (λ h. (x.second.covers b).0 (x.first.still b h), λ no other h. x.covers b (x.first.only b no other) h);
     leaves = λ told b r away. (x.second.covers b).0 (x.first.leaves told b r (λ q. away (x.tree (mid told) b q)));

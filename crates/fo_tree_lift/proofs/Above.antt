@@ -6,6 +6,7 @@ use Rattle.fo_crash.specs.Images.{Image, Reaches, to_block}
 use Rattle.fo_crash.proofs.Reach.{reach_aside}
 use Rattle.fo_ports.specs.State.{State, KeepsAll, none}
 use Rattle.fo_ports.specs.Sources.{Made, Touched, Undone, IsMade, StaysMarked, Changes}
+use Rattle.fo_looks.proofs.Free.{free_before}
 use Rattle.fo_tree_read.specs.declared.tree.Tree.{Tree}
 use Rattle.fo_tree_down.specs.Way.{Descends}
 use Rattle.fo_tree_raise.specs.Levels.{Adds}
@@ -18,7 +19,6 @@ pub record GoesBelow (t : Tree) (mine wider way : ℕ → Type 0) (level top : �
   pub made : Made s m top
   pub only : (b : ℕ) → way b → b ≡ top
   pub within : (b : ℕ) → mine b → wider b
-  pub free : m.tells → (b : ℕ) → Made m u b → u.covered b → ⊥
   pub all : KeepsAll s m
   pub more : KeepsAll m u
 
@@ -80,6 +80,7 @@ module _ {t : Tree} {mine wider way : ℕ → Type 0} {level top : ℕ} {s m u :
       let is = x.first.made b old in
       let stays = x.second.others b (λ n. n.0 old.1) in
       record {
+        free = is.free;
         was = is.was;
         labelled = (ap (λ (l : Label). l.epoch) stays.label ∙ is.labelled.0, ap (λ (l : Label). l.tag) stays.label ∙ is.labelled.1);
         is_one = (x.more.same_blocks b).1 is.is_one;
@@ -89,13 +90,8 @@ module _ {t : Tree} {mine wider way : ℕ → Type 0} {level top : ℕ} {s m u :
       (λ new.
       let is = x.second.made b new in
       record {
-        was = (
-          is.was.0,
-          λ told. (
-            λ up. (is.was.1 (mid told)).0 ((x.all.same_tops b).1 up),
-            λ p stands. (is.was.1 (mid told)).1 p (x.first.places told b p (λ old. new.0 old.1) (λ h. x.free (mid told) b new (x.second.still b h)) stands),
-          ),
-        );
+        free = free_before x.all b (x.first.labels b (λ old. new.0 old.1)) is.free;
+        was = (is.was.0, λ told up. is.was.1 (mid told) ((x.all.same_tops b).1 up));
         labelled = (is.labelled.0 ∙ x.all.same_high, is.labelled.1);
         is_one = is.is_one;
         is_pinned = is.is_pinned;
@@ -149,7 +145,8 @@ module _ {t : Tree} {mine wider way : ℕ → Type 0} {level top : ℕ} {s m u :
         let p = x.first.apart b (not_first b not) in
         let q = x.second.apart b (not_second b not) in
         (λ h. p.0 (q.0 h), λ h. ⊎_elim (λ still. inl (q.1 still)) (λ own. inr (x.within b own)) (p.1 h));
-    places = λ told b p not other free stands. x.second.places (mid told) b p (not_second b not) (aside b not) free (x.first.places told b p (not_first b not) (λ h. free (x.second.still b h)) stands);
+    places = λ told b p not other free r stands. x.second.places (mid told) b p (not_second b not) (aside b not) free r (x.first.places told b p (not_first b not) (λ h. free (x.second.still b h)) (x.second.rooted (mid told) b (not_second b not) r) stands);
+    rooted = λ told b not r. x.first.rooted told b (not_first b not) (x.second.rooted (mid told) b (not_second b not) r);
     instead = λ b y h. old_instead b y (instead_above b y h);
     covers = λ b. (λ h. x.second.still b (x.first.still b h), λ no other h. only_end b no h);
     leaves = λ told b r gone. absurd (gone (in_tree_end told b r));

@@ -127,9 +127,6 @@ module _ {s m u : State} {t : Tree} {kept : List Kept} {levels : ℕ} {p : Point
   over_most : Over m (taller t levels p i) kept x.most
   over_most = over_mid x x.most x.end x.over.low
 
-  over_last : Over u (with_top (taller t levels p i) top) kept x.most
-  over_last = w.over (omega arith) x.most over_most
-
   pub over_end : (limit : ℕ) → 8192 * (i + 1) ≤ limit → Over s t kept limit → Over u (with_top (taller t levels p i) top) kept limit
   over_end limit within over = w.over (omega arith) limit (over_mid x limit within over.low)
 
@@ -140,7 +137,6 @@ module _ {s m u : State} {t : Tree} {kept : List Kept} {levels : ℕ} {p : Point
     made = x.lifts.new.made;
     only = only_mid x;
     within = λ b e. e;
-    free = λ told b made. (over_last.told (w.more.still_tells.1 told) b ((w.owns told b).1 made)).uncovered;
     all = x.all;
     more = w.more;
   }

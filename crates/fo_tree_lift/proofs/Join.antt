@@ -8,6 +8,7 @@ use Rattle.fo_crash.specs.Images.{Image, Content, SameContent}
 use Rattle.fo_crash.proofs.Reach.{reach_aside}
 use Rattle.fo_ports.specs.State.{State, KeepsAll}
 use Rattle.fo_ports.specs.Sources.{Made, IsMade, Stead}
+use Rattle.fo_looks.proofs.Free.{free_before}
 use Rattle.fo_tree_read.specs.declared.tree.Tree.{Tree}
 use Rattle.fo_tree_down.specs.Way.{with_top}
 use Rattle.fo_tree_raise.specs.Levels.{IsAmong, Adds, InStead}
@@ -75,6 +76,7 @@ module _ {t : Tree} {mine : ℕ → Type 0} {copy : ℕ} {s c m : State} (x : Fo
       let label = x.second.labels b not in
       let marks = x.second.marks b not in
       record {
+        free = is.free;
         was = is.was;
         labelled = (ap (λ (l : Label). l.epoch) label ∙ is.labelled.0, ap (λ (l : Label). l.tag) label ∙ is.labelled.1);
         is_one = one_end b is.is_one;
@@ -84,13 +86,8 @@ module _ {t : Tree} {mine : ℕ → Type 0} {copy : ℕ} {s c m : State} (x : Fo
       (λ new.
       let is = x.second.made b new in
       record {
-        was = (
-          is.was.0,
-          λ told. (
-            λ top. (is.was.1 (mid told)).0 ((x.all.same_tops b).1 top),
-            λ p stands. (is.was.1 (mid told)).1 p (x.first.places told b p (λ old. new.0 old.1) (λ h. x.second.uncovered b new (x.second.still b h)) stands),
-          ),
-        );
+        free = free_before x.all b (x.first.labels b (λ old. new.0 old.1)) is.free;
+        was = (is.was.0, λ told top. is.was.1 (mid told) ((x.all.same_tops b).1 top));
         labelled = (is.labelled.0 ∙ x.all.same_high, is.labelled.1);
         is_one = is.is_one;
         is_pinned = is.is_pinned;
@@ -144,7 +141,8 @@ module _ {t : Tree} {mine : ℕ → Type 0} {copy : ℕ} {s c m : State} (x : Fo
         let q = x.second.marks b (not_second b not) in
         (λ h. q.0 (p.0 h), λ h. q.1 (p.1 h), λ h. q.2 (p.2 h));
     apart = apart_end;
-    places = λ told b p not free stands. x.second.places (mid told) b p (not_second b not) free (x.first.places told b p (not_first b not) (λ h. free (x.second.still b h)) stands);
+    places = λ told b p not free r stands. x.second.places (mid told) b p (not_second b not) free r (x.first.places told b p (not_first b not) (λ h. free (x.second.still b h)) (x.second.rooted (mid told) b (not_second b not) r) stands);
+    rooted = λ told b not r. x.first.rooted told b (not_first b not) (x.second.rooted (mid told) b (not_second b not) r);
     instead = instead_end;
     still = λ b h. x.second.still b (x.first.still b h);
     only = λ b no h. x.second.only b (x.first.only b no) h;

@@ -17,7 +17,7 @@ use Rattle.fo_tree_look.proofs.Held.{seen_address}
 use Rattle.fo_tree_down.specs.Way.{OnWay, IsWayIndex, with_top}
 use Rattle.fo_tree_down.specs.Clear.{EndsClear, last_leaf}
 use Rattle.fo_tree_raise.specs.Raise.{Bears}
-use Rattle.fo_tree_raise.specs.Levels.{IsTopAfter, InStead, Adds, grown}
+use Rattle.fo_tree_raise.specs.Levels.{IsTopAfter, InStead, Adds, KeepsWays, grown}
 use Rattle.fo_tree_raise.proofs.Levels.{below_same}
 use Rattle.fo_tree_raise.proofs.Clear.{index_above}
 use Rattle.fo_tree_grow.specs.Grow.{sized}
@@ -41,6 +41,7 @@ pub record Raised (s m : State) (t : Tree) (kept : List Kept) (levels : ℕ) (to
   pub owns : s.tells → 0 < t.size → Bears s t kept → (b : ℕ) → (HasBlock m (grown t levels top) b → HasBlock s t b ⊎ Made s m b) × (Made s m b ⊎ HasBlock s t b → HasBlock m (grown t levels top) b)
   pub still : (limit o n : ℕ) → t.size ≤ 8192 * 409 ^ t.depth → Prepared s t kept limit o n → Prepared m (grown t levels top) kept limit o n
   pub clear : 0 < t.size → t.size ≤ 8192 * 409 ^ t.depth → EndsClear s t kept → EndsClear m (grown t levels top) kept
+  pub ways : KeepsWays s m t kept levels top
 
 -- the top of a way that was prepared
 pub top_ready : (s : State) (t : Tree) (kept : List Kept) (n k : ℕ) → WayReady s t kept n k → Ready s t kept 0 t.top
@@ -114,6 +115,15 @@ module _ {s c m : State} {t : Tree} {at copy : ℕ} {top : Pointer} (x : Copied 
       inl (e ∙ subst (λ d. block_at c (with_top t copy) d k ≡ block_at s t d k) level (copied_block x told (t.depth - 1) k (omega (arith, level)))))
       (cases_eq t.depth 0)
 
+  pub ways_copied : (kept : List Kept) (levels : ℕ) → ((j b : ℕ) → WayReady s t kept t.depth j → WayReady c (with_top t copy) kept t.depth j × (OnWay c (with_top t copy) t.depth j b → OnWay s t t.depth j b ⊎ Made s c b)) → KeepsWays c m (with_top t copy) kept levels top → KeepsWays s m t kept levels top
+  ways_copied kept levels before last = record {
+    ready = λ j few way. last.ready j few (λ lt. (before j 0 (way lt)).0);
+    ways = λ j b few way on. ⊎_elim
+        (λ old. ⊎_elim (λ was. inl (old.0, was)) (λ made. inr (made_first f b made)) ((before j b (way old.0)).1 old.1))
+        (λ made. inr (made_second f b made))
+        (last.ways j b few (λ lt. (before j b (way lt)).0) on);
+  }
+
   pub new_copied : IsNewTop s m top
   new_copied = record { at = new.at; is = new.is; made = made_second f new.at new.made; is_apart = new.is_apart }
 
@@ -158,6 +168,7 @@ over_lifted m g z limit kept some within low least b = record {
     low = b.hangs.low;
     is_one = b.hangs.is_one;
     told = b.hangs.told;
+    rooted = b.hangs.rooted;
   };
   least = least;
   within = within;

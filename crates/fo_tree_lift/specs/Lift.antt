@@ -11,7 +11,7 @@ use Rattle.fo_tree_look.specs.declared.ways.Kept.{Kept}
 use Rattle.fo_tree_look.specs.Source.{HasBlock, Prepared}
 use Rattle.fo_tree_down.specs.Clear.{EndsClear}
 use Rattle.fo_tree_raise.specs.Raise.{Bears}
-use Rattle.fo_tree_raise.specs.Levels.{Adds, grown}
+use Rattle.fo_tree_raise.specs.Levels.{Adds, KeepsWays, grown}
 
 -- The only leaf of a source is its top, was an older one, and was copied.
 pub record IsCopied (s m : State) (t : Tree) (top old new : Pointer) : Type 0 where
@@ -48,6 +48,7 @@ pub record Lifts (s m : State) (t : Tree) (kept : List Kept) (levels : ℕ) (top
   pub bears : Bears m (grown t levels top) kept
   pub still : (limit o n : ℕ) → Prepared s t kept limit o n → Prepared m (grown t levels top) kept limit o n
   pub clear : EndsClear m (grown t levels top) kept
+  pub ways : KeepsWays s m t kept levels top
   pub owns : s.tells → (b : ℕ) → (HasBlock m (grown t levels top) b → HasBlock s t b ⊎ Made s m b) × (Made s m b → HasBlock m (grown t levels top) b)
   pub stays : s.tells → (b : ℕ) → HasBlock s t b → (s.label b).epoch ≡ s.high → HasBlock m (grown t levels top) b
   pub leaves : s.tells → (k : ℕ) → k < 409 ^ t.depth → (block_at m (grown t levels top) (t.depth + levels) k ≡ block_at s t t.depth k) ⊎ IsCopied s m t top (block_at s t t.depth k) (block_at m (grown t levels top) (t.depth + levels) k)

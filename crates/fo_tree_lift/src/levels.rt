@@ -17,7 +17,7 @@ use fo_tree_raise::{copy_top, raise_levels};
 use fo_tree_read::Tree;
 
 /// Puts so many levels above the top of a source, an older one of which is copied first, and gives the new top. It is put nowhere yet.
-pub(crate) fn lift<B: Blocks>(tree: &Tree, kept: &[Kept], on: &mut B, levels: u8) -> Pointer
+pub fn lift<B: Blocks>(tree: &Tree, kept: &[Kept], on: &mut B, levels: u8) -> Pointer
     requires over { (limit : ℕ) × Over (B.state on.old) tree.now kept.now limit }
     requires some { (0 < tree.now.size) × (0 < levels) }
     requires level { tree.now.depth + levels ≤ 4 }

@@ -9,7 +9,7 @@ use Rattle.fo_crash.specs.Images.{Reaches, target, to_block}
 use Rattle.fo_crash.specs.Steps.{PutsSlot}
 use Rattle.fo_crash.specs.Places.{place}
 use Rattle.fo_crash.proofs.Reach.{reach_aside, reaches_on, reaches_from, reaches_joins}
-use Rattle.fo_ports.specs.State.{State, KeepsAll, Frame, Hangs}
+use Rattle.fo_ports.specs.State.{State, IsRooted, KeepsAll, Frame, Hangs}
 use Rattle.fo_ports.specs.Sources.{StaysInPlace, StaysReady, Undisturbed, ComesFor}
 use Rattle.fo_tree_read.specs.declared.tree.Tree.{Tree}
 use Rattle.fo_tree_read.specs.Tree.{kind_at}
@@ -104,15 +104,15 @@ module _ {s u : State} {t : Tree} {kept : List Kept} {limit generation at i n : 
         let p = there x.before told in
         subst (λ q. u.stands b q) (place_named p.0 i (entry_of t generation) t.rank ((x.before.told told).ranked p.0 p.1)) (x.hangs.place told b p.0 p.1 top)
 
-    places_end : (b : ℕ) (p : Place) → (u.covered b → ⊥) → s.stands b p → u.stands b p
-    places_end b p free stands = ⊎_elim
+    places_end : (b : ℕ) (p : Place) → (u.covered b → ⊥) → IsRooted u b → s.stands b p → u.stands b p
+    places_end b p free r stands = ⊎_elim
         (λ here. subst (λ y. u.stands y p) (sym here) (x.hangs.at_place told p (λ h. free (subst (λ y. u.covered y) (sym here) h)) (subst (λ y. s.stands y p) here stands)))
         (λ away. ⊎_elim
         (λ top.
         let was = x.before.over.hangs.told told b top in
         let same : p ≡ place (kind_at t.dir t.depth) t.tag 0 (t.rank + t.depth) = x.before.laws.one.each b p (place (kind_at t.dir t.depth) t.tag 0 (t.rank + t.depth)) stands was.0 in
         subst (λ q. u.stands b q) (sym same) (top_end b top))
-        (λ other. x.frame.stays.places told b p (λ e. e) (λ g. ⊎_elim away other g) free stands)
+        (λ other. x.frame.stays.places told b p (λ e. e) (λ g. ⊎_elim away other g) free r stands)
         (local_cases t.top b))
         (cases_eq b at)
 
@@ -121,7 +121,7 @@ module _ {s u : State} {t : Tree} {kept : List Kept} {limit generation at i n : 
       same_slots = ⊎_elim (λ ne. inr (λ j. x.puts.others b j (inl ne))) (λ leaf. inl leaf) which;
       same_length = ap length (x.puts.bytes b);
       same_label = x.frame.stays.labels b (λ e. e);
-      same_places = λ p stands. places_end b p (free_end b r) stands;
+      same_places = λ was p stands. places_end b p (free_end b r) (1, inl x.end.active, r) stands;
       in_tree = λ was. r;
       hung = λ was. inl r;
       linked = λ was. inr r;
@@ -132,7 +132,7 @@ module _ {s u : State} {t : Tree} {kept : List Kept} {limit generation at i n : 
     ranked_end : (p : Place) → u.stands at p → NamesRank p.kind p.rank i t.dir t.rank
     ranked_end p stands =
         let q = there x.before told in
-        let is : q.0 ≡ p = x.end.one.each at q.0 p (places_end at q.0 (free_end at at_end) q.1) stands in
+        let is : q.0 ≡ p = x.end.one.each at q.0 p (places_end at q.0 (free_end at at_end) (1, inl x.end.active, at_end) q.1) stands in
         subst (λ (r : Place). NamesRank r.kind r.rank i t.dir t.rank) is ((x.before.told told).ranked q.0 q.1)
 
     pub again_end : ((y z : ℕ) → s.instead y z → t.top ≡ Local y) → HangsInTree u t at i

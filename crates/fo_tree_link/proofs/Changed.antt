@@ -71,7 +71,7 @@ module _ {s u : State} {t new : Tree} {kept : List Kept} {limit generation at i 
 
   ranked_end : (p : Place) → u.stands at p → NamesRank p.kind p.rank i new.dir new.rank
   ranked_end p stands =
-      let still : u.stands at there.0 = x.others.places x.told at there.0 not_made not_own free_end there.1 in
+      let still : u.stands at there.0 = x.others.places x.told at there.0 not_made not_own free_end (1, inl x.end.active, in_tree_end) there.1 in
       let is : there.0 ≡ p = x.end.one.each at there.0 p still stands in
       subst (λ d. NamesRank p.kind p.rank i d new.rank) (sym x.same.dir)
       (subst (λ r. NamesRank p.kind p.rank i t.dir r) (sym x.same.rank)

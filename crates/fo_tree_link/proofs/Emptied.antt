@@ -68,6 +68,7 @@ over_empty {s = s} {t = t} {new = new} {limit = limit} over rank empty =
         low = subst (λ r. r < 2 ^ 31) (sym rank) over.hangs.low;
         is_one = λ at is. absurd (nil_local at (sym empty.2 ∙ is));
         told = λ told at is. absurd (nil_local at (sym empty.2 ∙ is));
+        rooted = λ told at is. absurd (nil_local at (sym empty.2 ∙ is));
       };
       least = depth ∙ sym (ap (λ n. depth_for n) size);
       within = omega (arith, size);

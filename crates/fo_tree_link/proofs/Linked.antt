@@ -66,7 +66,8 @@ same_link {s = s} {t = t} {kept = kept} {limit = limit} laws one_stays all over 
   only = λ y z h. absurd (linked.none y z h);
   others = record {
     made = λ b made. absurd (made.0 made.1);
-    places = λ tells b p not_made other free stands. stands;
+    places = λ tells b p not_made other free r stands. stands;
+    rooted = λ tells b not_made r. r;
     in_tree = λ tells b other r. r;
   };
   told = told;

@@ -275,5 +275,7 @@ module _ {s : State} {t : Tree} {kept : List Kept} {limit generation at i : ℕ}
       uncovered = ⊎_elim (λ one h. x.one_stays (subst (λ y. s.covered y) one h)) (λ ne. (x.laws.live at told ne can.in_tree).2) (cases_eq at 1);
       first = λ inner first y g. absurd (not_inner (s.label at).kind i x.leaf inner);
       holder = inl can.in_tree;
+      linked = λ some. can.in_tree;
+      entry = λ outer b e ne. can.in_tree;
       keeps = λ c g. inr (reaches_on i can.in_tree g);
     }

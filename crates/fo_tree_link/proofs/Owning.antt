@@ -11,10 +11,10 @@ use Rattle.fo_ports.specs.Sources.{Changes, EndsWithin, IsCut, MayZero, Owned, R
 use Rattle.fo_tree_read.specs.declared.tree.Tree.{Tree}
 use Rattle.fo_tree_read.specs.Tree.{kind_at, block_at, address, address_of}
 use Rattle.fo_tree_look.specs.declared.ways.Kept.{Kept}
-use Rattle.fo_tree_look.specs.Source.{HasBlock, Over, address_here, held_here, form_of, leaves_of}
+use Rattle.fo_tree_look.specs.Source.{HasBlock, Over, AllHeld, address_here, held_here, form_of, leaves_of}
 use Rattle.fo_tree_look.proofs.Held.{seen_block}
 use Rattle.fo_tree_look.proofs.Places.{is_here, none_here}
-use Rattle.fo_tree_look.proofs.Shown.{address_past, held_on}
+use Rattle.fo_tree_look.proofs.Shown.{address_past}
 use Rattle.fo_tree_own.proofs.Link.{blank_leads}
 use Rattle.fo_tree_down.specs.Way.{IsWayIndex}
 use Rattle.fo_tree_down.specs.Clear.{EndsClear, last_leaf}
@@ -33,16 +33,17 @@ way_end zero k = (refl, refl)
 way_end (suc n) k = inl (refl, refl)
 
 -- A leaf of a source was owned, over a device that tells, and nothing stands behind its end.
-pub record Taken (s u : State) (t new : Tree) (kept : List Kept) (limit generation i at : ℕ) : Type 0 where
+pub record Taken (s u : State) (t new : Tree) (kept later : List Kept) (limit generation i at : ℕ) : Type 0 where
   pub over : Over s t kept limit
   pub all : KeepsAll s u
   pub told : s.tells
-  pub owned : Owned (form_of t generation limit) t.size i at s u (leaves_of s t kept limit) (leaves_of u new kept limit)
+  pub owned : Owned (form_of t generation limit) t.size i at s u (leaves_of s t kept limit) (leaves_of u new later limit)
   pub changes : Changes t.tag (HasBlock s t) (MayZero (form_of t generation limit) t.size i s (leaves_of s t kept limit)) s u
-  pub clear : EndsClear u new kept
+  pub clear : EndsClear u new later
+  pub held : AllHeld u later
   pub leaf_kind : (k a : ℕ) → block_at s t t.depth k ≡ Local a → (s.label a).kind ≡ kind_at t.dir 0
 
-module _ {s u : State} {t new : Tree} {kept : List Kept} {limit generation i at : ℕ} (x : Taken s u t new kept limit generation i at) where
+module _ {s u : State} {t new : Tree} {kept later : List Kept} {limit generation i at : ℕ} (x : Taken s u t new kept later limit generation i at) where
   abbrev Was : ℕ → Type 0
   Was a = ((m b : ℕ) × (block_at s t t.depth m ≡ Local b) × ((j : ℕ) → (u.now a).slot j ≡ (s.now b).slot j)) ⊎ ((j b : ℕ) → target ((u.now a).slot j) ≢ Local b)
 
@@ -76,12 +77,12 @@ module _ {s u : State} {t new : Tree} {kept : List Kept} {limit generation i at 
   other_leaf : t.dir ≡ true → (m a : ℕ) → m ≢ i → address_here u new m ≡ Some a → Was a
   other_leaf dir m a ne is = ⊎_elim stays renewed (x.owned.others x.told m ne)
     where
-      stays : StaysLeaf (leaves_of s t kept limit) (leaves_of u new kept limit) m → Was a
+      stays : StaysLeaf (leaves_of s t kept limit) (leaves_of u new later limit) m → Was a
       stays h =
           let was = (is_here s t m a (sym h.at ∙ is)).is in
           inl (m, a, was, (same_leaf dir m a was).slots)
 
-      renewed : (t.size < 8192 * (i + 1)) × Renewed (form_of t generation limit) t.size m s u (leaves_of s t kept limit) (leaves_of u new kept limit) → Was a
+      renewed : (t.size < 8192 * (i + 1)) × Renewed (form_of t generation limit) t.size m s u (leaves_of s t kept limit) (leaves_of u new later limit) → Was a
       renewed h = subst (λ y. Was y) (some_eq (sym h.1.is.0 ∙ is)) (by (address_here s t m) refl (held_here s t kept m) (none_held dir m) h.1.content)
         where
           by : (o : Option ℕ) → address_here s t m ≡ o → (bytes : Option (List ℕ)) → bytes ≡ None
@@ -103,7 +104,7 @@ module _ {s u : State} {t new : Tree} {kept : List Kept} {limit generation i at 
   none_past m a past few is =
       let size = some in
       let none = x.clear.behind some new.depth (last_leaf new.size) m (way_end new.depth (last_leaf new.size)) (omega (arith, size, past)) few in
-      nil_local a (sym none ∙ seen_block u kept (held_on x.all kept x.over.held) (x.all.still_tells.1 x.told) new new.depth m ∙ is)
+      nil_local a (sym none ∙ seen_block u later x.held (x.all.still_tells.1 x.told) new new.depth m ∙ is)
 
   pub owned_entries : KeepsEntries s u t new
   owned_entries = record {

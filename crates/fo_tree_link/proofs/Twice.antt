@@ -3,7 +3,7 @@ use Rattle.std.proofs.Common.{◌≡◌, ◌≢◌, ◌⊎◌, ℕ, inl, inr, �
 use Rattle.fo_image.specs.declared.types.Label.{Label}
 use Rattle.fo_image.specs.declared.types.State.{State as BlockState}
 use Rattle.fo_image.specs.declared.types.State.TheVariants.{Free, Live, Closed}
-use Rattle.fo_ports.specs.State.{State, KeepsAll}
+use Rattle.fo_ports.specs.State.{State, KeepsAll, IsRooted}
 use Rattle.fo_ports.specs.Sources.{Made}
 use Rattle.fo_tree_read.specs.declared.tree.Tree.{Tree}
 use Rattle.fo_tree_look.specs.Source.{HasBlock}
@@ -36,17 +36,22 @@ module _ {s u v : State} {t mid : Tree} (x : Twice s u v t mid) where
       (λ free. not (free, made.1))
       (live_cases (s.label b).state)
 
+  rooted_mid : s.tells → (b : ℕ) → (Made s v b → ⊥) → IsRooted v b → IsRooted u b
+  rooted_mid told b not r = x.second.rooted (x.all.still_tells.1 told) b (made_second b not) r
+
   pub others_twice : KeepsOthers s v t
   others_twice = record {
     made = λ b made. ⊎_elim
         (λ live. x.first.made b (made.0, live))
         (λ free. x.second.made b (free, made.1))
         (live_cases (u.label b).state);
-    places = λ told b p not other free stands.
+    places = λ told b p not other free r stands.
         x.second.places (x.all.still_tells.1 told) b p (made_second b not)
         (λ has. ⊎_elim other (λ made. not (made_first b made)) (x.owns told b has))
         free
-        (x.first.places told b p (λ made. not (made_first b made)) other (λ c. free (x.covered b c)) stands);
+        r
+        (x.first.places told b p (λ made. not (made_first b made)) other (λ c. free (x.covered b c)) (rooted_mid told b not r) stands);
+    rooted = λ told b not r. x.first.rooted told b (λ made. not (made_first b made)) (rooted_mid told b not r);
     in_tree = λ told b other r.
         x.second.in_tree (x.all.still_tells.1 told) b
         (λ has. ⊎_elim other (λ made. made.0 (x.laws.live b told (x.first.made b made) r).0) (x.owns told b has))

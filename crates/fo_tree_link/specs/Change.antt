@@ -3,7 +3,7 @@ use Rattle.std.specs.Prelude.{◌≡◌, ◌≢◌, ◌⊎◌, ◌≤◌, ℕ, t
 use Rattle.fo_image.specs.declared.types.Pointer.TheVariants.{Local}
 use Rattle.fo_crash.specs.declared.place.Place.{Place}
 use Rattle.fo_crash.specs.Images.{Reaches, target, to_block}
-use Rattle.fo_ports.specs.State.{State}
+use Rattle.fo_ports.specs.State.{State, IsRooted}
 use Rattle.fo_ports.specs.Sources.{Made}
 use Rattle.fo_tree_read.specs.declared.tree.Tree.{Tree}
 use Rattle.fo_tree_read.specs.Tree.{block_at}
@@ -32,5 +32,6 @@ pub record KeepsEntries (s u : State) (t new : Tree) : Type 0 where
 -- did, and block 1 is not given out.
 pub record KeepsOthers (s u : State) (t : Tree) : Type 0 where
   pub made : (b : ℕ) → Made s u b → b ≢ 1
-  pub places : s.tells → (b : ℕ) (p : Place) → (Made s u b → ⊥) → (HasBlock s t b → ⊥) → (u.covered b → ⊥) → s.stands b p → u.stands b p
+  pub places : s.tells → (b : ℕ) (p : Place) → (Made s u b → ⊥) → (HasBlock s t b → ⊥) → (u.covered b → ⊥) → IsRooted u b → s.stands b p → u.stands b p
+  pub rooted : s.tells → (b : ℕ) → (Made s u b → ⊥) → IsRooted u b → IsRooted s b
   pub in_tree : s.tells → (b : ℕ) → (HasBlock s t b → ⊥) → Reaches s.now (to_block 1) b → Reaches u.now (to_block 1) b

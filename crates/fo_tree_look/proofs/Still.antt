@@ -13,6 +13,7 @@ use Rattle.fo_crash.specs.Images.{target}
 use Rattle.fo_crash.specs.Places.{place, super_place, IsPlaced, OnePlace}
 use Rattle.fo_ports.specs.State.{State, KeepsAll}
 use Rattle.fo_ports.specs.Sources.{IsReady, StaysReady, StaysInPlace, Undisturbed}
+use Rattle.fo_looks.proofs.Looks.{rooted_of_hung}
 use Rattle.fo_tree_read.specs.declared.tree.Tree.{Tree}
 use Rattle.fo_tree_read.specs.Tree.{kind_at, kind_down, score_in, below, block_at, leaf_at, address_of, held_of}
 use Rattle.fo_tree_read.proofs.Walk.{is_down}
@@ -116,6 +117,7 @@ pub record Says (s : State) : Type 0 where
   pub one : OnePlace s.stands
   pub super_stands : s.stands 1 super_place
   pub labelled : (at : ℕ) (p : Place) → (at ≡ 1 → ⊥) → s.stands at p → (s.label at).kind ≡ p.kind
+  pub active : s.tops 1
 
 module _ (a b : State) (t : Tree) (kept : List Kept) (limit : ℕ) (all : KeepsAll a b) (over : Over a t kept limit) (told : a.tells) (says : Says a)
     (still : Undisturbed (leaves_of a t kept limit) t.size a b) where
@@ -190,7 +192,8 @@ module _ (a b : State) (t : Tree) (kept : List Kept) (limit : ℕ) (all : KeepsA
       room = over.hangs.room;
       low = over.hangs.low;
       is_one = λ at e. (all.same_blocks at).1 (over.hangs.is_one at e);
-      told = λ now at e. let was = over.hangs.told told at e in let here = in_place 0 0 at (omega arith) e in (here.same_places (place (kind_at t.dir t.depth) t.tag 0 (t.rank + t.depth)) was.0, here.uncovered was.1);
+      told = λ now at e. let was = over.hangs.told told at e in let here = in_place 0 0 at (omega arith) e in (here.same_places (over.told told at (top_block at e)).hung (place (kind_at t.dir t.depth) t.tag 0 (t.rank + t.depth)) was.0, here.uncovered was.1);
+      rooted = λ now at e. rooted_of_hung b ((all.same_tops 1).1 says.active) (told_kept at (top_block at e)).hung;
     };
     least = over.least;
     within = over.within;
@@ -202,6 +205,9 @@ module _ (a b : State) (t : Tree) (kept : List Kept) (limit : ℕ) (all : KeepsA
     unheld = λ now other i score e. over.unheld told other i score (sym (block_kept t.depth i (omega arith)) ∙ e);
     held = held_on all kept over.held;
   }
+    where
+      top_block : {s : State} (at : ℕ) → t.top ≡ Local at → HasBlock s t at
+      top_block at e = record { down = 0; index = 0; within = omega arith; is = e }
 
 -- over any device: where it tells, by what is said of it then
 pub over_stays : (a b : State) (t : Tree) (kept : List Kept) (limit : ℕ) → KeepsAll a b → Over a t kept limit → (a.tells → Says a) → (a.tells → Undisturbed (leaves_of a t kept limit) t.size a b) → Over b t kept limit
@@ -212,6 +218,7 @@ over_stays a b t kept limit all over says still = record {
     low = over.hangs.low;
     is_one = λ at e. (all.same_blocks at).1 (over.hangs.is_one at e);
     told = λ now. (by (all.still_tells.0 now)).hangs.told now;
+    rooted = λ now. (by (all.still_tells.0 now)).hangs.rooted now;
   };
   least = over.least;
   within = over.within;

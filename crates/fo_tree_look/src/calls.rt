@@ -4,7 +4,7 @@ ghost use Rattle.fo_image.specs.declared.types.Kind.TheVariants.{Data};
 ghost use Rattle.fo_ports.specs.State.{Looks};
 ghost use Rattle.fo_ports.specs.Sources.{is_dir, Finds, AreLocal, most_for, depth_for, SameLeaves};
 ghost use Rattle.fo_tree_read.specs.Tree.{kind_at, Failed, Refused, Names};
-ghost use Rattle.fo_tree_look.specs.Source.{Over, form_of, leaves_of};
+ghost use Rattle.fo_tree_look.specs.Source.{Over, Extends, form_of, leaves_of};
 
 use crate::pins::prepare_ways;
 use crate::ways::Ways;
@@ -92,6 +92,7 @@ impl Ways {
         ensures over { Over (B.state on.new) self.new.tree self.new.kept.items self.new.limit }
         ensures same { (self.new.tree ≡ self.old.tree) × (self.new.generation ≡ self.old.generation) × (self.new.limit ≡ self.old.limit) }
         ensures leaves { SameLeaves (B.state on.old).tells (leaves_of (B.state on.old) self.old.tree self.old.kept.items self.old.limit) (leaves_of (B.state on.new) self.new.tree self.new.kept.items self.new.limit) }
+        ensures more { Extends (B.state on.new) self.old.kept.items self.new.kept.items }
         ensures pins { (B.state on.old).pins_left ≤ (B.state on.new).pins_left + most_for (max self.old.tree.size (offset + len)) len }
         ensures looks { Looks (B.state on.old) (B.state on.new) × B.keeps on.old on.new }
         ensures cause { IfErr result (Refused (B.state on.old) (B.state on.new) (Names (B.state on.old) self.old.tree)) }

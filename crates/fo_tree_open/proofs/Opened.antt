@@ -20,7 +20,7 @@ use Rattle.fo_tree_read.specs.declared.tree.Tree.{Tree}
 use Rattle.fo_tree_read.specs.Tree.{kind_at, kind_down, below, block_at}
 use Rattle.fo_tree_read.proofs.Walk.{held_apart}
 use Rattle.fo_tree_look.specs.Source.{HasBlock, IsTold, Over}
-use Rattle.fo_tree_open.specs.Open.{HasEntry, NamesRank, IsFit, CanOpen, tree_of}
+use Rattle.fo_tree_open.specs.Open.{HasEntry, NamesRank, IsFit, StandsIn, tree_of}
 use Rattle.fo_tree_open.proofs.Depths.{depth_is}
 
 -- ---- entries
@@ -78,42 +78,39 @@ pub record Says (s : State) : Type 0 where
   pub placed : s.tells → IsPlaced s.stands s.now
   pub ranked : s.tells → RanksFall s.stands s.now
   pub one : OnePlace s.stands
+  pub active : s.tops 1
   pub super_stands : s.tells → s.stands 1 super_place
   pub live : (b : ℕ) → s.tells → b ≢ 1 → Reaches s.now (to_block 1) b → ((s.label b).state ≡ Live) × ((s.label b).epoch ≤ s.high) × (s.covered b → ⊥)
 
 -- An entry that memory has in a block.
-pub record Opens (s : State) (at i : ℕ) (e : Entry) (tag rank limit : ℕ) : Type 0 where
+pub record Opens (s : State) (e : Entry) (tag rank limit : ℕ) : Type 0 where
   pub says : Says s
-  pub is : (s.now at).slot i ≡ Head e
-  pub leaf : HasEntry (s.label at).kind i
-  pub fits : SlotFits (s.label at).kind i ((s.now at).slot i)
-  pub within : (b : ℕ) → target ((s.now at).slot i) ≡ Local b → s.is_block b
+  pub entry : IsEntry (Head e)
+  pub within : (b : ℕ) → e.top ≡ Local b → s.is_block b
   pub low : (rank < 2 ^ 31) × (limit ≤ 2 ^ 47)
-  pub told : s.tells → CanOpen s at i e rank
+  pub told : s.tells → StandsIn s e rank
   pub fit : IsFit e tag limit
 
-module _ {s : State} {at i : ℕ} {e : Entry} {tag rank limit : ℕ} (x : Opens s at i e tag rank limit) where
+module _ {s : State} {e : Entry} {tag rank limit : ℕ} (x : Opens s e tag rank limit) where
   abbrev t : Tree
   t = tree_of e rank
 
-  leads : (b : ℕ) → e.top ≡ Local b → target ((s.now at).slot i) ≡ Local b
-  leads b is = ap target x.is ∙ is
-
-  entry : IsEntry (Head e)
-  entry = subst (λ q. IsEntry q) x.is (entry_fits (s.label at).kind i ((s.now at).slot i) x.leaf x.fits)
-
   active : IsDepth e.size e.depth × PointerHolds e.top
-  active = active_of e.active e x.fit.used entry.0.active_holds
+  active = active_of e.active e x.fit.used x.entry.0.active_holds
 
   hung : s.tells → (b : ℕ) → Reaches s.now (Head e) b → Reaches s.now (to_block 1) b
-  hung told b r = reaches_joins (x.told told).in_tree (reaches_from i (subst (λ q. Reaches s.now q b) (sym x.is) r))
+  hung told b r =
+      let y = x.told told in
+      reaches_joins y.can.in_tree (reaches_from y.i (subst (λ q. Reaches s.now q b) (sym y.is) r))
 
   -- nothing below the entry is block 1
   not_one : s.tells → (b : ℕ) → Reaches s.now (Head e) b → b ≢ 1
   not_one told b r is =
-      let there = stands_below super_place (x.says.placed told) (x.says.ranked told) (x.says.super_stands told) (x.told told).in_tree in
-      let down : Reaches s.now ((s.now at).slot i) 1 = subst (λ y. Reaches s.now ((s.now at).slot i) y) is (subst (λ q. Reaches s.now q b) (sym x.is) r) in
-      never_back there.0 x.says.one (x.says.placed told) (x.says.ranked told) there.1 (reaches_joins down (x.told told).in_tree)
+      let y = x.told told in
+      let from = (s.now y.at).slot y.i in
+      let there = stands_below super_place (x.says.placed told) (x.says.ranked told) (x.says.super_stands told) y.can.in_tree in
+      let down : Reaches s.now from 1 = subst (λ z. Reaches s.now from z) is (subst (λ q. Reaches s.now q b) (sym y.is) r) in
+      never_back there.0 x.says.one (x.says.placed told) (x.says.ranked told) there.1 (reaches_joins down y.can.in_tree)
 
   fine : s.tells → (b : ℕ) → Reaches s.now (Head e) b → ((s.label b).state ≡ Live) × ((s.label b).epoch ≤ s.high) × (s.covered b → ⊥)
   fine told b r = x.says.live b told (not_one told b r) (hung told b r)
@@ -123,10 +120,11 @@ module _ {s : State} {at i : ℕ} {e : Entry} {tag rank limit : ℕ} (x : Opens 
 
   stands : s.tells → (b : ℕ) → e.top ≡ Local b → s.stands b (place (kind_at e.dir e.depth) e.tag 0 (rank + e.depth))
   stands told b is =
-      let there = stands_below super_place (x.says.placed told) (x.says.ranked told) (x.says.super_stands told) (x.told told).in_tree in
+      let y = x.told told in
+      let there = stands_below super_place (x.says.placed told) (x.says.ranked told) (x.says.super_stands told) y.can.in_tree in
       let p : Place = there.0 in
-      let to : s.stands b (place_below p i ((s.now at).slot i)) = (x.says.placed told).each at i b p there.1 (leads b is) in
-      subst (λ q. s.stands b q) (place_named p i e rank ((x.told told).ranked p there.1)) (subst (λ q. s.stands b (place_below p i q)) x.is to)
+      let to : s.stands b (place_below p y.i ((s.now y.at).slot y.i)) = (x.says.placed told).each y.at y.i b p there.1 (ap target y.is ∙ is) in
+      subst (λ q. s.stands b q) (place_named p y.i e rank (y.can.ranked p there.1)) (subst (λ q. s.stands b (place_below p y.i q)) y.is to)
 
   told_block : s.tells → (b : ℕ) → HasBlock s t b → IsTold s t.top b
   told_block told b has =
@@ -138,7 +136,7 @@ module _ {s : State} {at i : ℕ} {e : Entry} {tag rank limit : ℕ} (x : Opens 
         uncovered = is.2;
         in_tree = λ older. hung told b r;
         hung = inl (hung told b r);
-        alone = λ y h. absurd ((x.told told).alone y b h r);
+        alone = λ y h. absurd ((x.told told).can.alone y b h r);
       }
 
   pub linked_opened : s.tells → (b : ℕ) → HasBlock s t b → Reaches s.now (to_block 1) b
@@ -147,19 +145,20 @@ module _ {s : State} {at i : ℕ} {e : Entry} {tag rank limit : ℕ} (x : Opens 
   pub over_opened : Over s t [] limit
   over_opened = record {
     hangs = record {
-      few = entry.1;
+      few = x.entry.1;
       room = active.0.room;
       low = x.low.0;
-      is_one = λ b is. x.within b (leads b is);
+      is_one = x.within;
       told = λ told b is. (stands told b is, (fine told b (top_reached b is)).2);
+      rooted = λ told b is. (1, inl x.says.active, hung told b (top_reached b is));
     };
-    least = depth_is e.size e.depth active.0 entry.1;
+    least = depth_is e.size e.depth active.0 x.entry.1;
     within = x.fit.within;
     low = x.low.1;
     empty = x.fit.empty;
     holds = active.1;
     free = λ told b is. inr (hung told b (top_reached b is));
     told = told_block;
-    unheld = λ told other. (x.told told).unheld other;
+    unheld = λ told other. (x.told told).can.unheld other;
     held = tt;
   }

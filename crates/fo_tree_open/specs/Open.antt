@@ -49,3 +49,10 @@ pub record CanOpen (s : State) (at i : ℕ) (e : Entry) (rank : ℕ) : Type 0 wh
   pub ranked : (p : Place) → s.stands at p → NamesRank p.kind p.rank i e.dir rank
   pub alone : (y x : ℕ) → s.instead y x → Reaches s.now (Head e) x → ⊥
   pub unheld : (IsPlainTree (tree_of e rank) → ⊥) → NoneHeld s (tree_of e rank)
+
+-- Memory has an entry where a source may be opened from it.
+pub record StandsIn (s : State) (e : Entry) (rank : ℕ) : Type 0 where
+  pub at : ℕ
+  pub i : ℕ
+  pub is : (s.now at).slot i ≡ Head e
+  pub can : CanOpen s at i e rank

@@ -8,4 +8,4 @@
 
 mod source;
 
-pub use source::open;
+pub use source::{open, open_read};

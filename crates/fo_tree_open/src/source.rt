@@ -1,11 +1,12 @@
 //! A source is opened.
 ghost use Rattle.std.specs.Prelude.{◌≡◌, ◌^◌, ◌<◌, ◌≤◌, ℕ, true, List, [], MatchOption, IfSome};
-ghost use Rattle.fo_image.specs.declared.types.Pointer.TheVariants.{Nil};
+ghost use Rattle.fo_image.specs.declared.types.Pointer.TheVariants.{Nil, Local};
+ghost use Rattle.fo_image.specs.Format.{EntryHolds};
 ghost use Rattle.fo_crash.specs.declared.slot.Slot.TheVariants.{Entry as Head};
 ghost use Rattle.fo_crash.specs.Images.{Reaches, to_block};
 ghost use Rattle.fo_tree_look.specs.declared.ways.Kept.{Kept};
 ghost use Rattle.fo_tree_look.specs.Source.{Over, HasBlock};
-ghost use Rattle.fo_tree_open.specs.Open.{HasEntry, IsFit, CanOpen, tree_of};
+ghost use Rattle.fo_tree_open.specs.Open.{HasEntry, IsFit, CanOpen, StandsIn, tree_of};
 
 use fo_image::{Entry, Pointer};
 use fo_ports::Blocks;
@@ -38,6 +39,32 @@ pub fn open<B: Blocks>(
     let _ = on;
     let _ = at;
     let _ = i;
+    if !is_fit(entry, tag, limit) {
+        return None;
+    }
+    Some(source_of(alloc, entry, rank, limit))
+}
+
+/// The source of an entry that was read: as `open`, where the block with the entry isn't pinned. It holds, has at most four levels, and leads
+/// to a data block, if to a block of the device.
+pub fn open_read<B: Blocks>(
+    alloc: Global,
+    on: &B,
+    entry: &Entry,
+    tag: u32,
+    rank: u32,
+    limit: u64,
+) -> Option<Ways>
+    requires entry { EntryHolds entry.now × (entry.now.depth ≤ 4) }
+    requires block { (b : ℕ) → entry.now.top ≡ Local b → (B.state on.now).is_block b }
+    requires low { (rank < 2 ^ 31) × (limit ≤ 2 ^ 47) }
+    requires told { (B.state on.now).tells → StandsIn (B.state on.now) entry.now rank }
+    ensures fits { MatchOption result (IsFit entry.now tag limit → ⊥) (λ ways. IsFit entry.now tag limit) }
+    ensures is { IfSome result (λ ways. (ways.tree ≡ tree_of entry.now rank) × (ways.generation ≡ entry.now.generation) × (ways.limit ≡ limit) × (ways.kept.items ≡ [])) }
+    ensures over { IfSome result (λ ways. Over (B.state on.now) ways.tree ways.kept.items ways.limit) }
+    ensures linked { IfSome result (λ ways. (B.state on.now).tells → (b : ℕ) → HasBlock (B.state on.now) ways.tree b → Reaches (B.state on.now).now (to_block 1) b) }
+{
+    let _ = on;
     if !is_fit(entry, tag, limit) {
         return None;
     }

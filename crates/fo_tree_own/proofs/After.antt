@@ -12,8 +12,9 @@ use Rattle.fo_crash.specs.Steps.{PutsSlot, AddsSlot, Covers}
 use Rattle.fo_crash.specs.Places.{place, super_place}
 use Rattle.fo_crash.proofs.Reach.{lost, reaches_on, reaches_joins, reaches_same, reach_into}
 use Rattle.fo_crash.proofs.Updates.{slot_bytes, slot_other}
-use Rattle.fo_ports.specs.State.{State, KeepsAll, Frame, Hangs, KeepsOrder, AddsNoWait, IsPointers, none}
+use Rattle.fo_ports.specs.State.{State, KeepsAll, IsRooted, Frame, Hangs, KeepsOrder, AddsNoWait, IsPointers, none}
 use Rattle.fo_ports.specs.Sources.{IsHung, Made, Touched, Undone, IsMade, StaysMarked, Changes}
+use Rattle.fo_looks.proofs.Looks.{rooted_of_apart}
 use Rattle.fo_tree_read.specs.declared.tree.Tree.{Tree}
 use Rattle.fo_tree_read.specs.Tree.{kind_at}
 use Rattle.fo_tree_own.specs.Step.{IsOwn, IsBeside, IsBehind, OnlyCovers, Links}
@@ -234,12 +235,18 @@ module _ {t : Tree} {level k at i n : ℕ} {was : Pointer} {l : Label} {result :
   at_stands : s.tells → u.stands at (place (kind_at t.dir (suc level)) t.tag k (t.rank + suc level))
   at_stands told = x.hangs.at_place (told_mid told) (place (kind_at t.dir (suc level)) t.tag k (t.rank + suc level)) (spared told (x.link.above.told told).uncovered not_was) (at_place x.link told)
 
-  places_end : s.tells → (b : ℕ) (p : Place) → b ≢ result → (u.covered b → ⊥) → s.stands b p → u.stands b p
-  places_end told b p apart free stands =
-      let mid = x.link.came.stays.places told b p apart (λ h. h) (λ h. free ((x.covers (told_mid told)).still b h)) stands in
+  rooted_mid : s.tells → (b : ℕ) → IsRooted u b → IsRooted m b
+  rooted_mid told b r = x.frame.stays.rooted (told_mid told) b (λ h. h) r
+
+  rooted_end : s.tells → (b : ℕ) → b ≢ result → IsRooted u b → IsRooted s b
+  rooted_end told b apart r = x.link.came.stays.rooted told b apart (rooted_mid told b r)
+
+  places_end : s.tells → (b : ℕ) (p : Place) → b ≢ result → (u.covered b → ⊥) → IsRooted u b → s.stands b p → u.stands b p
+  places_end told b p apart free r stands =
+      let mid = x.link.came.stays.places told b p apart (λ h. h) (λ h. free ((x.covers (told_mid told)).still b h)) (rooted_mid told b r) stands in
       ⊎_elim
       (λ here. subst (λ y. u.stands y p) (sym here) (x.hangs.at_place (told_mid told) p (λ h. free (subst (λ y. u.covered y) (sym here) h)) (subst (λ y. m.stands y p) here mid)))
-      (λ away. x.frame.stays.places (told_mid told) b p (λ h. h) (λ g. ⊎_elim away (λ e. apart (sym (local_eq e))) g) free mid)
+      (λ away. x.frame.stays.places (told_mid told) b p (λ h. h) (λ g. ⊎_elim away (λ e. apart (sym (local_eq e))) g) free r mid)
       (cases_eq b at)
 
   apart_same : (b : ℕ) → b ≢ result → u.apart b ↔ s.apart b
@@ -263,7 +270,7 @@ module _ {t : Tree} {level k at i n : ℕ} {was : Pointer} {l : Label} {result :
         top = h.top;
         is_apart = (apart_same h.top apart).1 h.is_apart;
         place = h.place;
-        stands = places_end told h.top h.place apart no h.stands;
+        stands = places_end told h.top h.place apart no (rooted_of_apart u h.top ((apart_same h.top apart).1 h.is_apart)) h.stands;
         uncovered = no;
         reaches = reaches_end h.top b not (reaches_mid x.link told h.top b h.place h.stands h.reaches);
       }))
@@ -340,7 +347,8 @@ module _ {t : Tree} {level k at i n : ℕ} {was : Pointer} {l : Label} {result :
 
   is_made : IsMade t.tag s u result
   is_made = record {
-    was = (x.link.came.was.1, x.link.came.was.3);
+    free = x.link.came.free;
+    was = (x.link.came.was.1, λ told. (x.link.came.was.3 told).0);
     labelled = (ap (λ (q : Label). q.epoch) result_end ∙ x.link.is_current, ap (λ (q : Label). q.tag) result_end ∙ x.tagged);
     is_one = (x.all.same_blocks result).1 x.link.came.is.0;
     is_pinned = (x.frame.stays.marks result (λ h. h)).0 x.link.came.is.1;
@@ -389,7 +397,8 @@ module _ {t : Tree} {level k at i n : ℕ} {was : Pointer} {l : Label} {result :
     made = λ b made. subst (λ y. IsMade t.tag s u y) (sym (made_is b made)) is_made;
     others = marked;
     apart = λ b not. let same = apart_same b (not_made b not) in (same.0, λ h. inl (same.1 h));
-    places = λ told b p not mine no stands. places_end told b p (not_made b not) no stands;
+    places = λ told b p not mine no r stands. places_end told b p (not_made b not) no r stands;
+    rooted = λ told b not r. rooted_end told b (not_made b not) r;
     instead = λ b y h. inl (instead_end b y h);
     covers = λ b. (only_covers.still b, λ no mine h. only_covers.only b no (λ e. mine (inr e)) h);
     leaves = leaves_end;
@@ -435,6 +444,7 @@ module _ {t : Tree} {level k at i n : ℕ} {was : Pointer} {l : Label} {result :
     in_tree = λ told b e. back x.link told 1 b super_place (x.link.laws.super_stands told) (x.in_tree told b e);
     hung = hung_end;
     places = places_end;
+    rooted = rooted_end;
     older = x.was_older;
     covers = only_covers;
     waits = waits_end;

@@ -117,6 +117,8 @@ module _ {kind : Kind} {at i : ℕ} {p : Pointer} {m : State} (x : Scoring kind 
     uncovered = x.is.uncovered;
     first = λ inner first y e. absurd (old_none y e);
     holder = inr (at, x.is.is_apart, record { path = []; leads = refl });
+    linked = λ some. let none = score_cost in absurd (omega (arith, some, none));
+    entry = λ outer b e ne. absurd (old_none b e);
     keeps = λ b e. absurd (old_none b e);
   }
 
@@ -167,10 +169,12 @@ module _ {kind : Kind} {at i n : ℕ} {p : Pointer} {beside : Image → Type 0} 
         (x.images.each image is);
     labels = λ b. x.frame.stays.labels b (λ h. h);
     marks = λ b. x.frame.stays.marks b (λ h. h);
-    places = λ told b q free stands. ⊎_elim
+    places = λ told b q free r stands. ⊎_elim
         (λ here. subst (λ y. u.stands y q) (sym here) (x.hangs.at_place told q (λ h. free (subst (λ y. u.covered y) (sym here) h)) (subst (λ y. m.stands y q) here stands)))
-        (λ away. x.frame.stays.places told b q (λ h. h) (aside b away) free stands)
+        (λ away. x.frame.stays.places told b q (λ h. h) (aside b away) free r stands)
         (cases_eq b at);
+    rooted = λ told b r. x.frame.stays.rooted told b (λ h. h) r;
+    newborn = λ b h. x.frame.stays.newborn b (λ n. n) h;
     apart = apart_end;
     instead = λ b y. ⊎_elim
         (λ here. (λ h. subst (λ z. m.instead z y) (sym here) (raised_end y (subst (λ z. u.instead z y) here h)), λ h. subst (λ z. u.instead z y) (sym here) (x.hangs.still y (subst (λ z. m.instead z y) here h))))
@@ -235,7 +239,9 @@ module _ {at : ℕ} {bytes : List ℕ} {beside : Image → Type 0} {m u : State}
         (x.images.each image is);
     labels = λ b. x.calm.frame.stays.labels b (λ h. h);
     marks = λ b. x.calm.frame.stays.marks b (λ h. h);
-    places = λ told b q free stands. x.calm.frame.stays.places told b q (λ h. h) (λ h. h) free stands;
+    places = λ told b q free r stands. x.calm.frame.stays.places told b q (λ h. h) (λ h. h) free r stands;
+    rooted = λ told b r. x.calm.frame.stays.rooted told b (λ h. h) r;
+    newborn = λ b h. x.calm.frame.stays.newborn b (λ n. n) h;
     apart = λ b. x.calm.frame.stays.apart b (λ h. h) (λ h. h);
     instead = λ b y. x.calm.frame.stays.instead b y (λ h. h) (λ h. h);
     waits = λ a on j ne w. x.calm.frame.stays.waits a on j (λ h. h) (λ h. h) (λ h. h) w;
@@ -291,7 +297,9 @@ filled_none at m = record {
   images = λ image is. record { other = image; was = is; same = λ b ne. record { bytes = refl; slots = λ j. refl } };
   labels = λ b. refl;
   marks = λ b. (λ h. h, λ h. h, λ h. h);
-  places = λ told b q free stands. stands;
+  places = λ told b q free r stands. stands;
+  rooted = λ told b r. r;
+  newborn = λ b h. h;
   apart = λ b. (λ h. h, λ h. h);
   instead = λ b y. (λ h. h, λ h. h);
   waits = λ a on j ne w. w;
@@ -313,7 +321,9 @@ filled_joins all f g = record {
   images = λ image is. let d = g.images image is in let e = f.images d.other d.was in record { other = e.other; was = e.was; same = λ y ne. same_joins (d.same y ne) (e.same y ne) };
   labels = λ y. g.labels y ∙ f.labels y;
   marks = λ y. let p = f.marks y in let q = g.marks y in (λ h. q.0 (p.0 h), λ h. q.1 (p.1 h), λ h. q.2 (p.2 h));
-  places = λ told y q free stands. g.places (all.still_tells.1 told) y q free (f.places told y q (λ h. free (g.still y h)) stands);
+  places = λ told y q free r stands. let mid = all.still_tells.1 told in g.places mid y q free r (f.places told y q (λ h. free (g.still y h)) (g.rooted mid y r) stands);
+  rooted = λ told y r. f.rooted told y (g.rooted (all.still_tells.1 told) y r);
+  newborn = λ y h. f.newborn y (g.newborn y h);
   apart = λ y. (λ h. (f.apart y).0 ((g.apart y).0 h), λ h. (g.apart y).1 ((f.apart y).1 h));
   instead = λ y z. (λ h. (f.instead y z).0 ((g.instead y z).0 h), λ h. (g.instead y z).1 ((f.instead y z).1 h));
   waits = λ y on j ne w. g.waits y on j ne (f.waits y on j ne w);

@@ -6,6 +6,7 @@ use Rattle.fo_image.specs.declared.types.State.TheVariants.{Live}
 use Rattle.fo_image.specs.declared.types.Pointer.{Pointer}
 use Rattle.fo_image.specs.declared.types.Pointer.TheVariants.{Nil, Local, Score as Held}
 use Rattle.fo_image.specs.Format.{PointerHolds}
+use Rattle.fo_image.specs.Usable.{is_usable}
 use Rattle.fo_crash.specs.declared.slot.Slot.{Slot}
 use Rattle.fo_crash.specs.declared.slot.Slot.TheVariants.{Pointer as To, Entry as Head, Prev}
 use Rattle.fo_crash.specs.declared.place.Place.{Place}
@@ -17,6 +18,7 @@ use Rattle.fo_crash.proofs.Updates.{block_other}
 use Rattle.fo_ports.specs.Blocks.{slot_count, SlotFits, cost, dropped, blank_slot}
 use Rattle.fo_ports.specs.State.{State, KeepsAll, none, Stays, KeepsOrder, AddsNoWait, Uses, KeepsNumbers, Gives, IsHeld}
 use Rattle.fo_ports.specs.Sources.{HangsApart, IsHung}
+use Rattle.fo_looks.proofs.Looks.{rooted_of_apart, rooted_of_hung}
 use Rattle.fo_tree_read.specs.declared.tree.Tree.{Tree}
 use Rattle.fo_tree_read.specs.Tree.{kind_at}
 use Rattle.fo_tree_own.specs.Step.{IsOwn, IsBeside, Filled}
@@ -90,6 +92,7 @@ pub record Came (l : Label) (result : ℕ) (s m : State) : Type 0 where
   pub unreached : (image : Image) → m.may_leave image → (t : ℕ) → s.tops t → Reaches image (to_block t) result → ⊥
   pub before : (image : Image) → m.may_leave image → IsBeside result s image
   pub label : m.label result ≡ l
+  pub free : is_usable s.low (s.label result) ≡ true
   pub was : ((s.label result).state ≢ Live) × (result ≢ 1) × (s.covered result → ⊥) × (s.tells → (s.tops result → ⊥) × ((p : Place) → s.stands result p → ⊥))
   pub is : m.is_block result × m.pinned result × m.fresh result × m.apart result × (m.covered result → ⊥) × ((a j : ℕ) → m.waits a result j → ⊥)
   pub stays : Stays (λ b. b ≡ result) none s m
@@ -108,6 +111,7 @@ came {result = result} {s = s} {m = m} gives = record {
   unreached = gives.images.apart;
   before = λ image is. let d = gives.images.before image is in record { other = with_block image result d.0; was = d.1; same = λ b ne. beside image d.0 b ne };
   label = gives.label;
+  free = gives.free;
   was = gives.was;
   is = gives.is;
   stays = gives.stays;
@@ -139,12 +143,15 @@ came_filled {result = result} first all x f = record {
       let e = x.before d.other d.was in
       record { other = e.other; was = e.was; same = λ b ne. same_joins (d.same b ne) (e.same b ne) };
   label = f.labels result ∙ x.label;
+  free = x.free;
   was = x.was;
   is = ((all.same_blocks result).1 x.is.0, (f.marks result).0 x.is.1, (f.marks result).2 x.is.2, (f.apart result).1 x.is.3, f.only result x.is.4, λ a j w. x.is.5 a j (f.no_wait.each a result j (λ n. n) w));
   stays = record {
     labels = λ b ne. f.labels b ∙ x.stays.labels b ne;
     marks = λ b ne. let p = x.stays.marks b ne in let q = f.marks b in (λ h. q.0 (p.0 h), λ h. q.1 (p.1 h), λ h. q.2 (p.2 h));
-    places = λ told b p ne n free stands. f.places (first.still_tells.1 told) b p free (x.stays.places told b p ne n (λ h. free (f.still b h)) stands);
+    places = λ told b p ne n free r stands. let mid = first.still_tells.1 told in f.places mid b p free r (x.stays.places told b p ne n (λ h. free (f.still b h)) (f.rooted mid b r) stands);
+    rooted = λ told b ne r. x.stays.rooted told b ne (f.rooted (first.still_tells.1 told) b r);
+    newborn = λ b ne h. x.stays.newborn b ne (f.newborn b h);
     apart = λ b ne n. let p = x.stays.apart b ne n in (λ h. p.0 ((f.apart b).0 h), λ h. (f.apart b).1 (p.1 h));
     instead = λ b y ne n. let p = x.stays.instead b y ne n in (λ h. p.0 ((f.instead b y).0 h), λ h. (f.instead b y).1 (p.1 h));
     waits = λ a on j ne other n w. f.waits a on j other (x.stays.waits a on j ne other n w);
@@ -202,9 +209,6 @@ module _ {t : Tree} {level k at i : ℕ} {l : Label} {result : ℕ} {s m : State
   pub slot_to : (j : ℕ) → j < 409 → (m.now at).slot j ≡ To (target ((m.now at).slot j))
   slot_to j lt = is_pointer t.dir level j ((m.now at).slot j) (subst (λ q. SlotFits q j ((m.now at).slot j)) at_kind (x.later.spelled at j at_pinned (subst (λ q. j < slot_count q) (sym at_kind) (subst (λ n. j < n) (sym (inner_slots t.dir level)) lt))))
 
-  pub at_place : s.tells → m.stands at (place (kind_at t.dir (suc level)) t.tag k (t.rank + suc level))
-  at_place told = x.came.stays.places told at (place (kind_at t.dir (suc level)) t.tag k (t.rank + suc level)) at_ne (λ h. h) (x.came.only at at_ne (x.above.told told).uncovered) (x.above.told told).stands
-
   -- what stands leads not to the block that was given out
   pub away : s.tells → (w : ℕ) (p : Place) → s.stands w p → Reaches s.now (to_block w) result → ⊥
   away told w p stands r =
@@ -224,15 +228,18 @@ module _ {t : Tree} {level k at i : ℕ} {l : Label} {result : ℕ} {s m : State
   pub held_on : s.tells → IsHung m at
   held_on told = ⊎_elim
       (λ r. inl (reaches_mid told 1 at super_place (x.laws.super_stands told) r))
-      (λ h. inr (record {
+      (λ h. let apart : m.apart h.top = (x.came.stays.apart h.top (top_ne told h) (λ n. n)).1 h.is_apart in inr (record {
         top = h.top;
-        is_apart = (x.came.stays.apart h.top (top_ne told h) (λ n. n)).1 h.is_apart;
+        is_apart = apart;
         place = h.place;
-        stands = x.came.stays.places told h.top h.place (top_ne told h) (λ n. n) (x.came.only h.top (top_ne told h) h.uncovered) h.stands;
+        stands = x.came.stays.places told h.top h.place (top_ne told h) (λ n. n) (x.came.only h.top (top_ne told h) h.uncovered) (rooted_of_apart m h.top apart) h.stands;
         uncovered = x.came.only h.top (top_ne told h) h.uncovered;
         reaches = reaches_mid told h.top at h.place h.stands h.reaches;
       }))
       (x.above.told told).hung
+
+  pub at_place : s.tells → m.stands at (place (kind_at t.dir (suc level)) t.tag k (t.rank + suc level))
+  at_place told = x.came.stays.places told at (place (kind_at t.dir (suc level)) t.tag k (t.rank + suc level)) at_ne (λ h. h) (x.came.only at at_ne (x.above.told told).uncovered) (rooted_of_hung m x.later.active (held_on told)) (x.above.told told).stands
 
   pub held : s.tells → IsHeld m at
   held told = ⊎_elim (λ r. inl r) (λ h. inr (h.top, h.is_apart, h.reaches)) (held_on told)

@@ -12,12 +12,12 @@ use Rattle.fo_crash.specs.Steps.{Brings}
 use Rattle.fo_crash.specs.Places.{place, place_below, super_place, FitsAt}
 use Rattle.fo_crash.proofs.Places.{stands_below, never_above}
 use Rattle.fo_crash.proofs.Reach.{lost, reaches_joins, reaches_itself}
-use Rattle.fo_ports.specs.Blocks.{IsLevel, zeros}
+use Rattle.fo_ports.specs.Blocks.{IsInner, IsLevel, zeros}
 use Rattle.fo_ports.specs.State.{State, Comes, IsLoose, LeavesNone, MayPutSlot}
 use Rattle.fo_tree_read.specs.declared.tree.Tree.{Tree}
 use Rattle.fo_tree_read.specs.Tree.{kind_at}
 use Rattle.fo_tree_look.specs.Source.{IsTold}
-use Rattle.fo_tree_own.proofs.Link.{Linking, local_eq, inner_below, at_ne, at_place, same, none_dropped, result_label, reaches_mid, back, held}
+use Rattle.fo_tree_own.proofs.Link.{Linking, local_eq, inner_below, at_kind, at_ne, at_place, same, none_dropped, may_cost, result_label, reaches_mid, back, held}
 
 -- the place of the block to be put
 abbrev pub there : Tree → ℕ → ℕ → ℕ → Place
@@ -30,6 +30,10 @@ pub record Shown (t : Tree) (level k at i result : ℕ) (m : State) : Type 0 whe
   pub comes : Comes m at i ((m.now at).slot i) (To (Local result)) result
   pub leaves : LeavesNone m ((m.now at).slot i) (To (Local result))
   pub keeps : (c : ℕ) → target ((m.now at).slot i) ≡ Local c → (Local result ≡ Local c) ⊎ Reaches m.now (to_block 1) c
+
+inner_kind : (dir : Bool) (level : ℕ) → IsInner (kind_at dir (suc level))
+inner_kind true level = omega arith
+inner_kind false level = omega arith
 
 module _ {t : Tree} {level k at i : ℕ} {l : Label} {result : ℕ} {s m : State} (x : Linking t level k at i l result s m) where
   pub place_is : s.tells → (p : Place) → m.stands at p → place_below p i (To (Local result)) ≡ there t level k i
@@ -63,6 +67,8 @@ module _ {t : Tree} {level k at i : ℕ} {l : Label} {result : ℕ} {s m : State
     uncovered = x.came.only at (at_ne x) (x.above.told told).uncovered;
     first = λ inner first y e. (result, refl);
     holder = held x told;
+    linked = λ some. let none = may_cost x in absurd (omega (arith, some, none));
+    entry = λ outer b e ne. absurd (outer (subst IsInner (sym (at_kind x)) (inner_kind t.dir level)));
     keeps = shown.keeps;
   }
 

@@ -9,7 +9,7 @@ use Rattle.fo_crash.specs.declared.place.Place.{Place}
 use Rattle.fo_crash.specs.Images.{Image, SameContent, Reaches, target, to_block}
 use Rattle.fo_crash.specs.Places.{place}
 use Rattle.fo_ports.specs.Blocks.{blank}
-use Rattle.fo_ports.specs.State.{State, none, KeepsOrder, AddsNoWait, Uses, KeepsNumbers}
+use Rattle.fo_ports.specs.State.{State, IsRooted, none, KeepsOrder, AddsNoWait, Uses, KeepsNumbers}
 use Rattle.fo_ports.specs.Sources.{IsHung, Made, Changes}
 use Rattle.fo_tree_read.specs.declared.tree.Tree.{Tree}
 use Rattle.fo_tree_read.specs.Tree.{kind_at, score_of}
@@ -53,7 +53,9 @@ pub record Filled (at : ℕ) (old new : State) : Type 0 where
   pub images : (image : Image) → new.may_leave image → IsBeside at old image
   pub labels : (b : ℕ) → new.label b ≡ old.label b
   pub marks : (b : ℕ) → (old.pinned b → new.pinned b) × (old.sealed b → new.sealed b) × (old.fresh b → new.fresh b)
-  pub places : old.tells → (b : ℕ) (p : Place) → (new.covered b → ⊥) → old.stands b p → new.stands b p
+  pub places : old.tells → (b : ℕ) (p : Place) → (new.covered b → ⊥) → IsRooted new b → old.stands b p → new.stands b p
+  pub rooted : old.tells → (b : ℕ) → IsRooted new b → IsRooted old b
+  pub newborn : (b : ℕ) → new.newborn b → old.newborn b
   pub apart : (b : ℕ) → new.apart b ↔ old.apart b
   pub instead : (b x : ℕ) → new.instead b x ↔ old.instead b x
   pub waits : (a on j : ℕ) → on ≢ at → old.waits a on j → new.waits a on j
@@ -107,7 +109,8 @@ pub record Links (t : Tree) (level k at i : ℕ) (was : Pointer) (result : ℕ) 
   pub reached : old.tells → (b : ℕ) → (was ≡ Local b → ⊥) → Reaches old.now (to_block 1) b → Reaches new.now (to_block 1) b
   pub in_tree : old.tells → (b : ℕ) → was ≡ Local b → Reaches old.now (to_block 1) b
   pub hung : old.tells → (b : ℕ) → (was ≡ Local b → ⊥) → IsHung old b → IsHung new b
-  pub places : old.tells → (b : ℕ) (p : Place) → b ≢ result → (new.covered b → ⊥) → old.stands b p → new.stands b p
+  pub places : old.tells → (b : ℕ) (p : Place) → b ≢ result → (new.covered b → ⊥) → IsRooted new b → old.stands b p → new.stands b p
+  pub rooted : old.tells → (b : ℕ) → b ≢ result → IsRooted new b → IsRooted old b
   pub older : (b : ℕ) → was ≡ Local b → (old.label b).epoch < old.high
   pub covers : OnlyCovers was old new
   pub waits : (a on j : ℕ) → on ≢ result → a ≢ result → old.waits a on j → new.waits a on j

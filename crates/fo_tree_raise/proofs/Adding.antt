@@ -3,11 +3,11 @@ use Rattle.std.proofs.Common.{◌≡◌, ◌≢◌, ◌⊎◌, ℕ, inl, inr, �
 use Rattle.std.proofs.lemmas.Bool.{cases_eq}
 use Rattle.fo_image.specs.declared.types.Label.{Label}
 use Rattle.fo_image.specs.declared.types.Pointer.TheVariants.{Local}
-use Rattle.fo_crash.specs.declared.place.Place.{Place}
 use Rattle.fo_crash.specs.Images.{Image, Content, SameContent, Reaches, to_block}
 use Rattle.fo_crash.proofs.Reach.{reach_aside}
 use Rattle.fo_ports.specs.State.{State, KeepsAll, none}
 use Rattle.fo_ports.specs.Sources.{Made, IsMade, Stead, Changes}
+use Rattle.fo_looks.proofs.Free.{free_before}
 use Rattle.fo_tree_read.specs.declared.tree.Tree.{Tree}
 use Rattle.fo_tree_look.specs.Source.{HasBlock}
 use Rattle.fo_tree_down.proofs.Join.{local_cases}
@@ -26,7 +26,8 @@ adds_nothing s = record {
   labels = λ b not. refl;
   marks = λ b not. (λ h. h, λ h. h, λ h. h);
   apart = λ b not. (λ h. h, λ h. inl h);
-  places = λ told b p not free stands. stands;
+  places = λ told b p not free r stands. stands;
+  rooted = λ told b not r. r;
   instead = λ b x h. inl (λ made. made.0 made.1, h);
   still = λ b h. h;
   only = λ b no h. no h;
@@ -91,9 +92,6 @@ module _ {t : Tree} {mine : ℕ → Type 0} {top : ℕ} {s m u : State} (x : Add
             (made_back b made);
       }
 
-  uncovered_top : u.covered top → s.tells → ⊥
-  uncovered_top h told = (x.step.own.told (x.more.still_tells.1 (x.all.still_tells.1 told))).uncovered h
-
   made_end : (b : ℕ) → Made s u b → IsMade t.tag s u b
   made_end b made = ⊎_elim
       (λ mid.
@@ -101,6 +99,7 @@ module _ {t : Tree} {mine : ℕ → Type 0} {top : ℕ} {s m u : State} (x : Add
       let ne = ne_made b mid in
       let marks = x.step.marks b ne in
       record {
+        free = is.free;
         was = is.was;
         labelled = (ap (λ (l : Label). l.epoch) (x.step.labels b ne) ∙ is.labelled.0, ap (λ (l : Label). l.tag) (x.step.labels b ne) ∙ is.labelled.1);
         is_one = (x.more.same_blocks b).1 is.is_one;
@@ -110,14 +109,10 @@ module _ {t : Tree} {mine : ℕ → Type 0} {top : ℕ} {s m u : State} (x : Add
       (λ own. subst (λ y. IsMade t.tag s u y) (sym own) top_made)
       (made_back b made)
     where
-      unplaced : s.tells → (p : Place) → s.stands top p → ⊥
-      unplaced told p stands =
-          (x.step.was.1 (x.all.still_tells.1 told)).1 p
-          (x.first.places told top p top_new (λ h. uncovered_top (x.step.still top h) told) stands)
-
       top_made : IsMade t.tag s u top
       top_made = record {
-        was = (x.step.was.0, λ told. (λ is. (x.step.was.1 (x.all.still_tells.1 told)).0 ((x.all.same_tops top).1 is), unplaced told));
+        free = free_before x.all top (x.first.labels top top_new) x.step.free;
+        was = (x.step.was.0, λ told is. (x.step.was.1 (x.all.still_tells.1 told)).0 ((x.all.same_tops top).1 is));
         labelled = (x.step.own.current ∙ x.more.same_high ∙ x.all.same_high, x.step.own.tagged);
         is_one = x.step.is.0;
         is_pinned = x.step.own.is_pinned;
@@ -181,8 +176,9 @@ module _ {t : Tree} {mine : ℕ → Type 0} {top : ℕ} {s m u : State} (x : Add
         let q = x.step.marks b (not_top b not) in
         (λ h. q.0 (p.0 h), λ h. q.1 (p.1 h), λ h. q.2 (p.2 h));
     apart = apart_end;
-    places = λ told b p not free stands. x.step.places (x.all.still_tells.1 told) b p (not_top b not) free
-        (x.first.places told b p (not_mid b not) (λ h. free (x.step.still b h)) stands);
+    places = λ told b p not free r stands. let mid = x.all.still_tells.1 told in x.step.places mid b p (not_top b not) free r
+        (x.first.places told b p (not_mid b not) (λ h. free (x.step.still b h)) (x.step.rooted mid b (not_top b not) r) stands);
+    rooted = λ told b not r. x.first.rooted told b (not_mid b not) (x.step.rooted (x.all.still_tells.1 told) b (not_top b not) r);
     instead = instead_end;
     still = λ b h. x.step.still b (x.first.still b h);
     only = λ b no h. x.step.only b (x.first.only b no) h;
@@ -230,7 +226,8 @@ adds_changes {t = t} {s = s} {u = u} x = record {
     marks = x.marks b not;
   };
   apart = λ b not. let was = x.apart b not in (was.0, λ h. ⊎_elim (λ still. inl still) (λ mine. inr (top_has b mine)) (was.1 h));
-  places = λ told b p not other open_ stands. x.places told b p not open_ stands;
+  places = λ told b p not other open_ r stands. x.places told b p not open_ r stands;
+  rooted = x.rooted;
   instead = λ b y h. ⊎_elim
       (λ old. inl old.1)
       (λ new. inr (new.0, ⊎_elim (λ mine. inl (top_has y mine)) (λ was. inr (was.0, top_has was.0 was.1, was.2)) new.1))

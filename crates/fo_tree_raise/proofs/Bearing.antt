@@ -9,6 +9,7 @@ use Rattle.fo_image.specs.Format.{PointerHolds}
 use Rattle.fo_crash.specs.Places.{place, IsPlaced}
 use Rattle.fo_ports.specs.State.{State, KeepsAll}
 use Rattle.fo_ports.specs.Sources.{depth_for}
+use Rattle.fo_looks.proofs.Looks.{rooted_of_apart}
 use Rattle.fo_tree_read.specs.declared.tree.Tree.{Tree}
 use Rattle.fo_tree_read.specs.Tree.{kind_at, block_at}
 use Rattle.fo_tree_look.specs.declared.ways.Kept.{Kept}
@@ -118,6 +119,7 @@ module _ {t : Tree} {top : ℕ} {s u : State} (all : KeepsAll s u) (x : Raises t
               let told = x.own.told now in
               subst (λ y. u.stands y (place (kind_at t.dir (t.depth + 1)) t.tag 0 (t.rank + (t.depth + 1))) × (u.covered y → ⊥)) (local_eq e)
               (subst (λ d. u.stands top (place (kind_at t.dir d) t.tag 0 (t.rank + d))) (sym level) told.stands, told.uncovered);
+          rooted = λ now at e. rooted_of_apart u at (subst u.apart (local_eq e) x.is.2);
         };
         empty = λ (none : t.size ≡ 0). absurd (omega (arith, none, some));
         holds = holds;

@@ -17,6 +17,7 @@ use Rattle.fo_crash.proofs.Places.{stands_below, never_above}
 use Rattle.fo_crash.proofs.Reach.{reach_aside, reach_into, reaches_joins}
 use Rattle.fo_ports.specs.State.{State, KeepsAll}
 use Rattle.fo_ports.specs.Sources.{IsHung, Made, IsMade}
+use Rattle.fo_looks.proofs.Looks.{rooted_of_apart}
 use Rattle.fo_tree_read.specs.declared.tree.Tree.{Tree}
 use Rattle.fo_tree_read.specs.Tree.{kind_at, kind_down, below, block_at}
 use Rattle.fo_tree_look.specs.declared.ways.Kept.{Kept}
@@ -76,11 +77,12 @@ module _ {t : Tree} {at : ℕ} {l : Label} {result : ℕ} {s m : State} (x : Hol
       (λ h.
       let ne : h.top ≢ result = λ e. (x.came.was.3 told).1 h.place (subst (λ y. s.stands y h.place) e h.stands) in
       let free : m.covered h.top → ⊥ = x.came.only h.top ne h.uncovered in
+      let apart : m.apart h.top = (x.came.stays.apart h.top ne (λ n. n)).1 h.is_apart in
       inr (record {
         top = h.top;
-        is_apart = (x.came.stays.apart h.top ne (λ n. n)).1 h.is_apart;
+        is_apart = apart;
         place = h.place;
-        stands = x.came.stays.places told h.top h.place ne (λ n. n) free h.stands;
+        stands = x.came.stays.places told h.top h.place ne (λ n. n) free (rooted_of_apart m h.top apart) h.stands;
         uncovered = free;
         reaches = on told h.top b h.place h.stands h.reaches;
       }))
@@ -104,7 +106,8 @@ module _ {t : Tree} {at : ℕ} {l : Label} {result : ℕ} {s m : State} (x : Hol
     same = λ b not. x.came.others b (ne_result b not);
     images = among;
     made = λ b made. subst (λ y. IsMade t.tag s m y) (sym (made_is b made)) (record {
-      was = (x.came.was.1, x.came.was.3);
+      free = x.came.free;
+      was = (x.came.was.1, λ told. (x.came.was.3 told).0);
       labelled = (ap (λ (q : Label). q.epoch) x.came.label ∙ x.is_current, ap (λ (q : Label). q.tag) x.came.label ∙ x.tagged);
       is_one = x.came.is.0;
       is_pinned = x.came.is.1;
@@ -114,7 +117,8 @@ module _ {t : Tree} {at : ℕ} {l : Label} {result : ℕ} {s m : State} (x : Hol
     labels = λ b not. x.came.stays.labels b (ne_result b not);
     marks = λ b not. x.came.stays.marks b (ne_result b not);
     apart = λ b not. let a = x.came.stays.apart b (ne_result b not) (λ n. n) in (a.0, λ h. inl (a.1 h));
-    places = λ told b p not free stands. x.came.stays.places told b p (ne_result b not) (λ n. n) free stands;
+    places = λ told b p not free r stands. x.came.stays.places told b p (ne_result b not) (λ n. n) free r stands;
+    rooted = λ told b not r. x.came.stays.rooted told b (ne_result b not) r;
     instead = λ b y h. ⊎_elim
         (λ e. inr (subst (λ z. Made s m z) (sym e) made_result, inl (subst (λ z. t.top ≡ Local z) (sym (x.instead y (subst (λ z. m.instead z y) e h))) x.top)))
         (λ ne. inl (λ made. ne (made_is b made), (x.came.stays.instead b y ne (λ n. n)).0 h))

@@ -166,6 +166,16 @@ module _ {t : Tree} {top : ℕ} {s u : State} (all : KeepsAll s u) (x : Raises t
           subst (λ (p : Pointer). Ready u (raised t top) kept (suc (suc n)) p) (sym (up_seen (suc n) k le few)) (ready_up (suc n) (block_at (seen u kept) t (suc n) k) le way.1),
         )
 
+    -- a way behind the old top leads to no block
+    pub way_none : (n k : ℕ) → 409 ^ n ≤ k → k < 409 ^ suc n → WayReady u (raised t top) kept (suc n) k
+    way_none zero k from few = (top_is, subst (λ (p : Pointer). Ready u (raised t top) kept 1 p) (sym (level_none (seen u kept) t top x.leads x.bare zero k from few)) tt)
+    way_none (suc n) k from few =
+        let more : 409 ^ suc n ≡ 409 * 409 ^ n = pow-succ' 409 n in
+        let most : 409 ^ suc (suc n) ≡ 409 * 409 ^ suc n = pow-succ' 409 (suc n) in (
+          way_none n (k / 409) (omega (arith, from, more)) (omega (arith, few, most)),
+          subst (λ (p : Pointer). Ready u (raised t top) kept (suc (suc n)) p) (sym (level_none (seen u kept) t top x.leads x.bare (suc n) k from few)) tt,
+        )
+
     -- a way that was prepared is, one level further down
     pub way_raised : (n k : ℕ) → n ≤ t.depth → k < 409 ^ n → WayReady s t kept n k → WayReady u (raised t top) kept (suc n) k
     way_raised n k le few way = way_up n k le few (way_on n k way)

@@ -8,3 +8,4 @@ pub mod Climbing
 pub mod Holding
 pub mod Standing
 pub mod Coming
+pub mod Keeping

@@ -12,7 +12,8 @@ use Rattle.fo_crash.specs.Places.{place, place_below, super_place}
 use Rattle.fo_crash.proofs.Places.{stands_below}
 use Rattle.fo_crash.proofs.Reach.{lost, reach_aside, reach_into, reaches_itself}
 use Rattle.fo_ports.specs.Blocks.{IsInner, SlotFits, slot_count, cost, dropped, blank_slot, IsLevel}
-use Rattle.fo_ports.specs.State.{State, KeepsAll, Comes, IsLoose, IsRaised, MayPutSlot}
+use Rattle.fo_ports.specs.State.{State, KeepsAll, IsRooted, Comes, IsLoose, IsRaised, MayPutSlot}
+use Rattle.fo_looks.proofs.Looks.{rooted_of_apart}
 use Rattle.fo_tree_read.specs.declared.tree.Tree.{Tree}
 use Rattle.fo_tree_read.specs.Tree.{kind_at}
 use Rattle.fo_tree_read.proofs.Walk.{inner_kind}
@@ -118,10 +119,17 @@ module _ {t : Tree} {l : Label} {result : ℕ} {s m : State} (x : Lifting t l re
   brings_by told (Local y) e b r = brings_mid told y e b r
   brings_by told (Held score) e b r = absurd (lost m.now r.path (To (Held score)) (held_local score) b r.leads)
 
+  -- it hangs in memory still
+  under_rooted : s.tells → (b : ℕ) → t.top ≡ Local b → IsRooted m b
+  under_rooted told b e = ⊎_elim
+      (λ h. rooted_of_apart m b ((x.came.stays.apart b (under_ne b e) (λ n. n)).1 h))
+      (λ r. (1, inl x.later.active, reaches_mid told 1 b super_place (x.laws.super_stands told) r))
+      ((x.can.under b e).told told).free
+
   pub under_stands : s.tells → (b : ℕ) → t.top ≡ Local b → m.stands b (place (kind_at t.dir t.depth) t.tag 0 (t.rank + t.depth))
   under_stands told b e =
       let under = (x.can.under b e).told told in
-      x.came.stays.places told b (place (kind_at t.dir t.depth) t.tag 0 (t.rank + t.depth)) (under_ne b e) (λ h. h) (brings_mid told b e b (reaches_itself m.now b)).2 under.stands
+      x.came.stays.places told b (place (kind_at t.dir t.depth) t.tag 0 (t.rank + t.depth)) (under_ne b e) (λ h. h) (brings_mid told b e b (reaches_itself m.now b)).2 (under_rooted told b e) under.stands
 
   pub place_is : s.tells → (p : Place) → m.stands result p → place_below p 0 (To t.top) ≡ place (kind_at t.dir t.depth) t.tag 0 (t.rank + t.depth)
   place_is told p stands =
@@ -176,5 +184,7 @@ module _ {t : Tree} {l : Label} {result : ℕ} {s m : State} (x : Lifting t l re
     uncovered = x.came.is.4;
     first = λ inner first y e. absurd (bare_none 0 y e);
     holder = inr (result, x.came.is.3, reaches_itself m.now result);
+    linked = λ some. let none = may_cost in absurd (omega (arith, some, none));
+    entry = λ outer b e ne. absurd (bare_none 0 b e);
     keeps = λ b e. absurd (bare_none 0 b e);
   }

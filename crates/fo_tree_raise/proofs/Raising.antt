@@ -12,8 +12,9 @@ use Rattle.fo_crash.specs.Steps.{PutsSlot, AddsSlot, Covers}
 use Rattle.fo_crash.specs.Places.{place, super_place}
 use Rattle.fo_crash.proofs.Reach.{lost, reach_aside, reach_into, reaches_itself, reaches_from, reaches_same}
 use Rattle.fo_crash.proofs.Updates.{slot_bytes, slot_other}
-use Rattle.fo_ports.specs.State.{State, KeepsAll, none, Frame, Hangs, KeepsOrder, AddsNoWait, IsPointers}
+use Rattle.fo_ports.specs.State.{State, IsRooted, KeepsAll, none, Frame, Hangs, KeepsOrder, AddsNoWait, IsPointers}
 use Rattle.fo_ports.specs.Sources.{IsHung, HangsApart, Made}
+use Rattle.fo_looks.proofs.Looks.{rooted_of_apart}
 use Rattle.fo_tree_read.specs.declared.tree.Tree.{Tree}
 use Rattle.fo_tree_read.specs.Tree.{kind_at}
 use Rattle.fo_tree_own.specs.Step.{IsOwn, IsBeside}
@@ -127,17 +128,20 @@ module _ {t : Tree} {l : Label} {result n : ℕ} {beside : Image → Type 0} {s 
       let last = x.frame.stays.apart b (λ h. h) (λ g. ⊎_elim ne not g) in
       (λ h. first.0 (last.0 h), λ h. last.1 (first.1 h))
 
-  places_end : s.tells → (b : ℕ) (p : Place) → b ≢ result → (u.covered b → ⊥) → s.stands b p → u.stands b p
-  places_end told b p ne free stands =
+  rooted_mid : s.tells → (b : ℕ) → IsRooted u b → IsRooted m b
+  rooted_mid told b r = x.frame.stays.rooted (mid told) b (λ h. h) r
+
+  places_end : s.tells → (b : ℕ) (p : Place) → b ≢ result → (u.covered b → ⊥) → IsRooted u b → s.stands b p → u.stands b p
+  places_end told b p ne free r stands =
       let free_mid : m.covered b → ⊥ = λ h. free ((x.covers (mid told)).still b h) in
-      let there = came.stays.places told b p ne (λ h. h) free_mid stands in
+      let there = came.stays.places told b p ne (λ h. h) free_mid (rooted_mid told b r) stands in
       ⊎_elim
       (λ e.
       let top : Place = place (kind_at t.dir (suc t.depth)) t.tag 0 (t.rank + suc t.depth) in
       let here = x.hangs.place (mid told) b (place (kind_at t.dir (suc t.depth)) t.tag 0 (t.rank + suc t.depth)) (x.lifting.place told) e in
       let is : place (kind_at t.dir t.depth) t.tag 0 (t.rank + t.depth) ≡ p = x.lifting.laws.one.each b (place (kind_at t.dir t.depth) t.tag 0 (t.rank + t.depth)) p ((x.lifting.can.under b e).told told).stands stands in
       subst (λ q. u.stands b q) (place_is x.lifting told (place (kind_at t.dir (suc t.depth)) t.tag 0 (t.rank + suc t.depth)) (x.lifting.place told) ∙ is) here)
-      (λ not. x.frame.stays.places (mid told) b p (λ h. h) (λ g. ⊎_elim ne not g) free there)
+      (λ not. x.frame.stays.places (mid told) b p (λ h. h) (λ g. ⊎_elim ne not g) free r there)
       (local_cases t.top b)
 
   hung_apart : s.tells → (b : ℕ) → HangsApart s b → IsHung u b
@@ -158,7 +162,7 @@ module _ {t : Tree} {l : Label} {result n : ℕ} {beside : Image → Type 0} {s 
         top = h.top;
         is_apart = (apart_end h.top ne not).1 h.is_apart;
         place = h.place;
-        stands = places_end told h.top h.place ne free h.stands;
+        stands = places_end told h.top h.place ne free (rooted_of_apart u h.top ((apart_end h.top ne not).1 h.is_apart)) h.stands;
         uncovered = free;
         reaches = far;
       }))
@@ -257,6 +261,7 @@ module _ {t : Tree} {l : Label} {result n : ℕ} {beside : Image → Type 0} {s 
   pub raises : Raises t result s u
   raises = record {
     made = made_end;
+    free = came.free;
     was = (came.was.1, came.was.3);
     own = own_end;
     leads = leads_end;
@@ -276,6 +281,7 @@ module _ {t : Tree} {l : Label} {result n : ℕ} {beside : Image → Type 0} {s 
     raises = raises_end;
     comes = comes_end;
     places = places_end;
+    rooted = λ told b ne r. came.stays.rooted told b ne (rooted_mid told b r);
     still = still_end;
     only = only_end;
     reached = reached_end;

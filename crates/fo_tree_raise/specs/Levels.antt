@@ -1,12 +1,15 @@
 -- Levels are put above the top of a source, one after another.
-use Rattle.std.specs.Prelude.{◌≡◌, ◌⊎◌, ◌↔◌, ◌+◌, ◌<◌, ℕ}
+use Rattle.std.specs.Prelude.{◌≡◌, ◌⊎◌, ◌↔◌, ◌+◌, ◌^◌, ◌<◌, ℕ, List}
 use Rattle.fo_image.specs.declared.types.Pointer.{Pointer}
 use Rattle.fo_image.specs.declared.types.Pointer.TheVariants.{Local}
 use Rattle.fo_crash.specs.declared.place.Place.{Place}
 use Rattle.fo_crash.specs.Images.{Image, SameContent, Reaches, to_block}
-use Rattle.fo_ports.specs.State.{State, none, AddsNoWait, KeepsNumbers}
+use Rattle.fo_ports.specs.State.{State, IsRooted, none, AddsNoWait, KeepsNumbers}
 use Rattle.fo_ports.specs.Sources.{IsHung, Made, IsMade, Stead}
 use Rattle.fo_tree_read.specs.declared.tree.Tree.{Tree}
+use Rattle.fo_tree_look.specs.declared.ways.Kept.{Kept}
+use Rattle.fo_tree_look.specs.Source.{WayReady}
+use Rattle.fo_tree_down.specs.Way.{OnWay}
 
 -- An image is one of before, but for blocks that were given out, to which no path from a top leads.
 pub record IsAmong (s u : State) (image : Image) : Type 0 where
@@ -25,7 +28,8 @@ pub record Adds (tag : ℕ) (mine : ℕ → Type 0) (s u : State) : Type 0 where
   pub labels : (b : ℕ) → (Made s u b → ⊥) → u.label b ≡ s.label b
   pub marks : (b : ℕ) → (Made s u b → ⊥) → (s.pinned b → u.pinned b) × (s.sealed b → u.sealed b) × (s.fresh b → u.fresh b)
   pub apart : (b : ℕ) → (Made s u b → ⊥) → (u.apart b → s.apart b) × (s.apart b → u.apart b ⊎ mine b)
-  pub places : s.tells → (b : ℕ) (p : Place) → (Made s u b → ⊥) → (u.covered b → ⊥) → s.stands b p → u.stands b p
+  pub places : s.tells → (b : ℕ) (p : Place) → (Made s u b → ⊥) → (u.covered b → ⊥) → IsRooted u b → s.stands b p → u.stands b p
+  pub rooted : s.tells → (b : ℕ) → (Made s u b → ⊥) → IsRooted u b → IsRooted s b
   pub instead : (b x : ℕ) → u.instead b x → ((Made s u b → ⊥) × s.instead b x) ⊎ (Made s u b × Stead s mine x)
   pub still : (b : ℕ) → s.covered b → u.covered b
   pub only : (b : ℕ) → (s.covered b → ⊥) → u.covered b → ⊥
@@ -55,3 +59,9 @@ pub record IsTopAfter (s u : State) (t : Tree) (levels : ℕ) (top : Pointer) : 
 -- What a new top comes in the place of: the source's top, where that was put into a slot, or what that came in the place of.
 abbrev pub InStead : State → Tree → ℕ → Type 0
 InStead s t x = (c : ℕ) × (t.top ≡ Local c) × (((c ≡ x) × (s.apart c → ⊥)) ⊎ s.instead c x)
+
+-- The ways to leaves of a source with more levels: one that was prepared is so, and leads to the blocks of before below those that were
+-- given out; behind the room that there was there are no other blocks than these.
+pub record KeepsWays (s u : State) (t : Tree) (kept : List Kept) (levels : ℕ) (top : Pointer) : Type 0 where
+  pub ready : (j : ℕ) → j < 409 ^ (t.depth + levels) → (j < 409 ^ t.depth → WayReady s t kept t.depth j) → WayReady u (grown t levels top) kept (t.depth + levels) j
+  pub ways : (j b : ℕ) → j < 409 ^ (t.depth + levels) → (j < 409 ^ t.depth → WayReady s t kept t.depth j) → OnWay u (grown t levels top) (t.depth + levels) j b → ((j < 409 ^ t.depth) × OnWay s t t.depth j b) ⊎ Made s u b

@@ -1,13 +1,14 @@
 -- A new top is raised over the top of a source.
-use Rattle.std.specs.Prelude.{◌≡◌, ◌≢◌, ◌⊎◌, ◌↔◌, ◌+◌, ◌-◌, ◌^◌, ◌<◌, ◌≤◌, ℕ, suc, List}
+use Rattle.std.specs.Prelude.{◌≡◌, ◌≢◌, ◌⊎◌, ◌↔◌, ◌+◌, ◌^◌, ◌<◌, ◌≤◌, ℕ, suc, List, true}
 use Rattle.fo_image.specs.declared.types.State.TheVariants.{Live}
 use Rattle.fo_image.specs.declared.types.Pointer.TheVariants.{Nil, Local}
 use Rattle.fo_image.specs.Format.{PointerHolds}
+use Rattle.fo_image.specs.Usable.{is_usable}
 use Rattle.fo_crash.specs.declared.place.Place.{Place}
 use Rattle.fo_crash.specs.Images.{Image, SameContent, Reaches, target, to_block}
 use Rattle.fo_crash.specs.Steps.{Brings}
 use Rattle.fo_crash.specs.Places.{place}
-use Rattle.fo_ports.specs.State.{State, none, AddsNoWait, KeepsNumbers}
+use Rattle.fo_ports.specs.State.{State, IsRooted, none, AddsNoWait, KeepsNumbers}
 use Rattle.fo_ports.specs.Sources.{IsHung, Made}
 use Rattle.fo_tree_read.specs.declared.tree.Tree.{Tree}
 use Rattle.fo_tree_read.specs.Tree.{kind_at, block_at, Hangs}
@@ -47,6 +48,7 @@ pub record IsWithout (top : ℕ) (s : State) (image : Image) : Type 0 where
 -- leads to hangs there now. It comes in the place of what that block was, if it was in the tree, or came in the place of; all else stays.
 pub record Raises (t : Tree) (top : ℕ) (s u : State) : Type 0 where
   pub made : Made s u top
+  pub free : is_usable s.low (s.label top) ≡ true
   pub was : (top ≢ 1) × (s.tells → (s.tops top → ⊥) × ((p : Place) → s.stands top p → ⊥))
   pub own : IsOwn u t (suc t.depth) 0 top
   pub leads : target ((u.now top).slot 0) ≡ t.top
@@ -62,7 +64,8 @@ pub record Raises (t : Tree) (top : ℕ) (s u : State) : Type 0 where
   pub alone : s.tells → (y : ℕ) → u.instead y top → ⊥
   pub raises : (x : ℕ) → u.instead top x → (b : ℕ) × (t.top ≡ Local b) × (((b ≡ x) × (s.apart b → ⊥)) ⊎ s.instead b x)
   pub comes : (b x : ℕ) → t.top ≡ Local b → s.instead b x ⊎ ((b ≡ x) × (s.apart b → ⊥)) → u.instead top x
-  pub places : s.tells → (b : ℕ) (p : Place) → b ≢ top → (u.covered b → ⊥) → s.stands b p → u.stands b p
+  pub places : s.tells → (b : ℕ) (p : Place) → b ≢ top → (u.covered b → ⊥) → IsRooted u b → s.stands b p → u.stands b p
+  pub rooted : s.tells → (b : ℕ) → b ≢ top → IsRooted u b → IsRooted s b
   pub still : (b : ℕ) → s.covered b → u.covered b
   pub only : (b : ℕ) → (s.covered b → ⊥) → u.covered b → ⊥
   pub reached : s.tells → (b : ℕ) → Reaches s.now (to_block 1) b ↔ Reaches u.now (to_block 1) b

@@ -9,7 +9,7 @@ ghost use Rattle.fo_tree_look.specs.declared.ways.Kept.{Kept};
 ghost use Rattle.fo_tree_look.specs.Source.{HasBlock, Prepared};
 ghost use Rattle.fo_tree_down.specs.Clear.{EndsClear};
 ghost use Rattle.fo_tree_raise.specs.Raise.{CanRaise, Bears};
-ghost use Rattle.fo_tree_raise.specs.Levels.{Adds, IsTopAfter, InStead, grown};
+ghost use Rattle.fo_tree_raise.specs.Levels.{Adds, IsTopAfter, InStead, KeepsWays, grown};
 
 use crate::raise::raise_once;
 use fo_image::Pointer;
@@ -34,6 +34,7 @@ pub fn raise_levels<B: Blocks>(tree: &Tree, on: &mut B, levels: u8) -> Pointer
     ensures owns { (B.state on.old).tells → (kept : List Kept) → 0 < tree.now.size → Bears (B.state on.old) tree.now kept → (b : ℕ) → (HasBlock (B.state on.new) (grown tree.now levels result) b → HasBlock (B.state on.old) tree.now b ⊎ Made (B.state on.old) (B.state on.new) b) × (Made (B.state on.old) (B.state on.new) b ⊎ HasBlock (B.state on.old) tree.now b → HasBlock (B.state on.new) (grown tree.now levels result) b) }
     ensures still { (kept : List Kept) (limit o n : ℕ) → tree.now.size ≤ 8192 * 409 ^ tree.now.depth → Prepared (B.state on.old) tree.now kept limit o n → Prepared (B.state on.new) (grown tree.now levels result) kept limit o n }
     ensures clear { (kept : List Kept) → 0 < tree.now.size → tree.now.size ≤ 8192 * 409 ^ tree.now.depth → EndsClear (B.state on.old) tree.now kept → EndsClear (B.state on.new) (grown tree.now levels result) kept }
+    ensures ways { (kept : List Kept) → KeepsWays (B.state on.old) (B.state on.new) tree.now kept levels result }
     ensures spare { (B.state on.new).spare + levels ≡ (B.state on.old).spare }
     ensures keeps { B.keeps on.old on.new }
 {

@@ -1,10 +1,10 @@
 //! An older top of a source is copied, before a level is put above it.
-ghost use Rattle.std.specs.Prelude.{◌≡◌, ◌≢◌, ◌+◌, ◌<◌, ◌≤◌, ℕ};
+ghost use Rattle.std.specs.Prelude.{◌≡◌, ◌≢◌, ◌⊎◌, ◌+◌, ◌<◌, ◌≤◌, ℕ};
 ghost use Rattle.fo_image.specs.declared.types.Pointer.TheVariants.{Local};
 ghost use Rattle.fo_ports.specs.Sources.{Made, Changes};
 ghost use Rattle.fo_tree_read.specs.Tree.{kind_at};
-ghost use Rattle.fo_tree_look.specs.Source.{Over, HasBlock, IsPrepared, Prepared};
-ghost use Rattle.fo_tree_down.specs.Way.{Comes, IsTopOf, with_top};
+ghost use Rattle.fo_tree_look.specs.Source.{Over, HasBlock, IsPrepared, Prepared, WayReady};
+ghost use Rattle.fo_tree_down.specs.Way.{OnWay, Comes, IsTopOf, with_top};
 ghost use Rattle.fo_tree_down.specs.Clear.{EndsClear};
 ghost use Rattle.fo_tree_raise.specs.Raise.{CanRaise};
 ghost use Rattle.fo_tree_raise.specs.Levels.{Adds};
@@ -29,6 +29,7 @@ pub fn copy_top<B: Blocks>(tree: &Tree, kept: &[Kept], on: &mut B, at: u32) -> u
     ensures under { CanRaise (B.state on.new) (with_top tree.now result) }
     ensures over { (limit : ℕ) → Over (B.state on.old) tree.now kept.now limit → Over (B.state on.new) (with_top tree.now result) kept.now limit }
     ensures still { (limit o n : ℕ) → Prepared (B.state on.old) tree.now kept.now limit o n → Prepared (B.state on.new) (with_top tree.now result) kept.now limit o n }
+    ensures ways { (j b : ℕ) → WayReady (B.state on.old) tree.now kept.now tree.now.depth j → WayReady (B.state on.new) (with_top tree.now result) kept.now tree.now.depth j × (OnWay (B.state on.new) (with_top tree.now result) tree.now.depth j b → OnWay (B.state on.old) tree.now tree.now.depth j b ⊎ Made (B.state on.old) (B.state on.new) b) }
     ensures clear { EndsClear (B.state on.old) tree.now kept.now → EndsClear (B.state on.new) (with_top tree.now result) kept.now }
     ensures spare { (B.state on.new).spare + 1 ≡ (B.state on.old).spare }
     ensures keeps { B.keeps on.old on.new }

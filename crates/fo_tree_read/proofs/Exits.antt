@@ -24,13 +24,16 @@ looks_none a = record {
   stays = record {
     labels = λ x h. refl;
     marks = λ x h. (λ y. y, λ y. y, λ y. y);
-    places = λ told x p h i spared s. s;
+    places = λ told x p h i spared r s. s;
+    rooted = λ told x h r. r;
+    newborn = λ x h n. n;
     apart = λ x h i. (λ y. y, λ y. y);
     instead = λ x z h i. (λ y. y, λ y. y);
     waits = λ x on j h i k w. w;
   };
   order = record { clearing = λ x j h. (λ n. n, h); goes_on = λ x j n h. h };
   covered = record { covered = λ x. (λ h. h, λ h. h) };
+  newborn = λ x n. n;
   no_wait = record { each = λ x on j h w. w };
   dirty = λ x d. d;
   room = (refl, refl);

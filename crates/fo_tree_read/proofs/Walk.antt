@@ -14,6 +14,7 @@ use Rattle.fo_crash.specs.Images.{target}
 use Rattle.fo_crash.specs.Places.{place, place_below, IsPlaced}
 use Rattle.fo_ports.specs.Blocks.{IsInner}
 use Rattle.fo_ports.specs.State.{State, KeepsAll, Looks}
+use Rattle.fo_looks.proofs.Looks.{rooted_looks}
 use Rattle.fo_tree_read.specs.declared.tree.Tree.{Tree}
 use Rattle.fo_tree_read.specs.Tree.{kind_at, kind_down, score_in, below, block_at, StandsAs, Hangs, Got, Way, above, IsNear, HasPins, IsFound, Names}
 
@@ -56,7 +57,8 @@ hangs_looks {a = a} {b = b} {t = t} all looks hangs = record {
       let before = all.still_tells.0 told in
       let was = hangs.told before at e in
       let spared : b.covered at → ⊥ = λ h. was.1 ((looks.covered.covered at).0 h) in
-      (looks.stays.places before at (place (kind_at t.dir t.depth) t.tag 0 (t.rank + t.depth)) (λ n. n) (λ n. n) spared was.0, spared);
+      (looks.stays.places before at (place (kind_at t.dir t.depth) t.tag 0 (t.rank + t.depth)) (λ n. n) (λ n. n) spared (rooted_looks all looks before at (hangs.rooted before at e)) was.0, spared);
+  rooted = λ told at e. let before = all.still_tells.0 told in rooted_looks all looks before at (hangs.rooted before at e);
 }
 
 -- the scores that a source names

@@ -13,7 +13,7 @@ use Rattle.fo_crash.specs.Images.{target}
 use Rattle.fo_crash.specs.Places.{place}
 use Rattle.fo_ports.specs.declared.error.BlockError.{BlockError}
 use Rattle.fo_ports.specs.Causes.{Caused}
-use Rattle.fo_ports.specs.State.{State}
+use Rattle.fo_ports.specs.State.{State, IsRooted}
 use Rattle.fo_ports.specs.Sources.{Lacks, byte_at, source_bytes}
 use Rattle.fo_tree_read.specs.declared.tree.Tree.{Tree}
 
@@ -97,13 +97,14 @@ pub record StandsAs (s : State) (kind : Kind) (rank at : ℕ) : Type 0 where
   pub has_rank : there.rank ≡ rank
 
 -- A source hangs over these blocks: its depth is up to 4 and has room for its bytes, and its top is a block; where the device tells, one
--- that stands at the place of a top and is not to be closed.
+-- that stands at the place of a top, hangs in memory, and is not to be closed.
 pub record Hangs (s : State) (t : Tree) : Type 0 where
   pub few : t.depth ≤ 4
   pub room : t.size ≤ 8192 * 409 ^ t.depth
   pub low : t.rank < 2 ^ 31
   pub is_one : (at : ℕ) → t.top ≡ Local at → s.is_block at
   pub told : s.tells → (at : ℕ) → t.top ≡ Local at → s.stands at (place (kind_at t.dir t.depth) t.tag 0 (t.rank + t.depth)) × (s.covered at → ⊥)
+  pub rooted : s.tells → (at : ℕ) → t.top ≡ Local at → IsRooted s at
 
 -- A block of this kind was got: it is pinned, and its label is of the kind.
 pub record IsGot (s : State) (kind : Kind) (at : ℕ) : Type 0 where

@@ -1,21 +1,25 @@
--- The blocks above a leaf were made current; what stands behind the way may be cleared then.
-use Rattle.std.proofs.Common.{◌≡◌, ◌≢◌, ◌-◌, ◌*◌, ◌/◌, ◌^◌, ◌<◌, ◌≤◌, ℕ, suc, List, inr, ⊎_elim, sym, ◌∙◌, ap, subst, arith}
+-- The blocks above the last leaf were made current.
+use Rattle.std.proofs.Common.{◌≡◌, ◌-◌, ◌*◌, ◌/◌, ◌^◌, ◌<◌, ◌≤◌, ℕ, suc, List, inr, ⊎_elim, sym, ◌∙◌, ap, subst, arith}
 use Rattle.std.proofs.Math.Nat.{pow-succ'}
 use Rattle.fo_image.specs.declared.types.Pointer.TheVariants.{Local}
-use Rattle.fo_crash.specs.declared.slot.Slot.{Slot}
-use Rattle.fo_crash.specs.Images.{target}
-use Rattle.fo_ports.specs.State.{State, KeepsAll}
-use Rattle.fo_ports.specs.Sources.{Made, Changes}
+use Rattle.fo_crash.specs.Images.{SameContent}
+use Rattle.fo_ports.specs.State.{State}
+use Rattle.fo_ports.specs.Sources.{Made, depth_for}
 use Rattle.fo_tree_read.specs.declared.tree.Tree.{Tree}
-use Rattle.fo_tree_read.specs.Tree.{kind_at, block_at}
+use Rattle.fo_tree_read.specs.Tree.{block_at}
 use Rattle.fo_tree_look.specs.declared.ways.Kept.{Kept}
 use Rattle.fo_tree_look.specs.Source.{HasBlock, IsTold, Prepared, WayReady}
 use Rattle.fo_tree_down.specs.Way.{OnWay, Descends, IsWayIndex, StaysBeside, with_top}
-use Rattle.fo_tree_down.proofs.Beside.{index_last, index_within, way_block}
+use Rattle.fo_tree_down.proofs.Beside.{index_within, way_block}
 use Rattle.fo_tree_down.proofs.Stilling.{index_one}
 use Rattle.fo_tree_trim.specs.Behind.{IsPast}
-use Rattle.fo_tree_trim.specs.Cut.{IsBareLeaf, MayCut}
-use Rattle.fo_tree_trim.proofs.Past.{Said, way_past}
+use Rattle.fo_tree_trim.specs.Trim.{LeavesStay}
+use Rattle.fo_tree_trim.proofs.Least.{least_for}
+use Rattle.fo_tree_trim.proofs.Past.{Said, one_index}
+
+-- more than one leaf has more bytes than one
+pub deep_size : (t : Tree) → t.depth ≡ depth_for t.size → t.size ≤ 2 ^ 47 → 0 < t.depth → 8192 < t.size
+deep_size t least low deep = let past = (least_for t.size low).least 0 (omega (arith, least, deep)) in omega (arith, past)
 
 -- the way to a leaf was prepared, as a piece of one byte
 pub way_piece : {s : State} {t : Tree} {kept : List Kept} {limit : ℕ} (last : ℕ) → 8192 * last < t.size → t.size ≤ limit → WayReady s t kept t.depth last → Prepared s t kept limit (8192 * last) 1
@@ -30,30 +34,53 @@ piece_way {s = s} {t = t} {kept = kept} last inside p = let e : 8192 * last / 81
 
 -- The blocks above a leaf were made current.
 pub record Above (s m : State) (t : Tree) (last top : ℕ) : Type 0 where
-  pub first : Changes t.tag (HasBlock s t) (λ b. HasBlock s t b × ((s.label b).kind ≢ kind_at t.dir 0)) s m
   pub descends : Descends t (OnWay s t (t.depth - 1) (last / 409)) (t.depth - (t.depth - 1)) s m
-  pub all : KeepsAll s m
   pub deep : 0 < t.depth
   pub few : last < 409 ^ t.depth
-  pub beside : s.tells → StaysBeside s m t (with_top t top) (t.depth - 1) (last / 409)
-  pub said : s.tells → Said s t last
-  pub told : s.tells → (b : ℕ) → HasBlock s t b → IsTold s t.top b
+  pub beside : StaysBeside s m t (with_top t top) (t.depth - 1) (last / 409)
+  pub said : Said s t last
+  pub told : (b : ℕ) → HasBlock s t b → IsTold s t.top b
 
 module _ {s m : State} {t : Tree} {last top : ℕ} (x : Above s m t last top) where
-  level : t.depth ≡ suc (t.depth - 1)
-  level = let deep = x.deep in omega (arith, deep)
-
-  wider_index : (n a : ℕ) → IsWayIndex (t.depth - 1) (last / 409) n a → IsWayIndex t.depth last n a
-  wider_index n a is = subst (λ d. IsWayIndex d last n a) (sym level) (inr is)
-
-  pub off_way : (n a b : ℕ) → IsWayIndex t.depth last n a → a < b → IsWayIndex (t.depth - 1) (last / 409) n b → ⊥
-  off_way n a b is lt on = let same = index_one t.depth last n a b is (wider_index n b on) in omega (arith, lt, same)
-
-  pub leaf_off : (i : ℕ) → IsWayIndex (t.depth - 1) (last / 409) t.depth i → ⊥
+  leaf_off : (i : ℕ) → IsWayIndex (t.depth - 1) (last / 409) t.depth i → ⊥
   leaf_off i is = let le = index_within (t.depth - 1) (last / 409) t.depth i is in let deep = x.deep in omega (arith, le, deep)
 
-  pub past_back : s.tells → (b : ℕ) → IsPast m (with_top t top) last b → IsPast s t last b
-  past_back told b p = record {
+  leaf_same : (i : ℕ) → i ≤ last → block_at m (with_top t top) t.depth i ≡ block_at s t t.depth i
+  leaf_same i le = let few = x.few in x.beside.each t.depth i (omega arith) (omega (arith, le, few)) (leaf_off i)
+
+  leaf_content : (i b : ℕ) → i ≤ last → block_at s t t.depth i ≡ Local b → SameContent (m.now b) (s.now b)
+  leaf_content i b le e =
+      let few = x.few in
+      let deep = x.deep in
+      let room : i < 409 ^ t.depth = omega (arith, le, few) in
+      let has : HasBlock s t b = record { down = t.depth; index = i; within = omega arith; is = e } in
+      let old : Made s m b → ⊥ = λ made. made.0 (x.told b has).live in
+      record {
+        bytes = x.descends.bytes b old;
+        slots = λ j. ⊎_elim
+            (λ same. same)
+            (λ put.
+            let level : 409 ^ t.depth ≡ 409 * 409 ^ (t.depth - 1) = ap (λ d. 409 ^ d) (let l : t.depth ≡ suc (t.depth - 1) = omega (arith, deep) in l) ∙ pow-succ' 409 (t.depth - 1) in
+            let w = way_block s t (t.depth - 1) (last / 409) b (omega (arith, level, few)) put.is_mine in
+            let low = index_within (t.depth - 1) (last / 409) w.down w.index w.is_way in
+            let same = (one_index x.said w.down w.index t.depth i b (omega (arith, low)) w.few w.is (omega arith) room e).0 in
+            absurd (omega (arith, low, same, deep)))
+            (x.descends.slots b j old);
+      }
+
+  pub own_leaves : LeavesStay s m t (with_top t top) last
+  own_leaves = record { each = leaf_same; content = leaf_content }
+
+  -- what stands behind the way stays
+  off_way : (n a b : ℕ) → IsWayIndex t.depth last n a → a < b → IsWayIndex (t.depth - 1) (last / 409) n b → ⊥
+  off_way n a b is lt on =
+      let deep = x.deep in
+      let level : t.depth ≡ suc (t.depth - 1) = omega (arith, deep) in
+      let same = index_one t.depth last n a b is (subst (λ d. IsWayIndex d last n b) (sym level) (inr on)) in
+      omega (arith, lt, same)
+
+  pub past_on : (b : ℕ) → IsPast s t last b → IsPast m (with_top t top) last b
+  past_on b p = record {
     down = p.down;
     index = p.index;
     way = p.way;
@@ -61,42 +88,5 @@ module _ {s m : State} {t : Tree} {last top : ℕ} (x : Above s m t last top) wh
     few = p.few;
     is_way = p.is_way;
     behind = p.behind;
-    is = sym ((x.beside told).each p.down p.index p.within p.few (off_way p.down p.way p.index p.is_way p.behind)) ∙ p.is;
+    is = x.beside.each p.down p.index p.within p.few (off_way p.down p.way p.index p.is_way p.behind) ∙ p.is;
   }
-
-  pub past_off : s.tells → (b : ℕ) → IsPast s t last b → OnWay s t (t.depth - 1) (last / 409) b → ⊥
-  past_off told b p on =
-      let more : 409 ^ t.depth ≡ 409 * 409 ^ (t.depth - 1) = ap (λ d. 409 ^ d) level ∙ pow-succ' 409 (t.depth - 1) in
-      let few = x.few in
-      let w = way_block s t (t.depth - 1) (last / 409) b (omega (arith, more, few)) on in
-      way_past (x.said told) w.down w.index b (wider_index w.down w.index w.is_way) w.is p
-
-  pub has_past : {b : ℕ} → IsPast s t last b → HasBlock s t b
-  has_past p = record { down = p.down; index = p.index; within = p.within; is = p.is }
-
-  pub past_live : s.tells → (b : ℕ) → IsPast s t last b → Made s m b → ⊥
-  past_live told b p made = made.0 (x.told told b (has_past p)).live
-
-  bare_mid : s.tells → (b : ℕ) → HasBlock s t b → (OnWay s t (t.depth - 1) (last / 409) b → ⊥) → IsBareLeaf s b → IsBareLeaf m b
-  bare_mid told b has off bare = record {
-    none = λ j y e. bare.none j y (⊎_elim
-        (λ same. ap (λ (q : Slot). target q) (sym same))
-        (λ put. absurd (off put.is_mine))
-        (x.descends.slots b j (λ made. made.0 (x.told told b has).live)) ∙ e);
-    still = λ j h. bare.still j (x.descends.clearing b j h).1;
-  }
-
-  pub may_mid : s.tells → MayCut m (with_top t top) last
-  may_mid told =
-      let may = (x.said told).may in
-      record {
-        in_tree = λ b p. let q = past_back told b p in x.descends.in_tree told b (past_off told b q) (may.in_tree b q);
-        alone = λ y b p h. let q = past_back told b p in ⊎_elim
-            (λ old. may.alone y b q old)
-            (λ new. past_off told b q new.1)
-            (x.descends.instead y b h);
-        bare = λ dir i b lt few e.
-            let was : block_at s t t.depth i ≡ Local b = sym ((x.beside told).each t.depth i (omega arith) few (leaf_off i)) ∙ e in
-            let p : IsPast s t last b = record { down = t.depth; index = i; way = last; within = omega arith; few = few; is_way = index_last t.depth last; behind = lt; is = was } in
-            bare_mid told b (has_past p) (past_off told b p) (may.bare dir i b lt few was);
-      }

@@ -1,5 +1,5 @@
 -- Slots are cleared one after another.
-use Rattle.std.proofs.Common.{◌≡◌, ◌≢◌, ◌⊎◌, ℕ, List, inl, inr, ⊎_elim, refl, sym, ◌∙◌, ap, subst, arith}
+use Rattle.std.proofs.Common.{◌≡◌, ◌≢◌, ◌⊎◌, ◌<◌, ◌≤◌, ℕ, List, inl, inr, ⊎_elim, refl, sym, ◌∙◌, ap, subst, arith}
 use Rattle.std.proofs.lemmas.Bool.{cases_eq}
 use Rattle.fo_image.specs.declared.types.Pointer.TheVariants.{Nil, Local}
 use Rattle.fo_crash.specs.declared.slot.Slot.{Slot}
@@ -10,9 +10,9 @@ use Rattle.fo_crash.specs.Spots.{OnePath}
 use Rattle.fo_crash.specs.Steps.{Through}
 use Rattle.fo_crash.proofs.Reach.{lost}
 use Rattle.fo_crash.proofs.Updates.{slot_bytes, slot_other}
-use Rattle.fo_ports.specs.State.{State, KeepsAll, IsPointers}
-use Rattle.fo_tree_trim.specs.Cut.{CutsOne, IsCut, HangsFrom, Cuts}
-use Rattle.fo_tree_trim.proofs.Paths.{Fewer, CutAt, reaches_back, uses_or, only_way}
+use Rattle.fo_ports.specs.State.{State, IsRooted, KeepsAll, IsPointers}
+use Rattle.fo_tree_trim.specs.Cut.{CutsOne, IsCut, HangsFrom, HangsThrough, Cuts}
+use Rattle.fo_tree_trim.proofs.Paths.{Fewer, CutAt, Gone, path_back, reaches_back, uses_or, intact_or, broken_dead}
 
 spot_cases : (at i b j : ℕ) → ((b ≡ at) × (j ≡ i)) ⊎ ((b ≢ at) ⊎ (j ≢ i))
 spot_cases at i b j = ⊎_elim
@@ -34,8 +34,9 @@ pub record CutMore (first cut : ℕ → ℕ → Type 0) (at i : ℕ) (s m u : St
   pub within : (b j : ℕ) → first b j → cut b j
   pub here : cut at i
   pub only : (b j : ℕ) → cut b j → first b j ⊎ ((b ≡ at) × (j ≡ i))
-  pub one : m.tells → OnePath 1 m.now
-  pub through : s.tells → (path : List ℕ) (b : ℕ) → target (walk m.now ((m.now at).slot i) path) ≡ Local b → Through (IsPointers m) m.now ((m.now at).slot i) b
+  pub one : s.tells → OnePath 1 s.now
+  pub through : s.tells → (path : List ℕ) (b : ℕ) → HangsThrough cut s b → target (walk m.now ((m.now at).slot i) path) ≡ Local b → Through (IsPointers m) m.now ((m.now at).slot i) b
+  pub through_first : s.tells → (a j : ℕ) → first a j → (path : List ℕ) (b : ℕ) → HangsThrough cut s b → target (walk s.now ((s.now a).slot j) path) ≡ Local b → Through (IsPointers s) s.now ((s.now a).slot j) b
   pub unwaited : (a j : ℕ) → m.waits a at j → ⊥
   pub covers_told : (b : ℕ) → m.covered b → m.tells
 
@@ -118,12 +119,15 @@ module _ {first cut : ℕ → ℕ → Type 0} {at i : ℕ} {s m u : State} (x : 
       })
       (x.step.images.each image is)
 
-  places_end : s.tells → (b : ℕ) (p : Place) → (u.covered b → ⊥) → s.stands b p → u.stands b p
-  places_end told b p free stands =
-      let before = x.before.places told b p (λ h. free ((x.step.covers (mid told)).still b h)) stands in
+  rooted_mid : s.tells → (b : ℕ) → IsRooted u b → IsRooted m b
+  rooted_mid told b r = x.step.frame.stays.rooted (mid told) b (λ h. h) r
+
+  places_end : s.tells → (b : ℕ) (p : Place) → (u.covered b → ⊥) → IsRooted u b → s.stands b p → u.stands b p
+  places_end told b p free r stands =
+      let before = x.before.places told b p (λ h. free ((x.step.covers (mid told)).still b h)) (rooted_mid told b r) stands in
       ⊎_elim
       (λ e. subst (λ y. u.stands y p) (sym e) (x.step.hangs.at_place (mid told) p (λ h. free (subst (λ y. u.covered y) (sym e) h)) (subst (λ y. m.stands y p) e before)))
-      (λ away. x.step.frame.stays.places (mid told) b p (λ h. h) away free before)
+      (λ away. x.step.frame.stays.places (mid told) b p (λ h. h) away free r before)
       (cases_eq b at)
 
   apart_step : (b : ℕ) → (u.apart b → m.apart b) × (m.apart b → u.apart b)
@@ -150,14 +154,35 @@ module _ {first cut : ℕ → ℕ → Type 0} {at i : ℕ} {s m u : State} (x : 
       (λ away. (x.step.frame.stays.instead b y (λ z. z) away).1 h)
       (cases_eq b at)
 
-  leaves_end : s.tells → (b : ℕ) → Reaches s.now (to_block 1) b → Reaches u.now (to_block 1) b ⊎ u.covered b
-  leaves_end told b r = ⊎_elim
-      (λ before. ⊎_elim
-      (λ on. inl (record { path = before.path; leads = on }))
-      (λ uses. inr ((x.step.covers (mid told)).leaves b (x.through told uses.rest b uses.leads) before (λ after. only_way cut_at (x.one (mid told)) before.leads uses after)))
-      (uses_or cut_at before.path (to_block 1) b before.leads))
-      (λ covered. inr ((x.step.covers (mid told)).still b covered))
-      (x.before.leaves told b r)
+  gone : Gone first s.now m.now
+  gone = record { each = λ b j. ⊎_elim (λ e. inl e) (λ h. inr (h.0, ap target h.1)) (x.before.slots b j) }
+
+  leaves_end : s.tells → (b : ℕ) → HangsThrough cut s b → Reaches s.now (to_block 1) b → (Reaches u.now (to_block 1) b → ⊥) → u.covered b
+  leaves_end told b h r away = ⊎_elim
+      (λ on. ⊎_elim
+      (λ after. absurd (away (record { path = r.path; leads = after })))
+      (λ uses. (x.step.covers (mid told)).leaves b (x.through told uses.rest b h uses.leads) (record { path = r.path; leads = on }) away)
+      (uses_or cut_at r.path (to_block 1) b on))
+      (λ broken. (x.step.covers (mid told)).still b (x.before.leaves told b (broken.at, broken.i, broken.was, x.through_first told broken.at broken.i broken.was broken.rest b h broken.leads) r
+      (λ after.
+      let same : after.path ≡ r.path = (x.one told).each b after.path r.path (path_back (cut_less x.before) after.path (to_block 1) b after.leads) r.leads in
+      broken_dead (cut_less x.before) broken (ap (λ y. target (walk m.now (to_block 1) y)) (sym same) ∙ after.leads))))
+      (intact_or gone r.path (to_block 1) b r.leads)
+
+  queues_end : (s.queued ≤ u.queued) × ((b j c : ℕ) → cut b j → target ((s.now b).slot j) ≡ Local c → 0 < u.queued)
+  queues_end = (
+    let p = x.before.queues.0 in let q = x.step.queues.0 in omega (arith, p, q),
+    λ b j c h e. ⊎_elim
+        (λ old. let p = x.before.queues.1 b j c old e in let q = x.step.queues.0 in omega (arith, p, q))
+        (λ here. queued_here c (ap (λ y. target ((s.now at).slot y)) (sym here.1) ∙ ap (λ y. target ((s.now y).slot j)) (sym here.0) ∙ e))
+        (x.only b j h),
+  )
+    where
+      queued_here : (c : ℕ) → target ((s.now at).slot i) ≡ Local c → 0 < u.queued
+      queued_here c e = ⊎_elim
+          (λ same. x.step.queues.1 c (ap target same ∙ e))
+          (λ h. let p = x.before.queues.1 at i c h.0 e in let q = x.step.queues.0 in omega (arith, p, q))
+          (x.before.slots at i)
 
   reached_end : s.tells → (w b : ℕ) → (HangsFrom cut s b → ⊥) → Reaches s.now (to_block w) b → Reaches u.now (to_block w) b
   reached_end told w b not r =
@@ -182,12 +207,14 @@ module _ {first cut : ℕ → ℕ → Type 0} {at i : ℕ} {s m u : State} (x : 
     labels = λ b. x.step.frame.stays.labels b (λ h. h) ∙ x.before.labels b;
     marks = λ b. let p = x.before.marks b in let q = x.step.frame.stays.marks b (λ h. h) in (λ h. q.0 (p.0 h), λ h. q.1 (p.1 h), λ h. q.2 (p.2 h));
     places = places_end;
+    rooted = λ told b r. x.before.rooted told b (rooted_mid told b r);
     apart = λ b. let p = x.before.apart b in let q = apart_step b in (λ h. p.0 (q.0 h), λ h. q.1 (p.1 h));
     instead = λ b y. let was = x.before.instead b y in (λ h. was.0 (instead_step b y h), λ h. instead_still b y (was.1 h));
     still = λ b h. let before = x.before.still b h in (x.step.covers (x.covers_told b before)).still b before;
     only = λ told b free not h. (x.step.covers (mid told)).only b (x.before.only told b free (λ f. not (wider b f))) (λ r. not (below_back b r)) h;
     leaves = leaves_end;
     reached = reached_end;
+    queues = queues_end;
     waits = waits_end;
     no_wait = record { each = λ a on j h w. x.before.no_wait.each a on j h (x.step.no_wait.each a on j h w) };
     order = λ b j. let p = x.before.order b j in let q = x.step.order b j in (λ h. p.0 (q.0 h), λ h. q.1 (p.1 h));
@@ -212,13 +239,15 @@ cut_none cut s none = record {
   images = λ image is. record { other = image; was = is; bytes = λ b. refl; slots = λ b j. inl refl };
   labels = λ b. refl;
   marks = λ b. (λ h. h, λ h. h, λ h. h);
-  places = λ told b p free stands. stands;
+  places = λ told b p free r stands. stands;
+  rooted = λ told b r. r;
   apart = λ b. (λ h. h, λ h. h);
   instead = λ b y. (λ h. h, λ h. h);
   still = λ b h. h;
   only = λ told b free not h. free h;
-  leaves = λ told b r. inl r;
+  leaves = λ told b h r away. absurd (none h.0 h.1 h.2);
   reached = λ told w b not r. r;
+  queues = (omega arith, λ b j c h e. absurd (none b j h));
   waits = λ a on j w. w;
   no_wait = record { each = λ a on j h w. w };
   order = λ b j. (λ h. h, λ h. h);
@@ -241,11 +270,16 @@ cut_same {first = first} {cut = cut} {s = s} {u = u} x within rest = record {
   labels = x.labels;
   marks = x.marks;
   places = x.places;
+  rooted = x.rooted;
   apart = x.apart;
   instead = x.instead;
   still = x.still;
   only = λ told b free not h. x.only told b free (λ f. not (f.0, f.1, within f.0 f.1 f.2, f.3)) h;
-  leaves = x.leaves;
+  leaves = λ told b h r away. ⊎_elim
+      (λ old. x.leaves told b (h.0, h.1, old, h.3) r away)
+      (λ nil. absurd (lost s.now h.3.path ((s.now h.0).slot h.1) (λ c e. nil_local c (sym nil ∙ e)) b h.3.leads))
+      (was_cut h.0 h.1 h.2);
+  queues = (x.queues.0, λ b j c h e. ⊎_elim (λ old. x.queues.1 b j c old e) (λ nil. absurd (nil_local c (sym nil ∙ e))) (was_cut b j h));
   reached = λ told w b not r. x.reached told w b (λ f. not (f.0, f.1, within f.0 f.1 f.2, f.3)) r;
   waits = x.waits;
   no_wait = x.no_wait;
@@ -258,3 +292,10 @@ cut_same {first = first} {cut = cut} {s = s} {u = u} x within rest = record {
   usable = x.usable;
   numbers = x.numbers;
 }
+  where
+    -- a slot that is one of them was one before, or led nowhere
+    was_cut : (b j : ℕ) → cut b j → first b j ⊎ (target ((s.now b).slot j) ≡ Nil)
+    was_cut b j h = ⊎_elim
+        (λ old. inl old)
+        (λ nil. ⊎_elim (λ same. inr (ap target (sym same) ∙ nil)) (λ old. inl old.0) (x.slots b j))
+        (rest b j h)

@@ -1,8 +1,8 @@
 -- The bytes of a source up to an end within it.
 use Rattle.std.specs.List.{range_with_len}
-use Rattle.std.proofs.Common.{◌≡◌, ◌*◌, ◌/◌, ◌%◌, ◌^◌, ◌<◌, ◌≤◌, ℕ, zero, suc, Bool, cond, List, map, take, length, slice_index, Option, Some, None, refl, sym, ap, ◌∙◌, arith}
+use Rattle.std.proofs.Common.{◌≡◌, ◌*◌, ◌/◌, ◌%◌, ◌^◌, ◌<◌, ◌≤◌, ℕ, Bool, cond, List, map, take, length, slice_index, Option, Some, None, refl, sym, ap, ◌∙◌, arith}
 use Rattle.std.proofs.lemmas.Bool.{lt-ltb}
-use Rattle.std.proofs.lemmas.List.{ext_get_or, length-take-le, get_or-take}
+use Rattle.std.proofs.lemmas.List.{ext_get_or, length-take-le, get_or-take, take_all}
 use Rattle.std.proofs.lemmas.List.FromFn.{length-map-range_with_len, get_or-map-range_with_len}
 use Rattle.fo_image.specs.declared.types.Score.{Score}
 use Rattle.fo_image.specs.declared.types.Pointer.{Pointer}
@@ -11,12 +11,11 @@ use Rattle.fo_image.specs.Format.{kind_code}
 use Rattle.fo_ports.specs.State.{State}
 use Rattle.fo_ports.specs.Sources.{byte_at, source_bytes}
 use Rattle.fo_tree_read.specs.declared.tree.Tree.{Tree}
-use Rattle.fo_tree_read.specs.Tree.{kind_at, kind_down, below, block_at, leaf_at, address_of, held_of}
+use Rattle.fo_tree_read.specs.Tree.{kind_at, block_at, leaf_at, address_of, held_of}
 use Rattle.fo_tree_look.specs.declared.ways.Kept.{Kept}
 use Rattle.fo_tree_look.specs.Source.{AllHeld, address_here, held_here}
 use Rattle.fo_tree_look.proofs.Held.{seen_leaf}
 use Rattle.fo_tree_look.proofs.Shown.{address_below, held_below}
-use Rattle.fo_tree_trim.specs.Trim.{ending}
 
 front_same : (f g : ℕ → ℕ) (n len : ℕ) → n ≤ len → ((k : ℕ) → k < n → g k ≡ f k) → map g (range_with_len 0 n) ≡ take n (map f (range_with_len 0 len))
 front_same f g n len le same =
@@ -92,7 +91,9 @@ module _ {s u : State} {t new : Tree} {kept : List Kept} (x : SameFront s u t ne
       new.size t.size x.within
       (λ k lt. byte_same (k / 8192) (omega (arith, lt)) (k % 8192))
 
--- the blocks of a tree are those of it with another end
-pub ended_block : (s : State) (t : Tree) (end n k : ℕ) → block_at s (ending t end) n k ≡ block_at s t n k
-ended_block s t end zero k = refl
-ended_block s t end (suc n) k = ap (λ (p : Pointer). below s (kind_down t n) p (k % 409)) (ended_block s t end n (k / 409))
+-- with its end, where that is the same
+pub bytes_same : {s u : State} {t new : Tree} {kept : List Kept} → SameFront s u t new kept → new.size ≡ t.size → source_bytes (address_here u new) (held_here u new kept) u.now new.size ≡ source_bytes (address_here s t) (held_here s t kept) s.now t.size
+bytes_same {s = s} {u = u} {t = t} {new = new} {kept = kept} x same =
+    let all : List ℕ = source_bytes (address_here s t) (held_here s t kept) s.now t.size in
+    let len = length-map-range_with_len (λ k. byte_at s.now (address_here s t (k / 8192)) (held_here s t kept (k / 8192)) (k % 8192)) 0 t.size in
+    bytes_front x ∙ take_all new.size all (omega (arith, len, same))

@@ -7,8 +7,9 @@ pub mod Along
 pub mod Removing
 pub mod Looping
 pub mod Above
-pub mod Trimming
+pub mod Uncut
 pub mod Keeping
+pub mod Gone
 pub mod Ending
 pub mod Linked
 pub mod Least

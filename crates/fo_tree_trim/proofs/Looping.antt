@@ -15,12 +15,12 @@ use Rattle.fo_tree_look.specs.Source.{HasBlock, IsTold, IsPrepared, seen}
 use Rattle.fo_tree_down.specs.Way.{IsWayIndex}
 use Rattle.fo_tree_down.proofs.Next.{local_seen, seen_local}
 use Rattle.fo_tree_down.proofs.Stilling.{index_one}
-use Rattle.fo_tree_trim.specs.Cut.{CutsOne, CutSlot, Cuts}
+use Rattle.fo_tree_trim.specs.Cut.{CutsOne, CutSlot, Cuts, MayCut}
 use Rattle.fo_tree_trim.proofs.Along.{Aside, on_device, way_same}
 use Rattle.fo_tree_trim.proofs.Cutting.{cut_more, cut_same}
 use Rattle.fo_tree_trim.proofs.One.{inner_no_leaf}
 use Rattle.fo_tree_trim.proofs.Past.{Said, index_above, inner_kind}
-use Rattle.fo_tree_trim.proofs.Removing.{may_remove, below_through}
+use Rattle.fo_tree_trim.proofs.Removing.{may_remove, below_through, through_first}
 
 -- The slot of this number is one of the block so many steps below the top.
 pub record AtSlot (t : Tree) (last x n next i : ℕ) : Type 0 where
@@ -126,12 +126,12 @@ module _ {s m : State} {t : Tree} {kept : List Kept} {last x n next i : ℕ} (w 
         done = let number = a.number in omega (arith, number);
       }
 
-      pub may_clear : Said s t last → ((b j : ℕ) → m.clearing b j → ((m.label b).kind ≡ Dir 0)) → ((b : ℕ) → HasBlock s t b → IsTold s t.top b) → MayRemoveSlot m at i
-      may_clear said clears told = may_remove said w.cuts w.all clears told cut_here a.number
+      pub may_clear : Said s t last → MayCut s t last → ((b : ℕ) → HasBlock s t b → IsTold s t.top b) → MayRemoveSlot m at i
+      may_clear said may told = may_remove said may w.cuts told cut_here a.number
 
-      pub one_more : {u : State} → CutsOne at i m u → (s.tells → Said s t last) → ((b j : ℕ) → m.clearing b j → ((m.label b).kind ≡ Dir 0)) → (s.tells → (b : ℕ) → HasBlock s t b → IsTold s t.top b)
-          → (m.tells → OnePath 1 m.now) → ((a on j : ℕ) → m.waits a on j → (m.label on).kind ≡ Dir 0) → ((b : ℕ) → m.covered b → m.tells) → Cuts (CutSlot s t last (suc x)) s u
-      one_more {u} step said clears told one waits covers = cut_more {first = CutSlot s t last x} {cut = CutSlot s t last (suc x)} {at = at} {i = i} {s = s} {m = m} {u = u} (record {
+      pub one_more : {u : State} → CutsOne at i m u → (s.tells → Said s t last) → (s.tells → MayCut s t last) → (s.tells → (b : ℕ) → HasBlock s t b → IsTold s t.top b)
+          → (s.tells → OnePath 1 s.now) → ((a on j : ℕ) → m.waits a on j → (m.label on).kind ≡ Dir 0) → ((b : ℕ) → m.covered b → m.tells) → Cuts (CutSlot s t last (suc x)) s u
+      one_more {u} step said may told one waits covers = cut_more {first = CutSlot s t last x} {cut = CutSlot s t last (suc x)} {at = at} {i = i} {s = s} {m = m} {u = u} (record {
         before = w.cuts;
         step = step;
         all = w.all;
@@ -139,7 +139,8 @@ module _ {s m : State} {t : Tree} {kept : List Kept} {last x n next i : ℕ} (w 
         here = cut_here;
         only = λ b j p. ⊎_elim (λ old. inl old) (λ h. inr (local_same (sym h.1 ∙ found_first), h.2)) (only p);
         one = one;
-        through = λ now path b e. below_through (said now) w.cuts w.all clears (told now) cut_here a.number path b e;
+        through = λ now path b h e. below_through (said now) (may now) w.cuts (told now) cut_here a.number path b h e;
+        through_first = λ now c j p path b h e. through_first (said now) c j p path b h e;
         unwaited = λ y j h. inner_no_leaf (m.label at).kind may_inner (waits y at j h);
         covers_told = covers;
       })

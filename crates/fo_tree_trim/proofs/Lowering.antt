@@ -80,6 +80,7 @@ pub record Lowers (s : State) (t : Tree) (kept : List Kept) (end limit : ℕ) : 
   pub ready : WayReady s t kept t.depth (last_leaf end)
   pub linked : s.tells → (b : ℕ) → t.top ≡ Local b → Reaches s.now (to_block 1) b
   pub placed : s.tells → IsPlaced s.stands s.now
+  pub active : s.tops 1
   pub is_block : (a i b : ℕ) → s.pinned a → target ((s.now a).slot i) ≡ Local b → s.is_block b
   pub spelled : (a i : ℕ) → s.pinned a → i < slot_count (s.label a).kind → SlotFits (s.label a).kind i ((s.now a).slot i)
   pub alone : s.tells → (y b : ℕ) → s.instead y b → Reaches s.now (to_block 1) y → ⊥
@@ -198,6 +199,7 @@ module _ {s : State} {t : Tree} {kept : List Kept} {end limit : ℕ} (x : Lowers
             subst (λ l. s.stands b (place (kind_at t.dir l) t.tag 0 (t.rank + l))) level stands,
             (x.over.told told b (record { down = d; index = 0; within = omega arith; is = top_there b e })).uncovered,
           );
+      rooted = λ told b e. (1, inl x.active, low_linked told b e);
     };
     least = refl;
     within = let a = x.within in let b = x.over.within in omega (arith, a, b);

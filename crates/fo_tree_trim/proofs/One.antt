@@ -1,14 +1,14 @@
 -- One slot of a block of pointers is cleared.
-use Rattle.std.proofs.Common.{◌≡◌, ◌⊎◌, ℕ, zero, suc, inl, inr, ⊎_elim, refl, ◌∙◌, ap, subst, arith}
+use Rattle.std.proofs.Common.{◌≡◌, ◌⊎◌, ◌≤◌, ℕ, zero, suc, inl, inr, ⊎_elim, refl, ◌∙◌, ap, subst, arith}
 use Rattle.fo_image.specs.declared.types.Kind.{Kind}
 use Rattle.fo_image.specs.declared.types.Kind.TheVariants.{Data, Dir, Root}
-use Rattle.fo_image.specs.declared.types.Pointer.TheVariants.{Nil}
+use Rattle.fo_image.specs.declared.types.Pointer.TheVariants.{Nil, Local}
 use Rattle.fo_crash.specs.declared.slot.Slot.{Slot}
 use Rattle.fo_crash.specs.declared.slot.Slot.TheVariants.{Pointer as To, Entry as Head, Prev}
 use Rattle.fo_crash.specs.Images.{Image, target}
 use Rattle.fo_crash.specs.Steps.{PutsSlot, AddsSlot, Covers, cleared}
 use Rattle.fo_ports.specs.Blocks.{slot_count, SlotFits, IsInner}
-use Rattle.fo_ports.specs.State.{State, none, Frame, Hangs, AddsNoWait, IsPointers}
+use Rattle.fo_ports.specs.State.{State, QueuesOne, none, Frame, Hangs, AddsNoWait, IsPointers}
 use Rattle.fo_tree_trim.specs.Cut.{CutsOne}
 
 pub inner_pointer : (kind : Kind) (i : ℕ) (s : Slot) → IsInner kind → SlotFits kind i s → s ≡ To (target s)
@@ -44,9 +44,10 @@ pub removed : {at i : ℕ} {s u : State} {beside : Image → Type 0} {waited : T
     → Hangs at i (cleared ((s.now at).slot i)) s u
     → ((b j : ℕ) → (u.clearing b j → s.clearing b j ⊎ ((b ≡ at) × (j ≡ i))) × (s.clearing b j → u.clearing b j))
     → AddsNoWait none s u
+    → (s.queued ≤ u.queued) × ((c : ℕ) → target ((s.now at).slot i) ≡ Local c → u.clearing at i ⊎ QueuesOne s u)
     → (s.tells → Covers (IsPointers s) ((s.now at).slot i) s.now u.now s.covered u.covered)
     → CutsOne at i s u
-removed {at = at} {i = i} {s = s} {u = u} is now waited images frame hangs order no_wait covers =
+removed {at = at} {i = i} {s = s} {u = u} is now waited images frame hangs order no_wait queues covers =
     let nil : cleared ((s.now at).slot i) ≡ To Nil = ap cleared is in
     let puts : PutsSlot at i (cleared ((s.now at).slot i)) s.now u.now × (u.clearing at i → ⊥) = ⊎_elim (λ p. p) (λ no. absurd (no waited)) now in
     record {
@@ -59,5 +60,6 @@ removed {at = at} {i = i} {s = s} {u = u} is now waited images frame hangs order
         (order b j).1,
       );
       no_wait = no_wait;
+      queues = (queues.0, λ c e. ⊎_elim (λ waits. absurd (puts.1 waits)) (λ one. ⊎_elim (λ more. omega (arith, more)) (λ most. omega (arith, most)) one) (queues.1 c e));
       covers = covers;
     }

@@ -1,31 +1,28 @@
 -- A slot behind the way may be cleared.
-use Rattle.std.proofs.Common.{◌≡◌, ◌≢◌, ◌+◌, ◌-◌, ◌*◌, ◌/◌, ◌%◌, ◌^◌, ◌<◌, ℕ, suc, Bool, true, false, List, inl, inr, ⊎_elim, refl, sym, ◌∙◌, ap, subst, arith}
+use Rattle.std.proofs.Common.{◌≡◌, ◌≢◌, ◌⊎◌, ◌+◌, ◌-◌, ◌*◌, ◌/◌, ◌%◌, ◌^◌, ◌<◌, ℕ, suc, List, inl, inr, ⊎_elim, refl, sym, ◌∙◌, ap, subst, arith}
 use Rattle.std.proofs.Math.Nat.{pow-succ'}
-use Rattle.fo_image.specs.declared.types.Kind.TheVariants.{Dir}
 use Rattle.fo_image.specs.declared.types.Label.{Label}
 use Rattle.fo_image.specs.declared.types.Pointer.{Pointer}
 use Rattle.fo_image.specs.declared.types.Pointer.TheVariants.{Nil, Local, Score as Held}
 use Rattle.fo_crash.specs.declared.place.Place.{Place}
 use Rattle.fo_crash.specs.declared.slot.Slot.{Slot}
+use Rattle.fo_crash.specs.declared.slot.Slot.TheVariants.{Pointer as To}
 use Rattle.fo_crash.specs.Images.{Reaches, target, walk, to_block}
 use Rattle.fo_crash.specs.Places.{place}
 use Rattle.fo_crash.specs.Steps.{Through}
 use Rattle.fo_crash.proofs.Places.{stands_below}
 use Rattle.fo_crash.proofs.Reach.{lost, reaches_same}
 use Rattle.fo_ports.specs.Blocks.{IsInner}
-use Rattle.fo_ports.specs.State.{State, KeepsAll, IsPointers, MayRemoveSlot}
+use Rattle.fo_ports.specs.State.{State, IsPointers, MayRemoveSlot}
 use Rattle.fo_tree_read.specs.declared.tree.Tree.{Tree}
-use Rattle.fo_tree_read.specs.Tree.{kind_at, kind_down, below, block_at}
+use Rattle.fo_tree_read.specs.Tree.{kind_down, below, block_at}
 use Rattle.fo_tree_look.specs.Source.{HasBlock, IsTold}
-use Rattle.fo_tree_down.specs.Way.{IsWayIndex}
-use Rattle.fo_tree_down.proofs.Beside.{index_last}
 use Rattle.fo_tree_down.proofs.Join.{level_same}
-use Rattle.fo_tree_down.proofs.Stilling.{index_one}
-use Rattle.fo_tree_trim.specs.Behind.{IsPast}
-use Rattle.fo_tree_trim.specs.Cut.{CutSlot, HangsFrom, Cuts}
+use Rattle.fo_tree_trim.specs.Behind.{IsPast, HangsPast}
+use Rattle.fo_tree_trim.specs.Cut.{CutSlot, HangsFrom, HangsThrough, Cuts, MayCut}
 use Rattle.fo_tree_trim.proofs.Cutting.{cut_less}
 use Rattle.fo_tree_trim.proofs.Paths.{path_back, reaches_back}
-use Rattle.fo_tree_trim.proofs.Past.{Said, index_above, index_few, stands_at, past_kind, way_past, past_reached, past_through, inner_kind}
+use Rattle.fo_tree_trim.proofs.Past.{Said, IsBelow, index_above, index_few, stands_at, way_below, below_reached, past_inner, through_past}
 
 local_same : {a b : ℕ} → Local a ≡ Local b → a ≡ b
 local_same e = cc
@@ -72,8 +69,20 @@ module _ {s : State} {t : Tree} {last : ℕ} (x : Said s t last) where
       is = slot_index ∙ e;
     }
 
-  pub hangs_past : {count : ℕ} (b : ℕ) → HangsFrom (CutSlot s t last count) s b → IsPast s t last b
-  hangs_past b h = past_reached x ((s.now h.0).slot h.1) b (slot_past h.2) h.3
+  pub hangs_below : {count : ℕ} (b : ℕ) → HangsFrom (CutSlot s t last count) s b → IsBelow s t last b
+  hangs_below b h = below_reached x ((s.now h.0).slot h.1) b (λ c e. inl (slot_past h.2 c e)) h.3
+
+  pub hangs_past : {count : ℕ} (b : ℕ) → HangsFrom (CutSlot s t last count) s b → HangsPast s t last b
+  hangs_past b h =
+      let y = leads_on s (target ((s.now h.0).slot h.1)) ((s.now h.0).slot h.1) b refl h.3 in
+      record { from = y.0; past = slot_past h.2 y.0 y.1; reaches = reaches_same {t = to_block y.0} y.1 h.3 }
+
+  pub through_is : {count : ℕ} (b : ℕ) → HangsThrough (CutSlot s t last count) s b → IsPast s t last b
+  through_is b h = through_past x h.3.path ((s.now h.0).slot h.1) b (slot_past h.2) h.3.leads h.3.within
+
+  -- a path from a slot that is cleared, to what hangs from one through blocks of pointers, goes through these alone
+  pub through_first : {count more : ℕ} (a j : ℕ) → CutSlot s t last count a j → (path : List ℕ) (b : ℕ) → HangsThrough (CutSlot s t last more) s b → target (walk s.now ((s.now a).slot j) path) ≡ Local b → Through (IsPointers s) s.now ((s.now a).slot j) b
+  through_first a j p path b h e = record { path = path; leads = e; within = past_inner x ((s.now a).slot j) path b (slot_past p) (through_is b h) e }
 
   -- a slot that was cleared before has nothing above this one
   pub not_above : {count a i c : ℕ} (p : CutSlot s t last (suc count) a i) → 409 * (t.depth - suc p.down) + i ≡ count → target ((s.now a).slot i) ≡ Local c → HangsFrom (CutSlot s t last count) s c → ⊥
@@ -98,7 +107,7 @@ module _ {s : State} {t : Tree} {last : ℕ} (x : Said s t last) where
       omega (arith, level, own, done, now))
       b.2
 
-  module _ {m : State} {count : ℕ} (c : Cuts (CutSlot s t last count) s m) (all : KeepsAll s m) (clears : (b j : ℕ) → m.clearing b j → ((m.label b).kind ≡ Dir 0))
+  module _ {m : State} {count : ℕ} (may : MayCut s t last) (c : Cuts (CutSlot s t last count) s m)
       (told : (b : ℕ) → HasBlock s t b → IsTold s t.top b) {a i : ℕ} (p : CutSlot s t last (suc count) a i) (now : 409 * (t.depth - suc p.down) + i ≡ count) where
     -- what the slot leads to now
     slot_now : (b : ℕ) → target ((m.now a).slot i) ≡ Local b → target ((s.now a).slot i) ≡ Local b
@@ -110,52 +119,49 @@ module _ {s : State} {t : Tree} {last : ℕ} (x : Said s t last) where
     leads_past : (b : ℕ) → target ((m.now a).slot i) ≡ Local b → IsPast s t last b
     leads_past b e = slot_past p b (slot_now b e)
 
-    below_past : (b : ℕ) → Reaches m.now ((m.now a).slot i) b → IsPast s t last b
-    below_past b r = past_reached x ((m.now a).slot i) b leads_past (reaches_back (cut_less c) r)
+    below_past : (b : ℕ) → Reaches m.now ((m.now a).slot i) b → HangsPast s t last b
+    below_past b r = elim_slot (c.slots a i)
+      where
+        before : Reaches s.now ((m.now a).slot i) b
+        before = reaches_back (cut_less c) r
+
+        elim_slot : ((m.now a).slot i ≡ (s.now a).slot i) ⊎ (CutSlot s t last count a i × ((m.now a).slot i ≡ To Nil)) → HangsPast s t last b
+        elim_slot (inl same) =
+            let y = leads_on s (target ((m.now a).slot i)) ((m.now a).slot i) b refl before in
+            record { from = y.0; past = leads_past y.0 y.1; reaches = reaches_same {t = to_block y.0} y.1 before }
+        elim_slot (inr cut) = absurd (lost s.now before.path ((m.now a).slot i) (λ c e. nil_local c (sym (ap target cut.1) ∙ e)) b before.leads)
 
     holder_free : HangsFrom (CutSlot s t last count) s a → ⊥
-    holder_free h = way_past x p.down (p.way / 409) a (index_above t.depth last p.down p.way p.is_way) p.is (hangs_past a h)
+    holder_free h = way_below x p.down (p.way / 409) a (index_above t.depth last p.down p.way p.is_way) p.is (hangs_below a h)
 
     has : HasBlock s t a
     has = let le = p.within in record { down = p.down; index = p.way / 409; within = omega (arith, le); is = p.is }
 
-    no_dir_leaf : (dir : Bool) (level : ℕ) → kind_at dir level ≡ Dir 0 → (dir ≡ true) × (level ≡ 0)
-    no_dir_leaf true level e = (refl, level_same true level 0 e)
-    no_dir_leaf false level e = cc
+    has_past : {b : ℕ} → IsPast s t last b → HasBlock s t b
+    has_past q = record { down = q.down; index = q.index; within = q.within; is = q.is }
 
-    never_waits : (b j : ℕ) → m.clearing b j → IsPast s t last b → ⊥
-    never_waits b j waits past =
-        let kind : kind_down t past.down ≡ Dir 0 = sym (past_kind x past) ∙ ap (λ (l : Label). l.kind) (sym (c.labels b)) ∙ clears b j waits in
-        let is = no_dir_leaf t.dir (t.depth - past.down) kind in
-        let le = past.within in
-        let none = is.1 in
-        let level : past.down ≡ t.depth = omega (arith, none, le) in
-        let way : past.way ≡ last = index_one t.depth last t.depth past.way last (subst (λ y. IsWayIndex t.depth last y past.way) level past.is_way) (index_last t.depth last) in
-        let lt = past.behind in
-        (x.may.bare is.0 past.index b (omega (arith, way, lt)) (subst (λ y. past.index < 409 ^ y) level past.few) (subst (λ y. block_at s t y past.index ≡ Local b) level past.is)).still j ((c.order b j).0 waits)
+    linked_now : Reaches m.now (to_block 1) a
+    linked_now = c.reached x.told 1 a holder_free (may.linked a has)
 
     pub may_remove : MayRemoveSlot m a i
     may_remove = record {
       leaves = record {
-        each = λ y z is r. absurd (x.may.alone y z (below_past z r) ((c.instead y z).0 is));
-        still = λ b j waits r. absurd (never_waits b j waits (below_past b r));
+        each = λ y z is r. absurd (may.alone y z (below_past z r) ((c.instead y z).0 is));
+        still = λ b j waits r. absurd (may.still b j (below_past b r) ((c.order b j).0 waits));
       };
       uncovered = c.only x.told a (told a has).uncovered holder_free;
       first = λ inner e. let lt = p.behind in absurd (omega (arith, lt, e));
-      holder = ⊎_elim
-          (λ r. inl (c.reached x.told 1 a holder_free r))
-          (λ h. inr (h.top, (c.apart h.top).1 h.is_apart, c.reached x.told h.top a holder_free h.reaches))
-          (told a has).hung;
-      keeps = λ b e. c.reached x.told 1 b (not_above p now (slot_now b e)) (x.may.in_tree b (leads_past b e));
+      holder = inl linked_now;
+      linked = λ b e. linked_now;
+      keeps = λ b e. c.reached x.told 1 b (not_above p now (slot_now b e)) (may.linked b (has_past (leads_past b e)));
     }
 
-    pub below_through : (path : List ℕ) (b : ℕ) → target (walk m.now ((m.now a).slot i) path) ≡ Local b → Through (IsPointers m) m.now ((m.now a).slot i) b
-    below_through path b e = record {
+    pub below_through : (path : List ℕ) (b : ℕ) → HangsThrough (CutSlot s t last (suc count)) s b → target (walk m.now ((m.now a).slot i) path) ≡ Local b → Through (IsPointers m) m.now ((m.now a).slot i) b
+    below_through path b h e = record {
       path = path;
       leads = e;
       within = λ front j rest y is to.
           let w = (m.now a).slot i in
-          let q = past_through x w path b leads_past (path_back (cut_less c) path w b e) front j rest y is (path_back (cut_less c) front w y to) in
-          let kind : kind_at t.dir (suc (t.depth - suc q.0.down)) ≡ (m.label y).kind = sym (past_kind x q.0 ∙ q.1) ∙ ap (λ (l : Label). l.kind) (sym (c.labels y)) in
-          subst IsInner kind (inner_kind t.dir (t.depth - suc q.0.down));
+          let inner = past_inner x w path b leads_past (through_is b h) (path_back (cut_less c) path w b e) front j rest y is (path_back (cut_less c) front w y to) in
+          subst IsInner (ap (λ (l : Label). l.kind) (sym (c.labels y))) inner;
     }

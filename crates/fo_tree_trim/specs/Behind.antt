@@ -1,6 +1,7 @@
 -- What stands behind a way.
 use Rattle.std.specs.Prelude.{◌≡◌, ◌^◌, ◌<◌, ◌≤◌, ℕ, List}
 use Rattle.fo_image.specs.declared.types.Pointer.TheVariants.{Nil, Local}
+use Rattle.fo_crash.specs.Images.{Reaches, to_block}
 use Rattle.fo_ports.specs.State.{State}
 use Rattle.fo_tree_read.specs.declared.tree.Tree.{Tree}
 use Rattle.fo_tree_read.specs.Tree.{block_at}
@@ -22,3 +23,9 @@ pub record IsPast (s : State) (t : Tree) (last b : ℕ) : Type 0 where
   pub is_way : IsWayIndex t.depth last down way
   pub behind : way < index
   pub is : block_at s t down index ≡ Local b
+
+-- A block stands behind the way to leaf `last`, or hangs from one that does, through entries too.
+pub record HangsPast (s : State) (t : Tree) (last b : ℕ) : Type 0 where
+  pub from : ℕ
+  pub past : IsPast s t last from
+  pub reaches : Reaches s.now (to_block from) b

@@ -1,28 +1,29 @@
--- What stands behind an end is cleared.
-use Rattle.std.specs.Prelude.{◌≡◌, ◌-◌, ◌≤◌, ℕ, List, Option, Some, None}
+-- A source that is trimmed, or has fewer levels.
+use Rattle.std.specs.Prelude.{◌≡◌, ◌-◌, ◌/◌, ◌≤◌, ◌<◌, ℕ, List}
 use Rattle.fo_image.specs.declared.types.Pointer.TheVariants.{Local}
-use Rattle.fo_crash.specs.Images.{SameContent}
+use Rattle.fo_crash.specs.Images.{Image, SameContent}
 use Rattle.fo_ports.specs.State.{State}
 use Rattle.fo_ports.specs.Sources.{depth_for}
 use Rattle.fo_tree_read.specs.declared.tree.Tree.{Tree}
 use Rattle.fo_tree_read.specs.Tree.{block_at}
 use Rattle.fo_tree_look.specs.declared.ways.Kept.{Kept}
 use Rattle.fo_tree_look.specs.Source.{seen}
-use Rattle.fo_tree_down.specs.Way.{with_top}
-
--- the tree of a source with this end
-abbrev pub ending : Tree → ℕ → Tree
-ending t end = record t { size = end }
-
--- the tree, where its top may have been made current
-abbrev pub topped : Tree → Option ℕ → Tree
-topped t None = t
-topped t (Some top) = with_top t top
+use Rattle.fo_tree_down.specs.Clear.{last_leaf}
+use Rattle.fo_tree_down.specs.Way.{WayCurrent}
 
 -- The leaves up to this one are those that were there, and have what they had.
 pub record LeavesStay (s u : State) (t new : Tree) (last : ℕ) : Type 0 where
   pub each : (i : ℕ) → i ≤ last → block_at u new t.depth i ≡ block_at s t t.depth i
   pub content : (i b : ℕ) → i ≤ last → block_at s t t.depth i ≡ Local b → SameContent (u.now b) (s.now b)
+
+-- In an image the source has the leaves that memory has, up to this one, with what they have there.
+pub record Shows (s : State) (image : Image) (t : Tree) (last : ℕ) : Type 0 where
+  pub each : (i : ℕ) → i ≤ last → block_at (record s { now = image }) t t.depth i ≡ block_at s t t.depth i
+  pub content : (i b : ℕ) → i ≤ last → block_at s t t.depth i ≡ Local b → SameContent (image b) (s.now b)
+
+-- The blocks above the last leaf are of the current epoch.
+abbrev pub IsEndCurrent : State → Tree → Type 0
+IsEndCurrent s t = 0 < t.depth → WayCurrent s t (t.depth - 1) (last_leaf t.size / 409)
 
 -- the tree of a source with this end and the least depth for it, below the block on the way to the first leaf
 abbrev pub lower_tree : State → Tree → List Kept → ℕ → Tree

@@ -1,22 +1,54 @@
-//! Slots behind a way are cleared.
+//! What stands behind the end of a source is cleared.
 ghost use Rattle.std.specs.Prelude.{◌≡◌, ◌⊎◌, ◌+◌, ◌-◌, ◌*◌, ◌/◌, ◌%◌, ◌^◌, ◌<◌, ◌≤◌, ℕ};
 ghost use Rattle.fo_image.specs.declared.types.Pointer.TheVariants.{Nil};
-ghost use Rattle.fo_crash.specs.Images.{target};
+ghost use Rattle.fo_crash.specs.Images.{Image, Reaches, target, to_block};
+ghost use Rattle.fo_crash.specs.Steps.{AllAre};
 ghost use Rattle.fo_ports.specs.Blocks.{IsInner};
+ghost use Rattle.fo_ports.specs.Sources.{ComesFor, Grows};
 ghost use Rattle.fo_ports.specs.State.{MayRemoveSlot};
-ghost use Rattle.fo_tree_look.specs.Source.{Over, WayReady};
+ghost use Rattle.fo_tree_look.specs.Source.{Over, WayReady, leaves_of};
+ghost use Rattle.fo_tree_down.specs.Clear.{EndsClear, last_leaf};
 ghost use Rattle.fo_tree_down.specs.Way.{IsWayIndex, WayCurrent};
+ghost use Rattle.fo_tree_trim.specs.Behind.{IsPast};
 ghost use Rattle.fo_tree_trim.specs.Cut.{CutsOne, CutSlot, Cuts, MayCut};
+ghost use Rattle.fo_tree_trim.specs.Trim.{LeavesStay, Shows, IsEndCurrent};
 
-use crate::clear::is_nil;
+use crate::clear::{LEAF, is_nil};
 use crate::here::{SLOTS, pointer_here};
 use fo_image::Pointer;
 use fo_ports::Blocks;
 use fo_tree_look::Kept;
 use fo_tree_read::Tree;
 
+/// Clears each slot behind the end of a source, in the blocks above its last leaf, which are current and hang from block 1. Each takes one
+/// unit of room. What the source has stays, and each image has it, too, where all was settled before: an image may have some of these slots
+/// cleared, also one in which the source's entry isn't yet what memory has.
+pub fn cut_behind<B: Blocks>(tree: &Tree, kept: &[Kept], on: &mut B)
+    requires over { (limit : ℕ) × Over (B.state on.old) tree.now kept.now limit }
+    requires ready { 0 < tree.now.size → WayReady (B.state on.old) tree.now kept.now tree.now.depth (last_leaf tree.now.size) }
+    requires current { IsEndCurrent (B.state on.old) tree.now }
+    requires may { (B.state on.old).tells → MayCut (B.state on.old) tree.now (last_leaf tree.now.size) }
+    requires room { 409 * tree.now.depth ≤ (B.state on.old).room }
+    ensures clear { EndsClear (B.state on.new) tree.now kept.now }
+    ensures over { (limit : ℕ) → Over (B.state on.old) tree.now kept.now limit → Over (B.state on.new) tree.now kept.now limit }
+    ensures leaves { (B.state on.old).tells → LeavesStay (B.state on.old) (B.state on.new) tree.now tree.now (last_leaf tree.now.size) }
+    ensures bytes { (B.state on.old).tells → (limit : ℕ) → (leaves_of (B.state on.new) tree.now kept.now limit).bytes ≡ (leaves_of (B.state on.old) tree.now kept.now limit).bytes }
+    ensures grows { (limit : ℕ) → Grows (B.state on.old) (B.state on.new) (leaves_of (B.state on.old) tree.now kept.now limit) (leaves_of (B.state on.new) tree.now kept.now limit) }
+    ensures comes { (B.state on.old).tells → ComesFor (B.state on.old) tree.now.top tree.now.top → ComesFor (B.state on.new) tree.now.top tree.now.top }
+    ensures cuts { Cuts (CutSlot (B.state on.old) tree.now (last_leaf tree.now.size) (409 * tree.now.depth)) (B.state on.old) (B.state on.new) }
+    ensures gone { (B.state on.old).tells → (b : ℕ) → IsPast (B.state on.old) tree.now (last_leaf tree.now.size) b → (Reaches (B.state on.new).now (to_block 1) b → ⊥) × (B.state on.new).covered b }
+    ensures shows { (B.state on.old).tells → AllAre (B.state on.old).now (B.state on.old).may_leave → (image : Image) → (B.state on.new).may_leave image → Shows (B.state on.old) image tree.now (last_leaf tree.now.size) }
+    ensures room { (B.state on.old).room ≤ (B.state on.new).room + 409 * tree.now.depth }
+    ensures keeps { B.keeps on.old on.new }
+{
+    if tree.depth == 0 {
+        return;
+    }
+    cut_slots(tree, kept, on, (tree.size - 1) / LEAF);
+}
+
 /// Clears each slot behind the way to a leaf, in the blocks above it, which are current: from the lowest level up.
-pub(crate) fn cut_behind<B: Blocks>(tree: &Tree, kept: &[Kept], on: &mut B, last: u64)
+fn cut_slots<B: Blocks>(tree: &Tree, kept: &[Kept], on: &mut B, last: u64)
     requires over { (limit : ℕ) × Over (B.state on.old) tree.now kept.now limit }
     requires deep { 0 < tree.now.depth }
     requires few { last < 409 ^ tree.now.depth }

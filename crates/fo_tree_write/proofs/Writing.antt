@@ -13,16 +13,18 @@ use Rattle.fo_sparse.specs.Written.{written}
 use Rattle.fo_sparse.proofs.Lists.{is_written}
 use Rattle.fo_ports.specs.State.{State, KeepsAll}
 use Rattle.fo_ports.specs.Sources.{Made, depth_for, most_for, source_bytes}
+use Rattle.fo_looks.proofs.Free.{Standing}
 use Rattle.fo_tree_read.specs.declared.tree.Tree.{Tree}
 use Rattle.fo_tree_read.specs.Tree.{block_at, above}
 use Rattle.fo_tree_read.specs.Reading.{passed, most}
 use Rattle.fo_tree_look.specs.declared.ways.Kept.{Kept}
-use Rattle.fo_tree_look.specs.Source.{HasBlock, IsTold, IsTopCurrent, Over, Prepared, WayReady, address_here, held_here}
-use Rattle.fo_tree_down.specs.Way.{OnWay, IsTopOf, WayCurrent, with_top}
+use Rattle.fo_tree_look.specs.Source.{HasBlock, IsTold, Over, Prepared, WayReady, address_here, held_here}
+use Rattle.fo_tree_down.specs.Way.{OnWay, IsTopOf, WayCurrent, CurrentBut, with_top}
 use Rattle.fo_tree_down.specs.Clear.{EndsClear, last_leaf}
 use Rattle.fo_tree_down.proofs.Beside.{on_way_block}
 use Rattle.fo_tree_down.proofs.Join.{local_cases}
 use Rattle.fo_tree_down.proofs.Leading.{way_top}
+use Rattle.fo_tree_down.proofs.Sparing.{but_whole, but_more}
 use Rattle.fo_tree_clear.specs.Put.{byte_here, Puts}
 use Rattle.fo_tree_clear.specs.Steps.{Steps}
 use Rattle.fo_tree_clear.proofs.Stepping.{Follows, steps_join, steps_none, made_first, made_second, made_either}
@@ -66,15 +68,15 @@ most_is d size n e = ap (λ x. n / 8192 + n / 2 ^ 21 + 3 * (x + 1)) e
 last_of : (offset done len : ℕ) → 0 < done → done ≤ len → (offset / 8192 ≤ (offset + done - 1) / 8192) × ((offset + done - 1) / 8192 ≤ offset / 8192 + (len / 8192 + 1))
 last_of offset done len some le = (omega (arith, some), omega (arith, some, le))
 
-pub enough_left : (u : State) (t : Tree) (before offset done len : ℕ) → t.depth ≤ 4 → done < len → most t.depth len ≤ before → Spent u t before offset done → (IsTopCurrent u t × (t.depth ≤ u.spare)) ⊎ (t.depth < u.spare)
-enough_left u t before offset done len few lt enough spent = ⊎_elim
-    (λ h. let le = h.1 in inr (omega (arith, le, enough)))
+pub enough_left : (u : State) (t : Tree) (before offset done len k : ℕ) → t.depth ≤ 4 → done < len → most t.depth len ≤ before → Spent u t before offset done → (c : ℕ) × CurrentBut u t c t.depth k × (c ≤ u.spare)
+enough_left u t before offset done len k few lt enough spent = ⊎_elim
+    (λ h. let le = h.1 in (t.depth + 1, but_more u t t.depth k, omega (arith, le, enough)))
     (λ h.
     let some = h.0 in
     let left = h.2 in
     let last = last_of offset done len some (omega (arith, lt)) in
     let p = most_passed t.depth (offset / 8192) ((offset + done - 1) / 8192) len few last.0 last.1 in
-    inl (way_top u t t.depth ((offset + done - 1) / 8192) h.1, spare_left t.depth before u.spare (passed t.depth (offset / 8192)) (passed t.depth ((offset + done - 1) / 8192)) (most t.depth len) enough left p))
+    (t.depth, but_whole u t t.depth k (way_top u t t.depth ((offset + done - 1) / 8192) h.1), spare_left t.depth before u.spare (passed t.depth (offset / 8192)) (passed t.depth ((offset + done - 1) / 8192)) (most t.depth len) enough left p))
     spent.is
   where
     spare_left : (d before spare x y all : ℕ) → all ≤ before → before + x ≤ spare + (d + 1) + y → 2 * d + 2 + y ≤ x + all → d ≤ spare
@@ -233,6 +235,7 @@ pub record OneMore (s u v : State) (t : Tree) (top : Pointer) (next : ℕ) (kept
   pub ranked : (image : Image) → s.may_leave image → RanksFall s.stands image
   pub top_stands : (image : Image) → s.may_leave image → (up : ℕ) → s.tops up → (p : Place) × s.stands up p
   pub told : (image : Image) → s.may_leave image → s.tells
+  pub standing : Standing s
   -- what the leaf's own step says
   pub top_of : IsTopOf u v (at_top t top) next
   pub over : (limit : ℕ) → Over u (at_top t top) kept limit → Over v (with_top t next) kept limit
@@ -271,11 +274,11 @@ module _ {s u v : State} {t : Tree} {top : Pointer} {next : ℕ} {kept : List Ke
     cases = λ b. way_cases u (at_top t top) t.depth ((offset + done) / 8192) b;
     rooted = λ told b on older. (x.told_mid told b (on_way_block u (at_top t top) t.depth ((offset + done) / 8192) b (omega arith) on)).in_tree older;
     up_to = λ told b on. (x.told_mid told b (on_way_block u (at_top t top) t.depth ((offset + done) / 8192) b (omega arith) on)).up_to;
-    live = λ told b has. (x.told_old told b has).live;
     placed = x.placed;
     ranked = x.ranked;
     top_stands = x.top_stands;
     told = x.told;
+    standing = x.standing;
   }
 
   owns_end : s.tells → (b : ℕ) → (HasBlock v (with_top t next) b → HasBlock s t b ⊎ Made s v b) × (Made s v b → HasBlock v (with_top t next) b)

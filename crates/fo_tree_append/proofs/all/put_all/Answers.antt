@@ -1,11 +1,15 @@
-use Rattle.std.proofs.Common.{◌≡◌, ◌+◌, ◌-◌, ◌*◌, ◌/◌, ◌%◌, ◌<◌, length, take, drop, inl, refl, sym, subst, arith, ⊎_elim}
+use Rattle.std.proofs.Common.{◌≡◌, ◌+◌, ◌-◌, ◌*◌, ◌/◌, ◌%◌, ◌<◌, length, take, drop, refl, sym, subst, arith, ⊎_elim}
 use Rattle.std.proofs.lemmas.Bool.{cases_eq}
 use Rattle.fo_crash.specs.Places.{super_place, root_place}
 use Rattle.fo_tree_look.specs.Source.{WayReady}
 use Rattle.fo_tree_down.specs.Way.{with_top}
 use Rattle.fo_tree_clear.specs.Put.{byte_here, Puts}
 use Rattle.fo_tree_write.specs.Write.{at_top}
-use Rattle.fo_tree_write.proofs.Writing.{most_is, enough_left, way_still, wrote_more, wrote_none}
+use Rattle.fo_tree_write.proofs.Writing.{way_still, wrote_more, wrote_none}
+use Rattle.fo_tree_clear.proofs.Stepping.{steps_none}
+use Rattle.fo_tree_append.specs.Append.{OnLeaves}
+use Rattle.fo_tree_append.proofs.Leaves.{LeafThen, leaf_steps, leaf_stays}
+use Rattle.fo_tree_append.proofs.Spending.{enough_but, spends_more, spends_none}
 use Rattle.fo_tree_append.proofs.all.put_all.Goals as goal
 
 pub put_leaf-current-requires-clause-over : goal.put_leaf-current-requires-clause-over
@@ -29,11 +33,9 @@ put_leaf-current-requires-clause-ready g c =
 pub put_leaf-current-requires-clause-spare : goal.put_leaf-current-requires-clause-spare
 put_leaf-current-requires-clause-spare g c =
     let t = c.args.tree.now in
-    let len = length c.args.piece.now in
+    let need = c.requires.spare in
     let lt : c.loop-done.done < length c.args.piece.now = omega arith in
-    let few = c.requires.spare in
-    let same = most_is t.depth t.size len c.requires.over.1.least in
-    enough_left (g.B.Blocks.state c.loop-done.on) (at_top t c.loop-done.top) (g.B.Blocks.state c.args.on.now).spare c.args.offset c.loop-done.done len c.requires.over.1.hangs.few lt (omega (arith, few, same)) c.loop-done.invariant.wrote.spent
+    enough_but need.0 (g.B.Blocks.state c.loop-done.on) (at_top t c.loop-done.top) (g.B.Blocks.state c.args.on.now).spare c.args.offset c.loop-done.done (length c.args.piece.now) lt need.2 (c.loop-done.invariant.spends need.0 need.1)
 
 pub loop-done-preserved : goal.loop-done-preserved
 loop-done-preserved g c =
@@ -56,7 +58,28 @@ loop-done-preserved g c =
     let over = c.requires.over.1 in
     let keeps = g.met.B.Blocks.keeps_joins on mid new i.keeps e.keeps in
     let len : done + n - done ≡ n = omega arith in
+    let then : LeafThen s u v t c.loop-done.top (c.args.offset / 8192) ((c.args.offset + length c.args.piece.now - 1) / 8192) (place / 8192) = record {
+      before = i.steps;
+      step = e.steps;
+      all = g.met.B.Blocks.keeps_all on new keeps;
+      from = omega arith;
+      to = omega (arith, lt);
+      ways = λ b on_way. i.wrote.ways (place / 8192) b (omega (arith, within, lt)) (c.requires.over.2.each place (omega arith) (omega (arith, lt)) (omega (arith, within, lt))) on_way;
+      told_old = over.told;
+      told_mid = (i.wrote.over c.requires.over.0 over).told;
+      placed = λ image is. g.met.B.Blocks.placed on image is;
+      ranked = λ image is. g.met.B.Blocks.ranked on image is;
+      top_stands = λ image is up is_top. ⊎_elim
+          (λ first. (super_place, subst (λ y. s.stands y super_place) (sym first) (g.met.B.Blocks.super_stands on (g.met.B.Blocks.told on image is))))
+          (λ ne. (root_place, g.met.B.Blocks.top_stands on up (g.met.B.Blocks.told on image is) is_top ne))
+          (cases_eq up 1);
+      told = λ image is. g.met.B.Blocks.told on image is;
+      standing = g.met.B.Blocks.standing on;
+    } in
     record {
+      steps = leaf_steps then;
+      stays = leaf_stays then (with_top t c.put_leaf-current.result.top) i.stays e.stays;
+      spends = λ count but. spends_more count u v (at_top t c.loop-done.top) (with_top t c.put_leaf-current.result.top) s.spare c.args.offset done n refl (omega (arith, few, lt)) (omega (arith, few)) e.few e.used e.way (i.spends count but);
       within = omega (arith, few, lt);
       wrote = wrote_more {s = s} {u = u} {v = v} {t = t} {top = c.loop-done.top} {next = c.put_leaf-current.result.top} {kept = kept} {offset = c.args.offset} {done = done} {n = n} {piece = c.args.piece.now} (record {
         wrote = i.wrote;
@@ -76,6 +99,7 @@ loop-done-preserved g c =
             (λ ne. (root_place, g.met.B.Blocks.top_stands on up (g.met.B.Blocks.told on image is) is_top ne))
             (cases_eq up 1);
         told = λ image is. g.met.B.Blocks.told on image is;
+        standing = g.met.B.Blocks.standing on;
         top_of = e.top;
         over = e.over;
         bytes = λ told. subst (λ m. Puts (byte_here u (at_top t c.loop-done.top) kept) (byte_here v (with_top t c.put_leaf-current.result.top) kept) (8192 * (place / 8192) + place % 8192) (take m (drop done c.args.piece.now))) len (e.bytes told);
@@ -95,7 +119,12 @@ loop-done-preserved g c =
 pub loop-done-init : goal.loop-done-init
 loop-done-init g c =
     let on = c.args.on.now in
+    let s = g.B.Blocks.state on in
+    let t = c.args.tree.now in
     record {
+      steps = steps_none t.tag (λ b. OnLeaves s t (c.args.offset / 8192) ((c.args.offset + length c.args.piece.now - 1) / 8192) b) (λ b. OnLeaves s t (c.args.offset / 8192) ((c.args.offset + length c.args.piece.now - 1) / 8192) b) s (g.met.B.Blocks.keeps_all on on (g.met.B.Blocks.keeps_at_once on));
+      stays = λ told b has now. has;
+      spends = λ count but. spends_none count s t c.args.offset but;
       within = omega arith;
       wrote = wrote_none (g.B.Blocks.state on) c.args.tree.now c.args.kept.now c.args.offset c.args.piece.now (g.met.B.Blocks.keeps_all on on (g.met.B.Blocks.keeps_at_once on));
       keeps = g.met.B.Blocks.keeps_at_once on;

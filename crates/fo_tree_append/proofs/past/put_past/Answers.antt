@@ -1,127 +1,125 @@
-use Rattle.std.proofs.Common.{◌≡◌, ◌+◌, ◌/◌, ℕ, length, inl, inr, ⊎_elim, refl, sym, ap, ◌∙◌, subst, arith}
+use Rattle.std.proofs.Common.{◌≡◌, ◌+◌, ◌-◌, ◌/◌, ℕ, length, ⊎_elim, refl, sym, ap, subst, arith}
+use Rattle.std.proofs.lemmas.Bool.{cases_eq}
+use Rattle.fo_crash.specs.Places.{super_place, root_place}
 use Rattle.fo_ports.specs.Sources.{depth_for}
 use Rattle.fo_tree_read.specs.declared.tree.Tree.{Tree}
-use Rattle.fo_tree_look.specs.Source.{Over, Prepared, WayReady}
-use Rattle.fo_tree_grow.specs.Grow.{shaped}
-use Rattle.fo_tree_grow.proofs.Growing.{changes_of}
-use Rattle.fo_tree_grow.proofs.Empty.{least_for}
-use Rattle.fo_tree_clear.specs.Put.{byte_here}
-use Rattle.fo_tree_clear.proofs.Stepping.{steps_changes}
-use Rattle.fo_tree_clear.proofs.Zeros.{byte_past}
+use Rattle.fo_tree_look.specs.Source.{HasBlock, IsPlainTree}
+use Rattle.fo_tree_grow.proofs.Empty.{few_for}
+use Rattle.fo_tree_clear.specs.Steps.{Steps}
+use Rattle.fo_tree_write.specs.Write.{at_top, Wrote}
 use Rattle.fo_tree_write.proofs.Writing.{most_is}
-use Rattle.fo_tree_append.specs.Append.{ended, Appends}
-use Rattle.fo_tree_append.proofs.Values.{values_past_end}
-use Rattle.fo_tree_append.proofs.Shaping.{Reshaped, reshaped_within, reshaped_empty}
+use Rattle.fo_tree_append.specs.Append.{OnLeaves}
+use Rattle.fo_tree_append.specs.Grown.{GrownTo}
+use Rattle.fo_tree_append.proofs.Behind.{Both, need_past, spent_past, changes_past, over_past, bytes_past, grows_past, comes_past, only_past, clear_past, room_past}
 use Rattle.fo_tree_append.proofs.past.put_past.Given as given
 use Rattle.fo_tree_append.proofs.past.put_past.Goals as goal
 
--- the source as it is seen
-seen_at : (g : given.Over) (c : goal.After-put_zeroed-arg-1 g) → Reshaped (g.B.Blocks.state c.args.on.now) c.args.tree.now (shaped c.args.tree.now (depth_for (c.args.offset + length c.args.piece.now)) (c.args.offset + length c.args.piece.now)) c.args.kept.now (c.args.offset + length c.args.piece.now)
-seen_at g c =
-    let s = g.B.Blocks.state c.args.on.now in
-    let t = c.args.tree.now in
-    let kept = c.args.kept.now in
-    let z = c.args.offset + length c.args.piece.now in
-    let within = c.requires.over.2.end in
-    let low = c.requires.over.1.low in
-    ⊎_elim
-    (λ levels. reshaped_within s t kept z c.requires.past (omega (arith, within, low)) levels c.requires.clear)
-    (λ empty. reshaped_empty s t kept z c.requires.past empty)
-    c.requires.levels
+pub grow_to-grown-requires-clause-over : goal.grow_to-grown-requires-clause-over
+grow_to-grown-requires-clause-over g c = (c.requires.over.0, c.requires.over.1, c.requires.over.2.end)
 
-grown_at : (g : given.Over) (c : goal.After-put_zeroed-arg-1 g) → c.with_shape-grown.result ≡ shaped c.args.tree.now (depth_for (c.args.offset + length c.args.piece.now)) (c.args.offset + length c.args.piece.now)
-grown_at g c =
-    let z = c.args.offset + length c.args.piece.now in
-    let within = c.requires.over.2.end in
-    let low = c.requires.over.1.low in
-    let depth : c.least_depth.result ≡ depth_for z = sym (c.least_depth.ensures.only (depth_for z) (least_for z (omega (arith, within, low)))) in
-    c.with_shape-grown.ensures ∙ ap (λ d. shaped c.args.tree.now d z) depth
+pub grow_to-grown-requires-clause-spare : goal.grow_to-grown-requires-clause-spare
+grow_to-grown-requires-clause-spare g c = let enough = c.requires.spare in omega (arith, enough)
 
-pub put_zeroed-requires-clause-over : goal.put_zeroed-requires-clause-over
-put_zeroed-requires-clause-over g c =
-    let s = g.B.Blocks.state c.args.on.now in
-    let kept = c.args.kept.now in
+pub put_all-requires-clause-over : goal.put_all-requires-clause-over
+put_all-requires-clause-over g c =
+    let e = c.grow_to-grown.ensures.grown.sees in
     let limit = c.requires.over.0 in
-    let n = length c.args.piece.now in
-    let seen = seen_at g c in
-    subst (λ (x : Tree). (limit : ℕ) × Over s x kept limit × Prepared s x kept limit c.args.offset n) (sym (grown_at g c)) (
-      limit,
-      seen.over limit c.requires.over.2.end c.requires.over.1,
-      seen.still limit c.args.offset n c.requires.over.2,
-    )
+    let end = c.requires.over.2.end in
+    let same : c.grow_to-grown.result.size ≡ c.args.offset + length c.args.piece.now = ap (λ (x : Tree). x.size) c.grow_to-grown.ensures.is in
+    (limit, e.over limit (omega (arith, end, same)) c.requires.over.1, e.still limit c.args.offset (length c.args.piece.now) c.requires.over.2)
 
-pub put_zeroed-requires-clause-ready : goal.put_zeroed-requires-clause-ready
-put_zeroed-requires-clause-ready g c = λ some.
-    let s = g.B.Blocks.state c.args.on.now in
-    let t = c.args.tree.now in
-    subst (λ (x : Tree). WayReady s x c.args.kept.now x.depth (t.size / 8192)) (sym (grown_at g c)) ((seen_at g c).way some)
+pub put_all-requires-clause-plain : goal.put_all-requires-clause-plain
+put_all-requires-clause-plain g c = subst (λ (x : Tree). IsPlainTree x) (sym c.grow_to-grown.ensures.is) c.requires.plain
 
-seen_end : (g : given.Over) (c : goal.After-put_zeroed g) → Reshaped (g.B.Blocks.state c.args.on.now) c.args.tree.now (shaped c.args.tree.now (depth_for (c.args.offset + length c.args.piece.now)) (c.args.offset + length c.args.piece.now)) c.args.kept.now (c.args.offset + length c.args.piece.now)
-seen_end g c =
+pub put_all-requires-clause-within : goal.put_all-requires-clause-within
+put_all-requires-clause-within g c =
+    let same : c.grow_to-grown.result.size ≡ c.args.offset + length c.args.piece.now = ap (λ (x : Tree). x.size) c.grow_to-grown.ensures.is in
+    omega (arith, same)
+
+pub put_all-requires-clause-spare : goal.put_all-requires-clause-spare
+put_all-requires-clause-spare g c =
     let s = g.B.Blocks.state c.args.on.now in
+    let m = g.B.Blocks.state c.grow_to-grown.new.on in
+    let z = c.args.offset + length c.args.piece.now in
+    let depth : c.grow_to-grown.result.depth ≡ depth_for z = ap (λ (x : Tree). x.depth) c.grow_to-grown.ensures.is in
+    let few = few_for z in
+    let enough = c.requires.spare in
+    let same = most_is c.grow_to-grown.result.depth z (length c.args.piece.now) depth in
+    need_past s m c.grow_to-grown.result c.args.offset (length c.args.piece.now) (omega (arith, depth, few)) c.requires.some (omega (arith, enough, same)) c.grow_to-grown.ensures.grown.spent
+
+both : (g : given.Over) (c : goal.After-put_all g) → Both (g.B.Blocks.state c.args.on.now) (g.B.Blocks.state c.grow_to-grown.new.on) (g.B.Blocks.state c.put_all.new.on) c.args.tree.now c.args.kept.now (c.args.offset + length c.args.piece.now) c.grow_to-grown.result.top c.put_all.result c.requires.over.0 c.args.offset c.args.piece.now
+both g c =
+    let on = c.args.on.now in
+    let s = g.B.Blocks.state on in
+    let m = g.B.Blocks.state c.grow_to-grown.new.on in
+    let u = g.B.Blocks.state c.put_all.new.on in
     let t = c.args.tree.now in
     let kept = c.args.kept.now in
-    let z = c.args.offset + length c.args.piece.now in
-    let within = c.requires.over.2.end in
-    let low = c.requires.over.1.low in
-    ⊎_elim
-    (λ levels. reshaped_within s t kept z c.requires.past (omega (arith, within, low)) levels c.requires.clear)
-    (λ empty. reshaped_empty s t kept z c.requires.past empty)
-    c.requires.levels
-
-appends_end : (g : given.Over) (c : goal.After-put_zeroed g) → Appends (g.B.Blocks.state c.args.on.now) (g.B.Blocks.state c.put_zeroed.new.on) (shaped c.args.tree.now (depth_for (c.args.offset + length c.args.piece.now)) (c.args.offset + length c.args.piece.now)) c.put_zeroed.result c.args.kept.now c.args.tree.now.size c.args.offset c.args.piece.now
-appends_end g c =
-    let s = g.B.Blocks.state c.args.on.now in
-    let u = g.B.Blocks.state c.put_zeroed.new.on in
-    let t = c.args.tree.now in
-    let z = c.args.offset + length c.args.piece.now in
-    let within = c.requires.over.2.end in
-    let low = c.requires.over.1.low in
-    let depth : c.least_depth.result ≡ depth_for z = sym (c.least_depth.ensures.only (depth_for z) (least_for z (omega (arith, within, low)))) in
-    subst (λ (x : Tree). Appends s u x c.put_zeroed.result c.args.kept.now t.size c.args.offset c.args.piece.now) (c.with_shape-grown.ensures ∙ ap (λ d. shaped t d z) depth) c.put_zeroed.ensures.appends
-
-pub returns-clause-over : goal.returns-clause-over
-returns-clause-over g c = λ limit within was. (appends_end g c).over limit ((seen_end g c).over limit within was)
-
-pub returns-clause-bytes : goal.returns-clause-bytes
-returns-clause-bytes g c = λ told limit.
-    let s = g.B.Blocks.state c.args.on.now in
-    let u = g.B.Blocks.state c.put_zeroed.new.on in
-    let t = c.args.tree.now in
-    let kept = c.args.kept.now in
-    let z = c.args.offset + length c.args.piece.now in
-    values_past_end (byte_here s t kept) (byte_here s (shaped t (depth_for z) z) kept) (byte_here u (ended t z c.put_zeroed.result) kept) t.size z c.args.offset c.args.piece.now refl c.requires.past c.requires.some
-    (seen_end g c).bytes (λ k past. byte_past s t kept k past) ((appends_end g c).bytes told)
-
-pub returns-clause-grows : goal.returns-clause-grows
-returns-clause-grows g c = λ limit.
-    let a = appends_end g c in
-    let seen = seen_end g c in
+    let offset = c.args.offset in
+    let piece = c.args.piece.now in
+    let top = c.put_all.result in
+    let is = c.grow_to-grown.ensures.is in
+    let e = c.put_all.ensures in
+    let keeps = g.met.B.Blocks.keeps_joins on c.grow_to-grown.new.on c.put_all.new.on c.grow_to-grown.ensures.keeps e.keeps in
     record {
-      owns = λ told b. let both = a.owns told b in (λ has. ⊎_elim (λ old. inl (seen.back b old)) (λ made. inr made) (both.0 has), both.1);
-      still = λ o n was. a.still limit o n (seen.still limit o n was);
+      grown = subst (λ (x : Tree). GrownTo s m t x kept) is c.grow_to-grown.ensures.grown;
+      wrote = subst (λ (x : Tree). Wrote m u x top kept offset (length piece) piece) is e.wrote;
+      steps = subst (λ (x : Tree). Steps x.tag (λ b. OnLeaves m x (offset / 8192) ((offset + length piece - 1) / 8192) b) (λ b. OnLeaves m x (offset / 8192) ((offset + length piece - 1) / 8192) b) m u) is e.steps;
+      stays = subst (λ (x : Tree). m.tells → (b : ℕ) → HasBlock m x b → (m.label b).epoch ≡ m.high → HasBlock u (at_top x top) b) is e.stays;
+      ends = refl;
+      some = c.requires.some;
+      past = c.requires.past;
+      over = c.requires.over.1;
+      prepared = c.requires.over.2;
+      clear = c.requires.clear;
+      all = g.met.B.Blocks.keeps_all on c.put_all.new.on keeps;
+      placed = λ image is. g.met.B.Blocks.placed on image is;
+      ranked = λ image is. g.met.B.Blocks.ranked on image is;
+      top_stands = λ image is up is_top. ⊎_elim
+          (λ first. (super_place, subst (λ y. s.stands y super_place) (sym first) (g.met.B.Blocks.super_stands on (g.met.B.Blocks.told on image is))))
+          (λ ne. (root_place, g.met.B.Blocks.top_stands on up (g.met.B.Blocks.told on image is) is_top ne))
+          (cases_eq up 1);
+      told = λ image is. g.met.B.Blocks.told on image is;
+      standing = g.met.B.Blocks.standing on;
     }
 
+pub returns-clause-over : goal.returns-clause-over
+returns-clause-over g c = over_past (both g c)
+
+pub returns-clause-bytes : goal.returns-clause-bytes
+returns-clause-bytes g c = bytes_past (both g c)
+
+pub returns-clause-grows : goal.returns-clause-grows
+returns-clause-grows g c = grows_past (both g c)
+
 pub returns-clause-comes : goal.returns-clause-comes
-returns-clause-comes g c = (appends_end g c).comes
+returns-clause-comes g c = comes_past (both g c)
 
 pub returns-clause-only : goal.returns-clause-only
-returns-clause-only g c = (appends_end g c).only
+returns-clause-only g c = only_past (both g c)
 
 pub returns-clause-clear : goal.returns-clause-clear
-returns-clause-clear g c = λ told. (appends_end g c).clear told (seen_end g c).clear
+returns-clause-clear g c = clear_past (both g c)
 
 pub returns-clause-changes : goal.returns-clause-changes
-returns-clause-changes g c =
-    let back = (seen_end g c).back in
-    changes_of back back (steps_changes (appends_end g c).steps)
+returns-clause-changes g c = changes_past (both g c)
+
+pub returns-clause-room : goal.returns-clause-room
+returns-clause-room g c = room_past (both g c)
+
+pub returns-clause-keeps : goal.returns-clause-keeps
+returns-clause-keeps g c = g.met.B.Blocks.keeps_joins c.args.on.now c.grow_to-grown.new.on c.put_all.new.on c.grow_to-grown.ensures.keeps c.put_all.ensures.keeps
 
 pub returns-clause-spare : goal.returns-clause-spare
 returns-clause-spare g c =
+    let s = g.B.Blocks.state c.args.on.now in
+    let m = g.B.Blocks.state c.grow_to-grown.new.on in
+    let u = g.B.Blocks.state c.put_all.new.on in
     let z = c.args.offset + length c.args.piece.now in
-    let spent = (appends_end g c).spent in
-    let same = most_is (depth_for z) z (length c.args.piece.now) refl in
+    let n = length c.args.piece.now in
+    let new = c.grow_to-grown.result in
+    let depth : c.grow_to-grown.result.depth ≡ depth_for z = ap (λ (x : Tree). x.depth) c.grow_to-grown.ensures.is in
+    let few = few_for z in
+    let same = most_is c.grow_to-grown.result.depth z n depth in
+    let spent = spent_past s m u new (at_top new c.put_all.result) c.args.offset n refl (omega (arith, depth, few)) c.requires.some c.grow_to-grown.ensures.grown.spent c.put_all.ensures.spends in
     omega (arith, spent, same)
-
-pub returns-clause-room : goal.returns-clause-room
-returns-clause-room g c = (appends_end g c).steps.room

@@ -1,4 +1,4 @@
-use Rattle.std.proofs.Common.{◌≡◌, ◌≢◌, ◌+◌, ◌<◌, ◌≤◌, length, max, inl, inr, sym, ◌∙◌, subst, arith}
+use Rattle.std.proofs.Common.{◌≡◌, ◌≢◌, ◌+◌, ◌<◌, ◌≤◌, length, max, inl, inr, ⊎_elim, sym, ◌∙◌, subst, arith}
 use Rattle.std.proofs.lemmas.Bool.{eqb-true, eqb-false}
 use Rattle.fo_ports.specs.Sources.{most_for}
 use Rattle.fo_tree_read.specs.declared.tree.Tree.{Tree}
@@ -31,7 +31,7 @@ returns-then-end-tree-clause-puts g c =
       grows = e.grows;
       comes = e.comes;
       only = e.only;
-      clear = λ told was. e.clear (inl told) was;
+      clear = λ which was. e.clear (⊎_elim (λ told. inl told) (λ near. inr near.0) which) was;
       changes = e.changes;
       spent = subst (λ z. s.spare ≤ u.spare + most_for z n) (sym same) e.spare;
       room = e.room;
@@ -54,7 +54,7 @@ returns-else-end-tree-clause-puts g c =
       grows = e.grows;
       comes = e.comes;
       only = e.only;
-      clear = λ told was. e.clear told;
+      clear = λ which was. e.clear (⊎_elim (λ told. inl told) (λ near. inr near.1) which);
       changes = e.changes;
       spent = subst (λ z. s.spare ≤ u.spare + most_for z n) (sym same) e.spare;
       room = e.room;

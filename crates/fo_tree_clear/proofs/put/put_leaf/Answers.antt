@@ -24,26 +24,26 @@ use Rattle.fo_tree_clear.proofs.Leaf.{PieceCame, puts_end, leaf_put}
 use Rattle.fo_tree_clear.proofs.put.put_leaf.Given as given
 use Rattle.fo_tree_clear.proofs.put.put_leaf.Goals as goal
 
-pub own_way-current-requires-clause-down : goal.own_way-current-requires-clause-down
-own_way-current-requires-clause-down g c =
+pub own_near-current-requires-clause-down : goal.own_near-current-requires-clause-down
+own_near-current-requires-clause-down g c =
     let room = c.requires.over.1.hangs.room in
     let lt = c.requires.inside in
     (omega arith, omega (arith, room, lt))
 
 pub put_bytes-requires-clause-pinned : goal.put_bytes-requires-clause-pinned
-put_bytes-requires-clause-pinned g c = c.own_way-current.ensures.replaces.own.is_pinned
+put_bytes-requires-clause-pinned g c = c.own_near-current.ensures.replaces.own.is_pinned
 
 pub put_bytes-requires-clause-current : goal.put_bytes-requires-clause-current
-put_bytes-requires-clause-current g c = c.own_way-current.ensures.replaces.own.current
+put_bytes-requires-clause-current g c = c.own_near-current.ensures.replaces.own.current
 
 pub put_bytes-requires-clause-within : goal.put_bytes-requires-clause-within
-put_bytes-requires-clause-within g c = let long = c.own_way-current.ensures.replaces.own.long in let part = c.requires.part in omega (arith, long, part)
+put_bytes-requires-clause-within g c = let long = c.own_near-current.ensures.replaces.own.long in let part = c.requires.part in omega (arith, long, part)
 
 pub put_bytes-requires-clause-place : goal.put_bytes-requires-clause-place
 put_bytes-requires-clause-place g c =
     let t = c.args.tree.now in
     let none : t.depth - t.depth ≡ 0 = omega arith in
-    let is : ((g.B.Blocks.state c.own_way-current.new.on).label c.own_way-current.result.at).kind ≡ Data 0 = c.own_way-current.ensures.replaces.own.has_kind ∙ ap (λ l. kind_at t.dir l) none ∙ c.requires.plain.0 in
+    let is : ((g.B.Blocks.state c.own_near-current.new.on).label c.own_near-current.result.at).kind ≡ Data 0 = c.own_near-current.ensures.replaces.own.has_kind ∙ ap (λ l. kind_at t.dir l) none ∙ c.requires.plain.0 in
     subst (λ (k : Kind). MayPut k c.args.from (c.args.from + length c.args.piece.now)) (sym is) (omega arith)
 
 plain_formed : (kind : Kind) (rank : ℕ) (bytes : List ℕ) → kind ≡ Data 0 → rank % 32 ≢ 16 → length bytes ≡ 8192 → IsFormed kind rank bytes
@@ -52,13 +52,13 @@ plain_formed kind rank bytes is plain long = subst (λ k. IsFormed k rank bytes)
 pub put_bytes-requires-clause-formed : goal.put_bytes-requires-clause-formed
 put_bytes-requires-clause-formed g c = λ told p stands.
     let t = c.args.tree.now in
-    let mid = c.own_way-current.new.on in
-    let own = c.own_way-current.ensures.replaces.own in
+    let mid = c.own_near-current.new.on in
+    let own = c.own_near-current.ensures.replaces.own in
     let here : Place = place (kind_at t.dir (t.depth - t.depth)) t.tag c.args.i (t.rank + (t.depth - t.depth)) in
-    let same : p ≡ here = (g.met.B.Blocks.one_place mid).each c.own_way-current.result.at p here stands (own.told told).stands in
+    let same : p ≡ here = (g.met.B.Blocks.one_place mid).each c.own_near-current.result.at p here stands (own.told told).stands in
     let none : t.depth - t.depth ≡ 0 = omega arith in
     let rank : t.rank + (t.depth - t.depth) ≡ t.rank = omega arith in
-    let old = ((g.B.Blocks.state mid).now c.own_way-current.result.at).bytes in
+    let old = ((g.B.Blocks.state mid).now c.own_near-current.result.at).bytes in
     let long = own.long in
     let part = c.requires.part in
     plain_formed p.kind p.rank (put_at c.args.from c.args.piece.now old)
@@ -70,27 +70,27 @@ put_bytes-requires-clause-formed g c = λ told p stands.
 abbrev Waited : State → ℕ → Image → Type 0
 Waited u at = λ image. (on j : ℕ) → u.waits at on j → (u.clearing on j → ⊥) → SameUse ((image on).slot j) ((u.now on).slot j)
 
-bytes_put : (g : given.Over) (c : goal.After-put_bytes g) → BytesPut c.own_way-current.result.at (put_at c.args.from c.args.piece.now (((g.B.Blocks.state c.own_way-current.new.on).now c.own_way-current.result.at).bytes)) (Waited (g.B.Blocks.state c.own_way-current.new.on) c.own_way-current.result.at) (g.B.Blocks.state c.own_way-current.new.on) (g.B.Blocks.state c.put_bytes.new.self)
+bytes_put : (g : given.Over) (c : goal.After-put_bytes g) → BytesPut c.own_near-current.result.at (put_at c.args.from c.args.piece.now (((g.B.Blocks.state c.own_near-current.new.on).now c.own_near-current.result.at).bytes)) (Waited (g.B.Blocks.state c.own_near-current.new.on) c.own_near-current.result.at) (g.B.Blocks.state c.own_near-current.new.on) (g.B.Blocks.state c.put_bytes.new.self)
 bytes_put g c =
     let e = c.put_bytes.ensures in
-    let long = c.own_way-current.ensures.replaces.own.long in
+    let long = c.own_near-current.ensures.replaces.own.long in
     let part = c.requires.part in
     record {
       puts = e.now;
       images = e.images;
       calm = e.calm;
       no_wait = e.no_wait;
-      all = g.met.B.Blocks.keeps_all c.own_way-current.new.on c.put_bytes.new.self e.keeps;
-      long = length_put_at c.args.from c.args.piece.now (((g.B.Blocks.state c.own_way-current.new.on).now c.own_way-current.result.at).bytes) (omega (arith, long, part));
+      all = g.met.B.Blocks.keeps_all c.own_near-current.new.on c.put_bytes.new.self e.keeps;
+      long = length_put_at c.args.from c.args.piece.now (((g.B.Blocks.state c.own_near-current.new.on).now c.own_near-current.result.at).bytes) (omega (arith, long, part));
     }
 
-came : (g : given.Over) (c : goal.After-put_bytes g) (limit : ℕ) → Over (g.B.Blocks.state c.args.on.now) c.args.tree.now c.args.kept.now limit → PieceCame (g.B.Blocks.state c.args.on.now) (g.B.Blocks.state c.own_way-current.new.on) (g.B.Blocks.state c.put_bytes.new.self) c.args.tree.now c.args.kept.now limit c.own_way-current.result.top c.args.i c.own_way-current.result.at c.args.from c.args.piece.now (Waited (g.B.Blocks.state c.own_way-current.new.on) c.own_way-current.result.at)
+came : (g : given.Over) (c : goal.After-put_bytes g) (limit : ℕ) → Over (g.B.Blocks.state c.args.on.now) c.args.tree.now c.args.kept.now limit → PieceCame (g.B.Blocks.state c.args.on.now) (g.B.Blocks.state c.own_near-current.new.on) (g.B.Blocks.state c.put_bytes.new.self) c.args.tree.now c.args.kept.now limit c.own_near-current.result.top c.args.i c.own_near-current.result.at c.args.from c.args.piece.now (Waited (g.B.Blocks.state c.own_near-current.new.on) c.own_near-current.result.at)
 came g c limit over =
     let s = g.B.Blocks.state c.args.on.now in
-    let mid = c.own_way-current.new.on in
+    let mid = c.own_near-current.new.on in
     let t = c.args.tree.now in
     let kept = c.args.kept.now in
-    let e = c.own_way-current.ensures in
+    let e = c.own_near-current.ensures in
     let lt = c.requires.inside in
     let all = g.met.B.Blocks.keeps_all c.args.on.now mid e.keeps in
     record {
@@ -118,20 +118,20 @@ pub returns-clause-bytes : goal.returns-clause-bytes
 returns-clause-bytes g c = λ told. puts_end (came g c c.requires.over.0 c.requires.over.1) told
 
 pub returns-clause-over : goal.returns-clause-over
-returns-clause-over g c = λ limit over. let lt = c.requires.inside in over_put (bytes_put g c) (with_top c.args.tree.now c.own_way-current.result.top) c.args.kept.now limit (c.own_way-current.ensures.over (omega (arith, lt)) limit over)
+returns-clause-over g c = λ limit over. let lt = c.requires.inside in over_put (bytes_put g c) (with_top c.args.tree.now c.own_near-current.result.top) c.args.kept.now limit (c.own_near-current.ensures.over (omega (arith, lt)) limit over)
 
 pub returns-clause-top : goal.returns-clause-top
 returns-clause-top g c =
-    let is = c.own_way-current.ensures.top in
-    let same = label_same (bytes_put g c) c.own_way-current.result.top in
-    let first = g.met.B.Blocks.keeps_all c.args.on.now c.own_way-current.new.on c.own_way-current.ensures.keeps in
-    let more = g.met.B.Blocks.keeps_all c.own_way-current.new.on c.put_bytes.new.self c.put_bytes.ensures.keeps in
+    let is = c.own_near-current.ensures.top in
+    let same = label_same (bytes_put g c) c.own_near-current.result.top in
+    let first = g.met.B.Blocks.keeps_all c.args.on.now c.own_near-current.new.on c.own_near-current.ensures.keeps in
+    let more = g.met.B.Blocks.keeps_all c.own_near-current.new.on c.put_bytes.new.self c.put_bytes.ensures.keeps in
     record {
       from = ⊎_elim (λ made. inl (made.0, ap (λ l. l.state) same ∙ made.1)) (λ e. inr e) is.from;
       apart = λ made.
-          let stays = (bytes_put g c).calm.frame.stays.apart c.own_way-current.result.top (λ z. z) (λ z. z) in
+          let stays = (bytes_put g c).calm.frame.stays.apart c.own_near-current.result.top (λ z. z) (λ z. z) in
           stays.1 (is.apart (made.0, ap (λ (l : Label). l.state) (sym same) ∙ made.1));
-      comes = λ told from h. comes_on (bytes_put g c) (first.still_tells.1 told) (Local c.own_way-current.result.top) from (is.comes told from h);
+      comes = λ told from h. comes_on (bytes_put g c) (first.still_tells.1 told) (Local c.own_near-current.result.top) from (is.comes told from h);
       only = λ told y z h. is.only told y z (only_on (bytes_put g c) y z h);
       live = ap (λ l. l.state) same ∙ is.live;
       current = ap (λ l. l.epoch) same ∙ is.current ∙ sym more.same_high;
@@ -140,45 +140,45 @@ returns-clause-top g c =
 pub returns-clause-grows : goal.returns-clause-grows
 returns-clause-grows g c = λ limit.
     let t = c.args.tree.now in
-    let new = with_top t c.own_way-current.result.top in
+    let new = with_top t c.own_near-current.result.top in
     let put = bytes_put g c in
     record {
       owns = λ told b. (
-        λ has. ⊎_elim (λ old. inl old) (λ made. inr (made.0, ap (λ l. l.state) (label_same put b) ∙ made.1)) ((c.own_way-current.ensures.owns told b).0 (has_back (same_slots put) new b has)),
-        λ made. has_on (same_slots put) new b ((c.own_way-current.ensures.owns told b).1 (made.0, ap (λ l. l.state) (sym (label_same put b)) ∙ made.1)),
+        λ has. ⊎_elim (λ old. inl old) (λ made. inr (made.0, ap (λ l. l.state) (label_same put b) ∙ made.1)) ((c.own_near-current.ensures.owns told b).0 (has_back (same_slots put) new b has)),
+        λ made. has_on (same_slots put) new b ((c.own_near-current.ensures.owns told b).1 (made.0, ap (λ l. l.state) (sym (label_same put b)) ∙ made.1)),
       );
-      still = λ o n was. prepared_put put new c.args.kept.now limit o n (c.own_way-current.ensures.still limit o n was);
+      still = λ o n was. prepared_put put new c.args.kept.now limit o n (c.own_near-current.ensures.still limit o n was);
     }
 
 pub returns-clause-changes : goal.returns-clause-changes
 returns-clause-changes g c =
     let s = g.B.Blocks.state c.args.on.now in
-    let u = g.B.Blocks.state c.own_way-current.new.on in
+    let u = g.B.Blocks.state c.own_near-current.new.on in
     let t = c.args.tree.now in
-    let at = c.own_way-current.result.at in
-    let all = g.met.B.Blocks.keeps_all c.args.on.now c.own_way-current.new.on c.own_way-current.ensures.keeps in
-    let own = c.own_way-current.ensures.replaces.own in
-    changes_put {outer = IsInnerOr s t c.args.i} all c.own_way-current.ensures.changes (bytes_put g c) (λ b h. inl h)
+    let at = c.own_near-current.result.at in
+    let all = g.met.B.Blocks.keeps_all c.args.on.now c.own_near-current.new.on c.own_near-current.ensures.keeps in
+    let own = c.own_near-current.ensures.replaces.own in
+    changes_put {outer = IsInnerOr s t c.args.i} all c.own_near-current.ensures.changes (bytes_put g c) (λ b h. inl h)
     (⊎_elim
     (λ made. inl made)
     (λ is.
-    let same = (c.own_way-current.ensures.comes.descends.others at is.1).label in
+    let same = (c.own_near-current.ensures.comes.descends.others at is.1).label in
     inr (
       inr is.0,
       record { down = t.depth; index = c.args.i; within = omega arith; is = is.0 },
       ap (λ l. l.epoch) (sym same) ∙ own.current ∙ all.same_high,
       ap (λ l. l.tag) (sym same) ∙ own.tagged,
     ))
-    c.own_way-current.ensures.comes.from)
+    c.own_near-current.ensures.comes.from)
 
 pub returns-clause-spare : goal.returns-clause-spare
-returns-clause-spare g c = let used = c.own_way-current.ensures.spare in let same = c.put_bytes.ensures.calm.frame.uses.spare in omega (arith, used, same)
+returns-clause-spare g c = let used = c.own_near-current.ensures.spare in let same = c.put_bytes.ensures.calm.frame.uses.spare in omega (arith, used, same)
 
 pub returns-clause-less : goal.returns-clause-less
-returns-clause-less g c = λ top. let used = c.own_way-current.ensures.less top in let same = c.put_bytes.ensures.calm.frame.uses.spare in omega (arith, used, same)
+returns-clause-less g c = λ top. let used = c.own_near-current.ensures.less top in let same = c.put_bytes.ensures.calm.frame.uses.spare in omega (arith, used, same)
 
 pub returns-clause-room : goal.returns-clause-room
-returns-clause-room g c = let first = c.own_way-current.ensures.comes.descends.room in let same = c.put_bytes.ensures.calm.frame.uses.room in omega (arith, first, same)
+returns-clause-room g c = let first = c.own_near-current.ensures.comes.descends.room in let same = c.put_bytes.ensures.calm.frame.uses.room in omega (arith, first, same)
 
 pub returns-clause-current : goal.returns-clause-current
 returns-clause-current g c = top_current (returns-clause-top g c)
@@ -186,28 +186,28 @@ returns-clause-current g c = top_current (returns-clause-top g c)
 pub returns-clause-steps : goal.returns-clause-steps
 returns-clause-steps g c =
     let on = c.args.on.now in
-    let mid = c.own_way-current.new.on in
+    let mid = c.own_near-current.new.on in
     let new = c.put_bytes.new.self in
     let s = g.B.Blocks.state on in
     let t = c.args.tree.now in
-    let at = c.own_way-current.result.at in
-    let first = g.met.B.Blocks.keeps_all on mid c.own_way-current.ensures.keeps in
-    let own = c.own_way-current.ensures.replaces.own in
+    let at = c.own_near-current.result.at in
+    let first = g.met.B.Blocks.keeps_all on mid c.own_near-current.ensures.keeps in
+    let own = c.own_near-current.ensures.replaces.own in
     let lt = c.requires.inside in
-    let end = c.own_way-current.ensures.over (omega (arith, lt)) c.requires.over.0 c.requires.over.1 in
-    steps_put (g.met.B.Blocks.keeps_all on new (g.met.B.Blocks.keeps_joins on mid new c.own_way-current.ensures.keeps c.put_bytes.ensures.keeps))
-    (steps_down first c.own_way-current.ensures.comes.descends (λ told b made. (end.told (first.still_tells.1 told) b ((c.own_way-current.ensures.owns told b).1 made)).uncovered))
+    let end = c.own_near-current.ensures.over (omega (arith, lt)) c.requires.over.0 c.requires.over.1 in
+    steps_put (g.met.B.Blocks.keeps_all on new (g.met.B.Blocks.keeps_joins on mid new c.own_near-current.ensures.keeps c.put_bytes.ensures.keeps))
+    (steps_down first c.own_near-current.ensures.comes.descends (λ told b made. (end.told (first.still_tells.1 told) b ((c.own_near-current.ensures.owns told b).1 made)).uncovered))
     (bytes_put g c)
     (⊎_elim
     (λ made. inl made)
     (λ is.
-    let same = (c.own_way-current.ensures.comes.descends.others at is.1).label in
+    let same = (c.own_near-current.ensures.comes.descends.others at is.1).label in
     inr (
       on_way_last s t t.depth c.args.i at is.0,
       ap (λ l. l.epoch) (sym same) ∙ own.current ∙ first.same_high,
       ap (λ l. l.tag) (sym same) ∙ own.tagged,
     ))
-    c.own_way-current.ensures.comes.from)
+    c.own_near-current.ensures.comes.from)
 
 pub returns-clause-ways : goal.returns-clause-ways
 returns-clause-ways g c = λ j b way on_way.
@@ -215,25 +215,25 @@ returns-clause-ways g c = λ j b way on_way.
     ⊎_elim
     (λ old. inl old)
     (λ made. inr (made.0, ap (λ l. l.state) (label_same put b) ∙ made.1))
-    (c.own_way-current.ensures.ways j b way (way_back (same_slots put) (with_top c.args.tree.now c.own_way-current.result.top) c.args.tree.now.depth j b on_way))
+    (c.own_near-current.ensures.ways j b way (way_back (same_slots put) (with_top c.args.tree.now c.own_near-current.result.top) c.args.tree.now.depth j b on_way))
 
 pub returns-clause-stays : goal.returns-clause-stays
-returns-clause-stays g c = λ told b has current. has_on (same_slots (bytes_put g c)) (with_top c.args.tree.now c.own_way-current.result.top) b (c.own_way-current.ensures.stays told b has current)
+returns-clause-stays g c = λ told b has current. has_on (same_slots (bytes_put g c)) (with_top c.args.tree.now c.own_near-current.result.top) b (c.own_near-current.ensures.stays told b has current)
 
 pub returns-clause-way : goal.returns-clause-way
 returns-clause-way g c =
     let put = bytes_put g c in
-    let more = g.met.B.Blocks.keeps_all c.own_way-current.new.on c.put_bytes.new.self c.put_bytes.ensures.keeps in
-    current_on (same_slots put) (λ b. label_same put b) more.same_high (with_top c.args.tree.now c.own_way-current.result.top) c.args.tree.now.depth c.args.i c.own_way-current.ensures.current
+    let more = g.met.B.Blocks.keeps_all c.own_near-current.new.on c.put_bytes.new.self c.put_bytes.ensures.keeps in
+    current_on (same_slots put) (λ b. label_same put b) more.same_high (with_top c.args.tree.now c.own_near-current.result.top) c.args.tree.now.depth c.args.i c.own_near-current.ensures.current
 
 pub returns-clause-used : goal.returns-clause-used
-returns-clause-used g c = λ j way le next. let used = c.own_way-current.ensures.used j way le next in let same = c.put_bytes.ensures.calm.frame.uses.spare in omega (arith, used, same)
+returns-clause-used g c = λ j way le next. let used = c.own_near-current.ensures.used j way le next in let same = c.put_bytes.ensures.calm.frame.uses.spare in omega (arith, used, same)
 
 pub returns-clause-clear : goal.returns-clause-clear
-returns-clause-clear g c = λ which was. let lt = c.requires.inside in clear_put (bytes_put g c) (with_top c.args.tree.now c.own_way-current.result.top) c.args.kept.now (c.own_way-current.ensures.clear refl (omega (arith, lt)) which was)
+returns-clause-clear g c = λ which was. let lt = c.requires.inside in clear_put (bytes_put g c) (with_top c.args.tree.now c.own_near-current.result.top) c.args.kept.now (c.own_near-current.ensures.clear refl (omega (arith, lt)) which was)
 
 pub returns-clause-stead : goal.returns-clause-stead
 returns-clause-stead g c = λ x made h.
     let put = bytes_put g c in
-    let top = c.own_way-current.result.top in
-    c.own_way-current.ensures.stead x (made.0, ap (λ (l : Label). l.state) (sym (label_same put top)) ∙ made.1) (only_on put top x h)
+    let top = c.own_near-current.result.top in
+    c.own_near-current.ensures.stead x (made.0, ap (λ (l : Label). l.state) (sym (label_same put top)) ∙ made.1) (only_on put top x h)

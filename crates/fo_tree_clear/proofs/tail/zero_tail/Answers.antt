@@ -3,11 +3,21 @@ use Rattle.std.proofs.lemmas.List.{length-take, length-drop}
 use Rattle.fo_tree_look.specs.Source.{Over}
 use Rattle.fo_tree_look.proofs.Shown.{top_ready}
 use Rattle.fo_tree_down.specs.Way.{with_top}
+use Rattle.fo_tree_down.proofs.Sparing.{but_whole, but_more}
 use Rattle.fo_tree_clear.specs.Put.{IsInnerOrEnd}
 use Rattle.fo_tree_clear.proofs.Putting.{changes_wider}
 use Rattle.fo_tree_clear.proofs.Zeros.{TailPut, part_zero, owned_tail, zeros_end, bytes_before, end_block, there}
 use Rattle.fo_tree_clear.proofs.tail.zero_tail.Given as given
 use Rattle.fo_tree_clear.proofs.tail.zero_tail.Goals as goal
+
+pub put_leaf-requires-clause-spare : goal.put_leaf-requires-clause-spare
+put_leaf-requires-clause-spare g c =
+    let s = g.B.Blocks.state c.args.on.now in
+    let t = c.args.tree.now in
+    ⊎_elim
+    (λ top. (t.depth, but_whole s t t.depth (t.size / 8192) top.0, top.1))
+    (λ some. (t.depth + 1, but_more s t t.depth (t.size / 8192), omega (arith, some)))
+    c.requires.spare
 
 pub put_leaf-requires-clause-plain : goal.put_leaf-requires-clause-plain
 put_leaf-requires-clause-plain g c = c.requires.ends.plain

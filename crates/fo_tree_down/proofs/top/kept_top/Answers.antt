@@ -5,6 +5,7 @@ use Rattle.fo_crash.specs.declared.place.Place.{Place}
 use Rattle.fo_crash.specs.Places.{place}
 use Rattle.fo_ports.specs.Blocks.{blank, IsLevel}
 use Rattle.fo_ports.specs.State.{Gives}
+use Rattle.fo_looks.proofs.Looks.{rooted_of_apart}
 use Rattle.fo_tree_read.specs.Tree.{kind_at}
 use Rattle.fo_tree_own.specs.Step.{Becomes}
 use Rattle.fo_tree_own.proofs.Link.{blank_leads, came, came_filled}
@@ -85,7 +86,7 @@ returns-clause-comes g c =
       was = λ told y e. absurd (held_local c.args.score.now y (sym c.requires.is ∙ e));
       made_apart = λ told y z h. (g.met.B.Blocks.instead_of on y z z told h).0;
       raised_old = λ y h. absurd (e.instead y ((filled.instead c.new_block-made.result y).0 h));
-      stands = λ told. filled.places (first.still_tells.1 told) c.new_block-made.result (place (kind_at t.dir t.depth) t.tag 0 (t.rank + t.depth)) c.fill_kept.ensures.bare.uncovered (there told);
+      stands = λ told. filled.places (first.still_tells.1 told) c.new_block-made.result (place (kind_at t.dir t.depth) t.tag 0 (t.rank + t.depth)) c.fill_kept.ensures.bare.uncovered (rooted_of_apart m c.new_block-made.result c.fill_kept.ensures.bare.is_apart) (there told);
       content = subst (λ (p : Pointer). Becomes s m t c.args.kept.now t.depth p c.new_block-made.result) (sym c.requires.is) c.fill_kept.ensures.content;
     })
 
@@ -133,7 +134,7 @@ returns-clause-top g c =
       was = λ told y e. absurd (held_local c.args.score.now y (sym c.requires.is ∙ e));
       made_apart = λ told y z h. (g.met.B.Blocks.instead_of on y z z told h).0;
       raised_old = λ y h. absurd (e.instead y ((filled.instead c.new_block-made.result y).0 h));
-      stands = λ told. filled.places (first.still_tells.1 told) c.new_block-made.result (place (kind_at t.dir t.depth) t.tag 0 (t.rank + t.depth)) c.fill_kept.ensures.bare.uncovered (there told);
+      stands = λ told. filled.places (first.still_tells.1 told) c.new_block-made.result (place (kind_at t.dir t.depth) t.tag 0 (t.rank + t.depth)) c.fill_kept.ensures.bare.uncovered (rooted_of_apart m c.new_block-made.result c.fill_kept.ensures.bare.is_apart) (there told);
       content = subst (λ (p : Pointer). Becomes s m t c.args.kept.now t.depth p c.new_block-made.result) (sym c.requires.is) c.fill_kept.ensures.content;
     })
 

@@ -8,8 +8,9 @@ use Rattle.fo_ports.specs.Sources.{Made}
 use Rattle.fo_tree_read.specs.Tree.{kind_down, below, block_at, above as hold}
 use Rattle.fo_tree_look.specs.Source.{seen, IsTold, WayReady}
 use Rattle.fo_tree_own.specs.Step.{IsOwn, CanOwn, Becomes, Links}
-use Rattle.fo_tree_down.specs.Way.{OnWay, Comes, Leads, IsTopOf, WayCurrent, with_top}
-use Rattle.fo_tree_down.proofs.Next.{Says, local_seen, leads_next, leads_beside, above_own, can_next, was_below, comes_same, comes_new, not_current, replaces_same, replaces_new}
+use Rattle.fo_tree_down.specs.Way.{OnWay, Comes, Leads, IsTopOf, WayCurrent, CurrentBut, with_top}
+use Rattle.fo_tree_down.proofs.Sparing.{but_top, but_down}
+use Rattle.fo_tree_down.proofs.Next.{Says, local_seen, leads_next, current_below, leads_beside, above_own, can_next, was_below, comes_same, comes_new, not_current, replaces_same, replaces_new}
 use Rattle.fo_tree_down.proofs.Leading.{block_of, leads_on, beside_on, given_on, top_stays, way_top}
 use Rattle.fo_tree_down.proofs.way.+own_down.Goals as goal
 
@@ -23,7 +24,13 @@ own_top-top-requires-clause-told g t' c =
     subst (λ d. s.tells → (b : ℕ) → OnWay s t d c.args.k b → IsTold s t.top b) c.if-down-eq0.true c.requires.told
 
 pub own_top-top-requires-clause-spare : goal.own_top-top-requires-clause-spare
-own_top-top-requires-clause-spare g t' c = ⊎_elim (λ top. inl top.0) (λ some. inr (omega (arith, some))) c.requires.spare
+own_top-top-requires-clause-spare g t' c =
+    let s = g.B.Blocks.state c.args.on.now in
+    let t = c.args.tree.now in
+    let count = c.requires.spare.0 in
+    let enough = c.requires.spare.2 in
+    ⊎_elim (λ top. inl top) (λ some. inr (omega (arith, some, enough)))
+    (but_top s t count c.args.k (subst (λ d. CurrentBut s t count d c.args.k) c.if-down-eq0.true c.requires.spare.1))
 
 pub returns-then-down-eq0-clause-comes : goal.returns-then-down-eq0-clause-comes
 returns-then-down-eq0-clause-comes g t' c =
@@ -60,7 +67,10 @@ own_down-above-requires g t' c =
               (subst (λ d. WayReady s t kept d k) is c.requires.ready).0,
               (
                 λ is b way. told is b (inl way),
-                ⊎_elim (λ top. let enough = top.1 in inl (top.0, omega (arith, enough))) (λ enough. inr (omega (arith, enough, some))) c.requires.spare,
+                ⊎_elim
+                    (λ way. (0, way.0, omega arith))
+                    (λ up. let less = up.is in let enough = c.requires.spare.2 in (up.less, up.but, omega (arith, less, enough)))
+                    (but_down s t c.requires.spare.0 (c.args.down - 1) k (subst (λ d. CurrentBut s t c.requires.spare.0 d k) is c.requires.spare.1)),
               ),
             ),
           ),
@@ -125,11 +135,34 @@ own_block-at-requires-clause-below g t' c =
 
 pub own_block-at-requires-clause-spare : goal.own_block-at-requires-clause-spare
 own_block-at-requires-clause-spare g t' c =
-    let some = c.if-down-eq0.false in
+    let on = c.args.on.now in
+    let mid = c.own_down-above.new.on in
+    let s = g.B.Blocks.state on in
+    let m = g.B.Blocks.state mid in
+    let t = c.args.tree.now in
+    let kept = c.args.kept.now in
+    let n = c.args.down - 1 in
+    let k = c.args.k in
+    let is : c.args.down ≡ suc (c.args.down - 1) = omega arith in
+    let all = g.met.B.Blocks.keeps_all on mid c.own_down-above.ensures.keeps in
+    let down : suc (c.args.down - 1) ≤ t.depth = subst (λ d. d ≤ t.depth) is c.requires.down.0 in
+    let ready : WayReady s t kept (suc (c.args.down - 1)) k = subst (λ d. WayReady s t kept d k) is c.requires.ready in
+    let says : s.tells → Says s = λ told. record { placed = g.met.B.Blocks.placed on s.now (g.met.B.Blocks.present on told); one = g.met.B.Blocks.one_place on } in
+    let told : s.tells → (b : ℕ) → OnWay s t (suc (c.args.down - 1)) k b → IsTold s t.top b = subst (λ d. s.tells → (b : ℕ) → OnWay s t d k b → IsTold s t.top b) is c.requires.told in
+    let above = c.own_down-above.result.at in
+    let comes = c.own_down-above.ensures.comes in
+    let count = c.requires.spare.0 in
     ⊎_elim
-    (λ top. let left = c.own_down-above.ensures.less top.0 in let enough = top.1 in inr (omega (arith, some, enough, left)))
-    (λ enough. let left = c.own_down-above.ensures.spare in inr (omega (arith, some, enough, left)))
-    c.requires.spare
+    (λ way.
+    let last = way.1 in
+    let leads : target ((m.now above).slot (k % 409)) ≡ Local last.0 = leads_next s m t kept n k above all c.requires.hangs down ready comes says told ∙ local_seen s kept t (suc n) k last.0 last.1 in
+    inl (last.0, leads, current_below s m t kept n k above all c.requires.hangs down ready comes says told last.0 leads last.2))
+    (λ up.
+    let left = c.own_down-above.ensures.few up.less up.but in
+    let less = up.is in
+    let enough = c.requires.spare.2 in
+    inr (omega (arith, left, less, enough)))
+    (but_down s t count n k (subst (λ d. CurrentBut s t count d k) is c.requires.spare.1))
 
 pub returns-clause-comes : goal.returns-clause-comes
 returns-clause-comes g t' c =
@@ -170,6 +203,7 @@ returns-clause-comes g t' c =
           (λ ne. (root_place, g.met.B.Blocks.top_stands on top (g.met.B.Blocks.told on image h) is_top ne))
           (cases_eq top 1),
     ))
+    (g.met.B.Blocks.standing on)
     links
     (subst (λ d. Becomes m u t kept (t.depth - d) was at) is c.own_block-at.ensures.content))
     step)
@@ -282,10 +316,48 @@ returns-clause-used g t' c =
           (λ ne. (root_place, g.met.B.Blocks.top_stands on top (g.met.B.Blocks.told on image h) is_top ne))
           (cases_eq top 1),
     ))
+    (g.met.B.Blocks.standing on)
     links last.0 leads last.2))
     (λ ne. let taken = links.spare in spend_one s.spare m.spare u.spare j k (hold n (j / 409)) (hold n (k / 409)) le ne left taken)
     (cases_eq j k))
     step)
+
+pub returns-then-down-eq0-clause-few : goal.returns-then-down-eq0-clause-few
+returns-then-down-eq0-clause-few g t' c = λ count but.
+    let s = g.B.Blocks.state c.args.on.now in
+    let t = c.args.tree.now in
+    ⊎_elim
+    (λ top. let less = c.own_top-top.ensures.less top in omega (arith, less))
+    (λ some. let one = c.own_top-top.ensures.spare in omega (arith, one, some))
+    (but_top s t count c.args.k (subst (λ d. CurrentBut s t count d c.args.k) c.if-down-eq0.true but))
+
+pub returns-clause-few : goal.returns-clause-few
+returns-clause-few g t' c = λ count but.
+    let on = c.args.on.now in
+    let mid = c.own_down-above.new.on in
+    let s = g.B.Blocks.state on in
+    let m = g.B.Blocks.state mid in
+    let t = c.args.tree.now in
+    let n = c.args.down - 1 in
+    let k = c.args.k in
+    let is : c.args.down ≡ suc (c.args.down - 1) = omega arith in
+    let above = c.own_down-above.result.at in
+    let end = c.own_block-at.new.on in
+    let u = g.B.Blocks.state end in
+    let at = c.own_block-at.result in
+    let was = target ((m.now above).slot (k % 409)) in
+    let step : ((was ≡ Local at) × (end ≡ mid) × IsOwn m t (t.depth - suc n) (409 * (k / 409) + k % 409) at) ⊎ Links t (t.depth - suc n) (k / 409) above (k % 409) was at m u =
+    subst (λ d. ((was ≡ Local at) × (end ≡ mid) × IsOwn m t (t.depth - d) (409 * (k / 409) + k % 409) at) ⊎ Links t (t.depth - d) (k / 409) above (k % 409) was at m u) is c.own_block-at.ensures.step in
+    ⊎_elim
+    (λ way. let used = returns-clause-used g t' c k (subst (λ d. WayCurrent s t d k) (sym is) way) (omega arith) (omega arith) in omega (arith, used))
+    (λ up.
+    let left = c.own_down-above.ensures.few up.less up.but in
+    let less = up.is in
+    ⊎_elim
+    (λ same. let kept_spare : m.spare ≤ u.spare = subst (λ x. m.spare ≤ (g.B.Blocks.state x).spare) (sym same.1) (omega arith) in omega (arith, kept_spare, left, less))
+    (λ links. let used = links.spare in omega (arith, used, left, less))
+    step)
+    (but_down s t count n k (subst (λ d. CurrentBut s t count d k) is but))
 
 pub returns-clause-keeps : goal.returns-clause-keeps
 returns-clause-keeps g t' c =
@@ -342,9 +414,9 @@ returns-clause-leads g t' c =
     (λ links. (
       (
         above,
-        leads_on s m u t kept top n above (k % 409) at (t.depth - suc n) (k / 409) (omega (arith, down)) (block_of n (k / 409) above comes.own) was (was_below s m t kept n k above all c.requires.hangs down ready comes says told) (g.met.B.Blocks.keeps_all mid end c.own_block-at.ensures.keeps) links n (k / 409) above (omega arith) c.own_down-above.ensures.leads,
+        leads_on s m u t kept top n above (k % 409) at (t.depth - suc n) (k / 409) (omega (arith, down)) (block_of n (k / 409) above comes.own) was (was_below s m t kept n k above all c.requires.hangs down ready comes says told) (g.met.B.Blocks.keeps_all mid end c.own_block-at.ensures.keeps) links (g.met.B.Blocks.active end).0 n (k / 409) above (omega arith) c.own_down-above.ensures.leads,
         links.leads,
-        beside_on s m u t kept top n above (k % 409) at (t.depth - suc n) (k / 409) (omega (arith, down)) (block_of n (k / 409) above comes.own) was (was_below s m t kept n k above all c.requires.hangs down ready comes says told) (g.met.B.Blocks.keeps_all mid end c.own_block-at.ensures.keeps) links (k / 409) (λ j few ne. beside j few),
+        beside_on s m u t kept top n above (k % 409) at (t.depth - suc n) (k / 409) (omega (arith, down)) (block_of n (k / 409) above comes.own) was (was_below s m t kept n k above all c.requires.hangs down ready comes says told) (g.met.B.Blocks.keeps_all mid end c.own_block-at.ensures.keeps) links (g.met.B.Blocks.active end).0 (k / 409) (λ j few ne. beside j few),
       ),
       replaces_new s m t kept n k above all c.requires.hangs down ready comes says told u at (g.met.B.Blocks.keeps_all mid end c.own_block-at.ensures.keeps)
           (λ image h. (
@@ -356,6 +428,7 @@ returns-clause-leads g t' c =
                 (λ ne. (root_place, g.met.B.Blocks.top_stands on top (g.met.B.Blocks.told on image h) is_top ne))
                 (cases_eq top 1),
           ))
+          (g.met.B.Blocks.standing on)
           links,
     ))
     step)
@@ -416,7 +489,7 @@ returns-clause-given g t' c =
     (⊎_elim
     (λ same. subst (λ x. (b : ℕ) → Made s (g.B.Blocks.state x) b → OnWay (g.B.Blocks.state x) (with_top t top) (suc n) k b) (sym same.1) (λ b made. inl (c.own_down-above.ensures.given b made)))
     (λ links. given_on s m u t kept top n above (k % 409) at (t.depth - suc n) (k / 409) (omega (arith, down)) (block_of n (k / 409) above comes.own) was (was_below s m t kept n k above all c.requires.hangs down ready comes says told)
-    (g.met.B.Blocks.keeps_all mid end c.own_block-at.ensures.keeps) links k c.own_down-above.ensures.leads links.leads c.own_down-above.ensures.given)
+    (g.met.B.Blocks.keeps_all mid end c.own_block-at.ensures.keeps) links (g.met.B.Blocks.active end).0 k c.own_down-above.ensures.leads links.leads c.own_down-above.ensures.given)
     step)
 
 pub returns-clause-stead : goal.returns-clause-stead

@@ -149,6 +149,7 @@ returns-then-least_depth-tree-clause-owns g c =
             (λ ne. (root_place, g.met.B.Blocks.top_stands on up (g.met.B.Blocks.told on image is) is_top ne))
             (cases_eq up 1);
         told = λ image is. g.met.B.Blocks.told on image is;
+        standing = g.met.B.Blocks.standing on;
       }) generation l;
       most = let first = f.spare in omega (arith, past, levels, first, used);
       less = λ top. let first = f.less top in omega (arith, past, levels, first, used);
@@ -246,13 +247,11 @@ returns-else-least_depth-tree-clause-owns g c =
         instead = instead_two;
         tree = e.in_tree;
         covers = e.covers;
-        free = λ told b made. ((over_two limit (omega (arith, within)) (f.over limit over)).told (more.still_tells.1 told) b (((grows_two limit).owns told b).1 made)).uncovered;
         all = all;
         more = more;
         from = f.top.0.from;
         is_apart = f.top.0.apart;
         stead = steps.stead;
-        live = λ told b has. (over.told told b has).live;
         placed = λ image is. g.met.B.Blocks.placed on image is;
         ranked = λ image is. g.met.B.Blocks.ranked on image is;
         top_stands = λ image is up is_top. ⊎_elim
@@ -260,6 +259,7 @@ returns-else-least_depth-tree-clause-owns g c =
             (λ ne. (root_place, g.met.B.Blocks.top_stands on up (g.met.B.Blocks.told on image is) is_top ne))
             (cases_eq up 1);
         told = λ image is. g.met.B.Blocks.told on image is;
+        standing = g.met.B.Blocks.standing on;
       });
       most = let first = f.spare in omega (arith, past, first, used);
       less = λ top. let first = f.less top in omega (arith, past, first, used);

@@ -9,7 +9,7 @@ use Rattle.fo_tree_down.specs.Way.{with_top}
 use Rattle.fo_tree_raise.specs.Raise.{CanRaise}
 use Rattle.fo_tree_raise.proofs.Bearing.{bears}
 use Rattle.fo_tree_lift.proofs.Join.{Follows, adds_join, made_first, made_second, made_either}
-use Rattle.fo_tree_lift.proofs.Lifting.{Copied, Raised, new_top, copied_back, copied_on, copied_top, leaf_copied, new_copied, instead_copied}
+use Rattle.fo_tree_lift.proofs.Lifting.{Copied, Raised, new_top, copied_back, copied_on, copied_top, leaf_copied, new_copied, ways_copied, instead_copied}
 use Rattle.fo_tree_lift.proofs.levels.lift_copy.Goals as goal
 
 pub copy_top-copy-requires-clause-spare : goal.copy_top-copy-requires-clause-spare
@@ -64,6 +64,7 @@ returns-clause-lifts g c =
       owns = λ told. f.owns told kept;
       still = f.still kept;
       clear = f.clear kept;
+      ways = f.ways kept;
     }) in
     let follows : Follows t (λ y. t.top ≡ Local y) copy s b m = record {
       first = e.adds;
@@ -91,6 +92,7 @@ returns-clause-lifts g c =
       bears = last.bears some below;
       still = λ limit o n was. last.still limit o n over.hangs.room (e.still limit o n was);
       clear = last.clear some over.hangs.room (e.clear c.requires.clear);
+      ways = ways_copied first follows new kept levels e.ways last.ways;
       owns = λ told y.
           let both = last.owns (first.all.still_tells.1 told) some below y in (
             λ has. ⊎_elim

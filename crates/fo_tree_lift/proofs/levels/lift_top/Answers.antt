@@ -30,6 +30,7 @@ returns-clause-lifts g c =
       bears = e.bears kept some (bears over);
       still = λ limit o n was. e.still kept limit o n over.hangs.room was;
       clear = e.clear kept some over.hangs.room c.requires.clear;
+      ways = e.ways kept;
       owns = λ told b. let both = e.owns told kept some (bears over) b in (both.0, λ made. both.1 (inl made));
       stays = λ told b has current. (e.owns told kept some (bears over) b).1 (inr has);
       leaves = λ told k few. inl (e.leaves told kept some (bears over) k few);

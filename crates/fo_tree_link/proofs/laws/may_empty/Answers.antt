@@ -30,7 +30,7 @@ linked_of g on {kept = kept} {limit = limit} told over leaf entry linked =
         leaf = leaf;
         told = λ tells. same_link {kept = kept} {limit = limit} (laws_of g on) (g.met.B.Blocks.one_stays on) (g.met.B.Blocks.keeps_all on on (g.met.B.Blocks.keeps_at_once on)) over entry tells (linked tells);
       };
-      says = record { placed = g.met.B.Blocks.placed on s.now (g.met.B.Blocks.present on told); one = g.met.B.Blocks.one_place on; super_stands = g.met.B.Blocks.super_stands on told; labelled = λ b p ne stands. (g.met.B.Blocks.labelled on b p told ne stands).1 };
+      says = record { placed = g.met.B.Blocks.placed on s.now (g.met.B.Blocks.present on told); one = g.met.B.Blocks.one_place on; active = (g.met.B.Blocks.active on).0; super_stands = g.met.B.Blocks.super_stands on told; labelled = λ b p ne stands. (g.met.B.Blocks.labelled on b p told ne stands).1 };
       told = told;
       entry = entry;
       linked = linked told;

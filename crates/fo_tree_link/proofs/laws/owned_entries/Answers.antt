@@ -3,6 +3,7 @@ use Rattle.fo_crash.specs.declared.place.Place.{Place}
 use Rattle.fo_crash.specs.Places.{place, super_place}
 use Rattle.fo_tree_read.specs.Tree.{kind_down}
 use Rattle.fo_tree_read.proofs.Walk.{is_down}
+use Rattle.fo_tree_look.proofs.Shown.{held_on}
 use Rattle.fo_tree_link.proofs.Named.{leaf_is, leaf_not_root}
 use Rattle.fo_tree_link.proofs.Owning.{owned_entries}
 use Rattle.fo_tree_link.proofs.laws.owned_entries.Goals as goal
@@ -12,9 +13,11 @@ returns g c = λ told.
     let on = c.args.before.now in
     let s = g.B.Blocks.state on in
     let t = c.args.tree.now in
-    owned_entries {kept = c.args.kept.now} {limit = c.requires.over.0} {generation = 0} {i = c.args.i} {at = c.args.at} (record {
+    let all = g.met.B.Blocks.keeps_all on c.args.after.now c.requires.keeps in
+    owned_entries {kept = c.args.kept.now} {later = c.args.kept.now} {limit = c.requires.over.0} {generation = 0} {i = c.args.i} {at = c.args.at} (record {
       over = c.requires.over.1;
-      all = g.met.B.Blocks.keeps_all on c.args.after.now c.requires.keeps;
+      all = all;
+      held = held_on all c.args.kept.now c.requires.over.1.held;
       told = told;
       owned = c.requires.owned 0 c.requires.over.0;
       changes = c.requires.changes 0 c.requires.over.0;

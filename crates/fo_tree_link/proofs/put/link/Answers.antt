@@ -45,7 +45,7 @@ was_put g on end {at = at} {i = i} e is before keeps puts frame hangs =
     let u = g.B.Blocks.state end in
     record {
       before = before;
-      says = λ tells. record { placed = g.met.B.Blocks.placed on s.now (g.met.B.Blocks.present on tells); one = g.met.B.Blocks.one_place on; super_stands = g.met.B.Blocks.super_stands on tells; labelled = λ b p ne stands. (g.met.B.Blocks.labelled on b p tells ne stands).1 };
+      says = λ tells. record { placed = g.met.B.Blocks.placed on s.now (g.met.B.Blocks.present on tells); one = g.met.B.Blocks.one_place on; active = (g.met.B.Blocks.active on).0; super_stands = g.met.B.Blocks.super_stands on tells; labelled = λ b p ne stands. (g.met.B.Blocks.labelled on b p tells ne stands).1 };
       puts = subst (λ q. PutsSlot at i (Head q) s.now u.now) is puts;
       frame = subst (λ q. Frame (λ b. b ≡ at) (λ b. (b ≡ at) ⊎ (target (Head q) ≡ Local b)) (cost ((s.now at).slot i) (Head q)) s u) is frame;
       hangs = subst (λ q. Hangs at i (Head q) s u) is hangs;

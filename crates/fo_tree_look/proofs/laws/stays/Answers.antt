@@ -12,6 +12,7 @@ returns-clause-over g c = λ still.
       one = g.met.B.Blocks.one_place c.args.before.now;
       super_stands = g.met.B.Blocks.super_stands c.args.before.now told;
       labelled = λ at p other stands. (g.met.B.Blocks.labelled c.args.before.now at p told other stands).1;
+      active = (g.met.B.Blocks.active c.args.before.now).0;
     })
     still
 
@@ -26,6 +27,7 @@ returns-clause-leaves g c = λ still told.
       one = g.met.B.Blocks.one_place c.args.before.now;
       super_stands = g.met.B.Blocks.super_stands c.args.before.now told;
       labelled = λ at p other stands. (g.met.B.Blocks.labelled c.args.before.now at p told other stands).1;
+      active = (g.met.B.Blocks.active c.args.before.now).0;
     } in (
       λ i. (address_kept a b s.tree s.kept.items s.limit all c.requires.over told says (still told) i, held_kept a b s.tree s.kept.items s.limit all c.requires.over told says (still told) i),
       λ at. (blocks_back a b s.tree s.kept.items s.limit all c.requires.over told says (still told) at, blocks_on a b s.tree s.kept.items s.limit all c.requires.over told says (still told) at),

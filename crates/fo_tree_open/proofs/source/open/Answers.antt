@@ -1,31 +1,31 @@
-use Rattle.std.proofs.Common.{◌≡◌, ◌^◌, ◌<◌, ◌≤◌, ℕ, [], subst, sym}
+use Rattle.std.proofs.Common.{◌≡◌, ◌^◌, ◌<◌, ◌≤◌, ℕ, [], ap, subst, sym, ◌∙◌}
 use Rattle.fo_image.specs.declared.types.Entry.{Entry}
 use Rattle.fo_crash.specs.declared.slot.Slot.TheVariants.{Entry as Head}
-use Rattle.fo_crash.specs.Images.{Reaches, to_block}
+use Rattle.fo_crash.specs.Images.{Reaches, target, to_block}
+use Rattle.fo_ports.specs.Blocks.{IsEntry}
 use Rattle.fo_tree_look.specs.Source.{Over, HasBlock}
 use Rattle.fo_tree_open.specs.Open.{HasEntry, IsFit, CanOpen, tree_of}
-use Rattle.fo_tree_open.proofs.Opened.{Opens, entry_within, over_opened, linked_opened}
+use Rattle.fo_tree_open.proofs.Opened.{Opens, entry_fits, entry_within, over_opened, linked_opened}
 use Rattle.fo_tree_open.proofs.source.open.Given as given
 use Rattle.fo_tree_open.proofs.source.open.Goals as goal
 
 opens : (g : given.Over) (on : g.row.B.Denot) {at i : ℕ} {e : Entry} {tag rank limit : ℕ} → (g.B.Blocks.state on).pinned at → ((g.B.Blocks.state on).now at).slot i ≡ Head e → HasEntry ((g.B.Blocks.state on).label at).kind i → (rank < 2 ^ 31) × (limit ≤ 2 ^ 47)
-    → ((g.B.Blocks.state on).tells → CanOpen (g.B.Blocks.state on) at i e rank) → IsFit e tag limit → Opens (g.B.Blocks.state on) at i e tag rank limit
-opens g on {at = at} {i = i} pinned is leaf low told fit =
+    → ((g.B.Blocks.state on).tells → CanOpen (g.B.Blocks.state on) at i e rank) → IsFit e tag limit → Opens (g.B.Blocks.state on) e tag rank limit
+opens g on {at = at} {i = i} {e = e} pinned is leaf low told fit =
     let s = g.B.Blocks.state on in
     record {
       says = record {
         placed = λ tells. g.met.B.Blocks.placed on s.now (g.met.B.Blocks.present on tells);
         ranked = λ tells. g.met.B.Blocks.ranked on s.now (g.met.B.Blocks.present on tells);
         one = g.met.B.Blocks.one_place on;
+        active = (g.met.B.Blocks.active on).0;
         super_stands = g.met.B.Blocks.super_stands on;
         live = λ b tells ne r. g.met.B.Blocks.live on b tells ne r;
       };
-      is = is;
-      leaf = leaf;
-      fits = g.met.B.Blocks.spelled on at i pinned (entry_within ((s.label at).kind) i leaf);
-      within = λ b leads. g.met.B.Blocks.within on at i b pinned leads;
+      entry = subst (λ q. IsEntry q) is (entry_fits ((s.label at).kind) i ((s.now at).slot i) leaf (g.met.B.Blocks.spelled on at i pinned (entry_within ((s.label at).kind) i leaf)));
+      within = λ b leads. g.met.B.Blocks.within on at i b pinned (ap target is ∙ leads);
       low = low;
-      told = told;
+      told = λ tells. record { at = at; i = i; is = is; can = told tells };
       fit = fit;
     }
 

@@ -6,6 +6,7 @@ use Rattle.fo_crash.specs.Places.{place}
 use Rattle.fo_ports.specs.State.{Gives}
 use Rattle.fo_crash.proofs.Reach.{lost}
 use Rattle.fo_ports.specs.Blocks.{blank, IsLevel}
+use Rattle.fo_looks.proofs.Looks.{rooted_of_apart}
 use Rattle.fo_tree_read.specs.Tree.{kind_at}
 use Rattle.fo_tree_own.proofs.Link.{came, came_filled, blank_leads, same, at_current, unwaited, may_spell, may_settled, may_lead, may_cost, none_dropped}
 use Rattle.fo_tree_own.proofs.May.{Making, may_put, new_shown, slot_none, nil_leads, held_leads, level_of}
@@ -77,7 +78,7 @@ put_slot-requires-clause-spelled g c =
       bare = c.fill_kept.ensures.bare.bare;
       low = let small = c.ranges.k.fits in omega (arith, small);
       instead = λ y h. e.instead y ((filled.instead c.new_block-made.result y).0 h);
-      place = λ told. filled.places (first.still_tells.1 told) c.new_block-made.result (place (kind_at t.dir c.args.level) t.tag 0 (t.rank + c.args.level)) c.fill_kept.ensures.bare.uncovered (subst (λ q. r.stands c.new_block-made.result (place q t.tag 0 (t.rank + c.args.level))) c.kind_at-kind.ensures (e.place told));
+      place = λ told. filled.places (first.still_tells.1 told) c.new_block-made.result (place (kind_at t.dir c.args.level) t.tag 0 (t.rank + c.args.level)) c.fill_kept.ensures.bare.uncovered (rooted_of_apart m c.new_block-made.result c.fill_kept.ensures.bare.is_apart) (subst (λ q. r.stands c.new_block-made.result (place q t.tag 0 (t.rank + c.args.level))) c.kind_at-kind.ensures (e.place told));
     } in
     may_spell x.link
 
@@ -113,7 +114,7 @@ put_slot-requires-clause-current g c =
       bare = c.fill_kept.ensures.bare.bare;
       low = let small = c.ranges.k.fits in omega (arith, small);
       instead = λ y h. e.instead y ((filled.instead c.new_block-made.result y).0 h);
-      place = λ told. filled.places (first.still_tells.1 told) c.new_block-made.result (place (kind_at t.dir c.args.level) t.tag 0 (t.rank + c.args.level)) c.fill_kept.ensures.bare.uncovered (subst (λ q. r.stands c.new_block-made.result (place q t.tag 0 (t.rank + c.args.level))) c.kind_at-kind.ensures (e.place told));
+      place = λ told. filled.places (first.still_tells.1 told) c.new_block-made.result (place (kind_at t.dir c.args.level) t.tag 0 (t.rank + c.args.level)) c.fill_kept.ensures.bare.uncovered (rooted_of_apart m c.new_block-made.result c.fill_kept.ensures.bare.is_apart) (subst (λ q. r.stands c.new_block-made.result (place q t.tag 0 (t.rank + c.args.level))) c.kind_at-kind.ensures (e.place told));
     } in
     at_current x.link
 
@@ -149,7 +150,7 @@ put_slot-requires-clause-settled g c =
       bare = c.fill_kept.ensures.bare.bare;
       low = let small = c.ranges.k.fits in omega (arith, small);
       instead = λ y h. e.instead y ((filled.instead c.new_block-made.result y).0 h);
-      place = λ told. filled.places (first.still_tells.1 told) c.new_block-made.result (place (kind_at t.dir c.args.level) t.tag 0 (t.rank + c.args.level)) c.fill_kept.ensures.bare.uncovered (subst (λ q. r.stands c.new_block-made.result (place q t.tag 0 (t.rank + c.args.level))) c.kind_at-kind.ensures (e.place told));
+      place = λ told. filled.places (first.still_tells.1 told) c.new_block-made.result (place (kind_at t.dir c.args.level) t.tag 0 (t.rank + c.args.level)) c.fill_kept.ensures.bare.uncovered (rooted_of_apart m c.new_block-made.result c.fill_kept.ensures.bare.is_apart) (subst (λ q. r.stands c.new_block-made.result (place q t.tag 0 (t.rank + c.args.level))) c.kind_at-kind.ensures (e.place told));
     } in
     may_settled x.link
 
@@ -185,7 +186,7 @@ put_slot-requires-clause-same_use g c = λ a w.
       bare = c.fill_kept.ensures.bare.bare;
       low = let small = c.ranges.k.fits in omega (arith, small);
       instead = λ y h. e.instead y ((filled.instead c.new_block-made.result y).0 h);
-      place = λ told. filled.places (first.still_tells.1 told) c.new_block-made.result (place (kind_at t.dir c.args.level) t.tag 0 (t.rank + c.args.level)) c.fill_kept.ensures.bare.uncovered (subst (λ q. r.stands c.new_block-made.result (place q t.tag 0 (t.rank + c.args.level))) c.kind_at-kind.ensures (e.place told));
+      place = λ told. filled.places (first.still_tells.1 told) c.new_block-made.result (place (kind_at t.dir c.args.level) t.tag 0 (t.rank + c.args.level)) c.fill_kept.ensures.bare.uncovered (rooted_of_apart m c.new_block-made.result c.fill_kept.ensures.bare.is_apart) (subst (λ q. r.stands c.new_block-made.result (place q t.tag 0 (t.rank + c.args.level))) c.kind_at-kind.ensures (e.place told));
     } in
     absurd (unwaited x.link a i w)
 
@@ -221,7 +222,7 @@ put_slot-requires-clause-leads g c =
       bare = c.fill_kept.ensures.bare.bare;
       low = let small = c.ranges.k.fits in omega (arith, small);
       instead = λ y h. e.instead y ((filled.instead c.new_block-made.result y).0 h);
-      place = λ told. filled.places (first.still_tells.1 told) c.new_block-made.result (place (kind_at t.dir c.args.level) t.tag 0 (t.rank + c.args.level)) c.fill_kept.ensures.bare.uncovered (subst (λ q. r.stands c.new_block-made.result (place q t.tag 0 (t.rank + c.args.level))) c.kind_at-kind.ensures (e.place told));
+      place = λ told. filled.places (first.still_tells.1 told) c.new_block-made.result (place (kind_at t.dir c.args.level) t.tag 0 (t.rank + c.args.level)) c.fill_kept.ensures.bare.uncovered (rooted_of_apart m c.new_block-made.result c.fill_kept.ensures.bare.is_apart) (subst (λ q. r.stands c.new_block-made.result (place q t.tag 0 (t.rank + c.args.level))) c.kind_at-kind.ensures (e.place told));
     } in
     may_lead x.link
 
@@ -257,7 +258,7 @@ put_slot-requires-clause-may g c = λ now.
       bare = c.fill_kept.ensures.bare.bare;
       low = let small = c.ranges.k.fits in omega (arith, small);
       instead = λ y h. e.instead y ((filled.instead c.new_block-made.result y).0 h);
-      place = λ told. filled.places (first.still_tells.1 told) c.new_block-made.result (place (kind_at t.dir c.args.level) t.tag 0 (t.rank + c.args.level)) c.fill_kept.ensures.bare.uncovered (subst (λ q. r.stands c.new_block-made.result (place q t.tag 0 (t.rank + c.args.level))) c.kind_at-kind.ensures (e.place told));
+      place = λ told. filled.places (first.still_tells.1 told) c.new_block-made.result (place (kind_at t.dir c.args.level) t.tag 0 (t.rank + c.args.level)) c.fill_kept.ensures.bare.uncovered (rooted_of_apart m c.new_block-made.result c.fill_kept.ensures.bare.is_apart) (subst (λ q. r.stands c.new_block-made.result (place q t.tag 0 (t.rank + c.args.level))) c.kind_at-kind.ensures (e.place told));
     } in
     let told = x.link.all.still_tells.0 now in may_put x.link told (new_shown x told)
 
@@ -293,7 +294,7 @@ put_slot-requires-clause-room g c =
       bare = c.fill_kept.ensures.bare.bare;
       low = let small = c.ranges.k.fits in omega (arith, small);
       instead = λ y h. e.instead y ((filled.instead c.new_block-made.result y).0 h);
-      place = λ told. filled.places (first.still_tells.1 told) c.new_block-made.result (place (kind_at t.dir c.args.level) t.tag 0 (t.rank + c.args.level)) c.fill_kept.ensures.bare.uncovered (subst (λ q. r.stands c.new_block-made.result (place q t.tag 0 (t.rank + c.args.level))) c.kind_at-kind.ensures (e.place told));
+      place = λ told. filled.places (first.still_tells.1 told) c.new_block-made.result (place (kind_at t.dir c.args.level) t.tag 0 (t.rank + c.args.level)) c.fill_kept.ensures.bare.uncovered (rooted_of_apart m c.new_block-made.result c.fill_kept.ensures.bare.is_apart) (subst (λ q. r.stands c.new_block-made.result (place q t.tag 0 (t.rank + c.args.level))) c.kind_at-kind.ensures (e.place told));
     } in
     let none = may_cost x.link in omega (arith, none)
 
@@ -329,7 +330,7 @@ put_slot-requires-clause-tops g c = λ n y lt h.
       bare = c.fill_kept.ensures.bare.bare;
       low = let small = c.ranges.k.fits in omega (arith, small);
       instead = λ y h. e.instead y ((filled.instead c.new_block-made.result y).0 h);
-      place = λ told. filled.places (first.still_tells.1 told) c.new_block-made.result (place (kind_at t.dir c.args.level) t.tag 0 (t.rank + c.args.level)) c.fill_kept.ensures.bare.uncovered (subst (λ q. r.stands c.new_block-made.result (place q t.tag 0 (t.rank + c.args.level))) c.kind_at-kind.ensures (e.place told));
+      place = λ told. filled.places (first.still_tells.1 told) c.new_block-made.result (place (kind_at t.dir c.args.level) t.tag 0 (t.rank + c.args.level)) c.fill_kept.ensures.bare.uncovered (rooted_of_apart m c.new_block-made.result c.fill_kept.ensures.bare.is_apart) (subst (λ q. r.stands c.new_block-made.result (place q t.tag 0 (t.rank + c.args.level))) c.kind_at-kind.ensures (e.place told));
     } in
     let none = none_dropped x.link in absurd (omega (arith, lt, none))
 
@@ -365,7 +366,7 @@ returns-clause-links g c =
       bare = c.fill_kept.ensures.bare.bare;
       low = let small = c.ranges.k.fits in omega (arith, small);
       instead = λ y h. e.instead y ((filled.instead c.new_block-made.result y).0 h);
-      place = λ told. filled.places (first.still_tells.1 told) c.new_block-made.result (place (kind_at t.dir c.args.level) t.tag 0 (t.rank + c.args.level)) c.fill_kept.ensures.bare.uncovered (subst (λ q. r.stands c.new_block-made.result (place q t.tag 0 (t.rank + c.args.level))) c.kind_at-kind.ensures (e.place told));
+      place = λ told. filled.places (first.still_tells.1 told) c.new_block-made.result (place (kind_at t.dir c.args.level) t.tag 0 (t.rank + c.args.level)) c.fill_kept.ensures.bare.uncovered (rooted_of_apart m c.new_block-made.result c.fill_kept.ensures.bare.is_apart) (subst (λ q. r.stands c.new_block-made.result (place q t.tag 0 (t.rank + c.args.level))) c.kind_at-kind.ensures (e.place told));
     } in
     let end = c.put_slot.new.self in
     let u = g.B.Blocks.state end in

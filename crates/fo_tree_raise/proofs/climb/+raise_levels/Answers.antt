@@ -11,6 +11,7 @@ use Rattle.fo_tree_read.specs.Tree.{Hangs}
 use Rattle.fo_tree_raise.proofs.Levels.{owned_top}
 use Rattle.fo_tree_raise.proofs.Adding.{AddsMore, adds_nothing, adds_changes, added, made_top, made_back, made_on}
 use Rattle.fo_tree_raise.proofs.Climbing.{grown_none, grown_more, room_more, over_by, stead_by, leaves_none, leaves_more}
+use Rattle.fo_tree_raise.proofs.Keeping.{keeps_none, keeps_more}
 use Rattle.fo_tree_raise.proofs.climb.+raise_levels.Goals as goal
 
 -- no level
@@ -345,3 +346,23 @@ returns-clause-only g t' c = λ told y z h.
     (λ was. inr was)
     (c.raise_levels-below.ensures.only told y z old.0))
     (c.raise_once-top.ensures.only (all.still_tells.1 told) y z h)
+
+pub returns-then-levels-eq0-clause-ways : goal.returns-then-levels-eq0-clause-ways
+returns-then-levels-eq0-clause-ways g t' c = λ kept. keeps_none (g.B.Blocks.state c.args.on.now) c.args.tree.now kept c.args.levels c.if-levels-eq0.true
+
+pub returns-clause-ways : goal.returns-clause-ways
+returns-clause-ways g t' c = λ kept.
+    let mid = c.raise_levels-below.new.on in
+    let end = c.raise_once-top.new.on in
+    let m = g.B.Blocks.state mid in
+    let u = g.B.Blocks.state end in
+    let t = c.args.tree.now in
+    let top = c.raise_once-top.result in
+    let more = c.if-levels-eq0.false in
+    keeps_more {s = g.B.Blocks.state c.args.on.now} {m = m} {u = u} {t = t} {kept = kept} {levels = c.args.levels} {top = top} {p = c.raise_levels-below.result} (record {
+      some = omega (arith, more);
+      first = c.raise_levels-below.ensures.ways kept;
+      adds = c.raise_levels-below.ensures.adds.labels;
+      step = subst (λ (x : Tree). Raises x top m u) c.with_levels-lower.ensures c.raise_once-top.ensures.raises;
+      more = g.met.B.Blocks.keeps_all mid end c.raise_once-top.ensures.keeps;
+    })

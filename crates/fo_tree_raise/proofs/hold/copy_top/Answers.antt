@@ -13,7 +13,7 @@ use Rattle.fo_tree_down.specs.Way.{Comes}
 use Rattle.fo_tree_down.proofs.Topping.{Topped, comes_topped, top_topped}
 use Rattle.fo_tree_down.proofs.Join.{changes_of}
 use Rattle.fo_tree_down.proofs.Beside.{WentDown, last_leads, on_way_block}
-use Rattle.fo_tree_down.proofs.Stilling.{WasOwned, prepared_still}
+use Rattle.fo_tree_down.proofs.Stilling.{WasOwned, prepared_still, way_still, way_from}
 use Rattle.fo_tree_down.proofs.Telling.{over_end}
 use Rattle.fo_tree_raise.proofs.Holding.{Holding, made_result, made_is, adds_copy, can_copy, clear_copy}
 use Rattle.fo_tree_raise.proofs.hold.copy_top.Given as given
@@ -166,6 +166,7 @@ returns-clause-over g c = λ limit whole.
     let some : 0 < t.size = ⊎_elim (λ none. absurd (nil_top c.args.at (sym (whole.empty none) ∙ c.requires.is))) (λ ne. omega (arith, ne)) (cases_eq t.size 0) in
     over_end o (top_topped (topped g c)) (record {
       small = (laws_of g c.copy.new.self).small;
+      active = (g.met.B.Blocks.active c.copy.new.self).0;
       unlinked = (laws_of g on).apart_hangs;
       comes = λ now y z h. (g.met.B.Blocks.instead_of c.copy.new.self y z z now h).0;
     }) went some whole
@@ -181,3 +182,7 @@ returns-clause-spare g c = c.copy.ensures.gives.uses.spare
 
 pub returns-clause-changes : goal.returns-clause-changes
 returns-clause-changes g c = changes_of (λ b on. on_way_block (g.B.Blocks.state c.args.on.now) c.args.tree.now 0 0 b (omega arith) on) (comes g c).descends
+
+pub returns-clause-ways : goal.returns-clause-ways
+returns-clause-ways g c = λ j b way.
+    let t = c.args.tree.now in (way_still (owned g c) t.depth j (omega arith) way, way_from (owned g c) t.depth j b (omega arith) way)

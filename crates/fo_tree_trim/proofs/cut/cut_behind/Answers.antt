@@ -1,165 +1,337 @@
-use Rattle.std.proofs.Common.{◌≡◌, ◌+◌, ◌-◌, ◌*◌, ◌/◌, ◌<◌, ◌≤◌, suc, ⊎_elim, sym, ◌∙◌, subst, arith}
-use Rattle.fo_crash.specs.Spots.{OnePath}
+use Rattle.std.proofs.Common.{◌≡◌, ◌*◌, ◌^◌, ◌<◌, inl, refl, sym, ◌∙◌, ap, arith}
+use Rattle.fo_image.specs.declared.types.Label.{Label}
 use Rattle.fo_crash.proofs.Spots.{one_path}
-use Rattle.fo_tree_trim.specs.Cut.{CutSlot, Cuts}
-use Rattle.fo_tree_trim.proofs.Along.{Aside, way_ready}
-use Rattle.fo_tree_trim.proofs.Past.{Said, index_above}
-use Rattle.fo_tree_trim.proofs.Looping.{at_slot, passed, found_there, none_here, one_more, may_pinned, may_current, may_inner, may_clear}
-use Rattle.fo_tree_trim.proofs.cut.cut_behind.Goals.{then-i-next+in-Local, then-i-next+in_default, else-i-next}
+use Rattle.fo_tree_down.specs.Clear.{last_leaf}
+use Rattle.fo_tree_down.proofs.Beside.{index_last}
+use Rattle.fo_tree_trim.proofs.Above.{deep_size}
+use Rattle.fo_tree_trim.proofs.Along.{Aside, clear_end, way_ready}
+use Rattle.fo_tree_trim.proofs.Ending.{end_few, ends_clear}
+use Rattle.fo_tree_trim.proofs.Fronts.{bytes_same}
+use Rattle.fo_tree_trim.proofs.Gone.{past_gone}
+use Rattle.fo_tree_trim.proofs.Keeping.{Trims, trim_over, trim_comes, trim_back, trim_still, trim_leaves, trim_shows}
 use Rattle.fo_tree_trim.proofs.cut.cut_behind.Goals as goal
 
-pub pointer_here-above-requires-clause-ready : goal.pointer_here-above-requires-clause-ready
-pointer_here-above-requires-clause-ready g c =
+pub returns-clause-clear : goal.returns-clause-clear
+returns-clause-clear g c =
     let first = c.args.on.now in
-    let mid = c.loop-x.on in
+    let end = c.cut_slots.new.on in
     let s = g.B.Blocks.state first in
-    let m = g.B.Blocks.state mid in
+    let u = g.B.Blocks.state end in
     let t = c.args.tree.now in
     let kept = c.args.kept.now in
-    let last = c.args.last in
-    let x = c.loop-x.x in
-    let lt : x < 409 * t.depth = omega arith in
-    let aside : Aside s m t kept last x = record { cuts = c.loop-x.invariant.cuts; all = g.met.B.Blocks.keeps_all first mid c.loop-x.invariant.keeps; deep = c.requires.deep; ready = c.requires.ready; current = c.requires.current } in
-    let a = at_slot t last x c.index_at-next.result lt c.index_at-next.ensures in
-    way_ready aside (t.depth - 1 - x / 409) (c.index_at-next.result / 409) (index_above t.depth last (t.depth - 1 - x / 409) c.index_at-next.result a.is_way)
-
-pub cut_slot-requires-clause-pinned : goal.cut_slot-requires-clause-pinned
-cut_slot-requires-clause-pinned g c =
-    let first = c.args.on.now in
-    let mid = c.loop-x.on in
-    let s = g.B.Blocks.state first in
-    let m = g.B.Blocks.state mid in
-    let t = c.args.tree.now in
-    let kept = c.args.kept.now in
-    let last = c.args.last in
-    let x = c.loop-x.x in
-    let lt : x < 409 * t.depth = omega arith in
-    let aside : Aside s m t kept last x = record { cuts = c.loop-x.invariant.cuts; all = g.met.B.Blocks.keeps_all first mid c.loop-x.invariant.keeps; deep = c.requires.deep; ready = c.requires.ready; current = c.requires.current } in
-    let a = at_slot t last x c.index_at-next.result lt c.index_at-next.ensures in
-    may_pinned aside a (sym c.pointer_here-above.ensures ∙ c.in-Local.is)
-
-pub cut_slot-requires-clause-current : goal.cut_slot-requires-clause-current
-cut_slot-requires-clause-current g c =
-    let first = c.args.on.now in
-    let mid = c.loop-x.on in
-    let s = g.B.Blocks.state first in
-    let m = g.B.Blocks.state mid in
-    let t = c.args.tree.now in
-    let kept = c.args.kept.now in
-    let last = c.args.last in
-    let x = c.loop-x.x in
-    let lt : x < 409 * t.depth = omega arith in
-    let aside : Aside s m t kept last x = record { cuts = c.loop-x.invariant.cuts; all = g.met.B.Blocks.keeps_all first mid c.loop-x.invariant.keeps; deep = c.requires.deep; ready = c.requires.ready; current = c.requires.current } in
-    let a = at_slot t last x c.index_at-next.result lt c.index_at-next.ensures in
-    may_current aside a (sym c.pointer_here-above.ensures ∙ c.in-Local.is)
-
-pub cut_slot-requires-clause-inner : goal.cut_slot-requires-clause-inner
-cut_slot-requires-clause-inner g c =
-    let first = c.args.on.now in
-    let mid = c.loop-x.on in
-    let s = g.B.Blocks.state first in
-    let m = g.B.Blocks.state mid in
-    let t = c.args.tree.now in
-    let kept = c.args.kept.now in
-    let last = c.args.last in
-    let x = c.loop-x.x in
-    let lt : x < 409 * t.depth = omega arith in
-    let aside : Aside s m t kept last x = record { cuts = c.loop-x.invariant.cuts; all = g.met.B.Blocks.keeps_all first mid c.loop-x.invariant.keeps; deep = c.requires.deep; ready = c.requires.ready; current = c.requires.current } in
-    let a = at_slot t last x c.index_at-next.result lt c.index_at-next.ensures in
-    may_inner aside a (sym c.pointer_here-above.ensures ∙ c.in-Local.is)
-
-pub cut_slot-requires-clause-may : goal.cut_slot-requires-clause-may
-cut_slot-requires-clause-may g c = λ now.
-    let first = c.args.on.now in
-    let mid = c.loop-x.on in
-    let s = g.B.Blocks.state first in
-    let m = g.B.Blocks.state mid in
-    let t = c.args.tree.now in
-    let kept = c.args.kept.now in
-    let last = c.args.last in
-    let x = c.loop-x.x in
-    let lt : x < 409 * t.depth = omega arith in
-    let all = g.met.B.Blocks.keeps_all first mid c.loop-x.invariant.keeps in
-    let told = all.still_tells.0 now in
     let over = c.requires.over.1 in
-    let aside : Aside s m t kept last x = record { cuts = c.loop-x.invariant.cuts; all = all; deep = c.requires.deep; ready = c.requires.ready; current = c.requires.current } in
-    let a = at_slot t last x c.index_at-next.result lt c.index_at-next.ensures in
-    let said : Said s t last = record {
-      told = told;
-      hangs = over.hangs;
-      placed = g.met.B.Blocks.placed first s.now (g.met.B.Blocks.present first told);
-      ranked = g.met.B.Blocks.ranked first s.now (g.met.B.Blocks.present first told);
-      slots = g.met.B.Blocks.few first s.now (g.met.B.Blocks.present first told);
-      one = g.met.B.Blocks.one_place first;
-      few = c.requires.few;
-      super_stands = g.met.B.Blocks.super_stands first told;
-      kinds = λ b p ne stands. (g.met.B.Blocks.labelled first b p told ne stands).1;
-      may = c.requires.may told;
+    let flat = c.if-tree-eq0.false in
+    let deep : 0 < t.depth = omega (arith, flat) in
+    let size = deep_size t over.least (omega (arith, over.within, over.low)) deep in
+    let some : 0 < t.size = omega (arith, size) in
+    let few = end_few t over.hangs.room in
+    let aside : Aside s u t kept (last_leaf t.size) (409 * t.depth) = record {
+      cuts = c.cut_slots.ensures.cuts;
+      all = g.met.B.Blocks.keeps_all first end c.cut_slots.ensures.keeps;
+      deep = deep;
+      ready = c.requires.ready some;
+      current = c.requires.current deep;
     } in
-    may_clear aside a (sym c.pointer_here-above.ensures ∙ c.in-Local.is) c.if-i-next.true said (λ b j h. (g.met.B.Blocks.clears_entries mid b j h).0) (over.told told)
+    ends_clear u t kept over.empty (λ more. way_ready aside t.depth (last_leaf t.size) (index_last t.depth (last_leaf t.size))) (clear_end few aside)
 
-pub loop-x-preserved : goal.loop-x-preserved
-loop-x-preserved g c =
+pub returns-clause-over : goal.returns-clause-over
+returns-clause-over g c = λ limit whole.
     let first = c.args.on.now in
-    let mid = c.loop-x.on in
+    let end = c.cut_slots.new.on in
     let s = g.B.Blocks.state first in
-    let m = g.B.Blocks.state mid in
+    let u = g.B.Blocks.state end in
     let t = c.args.tree.now in
     let kept = c.args.kept.now in
-    let last = c.args.last in
-    let x = c.loop-x.x in
-    let lt : x < 409 * t.depth = omega arith in
-    let inv = c.loop-x.invariant in
-    let all = g.met.B.Blocks.keeps_all first mid inv.keeps in
     let over = c.requires.over.1 in
-    let aside : Aside s m t kept last x = record { cuts = inv.cuts; all = all; deep = c.requires.deep; ready = c.requires.ready; current = c.requires.current } in
-    let a = at_slot t last x c.index_at-next.result lt c.index_at-next.ensures in
-    let next : suc x ≡ x + 1 = omega arith in
-    let room = inv.room in
-    let said : s.tells → Said s t last = λ told. record {
-      told = told;
-      hangs = over.hangs;
-      placed = g.met.B.Blocks.placed first s.now (g.met.B.Blocks.present first told);
-      ranked = g.met.B.Blocks.ranked first s.now (g.met.B.Blocks.present first told);
-      slots = g.met.B.Blocks.few first s.now (g.met.B.Blocks.present first told);
-      one = g.met.B.Blocks.one_place first;
-      few = c.requires.few;
-      super_stands = g.met.B.Blocks.super_stands first told;
-      kinds = λ b p ne stands. (g.met.B.Blocks.labelled first b p told ne stands).1;
-      may = c.requires.may told;
+    let flat = c.if-tree-eq0.false in
+    let deep : 0 < t.depth = omega (arith, flat) in
+    let size = deep_size t over.least (omega (arith, over.within, over.low)) deep in
+    let some : 0 < t.size = omega (arith, size) in
+    let few = end_few t over.hangs.room in
+    let aside : Aside s u t kept (last_leaf t.size) (409 * t.depth) = record {
+      cuts = c.cut_slots.ensures.cuts;
+      all = g.met.B.Blocks.keeps_all first end c.cut_slots.ensures.keeps;
+      deep = deep;
+      ready = c.requires.ready some;
+      current = c.requires.current deep;
     } in
-    let one : m.tells → OnePath 1 m.now = λ told. one_path (g.met.B.Blocks.placed mid m.now (g.met.B.Blocks.present mid told)) (g.met.B.Blocks.few mid m.now (g.met.B.Blocks.present mid told)) (g.met.B.Blocks.super_stands mid told) (g.met.B.Blocks.one_spot mid) (g.met.B.Blocks.present mid told) (g.met.B.Blocks.active mid).0 in
-    elim c.if-i-next.branch [
-      | then-i-next+in-Local w ↦
-          let u = g.B.Blocks.state w.cut_slot.new.on in
-          let found = sym w.pointer_here-above.ensures ∙ w.in-Local.is in
-          ⊎_elim
-          (λ step.
-          let uses = step.frame.uses.room in
-          let r : s.room ≤ u.room + (x + 1) = omega (arith, room, uses) in
-          record {
-            cuts = subst (λ n. Cuts (CutSlot s t last n) s (g.B.Blocks.state c.if-i-next.on)) next (subst (λ y. Cuts (CutSlot s t last (suc x)) s (g.B.Blocks.state y)) (sym w.on-is)
-                (one_more aside a found w.if-i-next.true step said (λ b j h. (g.met.B.Blocks.clears_entries mid b j h).0) (λ told. over.told told) one (g.met.B.Blocks.waits_within mid) (g.met.B.Blocks.covers_told mid)));
-            keeps = subst (λ y. g.B.Blocks.keeps first y) (sym w.on-is) (g.met.B.Blocks.keeps_joins first mid w.cut_slot.new.on inv.keeps w.cut_slot.ensures.keeps);
-            room = subst (λ y. s.room ≤ (g.B.Blocks.state y).room + (x + 1)) (sym w.on-is) r;
-          })
-          (λ none.
-          let same : c.if-i-next.on ≡ mid = w.on-is ∙ none.1 in
-          let r : s.room ≤ m.room + (x + 1) = omega (arith, room) in
-          record {
-            cuts = subst (λ n. Cuts (CutSlot s t last n) s (g.B.Blocks.state c.if-i-next.on)) next (subst (λ y. Cuts (CutSlot s t last (suc x)) s (g.B.Blocks.state y)) (sym same) (none_here aside a found none.0));
-            keeps = subst (λ y. g.B.Blocks.keeps first y) (sym same) inv.keeps;
-            room = subst (λ y. s.room ≤ (g.B.Blocks.state y).room + (x + 1)) (sym same) r;
-          })
-          w.cut_slot.ensures.cut
-      | then-i-next+in_default w ↦
-          let there = found_there aside a in
-          absurd (w.in_default.not-Local there.0 (w.pointer_here-above.ensures ∙ there.1))
-      | else-i-next w ↦
-          let r : s.room ≤ m.room + (x + 1) = omega (arith, room) in
-          record {
-            cuts = subst (λ n. Cuts (CutSlot s t last n) s (g.B.Blocks.state c.if-i-next.on)) next (subst (λ y. Cuts (CutSlot s t last (suc x)) s (g.B.Blocks.state y)) (sym w.on-is) (passed aside a w.if-i-next.false));
-            keeps = subst (λ y. g.B.Blocks.keeps first y) (sym w.on-is) inv.keeps;
-            room = subst (λ y. s.room ≤ (g.B.Blocks.state y).room + (x + 1)) (sym w.on-is) r;
-          }
-    ]
+    let x : Trims s u t kept (last_leaf t.size) = record {
+      aside = aside;
+      few = few;
+      said = λ told. record {
+        told = told;
+        hangs = over.hangs;
+        placed = g.met.B.Blocks.placed first s.now (g.met.B.Blocks.present first told);
+        ranked = g.met.B.Blocks.ranked first s.now (g.met.B.Blocks.present first told);
+        slots = g.met.B.Blocks.few first s.now (g.met.B.Blocks.present first told);
+        one = g.met.B.Blocks.one_place first;
+        few = few;
+        super_stands = g.met.B.Blocks.super_stands first told;
+        kinds = λ b p ne stands. (g.met.B.Blocks.labelled first b p told ne stands).1;
+      };
+      may = c.requires.may;
+    } in
+    trim_over x (λ told w apart r. g.met.B.Blocks.apart_hangs first s.now 1 w apart (g.met.B.Blocks.present first told) (g.met.B.Blocks.active first).0 r) whole
+
+pub returns-clause-leaves : goal.returns-clause-leaves
+returns-clause-leaves g c = λ told.
+    let first = c.args.on.now in
+    let end = c.cut_slots.new.on in
+    let s = g.B.Blocks.state first in
+    let u = g.B.Blocks.state end in
+    let t = c.args.tree.now in
+    let kept = c.args.kept.now in
+    let over = c.requires.over.1 in
+    let flat = c.if-tree-eq0.false in
+    let deep : 0 < t.depth = omega (arith, flat) in
+    let size = deep_size t over.least (omega (arith, over.within, over.low)) deep in
+    let some : 0 < t.size = omega (arith, size) in
+    let few = end_few t over.hangs.room in
+    let aside : Aside s u t kept (last_leaf t.size) (409 * t.depth) = record {
+      cuts = c.cut_slots.ensures.cuts;
+      all = g.met.B.Blocks.keeps_all first end c.cut_slots.ensures.keeps;
+      deep = deep;
+      ready = c.requires.ready some;
+      current = c.requires.current deep;
+    } in
+    let x : Trims s u t kept (last_leaf t.size) = record {
+      aside = aside;
+      few = few;
+      said = λ told. record {
+        told = told;
+        hangs = over.hangs;
+        placed = g.met.B.Blocks.placed first s.now (g.met.B.Blocks.present first told);
+        ranked = g.met.B.Blocks.ranked first s.now (g.met.B.Blocks.present first told);
+        slots = g.met.B.Blocks.few first s.now (g.met.B.Blocks.present first told);
+        one = g.met.B.Blocks.one_place first;
+        few = few;
+        super_stands = g.met.B.Blocks.super_stands first told;
+        kinds = λ b p ne stands. (g.met.B.Blocks.labelled first b p told ne stands).1;
+      };
+      may = c.requires.may;
+    } in
+    trim_leaves x told
+
+pub returns-clause-shows : goal.returns-clause-shows
+returns-clause-shows g c = λ told all.
+    let first = c.args.on.now in
+    let end = c.cut_slots.new.on in
+    let s = g.B.Blocks.state first in
+    let u = g.B.Blocks.state end in
+    let t = c.args.tree.now in
+    let kept = c.args.kept.now in
+    let over = c.requires.over.1 in
+    let flat = c.if-tree-eq0.false in
+    let deep : 0 < t.depth = omega (arith, flat) in
+    let size = deep_size t over.least (omega (arith, over.within, over.low)) deep in
+    let some : 0 < t.size = omega (arith, size) in
+    let few = end_few t over.hangs.room in
+    let aside : Aside s u t kept (last_leaf t.size) (409 * t.depth) = record {
+      cuts = c.cut_slots.ensures.cuts;
+      all = g.met.B.Blocks.keeps_all first end c.cut_slots.ensures.keeps;
+      deep = deep;
+      ready = c.requires.ready some;
+      current = c.requires.current deep;
+    } in
+    let x : Trims s u t kept (last_leaf t.size) = record {
+      aside = aside;
+      few = few;
+      said = λ told. record {
+        told = told;
+        hangs = over.hangs;
+        placed = g.met.B.Blocks.placed first s.now (g.met.B.Blocks.present first told);
+        ranked = g.met.B.Blocks.ranked first s.now (g.met.B.Blocks.present first told);
+        slots = g.met.B.Blocks.few first s.now (g.met.B.Blocks.present first told);
+        one = g.met.B.Blocks.one_place first;
+        few = few;
+        super_stands = g.met.B.Blocks.super_stands first told;
+        kinds = λ b p ne stands. (g.met.B.Blocks.labelled first b p told ne stands).1;
+      };
+      may = c.requires.may;
+    } in
+    trim_shows x told all
+
+pub returns-clause-bytes : goal.returns-clause-bytes
+returns-clause-bytes g c = λ told limit.
+    let first = c.args.on.now in
+    let end = c.cut_slots.new.on in
+    let s = g.B.Blocks.state first in
+    let u = g.B.Blocks.state end in
+    let t = c.args.tree.now in
+    let kept = c.args.kept.now in
+    let over = c.requires.over.1 in
+    let flat = c.if-tree-eq0.false in
+    let deep : 0 < t.depth = omega (arith, flat) in
+    let size = deep_size t over.least (omega (arith, over.within, over.low)) deep in
+    let some : 0 < t.size = omega (arith, size) in
+    let few = end_few t over.hangs.room in
+    let aside : Aside s u t kept (last_leaf t.size) (409 * t.depth) = record {
+      cuts = c.cut_slots.ensures.cuts;
+      all = g.met.B.Blocks.keeps_all first end c.cut_slots.ensures.keeps;
+      deep = deep;
+      ready = c.requires.ready some;
+      current = c.requires.current deep;
+    } in
+    let x : Trims s u t kept (last_leaf t.size) = record {
+      aside = aside;
+      few = few;
+      said = λ told. record {
+        told = told;
+        hangs = over.hangs;
+        placed = g.met.B.Blocks.placed first s.now (g.met.B.Blocks.present first told);
+        ranked = g.met.B.Blocks.ranked first s.now (g.met.B.Blocks.present first told);
+        slots = g.met.B.Blocks.few first s.now (g.met.B.Blocks.present first told);
+        one = g.met.B.Blocks.one_place first;
+        few = few;
+        super_stands = g.met.B.Blocks.super_stands first told;
+        kinds = λ b p ne stands. (g.met.B.Blocks.labelled first b p told ne stands).1;
+      };
+      may = c.requires.may;
+    } in
+    let leaves = trim_leaves x told in
+    bytes_same {s = s} {u = u} {t = t} {new = t} {kept = kept} (record {
+      told = told;
+      now = aside.all.still_tells.1 told;
+      held = over.held;
+      held_now = (trim_over x (λ told w apart r. g.met.B.Blocks.apart_hangs first s.now 1 w apart (g.met.B.Blocks.present first told) (g.met.B.Blocks.active first).0 r) over).held;
+      same_held = aside.all.same_held;
+      dir = refl;
+      within = omega arith;
+      room = over.hangs.room;
+      room_now = over.hangs.room;
+      each = λ i lt. leaves.each i (omega (arith, lt));
+      content = λ i b lt e. (leaves.content i b (omega (arith, lt)) e).bytes;
+    }) refl
+
+pub returns-clause-grows : goal.returns-clause-grows
+returns-clause-grows g c = λ limit.
+    let first = c.args.on.now in
+    let end = c.cut_slots.new.on in
+    let s = g.B.Blocks.state first in
+    let u = g.B.Blocks.state end in
+    let t = c.args.tree.now in
+    let kept = c.args.kept.now in
+    let over = c.requires.over.1 in
+    let flat = c.if-tree-eq0.false in
+    let deep : 0 < t.depth = omega (arith, flat) in
+    let size = deep_size t over.least (omega (arith, over.within, over.low)) deep in
+    let some : 0 < t.size = omega (arith, size) in
+    let few = end_few t over.hangs.room in
+    let aside : Aside s u t kept (last_leaf t.size) (409 * t.depth) = record {
+      cuts = c.cut_slots.ensures.cuts;
+      all = g.met.B.Blocks.keeps_all first end c.cut_slots.ensures.keeps;
+      deep = deep;
+      ready = c.requires.ready some;
+      current = c.requires.current deep;
+    } in
+    let x : Trims s u t kept (last_leaf t.size) = record {
+      aside = aside;
+      few = few;
+      said = λ told. record {
+        told = told;
+        hangs = over.hangs;
+        placed = g.met.B.Blocks.placed first s.now (g.met.B.Blocks.present first told);
+        ranked = g.met.B.Blocks.ranked first s.now (g.met.B.Blocks.present first told);
+        slots = g.met.B.Blocks.few first s.now (g.met.B.Blocks.present first told);
+        one = g.met.B.Blocks.one_place first;
+        few = few;
+        super_stands = g.met.B.Blocks.super_stands first told;
+        kinds = λ b p ne stands. (g.met.B.Blocks.labelled first b p told ne stands).1;
+      };
+      may = c.requires.may;
+    } in
+    record {
+      owns = λ told b. (
+        λ has. inl (trim_back x b has),
+        λ made. absurd (made.0 (ap (λ (l : Label). l.state) (sym (aside.cuts.labels b)) ∙ made.1)),
+      );
+      still = λ o n was. trim_still x was;
+    }
+
+pub returns-clause-comes : goal.returns-clause-comes
+returns-clause-comes g c = λ told.
+    let first = c.args.on.now in
+    let end = c.cut_slots.new.on in
+    let s = g.B.Blocks.state first in
+    let u = g.B.Blocks.state end in
+    let t = c.args.tree.now in
+    let kept = c.args.kept.now in
+    let over = c.requires.over.1 in
+    let flat = c.if-tree-eq0.false in
+    let deep : 0 < t.depth = omega (arith, flat) in
+    let size = deep_size t over.least (omega (arith, over.within, over.low)) deep in
+    let some : 0 < t.size = omega (arith, size) in
+    let few = end_few t over.hangs.room in
+    let aside : Aside s u t kept (last_leaf t.size) (409 * t.depth) = record {
+      cuts = c.cut_slots.ensures.cuts;
+      all = g.met.B.Blocks.keeps_all first end c.cut_slots.ensures.keeps;
+      deep = deep;
+      ready = c.requires.ready some;
+      current = c.requires.current deep;
+    } in
+    let x : Trims s u t kept (last_leaf t.size) = record {
+      aside = aside;
+      few = few;
+      said = λ told. record {
+        told = told;
+        hangs = over.hangs;
+        placed = g.met.B.Blocks.placed first s.now (g.met.B.Blocks.present first told);
+        ranked = g.met.B.Blocks.ranked first s.now (g.met.B.Blocks.present first told);
+        slots = g.met.B.Blocks.few first s.now (g.met.B.Blocks.present first told);
+        one = g.met.B.Blocks.one_place first;
+        few = few;
+        super_stands = g.met.B.Blocks.super_stands first told;
+        kinds = λ b p ne stands. (g.met.B.Blocks.labelled first b p told ne stands).1;
+      };
+      may = c.requires.may;
+    } in
+    trim_comes x (λ told w apart r. g.met.B.Blocks.apart_hangs first s.now 1 w apart (g.met.B.Blocks.present first told) (g.met.B.Blocks.active first).0 r) told
+
+pub returns-clause-gone : goal.returns-clause-gone
+returns-clause-gone g c = λ told.
+    let first = c.args.on.now in
+    let end = c.cut_slots.new.on in
+    let s = g.B.Blocks.state first in
+    let u = g.B.Blocks.state end in
+    let t = c.args.tree.now in
+    let kept = c.args.kept.now in
+    let over = c.requires.over.1 in
+    let flat = c.if-tree-eq0.false in
+    let deep : 0 < t.depth = omega (arith, flat) in
+    let size = deep_size t over.least (omega (arith, over.within, over.low)) deep in
+    let some : 0 < t.size = omega (arith, size) in
+    let few = end_few t over.hangs.room in
+    let aside : Aside s u t kept (last_leaf t.size) (409 * t.depth) = record {
+      cuts = c.cut_slots.ensures.cuts;
+      all = g.met.B.Blocks.keeps_all first end c.cut_slots.ensures.keeps;
+      deep = deep;
+      ready = c.requires.ready some;
+      current = c.requires.current deep;
+    } in
+    let x : Trims s u t kept (last_leaf t.size) = record {
+      aside = aside;
+      few = few;
+      said = λ told. record {
+        told = told;
+        hangs = over.hangs;
+        placed = g.met.B.Blocks.placed first s.now (g.met.B.Blocks.present first told);
+        ranked = g.met.B.Blocks.ranked first s.now (g.met.B.Blocks.present first told);
+        slots = g.met.B.Blocks.few first s.now (g.met.B.Blocks.present first told);
+        one = g.met.B.Blocks.one_place first;
+        few = few;
+        super_stands = g.met.B.Blocks.super_stands first told;
+        kinds = λ b p ne stands. (g.met.B.Blocks.labelled first b p told ne stands).1;
+      };
+      may = c.requires.may;
+    } in
+    past_gone x told (one_path (g.met.B.Blocks.placed first s.now (g.met.B.Blocks.present first told)) (g.met.B.Blocks.few first s.now (g.met.B.Blocks.present first told)) (g.met.B.Blocks.super_stands first told) (g.met.B.Blocks.one_spot first) (g.met.B.Blocks.present first told) (g.met.B.Blocks.active first).0)
+
+pub returns-then-tree-eq0-clause-gone : goal.returns-then-tree-eq0-clause-gone
+returns-then-tree-eq0-clause-gone g c = λ told b p.
+    let flat = c.if-tree-eq0.true in
+    let within = p.within in
+    let none : p.down ≡ 0 = omega (arith, flat, within) in
+    let one : 409 ^ p.down ≡ 1 = ap (λ n. 409 ^ n) none in
+    let few = p.few in
+    let behind = p.behind in
+    absurd (omega (arith, few, one, behind))

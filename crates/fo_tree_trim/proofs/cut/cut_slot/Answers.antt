@@ -14,4 +14,4 @@ returns-then-not-is_nil-clause-cut g c =
     inl (removed {at = at} {i = i} {s = s} {u = g.B.Blocks.state c.remove_slot.new.self}
     (inner_pointer kind i ((s.now at).slot i) c.requires.inner (g.met.B.Blocks.spelled on at i c.requires.pinned few))
     (⊎_elim (λ h. inl (h.0, h.1)) (λ h. inr h.2) p.now)
-    refl p.images p.frame p.hangs p.order p.no_wait p.covers)
+    refl p.images p.frame p.hangs p.order p.no_wait p.queues p.covers)

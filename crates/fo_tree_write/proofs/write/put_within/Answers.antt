@@ -35,7 +35,7 @@ put_leaf-current-requires-clause-spare g c =
     let lt : c.loop-done.done < length c.args.piece.now = omega arith in
     let few = c.requires.spare in
     let same = most_is t.depth t.size len c.requires.over.1.least in
-    enough_left (g.B.Blocks.state c.loop-done.on) (at_top t c.loop-done.top) (g.B.Blocks.state c.args.on.now).spare c.args.offset c.loop-done.done len c.requires.over.1.hangs.few lt (omega (arith, few, same)) c.loop-done.invariant.wrote.spent
+    enough_left (g.B.Blocks.state c.loop-done.on) (at_top t c.loop-done.top) (g.B.Blocks.state c.args.on.now).spare c.args.offset c.loop-done.done len ((c.args.offset + c.loop-done.done) / 8192) c.requires.over.1.hangs.few lt (omega (arith, few, same)) c.loop-done.invariant.wrote.spent
 
 pub loop-done-preserved : goal.loop-done-preserved
 loop-done-preserved g c =
@@ -78,6 +78,7 @@ loop-done-preserved g c =
             (λ ne. (root_place, g.met.B.Blocks.top_stands on up (g.met.B.Blocks.told on image is) is_top ne))
             (cases_eq up 1);
         told = λ image is. g.met.B.Blocks.told on image is;
+        standing = g.met.B.Blocks.standing on;
         top_of = e.top;
         over = e.over;
         bytes = λ told. subst (λ m. Puts (byte_here u (at_top t c.loop-done.top) kept) (byte_here v (with_top t c.put_leaf-current.result.top) kept) (8192 * (place / 8192) + place % 8192) (take m (drop done c.args.piece.now))) len (e.bytes told);

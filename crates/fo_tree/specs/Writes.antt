@@ -1,0 +1,31 @@
+-- A piece was put into a source.
+use Rattle.std.specs.Prelude.{◌≡◌, ◌⊎◌, ◌+◌, ◌*◌, ◌/◌, ◌≤◌, ℕ, List, length, max}
+use Rattle.fo_sparse.specs.Written.{written}
+use Rattle.fo_image.specs.declared.types.Pointer.{Pointer}
+use Rattle.fo_image.specs.declared.types.Pointer.TheVariants.{Local}
+use Rattle.fo_ports.specs.State.{State}
+use Rattle.fo_ports.specs.Sources.{Changes, Grows, ComesFor, most_for}
+use Rattle.fo_tree_read.specs.declared.tree.Tree.{Tree}
+use Rattle.fo_tree_look.specs.declared.ways.Kept.{Kept}
+use Rattle.fo_tree_look.specs.Source.{HasBlock, Over, leaves_of}
+use Rattle.fo_tree_down.specs.Clear.{EndsClear}
+
+-- The same source, below another top and of another size.
+pub record SameTree (t new : Tree) : Type 0 where
+  pub dir : new.dir ≡ t.dir
+  pub tag : new.tag ≡ t.tag
+  pub rank : new.rank ≡ t.rank
+
+-- A piece of some bytes was put into a source, whose tree this is now: what the trait of sources asks of it.
+pub record Writes (s u : State) (t new : Tree) (kept : List Kept) (limit offset : ℕ) (piece : List ℕ) : Type 0 where
+  pub same : SameTree t new
+  pub size : new.size ≡ max t.size (offset + length piece)
+  pub bytes : s.tells → (leaves_of u new kept limit).bytes ≡ written (leaves_of s t kept limit).bytes offset piece
+  pub over : Over u new kept limit
+  pub grows : Grows s u (leaves_of s t kept limit) (leaves_of u new kept limit)
+  pub spare : s.spare ≤ u.spare + most_for (max t.size (offset + length piece)) (length piece)
+  pub room : u.room ≡ s.room
+  pub clear : s.tells ⊎ ((t.size ≤ 8192 * (offset / 8192 + 1)) × (offset + length piece ≤ 8192 * (offset / 8192 + 1))) → EndsClear s t kept → EndsClear u new kept
+  pub comes : s.tells → (from : Pointer) → ComesFor s t.top from → ComesFor u new.top from
+  pub only : s.tells → (y x : ℕ) → u.instead y x → (new.top ≡ Local y) ⊎ (s.instead y x × (t.top ≡ Local y → ⊥))
+  pub changes : Changes t.tag (HasBlock s t) (HasBlock s t) s u

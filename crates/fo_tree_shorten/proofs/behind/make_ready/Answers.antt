@@ -1,0 +1,205 @@
+use Rattle.std.proofs.Common.{◌≡◌, ◌-◌, ◌/◌, ℕ, suc, inl, inr, ⊎_elim, refl, sym, ◌∙◌, ap, subst, arith}
+use Rattle.fo_image.specs.declared.types.Pointer.TheVariants.{Local}
+use Rattle.fo_tree_read.specs.declared.tree.Tree.{Tree}
+use Rattle.fo_tree_look.specs.Source.{WayReady}
+use Rattle.fo_tree_down.specs.Clear.{last_leaf}
+use Rattle.fo_tree_down.specs.Way.{with_top}
+use Rattle.fo_tree_own.proofs.Link.{Laws}
+use Rattle.fo_tree_link.specs.Link.{CanLink}
+use Rattle.fo_tree_link.proofs.Changed.{can_link}
+use Rattle.fo_tree_shorten.specs.Shorten.{Links}
+use Rattle.fo_tree_shorten.proofs.Beside.{Beside, ready_on, current_on, bytes_on}
+use Rattle.fo_tree_shorten.proofs.Entries.{entry_owned, entry_put, beside_put}
+use Rattle.fo_tree_shorten.proofs.Standing.{Labelled, not_both, tagged}
+use Rattle.fo_tree_shorten.proofs.behind.make_ready.Given as given
+use Rattle.fo_tree_shorten.proofs.behind.make_ready.Goals as goal
+
+laws_of : (g : given.Over) (b : g.row.B.Denot) → Laws (g.B.Blocks.state b)
+laws_of g b =
+    let s = g.B.Blocks.state b in
+    record { present = g.met.B.Blocks.present b; active = (g.met.B.Blocks.active b).0; not_one = (g.met.B.Blocks.active b).1; one = g.met.B.Blocks.one_place b; super_stands = g.met.B.Blocks.super_stands b; placed = λ told. g.met.B.Blocks.placed b s.now (g.met.B.Blocks.present b told); ranked = λ told. g.met.B.Blocks.ranked b s.now (g.met.B.Blocks.present b told); live = λ y told ne r. g.met.B.Blocks.live b y told ne r; clears = g.met.B.Blocks.clears_entries b; waits_within = g.met.B.Blocks.waits_within b; covers_told = g.met.B.Blocks.covers_told b; within = g.met.B.Blocks.within b; spelled = g.met.B.Blocks.spelled b; apart_hangs = λ told w is r. g.met.B.Blocks.apart_hangs b s.now 1 w is (g.met.B.Blocks.present b told) (g.met.B.Blocks.active b).0 r; small = g.met.B.Blocks.small b }
+
+labelled_of : (g : given.Over) (b : g.row.B.Denot) → (g.B.Blocks.state b).tells → Labelled (g.B.Blocks.state b)
+labelled_of g b told =
+    let s = g.B.Blocks.state b in
+    record { told = told; placed = g.met.B.Blocks.placed b s.now (g.met.B.Blocks.present b told); one = g.met.B.Blocks.one_place b; super_stands = g.met.B.Blocks.super_stands b told; tags = λ y p ne stands. (g.met.B.Blocks.labelled b y p told ne stands).2 }
+
+pub link-requires-clause-told : goal.link-requires-clause-told
+link-requires-clause-told g c = λ now.
+    let first = c.args.on.now in
+    let mid = c.own_ways.new.on in
+    let s = g.B.Blocks.state first in
+    let m = g.B.Blocks.state mid in
+    let ways = c.args.ways.now in
+    let t = ways.tree in
+    let new = c.own_ways.new.ways.tree in
+    let own = c.own_ways.ensures in
+    let top = own.top.0 in
+    let is : new ≡ with_top t top = own.top.1 in
+    let all = g.met.B.Blocks.keeps_all first mid own.keeps in
+    let told = all.still_tells.0 now in
+    subst (λ n. CanLink m new n c.args.at c.args.i) (sym own.is.0) (subst (λ (y : Tree). CanLink m y ways.generation c.args.at c.args.i) (sym is) (can_link {s = s} {u = m} {t = t} {new = with_top t top} {kept = ways.kept.items} {limit = ways.limit} (record {
+      laws = laws_of g first;
+      end = laws_of g mid;
+      one_stays = g.met.B.Blocks.one_stays mid;
+      all = all;
+      over = c.requires.over;
+      entry = (entry_owned c.requires.entry own.changes all).is;
+      same = record { dir = refl; rank = refl; more = omega arith };
+      comes = λ from h. own.top.2.comes told from h;
+      only = λ y z h. ⊎_elim (λ here. inl (ap (λ w. Local w) (sym here))) (λ old. inr old) (own.top.2.only told y z h);
+      others = record {
+        made = λ b made. (own.changes.made b made).was.0;
+        places = λ tells b p not other free r stands. own.changes.places tells b p not other free r stands;
+        rooted = own.changes.rooted;
+        in_tree = λ tells b other r. own.changes.in_tree tells b other r;
+      };
+      told = told;
+      linked = c.requires.linked told;
+      leaves = record { each = λ dir. absurd (not_both dir c.requires.data) };
+    })))
+
+pub returns-clause-entry : goal.returns-clause-entry
+returns-clause-entry g c =
+    let first = c.args.on.now in
+    let mid = c.own_ways.new.on in
+    let put = c.link.new.on in
+    let s = g.B.Blocks.state first in
+    let m = g.B.Blocks.state mid in
+    let u = g.B.Blocks.state put in
+    let at = c.args.at in
+    let i = c.args.i in
+    let t = c.args.ways.now.tree in
+    let ways = c.own_ways.new.ways in
+    let new = ways.tree in
+    let own = c.own_ways.ensures in
+    let all = g.met.B.Blocks.keeps_all first mid own.keeps in
+    let more = g.met.B.Blocks.keeps_all mid put c.link.ensures.keeps in
+    let tag : new.tag ≡ t.tag = ap (λ (y : Tree). y.tag) own.top.1 in
+    let owned = entry_owned c.requires.entry own.changes all in
+    let beside : Beside m u new at = beside_put {new = new} owned tag more c.link.ensures.now c.link.ensures.frame in
+    entry_put {new = new} owned tag more c.link.ensures.now c.link.ensures.frame c.link.ensures.order
+
+pub returns-clause-ready : goal.returns-clause-ready
+returns-clause-ready g c =
+    let first = c.args.on.now in
+    let mid = c.own_ways.new.on in
+    let put = c.link.new.on in
+    let s = g.B.Blocks.state first in
+    let m = g.B.Blocks.state mid in
+    let u = g.B.Blocks.state put in
+    let at = c.args.at in
+    let i = c.args.i in
+    let t = c.args.ways.now.tree in
+    let ways = c.own_ways.new.ways in
+    let new = ways.tree in
+    let own = c.own_ways.ensures in
+    let all = g.met.B.Blocks.keeps_all first mid own.keeps in
+    let more = g.met.B.Blocks.keeps_all mid put c.link.ensures.keeps in
+    let tag : new.tag ≡ t.tag = ap (λ (y : Tree). y.tag) own.top.1 in
+    let owned = entry_owned c.requires.entry own.changes all in
+    let beside : Beside m u new at = beside_put {new = new} owned tag more c.link.ensures.now c.link.ensures.frame in
+    ready_on beside ways.kept.items new.depth (last_leaf new.size) (omega arith) own.ready
+
+pub returns-clause-current : goal.returns-clause-current
+returns-clause-current g c = λ deep.
+    let first = c.args.on.now in
+    let mid = c.own_ways.new.on in
+    let put = c.link.new.on in
+    let s = g.B.Blocks.state first in
+    let m = g.B.Blocks.state mid in
+    let u = g.B.Blocks.state put in
+    let at = c.args.at in
+    let i = c.args.i in
+    let t = c.args.ways.now.tree in
+    let ways = c.own_ways.new.ways in
+    let new = ways.tree in
+    let own = c.own_ways.ensures in
+    let all = g.met.B.Blocks.keeps_all first mid own.keeps in
+    let more = g.met.B.Blocks.keeps_all mid put c.link.ensures.keeps in
+    let tag : new.tag ≡ t.tag = ap (λ (y : Tree). y.tag) own.top.1 in
+    let owned = entry_owned c.requires.entry own.changes all in
+    let beside : Beside m u new at = beside_put {new = new} owned tag more c.link.ensures.now c.link.ensures.frame in
+    let level : new.depth ≡ suc (new.depth - 1) = omega (arith, deep) in
+    let way : WayReady m new ways.kept.items (suc (new.depth - 1)) (last_leaf new.size) = subst (λ d. WayReady m new ways.kept.items d (last_leaf new.size)) level own.ready in
+    current_on beside ways.kept.items (new.depth - 1) (last_leaf new.size / 409) (omega arith) way.0 (own.current deep)
+
+pub returns-clause-linked : goal.returns-clause-linked
+returns-clause-linked g c = λ told.
+    let first = c.args.on.now in
+    let mid = c.own_ways.new.on in
+    let put = c.link.new.on in
+    let s = g.B.Blocks.state first in
+    let m = g.B.Blocks.state mid in
+    let u = g.B.Blocks.state put in
+    let at = c.args.at in
+    let i = c.args.i in
+    let t = c.args.ways.now.tree in
+    let ways = c.own_ways.new.ways in
+    let new = ways.tree in
+    let own = c.own_ways.ensures in
+    let all = g.met.B.Blocks.keeps_all first mid own.keeps in
+    let more = g.met.B.Blocks.keeps_all mid put c.link.ensures.keeps in
+    let tag : new.tag ≡ t.tag = ap (λ (y : Tree). y.tag) own.top.1 in
+    let owned = entry_owned c.requires.entry own.changes all in
+    let beside : Beside m u new at = beside_put {new = new} owned tag more c.link.ensures.now c.link.ensures.frame in
+    let only : (y z : ℕ) → m.instead y z → new.top ≡ Local y = λ y z h. ⊎_elim
+    (λ here. ap (λ (w : Tree). w.top) own.top.1 ∙ ap (λ w. Local w) (sym here))
+    (λ old. absurd ((c.requires.linked told).none y z old.0))
+    (own.top.2.only told y z h) in
+    c.link.ensures.again (all.still_tells.1 told) only
+
+pub returns-clause-bytes : goal.returns-clause-bytes
+returns-clause-bytes g c = λ told.
+    let first = c.args.on.now in
+    let mid = c.own_ways.new.on in
+    let put = c.link.new.on in
+    let s = g.B.Blocks.state first in
+    let m = g.B.Blocks.state mid in
+    let u = g.B.Blocks.state put in
+    let at = c.args.at in
+    let i = c.args.i in
+    let t = c.args.ways.now.tree in
+    let ways = c.own_ways.new.ways in
+    let new = ways.tree in
+    let own = c.own_ways.ensures in
+    let all = g.met.B.Blocks.keeps_all first mid own.keeps in
+    let more = g.met.B.Blocks.keeps_all mid put c.link.ensures.keeps in
+    let tag : new.tag ≡ t.tag = ap (λ (y : Tree). y.tag) own.top.1 in
+    let owned = entry_owned c.requires.entry own.changes all in
+    let beside : Beside m u new at = beside_put {new = new} owned tag more c.link.ensures.now c.link.ensures.frame in
+    let told_mid = all.still_tells.1 told in
+    bytes_on beside (tagged (labelled_of g mid told_mid) own.over.hangs) told_mid own.over ∙ own.bytes told
+
+pub returns-clause-steps : goal.returns-clause-steps
+returns-clause-steps g c =
+    let m = g.B.Blocks.state c.own_ways.new.on in
+    let u = g.B.Blocks.state c.link.new.on in
+    let own = c.own_ways.ensures in
+    let new = c.own_ways.new.ways.tree in
+    let k = c.link.ensures in
+    let links : Links m u new c.own_ways.new.ways.generation c.args.at c.args.i = record {
+      now = k.now;
+      images = k.images;
+      instead = k.instead;
+      in_tree = k.in_tree;
+      in_place = k.in_place;
+      ready = k.ready;
+      bytes = k.bytes;
+      frame = k.frame;
+      hangs = k.hangs;
+      order = k.order;
+      no_wait = k.no_wait;
+      covers = k.covers;
+    } in (
+      own.top.0,
+      own.top.1,
+      (
+        c.own_ways.new.on,
+        record {
+          made = own.changes;
+          top_is = own.top.2;
+          linked = subst (λ (y : Tree). Links m u y c.args.ways.now.generation c.args.at c.args.i) own.top.1 (subst (λ n. Links m u new n c.args.at c.args.i) own.is.0 links);
+        },
+      ),
+    )
