@@ -1,5 +1,5 @@
 -- The leaf with one record more.
-use Rattle.std.proofs.Common.{◌≡◌, ◌⊎◌, inl, inr, ⊎_elim, ◌+◌, ◌*◌, ◌/◌, ◌%◌, ◌<◌, ℕ, List, [], ◌∷◌, ◌++◌, Contains, slice_index_or, refl, sym, ◌∙◌, ap, subst, arith}
+use Rattle.std.proofs.Common.{◌≡◌, ◌⊎◌, inl, inr, ⊎_elim, ◌+◌, ◌*◌, ◌/◌, ◌%◌, ◌<◌, ℕ, List, [], ◌∷◌, ◌++◌, length, Contains, slice_index_or, refl, sym, ◌∙◌, ap, subst, arith}
 use Rattle.std.proofs.lemmas.List.Elements.{Contains-append_cases}
 use Rattle.fo_image.specs.declared.record.Record.{Record}
 use Rattle.fo_meta.specs.Leaf.{SpellsLeaf}
@@ -13,7 +13,7 @@ use Rattle.fo_dir_put.specs.Names.{ListsIn, AddsOne, MayStand, Clash}
 use Rattle.fo_dir_put.specs.Differ.{Distinct, AreDistinct, MayName}
 use Rattle.fo_dir_put.specs.Paired.{StoodAs, AddsPaired}
 use Rattle.fo_dir_put.proofs.Named.{distinct_more}
-use Rattle.fo_dir_add.specs.Adds.{IsAlone, AddsAlone}
+use Rattle.fo_dir_add.specs.Adds.{IsAlone, AddsAlone, IsFullFor, IsNumbered}
 
 one_is : (x r : Record) → Contains (r ∷ []) x → x ≡ r
 one_is x r h = sym (subst (λ k. slice_index_or (r ∷ []) k x ≡ x) (zero_is h.1) h.2)
@@ -67,3 +67,14 @@ adds_paired n p e entries m first second rs r old new was now lt slot same one t
     by : (x : Record) → x.slot / 102 ≡ n → Contains (leaf_records old) x ⊎ (x ≡ r) → StoodAs old x ⊎ ((e ≡ entries) × (x.slot % 102 ≡ p) × IsFirst (Head first) x × IsSecond (Head second) x)
     by x leaf (inl there) = inl (record { before = x; is_one = there; slot = refl; generation = refl; number = refl; dir = refl })
     by x leaf (inr is) = inr (same (whole r.slot slot (ap (λ (y : Record). y.slot / 102) (sym is) ∙ leaf)), ap (λ (y : Record). y.slot % 102) is ∙ rest r.slot slot, subst (λ (y : Record). IsFirst (Head first) y) (sym is) one, subst (λ (y : Record). IsSecond (Head second) y) (sym is) two)
+
+-- a record with another pair has as much room
+pub full_before : {r named : Record} {slot generation : ℕ} {old : List ℕ} → IsNumbered r slot generation named → IsFullFor named old → IsFullFor r old
+full_before {r = r} {named = named} is full = record {
+  each = λ rs s.
+      let name = ap (λ (xs : List ℕ). length xs) is.same_name in
+      let uid = ap (λ (xs : List ℕ). length xs) is.same_users.0 in
+      let gid = ap (λ (xs : List ℕ). length xs) is.same_users.1 in
+      let muid = ap (λ (xs : List ℕ). length xs) is.same_users.2 in
+      omega (arith, full.each rs s, name, uid, gid, muid);
+}

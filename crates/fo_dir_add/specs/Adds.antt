@@ -1,12 +1,30 @@
 -- A record at the end of a leaf.
-use Rattle.std.specs.Prelude.{◌≢◌, ◌+◌, ◌<◌, ℕ, List, [], ◌∷◌, ◌++◌, length}
+use Rattle.std.specs.Prelude.{◌≡◌, ◌≢◌, ◌+◌, ◌%◌, ◌^◌, ◌<◌, ℕ, List, [], ◌∷◌, ◌++◌, length}
 use Rattle.std.specs.List.{Contains}
 use Rattle.fo_image.specs.declared.record.Record.{Record}
+use Rattle.fo_image.specs.declared.types.Entry.{Entry}
 use Rattle.fo_image.specs.Record.{record_len}
+use Rattle.fo_crash.specs.declared.slot.Slot.{Slot}
+use Rattle.fo_crash.specs.declared.slot.Slot.TheVariants.{Entry as Head}
 use Rattle.fo_meta.specs.Leaf.{SpellsLeaf, records_bytes}
 use Rattle.fo_good.specs.Reading.{leaf_records}
 use Rattle.fo_crash.specs.Images.{Image}
 use Rattle.fo_dir_put.specs.Names.{Clash}
+
+-- The record with this pair and generation.
+pub record IsNumbered (old : Record) (slot generation : ℕ) (new : Record) : Type 0 where
+  pub slot_is : new.slot ≡ slot
+  pub generation_is : new.generation ≡ generation
+  pub same_name : new.name ≡ old.name
+  pub same_number : new.number ≡ old.number
+  pub same_vers : new.vers ≡ old.vers
+  pub same_mode : new.mode ≡ old.mode
+  pub same_times : (new.atime ≡ old.atime) × (new.mtime ≡ old.mtime)
+  pub same_users : (new.uid ≡ old.uid) × (new.gid ≡ old.gid) × (new.muid ≡ old.muid)
+
+-- This generation is that of an entry raised by 1, and 0 after the last.
+pub record IsRaised (s : Slot) (generation : ℕ) : Type 0 where
+  pub raised : (e : Entry) → s ≡ Head e → generation ≡ (e.generation + 1) % 2 ^ 32
 
 -- The leaf has the record behind the others.
 pub record HasAdded (r : Record) (old new : List ℕ) : Type 0 where

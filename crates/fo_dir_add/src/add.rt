@@ -8,6 +8,9 @@ ghost use Rattle.fo_good.specs.Trees.{IsFirst, IsSecond};
 ghost use Rattle.fo_dir_put.specs.Differ.{AllDiffer};
 ghost use Rattle.fo_dir_put.specs.Paired.{AllPaired};
 ghost use Rattle.fo_dir_put.specs.Puts.{IsOwnedEntries, IsOwnedRecords, IsInPlace, IsUnused, IsNewEntry, StaysCalm};
+ghost use Rattle.fo_dir_put.specs.There.{IsThere};
+ghost use Rattle.fo_crash.specs.Images.{Reaches, to_block};
+ghost use Rattle.fo_ports.specs.State.{IsDoomed};
 ghost use Rattle.fo_dir_add.specs.Adds.{HasAdded, IsFullFor, IsAlone, AddsAlone};
 
 use fo_dir_put::add_name;
@@ -39,10 +42,12 @@ pub fn add_record<B: Blocks>(
     ensures added { result ≡ true → HasAdded named.now (((B.state on.old).now leaf).bytes) (((B.state on.new).now leaf).bytes) }
     ensures pair { result ≡ true → (((B.state on.new).now entries).slot (2 * p) ≡ Head first) × (((B.state on.new).now entries).slot (2 * p + 1) ≡ Head second) }
     ensures full { result ≡ false → IsFullFor named.now (((B.state on.old).now leaf).bytes) × (on.new ≡ on.old) }
+    ensures hand { IsLeaf bytes.new × (bytes.new ≡ ((B.state on.new).now leaf).bytes) }
     ensures fit { (n : ℕ) → named.now.slot ≡ 102 * n + p → named.now.generation ≡ first.generation → AllFit n leaf entries (B.state on.old).may_leave → AllFit n leaf entries (B.state on.new).may_leave }
     ensures apart { (b : ℕ) → b ≢ leaf → IsAlone named.now b (B.state on.old).may_leave → AllApart leaf b (B.state on.old).may_leave → AllApart leaf b (B.state on.new).may_leave }
     ensures named { (leaves : List ℕ) → AddsAlone named.now leaf leaves (((B.state on.old).now leaf).bytes) (B.state on.old).may_leave → AllDiffer leaves (B.state on.old).may_leave → AllDiffer leaves (B.state on.new).may_leave }
     ensures paired { (n a e m : ℕ) → named.now.slot ≡ 102 * m + p → (n ≡ m → e ≡ entries) → IsFirst (Head first) named.now → IsSecond (Head second) named.now → AllPaired n a e (B.state on.old) → AllPaired n a e (B.state on.new) }
+    ensures there { result ≡ true → (B.state on.old).tells → (b : ℕ) → (B.state on.old).sealed b → (IsDoomed (B.state on.old) b → ⊥) → Reaches (B.state on.old).now (to_block 1) b → IsThere (B.state on.new) b }
     ensures bytes { result ≡ true → (b : ℕ) → b ≢ leaf → ((B.state on.new).now b).bytes ≡ ((B.state on.old).now b).bytes }
     ensures slots { result ≡ true → (b j : ℕ) → (b ≢ entries) ⊎ ((j ≢ 2 * p) × (j ≢ 2 * p + 1)) → ((B.state on.new).now b).slot j ≡ ((B.state on.old).now b).slot j }
     ensures calm { result ≡ true → StaysCalm (B.state on.old) (B.state on.new) }

@@ -1,4 +1,5 @@
-//! A record is added at the end of a leaf of a directory, with its pair.
+//! A record is added at the end of a leaf of a directory, with its pair: `add_record` with a pair that is known to be free, `add_new` with
+//! one that it tests, of which the record gets the number, and the generation raised by 1.
 //!
 //! Proved, over any blocks: where the record has no room nothing is changed. Else memory has the record behind the others of its leaf,
 //! and the two entries. In every image each record of the leaf has both entries of its pair as it needs them, if it was so before; and
@@ -6,5 +7,7 @@
 #![tactic(auto)]
 
 mod add;
+mod new;
 
 pub use add::add_record;
+pub use new::{Outcome, add_new};

@@ -10,7 +10,8 @@ use Rattle.fo_image.specs.declared.record.Record.{Record}
 use Rattle.fo_crash.specs.Images.{Image, SameImage}
 use Rattle.fo_ports.specs.Sources.{Leaves}
 use Rattle.fo_dir_read.proofs.Rows.{rows_none, none_rows, rows_split, rows_more, rows_back, rows_on}
-use Rattle.fo_dir_list.specs.Next.{comes_before, NoneAfter, IsNext, Answers, NextIn, NextBelow, is_better}
+use Rattle.fo_world.specs.Tree.{comes_before}
+use Rattle.fo_dir_list.specs.Next.{NoneAfter, IsNext, Answers, NextIn, NextBelow, is_better}
 
 abbrev cmp : List ℕ → List ℕ → Ordering
 cmp a b = slice_cmp nat_cmp a b

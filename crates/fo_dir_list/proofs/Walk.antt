@@ -8,7 +8,8 @@ use Rattle.fo_image.specs.Record.{RecordHolds, record_len, record_fields}
 use Rattle.fo_image.proofs.RecordLemmas.{length-record, spells_itself}
 use Rattle.fo_meta.specs.Leaf.{HasSpelling, record_bytes, SpellsLeaf, BeginsRecord, is_named}
 use Rattle.fo_meta.proofs.Leaves.{Walks, Here, walk_none, record_at_is}
-use Rattle.fo_dir_list.specs.Next.{comes_before, StandsAt, NextStands}
+use Rattle.fo_world.specs.Tree.{comes_before}
+use Rattle.fo_dir_list.specs.Next.{StandsAt, NextStands}
 use Rattle.fo_dir_list.proofs.Least.{none_of_none, none_both, none_one, next_one, left_is, right_is, left_less, right_less}
 
 not_empty : (xs : List ℕ) → 1 ≤ length xs → bytes_eq xs [] ≡ false

@@ -1,18 +1,13 @@
 -- The next name of some records.
-use Rattle.std.specs.Prelude.{◌≡◌, ◌+◌, ℕ, Bool, true, false, List, ◌++◌, drop, Option, Some, None, MatchOption}
-use Rattle.std.specs.Ordering.{nat_cmp, is_lt}
-use Rattle.std.specs.Cmp.Lexicographic.{slice_cmp}
+use Rattle.std.specs.Prelude.{◌≡◌, ◌+◌, ℕ, Bool, true, false, List, ◌++◌, drop, Option, Some, None, MatchOption, IfSome}
 use Rattle.std.specs.List.{Contains}
+use Rattle.fo_world.specs.Tree.{comes_before}
 use Rattle.fo_image.specs.declared.record.Record.{Record}
 use Rattle.fo_image.specs.Record.{record_len}
 use Rattle.fo_meta.specs.Leaf.{HasSpelling, record_bytes}
 use Rattle.fo_crash.specs.Images.{Image}
 use Rattle.fo_ports.specs.Sources.{Leaves}
 use Rattle.fo_dir_read.specs.Names.{HasRecords, AreRecords}
-
--- a name comes before another, byte by byte
-abbrev pub comes_before : List ℕ → List ℕ → Bool
-comes_before a b = is_lt (slice_cmp nat_cmp a b)
 
 -- No record's name is after this one.
 pub record NoneAfter (after : List ℕ) (rs : List Record) : Type 0 where
@@ -23,6 +18,10 @@ pub record IsNext (after : List ℕ) (rs : List Record) (r : Record) : Type 0 wh
   pub is_one : Contains rs r
   pub later : comes_before after r.name ≡ true
   pub least : (x : Record) → Contains rs x → comes_before after x.name ≡ true → comes_before x.name r.name ≡ false
+
+-- a record that was found, if one was, has a name after this one
+abbrev pub IsLater : List ℕ → Option Record → Type 0
+IsLater after found = IfSome found (λ r. comes_before after r.name ≡ true)
 
 -- what is answered: a record of the least name, or that there is none
 abbrev pub Answers : List ℕ → List Record → Option Record → Type 0

@@ -4,7 +4,8 @@ ghost use Rattle.fo_image.specs.declared.record.Record.{Record};
 ghost use Rattle.fo_image.specs.Record.{RecordHolds, record_len};
 ghost use Rattle.fo_meta.specs.Leaf.{HasSpelling, SpellsLeaf, IsLeaf, BeginsRecord, record_bytes, records_bytes};
 ghost use Rattle.fo_ports.specs.declared.error.BlockError.TheVariants.{Memory};
-ghost use Rattle.fo_dir_list.specs.Next.{comes_before, Answers, StandsAt, NextStands};
+ghost use Rattle.fo_world.specs.Tree.{comes_before};
+ghost use Rattle.fo_dir_list.specs.Next.{IsLater, Answers, StandsAt, NextStands};
 
 use fo_image::{Record, read_record, u16_at};
 use fo_ports::BlockError;
@@ -84,6 +85,7 @@ pub fn next_in(alloc: Global, leaf: &[u8], after: &[u8]) -> Result<Option<Record
     requires { IsLeaf leaf.now }
     ensures next { (rs : List Record) → SpellsLeaf rs leaf.now → IfOk result (λ found. Answers after.now rs found) }
     ensures holds { IfOk result (λ found. IfSome found RecordHolds) }
+    ensures later { IfOk result (λ found. IsLater after.now found) }
     ensures memory { IfErr result (λ e. e ≡ Memory) }
 {
     let Some((at, end)) = place_after(leaf, after) else {

@@ -6,7 +6,8 @@
 //! their causes alone. Where the device tells, `next` gives a record of the least name after the one given, among all that memory
 //! has, or says that none is after it; so calls from the empty name on, each after the name before, give every name once and
 //! in ascending order. `count` gives how many records there are, and `leaf_for` the first leaf with room for so many bytes, or one
-//! behind the last.
+//! behind the last. `numbered` gives the first record of a file number, or says that none has it. Over any device a name that is next
+//! is after the one given, so each listing ends, and the record of a number has it, in a leaf of the source.
 #![tactic(auto)]
 
 mod leaf;

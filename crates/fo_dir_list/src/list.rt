@@ -7,7 +7,7 @@ ghost use Rattle.fo_ports.specs.Causes.{Caused};
 ghost use Rattle.fo_ports.specs.State.{Looks};
 ghost use Rattle.fo_ports.specs.Sources.{SameLeaves, depth_for};
 ghost use Rattle.fo_dir_read.specs.Names.{OfRecords, leaf_count};
-ghost use Rattle.fo_dir_list.specs.Next.{Answers, NextIn, NextBelow, is_better};
+ghost use Rattle.fo_dir_list.specs.Next.{IsLater, Answers, NextIn, NextBelow, is_better};
 
 use crate::leaf::{comes_before, next_in};
 use fo_base::BLOCK;
@@ -29,6 +29,7 @@ fn next_at<B: Blocks, S: Bytes<B>>(
     requires form { OfRecords (S.form records.old) rank }
     ensures next { IfOk result (λ found. (B.state on.old).tells → NextIn (B.state on.new).now (S.leaves records.new on.new) after.now i found) }
     ensures holds { IfOk result (λ found. IfSome found RecordHolds) }
+    ensures later { IfOk result (λ found. IsLater after.now found) }
     ensures over { S.is_over records.new on.new }
     ensures same { (S.form records.new ≡ S.form records.old) × (S.size records.new ≡ S.size records.old) × SameLeaves (B.state on.old).tells (S.leaves records.old on.old) (S.leaves records.new on.new) }
     ensures pins { (B.state on.old).pins_left ≤ (B.state on.new).pins_left + (depth_for (S.size records.old) + 1) }
@@ -60,6 +61,7 @@ fn is_better(best: &Option<Record>, found: &Option<Record>) -> bool
 fn lesser(best: Option<Record>, found: Option<Record>) -> Option<Record>
     ensures answers { (after : List ℕ) (front last : List Record) → Answers after front best → Answers after last found → Answers after (front ++ last) result }
     ensures holds { IfSome best RecordHolds → IfSome found RecordHolds → IfSome result RecordHolds }
+    ensures later { (after : List ℕ) → IsLater after best → IsLater after found → IsLater after result }
 {
     if is_better(&best, &found) {
         found
@@ -81,6 +83,7 @@ pub fn next<B: Blocks, S: Bytes<B>>(
     requires form { OfRecords (S.form records.old) rank }
     ensures next { IfOk result (λ found. (B.state on.old).tells → NextBelow (B.state on.new).now (S.leaves records.new on.new) after.now (leaf_count (S.size records.new)) found) }
     ensures holds { IfOk result (λ found. IfSome found RecordHolds) }
+    ensures later { IfOk result (λ found. IsLater after.now found) }
     ensures over { S.is_over records.new on.new }
     ensures same { (S.form records.new ≡ S.form records.old) × (S.size records.new ≡ S.size records.old) × SameLeaves (B.state on.old).tells (S.leaves records.old on.old) (S.leaves records.new on.new) }
     ensures pins { (B.state on.old).pins_left ≤ (B.state on.new).pins_left + leaf_count (S.size records.old) * (depth_for (S.size records.old) + 1) }

@@ -1,5 +1,5 @@
 //! The record of a file number.
-ghost use Rattle.std.specs.Prelude.{◌≡◌, ◌+◌, ◌*◌, ◌≤◌, ◌++◌, ℕ, List, length, drop, find, IfOk, IfErr, IfSome, Option, Some, None, MatchOption};
+ghost use Rattle.std.specs.Prelude.{◌≡◌, ◌+◌, ◌*◌, ◌<◌, ◌≤◌, ◌++◌, ℕ, List, length, drop, find, IfOk, IfErr, IfSome, Option, Some, None, MatchOption};
 ghost use Rattle.fo_base.specs.Cause.{Rose};
 ghost use Rattle.fo_image.specs.declared.record.Record.{Record};
 ghost use Rattle.fo_image.specs.Record.{RecordHolds, record_len};
@@ -47,6 +47,7 @@ fn find_in(alloc: Global, leaf: &[u8], number: u32) -> Result<Option<Record>, Bl
     requires { IsLeaf leaf.now }
     ensures found { (rs : List Record) → SpellsLeaf rs leaf.now → IfOk result (λ found. found ≡ find (has_number number) rs) }
     ensures holds { IfOk result (λ found. IfSome found RecordHolds) }
+    ensures numbered { IfOk result (λ found. IfSome found (λ r. r.number ≡ number)) }
     ensures memory { IfErr result (λ e. e ≡ Memory) }
 {
     let Some((at, end)) = place_of(leaf, number) else {
@@ -71,6 +72,7 @@ fn look_in<B: Blocks, S: Bytes<B>>(
     requires form { OfRecords (S.form records.old) rank }
     ensures found { IfOk result (λ found. (B.state on.old).tells → FindsNumber (B.state on.new).now (S.leaves records.new on.new) number i found) }
     ensures holds { IfOk result (λ found. IfSome found RecordHolds) }
+    ensures numbered { IfOk result (λ found. IfSome found (λ r. r.number ≡ number)) }
     ensures over { S.is_over records.new on.new }
     ensures same { (S.form records.new ≡ S.form records.old) × (S.size records.new ≡ S.size records.old) × SameLeaves (B.state on.old).tells (S.leaves records.old on.old) (S.leaves records.new on.new) }
     ensures pins { (B.state on.old).pins_left ≤ (B.state on.new).pins_left + (depth_for (S.size records.old) + 1) }
@@ -97,6 +99,8 @@ pub fn numbered<B: Blocks, S: Bytes<B>>(
     requires form { OfRecords (S.form records.old) rank }
     ensures found { IfOk result (λ found. (B.state on.old).tells → MatchOption found (LacksNumberBelow (B.state on.new).now (S.leaves records.new on.new) number (leaf_count (S.size records.new))) (λ f. IsNumbered (B.state on.new).now (S.leaves records.new on.new) number (S.size records.new) f.leaf f.record)) }
     ensures holds { IfOk result (λ found. IfSome found (λ f. RecordHolds f.record)) }
+    ensures numbered { IfOk result (λ found. IfSome found (λ f. f.record.number ≡ number)) }
+    ensures within { IfOk result (λ found. IfSome found (λ f. f.leaf < leaf_count (S.size records.old))) }
     ensures over { S.is_over records.new on.new }
     ensures same { (S.form records.new ≡ S.form records.old) × (S.size records.new ≡ S.size records.old) × SameLeaves (B.state on.old).tells (S.leaves records.old on.old) (S.leaves records.new on.new) }
     ensures pins { (B.state on.old).pins_left ≤ (B.state on.new).pins_left + leaf_count (S.size records.old) * (depth_for (S.size records.old) + 1) }

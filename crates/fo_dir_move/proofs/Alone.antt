@@ -1,15 +1,12 @@
 -- What a move leaves, over its three calls: bytes of one leaf, the settling, bytes of one leaf.
-use Rattle.std.proofs.Common.{◌≡◌, ◌≢◌, ◌⊎◌, inl, inr, ⊎_elim, ℕ, ◌≤◌, List, [], ◌∷◌, length, refl, sym, ◌∙◌, ap, subst, arith}
+use Rattle.std.proofs.Common.{◌≡◌, ◌≢◌, ◌⊎◌, inl, inr, ⊎_elim, ℕ, ◌≤◌, List, length, sym, ◌∙◌, ap, subst, arith}
 use Rattle.std.proofs.lemmas.Bool.{cases_eq}
 use Rattle.fo_image.specs.declared.types.Label.{Label}
 use Rattle.fo_image.specs.declared.types.State.TheVariants.{Live}
-use Rattle.fo_image.specs.declared.types.Pointer.{Pointer}
-use Rattle.fo_image.specs.declared.types.Pointer.TheVariants.{Nil, Local, Score as Held}
 use Rattle.fo_crash.specs.declared.slot.Slot.{Slot}
-use Rattle.fo_crash.specs.declared.slot.Slot.TheVariants.{Pointer as To}
-use Rattle.fo_crash.specs.Images.{Image, Reaches, to_block, target, local, walk}
+use Rattle.fo_crash.specs.Images.{Reaches, to_block, target}
 use Rattle.fo_crash.specs.Steps.{AddsNothing, AllAre, PutsBytes, Through, cleared}
-use Rattle.fo_crash.proofs.Reach.{lost, reaches_joins, reaches_on, reaches_from, same_walk}
+use Rattle.fo_crash.proofs.Reach.{same_walk}
 use Rattle.fo_crash.proofs.Covers.{bytes_reach}
 use Rattle.fo_ports.specs.Blocks.{IsInner}
 use Rattle.fo_ports.specs.State.{State, KeepsAll, Rests, StaysKnown, IsDoomed, IsPointers, KeepsSlot, WasCleared}
@@ -18,46 +15,8 @@ use Rattle.fo_dir_put.specs.Puts.{StaysCalm, IsOwnedRecords}
 use Rattle.fo_dir_put.proofs.Calms.{records_on, records_put, in_place_on}
 use Rattle.fo_dir_put.proofs.Leaves.{bytes_reached}
 use Rattle.fo_dir_move.specs.Moves.{AreReady, StaysBut, StaysSpared, MovesAlone, IsSettledBut}
-use Rattle.fo_dir_move.proofs.Settled.{SameMarks, undoomed, rooted_taken}
-
--- one slot before
-further : {image : Image} {u : Slot} {c : ℕ} (x i : ℕ) → target u ≡ Local x → Reaches image ((image x).slot i) c → Reaches image u c
-further {image = image} x i leads r = record { path = i ∷ r.path; leads = ap (λ p. target (walk image ((local image p).slot i) r.path)) leads ∙ r.leads }
-
-nil_not : (x : ℕ) → Nil ≡ Local x → ⊥
-nil_not x f = cc
-
--- ---- what hangs from block 1 over a settling
-
-module _ {a m : State} {c : ℕ} (rests : Rests a m) (told : a.tells) (top : a.covered 1 → ⊥) (live : (x : ℕ) → x ≢ 1 → Reaches a.now (to_block 1) x → a.covered x → ⊥) (spared : IsDoomed a c → ⊥) where
-  -- a block above one that is not doomed
-  above : (x : ℕ) → Reaches a.now (to_block 1) x → Reaches a.now (to_block x) c → IsDoomed a x → ⊥
-  above x from_top r (inl covered) = ⊎_elim (λ e. top (subst a.covered e covered)) (λ ne. live x ne from_top covered) (cases_eq x 1)
-  above x from_top r (inr h) = spared (inr (h.0, h.1, h.2, reaches_joins h.3 r))
-
-  down : (path : List ℕ) (u : Slot) → ((x : ℕ) → target u ≡ Local x → Reaches a.now (to_block 1) x) → target (walk a.now u path) ≡ Local c → Reaches m.now u c
-  down [] u held e = record { path = []; leads = e }
-  down (i ∷ path) u held e = by (target u) refl (down path ((local a.now (target u)).slot i) (step (target u) refl) e)
-    where
-      step : (p : Pointer) → target u ≡ p → (y : ℕ) → target ((local a.now p).slot i) ≡ Local y → Reaches a.now (to_block 1) y
-      step Nil leads y f = absurd (cc)
-      step (Held score) leads y f = absurd (cc)
-      step (Local x) leads y f = reaches_on i (held x leads) f
-
-      below : (x : ℕ) → target u ≡ Local x → Reaches a.now ((a.now x).slot i) c
-      below x leads = record { path = path; leads = ap (λ p. target (walk a.now ((local a.now p).slot i) path)) (sym leads) ∙ e }
-
-      slot : (x : ℕ) → target u ≡ Local x → Reaches m.now ((a.now x).slot i) c → KeepsSlot a m x i → Reaches m.now u c
-      slot x leads r (inl same) = further x i leads (subst (λ s. Reaches m.now s c) (sym same.0) r)
-      slot x leads r (inr was) = absurd (spared (inr (x, i, was.0, below x leads)))
-
-      by : (p : Pointer) → target u ≡ p → Reaches m.now ((local a.now p).slot i) c → Reaches m.now u c
-      by Nil leads r = absurd (lost m.now r.path (To Nil) nil_not c r.leads)
-      by (Held score) leads r = absurd (lost m.now r.path (To Nil) nil_not c r.leads)
-      by (Local x) leads r = slot x leads r ((rests.blocks told x (above x (held x leads) (reaches_from i (below x leads)))).slots i)
-
-  pub still_linked : Reaches a.now (to_block 1) c → Reaches m.now (to_block 1) c
-  still_linked r = down r.path (to_block 1) (λ x e. record { path = []; leads = e }) r.leads
+use Rattle.fo_dir_move.proofs.Hanging.{still_linked}
+use Rattle.fo_dir_move.proofs.Settled.{SameMarks}
 
 -- ---- all three calls
 
@@ -101,11 +60,13 @@ module _ {o a m n : State} {from to at : ℕ} {one two : List ℕ} (first_all : 
   spared_stays : o.tells → (b : ℕ) → (IsDoomed o b → ⊥) → StaysSpared from to b o n
   spared_stays told b spared =
       let was = first_all.still_tells.1 told in
-      let s = rests.blocks was b (undoomed first_calm first b spared) in
+      let s = rests.blocks was b (first_calm.spared b spared) in
       record {
         content = stays b s.bytes s.slots;
         uncovered = last_calm.uncovered b s.uncovered;
-        places = λ rooted p stands. last_calm.places (mid_all.still_tells.1 was) b p s.uncovered (s.places (rooted_taken first_all first_calm first b rooted) p (first_calm.places told b p (λ h. spared (inl h)) stands));
+        places = λ rooted still p stands.
+            let mid = (first_calm.rooted told b).1 rooted in
+            last_calm.places (mid_all.still_tells.1 was) b p s.uncovered still (s.places mid p (first_calm.places told b p (λ h. spared (inl h)) mid stands));
       }
 
   pub moves_alone : AddsNothing a.may_leave m.may_leave → LeavesRest from o.may_leave a.may_leave → LeavesRest at m.may_leave n.may_leave → (a.covered 1 → ⊥) → (a.tells → (x : ℕ) → x ≢ 1 → Reaches a.now (to_block 1) x → a.covered x → ⊥)
@@ -117,7 +78,7 @@ module _ {o a m n : State} {from to at : ℕ} {one two : List ℕ} (first_all : 
     blocks = spared_stays;
     linked = λ told b spared r.
         let was = first_all.still_tells.1 told in
-        bytes_reached last (still_linked rests was top (live was) (undoomed first_calm first b spared) (bytes_reached first r));
+        bytes_reached last (still_linked rests was top (live was) (first_calm.spared b spared) (bytes_reached first r));
     order = λ b j h. (first_calm.order.clearing b j (rests.order b j (last_calm.order.clearing b j h).1)).1;
     apart = λ b h. last_calm.apart b ((rests.apart b).1 (first_calm.apart b h));
     instead = λ b x h. first_calm.instead b x ((rests.instead b x).0 (last_calm.instead b x h));
@@ -140,8 +101,8 @@ owned_after {b = b} {at = at} {x = x} all calm puts long owned = ⊎_elim
     (λ ne. records_on all calm (puts.others x ne) owned)
     (cases_eq x at)
 
-pub ready_after : {a b : State} {at : ℕ} {bytes : List ℕ} (from to entries : ℕ) → KeepsAll a b → StaysCalm a b → PutsBytes at bytes a.now b.now → length bytes ≡ 8192 → AreReady a from to entries → AreReady b from to entries
-ready_after from to entries all calm puts long r = record {
+pub ready_after : {a b : State} {at : ℕ} {bytes : List ℕ} (from to entries : ℕ) → b.tops 1 → KeepsAll a b → StaysCalm a b → PutsBytes at bytes a.now b.now → length bytes ≡ 8192 → AreReady a from to entries → AreReady b from to entries
+ready_after from to entries top all calm puts long r = record {
   from_owned = owned_after all calm puts long r.from_owned;
   to_owned = owned_after all calm puts long r.to_owned;
   held = record {
@@ -149,8 +110,8 @@ ready_after from to entries all calm puts long r = record {
     leaf_kind = ap (λ (l : Label). l.kind) (calm.labels entries) ∙ r.held.leaf_kind;
     uncovered = calm.uncovered entries r.held.uncovered;
   };
-  from_place = λ tells. let was = all.still_tells.0 tells in in_place_on was calm r.from_owned.uncovered r.held.uncovered (r.from_place was);
-  to_place = λ tells. let was = all.still_tells.0 tells in in_place_on was calm r.to_owned.uncovered r.held.uncovered (r.to_place was);
+  from_place = λ tells. let was = all.still_tells.0 tells in in_place_on was top calm r.from_owned.uncovered r.held.uncovered (r.from_place was);
+  to_place = λ tells. let was = all.still_tells.0 tells in in_place_on was top calm r.to_owned.uncovered r.held.uncovered (r.to_place was);
 }
 
 -- all was settled, and then bytes were put

@@ -14,13 +14,12 @@ use Rattle.fo_dir_put.specs.Puts.{StaysCalm}
 use Rattle.fo_dir_put.specs.Paired.{HasBoth, AllPaired, ArePaired}
 use Rattle.fo_dir_put.proofs.Paired.{both_on, stood_on}
 use Rattle.fo_dir_move.specs.Moves.{BacksBoth}
-use Rattle.fo_dir_move.proofs.Settled.{undoomed}
 
 -- a slot of the leaf of entries stays over the settling, or it waited and was cleared
 pub slots_over : {o a m : State} {from : ℕ} {one : List ℕ} (e : ℕ) → KeepsAll o a → StaysCalm o a → PutsBytes from one o.now a.now → Rests a m → ((b : ℕ) → a.pinned b → StaysKnown a m b) → o.pinned e ⊎ (IsDoomed o e → ⊥) → o.tells → (j : ℕ) → KeepsSlot a m e j
 slots_over e all calm puts rests known stays told j = ⊎_elim
     (λ pinned. (known e ((calm.marks e).0 pinned)).slots j)
-    (λ spared. (rests.blocks (all.still_tells.1 told) e (undoomed calm puts e spared)).slots j)
+    (λ spared. (rests.blocks (all.still_tells.1 told) e (calm.spared e spared)).slots j)
     stays
 
 -- a first entry that was cleared is nobody's

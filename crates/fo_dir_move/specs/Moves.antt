@@ -61,11 +61,11 @@ pub record StaysBut (from to b : ℕ) (old new : State) : Type 0 where
   pub bytes : b ≢ from → b ≢ to → (new.now b).bytes ≡ (old.now b).bytes
   pub slots : (j : ℕ) → KeepsSlot old new b j
 
--- The same of a block that is not doomed; it is not to be closed, and keeps its place where it hangs in memory.
+-- The same of a block that is not doomed; it is not to be closed, and keeps its place where it hung in memory and hangs there still.
 pub record StaysSpared (from to b : ℕ) (old new : State) : Type 0 where
   pub content : StaysBut from to b old new
   pub uncovered : new.covered b → ⊥
-  pub places : IsRooted old b → (p : Place) → old.stands b p → new.stands b p
+  pub places : IsRooted old b → IsRooted new b → (p : Place) → old.stands b p → new.stands b p
 
 -- A move leaves all but the bytes of its two leaves: blocks that are pinned, and where the device tells all that no removal and no
 -- slot that waits takes out of the tree. Slots that waited may be cleared; what was to be closed, or hung from such a slot through blocks

@@ -9,9 +9,9 @@ use Rattle.fo_crash.specs.Images.{Image, SameImage, Reaches, target}
 use Rattle.fo_crash.specs.Steps.{PutsSlot, cleared}
 use Rattle.fo_crash.proofs.Covers.{slot_reaches}
 use Rattle.fo_ports.specs.Blocks.{SlotFits}
-use Rattle.fo_ports.specs.State.{State, AddsNoWait, Frame, Hangs, none}
+use Rattle.fo_ports.specs.State.{State, KeepsAll, AddsNoWait, Frame, Hangs, none}
 use Rattle.fo_dir_put.specs.Puts.{ClearsAlone}
-use Rattle.fo_dir_put.proofs.Nothing.{nil_reaches, put_places, put_apart, put_instead}
+use Rattle.fo_dir_put.proofs.Nothing.{nil_reaches, rooted_on, put_places, put_apart, put_instead}
 use Rattle.fo_dir_put.proofs.Leaves.{same_reached}
 
 -- A cleared entry names nothing.
@@ -40,6 +40,8 @@ wider covers frame = record {
     labels = frame.stays.labels;
     marks = frame.stays.marks;
     places = λ told b p made other. frame.stays.places told b p made (λ h. other (covers b h));
+    rooted = frame.stays.rooted;
+    newborn = frame.stays.newborn;
     apart = λ b made other. frame.stays.apart b made (λ h. other (covers b h));
     instead = λ b x made other. frame.stays.instead b x made (λ h. other (covers b h));
     waits = λ a on j one two other. frame.stays.waits a on j one two (λ h. other (covers on h));
@@ -49,15 +51,17 @@ wider covers frame = record {
   numbers = frame.numbers;
 }
 
-pub clears_alone : {at j : ℕ} {old new : State} → Frame (λ b. b ≡ at) (λ b. b ≡ at) 1 old new → Hangs at j (cleared ((old.now at).slot j)) old new → AddsNoWait none old new → target (cleared ((old.now at).slot j)) ≡ Nil
+pub clears_alone : {at j : ℕ} {old new : State} → KeepsAll old new → Frame (λ b. b ≡ at) (λ b. b ≡ at) 1 old new → Hangs at j (cleared ((old.now at).slot j)) old new → AddsNoWait none old new → target (cleared ((old.now at).slot j)) ≡ Nil
     → PutsSlot at j (cleared ((old.now at).slot j)) old.now new.now ⊎ SameImage new.now old.now → ClearsAlone at j old new
-clears_alone {at = at} {j = j} {old = old} {new = new} frame hangs no_wait nil now = record {
+clears_alone {at = at} {j = j} {old = old} {new = new} all frame hangs no_wait nil now = record {
   bytes = λ b. ⊎_elim (λ puts. puts.bytes b) (λ same. (same.each b).bytes) now;
   slots = λ b i ne. ⊎_elim (λ puts. puts.others b i ne) (λ same. (same.each b).slots i) now;
   labels = λ b. frame.stays.labels b (λ n. n);
   marks = λ b. let m = frame.stays.marks b (λ n. n) in (m.0, m.1);
-  places = λ told b p spared stands. put_places told more hangs nil b p spared stands;
-  linked = λ told b other r. ⊎_elim (λ puts. beside puts nil other r) (λ same. same_reached same r) now;
+  places = λ told b p spared r stands. put_places told more hangs nil b p spared r stands;
+  rooted = λ told b r. frame.stays.rooted told b (λ n. n) r;
+  hangs = λ told b other r. rooted_on all (put_apart more hangs nil) (λ t q. still b other q) r;
+  linked = λ told b other r. still b other r;
   apart = λ b h. put_apart more hangs nil b h;
   instead = λ b x h. put_instead more hangs nil b x h;
   no_wait = no_wait;
@@ -66,6 +70,9 @@ clears_alone {at = at} {j = j} {old = old} {new = new} frame hangs no_wait nil n
   numbers = frame.numbers;
 }
   where
+    still : {t : Slot} (b : ℕ) → (Reaches old.now ((old.now at).slot j) b → ⊥) → Reaches old.now t b → Reaches new.now t b
+    still b other r = ⊎_elim (λ puts. beside puts nil other r) (λ same. same_reached same r) now
+
     more : Frame (λ b. b ≡ at) (λ b. (b ≡ at) ⊎ (target (cleared ((old.now at).slot j)) ≡ Local b)) 1 old new
     more = wider (λ b h. inl h) frame
 

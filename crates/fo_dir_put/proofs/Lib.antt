@@ -5,3 +5,4 @@ pub mod Leaves
 pub mod Nothing
 pub mod Named
 pub mod Paired
+pub mod Spared

@@ -1,5 +1,5 @@
 -- An entry that leads nowhere is put where none is in use.
-use Rattle.std.proofs.Common.{◌≡◌, ◌⊎◌, inl, ⊎_elim, ℕ, ◌<◌, Bool, true, false, refl, sym, ap, subst, arith}
+use Rattle.std.proofs.Common.{◌≡◌, ◌⊎◌, inl, inr, ⊎_elim, ℕ, ◌<◌, Bool, true, false, refl, sym, ap, subst, arith}
 use Rattle.std.proofs.lemmas.Bool.{cases_eq}
 use Rattle.fo_image.specs.declared.types.Entry.{Entry}
 use Rattle.fo_image.specs.declared.types.Kind.{Kind}
@@ -16,7 +16,7 @@ use Rattle.fo_crash.specs.Names.{IsInUse}
 use Rattle.fo_crash.proofs.Reach.{lost, reaches_on}
 use Rattle.fo_crash.proofs.Covers.{slot_reaches}
 use Rattle.fo_ports.specs.Blocks.{SlotFits, IsInner, dropped, cost, ends}
-use Rattle.fo_ports.specs.State.{State, Frame, Hangs, MayPutSlot, MayRemoveSlot}
+use Rattle.fo_ports.specs.State.{State, KeepsAll, Frame, Hangs, IsRooted, MayPutSlot, MayRemoveSlot}
 
 pub nil_local : {a : ℕ} {p : Pointer} → p ≡ Nil → p ≡ Local a → ⊥
 nil_local nil e = cc
@@ -65,6 +65,8 @@ may_put_nil {s = s} at i slot nil none uncovered reached = record {
   uncovered = uncovered;
   first = λ inner zero x e. absurd (nil_local none e);
   holder = inl reached;
+  linked = λ costs. reached;
+  entry = λ outer b e ne. reached;
   keeps = λ c e. absurd (nil_local none e);
 }
 
@@ -72,11 +74,11 @@ may_put_nil {s = s} at i slot nil none uncovered reached = record {
 pub still_uncovered : {inner : ℕ → Type 0} {now next : Image} {s : Slot} {old new : ℕ → Type 0} (b : ℕ) → Covers inner s now next old new → target s ≡ Nil → (old b → ⊥) → new b → ⊥
 still_uncovered {s = s} b covers nil none h = covers.only b none (λ r. nil_reaches s b nil r) h
 
--- After the put all stand where they stood.
-pub put_places : {at i : ℕ} {slot : Slot} {n : ℕ} {old new : State} → old.tells → Frame (λ b. b ≡ at) (λ b. (b ≡ at) ⊎ (target slot ≡ Local b)) n old new → Hangs at i slot old new → target slot ≡ Nil → (b : ℕ) (p : Place) → (new.covered b → ⊥) → old.stands b p → new.stands b p
-put_places {at = at} {old = old} {new = new} told frame hangs nil b p spared stands = ⊎_elim
+-- After the put all that hang stand where they stood.
+pub put_places : {at i : ℕ} {slot : Slot} {n : ℕ} {old new : State} → old.tells → Frame (λ b. b ≡ at) (λ b. (b ≡ at) ⊎ (target slot ≡ Local b)) n old new → Hangs at i slot old new → target slot ≡ Nil → (b : ℕ) (p : Place) → (new.covered b → ⊥) → IsRooted new b → old.stands b p → new.stands b p
+put_places {at = at} {old = old} {new = new} told frame hangs nil b p spared rooted stands = ⊎_elim
     (λ is. subst (λ x. new.stands x p) (sym is) (hangs.at_place told p (λ h. spared (subst (λ x. new.covered x) (sym is) h)) (subst (λ x. old.stands x p) is stands)))
-    (λ ne. frame.stays.places told b p (λ n. n) (λ h. ⊎_elim (λ e. ne e) (λ e. nil_local nil e) h) spared stands)
+    (λ ne. frame.stays.places told b p (λ n. n) (λ h. ⊎_elim (λ e. ne e) (λ e. nil_local nil e) h) spared rooted stands)
     (cases_eq b at)
 
 pub put_apart : {at i : ℕ} {slot : Slot} {n : ℕ} {old new : State} → Frame (λ b. b ≡ at) (λ b. (b ≡ at) ⊎ (target slot ≡ Local b)) n old new → Hangs at i slot old new → target slot ≡ Nil → (b : ℕ) → old.apart b → new.apart b
@@ -105,5 +107,10 @@ may_remove {s = s} at i kind linked quiet uncovered reached = record {
   uncovered = uncovered;
   first = λ inner zero. let none : 0 < 0 = subst (λ (k : Kind). IsInner k) kind inner in omega (arith, none);
   holder = inl reached;
+  linked = λ c e. reached;
   keeps = λ c e. reaches_on i reached e;
 }
+
+-- what hung goes on to where tops stay, and what is apart and what is reached
+pub rooted_on : {old new : State} {b : ℕ} → KeepsAll old new → ((t : ℕ) → old.apart t → new.apart t) → ((t : ℕ) → Reaches old.now (to_block t) b → Reaches new.now (to_block t) b) → IsRooted old b → IsRooted new b
+rooted_on all aparts reach h = (h.0, ⊎_elim (λ top. inl ((all.same_tops h.0).1 top)) (λ apart. inr (aparts h.0 apart)) h.1, reach h.0 h.2)

@@ -2,3 +2,4 @@ pub mod Differ
 pub mod Names
 pub mod Paired
 pub mod Puts
+pub mod There

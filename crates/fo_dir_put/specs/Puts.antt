@@ -1,5 +1,5 @@
 -- What is asked of leaves that are put into, and what stays.
-use Rattle.std.specs.Prelude.{◌≡◌, ◌≢◌, ◌⊎◌, ◌+◌, ◌*◌, ◌<◌, ℕ, List, length}
+use Rattle.std.specs.Prelude.{◌≡◌, ◌≢◌, ◌⊎◌, ◌↔◌, ◌+◌, ◌*◌, ◌<◌, ℕ, List, length}
 use Rattle.fo_image.specs.declared.types.Entry.{Entry}
 use Rattle.fo_image.specs.declared.types.Kind.TheVariants.{Data, Dir}
 use Rattle.fo_image.specs.declared.types.Pointer.TheVariants.{Nil}
@@ -8,7 +8,7 @@ use Rattle.fo_crash.specs.declared.slot.Slot.TheVariants.{Entry as Head}
 use Rattle.fo_crash.specs.Images.{Image, Reaches, to_block}
 use Rattle.fo_crash.specs.Names.{IsInUse}
 use Rattle.fo_ports.specs.Blocks.{SlotFits}
-use Rattle.fo_ports.specs.State.{State, AddsNoWait, KeepsOrder, KeepsNumbers, MayClearLater, none}
+use Rattle.fo_ports.specs.State.{State, AddsNoWait, IsRooted, IsDoomed, KeepsOrder, KeepsNumbers, MayClearLater, none}
 
 -- A leaf of entries that is owned, and linked where the device tells.
 pub record IsOwnedEntries (s : State) (at : ℕ) : Type 0 where
@@ -39,14 +39,17 @@ pub record IsNewEntry (e : Entry) : Type 0 where
   pub fits : SlotFits (Dir 0) 0 (Head e)
   pub empty : e.top ≡ Nil
 
--- Labels, pins and places stay, the same slots wait to be cleared, the same blocks are to be closed, and no device call is made.
+-- Labels and pins stay, what hangs in memory hung there before and keeps its place, the same slots wait to be cleared, the same blocks are
+-- to be closed, a settling takes out no other, and no device call is made.
 pub record StaysCalm (old new : State) : Type 0 where
   pub labels : (b : ℕ) → new.label b ≡ old.label b
   pub marks : (b : ℕ) → (old.pinned b → new.pinned b) × (old.sealed b → new.sealed b)
-  pub places : old.tells → (b : ℕ) (p : Place) → (old.covered b → ⊥) → old.stands b p → new.stands b p
+  pub places : old.tells → (b : ℕ) (p : Place) → (old.covered b → ⊥) → IsRooted new b → old.stands b p → new.stands b p
+  pub rooted : old.tells → (b : ℕ) → IsRooted new b ↔ IsRooted old b
   pub order : KeepsOrder none old new
   pub uncovered : (b : ℕ) → (old.covered b → ⊥) → new.covered b → ⊥
   pub covered : (b : ℕ) → old.covered b → new.covered b
+  pub spared : (b : ℕ) → (IsDoomed old b → ⊥) → IsDoomed new b → ⊥
   pub linked : old.tells → (b : ℕ) → Reaches old.now (to_block 1) b → Reaches new.now (to_block 1) b
   pub apart : (b : ℕ) → old.apart b → new.apart b
   pub instead : (b x : ℕ) → new.instead b x → old.instead b x
@@ -61,18 +64,22 @@ pub record PutsPair (at p : ℕ) (first second : Entry) (old new : State) : Type
   pub second_is : (new.now at).slot (2 * p + 1) ≡ Head second
   pub others : (b j : ℕ) → (b ≢ at) ⊎ ((j ≢ 2 * p) × (j ≢ 2 * p + 1)) → (new.now b).slot j ≡ (old.now b).slot j
 
--- A leaf of records that is owned.
+-- A leaf of records that is owned. It is no super block, so where it stands is a place of its label's kind.
 pub record IsOwnedRecords (s : State) (at : ℕ) : Type 0 where
   pub is_pinned : s.pinned at
   pub current : (s.label at).epoch ≡ s.high
   pub leaf_kind : (s.label at).kind ≡ Data 0
   pub whole : length ((s.now at).bytes) ≡ 8192
   pub uncovered : s.covered at → ⊥
-  pub placed : s.tells → (p : Place) × s.stands at p × (p.kind ≡ Data 0)
+  pub other : s.tells → at ≢ 1
 
--- The leaf of records hung from block 1 when all was last settled, and the leaf of entries stands below it in rank.
+-- The leaf of records and the leaf of entries hung from block 1 when all was last settled, and do so in memory, and the second stands below
+-- the first in rank.
 pub record IsInPlace (s : State) (leaf entries : ℕ) : Type 0 where
   pub is_sealed : s.sealed leaf
+  pub entries_sealed : s.sealed entries
+  pub leaf_linked : Reaches s.now (to_block 1) leaf
+  pub entries_linked : Reaches s.now (to_block 1) entries
   pub upper : Place
   pub lower : Place
   pub upper_stands : s.stands leaf upper
@@ -95,14 +102,16 @@ pub record MayClear (s : State) (at j : ℕ) : Type 0 where
   pub none_comes : (y x : ℕ) → s.instead y x → ⊥
   pub quiet : (b i : ℕ) → s.clearing b i → Reaches s.now ((s.now at).slot j) b → ⊥
 
--- An entry of a leaf was cleared or waits for it, and all else in memory stays. Labels, pins and places stay, nothing begins to wait for a
--- leaf, no device call is made, and what didn't hang below the entry hangs from block 1 where it did.
+-- An entry of a leaf was cleared or waits for it, and all else in memory stays. Labels and pins stay, what hangs in memory hung there before
+-- and keeps its place, nothing begins to wait for a leaf, no device call is made, and what didn't hang below the entry hangs where it did.
 pub record ClearsAlone (at j : ℕ) (old new : State) : Type 0 where
   pub bytes : (b : ℕ) → (new.now b).bytes ≡ (old.now b).bytes
   pub slots : (b i : ℕ) → (b ≢ at) ⊎ (i ≢ j) → (new.now b).slot i ≡ (old.now b).slot i
   pub labels : (b : ℕ) → new.label b ≡ old.label b
   pub marks : (b : ℕ) → (old.pinned b → new.pinned b) × (old.sealed b → new.sealed b)
-  pub places : old.tells → (b : ℕ) (p : Place) → (new.covered b → ⊥) → old.stands b p → new.stands b p
+  pub places : old.tells → (b : ℕ) (p : Place) → (new.covered b → ⊥) → IsRooted new b → old.stands b p → new.stands b p
+  pub rooted : old.tells → (b : ℕ) → IsRooted new b → IsRooted old b
+  pub hangs : old.tells → (b : ℕ) → (Reaches old.now ((old.now at).slot j) b → ⊥) → IsRooted old b → IsRooted new b
   pub linked : old.tells → (b : ℕ) → (Reaches old.now ((old.now at).slot j) b → ⊥) → Reaches old.now (to_block 1) b → Reaches new.now (to_block 1) b
   pub apart : (b : ℕ) → old.apart b → new.apart b
   pub instead : (b x : ℕ) → new.instead b x → old.instead b x

@@ -1,12 +1,14 @@
 //! A name is added, and its entry cleared.
 ghost use Rattle.std.specs.Prelude.{◌≡◌, ◌≢◌, ◌⊎◌, ◌+◌, ◌*◌, ◌/◌, ◌<◌, ℕ, List, true};
-ghost use Rattle.fo_crash.specs.Steps.{Covers, cleared};
+ghost use Rattle.fo_crash.specs.Images.{Reaches, to_block};
+ghost use Rattle.fo_crash.specs.Steps.{Covers, HasBytes, cleared};
 ghost use Rattle.fo_meta.specs.Leaf.{IsLeaf};
-ghost use Rattle.fo_ports.specs.State.{IsPointers};
+ghost use Rattle.fo_ports.specs.State.{IsDoomed, IsPointers};
 ghost use Rattle.fo_dir_put.specs.Names.{ListsIn, AllFit, AddsOne, Lacks, AllApart, MayStand, ShowsBut, ShowsBytes};
 ghost use Rattle.fo_dir_put.specs.Differ.{AllDiffer, MayName};
 ghost use Rattle.fo_dir_put.specs.Paired.{AllPaired, AddsPaired, IsUnnamed};
 ghost use Rattle.fo_dir_put.specs.Puts.{IsOwnedEntries, IsOwnedRecords, IsInPlace, IsUnused, IsNewEntry, MayClear, StaysCalm, PutsName, ClearsAlone};
+ghost use Rattle.fo_dir_put.specs.There.{IsThere};
 
 use crate::pair::put_pair;
 use crate::record::put_record;
@@ -39,6 +41,7 @@ pub fn add_name<B: Blocks>(
     ensures named { (leaves : List ℕ) → MayName leaves leaf bytes.now (((B.state on.old).now leaf).bytes) (B.state on.old).may_leave → AllDiffer leaves (B.state on.old).may_leave → AllDiffer leaves (B.state on.new).may_leave }
     ensures paired { (n a e : ℕ) → (a ≡ leaf → AddsPaired n p e entries first second bytes.now (((B.state on.old).now leaf).bytes)) → AllPaired n a e (B.state on.old) → AllPaired n a e (B.state on.new) }
     ensures others { ShowsBut leaf (B.state on.old).may_leave (B.state on.new).may_leave }
+    ensures there { (B.state on.old).tells → (b : ℕ) → (B.state on.old).sealed b → (IsDoomed (B.state on.old) b → ⊥) → Reaches (B.state on.old).now (to_block 1) b → IsThere (B.state on.new) b }
     ensures calm { StaysCalm (B.state on.old) (B.state on.new) }
     ensures room { (B.state on.new).room + 1 ≡ (B.state on.old).room }
     ensures keeps { B.keeps on.old on.new }
@@ -56,6 +59,7 @@ pub fn clear_entry<B: Blocks>(on: &mut B, leaf: u32, entries: u32, j: u32)
     requires may { (B.state on.old).tells → MayClear (B.state on.old) entries j }
     requires room { 0 < (B.state on.old).room }
     ensures entry { ((((B.state on.new).now entries).slot j ≡ cleared (((B.state on.old).now entries).slot j)) × ((B.state on.new).clearing entries j → ⊥)) ⊎ ((((B.state on.new).now entries).slot j ≡ ((B.state on.old).now entries).slot j) × (B.state on.new).clearing entries j) }
+    ensures settled { ((B.state on.new).clearing entries j → ⊥) → HasBytes (B.state on.old).now leaf (B.state on.new).may_leave }
     ensures fit { (n : ℕ) → Lacks n j (((B.state on.old).now leaf).bytes) → AllFit n leaf entries (B.state on.old).may_leave → AllFit n leaf entries (B.state on.new).may_leave }
     ensures paired { (n a e : ℕ) → (e ≡ entries → IsUnnamed n (j / 2) a leaf (B.state on.old)) → AllPaired n a e (B.state on.old) → AllPaired n a e (B.state on.new) }
     ensures shows { ShowsBytes (B.state on.old).may_leave (B.state on.new).may_leave }

@@ -4,10 +4,10 @@
 //! record. So in every image that a crash may leave, a record of the leaf has its first entry in use with its generation.
 //!
 //! Proved, over any blocks: nothing is refused. Memory has the two entries and the bytes of the leaf as they were given, and all else
-//! as it was; the same slots wait to be cleared and the same blocks are to be closed, and blocks keep labels, pins and places. An entry
-//! that is cleared, or waits for it, leaves all but what hung below it. In every image each record of the leaf has its pair, if it was so
-//! before: the first entry in use with its generation, the second exactly where it is a directory's. And no name, number or pair stands
-//! at two places of a directory, over all images, where no image has the new one's in another leaf.
+//! as it was; the same slots wait to be cleared and the same blocks are to be closed, blocks keep labels and pins, and what hangs in
+//! memory keeps its place. An entry that is cleared, or waits for it, leaves all but what hung below it. In every image each record of
+//! the leaf has its pair, if it was so before: the first entry in use with its generation, the second exactly where it is a directory's.
+//! And no name, number or pair stands at two places of a directory, over all images, where no image has the new one's in another leaf.
 #![tactic(auto)]
 
 mod add;

@@ -1,6 +1,7 @@
 -- Why a look at a leaf was refused.
 use Rattle.std.proofs.Common.{◌≡◌, ◌⊎◌, ◌+◌, ◌*◌, ◌<◌, ◌≤◌, ℕ, Bool, true, false, List, [], ◌∷◌, find, Option, Some, None, MatchOption, IfSome, refl, inl, inr, ⊎_elim, sym, ◌∙◌, subst, arith}
 use Rattle.std.specs.List.{list_any, AllByRecursion}
+use Rattle.std.proofs.lemmas.Slice.Eq.{bytes_eq-Decides}
 use Rattle.fo_image.specs.declared.record.Record.{Record}
 use Rattle.fo_image.specs.Record.{RecordHolds}
 use Rattle.fo_meta.specs.Leaf.{HasSpelling, SpellsLeaf, is_named}
@@ -41,6 +42,19 @@ none_any p (r ∷ rs) none = ⊎_elim (λ e. absurd (found e)) (λ e. rw e (none
 
     passed : p r ≡ false → find p (r ∷ rs) ≡ find p rs
     passed e = rw e refl
+
+-- the first record that passes passes
+pub found_passes : (p : Record → Bool) (rs : List Record) → IfSome (find p rs) (λ r. p r ≡ true)
+found_passes p [] = tt
+found_passes p (r ∷ rs) = ⊎_elim
+    (λ e. let is : find p (r ∷ rs) ≡ Some r = rw e refl in subst (λ (o : Option Record). IfSome o (λ x. p x ≡ true)) (sym is) e)
+    (λ e. let is : find p (r ∷ rs) ≡ find p rs = rw e refl in subst (λ (o : Option Record). IfSome o (λ x. p x ≡ true)) (sym is) (found_passes p rs))
+    (decide (p r))
+
+-- so the first of a name has it
+pub found_named : (name : List ℕ) (o : Option Record) → IfSome o (λ r. is_named name r ≡ true) → IfSome o (λ r. r.name ≡ name)
+found_named name None h = tt
+found_named name (Some r) h = (bytes_eq-Decides r.name name).0 h
 
 -- a record that is found among some that have a spelling holds
 pub found_holds : (p : Record → Bool) (rs : List Record) → AllByRecursion HasSpelling rs → IfSome (find p rs) RecordHolds

@@ -6,12 +6,13 @@ use Rattle.fo_image.specs.Format.{SpellsEntry}
 use Rattle.fo_crash.specs.declared.slot.Slot.{Slot}
 use Rattle.fo_crash.specs.declared.slot.Slot.TheVariants.{Pointer as To, Entry as Head, Prev}
 use Rattle.fo_crash.specs.Names.{IsInUse}
-use Rattle.fo_crash.specs.Images.{Image}
+use Rattle.fo_crash.specs.Images.{Image, target}
+use Rattle.fo_image.specs.declared.types.Pointer.TheVariants.{Local}
 use Rattle.fo_ports.specs.Blocks.{no_entry, ReadsSlots, SlotFits, SpellsSlot, slot_size, slot_start}
 use Rattle.fo_crash.specs.Images.{SameImage}
 use Rattle.fo_ports.specs.State.{State, WaitsInUse}
 use Rattle.fo_ports.specs.Sources.{Leaves}
-use Rattle.fo_dir_read.specs.Pairs.{PairTaken, TakenBelow, FreeIn, FreeAt, IsFree, AreTaken, IsPair}
+use Rattle.fo_dir_read.specs.Pairs.{PairTaken, TakenBelow, FreeIn, FreeAt, IsFree, AreTaken, IsPair, LeadsWithin}
 
 -- An entry that is spelled is in use exactly where it is active.
 pub record IsActive (s : Slot) (active : Bool) : Type 0 where
@@ -43,6 +44,16 @@ pair_is now x k b first second leaf there reads one two = record {
 
     second_in : 2 * (k % 102) + 1 < 204
     second_in = omega arith
+
+-- an entry of a leaf that was read leads to a data block, if to a block of the device
+pub entry_leads : (s : State) (b j : ℕ) (e : Entry) (leaf : List ℕ) → j < 204 → ReadsSlots (Dir 0) (s.now b) leaf → ((i below : ℕ) → i < 204 → target ((s.now b).slot i) ≡ Local below → s.is_block below)
+    → ((x : Entry) → SpellsEntry x (take 40 (drop (40 * j) leaf)) → e ≡ x) → LeadsWithin s e
+entry_leads s b j e leaf within reads names is =
+    let here : (s.now b).slot j ≡ Head e = slot_is ((s.now b).slot j) leaf j e (reads.fit j within) (reads.spelled j within) is in
+    record {
+      few = (subst (λ q. SlotFits (Dir 0) j q) here (reads.fit j within)).1;
+      block = λ below leads. names j below within (ap target here ∙ leads);
+    }
 
 pub taken_more : {s : State} {b p : ℕ} → TakenBelow s b p → PairTaken s b p → TakenBelow s b (p + 1)
 taken_more {s = s} {b = b} {p = p} below taken = record { each = λ q lt. ⊎_elim (λ before. below.each q before) (λ here. subst (λ k. PairTaken s b k) (sym here) taken) (last q lt) }

@@ -2,6 +2,7 @@
 use Rattle.std.specs.Prelude.{◌≡◌, ◌⊎◌, ◌+◌, ◌*◌, ◌/◌, ◌%◌, ◌^◌, ◌<◌, ◌≤◌, ℕ, Option, Some, None, MatchOption}
 use Rattle.fo_image.specs.declared.types.Kind.TheVariants.{Dir}
 use Rattle.fo_image.specs.declared.types.Entry.{Entry}
+use Rattle.fo_image.specs.declared.types.Pointer.TheVariants.{Local}
 use Rattle.fo_crash.specs.declared.slot.Slot.TheVariants.{Entry as Head}
 use Rattle.fo_crash.specs.Images.{Image}
 use Rattle.fo_crash.specs.Names.{IsInUse}
@@ -48,3 +49,8 @@ pub record AreTaken (s : State) (leaves : Leaves) (k : ℕ) : Type 0 where
 -- Pair k has these entries in memory: those of its leaf, or two that name nothing where no leaf stands.
 pub record IsPair (now : Image) (leaves : Leaves) (k : ℕ) (first second : Entry) : Type 0 where
   pub is : MatchOption (leaves.at (k / 102)) ((first ≡ no_entry) × (second ≡ no_entry)) (λ b. ((now b).slot (2 * (k % 102)) ≡ Head first) × ((now b).slot (2 * (k % 102) + 1) ≡ Head second))
+
+-- An entry has at most four levels, and leads to a data block, if to a block of the device.
+pub record LeadsWithin (s : State) (e : Entry) : Type 0 where
+  pub few : e.depth ≤ 4
+  pub block : (b : ℕ) → e.top ≡ Local b → s.is_block b

@@ -11,7 +11,7 @@ ghost use Rattle.fo_ports.specs.Causes.{Caused};
 ghost use Rattle.fo_ports.specs.State.{Looks};
 ghost use Rattle.fo_ports.specs.Sources.{SameLeaves, depth_for};
 ghost use Rattle.fo_dir_read.specs.Names.{leaf_count};
-ghost use Rattle.fo_dir_read.specs.Pairs.{OfEntries, IsTaken, PairTaken, FreeIn, FreeAt, IsFree, AreTaken, IsPair};
+ghost use Rattle.fo_dir_read.specs.Pairs.{OfEntries, IsTaken, PairTaken, FreeIn, FreeAt, IsFree, AreTaken, IsPair, LeadsWithin};
 
 use crate::leaves::{count_of, get_leaf};
 use fo_base::BLOCK;
@@ -32,6 +32,18 @@ const NONE: Entry = Entry {
     top: Pointer::Nil,
 };
 
+/// The entry that stands from this byte of a block on; one that names nothing where none is spelled.
+pub fn entry_from(block: &[u8], from: usize) -> Entry
+    requires within { from + 40 ≤ length block.now }
+    ensures is { (e : Entry) → SpellsEntry e (take 40 (drop from block.now)) → result ≡ e }
+    ensures holds { EntryHolds result }
+{
+    match read_entry(&block[from..from + 40]) {
+        Ok(entry) => entry,
+        Err(_) => NONE,
+    }
+}
+
 /// Entry `j` of a leaf; one that names nothing where none is spelled.
 fn entry_in(leaf: &[u8], j: u32) -> Entry
     requires length { length leaf.now ≡ 8192 }
@@ -39,11 +51,7 @@ fn entry_in(leaf: &[u8], j: u32) -> Entry
     ensures is { (e : Entry) → SpellsEntry e (take 40 (drop (40 * j) leaf.now)) → result ≡ e }
     ensures holds { EntryHolds result }
 {
-    let from = 40 * j as usize;
-    match read_entry(&leaf[from..from + 40]) {
-        Ok(entry) => entry,
-        Err(_) => NONE,
-    }
+    entry_from(leaf, 40 * j as usize)
 }
 
 /// Whether entry `j` of a leaf is in use.
@@ -123,6 +131,7 @@ pub fn free_pair<B: Blocks, S: Bytes<B>>(
     requires over { S.is_over entries.old on.old }
     requires form { OfEntries (S.form entries.old) rank }
     ensures free { IfOk result (λ k. (B.state on.old).tells → IsFree (B.state on.new) (S.leaves entries.new on.new) (S.size entries.new) k × AreTaken (B.state on.new) (S.leaves entries.new on.new) k) }
+    ensures within { IfOk result (λ k. k ≤ 102 * leaf_count (S.size entries.old)) }
     ensures over { S.is_over entries.new on.new }
     ensures same { (S.form entries.new ≡ S.form entries.old) × (S.size entries.new ≡ S.size entries.old) × SameLeaves (B.state on.old).tells (S.leaves entries.old on.old) (S.leaves entries.new on.new) }
     ensures pins { (B.state on.old).pins_left ≤ (B.state on.new).pins_left + leaf_count (S.size entries.old) * (depth_for (S.size entries.old) + 1) }
@@ -152,6 +161,7 @@ pub fn pair<B: Blocks, S: Bytes<B>>(
     requires form { OfEntries (S.form entries.old) rank }
     ensures pair { IfOk result (λ two. (B.state on.old).tells → IsPair (B.state on.new).now (S.leaves entries.new on.new) k two.0 two.1) }
     ensures holds { IfOk result (λ two. EntryHolds two.0 × EntryHolds two.1) }
+    ensures leads { IfOk result (λ two. LeadsWithin (B.state on.new) two.0 × LeadsWithin (B.state on.new) two.1) }
     ensures over { S.is_over entries.new on.new }
     ensures same { (S.form entries.new ≡ S.form entries.old) × (S.size entries.new ≡ S.size entries.old) × SameLeaves (B.state on.old).tells (S.leaves entries.old on.old) (S.leaves entries.new on.new) }
     ensures pins { (B.state on.old).pins_left ≤ (B.state on.new).pins_left + (depth_for (S.size entries.old) + 1) }

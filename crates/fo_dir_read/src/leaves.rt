@@ -1,7 +1,9 @@
 //! The leaves of a source that are looked at.
-ghost use Rattle.std.specs.Prelude.{◌≡◌, ◌+◌, ◌^◌, ◌≤◌, length, IfOk, OnOk, IfErr, IfSome, Option, Some, None};
+ghost use Rattle.std.specs.Prelude.{◌≡◌, ◌+◌, ◌^◌, ◌<◌, ◌≤◌, ℕ, length, IfOk, OnOk, IfErr, IfSome, Option, Some, None};
 ghost use Rattle.fo_base.specs.Cause.{Rose};
-ghost use Rattle.fo_ports.specs.Blocks.{Reads, ReadsSlots, IsFormed};
+ghost use Rattle.fo_image.specs.declared.types.Pointer.TheVariants.{Local};
+ghost use Rattle.fo_crash.specs.Images.{target};
+ghost use Rattle.fo_ports.specs.Blocks.{Reads, ReadsSlots, IsFormed, slot_count};
 ghost use Rattle.fo_ports.specs.Causes.{Caused};
 ghost use Rattle.fo_ports.specs.State.{Looks};
 ghost use Rattle.fo_ports.specs.Sources.{SameLeaves, depth_for};
@@ -26,6 +28,7 @@ pub fn get_leaf<B: Blocks, S: Bytes<B>>(
     ensures shows { IfOk result (λ at. (B.state on.old).tells → (S.leaves source.new on.new).at i ≡ at) }
     ensures reads { IfOk result (λ at. IfSome at (λ b. Reads kind ((B.state on.new).now b) into.new × ReadsSlots kind ((B.state on.new).now b) into.new)) }
     ensures formed { IfOk result (λ at. IfSome at (λ b. IsFormed kind rank into.new)) }
+    ensures names { IfOk result (λ at. IfSome at (λ b. (i below : ℕ) → i < slot_count kind → target (((B.state on.new).now b).slot i) ≡ Local below → (B.state on.new).is_block below)) }
     ensures over { S.is_over source.new on.new }
     ensures same { (S.form source.new ≡ S.form source.old) × (S.size source.new ≡ S.size source.old) × SameLeaves (B.state on.old).tells (S.leaves source.old on.old) (S.leaves source.new on.new) }
     ensures pins { (B.state on.old).pins_left ≤ (B.state on.new).pins_left + (depth_for (S.size source.old) + 1) }

@@ -29,6 +29,7 @@ fn find_in(alloc: Global, leaf: &[u8], name: &[u8]) -> Result<Option<Record>, Bl
     requires { IsLeaf leaf.now }
     ensures found { (rs : List Record) → SpellsLeaf rs leaf.now → IfOk result (λ found. found ≡ find (is_named name.now) rs) }
     ensures holds { IfOk result (λ found. IfSome found RecordHolds) }
+    ensures named { IfOk result (λ found. IfSome found (λ r. r.name ≡ name.now)) }
     ensures memory { IfErr result (λ e. e ≡ Memory) }
 {
     match find(alloc, leaf, name) {
@@ -50,6 +51,7 @@ fn look_in<B: Blocks, S: Bytes<B>>(
     requires form { OfRecords (S.form records.old) rank }
     ensures found { IfOk result (λ found. (B.state on.old).tells → Finds (B.state on.new).now (S.leaves records.new on.new) name.now i found) }
     ensures holds { IfOk result (λ found. IfSome found RecordHolds) }
+    ensures named { IfOk result (λ found. IfSome found (λ r. r.name ≡ name.now)) }
     ensures over { S.is_over records.new on.new }
     ensures same { (S.form records.new ≡ S.form records.old) × (S.size records.new ≡ S.size records.old) × SameLeaves (B.state on.old).tells (S.leaves records.old on.old) (S.leaves records.new on.new) }
     ensures pins { (B.state on.old).pins_left ≤ (B.state on.new).pins_left + (depth_for (S.size records.old) + 1) }
@@ -76,6 +78,8 @@ pub fn lookup<B: Blocks, S: Bytes<B>>(
     requires form { OfRecords (S.form records.old) rank }
     ensures found { IfOk result (λ found. (B.state on.old).tells → MatchOption found (LacksBelow (B.state on.new).now (S.leaves records.new on.new) name.now (leaf_count (S.size records.new))) (λ f. IsFound (B.state on.new).now (S.leaves records.new on.new) name.now (S.size records.new) f.leaf f.record)) }
     ensures holds { IfOk result (λ found. IfSome found (λ f. RecordHolds f.record)) }
+    ensures named { IfOk result (λ found. IfSome found (λ f. f.record.name ≡ name.now)) }
+    ensures within { IfOk result (λ found. IfSome found (λ f. f.leaf < leaf_count (S.size records.old))) }
     ensures over { S.is_over records.new on.new }
     ensures same { (S.form records.new ≡ S.form records.old) × (S.size records.new ≡ S.size records.old) × SameLeaves (B.state on.old).tells (S.leaves records.old on.old) (S.leaves records.new on.new) }
     ensures pins { (B.state on.old).pins_left ≤ (B.state on.new).pins_left + leaf_count (S.size records.old) * (depth_for (S.size records.old) + 1) }

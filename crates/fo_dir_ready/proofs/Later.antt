@@ -4,7 +4,7 @@ use Rattle.fo_image.specs.declared.types.Label.{Label}
 use Rattle.fo_image.specs.declared.types.Pointer.{Pointer}
 use Rattle.fo_image.specs.declared.types.Pointer.TheVariants.{Local}
 use Rattle.fo_crash.specs.Images.{target, to_block}
-use Rattle.fo_crash.proofs.Reach.{same_walk}
+use Rattle.fo_crash.proofs.Reach.{same_walk, reaches_itself}
 use Rattle.fo_ports.specs.State.{State, KeepsAll, Looks}
 use Rattle.fo_ports.specs.Sources.{Form, Leaves, ComesFor, IsInstead, most_to_own, Owned, Grows, Changes, MayZero, Made, IsEnough, most_for, SameLeaves}
 use Rattle.fo_dir_read.specs.Names.{leaf_count}
@@ -49,9 +49,9 @@ spare_later {x = x} {size = size} i a m b is same left h =
 module _ {a m : State} (all : KeepsAll a m) (looks : Looks a m) (told : a.tells) where
   instead_looked : (from : Pointer) (at : ℕ) → IsInstead a from at → IsInstead m from at
   instead_looked from at i = record {
-    is_apart = (looks.stays.apart at (λ n. n) (λ n. n)).1 i.is_apart;
+    is_apart = apart;
     place = i.place;
-    stands = looks.stays.places told at i.place (λ n. n) (λ n. n) uncovered i.stands;
+    stands = looks.stays.places told at i.place (λ n. n) (λ n. n) uncovered (at, inr apart, reaches_itself m.now at) i.stands;
     uncovered = uncovered;
     instead = λ x. let same = looks.stays.instead at x (λ n. n) (λ n. n) in (λ h. (i.instead x).0 (same.0 h), λ e. same.1 ((i.instead x).1 e));
     live = λ x e. ap (λ (l : Label). l.state) (label x) ∙ i.live x e;
@@ -63,6 +63,9 @@ module _ {a m : State} (all : KeepsAll a m) (looks : Looks a m) (told : a.tells)
     where
       label : (k : ℕ) → m.label k ≡ a.label k
       label k = looks.stays.labels k (λ n. n)
+
+      apart : m.apart at
+      apart = (looks.stays.apart at (λ n. n) (λ n. n)).1 i.is_apart
 
       uncovered : m.covered at → ⊥
       uncovered h = i.uncovered ((looks.covered.covered at).0 h)

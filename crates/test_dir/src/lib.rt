@@ -9,3 +9,5 @@ mod looking;
 mod reads;
 #[cfg(test)]
 mod records;
+#[cfg(test)]
+mod thirds;

@@ -74,7 +74,7 @@ fn is_named(found: Option<Record>, name: &[u8]) -> bool {
 }
 
 /// Whether this name comes after another; the empty one stands for none.
-fn comes<B: Blocks, S: Bytes<B>>(
+pub fn comes<B: Blocks, S: Bytes<B>>(
     alloc: Global,
     records: &mut S,
     on: &mut B,

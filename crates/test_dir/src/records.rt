@@ -7,6 +7,7 @@ ghost use Rattle.fo_dir_read.specs.Names.{OfRecords, leaf_count};
 
 use crate::leaves::{fill, is_leaf, put, zeros};
 use crate::reads::{in_order, named, numbers, room};
+use crate::thirds::thirds;
 use fo_base::{BLOCK, Memory};
 use fo_image::Kind;
 use fo_ports::{BlockError, Blocks, Bytes};
@@ -87,5 +88,15 @@ fn ample(rt: HostRuntime) -> Result<(), Fail> {
     on.reserve(40, 40, 0)?;
     let mut records = source(rt.alloc())?;
     assert!(rt; has_two(rt.alloc(), &mut records, &mut on, RANK)?);
+    Ok(())
+}
+
+/// Of 26 names that are put in no order every third is taken out; the others are there, and come in order.
+#[test]
+fn letters(rt: HostRuntime) -> Result<(), Fail> {
+    let mut on = PlainBlocks::new(rt.alloc(), 40)?;
+    on.reserve(40, 40, 0)?;
+    let mut records = source(rt.alloc())?;
+    assert!(rt; thirds(rt.alloc(), &mut records, &mut on, RANK)?);
     Ok(())
 }

@@ -1,4 +1,4 @@
-use Rattle.std.proofs.Common.{◌≡◌, ℕ, [], ◌∷◌, ◌++◌, Contains, sym, subst}
+use Rattle.std.proofs.Common.{[], ◌∷◌, ◌++◌, Contains, sym, subst}
 use Rattle.fo_crash.specs.Images.{Image}
 use Rattle.fo_meta.specs.Leaf.{SpellsLeaf}
 use Rattle.fo_dir_put.specs.Names.{AddsOne, MayStand}

@@ -1,5 +1,5 @@
 use Rattle.std.proofs.Common.{sym, ap, subst, ◌∙◌}
-use Rattle.fo_dir_list.specs.Next.{comes_before}
+use Rattle.fo_world.specs.Tree.{comes_before}
 use Rattle.fo_dir_list.proofs.Walk.{kept_over, kept_best, best_here, IsNearer}
 use Rattle.fo_dir_list.proofs.leaf.better.Goals as goal
 

@@ -1,6 +1,7 @@
 use Rattle.std.proofs.Common.{◌≡◌, true, MatchOption, sym, ap, subst, ◌∙◌}
 use Rattle.fo_image.specs.declared.record.Record.{Record}
-use Rattle.fo_dir_list.specs.Next.{comes_before, StandsAt}
+use Rattle.fo_world.specs.Tree.{comes_before}
+use Rattle.fo_dir_list.specs.Next.{StandsAt}
 use Rattle.fo_dir_list.proofs.leaf.is_nearer.Goals as goal
 
 pub returns-in-Some : goal.returns-in-Some

@@ -26,4 +26,5 @@ loop-i-preserved g c =
       pins_more c.loop-i.i (depth_for (g.S.Bytes.size c.args.records.now) + 1) _ _ _ v.4 (subst (λ n. (g.B.Blocks.state c.loop-i.on).pins_left ≤ (g.B.Blocks.state c.next_at.new.on).pins_left + n) most c.next_at.ensures.pins),
       (λ told. let still = all.still_tells.1 told in more_below (c.next_at.ensures.looks.memory still) (λ j. (same.2.leaves still j).0) (v.5 told) (c.in-Ok.ensures.next still) (c.lesser-best.ensures.answers c.args.after.now)),
       c.lesser-best.ensures.holds v.6 c.in-Ok.ensures.holds,
+      c.lesser-best.ensures.later c.args.after.now v.7 c.in-Ok.ensures.later,
     )

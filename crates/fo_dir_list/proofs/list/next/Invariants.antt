@@ -2,7 +2,7 @@ use Rattle.std.proofs.Common.{◌≡◌, ◌+◌, ◌*◌, ◌≤◌, IfSome}
 use Rattle.fo_image.specs.Record.{RecordHolds}
 use Rattle.fo_ports.specs.State.{Looks}
 use Rattle.fo_ports.specs.Sources.{SameLeaves, depth_for}
-use Rattle.fo_dir_list.specs.Next.{NextBelow}
+use Rattle.fo_dir_list.specs.Next.{IsLater, NextBelow}
 use Rattle.fo_dir_list.proofs.list.next.Given as goal
 
 abbrev pub invariant-loop-i : goal.invariant-loop-i
@@ -16,3 +16,4 @@ invariant-loop-i g l =
     × (a.pins_left ≤ b.pins_left + l.i * (depth_for (g.S.Bytes.size l.initial.records) + 1))
     × (a.tells → NextBelow b.now (g.S.Bytes.leaves l.records l.on) l.after l.i l.best)
     × IfSome l.best RecordHolds
+    × IsLater l.after l.best

@@ -45,3 +45,6 @@ loop-i-preserved g c =
       pins_more c.loop-i.i (depth_for (g.S.Bytes.size c.args.records.now) + 1) _ _ _ v.4 (subst (λ n. (g.B.Blocks.state c.loop-i.on).pins_left ≤ (g.B.Blocks.state c.look_in.new.on).pins_left + n) most c.look_in.ensures.pins),
       (λ told. lacks_more c.in-Ok-None.field-0-is (lacks_on (c.look_in.ensures.looks.memory (all.still_tells.1 told)) (λ j. (same.2.leaves (all.still_tells.1 told) j).0) (v.5 told)) (c.in-Ok-None.ensures.found (all.still_tells.1 told))),
     )
+
+pub returns-in-Ok-Some-clause-within : goal.returns-in-Ok-Some-clause-within
+returns-in-Ok-Some-clause-within g c = subst (λ n. c.loop-i.i < n) c.count_of-count.ensures.is c.loop-i-test.true

@@ -15,7 +15,7 @@ use Rattle.fo_dir_move.proofs.moves.move_name.Goals as goal
 
 pub settle_between-requires-clause-ready : goal.settle_between-requires-clause-ready
 settle_between-requires-clause-ready g c =
-    ready_taken c.args.from c.args.to c.args.entries c.requires.differ (g.met.B.Blocks.keeps_all c.args.on.now c.change_leaf.new.on c.change_leaf.ensures.keeps) c.change_leaf.ensures.calm c.change_leaf.ensures.puts (leaf_long c.requires.bytes.0) c.requires.ready
+    ready_taken c.args.from c.args.to c.args.entries c.requires.differ (g.met.B.Blocks.active c.change_leaf.new.on).0 (g.met.B.Blocks.keeps_all c.args.on.now c.change_leaf.new.on c.change_leaf.ensures.keeps) c.change_leaf.ensures.calm c.change_leaf.ensures.puts (leaf_long c.requires.bytes.0) c.requires.ready
 
 pub settle_between-requires-clause-may : goal.settle_between-requires-clause-may
 settle_between-requires-clause-may g c = λ told.
@@ -105,7 +105,7 @@ returns-in-Ok-clause-alone g c =
 
 pub returns-in-Ok-clause-ready : goal.returns-in-Ok-clause-ready
 returns-in-Ok-clause-ready g c =
-    ready_after c.args.from c.args.to c.args.entries (g.met.B.Blocks.keeps_all c.settle_between.new.on c.put_record.new.on c.put_record.ensures.keeps) c.put_record.ensures.calm c.put_record.ensures.puts (leaf_long c.requires.bytes.1) c.settle_between.ensures.ready
+    ready_after c.args.from c.args.to c.args.entries (g.met.B.Blocks.active c.put_record.new.on).0 (g.met.B.Blocks.keeps_all c.settle_between.new.on c.put_record.new.on c.put_record.ensures.keeps) c.put_record.ensures.calm c.put_record.ensures.puts (leaf_long c.requires.bytes.1) c.settle_between.ensures.ready
 
 pub returns-in-Ok-clause-settled : goal.returns-in-Ok-clause-settled
 returns-in-Ok-clause-settled g c =
@@ -123,7 +123,7 @@ returns-in-Err-clause-alone g c =
 
 pub returns-in-Err-clause-ready : goal.returns-in-Err-clause-ready
 returns-in-Err-clause-ready g c =
-    ready_after c.args.from c.args.to c.args.entries (g.met.B.Blocks.keeps_all c.settle_between.new.on c.put_record-in-Err.new.on c.put_record-in-Err.ensures.keeps) c.put_record-in-Err.ensures.calm c.put_record-in-Err.ensures.puts (leaf_long c.requires.back.0) c.settle_between.ensures.ready
+    ready_after c.args.from c.args.to c.args.entries (g.met.B.Blocks.active c.put_record-in-Err.new.on).0 (g.met.B.Blocks.keeps_all c.settle_between.new.on c.put_record-in-Err.new.on c.put_record-in-Err.ensures.keeps) c.put_record-in-Err.ensures.calm c.put_record-in-Err.ensures.puts (leaf_long c.requires.back.0) c.settle_between.ensures.ready
 
 pub returns-in-Ok-clause-named : goal.returns-in-Ok-clause-named
 returns-in-Ok-clause-named g c = λ leaves in_from in_to keys first second all.

@@ -3,7 +3,7 @@ use Rattle.fo_dir_move.proofs.moves.settle_between.Goals as goal
 
 pub returns-in-Ok-clause-ready : goal.returns-in-Ok-clause-ready
 returns-in-Ok-clause-ready g c =
-    ready_settled (g.met.B.Blocks.keeps_all c.args.on.now c.settle.new.self c.settle.ensures.keeps) c.settle.ensures.rests c.settle.ensures.blocks (λ x h. g.met.B.Blocks.covers_told c.settle.new.self x h) c.args.from c.args.to c.args.entries c.requires.may c.settle.ensures.known c.requires.ready
+    ready_settled (g.met.B.Blocks.keeps_all c.args.on.now c.settle.new.self c.settle.ensures.keeps) c.settle.ensures.rests c.settle.ensures.blocks (λ x h. g.met.B.Blocks.covers_told c.settle.new.self x h) (λ h. g.met.B.Blocks.one_stays c.args.on.now h) (λ told x ne r. (g.met.B.Blocks.live c.args.on.now x told ne r).2) c.args.from c.args.to c.args.entries c.requires.may c.settle.ensures.known c.requires.ready
 
 pub returns-in-Ok-clause-leaves : goal.returns-in-Ok-clause-leaves
 returns-in-Ok-clause-leaves g c = record {
@@ -16,7 +16,7 @@ returns-in-Ok-clause-entries g c = entries_kept c.args.entries c.settle.ensures.
 
 pub returns-in-Err-clause-ready : goal.returns-in-Err-clause-ready
 returns-in-Err-clause-ready g c =
-    ready_settled (g.met.B.Blocks.keeps_all c.args.on.now c.settle.new.self c.settle.ensures.keeps) c.settle.ensures.rests c.settle.ensures.blocks (λ x h. g.met.B.Blocks.covers_told c.settle.new.self x h) c.args.from c.args.to c.args.entries c.requires.may c.settle.ensures.known c.requires.ready
+    ready_settled (g.met.B.Blocks.keeps_all c.args.on.now c.settle.new.self c.settle.ensures.keeps) c.settle.ensures.rests c.settle.ensures.blocks (λ x h. g.met.B.Blocks.covers_told c.settle.new.self x h) (λ h. g.met.B.Blocks.one_stays c.args.on.now h) (λ told x ne r. (g.met.B.Blocks.live c.args.on.now x told ne r).2) c.args.from c.args.to c.args.entries c.requires.may c.settle.ensures.known c.requires.ready
 
 pub returns-in-Err-clause-leaves : goal.returns-in-Err-clause-leaves
 returns-in-Err-clause-leaves g c = record {

@@ -2,7 +2,7 @@ use Rattle.std.proofs.Common.{◌*◌, inl, inr, ⊎_elim, refl, sym, subst}
 use Rattle.fo_crash.specs.declared.slot.Slot.{Slot}
 use Rattle.fo_crash.specs.Names.{IsInUse}
 use Rattle.fo_dir_put.specs.Names.{ListsIn}
-use Rattle.fo_dir_put.proofs.Calms.{records_on, in_place_on}
+use Rattle.fo_dir_put.proofs.Calms.{records_on, in_place_on, calm_joins}
 use Rattle.fo_dir_put.proofs.Aparts.{shows_apart, rest_shows, may_later}
 use Rattle.fo_dir_put.proofs.Named.{differ_shows, name_later}
 use Rattle.fo_dir_put.proofs.Paired.{adds_back}
@@ -14,7 +14,7 @@ put_record-requires-clause-owned g c = records_on (g.met.B.Blocks.keeps_all c.ar
 pub put_record-requires-clause-lower : goal.put_record-requires-clause-lower
 put_record-requires-clause-lower g c = λ told.
     let was = (g.met.B.Blocks.keeps_all c.args.on.now c.put_pair.new.on c.put_pair.ensures.keeps).still_tells.0 told in
-    in_place_on was c.put_pair.ensures.calm c.requires.owned.uncovered c.requires.entries.uncovered (c.requires.lower was)
+    in_place_on was (g.met.B.Blocks.active c.put_pair.new.on).0 c.put_pair.ensures.calm c.requires.owned.uncovered c.requires.entries.uncovered (c.requires.lower was)
 
 pub returns-clause-fit : goal.returns-clause-fit
 returns-clause-fit g c = λ n adds all.
@@ -44,3 +44,11 @@ returns-clause-paired g c = λ n a e adds all.
     let t = g.B.Blocks.state c.put_pair.new.on in
     let settled : t.clearing c.args.entries (2 * c.args.p) → ⊥ = λ h. c.requires.first_unused.settled (c.put_pair.ensures.calm.order.clearing c.args.entries (2 * c.args.p) h).1 in
     c.put_record.ensures.paired n a e (λ is. adds_back c.put_pair.ensures.puts settled (adds is)) (c.put_pair.ensures.paired n a e all)
+
+pub returns-clause-there : goal.returns-clause-there
+returns-clause-there g c = λ told b sealed spared linked.
+    let calm = c.put_pair.ensures.calm in
+    c.put_record.ensures.there ((g.met.B.Blocks.keeps_all c.args.on.now c.put_pair.new.on c.put_pair.ensures.keeps).still_tells.1 told) b ((calm.marks b).1 sealed) (calm.spared b spared) (calm.linked told b linked)
+
+pub returns-clause-calm : goal.returns-clause-calm
+returns-clause-calm g c = calm_joins (g.met.B.Blocks.keeps_all c.args.on.now c.put_pair.new.on c.put_pair.ensures.keeps) c.put_pair.ensures.calm c.put_record.ensures.calm

@@ -33,9 +33,12 @@ returns-clause-paired g c = λ n a e free all.
 pub returns-clause-entry : goal.returns-clause-entry
 returns-clause-entry g c = ⊎_elim (λ h. inl (h.0.here, h.1)) (λ h. inr ((h.0.each c.args.entries).slots c.args.j, h.1)) c.remove_slot.ensures.now
 
+pub returns-clause-settled : goal.returns-clause-settled
+returns-clause-settled g c = λ free. ⊎_elim (λ h. h.2) (λ h. absurd (free h.1)) c.remove_slot.ensures.now
+
 pub returns-clause-alone : goal.returns-clause-alone
 returns-clause-alone g c =
     let s = g.B.Blocks.state c.args.on.now in
     let within = subst (λ (k : Kind). c.args.j < slot_count k) (sym c.requires.entries.leaf_kind) c.requires.within in
     let nil = cleared_nil (s.label c.args.entries).kind c.args.j ((s.now c.args.entries).slot c.args.j) c.requires.entries.leaf_kind (g.met.B.Blocks.spelled c.args.on.now c.args.entries c.args.j c.requires.entries.is_pinned within) in
-    clears_alone c.remove_slot.ensures.frame c.remove_slot.ensures.hangs c.remove_slot.ensures.no_wait nil (⊎_elim (λ h. inl h.0) (λ h. inr h.0) c.remove_slot.ensures.now)
+    clears_alone (g.met.B.Blocks.keeps_all c.args.on.now c.remove_slot.new.self c.remove_slot.ensures.keeps) c.remove_slot.ensures.frame c.remove_slot.ensures.hangs c.remove_slot.ensures.no_wait nil (⊎_elim (λ h. inl h.0) (λ h. inr h.0) c.remove_slot.ensures.now)

@@ -42,7 +42,7 @@ returns-clause-calm g c =
     let empty = free_is_empty (s.label c.args.entries).kind c.args.j slot c.requires.owned.leaf_kind (g.met.B.Blocks.spelled c.args.on.now c.args.entries c.args.j c.requires.owned.is_pinned within) c.requires.unused.free in
     let frame = subst (λ n. Frame (λ b. b ≡ c.args.entries) (λ b. (b ≡ c.args.entries) ⊎ (target (Head c.args.entry) ≡ Local b)) n s t) (nil_cost slot (Head c.args.entry) empty.1 empty.0) c.put_slot.ensures.frame in
     let all = g.met.B.Blocks.keeps_all c.args.on.now c.put_slot.new.self c.put_slot.ensures.keeps in
-    slot_calm frame c.put_slot.ensures.hangs c.put_slot.ensures.order c.put_slot.ensures.now c.put_slot.ensures.covers (λ b h. all.still_tells.0 (g.met.B.Blocks.covers_told c.put_slot.new.self b h)) (λ b h. g.met.B.Blocks.covers_told c.args.on.now b h) c.requires.new.empty empty.0
+    slot_calm all frame c.put_slot.ensures.hangs c.put_slot.ensures.order c.put_slot.ensures.now c.put_slot.ensures.covers (λ b h. all.still_tells.0 (g.met.B.Blocks.covers_told c.put_slot.new.self b h)) (λ b h. g.met.B.Blocks.covers_told c.args.on.now b h) c.requires.new.empty empty.0 c.requires.unused.settled
 
 pub returns-clause-room : goal.returns-clause-room
 returns-clause-room g c =

@@ -4,6 +4,7 @@ use Rattle.fo_crash.specs.Names.{IsInUse}
 use Rattle.fo_crash.proofs.Names.{free_entry_put}
 use Rattle.fo_dir_put.specs.Names.{ListsIn}
 use Rattle.fo_dir_put.proofs.Aparts.{shows_joins}
+use Rattle.fo_dir_put.proofs.Calms.{calm_joins}
 use Rattle.fo_dir_put.specs.Paired.{AllPaired}
 use Rattle.fo_dir_put.proofs.Paired.{free_paired}
 use Rattle.fo_dir_put.proofs.pair.put_pair.Goals as goal
@@ -28,3 +29,6 @@ returns-clause-paired g c = λ n a e all.
     let free : (generation : ℕ) → IsInUse ((t.now c.args.entries).slot (2 * c.args.p)) generation → ⊥ = λ generation used. c.requires.first_unused.free generation (subst (λ (x : Slot). IsInUse x generation) (c.put_entry.ensures.puts.others c.args.entries (2 * c.args.p) (inr (differs c.args.p))) used) in
     let mid : AllPaired n a e t = free_paired s t n a e c.args.p (inr refl) c.put_entry.ensures.images c.put_entry.ensures.puts c.requires.first_unused.free all in
     free_paired t v n a e c.args.p (inl refl) c.put_entry-2.ensures.images c.put_entry-2.ensures.puts free mid
+
+pub returns-clause-calm : goal.returns-clause-calm
+returns-clause-calm g c = calm_joins (g.met.B.Blocks.keeps_all c.args.on.now c.put_entry.new.on c.put_entry.ensures.keeps) c.put_entry.ensures.calm c.put_entry-2.ensures.calm

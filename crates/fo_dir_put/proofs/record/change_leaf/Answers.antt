@@ -1,6 +1,5 @@
-use Rattle.std.proofs.Common.{◌≡◌, ℕ, inl, ⊎_elim, sym, ◌∙◌, ap, subst, arith}
+use Rattle.std.proofs.Common.{◌≡◌, ℕ, inl, ⊎_elim, sym, ◌∙◌, subst, arith}
 use Rattle.std.proofs.lemmas.Bool.{cases_eq}
-use Rattle.fo_crash.specs.declared.place.Place.{Place}
 use Rattle.fo_crash.specs.Images.{Image}
 use Rattle.fo_crash.specs.Steps.{AddsBytes, PutsBytes}
 use Rattle.fo_crash.specs.Names.{SameUse}
@@ -8,7 +7,7 @@ use Rattle.fo_crash.proofs.Names.{leaf_put}
 use Rattle.fo_ports.specs.Blocks.{IsFormed}
 use Rattle.fo_dir_put.specs.Names.{ListsIn, MayStand}
 use Rattle.fo_dir_put.proofs.Calms.{bytes_calm}
-use Rattle.fo_dir_put.proofs.Leaves.{leaf_long, whole_put, leaf_formed, bytes_beside, bytes_reached}
+use Rattle.fo_dir_put.proofs.Leaves.{leaf_long, whole_put, leaf_formed, bytes_beside}
 use Rattle.fo_dir_put.proofs.Aparts.{bytes_apart, bytes_rest}
 use Rattle.fo_dir_put.specs.Differ.{MayName}
 use Rattle.fo_dir_put.specs.Paired.{AllPaired}
@@ -25,10 +24,9 @@ put_bytes-requires-clause-within g c =
 pub put_bytes-requires-clause-formed : goal.put_bytes-requires-clause-formed
 put_bytes-requires-clause-formed g c = λ told p stands.
     let s = g.B.Blocks.state c.args.on.now in
-    let place = c.requires.owned.placed told in
-    let one : p ≡ place.0 = (g.met.B.Blocks.one_place c.args.on.now).each c.args.leaf p place.0 stands place.1 in
+    let kind = sym (g.met.B.Blocks.labelled c.args.on.now c.args.leaf p told (c.requires.owned.other told) stands).1 ∙ c.requires.owned.leaf_kind in
     subst (λ xs. IsFormed p.kind p.rank xs) (sym (whole_put c.args.bytes.now ((s.now c.args.leaf).bytes) (leaf_long c.requires.bytes) c.requires.owned.whole))
-    (leaf_formed p.kind p.rank c.args.bytes.now (ap (λ (x : Place). x.kind) one ∙ place.2) c.requires.bytes)
+    (leaf_formed p.kind p.rank c.args.bytes.now kind c.requires.bytes)
 
 pub returns-clause-puts : goal.returns-clause-puts
 returns-clause-puts g c =
@@ -45,7 +43,7 @@ returns-clause-fit g c = λ n entries kept all.
     record { are = leaf_put (ListsIn n) c.args.leaf entries {waits = λ j. ⊥} all.are (bytes_beside adds (λ image h j w. absurd w)) (λ j g' lists. inl (kept.each j g' lists)) }
 
 pub returns-clause-calm : goal.returns-clause-calm
-returns-clause-calm g c = bytes_calm c.put_bytes.ensures.calm (λ b r. bytes_reached c.put_bytes.ensures.now r)
+returns-clause-calm g c = bytes_calm (g.met.B.Blocks.keeps_all c.args.on.now c.put_bytes.new.self c.put_bytes.ensures.keeps) c.put_bytes.ensures.calm c.put_bytes.ensures.now.slots
 
 pub returns-clause-apart : goal.returns-clause-apart
 returns-clause-apart g c = λ b differs may all.

@@ -1,6 +1,6 @@
 use Rattle.std.proofs.Common.{◌≡◌, ℕ, length, List, ⊎_elim, sym, ◌∙◌, ap, subst, arith}
 use Rattle.std.proofs.lemmas.Bool.{cases_eq}
-use Rattle.fo_crash.specs.declared.place.Place.{Place}
+use Rattle.fo_image.specs.declared.types.Label.{Label}
 use Rattle.fo_crash.specs.Images.{Image}
 use Rattle.fo_crash.specs.Steps.{AddsBytes}
 use Rattle.fo_crash.specs.Names.{SameUse}
@@ -8,13 +8,14 @@ use Rattle.fo_crash.proofs.Names.{leaf_put}
 use Rattle.fo_ports.specs.Blocks.{IsFormed}
 use Rattle.fo_dir_put.specs.Names.{ListsIn, MayStand}
 use Rattle.fo_dir_put.proofs.Calms.{calm_joins, bytes_calm}
-use Rattle.fo_dir_put.proofs.Leaves.{leaf_long, whole_put, leaf_formed, bytes_beside, still_all, bytes_reached, same_reached, puts_later, backed_later}
+use Rattle.fo_dir_put.proofs.Leaves.{leaf_long, whole_put, leaf_formed, bytes_beside, still_all, puts_later, backed_later}
 use Rattle.fo_dir_put.proofs.Aparts.{nothing_shows, shows_apart, bytes_apart, bytes_rest, rest_later, may_later}
 use Rattle.fo_ports.specs.State.{WaitsInUse}
 use Rattle.fo_dir_put.specs.Differ.{MayName}
 use Rattle.fo_dir_put.specs.Paired.{AllPaired}
 use Rattle.fo_dir_put.proofs.Named.{differ_put, differ_shows, name_later}
 use Rattle.fo_dir_put.proofs.Paired.{bytes_paired, bytes_others, still_paired, waits_back}
+use Rattle.fo_dir_put.proofs.Spared.{is_there}
 use Rattle.fo_dir_put.proofs.record.put_record.Goals as goal
 
 pub put_bytes-requires-clause-within : goal.put_bytes-requires-clause-within
@@ -27,14 +28,11 @@ pub put_bytes-requires-clause-formed : goal.put_bytes-requires-clause-formed
 put_bytes-requires-clause-formed g c = λ told p stands.
     let before = (g.met.B.Blocks.keeps_all c.args.on.now c.wait_for.new.self c.wait_for.ensures.keeps).still_tells.0 told in
     let u = g.B.Blocks.state c.wait_for.new.self in
-    let place = c.requires.owned.placed before in
-    let spared : u.covered c.args.leaf → ⊥ = λ h. c.requires.owned.uncovered ((c.wait_for.ensures.calm.covered.covered c.args.leaf).0 h) in
-    let there = c.wait_for.ensures.calm.frame.stays.places before c.args.leaf place.0 (λ n. n) (λ n. n) spared place.1 in
-    let one : p ≡ place.0 = (g.met.B.Blocks.one_place c.wait_for.new.self).each c.args.leaf p place.0 stands there in
+    let kind = sym (g.met.B.Blocks.labelled c.wait_for.new.self c.args.leaf p told (c.requires.owned.other before) stands).1 ∙ ap (λ (l : Label). l.kind) (c.wait_for.ensures.calm.frame.stays.labels c.args.leaf (λ n. n)) ∙ c.requires.owned.leaf_kind in
     let long = leaf_long c.requires.bytes in
     let same = ap (λ (xs : List ℕ). length xs) ((c.wait_for.ensures.now.each c.args.leaf).bytes) ∙ c.requires.owned.whole in
     subst (λ xs. IsFormed p.kind p.rank xs) (sym (whole_put c.args.bytes.now ((u.now c.args.leaf).bytes) long same))
-    (leaf_formed p.kind p.rank c.args.bytes.now (ap (λ (x : Place). x.kind) one ∙ place.2) c.requires.bytes)
+    (leaf_formed p.kind p.rank c.args.bytes.now kind c.requires.bytes)
 
 pub returns-clause-puts : goal.returns-clause-puts
 returns-clause-puts g c =
@@ -61,8 +59,8 @@ returns-clause-fit g c = λ n backed all.
 pub returns-clause-calm : goal.returns-clause-calm
 returns-clause-calm g c =
     calm_joins (g.met.B.Blocks.keeps_all c.args.on.now c.wait_for.new.self c.wait_for.ensures.keeps)
-    (bytes_calm c.wait_for.ensures.calm (λ b r. same_reached c.wait_for.ensures.now r))
-    (bytes_calm c.put_bytes.ensures.calm (λ b r. bytes_reached c.put_bytes.ensures.now r))
+    (bytes_calm (g.met.B.Blocks.keeps_all c.args.on.now c.wait_for.new.self c.wait_for.ensures.keeps) c.wait_for.ensures.calm (λ b j. (c.wait_for.ensures.now.each b).slots j))
+    (bytes_calm (g.met.B.Blocks.keeps_all c.wait_for.new.self c.put_bytes.new.self c.put_bytes.ensures.keeps) c.put_bytes.ensures.calm c.put_bytes.ensures.now.slots)
 
 pub returns-clause-apart : goal.returns-clause-apart
 returns-clause-apart g c = λ b differs may all.
@@ -104,3 +102,13 @@ returns-clause-paired g c = λ n a e backed all.
     (waits_back {s = s} {u = u} (backed is) c.wait_for.ensures.waits.0 c.wait_for.ensures.now used (λ b j h. (c.wait_for.ensures.calm.order.clearing b j h).1)) (subst (λ x. AllPaired n x e u) is mid)))
     (λ ne. bytes_others {old = u} {new = v} ne adds c.put_bytes.ensures.now.slots mid)
     (cases_eq a c.args.leaf)
+
+pub returns-clause-there : goal.returns-clause-there
+returns-clause-there g c = λ told b sealed spared linked.
+    let m = c.wait_for.new.self in
+    let n = c.put_bytes.new.self in
+    let first = g.met.B.Blocks.keeps_all c.args.on.now m c.wait_for.ensures.keeps in
+    let last = g.met.B.Blocks.keeps_all m n c.put_bytes.ensures.keeps in
+    let calm = calm_joins first (bytes_calm first c.wait_for.ensures.calm (λ x j. (c.wait_for.ensures.now.each x).slots j)) (bytes_calm last c.put_bytes.ensures.calm c.put_bytes.ensures.now.slots) in
+    is_there (g.B.Blocks.state n) b (g.met.B.Blocks.active n).0 (g.met.B.Blocks.present n (last.still_tells.1 (first.still_tells.1 told))) (g.met.B.Blocks.one_spot n)
+    (g.met.B.Blocks.in_place n b ((calm.marks b).1 sealed) (calm.spared b spared) (calm.linked told b linked))

@@ -1,4 +1,4 @@
-use Rattle.std.proofs.Common.{◌+◌, ◌≤◌, ◌<◌, IfSome, ap, ◌∙◌, subst}
+use Rattle.std.proofs.Common.{◌+◌, ◌≤◌, ◌<◌, IfSome, ap, ◌∙◌, subst, arith}
 use Rattle.fo_ports.specs.Sources.{depth_for}
 use Rattle.fo_looks.proofs.Looks.{looks_joins, same_leaves_joins}
 use Rattle.fo_dir_read.specs.Pairs.{FreeAt}
@@ -48,3 +48,10 @@ loop-i-preserved g c =
           let before = are_on (g.met.B.Blocks.clears_used c.loop-i.on still) (c.free_at.ensures.looks.memory still) (λ i. (same.2.leaves still i).0) (v.5 told) in
           are_more new leaves c.loop-i.i before (subst (λ o. FreeAt new leaves c.loop-i.i o) c.in-Ok-None.field-0-is (c.in-Ok-None.ensures.free still))),
     )
+
+pub returns-in-Ok-Some-clause-within : goal.returns-in-Ok-Some-clause-within
+returns-in-Ok-Some-clause-within g c =
+    let lt = subst (λ o. IfSome o (λ n. n < 102)) c.in-Ok-Some.field-0-is c.in-Ok-Some.ensures.within in
+    let less = c.loop-i-test.true in
+    let count = c.count_of-count.ensures.is in
+    omega (arith, lt, less, count)

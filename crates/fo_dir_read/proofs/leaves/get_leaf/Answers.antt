@@ -10,7 +10,7 @@ use Rattle.fo_dir_read.proofs.leaves.get_leaf.Goals as goal
 still : (g : given.Over) (s : _) (a b : _) → g.S.Bytes.is_over s a → g.B.Blocks.keeps a b → Looks (g.B.Blocks.state a) (g.B.Blocks.state b)
     → g.S.Bytes.is_over s b × SameLeaves (g.B.Blocks.state a).tells (g.S.Bytes.leaves s a) (g.S.Bytes.leaves s b)
 still g s a b over keeps looks =
-    let stays = g.met.S.Bytes.stays s a b over keeps (λ told. looks_undisturbed looks told (λ at own. (g.met.S.Bytes.live s a at over told own).2)) in (
+    let stays = g.met.S.Bytes.stays s a b over keeps (λ told. looks_undisturbed looks (g.met.B.Blocks.active b).0 told (λ at own. (g.met.S.Bytes.live s a at over told own).2)) in (
       stays.0,
       source_looks (g.S.Bytes.size s) looks (g.met.S.Bytes.bytes_are s a over) (g.met.S.Bytes.bytes_are s b stays.0) stays.1
           (λ o n h. g.met.S.Bytes.still_prepared s a b o n over stays.0 keeps (λ at ready. ready_looks looks at ready) h)

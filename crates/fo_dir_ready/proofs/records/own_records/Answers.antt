@@ -28,7 +28,7 @@ returns-clause-owned g c =
       leaf_kind = o.label.1 ∙ c.requires.form.leaf_kind;
       whole = o.ready.2;
       uncovered = λ h. (g.met.S.Bytes.live s b c.own_leaf.result over (g.met.B.Blocks.covers_told b c.own_leaf.result h) o.ready.0).2 h;
-      placed = λ told. let p = g.met.S.Bytes.leaf_stands s b c.args.i c.own_leaf.result over told o.is in (p.0, p.1, (g.met.S.Bytes.leaf_place s b c.args.i c.own_leaf.result p.0 over told o.is p.1).0 ∙ kind);
+      other = λ told e. root_not_data ((g.met.S.Bytes.leaf_place s b c.args.i c.own_leaf.result super_place over told o.is (subst (λ k. (g.B.Blocks.state b).stands k super_place) (sym e) (g.met.B.Blocks.super_stands b told))).0 ∙ kind);
     }
 
 pub returns-clause-rows : goal.returns-clause-rows

@@ -13,5 +13,5 @@ returns-in-Ok-clause-over g c =
     let over = c.ready_records.ensures.over.0 in
     let within : 8192 ≤ g.S.Bytes.size s = omega (arith, c.in-Ok.ensures.size) in
     (g.met.S.Bytes.stays s b c.change_leaf.new.on over c.change_leaf.ensures.keeps (λ told.
-    put_undisturbed 0 told c.change_leaf.ensures.calm c.change_leaf.ensures.puts (leaf_long c.requires.bytes ∙ sym c.in-Ok.ensures.owned.whole)
+    put_undisturbed 0 told (g.met.B.Blocks.active b).0 c.change_leaf.ensures.calm c.change_leaf.ensures.puts (leaf_long c.requires.bytes ∙ sym c.in-Ok.ensures.owned.whole)
     (λ x own. (g.met.S.Bytes.live s b x over told own).2) c.in-Ok.ensures.at within)).0

@@ -1,0 +1,31 @@
+use Rattle.std.proofs.Common.{◌≡◌, ◌⊎◌, inl, inr, ⊎_elim, ℕ, ◌+◌, ◌*◌, ◌/◌, ◌%◌, ◌<◌, refl, sym, subst, arith}
+use Rattle.std.proofs.lemmas.Bool.{cases_lt}
+use Rattle.fo_image.specs.declared.types.Kind.{Kind}
+use Rattle.fo_crash.specs.Steps.{PutsSlot, cleared}
+use Rattle.fo_ports.specs.Blocks.{slot_count}
+use Rattle.fo_dir_put.proofs.Nothing.{may_remove}
+use Rattle.fo_dir_put.proofs.Clearing.{cleared_nil, clears_alone}
+use Rattle.fo_dir_remove.proofs.Unnamed.{none_paired}
+use Rattle.fo_dir_remove.proofs.entry.clear_unnamed.Goals as goal
+
+pub remove_slot-requires-clause-may : goal.remove_slot-requires-clause-may
+remove_slot-requires-clause-may g c = λ told.
+    let q = c.requires.quiet told in
+    (may_remove c.args.entries c.args.j c.requires.entries.leaf_kind q.none_comes q.quiet c.requires.entries.uncovered (c.requires.entries.linked told), inl refl)
+
+halves : (j : ℕ) → (j ≡ 2 * (j / 2)) ⊎ (j ≡ 2 * (j / 2) + 1)
+halves j = ⊎_elim (λ lt. inr (omega (arith, lt))) (λ le. inl (omega (arith, le))) (cases_lt 0 (j % 2))
+
+pub returns-clause-paired : goal.returns-clause-paired
+returns-clause-paired g c = λ n a e free all.
+    let s = g.B.Blocks.state c.args.on.now in
+    let t = g.B.Blocks.state c.remove_slot.new.self in
+    let puts : PutsSlot c.args.entries c.args.j (cleared ((s.now c.args.entries).slot c.args.j)) s.now t.now = ⊎_elim (λ h. h.0) (λ h. absurd (h.2 refl)) c.remove_slot.ensures.now in
+    none_paired s t n a e (c.args.j / 2) (halves c.args.j) c.remove_slot.ensures.images puts free all
+
+pub returns-clause-alone : goal.returns-clause-alone
+returns-clause-alone g c =
+    let s = g.B.Blocks.state c.args.on.now in
+    let within = subst (λ (k : Kind). c.args.j < slot_count k) (sym c.requires.entries.leaf_kind) c.requires.within in
+    let nil = cleared_nil (s.label c.args.entries).kind c.args.j ((s.now c.args.entries).slot c.args.j) c.requires.entries.leaf_kind (g.met.B.Blocks.spelled c.args.on.now c.args.entries c.args.j c.requires.entries.is_pinned within) in
+    clears_alone (g.met.B.Blocks.keeps_all c.args.on.now c.remove_slot.new.self c.remove_slot.ensures.keeps) c.remove_slot.ensures.frame c.remove_slot.ensures.hangs c.remove_slot.ensures.no_wait nil (⊎_elim (λ h. inl h.0) (λ h. inr h.0) c.remove_slot.ensures.now)

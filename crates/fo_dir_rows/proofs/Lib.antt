@@ -1,0 +1,3 @@
+pub mod Row
+pub mod PairRow
+pub mod MoveRow

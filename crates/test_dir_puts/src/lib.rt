@@ -1,0 +1,11 @@
+//! Tests of names that are added, changed, moved and removed, over blocks that tell nothing (`CarelessBlocks`).
+//!
+//! The bytes of leaves were worked out by hand by docs/FORMATS.md. Not tested here: what a crash leaves, and waits.
+#![tactic(auto)]
+
+#[cfg(test)]
+mod leaves;
+#[cfg(test)]
+mod names;
+#[cfg(test)]
+mod records;
