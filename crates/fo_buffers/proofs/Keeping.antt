@@ -179,3 +179,8 @@ view_unpinned m n clean room None c = (
 )
 view_unpinned m n clean room (Some at) c =
     (record { is = ap (λ (o : Option Buffer). option_map_or is_pinned o false) (get_table m.entries at) ∙ c.1 }, view_updated m n at clean room (pinned_as false) c.0)
+
+-- a pinned block is among the pins
+pub pinned_listed : {S : Type 0} (m : HashMap ℕ Buffer S) (pins : List ℕ) (q : ℕ) (o : Option Buffer) → Listed m pins → get nat_eq m q ≡ o → option_map_or is_pinned o false ≡ true → Contains pins q
+pinned_listed m pins q (Some b) listed is pinned = listed.each q b is pinned
+pinned_listed m pins q None listed is pinned = cc

@@ -76,6 +76,13 @@ impl Buffers {
         is_pinned_in(&self.held, at)
     }
 
+    /// Addresses among which each pinned block is; others may be there, too.
+    pub fn pins(&self) -> &[u32]
+        ensures { (q : ℕ) → IsPinned self.now q → Contains result.now q }
+    {
+        self.pins.as_slice()
+    }
+
     /// Pins a held block. Room is used where it was not pinned.
     pub fn pin(&mut self, at: u32)
         requires { option_map_or is_free (held_at self.old at) false ≡ true → 0 < self.old.room }

@@ -7,6 +7,8 @@ use Rattle.std.proofs.lemmas.Bool.{cases_eq}
 use Rattle.lru.proofs.CallerLemmas.{Contains-remove_entry}
 use Rattle.lru.proofs.Splits.{Contains-cons, Contains-nil}
 use Rattle.fo_image.specs.declared.types.Label.{Label}
+use Rattle.fo_image.specs.declared.types.Kind.{Kind}
+use Rattle.fo_image.specs.Usable.{live_label}
 use Rattle.fo_image.specs.Place.{label_block}
 use Rattle.fo_disk.specs.Disk.{Block, Content, Versions, latest_of, versions_of}
 use Rattle.fo_buffers.specs.declared.block.Buffer.{Buffer}
@@ -16,12 +18,13 @@ use Rattle.fo_order.specs.Flags.{flags_of, quiet}
 use Rattle.fo_order.specs.Keeps.{Turns}
 use Rattle.fo_order.specs.Turns.{changed, flag_at}
 use Rattle.fo_labels.specs.Region.{IsDataBlock, Region, relabeled}
+use Rattle.fo_facts.specs.Known.{fact_at}
 use Rattle.fo_bring.specs.Holds.{IsFound, IsFromIn}
 use Rattle.fo_bring.proofs.Buffering.{put_other, put_same}
-use Rattle.fo_mind.specs.declared.facts.Fact.{Fact}
-use Rattle.fo_mind.specs.Changes.{takes_turn, turned}
+use Rattle.fo_facts.specs.declared.fact.Fact.{Fact}
+use Rattle.fo_mind.specs.Changes.{Given, Refilled, takes_turn, turned}
 use Rattle.fo_mind.specs.Got.{ComesFrom}
-use Rattle.fo_mind.specs.Parts.{Parts, count_of, fact_at}
+use Rattle.fo_mind.specs.Parts.{CacheKeeps, Parts, count_of}
 use Rattle.fo_mind.specs.Sound.{Placed}
 use Rattle.fo_mind.specs.Turning.{Turning, Unpinned}
 use Rattle.fo_mind.proofs.Unpinning.{Unpins, unpins_of}
@@ -235,3 +238,25 @@ module _ (p q : Parts) (none : Type 0) where
   pub fits_unpinned : (holds : Content) (unsure : List Bool) (o : Option ℕ) → MatchOption o ((q ≡ p) × none) (λ at. Unpinned at p q) → Fits (record p { disk = holds }) unsure → Fits (record q { disk = holds }) unsure
   fits_unpinned holds unsure None m fits = subst (λ (z : Parts). Fits (record z { disk = holds }) unsure) (sym m.0) fits
   fits_unpinned holds unsure (Some at) m fits = fits_one p q at holds unsure (unpins_of at p.held q.held (record { is = m.pinned }) m.held) (ap (λ (z : Parts). z.turns) m.rest) (ap (λ (z : Parts). z.region) m.rest) fits
+
+-- ---- what every call keeps
+
+pub keeps_given : {p q : Parts} {at : ℕ} {kind : Kind} {tag rank : ℕ} {bytes : List ℕ} {origin : Option ℕ} → Given at kind tag rank bytes origin p q → CacheKeeps p q
+keeps_given {p} {q} {at} {kind} {tag} g = record {
+  first = ap (λ (r : Region). r.first) g.region;
+  count = ap (λ (r : Region). length r.labels) g.region ∙ length-set p.region.labels (at - p.region.first) (live_label kind tag p.one.high);
+  high = ap (λ (z : Parts). z.one.high) g.rest;
+  low = ap (λ (z : Parts). z.one.low) g.rest;
+  root = ap (λ (z : Parts). z.one.active) g.rest;
+  faults = let e = ap (λ (z : Parts). z.faults) g.rest in omega (arith, e);
+}
+
+pub keeps_refilled : {p q : Parts} {at : ℕ} {bytes : List ℕ} → Refilled at bytes p q → CacheKeeps p q
+keeps_refilled g = record {
+  first = ap (λ (z : Parts). z.region.first) g.rest;
+  count = ap (λ (z : Parts). length z.region.labels) g.rest;
+  high = ap (λ (z : Parts). z.one.high) g.rest;
+  low = ap (λ (z : Parts). z.one.low) g.rest;
+  root = ap (λ (z : Parts). z.one.active) g.rest;
+  faults = let e = ap (λ (z : Parts). z.faults) g.rest in omega (arith, e);
+}

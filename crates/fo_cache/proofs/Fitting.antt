@@ -17,7 +17,8 @@ use Rattle.fo_order.specs.Flags.{settled_tried}
 use Rattle.fo_order.specs.Keeps.{Turns}
 use Rattle.fo_order.specs.Turns.{flag_at}
 use Rattle.fo_labels.specs.Region.{Region}
-use Rattle.fo_mind.specs.Parts.{Parts, fact_at}
+use Rattle.fo_facts.specs.Known.{fact_at}
+use Rattle.fo_mind.specs.Parts.{Parts}
 use Rattle.fo_mind.specs.Turning.{KeepsTurn, Landed, Missed, Synced, is_changed}
 use Rattle.fo_mind.proofs.Landing.{was_held}
 use Rattle.fo_mind.proofs.Turning.{Settles, landed_here, landed_other, missed_here, missed_other, settles_of}

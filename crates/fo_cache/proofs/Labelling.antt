@@ -20,8 +20,9 @@ use Rattle.fo_order.specs.Turns.{changed, flag_at}
 use Rattle.fo_labels.specs.Region.{IsDataBlock, Region, label_of, relabeled}
 use Rattle.fo_labels.specs.Spelled.{SpellsLabels, label_at, part_at}
 use Rattle.fo_buffers.specs.Held.{held_at}
-use Rattle.fo_mind.specs.Parts.{Parts, fact_at}
-use Rattle.fo_mind.specs.declared.facts.Fact.{Fact}
+use Rattle.fo_facts.specs.Known.{fact_at}
+use Rattle.fo_mind.specs.Parts.{Parts}
+use Rattle.fo_facts.specs.declared.fact.Fact.{Fact}
 use Rattle.fo_mind.specs.Sound.{Placed}
 use Rattle.fo_mind.specs.Turning.{Landed, Missed, Synced}
 use Rattle.fo_mind.proofs.Giving.{change_other}

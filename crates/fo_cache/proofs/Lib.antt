@@ -1,4 +1,6 @@
 pub mod Calling
+pub mod Clearing
+pub mod Easing
 pub mod Firsts
 pub mod Fitting
 pub mod Labelling
@@ -6,6 +8,7 @@ pub mod Lessening
 pub mod Numbering
 pub mod Opening
 pub mod Outcomes
+pub mod Placing
 pub mod Releasing
 pub mod Resting
 pub mod Settling

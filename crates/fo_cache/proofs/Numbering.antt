@@ -125,6 +125,7 @@ module _ (s t : DiskState) (p q : Parts) (f g : ℕ) (k : Renumbers s t p q) whe
     places = λ tells. absurd tells;
     apart = λ b. (λ h. h, λ h. h);
     instead = λ b x. (λ h. h, λ h. h);
+    newborn = λ b. (λ h. h, λ h. h);
     waits = λ a on j w. w;
     order = record { clearing = λ b j h. (λ none. none, h); goes_on = λ b j out h. h };
     covered = record { covered = λ b. (λ h. h, λ h. h) };
@@ -138,4 +139,4 @@ module _ (s t : DiskState) (p q : Parts) (f g : ℕ) (k : Renumbers s t p q) whe
   numbers = at_end (λ z. Numbers (state_of P) (state_of z)) numbers_alike
 
   pub keeps : f ≤ g → CacheKeeps P (record q { disk = t.holds; faults = g })
-  keeps le = at_end (λ z. CacheKeeps P z) (record { first = refl; count = refl; high = ap (λ (x : Super). x.high) k.one; root = ap (λ (x : Super). x.active) k.one; faults = le })
+  keeps le = at_end (λ z. CacheKeeps P z) (record { first = refl; count = refl; high = ap (λ (x : Super). x.high) k.one; low = ap (λ (x : Super). x.low) k.one; root = ap (λ (x : Super). x.active) k.one; faults = le })

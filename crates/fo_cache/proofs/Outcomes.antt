@@ -16,7 +16,8 @@ use Rattle.fo_order.specs.declared.marks.Tried.TheVariants.{Written}
 use Rattle.fo_order.specs.Flags.{settled_tried}
 use Rattle.fo_labels.specs.Region.{Region}
 use Rattle.fo_order.specs.Turns.{IsQuiet, flag_at}
-use Rattle.fo_mind.specs.Parts.{Parts, bytes_at, bytes_of, count_of, fact_at}
+use Rattle.fo_facts.specs.Known.{fact_at}
+use Rattle.fo_mind.specs.Parts.{Parts, bytes_at, bytes_of, count_of}
 use Rattle.fo_mind.specs.Sound.{Placed}
 use Rattle.fo_mind.specs.Turning.{Landed, Missed, Synced, Turning, is_changed}
 use Rattle.fo_mind.proofs.Landing.{within_count}

@@ -10,14 +10,14 @@ use Rattle.fo_image.specs.declared.types.Pointer.TheVariants.{Nil}
 use Rattle.fo_image.specs.Usable.{free_label}
 use Rattle.fo_crash.specs.declared.slot.Slot.TheVariants.{Pointer as To}
 use Rattle.fo_crash.specs.Images.{Content}
-use Rattle.fo_crash.proofs.Reach.{reach_aside}
 use Rattle.fo_buffers.specs.declared.block.Buffer.{Buffer}
 use Rattle.fo_buffers.specs.Held.{held_at, is_pinned, settled}
 use Rattle.fo_labels.specs.Region.{label_of}
-use Rattle.fo_ports.specs.State.{IsUnlinked, Rests, StaysKnown}
+use Rattle.fo_ports.specs.State.{Rests, StaysKnown}
 use Rattle.fo_slots.specs.Read.{read, slot_at, slot_bytes, slot_from}
-use Rattle.fo_mind.specs.declared.facts.Fact.{Fact}
-use Rattle.fo_mind.specs.Parts.{CacheKeeps, IsDirty, IsPinned, Parts, bytes_at, bytes_of, fact_at, label_at, memory, one_content, state_of}
+use Rattle.fo_facts.specs.declared.fact.Fact.{Fact}
+use Rattle.fo_facts.specs.Known.{fact_at}
+use Rattle.fo_mind.specs.Parts.{CacheKeeps, IsBlock, IsDirty, IsPinned, Parts, bytes_at, bytes_of, label_at, memory, one_content, state_of}
 use Rattle.fo_cache.specs.Settling.{Settles}
 
 never : {A : Type 0} → false ≡ true → A
@@ -78,13 +78,14 @@ module _ (s t : DiskState) (p q : Parts) (f g : ℕ) (k : Settles s t p q) where
   origin_same : (b : ℕ) → (fact_at q.facts b).origin ≡ (fact_at p.facts b).origin
   origin_same b = ap (λ (x : Fact). x.origin) (k.lasts b)
 
-  unlinked : (b : ℕ) → IsUnlinked (state_of P) b → IsUnlinked (state_of Q) b
-  unlinked b u = record {
-    maker = u.maker;
-    apart = apart_same u.maker ∙ u.apart;
-    hangs = reach_aside (memory P) (memory Q) (λ x. ⊥) u.maker (λ x j out. sym (same_slots x j)) (λ x out. absurd out) b u.hangs;
-    free = λ tells. absurd tells;
-  }
+  linked_same : (b : ℕ) → (fact_at q.facts b).linked ≡ (fact_at p.facts b).linked
+  linked_same b = ap (λ (x : Fact). x.linked) (k.lasts b)
+
+  -- a data block is what memory had
+  block_known : (b : ℕ) → IsBlock p b → StaysKnown (state_of P) (state_of Q) b
+  block_known b is =
+      let same : memory Q b ≡ memory P b = ap (λ (bytes : List ℕ). cond (nat_eq b 1) (one_content p.one p.one_bytes) (read (label_at p.region b).kind bytes)) (k.bytes b is.0) in
+      record { bytes = ap (λ (c : Content). c.bytes) same; slots = λ j. inl (ap (λ (c : Content). c.slot j) same, λ h. h) }
 
   rests_alike : Rests (state_of P) (state_of Q)
   rests_alike = record {
@@ -99,10 +100,12 @@ module _ (s t : DiskState) (p q : Parts) (f g : ℕ) (k : Settles s t p q) where
     leaves = λ tells. absurd tells;
     apart = λ b. (λ h. sym (apart_same b) ∙ h, λ h. apart_same b ∙ h);
     instead = λ b x. (λ h. (sym (apart_same b) ∙ h.0, sym (origin_same b) ∙ h.1), λ h. (apart_same b ∙ h.0, origin_same b ∙ h.1));
+    newborn = λ b h. sym (linked_same b) ∙ h;
+    kept = λ b is _ _. block_known b is;
     labels = λ b. inl refl;
     queues = λ some. inl some;
     usable = omega arith;
-    settled = λ was. (record { settled = record { each = λ image h. absurd h }; clean = λ b d. unlinked b (was.clean b (dirty_was b d)); empty = was.empty; cleared = was.cleared }, refl);
+    settled = λ was. (record { settled = record { each = λ image h. absurd h }; clean = λ b d. (linked_same b ∙ (was.clean b (dirty_was b d)).0, λ tells. absurd tells); empty = was.empty; cleared = was.cleared }, refl);
     numbers = record { next = refl; grants = λ h. h };
   }
 
@@ -122,4 +125,4 @@ module _ (s t : DiskState) (p q : Parts) (f g : ℕ) (k : Settles s t p q) where
   room_stays = (ap (λ (z : Parts). z.spare) k.rest, ap (λ (z : Parts). z.pins) k.rest, ap (λ (z : Parts). z.room) k.rest)
 
   pub keeps : f ≤ g → CacheKeeps (record p { disk = s.holds; faults = f }) (record q { disk = t.holds; faults = g })
-  keeps le = subst (λ (z : Parts). CacheKeeps P (record z { disk = t.holds; faults = g })) (sym k.rest) (record { first = refl; count = refl; high = refl; root = refl; faults = le })
+  keeps le = subst (λ (z : Parts). CacheKeeps P (record z { disk = t.holds; faults = g })) (sym k.rest) (record { first = refl; count = refl; high = refl; low = refl; root = refl; faults = le })

@@ -14,10 +14,11 @@ use Rattle.fo_order.specs.declared.marks.Flags.{Flags}
 use Rattle.fo_order.specs.Keeps.{Turns}
 use Rattle.fo_order.specs.Turns.{flag_at}
 use Rattle.fo_labels.specs.Region.{Region}
-use Rattle.fo_mind.specs.declared.facts.Fact.{Fact}
-use Rattle.fo_mind.specs.Parts.{Parts, bytes_at, bytes_of, fact_at, no_fact}
+use Rattle.fo_facts.specs.declared.fact.Fact.{Fact}
+use Rattle.fo_facts.specs.Known.{fact_at, no_fact, written_as}
+use Rattle.fo_mind.specs.Parts.{Parts, bytes_at, bytes_of}
 use Rattle.fo_mind.specs.Sound.{Placed}
-use Rattle.fo_mind.specs.Turning.{KeepsTurn, Landed, Missed, Synced, Turning, is_changed, is_pinned_at, written_fact}
+use Rattle.fo_mind.specs.Turning.{KeepsTurn, Landed, Missed, Synced, Turning, is_changed, is_pinned_at}
 use Rattle.fo_mind.proofs.Landing.{within_count}
 use Rattle.fo_mind.proofs.Turning.{landed_here, landed_other, missed_here, missed_other, other_written, settles_of}
 use Rattle.fo_mind.proofs.Turning.{Settles as Lands}
@@ -102,10 +103,10 @@ room_settles s p q k = subst (λ (z : Parts). Settles s s p z) (sym k.rest) (rec
 -- ---- a write was answered
 
 -- what is known of the block
-facts_settles : (facts fs : List Fact) (at : ℕ) (pinned : Bool) → at < length facts → fs ≡ set facts at (written_fact pinned (fact_at facts at)) → (b : ℕ) → (lasting (fact_at fs b) ≡ lasting (fact_at facts b)) × ((fact_at fs b).fresh ≡ true → (fact_at facts b).fresh ≡ true)
+facts_settles : (facts fs : List Fact) (at : ℕ) (pinned : Bool) → at < length facts → fs ≡ set facts at (written_as pinned (fact_at facts at)) → (b : ℕ) → (lasting (fact_at fs b) ≡ lasting (fact_at facts b)) × ((fact_at fs b).fresh ≡ true → (fact_at facts b).fresh ≡ true)
 facts_settles facts fs at pinned lt is b = ⊎_elim
     (λ e.
-    let now = ap (λ (z : List Fact). fact_at z b) is ∙ ap (fact_at (set facts at (written_fact pinned (fact_at facts at)))) e ∙ get_or-set_same facts at (written_fact pinned (fact_at facts at)) no_fact lt in
+    let now = ap (λ (z : List Fact). fact_at z b) is ∙ ap (fact_at (set facts at (written_as pinned (fact_at facts at)))) e ∙ get_or-set_same facts at (written_as pinned (fact_at facts at)) no_fact lt in
     (ap lasting now ∙ ap (λ n. lasting (fact_at facts n)) (sym e), λ h. never (sym h ∙ ap (λ (f : Fact). f.fresh) now)))
     (λ ne.
     let now = ap (λ (z : List Fact). fact_at z b) is ∙ other_written facts at pinned lt b ne in

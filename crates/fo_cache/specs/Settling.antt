@@ -4,8 +4,9 @@ use Rattle.std.specs.Option.{option_map}
 use Rattle.fo_disk.specs.Disk.{DiskState, Versions, newest, versions_of}
 use Rattle.fo_buffers.specs.Held.{held_at, settled}
 use Rattle.fo_order.specs.Turns.{flag_at}
-use Rattle.fo_mind.specs.declared.facts.Fact.{Fact}
-use Rattle.fo_mind.specs.Parts.{Parts, bytes_at, fact_at}
+use Rattle.fo_facts.specs.declared.fact.Fact.{Fact}
+use Rattle.fo_facts.specs.Known.{fact_at}
+use Rattle.fo_mind.specs.Parts.{Parts, bytes_at}
 use Rattle.fo_mind.specs.Turning.{is_changed}
 
 -- what is known of an address, but whether it was written since it was given out, and whether room is kept for its turn

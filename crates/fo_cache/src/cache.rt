@@ -10,8 +10,8 @@ use fo_mind::Mind;
 /// A cache with its device.
 #[derive(Drop)]
 pub struct Cache<D: Disk> {
-    pub(crate) main: D,
-    pub(crate) mind: Mind,
+    pub main: D,
+    pub mind: Mind,
     ghost sized: { count_of (parts mind [] 0).region ≤ D.size main },
     ghost spelled: { FitsLabels (parts mind (D.state main).holds 0) (D.state main).unsure } by { labels_prop (parts mind (D.state main).holds 0) (D.state main).unsure },
     ghost fits: { Fits (parts mind (D.state main).holds 0) (D.state main).unsure } by { fits_prop (parts mind (D.state main).holds 0) (D.state main).unsure },

@@ -29,6 +29,7 @@ impl<D: Disk> Cache<D> {
         ensures nothing { OnErr result (into.new ≡ into.old) }
         ensures pinned { OnOk result (0 < (parts self.old.mind [] 0).pins → IsPinned (parts self.new.mind [] 0).held at) }
         ensures again { IsPinned (parts self.old.mind [] 0).held at → (label_at (parts self.old.mind [] 0).region at).kind ≡ kind → IsRanked kind rank ((memory (parts self.old.mind (D.state self.old.main).holds (D.faults self.old.main)) at).bytes) → IsOk result }
+        ensures no_pin { IsPinned (parts self.old.mind [] 0).held at → (label_at (parts self.old.mind [] 0).region at).kind ≡ kind → (parts self.new.mind [] 0).pins ≡ (parts self.old.mind [] 0).pins }
         ensures pins { (parts self.old.mind [] 0).pins ≤ (parts self.new.mind [] 0).pins + 1 }
         ensures looks { Looks (state_of (parts self.old.mind (D.state self.old.main).holds (D.faults self.old.main))) (state_of (parts self.new.mind (D.state self.new.main).holds (D.faults self.new.main))) }
         ensures keeps { CacheKeeps (parts self.old.mind (D.state self.old.main).holds (D.faults self.old.main)) (parts self.new.mind (D.state self.new.main).holds (D.faults self.new.main)) }
@@ -45,6 +46,7 @@ impl<D: Disk> Cache<D> {
         requires level { IsLevel kind }
         ensures gives { Gives result (blank kind) (live_label kind tag (parts self.old.mind [] 0).one.high) (state_of (parts self.old.mind (D.state self.old.main).holds (D.faults self.old.main))) (state_of (parts self.new.mind (D.state self.new.main).holds (D.faults self.new.main))) }
         ensures instead { (x : ℕ) → Instead (parts self.new.mind [] 0).facts result x → ⊥ }
+        ensures keeps { CacheKeeps (parts self.old.mind (D.state self.old.main).holds (D.faults self.old.main)) (parts self.new.mind (D.state self.new.main).holds (D.faults self.new.main)) }
         ensures device { self.new.main ≡ self.old.main }
     {
         self.mind.new_block(kind, tag, rank)
@@ -56,6 +58,7 @@ impl<D: Disk> Cache<D> {
         requires pinned { IsPinned (parts self.old.mind [] 0).held at }
         ensures gives { Gives result (memory (parts self.old.mind (D.state self.old.main).holds (D.faults self.old.main)) at) (record (label_at (parts self.old.mind [] 0).region at) { state = Live; epoch = (parts self.old.mind [] 0).one.high; closing = 2 ^ 32 - 1 }) (state_of (parts self.old.mind (D.state self.old.main).holds (D.faults self.old.main))) (state_of (parts self.new.mind (D.state self.new.main).holds (D.faults self.new.main))) }
         ensures instead { (x : ℕ) → Instead (parts self.new.mind [] 0).facts result x ↔ (x ≡ at) }
+        ensures keeps { CacheKeeps (parts self.old.mind (D.state self.old.main).holds (D.faults self.old.main)) (parts self.new.mind (D.state self.new.main).holds (D.faults self.new.main)) }
         ensures device { self.new.main ≡ self.old.main }
     {
         self.mind.copy(at)
@@ -89,6 +92,7 @@ impl<D: Disk> Cache<D> {
         ensures now { PutsBytes at (put_at from bytes.now ((memory (parts self.old.mind (D.state self.old.main).holds (D.faults self.old.main)) at).bytes)) (memory (parts self.old.mind (D.state self.old.main).holds (D.faults self.old.main))) (memory (parts self.new.mind (D.state self.new.main).holds (D.faults self.new.main))) }
         ensures calm { Calm (λ b. b ≡ at) 0 (state_of (parts self.old.mind (D.state self.old.main).holds (D.faults self.old.main))) (state_of (parts self.new.mind (D.state self.new.main).holds (D.faults self.new.main))) }
         ensures no_wait { AddsNoWait none (state_of (parts self.old.mind (D.state self.old.main).holds (D.faults self.old.main))) (state_of (parts self.new.mind (D.state self.new.main).holds (D.faults self.new.main))) }
+        ensures keeps { CacheKeeps (parts self.old.mind (D.state self.old.main).holds (D.faults self.old.main)) (parts self.new.mind (D.state self.new.main).holds (D.faults self.new.main)) }
         ensures device { self.new.main ≡ self.old.main }
     {
         self.mind.put_bytes(at, from, bytes);

@@ -1,4 +1,6 @@
 //! What a cache is at each moment.
+ghost use Rattle.fo_facts.specs.Known.{fact_at};
+
 use crate::cache::Cache;
 use fo_disk::Disk;
 
@@ -11,7 +13,7 @@ impl<D: Disk> Cache<D> {
     ghost use Rattle.fo_labels.specs.Spelled.{SpellsLabels};
     ghost use Rattle.fo_order.specs.Turns.{IsQuiet};
     ghost use Rattle.fo_mind.specs.MindParts.{parts};
-    ghost use Rattle.fo_mind.specs.Parts.{bytes_at, fact_at};
+    ghost use Rattle.fo_mind.specs.Parts.{bytes_at};
 
     /// Where all is settled, the device has of each block that is in the tree of memory one version, which is memory's.
     pub fn quiet_is_memory(&self)

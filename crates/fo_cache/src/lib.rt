@@ -5,7 +5,7 @@
 //! has the labels of memory. Each version of block 1 is that of memory, or the one in doubt. Over a device that tells nothing it
 //! says nothing.
 //!
-//! Proved: what is got, given out and filled is said as `Blocks` says it, but for images; a block is written with the bytes or the
+//! Proved: what is got, given out, filled, put and cleared is said as `Blocks` says it, but for images; a block is written with the bytes or the
 //! labels that memory has, and no other changes; a write that fails leaves it dirty; a sync that answers Ok settles each block whose
 //! last write answered Ok, and one that fails changes nothing. Turns are taken until none is left, whatever memory has, and this
 //! ends; memory keeps its bytes and pins, and blocks that had no turn are not written. Where all is settled, the device has one
@@ -15,15 +15,20 @@
 //! memory has it. The next file number is granted only below the limit of each super block that the device may have; where none says so
 //! many, one that says more is written and settled first.
 //!
-//! Not here yet: puts into slots, removals, closing, and so `Blocks` itself. Not proved here: what is said of crash images,
-//! places and moments.
+//! A slot that waits for a leaf that is settled is cleared, whatever is pinned, and waits end where all is settled.
+//!
+//! Not here: `settle` (`fo_settling`), closing and `reserve` (`fo_reserving`), and `Blocks` itself (`fo_devices`). Not proved here: what is
+//! said of crash images, places and moments.
 #![tactic(auto)]
 
 mod cache;
 mod calls;
+mod dues;
 mod laws;
 mod numbers;
+mod requests;
 mod settles;
+mod slots;
 mod supers;
 mod turns;
 

@@ -28,6 +28,7 @@ impl<D: Disk> Cache<D> {
     ghost use Rattle.fo_ports.specs.State.{Numbers};
     ghost use Rattle.fo_mind.specs.MindParts.{parts};
     ghost use Rattle.fo_mind.specs.Parts.{CacheKeeps, least_limit, memory, state_of};
+    ghost use Rattle.fo_cache.specs.Easing.{Eases};
     ghost use Rattle.fo_cache.specs.Numbering.{Renumbers};
 
     /// Grants the next file number, which is below the limit of each super block that the device may have; None where it would be 2^30.
@@ -93,8 +94,9 @@ impl<D: Disk> Cache<D> {
         self.raise_numbers()
     }
 
-    // No super block is in doubt, from now on.
-    fn settle_doubt(&mut self) -> Result<(), BlockError>
+    /// No super block is in doubt, from now on: block 1 is written and settled as memory has it, where one was.
+    pub fn settle_doubt(&mut self) -> Result<(), BlockError>
+        ensures eases { Eases (parts self.old.mind (D.state self.old.main).holds (D.faults self.old.main)) (parts self.new.mind (D.state self.new.main).holds (D.faults self.new.main)) }
         ensures certain { OnOk result ((parts self.new.mind [] 0).doubt ≡ None) }
         ensures renumbers { Renumbers (D.state self.old.main) (D.state self.new.main) (parts self.old.mind [] 0) (parts self.new.mind [] 0) }
         ensures size { D.size self.new.main ≡ D.size self.old.main }

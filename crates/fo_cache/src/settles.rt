@@ -1,4 +1,6 @@
 //! All that has a turn is written and settled.
+ghost use Rattle.fo_facts.specs.Known.{fact_at};
+
 use crate::cache::Cache;
 use fo_disk::{Disk, DiskFault};
 use fo_order::Turn;
@@ -11,7 +13,7 @@ impl<D: Disk> Cache<D> {
     ghost use Rattle.fo_ports.specs.Causes.{Caused};
     ghost use Rattle.fo_ports.specs.State.{Rests, StaysKnown};
     ghost use Rattle.fo_mind.specs.MindParts.{parts};
-    ghost use Rattle.fo_mind.specs.Parts.{CacheKeeps, IsPinned, fact_at, label_at, state_of};
+    ghost use Rattle.fo_mind.specs.Parts.{CacheKeeps, IsPinned, label_at, state_of};
     ghost use Rattle.fo_cache.specs.Settling.{Settles};
     ghost use Rattle.fo_cache.specs.Work.{work};
 

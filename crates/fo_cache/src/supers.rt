@@ -7,14 +7,16 @@ use fo_image::{Super, write_super as spell_super};
 use fo_ports::BlockError;
 
 impl<D: Disk> Cache<D> {
-    ghost use Rattle.std.specs.Prelude.{◌≡◌, ◌≢◌, ◌<◌, ◌≤◌, ℕ, List, [], ◌∷◌, true, length, None, Some, OnOk, OnErr, IfOk, IfErr, MatchOption};
+    ghost use Rattle.std.specs.Prelude.{◌≡◌, ◌≢◌, ◌<◌, ◌≤◌, ℕ, List, [], ◌∷◌, true, false, length, None, Some, OnOk, OnErr, IfOk, IfErr, MatchOption};
     ghost use Rattle.fo_base.specs.Cause.{HasCause, Rose};
     ghost use Rattle.fo_disk.specs.Disk.{IsWrite, versions_of};
     ghost use Rattle.fo_image.specs.Format.{SpellsSuper, SuperHolds};
     ghost use Rattle.fo_image.specs.Field.{Four, number_at};
     ghost use Rattle.fo_ports.specs.Causes.{Caused};
     ghost use Rattle.fo_mind.specs.MindParts.{parts};
-    ghost use Rattle.fo_mind.specs.Parts.{IsBlock};
+    ghost use Rattle.fo_image.specs.Usable.{is_usable};
+    ghost use Rattle.fo_facts.specs.Known.{fact_at};
+    ghost use Rattle.fo_mind.specs.Parts.{IsBlock, label_at};
     ghost use Rattle.fo_cache.specs.Settling.{Rested};
     ghost use Rattle.fo_cache.specs.Supers.{Counts, Doubted, Overruled};
 
@@ -64,6 +66,8 @@ impl<D: Disk> Cache<D> {
     // What was tried counts.
     fn accept(&mut self, one: Super) -> Option<Block>
         requires root { IsBlock (parts self.old.mind [] 0) one.active }
+        requires linked { (fact_at (parts self.old.mind [] 0).facts one.active).linked ≡ true }
+        requires live { is_usable (parts self.old.mind [] 0).one.low (label_at (parts self.old.mind [] 0).region one.active) ≡ false }
         requires high { one.high ≡ (parts self.old.mind [] 0).one.high }
         requires low { one.low ≡ (parts self.old.mind [] 0).one.low }
         requires spelled { (bytes : List ℕ) → (parts self.old.mind [] 0).doubt ≡ Some bytes → SpellsSuper one bytes }
@@ -95,11 +99,13 @@ impl<D: Disk> Cache<D> {
         Ok(self.overrule())
     }
 
-    /// Writes another super block into block 1, and settles it with all that was written: then it counts, and the block that it replaces
+    /// Writes another super block into block 1, whose root is in the tree, and settles it with all that was written: then it counts, and the block that it replaces
     /// is given back. The next file number is up to what it says, and below it while it is granted. Where that fails it is in doubt, and memory has the one that it had.
     pub fn write_super(&mut self, one: Super, block: Block) -> Result<Option<Block>, BlockError>
         requires spelled { SuperHolds one }
         requires root { IsBlock (parts self.old.mind [] 0) one.active }
+        requires linked { (fact_at (parts self.old.mind [] 0).facts one.active).linked ≡ true }
+        requires live { is_usable (parts self.old.mind [] 0).one.low (label_at (parts self.old.mind [] 0).region one.active) ≡ false }
         requires high { one.high ≡ (parts self.old.mind [] 0).one.high }
         requires low { one.low ≡ (parts self.old.mind [] 0).one.low }
         requires certain { (parts self.old.mind [] 0).doubt ≡ None }

@@ -74,6 +74,15 @@ change_here t at rank lt = by (is_ranked rank (flag_at t at)) refl
         let here : flag_at (changed t at rank) at ≡ flags_of true (flag_at t at).tried rank = ap (λ (r : Bool). flag_at (cond r t (record (noted t at (flags_of true (flag_at t at).tried rank)) { room = t.room - 1 })) at) e ∙ get_or-set_same t.flags at (flags_of true (flag_at t at).tried rank) quiet lt in
         (ap (λ (x : Flags). x.dirty) here, ap (λ (x : Flags). x.rank) here)
 
+pub change_tried : (t : Turns) (at rank : ℕ) → at < length t.flags → (flag_at (changed t at rank) at).tried ≡ (flag_at t at).tried
+change_tried t at rank lt = by (is_ranked rank (flag_at t at)) refl
+  where
+    by : (r : Bool) → is_ranked rank (flag_at t at) ≡ r → (flag_at (changed t at rank) at).tried ≡ (flag_at t at).tried
+    by true e = ap (λ (r : Bool). (flag_at (cond r t (record (noted t at (flags_of true (flag_at t at).tried rank)) { room = t.room - 1 })) at).tried) e
+    by false e =
+        ap (λ (r : Bool). (flag_at (cond r t (record (noted t at (flags_of true (flag_at t at).tried rank)) { room = t.room - 1 })) at).tried) e
+        ∙ ap (λ (x : Flags). x.tried) (get_or-set_same t.flags at (flags_of true (flag_at t at).tried rank) quiet lt)
+
 pub made_within : (facts : List Fact) (at : ℕ) → (fact_at facts at).linked ≡ false → at < length facts
 made_within [] at e = absurd (unlike e)
 made_within (f ∷ fs) zero e = omega arith
@@ -128,6 +137,14 @@ module _ (held : Held) (facts new : List Fact) (t u : Turns) (at : ℕ)
       by : (k : Bool) → u ≡ taken_if k t at (fact_at facts at).rank → flag_at u b ≡ flag_at t b
       by true e = ap (λ (x : Turns). flag_at x b) e ∙ change_other t at (fact_at facts at).rank b ne
       by false e = ap (λ (x : Turns). flag_at x b) e
+
+  -- what became of its last write stays known
+  tried_here : at < length t.flags → (flag_at u at).tried ≡ (flag_at t at).tried
+  tried_here within = by d turns
+    where
+      by : (k : Bool) → u ≡ taken_if k t at (fact_at facts at).rank → (flag_at u at).tried ≡ (flag_at t at).tried
+      by true e = ap (λ (x : Turns). (flag_at x at).tried) e ∙ change_tried t at (fact_at facts at).rank within
+      by false e = ap (λ (x : Turns). (flag_at x at).tried) e
 
   pub linked_at : (fact_at new at).linked ≡ true
   linked_at = ap (λ (f : Fact). f.linked) here
@@ -225,6 +242,11 @@ module _ (held : Held) (facts new : List Fact) (t u : Turns) (at : ℕ)
               (λ same. subst (λ x. (flag_at u x ≡ flag_at s x) ⊎ (IsLinked old new x × (is_changed held x ≡ true))) (sym same) flags_here)
               (λ ne. ⊎_elim (λ e. inl (flag_other b ne ∙ e)) (λ h. inr (still b h.0, h.1)) (l.flags b))
               (cases_eq b at);
+          tried = λ b. ⊎_elim
+              (λ same. ap (λ n. (flag_at u n).tried) same ∙ tried_here flags ∙ ap (λ n. (flag_at t n).tried) (sym same))
+              (λ ne. ap (λ (f : Flags). f.tried) (flag_other b ne))
+              (cases_eq b at)
+              ∙ l.tried b;
           made = omega (arith, m, k);
           owed = omega (arith, o, p);
         }
@@ -275,6 +297,7 @@ joins_none held facts t = record {
   facts = λ b. inl refl;
   turn = λ b h dirty. unlike (sym h.1 ∙ h.0);
   flags = λ b. inl refl;
+  tried = λ b. refl;
   made = omega arith;
   owed = omega arith;
 }

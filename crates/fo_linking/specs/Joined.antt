@@ -58,13 +58,14 @@ pub data IsReached (held : Held) (region : Region) (facts : List Fact) (to : Poi
   below : (a : ℕ) (x : Buffer) (j b : ℕ) → IsReached held region facts to a → (fact_at facts a).linked ≡ false → held_at held a ≡ Some x → target (slot_in region a x j) ≡ Local b → IsReached held region facts to b
 
 -- Some blocks that were made are linked now: each has its rank still, and with it a turn, where memory has it changed. Of all others all
--- stays. Of the turns that were kept none is lost.
+-- stays. Of the turns that were kept none is lost. What became of the last write of a block stays known.
 pub record Joins (held : Held) (old new : List Fact) (t u : Turns) : Type 0 where
   pub as_long : length new ≡ length old
   pub flag_count : length u.flags ≡ length t.flags
   pub facts : (b : ℕ) → (fact_at new b ≡ fact_at old b) ⊎ (IsLinked old new b × (b < length old) × (fact_at new b ≡ linked_as (is_changed held b) (fact_at old b)))
   pub turn : (b : ℕ) → IsLinked old new b → is_changed held b ≡ true → ((flag_at u b).dirty ≡ true) × ((flag_at u b).rank ≡ (fact_at old b).rank)
   pub flags : (b : ℕ) → (flag_at u b ≡ flag_at t b) ⊎ (IsLinked old new b × (is_changed held b ≡ true))
+  pub tried : (b : ℕ) → (flag_at u b).tried ≡ (flag_at t b).tried
   pub made : count_by is_made new ≤ count_by is_made old
   pub owed : count_by owes new + t.room ≤ count_by owes old + u.room
 

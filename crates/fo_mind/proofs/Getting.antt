@@ -14,11 +14,12 @@ use Rattle.fo_slots.specs.Read.{read}
 use Rattle.fo_buffers.specs.declared.block.Buffer.{Buffer}
 use Rattle.fo_buffers.specs.Held.{Held, held_at, block_in, is_dirty, is_pinned, pinned_as}
 use Rattle.fo_labels.specs.Region.{Region}
+use Rattle.fo_facts.specs.Known.{fact_at, no_fact, owing_as}
 use Rattle.fo_bring.specs.Blocks.{Good, Gets}
 use Rattle.fo_bring.specs.Holds.{GetsIn, GetsGood, GoodIn, RanksIn, IsFound, IsFromIn, IsFrom, Others, Brought, Glanced}
 use Rattle.fo_bring.proofs.Bringing.{loaded_here}
-use Rattle.fo_mind.specs.declared.facts.Fact.{Fact}
-use Rattle.fo_mind.specs.Parts.{Parts, IsPinned, bytes_of, bytes_at, fact_at, label_at, memory, no_fact, owing_as}
+use Rattle.fo_facts.specs.declared.fact.Fact.{Fact}
+use Rattle.fo_mind.specs.Parts.{Parts, IsPinned, bytes_of, bytes_at, label_at, memory}
 use Rattle.fo_mind.specs.Sound.{Placed, Holding}
 use Rattle.fo_mind.specs.Frames.{SameMarks, Brings}
 use Rattle.fo_mind.specs.Got.{Got, IsHeldAs, IsSource}

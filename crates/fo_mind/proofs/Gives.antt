@@ -23,12 +23,14 @@ use Rattle.fo_labels.specs.Region.{Region, IsDataBlock, label_of, relabeled, usa
 use Rattle.fo_crash.specs.Images.{Content, SameContent}
 use Rattle.fo_slots.specs.Read.{read}
 use Rattle.fo_ports.specs.State.{Gives}
+use Rattle.fo_facts.specs.Known.{fact_at, made_fact}
 use Rattle.fo_bring.proofs.Buffering.{put_same, put_other, lookup_other}
-use Rattle.fo_mind.specs.declared.facts.Fact.{Fact}
-use Rattle.fo_mind.specs.Parts.{Parts, state_of, bytes_of, bytes_at, content_at, fact_at, label_at, memory, one_content, IsDirty, IsPinned, Instead, Listed, Clears, is_active}
+use Rattle.fo_facts.specs.declared.fact.Fact.{Fact}
+use Rattle.fo_waits.specs.Listed.{Clears, Listed, is_active}
+use Rattle.fo_mind.specs.Parts.{Parts, state_of, bytes_of, bytes_at, content_at, label_at, memory, one_content, IsDirty, IsHeld, Instead}
 use Rattle.fo_mind.specs.Sound.{Placed, Labelled, Holding, Waiting, Clearable}
-use Rattle.fo_mind.specs.Changes.{Given, made_fact}
-use Rattle.fo_mind.specs.Laws.{beyond, pinned_held}
+use Rattle.fo_mind.specs.Changes.{Given}
+use Rattle.fo_mind.specs.Laws.{beyond, some_held}
 use Rattle.fo_mind.proofs.Looking.{same_content}
 use Rattle.fo_mind.proofs.Giving.{label_here, label_other, data_label, not_live, not_held, change_other, fact_here, fact_other, clash}
 
@@ -112,6 +114,7 @@ module _ (p : Parts) (first count at : ℕ) (kind : Kind) (tag rank : ℕ) (byte
     };
     images = record { apart = λ image h. absurd h; holds = λ image h. absurd h; before = λ image h. absurd h };
     label = label_here p.region at l is;
+    free = ap (is_usable p.one.low) (data_label p.region at is.from) ∙ usable;
     was = (
       λ live. not_live p.one.low (label_of p.region at) usable (sym (ap (λ (z : Label). z.state) (data_label p.region at is.from)) ∙ live),
       λ e. let lo = is.from in let f = placed.is_first in let b = placed.begins in omega (arith, lo, f, b, e),
@@ -135,6 +138,8 @@ module _ (p : Parts) (first count at : ℕ) (kind : Kind) (tag rank : ℕ) (byte
         λ h. marks (λ (f : Fact). f.fresh) b ne ∙ h,
       );
       places = λ t. absurd t;
+      rooted = λ t. absurd t;
+      newborn = λ b ne h. sym (marks (λ (f : Fact). f.linked) b ne) ∙ h;
       apart = λ b ne _. (λ h. sym (marks (λ (f : Fact). f.apart) b ne) ∙ h, λ h. marks (λ (f : Fact). f.apart) b ne ∙ h);
       instead = λ b x ne _. (
         λ h. (sym (marks (λ (f : Fact). f.apart) b ne) ∙ h.0, sym (marks (λ (f : Fact). f.origin) b ne) ∙ h.1),
@@ -147,6 +152,7 @@ module _ (p : Parts) (first count at : ℕ) (kind : Kind) (tag rank : ℕ) (byte
     no_wait = record { each = λ a on j _ w. w };
     dirty = dirty_was;
     uses = record { spare = less; usable = fewer; room = omega arith; pins = refl; moments = refl; left = λ k image h. h };
+    queued = refl;
     numbers = record { next = refl; grants = λ h. h };
   }
 
@@ -188,9 +194,9 @@ holds_kind Live label holds = holds.0
 holds_kind Closed label holds = holds.0
 
 -- the kind of a held block has a spelling
-pub kind_held : {region : Region} {turns : Turns} {facts : List Fact} {held : Held} {low first count : ℕ} (at : ℕ) (label : Label) → label ≡ label_at region at → Placed region turns facts first count → Holding low first count region held → Labelled region → IsPinned held at → KindHolds label.kind
-kind_held {region} {turns} {facts} {held} {low} {first} {count} at label e placed holding labelled pinned =
-    let x = pinned_held (held_at held at) pinned in
+pub kind_held : {region : Region} {turns : Turns} {facts : List Fact} {held : Held} {low first count : ℕ} (at : ℕ) (label : Label) → label ≡ label_at region at → Placed region turns facts first count → Holding low first count region held → Labelled region → IsHeld held at → KindHolds label.kind
+kind_held {region} {turns} {facts} {held} {low} {first} {count} at label e placed holding labelled some =
+    let x = some_held (held_at held at) some in
     let b = holding.block at x.0 x.1 in
     let lo : region.first ≤ at = subst (λ n. n ≤ at) (sym placed.is_first) b.0 in
     let holds = labelled.each at (lo, subst (λ n. at < n) (sym placed.is_count) b.1) in

@@ -16,12 +16,14 @@ use Rattle.fo_order.specs.Keeps.{Turns}
 use Rattle.fo_order.specs.Turns.{flag_at, changed, is_ranked, noted}
 use Rattle.fo_labels.specs.Region.{Region, IsDataBlock, label_of, relabeled, usable_count}
 use Rattle.fo_slots.specs.Read.{read}
+use Rattle.fo_facts.specs.Known.{fact_at, no_fact}
 use Rattle.fo_bring.specs.Blocks.{IsData, Good}
 use Rattle.fo_bring.proofs.Buffering.{put_same, put_other}
-use Rattle.fo_mind.specs.declared.facts.Fact.{Fact}
-use Rattle.fo_mind.specs.declared.facts.Wait.{Wait}
-use Rattle.fo_mind.specs.declared.facts.Clearing.{Clearing}
-use Rattle.fo_mind.specs.Parts.{label_at, fact_at, no_fact, is_active, Clears}
+use Rattle.fo_facts.specs.declared.fact.Fact.{Fact}
+use Rattle.fo_waits.specs.declared.listed.Wait.{Wait}
+use Rattle.fo_waits.specs.declared.listed.Clearing.{Clearing}
+use Rattle.fo_waits.specs.Listed.{Clears, is_active}
+use Rattle.fo_mind.specs.Parts.{label_at}
 use Rattle.fo_mind.specs.Sound.{Placed, Labelled, Holding, Waiting, Clearable, Owing, Roomy}
 use Rattle.fo_mind.proofs.Keeping.{owed_more}
 
@@ -162,6 +164,7 @@ module _ (r : Region) (at : ℕ) (l : Label) (is : IsDataBlock r at) where
   clearable_given {low} {high} {clears} usable clearable = record {
     each = λ b j c. let k = clearable.each b j c in let o = other b j c in (ap (λ (z : Label). z.kind) o ∙ k.0, ap (λ (z : Label). z.epoch) o ∙ k.1);
     kept = λ b j c. ap (is_usable low) (other b j c) ∙ clearable.kept b j c;
+    within = clearable.within;
   }
     where
       other : (b j : ℕ) → Clears clears b j → label_at (relabeled r at l) b ≡ label_at r b
@@ -195,7 +198,7 @@ owing_given {t} facts at rank turn f bytes {h} lt within owed owing = record {
     more true d e h k = refl
     more false d e h k = k h
 
-pub roomy_given : {t : Turns} {r : Region} (facts : List Fact) (at rank turn : ℕ) (f : Fact) {h g : Held} {r2 : Region} {low spare pins : ℕ} → at < length facts → g.room ≡ h.room - 1 → 0 < spare → usable_count low r2 + 1 ≡ usable_count low r → Roomy h t r facts low spare pins → Roomy g (changed t turn rank) r2 (set facts at f) low (spare - 1) pins
+pub roomy_given : {t : Turns} {r : Region} (facts : List Fact) (at rank turn : ℕ) (f : Fact) {h g : Held} {r2 : Region} {low spare pins more : ℕ} → at < length facts → g.room ≡ h.room - 1 → 0 < spare → usable_count low r2 + 1 ≡ usable_count low r → Roomy h t r facts low spare pins more → Roomy g (changed t turn rank) r2 (set facts at f) low (spare - 1) pins more
 roomy_given {t} facts at rank turn f lt room some less roomy =
     let b = roomy.buffer_room in
     let u = roomy.turn_room in

@@ -14,14 +14,17 @@ use Rattle.fo_order.specs.Keeps.{Turns}
 use Rattle.fo_order.specs.Turns.{flag_at}
 use Rattle.fo_labels.specs.Region.{Region}
 use Rattle.fo_slots.specs.Read.{read}
+use Rattle.fo_facts.specs.Known.{fact_at, no_fact, owing_as}
+use Rattle.fo_facts.specs.Counts.{owes}
 use Rattle.fo_bring.specs.Blocks.{IsData, Good}
 use Rattle.fo_bring.specs.Holds.{Others, Brought}
 use Rattle.fo_bring.proofs.Bringing.{loaded_here}
 use Rattle.fo_bring.proofs.Buffering.{put_same, put_other}
-use Rattle.fo_mind.specs.declared.facts.Fact.{Fact}
-use Rattle.fo_mind.specs.declared.facts.Wait.{Wait}
-use Rattle.fo_mind.specs.Parts.{fact_at, label_at, no_fact, owing_as, is_active, IsPinned}
-use Rattle.fo_mind.specs.Sound.{Placed, Holding, Waiting, Owing, Roomy, owes}
+use Rattle.fo_facts.specs.declared.fact.Fact.{Fact}
+use Rattle.fo_waits.specs.declared.listed.Wait.{Wait}
+use Rattle.fo_waits.specs.Listed.{is_active}
+use Rattle.fo_mind.specs.Parts.{label_at, IsPinned}
+use Rattle.fo_mind.specs.Sound.{Placed, Holding, Waiting, Owing, Roomy}
 
 same_some : (x y : Buffer) → Some x ≡ Some y → x ≡ y
 same_some x y e = cc
@@ -110,7 +113,7 @@ holding_same same holding = record {
 pub owing_same : {turns : Turns} {facts : List Fact} {old new : Held} → ((q : ℕ) → held_at new q ≡ held_at old q) → Owing old turns facts → Owing new turns facts
 owing_same same owing = record { each = λ b x is pinned. owing.each b x (sym (same b) ∙ is) pinned }
 
-pub roomy_same : {old new : Held} {turns : Turns} {region : Region} {facts : List Fact} {low spare pins : ℕ} → new.room ≡ old.room → Roomy old turns region facts low spare pins → Roomy new turns region facts low spare pins
+pub roomy_same : {old new : Held} {turns : Turns} {region : Region} {facts : List Fact} {low spare pins more : ℕ} → new.room ≡ old.room → Roomy old turns region facts low spare pins more → Roomy new turns region facts low spare pins more
 roomy_same same roomy = record { buffer_room = let r = roomy.buffer_room in omega (arith, r, same); turn_room = roomy.turn_room; usable = roomy.usable }
 
 -- what was not held was not waited for
@@ -129,7 +132,7 @@ owed_more facts at f lt =
     most false = omega arith
 
 -- one pin is taken: a buffer and a turn
-pub roomy_less : {old new : Held} {turns : Turns} {region : Region} (facts : List Fact) (at : ℕ) (f : Fact) {low spare pins : ℕ} → at < length facts → 0 < pins → old.room ≤ new.room + 1 → Roomy old turns region facts low spare pins → Roomy new turns region (set facts at f) low spare (pins - 1)
+pub roomy_less : {old new : Held} {turns : Turns} {region : Region} (facts : List Fact) (at : ℕ) (f : Fact) {low spare pins more : ℕ} → at < length facts → 0 < pins → old.room ≤ new.room + 1 → Roomy old turns region facts low spare pins more → Roomy new turns region (set facts at f) low spare (pins - 1) more
 roomy_less facts at f lt some room roomy =
     let r = roomy.buffer_room in
     let t = roomy.turn_room in
@@ -228,8 +231,11 @@ module _ {region : Region} {turns : Turns} (facts new : List Fact) (at rank : �
   pub placed_owed : {first count : ℕ} → Placed region turns facts first count → Placed region turns new first count
   placed_owed {first} {count} placed = subst (λ (fs : List Fact). Placed region turns fs first count) (sym is) (placed_set facts at (owing_as rank (fact_at facts at)) placed)
 
-  pub roomy_owed : {h g : Held} {low spare pins : ℕ} → 0 < pins → h.room ≤ g.room + 1 → Roomy h turns region facts low spare pins → Roomy g turns region new low spare (pins - 1)
-  roomy_owed {h} {g} {low} {spare} {pins} some room roomy = subst (λ (fs : List Fact). Roomy g turns region fs low spare (pins - 1)) (sym is) (roomy_less facts at (owing_as rank (fact_at facts at)) lt some room roomy)
+  pub roomy_owed : {h g : Held} {low spare pins more : ℕ} → 0 < pins → h.room ≤ g.room + 1 → Roomy h turns region facts low spare pins more → Roomy g turns region new low spare (pins - 1) more
+  roomy_owed {h} {g} {low} {spare} {pins} {more} some room roomy = subst (λ (fs : List Fact). Roomy g turns region fs low spare (pins - 1) more) (sym is) (roomy_less facts at (owing_as rank (fact_at facts at)) lt some room roomy)
 
 pub owing_owed : {turns : Turns} (facts new : List Fact) (at rank : ℕ) → at < length facts → new ≡ set facts at (owing_as rank (fact_at facts at)) → {h g : Held} → ((q : ℕ) → q ≢ at → held_at g q ≡ held_at h q) → Owing h turns facts → Owing g turns new
 owing_owed {turns} facts new at rank lt is {h} {g} others owing = subst (λ (fs : List Fact). Owing g turns fs) (sym is) (owing_more others facts rank lt owing)
+
+pub roomy_fewer : {held : Held} {turns : Turns} {region : Region} {facts : List Fact} {low spare pins more less : ℕ} → less ≤ more → Roomy held turns region facts low spare pins more → Roomy held turns region facts low spare pins less
+roomy_fewer le roomy = record { buffer_room = roomy.buffer_room; turn_room = let r = roomy.turn_room in omega (arith, r, le); usable = roomy.usable }

@@ -16,12 +16,15 @@ use Rattle.fo_order.specs.Turns.{IsSynced, flag_at, wrote}
 use Rattle.fo_order.proofs.Keeping.{in_range}
 use Rattle.fo_labels.specs.Region.{Region}
 use Rattle.fo_slots.specs.Read.{read}
+use Rattle.fo_facts.specs.Known.{fact_at, no_fact, written_as}
+use Rattle.fo_facts.specs.Counts.{owes}
 use Rattle.fo_bring.specs.Blocks.{Good}
-use Rattle.fo_mind.specs.declared.facts.Fact.{Fact}
-use Rattle.fo_mind.specs.declared.facts.Wait.{Wait}
-use Rattle.fo_mind.specs.Parts.{Parts, fact_at, is_active, label_at, no_fact}
-use Rattle.fo_mind.specs.Sound.{Placed, Holding, Waiting, Owing, Roomy, owes}
-use Rattle.fo_mind.specs.Turning.{KeepsTurn, is_pinned_at, written_fact}
+use Rattle.fo_facts.specs.declared.fact.Fact.{Fact}
+use Rattle.fo_waits.specs.declared.listed.Wait.{Wait}
+use Rattle.fo_waits.specs.Listed.{is_active}
+use Rattle.fo_mind.specs.Parts.{Parts, label_at}
+use Rattle.fo_mind.specs.Sound.{Placed, Holding, Waiting, Owing, Roomy}
+use Rattle.fo_mind.specs.Turning.{KeepsTurn, is_pinned_at}
 use Rattle.fo_mind.proofs.Keeping.{waiting_like}
 use Rattle.fo_mind.proofs.Turning.{Settles, settles_of, landed_other, missed_here, missed_other, other_written}
 
@@ -80,9 +83,9 @@ module _ {at : ℕ} {linked : Bool} {old new : Held} (s : Settles at linked old 
       still false o f t = t
 
   -- it is pinned where it was
-  pub owing_landed : {t : Turns} (facts : List Fact) → at < length facts → at < length t.flags → Owing old t facts → Owing new (wrote t at true) (set facts at (written_fact (is_pinned_at old at) (fact_at facts at)))
+  pub owing_landed : {t : Turns} (facts : List Fact) → at < length facts → at < length t.flags → Owing old t facts → Owing new (wrote t at true) (set facts at (written_as (is_pinned_at old at) (fact_at facts at)))
   owing_landed {t} facts lt within owing =
-      let f = written_fact (is_pinned_at old at) (fact_at facts at) in
+      let f = written_as (is_pinned_at old at) (fact_at facts at) in
       record {
         each = λ b x is pinned.
             let w = from_held b x is in
@@ -101,9 +104,9 @@ module _ {at : ℕ} {linked : Bool} {old new : Held} (s : Settles at linked old 
       kept false true d e = refl
       kept false false d e = absurd (cc)
 
-pub owing_missed : {at : ℕ} {held : Held} {t : Turns} (facts : List Fact) → at < length facts → at < length t.flags → Owing held t facts → Owing held (wrote t at false) (set facts at (written_fact false (fact_at facts at)))
+pub owing_missed : {at : ℕ} {held : Held} {t : Turns} (facts : List Fact) → at < length facts → at < length t.flags → Owing held t facts → Owing held (wrote t at false) (set facts at (written_as false (fact_at facts at)))
 owing_missed {at} {held} {t} facts lt within owing =
-    let f = written_fact false (fact_at facts at) in
+    let f = written_as false (fact_at facts at) in
     record {
       each = λ b x is pinned. ⊎_elim
           (λ e. subst (λ n. ((fact_at (set facts at f) n).owes || (flag_at (wrote t at false) n).dirty) ≡ true) (sym e)
@@ -118,9 +121,9 @@ owing_missed {at} {held} {t} facts lt within owing =
     right true b e = refl
     right false b e = e
 
-pub roomy_landed : {h g : Held} {t : Turns} {region : Region} {low spare pins : ℕ} (facts : List Fact) (at : ℕ) (pinned : Bool) → at < length facts → g.room ≡ h.room → (pinned ≡ true → count_by owes facts + (2 * spare + pins) < t.room)
-    → Roomy h t region facts low spare pins → Roomy g (wrote t at true) region (set facts at (written_fact pinned (fact_at facts at))) low spare pins
-roomy_landed {h} {g} {t} {region} {low} {spare} {pins} facts at pinned lt same more roomy =
+pub roomy_landed : {h g : Held} {t : Turns} {region : Region} {low spare pins more : ℕ} (facts : List Fact) (at : ℕ) (pinned : Bool) → at < length facts → g.room ≡ h.room → (pinned ≡ true → count_by owes facts + (2 * spare + pins + more) < t.room)
+    → Roomy h t region facts low spare pins more → Roomy g (wrote t at true) region (set facts at (written_as pinned (fact_at facts at))) low spare pins more
+roomy_landed {h} {g} {t} {region} {low} {spare} {pins} {more} facts at pinned lt same room roomy =
     let b = roomy.buffer_room in
     record { buffer_room = omega (arith, b, same); turn_room = by pinned refl; usable = roomy.usable }
   where
@@ -130,24 +133,24 @@ roomy_landed {h} {g} {t} {region} {low} {spare} {pins} facts at pinned lt same m
     more_owed false true = omega arith
     more_owed false false = omega arith
 
-    last : (p : Bool) → pinned ≡ p → count_by owes (set facts at (written_fact pinned (fact_at facts at))) + cond {A = ℕ} (owes (fact_at facts at)) 1 0 ≡ count_by owes facts + cond {A = ℕ} (owes (written_fact pinned (fact_at facts at))) 1 0
-        → cond {A = ℕ} ((fact_at facts at).owes || pinned) 1 0 ≤ cond (fact_at facts at).owes 1 0 + cond pinned 1 0 → cond {A = ℕ} pinned 1 0 ≡ cond p 1 0 → count_by owes facts + (2 * spare + pins) ≤ t.room → count_by owes (set facts at (written_fact pinned (fact_at facts at))) + (2 * spare + pins) ≤ t.room
-    last true is e m k r = let n = more is in omega (arith, e, m, k, n)
+    last : (p : Bool) → pinned ≡ p → count_by owes (set facts at (written_as pinned (fact_at facts at))) + cond {A = ℕ} (owes (fact_at facts at)) 1 0 ≡ count_by owes facts + cond {A = ℕ} (owes (written_as pinned (fact_at facts at))) 1 0
+        → cond {A = ℕ} ((fact_at facts at).owes || pinned) 1 0 ≤ cond (fact_at facts at).owes 1 0 + cond pinned 1 0 → cond {A = ℕ} pinned 1 0 ≡ cond p 1 0 → count_by owes facts + (2 * spare + pins + more) ≤ t.room → count_by owes (set facts at (written_as pinned (fact_at facts at))) + (2 * spare + pins + more) ≤ t.room
+    last true is e m k r = let n = room is in omega (arith, e, m, k, n)
     last false is e m k r = omega (arith, e, m, k, r)
 
-    by : (p : Bool) → pinned ≡ p → count_by owes (set facts at (written_fact pinned (fact_at facts at))) + (2 * spare + pins) ≤ t.room
+    by : (p : Bool) → pinned ≡ p → count_by owes (set facts at (written_as pinned (fact_at facts at))) + (2 * spare + pins + more) ≤ t.room
     by p is =
         let r = roomy.turn_room in
-        let e = sum_by-set (λ (x : Fact). cond (owes x) 1 0) facts at (written_fact pinned (fact_at facts at)) no_fact lt in
+        let e = sum_by-set (λ (x : Fact). cond (owes x) 1 0) facts at (written_as pinned (fact_at facts at)) no_fact lt in
         let m = more_owed (fact_at facts at).owes pinned in
         let k : cond {A = ℕ} pinned 1 0 ≡ cond p 1 0 = ap (λ b. cond {A = ℕ} b 1 0) is in
         last p is e m k r
 
-pub roomy_missed : {h : Held} {t : Turns} {region : Region} {low spare pins : ℕ} (facts : List Fact) (at : ℕ) → at < length facts
-    → Roomy h t region facts low spare pins → Roomy h (wrote t at false) region (set facts at (written_fact false (fact_at facts at))) low spare pins
+pub roomy_missed : {h : Held} {t : Turns} {region : Region} {low spare pins more : ℕ} (facts : List Fact) (at : ℕ) → at < length facts
+    → Roomy h t region facts low spare pins more → Roomy h (wrote t at false) region (set facts at (written_as false (fact_at facts at))) low spare pins more
 roomy_missed facts at lt roomy =
     let r = roomy.turn_room in
-    let e = sum_by-set (λ (x : Fact). cond (owes x) 1 0) facts at (written_fact false (fact_at facts at)) no_fact lt in
+    let e = sum_by-set (λ (x : Fact). cond (owes x) 1 0) facts at (written_as false (fact_at facts at)) no_fact lt in
     let same = one (fact_at facts at).owes in
     record { buffer_room = roomy.buffer_room; turn_room = omega (arith, r, e, same); usable = roomy.usable }
   where
@@ -169,15 +172,15 @@ placed_synced s placed = record {
 pub owing_synced : {h : Held} {t u : Turns} {facts : List Fact} → IsSynced t u → Owing h t facts → Owing h u facts
 owing_synced {h} {t} {u} {facts} s owing = record { each = λ b x is pinned. ap (λ (f : Flags). (fact_at facts b).owes || f.dirty) (s.each b) ∙ owing.each b x is pinned }
 
-pub roomy_synced : {h : Held} {t u : Turns} {region : Region} {facts : List Fact} {low spare pins : ℕ} → IsSynced t u → Roomy h t region facts low spare pins → Roomy h u region facts low spare pins
+pub roomy_synced : {h : Held} {t u : Turns} {region : Region} {facts : List Fact} {low spare pins more : ℕ} → IsSynced t u → Roomy h t region facts low spare pins more → Roomy h u region facts low spare pins more
 roomy_synced s roomy = record { buffer_room = roomy.buffer_room; turn_room = let r = roomy.turn_room in let e = s.room in omega (arith, r, e); usable = roomy.usable }
 
 -- what a landing leaves, of calls that say it by their results
 pub settles_landed : (facts : List Fact) (at : ℕ) (old new : Held) {linked : Bool} → linked ≡ (fact_at facts at).linked → new ≡ cond linked (updated old at settled) old → Settles at (fact_at facts at).linked old new
 settles_landed facts at old new {linked} is e = settles_of at (fact_at facts at).linked old new (e ∙ ap (λ (b : Bool). cond b (updated old at settled) old) is)
 
-pub facts_landed : (facts : List Fact) (at : ℕ) (held : Held) (new : List Fact) {pinned : Bool} → pinned ≡ is_pinned_at held at → new ≡ set facts at (written_fact pinned (fact_at facts at)) → new ≡ set facts at (written_fact (is_pinned_at held at) (fact_at facts at))
-facts_landed facts at held new {pinned} is e = e ∙ ap (λ (b : Bool). set facts at (written_fact b (fact_at facts at))) is
+pub facts_landed : (facts : List Fact) (at : ℕ) (held : Held) (new : List Fact) {pinned : Bool} → pinned ≡ is_pinned_at held at → new ≡ set facts at (written_as pinned (fact_at facts at)) → new ≡ set facts at (written_as (is_pinned_at held at) (fact_at facts at))
+facts_landed facts at held new {pinned} is e = e ∙ ap (λ (b : Bool). set facts at (written_as b (fact_at facts at))) is
 
 -- room was made, or nothing changed
 pub same_turn : (p q : Parts) → q ≡ p → KeepsTurn p q

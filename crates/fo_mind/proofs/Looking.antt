@@ -68,12 +68,15 @@ module _ (p q : Parts) (at : ℕ) (b : Brings at p q) where
           labels = λ k _. refl;
           marks = λ k _. (pinned_stays k, λ h. m.sealed k ∙ h, λ h. m.fresh k ∙ h);
           places = λ t. absurd t;
+          rooted = λ t. absurd t;
+          newborn = λ k _ h. sym (m.linked k) ∙ h;
           apart = λ k _ _. (λ h. sym (m.apart k) ∙ h, λ h. m.apart k ∙ h);
           instead = λ k x _ _. (λ h. (sym (m.apart k) ∙ h.0, sym (m.origin k) ∙ h.1), λ h. (m.apart k ∙ h.0, m.origin k ∙ h.1));
           waits = λ a on j _ _ _ w. w;
         };
         order = record { clearing = λ k j h. (λ none. none, h); goes_on = λ k j _ h. h };
         covered = record { covered = λ k. (λ h. h, λ h. h) };
+        newborn = λ k h. m.linked k ∙ h;
         no_wait = record { each = λ a on j _ w. w };
         dirty = dirty_was;
         room = (refl, refl);
@@ -89,6 +92,7 @@ module _ (p q : Parts) (at : ℕ) (b : Brings at p q) where
     first = ap (λ (z : Parts). z.region.first) b.rest;
     count = ap (λ (z : Parts). length z.region.labels) b.rest;
     high = ap (λ (z : Parts). z.one.high) b.rest;
+    low = ap (λ (z : Parts). z.one.low) b.rest;
     root = ap (λ (z : Parts). z.one.active) b.rest;
     faults = b.faults;
   }

@@ -20,19 +20,25 @@ use Rattle.fo_crash.specs.Steps.{PutsBytes}
 use Rattle.fo_slots.specs.Read.{blanked, read}
 use Rattle.fo_ports.specs.Blocks.{ReadsSlots, MayPut, put_at}
 use Rattle.fo_ports.specs.State.{AddsNoWait, Calm, none}
+use Rattle.fo_facts.specs.Known.{fact_at, no_fact}
+use Rattle.fo_facts.specs.Counts.{owes}
 use Rattle.fo_bring.specs.Blocks.{Good, HasZeros}
 use Rattle.fo_bring.proofs.Buffering.{put_same, put_other}
-use Rattle.fo_mind.specs.declared.facts.Fact.{Fact}
-use Rattle.fo_mind.specs.declared.facts.Wait.{Wait}
-use Rattle.fo_mind.specs.Parts.{Parts, state_of, IsDirty, IsPinned, Listed, bytes_of, content_at, fact_at, label_at, memory, no_fact, is_active, one_content}
-use Rattle.fo_mind.specs.Sound.{Placed, Holding, Waiting, Owing, Roomy, owes}
+use Rattle.fo_facts.specs.declared.fact.Fact.{Fact}
+use Rattle.fo_waits.specs.declared.listed.Wait.{Wait}
+use Rattle.fo_waits.specs.Listed.{Listed, is_active}
+use Rattle.fo_mind.specs.Parts.{Parts, state_of, IsDirty, IsHeld, IsPinned, bytes_of, content_at, label_at, memory, one_content}
+use Rattle.fo_mind.specs.Sound.{Placed, Holding, Waiting, Owing, Roomy}
 use Rattle.fo_mind.specs.Frames.{SameMarks}
 use Rattle.fo_mind.specs.Changes.{Refilled, takes_turn, turned, turned_facts}
-use Rattle.fo_mind.specs.Laws.{beyond, held_content, pinned_held}
+use Rattle.fo_mind.specs.Laws.{beyond, held_content, held_pinned, pinned_held, some_held}
 use Rattle.fo_mind.proofs.Keeping.{holding_more}
 use Rattle.fo_mind.proofs.Getting.{same_marks}
 use Rattle.fo_mind.proofs.Giving.{change_count, change_other}
 use Rattle.fo_mind.proofs.Putting.{blanked_put}
+
+same_some : (x y : Buffer) → Some x ≡ Some y → x ≡ y
+same_some x y e = cc
 
 -- ---- the buffer
 
@@ -40,7 +46,6 @@ pub record Refills (at : ℕ) (bytes : List ℕ) (old new : Held) : Type 0 where
   pub was : Buffer
   pub held : held_at old at ≡ Some was
   pub here : held_at new at ≡ Some (record { block = bytes; dirty = true; pinned = was.pinned })
-  pub pinned : was.pinned ≡ true
   pub others : (q : ℕ) → q ≢ at → held_at new q ≡ held_at old q
   pub clean : new.clean ≡ old.clean
   pub room : new.room ≡ old.room
@@ -50,9 +55,9 @@ whole bytes was same =
     let e : 0 + length bytes ≡ length was = omega (arith, same) in
     ap (λ (d : List ℕ). bytes ++ d) (drop_all (0 + length bytes) was (omega (arith, e))) ∙ append-nil bytes
 
-pub refills_of : {low first count : ℕ} {region : Region} (at : ℕ) (bytes : List ℕ) (old new : Held) → Holding low first count region old → IsPinned old at → length bytes ≡ 8192 → new ≡ updated old at (with_bytes 0 bytes) → Refills at bytes old new
-refills_of at bytes old new holding pinned long is =
-    let x = pinned_held (held_at old at) pinned in
+pub refills_of : {low first count : ℕ} {region : Region} (at : ℕ) (bytes : List ℕ) (old new : Held) → Holding low first count region old → IsHeld old at → length bytes ≡ 8192 → new ≡ updated old at (with_bytes 0 bytes) → Refills at bytes old new
+refills_of at bytes old new holding some long is =
+    let x = some_held (held_at old at) some in
     let good = holding.good at x.0 x.1 in
     let l = good.long in
     let e : updated old at (with_bytes 0 bytes) ≡ put old at (with_bytes 0 bytes x.0) = ap (λ (o : Option Buffer). option_map_or (λ b. put old at (with_bytes 0 bytes b)) o old) x.1 in
@@ -61,7 +66,6 @@ refills_of at bytes old new holding pinned long is =
       was = x.0;
       held = x.1;
       here = ap (λ (h : Held). held_at h at) all ∙ put_same old at (with_bytes 0 bytes x.0) ∙ ap (λ (b : List ℕ). Some (record { block = b; dirty = true; pinned = x.0.pinned })) (whole bytes x.0.block (omega (arith, l, long)));
-      pinned = x.2;
       others = λ q ne. ap (λ (h : Held). held_at h q) all ∙ put_other old at (with_bytes 0 bytes x.0) q ne;
       clean = ap (λ (h : Held). h.clean) all;
       room = ap (λ (h : Held). h.room) all;
@@ -84,14 +88,18 @@ module _ {at : ℕ} {bytes : List ℕ} {old new : Held} (r : Refills at bytes ol
 -- ---- the turn
 
 -- a block of which memory is known to have a turn, or for which a unit of room is kept
-pub turn_room : {held : Held} {turns : Turns} {region : Region} {low spare pins : ℕ} (facts : List Fact) (at : ℕ) → at < length facts → IsPinned held at → Owing held turns facts → Roomy held turns region facts low spare pins → takes_turn facts turns at ≡ true → 0 < turns.room
-turn_room {held} {turns} facts at lt pinned owing roomy takes =
-    let x = pinned_held (held_at held at) pinned in
-    let owed = due (fact_at facts at).linked (fact_at facts at).owes (flag_at turns at).dirty takes (owing.each at x.0 x.1 x.2) in
+pub turn_room : {held : Held} {turns : Turns} {region : Region} {low spare pins more : ℕ} (facts : List Fact) (at : ℕ) → at < length facts → Roomy held turns region facts low spare pins more → (fact_at facts at).owes ≡ true → 0 < turns.room
+turn_room {held} {turns} facts at lt roomy owed =
     let le = get_or-le-sum_by (λ (f : Fact). cond (owes f) 1 0) facts at no_fact lt in
     let one : cond {A = ℕ} (owes (fact_at facts at)) 1 0 ≡ 1 = ap (λ b. cond {A = ℕ} b 1 0) owed in
     let room = roomy.turn_room in
     omega (arith, le, one, room)
+
+-- a pinned block that has no turn owes one
+pub owed_pinned : {held : Held} {turns : Turns} (facts : List Fact) (at : ℕ) → IsPinned held at → Owing held turns facts → takes_turn facts turns at ≡ true → (fact_at facts at).owes ≡ true
+owed_pinned {held} {turns} facts at pinned owing takes =
+    let x = pinned_held (held_at held at) pinned in
+    due (fact_at facts at).linked (fact_at facts at).owes (flag_at turns at).dirty takes (owing.each at x.0 x.1 x.2)
   where
     due : (l o d : Bool) → (l && not d) ≡ true → (o || d) ≡ true → o ≡ true
     due true true d e f = refl
@@ -150,21 +158,13 @@ module _ (facts : List Fact) (t : Turns) (at : ℕ) (lt : at < length facts) (wi
       or_right true b e = refl
       or_right false b e = e
 
-  pub roomy_turned : {held : Held} {region : Region} {low spare pins : ℕ} → IsPinned held at → Owing held t facts → Roomy held t region facts low spare pins → Roomy held (turned facts t at) region (turned_facts facts t at) low spare pins
-  roomy_turned {held} {region} {low} {spare} {pins} pinned owing roomy = by_case (λ (x : Turns) (fs : List Fact). Roomy held x region fs low spare pins) (λ _. roomy) (λ e.
-      let x = pinned_held (held_at held at) pinned in
-      let owed = due (fact_at facts at).linked (fact_at facts at).owes (flag_at t at).dirty e (owing.each at x.0 x.1 x.2) in
+  pub roomy_turned : {held : Held} {region : Region} {low spare pins more : ℕ} → (takes_turn facts t at ≡ true → (fact_at facts at).owes ≡ true) → Roomy held t region facts low spare pins more → Roomy held (turned facts t at) region (turned_facts facts t at) low spare pins more
+  roomy_turned {held} {region} {low} {spare} {pins} {more} owed roomy = by_case (λ (x : Turns) (fs : List Fact). Roomy held x region fs low spare pins more) (λ _. roomy) (λ e.
       let sums = sum_by-set (λ (f : Fact). cond (owes f) 1 0) facts at (record (fact_at facts at) { owes = false }) no_fact lt in
-      let one : cond {A = ℕ} (owes (fact_at facts at)) 1 0 ≡ 1 = ap (λ b. cond {A = ℕ} b 1 0) owed in
+      let one : cond {A = ℕ} (owes (fact_at facts at)) 1 0 ≡ 1 = ap (λ b. cond {A = ℕ} b 1 0) (owed e) in
       let room = ap (λ (z : Turns). z.room) (has_turn (not_dirty e)) in
       let was = roomy.turn_room in
       record { buffer_room = roomy.buffer_room; turn_room = omega (arith, sums, one, room, was); usable = roomy.usable })
-    where
-      due : (l o d : Bool) → (l && not d) ≡ true → (o || d) ≡ true → o ≡ true
-      due true true d e f = refl
-      due true false true e f = absurd (cc)
-      due true false false e f = absurd (cc)
-      due false o d e f = absurd (cc)
 
   pub marks_turned : SameMarks facts (turned_facts facts t at)
   marks_turned = by_case (λ (x : Turns) (fs : List Fact). SameMarks facts fs) (λ _. same_marks facts facts refl) (λ _. record {
@@ -188,17 +188,17 @@ module _ (facts : List Fact) (t : Turns) (at : ℕ) (lt : at < length facts) (wi
 pub owing_refilled : {at : ℕ} {bytes : List ℕ} {old new : Held} {t : Turns} {facts : List Fact} → Refills at bytes old new → Owing old t facts → Owing new t facts
 owing_refilled {at} {bytes} {old} {new} {t} {facts} r owing = record {
   each = λ b x is pinned. ⊎_elim
-      (λ e. subst (λ n. ((fact_at facts n).owes || (flag_at t n).dirty) ≡ true) (sym e) (owing.each at r.was r.held r.pinned))
+      (λ e. subst (λ n. ((fact_at facts n).owes || (flag_at t n).dirty) ≡ true) (sym e) (owing.each at r.was r.held (ap (λ (z : Buffer). z.pinned) (same_some (record { block = bytes; dirty = true; pinned = r.was.pinned }) x (sym r.here ∙ ap (held_at new) (sym e) ∙ is)) ∙ pinned)))
       (λ ne. owing.each b x (sym (r.others b ne) ∙ is) pinned)
       (cases_eq b at);
 }
 
-pub roomy_refilled : {at : ℕ} {bytes : List ℕ} {old new : Held} {t : Turns} {region : Region} {facts : List Fact} {low spare pins : ℕ} → Refills at bytes old new → Roomy old t region facts low spare pins → Roomy new t region facts low spare pins
+pub roomy_refilled : {at : ℕ} {bytes : List ℕ} {old new : Held} {t : Turns} {region : Region} {facts : List Fact} {low spare pins more : ℕ} → Refills at bytes old new → Roomy old t region facts low spare pins more → Roomy new t region facts low spare pins more
 roomy_refilled r roomy = record { buffer_room = let b = roomy.buffer_room in let e = r.room in omega (arith, b, e); turn_room = roomy.turn_room; usable = roomy.usable }
 
 -- it is pinned still
-pub pinned_refilled : {at : ℕ} {bytes : List ℕ} {old new : Held} → Refills at bytes old new → IsPinned new at
-pinned_refilled r = ap (λ (o : Option Buffer). option_map_or is_pinned o false) r.here ∙ r.pinned
+pub pinned_refilled : {at : ℕ} {bytes : List ℕ} {old new : Held} → Refills at bytes old new → IsPinned old at → IsPinned new at
+pinned_refilled r pinned = ap (λ (o : Option Buffer). option_map_or is_pinned o false) r.here ∙ sym (ap (λ (o : Option Buffer). option_map_or is_pinned o false) r.held) ∙ pinned
 
 -- ---- what calls on blocks see
 
@@ -239,11 +239,11 @@ module _ (p : Parts) (first count at : ℕ) (bytes : List ℕ) (g : Held) (t : T
 
   pinned_stays : (b : ℕ) → IsPinned p.held b → IsPinned g b
   pinned_stays b pinned = ⊎_elim
-      (λ e. subst (IsPinned g) (sym e) (pinned_refilled r))
+      (λ e. subst (IsPinned g) (sym e) (pinned_refilled r (subst (IsPinned p.held) e pinned)))
       (λ ne. ap (λ (o : Option Buffer). option_map_or is_pinned o false) (r.others b ne) ∙ pinned)
       (cases_eq b at)
 
-  dirty_was : (b : ℕ) → IsDirty t g b → IsDirty p.turns p.held b ⊎ (b ≡ at)
+  pub dirty_was : (b : ℕ) → IsDirty t g b → IsDirty p.turns p.held b ⊎ (b ≡ at)
   dirty_was b d = ⊎_elim
       (λ e. inr e)
       (λ ne. inl (⊎_elim
@@ -259,6 +259,8 @@ module _ (p : Parts) (first count at : ℕ) (bytes : List ℕ) (g : Held) (t : T
         labels = λ b _. refl;
         marks = λ b _. (pinned_stays b, λ h. marks.sealed b ∙ h, λ h. marks.fresh b ∙ h);
         places = λ t. absurd t;
+        rooted = λ t. absurd t;
+        newborn = λ b _ h. sym (marks.linked b) ∙ h;
         apart = λ b _ _. (λ h. sym (marks.apart b) ∙ h, λ h. marks.apart b ∙ h);
         instead = λ b x _ _. (λ h. (sym (marks.apart b) ∙ h.0, sym (marks.origin b) ∙ h.1), λ h. (marks.apart b ∙ h.0, marks.origin b ∙ h.1));
         waits = λ a on j _ _ _ w. w;
@@ -269,6 +271,7 @@ module _ (p : Parts) (first count at : ℕ) (bytes : List ℕ) (g : Held) (t : T
     };
     order = record { clearing = λ b j h. (λ none. none, h); goes_on = λ b j _ h. h };
     covered = record { covered = λ b. (λ h. h, λ h. h) };
+    newborn = λ b h. marks.linked b ∙ h;
     queued = refl;
   }
 
@@ -295,9 +298,9 @@ used_put {region} {held} {waits} at old new is same waiting a k w = ap is_active
     by (Some x) e h = let it : x.block ≡ old = cc in subst (λ (b : List ℕ). is_active ((read (label_at region at).kind b).slot (2 * k)) ≡ true) it h
     by None e h = absurd (cc)
 
-pub within_facts : {region : Region} {t : Turns} {facts : List Fact} {held : Held} {low first count : ℕ} (at : ℕ) → Placed region t facts first count → Holding low first count region held → IsPinned held at → (at < length facts) × (at < length t.flags)
-within_facts {held = held} at placed holding pinned =
-    let x = pinned_held (held_at held at) pinned in
+pub within_facts : {region : Region} {t : Turns} {facts : List Fact} {held : Held} {low first count : ℕ} (at : ℕ) → Placed region t facts first count → Holding low first count region held → IsHeld held at → (at < length facts) × (at < length t.flags)
+within_facts {held = held} at placed holding some =
+    let x = some_held (held_at held at) some in
     let lt = (holding.block at x.0 x.1).1 in
     let n = placed.fact_count in
     let m = placed.flag_count in
@@ -307,9 +310,10 @@ pub put_result : (p q : Parts) (first count at from : ℕ) (bs old new : List �
     → MayPut (label_at p.region at).kind from (from + length bs) → ((i : ℕ) → (read (label_at p.region at).kind new).slot i ≡ (read (label_at p.region at).kind old).slot i) → Refilled at new p q
     → PutsBytes at (put_at from bs ((memory p at).bytes)) (memory p) (memory q) × Calm (λ b. b ≡ at) 0 (state_of p) (state_of q)
 put_result p q first count at from bs old new placed holding pinned copy long is may same g =
-    let r = refills_of at new p.held q.held holding pinned long g.held in
+    let some = held_pinned p.held at pinned in
+    let r = refills_of at new p.held q.held holding some long g.held in
     let it : old ≡ r.was.block = was r.was (copy ∙ ap (option_map block_in) r.held) in
-    let w = within_facts at placed holding pinned in
+    let w = within_facts at placed holding some in
     let marks = subst (SameMarks p.facts) (sym g.facts) (marks_turned p.facts p.turns at w.0 w.1) in
     let turns : (b : ℕ) → b ≢ at → flag_at q.turns b ≡ flag_at p.turns b = λ b ne. ap (λ (t : Turns). flag_at t b) g.turns ∙ flags_turned p.facts p.turns at w.0 w.1 b ne in
     subst (λ (z : Parts). PutsBytes at (put_at from bs ((memory p at).bytes)) (memory p) (memory z) × Calm (λ b. b ≡ at) 0 (state_of p) (state_of z)) (sym g.rest) (

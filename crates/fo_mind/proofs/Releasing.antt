@@ -15,9 +15,12 @@ use Rattle.fo_order.specs.Turns.{flag_at}
 use Rattle.fo_labels.specs.Region.{Region}
 use Rattle.fo_slots.specs.Read.{read}
 use Rattle.fo_bring.proofs.Buffering.{cut_other, cut_same}
-use Rattle.fo_mind.specs.declared.facts.Fact.{Fact}
-use Rattle.fo_mind.specs.declared.facts.Wait.{Wait}
-use Rattle.fo_mind.specs.Parts.{Listed, Parts, is_active, label_at}
+use Rattle.fo_facts.specs.declared.fact.Fact.{Fact}
+use Rattle.fo_facts.specs.Known.{fact_at}
+use Rattle.fo_waits.specs.declared.listed.Wait.{Wait}
+use Rattle.fo_waits.specs.declared.listed.Clearing.{Clearing}
+use Rattle.fo_waits.specs.Listed.{Listed, is_active}
+use Rattle.fo_mind.specs.Parts.{Parts, label_at}
 use Rattle.fo_mind.specs.Sound.{Holding, Waiting, Owing}
 use Rattle.fo_mind.specs.Turning.{Released, Turning, is_changed, is_settled, may_release}
 use Rattle.fo_mind.proofs.Keeping.{holding_less}
@@ -108,6 +111,8 @@ pub record MayBe (p : Parts) (at : ℕ) : Type 0 where
   pub calm : is_changed (held_at p.held at) ≡ false
   pub settled : (flag_at p.turns at).tried ≡ Settled
   pub unawaited : list_any (λ (w : Wait). w.on == at) p.waits ≡ false
+  pub uncleared : list_any (λ (c : Clearing). c.at == at) p.clears ≡ false
+  pub linked : (fact_at p.facts at).linked ≡ true
 
 pub may_be : (p : Parts) (at : ℕ) → may_release p at ≡ true → MayBe p at
 may_be p at e =
@@ -115,15 +120,16 @@ may_be p at e =
     let b = and_parts (not (is_changed (held_at p.held at))) _ a.1 in
     let c = and_parts (is_settled (flag_at p.turns at).tried) _ b.1 in
     let d = and_parts (not (list_any (λ (w : Wait). w.on == at) p.waits)) _ c.1 in
-    by (held_at p.held at) refl a.0 b.0 c.0 (not_true (list_any (λ (w : Wait). w.on == at) p.waits) d.0)
+    let f = and_parts (not (list_any (λ (c : Clearing). c.at == at) p.clears)) _ d.1 in
+    by (held_at p.held at) refl a.0 b.0 c.0 (not_true (list_any (λ (w : Wait). w.on == at) p.waits) d.0) (not_true (list_any (λ (c : Clearing). c.at == at) p.clears) f.0) f.1
   where
     tried : (t : Tried) → is_settled t ≡ true → t ≡ Settled
     tried Settled e = refl
     tried Written e = never e
     tried Failed e = never e
 
-    by : (o : Option Buffer) → held_at p.held at ≡ o → not (option_map_or is_pinned o true) ≡ true → not (is_changed o) ≡ true → is_settled (flag_at p.turns at).tried ≡ true → list_any (λ (w : Wait). w.on == at) p.waits ≡ false → MayBe p at
-    by (Some x) is free clean settled calm = record {
+    by : (o : Option Buffer) → held_at p.held at ≡ o → not (option_map_or is_pinned o true) ≡ true → not (is_changed o) ≡ true → is_settled (flag_at p.turns at).tried ≡ true → list_any (λ (w : Wait). w.on == at) p.waits ≡ false → list_any (λ (c : Clearing). c.at == at) p.clears ≡ false → (fact_at p.facts at).linked ≡ true → MayBe p at
+    by (Some x) is free clean settled calm still linked = record {
       was = x;
       held = is;
       unchanged = not_true x.dirty clean;
@@ -131,8 +137,10 @@ may_be p at e =
       calm = ap is_changed is ∙ not_true x.dirty clean;
       settled = tried (flag_at p.turns at).tried settled;
       unawaited = calm;
+      uncleared = still;
+      linked = linked;
     }
-    by None is free clean settled calm = never free
+    by None is free clean settled calm still linked = never free
 
 pub then_free : (o : Option Buffer) → is_some o ≡ true → not (option_map_or is_pinned o false) ≡ not (option_map_or is_pinned o true)
 then_free (Some x) e = refl

@@ -10,10 +10,12 @@ use Rattle.fo_buffers.specs.Held.{held_at}
 use Rattle.fo_order.specs.Flags.{quiet}
 use Rattle.fo_order.specs.Keeps.{Turns}
 use Rattle.fo_labels.specs.Region.{Region}
-use Rattle.fo_mind.specs.declared.facts.Fact.{Fact}
-use Rattle.fo_mind.specs.Parts.{count_of, no_fact}
+use Rattle.fo_facts.specs.declared.fact.Fact.{Fact}
+use Rattle.fo_facts.specs.Known.{no_fact}
+use Rattle.fo_facts.specs.Counts.{owes}
+use Rattle.fo_mind.specs.Parts.{count_of}
 use Rattle.fo_mind.specs.Opened.{no_buffers, no_turns}
-use Rattle.fo_mind.specs.Sound.{Placed, Holding, Waiting, Clearable, Owing, Roomy, owes}
+use Rattle.fo_mind.specs.Sound.{Placed, Holding, Waiting, Clearable, Owing, Roomy}
 
 none_some : {A : Type 0} (x : Buffer) → None ≡ Some x → A
 none_some x e = cc
@@ -43,12 +45,12 @@ pub waiting_opened : (r : Region) → Waiting r no_buffers []
 waiting_opened r = record { used = λ a on k w. absurd w; within = λ a on k w. absurd w }
 
 pub clearable_opened : (r : Region) (low high : ℕ) → Clearable r low high []
-clearable_opened r low high = record { each = λ b j w. absurd w; kept = λ b j w. absurd w }
+clearable_opened r low high = record { each = λ b j w. absurd w; kept = λ b j w. absurd w; within = λ b j w. absurd w }
 
 pub owing_opened : (n : ℕ) → Owing no_buffers (no_turns n) (replicate n no_fact)
 owing_opened n = record { each = λ b x is. none_some x (sym (none b) ∙ is) }
 
-pub roomy_opened : (r : Region) (n low : ℕ) → Roomy no_buffers (no_turns n) r (replicate n no_fact) low 0 0
+pub roomy_opened : (r : Region) (n low : ℕ) → Roomy no_buffers (no_turns n) r (replicate n no_fact) low 0 0 0
 roomy_opened r n low =
     let o : count_by owes (replicate n no_fact) ≡ n * 0 = sum_by-replicate (λ (f : Fact). cond (owes f) 1 0) n no_fact in
     record { buffer_room = omega arith; turn_room = omega (arith, o); usable = omega arith }

@@ -1,17 +1,18 @@
 -- What changes of counts leave.
-use Rattle.std.proofs.Common.{◌≡◌, ℕ, ◌+◌, inl, Bool, refl, arith}
+use Rattle.std.proofs.Common.{◌≡◌, ℕ, ◌+◌, inl, Bool, List, refl, arith}
+use Rattle.fo_unlink.specs.declared.removal.Removal.{Removal}
 use Rattle.fo_crash.specs.Images.{SameImage}
 use Rattle.fo_ports.specs.State.{AddsNoWait, Frame, KeepsCovered, KeepsOrder, Stays, Uses, none}
 use Rattle.fo_mind.specs.Parts.{Parts, CacheKeeps, memory, state_of}
 use Rattle.fo_mind.proofs.Looking.{same_content}
 
 -- only these differ
-abbrev but_counts : Parts → ℕ → Bool → ℕ → ℕ → Parts
-but_counts p next granted room queued = record p { next = next; granted = granted; room = room; queued = queued }
+abbrev but_counts : Parts → ℕ → Bool → ℕ → List Removal → Parts
+but_counts p next granted room removals = record p { next = next; granted = granted; room = room; removals = removals }
 
-module _ (p : Parts) (next : ℕ) (granted : Bool) (room queued : ℕ) where
+module _ (p : Parts) (next : ℕ) (granted : Bool) (room : ℕ) (removals : List Removal) where
   abbrev q : Parts
-  q = but_counts p next granted room queued
+  q = but_counts p next granted room removals
 
   pub image_counts : SameImage (memory q) (memory p)
   image_counts = record { each = λ b. same_content refl }
@@ -21,6 +22,8 @@ module _ (p : Parts) (next : ℕ) (granted : Bool) (room queued : ℕ) where
     labels = λ b _. refl;
     marks = λ b _. (λ h. h, λ h. h, λ h. h);
     places = λ t. absurd t;
+    rooted = λ t. absurd t;
+    newborn = λ b _ h. h;
     apart = λ b _ _. (λ h. h, λ h. h);
     instead = λ b x _ _. (λ h. h, λ h. h);
     waits = λ a on j _ _ _ w. w;
@@ -36,14 +39,14 @@ module _ (p : Parts) (next : ℕ) (granted : Bool) (room queued : ℕ) where
   no_wait_counts = record { each = λ a on j _ w. w }
 
   pub keeps_counts : CacheKeeps p q
-  keeps_counts = record { first = refl; count = refl; high = refl; root = refl; faults = omega arith }
+  keeps_counts = record { first = refl; count = refl; high = refl; low = refl; root = refl; faults = omega arith }
 
-pub uses_none : (p : Parts) (next : ℕ) (granted : Bool) → Uses 0 0 (state_of p) (state_of (but_counts p next granted p.room p.queued))
+pub uses_none : (p : Parts) (next : ℕ) (granted : Bool) → Uses 0 0 (state_of p) (state_of (but_counts p next granted p.room p.removals))
 uses_none p next granted = record { spare = omega arith; usable = omega arith; room = omega arith; pins = refl; moments = refl; left = λ k image h. h }
 
-pub frame_counts : (p : Parts) (room queued : ℕ) → room + 1 ≡ p.room → Frame none none 1 (state_of p) (state_of (but_counts p p.next p.granted room queued))
-frame_counts p room queued used = record {
-  stays = stays_counts p p.next p.granted room queued;
+pub frame_counts : (p : Parts) (room : ℕ) (removals : List Removal) → room + 1 ≡ p.room → Frame none none 1 (state_of p) (state_of (but_counts p p.next p.granted room removals))
+frame_counts p room removals used = record {
+  stays = stays_counts p p.next p.granted room removals;
   dirty = λ b d. inl d;
   uses = record { spare = omega arith; usable = omega arith; room = used; pins = refl; moments = refl; left = λ k image h. h };
   numbers = record { next = refl; grants = λ h. h };

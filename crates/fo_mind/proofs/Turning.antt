@@ -14,16 +14,16 @@ use Rattle.fo_order.specs.Keeps.{Turns}
 use Rattle.fo_order.specs.Turns.{IsSynced, changed, flag_at, wrote}
 use Rattle.fo_order.specs.declared.marks.Tried.TheVariants.{Written, Failed}
 use Rattle.fo_labels.specs.Region.{Region}
+use Rattle.fo_facts.specs.Known.{fact_at, no_fact, owing_as, written_as}
 use Rattle.fo_bring.specs.Blocks.{IsData}
 use Rattle.fo_bring.specs.Holds.{Others, Brought}
 use Rattle.fo_bring.proofs.Bringing.{loaded_here}
 use Rattle.fo_bring.proofs.Buffering.{put_same, put_other}
-use Rattle.fo_mind.specs.declared.facts.Fact.{Fact}
+use Rattle.fo_facts.specs.declared.fact.Fact.{Fact}
 use Rattle.fo_mind.specs.Changes.{turned, turned_facts}
 use Rattle.fo_mind.specs.Opened.{no_buffers, no_turns}
-use Rattle.fo_mind.specs.Parts.{fact_at, no_fact, owing_as}
 use Rattle.fo_mind.specs.Sound.{Holding, Placed}
-use Rattle.fo_mind.specs.Turning.{Turning, TurnsAt, is_changed, written_fact}
+use Rattle.fo_mind.specs.Turning.{Turning, TurnsAt, is_changed}
 use Rattle.fo_mind.proofs.Giving.{change_other}
 use Rattle.fo_mind.proofs.Keeping.{MayBring, Pins}
 use Rattle.fo_mind.proofs.Refilling.{Refills, by_case, dirty_here, flags_turned}
@@ -153,11 +153,11 @@ turning_brought {first} {count} {kind} {disk} {at} {old} {new} {t} facts fs rank
 -- ---- a write was answered
 
 module _ (facts : List Fact) (at : ℕ) (pinned : Bool) (lt : at < length facts) where
-  pub links_written : (fact_at (set facts at (written_fact pinned (fact_at facts at))) at).linked ≡ (fact_at facts at).linked
-  links_written = ap (λ (x : Fact). x.linked) (get_or-set_same facts at (written_fact pinned (fact_at facts at)) no_fact lt)
+  pub links_written : (fact_at (set facts at (written_as pinned (fact_at facts at))) at).linked ≡ (fact_at facts at).linked
+  links_written = ap (λ (x : Fact). x.linked) (get_or-set_same facts at (written_as pinned (fact_at facts at)) no_fact lt)
 
-  pub other_written : (q : ℕ) → q ≢ at → fact_at (set facts at (written_fact pinned (fact_at facts at))) q ≡ fact_at facts q
-  other_written q ne = get_or-set_other facts at q (written_fact pinned (fact_at facts at)) no_fact ne
+  pub other_written : (q : ℕ) → q ≢ at → fact_at (set facts at (written_as pinned (fact_at facts at))) q ≡ fact_at facts q
+  other_written q ne = get_or-set_other facts at q (written_as pinned (fact_at facts at)) no_fact ne
 
 -- What is held of a block that landed.
 pub record Settles (at : ℕ) (linked : Bool) (old new : Held) : Type 0 where
@@ -212,7 +212,7 @@ module _ (t : Turns) (at : ℕ) (within : at < length t.flags) where
   missed_other q ne = get_or-set_other t.flags at q (flags_of true Failed (flag_at t at).rank) quiet ne
 
 pub turning_landed : {first : ℕ} (facts : List Fact) (t : Turns) (at : ℕ) (pinned : Bool) {old new : Held} → at < length facts → at < length t.flags → (flag_at t at).dirty ≡ true
-    → Settles at (fact_at facts at).linked old new → Turning first old t facts → Turning first new (wrote t at true) (set facts at (written_fact pinned (fact_at facts at)))
+    → Settles at (fact_at facts at).linked old new → Turning first old t facts → Turning first new (wrote t at true) (set facts at (written_as pinned (fact_at facts at)))
 turning_landed {first} facts t at pinned {old} {new} lt within dirty s turning =
     let was = turning.each at in
     one_differs at s.others (landed_other t at within) (other_written facts at pinned lt)
@@ -234,7 +234,7 @@ turning_landed {first} facts t at pinned {old} {new} lt within dirty s turning =
     gone l None c e = never c
 
 pub turning_missed : {first : ℕ} (facts : List Fact) (t : Turns) (at : ℕ) {held : Held} → at < length facts → at < length t.flags → (flag_at t at).dirty ≡ true
-    → Turning first held t facts → Turning first held (wrote t at false) (set facts at (written_fact false (fact_at facts at)))
+    → Turning first held t facts → Turning first held (wrote t at false) (set facts at (written_as false (fact_at facts at)))
 turning_missed {first} facts t at {held} lt within dirty turning =
     let was = turning.each at in
     one_differs at (λ q ne. refl) (missed_other t at within) (other_written facts at false lt)

@@ -11,12 +11,14 @@ use Rattle.fo_order.specs.Keeps.{Turns}
 use Rattle.fo_order.specs.Turns.{flag_at}
 use Rattle.fo_labels.specs.Region.{Region}
 use Rattle.fo_slots.specs.Read.{read}
+use Rattle.fo_facts.specs.Known.{fact_at, no_fact}
+use Rattle.fo_facts.specs.Counts.{owes}
 use Rattle.fo_bring.proofs.Buffering.{put_same, put_other}
-use Rattle.fo_mind.specs.declared.facts.Fact.{Fact}
-use Rattle.fo_mind.specs.declared.facts.Wait.{Wait}
+use Rattle.fo_facts.specs.declared.fact.Fact.{Fact}
+use Rattle.fo_waits.specs.declared.listed.Wait.{Wait}
+use Rattle.fo_waits.specs.Listed.{is_active}
 use Rattle.fo_mind.specs.Laws.{pinned_held}
-use Rattle.fo_mind.specs.Parts.{fact_at, is_active, no_fact}
-use Rattle.fo_mind.specs.Sound.{Placed, Holding, Waiting, Owing, Roomy, owes}
+use Rattle.fo_mind.specs.Sound.{Placed, Holding, Waiting, Owing, Roomy}
 use Rattle.fo_mind.specs.Turning.{Turning, is_changed, unpinned_fact}
 use Rattle.fo_mind.proofs.Keeping.{holding_more, placed_set, waiting_like}
 use Rattle.fo_mind.proofs.Turning.{one_differs}
@@ -69,8 +71,8 @@ module _ {at : ℕ} {old new : Held} (p : Unpins at old new) where
           (cases_eq b at);
     })
 
-    pub roomy_unpins : {region : Region} {low spare pins : ℕ} → Roomy old turns region facts low spare pins → Roomy new turns region fs low spare pins
-    roomy_unpins {region} {low} {spare} {pins} roomy = subst (λ (z : List Fact). Roomy new turns region z low spare pins) (sym is) (
+    pub roomy_unpins : {region : Region} {low spare pins more : ℕ} → Roomy old turns region facts low spare pins more → Roomy new turns region fs low spare pins more
+    roomy_unpins {region} {low} {spare} {pins} {more} roomy = subst (λ (z : List Fact). Roomy new turns region z low spare pins more) (sym is) (
         let e = sum_by-set (λ (f : Fact). cond (owes f) 1 0) facts at (unpinned_fact (fact_at facts at)) no_fact lt in
         let le = fewer (fact_at facts at).owes (fact_at facts at).linked in
         let b = roomy.buffer_room in

@@ -7,12 +7,9 @@ use Rattle.fo_buffers.specs.Held.{buffer_of, put, unlisted, updated, used, with_
 use Rattle.fo_order.specs.Keeps.{Turns}
 use Rattle.fo_order.specs.Turns.{changed, flag_at}
 use Rattle.fo_labels.specs.Region.{IsUsableBlock, least_usable, relabeled, usable_count}
-use Rattle.fo_mind.specs.declared.facts.Fact.{Fact}
-use Rattle.fo_mind.specs.Parts.{Parts, fact_at}
-
--- of a block that was given out: it has a turn once it is linked, for which room is kept
-abbrev pub made_fact : Option ℕ → ℕ → Fact
-made_fact origin rank = record { apart = true; origin = origin; linked = false; fresh = true; sealed = false; owes = true; rank = rank }
+use Rattle.fo_facts.specs.declared.fact.Fact.{Fact}
+use Rattle.fo_facts.specs.Known.{fact_at, made_fact}
+use Rattle.fo_mind.specs.Parts.{Parts}
 
 -- The least usable block was given out with these bytes, to come in the place of another: its label is live, so one less is usable, it is
 -- held, dirty and pinned, it has no turn yet, and the block of its label has one.

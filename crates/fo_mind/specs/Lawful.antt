@@ -14,6 +14,7 @@ pub record IsLawful (s : State) : Type 0 where
   pub enough : s.spare ≤ s.usable
   pub active : s.tops 1 × (s.is_block 1 → ⊥)
   pub root_is : s.is_block s.root
+  pub root_linked : s.newborn s.root → ⊥
   pub within : (at i below : ℕ) → s.pinned at → target ((s.now at).slot i) ≡ Local below → s.is_block below
   pub small : (at : ℕ) → s.is_block at → at < 2 ^ 32 - 1
   pub spelled : (at i : ℕ) → s.pinned at → i < slot_count (s.label at).kind → SlotFits (s.label at).kind i ((s.now at).slot i)

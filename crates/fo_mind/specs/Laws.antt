@@ -1,5 +1,5 @@
 -- Why a cache keeps the laws of blocks.
-use Rattle.std.specs.Prelude.{◌≡◌, ◌⊎◌, ◌+◌, ◌-◌, ◌*◌, ◌/◌, ◌^◌, ◌<◌, ◌≤◌, ℕ, zero, suc, Bool, true, false, cond, nat_eq, List, Option, Some, None, refl}
+use Rattle.std.specs.Prelude.{◌≡◌, ◌⊎◌, ◌+◌, ◌-◌, ◌*◌, ◌/◌, ◌^◌, ◌<◌, ◌≤◌, ℕ, zero, suc, Bool, true, false, cond, nat_eq, List, Option, Some, None, is_some, refl}
 use Rattle.std.specs.Option.{option_map_or}
 use Rattle.std.proofs.Common.{eqb-true, inl, inr, ⊎_elim, sym, ap, ◌∙◌, subst, arith}
 use Rattle.fo_image.specs.declared.types.State.TheVariants.{Live}
@@ -16,10 +16,11 @@ use Rattle.fo_ports.specs.Blocks.{slot_count, SlotFits}
 use Rattle.fo_ports.specs.State.{KeepsAll, IsPairUsed}
 use Rattle.fo_slots.specs.Read.{read}
 use Rattle.fo_buffers.specs.declared.block.Buffer.{Buffer}
-use Rattle.fo_buffers.specs.Held.{held_at, is_pinned}
+use Rattle.fo_buffers.specs.Held.{Held, held_at, is_pinned}
 use Rattle.std.specs.Map.{lookup}
 use Rattle.fo_disk.specs.Disk.{versions_of, latest_of}
-use Rattle.fo_mind.specs.Parts.{Parts, state_of, CacheKeeps, IsPinned, IsDoubt, bytes_of, bytes_at, content_at, is_active, label_at, memory, one_content}
+use Rattle.fo_waits.specs.Listed.{is_active}
+use Rattle.fo_mind.specs.Parts.{Parts, state_of, CacheKeeps, IsHeld, IsPinned, IsDoubt, bytes_of, bytes_at, content_at, label_at, memory, one_content}
 use Rattle.fo_mind.specs.Sound.{Placed, Rooted, Holding, Waiting}
 
 -- a pinned block is held
@@ -29,6 +30,16 @@ pinned_held None e = absurd (clash e)
   where
     clash : false ≡ true → ⊥
     clash h = cc
+
+pub some_held : (o : Option Buffer) → is_some o ≡ true → (x : Buffer) × (o ≡ Some x)
+some_held (Some x) e = (x, refl)
+some_held None e = absurd (clash e)
+  where
+    clash : false ≡ true → ⊥
+    clash h = cc
+
+pub held_pinned : (held : Held) (b : ℕ) → IsPinned held b → IsHeld held b
+held_pinned held b pinned = let x = pinned_held (held_at held b) pinned in ap is_some x.1
 
 -- what memory has of a held block
 pub held_bytes : (p : Parts) (b : ℕ) (x : Buffer) → held_at p.held b ≡ Some x → bytes_at p.held p.disk b ≡ x.block
@@ -120,13 +131,14 @@ pub super_known : (p : Parts) → HasSuper (state_of p).now (state_of p).doubt (
 super_known p = record { each = λ image h. absurd h }
 
 pub keeps_at_once : (p : Parts) → CacheKeeps p p
-keeps_at_once p = record { first = refl; count = refl; high = refl; root = refl; faults = omega arith }
+keeps_at_once p = record { first = refl; count = refl; high = refl; low = refl; root = refl; faults = omega arith }
 
 pub keeps_joins : (p q r : Parts) → CacheKeeps p q → CacheKeeps q r → CacheKeeps p r
 keeps_joins p q r a b = record {
   first = b.first ∙ a.first;
   count = b.count ∙ a.count;
   high = b.high ∙ a.high;
+  low = b.low ∙ a.low;
   root = b.root ∙ a.root;
   faults = let x = a.faults in let y = b.faults in omega (arith, x, y);
 }
@@ -137,6 +149,7 @@ keeps_all p q k =
     let f = k.count in
     record {
       same_high = k.high;
+      same_low = k.low;
       same_root = k.root;
       same_tops = λ t. (λ h. h, λ h. h);
       same_blocks = λ b. (λ h. let lo = h.0 in let hi = h.1 in (omega (arith, lo, e), omega (arith, hi, e, f)), λ h. let lo = h.0 in let hi = h.1 in (omega (arith, lo, e), omega (arith, hi, e, f)));

@@ -1,4 +1,6 @@
 pub mod Changes
+pub mod Due
+pub mod Ended
 pub mod Frames
 pub mod Got
 pub mod Lawful
@@ -7,6 +9,8 @@ pub mod MindParts
 pub mod Opened
 pub mod Parts
 pub mod Props
+pub mod Roomed
+pub mod Sealed
+pub mod Slotted
 pub mod Sound
-pub mod Waited
 pub mod Turning

@@ -1,5 +1,5 @@
 -- The fields of a cache but its device, and what that holds.
-use Rattle.std.specs.Prelude.{ℕ, length}
+use Rattle.std.specs.Prelude.{ℕ}
 use Rattle.fo_disk.specs.Disk.{Content as Holds}
 use Rattle.fo_mind.specs.declared.mind.Mind.{Mind}
 use Rattle.fo_mind.specs.Parts.{Parts}
@@ -9,7 +9,7 @@ parts m disk faults = record {
   held = m.buffers;
   turns = m.order;
   region = m.labels;
-  facts = m.facts.items;
+  facts = m.facts;
   waits = m.waits.items;
   clears = m.clears.items;
   one = m.one;
@@ -20,7 +20,9 @@ parts m disk faults = record {
   spare = m.spare;
   pins = m.pins;
   room = m.room;
-  queued = length m.queue.removals;
+  removals = m.queue.removals;
+  walk = m.walk;
+  links = m.links;
   disk = disk;
   faults = faults;
 }

@@ -6,13 +6,18 @@ use Rattle.fo_buffers.specs.Held.{Held}
 use Rattle.fo_order.specs.Flags.{quiet}
 use Rattle.fo_order.specs.Keeps.{Turns}
 use Rattle.fo_labels.specs.Region.{Region}
-use Rattle.fo_mind.specs.Parts.{Parts, count_of, no_fact}
+use Rattle.fo_takeout.specs.Walking.{Walking}
+use Rattle.fo_facts.specs.Known.{no_fact}
+use Rattle.fo_mind.specs.Parts.{Parts, count_of}
 
 abbrev pub no_buffers : Held
 no_buffers = record { held = map.empty; clean = []; room = 0 }
 
 abbrev pub no_turns : ℕ → Turns
 no_turns count = record { flags = replicate count quiet; written = []; room = 0 }
+
+abbrev pub no_walk : Walking
+no_walk = record { pairs = []; done = 0; room = 0; after = 0; epoch = 0 }
 
 -- All is settled, nothing is held, and no room is made.
 abbrev pub opened : Region → Super → List ℕ → Parts
@@ -31,7 +36,9 @@ opened region one bytes = record {
   spare = 0;
   pins = 0;
   room = 0;
-  queued = 0;
+  removals = [];
+  walk = no_walk;
+  links = 0;
   disk = [];
   faults = 0;
 }

@@ -1,5 +1,5 @@
 -- What a cache keeps, as plain values, and what the calls on blocks see of it.
-use Rattle.std.specs.Prelude.{◌≡◌, ◌⊎◌, ◌+◌, ◌/◌, ◌≤◌, ℕ, Bool, true, false, cond, nat_eq, nat_lt, List, [], ◌∷◌, length, min, slice_index_or, Option, Some, None}
+use Rattle.std.specs.Prelude.{◌≡◌, ◌⊎◌, ◌+◌, ◌≤◌, ℕ, Bool, true, false, cond, nat_eq, nat_lt, List, length, min, Option, Some, None, is_some}
 use Rattle.std.specs.Option.{option_map_or}
 use Rattle.std.specs.Map.{lookup}
 use Rattle.fo_disk.specs.Disk.{versions_of, latest_of}
@@ -11,7 +11,7 @@ use Rattle.fo_image.specs.Field.{Four, number_at}
 use Rattle.fo_image.specs.Place.{label_block}
 use Rattle.fo_image.specs.Usable.{free_label}
 use Rattle.fo_crash.specs.declared.slot.Slot.{Slot}
-use Rattle.fo_crash.specs.declared.slot.Slot.TheVariants.{Pointer as To, Entry as Head, Prev}
+use Rattle.fo_crash.specs.declared.slot.Slot.TheVariants.{Pointer as To}
 use Rattle.fo_crash.specs.Images.{Content, Image, SameContent, to_block}
 use Rattle.fo_buffers.specs.declared.block.Buffer.{Buffer}
 use Rattle.fo_buffers.specs.Held.{Held, held_at, is_dirty, is_pinned}
@@ -20,10 +20,14 @@ use Rattle.fo_order.specs.Keeps.{Turns}
 use Rattle.fo_order.specs.Turns.{flag_at}
 use Rattle.fo_labels.specs.Region.{Region, label_of, usable_count}
 use Rattle.fo_slots.specs.Read.{read}
+use Rattle.fo_takeout.specs.Walking.{Walking}
+use Rattle.fo_unlink.specs.declared.removal.Removal.{Removal}
 use Rattle.fo_ports.specs.State.{State}
-use Rattle.fo_mind.specs.declared.facts.Fact.{Fact}
-use Rattle.fo_mind.specs.declared.facts.Wait.{Wait}
-use Rattle.fo_mind.specs.declared.facts.Clearing.{Clearing}
+use Rattle.fo_facts.specs.declared.fact.Fact.{Fact}
+use Rattle.fo_facts.specs.Known.{fact_at}
+use Rattle.fo_waits.specs.declared.listed.Wait.{Wait}
+use Rattle.fo_waits.specs.declared.listed.Clearing.{Clearing}
+use Rattle.fo_waits.specs.Listed.{Awaits, Clears}
 use Rattle.fo_bring.specs.Blocks.{IsData}
 
 pub record Parts : Type 0 where
@@ -46,7 +50,10 @@ pub record Parts : Type 0 where
   pub spare : ℕ
   pub pins : ℕ
   pub room : ℕ
-  pub queued : ℕ
+  -- the removals that are queued, the walk that finds those of a put, and for how many blocks there is room that are linked with one
+  pub removals : List Removal
+  pub walk : Walking
+  pub links : ℕ
   -- what the device holds, and how many faults it had
   pub disk : Holds
   pub faults : ℕ
@@ -56,17 +63,6 @@ count_of r = r.first + length r.labels
 
 abbrev pub IsBlock : Parts → ℕ → Type 0
 IsBlock p b = IsData p.region.first (count_of p.region) b
-
--- of an address of which nothing is known
-abbrev pub no_fact : Fact
-no_fact = record { apart = false; origin = None; linked = true; fresh = false; sealed = true; owes = false; rank = 0 }
-
-abbrev pub fact_at : List Fact → ℕ → Fact
-fact_at facts b = slice_index_or facts b no_fact
-
--- a unit of room in the order of writing is kept for the block, with this rank
-abbrev pub owing_as : ℕ → Fact → Fact
-owing_as rank f = record f { owes = true; rank = rank }
 
 -- the label of an address: blocks before the data blocks have none
 abbrev pub label_at : Region → ℕ → Label
@@ -103,30 +99,19 @@ IsApart facts b = (fact_at facts b).apart ≡ true
 abbrev pub Instead : List Fact → ℕ → ℕ → Type 0
 Instead facts y x = ((fact_at facts y).apart ≡ true) × ((fact_at facts y).origin ≡ Some x)
 
+-- It was given out, and is not in the tree of memory, as far as calls say.
+abbrev pub IsNewborn : List Fact → ℕ → Type 0
+IsNewborn facts b = (fact_at facts b).linked ≡ false
+
 abbrev pub IsPinned : Held → ℕ → Type 0
 IsPinned held b = option_map_or is_pinned (held_at held b) false ≡ true
+
+abbrev pub IsHeld : Held → ℕ → Type 0
+IsHeld held b = is_some (held_at held b) ≡ true
 
 -- Memory changed it since the device had it for certain; a block that was made and is not linked yet has no turn, but is dirty.
 abbrev pub IsDirty : Turns → Held → ℕ → Type 0
 IsDirty turns held b = ((flag_at turns b).dirty ≡ true) ⊎ (option_map_or is_dirty (held_at held b) false ≡ true)
-
-abbrev pub is_active : Slot → Bool
-is_active (Head e) = e.active
-is_active (To p) = false
-is_active (Prev epoch at) = false
-
--- This block waits for this pair of entries of that one.
-abbrev pub Listed : List Wait → ℕ → ℕ → ℕ → Type 0
-Listed [] a on k = ⊥
-Listed (w ∷ ws) a on k = ((w.at ≡ a) × (w.on ≡ on) × (w.pair ≡ k)) ⊎ Listed ws a on k
-
-abbrev pub Awaits : List Wait → ℕ → ℕ → ℕ → Type 0
-Awaits waits a on j = Listed waits a on (j / 2)
-
--- This slot waits to be cleared.
-abbrev pub Clears : List Clearing → ℕ → ℕ → Type 0
-Clears [] at j = ⊥
-Clears (c ∷ cs) at j = ((c.at ≡ at) × (c.slot ≡ j)) ⊎ Clears cs at j
 
 -- One version, no change, and no slot that waits; block 1, which has no turn, isn't in doubt.
 abbrev pub IsSure : Parts → ℕ → Type 0
@@ -151,7 +136,9 @@ state_of p = record {
   stands = λ b q. ⊥;
   apart = IsApart p.facts;
   instead = Instead p.facts;
+  newborn = IsNewborn p.facts;
   high = p.one.high;
+  low = p.one.low;
   root = p.one.active;
   tops = λ t. t ≡ 1;
   is_block = IsBlock p;
@@ -174,7 +161,7 @@ state_of p = record {
   usable = usable_count p.one.low p.region;
   label_block = label_block;
   dirty = IsDirty p.turns p.held;
-  queued = p.queued;
+  queued = length p.removals;
   waits = Awaits p.waits;
   clearing = Clears p.clears;
   covered = λ b. ⊥;
@@ -187,5 +174,6 @@ pub record CacheKeeps (old new : Parts) : Type 0 where
   pub first : new.region.first ≡ old.region.first
   pub count : length new.region.labels ≡ length old.region.labels
   pub high : new.one.high ≡ old.one.high
+  pub low : new.one.low ≡ old.one.low
   pub root : new.one.active ≡ old.one.active
   pub faults : old.faults ≤ new.faults

@@ -23,12 +23,12 @@ use Rattle.fo_buffers.specs.declared.block.Buffer.{Buffer}
 use Rattle.std.specs.Prelude.{Option}
 use Rattle.fo_order.specs.Keeps.{Turns}
 use Rattle.fo_labels.specs.Region.{Region}
-use Rattle.fo_mind.specs.declared.facts.Fact.{Fact}
-use Rattle.fo_mind.specs.declared.facts.Wait.{Wait}
-use Rattle.fo_mind.specs.declared.facts.Clearing.{Clearing}
+use Rattle.fo_facts.specs.declared.fact.Fact.{Fact}
+use Rattle.fo_waits.specs.declared.listed.Wait.{Wait}
+use Rattle.fo_waits.specs.declared.listed.Clearing.{Clearing}
 use Rattle.fo_bring.specs.Blocks.{HasZeros}
 use Rattle.fo_mind.specs.Turning.{TurnsAt, Turning}
-use Rattle.fo_mind.specs.Sound.{Placed, Rooted, Labelled, Holding, Waiting, Clearable, Owing, Roomy}
+use Rattle.fo_mind.specs.Sound.{Placed, Rooted, Labelled, Holding, Waiting, Clearable, Standing, RootIn, Owing, Roomy, Making}
 
 holds_prop : (p : Pointer) → IsProp (PointerHolds p)
 holds_prop Nil = Prim.hlevel props
@@ -110,14 +110,23 @@ holding_prop low first count region held = Prim.hlevel (props, slot_prop, spells
 pub clearable_prop : (region : Region) (low high : ℕ) (clears : List Clearing) → IsProp (Clearable region low high clears)
 clearable_prop region low high clears = Prim.hlevel props
 
+pub standing_prop : (held : Held) (facts : List Fact) (clears : List Clearing) → IsProp (Standing held facts clears)
+standing_prop held facts clears = Prim.hlevel props
+
+pub root_in_prop : (low : ℕ) (region : Region) (facts : List Fact) (root : ℕ) → IsProp (RootIn low region facts root)
+root_in_prop low region facts root = Prim.hlevel props
+
 pub waiting_prop : (region : Region) (held : Held) (waits : List Wait) → IsProp (Waiting region held waits)
 waiting_prop region held waits = Prim.hlevel props
 
 pub owing_prop : (held : Held) (turns : Turns) (facts : List Fact) → IsProp (Owing held turns facts)
 owing_prop held turns facts = Prim.hlevel props
 
-pub roomy_prop : (held : Held) (turns : Turns) (region : Region) (facts : List Fact) (low spare pins : ℕ) → IsProp (Roomy held turns region facts low spare pins)
-roomy_prop held turns region facts low spare pins = Prim.hlevel props
+pub roomy_prop : (held : Held) (turns : Turns) (region : Region) (facts : List Fact) (low spare pins more : ℕ) → IsProp (Roomy held turns region facts low spare pins more)
+roomy_prop held turns region facts low spare pins more = Prim.hlevel props
+
+pub making_prop : (facts : List Fact) (spare more links removals : ℕ) → IsProp (Making facts spare more links removals)
+making_prop facts spare more links removals = Prim.hlevel props
 
 turns_at_prop : (first b : ℕ) (o : Option Buffer) (f : Flags) (linked : Bool) → IsProp (TurnsAt first b o f linked)
 turns_at_prop first b o f linked = Prim.hlevel props

@@ -1,5 +1,5 @@
 -- What holds of the fields of a cache.
-use Rattle.std.specs.Prelude.{◌≡◌, ◌||◌, ◌+◌, ◌-◌, ◌*◌, ◌^◌, ◌<◌, ◌≤◌, ℕ, Bool, true, false, List, length, count_by, Some}
+use Rattle.std.specs.Prelude.{◌≡◌, ◌||◌, ◌+◌, ◌-◌, ◌*◌, ◌^◌, ◌<◌, ◌≤◌, ℕ, true, false, List, length, count_by, Some}
 use Rattle.std.specs.Option.{option_map_or}
 use Rattle.fo_image.specs.declared.types.Kind.TheVariants.{Dir}
 use Rattle.fo_image.specs.declared.types.Super.{Super}
@@ -12,11 +12,15 @@ use Rattle.fo_order.specs.Keeps.{Turns}
 use Rattle.fo_order.specs.Turns.{flag_at}
 use Rattle.fo_labels.specs.Region.{Region, label_of, usable_count}
 use Rattle.fo_slots.specs.Read.{read}
-use Rattle.fo_mind.specs.declared.facts.Fact.{Fact}
-use Rattle.fo_mind.specs.declared.facts.Wait.{Wait}
-use Rattle.fo_mind.specs.declared.facts.Clearing.{Clearing}
+use Rattle.fo_facts.specs.declared.fact.Fact.{Fact}
+use Rattle.fo_facts.specs.Counts.{is_made, owes}
+use Rattle.fo_facts.specs.Known.{fact_at}
+use Rattle.fo_waits.specs.declared.listed.Wait.{Wait}
+use Rattle.fo_waits.specs.declared.listed.Clearing.{Clearing}
 use Rattle.fo_bring.specs.Blocks.{IsData, Good}
-use Rattle.fo_mind.specs.Parts.{count_of, fact_at, label_at, Listed, Clears, is_active}
+use Rattle.fo_waits.specs.Listed.{Clears, Listed, is_active}
+use Rattle.fo_ports.specs.Blocks.{slot_count}
+use Rattle.fo_mind.specs.Parts.{IsHeld, count_of, label_at}
 
 -- Data blocks come after block 1, each address has its flags and facts, and addresses can be spelled.
 pub record Placed (region : Region) (turns : Turns) (facts : List Fact) (first count : ℕ) : Type 0 where
@@ -53,16 +57,32 @@ pub record Waiting (region : Region) (held : Held) (waits : List Wait) : Type 0 
 pub record Clearable (region : Region) (low high : ℕ) (clears : List Clearing) : Type 0 where
   pub each : (b j : ℕ) → Clears clears b j → ((label_at region b).kind ≡ Dir 0) × ((label_at region b).epoch ≡ high)
   pub kept : (b j : ℕ) → Clears clears b j → is_usable low (label_at region b) ≡ false
+  pub within : (b j : ℕ) → Clears clears b j → j < slot_count (Dir 0)
 
-abbrev pub owes : Fact → Bool
-owes f = f.owes
+-- A block in which a slot waits to be cleared is held, and so is one that was given out and is not in the tree of memory.
+pub record Standing (held : Held) (facts : List Fact) (clears : List Clearing) : Type 0 where
+  pub still : (b j : ℕ) → Clears clears b j → IsHeld held b
+  pub newborn : (b : ℕ) → (fact_at facts b).linked ≡ false → IsHeld held b
+
+-- The root is in the tree of memory: it was not given out, and can't be.
+pub record RootIn (low : ℕ) (region : Region) (facts : List Fact) (root : ℕ) : Type 0 where
+  pub linked : (fact_at facts root).linked ≡ true
+  pub kept : is_usable low (label_at region root) ≡ false
 
 -- For each pinned block there is a unit of room in the order of writing, or it is dirty there.
 pub record Owing (held : Held) (turns : Turns) (facts : List Fact) : Type 0 where
   pub each : (b : ℕ) (x : Buffer) → held_at held b ≡ Some x → x.pinned ≡ true → ((fact_at facts b).owes || (flag_at turns b).dirty) ≡ true
 
--- A block that is made takes a buffer, and turns for itself and for the block of its label; one that is pinned a buffer and a turn.
-pub record Roomy (held : Held) (turns : Turns) (region : Region) (facts : List Fact) (low spare pins : ℕ) : Type 0 where
+-- A block that is made takes a buffer, and turns for itself and for the block of its label; one that is pinned a buffer and a turn. So
+-- many turns more are kept: one for each removal or wait that is left, and for each slot that waits to be cleared.
+pub record Roomy (held : Held) (turns : Turns) (region : Region) (facts : List Fact) (low spare pins more : ℕ) : Type 0 where
   pub buffer_room : spare + pins ≤ held.room
-  pub turn_room : count_by owes facts + (2 * spare + pins) ≤ turns.room
+  pub turn_room : count_by owes facts + (2 * spare + pins + more) ≤ turns.room
   pub usable : spare ≤ usable_count low region
+
+-- Whoever was made has a unit of room in the order of writing, and a place in the list of those that are linked and one among the removals;
+-- so has whoever may be made. So many removals more are kept.
+pub record Making (facts : List Fact) (spare more links removals : ℕ) : Type 0 where
+  pub owing : (b : ℕ) → (fact_at facts b).linked ≡ false → (fact_at facts b).owes ≡ true
+  pub places : count_by is_made facts + spare ≤ links
+  pub left : count_by is_made facts + (spare + more) ≤ removals

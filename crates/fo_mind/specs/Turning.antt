@@ -1,5 +1,5 @@
 -- Which blocks have a turn in the order of writing, and what an answer of the device does to the fields of a cache.
-use Rattle.std.specs.Prelude.{◌≡◌, ◌⊎◌, ◌==◌, nat_eq, Some, ◌+◌, ◌*◌, ◌<◌, ◌≤◌, ◌&&◌, ◌||◌, ℕ, Bool, true, false, not, cond, List, count_by, slice_set, Option, None}
+use Rattle.std.specs.Prelude.{◌≡◌, ◌⊎◌, ◌==◌, nat_eq, Some, ◌+◌, ◌*◌, ◌<◌, ◌≤◌, ◌&&◌, ℕ, Bool, true, false, not, cond, List, length, count_by, slice_set, Option, None}
 use Rattle.std.specs.List.{Contains, list_any}
 use Rattle.std.specs.Map.{remove_entry}
 use Rattle.std.specs.Option.{option_map_or}
@@ -11,9 +11,10 @@ use Rattle.fo_order.specs.declared.marks.Tried.{Tried}
 use Rattle.fo_order.specs.declared.marks.Tried.TheVariants.{Settled, Written, Failed}
 use Rattle.fo_order.specs.Keeps.{Turns}
 use Rattle.fo_order.specs.Turns.{IsSynced, flag_at, wrote}
-use Rattle.fo_mind.specs.declared.facts.Fact.{Fact}
-use Rattle.fo_mind.specs.Parts.{IsPinned, Parts, fact_at}
-use Rattle.fo_mind.specs.Sound.{owes}
+use Rattle.fo_facts.specs.declared.fact.Fact.{Fact}
+use Rattle.fo_facts.specs.Known.{fact_at, written_as}
+use Rattle.fo_facts.specs.Counts.{owes}
+use Rattle.fo_mind.specs.Parts.{IsPinned, Parts}
 
 -- memory has this block changed
 abbrev pub is_changed : Option Buffer → Bool
@@ -32,16 +33,12 @@ pub record Turning (first : ℕ) (held : Held) (turns : Turns) (facts : List Fac
 
 -- Beside what was promised there is room for one turn more.
 abbrev pub HasTurn : Parts → Type 0
-HasTurn p = count_by owes p.facts + (2 * p.spare + p.pins) < p.turns.room
+HasTurn p = count_by owes p.facts + (2 * p.spare + p.pins + (p.room + length p.clears)) < p.turns.room
 
 -- The order of writing may have room for one turn more; nothing else changed.
 pub record KeepsTurn (old new : Parts) : Type 0 where
   pub more : old.turns.room ≤ new.turns.room
   pub rest : new ≡ record old { turns = record old.turns { room = new.turns.room } }
-
--- The block was written since it was given out. If it is pinned, room is kept for its next turn.
-abbrev pub written_fact : Bool → Fact → Fact
-written_fact pinned f = record f { fresh = false; owes = f.owes || pinned }
 
 abbrev pub is_pinned_at : Held → ℕ → Bool
 is_pinned_at held b = option_map_or is_pinned (held_at held b) false
@@ -51,13 +48,13 @@ is_pinned_at held b = option_map_or is_pinned (held_at held b) false
 pub record Landed (at : ℕ) (old new : Parts) : Type 0 where
   pub turns : new.turns ≡ wrote old.turns at true
   pub held : new.held ≡ cond (fact_at old.facts at).linked (updated old.held at settled) old.held
-  pub facts : new.facts ≡ slice_set old.facts at (written_fact (is_pinned_at old.held at) (fact_at old.facts at))
+  pub facts : new.facts ≡ slice_set old.facts at (written_as (is_pinned_at old.held at) (fact_at old.facts at))
   pub rest : new ≡ record old { held = new.held; turns = new.turns; facts = new.facts }
 
 -- A write of a block failed. It stays dirty.
 pub record Missed (at : ℕ) (old new : Parts) : Type 0 where
   pub turns : new.turns ≡ wrote old.turns at false
-  pub facts : new.facts ≡ slice_set old.facts at (written_fact false (fact_at old.facts at))
+  pub facts : new.facts ≡ slice_set old.facts at (written_as false (fact_at old.facts at))
   pub rest : new ≡ record old { turns = new.turns; facts = new.facts }
 
 -- A sync answered Ok.
@@ -81,9 +78,10 @@ is_settled Settled = true
 is_settled Written = false
 is_settled Failed = false
 
--- A block may be given up: it is held, not pinned and not changed, settled, in the tree of memory, and nothing waits for its entries.
+-- A block may be given up: it is held, not pinned and not changed, settled, in the tree of memory, nothing waits for its entries, and no
+-- slot of it waits to be cleared.
 abbrev pub may_release : Parts → ℕ → Bool
-may_release p at = not (option_map_or is_pinned (held_at p.held at) true) && (not (is_changed (held_at p.held at)) && (is_settled (flag_at p.turns at).tried && (not (list_any (λ w. w.on == at) p.waits) && (fact_at p.facts at).linked)))
+may_release p at = not (option_map_or is_pinned (held_at p.held at) true) && (not (is_changed (held_at p.held at)) && (is_settled (flag_at p.turns at).tried && (not (list_any (λ w. w.on == at) p.waits) && (not (list_any (λ c. c.at == at) p.clears) && (fact_at p.facts at).linked))))
 
 -- It isn't held any more, and is the first of the clean ones, where it is once; or it is forgotten for want of memory.
 pub record Released (at : ℕ) (old new : Parts) : Type 0 where

@@ -1,15 +1,13 @@
 //! Blocks are given out.
-ghost use Rattle.std.specs.Prelude.{◌≡◌, ◌+◌, ◌<◌, ◌≤◌, ℕ, Some, length, slice_set};
-ghost use Rattle.std.specs.Vec.{vec_len, vec_capacity};
+ghost use Rattle.std.specs.Prelude.{◌≡◌, ◌+◌, ◌<◌, ◌≤◌, ℕ, Some, length};
 ghost use Rattle.fo_disk.specs.Disk.{Content as Holds};
 ghost use Rattle.fo_image.specs.Format.{KindHolds, LabelHolds};
 ghost use Rattle.fo_image.specs.Usable.{live_label};
 ghost use Rattle.fo_labels.specs.Region.{IsUsableBlock, least_usable, relabeled, usable_count};
 ghost use Rattle.fo_bring.specs.Blocks.{Good};
-ghost use Rattle.fo_mind.specs.Changes.{Given, made_fact};
+ghost use Rattle.fo_mind.specs.Changes.{Given};
 ghost use Rattle.fo_mind.specs.MindParts.{parts};
 
-use crate::facts::Fact;
 use crate::mind::Mind;
 use fo_image::{Kind, label_place};
 use fo_labels::Labels;
@@ -27,24 +25,6 @@ fn alloc_in(labels: &mut Labels, kind: Kind, tag: u32, epoch: u32, low: u32) -> 
         return 0;
     };
     at
-}
-
-// A block is to come in the place of another, and is in no slot yet.
-fn note_made(facts: &mut Vec<Fact>, at: u32, origin: Option<u32>, rank: u32)
-    requires { at < length facts.old.items }
-    ensures items { facts.new.items ≡ slice_set facts.old.items at (made_fact origin rank) }
-    ensures len { vec_len facts.new ≡ vec_len facts.old }
-    ensures capacity { vec_capacity facts.new ≡ vec_capacity facts.old }
-{
-    facts[at as usize] = Fact {
-        apart: true,
-        origin,
-        linked: false,
-        fresh: true,
-        sealed: false,
-        owes: true,
-        rank,
-    };
 }
 
 impl Mind {
@@ -67,7 +47,7 @@ impl Mind {
         let at = alloc_in(&mut self.labels, kind, tag, high, low);
         self.buffers.make(at, bytes);
         self.order.change(label_place(at).0, 0);
-        note_made(&mut self.facts, at, origin, rank);
+        self.facts.give(at, origin, rank);
         self.spare -= 1;
         at
     }

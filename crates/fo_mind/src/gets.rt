@@ -15,7 +15,7 @@ ghost use Rattle.fo_mind.specs.Got.{ComesFrom, Got, IsHeldAs, IsSource};
 ghost use Rattle.fo_mind.specs.Frames.{Brings};
 ghost use Rattle.fo_mind.specs.MindParts.{parts};
 
-use crate::mind::{Mind, owe};
+use crate::mind::Mind;
 use fo_bring::{bring, copy_held, glance};
 use fo_disk::Disk;
 use fo_image::{Kind, Label, is_usable};
@@ -73,7 +73,7 @@ impl Mind {
         ensures brings { (disk : Holds) (faults : ℕ) → Brings at (parts self.old disk faults) (parts self.new disk faults) }
     {
         self.pins -= 1;
-        owe(&mut self.facts, at, rank);
+        self.facts.owe(at, rank);
         self.buffers.pin(at);
     }
 
@@ -104,7 +104,7 @@ impl Mind {
         let first = self.first;
         let count = self.count;
         self.pins -= 1;
-        owe(&mut self.facts, at, rank);
+        self.facts.owe(at, rank);
         bring(main, &mut self.buffers, first, count, kind, at)
     }
 

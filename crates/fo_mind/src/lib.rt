@@ -12,6 +12,8 @@
 //! bytes beside the slots of a pinned one, each with the clauses of `Blocks`; neither wants memory. A slot, a label and what waits are
 //! as memory has them. What calls see keeps the laws of `Blocks`. What is to be written next has its bytes in memory, or is a block of
 //! labels; what a write or a sync does to each field is said by its answer alone, and only `keep_turn_of` may want memory for it.
+//! A slot of a pinned block changes in exact steps (`Slotted`): its bytes, who is apart, who comes into the tree, what is queued; no memory
+//! is wanted, since room is kept for whoever was made or may be. What calls see of it is said by `fo_put`.
 //! Another super block is tried, in doubt, and then counts or is overruled. Memory has the bytes of the one that counts, and the next file
 //! number is up to the limit of both, and below it while it is granted.
 //!
@@ -19,7 +21,7 @@
 #![tactic(auto)]
 
 mod changes;
-mod facts;
+mod clearing;
 mod gets;
 mod laws;
 mod mind;
@@ -28,10 +30,12 @@ mod numbers;
 mod opening;
 mod pins;
 mod puts;
+mod rooms;
+mod seals;
+mod slots;
 mod supers;
 mod turns;
 mod views;
 mod waiting;
 
-pub use facts::{Clearing, Fact, Wait};
 pub use mind::Mind;

@@ -8,12 +8,12 @@ ghost use Rattle.fo_crash.specs.Images.{SameContent};
 ghost use Rattle.fo_ports.specs.Blocks.{IsLevel, blank, zero_bytes};
 ghost use Rattle.fo_ports.specs.State.{Gives};
 ghost use Rattle.fo_slots.specs.Read.{read};
+ghost use Rattle.fo_facts.specs.Known.{fact_at};
 ghost use Rattle.fo_bring.specs.Blocks.{Good};
 ghost use Rattle.fo_mind.specs.Changes.{Given};
 ghost use Rattle.fo_mind.specs.MindParts.{parts};
-ghost use Rattle.fo_mind.specs.Parts.{Instead, IsPinned, fact_at, label_at, memory, state_of};
+ghost use Rattle.fo_mind.specs.Parts.{Instead, IsPinned, label_at, memory, state_of};
 
-use crate::facts::Fact;
 use crate::mind::Mind;
 use fo_base::BLOCK;
 use fo_buffers::Buffers;
@@ -59,23 +59,13 @@ fn bytes_of(held: &[u8]) -> [u8; BLOCK]
     bytes
 }
 
-// The rank that is kept of a block.
-fn rank_of(facts: &Vec<Fact>, at: u32) -> u32
-    ensures { result ≡ (fact_at facts.now.items at).rank }
-{
-    match facts.get(at as usize) {
-        Some(fact) => fact.rank,
-        None => 0,
-    }
-}
-
 impl Mind {
     /// Gives out a block of zeros, for a place of this kind, tag and rank.
     pub fn new_block(&mut self, kind: Kind, tag: u32, rank: u32) -> u32
         requires spare { 0 < self.old.spare }
         requires level { IsLevel kind }
         ensures gives { (disk : Holds) (faults : ℕ) → Gives result (blank kind) (live_label kind tag self.old.one.high) (state_of (parts self.old disk faults)) (state_of (parts self.new disk faults)) }
-        ensures instead { (x : ℕ) → Instead self.new.facts.items result x → ⊥ }
+        ensures instead { (x : ℕ) → Instead self.new.facts result x → ⊥ }
         ensures given { (disk : Holds) (faults : ℕ) → Given result kind tag rank zero_bytes None (parts self.old disk faults) (parts self.new disk faults) }
     {
         let bytes = blank_block(kind);
@@ -87,12 +77,12 @@ impl Mind {
         requires spare { 0 < self.old.spare }
         requires pinned { IsPinned self.old.buffers at }
         ensures gives { (disk : Holds) (faults : ℕ) → Gives result (memory (parts self.old disk faults) at) (record (label_at self.old.labels at) { state = Live; epoch = self.old.one.high; closing = 2 ^ 32 - 1 }) (state_of (parts self.old disk faults)) (state_of (parts self.new disk faults)) }
-        ensures instead { (x : ℕ) → Instead self.new.facts.items result x ↔ (x ≡ at) }
-        ensures given { (bytes : List ℕ) → Some bytes ≡ option_map block_in (held_at self.old.buffers at) → (disk : Holds) (faults : ℕ) → Given result (label_at self.old.labels at).kind (label_at self.old.labels at).tag (fact_at self.old.facts.items at).rank bytes (Some at) (parts self.old disk faults) (parts self.new disk faults) }
+        ensures instead { (x : ℕ) → Instead self.new.facts result x ↔ (x ≡ at) }
+        ensures given { (bytes : List ℕ) → Some bytes ≡ option_map block_in (held_at self.old.buffers at) → (disk : Holds) (faults : ℕ) → Given result (label_at self.old.labels at).kind (label_at self.old.labels at).tag (fact_at self.old.facts at).rank bytes (Some at) (parts self.old disk faults) (parts self.new disk faults) }
     {
         let label = self.label(at);
-        let rank = rank_of(&self.facts, at);
+        let fact = self.facts.get(at);
         let bytes = copied(&self.buffers, at);
-        self.give(label.kind, label.tag, rank, &bytes, Some(at))
+        self.give(label.kind, label.tag, fact.rank, &bytes, Some(at))
     }
 }

@@ -37,8 +37,7 @@ impl Mind {
         ensures order { (disk : Holds) (faults : ℕ) → KeepsOrder none (state_of (parts self.old disk faults)) (state_of (parts self.new disk faults)) }
         ensures no_wait { (disk : Holds) (faults : ℕ) → AddsNoWait none (state_of (parts self.old disk faults)) (state_of (parts self.new disk faults)) }
         ensures keeps { (disk : Holds) (faults : ℕ) → CacheKeeps (parts self.old disk faults) (parts self.new disk faults) }
-        ensures queued { self.new.queue.removals ≡ self.old.queue.removals ++ (record { at = at; kind = Root; whole = false; epoch = epoch; after = after }) ∷ [] }
-        ensures rest { (disk : Holds) (faults : ℕ) → parts self.new disk faults ≡ record (parts self.old disk faults) { room = self.old.room - 1; queued = (parts self.new disk faults).queued } }
+        ensures rest { (disk : Holds) (faults : ℕ) → parts self.new disk faults ≡ record (parts self.old disk faults) { room = self.old.room - 1; removals = self.old.queue.removals ++ (record { at = at; kind = Root; whole = false; epoch = epoch; after = after }) ∷ [] } }
     {
         self.room -= 1;
         self.queue.push(Removal {

@@ -2,47 +2,32 @@
 ghost use Rattle.std.specs.Prelude.{◌≡◌, ◌==◌, ◌<◌, ℕ, [], true, false, not, length, slice_set, MatchOption};
 ghost use Rattle.std.specs.List.{list_any};
 ghost use Rattle.std.specs.Option.{option_map_or};
-ghost use Rattle.std.specs.Vec.{vec_len, vec_capacity};
 ghost use Rattle.fo_disk.specs.Disk.{Content as Holds};
 ghost use Rattle.fo_buffers.specs.Held.{held_at, is_pinned};
+ghost use Rattle.fo_facts.specs.Known.{fact_at};
 ghost use Rattle.fo_bring.specs.Blocks.{IsData};
 ghost use Rattle.fo_mind.specs.MindParts.{parts};
-ghost use Rattle.fo_mind.specs.Parts.{IsPinned, fact_at};
+ghost use Rattle.fo_mind.specs.Parts.{IsPinned};
 ghost use Rattle.fo_mind.specs.Turning.{Released, Unpinned, is_settled, may_release, unpinned_fact};
 
-use crate::facts::{Fact, Wait};
 use crate::mind::Mind;
 use fo_buffers::Buffers;
+use fo_facts::{Fact, Facts};
 use fo_order::{Flags, Tried};
+use fo_waits::{has_clearing, is_awaited};
 
 // Room is kept for a block only while it isn't linked.
-fn owe_unlinked(facts: &mut Vec<Fact>, at: u32)
-    requires { at < length facts.old.items }
-    ensures items { facts.new.items ≡ slice_set facts.old.items at (unpinned_fact (fact_at facts.old.items at)) }
-    ensures len { vec_len facts.new ≡ vec_len facts.old }
-    ensures capacity { vec_capacity facts.new ≡ vec_capacity facts.old }
+fn owe_unlinked(facts: &mut Facts, at: u32)
+    requires { at < length facts.old }
+    ensures { facts.new ≡ slice_set facts.old at (unpinned_fact (fact_at facts.old at)) }
 {
-    let was = facts[at as usize];
-    facts[at as usize] = Fact {
-        apart: was.apart,
-        origin: was.origin,
-        linked: was.linked,
-        fresh: was.fresh,
-        sealed: was.sealed,
-        owes: was.owes && !was.linked,
-        rank: was.rank,
-    };
-}
-
-// Whether something waits for entries of a block.
-fn is_awaited(waits: &[Wait], on: u32) -> bool
-    ensures { result ≡ list_any (λ w. w.on == on) waits.now }
-{
-    waits.iter().any(|w| w.on == on)
+    let was = facts.get(at);
+    let owes = was.owes && !was.linked;
+    facts.set(at, Fact { owes, ..was });
 }
 
 // Whether the last write of a block was settled.
-fn is_settled(flags: Flags) -> bool
+pub(crate) fn is_settled(flags: Flags) -> bool
     ensures { result ≡ is_settled flags.tried }
 {
     match flags.tried {
@@ -56,14 +41,6 @@ fn is_free(buffers: &Buffers, at: u32) -> bool
     ensures { result ≡ not (option_map_or is_pinned (held_at buffers.now at) true) }
 {
     buffers.is_held(at) && !buffers.is_pinned(at)
-}
-
-// Whether a block is in the tree of memory.
-fn is_linked(facts: &Vec<Fact>, at: u32) -> bool
-    requires { at < length facts.now.items }
-    ensures { result ≡ (fact_at facts.now.items at).linked }
-{
-    facts[at as usize].linked
 }
 
 impl Mind {
@@ -87,8 +64,9 @@ impl Mind {
         let dirty = self.buffers.is_dirty(at);
         let settled = is_settled(self.order.flags(at));
         let awaited = is_awaited(&self.waits, at);
-        let linked = is_linked(&self.facts, at);
-        free && !dirty && settled && !awaited && linked
+        let clearing = has_clearing(&self.clears, at);
+        let linked = self.facts.get(at).linked;
+        free && !dirty && settled && !awaited && !clearing && linked
     }
 
     /// Gives a block up where it may be: it becomes the first of the clean ones, or is forgotten for want of memory.

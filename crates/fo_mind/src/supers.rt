@@ -1,11 +1,13 @@
 //! The super block is tried, and counts once it is settled.
-ghost use Rattle.std.specs.Prelude.{◌≡◌, ◌<◌, ◌≤◌, ℕ, List, true, None, Some, is_some, length, replicate, IfOk, MatchOption};
+ghost use Rattle.std.specs.Prelude.{◌≡◌, ◌<◌, ◌≤◌, ℕ, List, true, false, None, Some, is_some, length, replicate, IfOk, MatchOption};
 ghost use Rattle.fo_disk.specs.Disk.{Content as Holds};
 ghost use Rattle.fo_image.specs.Field.{Four, number_at};
 ghost use Rattle.fo_image.specs.Format.{SpellsSuper};
+ghost use Rattle.fo_image.specs.Usable.{is_usable};
+ghost use Rattle.fo_facts.specs.Known.{fact_at};
 ghost use Rattle.fo_bring.specs.Blocks.{IsData};
 ghost use Rattle.fo_mind.specs.MindParts.{parts};
-ghost use Rattle.fo_mind.specs.Parts.{least_limit};
+ghost use Rattle.fo_mind.specs.Parts.{label_at, least_limit};
 
 use crate::mind::Mind;
 use fo_base::Memory;
@@ -85,9 +87,12 @@ impl Mind {
         self.doubt.take()
     }
 
-    /// What was tried is settled, and counts from now on: it spells this, of the same epochs. The block that it replaces is given back.
+    /// What was tried is settled, and counts from now on: it spells this, of the same epochs, with a root that is in the tree. The block
+    /// that it replaces is given back.
     pub fn accept(&mut self, one: Super) -> Option<Block>
         requires root { IsData self.old.first self.old.count one.active }
+        requires linked { (fact_at self.old.facts one.active).linked ≡ true }
+        requires live { is_usable self.old.one.low (label_at self.old.labels one.active) ≡ false }
         requires high { one.high ≡ self.old.one.high }
         requires low { one.low ≡ self.old.one.low }
         requires spelled { (bytes : List ℕ) → self.old.doubt ≡ Some bytes → SpellsSuper one bytes }

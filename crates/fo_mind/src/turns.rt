@@ -1,41 +1,18 @@
 //! Blocks are written and settled in their turns.
-ghost use Rattle.std.specs.Prelude.{◌≡◌, ◌+◌, ◌<◌, ◌≤◌, ℕ, [], true, false, cond, length, slice_set, Some, is_some, OnOk, OnErr};
+ghost use Rattle.std.specs.Prelude.{◌≡◌, ◌+◌, ◌<◌, ◌≤◌, ℕ, [], true, false, cond, length, Some, is_some, OnOk, OnErr};
 ghost use Rattle.std.specs.Option.{option_map};
-ghost use Rattle.std.specs.Vec.{vec_len, vec_capacity};
 ghost use Rattle.fo_disk.specs.Disk.{Content as Holds};
 ghost use Rattle.fo_buffers.specs.Held.{held_at, block_in, settled, updated};
 ghost use Rattle.fo_order.specs.Turns.{IsTurn, flag_at};
 ghost use Rattle.fo_labels.specs.Spelled.{SpellsLabels};
 ghost use Rattle.fo_mind.specs.MindParts.{parts};
-ghost use Rattle.fo_mind.specs.Parts.{IsPinned, fact_at};
-ghost use Rattle.fo_mind.specs.Turning.{HasTurn, KeepsTurn, Landed, Missed, Synced, written_fact};
+ghost use Rattle.fo_mind.specs.Parts.{IsPinned};
+ghost use Rattle.fo_mind.specs.Turning.{HasTurn, KeepsTurn, Landed, Missed, Synced};
 
-use crate::facts::Fact;
 use crate::mind::Mind;
 use fo_base::Memory;
 use fo_buffers::Buffers;
 use fo_order::Turn;
-
-// A block was written, and room is kept for its next turn where it is pinned. It answers whether the block is in the tree of memory.
-fn note_written(facts: &mut Vec<Fact>, at: u32, pinned: bool) -> bool
-    requires { at < length facts.old.items }
-    ensures linked { result ≡ (fact_at facts.old.items at).linked }
-    ensures items { facts.new.items ≡ slice_set facts.old.items at (written_fact pinned (fact_at facts.old.items at)) }
-    ensures len { vec_len facts.new ≡ vec_len facts.old }
-    ensures capacity { vec_capacity facts.new ≡ vec_capacity facts.old }
-{
-    let was = facts[at as usize];
-    facts[at as usize] = Fact {
-        apart: was.apart,
-        origin: was.origin,
-        linked: was.linked,
-        fresh: false,
-        sealed: was.sealed,
-        owes: was.owes || pinned,
-        rank: was.rank,
-    };
-    was.linked
-}
 
 // A block is not dirty any more, where it is in the tree of memory.
 fn settle_linked(buffers: &mut Buffers, at: u32, linked: bool)
@@ -73,8 +50,8 @@ impl Mind {
         self.labels.spell(at, into);
     }
 
-    // Makes room for one turn more. This may want memory, and then nothing changes.
-    fn keep_turn(&mut self) -> Result<(), Memory>
+    /// Makes room for one turn more. This may want memory, and then nothing changes.
+    pub fn keep_turn(&mut self) -> Result<(), Memory>
         ensures ok { OnOk result (HasTurn (parts self.new [] 0)) }
         ensures kept { OnOk result ((disk : Holds) (faults : ℕ) → parts self.new disk faults ≡ record (parts self.old disk faults) { turns = record self.old.order { room = self.old.order.room + 1 } }) }
         ensures err { OnErr result ((disk : Holds) (faults : ℕ) → parts self.new disk faults ≡ parts self.old disk faults) }
@@ -104,8 +81,9 @@ impl Mind {
     {
         let pinned = self.buffers.is_pinned(at);
         self.order.wrote(at, true);
-        let linked = note_written(&mut self.facts, at, pinned);
-        settle_linked(&mut self.buffers, at, linked);
+        let fact = self.facts.get(at);
+        self.facts.write(at, pinned);
+        settle_linked(&mut self.buffers, at, fact.linked);
     }
 
     // A write of a block that has a turn failed.
@@ -114,7 +92,7 @@ impl Mind {
         ensures { (disk : Holds) (faults : ℕ) → Missed at (parts self.old disk faults) (parts self.new disk faults) }
     {
         self.order.wrote(at, false);
-        note_written(&mut self.facts, at, false);
+        self.facts.write(at, false);
     }
 
     // A sync answered Ok.

@@ -3,35 +3,32 @@ ghost use Rattle.std.specs.Prelude.{◌≡◌, ◌<◌, ◌↔◌, ◌&&◌, ◌
 ghost use Rattle.std.specs.List.{list_any};
 ghost use Rattle.fo_disk.specs.Disk.{Content as Holds};
 ghost use Rattle.fo_ports.specs.Blocks.{slot_count};
+ghost use Rattle.fo_facts.specs.Known.{fact_at};
 ghost use Rattle.fo_bring.specs.Blocks.{IsData};
-ghost use Rattle.fo_mind.specs.Parts.{IsPinned, Clears, fact_at, label_at, memory};
+ghost use Rattle.fo_waits.specs.Listed.{Clears};
+ghost use Rattle.fo_mind.specs.Parts.{IsHeld, IsPinned, label_at, memory};
 ghost use Rattle.fo_mind.specs.MindParts.{parts};
 
-use crate::facts::Clearing;
 use crate::mind::Mind;
 use fo_bring::is_data;
 use fo_crash::Slot;
 use fo_image::Pointer;
 use fo_slots::slot_of;
-
-// Whether a slot is among these.
-fn any_listed(list: &[Clearing], at: u32, i: u32) -> bool
-    ensures { result ≡ list_any (λ c. (c.at == at) && (c.slot == i)) list.now }
-{
-    list.iter().any(|c| c.at == at && c.slot == i)
-}
-
-// Whether a slot waits to be cleared.
-pub(crate) fn is_listed(list: &[Clearing], at: u32, i: u32) -> bool
-    ensures { IsTrue result ↔ Clears list.now at i }
-{
-    any_listed(list, at, i)
-}
+use fo_waits::is_listed;
 
 impl Mind {
     /// A slot of a pinned block.
     pub fn slot(&self, at: u32, i: u32) -> Slot
         requires pinned { IsPinned self.now.buffers at }
+        requires slots { i < slot_count (label_at self.now.labels at).kind }
+        ensures { (disk : Holds) (faults : ℕ) → result ≡ (memory (parts self.now disk faults) at).slot i }
+    {
+        self.slot_held(at, i)
+    }
+
+    // A slot of a held block.
+    pub(crate) fn slot_held(&self, at: u32, i: u32) -> Slot
+        requires held { IsHeld self.now.buffers at }
         requires slots { i < slot_count (label_at self.now.labels at).kind }
         ensures { (disk : Holds) (faults : ℕ) → result ≡ (memory (parts self.now disk faults) at).slot i }
     {
@@ -50,12 +47,9 @@ impl Mind {
 
     /// Whether a block was there when all was settled.
     pub fn is_sealed(&self, at: u32) -> bool
-        ensures { IsTrue result ↔ ((fact_at self.now.facts.items at).sealed ≡ true) }
+        ensures { IsTrue result ↔ ((fact_at self.now.facts at).sealed ≡ true) }
     {
-        match self.facts.get(at as usize) {
-            Some(fact) => fact.sealed,
-            None => true,
-        }
+        self.facts.get(at).sealed
     }
 
     /// The epoch of the active tree.

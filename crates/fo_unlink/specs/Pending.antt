@@ -55,6 +55,11 @@ wanted_of false way = None
 abbrev pub wanted : Pending → Option ℕ
 wanted q = wanted_of q.asked q.way
 
+-- the level of the innermost pointer block on the way
+abbrev pub way_level : List Frame → Option ℕ
+way_level [] = None
+way_level (f ∷ fs) = Some f.level
+
 -- the content that a step is given is that of the block that was asked for
 pub record IsContent (tree : Tree) (q : Pending) (block : List ℕ) : Type 0 where
   pub content : (b : ℕ) → wanted q ≡ Some b → HoldsPointers (tree b) block

@@ -1,7 +1,7 @@
 //! The queue of removals.
 ghost use Rattle.std.specs.Prelude.{◌≡◌, ◌≢◌, ◌↔◌, ◌+◌, ◌-◌, ◌^◌, ◌<◌, ◌≤◌, ◌++◌, ◌∷◌, [], List, true, false, length, drop, max, Some, IfOk, IsOk, IsSome, MatchResult};
 ghost use Rattle.fo_unlink.specs.Closing.{Tree};
-ghost use Rattle.fo_unlink.specs.Pending.{IsRemoval, at_epoch, first_left, left, closes_of, wanted, first_removal, start_level, closed, dropped, entered};
+ghost use Rattle.fo_unlink.specs.Pending.{IsRemoval, at_epoch, first_left, left, closes_of, wanted, way_level, first_removal, start_level, closed, dropped, entered};
 ghost use Rattle.fo_unlink.specs.Steps.{Answers, unasked};
 ghost use Rattle.fo_unlink.specs.declared.removal.Removal.{Removal};
 ghost use Rattle.fo_unlink.specs.Work.{work, work_of, readings, Lowers};
@@ -90,6 +90,23 @@ impl Queue {
         ensures { result ≡ first_removal self.now }
     {
         self.removals.front().copied()
+    }
+
+    /// The block of which the next step needs the content.
+    pub fn wanted(&self) -> Option<u32>
+        ensures { result ≡ wanted self.now }
+    {
+        if !self.asked {
+            return None;
+        }
+        self.way.innermost().map(|f| f.at)
+    }
+
+    /// The level of the innermost pointer block on the way, and None before the first removal has begun.
+    pub fn level(&self) -> Option<u8>
+        ensures { result ≡ way_level self.now.way }
+    {
+        self.way.innermost().map(|f| f.level)
     }
 
     /// How many removals wait, the first one counted until its last block is closed.

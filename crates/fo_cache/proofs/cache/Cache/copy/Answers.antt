@@ -5,7 +5,7 @@ use Rattle.fo_image.specs.Place.{label_block}
 use Rattle.fo_labels.specs.Region.{Region}
 use Rattle.fo_mind.specs.Laws.{pinned_held}
 use Rattle.fo_mind.specs.MindParts.{parts}
-use Rattle.fo_cache.proofs.Calling.{count_relabeled, fits_given, labels_before}
+use Rattle.fo_cache.proofs.Calling.{count_relabeled, fits_given, keeps_given, labels_before}
 use Rattle.fo_cache.proofs.Labelling.{dirty_changed, label_within, labels_given}
 use Rattle.fo_cache.proofs.Firsts.{one_like}
 use Rattle.std.proofs.Common.{ap as along}
@@ -46,3 +46,9 @@ invariant_of-self-clause-first g c =
     let x = pinned_held (held_at self.mind.buffers c.args.at) c.requires.pinned in
     let given = c.copy.ensures.given x.0.block (sym (ap (option_map block_in) x.1)) [] 0 in
     one_like (parts self.mind [] 0) (parts c.copy.new.self [] 0) s.holds (along (λ (z : All). z.one_bytes) given.rest) (along (λ (z : All). z.doubt) given.rest) self.first
+
+pub returns-clause-keeps : goal.returns-clause-keeps
+returns-clause-keeps g c =
+    let self = c.args.self.now in
+    let x = pinned_held (held_at self.mind.buffers c.args.at) c.requires.pinned in
+    keeps_given (c.copy.ensures.given x.0.block (sym (ap (option_map block_in) x.1)) (g.D.Disk.state self.main).holds (g.D.Disk.faults self.main))

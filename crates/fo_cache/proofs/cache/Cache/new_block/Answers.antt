@@ -3,7 +3,7 @@ use Rattle.fo_image.specs.Place.{label_block}
 use Rattle.fo_labels.specs.Region.{Region}
 use Rattle.fo_mind.specs.MindParts.{parts}
 use Rattle.fo_ports.specs.Blocks.{zero_bytes}
-use Rattle.fo_cache.proofs.Calling.{count_relabeled, fits_given, labels_before}
+use Rattle.fo_cache.proofs.Calling.{count_relabeled, fits_given, keeps_given, labels_before}
 use Rattle.fo_cache.proofs.Labelling.{dirty_changed, label_within, labels_given}
 use Rattle.fo_cache.proofs.Firsts.{one_like}
 use Rattle.std.proofs.Common.{ap as along}
@@ -39,3 +39,6 @@ invariant_of-self-clause-first g c =
     let self = c.args.self.now in
     let s = g.D.Disk.state self.main in
     one_like (parts self.mind [] 0) (parts c.new_block.new.self [] 0) s.holds (along (λ (z : All). z.one_bytes) (c.new_block.ensures.given [] 0).rest) (along (λ (z : All). z.doubt) (c.new_block.ensures.given [] 0).rest) self.first
+
+pub returns-clause-keeps : goal.returns-clause-keeps
+returns-clause-keeps g c = let self = c.args.self.now in keeps_given (c.new_block.ensures.given (g.D.Disk.state self.main).holds (g.D.Disk.faults self.main))

@@ -1,5 +1,6 @@
-use Rattle.std.proofs.Common.{◌≡◌, Some, sym, ap, ◌∙◌, arith}
-use Rattle.fo_mind.specs.Parts.{least_limit}
+use Rattle.std.proofs.Common.{◌≡◌, Some, false, sym, ap, ◌∙◌, subst, arith}
+use Rattle.fo_image.specs.Usable.{is_usable}
+use Rattle.fo_mind.specs.Parts.{label_at, least_limit}
 use Rattle.fo_mind.proofs.Limits.{tried_limit}
 use Rattle.fo_mind.proofs.mind.Mind.accept.Goals as goal
 
@@ -20,3 +21,8 @@ invariant_of-self-2-clause-granting c = λ granted.
     let low = self.granting granted in
     let now = ap (least_limit c.args.one) c.take.ensures.after in
     omega (arith, top, low, now)
+
+pub invariant_of-self-2-clause-root_in : goal.invariant_of-self-2-clause-root_in
+invariant_of-self-2-clause-root_in c =
+    let self = c.args.self.now in
+    record { linked = c.requires.linked; kept = subst (λ n. is_usable n (label_at self.labels c.args.one.active) ≡ false) (sym c.requires.low) c.requires.live }

@@ -4,11 +4,13 @@ use Rattle.fo_image.specs.declared.types.Label.{Label}
 use Rattle.fo_image.specs.declared.types.State.TheVariants.{Live}
 use Rattle.fo_buffers.specs.declared.block.Buffer.{Buffer}
 use Rattle.fo_buffers.specs.Held.{held_at, block_in}
+use Rattle.fo_facts.specs.declared.fact.Fact.{Fact}
+use Rattle.fo_facts.specs.Known.{fact_at}
 use Rattle.fo_bring.proofs.Copying.{good_held as bytes_good}
 use Rattle.fo_ports.specs.State.{Gives}
 use Rattle.fo_mind.specs.Changes.{Given}
 use Rattle.fo_mind.specs.MindParts.{parts}
-use Rattle.fo_mind.specs.Parts.{fact_at, label_at, memory, state_of}
+use Rattle.fo_mind.specs.Parts.{label_at, memory, state_of}
 use Rattle.fo_mind.specs.Laws.{pinned_held}
 use Rattle.fo_mind.proofs.Getting.{good_held, held_is, is_held}
 use Rattle.fo_mind.proofs.Gives.{gives, instead_given, kind_held, same_as}
@@ -23,7 +25,7 @@ copied-bytes-requires c = is_held (held_at c.args.self.now.buffers c.args.at) c.
 pub give-requires-clause-kind : goal.give-requires-clause-kind
 give-requires-clause-kind c =
     let self = c.args.self.now in
-    kind_held c.args.at c.label-label.result c.label-label.ensures self.placed self.holding self.labelled c.requires.pinned
+    kind_held c.args.at c.label-label.result c.label-label.ensures self.placed self.holding self.labelled (is_held (held_at self.buffers c.args.at) c.requires.pinned)
 
 pub give-requires-clause-good : goal.give-requires-clause-good
 give-requires-clause-good c =
@@ -61,7 +63,7 @@ same_bytes o e f = some_same (e ∙ sym f)
 pub returns-clause-given : goal.returns-clause-given
 returns-clause-given c = λ bytes is disk faults.
     let self = c.args.self.now in
-    subst (λ (b : List ℕ). Given c.give.result (label_at self.labels c.args.at).kind (label_at self.labels c.args.at).tag (fact_at self.facts.items c.args.at).rank b (Some c.args.at) (parts self disk faults) (parts c.give.new.self disk faults)) (same_bytes (held_at self.buffers c.args.at) c.copied-bytes.ensures is)
-    (subst (λ (r : ℕ). Given c.give.result (label_at self.labels c.args.at).kind (label_at self.labels c.args.at).tag r c.copied-bytes.result (Some c.args.at) (parts self disk faults) (parts c.give.new.self disk faults)) c.rank_of-rank.ensures
-    (subst (λ (z : Label). Given c.give.result z.kind z.tag c.rank_of-rank.result c.copied-bytes.result (Some c.args.at) (parts self disk faults) (parts c.give.new.self disk faults)) c.label-label.ensures
+    subst (λ (b : List ℕ). Given c.give.result (label_at self.labels c.args.at).kind (label_at self.labels c.args.at).tag (fact_at self.facts c.args.at).rank b (Some c.args.at) (parts self disk faults) (parts c.give.new.self disk faults)) (same_bytes (held_at self.buffers c.args.at) c.copied-bytes.ensures is)
+    (subst (λ (r : ℕ). Given c.give.result (label_at self.labels c.args.at).kind (label_at self.labels c.args.at).tag r c.copied-bytes.result (Some c.args.at) (parts self disk faults) (parts c.give.new.self disk faults)) (ap (λ (f : Fact). f.rank) c.get-fact.ensures)
+    (subst (λ (z : Label). Given c.give.result z.kind z.tag c.get-fact.result.rank c.copied-bytes.result (Some c.args.at) (parts self disk faults) (parts c.give.new.self disk faults)) c.label-label.ensures
     (c.give.ensures disk faults)))

@@ -1,18 +1,21 @@
-use Rattle.std.proofs.Common.{◌<◌, ◌≤◌, ◌-◌, List, length, refl, sym, ap, ◌∙◌, subst, arith}
+use Rattle.std.proofs.Common.{◌<◌, ◌≤◌, ◌-◌, List, length, refl, sym, ap, ◌∙◌, subst, arith, ◌+◌, true}
 use Rattle.fo_image.specs.Format.{LabelHolds}
 use Rattle.fo_image.specs.Usable.{live_label}
-use Rattle.fo_buffers.specs.Held.{Held}
+use Rattle.fo_buffers.specs.Held.{Held, buffer_of, unlisted}
+use Rattle.fo_bring.proofs.Buffering.{put_other, put_same}
 use Rattle.fo_order.specs.Keeps.{Turns}
 use Rattle.fo_order.specs.Turns.{changed}
 use Rattle.fo_labels.specs.Region.{Region}
+use Rattle.fo_facts.specs.Known.{made_fact}
 use Rattle.fo_bring.specs.Blocks.{IsData}
-use Rattle.fo_mind.specs.declared.facts.Fact.{Fact}
-use Rattle.fo_mind.specs.Changes.{made_fact}
-use Rattle.fo_mind.specs.Sound.{Placed, Labelled, Holding, Waiting, Clearable, Owing, Roomy}
+use Rattle.fo_facts.specs.declared.fact.Fact.{Fact}
+use Rattle.fo_mind.specs.Sound.{Placed, Labelled, Holding, Waiting, Clearable, Standing, RootIn, Owing, Roomy}
 use Rattle.fo_mind.proofs.Giving.{clearable_given, holding_given, labelled_given, owing_given, placed_given, roomy_given, waiting_given}
 use Rattle.fo_mind.proofs.Results.{both, three}
+use Rattle.fo_mind.proofs.Standing.{root_given, standing_given}
 use Rattle.fo_mind.specs.Turning.{Turning}
 use Rattle.fo_mind.proofs.Turning.{turning_given}
+use Rattle.fo_mind.proofs.Making.{making_given}
 use Rattle.fo_mind.proofs.mind.Mind.give.Goals as goal
 
 pub alloc_in-at-requires-clause-label : goal.alloc_in-at-requires-clause-label
@@ -31,22 +34,22 @@ change-requires-clause-block c =
     let block : IsData self.first self.count at = (subst (λ n. n ≤ at) self.placed.is_first u.block.from, subst (λ n. at < n) self.placed.is_count u.block.to) in
     let n = self.placed.fact_count in
     let b = block.1 in
-    let lt : at < length self.facts.items = omega (arith, b, n) in
+    let lt : at < length self.facts = omega (arith, b, n) in
     let p = self.placed.is_place in
     let m = self.placed.flag_count in
     let e = c.label_place.ensures.block in
     let within : c.label_place.result.0 < length self.order.flags = omega (arith, e, m, p, b, block.0) in
     within
 
-pub note_made-requires : goal.note_made-requires
-note_made-requires c =
+pub give-requires : goal.give-requires
+give-requires c =
     let self = c.args.self.now in
     let at = c.alloc_in-at.result in
     let u = c.alloc_in-at.ensures.usable in
     let block : IsData self.first self.count at = (subst (λ n. n ≤ at) self.placed.is_first u.block.from, subst (λ n. at < n) self.placed.is_count u.block.to) in
     let n = self.placed.fact_count in
     let b = block.1 in
-    let lt : at < length self.facts.items = omega (arith, b, n) in
+    let lt : at < length self.facts = omega (arith, b, n) in
     lt
 
 pub invariant_of-self-clause-placed : goal.invariant_of-self-clause-placed
@@ -55,7 +58,7 @@ invariant_of-self-clause-placed c =
     let at = c.alloc_in-at.result in
     let u = c.alloc_in-at.ensures.usable in
     let l = live_label c.args.kind c.args.tag self.one.high in
-    three (λ (r : Region) (t : Turns) (fs : List Fact). Placed r t fs self.first self.count) c.alloc_in-at.ensures.is c.change.ensures c.note_made.ensures.items (placed_given self.facts.items at 0 c.label_place.result.0 l (made_fact c.args.origin c.args.rank) self.placed)
+    three (λ (r : Region) (t : Turns) (fs : List Fact). Placed r t fs self.first self.count) c.alloc_in-at.ensures.is c.change.ensures c.give.ensures (placed_given self.facts at 0 c.label_place.result.0 l (made_fact c.args.origin c.args.rank) self.placed)
 
 pub invariant_of-self-clause-labelled : goal.invariant_of-self-clause-labelled
 invariant_of-self-clause-labelled c =
@@ -99,12 +102,12 @@ invariant_of-self-clause-owing c =
     let block : IsData self.first self.count at = (subst (λ n. n ≤ at) self.placed.is_first u.block.from, subst (λ n. at < n) self.placed.is_count u.block.to) in
     let n = self.placed.fact_count in
     let b = block.1 in
-    let lt : at < length self.facts.items = omega (arith, b, n) in
+    let lt : at < length self.facts = omega (arith, b, n) in
     let p = self.placed.is_place in
     let m = self.placed.flag_count in
     let e = c.label_place.ensures.block in
     let within : c.label_place.result.0 < length self.order.flags = omega (arith, e, m, p, b, block.0) in
-    three (λ (h : Held) (t : Turns) (fs : List Fact). Owing h t fs) c.make.ensures c.change.ensures c.note_made.ensures.items (owing_given self.facts.items at 0 c.label_place.result.0 (made_fact c.args.origin c.args.rank) c.args.bytes.now lt within refl self.owing)
+    three (λ (h : Held) (t : Turns) (fs : List Fact). Owing h t fs) c.make.ensures c.change.ensures c.give.ensures (owing_given self.facts at 0 c.label_place.result.0 (made_fact c.args.origin c.args.rank) c.args.bytes.now lt within refl self.owing)
 
 pub invariant_of-self-clause-roomy : goal.invariant_of-self-clause-roomy
 invariant_of-self-clause-roomy c =
@@ -114,8 +117,8 @@ invariant_of-self-clause-roomy c =
     let block : IsData self.first self.count at = (subst (λ n. n ≤ at) self.placed.is_first u.block.from, subst (λ n. at < n) self.placed.is_count u.block.to) in
     let n = self.placed.fact_count in
     let b = block.1 in
-    let lt : at < length self.facts.items = omega (arith, b, n) in
-    both (λ (t : Turns) (fs : List Fact). Roomy c.make.new.self t c.alloc_in-at.new.labels fs self.one.low (self.spare - 1) self.pins) c.change.ensures c.note_made.ensures.items (roomy_given self.facts.items at 0 c.label_place.result.0 (made_fact c.args.origin c.args.rank) lt (ap (λ (h : Held). h.room) c.make.ensures) c.requires.spare c.alloc_in-at.ensures.count self.roomy)
+    let lt : at < length self.facts = omega (arith, b, n) in
+    both (λ (t : Turns) (fs : List Fact). Roomy c.make.new.self t c.alloc_in-at.new.labels fs self.one.low (self.spare - 1) self.pins (self.room + length self.clears.items)) c.change.ensures c.give.ensures (roomy_given self.facts at 0 c.label_place.result.0 (made_fact c.args.origin c.args.rank) lt (ap (λ (h : Held). h.room) c.make.ensures) c.requires.spare c.alloc_in-at.ensures.count self.roomy)
 
 pub returns : goal.returns
 returns c =
@@ -131,7 +134,7 @@ returns c =
       count = c.alloc_in-at.ensures.count;
       held = c.make.ensures;
       turns = c.change.ensures ∙ ap (λ n. changed self.order n 0) c.label_place.ensures.block;
-      facts = c.note_made.ensures.items;
+      facts = c.give.ensures;
       spare = omega (arith, spare);
       rest = refl;
     }
@@ -142,4 +145,29 @@ invariant_of-self-clause-turning c =
     let at = c.alloc_in-at.result in
     let u = c.alloc_in-at.ensures.usable in
     let block : IsData self.first self.count at = (subst (λ n. n ≤ at) self.placed.is_first u.block.from, subst (λ n. at < n) self.placed.is_count u.block.to) in
-    three (λ (h : Held) (t : Turns) (fs : List Fact). Turning self.first h t fs) c.make.ensures c.change.ensures c.note_made.ensures.items (turning_given self.facts.items at c.label_place.result.0 (made_fact c.args.origin c.args.rank) c.args.bytes.now block c.label_place.ensures.block refl self.placed self.holding self.turning)
+    three (λ (h : Held) (t : Turns) (fs : List Fact). Turning self.first h t fs) c.make.ensures c.change.ensures c.give.ensures (turning_given self.facts at c.label_place.result.0 (made_fact c.args.origin c.args.rank) c.args.bytes.now block c.label_place.ensures.block refl self.placed self.holding self.turning)
+
+pub invariant_of-self-clause-making : goal.invariant_of-self-clause-making
+invariant_of-self-clause-making c =
+    let self = c.args.self.now in
+    let at = c.alloc_in-at.result in
+    let u = c.alloc_in-at.ensures.usable in
+    let to : at < self.count = subst (λ n. at < n) self.placed.is_count u.block.to in
+    let n = self.placed.fact_count in
+    let lt : at < length self.facts = omega (arith, to, n) in
+    making_given self.facts c.give.new.self at c.args.rank c.args.origin lt c.give.ensures c.requires.spare self.making
+
+pub invariant_of-self-clause-standing : goal.invariant_of-self-clause-standing
+invariant_of-self-clause-standing c =
+    let self = c.args.self.now in
+    let at = c.alloc_in-at.result in
+    let x = buffer_of c.args.bytes.now true true in
+    both (λ (h : Held) (fs : List Fact). Standing h fs self.clears.items) c.make.ensures c.give.ensures (standing_given self.facts (made_fact c.args.origin c.args.rank) x (λ q ne. put_other (unlisted self.buffers at) at x q ne) (put_same (unlisted self.buffers at) at x) self.standing)
+
+pub invariant_of-self-clause-root_in : goal.invariant_of-self-clause-root_in
+invariant_of-self-clause-root_in c =
+    let self = c.args.self.now in
+    let at = c.alloc_in-at.result in
+    let u = c.alloc_in-at.ensures.usable in
+    let l = live_label c.args.kind c.args.tag self.one.high in
+    both (λ (r : Region) (fs : List Fact). RootIn self.one.low r fs self.one.active) c.alloc_in-at.ensures.is c.give.ensures (root_given self.labels self.facts at l (made_fact c.args.origin c.args.rank) u.block u.usable self.root_in)

@@ -1,5 +1,7 @@
 use Rattle.fo_mind.specs.MindParts.{parts}
 use Rattle.fo_mind.specs.Laws.{active, root_is, within, small, spelled, one_doubt, waits_in_use}
+use Rattle.std.proofs.Common.{sym, ◌∙◌}
+use Rattle.fo_mind.proofs.Making.{unlike}
 use Rattle.fo_mind.proofs.mind.Mind.laws.Goals as goal
 
 pub returns : goal.returns
@@ -13,6 +15,7 @@ returns c = λ disk faults.
       enough = self.roomy.usable;
       active = active p self.first self.count self.placed;
       root_is = (root_is p self.first self.count self.placed self.rooted).0;
+      root_linked = λ h. unlike (sym self.root_in.linked ∙ h);
       within = within p self.first self.count self.placed self.holding;
       small = small p self.first self.count self.placed;
       spelled = spelled p self.first self.count self.placed self.holding;

@@ -12,7 +12,7 @@ use Rattle.fo_mind.specs.MindParts.{parts}
 use Rattle.fo_mind.specs.Parts.{label_at}
 use Rattle.fo_mind.specs.Laws.{pinned_held}
 use Rattle.fo_mind.proofs.Getting.{good_held, is_held}
-use Rattle.fo_mind.proofs.Refilling.{good_put, used_put, put_result, no_wait_put}
+use Rattle.fo_mind.proofs.Refilling.{good_put, owed_pinned, used_put, put_result, no_wait_put}
 use Rattle.fo_mind.proofs.mind.Mind.put_bytes.Goals as goal
 
 pub label-label-requires : goal.label-label-requires
@@ -78,3 +78,9 @@ returns-clause-refilled c = λ was is disk faults.
     let self = c.args.self.now in
     let same = same_bytes (held_at self.buffers c.args.at) c.copied-block.ensures is in
     subst (λ (b : List ℕ). Refilled c.args.at b (parts self disk faults) (parts c.refill.new.self disk faults)) (c.put_bytes_into.ensures.is ∙ ap (put_at c.args.from c.args.bytes.now) same) (c.refill.ensures disk faults)
+
+pub refill-requires-clause-held : goal.refill-requires-clause-held
+refill-requires-clause-held c = is_held (held_at c.args.self.now.buffers c.args.at) c.requires.pinned
+
+pub refill-requires-clause-owed : goal.refill-requires-clause-owed
+refill-requires-clause-owed c = let self = c.args.self.now in owed_pinned self.facts c.args.at c.requires.pinned self.owing

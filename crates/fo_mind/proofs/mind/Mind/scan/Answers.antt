@@ -7,6 +7,7 @@ use Rattle.fo_mind.proofs.Getting.{got_clean, from_held, from_glance, nothing_br
 use Rattle.fo_mind.proofs.Results.{on_ok, damaged}
 use Rattle.fo_mind.proofs.Coming.{comes_at_once, comes_same}
 use Rattle.fo_mind.proofs.Turning.{same_held}
+use Rattle.fo_mind.proofs.Standing.{standing_same}
 use Rattle.fo_mind.proofs.mind.Mind.scan.Goals as goal
 
 pub returns-then-is_held-clause-got : goal.returns-then-is_held-clause-got
@@ -59,3 +60,6 @@ returns-clause-comes g c = comes_same (g.D.Disk.state c.args.main.now).holds c.a
 
 pub invariant_of-self-clause-turning : goal.invariant_of-self-clause-turning
 invariant_of-self-clause-turning g c = same_held c.glance.ensures.held c.args.self.now.turning
+
+pub invariant_of-self-clause-standing : goal.invariant_of-self-clause-standing
+invariant_of-self-clause-standing g c = standing_same c.glance.ensures.held c.args.self.now.standing

@@ -7,6 +7,8 @@ use Rattle.fo_bring.proofs.Copying.{good_held as bytes_good}
 use Rattle.fo_mind.specs.MindParts.{parts}
 use Rattle.fo_mind.proofs.Getting.{good_held, held_is, is_held}
 use Rattle.fo_mind.proofs.Waits.{calm_pairs, image_pairs, keeps_pairs, no_wait_pairs, waiting_more, waits_pairs}
+use Rattle.fo_mind.proofs.Making.{making_fewer}
+use Rattle.fo_mind.proofs.Keeping.{roomy_fewer}
 use Rattle.fo_mind.proofs.mind.Mind.wait_for.Goals as goal
 
 pub copied-bytes-requires : goal.copied-bytes-requires
@@ -66,3 +68,9 @@ returns-clause-keeps c = λ disk faults.
     let p = parts self disk faults in
     let some = c.requires.room in
     keeps_pairs p c.args.at c.args.on (self.room - 1) c.copied-bytes.result c.wait_pairs.new.waits.items (omega (arith, some)) (held_is p self.first self.count c.args.on c.copied-bytes.result self.placed self.holding c.copied-bytes.ensures ∙ ap (λ (k : Kind). read k c.copied-bytes.result) c.requires.entries) c.wait_pairs.ensures.lists
+
+pub invariant_of-self-clause-roomy : goal.invariant_of-self-clause-roomy
+invariant_of-self-clause-roomy c = roomy_fewer (omega arith) c.args.self.now.roomy
+
+pub invariant_of-self-clause-making : goal.invariant_of-self-clause-making
+invariant_of-self-clause-making c = making_fewer (omega arith) c.args.self.now.making

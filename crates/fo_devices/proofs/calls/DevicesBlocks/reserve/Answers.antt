@@ -1,0 +1,27 @@
+use Rattle.std.proofs.Common.{refl, arith}
+use Rattle.fo_devices.proofs.Frames.{caused, rests}
+use Rattle.fo_devices.proofs.Staying.{blamed}
+use Rattle.fo_mind.specs.MindParts.{parts}
+use Rattle.fo_mind.specs.Parts.{state_of}
+use Rattle.fo_devices.proofs.calls.DevicesBlocks.reserve.Goals as goal
+
+pub returns-clause-rests : goal.returns-clause-rests
+returns-clause-rests g c =
+    let old = c.args.self.now.cache in
+    let new = c.reserve.new.cache in
+    let s = state_of (parts old.mind (g.D.Disk.state old.main).holds (g.D.Disk.faults old.main)) in
+    let t = state_of (parts new.mind (g.D.Disk.state new.main).holds (g.D.Disk.faults new.main)) in
+    let f = g.A.Disk.faults c.args.self.now.arena.device in
+    rests s t f f c.reserve.ensures.rests
+
+pub returns-clause-cause : goal.returns-clause-cause
+returns-clause-cause g c =
+    let old = c.args.self.now.cache in
+    let new = c.reserve.new.cache in
+    let s = state_of (parts old.mind (g.D.Disk.state old.main).holds (g.D.Disk.faults old.main)) in
+    let t = state_of (parts new.mind (g.D.Disk.state new.main).holds (g.D.Disk.faults new.main)) in
+    let f = g.A.Disk.faults c.args.self.now.arena.device in
+    blamed c.reserve.result _ (λ x. ⊥) _ _ _ (λ x h. absurd h) (caused c.reserve.result t f c.args.blocks (λ x. ⊥) _ _ c.reserve.ensures.cause)
+
+pub returns-clause-keeps : goal.returns-clause-keeps
+returns-clause-keeps g c = record { parts = c.reserve.ensures.keeps; same_size = c.reserve.ensures.size; same_shelf = refl; same_stored = refl; more_faults = omega arith }

@@ -1,0 +1,151 @@
+//! Slots are put.
+ghost use Rattle.std.specs.Prelude.{◌≡◌, ◌≢◌, ◌+◌, ◌-◌, ◌*◌, ◌<◌, ◌≤◌, ℕ, [], true, false};
+ghost use Rattle.fo_disk.specs.Disk.{Content as Holds};
+ghost use Rattle.fo_image.specs.declared.types.Pointer.TheVariants.{Local};
+ghost use Rattle.fo_image.specs.Format.{KindHolds};
+ghost use Rattle.fo_crash.specs.Images.{target};
+ghost use Rattle.fo_ports.specs.Blocks.{SlotFits, ends, slot_count};
+ghost use Rattle.fo_facts.specs.Known.{fact_at};
+ghost use Rattle.fo_linking.specs.Joined.{AreGood, IsReady, Joins, JoinsBelow};
+ghost use Rattle.fo_bring.specs.Blocks.{IsData};
+ghost use Rattle.fo_waits.specs.Listed.{Listed, is_active};
+ghost use Rattle.fo_mind.specs.MindParts.{parts};
+ghost use Rattle.fo_mind.specs.Changes.{takes_turn};
+ghost use Rattle.fo_mind.specs.Parts.{IsHeld, IsPinned, label_at, memory};
+ghost use Rattle.fo_mind.specs.Slotted.{Follows, Hung, Slotted};
+
+use crate::mind::Mind;
+use crate::news::copied;
+use fo_buffers::Buffers;
+use fo_crash::Slot;
+use fo_facts::Facts;
+use fo_image::Pointer;
+use fo_labels::Labels;
+use fo_linking::Worklist;
+use fo_order::Order;
+use fo_raising::{is_raised, note_put};
+use fo_slots::put_slot_into;
+use fo_takeout::Put;
+use fo_taking::take_put;
+
+// Links what hangs from a slot of a block, where that is in the tree.
+fn link_put(
+    links: &mut Worklist,
+    buffers: &Buffers,
+    labels: &Labels,
+    order: &mut Order,
+    facts: &mut Facts,
+    at: u32,
+    to: Pointer,
+)
+    requires good { AreGood labels.now buffers.now }
+    requires ready { IsReady facts.old order.old links.old }
+    ensures linked { (fact_at facts.old at).linked ≡ true → JoinsBelow buffers.now labels.now to facts.old facts.new order.old order.new }
+    ensures stays { (fact_at facts.old at).linked ≡ false → (facts.new ≡ facts.old) × (order.new ≡ order.old) }
+    ensures joins { Joins buffers.now facts.old facts.new order.old order.new }
+    ensures same { links.new ≡ links.old }
+{
+    let fact = facts.get(at);
+    if !fact.linked {
+        return;
+    }
+    links.link(buffers, labels, order, facts, to);
+}
+
+// How many removals may be queued: what a put costs, and one for each block that was linked.
+fn budget(price: u32, before: usize, after: usize, room: u32) -> u32
+    requires fewer { after ≤ before }
+    requires room { price + (before - after) ≤ room }
+    ensures { result ≡ price + (before - after) }
+{
+    let _room = room;
+    price + (before - after) as u32
+}
+
+impl Mind {
+    // A slot of a block leads there now.
+    fn hang(&mut self, at: u32, to: Pointer, raised: bool)
+        requires at { IsData self.old.first self.old.count at }
+        requires to { (b : ℕ) → to ≡ Local b → IsData self.old.first self.old.count b × (b ≢ at) }
+        ensures { (disk : Holds) (faults : ℕ) → Hung at to raised (parts self.old disk faults) (parts self.new disk faults) }
+    {
+        note_put(&mut self.facts, at, to, raised);
+    }
+
+    // Links what comes into the tree with a slot that was put, and queues what leaves.
+    fn follow(&mut self, put: &Put, price: u32)
+        requires kind { KindHolds put.now.kind }
+        requires old { SlotFits put.now.kind put.now.i put.now.old }
+        requires new { SlotFits put.now.kind put.now.i put.now.new }
+        requires ends { ends (target put.now.old) (target put.now.new) ≤ price }
+        requires room { price ≤ self.old.room }
+        ensures { (disk : Holds) (faults : ℕ) → Follows put.now price (parts self.old disk faults) (parts self.new disk faults) }
+    {
+        let to = put.new.target();
+        let before = self.facts.made();
+        link_put(
+            &mut self.links,
+            &self.buffers,
+            &self.labels,
+            &mut self.order,
+            &mut self.facts,
+            put.at,
+            to,
+        );
+        let after = self.facts.made();
+        let most = budget(price, before, after, self.queue.room());
+        take_put(
+            &mut self.walk,
+            &mut self.queue,
+            &self.buffers,
+            &self.labels,
+            self.one.high,
+            put,
+            most,
+        );
+        self.room -= price;
+    }
+
+    /// A slot of a pinned block changes, at this price in room.
+    pub fn change_slot(&mut self, at: u32, i: u32, slot: Slot, price: u32)
+        requires pinned { IsPinned self.old.buffers at }
+        requires spelled { (i < slot_count (label_at self.old.labels at).kind) × SlotFits (label_at self.old.labels at).kind i slot }
+        requires used { (a k : ℕ) → Listed self.old.waits.items a at k → i ≡ 2 * k → is_active slot ≡ true }
+        requires leads { (b : ℕ) → target slot ≡ Local b → IsData self.old.first self.old.count b × (b ≢ at) }
+        requires ends { ends (target ((memory (parts self.old [] 0) at).slot i)) (target slot) ≤ price }
+        requires room { price ≤ self.old.room }
+        ensures { (disk : Holds) (faults : ℕ) → Slotted at i price slot (parts self.old disk faults) (parts self.new disk faults) }
+    {
+        self.change_held(at, i, slot, price);
+    }
+
+    // A slot of a held block changes, at this price in room. Where the block takes a turn, room was kept for that.
+    pub(crate) fn change_held(&mut self, at: u32, i: u32, slot: Slot, price: u32)
+        requires held { IsHeld self.old.buffers at }
+        requires owed { takes_turn self.old.facts self.old.order at ≡ true → (fact_at self.old.facts at).owes ≡ true }
+        requires spelled { (i < slot_count (label_at self.old.labels at).kind) × SlotFits (label_at self.old.labels at).kind i slot }
+        requires used { (a k : ℕ) → Listed self.old.waits.items a at k → i ≡ 2 * k → is_active slot ≡ true }
+        requires leads { (b : ℕ) → target slot ≡ Local b → IsData self.old.first self.old.count b × (b ≢ at) }
+        requires ends { ends (target ((memory (parts self.old [] 0) at).slot i)) (target slot) ≤ price }
+        requires room { price ≤ self.old.room }
+        ensures { (disk : Holds) (faults : ℕ) → Slotted at i price slot (parts self.old disk faults) (parts self.new disk faults) }
+    {
+        let label = self.label(at);
+        let old = self.slot_held(at, i);
+        let fact = self.facts.get(at);
+        let mut block = copied(&self.buffers, at);
+        let raised = is_raised(&fact, label.kind, i, &block);
+        put_slot_into(label.kind, i as usize, &slot, &mut block);
+        self.refill(at, &block);
+        let to = slot.target();
+        self.hang(at, to, raised);
+        let put = Put {
+            at,
+            kind: label.kind,
+            i,
+            old,
+            new: slot,
+        };
+        self.follow(&put, price);
+    }
+}

@@ -1,0 +1,4 @@
+pub mod Linking
+pub mod Placing
+pub mod Removing
+pub mod Using

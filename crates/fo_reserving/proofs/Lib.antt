@@ -1,0 +1,7 @@
+pub mod Calming
+pub mod Counting
+pub mod Ending
+pub mod Joining
+pub mod Letting
+pub mod Rooming
+pub mod Shutting

@@ -1,0 +1,42 @@
+use Rattle.std.proofs.Common.{[]}
+use Rattle.fo_mind.specs.MindParts.{parts}
+use Rattle.fo_reserving.proofs.Shutting.{first_same, fits_closed, labels_closed, one_closed, reserves_closed, shutting_closings}
+use Rattle.fo_reserving.proofs.closing.close_queued.Goals as goal
+
+pub invariant_of-cache-clause-fits : goal.invariant_of-cache-clause-fits
+invariant_of-cache-clause-fits g c =
+    let old = c.args.cache.now in
+    let new = c.close_until.new in
+    let e = c.close_until.ensures in
+    let p = parts old.mind [] 0 in
+    let q = parts new.mind [] 0 in
+    fits_closed p q (g.D.Disk.state old.main) (g.D.Disk.state new.main) e.state (g.D.Disk.faults old.main) (g.D.Disk.faults new.main) e.leaves c.requires.quiet e.rest (first_same p q old.mind.placed new.mind.placed e.count) c.requires.held new.mind.standing old.fits
+
+pub invariant_of-cache-clause-spelled : goal.invariant_of-cache-clause-spelled
+invariant_of-cache-clause-spelled g c =
+    let old = c.args.cache.now in
+    let new = c.close_until.new in
+    let e = c.close_until.ensures in
+    let p = parts old.mind [] 0 in
+    let q = parts new.mind [] 0 in
+    labels_closed p q (g.D.Disk.state old.main) (g.D.Disk.state new.main) e.state (g.D.Disk.faults old.main) (g.D.Disk.faults new.main) e.leaves c.requires.quiet e.rest (first_same p q old.mind.placed new.mind.placed e.count)
+    (shutting_closings p q (g.D.Disk.state old.main).holds (g.D.Disk.state new.main).holds (g.D.Disk.faults old.main) (g.D.Disk.faults new.main) old.mind.queue new.mind.queue e.closes) old.spelled
+
+pub invariant_of-cache-clause-first : goal.invariant_of-cache-clause-first
+invariant_of-cache-clause-first g c =
+    let old = c.args.cache.now in
+    let new = c.close_until.new in
+    let e = c.close_until.ensures in
+    let p = parts old.mind [] 0 in
+    let q = parts new.mind [] 0 in
+    one_closed p q (g.D.Disk.state old.main) (g.D.Disk.state new.main) e.state (g.D.Disk.faults old.main) (g.D.Disk.faults new.main) e.leaves c.requires.quiet e.rest (first_same p q old.mind.placed new.mind.placed e.count) old.first
+
+pub returns-clause-leaves : goal.returns-clause-leaves
+returns-clause-leaves g c =
+    let old = c.args.cache.now in
+    let new = c.close_until.new in
+    let e = c.close_until.ensures in
+    let p = parts old.mind [] 0 in
+    let q = parts new.mind [] 0 in
+    reserves_closed p q (g.D.Disk.state old.main) (g.D.Disk.state new.main) e.state (g.D.Disk.faults old.main) (g.D.Disk.faults new.main) e.leaves c.requires.quiet e.rest (first_same p q old.mind.placed new.mind.placed e.count)
+    (shutting_closings p q (g.D.Disk.state old.main).holds (g.D.Disk.state new.main).holds (g.D.Disk.faults old.main) (g.D.Disk.faults new.main) old.mind.queue new.mind.queue e.closes) c.requires.some c.requires.rest.none e.count

@@ -1,0 +1,24 @@
+use Rattle.std.proofs.Common.{[], ap, arith}
+use Rattle.fo_mind.specs.MindParts.{parts}
+use Rattle.fo_reserving.proofs.Calming.{rest_few}
+use Rattle.fo_reserving.proofs.Joining.{reserves_on}
+use Rattle.fo_reserving.proofs.Rooming.{caused_result}
+use Rattle.fo_reserving.proofs.needs.make_more.Goals as goal
+
+pub returns-in_default-make-clause-leaves : goal.returns-in_default-make-clause-leaves
+returns-in_default-make-clause-leaves g c = reserves_on c.close_more.ensures.leaves c.make.ensures.leaves
+
+pub returns-then-made-clause-leaves : goal.returns-then-made-clause-leaves
+returns-then-made-clause-leaves g c = reserves_on c.close_more.ensures.leaves c.make.ensures.leaves
+
+pub returns-clause-leaves : goal.returns-clause-leaves
+returns-clause-leaves g c = reserves_on (reserves_on c.close_more.ensures.leaves c.make.ensures.leaves) c.make_last.ensures.leaves
+
+pub returns-clause-cause : goal.returns-clause-cause
+returns-clause-cause g c =
+    let a = c.close_more.ensures.later in
+    let e = ap (λ m. g.D.Disk.faults m) c.make.ensures.device in
+    caused_result _ _ _ _ c.make_last.result (omega (arith, a, e)) c.make_last.ensures.cause
+
+pub returns-then-made-clause-few : goal.returns-then-made-clause-few
+returns-then-made-clause-few g c = c.make.ensures.few_stay (rest_few (parts c.close_more.new.cache.mind [] 0) c.in_default.ensures.rest)

@@ -1,0 +1,14 @@
+use Rattle.std.proofs.Common.{[], ap}
+use Rattle.fo_mind.specs.MindParts.{parts}
+use Rattle.fo_reserving.proofs.Joining.{reserves_still}
+use Rattle.fo_reserving.proofs.Letting.{reserves_let}
+use Rattle.fo_reserving.proofs.pins.release_all.Goals as goal
+
+pub returns-clause-leaves : goal.returns-clause-leaves
+returns-clause-leaves g c =
+    let old = c.args.cache.now in
+    let p = parts old.mind [] 0 in
+    let q = parts c.release_each.new.cache.mind [] 0 in
+    let e = c.release_each.ensures in
+    reserves_still p q (ap (λ m. (g.D.Disk.state m).holds) e.device) (ap (λ m. g.D.Disk.faults m) e.device)
+    (reserves_let p q (g.D.Disk.state old.main).holds (g.D.Disk.faults old.main) old.mind.placed old.mind.turning old.mind.standing e.lets)

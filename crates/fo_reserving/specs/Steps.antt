@@ -1,0 +1,50 @@
+-- What the steps of a reservation leave.
+use Rattle.std.specs.Prelude.{◌≡◌, ◌≢◌, ◌⊎◌, ◌+◌, ◌≤◌, ℕ, zero, suc, false, cond, length, count_by, Option, None}
+use Rattle.std.specs.Option.{option_map}
+use Rattle.fo_buffers.specs.declared.block.Buffer.{Buffer}
+use Rattle.fo_buffers.specs.Held.{Held, held_at, pinned_as}
+use Rattle.fo_facts.specs.Known.{fact_at, owing_no_more}
+use Rattle.fo_image.specs.Place.{label_block}
+use Rattle.fo_order.specs.declared.marks.Tried.TheVariants.{Settled}
+use Rattle.fo_order.specs.Flags.{is_dirty}
+use Rattle.fo_order.specs.Keeps.{Turns}
+use Rattle.fo_order.specs.Turns.{flag_at}
+use Rattle.fo_ports.specs.State.{Rests}
+use Rattle.fo_waits.specs.Listed.{Clears}
+use Rattle.fo_mind.specs.Parts.{CacheKeeps, IsBlock, IsPinned, Parts, label_at, state_of}
+use Rattle.fo_mind.specs.Turning.{is_changed, is_pinned_at, may_release}
+
+-- what is held of a block, pinned or not
+abbrev pub as_held : Held → ℕ → Option Buffer
+as_held h b = option_map (pinned_as false) (held_at h b)
+
+-- A block isn't held any more, which memory didn't change, and of which no slot waited to be cleared.
+abbrev pub IsLet : Parts → Parts → ℕ → Type 0
+IsLet p q b = (held_at q.held b ≡ None) × (is_changed (held_at p.held b) ≡ false) × ((j : ℕ) → Clears p.clears b j → ⊥)
+
+-- Pins end, and blocks are given up that were not changed. Nothing is pinned that wasn't; what is held has its bytes; all else that is
+-- known of addresses stays, but that no room may be kept for turns of blocks that were pinned.
+pub record Lets (p q : Parts) : Type 0 where
+  pub held : (b : ℕ) → (as_held q.held b ≡ as_held p.held b) ⊎ IsLet p q b
+  pub pinned : (b : ℕ) → IsPinned q.held b → IsPinned p.held b
+  pub facts : (b : ℕ) → owing_no_more (fact_at q.facts b) ≡ owing_no_more (fact_at p.facts b)
+  pub rest : q ≡ record p { held = q.held; facts = q.facts }
+
+-- It is pinned, or may not be given up.
+abbrev pub IsKept : Parts → ℕ → Type 0
+IsKept p b = IsPinned p.held b ⊎ (may_release p b ≡ false)
+
+-- At most so many blocks are to be written or settled; or no data block is.
+abbrev pub AreFew : Turns → ℕ → Type 0
+AreFew t first = (count_by is_dirty t.flags + length t.written ≤ 4096) ⊎ ((b : ℕ) → first ≤ b → ((flag_at t b).dirty ≡ false) × ((flag_at t b).tried ≡ Settled))
+
+-- how many blocks below an address are pinned
+abbrev pub pins_below : Held → ℕ → ℕ
+pins_below h zero = 0
+pins_below h (suc n) = pins_below h n + cond (is_pinned_at h n) 1 0
+
+-- What steps of a reservation leave, in the words of calls on blocks; and labels that changed have their places in blocks of labels.
+pub record Reserves (p q : Parts) : Type 0 where
+  pub rests : Rests (state_of p) (state_of q)
+  pub keeps : CacheKeeps p q
+  pub apart : (x : ℕ) → label_at q.region x ≢ label_at p.region x → IsBlock p (label_block x) → ⊥

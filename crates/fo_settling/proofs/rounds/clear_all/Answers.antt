@@ -1,0 +1,19 @@
+use Rattle.std.proofs.Common.{◌∙◌, arith}
+use Rattle.fo_cache.proofs.Easing.{eases_on}
+use Rattle.fo_settling.proofs.rounds.clear_all.Goals as goal
+
+pub returns-in_err-clear_next-clause-eases : goal.returns-in_err-clear_next-clause-eases
+returns-in_err-clear_next-clause-eases g c = eases_on c.loop.invariant.eases c.clear_next.ensures.eases
+
+pub returns-clause-eases : goal.returns-clause-eases
+returns-clause-eases g c = eases_on c.loop.invariant.eases c.clear_next.ensures.eases
+
+pub loop-preserved : goal.loop-preserved
+loop-preserved g c =
+    let l = c.in_ok-clear_next.ensures.less c.if-not-branch.true in
+    let was = c.loop.invariant.fewer in
+    record {
+      eases = eases_on c.loop.invariant.eases c.clear_next.ensures.eases;
+      fewer = omega (arith, l, was);
+      device = c.clear_next.ensures.device ∙ c.loop.invariant.device;
+    }

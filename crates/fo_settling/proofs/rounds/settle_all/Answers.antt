@@ -1,0 +1,27 @@
+use Rattle.std.proofs.Common.{sym, ap, ◌∙◌, subst}
+use Rattle.fo_order.specs.Turns.{IsQuiet}
+use Rattle.fo_waits.specs.Listed.{Clears}
+use Rattle.fo_mind.specs.Parts.{IsPinned, Parts}
+use Rattle.fo_cache.proofs.Easing.{eases_on}
+use Rattle.fo_settling.proofs.Waiting.{newborn_or_sealed}
+use Rattle.fo_settling.proofs.rounds.settle_all.Goals as goal
+
+pub returns-in_err-settle_rounds-clause-eases : goal.returns-in_err-settle_rounds-clause-eases
+returns-in_err-settle_rounds-clause-eases g c = eases_on c.settle_doubt.ensures.eases c.settle_rounds.ensures.eases
+
+pub returns-clause-eases : goal.returns-clause-eases
+returns-clause-eases g c = eases_on (eases_on (eases_on c.settle_doubt.ensures.eases c.settle_rounds.ensures.eases) c.waits_over.ensures.eases) c.seal_pinned.ensures.eases
+
+pub returns-clause-none : goal.returns-clause-none
+returns-clause-none g c = λ b j h. c.in_ok-settle_rounds.ensures.done.1 b j (subst (λ (z : Parts). Clears z.clears b j) c.waits_over.ensures.over (subst (λ (z : Parts). Clears z.clears b j) c.seal_pinned.ensures.sealed.rest h))
+
+pub returns-clause-quiet : goal.returns-clause-quiet
+returns-clause-quiet g c = subst (λ (z : Parts). IsQuiet z.turns) (sym c.seal_pinned.ensures.sealed.rest) (subst (λ (z : Parts). IsQuiet z.turns) (sym c.waits_over.ensures.over) c.in_ok-settle_rounds.ensures.done.0)
+
+pub returns-clause-no_wait : goal.returns-clause-no_wait
+returns-clause-no_wait g c = ap (λ (z : Parts). z.waits) c.seal_pinned.ensures.sealed.rest ∙ ap (λ (z : Parts). z.waits) c.waits_over.ensures.over
+
+pub returns-clause-pinned : goal.returns-clause-pinned
+returns-clause-pinned g c = λ b is.
+    let z = c.seal_pinned.ensures.sealed in
+    newborn_or_sealed c.seal_pinned.new.self.mind.facts b (z.pinned b (subst (λ (q : Parts). IsPinned q.held b) z.rest is))

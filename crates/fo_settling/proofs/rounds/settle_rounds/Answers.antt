@@ -1,0 +1,19 @@
+use Rattle.std.proofs.Common.{◌∙◌, arith}
+use Rattle.fo_cache.proofs.Easing.{eases_on}
+use Rattle.fo_settling.proofs.rounds.settle_rounds.Goals as goal
+
+pub returns-in_err-settle_round-clause-eases : goal.returns-in_err-settle_round-clause-eases
+returns-in_err-settle_round-clause-eases g c = eases_on c.loop.invariant.eases c.settle_round.ensures.eases
+
+pub returns-clause-eases : goal.returns-clause-eases
+returns-clause-eases g c = eases_on c.loop.invariant.eases c.settle_round.ensures.eases
+
+pub loop-preserved : goal.loop-preserved
+loop-preserved g c =
+    let a = c.loop.invariant.later in
+    let b = c.settle_round.ensures.later in
+    record {
+      eases = eases_on c.loop.invariant.eases c.settle_round.ensures.eases;
+      size = c.settle_round.ensures.size ∙ c.loop.invariant.size;
+      later = omega (arith, a, b);
+    }

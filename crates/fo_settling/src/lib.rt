@@ -1,0 +1,16 @@
+//! A cache is settled: all that has a turn is written and settled, and the slots that wait are cleared.
+//!
+//! What waits for a leaf is cleared once the leaf is settled; then the blocks in which slots were cleared have turns, for which other slots
+//! may wait. So turns and clearings follow one another until neither is left, which ends, since each clearing leaves fewer slots that wait.
+//!
+//! Proved: where it answers Ok, nothing has a turn, no slot waits, what is dirty is newborn, and what
+//! is pinned is newborn or sealed; whatever it answers, what isn't doomed
+//! stays (`Rests`), pinned blocks are what they were but for slots that waited, labels, pins, seals and room stay, and no removal is lost.
+//! It is refused where the device failed, or for want of memory. Then what was settled until then stays so.
+//!
+//! Not proved here: what is said of crash images, places and moments.
+#![tactic(auto)]
+
+mod rounds;
+
+pub use rounds::settle;

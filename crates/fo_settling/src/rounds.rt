@@ -1,0 +1,113 @@
+//! Turns and clearings, until neither is left.
+ghost use Rattle.std.specs.Prelude.{◌≡◌, ◌⊎◌, ◌<◌, ◌≤◌, ℕ, [], true, false, length, OnOk, IfOk, IfErr};
+ghost use Rattle.fo_base.specs.Cause.{Rose};
+ghost use Rattle.fo_crash.specs.Steps.{AllAre};
+ghost use Rattle.fo_order.specs.Turns.{IsQuiet};
+ghost use Rattle.fo_ports.specs.Causes.{Caused};
+ghost use Rattle.fo_ports.specs.State.{IsUnlinked, Rests, StaysKnown};
+ghost use Rattle.fo_ports.specs.declared.error.BlockError.TheVariants.{Memory as Wanting};
+ghost use Rattle.fo_facts.specs.Known.{fact_at};
+ghost use Rattle.fo_waits.specs.Listed.{Clears};
+ghost use Rattle.fo_mind.specs.MindParts.{parts};
+ghost use Rattle.fo_mind.specs.Parts.{CacheKeeps, IsNewborn, IsPinned, state_of};
+ghost use Rattle.fo_cache.specs.Easing.{Eases};
+
+use fo_cache::Cache;
+use fo_disk::Disk;
+use fo_ports::BlockError;
+
+// Clears the next slot whose leaf is settled, and answers whether there was none.
+fn clear_next<D: Disk>(cache: &mut Cache<D>) -> Result<bool, BlockError>
+    ensures eases { Eases (parts cache.old.mind (D.state cache.old.main).holds (D.faults cache.old.main)) (parts cache.new.mind (D.state cache.new.main).holds (D.faults cache.new.main)) }
+    ensures less { IfOk result (λ b. b ≡ false → length (parts cache.new.mind [] 0).clears < length (parts cache.old.mind [] 0).clears) }
+    ensures same { IfOk result (λ b. b ≡ true → cache.new ≡ cache.old) }
+    ensures device { cache.new.main ≡ cache.old.main }
+    ensures cause { IfErr result (λ e. e ≡ Wanting) }
+{
+    let Some((at, i)) = cache.next_due() else {
+        return Ok(true);
+    };
+    cache.clear_due(at, i)?;
+    Ok(false)
+}
+
+// Clears each slot whose leaf is settled.
+fn clear_all<D: Disk>(cache: &mut Cache<D>) -> Result<(), BlockError>
+    ensures eases { Eases (parts cache.old.mind (D.state cache.old.main).holds (D.faults cache.old.main)) (parts cache.new.mind (D.state cache.new.main).holds (D.faults cache.new.main)) }
+    ensures fewer { OnOk result (length (parts cache.new.mind [] 0).clears ≤ length (parts cache.old.mind [] 0).clears) }
+    ensures device { cache.new.main ≡ cache.old.main }
+    ensures cause { IfErr result (λ e. e ≡ Wanting) }
+{
+    while !clear_next(cache)? {}
+    Ok(())
+}
+
+// Takes all turns, and then clears the slots whose leaves are settled; true where none was left, so that nothing waits any more.
+fn settle_round<D: Disk>(cache: &mut Cache<D>) -> Result<bool, BlockError>
+    ensures eases { Eases (parts cache.old.mind (D.state cache.old.main).holds (D.faults cache.old.main)) (parts cache.new.mind (D.state cache.new.main).holds (D.faults cache.new.main)) }
+    ensures done { IfOk result (λ b. b ≡ true → IsQuiet (parts cache.new.mind [] 0).turns × ((b j : ℕ) → Clears (parts cache.new.mind [] 0).clears b j → ⊥)) }
+    ensures less { IfOk result (λ b. b ≡ false → length (parts cache.new.mind [] 0).clears < length (parts cache.old.mind [] 0).clears) }
+    ensures size { D.size cache.new.main ≡ D.size cache.old.main }
+    ensures later { D.faults cache.old.main ≤ D.faults cache.new.main }
+    ensures cause { IfErr result (Caused ⊥ (λ b. ⊥) (Rose (D.faults cache.old.main) (D.faults cache.new.main)) ⊥) }
+{
+    cache.settle_turns()?;
+    let Some((at, i)) = cache.next_due() else {
+        return Ok(true);
+    };
+    cache.clear_due(at, i)?;
+    clear_all(cache)?;
+    Ok(false)
+}
+
+// Takes turns and clears slots until neither is left.
+fn settle_rounds<D: Disk>(cache: &mut Cache<D>) -> Result<(), BlockError>
+    ensures eases { Eases (parts cache.old.mind (D.state cache.old.main).holds (D.faults cache.old.main)) (parts cache.new.mind (D.state cache.new.main).holds (D.faults cache.new.main)) }
+    ensures done { OnOk result (IsQuiet (parts cache.new.mind [] 0).turns × ((b j : ℕ) → Clears (parts cache.new.mind [] 0).clears b j → ⊥)) }
+    ensures size { D.size cache.new.main ≡ D.size cache.old.main }
+    ensures later { D.faults cache.old.main ≤ D.faults cache.new.main }
+    ensures cause { IfErr result (Caused ⊥ (λ b. ⊥) (Rose (D.faults cache.old.main) (D.faults cache.new.main)) ⊥) }
+{
+    while !settle_round(cache)? {}
+    Ok(())
+}
+
+/// Settles all but what is newborn, and clears the slots that wait; then nobody waits for an entry any more, and what is pinned and in
+/// the tree is sealed.
+pub fn settle<D: Disk>(cache: &mut Cache<D>) -> Result<(), BlockError>
+    ensures all { OnOk result (AllAre (state_of (parts cache.new.mind (D.state cache.new.main).holds (D.faults cache.new.main))).now (state_of (parts cache.new.mind (D.state cache.new.main).holds (D.faults cache.new.main))).may_leave) }
+    ensures none { OnOk result ((b j : ℕ) → (state_of (parts cache.new.mind (D.state cache.new.main).holds (D.faults cache.new.main))).clearing b j → ⊥) }
+    ensures quiet { OnOk result (IsQuiet (parts cache.new.mind [] 0).turns) }
+    ensures clean { OnOk result ((b : ℕ) → (state_of (parts cache.new.mind (D.state cache.new.main).holds (D.faults cache.new.main))).dirty b → (state_of (parts cache.new.mind (D.state cache.new.main).holds (D.faults cache.new.main))).newborn b × ((state_of (parts cache.new.mind (D.state cache.new.main).holds (D.faults cache.new.main))).tells → IsUnlinked (state_of (parts cache.new.mind (D.state cache.new.main).holds (D.faults cache.new.main))) b)) }
+    ensures no_wait { OnOk result ((a on j : ℕ) → (state_of (parts cache.new.mind (D.state cache.new.main).holds (D.faults cache.new.main))).waits a on j → ⊥) }
+    ensures pinned { OnOk result ((b : ℕ) → (state_of (parts cache.new.mind (D.state cache.new.main).holds (D.faults cache.new.main))).pinned b → (state_of (parts cache.new.mind (D.state cache.new.main).holds (D.faults cache.new.main))).newborn b ⊎ (state_of (parts cache.new.mind (D.state cache.new.main).holds (D.faults cache.new.main))).sealed b) }
+    ensures rests { Rests (state_of (parts cache.old.mind (D.state cache.old.main).holds (D.faults cache.old.main))) (state_of (parts cache.new.mind (D.state cache.new.main).holds (D.faults cache.new.main))) }
+    ensures queued { (state_of (parts cache.old.mind (D.state cache.old.main).holds (D.faults cache.old.main))).queued ≤ (state_of (parts cache.new.mind (D.state cache.new.main).holds (D.faults cache.new.main))).queued }
+    ensures known { (b : ℕ) → (state_of (parts cache.old.mind (D.state cache.old.main).holds (D.faults cache.old.main))).pinned b → StaysKnown (state_of (parts cache.old.mind (D.state cache.old.main).holds (D.faults cache.old.main))) (state_of (parts cache.new.mind (D.state cache.new.main).holds (D.faults cache.new.main))) b }
+    ensures blocks { (b : ℕ) → ((state_of (parts cache.new.mind (D.state cache.new.main).holds (D.faults cache.new.main))).label b ≡ (state_of (parts cache.old.mind (D.state cache.old.main).holds (D.faults cache.old.main))).label b) × ((state_of (parts cache.old.mind (D.state cache.old.main).holds (D.faults cache.old.main))).pinned b → (state_of (parts cache.new.mind (D.state cache.new.main).holds (D.faults cache.new.main))).pinned b) × ((state_of (parts cache.old.mind (D.state cache.old.main).holds (D.faults cache.old.main))).sealed b → (state_of (parts cache.new.mind (D.state cache.new.main).holds (D.faults cache.new.main))).sealed b) }
+    ensures room { ((state_of (parts cache.new.mind (D.state cache.new.main).holds (D.faults cache.new.main))).spare ≡ (state_of (parts cache.old.mind (D.state cache.old.main).holds (D.faults cache.old.main))).spare) × ((state_of (parts cache.new.mind (D.state cache.new.main).holds (D.faults cache.new.main))).pins_left ≡ (state_of (parts cache.old.mind (D.state cache.old.main).holds (D.faults cache.old.main))).pins_left) × ((state_of (parts cache.new.mind (D.state cache.new.main).holds (D.faults cache.new.main))).room ≡ (state_of (parts cache.old.mind (D.state cache.old.main).holds (D.faults cache.old.main))).room) }
+    ensures keeps { CacheKeeps (parts cache.old.mind (D.state cache.old.main).holds (D.faults cache.old.main)) (parts cache.new.mind (D.state cache.new.main).holds (D.faults cache.new.main)) }
+    ensures size { D.size cache.new.main ≡ D.size cache.old.main }
+    ensures cause { IfErr result (Caused ⊥ (λ b. ⊥) (Rose (D.faults cache.old.main) (D.faults cache.new.main)) ⊥) }
+    ensures later { D.faults cache.old.main ≤ D.faults cache.new.main }
+{
+    settle_all(cache)
+}
+
+// Settles all, ends the waits, and seals what is pinned.
+fn settle_all<D: Disk>(cache: &mut Cache<D>) -> Result<(), BlockError>
+    ensures eases { Eases (parts cache.old.mind (D.state cache.old.main).holds (D.faults cache.old.main)) (parts cache.new.mind (D.state cache.new.main).holds (D.faults cache.new.main)) }
+    ensures none { OnOk result ((b j : ℕ) → Clears (parts cache.new.mind [] 0).clears b j → ⊥) }
+    ensures quiet { OnOk result (IsQuiet (parts cache.new.mind [] 0).turns) }
+    ensures no_wait { OnOk result ((parts cache.new.mind [] 0).waits ≡ []) }
+    ensures pinned { OnOk result ((b : ℕ) → IsPinned (parts cache.new.mind [] 0).held b → IsNewborn (parts cache.new.mind [] 0).facts b ⊎ ((fact_at (parts cache.new.mind [] 0).facts b).sealed ≡ true)) }
+    ensures size { D.size cache.new.main ≡ D.size cache.old.main }
+    ensures later { D.faults cache.old.main ≤ D.faults cache.new.main }
+    ensures cause { IfErr result (Caused ⊥ (λ b. ⊥) (Rose (D.faults cache.old.main) (D.faults cache.new.main)) ⊥) }
+{
+    cache.settle_doubt()?;
+    settle_rounds(cache)?;
+    cache.waits_over();
+    cache.seal_pinned();
+    Ok(())
+}

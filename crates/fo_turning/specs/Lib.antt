@@ -1,0 +1,3 @@
+pub mod Flushes
+pub mod Freed
+pub mod Unlinks

@@ -1,0 +1,179 @@
+//! Flushing turns.
+ghost use Rattle.std.specs.Prelude.{◌≡◌, ◌≢◌, ◌<◌, ◌≤◌, ℕ, [], true, false, length, Ok, OnOk, OnErr, IfOk, IfErr};
+ghost use Rattle.fo_base.specs.Cause.{Rose};
+ghost use Rattle.fo_disk.specs.Disk.{versions_of};
+ghost use Rattle.fo_order.specs.Turns.{IsDue, IsNext, flag_at};
+ghost use Rattle.fo_ports.specs.Causes.{Caused};
+ghost use Rattle.fo_ports.specs.declared.error.BlockError.TheVariants.{Memory as Wanting};
+ghost use Rattle.fo_waits.specs.Listed.{Clears};
+ghost use Rattle.fo_mind.specs.MindParts.{parts};
+ghost use Rattle.fo_mind.specs.Parts.{IsPinned};
+ghost use Rattle.fo_mind.specs.Turning.{HasTurn, Missed};
+ghost use Rattle.fo_cache.specs.Easing.{Eases};
+ghost use Rattle.fo_cache.specs.Settling.{Settles};
+ghost use Rattle.fo_cache.specs.Supers.{Overruled};
+ghost use Rattle.fo_turning.specs.declared.flush.Flushed.TheVariants.{Wrote, Synced as SyncedIs, Idle};
+ghost use Rattle.fo_turning.specs.Flushes.{AtIdle, Does, IsReady, Lands, Misses, Readies, Syncs, Takes, Writes};
+
+use fo_cache::Cache;
+use fo_disk::{Disk, DiskFault};
+use fo_order::Turn;
+use fo_ports::BlockError;
+
+/// What a flushing turn did.
+#[derive(Clone, Copy, Debug, PartialEq, Eq)]
+pub enum Flushed {
+    /// This block was written; block 1 was settled too.
+    Wrote(u32),
+    /// What was written was settled.
+    Synced,
+    /// Nothing is to be written or settled, and no slot waits.
+    Idle,
+}
+
+// Clears the next slot whose leaf is settled, and answers whether there was none.
+fn clear_next<D: Disk>(cache: &mut Cache<D>) -> Result<bool, BlockError>
+    ensures eases { Eases (parts cache.old.mind (D.state cache.old.main).holds (D.faults cache.old.main)) (parts cache.new.mind (D.state cache.new.main).holds (D.faults cache.new.main)) }
+    ensures less { IfOk result (λ b. b ≡ false → length (parts cache.new.mind [] 0).clears < length (parts cache.old.mind [] 0).clears) }
+    ensures none { IfOk result (λ b. b ≡ true → IsReady (parts cache.new.mind [] 0)) }
+    ensures idle { ((b j : ℕ) → Clears (parts cache.old.mind [] 0).clears b j → ⊥) → (result ≡ Ok true) × (parts cache.new.mind [] 0 ≡ parts cache.old.mind [] 0) }
+    ensures device { cache.new.main ≡ cache.old.main }
+    ensures cause { IfErr result (λ e. e ≡ Wanting) }
+{
+    let Some((at, i)) = cache.next_due() else {
+        return Ok(true);
+    };
+    cache.clear_due(at, i)?;
+    Ok(false)
+}
+
+// Clears the next slot whose leaf is settled, where nothing else is to be done, and answers whether that is over.
+fn clear_more<D: Disk>(cache: &mut Cache<D>) -> Result<bool, BlockError>
+    ensures over { IfOk result (λ b. b ≡ true → IsReady (parts cache.new.mind [] 0)) }
+    ensures less { IfOk result (λ b. b ≡ false → length (parts cache.new.mind [] 0).clears < length (parts cache.old.mind [] 0).clears) }
+    ensures readies { Readies (D.state cache.old.main).holds (D.faults cache.old.main) (parts cache.old.mind [] 0) (parts cache.new.mind [] 0) }
+    ensures idle { AtIdle (parts cache.old.mind [] 0) → (result ≡ Ok true) × (parts cache.new.mind [] 0 ≡ parts cache.old.mind [] 0) }
+    ensures device { cache.new.main ≡ cache.old.main }
+    ensures cause { IfErr result (λ e. e ≡ Wanting) }
+{
+    if cache.mind.is_doubted() {
+        return Ok(true);
+    }
+    match cache.next_turn() {
+        Turn::Write(_) => Ok(true),
+        Turn::Sync => Ok(true),
+        Turn::Idle => clear_next(cache),
+    }
+}
+
+// Clears slots whose leaves are settled, while nothing else is to be done.
+fn make_ready<D: Disk>(cache: &mut Cache<D>) -> Result<(), BlockError>
+    ensures ready { OnOk result (IsReady (parts cache.new.mind [] 0)) }
+    ensures readies { Readies (D.state cache.old.main).holds (D.faults cache.old.main) (parts cache.old.mind [] 0) (parts cache.new.mind [] 0) }
+    ensures idle { AtIdle (parts cache.old.mind [] 0) → parts cache.new.mind [] 0 ≡ parts cache.old.mind [] 0 }
+    ensures calm { OnErr result (AtIdle (parts cache.old.mind [] 0) → ⊥) }
+    ensures device { cache.new.main ≡ cache.old.main }
+    ensures cause { IfErr result (λ e. e ≡ Wanting) }
+{
+    while !clear_more(cache)? {}
+    Ok(())
+}
+
+// Writes block 1 as memory has it, and settles it.
+fn write_first<D: Disk>(cache: &mut Cache<D>) -> Result<Flushed, BlockError>
+    ensures does { IfOk result (λ f. (f ≡ Wrote 1) × Overruled (D.state cache.old.main) (D.state cache.new.main) (parts cache.old.mind [] 0) (parts cache.new.mind [] 0)) }
+    ensures nothing { OnErr result (parts cache.new.mind [] 0 ≡ parts cache.old.mind [] 0) }
+    ensures eases { Eases (parts cache.old.mind (D.state cache.old.main).holds (D.faults cache.old.main)) (parts cache.new.mind (D.state cache.new.main).holds (D.faults cache.new.main)) }
+    ensures size { D.size cache.new.main ≡ D.size cache.old.main }
+    ensures cause { IfErr result (Caused ⊥ (λ b. ⊥) (Rose (D.faults cache.old.main) (D.faults cache.new.main)) ⊥) }
+    ensures later { D.faults cache.old.main ≤ D.faults cache.new.main }
+{
+    cache.settle_one()?;
+    Ok(Flushed::Wrote(1))
+}
+
+// Writes a block that has a turn.
+fn write_ready<D: Disk>(cache: &mut Cache<D>, at: u32) -> Result<Flushed, BlockError>
+    requires turn { (flag_at (parts cache.old.mind [] 0).turns at).dirty ≡ true }
+    requires room { IsPinned (parts cache.old.mind [] 0).held at → HasTurn (parts cache.old.mind [] 0) }
+    ensures lands { IfOk result (λ f. (f ≡ Wrote at) × Lands at (D.state cache.old.main) (D.state cache.new.main) (parts cache.old.mind [] 0) (parts cache.new.mind [] 0)) }
+    ensures missed { OnErr result (Missed at (parts cache.old.mind [] 0) (parts cache.new.mind [] 0)) }
+    ensures settles { Settles (D.state cache.old.main) (D.state cache.new.main) (parts cache.old.mind [] 0) (parts cache.new.mind [] 0) }
+    ensures others { (k : ℕ) → k ≢ at → versions_of (D.state cache.new.main).holds k ≡ versions_of (D.state cache.old.main).holds k }
+    ensures size { D.size cache.new.main ≡ D.size cache.old.main }
+    ensures cause { IfErr result (Caused ⊥ (λ b. ⊥) (Rose (D.faults cache.old.main) (D.faults cache.new.main)) ⊥) }
+    ensures later { D.faults cache.old.main ≤ D.faults cache.new.main }
+{
+    match cache.write_turn(at) {
+        Ok(()) => Ok(Flushed::Wrote(at)),
+        Err(_) => Err(BlockError::Fault(DiskFault::Write)),
+    }
+}
+
+// Writes the block that is next.
+fn write_next<D: Disk>(cache: &mut Cache<D>, at: u32) -> Result<Flushed, BlockError>
+    requires next { IsNext (parts cache.old.mind [] 0).turns at }
+    ensures does { IfOk result (λ f. (f ≡ Wrote at) × Writes at (D.state cache.old.main) (D.state cache.new.main) (parts cache.old.mind [] 0) (parts cache.new.mind [] 0)) }
+    ensures settles { Settles (D.state cache.old.main) (D.state cache.new.main) (parts cache.old.mind [] 0) (parts cache.new.mind [] 0) }
+    ensures misses { OnErr result (Misses (parts cache.old.mind [] 0) (parts cache.new.mind [] 0)) }
+    ensures size { D.size cache.new.main ≡ D.size cache.old.main }
+    ensures cause { IfErr result (Caused ⊥ (λ b. ⊥) (Rose (D.faults cache.old.main) (D.faults cache.new.main)) ⊥) }
+    ensures later { D.faults cache.old.main ≤ D.faults cache.new.main }
+{
+    let Ok(()) = cache.keep_turn_of(at) else {
+        return Err(BlockError::Memory);
+    };
+    write_ready(cache, at)
+}
+
+// Settles what was written.
+fn sync_next<D: Disk>(cache: &mut Cache<D>) -> Result<Flushed, BlockError>
+    requires due { IsDue (parts cache.old.mind [] 0).turns }
+    ensures does { IfOk result (λ f. (f ≡ SyncedIs) × Syncs (D.state cache.old.main) (D.state cache.new.main) (parts cache.old.mind [] 0) (parts cache.new.mind [] 0)) }
+    ensures settles { Settles (D.state cache.old.main) (D.state cache.new.main) (parts cache.old.mind [] 0) (parts cache.new.mind [] 0) }
+    ensures nothing { OnErr result (parts cache.new.mind [] 0 ≡ parts cache.old.mind [] 0) }
+    ensures size { D.size cache.new.main ≡ D.size cache.old.main }
+    ensures cause { IfErr result (Caused ⊥ (λ b. ⊥) (Rose (D.faults cache.old.main) (D.faults cache.new.main)) ⊥) }
+    ensures later { D.faults cache.old.main ≤ D.faults cache.new.main }
+{
+    match cache.sync_turn() {
+        Ok(()) => Ok(Flushed::Synced),
+        Err(_) => Err(BlockError::Fault(DiskFault::Sync)),
+    }
+}
+
+// Does what is next.
+fn take_turn<D: Disk>(cache: &mut Cache<D>) -> Result<Flushed, BlockError>
+    requires ready { IsReady (parts cache.old.mind [] 0) }
+    ensures does { IfOk result (λ f. Does f (D.state cache.old.main) (D.state cache.new.main) (parts cache.old.mind [] 0) (parts cache.new.mind [] 0)) }
+    ensures idle { AtIdle (parts cache.old.mind [] 0) → (result ≡ Ok Idle) × (parts cache.new.mind [] 0 ≡ parts cache.old.mind [] 0) }
+    ensures eases { Eases (parts cache.old.mind (D.state cache.old.main).holds (D.faults cache.old.main)) (parts cache.new.mind (D.state cache.new.main).holds (D.faults cache.new.main)) }
+    ensures misses { OnErr result (Misses (parts cache.old.mind [] 0) (parts cache.new.mind [] 0)) }
+    ensures size { D.size cache.new.main ≡ D.size cache.old.main }
+    ensures cause { IfErr result (Caused ⊥ (λ b. ⊥) (Rose (D.faults cache.old.main) (D.faults cache.new.main)) ⊥) }
+    ensures later { D.faults cache.old.main ≤ D.faults cache.new.main }
+{
+    if cache.mind.is_doubted() {
+        return write_first(cache);
+    }
+    match cache.next_turn() {
+        Turn::Write(at) => write_next(cache, at),
+        Turn::Sync => sync_next(cache),
+        Turn::Idle => Ok(Flushed::Idle),
+    }
+}
+
+/// Takes one step of a settling, and answers which. It may want memory, for the turn of a pinned block or of one in which a slot is
+/// cleared.
+pub fn flush_turn<D: Disk>(cache: &mut Cache<D>) -> Result<Flushed, BlockError>
+    ensures takes { IfOk result (λ f. Takes f (D.state cache.old.main) (D.state cache.new.main) (D.faults cache.old.main) (parts cache.old.mind [] 0) (parts cache.new.mind [] 0)) }
+    ensures idle { AtIdle (parts cache.old.mind [] 0) → (result ≡ Ok Idle) × (parts cache.new.mind [] 0 ≡ parts cache.old.mind [] 0) }
+    ensures eases { Eases (parts cache.old.mind (D.state cache.old.main).holds (D.faults cache.old.main)) (parts cache.new.mind (D.state cache.new.main).holds (D.faults cache.new.main)) }
+    ensures misses { OnErr result (Misses (parts cache.old.mind [] 0) (parts cache.new.mind [] 0)) }
+    ensures size { D.size cache.new.main ≡ D.size cache.old.main }
+    ensures cause { IfErr result (Caused ⊥ (λ b. ⊥) (Rose (D.faults cache.old.main) (D.faults cache.new.main)) ⊥) }
+    ensures later { D.faults cache.old.main ≤ D.faults cache.new.main }
+{
+    make_ready(cache)?;
+    take_turn(cache)
+}

@@ -1,0 +1,4 @@
+pub mod Ending
+pub mod Listing
+pub mod Pairing
+pub mod Taking
