@@ -1,5 +1,5 @@
 -- A call that only looks, as the trait says it.
-use Rattle.std.proofs.Common.{◌≡◌, refl, false}
+use Rattle.std.proofs.Common.{◌≡◌, refl, false, inl, inr, ⊎_elim}
 use Rattle.fo_crash.proofs.Sure.{same_content}
 use Rattle.fo_cells.specs.Known.{Known, IsKept}
 use Rattle.fo_cells.proofs.Removing.{shown_from}
@@ -19,13 +19,16 @@ looks {k} x y kept settled l = record {
   stays = record {
     labels = λ b unmade. refl;
     marks = λ b unmade. l.marks b;
-    places = λ told b p unmade unput uncovered st. (l.still st.0, st.1);
+    places = λ told b p unmade unput uncovered rooted st. (l.still st.0, st.1);
+    rooted = λ told b unmade r. (r.0, ⊎_elim (λ t. inl (l.same_tops r.0 t)) (λ a. inr ((l.apart r.0).0 a)) r.1, r.2);
+    newborn = λ b unmade n. n;
     apart = λ b unmade unput. l.apart b;
     instead = λ b a unmade unput. l.instead b a;
     waits = λ a on j ua uo po w. w;
   };
   order = record { clearing = λ b j c. (λ none. none, c); goes_on = λ b j made c. c };
   covered = record { covered = l.covered };
+  newborn = λ b n. n;
   no_wait = record { each = λ a on j but w. w };
   dirty = l.dirty;
   room = l.room;

@@ -16,6 +16,7 @@ pub record Rest : Type 1 where
   pub apart : ℕ → Type 0
   pub instead : ℕ → ℕ → Type 0
   pub high : ℕ
+  pub low : ℕ
   pub root : ℕ
   pub tops : ℕ → Type 0
   pub is_block : ℕ → Type 0
@@ -50,7 +51,9 @@ state_of k x = record {
   stands = λ b p. x.tells × Stands k b p;
   apart = x.apart;
   instead = x.instead;
+  newborn = λ b. k.newborn b ≡ true;
   high = x.high;
+  low = x.low;
   root = x.root;
   tops = x.tops;
   is_block = x.is_block;
@@ -89,6 +92,7 @@ pub record Looked (k : Known) (x y : Rest) : Type 0 where
   pub before : (n : ℕ) (image : Image) → n ≤ x.moments → y.left n image → x.left n image
   pub within : (n : ℕ) (image : Image) → x.moments < n → n ≤ y.moments → y.left n image → x.tells × ((labels : ℕ → Label) × IsLeft k image labels)
   pub tops : (t : ℕ) → x.tops t → (p : Place) × Stands k t p × (k.newborn t ≡ false)
+  pub same_tops : (t : ℕ) → y.tops t → x.tops t
   pub marks : (b : ℕ) → (x.pinned b → y.pinned b) × (x.sealed b → y.sealed b) × (x.fresh b → y.fresh b)
   pub apart : (b : ℕ) → y.apart b ↔ x.apart b
   pub instead : (b a : ℕ) → y.instead b a ↔ x.instead b a

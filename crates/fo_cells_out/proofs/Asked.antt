@@ -7,7 +7,7 @@ use Rattle.fo_crash.specs.declared.slot.Slot.{Slot}
 use Rattle.fo_crash.specs.Images.{Image, target, local, walk, Reaches}
 use Rattle.fo_cells.specs.Known.{Known}
 use Rattle.fo_cells_out.specs.Parents.{Tree, Points, IsTree, IsForest, Moves, Removes, Links, linked, LosesOnce, lost_once}
-use Rattle.fo_cells_out.specs.Origins.{Origins, Down, Under, ByCopy, ByTop, HasOrigins, LinkedBy, SharedBy, OutAt, Out, PutsMade}
+use Rattle.fo_cells_out.specs.Origins.{Origins, Under, ByCopy, ByTop, HasOrigins, LinkedBy, SharedBy, OutAt, Out, PutsMade}
 use Rattle.fo_cells_out.proofs.Takeout.{same_block, removed_tree}
 use Rattle.fo_cells_out.proofs.MadePuts.{made_leads, stead_leaves}
 
@@ -103,14 +103,8 @@ module _ {at i : ℕ} {s : Slot} {old new : Known} {t u : Tree} {h : Origins} (m
   m_old : (a j b : ℕ) → t.Made a → Points new a j b → Points old a j b
   m_old a j b m e = ap target (sym (moves.others a j (inl (λ q. tree.apart a m (subst (λ z. t.Within z) (sym q) within))))) ∙ e
 
-  down_kept : (n o j z : ℕ) → t.Within o → t.Older o → u.Within o → Down old t n o j z → Down new u n o j z × (t.Older z × u.Within z)
-  down_kept zero o j z w q v e =
-      let now : Points new o j z = ap target (moves.others o j (inl (λ k. current (subst (λ y. t.Older y) k q)))) ∙ e in
-      (now, (tree.older o j z w e q, after.closed o j z v now))
-  down_kept (suc n) o j z w q v d =
-      let up = down_kept n o j d.0 w q v d.4 in
-      let now : Points new d.0 0 z = ap target (moves.others d.0 0 (inl (λ k. current (subst (λ y. t.Older y) k up.1.0)))) ∙ d.3 in
-      ((d.0, up.1.1, pointers d.0 d.2, now, up.0), (tree.older d.0 0 z d.1 d.3 up.1.0, after.closed d.0 0 z up.1.1 now))
+  leads_kept : (o j z : ℕ) → t.Older o → Points old o j z → Points new o j z
+  leads_kept o j z q e = ap target (moves.others o j (inl (λ k. current (subst (λ y. t.Older y) k q)))) ∙ e
 
   under_kept : (n w a : ℕ) → Under old t n w a → Under new u n w a
   under_kept zero w a q = q
@@ -119,7 +113,7 @@ module _ {at i : ℕ} {s : Slot} {old new : Known} {t u : Tree} {h : Origins} (m
   by_kept : (a j z : ℕ) → t.Made a → ByCopy old t h a j z → ByCopy new u h a j z
   by_kept a j z m c =
       let k = hand.copied a c.original m c.copied in
-      record { original = c.original; levels = c.levels; copied = c.copied; down = (down_kept c.levels c.original j z k.0 k.1 (steads a c.original m k.2) c.down).0; kept = ⊎_elim (λ e. inl e) (λ q. inr (λ v. q (same c.original v))) c.kept }
+      record { original = c.original; copied = c.copied; leads = leads_kept c.original j z k.1 c.leads }
 
   top_kept : (a j z : ℕ) → ByTop t h a j z → ByTop u h a j z
   top_kept a j z r = record { first = r.first; pointers = pointers a r.pointers; instead = r.instead; raised = r.raised }
@@ -237,11 +231,8 @@ module _ {at i : ℕ} {s : Slot} {old new : Known} {t : Tree} {h : Origins} {y :
       let up : L u.0 → ⊥ = λ l. nl (m, (suc l.1.0, (u.0, u.1, u.2, u.3, l.1.1))) in
       (u.0, u.1, (u.2, up), l_new u.0 u.1 a u.2 u.3, l_under n w u.0 u.2 up u.4)
 
-  l_down : (n o j z : ℕ) → t.Within o → t.Older o → Down old t n o j z → Down new (linked t L) n o j z × t.Older z
-  l_down zero o j z w q v = (ap target (k.moves.others o j (inl (λ e. k.current (subst (λ y. t.Older y) e q)))) ∙ v, tree.older o j z w v q)
-  l_down (suc n) o j z w q d =
-      let up = l_down n o j d.0 w q d.4 in
-      ((d.0, inl d.1, d.2, ap target (k.moves.others d.0 0 (inl (λ e. k.current (subst (λ y. t.Older y) e up.1)))) ∙ d.3, up.0), tree.older d.0 0 z d.1 d.3 up.1)
+  l_leads : (o j z : ℕ) → t.Older o → Points old o j z → Points new o j z
+  l_leads o j z q v = ap target (k.moves.others o j (inl (λ e. k.current (subst (λ y. t.Older y) e q)))) ∙ v
 
   abbrev after_link : Origins
   after_link = record { Apart = λ b. h.Apart b × (b ≢ y); Copied = h.Copied; Instead = h.Instead }
@@ -249,7 +240,7 @@ module _ {at i : ℕ} {s : Slot} {old new : Known} {t : Tree} {h : Origins} {y :
   l_by : (a j z : ℕ) → t.Made a → ByCopy old t h a j z → ByCopy new (linked t L) after_link a j z
   l_by a j z m c =
       let q = hand.copied a c.original m c.copied in
-      record { original = c.original; levels = c.levels; copied = c.copied; down = (l_down c.levels c.original j z q.0 q.1 c.down).0; kept = c.kept }
+      record { original = c.original; copied = c.copied; leads = l_leads c.original j z q.1 c.leads }
 
   l_top : (a j z : ℕ) → ByTop t h a j z → ByTop (linked t L) after_link a j z
   l_top a j z r = record { first = r.first; pointers = r.pointers; instead = r.instead; raised = r.raised }
@@ -297,7 +288,6 @@ leaf_put {at} {i} {s} {old} {new} {t} {h} {x} {y} moves within current older poi
   head = λ raised q. raised x copied;
   falls = λ o. current (subst (λ z. t.Older z) (sym (out_is o.0 at o.1)) older);
   leaves = λ w z ap st o. is_linked w (handed w ap);
-  whole = λ c j z l w. whole w.levels w.original j z (original w.original (subst (λ v. h.Copied v w.original) (one c l.0) w.copied)) w.down;
   lost_below = λ a j b l e. l;
   lost_out = λ b l. absurd l;
   linked = λ b m. inl (is_linked b m);
@@ -316,10 +306,3 @@ leaf_put {at} {i} {s} {old} {new} {t} {h} {x} {y} moves within current older poi
     out_is : (n b : ℕ) → OutAt old t x y n b → b ≡ x
     out_is zero b o = o.0
     out_is (suc n) b o = absurd (x_leaf o.1 b (subst (λ z. Points old z o.1 b) (out_is n o.0 o.2) o.3))
-
-    no_down : (n o j z : ℕ) → o ≡ x → Down old t n o j z → ⊥
-    no_down zero o j z e d = x_leaf j z (subst (λ v. Points old v j z) e d)
-    no_down (suc n) o j z e d = no_down n o j d.0 e d.4
-
-    whole : (n o j z : ℕ) → o ≡ x → Down old t n o j z → n ≡ 0
-    whole n o j z e d = absurd (no_down n o j z e d)

@@ -5,7 +5,7 @@ use Rattle.fo_crash.specs.declared.slot.Slot.{Slot}
 use Rattle.fo_crash.specs.Images.{target}
 use Rattle.fo_cells.specs.Known.{Known}
 use Rattle.fo_cells_out.specs.Parents.{Tree, Points, Over, HoldsNow, IsTree, IsForest, Replaces}
-use Rattle.fo_cells_out.specs.Origins.{Origins, Down, Under, ByCopy, ByTop, HasOrigins, LinkedBy, SharedBy, OutAt, Out, Chain, PutsMade, CopyBy, GoneBy, TurnsBy, FromBy, Low, copied_tree}
+use Rattle.fo_cells_out.specs.Origins.{Origins, Under, ByCopy, ByTop, HasOrigins, LinkedBy, SharedBy, OutAt, Out, Chain, PutsMade, CopyBy, GoneBy, TurnsBy, FromBy, Low, copied_tree}
 use Rattle.fo_cells_out.proofs.Shapes.{turn_first, turn_next}
 use Rattle.fo_cells_out.proofs.Takeout.{same_block, held_once, replaced_tree}
 
@@ -13,17 +13,9 @@ use Rattle.fo_cells_out.proofs.Takeout.{same_block, held_once, replaced_tree}
 -- `O` leaves, and hangs from blocks that leave but for the slot of the current block `at`; then a made block that is to come in the
 -- place of a block of O hangs from one that is apart and is to.
 module _ {k : Known} {t : Tree} {h : Origins} (at i : ℕ) (O L : ℕ → Type 0) (tree : IsTree k t) (hand : HasOrigins k t h) (current : t.Older at → ⊥) (above : (a j b : ℕ) → O b → t.Within a → Points k a j b → ((a ≡ at) × (j ≡ i)) ⊎ O a) (next : (a j b : ℕ) → L a → Points k a j b → t.Made b → L b) (leaves : (w z : ℕ) → h.Apart w → h.Instead w z → O z → L w) where
-  pub down_older : (l a j b : ℕ) → t.Within a → t.Older a → Down k t l a j b → t.Older b
-  down_older zero a j b wa qa d = tree.older a j b wa d qa
-  down_older (suc l) a j b wa qa d = tree.older d.0 0 b d.1 d.3 (down_older l a j d.0 wa qa d.4)
-
+  -- an older block from which what leaves hangs leaves
   old_above : (a j b : ℕ) → t.Within a → t.Older a → Points k a j b → O b → O a
   old_above a j b wa qa e o = ⊎_elim (λ q. absurd (current (subst (λ z. t.Older z) q.0 qa))) (λ up. up) (above a j b o wa e)
-
-  -- an older block from which what leaves hangs leaves
-  pub copy_above : (l a j b : ℕ) → t.Within a → t.Older a → Down k t l a j b → O b → O a
-  copy_above zero a j b wa qa d o = old_above a j b wa qa d o
-  copy_above (suc l) a j b wa qa d o = copy_above l a j d.0 wa qa d.4 (old_above d.0 0 b d.1 (down_older l a j d.0 wa qa d.4) d.3 o)
 
   pub stead_comes : (n c z w : ℕ) → h.Apart w → t.Made c → Under k t n w c → h.Instead c z → O z → L c
   stead_comes zero c z w ap m u st o = subst (λ v. L v) (sym u) (leaves w z ap (subst (λ v. h.Instead v z) u st) o)
@@ -36,7 +28,7 @@ module _ {k : Known} {t : Tree} {h : Origins} (at i : ℕ) (O L : ℕ → Type 0
       ⊎_elim
       (λ q.
       let from = hand.copied u.0 q.original u.2 q.copied in
-      next u.0 u.1 c (stead_comes n u.0 q.original w ap u.2 u.4 from.2 (copy_above q.levels q.original u.1 z from.0 from.1 (subst (λ v. Down k t q.levels q.original u.1 v) is q.down) o)) u.3 m)
+      next u.0 u.1 c (stead_comes n u.0 q.original w ap u.2 u.4 from.2 (old_above q.original u.1 z from.0 from.1 (subst (λ v. Points k q.original u.1 v) is q.leads) o)) u.3 m)
       (λ q. next u.0 u.1 c (stead_comes n u.0 z w ap u.2 u.4 (subst (λ v. h.Instead u.0 v) is q.instead) o) u.3 m)
       r.2)
       (λ none. absurd (none z st))
@@ -51,7 +43,7 @@ module _ {k : Known} {t : Tree} {h : Origins} (at i : ℕ) (O L : ℕ → Type 0
       (λ q. ⊎_elim
       (λ c.
       let from = hand.copied a c.original m c.copied in
-      stead_comes top.1 a c.original top.0 top.2 m top.3 from.2 (copy_above c.levels c.original j b from.0 from.1 c.down o))
+      stead_comes top.1 a c.original top.0 top.2 m top.3 from.2 (old_above c.original j b from.0 from.1 c.leads o))
       (λ r. stead_comes top.1 a b top.0 top.2 m top.3 r.0.instead o)
       q.1)
       (λ q. absurd (tree.apart b q.0 w))
@@ -113,13 +105,13 @@ module _ {at i : ℕ} {s : Slot} {old new : Known} {t : Tree} {h : Origins} {hd 
   next_out : (a j b : ℕ) → O a → Points old a j b → (Sh b → ⊥) → O b
   next_out a j b o e un = (suc o.0, (a, j, o.1, e, un))
 
-  by_copy : (a j z : ℕ) → L a → ByCopy old t h a j z → (o : ℕ) × h.Copied a o × Points old o j z
-  by_copy a j z l w = (w.original, w.copied, subst (λ n. Down old t n w.original j z) (p.whole a j z l w) w.down)
+  by_copy : (a j z : ℕ) → ByCopy old t h a j z → (o : ℕ) × h.Copied a o × Points old o j z
+  by_copy a j z w = (w.original, w.copied, w.leads)
 
   -- where a linked block leads into the tree its original does, or it was raised over that young block
   lead_within : (a j b : ℕ) → L a → Points old a j b → t.Within b → ((o : ℕ) × h.Copied a o × Points old o j b) ⊎ (ByTop t h a j b × (t.Older b → ⊥))
   lead_within a j b l e w = ⊎_elim
-      (λ q. ⊎_elim (λ c. inl (by_copy a j b l c)) (λ r. inr r) q.1)
+      (λ q. ⊎_elim (λ c. inl (by_copy a j b c)) (λ r. inr r) q.1)
       (λ q. absurd (tree.apart b q.0 w))
       (hand.slots a j b l.0 e)
 
@@ -131,7 +123,7 @@ module _ {at i : ℕ} {s : Slot} {old new : Known} {t : Tree} {h : Origins} {hd 
       (λ r.
       let is : r.0 ≡ z = hand.one b r.0 z m r.1 st in
       ⊎_elim
-      (λ c. inl (by_copy a j z l (subst (λ v. ByCopy old t h a j v) is c)))
+      (λ c. inl (by_copy a j z (subst (λ v. ByCopy old t h a j v) is c)))
       (λ c. inr (subst (λ v. ByTop t h a j v) is c))
       r.2)
       (λ none. absurd (none z st))
@@ -523,14 +515,8 @@ module _ {at i : ℕ} {s : Slot} {old new : Known} {t : Tree} {h : Origins} {hd 
   unlinked_below zero a j b m nl e mb u = hand.unhung y a j p.apart m (subst (λ z. Points old a j z) u e)
   unlinked_below (suc n) a j b m nl e mb u = nl (subst (λ z. L z) (forest.one u.0 a u.1 j b u.2 m mb u.3 e).0 (u.2, (n, u.4)))
 
-  down_after : (n o j z : ℕ) → t.Within o → t.Older o → U.Within o → Down old t n o j z → Down new U n o j z × (t.Older z × U.Within z)
-  down_after zero o j z w q v e =
-      let now : Points new o j z = ap target (p.moves.others o j (inl (not_at o q))) ∙ e in
-      (now, (tree.older o j z w e q, (replaced_tree made_replaces tree forest).closed o j z v now))
-  down_after (suc n) o j z w q v d =
-      let up = down_after n o j d.0 w q v d.4 in
-      let now : Points new d.0 0 z = ap target (p.moves.others d.0 0 (inl (not_at d.0 up.1.0))) ∙ d.3 in
-      ((d.0, up.1.1, d.2, now, up.0), (tree.older d.0 0 z d.1 d.3 up.1.0, (replaced_tree made_replaces tree forest).closed d.0 0 z up.1.1 now))
+  leads_after : (o j z : ℕ) → t.Older o → Points old o j z → Points new o j z
+  leads_after o j z q e = ap target (p.moves.others o j (inl (not_at o q))) ∙ e
 
   -- y is apart no more
   abbrev after_put : Origins
@@ -576,7 +562,7 @@ module _ {at i : ℕ} {s : Slot} {old new : Known} {t : Tree} {h : Origins} {hd 
       by_after : (a j z : ℕ) → t.Made a × (L a → ⊥) → ByCopy old t h a j z → ByCopy new U after_put a j z
       by_after a j z m c =
           let k = hand.copied a c.original m.0 c.copied in
-          record { original = c.original; levels = c.levels; copied = c.copied; down = (down_after c.levels c.original j z k.0 k.1 (stead_stays a c.original m.0 m.1 k.2) c.down).0; kept = c.kept }
+          record { original = c.original; copied = c.copied; leads = leads_after c.original j z k.1 c.leads }
 
       top_after : (a j z : ℕ) → ByTop t h a j z → ByTop U after_put a j z
       top_after a j z r = record { first = r.first; pointers = r.pointers; instead = r.instead; raised = r.raised }

@@ -9,7 +9,7 @@ use Rattle.fo_crash.specs.Images.{Content, target}
 use Rattle.fo_cells.specs.Known.{Known}
 use Rattle.fo_cells.specs.Writes.{Gives}
 use Rattle.fo_cells_out.specs.Parents.{Tree, Points, IsTree, IsForest, Moves, Stays, making}
-use Rattle.fo_cells_out.specs.Origins.{Origins, Down, Under, ByCopy, ByTop, MadeLeads, HasOrigins, given, filled, Fills}
+use Rattle.fo_cells_out.specs.Origins.{Origins, Under, ByCopy, ByTop, MadeLeads, HasOrigins, given, filled, Fills}
 use Rattle.fo_cells_out.proofs.Takeout.{same_block}
 
 -- A BLOCK IS GIVEN OUT, as a copy of the older block of the tree in `From`, or with slots that lead nowhere
@@ -41,16 +41,12 @@ module _ {at : ℕ} {c : Content} {p : Place} {old new : Known} {t : Tree} {h : 
   was_copied : (b z : ℕ) → t.Made b → (given h at From).Copied b z → h.Copied b z
   was_copied b z m st = ⊎_elim (λ q. q.1) (λ q. absurd (made_ne b m q.0)) st
 
-  down_on : (n o j z : ℕ) → t.Within o → Down old t n o j z → Down new (making t at) n o j z
-  down_on zero o j z w d = on o j z (within_ne o w) d
-  down_on (suc n) o j z w d = (d.0, d.1, d.2, on d.0 0 z (within_ne d.0 d.1) d.3, down_on n o j d.0 w d.4)
-
   under_on : (n w a : ℕ) → Under old t n w a → Under new (making t at) n w a
   under_on zero w a u = u
   under_on (suc n) w a u = (u.0, u.1, inl u.2, on u.0 u.1 a (made_ne u.0 u.2) u.3, under_on n w u.0 u.4)
 
   by_on : (a j z : ℕ) → t.Made a → ByCopy old t h a j z → ByCopy new (making t at) (given h at From) a j z
-  by_on a j z m q = record { original = q.original; levels = q.levels; copied = inl (made_ne a m, q.copied); down = down_on q.levels q.original j z (hand.copied a q.original m q.copied).0 q.down; kept = q.kept }
+  by_on a j z m q = record { original = q.original; copied = inl (made_ne a m, q.copied); leads = on q.original j z (within_ne q.original (hand.copied a q.original m q.copied).0) q.leads }
 
   top_on : (a j z : ℕ) → t.Made a → ByTop t h a j z → ByTop (making t at) (given h at From) a j z
   top_on a j z m q = record { first = q.first; pointers = q.pointers; instead = inl (made_ne a m, q.instead); raised = λ o k. q.raised o (was_copied a o m k) }
@@ -99,7 +95,7 @@ module _ {at : ℕ} {c : Content} {p : Place} {old new : Known} {t : Tree} {h : 
         (λ is.
         let x = here a j b is e in
         let f = from x.0 x.1 in
-        inl (tree.closed x.0 j b f.0 x.2, inl (record { original = x.0; levels = 0; copied = inr (is, x.1); down = on x.0 j b (within_ne x.0 f.0) x.2; kept = inl refl })))
+        inl (tree.closed x.0 j b f.0 x.2, inl (record { original = x.0; copied = inr (is, x.1); leads = on x.0 j b (within_ne x.0 f.0) x.2 })))
         m;
     head = λ d o j e z md me k q st up ptr. ⊎_elim
         (λ is. tree_made e me (here_within d j e is q))
@@ -150,12 +146,8 @@ module _ {at i : ℕ} {s : Slot} {old new : Known} {t : Tree} {h : Origins} {Rai
   aim (Local b) = inl (b, refl)
   aim (Held x) = inr (λ b e. cc)
 
-  down_stay : (n o j z : ℕ) → t.Within o → Down old t n o j z → Down new t n o j z
-  down_stay zero o j z w d = ap target (moves.others o j (inl (ne_at o w))) ∙ d
-  down_stay (suc n) o j z w d = (d.0, d.1, d.2, ap target (moves.others d.0 0 (inl (ne_at d.0 d.1))) ∙ d.3, down_stay n o j d.0 w d.4)
-
   by_stay : (a j z : ℕ) → t.Made a → ByCopy old t h a j z → ByCopy new t (filled h at s Raises) a j z
-  by_stay a j z m q = record { original = q.original; levels = q.levels; copied = q.copied; down = down_stay q.levels q.original j z (hand.copied a q.original m q.copied).0 q.down; kept = q.kept }
+  by_stay a j z m q = record { original = q.original; copied = q.copied; leads = ap target (moves.others q.original j (inl (ne_at q.original (hand.copied a q.original m q.copied).0))) ∙ q.leads }
 
   top_stay : (a j z : ℕ) → ByTop t h a j z → ByTop t (filled h at s Raises) a j z
   top_stay a j z q = record { first = q.first; pointers = q.pointers; instead = inl q.instead; raised = q.raised }
@@ -259,12 +251,8 @@ still_origins {old} {new} {h} t C k hand = record {
     under zero w a u = u
     under (suc n) w a u = (u.0, u.1, u.2, ap target (k.slots u.0 u.1) ∙ u.3, under n w u.0 u.4)
 
-    down : (n o j z : ℕ) → Down old t n o j z → Down new (record t { Covered = C }) n o j z
-    down zero o j z d = ap target (k.slots o j) ∙ d
-    down (suc n) o j z d = (d.0, d.1, d.2, ap target (k.slots d.0 0) ∙ d.3, down n o j d.0 d.4)
-
     by : (a j z : ℕ) → ByCopy old t h a j z → ByCopy new (record t { Covered = C }) h a j z
-    by a j z q = record { original = q.original; levels = q.levels; copied = q.copied; down = down q.levels q.original j z q.down; kept = q.kept }
+    by a j z q = record { original = q.original; copied = q.copied; leads = ap target (k.slots q.original j) ∙ q.leads }
 
     top : (a j z : ℕ) → ByTop t h a j z → ByTop (record t { Covered = C }) h a j z
     top a j z q = record { first = q.first; pointers = q.pointers; instead = q.instead; raised = q.raised }

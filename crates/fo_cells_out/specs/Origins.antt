@@ -15,23 +15,16 @@ pub record Origins : Type 1 where
   -- `Instead y x`: y was made to come in the place of x, by a copy or raised over it; `instead` of the trait is this of what is apart
   pub Instead : ℕ → ℕ → Type 0
 
--- Slot j of block a, and then n slots 0 of pointer blocks of the tree, lead to b.
-abbrev pub Down : Known → Tree → ℕ → ℕ → ℕ → ℕ → Type 0
-Down k t zero a j b = Points k a j b
-Down k t (suc n) a j b = (c : ℕ) × t.Within c × t.Pointers c × Points k c 0 b × Down k t n a j c
-
 -- n slots of made blocks lead from y to a.
 abbrev pub Under : Known → Tree → ℕ → ℕ → ℕ → Type 0
 Under k t zero y a = a ≡ y
 Under k t (suc n) y a = (c : ℕ) × (j : ℕ) × t.Made c × Points k c j a × Under k t n y c
 
--- what slot j of the block leads to of which a is a copy, below the levels that went there
+-- What slot j of the block leads to of which a is a copy. (Levels go only in a block of the tree: `linked` of the trait.)
 pub record ByCopy (k : Known) (t : Tree) (h : Origins) (a j z : ℕ) : Type 0 where
   pub original : ℕ
-  pub levels : ℕ
   pub copied : h.Copied a original
-  pub down : Down k t levels original j z
-  pub kept : (levels ≡ 0) ⊎ (t.Pointers original → ⊥)
+  pub leads : Points k original j z
 
 -- what a was raised over, in slot 0
 pub record ByTop (t : Tree) (h : Origins) (a j z : ℕ) : Type 0 where
@@ -110,8 +103,6 @@ pub record PutsMade (at i : ℕ) (s : Slot) (old new : Known) (t : Tree) (h : Or
   pub falls : Out old t top y at → ⊥
   -- `LeavesNone`
   pub leaves : (w z : ℕ) → h.Apart w → h.Instead w z → Out old t top y z → LinkedBy old t y w
-  -- no source below lost levels
-  pub whole : (c j z : ℕ) → LinkedBy old t y c → (w : ByCopy old t h c j z) → w.levels ≡ 0
   -- what hangs from the entries of a source that leaves without a copy, and is not queued
   pub lost_below : (a j b : ℕ) → Lost a → Points old a j b → Lost b
   pub lost_out : (b : ℕ) → Lost b → Out old t top y b

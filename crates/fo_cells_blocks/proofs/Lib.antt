@@ -1,0 +1,4 @@
+pub mod Giving
+pub mod Closing
+pub mod Indexing
+pub mod Aside

@@ -1,0 +1,4 @@
+pub mod Gaps
+pub mod Each
+pub mod Snapshot
+pub mod Covered

@@ -1,0 +1,4 @@
+pub mod Turns
+pub mod Opening
+pub mod Places
+pub mod Hanging
