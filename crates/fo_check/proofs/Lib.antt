@@ -1,6 +1,1 @@
-mod Judged
-mod Places
-mod Scans
 mod Stages
-mod Started
-mod Zeros

@@ -1,35 +1,35 @@
 -- What the check answers where one of its steps refuses.
-use Rattle.std.proofs.Common.{◌≡◌, ℕ, List, Ok, Err, sym, ◌∙◌, ap, subst}
+use Rattle.std.proofs.Common.{◌≡◌, ℕ, List, length, Ok, Err, sym, ◌∙◌, ap, subst}
 use Rattle.fo_disk.specs.Disk.{Block, DiskState}
 use Rattle.fo_image.specs.declared.types.Super.{Super}
 use Rattle.fo_image.specs.declared.record.RootBlock.{RootBlock}
 use Rattle.fo_check.specs.declared.error.CheckError.{CheckError}
 use Rattle.fo_check.specs.declared.error.CheckError.TheVariants.{Size, NotArena, NotBuilt, Unsound, Main, Arena, Memory}
-use Rattle.fo_check.specs.declared.report.Report.{Report}
-use Rattle.fo_sound.specs.Sound.{IsFormatted, HasActiveRoot}
+use Rattle.fo_check.specs.declared.opening.Opening.{Opening}
+use Rattle.fo_sound.specs.Sound.{IsFormatted, HasActiveRoot, ReachesLow}
 use Rattle.fo_sound.specs.Sizes.{HasSizes, IsArena}
-use Rattle.fo_check.specs.Answer.{IsOpen, IsReport, Reports, Refuses, IsOutside, Finds, Blames}
+use Rattle.fo_check.specs.Answer.{IsOpen, IsAlone, Opens, Refuses, IsOutside, Finds, Blames}
 use Rattle.fo_check.specs.Answer.IsNotBuilt.{archived as by_archive, more as by_more}
-use Rattle.fo_check.specs.Answer.IsUnsound.{format as by_format, active as by_active, later as by_later}
+use Rattle.fo_check.specs.Answer.IsUnsound.{format as by_format, active as by_active, chain as by_chain}
 use Rattle.fo_sound.specs.Device.{Shows}
-use Rattle.fo_check.specs.Stage.{RefusesSizes, RefusesStart, RefusesArena, RefusesActive, RefusesRest, IsJudgement}
+use Rattle.fo_check.specs.Stage.{RefusesSizes, RefusesStart, RefusesArena, RefusesActive, RefusesRest}
 
 -- a device that did not change shows what it did
 pub shown_on : {old new : DiskState} {image : List Block} → new ≡ old → Shows old.holds image → Shows new.holds image
 shown_on kept shows = record { quiet = ap (λ (s : DiskState). s.holds) kept ∙ shows.quiet; some = shows.some }
 
 -- what is said of values is no fault
-pub judged-blames : (main main_now arena arena_now : ℕ) (e : CheckError) → IsJudgement e → Blames main main_now arena arena_now e
-judged-blames main main_now arena arena_now Size h = absurd h
-judged-blames main main_now arena arena_now NotArena h = tt
-judged-blames main main_now arena arena_now NotBuilt h = tt
-judged-blames main main_now arena arena_now (Unsound rule block) h = tt
-judged-blames main main_now arena arena_now (Main fault) h = absurd h
-judged-blames main main_now arena arena_now (Arena fault) h = absurd h
-judged-blames main main_now arena arena_now Memory h = tt
+pub rest-blames : (s : Super) (root : RootBlock) (main main_now arena arena_now : ℕ) (e : CheckError) → RefusesRest s root e → Blames main main_now arena arena_now e
+rest-blames s root main main_now arena arena_now Size h = absurd h
+rest-blames s root main main_now arena arena_now NotArena h = tt
+rest-blames s root main main_now arena arena_now NotBuilt h = tt
+rest-blames s root main main_now arena arena_now (Unsound rule block) h = tt
+rest-blames s root main main_now arena arena_now (Main fault) h = absurd h
+rest-blames s root main main_now arena arena_now (Arena fault) h = absurd h
+rest-blames s root main main_now arena arena_now Memory h = tt
 
 module _ (image vault : List Block) where
-  refused : (e : CheckError) → Refuses image vault e → ((v : Report) → Reports image vault v → IsOutside e) → Finds (Reports image vault) (Refuses image vault) (Err e)
+  refused : (e : CheckError) → Refuses image vault e → ((v : Opening) → Opens image vault v → IsOutside e) → Finds (Opens image vault) (Refuses image vault) (Err e)
   refused e why none = record { found = why; only = none }
 
   sizes_why : (e : CheckError) → RefusesSizes image vault e → Refuses image vault e
@@ -50,10 +50,10 @@ module _ (image vault : List Block) where
   sizes_none (Arena fault) h sizes = tt
   sizes_none Memory h sizes = tt
 
-  pub at_sizes : (e : CheckError) → RefusesSizes image vault e → Finds (Reports image vault) (Refuses image vault) (Err e)
+  pub at_sizes : (e : CheckError) → RefusesSizes image vault e → Finds (Opens image vault) (Refuses image vault) (Err e)
   at_sizes e h = refused e (sizes_why e h) (λ v r. sizes_none e h r.opened.sizes)
 
-  pub at_fault : (e : CheckError) → IsOutside e → Finds (Reports image vault) (Refuses image vault) (Err e)
+  pub at_fault : (e : CheckError) → IsOutside e → Finds (Opens image vault) (Refuses image vault) (Err e)
   at_fault e h = refused e (why e h) (λ v r. h)
     where
       why : (e : CheckError) → IsOutside e → Refuses image vault e
@@ -75,8 +75,8 @@ module _ (image vault : List Block) where
     start_why (Arena fault) h = tt
     start_why Memory h = tt
 
-    pub at_start : (e : CheckError) → RefusesStart image e → ((s : Super) → IsFormatted image s → IsOutside e) → Finds (Reports image vault) (Refuses image vault) (Err e)
-    at_start e h none = refused e (start_why e h) (λ v r. none r.s r.opened.formatted)
+    pub at_start : (e : CheckError) → RefusesStart image e → ((s : Super) → IsFormatted image s → IsOutside e) → Finds (Opens image vault) (Refuses image vault) (Err e)
+    at_start e h none = refused e (start_why e h) (λ v r. none v.s r.opened.formatted)
 
     module _ (s : Super) (formatted : IsFormatted image s) where
       arena_why : (e : CheckError) → RefusesArena vault e → Refuses image vault e
@@ -88,7 +88,7 @@ module _ (image vault : List Block) where
       arena_why (Arena fault) h = tt
       arena_why Memory h = tt
 
-      pub at_arena : (e : CheckError) → RefusesArena vault e → (IsArena vault 0 → IsOutside e) → Finds (Reports image vault) (Refuses image vault) (Err e)
+      pub at_arena : (e : CheckError) → RefusesArena vault e → (IsArena vault 0 → IsOutside e) → Finds (Opens image vault) (Refuses image vault) (Err e)
       at_arena e h none = refused e (arena_why e h) (λ v r. none r.opened.arena)
 
       module _ (same_s : (t : Super) → IsFormatted image t → s ≡ t) (arena : IsArena vault 0) where
@@ -104,32 +104,54 @@ module _ (image vault : List Block) where
         active_why (Arena fault) h = tt
         active_why Memory h = tt
 
-        root_here : (v : Report) (r : Reports image vault v) → HasActiveRoot image s r.root
-        root_here v r = subst (λ (t : Super). HasActiveRoot image t r.root) (sym (same_s r.s r.opened.formatted)) r.is_report.sound.active
+        root_here : (v : Opening) → Opens image vault v → HasActiveRoot image s v.root
+        root_here v r = subst (λ (t : Super). HasActiveRoot image t v.root) (sym (same_s v.s r.opened.formatted)) r.active
 
-        pub at_active : (e : CheckError) → RefusesActive image s e → ((root : RootBlock) → HasActiveRoot image s root → IsOutside e) → Finds (Reports image vault) (Refuses image vault) (Err e)
-        at_active e h none = refused e (active_why e h) (λ v r. none r.root (root_here v r))
+        pub at_active : (e : CheckError) → RefusesActive image s e → ((root : RootBlock) → HasActiveRoot image s root → IsOutside e) → Finds (Opens image vault) (Refuses image vault) (Err e)
+        at_active e h none = refused e (active_why e h) (λ v r. none v.root (root_here v r))
 
         module _ (root : RootBlock) (active : HasActiveRoot image s root) (same_root : (other : RootBlock) → HasActiveRoot image s other → root ≡ other) where
-          rest_why : (e : CheckError) → RefusesRest image s root e → Refuses image vault e
+          rest_why : (e : CheckError) → RefusesRest s root e → Refuses image vault e
           rest_why Size h = absurd h
           rest_why NotArena h = absurd h
           rest_why NotBuilt h = by_more s root opened active h
-          rest_why (Unsound rule block) h = by_later s root opened active h.0 h.1
-          rest_why (Main fault) h = tt
-          rest_why (Arena fault) h = tt
-          rest_why Memory h = tt
+          rest_why (Unsound rule block) h = by_chain s root h.0 opened active h.1 h.2 h.3
+          rest_why (Main fault) h = absurd h
+          rest_why (Arena fault) h = absurd h
+          rest_why Memory h = absurd h
 
-          report_here : (v : Report) → Reports image vault v → IsReport image s root v
-          report_here v r =
-              let here : IsReport image s r.root v = subst (λ (t : Super). IsReport image t r.root v) (sym (same_s r.s r.opened.formatted)) r.is_report in
-              subst (λ (x : RootBlock). IsReport image s x v) (sym (same_root r.root (root_here v r))) here
+          alone_here : (v : Opening) → Opens image vault v → IsAlone s root
+          alone_here v r =
+              let here : IsAlone s v.root = subst (λ (t : Super). IsAlone t v.root) (sym (same_s v.s r.opened.formatted)) r.alone in
+              subst (λ (x : RootBlock). IsAlone s x) (sym (same_root v.root (root_here v r))) here
 
-          pub at_rest : (e : CheckError) → RefusesRest image s root e → ((v : Report) → IsReport image s root v → IsOutside e) → Finds (Reports image vault) (Refuses image vault) (Err e)
-          at_rest e h none = refused e (rest_why e h) (λ v r. none v (report_here v r))
+          chain_here : (v : Opening) → Opens image vault v → ReachesLow s
+          chain_here v r = subst (λ (t : Super). ReachesLow t) (sym (same_s v.s r.opened.formatted)) r.chain
 
-          pub at_end : (report : Report) → IsReport image s root report → ((v : Report) → IsReport image s root v → report ≡ v) → Finds (Reports image vault) (Refuses image vault) (Ok report)
-          at_end report is same = record {
-            found = record { s = s; root = root; opened = opened; is_report = is };
-            only = λ v r. same v (report_here v r);
+          rest_none : (e : CheckError) → RefusesRest s root e → IsAlone s root → ReachesLow s → IsOutside e
+          rest_none Size h alone chain = h
+          rest_none NotArena h alone chain = h
+          rest_none NotBuilt h alone chain = h alone
+          rest_none (Unsound rule block) h alone chain = h.2 chain
+          rest_none (Main fault) h alone chain = absurd h
+          rest_none (Arena fault) h alone chain = absurd h
+          rest_none Memory h alone chain = absurd h
+
+          pub at_rest : (e : CheckError) → RefusesRest s root e → Finds (Opens image vault) (Refuses image vault) (Err e)
+          at_rest e h = refused e (rest_why e h) (λ v r. rest_none e h (alone_here v r) (chain_here v r))
+
+          pub at_end : (o : Opening) → o.blocks ≡ length image → o.s ≡ s → o.root ≡ root → IsAlone s root → ReachesLow s → Finds (Opens image vault) (Refuses image vault) (Ok o)
+          at_end o blocks is_s is_root alone chain = record {
+            found = record {
+              blocks = blocks;
+              opened = subst (λ (t : Super). IsOpen image vault t) (sym is_s) opened;
+              active = subst (λ (t : Super). HasActiveRoot image t o.root) (sym is_s) (subst (λ (x : RootBlock). HasActiveRoot image s x) (sym is_root) active);
+              alone = subst (λ (t : Super). IsAlone t o.root) (sym is_s) (subst (λ (x : RootBlock). IsAlone s x) (sym is_root) alone);
+              chain = subst (λ (t : Super). ReachesLow t) (sym is_s) chain;
+            };
+            only = λ v r.
+                let b : o.blocks ≡ v.blocks = blocks ∙ sym r.blocks in
+                let x : o.s ≡ v.s = is_s ∙ same_s v.s r.opened.formatted in
+                let y : o.root ≡ v.root = is_root ∙ same_root v.root (root_here v r) in
+                λ k. record { blocks = b k; s = x k; root = y k };
           }

@@ -1,20 +1,18 @@
--- What the check answers over the images of the two devices.
-use Rattle.std.specs.Prelude.{◌≡◌, ◌≢◌, ℕ, ◌*◌, ◌<◌, ◌≤◌, false, List, length, Result, IfErr, MatchResult}
+-- What is answered of the images of the two devices before their trees are looked at.
+use Rattle.std.specs.Prelude.{◌≡◌, ◌≢◌, ℕ, ◌<◌, List, length, None, Result, IfErr, MatchResult}
 use Rattle.fo_base.specs.Cause.{Rose, Counted}
 use Rattle.fo_disk.specs.Disk.{Block}
 use Rattle.fo_disk.specs.declared.disk.DiskFault.TheVariants.{Read}
 use Rattle.fo_image.specs.declared.types.Super.{Super}
-use Rattle.fo_image.specs.declared.types.Label.{Label}
 use Rattle.fo_image.specs.declared.record.RootBlock.{RootBlock}
 use Rattle.fo_image.specs.Format.{SpellsHeader, SpellsSuper}
 use Rattle.fo_image.specs.Record.{SpellsRoot}
-use Rattle.fo_image.specs.Place.{label_blocks, first_data, label_block}
 use Rattle.fo_sound.specs.Sizes.{IsMainSize, InRange, HasSizes, IsArena}
 use Rattle.fo_check.specs.declared.error.CheckError.{CheckError}
 use Rattle.fo_check.specs.declared.error.CheckError.TheVariants.{Size, NotArena, NotBuilt, Unsound, Main, Arena, Memory}
-use Rattle.fo_check.specs.declared.report.Report.{Report}
-use Rattle.fo_sound.specs.Image.{block_of, is_zero, IsDataBlock, label_bytes, HasLabel, rest_bytes}
-use Rattle.fo_sound.specs.Sound.{IsFormatted, HasEpochs, root_label, HasActiveRoot, IsBuilt, ReachesLow, HasTable, HasDepths, HasRootEntries, IsSound, HasLabels, leaked_count}
+use Rattle.fo_check.specs.declared.opening.Opening.{Opening}
+use Rattle.fo_sound.specs.Image.{block_of, IsDataBlock, HasLabel}
+use Rattle.fo_sound.specs.Sound.{IsFormatted, HasEpochs, root_label, HasActiveRoot, ReachesLow}
 
 -- ---- before the rules
 
@@ -38,36 +36,21 @@ pub data BreaksActive (image : List Block) (s : Super) (block : ℕ) : Type 0 wh
   label : block ≡ s.active → IsDataBlock (length image) s.active → ¬ HasLabel image s.active (root_label s) → BreaksActive image s block
   root : block ≡ s.active → IsDataBlock (length image) s.active → ((root : RootBlock) → SpellsRoot root (block_of image s.active) → root.epoch ≢ s.high) → BreaksActive image s block
 
--- S4: the data block whose label is not of the format, else the block of the label table with bytes that are not zero
-pub data BreaksTable (image : List Block) (block : ℕ) : Type 0 where
-  label : IsDataBlock (length image) block → ((l : Label) → ¬ HasLabel image block l) → BreaksTable image block
-  other : (address : ℕ) → address < 585 * label_blocks (length image) → ¬ IsDataBlock (length image) address → block ≡ label_block address → is_zero (label_bytes image address) ≡ false → BreaksTable image block
-  rest : 2 ≤ block → block < first_data (length image) → is_zero (rest_bytes (block_of image block)) ≡ false → BreaksTable image block
-
--- The lowest of the rules from S3 on that is broken, and a block at which it is broken. For S3 that is the last root block which the
--- chain reaches: no root before the active one is kept, so it is the active root.
-pub data BreaksLater (image : List Block) (s : Super) (root : RootBlock) (rule block : ℕ) : Type 0 where
-  chain : rule ≡ 3 → ¬ ReachesLow s → block ≡ s.active → BreaksLater image s root rule block
-  table : rule ≡ 4 → ReachesLow s → BreaksTable image block → BreaksLater image s root rule block
-  depths : rule ≡ 5 → ReachesLow s → HasTable image → ¬ HasDepths root → block ≡ s.active → BreaksLater image s root rule block
-  entries : rule ≡ 6 → ReachesLow s → HasTable image → HasDepths root → ¬ HasRootEntries root → block ≡ s.active → BreaksLater image s root rule block
-
 -- ---- the answer
 
--- A sound image that is built, and what is said of it: one block is used, the active root, and there is no snapshot.
-pub record IsReport (image : List Block) (s : Super) (root : RootBlock) (report : Report) : Type 0 where
-  pub built : IsBuilt s root
-  pub sound : IsSound image s root
-  pub labels : List Label
-  pub labelled : HasLabels image labels
-  pub numbers : report ≡ record { blocks = length image; used = 1; leaked = leaked_count image s labels; snapshots = 0 }
+-- No root before the active one is kept, and nothing was archived.
+pub record IsAlone (s : Super) (root : RootBlock) : Type 0 where
+  pub before : root.prev_epoch < s.low
+  pub last : s.last ≡ None
 
--- The devices have sizes in range and an arena in which nothing is used, and the image is built and sound: what the report says.
-pub record Reports (image vault : List Block) (report : Report) : Type 0 where
-  pub s : Super
-  pub root : RootBlock
-  pub opened : IsOpen image vault s
-  pub is_report : IsReport image s root report
+-- What is known before trees are looked at: sizes, S1, an arena in which nothing is used, S2, no root before the active one from the low
+-- epoch on and no archive, and S3.
+pub record Opens (image vault : List Block) (o : Opening) : Type 0 where
+  pub blocks : o.blocks ≡ length image
+  pub opened : IsOpen image vault o.s
+  pub active : HasActiveRoot image o.s o.root
+  pub alone : IsAlone o.s o.root
+  pub chain : ReachesLow o.s
 
 -- No arena: S1 holds, and block 0 of the arena is not of its format, or says another number of blocks or more used places than
 -- there are.
@@ -77,18 +60,20 @@ pub record IsNoArena (image vault : List Block) : Type 0 where
   pub formatted : IsFormatted image s
   pub none : (used : ℕ) → ¬ IsArena vault used
 
--- Not built yet: something is archived, or S1 and S2 hold and there are snapshots, files or archives.
+-- Not built yet: something is archived, or S1 and S2 hold and there is a root before the active one from the low epoch on, or a score of a
+-- last archive.
 pub data IsNotBuilt (image vault : List Block) : Type 0 where
   archived : (s : Super) (used : ℕ) → HasSizes image vault → IsFormatted image s → IsArena vault used → 0 < used → IsNotBuilt image vault
-  more : (s : Super) (root : RootBlock) → IsOpen image vault s → HasActiveRoot image s root → ¬ IsBuilt s root → IsNotBuilt image vault
+  more : (s : Super) (root : RootBlock) → IsOpen image vault s → HasActiveRoot image s root → ¬ IsAlone s root → IsNotBuilt image vault
 
--- the lowest rule that is broken, and a block at which it is broken
+-- The lowest rule that is broken, and a block at which it is broken. For S3 that is the last root block which the chain reaches: no root
+-- before the active one is kept, so it is the active root.
 pub data IsUnsound (image vault : List Block) (rule block : ℕ) : Type 0 where
   format : rule ≡ 1 → HasSizes image vault → BreaksFormat image block → IsUnsound image vault rule block
   active : (s : Super) → rule ≡ 2 → IsOpen image vault s → BreaksActive image s block → IsUnsound image vault rule block
-  later : (s : Super) (root : RootBlock) → IsOpen image vault s → HasActiveRoot image s root → IsBuilt s root → BreaksLater image s root rule block → IsUnsound image vault rule block
+  chain : (s : Super) (root : RootBlock) → rule ≡ 3 → IsOpen image vault s → HasActiveRoot image s root → IsAlone s root → ¬ ReachesLow s → block ≡ s.active → IsUnsound image vault rule block
 
--- Why there is no report. Of faults it is said elsewhere that they come only where that device's count rose.
+-- Why it is refused. Of faults it is said elsewhere that they come only where that device's count rose.
 abbrev pub Refuses : List Block → List Block → CheckError → Type 0
 Refuses image vault Size = ¬ HasSizes image vault
 Refuses image vault NotArena = IsNoArena image vault

@@ -1,4 +1,3 @@
 pub mod Answer
 pub mod Device
-pub mod Scan
 pub mod Stage

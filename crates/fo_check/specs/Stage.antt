@@ -6,9 +6,9 @@ use Rattle.fo_image.specs.declared.record.RootBlock.{RootBlock}
 use Rattle.fo_image.specs.Record.{SpellsRoot}
 use Rattle.fo_check.specs.declared.error.CheckError.{CheckError}
 use Rattle.fo_check.specs.declared.error.CheckError.TheVariants.{Size, NotArena, NotBuilt, Unsound, Main, Arena, Memory}
-use Rattle.fo_sound.specs.Sound.{IsBuilt}
+use Rattle.fo_sound.specs.Sound.{ReachesLow}
 use Rattle.fo_sound.specs.Sizes.{HasSizes, IsArena}
-use Rattle.fo_check.specs.Answer.{BreaksFormat, BreaksActive, BreaksLater}
+use Rattle.fo_check.specs.Answer.{BreaksFormat, BreaksActive, IsAlone}
 
 -- a size out of range
 abbrev pub RefusesSizes : List Block → List Block → CheckError → Type 0
@@ -60,25 +60,15 @@ RefusesActive image s (Main fault) = Unit {0}
 RefusesActive image s (Arena fault) = ⊥
 RefusesActive image s Memory = Unit {0}
 
--- not built yet, or unsound by a later rule
-abbrev pub RefusesRest : List Block → Super → RootBlock → CheckError → Type 0
-RefusesRest image s root Size = ⊥
-RefusesRest image s root NotArena = ⊥
-RefusesRest image s root NotBuilt = ¬ IsBuilt s root
-RefusesRest image s root (Unsound rule block) = IsBuilt s root × BreaksLater image s root rule block
-RefusesRest image s root (Main fault) = ⊥
-RefusesRest image s root (Arena fault) = ⊥
-RefusesRest image s root Memory = ⊥
-
--- what is said of values that were read, and so no fault
-abbrev pub IsJudgement : CheckError → Type 0
-IsJudgement Size = ⊥
-IsJudgement NotArena = ⊥
-IsJudgement NotBuilt = Unit {0}
-IsJudgement (Unsound rule block) = Unit {0}
-IsJudgement (Main fault) = ⊥
-IsJudgement (Arena fault) = ⊥
-IsJudgement Memory = ⊥
+-- not built yet, or a chain of roots that doesn't reach the low epoch
+abbrev pub RefusesRest : Super → RootBlock → CheckError → Type 0
+RefusesRest s root Size = ⊥
+RefusesRest s root NotArena = ⊥
+RefusesRest s root NotBuilt = ¬ IsAlone s root
+RefusesRest s root (Unsound rule block) = (rule ≡ 3) × IsAlone s root × ¬ ReachesLow s × (block ≡ s.active)
+RefusesRest s root (Main fault) = ⊥
+RefusesRest s root (Arena fault) = ⊥
+RefusesRest s root Memory = ⊥
 
 -- any refusal but one for a size
 abbrev pub IsNoSize : CheckError → Type 0

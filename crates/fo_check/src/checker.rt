@@ -1,22 +1,18 @@
 //! The check of the images of two devices.
-ghost use Rattle.std.specs.Prelude.{◌≡◌, ℕ, ◌*◌, ◌^◌, ◌<◌, ◌≤◌, List, length, IfOk, IfErr, MatchResult};
+ghost use Rattle.std.specs.Prelude.{◌≡◌, ℕ, ◌*◌, ◌^◌, ◌<◌, ◌≤◌, List, length, IfOk, IfErr};
 ghost use Rattle.fo_disk.specs.Disk.{Block};
-ghost use Rattle.fo_image.specs.Place.{label_blocks, first_data};
 ghost use Rattle.fo_sound.specs.Image.{block_of};
 ghost use Rattle.fo_sound.specs.Sound.{IsFormatted, HasActiveRoot};
-ghost use Rattle.fo_sound.specs.Sizes.{HasSizes, IsArena};
-ghost use Rattle.fo_check.specs.Answer.{Finds, Reports, Refuses, IsOutside, KnowsSizes, AsksSizes};
+ghost use Rattle.fo_sound.specs.Sizes.{HasSizes, IsArena, IsMainSize};
+ghost use Rattle.fo_check.specs.Answer.{Finds, Opens, Refuses, KnowsSizes, AsksSizes};
 ghost use Rattle.fo_sound.specs.Device.{Shows};
 ghost use Rattle.fo_check.specs.Device.{HasCauses};
-ghost use Rattle.fo_sound.specs.Fresh.{IsFresh};
-ghost use Rattle.fo_check.specs.Scan.{IsScanned};
 ghost use Rattle.fo_check.specs.Stage.{RefusesSizes, RefusesStart, RefusesArena, RefusesActive, IsNoSize};
 
 use crate::error::CheckError;
-use crate::reads::{count, read_arena, read_main, read_table};
-use crate::report::Report;
+use crate::opening::Opening;
+use crate::reads::{count, has_root_label, read_arena, read_main};
 use crate::rules::{has_epochs, is_data_block, is_header, judge, root_of, unsound};
-use crate::table::Table;
 use fo_disk::{BLOCK, Disk, DiskFault};
 use fo_image::{RootBlock, Super, arena_places, read_arena_head, read_super};
 use std::alloc::Global;
@@ -104,12 +100,10 @@ fn active_root<D: Disk>(
     main: &mut D,
     blocks: u32,
     s: &Super,
-    table: Table,
 ) -> Result<RootBlock, CheckError>
     requires size { D.size main.old ≡ blocks }
     requires most { blocks ≤ 2 ^ 20 }
     ensures answer { (image : List Block) → length image ≡ blocks → Shows (D.state main.old).holds image
-        → IsScanned image s.now (label_blocks blocks) (585 * label_blocks blocks) table
         → Finds (HasActiveRoot image s.now) (RefusesActive image s.now) result }
     ensures no_size { IfErr result IsNoSize }
     ensures size { D.size main.new ≡ D.size main.old }
@@ -119,7 +113,8 @@ fn active_root<D: Disk>(
     if !has_epochs(s) || !is_data_block(blocks, s.active) {
         return Err(unsound(2, 1));
     }
-    if !table.rooted {
+    let labelled = has_root_label(main, blocks, s)?;
+    if !labelled {
         return Err(unsound(2, s.active));
     }
     let mut block = [0; BLOCK];
@@ -128,53 +123,25 @@ fn active_root<D: Disk>(
     Ok(root)
 }
 
-/// The check, step by step.
-fn check_images<D: Disk, A: Disk>(
-    alloc: Global,
-    main: &mut D,
-    arena: &mut A,
-) -> Result<Report, CheckError>
-    ensures answer { (image vault : List Block) → Shows (D.state main.old).holds image → Shows (A.state arena.old).holds vault
-        → Finds (Reports image vault) (Refuses image vault) result }
-    ensures sizes { KnowsSizes (D.size main.new) (A.size arena.new) result }
-    ensures asked { AsksSizes (D.size main.new) (D.calls main.old) (D.calls main.new) (A.calls arena.old) (A.calls arena.new) result }
-    ensures main_fixed { 0 < D.size main.old → D.size main.new ≡ D.size main.old }
-    ensures arena_fixed { 0 < A.size arena.old → A.size arena.new ≡ A.size arena.old }
-    ensures main { D.state main.new ≡ D.state main.old }
-    ensures arena { A.state arena.new ≡ A.state arena.old }
-    ensures causes { HasCauses (D.faults main.old) (D.faults main.new) (A.faults arena.old) (A.faults arena.new) result }
-{
-    let (blocks, arena_blocks) = sizes(main, arena)?;
-    let s = start(main, blocks)?;
-    open_arena(arena, arena_blocks)?;
-    let table = read_table(main, blocks, &s)?;
-    let root = active_root(alloc, main, blocks, &s, table)?;
-    let report = judge(blocks, &s, &root, table)?;
-    Ok(report)
-}
-
-/// Checks the images of the main device and of the arena. The rules of sound images are those of fo_sound, S1 to S9. Each
-/// block of the label table is read once, and nothing is written.
+/// Looks at the images of the main device and of the arena as far as their trees: the sizes, S1, the arena, S2, what is not built,
+/// and S3. Nothing is written.
 ///
 /// The first of these is answered: `Size` of main and then of the arena; rule 1; `NotArena`; `NotBuilt` for an arena in
-/// which something is used; rule 2; `NotBuilt` for all else that is not built; the lowest rule that is broken. A device's
-/// fault or want of memory comes where it is met.
-pub fn check<D: Disk, A: Disk>(
+/// which something is used; rule 2; `NotBuilt` for a root before the active one from the low epoch on, or for archives; rule 3. A
+/// device's fault or want of memory comes where it is met.
+pub fn open_images<D: Disk, A: Disk>(
     alloc: Global,
     main: &mut D,
     arena: &mut A,
-) -> Result<Report, CheckError>
-    // Over quiet devices that tell what they hold, a report is given exactly where the image is sound.
+) -> Result<Opening, CheckError>
+    // Over quiet devices that tell what they hold: what was found is so and no more could be, and each refusal has its reason.
     ensures answer { (image vault : List Block) → Shows (D.state main.old).holds image → Shows (A.state arena.old).holds vault
-        → Finds (Reports image vault) (Refuses image vault) result }
+        → Finds (Opens image vault) (Refuses image vault) result }
 
-    // The image of devices that were just formatted is sound.
-    ensures fresh { (image vault : List Block) (time : ℕ) → Shows (D.state main.old).holds image → Shows (A.state arena.old).holds vault
-        → HasSizes image vault → IsFresh time image → IsArena vault 0
-        → MatchResult result (λ r. r ≡ record { blocks = length image; used = 1; leaked = 0; snapshots = 0 }) IsOutside }
+    // Over any devices: what was found has the number of blocks of the main device, which is in range.
+    ensures found { IfOk result (λ o. (D.size main.new ≡ o.blocks) × IsMainSize o.blocks) }
 
-    // Over any devices: `Size` is answered exactly where a number of blocks that was found is out of range, and a number that is
-    // known stays.
+    // `Size` is answered exactly where a number of blocks that was found is out of range, and a number that is known stays.
     ensures sizes { KnowsSizes (D.size main.new) (A.size arena.new) result }
     ensures asked { AsksSizes (D.size main.new) (D.calls main.old) (D.calls main.new) (A.calls arena.old) (A.calls arena.new) result }
     ensures main_fixed { 0 < D.size main.old → D.size main.new ≡ D.size main.old }
@@ -186,5 +153,10 @@ pub fn check<D: Disk, A: Disk>(
 
     ensures causes { HasCauses (D.faults main.old) (D.faults main.new) (A.faults arena.old) (A.faults arena.new) result }
 {
-    check_images(alloc, main, arena)
+    let (blocks, arena_blocks) = sizes(main, arena)?;
+    let s = start(main, blocks)?;
+    open_arena(arena, arena_blocks)?;
+    let root = active_root(alloc, main, blocks, &s)?;
+    judge(&s, &root)?;
+    Ok(Opening { blocks, s, root })
 }

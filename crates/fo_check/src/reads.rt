@@ -1,18 +1,18 @@
 //! Reads of the two devices.
-ghost use Rattle.std.specs.Prelude.{◌≡◌, ℕ, ◌*◌, ◌^◌, ◌<◌, ◌≤◌, List, length, OnOk, IfOk, IfErr};
+ghost use Rattle.std.specs.Prelude.{◌≡◌, ℕ, ◌<◌, ◌↔◌, List, length, IsTrue, OnOk, IfOk, IfErr};
 ghost use Rattle.fo_base.specs.Cause.{HasCause, Counted};
 ghost use Rattle.fo_disk.specs.Disk.{Block};
 ghost use Rattle.fo_disk.specs.declared.disk.DiskFault.TheVariants.{Read as ReadFault};
-ghost use Rattle.fo_image.specs.Place.{label_blocks};
+ghost use Rattle.fo_image.specs.Format.{SpellsLabel};
 ghost use Rattle.fo_check.specs.declared.error.CheckError.TheVariants.{Main as MainFailed, Arena as ArenaFailed};
-ghost use Rattle.fo_sound.specs.Image.{block_of};
+ghost use Rattle.fo_sound.specs.Image.{block_of, IsDataBlock, HasLabel};
+ghost use Rattle.fo_sound.specs.Sound.{root_label};
 ghost use Rattle.fo_sound.specs.Device.{Shows};
-ghost use Rattle.fo_check.specs.Scan.{IsScanned};
 
 use crate::error::CheckError;
-use crate::table::Table;
 use fo_disk::{BLOCK, Disk, DiskFault, Failed};
-use fo_image::{Super, label_blocks};
+use fo_image::{Super, label_place, read_label};
+use fo_sound::root_label;
 
 /// The number of blocks of a device.
 pub(crate) fn count<D: Disk>(device: &mut D) -> Result<u64, Failed>
@@ -71,23 +71,34 @@ pub(crate) fn read_arena<A: Disk>(arena: &mut A, at: u32, into: &mut [u8]) -> Re
     }
 }
 
-/// The label table, of which each block is read once.
-pub(crate) fn read_table<D: Disk>(main: &mut D, blocks: u32, s: &Super) -> Result<Table, CheckError>
+/// Whether the label of the active root, which is a data block, is that of an active root.
+pub(crate) fn has_root_label<D: Disk>(
+    main: &mut D,
+    blocks: u32,
+    s: &Super,
+) -> Result<bool, CheckError>
     requires size { D.size main.old ≡ blocks }
-    requires least { 64 ≤ blocks }
-    requires most { blocks ≤ 2 ^ 20 }
-    ensures scanned { (image : List Block) → length image ≡ blocks → Shows (D.state main.old).holds image
-        → IfOk result (IsScanned image s.now (label_blocks blocks) (585 * label_blocks blocks)) }
+    requires place { IsDataBlock blocks s.now.active }
+    ensures label { (image : List Block) → length image ≡ blocks → Shows (D.state main.old).holds image
+        → IfOk result (λ labelled. IsTrue labelled ↔ HasLabel image s.now.active (root_label s.now)) }
     ensures size { D.size main.new ≡ D.size main.old }
     ensures kept { D.state main.new ≡ D.state main.old }
     ensures cause { HasCause (D.faults main.old) (D.faults main.new) result }
     ensures fault { IfErr result (λ e. e ≡ MainFailed ReadFault) }
 {
     let mut block = [0; BLOCK];
-    let mut table = Table::new();
-    for n in 0..label_blocks(blocks) {
-        read_main(main, 2 + n, &mut block)?;
-        table.add_block(s, blocks, n, &block);
+    let (at, from) = label_place(s.active);
+    read_main(main, at, &mut block)?;
+    Ok(is_root_label(&block[from..from + 14], s))
+}
+
+/// Whether these bytes are the label of an active root.
+fn is_root_label(bytes: &[u8], s: &Super) -> bool
+    requires { length bytes.now ≡ 14 }
+    ensures { IsTrue result ↔ SpellsLabel (root_label s.now) bytes.now }
+{
+    match read_label(bytes) {
+        Ok(label) => label == root_label(s),
+        Err(_) => false,
     }
-    Ok(table)
 }

@@ -1,21 +1,15 @@
 //! The rules, over values that were read.
-ghost use Rattle.std.specs.Prelude.{◌≡◌, ◌≢◌, ℕ, ◌*◌, ◌^◌, ◌<◌, ◌≤◌, ◌↔◌, List, length, IsTrue, IfErr};
-ghost use Rattle.fo_disk.specs.Disk.{Block};
-ghost use Rattle.fo_image.specs.declared.types.Super.{Super};
+ghost use Rattle.std.specs.Prelude.{◌≡◌, ◌^◌, ◌≤◌, ◌↔◌, length, IsTrue, MatchResult};
 ghost use Rattle.fo_image.specs.Format.{SpellsHeader};
 ghost use Rattle.fo_image.specs.Record.{SpellsRoot};
-ghost use Rattle.fo_image.specs.Place.{label_blocks};
 ghost use Rattle.fo_check.specs.declared.error.CheckError.TheVariants.{Unsound};
 ghost use Rattle.fo_sound.specs.Image.{IsDataBlock};
-ghost use Rattle.fo_sound.specs.Sound.{IsFormatted, HasEpochs, HasActiveRoot, IsBuilt, HasDepths, HasRootEntries};
-ghost use Rattle.fo_check.specs.Answer.{Finds, IsReport};
-ghost use Rattle.fo_check.specs.Stage.{RefusesRoot, RefusesRest, IsJudgement};
-ghost use Rattle.fo_check.specs.Scan.{IsScanned};
+ghost use Rattle.fo_sound.specs.Sound.{HasEpochs, ReachesLow};
+ghost use Rattle.fo_check.specs.Answer.{Finds, IsAlone};
+ghost use Rattle.fo_check.specs.Stage.{RefusesRoot, RefusesRest};
 
 use crate::error::CheckError;
-use crate::report::Report;
-use crate::table::Table;
-use fo_image::{Pointer, RecordError, RootBlock, Super, first_data, read_header, read_root};
+use fo_image::{RecordError, RootBlock, Super, first_data, read_header, read_root};
 use std::alloc::Global;
 
 /// Whether the block is the header of a device of so many blocks.
@@ -61,71 +55,29 @@ pub(crate) fn root_of(alloc: Global, s: &Super, block: &[u8]) -> Result<RootBloc
     Ok(root)
 }
 
-/// Whether all that the image has is built.
-fn is_built(s: &Super, root: &RootBlock) -> bool
-    ensures { IsTrue result ↔ IsBuilt s.now root.now }
+/// Whether no root before the active one is kept, and nothing was archived.
+fn is_alone(s: &Super, root: &RootBlock) -> bool
+    ensures { IsTrue result ↔ IsAlone s.now root.now }
 {
-    root.prev_epoch < s.low
-        && s.last.is_none()
-        && root.entries.top == Pointer::Nil
-        && root.meta.top == Pointer::Nil
-}
-
-/// Whether the trees of the root directory have at most four levels of pointer blocks.
-fn has_depths(root: &RootBlock) -> bool
-    ensures { IsTrue result ↔ HasDepths root.now }
-{
-    root.entries.depth <= 4 && root.meta.depth <= 4
-}
-
-/// Whether the entries of the root directory are those of a root.
-fn has_root_entries(root: &RootBlock) -> bool
-    ensures { IsTrue result ↔ HasRootEntries root.now }
-{
-    let (entries, meta) = (root.entries, root.meta);
-    entries.active && entries.dir && entries.tag == 32 && meta.active && !meta.dir && meta.tag == 33
+    root.prev_epoch < s.low && s.last.is_none()
 }
 
 /// A rule that is broken at this block.
 pub(crate) fn unsound(rule: u8, block: u32) -> CheckError
-    ensures is { result ≡ Unsound rule block }
-    ensures judgement { IsJudgement result }
+    ensures { result ≡ Unsound rule block }
 {
     CheckError::Unsound { rule, block }
 }
 
-/// The report of an image with this super block, active root and label table.
-pub(crate) fn judge(
-    blocks: u32,
-    s: &Super,
-    root: &RootBlock,
-    table: Table,
-) -> Result<Report, CheckError>
-    requires { blocks ≤ 2 ^ 20 }
-    ensures answer { (image : List Block) → length image ≡ blocks → IsFormatted image s.now → HasActiveRoot image s.now root.now
-        → IsScanned image s.now (label_blocks blocks) (585 * label_blocks blocks) table
-        → Finds (IsReport image s.now root.now) (RefusesRest image s.now root.now) result }
-    ensures judgement { IfErr result IsJudgement }
+/// Refuses what is not built yet, and a chain of roots that doesn't reach the low epoch.
+pub(crate) fn judge(s: &Super, root: &RootBlock) -> Result<(), CheckError>
+    ensures answer { MatchResult result (λ _. IsAlone s.now root.now × ReachesLow s.now) (RefusesRest s.now root.now) }
 {
-    if !is_built(s, root) {
+    if !is_alone(s, root) {
         return Err(CheckError::NotBuilt);
     }
     if s.low != s.high {
         return Err(unsound(3, s.active));
     }
-    if let Some(block) = table.broken {
-        return Err(unsound(4, block));
-    }
-    if !has_depths(root) {
-        return Err(unsound(5, s.active));
-    }
-    if !has_root_entries(root) {
-        return Err(unsound(6, s.active));
-    }
-    Ok(Report {
-        blocks,
-        used: 1,
-        leaked: table.leaked,
-        snapshots: 0,
-    })
+    Ok(())
 }

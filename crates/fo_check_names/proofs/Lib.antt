@@ -1,3 +1,4 @@
 mod Finding
+mod Missing
 pub mod Moved
 mod Orders

@@ -1,5 +1,5 @@
 -- What the records of a directory and the numbers of files are asked: that they differ, and fit.
-use Rattle.std.specs.Prelude.{◌≡◌, ◌≢◌, ℕ, ◌*◌, ◌/◌, ◌<◌, true, false, List, length, slice_index_or}
+use Rattle.std.specs.Prelude.{◌≡◌, ◌≢◌, ◌||◌, ℕ, ◌*◌, ◌/◌, ◌<◌, true, false, List, length, slice_index_or}
 use Rattle.fo_image.specs.declared.record.Record.{Record}
 use Rattle.fo_check_names.specs.declared.names.Named.{Named}
 use Rattle.fo_check_names.specs.declared.names.Number.{Number}
@@ -25,7 +25,7 @@ number_in n = record { number = n.listed.number; leaf = n.leaf }
 
 -- a record with its leaf, whose pair was not found yet
 abbrev pub named_in : ℕ → Record → Named
-named_in leaf r = record { listed = r; leaf = leaf; found = false }
+named_in leaf r = record { listed = r; leaf = leaf; found = false; missed = false }
 
 -- No two elements have one key.
 pub record Differ {X K : Type 0} (key : X → K) (xs : List X) : Type 0 where
@@ -41,9 +41,9 @@ pub record IsTwice {X K : Type 0} (key : X → K) (of : X → ℕ) (xs : List X)
   pub same : (d : X) → key (slice_index_or xs first d) ≡ key (slice_index_or xs second d)
   pub leaf_is : (d : X) → of (slice_index_or xs second d) ≡ leaf
 
--- The record's pair was found, and its leaf of entries begins below this size.
+-- The record's pair was found or missed, and its leaf of entries begins below this size.
 pub record IsPaired (size : ℕ) (n : Named) : Type 0 where
-  pub found : n.found ≡ true
+  pub found : (n.found || n.missed) ≡ true
   pub within : 8192 * (n.listed.slot / 102) < size
 
 pub record IsUnpaired (size leaf : ℕ) (n : Named) : Type 0 where

@@ -1,8 +1,8 @@
 //! The records of one directory, and the numbers of all files.
-ghost use Rattle.std.specs.Prelude.{◌≡◌, ◌≢◌, ◌↔◌, ◌++◌, length, map, IsTrue, OnOk, MatchOption};
+ghost use Rattle.std.specs.Prelude.{◌≡◌, ◌≢◌, ◌≤◌, ◌↔◌, ◌++◌, length, map, IsTrue, OnOk, MatchOption};
 ghost use Rattle.std.specs.List.{All, Any, AllAdjacentBelow};
 ghost use Rattle.std.specs.List.Sorted.{IsPermutation, IsNonDecreasingBy};
-ghost use Rattle.fo_check_names.specs.Finds.{Finds};
+ghost use Rattle.fo_check_names.specs.Finds.{Finds, Misses, row_for};
 ghost use Rattle.fo_check_names.specs.Names.{name_of, slot_of, leaf_of, IsPaired, IsUnpaired, Differ, IsTwice, number_of, holder_of, number_in, named_in, IsFileNumber, IsNoFile};
 
 use fo_image::{Entry, Record};
@@ -17,6 +17,8 @@ pub struct Named {
     pub leaf: u32,
     /// Whether its pair was found.
     pub found: bool,
+    /// Whether its pair may be in a block that was entered from elsewhere.
+    pub missed: bool,
 }
 
 /// Sorts the records by their names, and answers the leaf of one whose name another has.
@@ -78,14 +80,37 @@ pub fn find_pair(named: &mut [Named], slot: u64, first: &Entry, second: &Entry) 
     fits
 }
 
-/// Whether the record's pair was found within the size of the entries.
+/// The number of the row of so many leaves of entries that has a record's pair.
+fn row_of(n: &Named, count: u64) -> u64
+    requires { 1 ≤ count }
+    ensures { result ≡ row_for count n.now }
+{
+    u64::from(n.listed.slot / 102) / count
+}
+
+/// Marks the records whose pairs are in this row of so many leaves of entries, where a block was entered from elsewhere.
+pub fn miss_pairs(named: &mut [Named], row: u64, count: u64)
+    requires { 1 ≤ count }
+    ensures { Misses row count named.old named.new }
+{
+    let mut at = named.partition_point(|n| u64::from(n.listed.slot / 102) / count < row);
+    while at < named.len() {
+        if row_of(&named[at], count) != row {
+            return;
+        }
+        named[at].missed = true;
+        at += 1;
+    }
+}
+
+/// Whether the record's pair was found or missed, within the size of the entries.
 fn is_paired(n: &Named, size: u64) -> bool
     ensures { IsTrue result ↔ IsPaired size n.now }
 {
-    n.found && 8192 * u64::from(n.listed.slot / 102) < size
+    (n.found || n.missed) && 8192 * u64::from(n.listed.slot / 102) < size
 }
 
-/// The leaf of a record whose pair was not found within the size of the entries.
+/// The leaf of a record whose pair was neither found nor missed within the size of the entries.
 pub fn without_pair(named: &[Named], size: u64) -> Option<u32>
     ensures { MatchOption result (All (IsPaired size) named.now) (λ leaf. Any (IsUnpaired size leaf) named.now) }
 {
@@ -166,6 +191,7 @@ pub fn add_named(named: &mut Vec<Named>, records: Vec<Record>, leaf: u32) -> Res
             listed: record,
             leaf,
             found: false,
+            missed: false,
         })?;
     }
     Ok(())

@@ -1,5 +1,5 @@
 //! What the entries of a pair name.
-ghost use Rattle.std.specs.Prelude.{◌≡◌, not, ◌&&◌};
+ghost use Rattle.std.specs.Prelude.{◌≡◌, cond, not, ◌&&◌, None};
 ghost use Rattle.fo_check_names.specs.Pairs.{is_folder, is_source, records_of};
 
 use fo_image::Entry;
@@ -41,4 +41,14 @@ pub fn records_of(first: &Entry, second: &Entry) -> Option<Entry>
     } else {
         None
     }
+}
+
+/// A leaf, unless nothing is to be noted of it.
+pub fn leaf_unless(skip: bool, leaf: Option<u32>) -> Option<u32>
+    ensures { result ≡ cond skip None leaf }
+{
+    if skip {
+        return None;
+    }
+    leaf
 }

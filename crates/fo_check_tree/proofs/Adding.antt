@@ -1,6 +1,6 @@
 -- The steps by the slots of a block, by its kind, and what a step leaves.
-use Rattle.std.proofs.Common.{◌≡◌, ℕ, zero, suc, ◌+◌, ◌^◌, ◌-◌, ◌*◌, ◌<◌, ◌≤◌, take, drop, ap, Bool, true, false, leb, List, ◌++◌, Option, Some, None, refl, sym, subst, ◌∙◌, Result, Ok, Err, arith}
-use Rattle.std.specs.Prelude.{min, OnOk, is_err, if◌then◌else◌}
+use Rattle.std.proofs.Common.{◌≡◌, ℕ, zero, suc, ◌-◌, ◌*◌, ◌<◌, ◌≤◌, take, drop, ap, Bool, true, false, leb, List, ◌++◌, Option, Some, None, refl, sym, subst, ◌∙◌, Result, Ok, Err, arith}
+use Rattle.std.specs.Prelude.{OnOk, is_err, if◌then◌else◌}
 use Rattle.std.proofs.lemmas.Bool.{false≢true}
 use Rattle.fo_check_tree.specs.declared.broken.Broken.{Broken}
 use Rattle.fo_image.specs.declared.types.Entry.{Entry}
@@ -9,34 +9,26 @@ use Rattle.fo_sound.specs.Image.{is_zero}
 use Rattle.fo_good.specs.Means.{HasEntry}
 use Rattle.fo_check_tree.specs.Lower.{lower, level}
 use Rattle.fo_check_tree.proofs.Levels.{level-lower}
-use Rattle.fo_check_tree.proofs.Noting.{keeps_zero}
-use Rattle.fo_check_tree.specs.Notes.{NotesAt, KeepsFormats}
+use Rattle.fo_check_tree.proofs.Noting.{keeps_zero, numbers_unless}
+use Rattle.fo_check_tree.specs.Notes.{NotesAt, NotesFolders, KeepsFormats, KeepsNumbers}
 use Rattle.fo_check_tree.specs.Notes.NotesAt.{same as note_same, format as note_format, deep as note_deep}
 use Rattle.fo_disk.specs.Disk.{Block}
 use Rattle.fo_image.specs.declared.types.Kind.{Kind}
 use Rattle.fo_image.specs.declared.types.Kind.TheVariants.{Data, Dir, Root}
-use Rattle.fo_image.specs.declared.types.Label.{Label}
-use Rattle.fo_crash.specs.Images.{Content, Image}
+use Rattle.fo_crash.specs.Images.{Content}
 use Rattle.fo_good.specs.Means.{HasPointer, ArePointers, IsRead}
-use Rattle.fo_meta.specs.Leaf.{IsLeaf}
-use Rattle.fo_sound.specs.Image.{block_of}
-use Rattle.fo_check_tree.specs.declared.labels.Labels.{Labels}
 use Rattle.fo_check_tree.specs.declared.walk.Folder.{Folder}
 use Rattle.fo_check_tree.specs.declared.walk.Holder.{Holder}
 use Rattle.fo_check_tree.specs.declared.walk.Step.{Step}
 use Rattle.fo_check_tree.specs.declared.walk.Holds.TheVariants.{Bytes, Records}
 use Rattle.fo_check_names.specs.declared.names.Named.{Named}
-use Rattle.fo_check_tree.specs.declared.walk.Walk.{Walk}
-use Rattle.fo_check_tree.specs.Depths.{Deepens}
-use Rattle.fo_check_tree.specs.Follows.{Reaches, Puts, Reads}
-use Rattle.fo_check_tree.specs.Follows.Reaches.{enters}
-use Rattle.fo_check_tree.specs.Known.{Marks}
+use Rattle.fo_check_tree.specs.Depths.{Deepens, HasFolder, NotesDepths}
+use Rattle.fo_check_tree.specs.Follows.{Reads}
 use Rattle.fo_check_tree.specs.Listing.{AddsNamed, Adds}
 use Rattle.fo_check_tree.specs.Listing.AddsNamed.{none as none_added}
-use Rattle.fo_check_tree.specs.Pairing.{Searches, Seeks, IsApart, Asks, AsksOf}
+use Rattle.fo_check_tree.specs.Pairing.{Searches, Seeks, IsApart, Asks, AsksOf, Leads, LeadsOf}
 use Rattle.fo_check_tree.specs.Slots.{unless, HasSlot, HasSlots, steps_below, steps_of}
 use Rattle.fo_check_tree.specs.Slots.HasSlot.{entry, other}
-use Rattle.fo_check_tree.specs.Steps.{IsAllowed}
 
 module _ {A E : Type 0} (r : Result A E) (step : Step) (here : Holder) (c : Content) (bytes : Block) (old new : List Step) where
   pub data_adds : (level : ℕ) (kind : Kind) → kind ≡ Data level → 0 < level → (((i : ℕ) → i < 409 → HasPointer c bytes i) → OnOk r (new ≡ old ++ steps_below step (Data (level - 1)) here c 409))
@@ -102,23 +94,6 @@ entry_read c bytes i noted (other is deep) low quiet = absurd (omega (arith, qui
 pub on_ok_is : {A E : Type 0} (r : Result A E) (P : Type 0) → is_err r ≡ false → OnOk r P → P
 on_ok_is (Ok x) P ok h = h
 on_ok_is (Err e) P ok h = absurd (false≢true (sym ok))
-
-pub reaches_by : {A E : Type 0} (r : Result A E) (device : List Block) (image : Image) (depth : ℕ) (named : Bool) (step : Step) (at : ℕ) (old new : Walk) (label : Label) (marked : Labels) → IsAllowed old step at label → Marks at old.labels.known.items marked.known.items
-    → OnOk r (new.labels ≡ marked)
-    → (HasSlots step.kind (image at) (block_of device at) → OnOk r (new.steps.items ≡ old.steps.items ++ steps_of step (record { block = at; label = label }) (image at) step.kind))
-    → (HasSlots step.kind (image at) (block_of device at) → OnOk r (Puts (record { block = at; label = label }) (image at) depth named step.kind old.folders.items new.folders.items))
-    → OnOk r (NotesAt at old.noted new.noted)
-    → OnOk r (Reads step.kind (image at) (block_of device at) new.noted)
-    → OnOk r (Adds step at (block_of device at) step.kind old.named.items new.named.items)
-    → (step.kind ≡ Data 0 → step.holds ≡ Records → OnOk r (5 < level new.noted → IsLeaf (block_of device at)))
-    → (HasSlots step.kind (image at) (block_of device at) → OnOk r (Seeks step (image at) named step.kind old.named.items new.named.items new.folders.items))
-    → (step.kind ≡ Data 0 → step.holds ≡ Bytes → OnOk r (new.named.items ≡ old.named.items))
-    → (HasSlots step.kind (image at) (block_of device at) → OnOk r (Deepens (image at) (min (depth + 1) (2 ^ 32 - 1)) step.kind new.noted))
-    → (IsRead step.kind (image at) (block_of device at) → (step.kind ≡ Data 0 → (step.holds ≡ Bytes → ⊥) → IsLeaf (block_of device at)) → OnOk r (KeepsFormats old.noted new.noted))
-    → (HasSlots step.kind (image at) (block_of device at) → OnOk r (AsksOf step (image at) step.kind old.named.items new.named.items))
-    → OnOk r (Reaches device image depth named step at old new)
-reaches_by (Ok x) device image depth named step at old new label marked allowed marks same pushed put notes read adds leafs seeks bytes deeps clean asks = enters label allowed (subst (λ (l : Labels). Marks at old.labels.known.items l.known.items) (sym same) marks) pushed put notes read adds leafs seeks bytes deeps clean asks
-reaches_by (Err e) device image depth named step at old new label marked allowed marks same pushed put notes read adds leafs seeks bytes deeps clean asks = same
 
 -- ---- what a block says by itself
 
@@ -193,6 +168,40 @@ nothing_asks step c old new Root isnt = tt
 pub other_asks : {A E : Type 0} (r : Result A E) (step : Step) (c : Content) (old new : List Named) (kind : Kind) → (kind ≡ Dir zero → ⊥) → OnOk r (AsksOf step c kind old new)
 other_asks (Ok x) step c old new kind isnt = nothing_asks step c old new kind isnt
 other_asks (Err e) step c old new kind isnt = tt
+
+-- ---- how deep they are
+
+pub leaf_depths : {A E : Type 0} (r : Result A E) (c : Content) (deep block : ℕ) (old new : Option Broken) (kind : Kind) → kind ≡ Dir zero → OnOk r (NotesFolders (HasFolder c) deep block old new) → OnOk r (NotesDepths c deep block kind old new)
+leaf_depths r c deep block old new kind is h = subst (λ (k : Kind). OnOk r (NotesDepths c deep block k old new)) (sym is) h
+
+pub same_depths : (c : Content) (deep block : ℕ) (old new : Option Broken) (kind : Kind) → (kind ≡ Dir zero → ⊥) → KeepsNumbers old new → NotesDepths c deep block kind old new
+same_depths c deep block old new (Data level') isnt h = h
+same_depths c deep block old new (Dir zero) isnt h = absurd (isnt refl)
+same_depths c deep block old new (Dir (suc level')) isnt h = h
+same_depths c deep block old new Root isnt h = h
+
+pub other_depths : {A E : Type 0} (r : Result A E) (c : Content) (deep block : ℕ) (old new : Option Broken) (kind : Kind) → (kind ≡ Dir zero → ⊥) → OnOk r (KeepsNumbers old new) → OnOk r (NotesDepths c deep block kind old new)
+other_depths (Ok x) c deep block old new kind isnt h = same_depths c deep block old new kind isnt h
+other_depths (Err e) c deep block old new kind isnt h = tt
+
+pub rest_depths : {A E : Type 0} (r : Result A E) (c : Content) (deep block : ℕ) (old new : Option Broken) (kind : Kind) (t : Bool) → (kind ≡ Dir zero → ⊥) → OnOk r (new ≡ unless t 5 block old) → OnOk r (NotesDepths c deep block kind old new)
+rest_depths (Ok x) c deep block old new kind t isnt h = same_depths c deep block old new kind isnt (numbers_unless t block old new h)
+rest_depths (Err e) c deep block old new kind t isnt h = tt
+
+-- ---- folders to which names lead
+
+pub leaf_heads : {A E : Type 0} (r : Result A E) (step : Step) (c : Content) (names : List Named) (old new : List Folder) (kind : Kind) → kind ≡ Dir zero → OnOk r (Leads step.index c 102 names old new) → OnOk r (LeadsOf step c kind names old new)
+leaf_heads r step c names old new kind is h = subst (λ (k : Kind). OnOk r (LeadsOf step c k names old new)) (sym is) h
+
+pub nothing_heads : (step : Step) (c : Content) (names : List Named) (old new : List Folder) (kind : Kind) → (kind ≡ Dir zero → ⊥) → LeadsOf step c kind names old new
+nothing_heads step c names old new (Data level') isnt = tt
+nothing_heads step c names old new (Dir zero) isnt = absurd (isnt refl)
+nothing_heads step c names old new (Dir (suc level')) isnt = tt
+nothing_heads step c names old new Root isnt = tt
+
+pub other_heads : {A E : Type 0} (r : Result A E) (step : Step) (c : Content) (names : List Named) (old new : List Folder) (kind : Kind) → (kind ≡ Dir zero → ⊥) → OnOk r (LeadsOf step c kind names old new)
+other_heads (Ok x) step c names old new kind isnt = nothing_heads step c names old new kind isnt
+other_heads (Err e) step c names old new kind isnt = tt
 
 -- ---- how deep it leads
 

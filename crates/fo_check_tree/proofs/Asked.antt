@@ -1,5 +1,8 @@
 -- The leaves of a source of entries, while it is walked: in each that was read the records are marked whose pairs are there.
-use Rattle.std.proofs.Common.{◌≡◌, ◌≢◌, ◌⊎◌, ⊎_elim, inl, inr, ℕ, zero, suc, ◌+◌, ◌*◌, ◌^◌, ◌<◌, ◌≤◌, true, List, [], ◌∷◌, ◌++◌, length, length-append, append-nil, append_assoc, get_or, refl, sym, ap, ◌∙◌, subst, arith}
+use Rattle.std.proofs.Common.{◌≡◌, ◌≢◌, ◌⊎◌, ⊎_elim, inl, inr, ℕ, zero, suc, ◌+◌, ◌*◌, ◌/◌, ◌%◌, ◌^◌, ◌<◌, ◌≤◌, Bool, true, false, List, [], ◌∷◌, ◌++◌, length, length-append, append-nil, append_assoc, get_or, refl, sym, ap, ◌∙◌, subst, arith}
+use Rattle.std.specs.Prelude.{◌||◌}
+use Rattle.std.specs.List.Sorted.{IsNonDecreasingBy}
+use Rattle.std.proofs.Math.Nat.{pow-succ', div-div-eq-div-mul}
 use Rattle.std.proofs.lemmas.Bool.{cases_eq, cases_lt}
 use Rattle.fo_disk.specs.Disk.{Block}
 use Rattle.fo_image.specs.declared.types.Kind.{Kind}
@@ -11,11 +14,13 @@ use Rattle.fo_image.specs.declared.types.Pointer.TheVariants.{Nil, Local, Score 
 use Rattle.fo_image.specs.declared.record.Record.{Record}
 use Rattle.fo_crash.specs.declared.slot.Slot.{Slot}
 use Rattle.fo_crash.specs.declared.slot.Slot.TheVariants.{Pointer as To, Entry as Head, Prev}
-use Rattle.fo_crash.specs.Images.{Image, Arena, Link, target, goes, leaf_path, depth_of}
+use Rattle.fo_crash.specs.Images.{Image, Arena, Link, target, goes, way, leaf_path, depth_of}
 use Rattle.fo_sound.specs.Image.{block_of}
 use Rattle.fo_good.specs.Means.{EndsAt}
-use Rattle.fo_good.specs.Trees.{IsTree, IsFirst, IsSecond}
+use Rattle.fo_good.specs.Trees.{IsFirst, IsSecond}
 use Rattle.fo_good.specs.Sound.{Kept}
+use Rattle.fo_check_names.specs.Finds.{Misses, leaf_for, row_for}
+use Rattle.fo_check_names.specs.Names.{slot_of}
 use Rattle.fo_check_names.specs.declared.names.Named.{Named}
 use Rattle.fo_check_tree.specs.declared.walk.Holder.{Holder}
 use Rattle.fo_check_tree.specs.declared.walk.Step.{Step}
@@ -25,16 +30,15 @@ use Rattle.fo_check_tree.specs.Follows.Reaches.{again, enters}
 use Rattle.fo_check_tree.specs.Follows.Follows.{nowhere, held, local}
 use Rattle.fo_check_tree.specs.Listing.{SomeOf, Adds}
 use Rattle.fo_check_tree.specs.Lower.{level}
-use Rattle.fo_check_tree.specs.Pairing.{SameRecords, pair_number, IsApart, Asks, AsksOf, Searches, Seeks, IsInEntries, IsQuiet, IsEntriesStep, AreSought, IsOnEntries, IsAsked, AreAsked}
+use Rattle.fo_check_tree.specs.Pairing.{SameRecords, pair_number, IsApart, Asks, AsksOf, Searches, Seeks, IsInEntries, IsQuiet, IsEntriesStep, AreSought, IsOnEntries, IsAsked, AreAsked, IsMissedBy, MissesBy, IsHidden, AreHidden}
 use Rattle.fo_check_tree.specs.Slots.{HasSlots, steps_of, steps_below, entry_of}
 use Rattle.fo_check_tree.specs.Walking.{Walking}
 use Rattle.fo_check_tree.proofs.Asking.{apart_same}
 use Rattle.fo_check_tree.proofs.Formatting.{some_slot}
 use Rattle.fo_check_tree.proofs.Leaves.{goes_join, lost, all_back, some_left, some_right, some_parts, way_same, way_long}
-use Rattle.fo_check_tree.proofs.Listed.{not_once}
 use Rattle.fo_check_tree.proofs.Paths.{slot_end}
 use Rattle.fo_check_tree.proofs.Seeking.{source_on, path_here, number_is, no_names, pow_small}
-use Rattle.fo_check_tree.proofs.Stepping.{taken_of, again_breaks}
+use Rattle.fo_check_tree.proofs.Stepping.{again_breaks, taken_of, slots_on}
 
 dir_level : {a b : ℕ} → Dir a ≡ Dir b → a ≡ b
 dir_level e = cc
@@ -65,30 +69,68 @@ none_long : (xs : List ℕ) → length xs ≡ 0 → xs ≡ []
 none_long [] e = refl
 none_long (x ∷ xs) e = absurd (omega (arith, e))
 
+or_left : (a b : Bool) → a ≡ true → (a || b) ≡ true
+or_left a b e = ap (λ (x : Bool). x || b) e
+
+or_right : (a b : Bool) → b ≡ true → (a || b) ≡ true
+or_right true b e = refl
+or_right false b e = e
+
+pub either : (a b : Bool) (P : Type 0) → (a || b) ≡ true → (a ≡ true → P) → (b ≡ true → P) → P
+either true b P e f g = f refl
+either false b P e f g = g e
+
+-- ---- the row of a leaf: which block above it leads on to it
+
+-- The way to a leaf goes by the block of its row.
+way_row : (level d n : ℕ) (more : List ℕ) → (rest : List ℕ) × (way (d + level) n more ≡ way d (n / 409 ^ level) rest)
+way_row zero d n more = let e : d + 0 ≡ d = omega arith in let one' : n ≡ n / 409 ^ 0 = omega arith in (more, ap (λ (x : ℕ). way x n more) e ∙ ap (λ (x : ℕ). way d x more) one')
+way_row (suc level) d n more =
+    let r = way_row level d (n / 409) (n % 409 ∷ more) in
+    let e : d + suc level ≡ suc (d + level) = omega arith in
+    let row : n / 409 / 409 ^ level ≡ n / 409 ^ suc level = div-div-eq-div-mul n 409 (409 ^ level) ∙ ap (λ (x : ℕ). n / x) (sym (pow-succ' 409 level)) in
+    (r.0, ap (λ (x : ℕ). way x n more) e ∙ r.1 ∙ ap (λ (x : ℕ). way d x r.0) row)
+
+row_small : (n d level : ℕ) → n < 409 ^ (d + level) → n / 409 ^ level < 409 ^ d
+row_small n d zero lt = let e : d + 0 ≡ d = omega arith in let one' : n / 409 ^ 0 ≡ n = omega arith in omega (arith, subst (λ (x : ℕ). n < 409 ^ x) e lt, one')
+row_small n d (suc level) lt =
+    let e : d + suc level ≡ suc (d + level) = omega arith in
+    let lt' : n < 409 ^ suc (d + level) = subst (λ (x : ℕ). n < 409 ^ x) e lt in
+    let up : 409 ^ suc (d + level) ≡ 409 * 409 ^ (d + level) = pow-succ' 409 (d + level) in
+    let row : n / 409 / 409 ^ level ≡ n / 409 ^ suc level = div-div-eq-div-mul n 409 (409 ^ level) ∙ ap (λ (x : ℕ). n / x) (sym (pow-succ' 409 level)) in
+    omega (arith, row_small (n / 409) d level (omega (arith, lt', up)), row)
+
+row_on : {arena : Arena} {image : Image} (entries : Link) (step : Step) (index : ℕ) (x : IsOnEntries arena image entries index step) → index < 409 ^ depth_of entries.slot → index / 409 ^ x.source.level ≡ step.index
+row_on entries step index x few =
+    let p = way_row x.source.level (length x.source.path) index [] in
+    let deep : way (length x.source.path + x.source.level) index [] ≡ leaf_path entries.slot index = ap (λ (d : ℕ). way d index []) x.source.depth in
+    let both : way (length x.source.path) (index / 409 ^ x.source.level) p.0 ≡ way (length x.source.path) step.index x.more = sym p.1 ∙ deep ∙ x.is ∙ sym (x.source.index x.more) in
+    (way_same (length x.source.path) (index / 409 ^ x.source.level) step.index p.0 x.more (row_small index (length x.source.path) x.source.level (subst (λ (d : ℕ). index < 409 ^ d) (sym x.source.depth) few)) x.source.few both).0
+
 module _ (arena : Arena) (device : List Block) (image : Image) (s : Super) (k : Kept) (rest : List Step) (step : Step) (old new : Walk) (w : Walking arena device image s k (step ∷ rest) old) (low : level new.noted ≤ level old.noted) (depth : ℕ)
-    (entries : Link) (names : List Named) (a : AreSought arena image entries names old.noted (old.steps.items ++ step ∷ []) old.named.items old.folders.items) (apart : IsApart names) (b : AreAsked arena image k entries (old.steps.items ++ step ∷ []) old.named.items) where
+    (entries : Link) (names : List Named) (a : AreSought arena image entries names old.noted (old.steps.items ++ step ∷ []) old.named.items old.folders.items) (apart : IsApart names) (b : AreAsked arena image entries (old.steps.items ++ step ∷ []) old.named.items) where
   this : IsEntriesStep arena image entries step
   this = (all_back (IsEntriesStep arena image entries) old.steps.items (step ∷ []) a.sources).0
 
   -- what is said once the step was taken, of leaves that were read before, and of what is behind it
   asked_by : (steps added : List Step) (named : List Named) → steps ≡ old.steps.items ++ added
       → ((index at : ℕ) → index < 409 ^ depth_of entries.slot → target ((goes arena image entries (leaf_path entries.slot index)).slot) ≡ Local at → IsAsked image index at old.named.items → IsAsked image index at named)
-      → (IsTree arena image k.at → (index at : ℕ) → index < 409 ^ depth_of entries.slot → target ((goes arena image entries (leaf_path entries.slot index)).slot) ≡ Local at → IsOnEntries arena image entries index step → SomeOf (IsOnEntries arena image entries index) added ⊎ IsAsked image index at named)
-      → AreAsked arena image k entries steps named
+      → ((index at : ℕ) → index < 409 ^ depth_of entries.slot → target ((goes arena image entries (leaf_path entries.slot index)).slot) ≡ Local at → IsOnEntries arena image entries index step → SomeOf (IsOnEntries arena image entries index) added ⊎ IsAsked image index at named)
+      → AreAsked arena image entries steps named
   asked_by steps added named is before behind = record {
-    whole = λ tree index at few leads. ⊎_elim
+    whole = λ index at few leads. ⊎_elim
         (λ (x : SomeOf (IsOnEntries arena image entries index) (old.steps.items ++ step ∷ [])). ⊎_elim
         (λ (l : SomeOf (IsOnEntries arena image entries index) old.steps.items). inl (subst (λ (xs : List Step). SomeOf (IsOnEntries arena image entries index) xs) (sym is) (some_left (IsOnEntries arena image entries index) old.steps.items added l)))
         (λ (r : SomeOf (IsOnEntries arena image entries index) (step ∷ [])). ⊎_elim
         (λ (v : IsOnEntries arena image entries index step). ⊎_elim
         (λ (y : SomeOf (IsOnEntries arena image entries index) added). inl (subst (λ (xs : List Step). SomeOf (IsOnEntries arena image entries index) xs) (sym is) (some_right (IsOnEntries arena image entries index) old.steps.items added y)))
         (λ (z : IsAsked image index at named). inr z)
-        (behind tree index at few leads v))
+        (behind index at few leads v))
         (λ (no' : ⊥). absurd no')
         r)
         (some_parts (IsOnEntries arena image entries index) old.steps.items (step ∷ []) x))
         (λ (z : IsAsked image index at old.named.items). inr (before index at few leads z))
-        (b.whole tree index at few leads);
+        (b.whole index at few leads);
   }
 
   same_asked : (named : List Named) → named ≡ old.named.items → (index at : ℕ) → IsAsked image index at old.named.items → IsAsked image index at named
@@ -151,7 +193,7 @@ module _ (arena : Arena) (device : List Block) (image : Image) (s : Super) (k : 
 
   -- ---- a leaf that is read now
 
-  module _ (at : ℕ) (is : step.pointer ≡ Local at) (v : IsInEntries arena image entries step) (leaf : step.kind ≡ Dir zero) (same : SameRecords old.named.items new.named.items) (asks : step.index < 27982932961 → IsApart old.named.items → Asks step.index (image at) 102 old.named.items new.named.items) where
+  module _ (at : ℕ) (is : step.pointer ≡ Local at) (v : IsInEntries arena image entries step) (leaf : step.kind ≡ Dir zero) (same : SameRecords old.named.items new.named.items) (still : (i : ℕ) (d : Named) → i < length new.named.items → (get_or new.named.items i d).missed ≡ (get_or old.named.items i d).missed) (asks : step.index < 27982932961 → IsApart old.named.items → Asks step.index (image at) 102 old.named.items new.named.items) where
     leads_leaf : target ((goes arena image entries v.path).slot) ≡ Local at
     leads_leaf = sym v.pointer ∙ is
 
@@ -169,7 +211,7 @@ module _ (arena : Arena) (device : List Block) (image : Image) (s : Super) (k : 
 
     now_asked : IsAsked image step.index at new.named.items
     now_asked = record {
-      each = λ p lt i d li slot x y. asks_now.each p lt i d li (slot ∙ sym (number p lt)) (first_by ((image at).slot (2 * p)) (get_or new.named.items i d).listed x) (second_by ((image at).slot (2 * p + 1)) (get_or new.named.items i d).listed y);
+      each = λ p lt i d li slot x y. or_left (get_or new.named.items i d).found (get_or new.named.items i d).missed (asks_now.each p lt i d li (slot ∙ sym (number p lt)) (first_by ((image at).slot (2 * p)) (get_or new.named.items i d).listed x) (second_by ((image at).slot (2 * p + 1)) (get_or new.named.items i d).listed y));
     }
 
     still_asked : (index b' : ℕ) → index ≢ step.index → IsAsked image index b' old.named.items → IsAsked image index b' new.named.items
@@ -177,9 +219,11 @@ module _ (arena : Arena) (device : List Block) (image : Image) (s : Super) (k : 
       each = λ p lt i d li slot x y.
           let listed : (get_or new.named.items i d).listed ≡ (get_or old.named.items i d).listed = same.each i d li in
           let was = z.each p lt i d (omega (arith, li, same.long)) (sym (ap (λ (r : Record). r.slot) listed) ∙ slot) (subst (λ (r : Record). IsFirst ((image b').slot (2 * p)) r) listed x) (subst (λ (r : Record). IsSecond ((image b').slot (2 * p + 1)) r) listed y) in
-          asks_now.kept i d li was (λ q lq e.
+          either (get_or old.named.items i d).found (get_or old.named.items i d).missed (((get_or new.named.items i d).found || (get_or new.named.items i d).missed) ≡ true) was
+          (λ found. or_left (get_or new.named.items i d).found (get_or new.named.items i d).missed (asks_now.kept i d li found (λ q lq e.
           let numbers : index * 102 + p ≡ step.index * 102 + q = sym slot ∙ e ∙ number q lq in
-          other (omega (arith, numbers, lt, lq)));
+          other (omega (arith, numbers, lt, lq)))))
+          (λ missed. or_right (get_or new.named.items i d).found (get_or new.named.items i d).missed (still i d li ∙ missed));
     }
 
     before_leaf : (index b' : ℕ) → index < 409 ^ depth_of entries.slot → target ((goes arena image entries (leaf_path entries.slot index)).slot) ≡ Local b' → IsAsked image index b' old.named.items → IsAsked image index b' new.named.items
@@ -194,6 +238,30 @@ module _ (arena : Arena) (device : List Block) (image : Image) (s : Super) (k : 
     behind_leaf index b' few leads x =
         subst (λ (n : ℕ). IsAsked image n b' new.named.items) (sym (same_index index b' leads x at is leaf few)) (subst (λ (n : ℕ). IsAsked image step.index n new.named.items) (sym (same_block index b' leads x at is leaf)) now_asked)
 
+  -- ---- a block that was entered from elsewhere
+
+  missed_asked : (count : ℕ) → Misses step.index count old.named.items new.named.items → (index b' : ℕ) → IsAsked image index b' old.named.items → IsAsked image index b' new.named.items
+  missed_asked count m index b' z = record {
+    each = λ p lt i d li slot x y.
+        let s = m.same i d li in
+        let was = z.each p lt i d (omega (arith, li, m.long)) (sym (ap (λ (r : Record). r.slot) s.0) ∙ slot) (subst (λ (r : Record). IsFirst ((image b').slot (2 * p)) r) s.0 x) (subst (λ (r : Record). IsSecond ((image b').slot (2 * p + 1)) r) s.0 y) in
+        either (get_or old.named.items i d).found (get_or old.named.items i d).missed (((get_or new.named.items i d).found || (get_or new.named.items i d).missed) ≡ true) was
+        (λ found. or_left (get_or new.named.items i d).found (get_or new.named.items i d).missed (s.2 ∙ found))
+        (λ missed. or_right (get_or new.named.items i d).found (get_or new.named.items i d).missed (m.kept i d li missed));
+  }
+
+  missed_now : (v : IsInEntries arena image entries step) (m : IsMissedBy step v.level old.named.items new.named.items) (index b' : ℕ) → index < 409 ^ depth_of entries.slot → IsOnEntries arena image entries index step → IsAsked image index b' new.named.items
+  missed_now v m index b' few x = record {
+    each = λ p lt i d li slot first second.
+        let leaf : leaf_for (get_or new.named.items i d) ≡ index = omega (arith, slot, lt) in
+        let level : x.source.level ≡ v.level = dir_level (sym x.source.kind ∙ v.kind) in
+        let row : index / m.count ≡ step.index = ap (λ (n : ℕ). index / n) (m.is (omega (arith, v.depth, a.shallow))) ∙ ap (λ (n : ℕ). index / 409 ^ n) (sym level) ∙ row_on entries step index x few in
+        or_right (get_or new.named.items i d).found (get_or new.named.items i d).missed (m.misses.all sorted_old i d li (ap (λ (n : ℕ). n / m.count) leaf ∙ row));
+  }
+    where
+      sorted_old : IsNonDecreasingBy slot_of old.named.items
+      sorted_old = (apart_same names old.named.items a.same apart).sorted
+
   -- ---- any step
 
   none_left : (steps : List Step) → steps ≡ old.steps.items → steps ≡ old.steps.items ++ []
@@ -202,39 +270,108 @@ module _ (arena : Arena) (device : List Block) (image : Image) (s : Super) (k : 
   no_way : (q : IsQuiet step) (index : ℕ) → IsOnEntries arena image entries index step → ⊥
   no_way q index x = data_dir q.level x.source.level (sym q.kind ∙ x.source.kind)
 
-  after_block : (at : ℕ) → step.pointer ≡ Local at → Reaches device image depth true step at old new → AreAsked arena image k entries new.steps.items new.named.items
-  after_block at is (again m allowed marks same same' noted kept) = asked_by new.steps.items [] new.named.items (none_left new.steps.items same) (λ index b' few leads z. same_asked new.named.items kept index b' z)
-      (λ tree index b' few leads x. absurd (not_once arena device image s k entries at (again_breaks arena device image s k rest step old new w at m is marks.none allowed.known) tree))
-  after_block at is (enters m allowed marks steps folders notes read adds leafs seeks bytes deeps clean asks) = ⊎_elim (λ (v : IsInEntries arena image entries step). inside v v.level v.kind) (λ (q : IsQuiet step). outside q q.level q.kind) this
+  after_block : (at : ℕ) → step.pointer ≡ Local at → Reaches device image depth true step at old new → AreAsked arena image entries new.steps.items new.named.items
+  after_block at is (again m allowed marks same same' noted kept) = ⊎_elim
+      (λ (v : IsInEntries arena image entries step).
+      let m : IsMissedBy step v.level old.named.items new.named.items = subst (λ (d : Kind). MissesBy step d old.named.items new.named.items) v.kind kept in
+      asked_by new.steps.items [] new.named.items (none_left new.steps.items same) (λ index b' few leads z. missed_asked m.count m.misses index b' z) (λ index b' few leads x. inr (missed_now v m index b' few x)))
+      (λ (q : IsQuiet step). asked_by new.steps.items [] new.named.items (none_left new.steps.items same) (λ index b' few leads z. same_asked new.named.items (subst (λ (d : Kind). MissesBy step d old.named.items new.named.items) q.kind kept) index b' z)
+      (λ index b' few leads x. absurd (no_way q index x)))
+      this
+  after_block at is (enters m allowed marks steps folders notes read adds leafs seeks bytes deeps clean asks eights heads) = ⊎_elim (λ (v : IsInEntries arena image entries step). inside v v.level v.kind) (λ (q : IsQuiet step). outside q q.level q.kind) this
     where
       here' : Holder
       here' = record { block = at; label = m }
 
       slots : HasSlots step.kind (image at) (block_of device at)
-      slots = let t = taken_of device old.labels.known.items at m w.goes.table allowed.known in subst (λ (d : Kind). HasSlots d (image at) (block_of device at)) allowed.may.kind (w.holds.slots at m t.0 t.1)
+      slots = let t = taken_of device old.labels.known.items at m w.goes.table allowed.known in subst (λ (d : Kind). HasSlots d (image at) (block_of device at)) allowed.may.kind (slots_on arena device image s k rest step old new w at m is t)
 
-      inside : (v : IsInEntries arena image entries step) (level' : ℕ) → step.kind ≡ Dir level' → AreAsked arena image k entries new.steps.items new.named.items
+      inside : (v : IsInEntries arena image entries step) (level' : ℕ) → step.kind ≡ Dir level' → AreAsked arena image entries new.steps.items new.named.items
       inside v zero kind =
           let found : Searches step.index (image at) true 102 old.named.items new.named.items new.folders.items = subst (λ (d : Kind). Seeks step (image at) true d old.named.items new.named.items new.folders.items) kind (seeks slots) in
           let asks' : step.index < 27982932961 → IsApart old.named.items → Asks step.index (image at) 102 old.named.items new.named.items = subst (λ (d : Kind). AsksOf step (image at) d old.named.items new.named.items) kind (asks slots) in
-          asked_by new.steps.items (steps_of step here' (image at) step.kind) new.named.items (steps slots) (before_leaf at is v kind found.same asks') (λ tree index b' few leads x. inr (behind_leaf at is v kind found.same asks' index b' few leads x))
+          asked_by new.steps.items (steps_of step here' (image at) step.kind) new.named.items (steps slots) (before_leaf at is v kind found.same found.still asks') (λ index b' few leads x. inr (behind_leaf at is v kind found.same found.still asks' index b' few leads x))
       inside v (suc level') kind =
           let inner : HasSlots (Dir (suc level')) (image at) (block_of device at) = subst (λ (d : Kind). HasSlots d (image at) (block_of device at)) kind slots in
           let same : new.named.items ≡ old.named.items = subst (λ (d : Kind). Seeks step (image at) true d old.named.items new.named.items new.folders.items) kind (seeks slots) in
           asked_by new.steps.items (steps_of step here' (image at) step.kind) new.named.items (steps slots) (λ index b' few leads z. same_asked new.named.items same index b' z)
-          (λ tree index b' few leads x. inl (subst (λ (d : Kind). SomeOf (IsOnEntries arena image entries index) (steps_of step here' (image at) d)) (sym kind) (through index b' leads x at is level' kind here' inner.1 x.more refl)))
+          (λ index b' few leads x. inl (subst (λ (d : Kind). SomeOf (IsOnEntries arena image entries index) (steps_of step here' (image at) d)) (sym kind) (through index b' leads x at is level' kind here' inner.1 x.more refl)))
 
-      outside : (q : IsQuiet step) (level' : ℕ) → step.kind ≡ Data level' → AreAsked arena image k entries new.steps.items new.named.items
+      outside : (q : IsQuiet step) (level' : ℕ) → step.kind ≡ Data level' → AreAsked arena image entries new.steps.items new.named.items
       outside q zero kind =
           let same : new.named.items ≡ old.named.items = no_names arena device image s k rest step old new w low depth entries names a at q.quiet kind bytes (subst (λ (d : Kind). Adds step at (block_of device at) d old.named.items new.named.items) kind adds) in
-          asked_by new.steps.items (steps_of step here' (image at) step.kind) new.named.items (steps slots) (λ index b' few leads z. same_asked new.named.items same index b' z) (λ tree index b' few leads x. absurd (no_way q index x))
+          asked_by new.steps.items (steps_of step here' (image at) step.kind) new.named.items (steps slots) (λ index b' few leads z. same_asked new.named.items same index b' z) (λ index b' few leads x. absurd (no_way q index x))
       outside q (suc level') kind =
           let same : new.named.items ≡ old.named.items = subst (λ (d : Kind). Adds step at (block_of device at) d old.named.items new.named.items) kind adds in
-          asked_by new.steps.items (steps_of step here' (image at) step.kind) new.named.items (steps slots) (λ index b' few leads z. same_asked new.named.items same index b' z) (λ tree index b' few leads x. absurd (no_way q index x))
+          asked_by new.steps.items (steps_of step here' (image at) step.kind) new.named.items (steps slots) (λ index b' few leads z. same_asked new.named.items same index b' z) (λ index b' few leads x. absurd (no_way q index x))
 
-  pub asked_on : Follows device image depth true step old new → AreAsked arena image k entries new.steps.items new.named.items
-  asked_on (nowhere nil same) = subst (λ (x : Walk). AreAsked arena image k entries x.steps.items x.named.items) (sym same)
-      (asked_by old.steps.items [] old.named.items (none_left old.steps.items refl) (λ index b' few leads z. z) (λ tree index b' few leads x. absurd (off_way index b' leads x (λ c e. not_nil c (sym nil ∙ e)))))
-  asked_on (held y is same) = subst (λ (x : Walk). AreAsked arena image k entries x.steps.items x.named.items) (sym same)
-      (asked_by old.steps.items [] old.named.items (none_left old.steps.items refl) (λ index b' few leads z. z) (λ tree index b' few leads x. absurd (off_way index b' leads x (λ c e. not_held c (sym is ∙ e)))))
+  pub asked_on : Follows device image depth true step old new → AreAsked arena image entries new.steps.items new.named.items
+  asked_on (nowhere nil same) = subst (λ (x : Walk). AreAsked arena image entries x.steps.items x.named.items) (sym same)
+      (asked_by old.steps.items [] old.named.items (none_left old.steps.items refl) (λ index b' few leads z. z) (λ index b' few leads x. absurd (off_way index b' leads x (λ c e. not_nil c (sym nil ∙ e)))))
+  asked_on (held y is same) = subst (λ (x : Walk). AreAsked arena image entries x.steps.items x.named.items) (sym same)
+      (asked_by old.steps.items [] old.named.items (none_left old.steps.items refl) (λ index b' few leads z. z) (λ index b' few leads x. absurd (off_way index b' leads x (λ c e. not_held c (sym is ∙ e)))))
   asked_on (local at is r) = after_block at is r
+
+-- ---- records that are marked as missed
+
+module _ (arena : Arena) (device : List Block) (image : Image) (s : Super) (k : Kept) (rest : List Step) (step : Step) (old new : Walk) (w : Walking arena device image s k (step ∷ rest) old) (low : level new.noted ≤ level old.noted) (depth : ℕ)
+    (entries : Link) (names : List Named) (a : AreSought arena image entries names old.noted (old.steps.items ++ step ∷ []) old.named.items old.folders.items) (h : AreHidden arena image k entries old.named.items) where
+  hidden_same : (named : List Named) → named ≡ old.named.items → AreHidden arena image k entries named
+  hidden_same named is = subst (λ (xs : List Named). AreHidden arena image k entries xs) (sym is) h
+
+  leaf_same : (x y : Named) → x.listed ≡ y.listed → leaf_for x ≡ leaf_for y
+  leaf_same x y e = ap (λ (r : Record). r.slot / 102) e
+
+  hidden_still : SameRecords old.named.items new.named.items → ((i : ℕ) (d : Named) → i < length new.named.items → (get_or new.named.items i d).missed ≡ (get_or old.named.items i d).missed) → AreHidden arena image k entries new.named.items
+  hidden_still same still = record {
+    each = λ i d lt is few.
+        let leaf = leaf_same (get_or new.named.items i d) (get_or old.named.items i d) (same.each i d lt) in
+        subst (λ (n : ℕ). IsHidden arena image k entries n) (sym leaf) (h.each i d (omega (arith, lt, same.long)) (sym (still i d lt) ∙ is) (omega (arith, few, leaf)));
+  }
+
+  hidden_block : (at : ℕ) → step.pointer ≡ Local at → Reaches device image depth true step at old new → AreHidden arena image k entries new.named.items
+  hidden_block at is (again m allowed marks same same' noted kept) = ⊎_elim
+      (λ (v : IsInEntries arena image entries step).
+      let n : IsMissedBy step v.level old.named.items new.named.items = subst (λ (d : Kind). MissesBy step d old.named.items new.named.items) v.kind kept in
+      record {
+        each = λ i d lt is' few. ⊎_elim
+            (λ (before : (get_or old.named.items i d).missed ≡ true).
+            let leaf = leaf_same (get_or new.named.items i d) (get_or old.named.items i d) (n.misses.same i d lt).0 in
+            subst (λ (x : ℕ). IsHidden arena image k entries x) (sym leaf) (h.each i d (omega (arith, lt, n.misses.long)) before (omega (arith, few, leaf))))
+            (λ (now : row_for n.count (get_or new.named.items i d) ≡ step.index).
+            let row : leaf_for (get_or new.named.items i d) / 409 ^ v.level ≡ step.index = ap (λ (c : ℕ). leaf_for (get_or new.named.items i d) / c) (sym (n.is (omega (arith, v.depth, a.shallow)))) ∙ now in
+            let p = way_row v.level (length v.path) (leaf_for (get_or new.named.items i d)) [] in
+            record {
+              front = v.path;
+              rest = p.0;
+              block = at;
+              is = ap (λ (d' : ℕ). way d' (leaf_for (get_or new.named.items i d)) []) (sym v.depth) ∙ p.1 ∙ ap (λ (x : ℕ). way (length v.path) x p.0) row ∙ v.index p.0;
+              leads = sym v.pointer ∙ is;
+              twice = again_breaks arena device image s k rest step old new w at m is marks.none allowed.known;
+            })
+            (n.misses.only i d lt is');
+      })
+      (λ (q : IsQuiet step). hidden_same new.named.items (subst (λ (d : Kind). MissesBy step d old.named.items new.named.items) q.kind kept))
+      (all_back (IsEntriesStep arena image entries) old.steps.items (step ∷ []) a.sources).0
+  hidden_block at is (enters m allowed marks steps folders notes read adds leafs seeks bytes deeps clean asks eights heads) = ⊎_elim
+      (λ (v : IsInEntries arena image entries step). inside v.level v.kind)
+      (λ (q : IsQuiet step). outside q q.level q.kind)
+      (all_back (IsEntriesStep arena image entries) old.steps.items (step ∷ []) a.sources).0
+    where
+      slots : HasSlots step.kind (image at) (block_of device at)
+      slots = let t = taken_of device old.labels.known.items at m w.goes.table allowed.known in subst (λ (d : Kind). HasSlots d (image at) (block_of device at)) allowed.may.kind (slots_on arena device image s k rest step old new w at m is t)
+
+      inside : (level' : ℕ) → step.kind ≡ Dir level' → AreHidden arena image k entries new.named.items
+      inside zero kind =
+          let found : Searches step.index (image at) true 102 old.named.items new.named.items new.folders.items = subst (λ (d : Kind). Seeks step (image at) true d old.named.items new.named.items new.folders.items) kind (seeks slots) in
+          hidden_still found.same found.still
+      inside (suc level') kind = hidden_same new.named.items (subst (λ (d : Kind). Seeks step (image at) true d old.named.items new.named.items new.folders.items) kind (seeks slots))
+
+      outside : (q : IsQuiet step) (level' : ℕ) → step.kind ≡ Data level' → AreHidden arena image k entries new.named.items
+      outside q zero kind = hidden_same new.named.items (no_names arena device image s k rest step old new w low depth entries names a at q.quiet kind bytes (subst (λ (d : Kind). Adds step at (block_of device at) d old.named.items new.named.items) kind adds))
+      outside q (suc level') kind = hidden_same new.named.items (subst (λ (d : Kind). Adds step at (block_of device at) d old.named.items new.named.items) kind adds)
+
+  pub hidden_on : Follows device image depth true step old new → AreHidden arena image k entries new.named.items
+  hidden_on (nowhere nil same) = subst (λ (x : Walk). AreHidden arena image k entries x.named.items) (sym same) h
+  hidden_on (held y is same) = subst (λ (x : Walk). AreHidden arena image k entries x.named.items) (sym same) h
+  hidden_on (local at is r) = hidden_block at is r

@@ -6,8 +6,8 @@ use Rattle.std.proofs.lemmas.Bool.{cases_eq, false≢true}
 use Rattle.std.proofs.lemmas.List.Sums.{sum_by-cons, sum_by-set}
 use Rattle.fo_image.specs.Place.{first_data}
 use Rattle.fo_good.specs.Lost.{AreSoMany}
-use Rattle.fo_check_tree.specs.declared.labels.Known.{Known}
-use Rattle.fo_check_tree.specs.Known.{Ascend}
+use Rattle.fo_check_labels.specs.declared.labels.Known.{Known}
+use Rattle.fo_check_labels.specs.Known.{Ascend}
 
 -- ---- a mark for each address
 

@@ -26,12 +26,12 @@ use Rattle.fo_good.specs.Trees.{MayHave, HasLabelBelow, HasTreeLabels, HasNoScor
 use Rattle.fo_good.specs.Sound.{Kept}
 use Rattle.fo_good.specs.Lost.{IsUsed, IsLeaked, AreSoMany}
 use Rattle.fo_check_tree.specs.declared.broken.Broken.{Broken}
-use Rattle.fo_check_tree.specs.declared.labels.Known.{Known}
+use Rattle.fo_check_labels.specs.declared.labels.Known.{Known}
 use Rattle.fo_check_tree.specs.Answer.{RefusesTree, RefusesCheck}
-use Rattle.fo_check_tree.specs.Table.{RefusesTable}
-use Rattle.fo_check_tree.specs.declared.error.TreeError.{TreeError}
-use Rattle.fo_check_tree.specs.declared.error.TreeError.TheVariants.{Label as BadLabel, Read, Memory}
-use Rattle.fo_check_tree.specs.Known.{reached, leaked}
+use Rattle.fo_check_labels.specs.Table.{RefusesTable}
+use Rattle.fo_check_labels.specs.declared.error.TreeError.{TreeError}
+use Rattle.fo_check_labels.specs.declared.error.TreeError.TheVariants.{Label as BadLabel, Read, Memory}
+use Rattle.fo_check_labels.specs.Known.{reached, leaked}
 use Rattle.fo_check_tree.specs.Lower.{level}
 use Rattle.fo_check_tree.specs.Walking.{Reached, IsTaken, HasPath, place_under, tag_below, IsDone, Goes}
 use Rattle.fo_check_tree.specs.Walking.IsDone.{nowhere, left, held, local}
@@ -129,7 +129,7 @@ module _ (arena : Arena) (device : List Block) (image : Image) (s : Super) (k : 
   pub whole : (path : List ℕ) (at : ℕ) → LeadsTo arena image k.at path at → Stands (at_path arena image k.at path) (place_of arena image k.at path) at
   whole path at e = along path (from_block k.at) root_place k.at at (record { label = root_label s; leads = refl; link = refl; kind = refl; tag = refl; is = g.root }) e
 
-  has_of : (at : ℕ) (l : Label) → Reached known at l → IsDataBlock (length device) at × HasLabel device at l
+  pub has_of : (at : ℕ) (l : Label) → Reached known at l → IsDataBlock (length device) at × HasLabel device at l
   has_of at l r = taken_of device known at l g.table (is_known known at l r)
 
   -- ---- S4

@@ -17,16 +17,17 @@ use Rattle.fo_crash.specs.Images.{Content, Image, Arena, Link, target, found, go
 use Rattle.fo_meta.specs.Leaf.{IsLeaf}
 use Rattle.fo_sound.specs.Image.{block_of, IsDataBlock, HasLabel}
 use Rattle.fo_good.specs.Means.{EndsAt}
-use Rattle.fo_good.specs.Trees.{IsTree, IsRecords, HoldsEntries}
+use Rattle.fo_good.specs.Trees.{IsRecords, HoldsEntries}
 use Rattle.fo_good.specs.Sound.{Kept}
 use Rattle.fo_check_names.specs.Pairs.{is_folder, is_source, records_of}
 use Rattle.fo_check_tree.specs.declared.broken.Broken.{Broken}
-use Rattle.fo_check_tree.specs.declared.labels.Known.{Known}
+use Rattle.fo_check_labels.specs.declared.labels.Known.{Known}
 use Rattle.fo_check_tree.specs.declared.walk.Folder.{Folder}
 use Rattle.fo_check_tree.specs.declared.walk.Holder.{Holder}
 use Rattle.fo_check_tree.specs.declared.walk.Holds.TheVariants.{Records}
 use Rattle.fo_check_tree.specs.declared.walk.Step.{Step}
 use Rattle.fo_check_tree.specs.declared.walk.Walk.{Walk}
+use Rattle.fo_check_tree.specs.Answer.{IsAlone}
 use Rattle.fo_check_tree.specs.Dirs.{link_at, HasMeta}
 use Rattle.fo_check_tree.specs.Follows.{Puts, Reaches, Follows}
 use Rattle.fo_check_tree.specs.Follows.Reaches.{again, enters}
@@ -38,14 +39,14 @@ use Rattle.fo_check_tree.specs.Slots.{HasSlots, entry_of, top_step, step_below, 
 use Rattle.fo_check_tree.specs.Slots.AreFolders.{none, more}
 use Rattle.fo_check_tree.specs.Walking.{Reached, Walking}
 use Rattle.fo_check_tree.specs.Pairing.{Grows}
+use Rattle.fo_check_tree.proofs.Alone.{twice_behind}
 use Rattle.fo_check_tree.proofs.Judging.{Entry', records_is, puts_more}
 use Rattle.fo_check_tree.proofs.Leaves.{some_left, some_right, some_parts, goes_join, lost}
 use Rattle.fo_check_tree.proofs.Levels.{level-lower}
-use Rattle.fo_check_tree.proofs.Listed.{not_once}
 use Rattle.fo_check_tree.proofs.Paths.{slot_end, goes_end}
 use Rattle.fo_check_tree.proofs.Reaching.{same_label, reached_cases, table_kept, reached_new}
 use Rattle.fo_check_tree.proofs.Slots.{one_below, one_pair}
-use Rattle.fo_check_tree.proofs.Stepping.{again_breaks, taken_of}
+use Rattle.fo_check_tree.proofs.Stepping.{again_breaks, taken_of, slots_on}
 
 -- ---- one of the steps or folders by the slots of a block
 
@@ -159,27 +160,27 @@ module _ (arena : Arena) (image : Image) where
   pub formed_like : (k : Kept) (known known' : List Known) (noted noted' : Option Broken) (steps steps' : List Step) (folders folders' : List Folder) → known' ≡ known → level noted' ≤ level noted → steps' ≡ steps → folders' ≡ folders
       → AreFormed arena image k known noted steps folders → AreFormed arena image k known' noted' steps' folders'
   formed_like k known known' noted noted' steps steps' folders folders' a low b c w = record {
-    each = λ quiet tree at i l r holds odd records path block kind leads.
+    each = λ quiet at i l r holds odd records path block kind leads alone.
         subst (λ (s : List Step). IsFormed arena image s folders' at i path block) (sym b) (subst (λ (fs : List Folder). IsFormed arena image steps fs at i path block) (sym c)
-        (w.each (omega (arith, quiet, low)) tree at i l (subst (λ (ks : List Known). Reached ks at l) a r) holds odd records path block kind leads));
+        (w.each (omega (arith, quiet, low)) at i l (subst (λ (ks : List Known). Reached ks at l) a r) holds odd records path block kind leads alone));
   }
 
   -- one step more is left
   pub formed_push : (k : Kept) (known : List Known) (noted : Option Broken) (steps added : List Step) (folders : List Folder) → AreFormed arena image k known noted steps folders → AreFormed arena image k known noted (steps ++ added) folders
   formed_push k known noted steps added folders w = record {
-    each = λ quiet tree at i l r holds odd records path block kind leads. ⊎_elim
+    each = λ quiet at i l r holds odd records path block kind leads alone. ⊎_elim
         (λ (leaf : IsLeaf ((image block).bytes)). inl leaf)
         (λ (left : SomeOf (IsRecordsWay arena image (link_at image at i) path) steps ⊎ SomeOf (HasMeta image at i) folders). inr (⊎_elim
         (λ (a : SomeOf (IsRecordsWay arena image (link_at image at i) path) steps). inl (some_left (IsRecordsWay arena image (link_at image at i) path) steps added a))
         (λ (f : SomeOf (HasMeta image at i) folders). inr f)
         left))
-        (w.each quiet tree at i l r holds odd records path block kind leads);
+        (w.each quiet at i l r holds odd records path block kind leads alone);
   }
 
   -- a folder is opened
   pub formed_open : (k : Kept) (known : List Known) (noted : Option Broken) (steps : List Step) (folders others : List Folder) (f : Folder) → folders ≡ others ++ f ∷ [] → AreFormed arena image k known noted steps folders → AreFormed arena image k known noted steps (f ∷ others)
   formed_open k known noted steps folders others f is w = record {
-    each = λ quiet tree at i l r holds odd records path block kind leads. ⊎_elim
+    each = λ quiet at i l r holds odd records path block kind leads alone. ⊎_elim
         (λ (leaf : IsLeaf ((image block).bytes)). inl leaf)
         (λ (left : SomeOf (IsRecordsWay arena image (link_at image at i) path) steps ⊎ SomeOf (HasMeta image at i) folders). inr (⊎_elim
         (λ (a : SomeOf (IsRecordsWay arena image (link_at image at i) path) steps). inl a)
@@ -188,7 +189,7 @@ module _ (arena : Arena) (image : Image) where
         (λ (b : SomeOf (HasMeta image at i) (f ∷ [])). ⊎_elim (λ (h : HasMeta image at i f). inl h) (λ (no' : ⊥). absurd no') b)
         (some_parts (HasMeta image at i) others (f ∷ []) (subst (λ (fs : List Folder). SomeOf (HasMeta image at i) fs) is g))))
         left))
-        (w.each quiet tree at i l r holds odd records path block kind leads);
+        (w.each quiet at i l r holds odd records path block kind leads alone);
   }
 
   some_is : (a b : Entry) → Some a ≡ Some b → a ≡ b
@@ -200,7 +201,7 @@ module _ (arena : Arena) (image : Image) where
   -- The folder in course has no records.
   pub formed_alone : (k : Kept) (known : List Known) (noted : Option Broken) (steps : List Step) (f : Folder) (folders : List Folder) → f.records ≡ None → AreFormed arena image k known noted steps (f ∷ folders) → AreFormed arena image k known noted steps folders
   formed_alone k known noted steps f folders is w = record {
-    each = λ quiet tree at i l r holds odd records path block kind leads. ⊎_elim
+    each = λ quiet at i l r holds odd records path block kind leads alone. ⊎_elim
         (λ (leaf : IsLeaf ((image block).bytes)). inl leaf)
         (λ (left : SomeOf (IsRecordsWay arena image (link_at image at i) path) steps ⊎ SomeOf (HasMeta image at i) (f ∷ folders)). inr (⊎_elim
         (λ (a : SomeOf (IsRecordsWay arena image (link_at image at i) path) steps). inl a)
@@ -209,14 +210,14 @@ module _ (arena : Arena) (image : Image) where
         (λ (h : SomeOf (HasMeta image at i) folders). inr h)
         g)
         left))
-        (w.each quiet tree at i l r holds odd records path block kind leads);
+        (w.each quiet at i l r holds odd records path block kind leads alone);
   }
 
   -- The records of the folder in course are left in a step.
   pub formed_top : (k : Kept) (known : List Known) (noted : Option Broken) (steps : List Step) (f : Folder) (e : Entry) (folders : List Folder) → f.records ≡ Some e → AreFormed arena image k known noted steps (f ∷ folders)
       → AreFormed arena image k known noted (steps ++ top_step e Records f.holder ∷ []) folders
   formed_top k known noted steps f e folders is w = record {
-    each = λ quiet tree at i l r holds odd records path block kind leads. ⊎_elim
+    each = λ quiet at i l r holds odd records path block kind leads alone. ⊎_elim
         (λ (leaf : IsLeaf ((image block).bytes)). inl leaf)
         (λ (left : SomeOf (IsRecordsWay arena image (link_at image at i) path) steps ⊎ SomeOf (HasMeta image at i) (f ∷ folders)). inr (⊎_elim
         (λ (a : SomeOf (IsRecordsWay arena image (link_at image at i) path) steps). inl (some_left (IsRecordsWay arena image (link_at image at i) path) steps (top_step e Records f.holder ∷ []) a))
@@ -229,7 +230,7 @@ module _ (arena : Arena) (image : Image) where
         (λ (h : SomeOf (HasMeta image at i) folders). inr h)
         g)
         left))
-        (w.each quiet tree at i l r holds odd records path block kind leads);
+        (w.each quiet at i l r holds odd records path block kind leads alone);
   }
 
 -- ---- a step that was followed
@@ -305,30 +306,31 @@ module _ (arena : Arena) (device : List Block) (image : Image) (s : Super) (k : 
         (some_parts (IsRecordsWay arena image link path) old.steps.items (step ∷ []) x)
 
     -- A step was taken behind which no leaf is.
-    shorter : ((link : Link) (path : List ℕ) (b : ℕ) → IsTree arena image k.at → IsRecordsWay arena image link path step → (goes arena image link path).kind ≡ Data 0 → target ((goes arena image link path).slot) ≡ Local b → ⊥)
+    shorter : ((link : Link) (path : List ℕ) (b : ℕ) → IsAlone arena image k b → IsRecordsWay arena image link path step → (goes arena image link path).kind ≡ Data 0 → target ((goes arena image link path).slot) ≡ Local b → ⊥)
         → AreFormed arena image k old.labels.known.items old.noted old.steps.items (others ++ old.folders.items)
     shorter none' = record {
-      each = λ quiet tree at i l r holds odd records path b kind leads. ⊎_elim
+      each = λ quiet at i l r holds odd records path b kind leads alone. ⊎_elim
           (λ (leaf : IsLeaf ((image b).bytes)). inl leaf)
           (λ (left : SomeOf (IsRecordsWay arena image (link_at image at i) path) (old.steps.items ++ step ∷ []) ⊎ SomeOf (HasMeta image at i) (others ++ old.folders.items)). inr (⊎_elim
           (λ (x : SomeOf (IsRecordsWay arena image (link_at image at i) path) (old.steps.items ++ step ∷ [])). ⊎_elim
           (λ (a : SomeOf (IsRecordsWay arena image (link_at image at i) path) old.steps.items). inl a)
-          (λ (v : IsRecordsWay arena image (link_at image at i) path step). absurd (none' (link_at image at i) path b tree v kind leads))
+          (λ (v : IsRecordsWay arena image (link_at image at i) path step). absurd (none' (link_at image at i) path b alone v kind leads))
           (parts (link_at image at i) path x))
           (λ (f : SomeOf (HasMeta image at i) (others ++ old.folders.items)). inr f)
           left))
-          (j.each quiet tree at i l r holds odd records path b kind leads);
+          (j.each quiet at i l r holds odd records path b kind leads alone);
     }
 
     after_none : ((a : ℕ) → step.pointer ≢ Local a) → AreFormed arena image k old.labels.known.items old.noted old.steps.items (others ++ old.folders.items)
-    after_none isnt = shorter (λ link path b tree v kind leads. off_way link path b v kind leads isnt)
+    after_none isnt = shorter (λ link path b alone v kind leads. off_way link path b v kind leads isnt)
 
     after_block : (at : ℕ) → step.pointer ≡ Local at → Reaches device image depth named step at old new → AreFormed arena image k new.labels.known.items new.noted new.steps.items (others ++ new.folders.items)
     after_block at is (again m allowed marks same same' noted kept) =
         formed_like arena image k old.labels.known.items new.labels.known.items old.noted new.noted old.steps.items new.steps.items (others ++ old.folders.items) (others ++ new.folders.items) marks.same low same (ap (λ (fs : List Folder). others ++ fs) same')
-        (shorter (λ link path b tree v kind leads. not_once arena device image s k link at (again_breaks arena device image s k rest step old new w at m is marks.none allowed.known) tree))
-    after_block at is (enters m allowed marks steps folders notes read adds leafs seeks bytes deeps clean asks) = record {
-      each = λ quiet tree c i l r holds odd records path b kind leads. subst (λ (xs : List Step). IsFormed arena image xs (others ++ new.folders.items) c i path b) (sym (steps slots)) (⊎_elim
+        (shorter (λ link path b alone v kind leads. twice_behind arena image w.holds.empty k at (again_breaks arena device image s k rest step old new w at m is marks.none allowed.known) (goes arena image link v.front) (sym v.pointer ∙ is) v.rest b
+        (ap (λ (u : Link). target u.slot) (sym (goes_join arena image w.holds.empty v.front v.rest link)) ∙ ap (λ (p : List ℕ). target ((goes arena image link p).slot)) (sym v.is) ∙ leads) alone))
+    after_block at is (enters m allowed marks steps folders notes read adds leafs seeks bytes deeps clean asks eights heads) = record {
+      each = λ quiet c i l r holds odd records path b kind leads alone. subst (λ (xs : List Step). IsFormed arena image xs (others ++ new.folders.items) c i path b) (sym (steps slots)) (⊎_elim
           (λ (same : c ≡ at). now quiet c i l same r holds odd records path b kind leads)
           (λ (before : Reached known c l). ⊎_elim
           (λ (leaf : IsLeaf ((image b).bytes)). inl leaf)
@@ -339,7 +341,7 @@ module _ (arena : Arena) (device : List Block) (image : Image) (s : Super) (k : 
           (parts (link_at image c i) path x))
           (λ (f : SomeOf (HasMeta image c i) (others ++ old.folders.items)). inr (inr (more_folders arena image (HasMeta image c i) others old.folders.items new.folders.items grows.added grows.is f)))
           left)
-          (j.each (omega (arith, quiet, low)) tree c i l before holds odd records path b kind leads))
+          (j.each (omega (arith, quiet, low)) c i l before holds odd records path b kind leads alone))
           (reached_cases known new.labels.known.items at w.goes.table.up marks c l r));
     }
       where
@@ -356,7 +358,7 @@ module _ (arena : Arena) (device : List Block) (image : Image) (s : Super) (k : 
         t = taken_of device known at m w.goes.table allowed.known
 
         slots : HasSlots step.kind (image at) (block_of device at)
-        slots = subst (λ (d : Kind). HasSlots d (image at) (block_of device at)) allowed.may.kind (w.holds.slots at m t.0 t.1)
+        slots = subst (λ (d : Kind). HasSlots d (image at) (block_of device at)) allowed.may.kind (slots_on arena device image s k rest step old new w at m is t)
 
         grows : Grows old.folders.items new.folders.items
         grows = puts_more (record { block = at; label = m }) (image at) depth named step.kind old.folders.items new.folders.items (folders slots)

@@ -15,12 +15,12 @@ use Rattle.fo_good.specs.Trees.{MayHave, LeadsTo, at_path}
 use Rattle.fo_good.specs.Sound.{Kept}
 use Rattle.fo_sound.specs.Sound.{root_label}
 use Rattle.fo_check_tree.specs.declared.broken.Broken.{Broken}
-use Rattle.fo_check_tree.specs.declared.labels.Known.{Known}
+use Rattle.fo_check_labels.specs.declared.labels.Known.{Known}
 use Rattle.fo_check_tree.specs.Answer.{BreaksOnce, BreaksScores, IsNamed}
 use Rattle.fo_check_tree.specs.Answer.BreaksOnce.{twice}
 use Rattle.fo_check_tree.specs.Answer.BreaksScores.{score}
-use Rattle.fo_check_tree.specs.Known.{IsKnown, Marks}
-use Rattle.fo_check_tree.specs.Lower.{lower, level}
+use Rattle.fo_check_labels.specs.Known.{IsKnown, Marks}
+use Rattle.fo_check_tree.specs.Lower.{IsRule, lower, level}
 use Rattle.fo_check_tree.specs.Notes.{NotesAt, Lowers}
 use Rattle.fo_check_tree.specs.Notes.NotesAt.{same as note_same, format as note_format, deep as note_deep}
 use Rattle.fo_check_tree.specs.Walking.{Reached, HasPath, place_under, one, IsDone, HasParent, Goes}
@@ -49,8 +49,8 @@ module _ (arena : Arena) (image : Image) (k : Kept) where
   abbrev pub Named : Option Broken → Type 0
   Named noted = MatchOption noted (Unit {0}) (IsNamed arena image k)
 
-  pub named_else : (rule block : ℕ) → rule ≢ 7 → rule ≢ 9 → IsNamed arena image k (record { rule = rule; block = block })
-  named_else rule block isnt isnt' = record { once = λ is. absurd (isnt is); scores = λ is. absurd (isnt' is) }
+  pub named_else : (rule block : ℕ) → IsRule rule → rule ≢ 7 → rule ≢ 9 → IsNamed arena image k (record { rule = rule; block = block })
+  named_else rule block fits isnt isnt' = record { rule = fits; once = λ is. absurd (isnt is); scores = λ is. absurd (isnt' is) }
 
   pub named_lower : (noted : Option Broken) (rule block : ℕ) → Named noted → IsNamed arena image k (record { rule = rule; block = block }) → Named (lower noted rule block)
   named_lower None rule block old new = new
@@ -58,18 +58,19 @@ module _ (arena : Arena) (image : Image) (k : Kept) where
 
   pub named_at : (block : ℕ) (old new : Option Broken) → NotesAt block old new → Named old → Named new
   named_at block old new (note_same is) w = subst (λ (o : Option Broken). Named o) (sym is) w
-  named_at block old new (note_format is) w = subst (λ (o : Option Broken). Named o) (sym is) (named_else 5 block (λ e. absurd (omega (arith, e))) (λ e. absurd (omega (arith, e))))
-  named_at block old new (note_deep is) w = subst (λ (o : Option Broken). Named o) (sym is) (named_else 8 block (λ e. absurd (omega (arith, e))) (λ e. absurd (omega (arith, e))))
+  named_at block old new (note_format is) w = subst (λ (o : Option Broken). Named o) (sym is) (named_else 5 block (omega arith, omega arith) (λ e. absurd (omega (arith, e))) (λ e. absurd (omega (arith, e))))
+  named_at block old new (note_deep is) w = subst (λ (o : Option Broken). Named o) (sym is) (named_else 8 block (omega arith, omega arith) (λ e. absurd (omega (arith, e))) (λ e. absurd (omega (arith, e))))
 
-  named_some : (old new : Option Broken) → ((b : Broken) → new ≡ Some b → (b.rule ≡ 7) ⊎ (b.rule ≡ 9) → old ≡ Some b) → Named old → Named new
-  named_some old None same w = tt
-  named_some old (Some b) same w = record {
+  named_some : (old new : Option Broken) → ((b : Broken) → new ≡ Some b → (b.rule ≡ 7) ⊎ (b.rule ≡ 9) → old ≡ Some b) → ((b : Broken) → new ≡ Some b → (old ≡ Some b) ⊎ IsRule b.rule) → Named old → Named new
+  named_some old None same rules w = tt
+  named_some old (Some b) same rules w = record {
+    rule = ⊎_elim (λ (before : old ≡ Some b). (subst (λ (o : Option Broken). Named o) before w).rule) (λ (now : IsRule b.rule). now) (rules b refl);
     once = λ is. (subst (λ (o : Option Broken). Named o) (same b refl (inl is)) w).once is;
     scores = λ is. (subst (λ (o : Option Broken). Named o) (same b refl (inr is)) w).scores is;
   }
 
   pub named_lowers : (old new : Option Broken) → Lowers old new → Named old → Named new
-  named_lowers old new w h = named_some old new w.same h
+  named_lowers old new w h = named_some old new w.same w.rules h
 
 -- ---- a step that was taken
 
@@ -164,7 +165,7 @@ module _ (arena : Arena) (device : List Block) (image : Image) (s : Super) (k : 
       let p = holder_path at i (omega (arith, sum at i, one_here at i)) in
       let breaks : BreaksScores arena image k at = score p.1.path i at x p.1.leads (ap target (slot_end arena image p.1.path (from_block k.at) i at p.1.leads) ∙ is) in
       taken (lower noted 9 at) (level-lower noted 9 at (omega arith)).0
-      (named_lower arena image k noted 9 at g.notes (record { once = λ e. absurd (omega (arith, e)); scores = λ e. breaks }))
+      (named_lower arena image k noted 9 at g.notes (record { rule = (omega arith, omega arith); once = λ e. absurd (omega (arith, e)); scores = λ e. breaks }))
       n' at i sum (λ l reached. held x is (level-lower noted 9 at (omega arith)).1)
       (λ quiet b j below m reached gone leads leads'. absurd (held_local (sym is ∙ leads))) (λ quiet leads. held_local (sym is ∙ leads))
 
@@ -192,7 +193,7 @@ module _ (arena : Arena) (device : List Block) (image : Image) (s : Super) (k : 
       let low = level-lower noted 7 below (omega arith) in
       let breaks = breaks_once at i below m (omega (arith, sum at i, one_here at i)) is reached in
       taken (lower noted 7 below) low.0
-      (named_lower arena image k noted 7 below g.notes (record { once = λ e. breaks; scores = λ e. absurd (omega (arith, e)) }))
+      (named_lower arena image k noted 7 below g.notes (record { rule = (omega arith, omega arith); once = λ e. breaks; scores = λ e. absurd (omega (arith, e)) }))
       n' at i sum (λ l r. local below m is reached (may l r))
       (λ quiet b j c q r gone leads leads'. absurd (omega (arith, quiet, low.1))) (λ quiet leads. absurd (omega (arith, quiet, low.1)))
 

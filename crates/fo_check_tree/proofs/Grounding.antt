@@ -47,7 +47,7 @@ use Rattle.fo_check_tree.proofs.Noting.{lowered, keeps_lower, pairs_same, pairs_
 use Rattle.fo_check_tree.proofs.Paths.{goes_end, slot_end, found_is}
 use Rattle.fo_check_tree.proofs.Reaching.{reached_new}
 use Rattle.fo_check_tree.proofs.Slots.{none_below, one_below, no_pairs, one_pair}
-use Rattle.fo_check_tree.proofs.Stepping.{taken_of}
+use Rattle.fo_check_tree.proofs.Stepping.{taken_of, slots_on}
 
 -- ---- what is noted
 
@@ -385,10 +385,10 @@ module _ (arena : Arena) (device : List Block) (image : Image) (s : Super) (k : 
 
   after_block : (at : ℕ) → step.pointer ≡ Local at → Reaches device image depth named step at old new → HasGrounds arena image k new.noted new.steps.items new.folders.items
   after_block at is (again m allowed marks same same' noted kept) = fewer new.noted new.steps.items new.folders.items same same' (keeps_lower old.noted new.noted 7 at (λ e. omega (arith, e)) noted)
-  after_block at is (enters m allowed marks steps folders notes read adds leafs seeks bytes deeps clean asks) =
+  after_block at is (enters m allowed marks steps folders notes read adds leafs seeks bytes deeps clean asks eights heads) =
       let known = old.labels.known.items in
       let t = taken_of device known at m w.goes.table allowed.known in
-      let slots : HasSlots step.kind (image at) (block_of device at) = subst (λ (d : Kind). HasSlots d (image at) (block_of device at)) allowed.may.kind (w.holds.slots at m t.0 t.1) in
+      let slots : HasSlots step.kind (image at) (block_of device at) = subst (λ (d : Kind). HasSlots d (image at) (block_of device at)) allowed.may.kind (slots_on arena device image s k rest step old new w at m is t) in
       let q : HasPath arena image k at m = v.goes.paths at m (reached_new known new.labels.known.items at w.goes.table.up marks m allowed.known) in
       record {
         formats = formats_at arena image k at old.noted new.noted notes (λ isnt. by_kind at is m q allowed.may.kind slots clean isnt step.kind refl) g.formats;
@@ -408,4 +408,4 @@ pub follow_keeps : (device : List Block) (image : Image) (depth : ℕ) (named : 
 follow_keeps device image depth named step old new (nowhere nil same) = pairs_same old.noted new.noted (ap (λ (x : Walk). x.noted) same)
 follow_keeps device image depth named step old new (held x is same) = pairs_lower old.noted new.noted 9 step.holder.block (λ e. omega (arith, e)) (ap (λ (y : Walk). y.noted) same)
 follow_keeps device image depth named step old new (local at is (again m allowed marks same same' noted kept)) = pairs_lower old.noted new.noted 7 at (λ e. omega (arith, e)) noted
-follow_keeps device image depth named step old new (local at is (enters m allowed marks steps folders notes read adds leafs seeks bytes deeps clean asks)) = pairs_at at old.noted new.noted notes
+follow_keeps device image depth named step old new (local at is (enters m allowed marks steps folders notes read adds leafs seeks bytes deeps clean asks eights heads)) = pairs_at at old.noted new.noted notes

@@ -8,19 +8,18 @@ use Rattle.fo_image.specs.declared.types.Kind.TheVariants.{Data, Dir, Root}
 use Rattle.fo_image.specs.declared.types.Entry.{Entry}
 use Rattle.fo_image.specs.declared.types.Label.{Label}
 use Rattle.fo_image.specs.declared.types.Super.{Super}
-use Rattle.fo_image.specs.declared.types.Pointer.TheVariants.{Nil}
+use Rattle.fo_image.specs.declared.types.Pointer.TheVariants.{Nil, Local}
 use Rattle.fo_image.specs.Format.{ActiveHolds}
 use Rattle.fo_crash.specs.declared.slot.Slot.{Slot}
 use Rattle.fo_crash.specs.declared.slot.Slot.TheVariants.{Pointer as To, Entry as Head, Prev}
 use Rattle.fo_crash.specs.Images.{Content, Image, Arena, Link, kind_of_top}
 use Rattle.fo_sound.specs.Image.{block_of, IsDataBlock, HasLabel}
-use Rattle.fo_sound.specs.Sound.{HasRootEntries}
 use Rattle.fo_good.specs.Means.{IsRead, HasEntry, AreEntries}
-use Rattle.fo_good.specs.Trees.{IsTree, IsEntries, IsRecords}
+use Rattle.fo_good.specs.Trees.{IsEntries, IsRecords}
 use Rattle.fo_good.specs.Sound.{Kept}
 use Rattle.fo_check_names.specs.Pairs.{is_folder, is_source, records_of}
 use Rattle.fo_check_tree.specs.declared.broken.Broken.{Broken}
-use Rattle.fo_check_tree.specs.declared.labels.Known.{Known}
+use Rattle.fo_check_labels.specs.declared.labels.Known.{Known}
 use Rattle.fo_check_tree.specs.declared.walk.Folder.{Folder}
 use Rattle.fo_check_tree.specs.declared.walk.Holder.{Holder}
 use Rattle.fo_check_tree.specs.declared.walk.Step.{Step}
@@ -39,7 +38,7 @@ use Rattle.fo_check_tree.specs.Walking.{Reached, Walking}
 use Rattle.fo_check_tree.proofs.Leaves.{some_left, some_right, some_parts}
 use Rattle.fo_check_tree.proofs.Levels.{level-lower}
 use Rattle.fo_check_tree.proofs.Reaching.{same_label, reached_cases, table_kept, reached_new}
-use Rattle.fo_check_tree.proofs.Stepping.{taken_of}
+use Rattle.fo_check_tree.proofs.Stepping.{taken_of, slots_on}
 
 -- ---- entries
 
@@ -102,28 +101,28 @@ holds_active e false is h = absurd (cc)
 module _ (arena : Arena) (device : List Block) (image : Image) (s : Super) (k : Kept) where
   -- ---- folders that are added
 
-  judged_more : (others folders folders' added : List Folder) (at i : ℕ) → folders' ≡ folders ++ added → IsJudged arena image (others ++ folders) at i → IsJudged arena image (others ++ folders') at i
-  judged_more others folders folders' added at i is w = subst (λ (fs : List Folder). IsJudged arena image (others ++ fs) at i) (sym is) (⊎_elim
+  judged_more : (others folders folders' added : List Folder) (at i : ℕ) → folders' ≡ folders ++ added → IsJudged arena image k (others ++ folders) at i → IsJudged arena image k (others ++ folders') at i
+  judged_more others folders folders' added at i is w = subst (λ (fs : List Folder). IsJudged arena image k (others ++ fs) at i) (sym is) (⊎_elim
       (λ (h : SomeOf (HasMeta image at i) (others ++ folders)). inl (⊎_elim
       (λ (a : SomeOf (HasMeta image at i) others). some_left (HasMeta image at i) others (folders ++ added) a)
       (λ (b : SomeOf (HasMeta image at i) folders). some_right (HasMeta image at i) others (folders ++ added) (some_left (HasMeta image at i) folders added b))
       (some_parts (HasMeta image at i) others folders h)))
-      (λ (n : HasOwnNames arena image (link_at image at i)). inr n)
+      (λ (n : HasOwnNames arena image k (link_at image at i)). inr n)
       w)
 
   pub judged_like : (others : List Folder) (old new : Walk) → new.labels.known.items ≡ old.labels.known.items → new.folders.items ≡ old.folders.items → level new.noted ≤ level old.noted → AreJudged arena image k others old → AreJudged arena image k others new
   judged_like others old new known folders low w = record {
-    top = λ entries quiet tree. subst (λ (fs : List Folder). IsJudged arena image (others ++ fs) k.at 1) (sym folders) (w.top entries (omega (arith, quiet, low)) tree);
-    pairs = λ quiet tree at p l r leaf lt a b. subst (λ (fs : List Folder). IsJudged arena image (others ++ fs) at (2 * p + 1)) (sym folders)
-        (w.pairs (omega (arith, quiet, low)) tree at p l (subst (λ (ks : List Known). Reached ks at l) known r) leaf lt a b);
+    top = λ records quiet. subst (λ (fs : List Folder). IsJudged arena image k (others ++ fs) k.at 1) (sym folders) (w.top records (omega (arith, quiet, low)));
+    pairs = λ quiet at p l r leaf lt a b. subst (λ (fs : List Folder). IsJudged arena image k (others ++ fs) at (2 * p + 1)) (sym folders)
+        (w.pairs (omega (arith, quiet, low)) at p l (subst (λ (ks : List Known). Reached ks at l) known r) leaf lt a b);
   }
 
   module _ (rest : List Step) (step : Step) (old new : Walk) (w : Walking arena device image s k (step ∷ rest) old) (others : List Folder) (j : AreJudged arena image k others old) (depth : ℕ) (named : Bool) (lower' : level new.noted ≤ level old.noted) where
-    after_block : (at : ℕ) → Reaches device image depth named step at old new → AreJudged arena image k others new
-    after_block at (again m allowed marks same same' noted kept) = judged_like others old new marks.same same' lower' j
-    after_block at (enters m allowed marks steps folders notes read adds leafs seeks bytes deeps clean asks) = record {
-      top = λ entries quiet tree. judged_more others old.folders.items new.folders.items grows.added k.at 1 grows.is (j.top entries (omega (arith, quiet, lower')) tree);
-      pairs = λ quiet tree b p l r leaf lt x y. ⊎_elim
+    after_block : (at : ℕ) → step.pointer ≡ Local at → Reaches device image depth named step at old new → AreJudged arena image k others new
+    after_block at is (again m allowed marks same same' noted kept) = judged_like others old new marks.same same' lower' j
+    after_block at is (enters m allowed marks steps folders notes read adds leafs seeks bytes deeps clean asks eights heads) = record {
+      top = λ records quiet. judged_more others old.folders.items new.folders.items grows.added k.at 1 grows.is (j.top records (omega (arith, quiet, lower')));
+      pairs = λ quiet b p l r leaf lt x y. ⊎_elim
           (λ (same : b ≡ at).
           let r' : Reached new.labels.known.items at l = subst (λ (c : ℕ). Reached new.labels.known.items c l) same r in
           let mine : m ≡ l = same_label new.labels.known.items at m l (table_kept known new.labels.known.items at w.goes.table.up marks device w.goes.table).up (reached_new known new.labels.known.items at w.goes.table.up marks m allowed.known) r' in
@@ -131,10 +130,10 @@ module _ (arena : Arena) (device : List Block) (image : Image) (s : Super) (k : 
           let put : AddsFolders here (image at) (min (depth + 1) (2 ^ 32 - 1)) named 102 old.folders.items new.folders.items = subst (λ (d : Kind). Puts here (image at) depth named d old.folders.items new.folders.items) kind (folders slots) in
           let some' : SomeOf (HasMeta image at (2 * p + 1)) put.added = in_folders image at here (min (depth + 1) (2 ^ 32 - 1)) named 102 put.added put.are p lt
           (subst (λ (c : ℕ). IsEntries ((image c).slot (2 * p))) same x) (subst (λ (c : ℕ). IsRecords ((image c).slot (2 * p + 1))) same y) in
-          subst (λ (c : ℕ). IsJudged arena image (others ++ new.folders.items) c (2 * p + 1)) (sym same) (inl
+          subst (λ (c : ℕ). IsJudged arena image k (others ++ new.folders.items) c (2 * p + 1)) (sym same) (inl
           (some_right (HasMeta image at (2 * p + 1)) others new.folders.items (subst (λ (fs : List Folder). SomeOf (HasMeta image at (2 * p + 1)) fs) (sym put.behind)
           (some_right (HasMeta image at (2 * p + 1)) old.folders.items put.added some')))))
-          (λ (before : Reached known b l). judged_more others old.folders.items new.folders.items grows.added b (2 * p + 1) grows.is (j.pairs (omega (arith, quiet, lower')) tree b p l before leaf lt x y))
+          (λ (before : Reached known b l). judged_more others old.folders.items new.folders.items grows.added b (2 * p + 1) grows.is (j.pairs (omega (arith, quiet, lower')) b p l before leaf lt x y))
           (reached_cases known new.labels.known.items at w.goes.table.up marks b l r);
     }
       where
@@ -148,7 +147,7 @@ module _ (arena : Arena) (device : List Block) (image : Image) (s : Super) (k : 
         t = taken_of device known at m w.goes.table allowed.known
 
         slots : HasSlots step.kind (image at) (block_of device at)
-        slots = subst (λ (d : Kind). HasSlots d (image at) (block_of device at)) allowed.may.kind (w.holds.slots at m t.0 t.1)
+        slots = subst (λ (d : Kind). HasSlots d (image at) (block_of device at)) allowed.may.kind (slots_on arena device image s k rest step old new w at m is t)
 
         grows : Grows old.folders.items new.folders.items
         grows = puts_more here (image at) depth named step.kind old.folders.items new.folders.items (folders slots)
@@ -156,23 +155,23 @@ module _ (arena : Arena) (device : List Block) (image : Image) (s : Super) (k : 
     pub judged_on : Follows device image depth named step old new → AreJudged arena image k others new
     judged_on (nowhere nil same) = subst (λ (v : Walk). AreJudged arena image k others v) (sym same) j
     judged_on (held x is same) = subst (λ (v : Walk). AreJudged arena image k others v) (sym same) (judged_like others old (record old { noted = lower old.noted 9 step.holder.block }) refl refl (level-lower old.noted 9 step.holder.block (omega arith)).0 j)
-    judged_on (local at is r) = after_block at r
+    judged_on (local at is r) = after_block at is r
 
   -- ---- a folder that is opened, and one that was judged
 
   pub judged_open : (old new : Walk) (f : Folder) → new.labels.known.items ≡ old.labels.known.items → new.noted ≡ old.noted → old.folders.items ≡ new.folders.items ++ f ∷ [] → AreJudged arena image k [] old → AreJudged arena image k (f ∷ []) new
   judged_open old new f known noted folders w = record {
-    top = λ entries quiet tree. turned k.at 1 (w.top entries (subst (λ (o : Option Broken). 5 < level o) noted quiet) tree);
-    pairs = λ quiet tree at p l r leaf lt a b. turned at (2 * p + 1) (w.pairs (subst (λ (o : Option Broken). 5 < level o) noted quiet) tree at p l (subst (λ (ks : List Known). Reached ks at l) known r) leaf lt a b);
+    top = λ records quiet. turned k.at 1 (w.top records (subst (λ (o : Option Broken). 5 < level o) noted quiet));
+    pairs = λ quiet at p l r leaf lt a b. turned at (2 * p + 1) (w.pairs (subst (λ (o : Option Broken). 5 < level o) noted quiet) at p l (subst (λ (ks : List Known). Reached ks at l) known r) leaf lt a b);
   }
     where
-      turned : (at i : ℕ) → IsJudged arena image old.folders.items at i → IsJudged arena image (f ∷ new.folders.items) at i
+      turned : (at i : ℕ) → IsJudged arena image k old.folders.items at i → IsJudged arena image k (f ∷ new.folders.items) at i
       turned at i h = ⊎_elim
           (λ (x : SomeOf (HasMeta image at i) old.folders.items). ⊎_elim
           (λ (a : SomeOf (HasMeta image at i) new.folders.items). inl (inr a))
           (λ (b : SomeOf (HasMeta image at i) (f ∷ [])). ⊎_elim (λ (y : HasMeta image at i f). inl (inl y)) (λ (no' : ⊥). absurd no') b)
           (some_parts (HasMeta image at i) new.folders.items (f ∷ []) (subst (λ (fs : List Folder). SomeOf (HasMeta image at i) fs) folders x)))
-          (λ (n : HasOwnNames arena image (link_at image at i)). inr n)
+          (λ (n : HasOwnNames arena image k (link_at image at i)). inr n)
           h
 
   head_is : (a b : Entry) → Head a ≡ Head b → a ≡ b
@@ -184,25 +183,28 @@ module _ (arena : Arena) (device : List Block) (image : Image) (s : Super) (k : 
   meta_of : (at i : ℕ) (f : Folder) (h : HasMeta image at i f) → h.entry.dir ≡ false → h.entry.size ≤ 8192 * 409 ^ h.entry.depth → h.entry.depth ≤ 4 → IsMetaOf f (link_at image at i)
   meta_of at i f h file room low = record { entry = h.entry; is = h.is; slot = h.slot; file = file; kind = ap kind_of_top h.slot ∙ top_kind h.entry file; room = room; shallow = low }
 
-  pub judged_folder : (new : Walk) (f : Folder) → Walking arena device image s k [] new → ((meta : Link) → IsMetaOf f meta → 5 < level new.noted → IsTree arena image k.at → HasOwnNames arena image meta) → AreJudged arena image k (f ∷ []) new → AreJudged arena image k [] new
+  pub judged_folder : (new : Walk) (f : Folder) → Walking arena device image s k [] new → ((meta : Link) → IsMetaOf f meta → 5 < level new.noted → HasOwnNames arena image k meta) → AreJudged arena image k (f ∷ []) new → AreJudged arena image k [] new
   judged_folder new f w names j = record {
-    top = λ entries quiet tree. closed k.at 1 (j.top entries quiet tree) (λ h. names (link_at image k.at 1) (top_meta entries h) quiet tree);
-    pairs = λ quiet tree at p l r leaf lt a b. closed at (2 * p + 1) (j.pairs quiet tree at p l r leaf lt a b) (λ h. names (link_at image at (2 * p + 1)) (pair_meta quiet at p l r leaf lt b h) quiet tree);
+    top = λ records quiet. closed k.at 1 (j.top records quiet) (λ h. names (link_at image k.at 1) (top_meta records h) quiet);
+    pairs = λ quiet at p l r leaf lt a b. closed at (2 * p + 1) (j.pairs quiet at p l r leaf lt a b) (λ h. names (link_at image at (2 * p + 1)) (pair_meta quiet at p l r leaf lt b h) quiet);
   }
     where
-      closed : (at i : ℕ) → IsJudged arena image (f ∷ new.folders.items) at i → (HasMeta image at i f → HasOwnNames arena image (link_at image at i)) → IsJudged arena image new.folders.items at i
+      closed : (at i : ℕ) → IsJudged arena image k (f ∷ new.folders.items) at i → (HasMeta image at i f → HasOwnNames arena image k (link_at image at i)) → IsJudged arena image k new.folders.items at i
       closed at i h now = ⊎_elim
           (λ (x : SomeOf (HasMeta image at i) (f ∷ new.folders.items)). ⊎_elim (λ (y : HasMeta image at i f). inr (now y)) (λ (z : SomeOf (HasMeta image at i) new.folders.items). inl z) x)
-          (λ (n : HasOwnNames arena image (link_at image at i)). inr n)
+          (λ (n : HasOwnNames arena image k (link_at image at i)). inr n)
           h
 
-      top_meta : HasRootEntries k.root → HasMeta image k.at 1 f → IsMetaOf f (link_at image k.at 1)
-      top_meta entries h =
+      top_meta : IsRecords ((image k.at).slot 1) → HasMeta image k.at 1 f → IsMetaOf f (link_at image k.at 1)
+      top_meta records h =
           ⊎_elim
           (λ low.
+          let m = records_is ((image k.at).slot 1) records in
           let same : h.entry ≡ k.root.meta = head_is h.entry k.root.meta (sym h.slot ∙ low.0) in
-          meta_of k.at 1 f h (ap (λ (e : Entry). e.dir) same ∙ entries.meta_dir)
-          (subst (λ (e : Entry). e.size ≤ 8192 * 409 ^ e.depth) (sym same) (holds_active k.root.meta k.root.meta.active entries.meta_active w.holds.active.block.holds.meta_holds.active_holds))
+          let same' : h.entry ≡ m.entry = head_is h.entry m.entry (sym h.slot ∙ m.slot) in
+          let active : k.root.meta.active ≡ true = ap (λ (e : Entry). e.active) (sym same ∙ same') ∙ m.active in
+          meta_of k.at 1 f h (ap (λ (e : Entry). e.dir) same' ∙ m.flag)
+          (subst (λ (e : Entry). e.size ≤ 8192 * 409 ^ e.depth) (sym same) (holds_active k.root.meta k.root.meta.active active w.holds.active.block.holds.meta_holds.active_holds))
           (subst (λ (e : Entry). e.depth ≤ 4) (sym same) low.1))
           (λ high. let no : To Nil ≡ Head h.entry = sym high.0 ∙ h.slot in absurd (cc))
           w.holds.meta

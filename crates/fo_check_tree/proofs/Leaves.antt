@@ -13,14 +13,15 @@ use Rattle.fo_image.specs.declared.types.Pointer.TheVariants.{Nil, Local, Score 
 use Rattle.fo_crash.specs.Images.{Content, Image, Arena, Link, target, meant, step as step_to, goes, way, leaf_path, depth_of, nothing}
 use Rattle.fo_meta.specs.Leaf.{IsLeaf, SpellsLeaf}
 use Rattle.fo_good.specs.Means.{EndsAt}
-use Rattle.fo_good.specs.Trees.{IsTree, IsWithin}
+use Rattle.fo_good.specs.Trees.{IsWithin}
 use Rattle.fo_good.specs.Sound.{Kept}
 use Rattle.fo_check_names.specs.Names.{named_in}
 use Rattle.fo_check_names.specs.declared.names.Named.{Named}
-use Rattle.fo_check_tree.specs.declared.labels.Known.{Known}
+use Rattle.fo_check_labels.specs.declared.labels.Known.{Known}
 use Rattle.fo_check_tree.specs.declared.walk.Holder.{Holder}
 use Rattle.fo_check_tree.specs.declared.walk.Step.{Step}
-use Rattle.fo_check_tree.specs.Known.{Ascend, IsKnown, Marks}
+use Rattle.fo_check_labels.specs.Known.{Ascend, IsKnown, Marks}
+use Rattle.fo_check_tree.specs.Answer.{IsAlone}
 use Rattle.fo_check_tree.specs.Walking.{Reached}
 use Rattle.fo_check_tree.specs.Slots.{index_below, step_below, steps_by, steps_below}
 use Rattle.fo_check_tree.specs.Listing.{AddsNamed, SomeOf, Leaf, IsSeen, IsInSource, IsOnWay, IsListed, IsListing}
@@ -110,7 +111,7 @@ module _ (arena : Arena) (image : Image) (empty : (kind : Kind) (score : Score) 
   lost (i ∷ path) w isnt b e = lost path (step_to arena image w i) (λ a h. by_pointer w.kind (target w.slot) i a isnt h) b e
 
   module _ (k : Kept) (meta : Link) where
-    along : (p q : List ℕ) (at : ℕ) → target ((goes arena image meta (p ++ q)).slot) ≡ Local at → target ((goes arena image (goes arena image meta p) q).slot) ≡ Local at
+    pub along : (p q : List ℕ) (at : ℕ) → target ((goes arena image meta (p ++ q)).slot) ≡ Local at → target ((goes arena image (goes arena image meta p) q).slot) ≡ Local at
     along p q at e = ap (λ (v : Link). target v.slot) (sym (goes_join p q meta)) ∙ e
 
     -- Nothing is behind a step that leads to no block.
@@ -129,7 +130,7 @@ module _ (arena : Arena) (image : Image) (empty : (kind : Kind) (score : Score) 
           (some_parts (IsOnWay arena image meta path) steps (step ∷ []) s)
 
       -- A step was taken behind which no leaf is.
-      pub shorter : (IsTree arena image k.at → (n at : ℕ) → IsListed arena image meta n at → IsOnWay arena image meta (leaf_path meta.slot n) step → ⊥) → IsListing arena image k meta known steps named
+      pub shorter : ((n at : ℕ) → IsAlone arena image k at → IsListed arena image meta n at → IsOnWay arena image meta (leaf_path meta.slot n) step → ⊥) → IsListing arena image k meta known steps named
       shorter none' = record {
         room = l.room;
         shallow = l.shallow;
@@ -139,13 +140,13 @@ module _ (arena : Arena) (image : Image) (empty : (kind : Kind) (score : Score) 
         seen = l.seen;
         apart = l.apart;
         sources = all_front (IsInSource arena image meta) steps (step ∷ []) l.sources;
-        whole = λ tree n at h. ⊎_elim
+        whole = λ n at h alone. ⊎_elim
             (λ (s : SomeOf (IsOnWay arena image meta (leaf_path meta.slot n)) (steps ++ step ∷ [])). ⊎_elim
             (λ (a : SomeOf (IsOnWay arena image meta (leaf_path meta.slot n)) steps). inl a)
-            (λ (w : IsOnWay arena image meta (leaf_path meta.slot n) step). absurd (none' tree n at h w))
+            (λ (w : IsOnWay arena image meta (leaf_path meta.slot n) step). absurd (none' n at alone h w))
             (parts (leaf_path meta.slot n) s))
             (λ (v : SomeOf (λ (u : Leaf). u.path ≡ leaf_path meta.slot n) l.leaves). inr v)
-            (l.whole tree n at h);
+            (l.whole n at h alone);
       }
 
       -- ---- to a block that is reached now
@@ -202,14 +203,14 @@ module _ (arena : Arena) (image : Image) (empty : (kind : Kind) (score : Score) 
               seen = all_by (IsSeen known) (IsSeen known') seen_still l.leaves l.seen;
               apart = l.apart;
               sources = all_front (IsInSource arena image meta) steps (step ∷ []) l.sources;
-              whole = λ tree n at h. ⊎_elim
+              whole = λ n at h alone. ⊎_elim
                   (λ (s : SomeOf (IsOnWay arena image meta (leaf_path meta.slot n)) (steps ++ step ∷ [])). ⊎_elim
                   (λ (a : SomeOf (IsOnWay arena image meta (leaf_path meta.slot n)) steps). inl a)
                   (λ (w : IsOnWay arena image meta (leaf_path meta.slot n) step).
                   absurd (omega (arith, past w.source.holds (leaf_bytes n at h w), h.within, w.source.size, same_number n h.within w)))
                   (parts (leaf_path meta.slot n) s))
                   (λ (v : SomeOf (λ (u : Leaf). u.path ≡ leaf_path meta.slot n) l.leaves). inr v)
-                  (l.whole tree n at h);
+                  (l.whole n at h alone);
             }
             one_leaf named' (some records spelled within grown) =
                 let s = one_source in
@@ -231,14 +232,14 @@ module _ (arena : Arena) (image : Image) (empty : (kind : Kind) (score : Score) 
                   seen = ((m, reached_new known known' below up marks m has), all_by (IsSeen known) (IsSeen known') seen_still l.leaves l.seen);
                   apart = (all_by (IsSeen known) (λ (u : Leaf). u.block ≡ below → ⊥) other_block l.leaves l.seen, l.apart);
                   sources = all_front (IsInSource arena image meta) steps (step ∷ []) l.sources;
-                  whole = λ tree n at h. ⊎_elim
+                  whole = λ n at h alone. ⊎_elim
                       (λ (t : SomeOf (IsOnWay arena image meta (leaf_path meta.slot n)) (steps ++ step ∷ [])). ⊎_elim
                       (λ (a : SomeOf (IsOnWay arena image meta (leaf_path meta.slot n)) steps). inl a)
                       (λ (w : IsOnWay arena image meta (leaf_path meta.slot n) step).
                       inr (inl (sym (path_here s) ∙ ap (λ (i : ℕ). leaf_path meta.slot i) (sym (same_number n h.within w)))))
                       (parts (leaf_path meta.slot n) t))
                       (λ (u : SomeOf (λ (x : Leaf). x.path ≡ leaf_path meta.slot n) l.leaves). inr (inr u))
-                      (l.whole tree n at h);
+                      (l.whole n at h alone);
                 }
 
         -- ---- a block of pointers
@@ -353,11 +354,11 @@ module _ (arena : Arena) (image : Image) (empty : (kind : Kind) (score : Score) 
             seen = all_by (IsSeen known) (IsSeen known') seen_still l.leaves l.seen;
             apart = l.apart;
             sources = all_join (IsInSource arena image meta) steps (steps_below step (Data level) here (image below) 409) (all_front (IsInSource arena image meta) steps (step ∷ []) l.sources) (all_below 409 (omega arith));
-            whole = λ tree n at h. ⊎_elim
+            whole = λ n at h alone. ⊎_elim
                 (λ (s : SomeOf (IsOnWay arena image meta (leaf_path meta.slot n)) (steps ++ step ∷ [])). inl (⊎_elim
                 (λ (a : SomeOf (IsOnWay arena image meta (leaf_path meta.slot n)) steps). some_left (IsOnWay arena image meta (leaf_path meta.slot n)) steps (steps_below step (Data level) here (image below) 409) a)
                 (λ (w : IsOnWay arena image meta (leaf_path meta.slot n) step). some_right (IsOnWay arena image meta (leaf_path meta.slot n)) steps (steps_below step (Data level) here (image below) 409) (way_on n at h w))
                 (parts (leaf_path meta.slot n) s)))
                 (λ (v : SomeOf (λ (u : Leaf). u.path ≡ leaf_path meta.slot n) l.leaves). inr v)
-                (l.whole tree n at h);
+                (l.whole n at h alone);
           }

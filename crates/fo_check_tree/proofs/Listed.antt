@@ -5,29 +5,25 @@ use Rattle.fo_image.specs.declared.types.Kind.{Kind}
 use Rattle.fo_image.specs.declared.types.Kind.TheVariants.{Data}
 use Rattle.fo_image.specs.declared.types.Super.{Super}
 use Rattle.fo_image.specs.declared.types.Pointer.TheVariants.{Nil, Local, Score as Held}
-use Rattle.fo_crash.specs.Images.{Image, Arena, Link, leaf_path}
+use Rattle.fo_crash.specs.Images.{Image, Arena, Link, target, goes, leaf_path}
 use Rattle.fo_sound.specs.Image.{block_of, IsDataBlock, HasLabel}
-use Rattle.fo_good.specs.Trees.{IsTree}
 use Rattle.fo_good.specs.Sound.{Kept}
 use Rattle.fo_check_names.specs.declared.names.Named.{Named}
-use Rattle.fo_check_tree.specs.declared.labels.Known.{Known}
+use Rattle.fo_check_labels.specs.declared.labels.Known.{Known}
 use Rattle.fo_check_tree.specs.declared.walk.Step.{Step}
 use Rattle.fo_check_tree.specs.declared.walk.Walk.{Walk}
-use Rattle.fo_check_tree.specs.Answer.{BreaksOnce}
-use Rattle.fo_check_tree.specs.Answer.BreaksOnce.{twice}
 use Rattle.fo_check_tree.specs.Follows.{Reaches, Follows}
 use Rattle.fo_check_tree.specs.Follows.Reaches.{again, enters}
 use Rattle.fo_check_tree.specs.Follows.Follows.{nowhere, held, local}
 use Rattle.fo_check_tree.specs.Listing.{Adds, IsInSource, IsListing}
+use Rattle.fo_check_tree.specs.Pairing.{MissesBy}
 use Rattle.fo_check_tree.specs.Slots.{HasSlots, steps_of}
 use Rattle.fo_check_tree.specs.Walking.{Walking}
-use Rattle.fo_check_tree.proofs.Leaves.{off_way, shorter, one_source, one_leaf, one_inner}
-use Rattle.fo_check_tree.proofs.Stepping.{again_breaks, taken_of}
+use Rattle.fo_check_tree.proofs.Alone.{twice_behind}
+use Rattle.fo_check_tree.proofs.Leaves.{along, off_way, shorter, one_source, one_leaf, one_inner}
+use Rattle.fo_check_tree.proofs.Stepping.{again_breaks, taken_of, slots_on}
 
 module _ (arena : Arena) (device : List Block) (image : Image) (s : Super) (k : Kept) (meta : Link) where
-  pub not_once : (at : ℕ) → BreaksOnce arena image k at → IsTree arena image k.at → ⊥
-  not_once at (twice p q b lp lq apart) tree = apart (tree.once p q b lp lq)
-
   pub listing_at : (known known' : List Known) (steps steps' : List Step) (named named' : List Named) → known' ≡ known → steps' ≡ steps → named' ≡ named → IsListing arena image k meta known steps named → IsListing arena image k meta known' steps' named'
   listing_at known known' steps steps' named named' a b c l =
       subst (λ (x : List Known). IsListing arena image k meta x steps' named') (sym a) (subst (λ (x : List Step). IsListing arena image k meta known x named') (sym b) (subst (λ (x : List Named). IsListing arena image k meta known steps x) (sym c) l))
@@ -35,15 +31,18 @@ module _ (arena : Arena) (device : List Block) (image : Image) (s : Super) (k : 
   module _ (rest : List Step) (step : Step) (old new : Walk) (w : Walking arena device image s k (step ∷ rest) old) (l : IsListing arena image k meta old.labels.known.items (old.steps.items ++ step ∷ []) old.named.items) where
     after_none : ((a : ℕ) → step.pointer ≢ Local a) → IsListing arena image k meta old.labels.known.items old.steps.items old.named.items
     after_none isnt = shorter arena image w.holds.empty k meta old.labels.known.items old.steps.items step old.named.items l
-        (λ tree n at h v. off_way arena image w.holds.empty k meta (leaf_path meta.slot n) step at isnt h.leads v)
+        (λ n at alone h v. off_way arena image w.holds.empty k meta (leaf_path meta.slot n) step at isnt h.leads v)
 
     module _ (depth : ℕ) (named : Bool) where
       after_block : (at : ℕ) → step.pointer ≡ Local at → Reaches device image depth named step at old new → IsListing arena image k meta new.labels.known.items new.steps.items new.named.items
       after_block at is (again m allowed marks same same' noted kept) =
-          listing_at old.labels.known.items new.labels.known.items old.steps.items new.steps.items old.named.items new.named.items marks.same same kept
+          let o : IsInSource arena image meta step = one_source arena image w.holds.empty k meta old.labels.known.items old.steps.items step old.named.items l in
+          let names : new.named.items ≡ old.named.items = subst (λ (d : Kind). MissesBy step d old.named.items new.named.items) o.kind kept in
+          listing_at old.labels.known.items new.labels.known.items old.steps.items new.steps.items old.named.items new.named.items marks.same same names
           (shorter arena image w.holds.empty k meta old.labels.known.items old.steps.items step old.named.items l
-          (λ tree n b h v. not_once at (again_breaks arena device image s k rest step old new w at m is marks.none allowed.known) tree))
-      after_block at is (enters m allowed marks steps folders notes read adds leafs seeks bytes deeps clean asks) = by o.level o.kind
+          (λ n b alone h v. twice_behind arena image w.holds.empty k at (again_breaks arena device image s k rest step old new w at m is marks.none allowed.known) (goes arena image meta v.source.path) (sym v.source.pointer ∙ is) v.more b
+          (along arena image w.holds.empty k meta v.source.path v.more b (ap (λ (p : List ℕ). target ((goes arena image meta p).slot)) (sym v.is) ∙ h.leads)) alone))
+      after_block at is (enters m allowed marks steps folders notes read adds leafs seeks bytes deeps clean asks eights heads) = by o.level o.kind
         where
           o : IsInSource arena image meta step
           o = one_source arena image w.holds.empty k meta old.labels.known.items old.steps.items step old.named.items l
@@ -55,7 +54,7 @@ module _ (arena : Arena) (device : List Block) (image : Image) (s : Super) (k : 
           t = taken_of device known at m w.goes.table allowed.known
 
           slots : HasSlots step.kind (image at) (block_of device at)
-          slots = subst (λ (d : Kind). HasSlots d (image at) (block_of device at)) allowed.may.kind (w.holds.slots at m t.0 t.1)
+          slots = subst (λ (d : Kind). HasSlots d (image at) (block_of device at)) allowed.may.kind (slots_on arena device image s k rest step old new w at m is t)
 
           by : (level : ℕ) → step.kind ≡ Data level → IsListing arena image k meta new.labels.known.items new.steps.items new.named.items
           by zero kind =

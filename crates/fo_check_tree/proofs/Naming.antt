@@ -13,21 +13,21 @@ use Rattle.fo_image.specs.declared.types.Pointer.TheVariants.{Nil, Local, Score 
 use Rattle.fo_crash.specs.declared.slot.Slot.{Slot}
 use Rattle.fo_crash.specs.Images.{Content, Image, Arena, Link, target, meant, goes, leaf_path, depth_of, bytes_at, nothing}
 use Rattle.fo_meta.specs.Leaf.{IsLeaf, SpellsLeaf}
-use Rattle.fo_good.specs.Trees.{IsTree, Lists, size_of}
+use Rattle.fo_good.specs.Trees.{Lists, size_of}
 use Rattle.fo_good.specs.Sound.{Kept}
 use Rattle.fo_good.proofs.Leaf.{leaf_is_read}
 use Rattle.fo_check_names.specs.Names.{named_in, name_of, slot_of, leaf_of, Differ, IsTwice}
 use Rattle.fo_check_names.specs.declared.names.Named.{Named}
-use Rattle.fo_check_tree.specs.declared.labels.Known.{Known}
-use Rattle.fo_check_tree.specs.Answer.{HasOwnNames, HasNameTwice}
-use Rattle.fo_check_tree.specs.Listing.{SomeOf, Leaf, IsLeafIn, all_named, Apart, IsInSource, IsListing, HasSlotTwice, JudgesNames, IsMetaOf}
+use Rattle.fo_check_labels.specs.declared.labels.Known.{Known}
+use Rattle.fo_check_tree.specs.Answer.{StandsAlone, HasOwnNames, HasOwnSlots, HasNameTwice, HasSlotTwice}
+use Rattle.fo_check_tree.specs.Listing.{SomeOf, Leaf, IsLeafIn, all_named, Apart, IsInSource, IsListing, JudgesNames, IsMetaOf}
 use Rattle.fo_check_tree.specs.declared.broken.Broken.{Broken}
 use Rattle.fo_check_tree.specs.declared.walk.Folder.{Folder}
 use Rattle.fo_check_tree.specs.declared.walk.Holds.TheVariants.{Records}
 use Rattle.fo_check_tree.specs.declared.walk.Step.{Step}
 use Rattle.fo_check_tree.specs.Lower.{level}
 use Rattle.fo_check_tree.specs.Notes.{NotesLeaf}
-use Rattle.fo_check_tree.specs.Pairing.{HasOwnSlots, IsNamedIn}
+use Rattle.fo_check_tree.specs.Pairing.{IsNamedIn, IsListedAt}
 use Rattle.fo_check_tree.specs.Slots.{top_step}
 use Rattle.fo_check_tree.proofs.Leaves.{way_same}
 use Rattle.fo_check_tree.proofs.Levels.{level-lower}
@@ -147,7 +147,7 @@ module _ (arena : Arena) (image : Image) (empty : (kind : Kind) (score : Score) 
   bytes_of n at e = ap (λ (c : Content). c.bytes) (found_is arena image (goes arena image meta (leaf_path meta.slot n)) at e)
 
   -- A leaf that spells records is in a block.
-  in_block : (rs : List Record) (n : ℕ) → SpellsLeaf rs (bytes_at arena image meta (leaf_path meta.slot n)) → (at : ℕ) × (target ((goes arena image meta (leaf_path meta.slot n)).slot) ≡ Local at)
+  pub in_block : (rs : List Record) (n : ℕ) → SpellsLeaf rs (bytes_at arena image meta (leaf_path meta.slot n)) → (at : ℕ) × (target ((goes arena image meta (leaf_path meta.slot n)).slot) ≡ Local at)
   in_block rs n spelled = by (target ((goes arena image meta (leaf_path meta.slot n)).slot)) refl
     where
       none' : (bytes : List ℕ) → bytes_at arena image meta (leaf_path meta.slot n) ≡ bytes → bytes ≡ [] → ⊥
@@ -259,19 +259,18 @@ module _ (arena : Arena) (image : Image) (empty : (kind : Kind) (score : Score) 
           (λ (t : SomeOf (λ (v : Leaf). v.path ≡ leaf_path meta.slot n) us). let f = in_list us all.1 t in record { place = f.place; leaf = f.leaf; is = inr f.is; number = f.number })
           s
 
-    place_of : IsTree arena image k.at → (n j : ℕ) (r : Record) → Lists arena image meta n j r → Place n j r
-    place_of tree n j r h =
-        let b = in_block (h.before ++ r ∷ h.after) n h.spelled in
-        let leaf : IsLeaf ((image b.0).bytes) = record { records = h.before ++ r ∷ h.after; spells = subst (λ (x : List ℕ). SpellsLeaf (h.before ++ r ∷ h.after) x) (bytes_of n b.0 b.1) h.spelled } in
+    place_of : (n j : ℕ) (r : Record) → Lists arena image meta n j r → StandsAlone arena image k meta n → Place n j r
+    place_of n j r h b =
+        let leaf : IsLeaf ((image b.block).bytes) = record { records = h.before ++ r ∷ h.after; spells = subst (λ (x : List ℕ). SpellsLeaf (h.before ++ r ∷ h.after) x) (bytes_of n b.block b.leads) h.spelled } in
         ⊎_elim
         (λ (none' : ⊥). absurd none')
-        (λ (s : SomeOf (λ (v : Leaf). v.path ≡ leaf_path meta.slot n) l.leaves). let f = in_list n j b.0 r h b.1 l.leaves l.right s in record { at = f.place; leaf = f.leaf; is = f.is; number = f.number })
-        (l.whole tree n b.0 (record { within = h.within; leads = b.1; leaf = leaf }))
+        (λ (s : SomeOf (λ (v : Leaf). v.path ≡ leaf_path meta.slot n) l.leaves). let f = in_list n j b.block r h b.leads l.leaves l.right s in record { at = f.place; leaf = f.leaf; is = f.is; number = f.number })
+        (l.whole n b.block (record { within = h.within; leads = b.leads; leaf = leaf }) b.alone)
 
-    own : {K : Type 0} (of : Record → K) → Differ (λ (x : Named). of x.listed) named → IsTree arena image k.at → (n j m i : ℕ) (r q : Record) → Lists arena image meta n j r → Lists arena image meta m i q → of r ≡ of q → (n ≡ m) × (j ≡ i)
-    own of w tree n j m i r q h g same =
-        let a = place_of tree n j r h in
-        let b = place_of tree m i q g in
+    own : {K : Type 0} (of : Record → K) → Differ (λ (x : Named). of x.listed) named → (n j m i : ℕ) (r q : Record) → Lists arena image meta n j r → Lists arena image meta m i q → StandsAlone arena image k meta n → StandsAlone arena image k meta m → of r ≡ of q → (n ≡ m) × (j ≡ i)
+    own of w n j m i r q h g ah ag same =
+        let a = place_of n j r h ah in
+        let b = place_of m i q g ag in
         let d : Named = named_in 0 r in
         let size : length named ≡ length (all_named l.leaves) = ap (λ (xs : List Named). length xs) l.named_is in
         let ra : get_or named a.at d ≡ named_in a.leaf.block r = same_name a.at a.leaf j r a.is d in
@@ -287,11 +286,11 @@ module _ (arena : Arena) (image : Image) (empty : (kind : Kind) (score : Score) 
         (cases_eq a.at b.at))
         (cases_lt a.at b.at)
 
-    pub own_names : Differ name_of named → IsTree arena image k.at → HasOwnNames arena image meta
-    own_names w tree = record { each = own (λ (r : Record). r.name) w tree }
+    pub own_names : Differ name_of named → HasOwnNames arena image k meta
+    own_names w = record { each = own (λ (r : Record). r.name) w }
 
-    pub own_slots : Differ slot_of named → IsTree arena image k.at → HasOwnSlots arena image meta
-    own_slots w tree = record { each = own (λ (r : Record). r.slot) w tree }
+    pub own_slots : Differ slot_of named → HasOwnSlots arena image k meta
+    own_slots w = record { each = own (λ (r : Record). r.slot) w }
 
     pub fresh : (i : ℕ) (d : Named) → i < length named → (get_or named i d).found ≡ false
     fresh i d lt =
@@ -299,9 +298,53 @@ module _ (arena : Arena) (image : Image) (empty : (kind : Kind) (score : Score) 
         let f = find l.leaves i (omega (arith, lt, size)) in
         ap (λ (x : Named). x.found) (same_name i f.leaf f.place f.named f.at d)
 
-    pub is_named : IsTree arena image k.at → (n j : ℕ) (r : Record) → Lists arena image meta n j r → IsNamedIn named r
-    is_named tree n j r h =
-        let a = place_of tree n j r h in
+    pub unmissed : (i : ℕ) (d : Named) → i < length named → (get_or named i d).missed ≡ false
+    unmissed i d lt =
+        let size : length named ≡ length (all_named l.leaves) = ap (λ (xs : List Named). length xs) l.named_is in
+        let f = find l.leaves i (omega (arith, lt, size)) in
+        ap (λ (x : Named). x.missed) (same_name i f.leaf f.place f.named f.at d)
+
+    here_at : (i : ℕ) → i < length named → Found l.leaves i
+    here_at i lt = find l.leaves i (omega (arith, lt, ap (λ (xs : List Named). length xs) l.named_is))
+
+    pub spot_of : (i : ℕ) → (i < length named) ⊎ (length named ≤ i) → ℕ
+    spot_of i (inl lt) = (here_at i lt).place
+    spot_of i (inr ge) = 0
+
+    abbrev pub spot : ℕ → ℕ
+    spot i = spot_of i (cases_lt i (length named))
+
+    stands_by : (i : ℕ) (d : Named) → i < length named → (c : (i < length named) ⊎ (length named ≤ i)) → IsListedAt arena image meta (spot_of i c) (get_or named i d)
+    unfolding spot_of
+    stands_by i d lt (inl lt') =
+        let f = here_at i lt' in
+        let is : named_in f.leaf.block f.named ≡ get_or named i d = sym (same_name i f.leaf f.place f.named f.at d) in
+        record {
+          leaf = f.leaf.index;
+          lists = subst (λ (x : Named). Lists arena image meta f.leaf.index f.place x.listed) is (lists_at i f.leaf f.place f.named f.at);
+          leads = leads_at i f.leaf f.place f.named f.at ∙ ap (λ (x : Named). Local x.leaf) is;
+        }
+    stands_by i d lt (inr ge) = absurd (omega (arith, lt, ge))
+
+    pub stands : (i : ℕ) (d : Named) → i < length named → IsListedAt arena image meta (spot i) (get_or named i d)
+    stands i d lt = stands_by i d lt (cases_lt i (length named))
+
+    apart_by : (i j : ℕ) (d : Named) → (i ≡ j → ⊥) → (get_or named i d).leaf ≡ (get_or named j d).leaf → i < length named → j < length named → (c : (i < length named) ⊎ (length named ≤ i)) (e : (j < length named) ⊎ (length named ≤ j)) → spot_of i c ≡ spot_of j e → ⊥
+    unfolding spot_of
+    apart_by i j d other same li lj (inl lt) (inl lt') h =
+        let f = here_at i lt in
+        let g = here_at j lt' in
+        let block : f.leaf.block ≡ g.leaf.block = sym (ap (λ (x : Named). x.leaf) (same_name i f.leaf f.place f.named f.at d)) ∙ same ∙ ap (λ (x : Named). x.leaf) (same_name j g.leaf g.place g.named g.at d) in
+        two_places l.leaves l.apart i f.leaf f.place f.named j g.leaf g.place g.named f.at g.at other block h
+    apart_by i j d other same li lj (inl lt) (inr ge) h = absurd (omega (arith, lj, ge))
+    apart_by i j d other same li lj (inr ge) e h = absurd (omega (arith, li, ge))
+
+    pub stand_apart : (i j : ℕ) (d : Named) → i < length named → j < length named → (i ≡ j → ⊥) → (get_or named i d).leaf ≡ (get_or named j d).leaf → spot i ≡ spot j → ⊥
+    stand_apart i j d li lj other same h = apart_by i j d other same li lj (cases_lt i (length named)) (cases_lt j (length named)) h
+
+    pub is_named : (n j : ℕ) (r : Record) → Lists arena image meta n j r → StandsAlone arena image k meta n → IsNamedIn named r
+    is_named n j r h alone =
+        let a = place_of n j r h alone in
         let size : length named ≡ length (all_named l.leaves) = ap (λ (xs : List Named). length xs) l.named_is in
         record { at = a.at; within = omega (arith, size, low l.leaves a.at a.leaf j r a.is); is = λ d. ap (λ (x : Named). x.listed) (same_name a.at a.leaf j r a.is d) }
 
@@ -345,10 +388,10 @@ module _ (arena : Arena) (image : Image) (k : Kept) (f : Folder) (meta : Link) (
     seen = tt;
     apart = tt;
     sources = (top_source, tt);
-    whole = λ tree n at h. inl (inl (record { source = top_source; more = leaf_path meta.slot n; is = refl }));
+    whole = λ n at h alone. inl (inl (record { source = top_source; more = leaf_path meta.slot n; is = refl }));
   }
 
 -- Where no rule up to 5 is noted, no name stood twice.
-pub names_by : (arena : Arena) (image : Image) (k : Kept) (meta : Link) (o : Option ℕ) (old new : Option Broken) → JudgesNames arena image k meta o → NotesLeaf 5 o old new → 5 < level new → IsTree arena image k.at → HasOwnNames arena image meta
-names_by arena image k meta None old new j is quiet tree = j tree
-names_by arena image k meta (Some leaf) old new j is quiet tree = absurd (omega (arith, quiet, (level-lower old 5 leaf (omega arith)).1, ap level is))
+pub names_by : (arena : Arena) (image : Image) (k : Kept) (meta : Link) (o : Option ℕ) (old new : Option Broken) → JudgesNames arena image k meta o → NotesLeaf 5 o old new → 5 < level new → HasOwnNames arena image k meta
+names_by arena image k meta None old new j is quiet = j
+names_by arena image k meta (Some leaf) old new j is quiet = absurd (omega (arith, quiet, (level-lower old 5 leaf (omega arith)).1, ap level is))

@@ -17,8 +17,7 @@ use Rattle.fo_check_names.specs.declared.names.Named.{Named}
 use Rattle.fo_check_names.specs.declared.names.Number.{Number}
 use Rattle.fo_check_tree.specs.declared.walk.Folder.{Folder}
 use Rattle.fo_check_tree.specs.Listing.{SomeOf, IsMetaOf}
-use Rattle.fo_check_tree.specs.Pairing.{IsHeadOf, IsNamedIn, IsLeft, HasOwnPairs, Counted, all_numbers, IsCounted, AreCounted}
-use Rattle.fo_check_tree.proofs.Settling.{no_left}
+use Rattle.fo_check_tree.specs.Pairing.{IsHeadOf, IsNamedIn, HasAllPairs, Counted, all_numbers, IsWhole, AreWhole}
 
 -- ---- a place in the list of numbers
 
@@ -112,11 +111,11 @@ one_meta f m w a b =
 
 -- ---- all numbers
 
-module _ (arena : Arena) (image : Image) (k : Kept) (limit : ℕ) (numbers : List Number) (a : AreCounted arena image k [] numbers) (root : tag_at ((link_below arena image (from_block k.at) 0).slot) ≡ 32) (differ : Differ number_of numbers) (files : All (IsFileNumber limit) numbers) where
+module _ (arena : Arena) (image : Image) (k : Kept) (limit : ℕ) (numbers : List Number) (a : AreWhole arena image k numbers) (root : tag_at ((link_below arena image (from_block k.at) 0).slot) ≡ 32) (differ : Differ number_of numbers) (files : All (IsFileNumber limit) numbers) where
   record Spot (entries meta : Link) (r : Record) : Type 0 where
     dir : Counted
     head : IsHeadOf entries meta dir.folder
-    counted : IsCounted arena image dir
+    counted : IsWhole arena image dir
     place : ℕ
     number : ℕ
     at : At a.counted number dir place
@@ -124,8 +123,8 @@ module _ (arena : Arena) (image : Image) (k : Kept) (limit : ℕ) (numbers : Lis
 
   spot : (trail : List ℕ) (entries meta : Link) (n j : ℕ) (r : Record) → IsDir arena image k.at trail entries meta → Lists arena image meta n j r → Spot entries meta r
   spot trail entries meta n j r dir h =
-      let some' : SomeOf (λ (c : Counted). IsHeadOf entries meta c.folder) a.counted = ⊎_elim (λ (l : IsLeft arena image [] entries meta). absurd (no_left arena image entries meta l)) (λ (s : SomeOf (λ (c : Counted). IsHeadOf entries meta c.folder) a.counted). s) (a.each trail entries meta dir) in
-      let st = stands (λ (c : Counted). IsHeadOf entries meta c.folder) (IsCounted arena image) a.counted a.right some' in
+      let some' : SomeOf (λ (c : Counted). IsHeadOf entries meta c.folder) a.counted = a.each trail entries meta dir in
+      let st = stands (λ (c : Counted). IsHeadOf entries meta c.folder) (IsWhole arena image) a.counted a.right some' in
       let m : IsNamedIn st.dir.names r = st.also.whole entries meta st.has n j r h in
       record { dir = st.dir; head = st.has; counted = st.also; place = m.at; number = st.from + m.at; at = st.at m.at m.within; is = m.is }
 
@@ -176,8 +175,8 @@ module _ (arena : Arena) (image : Image) (k : Kept) (limit : ℕ) (numbers : Lis
       let is : r ≡ q = sym (s.is (named_in 0 r)) ∙ ap (λ (x : Counted). (get_or x.names s.place (named_in 0 r)).listed) o.0 ∙ ap (λ (p : ℕ). (get_or t.dir.names p (named_in 0 r)).listed) o.1 ∙ t.is (named_in 0 r) in
       let metas : meta ≡ meta' = one_meta s.dir.folder meta meta' s.head.records head.records in
       let g' : Lists arena image meta m i q = subst (λ (w : Link). Lists arena image w m i q) (sym metas) g in
-      let own : HasOwnPairs arena image entries meta = s.counted.own entries meta s.head in
-      let places = own.differ.each n j m i r q h g' (ap (λ (x : Record). x.slot) is) in
+      let own : HasAllPairs arena image entries meta = s.counted.own entries meta s.head in
+      let places = own.differ n j m i r q h g' (ap (λ (x : Record). x.slot) is) in
       record { trails = one (s.head.slot ∙ sym head.slot); leaf = places.0; place = places.1; is = is }
 
   pair_of : (trail : List ℕ) (entries meta : Link) (n j : ℕ) (r : Record) → IsDir arena image k.at trail entries meta → Lists arena image meta n j r → tag_at ((entry_at arena image entries (2 * r.slot)).slot) ≡ 32 + 2 * r.number

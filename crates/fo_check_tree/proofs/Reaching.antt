@@ -6,10 +6,10 @@ use Rattle.std.proofs.lemmas.List.{get_or_default}
 use Rattle.fo_disk.specs.Disk.{Block}
 use Rattle.fo_image.specs.declared.types.Label.{Label}
 use Rattle.fo_sound.specs.Image.{IsDataBlock, HasLabel}
-use Rattle.fo_check_tree.specs.declared.labels.Known.{Known}
-use Rattle.fo_check_tree.specs.Known.{Ascend, IsKnown, Marks}
+use Rattle.fo_check_labels.specs.declared.labels.Known.{Known}
+use Rattle.fo_check_labels.specs.Known.{Ascend, IsKnown, Marks}
 use Rattle.fo_check_tree.specs.Walking.{Reached, IsTaken, IsTable}
-use Rattle.fo_check_tree.proofs.Marking.{Ascend-marked, only_label}
+use Rattle.fo_check_labels.proofs.Marking.{Ascend-marked, only_label}
 
 pub one_index : (known : List Known) (at i j : ℕ) (d : Known) → Ascend known → i < length known → j < length known → (get_or known i d).address ≡ at → (get_or known j d).address ≡ at → i ≡ j
 one_index known at i j d up li lj a b = ⊎_elim (λ same. same)

@@ -35,14 +35,14 @@ of_pair here first second depth leads r lead dir a b =
     (subst (λ (fs : List Folder). SomeOf (IsOfPair first second) fs) (sym one) (inl has))
 
 pub same_refl : (xs : List Named) → SameRecords xs xs
-same_refl xs = record { long = refl; each = λ i d lt. refl }
+same_refl xs = record { long = refl; each = λ i d lt. refl; leaves = λ i d lt. refl }
 
 pub same_then : (xs ys zs : List Named) → SameRecords xs ys → SameRecords ys zs → SameRecords xs zs
-same_then xs ys zs a b = record { long = b.long ∙ a.long; each = λ i d lt. b.each i d lt ∙ a.each i d (omega (arith, lt, b.long)) }
+same_then xs ys zs a b = record { long = b.long ∙ a.long; each = λ i d lt. b.each i d lt ∙ a.each i d (omega (arith, lt, b.long)); leaves = λ i d lt. b.leaves i d lt ∙ a.leaves i d (omega (arith, lt, b.long)) }
 
 module _ (index : ℕ) (c : Content) (named : Bool) where
   pub searches_first : (old : List Named) (folders : List Folder) → Searches index c named 0 old old folders
-  searches_first old folders = record { same = same_refl old; each = λ i d lt h. inl h }
+  searches_first old folders = record { same = same_refl old; each = λ i d lt h. inl h; still = λ i d lt. refl }
 
   lift : (k : ℕ) (folders added : List Folder) (r : Record) → HasPairHere index c named k folders r → HasPairHere index c named (k + 1) (folders ++ added) r
   lift k folders added r h = record {
@@ -68,6 +68,7 @@ module _ (index : ℕ) (c : Content) (named : Bool) where
     kept same = subst (λ (xs : List Named). Searches index c named (k + 1) old xs (folders ++ added)) (sym same) (record {
       same = s.same;
       each = λ i d lt h. ⊎_elim (λ before. inl before) (λ (p : HasPairHere index c named k folders (get_or now i d).listed). inr (lift k folders added (get_or now i d).listed p)) (s.each i d lt h);
+      still = s.still;
     })
 
     module _ (at : ℕ) (n : Named) (within : at < length now) (read : (d : Named) → get_or now at d ≡ n) where
@@ -83,6 +84,10 @@ module _ (index : ℕ) (c : Content) (named : Bool) where
         each = λ i d lt. ⊎_elim
             (λ (here' : i ≡ at). subst (λ (j : ℕ). (get_or (set now at marked) j d).listed ≡ (get_or now j d).listed) (sym here') (ap (λ (x : Named). x.listed) (get_or-set_same now at marked d within) ∙ sym (ap (λ (x : Named). x.listed) (read d))))
             (λ (apart : i ≢ at). ap (λ (x : Named). x.listed) (get_or-set_other now at i marked d apart))
+            (cases_eq i at);
+        leaves = λ i d lt. ⊎_elim
+            (λ (here' : i ≡ at). subst (λ (j : ℕ). (get_or (set now at marked) j d).leaf ≡ (get_or now j d).leaf) (sym here') (ap (λ (x : Named). x.leaf) (get_or-set_same now at marked d within) ∙ sym (ap (λ (x : Named). x.leaf) (read d))))
+            (λ (apart : i ≢ at). ap (λ (x : Named). x.leaf) (get_or-set_other now at i marked d apart))
             (cases_eq i at);
       }
 
@@ -111,6 +116,13 @@ module _ (index : ℕ) (c : Content) (named : Bool) where
             (λ (before : (get_or old i d).found ≡ true). inl before)
             (λ (p : HasPairHere index c named k folders (get_or now i d).listed). inr (subst (λ (x : Named). HasPairHere index c named (k + 1) (folders ++ added) x.listed) (sym is) (lift k folders added (get_or now i d).listed p)))
             (s.each i d (omega (arith, lt, long)) (sym (ap (λ (x : Named). x.found) is) ∙ h)))
+            (cases_eq i at);
+        still = λ i d lt. ⊎_elim
+            (λ (here' : i ≡ at).
+            let is : get_or (set now at marked) i d ≡ marked = ap (λ (j : ℕ). get_or (set now at marked) j d) here' ∙ get_or-set_same now at marked d within in
+            let was : n ≡ get_or now i d = sym (read d) ∙ ap (λ (j : ℕ). get_or now j d) (sym here') in
+            ap (λ (x : Named). x.missed) is ∙ ap (λ (x : Named). x.missed) was ∙ s.still i d (omega (arith, lt, long)))
+            (λ (apart : i ≢ at). ap (λ (x : Named). x.missed) (get_or-set_other now at i marked d apart) ∙ s.still i d (omega (arith, lt, long)))
             (cases_eq i at);
       }
 

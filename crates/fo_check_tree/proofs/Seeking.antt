@@ -22,6 +22,7 @@ use Rattle.fo_sound.specs.Image.{block_of, IsDataBlock, HasLabel}
 use Rattle.fo_good.specs.Means.{HasEntry, AreEntries}
 use Rattle.fo_good.specs.Trees.{IsFirst, IsSecond}
 use Rattle.fo_good.specs.Sound.{Kept}
+use Rattle.fo_check_names.specs.Finds.{Misses}
 use Rattle.fo_check_names.specs.Pairs.{is_folder, is_source}
 use Rattle.fo_check_names.specs.declared.names.Named.{Named}
 use Rattle.fo_check_tree.specs.declared.broken.Broken.{Broken}
@@ -38,7 +39,7 @@ use Rattle.fo_check_tree.specs.Follows.Follows.{nowhere, held, local}
 use Rattle.fo_check_tree.specs.Listing.{SomeOf, AddsNamed, Adds}
 use Rattle.fo_check_tree.specs.Listing.AddsNamed.{none as added_none, some as added_some}
 use Rattle.fo_check_tree.specs.Lower.{lower, level}
-use Rattle.fo_check_tree.specs.Pairing.{IsOfPair, pair_number, HasPairHere, Searches, Seeks, IsHeadOf, IsInEntries, IsQuiet, IsEntriesStep, IsFound, AreSought, Grows}
+use Rattle.fo_check_tree.specs.Pairing.{SameRecords, IsMissedBy, MissesBy, IsOfPair, pair_number, HasPairHere, Searches, Seeks, IsHeadOf, IsInEntries, IsQuiet, IsEntriesStep, IsFound, AreSought, IsLedHere, IsLedBy, Grows}
 use Rattle.fo_check_tree.specs.Slots.{HasSlots, index_below, step_below, steps_by, steps_below, steps_of, steps_by_pairs, pair_steps, first_steps, second_steps, top_step, entry_of}
 use Rattle.fo_check_tree.specs.Walking.{Walking}
 use Rattle.fo_check_tree.proofs.Directories.{leaf_kind}
@@ -48,7 +49,7 @@ use Rattle.fo_check_tree.proofs.Levels.{level-lower}
 use Rattle.fo_check_tree.proofs.Paths.{goes_end, slot_end, found_is}
 use Rattle.fo_check_tree.proofs.Searching.{same_refl, same_then}
 use Rattle.fo_check_tree.proofs.Slots.{none_below, one_below, no_pairs, one_pair}
-use Rattle.fo_check_tree.proofs.Stepping.{taken_of}
+use Rattle.fo_check_tree.proofs.Stepping.{taken_of, slots_on}
 
 pub pow_small : (n : ℕ) → n ≤ 4 → 409 ^ n ≤ 27982932961
 pow_small zero le = omega arith
@@ -70,6 +71,9 @@ dir_data e = cc
 some_by : {X : Type 0} (P Q : X → Type 0) → ((x : X) → P x → Q x) → (xs : List X) → SomeOf P xs → SomeOf Q xs
 some_by P Q f [] h = absurd h
 some_by P Q f (x ∷ xs) h = ⊎_elim (λ (a : P x). inl (f x a)) (λ (b : SomeOf P xs). inr (some_by P Q f xs b)) h
+
+pub same_missed : (row count : ℕ) (old new : List Named) → Misses row count old new → SameRecords old new
+same_missed row count old new m = record { long = m.long; each = λ i d lt. (m.same i d lt).0; leaves = λ i d lt. (m.same i d lt).1 }
 
 pub grows_none : (folders : List Folder) → Grows folders folders
 grows_none folders = record { added = []; is = sym (append-nil folders) }
@@ -112,7 +116,7 @@ quiet_second : (here : Holder) (together : Bool) (e : Entry) → AllByRecursion 
 quiet_second here together e = quiet_cond (is_source e && not together) (record (top_step e Records here) { size = 0 })
     (λ yes. record { level = e.depth; kind = ap (λ (d : Bool). cond d (Dir e.depth) (Data e.depth)) (source_file e.active e.dir (front_true (is_source e) (not together) yes)); quiet = inr refl })
 
-quiet_pairs : (here : Holder) (c : Content) (n : ℕ) → AllByRecursion IsQuiet (steps_by_pairs here c n)
+pub quiet_pairs : (here : Holder) (c : Content) (n : ℕ) → AllByRecursion IsQuiet (steps_by_pairs here c n)
 quiet_pairs here c zero = subst (λ (s : List Step). AllByRecursion IsQuiet s) (sym (no_pairs here c)) tt
 quiet_pairs here c (suc k) = subst (λ (s : List Step). AllByRecursion IsQuiet s) (sym (one_pair here c k))
     (all_join IsQuiet (steps_by_pairs here c k) (pair_steps here (entry_of (c.slot (2 * k))) (entry_of (c.slot (2 * k + 1)))) (quiet_pairs here c k)
@@ -201,7 +205,7 @@ module _ (arena : Arena) (image : Image) (entries : Link) where
         let few : step.index < 27982932961 = omega (arith, s.few, pow_small (length s.path) (omega (arith, full, shallow))) in
         omega (arith, few, lt)
 
-    entry_is : (j i : ℕ) → j / 204 ≡ step.index → j % 204 ≡ i → entry_at arena image entries j ≡ link_at image at i
+    pub entry_is : (j i : ℕ) → j / 204 ≡ step.index → j % 204 ≡ i → entry_at arena image entries j ≡ link_at image at i
     entry_is j i div rem =
         ap (λ (n : ℕ). goes arena image entries (leaf_path entries.slot n ++ (j % 204) ∷ [])) div
         ∙ ap (λ (n : ℕ). goes arena image entries (leaf_path entries.slot step.index ++ n ∷ [])) rem
@@ -228,6 +232,7 @@ module _ (arena : Arena) (image : Image) (entries : Link) where
             dir = ap (λ (e : Entry). e.dir) o.entries ∙ flag;
             kind = ap kind_of_top a.is ∙ ap (λ (d : Bool). cond d (Dir a.entry.depth) (Data a.entry.depth)) flag ∙ ap (λ (e : Entry). Dir e.depth) (sym o.entries);
             shallow = subst (λ (e : Entry). e.depth ≤ 4) (sym o.entries) a.shallow;
+            room = subst (λ (e : Entry). e.size ≤ 8192 * 409 ^ e.depth) (sym o.entries) (holds_active a.entry a.entry.active x.0 a.spelled.holds.active_holds);
             records = record {
               entry = b.entry;
               is = o.records;
@@ -255,6 +260,21 @@ module _ (arena : Arena) (image : Image) (entries : Link) where
                 subst (λ (w : Link). SomeOf (IsHeadOf w (entry_at arena image entries (2 * r.slot + 1))) folders) (sym one)
                 (subst (λ (w : Link). SomeOf (IsHeadOf (link_at image at (2 * h.pair)) w) folders) (sym two)
                 (some_by (IsOfPair a.entry b.entry) (IsHeadOf (link_at image at (2 * h.pair)) (link_at image at (2 * h.pair + 1))) (is_head h.pair h.within r dir a b first second) folders left));
+          }
+
+      pub led_leaf : (names : List Named) (f : Folder) → IsLedHere step.index (image at) 102 names f → IsLedBy arena image entries names f
+      led_leaf names f h =
+          let a : HasEntry (image at) bytes (2 * h.pair) = read.each (2 * h.pair) (omega (arith, h.within)) in
+          let b : HasEntry (image at) bytes (2 * h.pair + 1) = read.each (2 * h.pair + 1) (omega (arith, h.within)) in
+          let first : IsFirst (Head a.entry) h.has = subst (λ (x : Slot). IsFirst (Head (entry_of x)) h.has) a.is h.first in
+          let second : IsSecond (Head b.entry) h.has = subst (λ (x : Slot). IsSecond (Head (entry_of x)) h.has) b.is h.second in
+          let of : IsOfPair a.entry b.entry f = subst (λ (x : Slot). IsOfPair (entry_of x) b.entry f) a.is (subst (λ (x : Slot). IsOfPair (entry_of ((image at).slot (2 * h.pair))) (entry_of x) f) b.is h.folder) in
+          record {
+            has = h.has;
+            dir = h.dir;
+            listed = h.listed;
+            head = subst (λ (w : Link). IsHeadOf w (entry_at arena image entries (2 * h.has.slot + 1)) f) (sym (first_link h.has h.pair h.within h.slot))
+                (subst (λ (w : Link). IsHeadOf (link_at image at (2 * h.pair)) w f) (sym (second_link h.has h.pair h.within h.slot)) (is_head h.pair h.within h.has h.dir a b first second f of));
           }
 
 -- ---- before any entry was read
@@ -288,19 +308,19 @@ module _ (arena : Arena) (device : List Block) (image : Image) (s : Super) (k : 
   abbrev here : ℕ → Label → Holder
   here at m = record { block = at; label = m }
 
-  slots_at : (at : ℕ) (m : Label) → IsDataBlock (length device) at × HasLabel device at m → m.kind ≡ step.kind → HasSlots step.kind (image at) (block_of device at)
-  slots_at at m t kind = subst (λ (d : Kind). HasSlots d (image at) (block_of device at)) kind (w.holds.slots at m t.0 t.1)
+  slots_at : (at : ℕ) (m : Label) → step.pointer ≡ Local at → IsDataBlock (length device) at × HasLabel device at m → m.kind ≡ step.kind → HasSlots step.kind (image at) (block_of device at)
+  slots_at at m is t kind = subst (λ (d : Kind). HasSlots d (image at) (block_of device at)) kind (slots_on arena device image s k rest step old new w at m is t)
 
   module _ (named : Bool) where
-    block_grows : (at : ℕ) → Reaches device image depth named step at old new → Grows old.folders.items new.folders.items
-    block_grows at (again m allowed marks same same' noted kept) = record { added = []; is = same' ∙ sym (append-nil old.folders.items) }
-    block_grows at (enters m allowed marks steps folders notes read adds leafs seeks bytes deeps clean asks) =
-        puts_more (here at m) (image at) depth named step.kind old.folders.items new.folders.items (folders (slots_at at m (taken_of device old.labels.known.items at m w.goes.table allowed.known) allowed.may.kind))
+    block_grows : (at : ℕ) → step.pointer ≡ Local at → Reaches device image depth named step at old new → Grows old.folders.items new.folders.items
+    block_grows at is (again m allowed marks same same' noted kept) = record { added = []; is = same' ∙ sym (append-nil old.folders.items) }
+    block_grows at is (enters m allowed marks steps folders notes read adds leafs seeks bytes deeps clean asks eights heads) =
+        puts_more (here at m) (image at) depth named step.kind old.folders.items new.folders.items (folders (slots_at at m is (taken_of device old.labels.known.items at m w.goes.table allowed.known) allowed.may.kind))
 
     pub grows_on : Follows device image depth named step old new → Grows old.folders.items new.folders.items
     grows_on (nowhere nil same) = subst (λ (v : Walk). Grows old.folders.items v.folders.items) (sym same) (record { added = []; is = sym (append-nil old.folders.items) })
     grows_on (held x is same) = subst (λ (v : Walk). Grows old.folders.items v.folders.items) (sym same) (record { added = []; is = sym (append-nil old.folders.items) })
-    grows_on (local at is r) = block_grows at r
+    grows_on (local at is r) = block_grows at is r
 
   module _ (entries : Link) (names : List Named) (a : AreSought arena image entries names old.noted (old.steps.items ++ step ∷ []) old.named.items old.folders.items) where
     left : AllByRecursion (IsEntriesStep arena image entries) old.steps.items
@@ -350,11 +370,25 @@ module _ (arena : Arena) (device : List Block) (image : Image) (s : Super) (k : 
     no_names at q kind bytes (added_some records spelled within grown) = ⊎_elim (λ (file : step.holds ≡ Bytes). bytes kind file) (λ (none' : step.size ≡ 0). absurd (omega (arith, within, none'))) q
 
     after_block : (at : ℕ) → step.pointer ≡ Local at → Reaches device image depth true step at old new → AreSought arena image entries names new.noted new.steps.items new.named.items new.folders.items
-    after_block at is (again m allowed marks same same' noted kept) = same_names new.noted new.steps.items [] new.named.items new.folders.items low (none_left new.steps.items same) tt kept same'
-    after_block at is (enters m allowed marks steps folders notes read adds leafs seeks bytes deeps clean asks) = ⊎_elim (λ (v : IsInEntries arena image entries step). inside v v.level v.kind) (λ (q : IsQuiet step). outside q q.level q.kind) this
+    after_block at is (again m allowed marks same same' noted kept) = ⊎_elim
+        (λ (v : IsInEntries arena image entries step).
+        let m : IsMissedBy step v.level old.named.items new.named.items = subst (λ (d : Kind). MissesBy step d old.named.items new.named.items) v.kind kept in
+        record {
+          shallow = a.shallow;
+          kind = a.kind;
+          same = same_then names old.named.items new.named.items a.same (same_missed step.index m.count old.named.items new.named.items m.misses);
+          sources = subst (λ (xs : List Step). AllByRecursion (IsEntriesStep arena image entries) xs) (sym same) left;
+          found = λ quiet i d lt found'.
+              let s = m.misses.same i d lt in
+              subst (λ (r : Record). IsFound arena image entries new.folders.items r) (sym s.0) (subst (λ (fs : List Folder). IsFound arena image entries fs (get_or old.named.items i d).listed) (sym same')
+              (a.found (omega (arith, quiet, low)) i d (omega (arith, lt, m.misses.long)) (sym s.2 ∙ found')));
+        })
+        (λ (q : IsQuiet step). same_names new.noted new.steps.items [] new.named.items new.folders.items low (none_left new.steps.items same) tt (subst (λ (d : Kind). MissesBy step d old.named.items new.named.items) q.kind kept) same')
+        this
+    after_block at is (enters m allowed marks steps folders notes read adds leafs seeks bytes deeps clean asks eights heads) = ⊎_elim (λ (v : IsInEntries arena image entries step). inside v v.level v.kind) (λ (q : IsQuiet step). outside q q.level q.kind) this
       where
         slots : HasSlots step.kind (image at) (block_of device at)
-        slots = slots_at at m (taken_of device old.labels.known.items at m w.goes.table allowed.known) allowed.may.kind
+        slots = slots_at at m is (taken_of device old.labels.known.items at m w.goes.table allowed.known) allowed.may.kind
 
         steps_are : (kind : Kind) → step.kind ≡ kind → new.steps.items ≡ old.steps.items ++ steps_of step (here at m) (image at) kind
         steps_are kind e = steps slots ∙ ap (λ (d : Kind). old.steps.items ++ steps_of step (here at m) (image at) d) e

@@ -41,9 +41,9 @@ use Rattle.fo_check_tree.proofs.Formatting.{some_slot, some_folder}
 use Rattle.fo_check_tree.proofs.Judging.{entries_is, puts_more}
 use Rattle.fo_check_tree.proofs.Leaves.{some_left, some_right, some_parts, goes_join, lost, way_long}
 use Rattle.fo_check_tree.proofs.Levels.{level-lower}
-use Rattle.fo_check_tree.proofs.Listed.{not_once}
+use Rattle.fo_check_tree.proofs.Alone.{not_once}
 use Rattle.fo_check_tree.proofs.Paths.{slot_end, goes_end, found_is}
-use Rattle.fo_check_tree.proofs.Stepping.{again_breaks, taken_of}
+use Rattle.fo_check_tree.proofs.Stepping.{again_breaks, taken_of, slots_on}
 
 both_true : (a b : Bool) → a ≡ true → b ≡ true → (a && b) ≡ true
 both_true a b p q = ap (λ (x : Bool). x && b) p ∙ q
@@ -190,15 +190,15 @@ module _ (arena : Arena) (device : List Block) (image : Image) (s : Super) (k : 
 
     after_block : (at : ℕ) → step.pointer ≡ Local at → Reaches device image depth named step at old new → AreSpread arena image k link deep new.noted new.steps.items new.folders.items
     after_block at is (again m allowed marks same same' noted kept) = spread_by new.noted new.steps.items [] new.folders.items low (same ∙ sym (append-nil old.steps.items)) (record { added = []; is = same' ∙ sym (append-nil old.folders.items) })
-        (λ quiet tree path b long leads v. absurd (not_once arena device image s k link at (again_breaks arena device image s k rest step old new w at m is marks.none allowed.known) tree))
-    after_block at is (enters m allowed marks steps folders notes read adds leafs seeks bytes deeps clean asks) = spread_by new.noted new.steps.items (steps_of step here' (image at) step.kind) new.folders.items low (steps slots) grown
+        (λ quiet tree path b long leads v. absurd (not_once arena image k at (again_breaks arena device image s k rest step old new w at m is marks.none allowed.known) tree))
+    after_block at is (enters m allowed marks steps folders notes read adds leafs seeks bytes deeps clean asks eights heads) = spread_by new.noted new.steps.items (steps_of step here' (image at) step.kind) new.folders.items low (steps slots) grown
         (λ quiet tree path b long leads v. by quiet path b long leads v v.level refl)
       where
         here' : Holder
         here' = record { block = at; label = m }
 
         slots : HasSlots step.kind (image at) (block_of device at)
-        slots = let t = taken_of device old.labels.known.items at m w.goes.table allowed.known in subst (λ (d : Kind). HasSlots d (image at) (block_of device at)) allowed.may.kind (w.holds.slots at m t.0 t.1)
+        slots = let t = taken_of device old.labels.known.items at m w.goes.table allowed.known in subst (λ (d : Kind). HasSlots d (image at) (block_of device at)) allowed.may.kind (slots_on arena device image s k rest step old new w at m is t)
 
         grown : Grows old.folders.items new.folders.items
         grown = puts_more here' (image at) depth named step.kind old.folders.items new.folders.items (folders slots)

@@ -1,7 +1,7 @@
 -- The walk at its root.
 use Rattle.std.proofs.Common.{◌≡◌, ⊎_elim, inl, inr, ℕ, zero, suc, ◌+◌, ◌*◌, ◌%◌, ◌^◌, ◌<◌, ◌≤◌, Bool, true, false, List, [], ◌∷◌, ◌++◌, drop, length, get_or, Option, Some, refl, sym, ap, ◌∙◌, subst, arith}
 use Rattle.std.specs.Prelude.{cond, MatchBool, MatchOption}
-use Rattle.std.specs.List.{All, Any}
+use Rattle.std.specs.List.{All, Any, AllByRecursion}
 use Rattle.std.proofs.lemmas.Bool.{false≢true}
 use Rattle.fo_disk.specs.Disk.{Block}
 use Rattle.fo_image.specs.declared.types.Kind.TheVariants.{Data, Dir, Root}
@@ -18,8 +18,8 @@ use Rattle.fo_sound.specs.Image.{block_of, IsDataBlock, HasLabel}
 use Rattle.fo_sound.specs.Sound.{root_label, HasRootEntries}
 use Rattle.fo_good.specs.Sound.{Kept}
 use Rattle.fo_check_tree.specs.declared.broken.Broken.{Broken}
-use Rattle.fo_check_tree.specs.declared.labels.Known.{Known}
-use Rattle.fo_check_tree.specs.declared.labels.Labels.{Labels}
+use Rattle.fo_check_labels.specs.declared.labels.Known.{Known}
+use Rattle.fo_check_labels.specs.declared.labels.Labels.{Labels}
 use Rattle.fo_check_tree.specs.declared.walk.Folder.{Folder}
 use Rattle.fo_check_tree.specs.declared.walk.Holder.{Holder}
 use Rattle.fo_check_tree.specs.declared.walk.Holds.{Holds}
@@ -30,17 +30,21 @@ use Rattle.fo_check_tree.specs.Answer.{IsShallow, HoldsAny, IsNamed}
 use Rattle.fo_check_tree.specs.Dirs.{link_at, HasMeta, AreJudged}
 use Rattle.fo_check_tree.specs.Formats.{IsFormed, AreFormed}
 use Rattle.fo_check_tree.specs.Listing.{SomeOf}
-use Rattle.fo_check_tree.specs.Known.{Ascend, IsKnown, Marks, MarksNone}
+use Rattle.fo_check_labels.specs.Known.{Ascend, IsKnown, Marks, MarksNone}
 use Rattle.fo_good.specs.Means.{IsRead}
 use Rattle.fo_image.specs.Record.{SpellsRoot}
 use Rattle.fo_check_tree.specs.Lower.{level, JudgesRoot}
+use Rattle.fo_good.specs.Trees.IsDir.{top as dir_top}
+use Rattle.fo_good.specs.Trees.InTree.{top as tree_top}
+use Rattle.fo_check_tree.specs.Numbers.{IsSourceIn}
+use Rattle.fo_check_tree.proofs.Lacking.{Heads}
 use Rattle.fo_check_tree.specs.Notes.{Lowers}
 use Rattle.fo_check_tree.specs.Depths.{IsSourceOf, AreAbove}
 use Rattle.fo_check_tree.proofs.Spreading.{above_first}
 use Rattle.fo_check_tree.specs.Pairing.{IsHeadOf, AreSettled}
 use Rattle.fo_check_tree.specs.Slots.{top_step}
 use Rattle.fo_check_names.specs.Pairs.{no_entry}
-use Rattle.fo_check_tree.specs.Table.{IsScanned}
+use Rattle.fo_check_labels.specs.Table.{IsScanned}
 use Rattle.fo_check_tree.specs.Walking.{Reached, IsTable, HasPath, IsStepOf, tag_below, one, Fits, all_tops, IsDone, Goes, IsUnbegun, Walking}
 use Rattle.fo_check_tree.specs.Walking.IsDone.{nowhere, left}
 use Rattle.fo_check_tree.proofs.Going.{named_lowers}
@@ -249,11 +253,11 @@ module _ (arena : Arena) (device : List Block) (image : Image) (s : Super) (k : 
         let f : Folder = record { entries = e; records = Some r; holder = record { block = s.active; label = root_label s }; depth = 0; named = true } in
         let one_folder : new.folders.items ≡ f ∷ [] = folders ∙ ap (λ (fs : List Folder). fs ++ f ∷ []) u.nothing.1 in
         record {
-          top = λ entries quiet tree.
+          top = λ records quiet.
               let head = is_head 1 k.root.meta quiet judged.second holds.meta in
               let slot : (image k.at).slot 1 ≡ Head r = head.0 ∙ ap (λ (x : Entry). Head x) (sym (wr.shallow head.1)) in
               inl (subst (λ (fs : List Folder). SomeOf (HasMeta image k.at 1) fs) (sym one_folder) (inl (record { entry = r; is = refl; slot = slot })));
-          pairs = λ quiet tree at p l' reached leaf lt a b.
+          pairs = λ quiet at p l' reached leaf lt a b.
               let kind : Root ≡ Dir zero = ap (λ (x : Label). x.kind) (only_label' judged (marked t m) low at l' reached) ∙ leaf in
               absurd (cc);
         }
@@ -263,7 +267,7 @@ module _ (arena : Arena) (device : List Block) (image : Image) (s : Super) (k : 
         → new.folders.items ≡ old.folders.items ++ record { entries = e; records = Some r; holder = record { block = s.active; label = root_label s }; depth = 0; named = true } ∷ []
         → JudgesRoot k.root new.noted → AreFormed arena image k new.labels.known.items new.noted new.steps.items new.folders.items
     formats t l labels found low e r wr folders judged = record {
-      each = λ quiet tree at i l' reached has odd records path b kind leads.
+      each = λ quiet at i l' reached has odd records path b kind leads alone.
           let m = subst (λ (x : Labels). MatchBool t (Marks s.active old.labels.known.items x.known.items) (MarksNone s.active old.labels.known.items x.known.items)) (sym labels) found in
           let same : at ≡ k.at = only_root judged (marked t m) low at l' reached in
           subst (λ (a : ℕ). IsFormed arena image new.steps.items new.folders.items a i path b) (sym same) (by quiet path b i odd (subst (λ (a : ℕ). target ((goes_to arena image (link_at image a i) path).slot) ≡ Local b) same leads));
@@ -286,40 +290,45 @@ module _ (arena : Arena) (device : List Block) (image : Image) (s : Super) (k : 
             inr (inr (subst (λ (fs : List Folder). SomeOf (HasMeta image k.at 1) fs) (sym one_folder) (inl (record { entry = r; is = refl; slot = slot }))))
         by quiet path b (suc (suc i)) odd leads = absurd (lost arena image holds.empty path (link_at image k.at (suc (suc i))) (λ a x. nil_is a (sym (others_nil (suc (suc i)) (omega arith)) ∙ x)) b leads)
 
+    head_of : (e r : Entry) → IsEntryOf k.root.entries e → IsEntryOf k.root.meta r → JudgesRoot k.root new.noted
+        → 6 < level new.noted → IsHeadOf (link_at image k.at 0) (link_at image k.at 1) (record { entries = e; records = Some r; holder = record { block = s.active; label = root_label s }; depth = 0; named = true })
+    head_of e r we wr judged quiet =
+        let root : HasRootEntries k.root = judged.entries quiet in
+        let a = is_head 0 k.root.entries (omega (arith, quiet)) judged.first holds.entries in
+        let b = is_head 1 k.root.meta (omega (arith, quiet)) judged.second holds.meta in
+        let first : k.root.entries ≡ e = sym (we.shallow a.1) in
+        let second : k.root.meta ≡ r = sym (wr.shallow b.1) in
+        record {
+          named = refl;
+          slot = a.0 ∙ ap (λ (x : Entry). Head x) first;
+          dir = subst (λ (x : Entry). x.dir ≡ true) first root.entries_dir;
+          kind = ap kind_of_top a.0 ∙ ap (λ (d : Bool). cond d (Dir k.root.entries.depth) (Data k.root.entries.depth)) root.entries_dir ∙ ap (λ (x : Entry). Dir x.depth) first;
+          shallow = subst (λ (x : Entry). x.depth ≤ 4) first a.1;
+          room = subst (λ (x : Entry). x.size ≤ 8192 * 409 ^ x.depth) first (holds_active k.root.entries k.root.entries.active root.entries_active holds.active.block.holds.entries_hold.active_holds);
+          records = record {
+            entry = r;
+            is = refl;
+            slot = b.0 ∙ ap (λ (x : Entry). Head x) second;
+            file = subst (λ (x : Entry). x.dir ≡ false) second root.meta_dir;
+            kind = ap kind_of_top b.0 ∙ ap (λ (d : Bool). cond d (Dir k.root.meta.depth) (Data k.root.meta.depth)) root.meta_dir ∙ ap (λ (x : Entry). Data x.depth) second;
+            room = subst (λ (x : Entry). x.size ≤ 8192 * 409 ^ x.depth) second (holds_active k.root.meta k.root.meta.active root.meta_active holds.active.block.holds.meta_holds.active_holds);
+            shallow = subst (λ (x : Entry). x.depth ≤ 4) second b.1;
+          };
+        }
+
+    one_head : (e r : Entry) → new.folders.items ≡ old.folders.items ++ record { entries = e; records = Some r; holder = record { block = s.active; label = root_label s }; depth = 0; named = true } ∷ [] → new.folders.items ≡ record { entries = e; records = Some r; holder = record { block = s.active; label = root_label s }; depth = 0; named = true } ∷ []
+    one_head e r folders = folders ∙ ap (λ (fs : List Folder). fs ++ record { entries = e; records = Some r; holder = record { block = s.active; label = root_label s }; depth = 0; named = true } ∷ []) u.nothing.1
+
     pub settles : (e r : Entry) → IsEntryOf k.root.entries e → IsEntryOf k.root.meta r
         → new.folders.items ≡ old.folders.items ++ record { entries = e; records = Some r; holder = record { block = s.active; label = root_label s }; depth = 0; named = true } ∷ []
         → JudgesRoot k.root new.noted → AreSettled arena image k new.noted new.folders.items []
-    settles e r we wr folders judged = settled_first arena image k new.noted new.folders.items (λ quiet. subst (λ (fs : List Folder). SomeOf (IsHeadOf (link_at image k.at 0) (link_at image k.at 1)) fs) (sym one_folder) (inl (head quiet)))
-      where
-        f : Folder
-        f = record { entries = e; records = Some r; holder = record { block = s.active; label = root_label s }; depth = 0; named = true }
+    settles e r we wr folders judged = settled_first arena image k new.noted new.folders.items (λ quiet. subst (λ (fs : List Folder). SomeOf (IsHeadOf (link_at image k.at 0) (link_at image k.at 1)) fs) (sym (one_head e r folders)) (inl (head_of e r we wr judged quiet)))
 
-        one_folder : new.folders.items ≡ record { entries = e; records = Some r; holder = record { block = s.active; label = root_label s }; depth = 0; named = true } ∷ []
-        one_folder = folders ∙ ap (λ (fs : List Folder). fs ++ record { entries = e; records = Some r; holder = record { block = s.active; label = root_label s }; depth = 0; named = true } ∷ []) u.nothing.1
-
-        head : 6 < level new.noted → IsHeadOf (link_at image k.at 0) (link_at image k.at 1) (record { entries = e; records = Some r; holder = record { block = s.active; label = root_label s }; depth = 0; named = true })
-        head quiet =
-            let root : HasRootEntries k.root = judged.entries quiet in
-            let a = is_head 0 k.root.entries (omega (arith, quiet)) judged.first holds.entries in
-            let b = is_head 1 k.root.meta (omega (arith, quiet)) judged.second holds.meta in
-            let first : k.root.entries ≡ e = sym (we.shallow a.1) in
-            let second : k.root.meta ≡ r = sym (wr.shallow b.1) in
-            record {
-              named = refl;
-              slot = a.0 ∙ ap (λ (x : Entry). Head x) first;
-              dir = subst (λ (x : Entry). x.dir ≡ true) first root.entries_dir;
-              kind = ap kind_of_top a.0 ∙ ap (λ (d : Bool). cond d (Dir k.root.entries.depth) (Data k.root.entries.depth)) root.entries_dir ∙ ap (λ (x : Entry). Dir x.depth) first;
-              shallow = subst (λ (x : Entry). x.depth ≤ 4) first a.1;
-              records = record {
-                entry = r;
-                is = refl;
-                slot = b.0 ∙ ap (λ (x : Entry). Head x) second;
-                file = subst (λ (x : Entry). x.dir ≡ false) second root.meta_dir;
-                kind = ap kind_of_top b.0 ∙ ap (λ (d : Bool). cond d (Dir k.root.meta.depth) (Data k.root.meta.depth)) root.meta_dir ∙ ap (λ (x : Entry). Data x.depth) second;
-                room = subst (λ (x : Entry). x.size ≤ 8192 * 409 ^ x.depth) second (holds_active k.root.meta k.root.meta.active root.meta_active holds.active.block.holds.meta_holds.active_holds);
-                shallow = subst (λ (x : Entry). x.depth ≤ 4) second b.1;
-              };
-            }
+    pub heads_begin : (e r : Entry) → IsEntryOf k.root.entries e → IsEntryOf k.root.meta r
+        → new.folders.items ≡ old.folders.items ++ record { entries = e; records = Some r; holder = record { block = s.active; label = root_label s }; depth = 0; named = true } ∷ []
+        → JudgesRoot k.root new.noted → 6 < level new.noted → AllByRecursion (Heads arena image k) new.folders.items
+    heads_begin e r we wr folders judged quiet = subst (λ (fs : List Folder). AllByRecursion (Heads arena image k) fs) (sym (one_head e r folders))
+        (λ lead. record { trail = []; entries = link_at image k.at 0; meta = link_at image k.at 1; dir = dir_top; head = head_of e r we wr judged quiet }, tt)
 
     pub depths_begin : (e r : Entry) → IsEntryOf k.root.entries e
         → new.folders.items ≡ old.folders.items ++ record { entries = e; records = Some r; holder = record { block = s.active; label = root_label s }; depth = 0; named = true } ∷ []
@@ -341,3 +350,33 @@ module _ (arena : Arena) (device : List Block) (image : Image) (s : Super) (k : 
               depth = refl;
               low = omega arith;
             }
+
+    pub sources_begin : (e r : Entry) → IsEntryOf k.root.entries e → IsEntryOf k.root.meta r
+        → new.folders.items ≡ old.folders.items ++ record { entries = e; records = Some r; holder = record { block = s.active; label = root_label s }; depth = 0; named = true } ∷ []
+        → JudgesRoot k.root new.noted → 8 < level new.noted → AllByRecursion (IsSourceIn arena image k) new.folders.items
+    sources_begin e r we wr folders judged above = subst (λ (fs : List Folder). AllByRecursion (IsSourceIn arena image k) fs) (sym (one_head e r folders)) (
+      record {
+        above = 0;
+        source = link_at image k.at 0;
+        tree = tree_top;
+        least = omega arith;
+        slot = head.slot;
+        dir = head.dir;
+        kind = head.kind;
+        shallow = head.shallow;
+        records = λ x is. subst (λ (y : Entry). y.dir ≡ false) (some_is r x is) (subst (λ (y : Entry). y.dir ≡ false) (sym (wr.shallow meta.1)) root.meta_dir);
+      },
+      tt,
+    )
+      where
+        head : IsHeadOf (link_at image k.at 0) (link_at image k.at 1) (record { entries = e; records = Some r; holder = record { block = s.active; label = root_label s }; depth = 0; named = true })
+        head = head_of e r we wr judged (omega (arith, above))
+
+        root : HasRootEntries k.root
+        root = judged.entries (omega (arith, above))
+
+        meta : ((image k.at).slot 1 ≡ Head k.root.meta) × (k.root.meta.depth ≤ 4)
+        meta = is_head 1 k.root.meta (omega (arith, above)) judged.second holds.meta
+
+        some_is : (x y : Entry) → Some x ≡ Some y → x ≡ y
+        some_is x y h = cc

@@ -15,10 +15,10 @@ use Rattle.fo_good.specs.Means.{IsRead}
 use Rattle.fo_good.specs.Trees.{MayHave, HasLabelBelow, LeadsTo, place_of}
 use Rattle.fo_good.specs.Sound.{Kept}
 use Rattle.fo_check_tree.specs.declared.broken.Broken.{Broken}
-use Rattle.fo_check_tree.specs.declared.error.TreeError.{TreeError}
-use Rattle.fo_check_tree.specs.declared.error.TreeError.TheVariants.{Label as BadLabel, Read, Memory}
-use Rattle.fo_check_tree.specs.declared.labels.Known.{Known}
-use Rattle.fo_check_tree.specs.declared.labels.Labels.{Labels}
+use Rattle.fo_check_labels.specs.declared.error.TreeError.{TreeError}
+use Rattle.fo_check_labels.specs.declared.error.TreeError.TheVariants.{Label as BadLabel, Read, Memory}
+use Rattle.fo_check_labels.specs.declared.labels.Known.{Known}
+use Rattle.fo_check_labels.specs.declared.labels.Labels.{Labels}
 use Rattle.fo_check_tree.specs.declared.walk.Folder.{Folder}
 use Rattle.fo_check_tree.specs.declared.walk.Holder.{Holder}
 use Rattle.fo_check_tree.specs.declared.walk.Holds.{Holds}
@@ -29,7 +29,7 @@ use Rattle.fo_check_tree.specs.Answer.BreaksLabels.{outside, label}
 use Rattle.fo_check_tree.specs.Follows.{Reaches, Follows, RefusesFollow}
 use Rattle.fo_check_tree.specs.Follows.Reaches.{again, enters}
 use Rattle.fo_check_tree.specs.Follows.Follows.{nowhere, held, local}
-use Rattle.fo_check_tree.specs.Known.{IsKnown}
+use Rattle.fo_check_labels.specs.Known.{IsKnown}
 use Rattle.fo_check_tree.specs.Lower.{lower, level}
 use Rattle.fo_check_tree.specs.Notes.{Lowers}
 use Rattle.fo_check_tree.specs.Slots.{HasSlots, top_step}
@@ -189,6 +189,16 @@ module _ (arena : Arena) (device : List Block) (image : Image) (s : Super) (k : 
     block_is : step.holder.block ≡ w.others_fit.at
     block_is = ap (λ (h : Holder). h.block) w.others_fit.is.holder
 
+    -- a path leads to the block of the step
+    way_to : (at : ℕ) → step.pointer ≡ Local at → (path : List ℕ) × LeadsTo arena image k.at path at
+    way_to at is =
+        let h = w.goes.holders w.others_fit.at w.others_fit.slot (omega (arith, sum w.others_fit.at w.others_fit.slot, one_here w.others_fit.at w.others_fit.slot)) in
+        let p : HasPath arena image k w.others_fit.at h.0 = w.goes.paths w.others_fit.at h.0 h.1 in
+        (p.path ++ w.others_fit.slot ∷ [], ap target (end_slot arena image k w.others_fit.at w.others_fit.slot h.0 p) ∙ leads (Local at) is)
+
+    pub slots_on : (at : ℕ) (m : Label) → step.pointer ≡ Local at → IsDataBlock (length device) at × HasLabel device at m → HasSlots m.kind (image at) (block_of device at)
+    slots_on at m is t = let v = way_to at is in w.holds.slots v.0 at m v.1 t.0 t.1
+
     after_nowhere : step.pointer ≡ Nil → Walking arena device image s k rest old
     after_nowhere nil = record {
       holds = w.holds;
@@ -263,10 +273,10 @@ module _ (arena : Arena) (device : List Block) (image : Image) (s : Super) (k : 
             (goes_again arena device image s k old.labels.known.items old.noted left_before w.goes left_then w.others_fit.at w.others_fit.slot at m sum (leads (Local at) is)
             (was_reached at m marks.none allowed.known) (may_of (λ nil. nil_local (sym nil ∙ is)) m allowed.may));
       }
-      after_block at is (enters m allowed marks steps folders notes read adds leafs seeks bytes deeps clean asks) =
+      after_block at is (enters m allowed marks steps folders notes read adds leafs seeks bytes deeps clean asks eights heads) =
           let known = old.labels.known.items in
           let t = taken_of device known at m w.goes.table allowed.known in
-          let slots : HasSlots step.kind (image at) (block_of device at) = subst (λ (d : Kind). HasSlots d (image at) (block_of device at)) allowed.may.kind (w.holds.slots at m t.0 t.1) in
+          let slots : HasSlots step.kind (image at) (block_of device at) = subst (λ (d : Kind). HasSlots d (image at) (block_of device at)) allowed.may.kind (slots_on at m is t) in
           let e = enters_by device image at m t.1 old.steps.items new.steps.items old.folders.items new.folders.items step step.kind depth named allowed.may.kind allowed.may.tag w.others_fit.is.not_root slots (steps slots) (folders slots) in
           let g = goes_on arena device image s k known old.noted left_before w.goes new.labels.known.items new.noted left_then (λ b j. e.first b j + e.second b j) w.others_fit.at w.others_fit.slot at m low
           (named_at arena image k at old.noted new.noted notes w.goes.notes) sum (leads (Local at) is) marks allowed.known (may_of (λ nil. nil_local (sym nil ∙ is)) m allowed.may)

@@ -14,6 +14,7 @@ use Rattle.fo_check_tree.specs.declared.walk.Step.{Step}
 use Rattle.fo_check_tree.specs.Dirs.{link_at}
 use Rattle.fo_check_tree.specs.Listing.{SomeOf}
 use Rattle.fo_check_tree.specs.Lower.{level}
+use Rattle.fo_check_tree.specs.Notes.{KeepsNumbers, NotesFolders}
 use Rattle.fo_check_tree.specs.Slots.{entry_of}
 
 -- A leaf of entries names no source that is too deep, unless a rule no higher than 8 is noted.
@@ -22,6 +23,19 @@ Deepens c deep (Data level') noted = Unit {0}
 Deepens c deep (Dir zero) noted = 8 < level noted → (i : ℕ) → i < 204 → is_folder (entry_of (c.slot i)) ≡ true → deep ≤ 64
 Deepens c deep (Dir (suc level')) noted = Unit {0}
 Deepens c deep Root noted = Unit {0}
+
+-- An entry of the block names a source of entries.
+pub record HasFolder (c : Content) : Type 0 where
+  pub slot : ℕ
+  pub within : slot < 204
+  pub folder : is_folder (entry_of (c.slot slot)) ≡ true
+
+-- Rule 8 is noted only for a leaf of entries that names a source which is too deep.
+abbrev pub NotesDepths : Content → ℕ → ℕ → Kind → Option Broken → Option Broken → Type 0
+NotesDepths c deep block (Data level') old new = KeepsNumbers old new
+NotesDepths c deep block (Dir zero) old new = NotesFolders (HasFolder c) deep block old new
+NotesDepths c deep block (Dir (suc level')) old new = KeepsNumbers old new
+NotesDepths c deep block Root old new = KeepsNumbers old new
 
 -- The folder has this source of entries, with so many others above it.
 pub record IsSourceOf (deep : ℕ) (w : Link) (f : Folder) : Type 0 where

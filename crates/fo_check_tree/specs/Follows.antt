@@ -9,21 +9,21 @@ use Rattle.fo_image.specs.declared.types.Pointer.TheVariants.{Nil, Local, Score 
 use Rattle.fo_crash.specs.Images.{Content, Image}
 use Rattle.fo_good.specs.Means.{IsRead}
 use Rattle.fo_sound.specs.Image.{block_of}
-use Rattle.fo_check_tree.specs.declared.error.TreeError.{TreeError}
-use Rattle.fo_check_tree.specs.declared.error.TreeError.TheVariants.{Label as BadLabel, Read, Memory}
+use Rattle.fo_check_labels.specs.declared.error.TreeError.{TreeError}
+use Rattle.fo_check_labels.specs.declared.error.TreeError.TheVariants.{Label as BadLabel, Read, Memory}
 use Rattle.fo_meta.specs.Leaf.{IsLeaf}
 use Rattle.fo_check_tree.specs.declared.walk.Folder.{Folder}
 use Rattle.fo_check_tree.specs.declared.walk.Holds.TheVariants.{Bytes, Records}
 use Rattle.fo_check_tree.specs.declared.walk.Holder.{Holder}
 use Rattle.fo_check_tree.specs.declared.walk.Step.{Step}
 use Rattle.fo_check_tree.specs.declared.walk.Walk.{Walk}
-use Rattle.fo_check_tree.specs.Depths.{Deepens}
-use Rattle.fo_check_tree.specs.Known.{Marks, MarksNone}
+use Rattle.fo_check_tree.specs.Depths.{Deepens, NotesDepths}
+use Rattle.fo_check_labels.specs.Known.{Marks, MarksNone}
 use Rattle.fo_check_tree.specs.Listing.{Adds}
 use Rattle.fo_check_tree.specs.declared.broken.Broken.{Broken}
 use Rattle.fo_check_tree.specs.Lower.{lower, level}
 use Rattle.fo_check_tree.specs.Notes.{NotesAt, KeepsFormats}
-use Rattle.fo_check_tree.specs.Pairing.{Seeks, AsksOf}
+use Rattle.fo_check_tree.specs.Pairing.{MissesBy, Seeks, AsksOf, LeadsOf}
 use Rattle.fo_check_tree.specs.Slots.{HasSlots, steps_of, AddsFolders}
 use Rattle.fo_check_tree.specs.Steps.{IsAllowed, BreaksStep}
 
@@ -45,7 +45,7 @@ Clean step c bytes old new = IsRead step.kind c bytes → (step.kind ≡ Data 0 
 -- A step to this block was taken. The block may stand there. Where it was reached before, rule 7 is noted; else it is reached now, and
 -- the steps and folders by its slots are left.
 pub data Reaches (device : List Block) (image : Image) (depth : ℕ) (named : Bool) (step : Step) (at : ℕ) (old new : Walk) : Type 0 where
-  again : (label : Label) → IsAllowed old step at label → MarksNone at old.labels.known.items new.labels.known.items → new.steps.items ≡ old.steps.items → new.folders.items ≡ old.folders.items → new.noted ≡ lower old.noted 7 at → new.named.items ≡ old.named.items
+  again : (label : Label) → IsAllowed old step at label → MarksNone at old.labels.known.items new.labels.known.items → new.steps.items ≡ old.steps.items → new.folders.items ≡ old.folders.items → new.noted ≡ lower old.noted 7 at → MissesBy step step.kind old.named.items new.named.items
       → Reaches device image depth named step at old new
   enters : (label : Label) → IsAllowed old step at label → Marks at old.labels.known.items new.labels.known.items
       → (HasSlots step.kind (image at) (block_of device at) → new.steps.items ≡ old.steps.items ++ steps_of step (record { block = at; label = label }) (image at) step.kind)
@@ -59,6 +59,8 @@ pub data Reaches (device : List Block) (image : Image) (depth : ℕ) (named : Bo
       → (HasSlots step.kind (image at) (block_of device at) → Deepens (image at) (min (depth + 1) (2 ^ 32 - 1)) step.kind new.noted)
       → Clean step (image at) (block_of device at) old.noted new.noted
       → (HasSlots step.kind (image at) (block_of device at) → AsksOf step (image at) step.kind old.named.items new.named.items)
+      → (HasSlots step.kind (image at) (block_of device at) → NotesDepths (image at) (min (depth + 1) (2 ^ 32 - 1)) at step.kind old.noted new.noted)
+      → (HasSlots step.kind (image at) (block_of device at) → LeadsOf step (image at) step.kind old.named.items old.folders.items new.folders.items)
       → Reaches device image depth named step at old new
 
 -- A step was taken: it leads nowhere, to a score, for which rule 9 is noted, or to a block.

@@ -1,16 +1,14 @@
 pub mod Answer
-pub mod Cause
 pub mod Depths
 pub mod Dirs
 pub mod Follows
 pub mod Formats
 pub mod Grounds
-pub mod Known
 pub mod Listing
 pub mod Lower
 pub mod Notes
+pub mod Numbers
 pub mod Pairing
 pub mod Slots
 pub mod Steps
-pub mod Table
 pub mod Walking

@@ -11,16 +11,17 @@ use Rattle.fo_image.specs.declared.record.Record.{Record}
 use Rattle.fo_crash.specs.declared.slot.Slot.TheVariants.{Entry as Head}
 use Rattle.fo_crash.specs.Images.{Image, Arena, Link, target, goes, way, leaf_path, depth_of}
 use Rattle.fo_meta.specs.Leaf.{IsLeaf, SpellsLeaf}
-use Rattle.fo_good.specs.Trees.{IsTree, IsWithin, Lists, size_of}
+use Rattle.fo_good.specs.Trees.{IsWithin, size_of}
 use Rattle.fo_good.specs.Sound.{Kept}
 use Rattle.fo_check_names.specs.Names.{named_in}
 use Rattle.fo_check_names.specs.declared.names.Named.{Named}
 use Rattle.fo_check_tree.specs.declared.broken.Broken.{Broken}
-use Rattle.fo_check_tree.specs.declared.labels.Known.{Known}
+use Rattle.fo_check_labels.specs.declared.labels.Known.{Known}
 use Rattle.fo_check_tree.specs.declared.walk.Folder.{Folder}
 use Rattle.fo_check_tree.specs.declared.walk.Holds.TheVariants.{Records}
 use Rattle.fo_check_tree.specs.declared.walk.Step.{Step}
-use Rattle.fo_check_tree.specs.Answer.{HasOwnNames, HasNameTwice}
+use Rattle.fo_check_tree.specs.Answer.{IsAlone, HasOwnNames, HasNameTwice, HasSlotTwice}
+use Rattle.fo_check_tree.specs.Lower.{level}
 use Rattle.fo_check_tree.specs.Walking.{Reached}
 
 -- ---- one leaf
@@ -97,8 +98,8 @@ pub record IsListed (arena : Arena) (image : Image) (meta : Link) (n at : ℕ) :
   pub leads : target ((goes arena image meta (leaf_path meta.slot n)).slot) ≡ Local at
   pub leaf : IsLeaf ((image at).bytes)
 
--- The records that were named are those of the leaves that were read, each once; where no block is at two places, each leaf was read or
--- a step on the way to it is left.
+-- The records that were named are those of the leaves that were read, each once; each leaf in a block at one place was read, or a step on
+-- the way to it is left.
 pub record IsListing (arena : Arena) (image : Image) (k : Kept) (meta : Link) (known : List Known) (steps : List Step) (named : List Named) : Type 0 where
   pub room : size_of meta.slot ≤ 8192 * 409 ^ depth_of meta.slot
   pub shallow : depth_of meta.slot ≤ 4
@@ -108,31 +109,17 @@ pub record IsListing (arena : Arena) (image : Image) (k : Kept) (meta : Link) (k
   pub seen : AllByRecursion (IsSeen known) leaves
   pub apart : Apart leaves
   pub sources : AllByRecursion (IsInSource arena image meta) steps
-  pub whole : IsTree arena image k.at → (n at : ℕ) → IsListed arena image meta n at → SomeOf (IsOnWay arena image meta (leaf_path meta.slot n)) steps ⊎ SomeOf (λ (v : Leaf). v.path ≡ leaf_path meta.slot n) leaves
+  pub whole : (n at : ℕ) → IsListed arena image meta n at → IsAlone arena image k at → SomeOf (IsOnWay arena image meta (leaf_path meta.slot n)) steps ⊎ SomeOf (λ (v : Leaf). v.path ≡ leaf_path meta.slot n) leaves
 
 -- ---- names
 
--- The answer of whether a name stands twice: so it is, or where no block is at two places none does.
+-- The answer of whether a name stands twice: so it is, or none does in blocks at one place.
 abbrev pub JudgesNames : Arena → Image → Kept → Link → Option ℕ → Type 0
-JudgesNames arena image k meta answer = MatchOption answer (IsTree arena image k.at → HasOwnNames arena image meta) (HasNameTwice arena image meta)
+JudgesNames arena image k meta answer = MatchOption answer (HasOwnNames arena image k meta) (HasNameTwice arena image meta)
 
--- A record of the leaf in this block has a slot pair that another record of the source has.
-pub record HasSlotTwice (arena : Arena) (image : Image) (meta : Link) (at : ℕ) : Type 0 where
-  pub leaf : ℕ
-  pub place : ℕ
-  pub other_leaf : ℕ
-  pub other_place : ℕ
-  pub one : Record
-  pub other : Record
-  pub first : Lists arena image meta leaf place one
-  pub second : Lists arena image meta other_leaf other_place other
-  pub same : one.slot ≡ other.slot
-  pub apart : ¬ ((leaf ≡ other_leaf) × (place ≡ other_place))
-  pub leads : target ((goes arena image meta (leaf_path meta.slot leaf)).slot) ≡ Local at
-
--- Rule 6 is noted for a leaf only where that is so, or it stood there before.
+-- Rule 6 is noted for a leaf only where a pair stands twice, or it stood there before.
 pub record NotesSlots (arena : Arena) (image : Image) (meta : Link) (old new : Option Broken) : Type 0 where
-  pub each : (b : Broken) → new ≡ Some b → b.rule ≡ 6 → (old ≡ Some b) ⊎ HasSlotTwice arena image meta b.block
+  pub each : (b : Broken) → new ≡ Some b → b.rule ≡ 6 → (old ≡ Some b) ⊎ ((6 < level old) × HasSlotTwice arena image meta b.block)
 
 -- The source of records of a folder: an entry that is of its format, and whose link is this.
 pub record IsMetaOf (f : Folder) (meta : Link) : Type 0 where

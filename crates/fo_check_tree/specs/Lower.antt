@@ -9,6 +9,10 @@ abbrev pub lower : Option Broken → ℕ → ℕ → Option Broken
 lower None rule block = Some (record { rule = rule; block = block })
 lower (Some b) rule block = if nat_le b.rule rule then Some b else Some (record { rule = rule; block = block })
 
+-- The rules that a report may name; a tree that breaks rule 4 is refused.
+abbrev pub IsRule : ℕ → Type 0
+IsRule rule = (5 ≤ rule) × (rule ≤ 9)
+
 -- the rule that is noted, or a number above all rules
 abbrev pub level : Option Broken → ℕ
 level None = 256

@@ -5,11 +5,11 @@ use Rattle.fo_image.specs.declared.types.Label.{Label}
 use Rattle.fo_crash.specs.declared.place.Place.{Place}
 use Rattle.fo_sound.specs.Image.{IsDataBlock}
 use Rattle.fo_good.specs.Trees.{MayHave}
-use Rattle.fo_check_tree.specs.declared.error.TreeError.{TreeError}
-use Rattle.fo_check_tree.specs.declared.error.TreeError.TheVariants.{Label as BadLabel, Read, Memory}
+use Rattle.fo_check_labels.specs.declared.error.TreeError.{TreeError}
+use Rattle.fo_check_labels.specs.declared.error.TreeError.TheVariants.{Label as BadLabel, Read, Memory}
 use Rattle.fo_check_tree.specs.declared.walk.Step.{Step}
 use Rattle.fo_check_tree.specs.declared.walk.Walk.{Walk}
-use Rattle.fo_check_tree.specs.Known.{IsKnown}
+use Rattle.fo_check_labels.specs.Known.{IsKnown}
 
 -- the place to which a step leads; of its rank nothing is asked
 abbrev pub place_of : Step → Place

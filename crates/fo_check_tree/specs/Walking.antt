@@ -22,14 +22,14 @@ use Rattle.fo_sound.specs.Sound.{root_label}
 use Rattle.fo_good.specs.Trees.{MayHave, LeadsTo, at_path, place_of}
 use Rattle.fo_good.specs.Sound.{Kept}
 use Rattle.fo_check_tree.specs.declared.broken.Broken.{Broken}
-use Rattle.fo_check_tree.specs.declared.labels.Known.{Known}
+use Rattle.fo_check_labels.specs.declared.labels.Known.{Known}
 use Rattle.fo_check_tree.specs.declared.walk.Folder.{Folder}
 use Rattle.fo_check_tree.specs.declared.walk.Holder.{Holder}
 use Rattle.fo_check_tree.specs.declared.walk.Holds.TheVariants.{Bytes, Records}
 use Rattle.fo_check_tree.specs.declared.walk.Step.{Step}
 use Rattle.fo_check_tree.specs.declared.walk.Walk.{Walk}
 use Rattle.fo_check_tree.specs.Answer.{HoldsAny, IsNamed}
-use Rattle.fo_check_tree.specs.Known.{Ascend, IsKnown}
+use Rattle.fo_check_labels.specs.Known.{Ascend, IsKnown}
 use Rattle.fo_check_tree.specs.Lower.{level}
 use Rattle.fo_check_tree.specs.Slots.{top_step}
 

@@ -1,39 +1,41 @@
 //! The blocks of sources, one pointer after another.
-ghost use Rattle.std.specs.Prelude.{◌≡◌, ℕ, ◌+◌, ◌-◌, ◌*◌, ◌^◌, ◌<◌, ◌≤◌, min, true, List, [], ◌++◌, length, drop, IfErr, IfOk, MatchResult, OnOk};
+ghost use Rattle.std.specs.Prelude.{◌≡◌, ℕ, ◌+◌, ◌-◌, ◌*◌, ◌^◌, ◌<◌, ◌≤◌, min, true, false, List, [], ◌++◌, length, drop, IfErr, IfOk, MatchResult, OnOk};
 ghost use Rattle.fo_crash.specs.Images.{Arena, Content, Image, Link};
 ghost use Rattle.fo_good.specs.Means.{HasPointer, IsRead};
 ghost use Rattle.fo_disk.specs.Disk.{Block};
 ghost use Rattle.fo_meta.specs.Leaf.{IsLeaf};
 ghost use Rattle.fo_sound.specs.Image.{block_of, is_zero};
 ghost use Rattle.fo_sound.specs.Device.{Shows};
-ghost use Rattle.fo_check_tree.specs.Cause.{HasCauses};
+ghost use Rattle.fo_image.specs.declared.types.Label.{Label as LabelOf};
+ghost use Rattle.fo_check_labels.specs.declared.labels.Known.{Known};
+ghost use Rattle.fo_check_labels.specs.Cause.{HasCauses};
 ghost use Rattle.fo_good.specs.Sound.{Kept};
 ghost use Rattle.fo_image.specs.declared.types.Super.{Super};
 ghost use Rattle.fo_image.specs.declared.types.Pointer.TheVariants.{Local};
 ghost use Rattle.fo_check_tree.specs.Answer.{RefusesTree};
 ghost use Rattle.fo_check_tree.specs.Follows.{Follows, Reaches, Puts, Reads, RefusesFollow, NotLabel};
 ghost use Rattle.fo_check_tree.specs.declared.walk.Folder.{Folder};
-ghost use Rattle.fo_image.specs.declared.types.Kind.TheVariants.{Data};
+ghost use Rattle.fo_image.specs.declared.types.Kind.TheVariants.{Data, Dir};
 ghost use Rattle.fo_check_tree.specs.declared.walk.Holds.TheVariants.{Bytes, Records};
 ghost use Rattle.fo_check_tree.specs.Dirs.{AreJudged};
 ghost use Rattle.fo_check_tree.specs.Formats.{AreFormed};
 ghost use Rattle.fo_check_tree.specs.Grounds.{HasGrounds};
 ghost use Rattle.fo_check_tree.specs.Listing.{AddsNamed, Adds, IsListing};
-ghost use Rattle.fo_check_tree.specs.Notes.{NotesAt, KeepsFormats, KeepsPairs};
-ghost use Rattle.fo_check_tree.specs.Depths.{Deepens, AreSpread};
-ghost use Rattle.fo_check_tree.specs.Pairing.{Seeks, AsksOf, IsApart, AreSought, AreAsked, Grows};
+ghost use Rattle.fo_check_tree.specs.Notes.{NotesAt, KeepsFormats, KeepsPairs, KeepsNumbers, KeepsRules};
+ghost use Rattle.fo_check_tree.specs.Depths.{Deepens, NotesDepths, AreSpread};
+ghost use Rattle.fo_check_tree.specs.Numbers.{AreBelow, HasSources, AreFresh};
+ghost use Rattle.fo_check_tree.specs.Pairing.{Seeks, AsksOf, LeadsOf, IsApart, MissesBy, AreSought, AreAsked, AreHidden, AreLed, Grows, GrowsUnnamed};
 ghost use Rattle.fo_check_names.specs.declared.names.Named.{Named};
-ghost use Rattle.fo_check_tree.specs.Walking.{Walking};
+ghost use Rattle.fo_check_tree.specs.Walking.{Reached, Walking};
 ghost use Rattle.fo_check_tree.specs.Lower.{lower, level};
 ghost use Rattle.fo_check_tree.specs.Slots.{unless, steps_by, steps_below, steps_of, HasSlots};
 ghost use Rattle.fo_check_tree.specs.Steps.{IsAllowed, RefusesStep};
-ghost use Rattle.fo_check_tree.specs.declared.error.TreeError.TheVariants.{Read as ReadFault};
+ghost use Rattle.fo_check_labels.specs.declared.error.TreeError.TheVariants.{Read as ReadFault};
 
-use crate::error::TreeError;
 use crate::folder::add_entries;
-use crate::reads::read;
 use crate::walk::{Holder, Holds, Step, Walk};
-use fo_check_names::add_named;
+use fo_check_labels::{TreeError, read};
+use fo_check_names::{add_named, miss_pairs};
 use fo_crash::Place;
 use fo_disk::{BLOCK, Disk};
 use fo_image::{Kind, Label, Pointer, first_data, read_pointer};
@@ -95,7 +97,18 @@ pub(crate) fn follow_all<D: Disk>(
     ensures pairs { (arena : Arena) (device : List Block) (image : Image) (s : Super) (k : Kept) (entries : Link) (names : List Named) (rest : List Step) → Shows (D.state main.old).holds device → Walking arena device image s k rest walk.old → named ≡ true
         → AreSought arena image entries names walk.old.noted walk.old.steps.items walk.old.named.items walk.old.folders.items → OnOk result (AreSought arena image entries names walk.new.noted walk.new.steps.items walk.new.named.items walk.new.folders.items) }
     ensures asked { (arena : Arena) (device : List Block) (image : Image) (s : Super) (k : Kept) (entries : Link) (names : List Named) (rest : List Step) → Shows (D.state main.old).holds device → Walking arena device image s k rest walk.old → named ≡ true → IsApart names
-        → AreSought arena image entries names walk.old.noted walk.old.steps.items walk.old.named.items walk.old.folders.items → AreAsked arena image k entries walk.old.steps.items walk.old.named.items → OnOk result (AreAsked arena image k entries walk.new.steps.items walk.new.named.items) }
+        → AreSought arena image entries names walk.old.noted walk.old.steps.items walk.old.named.items walk.old.folders.items → AreAsked arena image entries walk.old.steps.items walk.old.named.items → OnOk result (AreAsked arena image entries walk.new.steps.items walk.new.named.items) }
+    ensures hidden { (arena : Arena) (device : List Block) (image : Image) (s : Super) (k : Kept) (entries : Link) (names : List Named) (rest : List Step) → Shows (D.state main.old).holds device → Walking arena device image s k rest walk.old → named ≡ true
+        → AreSought arena image entries names walk.old.noted walk.old.steps.items walk.old.named.items walk.old.folders.items → AreHidden arena image k entries walk.old.named.items → OnOk result (AreHidden arena image k entries walk.new.named.items) }
+    ensures rules { OnOk result (KeepsRules walk.old.noted walk.new.noted) }
+    ensures reached { (arena : Arena) (device : List Block) (image : Image) (s : Super) (k : Kept) (rest : List Step) → Shows (D.state main.old).holds device → Walking arena device image s k rest walk.old → OnOk result ((at : ℕ) (l : LabelOf) → Reached walk.old.labels.known.items at l → Reached walk.new.labels.known.items at l) }
+    ensures news { (arena : Arena) (device : List Block) (image : Image) (s : Super) (k : Kept) (meta : Link) (rest : List Step) (before : List Known) → Shows (D.state main.old).holds device → Walking arena device image s k rest walk.old
+        → IsListing arena image k meta walk.old.labels.known.items walk.old.steps.items walk.old.named.items → AreFresh before walk.old.labels.known.items walk.old.named.items → OnOk result (AreFresh before walk.new.labels.known.items walk.new.named.items) }
+    ensures eight { (arena : Arena) (device : List Block) (image : Image) (s : Super) (k : Kept) (rest : List Step) (numbers : ℕ) → Shows (D.state main.old).holds device → Walking arena device image s k rest walk.old → (8 < level walk.old.noted → AreBelow arena image k depth walk.old.steps.items)
+        → HasSources arena image k numbers walk.old.noted walk.old.folders.items → OnOk result (HasSources arena image k numbers walk.new.noted walk.new.folders.items) }
+    ensures heads { (arena : Arena) (device : List Block) (image : Image) (s : Super) (k : Kept) (entries : Link) (names : List Named) (rest : List Step) (before : List Folder) → Shows (D.state main.old).holds device → Walking arena device image s k rest walk.old → named ≡ true
+        → AreSought arena image entries names walk.old.noted walk.old.steps.items walk.old.named.items walk.old.folders.items → AreLed arena image entries names walk.old.noted before walk.old.folders.items → OnOk result (AreLed arena image entries names walk.new.noted before walk.new.folders.items) }
+    ensures unnamed { (arena : Arena) (device : List Block) (image : Image) (s : Super) (k : Kept) (rest : List Step) → Shows (D.state main.old).holds device → Walking arena device image s k rest walk.old → named ≡ false → OnOk result (GrowsUnnamed walk.old.folders.items walk.new.folders.items) }
     ensures grows { (arena : Arena) (device : List Block) (image : Image) (s : Super) (k : Kept) (rest : List Step) → Shows (D.state main.old).holds device → Walking arena device image s k rest walk.old → OnOk result (Grows walk.old.folders.items walk.new.folders.items) }
     ensures spread { (arena : Arena) (device : List Block) (image : Image) (s : Super) (k : Kept) (w : Link) (deep : ℕ) (rest : List Step) → Shows (D.state main.old).holds device → Walking arena device image s k rest walk.old → deep ≡ min (depth + 1) (2 ^ 32 - 1)
         → AreSpread arena image k w deep walk.old.noted walk.old.steps.items walk.old.folders.items → OnOk result (AreSpread arena image k w deep walk.new.noted walk.new.steps.items walk.new.folders.items) }
@@ -120,6 +133,7 @@ fn follow<D: Disk>(
     ensures refuses { IfErr result (RefusesFollow walk.old step.now) }
     ensures blocks { OnOk result (walk.new.blocks ≡ walk.old.blocks) }
     ensures tree { OnOk result ((walk.new.epoch ≡ walk.old.epoch) × (walk.new.active ≡ walk.old.active)) }
+    ensures rules { OnOk result (KeepsRules walk.old.noted walk.new.noted) }
     ensures left { OnOk result (410 * walk.new.labels.left + length walk.new.steps.items ≤ 410 * walk.old.labels.left + length walk.old.steps.items) }
     ensures budget { OnOk result (205 * walk.new.labels.left + length walk.new.folders.items ≤ 205 * walk.old.labels.left + length walk.old.folders.items) }
     ensures level { OnOk result (level walk.new.noted ≤ level walk.old.noted) }
@@ -152,6 +166,7 @@ fn follow_local<D: Disk>(
     ensures refuses { step.now.pointer ≡ Local address → IfErr result (RefusesFollow walk.old step.now) }
     ensures blocks { OnOk result (walk.new.blocks ≡ walk.old.blocks) }
     ensures tree { OnOk result ((walk.new.epoch ≡ walk.old.epoch) × (walk.new.active ≡ walk.old.active)) }
+    ensures rules { OnOk result (KeepsRules walk.old.noted walk.new.noted) }
     ensures left { OnOk result (410 * walk.new.labels.left + length walk.new.steps.items ≤ 410 * walk.old.labels.left + length walk.old.steps.items) }
     ensures budget { OnOk result (205 * walk.new.labels.left + length walk.new.folders.items ≤ 205 * walk.old.labels.left + length walk.old.folders.items) }
     ensures level { OnOk result (level walk.new.noted ≤ level walk.old.noted) }
@@ -162,13 +177,48 @@ fn follow_local<D: Disk>(
     let label = label_of(walk, step, address)?;
     if !walk.labels.reach(address) {
         walk.note(7, address);
+        miss(walk, step);
         return Ok(());
     }
     let here = Holder {
         block: address,
         label,
     };
-    enter(alloc, main, walk, step, here, depth, named)
+    enter(alloc, main, walk, step, here, depth, named)?;
+    Ok(())
+}
+
+/// How many leaves hang from a block of pointers at this level.
+fn leaves_below(level: u8) -> u64
+    ensures is { level ≤ 4 → result ≡ 409 ^ level }
+    ensures least { 1 ≤ result }
+{
+    match level {
+        0 => 1,
+        1 => 409,
+        2 => 167_281,
+        3 => 68_417_929,
+        _ => 27_982_932_961,
+    }
+}
+
+/// The records whose pairs are behind a pointer to a block of entries that was entered from elsewhere.
+fn miss(walk: &mut Walk, step: &Step)
+    ensures named { MissesBy step.now step.now.kind walk.old.named.items walk.new.named.items }
+    ensures noted { walk.new.noted ≡ walk.old.noted }
+    ensures blocks { walk.new.blocks ≡ walk.old.blocks }
+    ensures tree { (walk.new.epoch ≡ walk.old.epoch) × (walk.new.active ≡ walk.old.active) }
+    ensures labels { walk.new.labels ≡ walk.old.labels }
+    ensures steps { walk.new.steps.items ≡ walk.old.steps.items }
+    ensures folders { walk.new.folders.items ≡ walk.old.folders.items }
+{
+    match step.kind {
+        Kind::Dir(level) => {
+            let count = leaves_below(level);
+            miss_pairs(&mut walk.named, step.index, count);
+        }
+        Kind::Data(_) | Kind::Root => {}
+    }
 }
 
 /// Reads a block that was reached, unless it holds a file's bytes.
@@ -205,6 +255,8 @@ fn enter<D: Disk>(
     ensures sought { (device : List Block) (c : Content) → Shows (D.state main.old).holds device → HasSlots step.now.kind c (block_of device here.block) → OnOk result (Seeks step.now c named step.now.kind walk.old.named.items walk.new.named.items walk.new.folders.items) }
     ensures asks { (device : List Block) (c : Content) → Shows (D.state main.old).holds device → HasSlots step.now.kind c (block_of device here.block) → OnOk result (AsksOf step.now c step.now.kind walk.old.named.items walk.new.named.items) }
     ensures file { step.now.kind ≡ Data 0 → step.now.holds ≡ Bytes → OnOk result (walk.new.named.items ≡ walk.old.named.items) }
+    ensures eight { (device : List Block) (c : Content) → Shows (D.state main.old).holds device → HasSlots step.now.kind c (block_of device here.block) → OnOk result (NotesDepths c (min (depth + 1) (2 ^ 32 - 1)) here.block step.now.kind walk.old.noted walk.new.noted) }
+    ensures heads { (device : List Block) (c : Content) → Shows (D.state main.old).holds device → HasSlots step.now.kind c (block_of device here.block) → OnOk result (LeadsOf step.now c step.now.kind walk.old.named.items walk.old.folders.items walk.new.folders.items) }
     ensures deep { (device : List Block) (c : Content) → Shows (D.state main.old).holds device → HasSlots step.now.kind c (block_of device here.block) → OnOk result (Deepens c (min (depth + 1) (2 ^ 32 - 1)) step.now.kind walk.new.noted) }
 {
     if step.kind == Kind::Data(0) && step.holds == Holds::Bytes {
@@ -244,6 +296,8 @@ fn add_block(
     ensures leaf { step.now.kind ≡ Data 0 → OnOk result (5 < level walk.new.noted → IsLeaf block.now) }
     ensures sought { (c : Content) → HasSlots step.now.kind c block.now → OnOk result (Seeks step.now c named step.now.kind walk.old.named.items walk.new.named.items walk.new.folders.items) }
     ensures asks { (c : Content) → HasSlots step.now.kind c block.now → OnOk result (AsksOf step.now c step.now.kind walk.old.named.items walk.new.named.items) }
+    ensures eight { (c : Content) → HasSlots step.now.kind c block.now → OnOk result (NotesDepths c (min (depth + 1) (2 ^ 32 - 1)) here.block step.now.kind walk.old.noted walk.new.noted) }
+    ensures heads { (c : Content) → HasSlots step.now.kind c block.now → OnOk result (LeadsOf step.now c step.now.kind walk.old.named.items walk.old.folders.items walk.new.folders.items) }
     ensures deep { (c : Content) → HasSlots step.now.kind c block.now → OnOk result (Deepens c (min (depth + 1) (2 ^ 32 - 1)) step.now.kind walk.new.noted) }
 {
     match step.kind {
@@ -333,6 +387,7 @@ fn add_records(
     ensures level { OnOk result (level walk.new.noted ≤ level walk.old.noted) }
     ensures named { OnOk result (AddsNamed step.now here.block block.now walk.old.named.items walk.new.named.items) }
     ensures leaf { OnOk result (5 < level walk.new.noted → IsLeaf block.now) }
+    ensures eight { OnOk result (KeepsNumbers walk.old.noted walk.new.noted) }
 {
     let Some(records) = read_leaf(alloc, block)? else {
         walk.note(5, here.block);

@@ -1,5 +1,5 @@
 //! Leaves of entries, and directories.
-ghost use Rattle.std.specs.Prelude.{◌≡◌, ℕ, List, MatchResult, suc, ◌+◌, ◌-◌, ◌*◌, ◌^◌, ◌<◌, ◌≤◌, not, ◌&&◌, None, cond, min, true, false, length, take, drop, map, [], ◌∷◌, ◌++◌, OnOk};
+ghost use Rattle.std.specs.Prelude.{◌≡◌, ◌⊎◌, ℕ, List, MatchResult, suc, ◌+◌, ◌-◌, ◌*◌, ◌^◌, ◌<◌, ◌≤◌, not, ◌&&◌, None, cond, min, true, false, length, take, drop, map, [], ◌∷◌, ◌++◌, OnOk};
 ghost use Rattle.fo_image.specs.declared.types.Entry.{Entry};
 ghost use Rattle.fo_image.specs.Format.{SpellsEntry};
 ghost use Rattle.fo_crash.specs.Images.{Arena, Content, Image, Link, entry_of as entry_at};
@@ -13,27 +13,29 @@ ghost use Rattle.fo_check_tree.specs.Formats.{AreFormed};
 ghost use Rattle.fo_check_tree.specs.Grounds.{HasRecordsOf, HasGrounds};
 ghost use Rattle.fo_check_tree.specs.Listing.{IsMetaOf, SomeOf, NotesSlots};
 ghost use Rattle.fo_image.specs.declared.types.Super.{Super};
+ghost use Rattle.fo_image.specs.declared.types.Label.{Label};
 ghost use Rattle.fo_sound.specs.Image.{is_zero};
 ghost use Rattle.fo_sound.specs.Device.{Shows};
 ghost use Rattle.fo_check_tree.specs.declared.walk.Holds.TheVariants.{Bytes, Entries};
 ghost use Rattle.fo_check_tree.specs.Answer.{RefusesTree};
-ghost use Rattle.fo_check_tree.specs.Walking.{Walking, tops};
-ghost use Rattle.fo_check_tree.specs.Cause.{HasCauses};
+ghost use Rattle.fo_check_tree.specs.Walking.{Reached, Walking, tops};
+ghost use Rattle.fo_check_labels.specs.Cause.{HasCauses};
 ghost use Rattle.fo_check_tree.specs.Lower.{lower, level};
 ghost use Rattle.fo_check_tree.specs.Slots.{top_step, entry_of, HasSlot, steps_by_pairs, AddsFolders, pair_steps, first_steps, second_steps, pair_folders, folders_by};
 ghost use Rattle.fo_check_names.specs.Pairs.{no_entry, is_folder, is_source, records_of};
-ghost use Rattle.fo_check_tree.specs.Notes.{NotesAt, NotesDeep, KeepsFormats};
-ghost use Rattle.fo_check_tree.specs.Depths.{IsSourceOf};
-ghost use Rattle.fo_check_tree.specs.Pairing.{Searches, IsApart, Asks, AreInOrder, Settles, Grows};
+ghost use Rattle.fo_check_tree.specs.Notes.{NotesAt, NotesDeep, NotesFolders, KeepsFormats, KeepsPairs, KeepsNumbers, KeepsRules};
+ghost use Rattle.fo_check_tree.specs.Depths.{HasFolder, IsSourceOf};
+ghost use Rattle.fo_check_tree.specs.Numbers.{IsSourceIn, HasSources, AreFresh, AreNumbers};
+ghost use Rattle.fo_check_tree.specs.Pairing.{Searches, IsApart, Asks, Leads, AreInOrder, Settles, Grows, GrowsUnnamed, IsOfDir, HasHeads};
 ghost use Rattle.fo_check_names.specs.Names.{number_in};
 ghost use Rattle.fo_check_names.specs.Finds.{Finds};
 
 use crate::blocks::follow_all;
-use crate::error::TreeError;
 use crate::walk::{Folder, Holder, Holds, Step, Walk};
+use fo_check_labels::TreeError;
 use fo_check_names::{
-    Number, add_numbers, find_pair, is_alone, is_both, is_folder, is_source, records_of, same_name,
-    same_pair, without_pair,
+    Number, add_numbers, find_pair, is_alone, is_both, is_folder, is_source, leaf_unless,
+    records_of, same_name, same_pair, without_pair,
 };
 use fo_disk::Disk;
 use fo_image::{Entry, Pointer, read_entry};
@@ -62,6 +64,7 @@ pub(crate) fn shallow(walk: &mut Walk, block: u32, entry: &Entry) -> Entry
     ensures none { 4 < entry.now.depth → result ≡ no_entry }
     ensures deep { 4 < entry.now.depth → level walk.new.noted ≤ 5 }
     ensures notes { NotesAt block walk.old.noted walk.new.noted }
+    ensures eight { KeepsNumbers walk.old.noted walk.new.noted }
     ensures named { walk.new.named.items ≡ walk.old.named.items }
 {
     if entry.depth <= 4 {
@@ -81,6 +84,7 @@ fn entry_at(walk: &mut Walk, here: Holder, block: &[u8], i: usize) -> Entry
     ensures none { ((e : Entry) → SpellsEntry e (take 40 (drop (40 * i) block.now)) → 4 < e.depth) → (result ≡ no_entry) × (level walk.new.noted ≤ 5) }
     ensures kept { (c : Content) → HasEntry c block.now i → walk.new.noted ≡ walk.old.noted }
     ensures notes { NotesAt here.block walk.old.noted walk.new.noted }
+    ensures eight { KeepsNumbers walk.old.noted walk.new.noted }
     ensures blocks { walk.new.blocks ≡ walk.old.blocks }
     ensures tree { (walk.new.epoch ≡ walk.old.epoch) × (walk.new.active ≡ walk.old.active) }
     ensures labels { walk.new.labels ≡ walk.old.labels }
@@ -122,6 +126,8 @@ pub(crate) fn add_entries(
     ensures level { OnOk result (level walk.new.noted ≤ level walk.old.noted) }
     ensures sought { (c : Content) → ((i : ℕ) → i < 204 → HasSlot c block.now i) → OnOk result (Searches index c named 102 walk.old.named.items walk.new.named.items walk.new.folders.items) }
     ensures asks { (c : Content) → ((i : ℕ) → i < 204 → HasSlot c block.now i) → index < 27982932961 → IsApart walk.old.named.items → OnOk result (Asks index c 102 walk.old.named.items walk.new.named.items) }
+    ensures eight { (c : Content) → ((i : ℕ) → i < 204 → HasSlot c block.now i) → OnOk result (NotesFolders (HasFolder c) (min (depth + 1) (2 ^ 32 - 1)) here.block walk.old.noted walk.new.noted) }
+    ensures heads { (c : Content) → ((i : ℕ) → i < 204 → HasSlot c block.now i) → OnOk result (Leads index c 102 walk.old.named.items walk.old.folders.items walk.new.folders.items) }
     ensures deep { (c : Content) → ((i : ℕ) → i < 204 → HasSlot c block.now i) → OnOk result (8 < level walk.new.noted → (i : ℕ) → i < 204 → is_folder (entry_of (c.slot i)) ≡ true → min (depth + 1) (2 ^ 32 - 1) ≤ 64) }
 {
     walk.note_rest(here.block, &block[8160..]);
@@ -176,6 +182,7 @@ fn add_pair(
     ensures named { OnOk result (walk.new.named.items ≡ walk.old.named.items) }
     ensures first_deep { is_folder first.now ≡ true → 64 < depth → OnOk result (level walk.new.noted ≤ 8) }
     ensures second_deep { is_folder second.now ≡ true → 64 < depth → OnOk result (level walk.new.noted ≤ 8) }
+    ensures eight { OnOk result (NotesFolders ((is_folder first.now ≡ true) ⊎ (is_folder second.now ≡ true)) depth here.block walk.old.noted walk.new.noted) }
 {
     let records = records_of(first, second);
     add_first(walk, here, first, records, depth, named)?;
@@ -203,6 +210,7 @@ fn add_first(
     ensures level { OnOk result (level walk.new.noted ≤ level walk.old.noted) }
     ensures named { OnOk result (walk.new.named.items ≡ walk.old.named.items) }
     ensures deep { is_folder entry.now ≡ true → 64 < depth → OnOk result (level walk.new.noted ≤ 8) }
+    ensures eight { OnOk result (NotesFolders (is_folder entry.now ≡ true) depth here.block walk.old.noted walk.new.noted) }
 {
     add_entry(walk, here, entry, records, depth, named)?;
     let step = Step::top(entry, Holds::Bytes, here);
@@ -230,6 +238,7 @@ fn add_second(
     ensures level { OnOk result (level walk.new.noted ≤ level walk.old.noted) }
     ensures named { OnOk result (walk.new.named.items ≡ walk.old.named.items) }
     ensures deep { is_folder second.now ≡ true → 64 < depth → OnOk result (level walk.new.noted ≤ 8) }
+    ensures eight { OnOk result (NotesFolders (is_folder second.now ≡ true) depth here.block walk.old.noted walk.new.noted) }
 {
     add_entry(walk, here, second, None, depth, false)?;
     let step = Step::unlisted(second, here);
@@ -269,6 +278,7 @@ fn add_entry(
     ensures folders { OnOk result (length walk.new.folders.items ≤ length walk.old.folders.items + 1) }
     ensures deep { is_folder entry.now ≡ true → 64 < depth → OnOk result (walk.new.noted ≡ lower walk.old.noted 8 here.block) }
     ensures quiet { depth ≤ 64 → walk.new.noted ≡ walk.old.noted }
+    ensures other { is_folder entry.now ≡ false → walk.new.noted ≡ walk.old.noted }
     ensures level { level walk.new.noted ≤ level walk.old.noted }
     ensures blocks { walk.new.blocks ≡ walk.old.blocks }
     ensures tree { (walk.new.epoch ≡ walk.old.epoch) × (walk.new.active ≡ walk.old.active) }
@@ -287,16 +297,6 @@ fn add_entry(
         })?;
     }
     Ok(())
-}
-
-/// A leaf of records, where the entry names any.
-fn of_records(entry: &Entry, leaf: Option<u32>) -> Option<u32>
-    ensures { result ≡ cond entry.now.dir None leaf }
-{
-    if entry.dir {
-        return None;
-    }
-    leaf
 }
 
 /// What the leaves of the first source of a pair hold.
@@ -321,7 +321,7 @@ fn list<D: Disk>(
     ensures walks { (arena : Arena) (device : List Block) (image : Image) (s : Super) (k : Kept) → Shows (D.state main.old).holds device → Walking arena device image s k (tops folder.now) walk.old
         → MatchResult result (λ _. Walking arena device image s k (top_step folder.now.entries Bytes folder.now.holder ∷ []) walk.new) (RefusesTree arena device image k) }
     ensures names { (arena : Arena) (device : List Block) (image : Image) (s : Super) (k : Kept) (meta : Link) → Shows (D.state main.old).holds device → Walking arena device image s k (tops folder.now) walk.old → IsMetaOf folder.now meta
-        → walk.old.steps.items ≡ [] → walk.old.named.items ≡ [] → OnOk result (5 < level walk.new.noted → IsTree arena image k.at → HasOwnNames arena image meta) }
+        → walk.old.steps.items ≡ [] → walk.old.named.items ≡ [] → OnOk result (5 < level walk.new.noted → HasOwnNames arena image k meta) }
     ensures dirs { (arena : Arena) (device : List Block) (image : Image) (s : Super) (k : Kept) (others : List Folder) → Shows (D.state main.old).holds device → Walking arena device image s k (tops folder.now) walk.old → AreJudged arena image k others walk.old
         → OnOk result (AreJudged arena image k others walk.new) }
     ensures formed { (arena : Arena) (device : List Block) (image : Image) (s : Super) (k : Kept) (others : List Folder) → Shows (D.state main.old).holds device → Walking arena device image s k (tops folder.now) walk.old
@@ -338,8 +338,17 @@ fn list<D: Disk>(
     ensures slots { (arena : Arena) (device : List Block) (image : Image) (s : Super) (k : Kept) (meta : Link) → Shows (D.state main.old).holds device → Walking arena device image s k (tops folder.now) walk.old → IsMetaOf folder.now meta
         → walk.old.steps.items ≡ [] → walk.old.named.items ≡ [] → OnOk result (NotesSlots arena image meta walk.old.noted walk.new.noted) }
     ensures counted { walk.old.named.items ≡ [] → folder.now.named ≡ true → OnOk result (numbers.new.items ≡ numbers.old.items ++ map number_in walk.new.named.items) }
+    ensures rules { OnOk result (KeepsRules walk.old.noted walk.new.noted) }
     ensures uncounted { folder.now.named ≡ false → OnOk result (numbers.new.items ≡ numbers.old.items) }
     ensures done { OnOk result (walk.old.steps.items ≡ [] → walk.new.steps.items ≡ []) }
+    ensures six { (device : List Block) (image : Image) → Shows (D.state main.old).holds device → (folder.now.named ≡ true → level walk.old.noted ≤ 6) → OnOk result (KeepsPairs walk.old.noted walk.new.noted) }
+    ensures eight { (arena : Arena) (device : List Block) (image : Image) (s : Super) (k : Kept) (limit : ℕ) → Shows (D.state main.old).holds device → Walking arena device image s k (tops folder.now) walk.old → walk.old.steps.items ≡ [] → (8 < level walk.old.noted → IsSourceIn arena image k folder.now)
+        → HasSources arena image k limit walk.old.noted walk.old.folders.items → OnOk result (HasSources arena image k limit walk.new.noted walk.new.folders.items) }
+    ensures reached { (arena : Arena) (device : List Block) (image : Image) (s : Super) (k : Kept) → Shows (D.state main.old).holds device → Walking arena device image s k (tops folder.now) walk.old → OnOk result ((at : ℕ) (l : Label) → Reached walk.old.labels.known.items at l → Reached walk.new.labels.known.items at l) }
+    ensures news { (arena : Arena) (device : List Block) (image : Image) (s : Super) (k : Kept) (meta : Link) → Shows (D.state main.old).holds device → Walking arena device image s k (tops folder.now) walk.old → IsMetaOf folder.now meta → walk.old.steps.items ≡ [] → walk.old.named.items ≡ []
+        → OnOk result (AreFresh walk.old.labels.known.items walk.new.labels.known.items walk.new.named.items) }
+    ensures apart { walk.old.named.items ≡ [] → folder.now.named ≡ true → OnOk result (6 < level walk.new.noted → IsApart walk.new.named.items) }
+    ensures unnamed { (arena : Arena) (device : List Block) (image : Image) (s : Super) (k : Kept) → Shows (D.state main.old).holds device → Walking arena device image s k (tops folder.now) walk.old → OnOk result (GrowsUnnamed walk.old.folders.items walk.new.folders.items) }
     ensures grounds { (arena : Arena) (device : List Block) (image : Image) (s : Super) (k : Kept) → Shows (D.state main.old).holds device → Walking arena device image s k (tops folder.now) walk.old → walk.old.steps.items ≡ [] → walk.old.named.items ≡ [] → HasRecordsOf arena image k folder.now
         → HasGrounds arena image k walk.old.noted walk.old.steps.items walk.old.folders.items → OnOk result (HasGrounds arena image k walk.new.noted walk.new.steps.items walk.new.folders.items) }
     ensures grows { (arena : Arena) (device : List Block) (image : Image) (s : Super) (k : Kept) → Shows (D.state main.old).holds device → Walking arena device image s k (tops folder.now) walk.old → OnOk result (Grows walk.old.folders.items walk.new.folders.items) }
@@ -353,7 +362,7 @@ fn list<D: Disk>(
     }
     follow_all(alloc, main, walk, folder.depth, false)?;
     let repeated = same_name(&mut walk.named);
-    let named_twice = of_records(&records, repeated);
+    let named_twice = leaf_unless(records.dir, repeated);
     walk.note_leaf(5, named_twice);
     let twice = same_pair(&mut walk.named);
     if !folder.named {
@@ -378,7 +387,7 @@ pub(crate) fn walk_folder<D: Disk>(
     ensures walks { (arena : Arena) (device : List Block) (image : Image) (s : Super) (k : Kept) → Shows (D.state main.old).holds device → Walking arena device image s k (tops folder.now) walk.old
         → MatchResult result (λ _. Walking arena device image s k [] walk.new) (RefusesTree arena device image k) }
     ensures names { (arena : Arena) (device : List Block) (image : Image) (s : Super) (k : Kept) (meta : Link) → Shows (D.state main.old).holds device → Walking arena device image s k (tops folder.now) walk.old → IsMetaOf folder.now meta
-        → walk.old.steps.items ≡ [] → OnOk result (5 < level walk.new.noted → IsTree arena image k.at → HasOwnNames arena image meta) }
+        → walk.old.steps.items ≡ [] → OnOk result (5 < level walk.new.noted → HasOwnNames arena image k meta) }
     ensures dirs { (arena : Arena) (device : List Block) (image : Image) (s : Super) (k : Kept) (others : List Folder) → Shows (D.state main.old).holds device → Walking arena device image s k (tops folder.now) walk.old → AreJudged arena image k others walk.old
         → OnOk result (AreJudged arena image k others walk.new) }
     ensures formed { (arena : Arena) (device : List Block) (image : Image) (s : Super) (k : Kept) (others : List Folder) → Shows (D.state main.old).holds device → Walking arena device image s k (tops folder.now) walk.old
@@ -393,10 +402,17 @@ pub(crate) fn walk_folder<D: Disk>(
     ensures cause { HasCauses (D.faults main.old) (D.faults main.new) result }
     ensures pairs { (arena : Arena) (device : List Block) (image : Image) (s : Super) (k : Kept) → Shows (D.state main.old).holds device → Walking arena device image s k (tops folder.now) walk.old → walk.old.steps.items ≡ [] → folder.now.named ≡ true
         → OnOk result (Settles arena image k folder.now walk.new.noted walk.new.folders.items numbers.old.items numbers.new.items) }
+    ensures rules { OnOk result (KeepsRules walk.old.noted walk.new.noted) }
     ensures uncounted { folder.now.named ≡ false → OnOk result (numbers.new.items ≡ numbers.old.items) }
     ensures grounds { (arena : Arena) (device : List Block) (image : Image) (s : Super) (k : Kept) → Shows (D.state main.old).holds device → Walking arena device image s k (tops folder.now) walk.old → walk.old.steps.items ≡ [] → HasRecordsOf arena image k folder.now
         → HasGrounds arena image k walk.old.noted walk.old.steps.items walk.old.folders.items → OnOk result (HasGrounds arena image k walk.new.noted walk.new.steps.items walk.new.folders.items) }
     ensures grows { (arena : Arena) (device : List Block) (image : Image) (s : Super) (k : Kept) → Shows (D.state main.old).holds device → Walking arena device image s k (tops folder.now) walk.old → OnOk result (Grows walk.old.folders.items walk.new.folders.items) }
+    ensures eight { (arena : Arena) (device : List Block) (image : Image) (s : Super) (k : Kept) (limit : ℕ) → Shows (D.state main.old).holds device → Walking arena device image s k (tops folder.now) walk.old → walk.old.steps.items ≡ [] → (8 < level walk.old.noted → IsSourceIn arena image k folder.now)
+        → HasSources arena image k limit walk.old.noted walk.old.folders.items → OnOk result (HasSources arena image k limit walk.new.noted walk.new.folders.items) }
+    ensures counts { (arena : Arena) (device : List Block) (image : Image) (s : Super) (k : Kept) → Shows (D.state main.old).holds device → Walking arena device image s k (tops folder.now) walk.old → walk.old.steps.items ≡ [] → (6 < level walk.old.noted → folder.now.named ≡ true → IsOfDir arena image k folder.now)
+        → (6 < level walk.old.noted → AreNumbers arena image k walk.old.labels.known.items numbers.old.items) → OnOk result (6 < level walk.new.noted → AreNumbers arena image k walk.new.labels.known.items numbers.new.items) }
+    ensures heads { (arena : Arena) (device : List Block) (image : Image) (s : Super) (k : Kept) → Shows (D.state main.old).holds device → Walking arena device image s k (tops folder.now) walk.old → walk.old.steps.items ≡ [] → (6 < level walk.old.noted → folder.now.named ≡ true → IsOfDir arena image k folder.now)
+        → HasHeads arena image k walk.old.noted walk.old.folders.items → OnOk result (HasHeads arena image k walk.new.noted walk.new.folders.items) }
     ensures spread { (arena : Arena) (device : List Block) (image : Image) (s : Super) (k : Kept) (deep : ℕ) (w : Link) → Shows (D.state main.old).holds device → Walking arena device image s k (tops folder.now) walk.old → walk.old.steps.items ≡ [] → IsSourceOf deep w folder.now
         → OnOk result (8 < level walk.new.noted → IsTree arena image k.at → (j : ℕ) → IsEntries (entry_at arena image w j).slot → SomeOf (IsSourceOf (suc deep) (entry_at arena image w j)) walk.new.folders.items) }
 {

@@ -1,28 +1,30 @@
 //! The check of the tree of one root.
-ghost use Rattle.std.specs.Prelude.{◌≡◌, ◌^◌, ◌<◌, ◌≤◌, ◌↔◌, List, [], length, IsTrue, IfOk, OnOk, MatchResult};
+ghost use Rattle.std.specs.Prelude.{◌≡◌, ◌⊎◌, ℕ, true, None, ◌^◌, ◌<◌, ◌≤◌, ◌↔◌, List, [], length, IsTrue, IfOk, OnOk, MatchResult};
 ghost use Rattle.fo_crash.specs.Images.{Arena, Image};
-ghost use Rattle.fo_good.specs.Sound.{Kept};
-ghost use Rattle.fo_check_tree.specs.Answer.{HoldsAny, IsWalked, RefusesCheck};
+ghost use Rattle.fo_good.specs.Sound.{Kept, IsSoundTree};
+ghost use Rattle.fo_check_labels.specs.declared.error.TreeError.TheVariants.{Label as BadLabel};
+ghost use Rattle.fo_check_tree.specs.Answer.{HoldsAny, HoldsRoot, IsWalked, RefusesCheck};
 ghost use Rattle.fo_check_tree.specs.Depths.{AreAbove};
 ghost use Rattle.fo_check_tree.specs.Dirs.{AreJudged};
 ghost use Rattle.fo_check_tree.specs.Formats.{AreFormed};
 ghost use Rattle.fo_check_tree.specs.Grounds.{HasGrounds};
-ghost use Rattle.fo_check_tree.specs.Notes.{KeepsFormats, Lowers};
-ghost use Rattle.std.specs.List.{All};
-ghost use Rattle.fo_check_names.specs.Names.{number_of, Differ, IsFileNumber};
-ghost use Rattle.fo_check_tree.specs.Pairing.{AreSettled};
+ghost use Rattle.fo_check_tree.specs.Notes.{KeepsFormats, KeepsPairs, KeepsNumbers, KeepsRules, Lowers};
+ghost use Rattle.std.specs.List.{All, Any};
+ghost use Rattle.fo_check_names.specs.Names.{number_of, holder_of, Differ, IsTwice, IsFileNumber, IsNoFile};
+ghost use Rattle.fo_check_tree.specs.Numbers.{HasSources};
+ghost use Rattle.fo_check_tree.specs.Pairing.{AreSettled, HasHeads};
 ghost use Rattle.fo_check_tree.specs.Walking.{IsUnbegun, Walking};
 ghost use Rattle.fo_disk.specs.Disk.{Block};
 ghost use Rattle.fo_sound.specs.Sound.{HasTable, HasRootEntries};
 ghost use Rattle.fo_sound.specs.Device.{Shows};
-ghost use Rattle.fo_check_tree.specs.Cause.{HasCauses};
-ghost use Rattle.fo_check_tree.specs.Lower.{level, JudgesRoot};
+ghost use Rattle.fo_check_labels.specs.Cause.{HasCauses};
+ghost use Rattle.fo_check_tree.specs.declared.broken.Broken.{Broken};
+ghost use Rattle.fo_check_tree.specs.Lower.{IsRule, level, JudgesRoot};
 
 use crate::broken::Broken;
-use crate::error::TreeError;
 use crate::folder::{shallow, walk_folder};
-use crate::labels::Labels;
 use crate::walk::{Folder, Holder, Walk};
+use fo_check_labels::{Labels, TreeError};
 use fo_check_names::{Number, no_file, same_number};
 use fo_disk::Disk;
 use fo_image::{RootBlock, Super};
@@ -65,7 +67,10 @@ pub fn check_tree<D: Disk>(
     ensures table { (image : List Block) → length image ≡ setting.blocks → Shows (D.state main.old).holds image → OnOk result (HasTable image) }
     ensures walked { (arena : Arena) (device : List Block) (image : Image) (k : Kept) → length device ≡ setting.blocks → Shows (D.state main.old).holds device → k.root ≡ root.now → HoldsAny arena device image setting.s k
         → MatchResult result (IsWalked arena device image setting.s k) (RefusesCheck arena device image k) }
+    ensures exact { (arena : Arena) (device : List Block) (image : Image) (k : Kept) → length device ≡ setting.blocks → Shows (D.state main.old).holds device → k.root ≡ root.now → HoldsRoot arena device image setting.s k → HasTable device → IsSoundTree arena device image setting.s.numbers true k
+        → MatchResult result (λ found. found.broken ≡ None) (λ e. (block : ℕ) → e ≡ BadLabel block → ⊥) }
     ensures root { IfOk result (λ found. JudgesRoot root.now found.broken) }
+    ensures rules { IfOk result (λ found. (b : Broken) → found.broken ≡ Some b → IsRule b.rule) }
     ensures size { D.size main.new ≡ D.size main.old }
     ensures kept { D.state main.new ≡ D.state main.old }
     ensures cause { HasCauses (D.faults main.old) (D.faults main.new) result }
@@ -102,6 +107,8 @@ fn check_numbers(walk: &mut Walk, numbers: &mut Vec<Number>, limit: u32)
     ensures judged { 8 < level walk.new.noted → Differ number_of numbers.old.items × All (IsFileNumber limit) numbers.old.items }
     ensures lowers { Lowers walk.old.noted walk.new.noted }
     ensures formats { KeepsFormats walk.old.noted walk.new.noted }
+    ensures pairs { KeepsPairs walk.old.noted walk.new.noted }
+    ensures eight { (b : Broken) → walk.new.noted ≡ Some b → b.rule ≡ 8 → (walk.old.noted ≡ Some b) ⊎ ((8 < level walk.old.noted) × (Any (IsNoFile limit b.block) numbers.old.items ⊎ IsTwice number_of holder_of numbers.old.items b.block)) }
     ensures blocks { walk.new.blocks ≡ walk.old.blocks }
     ensures tree { (walk.new.epoch ≡ walk.old.epoch) × (walk.new.active ≡ walk.old.active) }
     ensures labels { walk.new.labels ≡ walk.old.labels }
@@ -125,6 +132,8 @@ fn note_entries(walk: &mut Walk, block: u32, root: &RootBlock)
     ensures folders { walk.new.folders.items ≡ walk.old.folders.items }
     ensures level { level walk.new.noted ≤ level walk.old.noted }
     ensures entries { 6 < level walk.new.noted → HasRootEntries root.now }
+    ensures eight { KeepsNumbers walk.old.noted walk.new.noted }
+    ensures pairs { (b : Broken) → walk.new.noted ≡ Some b → b.rule ≡ 6 → (walk.old.noted ≡ Some b) ⊎ ((block ≡ b.block) × (HasRootEntries root.now → ⊥)) }
 {
     if has_root_entries(root) {
         return;
@@ -142,7 +151,10 @@ fn start(walk: &mut Walk, s: &Super, root: &RootBlock) -> Result<(), AllocError>
     ensures grounds { (arena : Arena) (device : List Block) (image : Image) (k : Kept) → k.root ≡ root.now → HoldsAny arena device image s.now k → IsUnbegun device s.now walk.old → OnOk result (HasGrounds arena image k walk.new.noted walk.new.steps.items walk.new.folders.items) }
     ensures blocks { OnOk result (walk.new.blocks ≡ walk.old.blocks) }
     ensures judged { OnOk result (JudgesRoot root.now walk.new.noted) }
+    ensures rules { OnOk result (KeepsRules walk.old.noted walk.new.noted) }
     ensures pairs { (arena : Arena) (device : List Block) (image : Image) (k : Kept) → k.root ≡ root.now → HoldsAny arena device image s.now k → IsUnbegun device s.now walk.old → OnOk result (AreSettled arena image k walk.new.noted walk.new.folders.items []) }
+    ensures heads { (arena : Arena) (device : List Block) (image : Image) (k : Kept) → k.root ≡ root.now → HoldsAny arena device image s.now k → IsUnbegun device s.now walk.old → OnOk result (HasHeads arena image k walk.new.noted walk.new.folders.items) }
+    ensures eight { (arena : Arena) (device : List Block) (image : Image) (k : Kept) (limit : ℕ) → k.root ≡ root.now → HoldsAny arena device image s.now k → IsUnbegun device s.now walk.old → OnOk result (HasSources arena image k limit walk.new.noted walk.new.folders.items) }
     ensures depths { (arena : Arena) (device : List Block) (image : Image) (k : Kept) → k.root ≡ root.now → HoldsAny arena device image s.now k → IsUnbegun device s.now walk.old → OnOk result (AreAbove arena image k walk.new.noted walk.new.folders.items) }
 {
     let active = s.active;

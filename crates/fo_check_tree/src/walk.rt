@@ -7,7 +7,7 @@ ghost use Rattle.fo_check_tree.specs.Slots.{unless, top_step};
 ghost use Rattle.fo_check_tree.specs.declared.walk.Holds.TheVariants.{Records};
 
 use crate::broken::{Broken, lower};
-use crate::labels::Labels;
+use fo_check_labels::Labels;
 use fo_check_names::Named;
 use fo_image::{Entry, Kind, Label, Pointer, is_zero};
 

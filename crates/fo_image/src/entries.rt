@@ -6,10 +6,20 @@ ghost use Rattle.fo_image.specs.Field.{FieldFits, Reads, spelling};
 ghost use Rattle.fo_image.specs.Part.{parts_bytes};
 ghost use Rattle.fo_image.specs.Format.{IsDepth, flag_bits, EntryHolds, SpellsEntry, entry_fields};
 
-use crate::parts::{Part, is_spelled, u32_at, u64_at, write_parts};
+use crate::parts::{Part, is_spelled, is_zero, u32_at, u64_at, write_parts};
 use crate::pointers::{bytes_of, is_pointer, read_pointer};
 use crate::types::{Bad, Entry, Pointer};
 use fo_base::{BLOCK, POINTERS};
+
+const NO_ENTRY: Entry = Entry {
+    generation: 0,
+    active: false,
+    dir: false,
+    depth: 0,
+    tag: 0,
+    size: 0,
+    top: Pointer::Nil,
+};
 
 /// The least depth of a tree of blocks that has room for so many bytes.
 pub fn least_depth(size: u64) -> u8
@@ -101,11 +111,14 @@ pub fn write_entry(v: &Entry, into: &mut [u8])
     write_parts(&parts_of(*v), into);
 }
 
-/// The entry that the 40 bytes spell, or `Bad::Entry` where they spell none.
+/// The entry that the 40 bytes spell, or `Bad::Entry` where they spell none. Most slots are all zeros, and are told at one look.
 pub fn read_entry(bytes: &[u8]) -> Result<Entry, Bad>
     requires { length bytes.now ≡ 40 }
     ensures { Reads (λ e. SpellsEntry e bytes.now) Bad.Entry result }
 {
+    if is_zero(bytes) {
+        return Ok(NO_ENTRY);
+    }
     let entry = entry_of(bytes);
     if is_entry(&entry) && is_spelled(&parts_of(entry), bytes) {
         Ok(entry)

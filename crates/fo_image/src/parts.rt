@@ -81,11 +81,15 @@ fn after_part<'a>(bytes: &'a [u8], part: Part) -> Option<&'a [u8]>
     }
 }
 
-/// Whether the bytes are zero.
+/// Whether the bytes are zero. It doesn't stop at the first that isn't, so that many are compared at a time.
 pub fn is_zero(bytes: &[u8]) -> bool
     ensures { result ≡ list_all (λ b. b == 0) bytes.now }
 {
-    bytes.iter().all(|b| *b == 0)
+    let mut zero = true;
+    for byte in bytes {
+        zero &= *byte == 0;
+    }
+    zero
 }
 
 /// Whether the bytes are the parts one after the other, and zeros after them.

@@ -3,7 +3,8 @@ use Rattle.std.proofs.Common.{ℕ, ◌==◌, List, sym, subst, inl, inr, refl}
 use Rattle.std.proofs.lemmas.Bool.{cond_both, eqb-true, eqb-false}
 use Rattle.fo_disk.specs.Disk.{Block}
 use Rattle.fo_disk.specs.declared.disk.DiskFault.{DiskFault}
-use Rattle.fo_check.specs.Answer.{Refuses, Blames, IsOutside, IsUnsound}
+use Rattle.fo_check.specs.Answer.{Blames, IsOutside}
+use Rattle.fo_check_image.specs.Answer.{Refuses, IsUnsound}
 use Rattle.fo_check.specs.declared.error.CheckError.{CheckError}
 use Rattle.fo_check.specs.declared.error.CheckError.TheVariants as check
 use Rattle.fo_tools.specs.declared.end.ToolEnd.TheVariants as end

@@ -5,8 +5,9 @@ use Rattle.fo_links.specs.Links.{GainsEnd}
 use Rattle.fo_disk.specs.Disk.{Block, Content}
 use Rattle.fo_sound.specs.Sizes.{HasSizes, IsMainSize, InRange}
 use Rattle.fo_format.specs.Formatted.{Formats}
-use Rattle.fo_check.specs.Answer.{IsNoArena, IsNotBuilt, IsUnsound}
-use Rattle.fo_check.specs.declared.report.Report.{Report}
+use Rattle.fo_check.specs.Answer.{IsNoArena, IsNotBuilt}
+use Rattle.fo_check_image.specs.Answer.{IsUnsound}
+use Rattle.fo_check_image.specs.declared.report.Report.{Report}
 use Rattle.fo_tools.specs.Lines.{format_line, report_line, PutsFront}
 use Rattle.fo_tools.specs.declared.end.ToolEnd.{ToolEnd}
 use Rattle.fo_tools.specs.declared.end.ToolEnd.TheVariants as end

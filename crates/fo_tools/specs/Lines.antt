@@ -3,7 +3,7 @@ use Rattle.std.specs.Prelude.{ℕ, ◌-◌, List, ◌++◌, take, Option, codes}
 use Rattle.std.specs.Fmt.{decimal}
 use Rattle.fo_links.specs.Links.{GainsEnd}
 use Rattle.fo_image.specs.Place.{first_data}
-use Rattle.fo_check.specs.declared.report.Report.{Report}
+use Rattle.fo_check_image.specs.declared.report.Report.{Report}
 
 -- formatted <blocks> blocks <data blocks> data
 abbrev pub format_line : ℕ → List ℕ

@@ -4,7 +4,7 @@ ghost use Rattle.std.specs.Fmt.{decimal};
 ghost use Rattle.fo_tools.specs.Lines.{format_line, report_line};
 
 use arrayvec::ArrayString;
-use fo_check::Report;
+use fo_check_image::Report;
 use fo_image::first_data;
 use itoa::Buffer;
 

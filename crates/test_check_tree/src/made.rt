@@ -123,6 +123,17 @@ fn below(disk: &mut MemDisk) -> Result<(), Fail> {
     record(disk, 11, 4, b'g', 3, 0, false)
 }
 
+/// A second directory `e` with the number and the block of entries of `d`, and a record `g` of its own in block 13.
+pub(crate) fn twin(disk: &mut MemDisk) -> Result<(), Fail> {
+    label(disk, 13, 0, 37)?;
+    entry(disk, 4, 160, 3, 0, 36, 8192, 10)?;
+    entry(disk, 4, 200, 1, 0, 37, 8192, 13)?;
+    put(disk, 5, 0, &[0, 3, 0, 132])?;
+    record(disk, 5, 92, b'e', 2, 2, true)?;
+    put(disk, 13, 0, &[0, 1, 0, 44])?;
+    record(disk, 13, 4, b'g', 3, 0, false)
+}
+
 /// The sound image: blocks 3 to 12 are used.
 pub(crate) fn made(alloc: Global, disk: &mut MemDisk, arena: &mut MemDisk) -> Result<(), Fail> {
     fo_format::format(alloc, disk, arena, 7)?;

@@ -1,4 +1,4 @@
-use crate::made::{made, put};
+use crate::made::{made, put, twin};
 use fo_check_tree::{Broken, Found, Setting, TreeError, check_tree};
 use fo_disk::{BLOCK, Disk, MemDisk};
 use fo_image::{read_root, read_super};
@@ -182,6 +182,42 @@ fn twice(rt: HostRuntime) -> Result<(), Fail> {
     Ok(())
 }
 
+/// What the check answers of an image in which two directories share a block of entries, once these bytes were changed.
+fn shared(alloc: Global, bytes: &[(u32, usize, u8)]) -> Result<Result<Found, TreeError>, Fail> {
+    let mut main = MemDisk::new(alloc, 64, Vec::new(alloc))?;
+    let mut arena = MemDisk::new(alloc, 16, Vec::new(alloc))?;
+    made(alloc, &mut main, &mut arena)?;
+    twin(&mut main)?;
+    for (at, place, byte) in bytes {
+        put(&mut main, *at, *place, &[*byte])?;
+    }
+    checked(alloc, &mut main)
+}
+
+/// The records of both directories have their pairs there, so only the block is broken.
+#[test]
+fn shared_entries(rt: HostRuntime) -> Result<(), Fail> {
+    let wanted = Found {
+        broken: Some(Broken { rule: 7, block: 10 }),
+        used: 11,
+        leaked: 0,
+    };
+    assert!(rt; shared(rt.alloc(), &[])? == Ok(wanted));
+    Ok(())
+}
+
+/// Of one of them a record has a pair that no block is for.
+#[test]
+fn shared_entries_and_a_pair(rt: HostRuntime) -> Result<(), Fail> {
+    let wanted = Found {
+        broken: Some(Broken { rule: 6, block: 11 }),
+        used: 11,
+        leaked: 0,
+    };
+    assert!(rt; shared(rt.alloc(), &[(11, 13, 102)])? == Ok(wanted));
+    Ok(())
+}
+
 /// A number at the limit, and one that two files have.
 #[test]
 fn numbers(rt: HostRuntime) -> Result<(), Fail> {
@@ -191,10 +227,75 @@ fn numbers(rt: HostRuntime) -> Result<(), Fail> {
     Ok(())
 }
 
-/// Two rules at once: the lower one is named.
+/// A change of one byte that breaks one rule, and the block that then is named.
+#[derive(Clone, Copy)]
+struct Change {
+    byte: (u32, usize, u8),
+    rule: u8,
+    block: u32,
+}
+
+/// One for each rule: a leaf's tag, bytes behind entries, a record's generation, a block at two places, the limit of numbers, a score.
+const BROKEN: [Change; 6] = [
+    Change {
+        byte: (2, 111, 35),
+        rule: 4,
+        block: 7,
+    },
+    Change {
+        byte: (4, 8160, 1),
+        rule: 5,
+        block: 4,
+    },
+    Change {
+        byte: (5, 17, 1),
+        rule: 6,
+        block: 5,
+    },
+    Change {
+        byte: (6, 59, 8),
+        rule: 7,
+        block: 7,
+    },
+    Change {
+        byte: (1, 25, 3),
+        rule: 8,
+        block: 11,
+    },
+    Change {
+        byte: (6, 60, 1),
+        rule: 9,
+        block: 6,
+    },
+];
+
+/// The rule of the first of these changes that, made beside this one, keeps this one's from being named, else none.
+fn hidden(alloc: Global, low: &Change, others: &[Change]) -> Result<Option<u8>, Fail> {
+    for high in others {
+        if !names(alloc, &[low.byte, high.byte], low.rule, low.block)? {
+            return Ok(Some(high.rule));
+        }
+    }
+    Ok(None)
+}
+
+/// Two rules at once: the lower one is named, of each two.
 #[test]
 fn both(rt: HostRuntime) -> Result<(), Fail> {
-    assert!(rt; names(rt.alloc(), &[(6, 59, 8), (4, 8160, 1)], 5, 4)?);
+    for first in 0..BROKEN.len() {
+        assert_eq!(rt; hidden(rt.alloc(), &BROKEN[first], &BROKEN[first..])?, None);
+    }
+    Ok(())
+}
+
+/// The same of rules that records break, beside a block at two places; and of a record and a label.
+#[test]
+fn both_in_records(rt: HostRuntime) -> Result<(), Fail> {
+    let shared = [(6, 59, 8)];
+    let equal = joined(rt.alloc(), &SECOND, &shared)?;
+    assert!(rt; names(rt.alloc(), equal.as_slice(), 5, 11)?);
+    assert!(rt; names(rt.alloc(), &[(6, 59, 8), (5, 3, 89)], 5, 5)?);
+    assert!(rt; names(rt.alloc(), &[(6, 59, 8), (5, 13, 102)], 6, 5)?);
     assert!(rt; names(rt.alloc(), &[(5, 17, 1), (2, 181, 35)], 4, 12)?);
     Ok(())
 }

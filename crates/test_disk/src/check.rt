@@ -1,4 +1,5 @@
-use fo_check::{CheckError, Report, check};
+use fo_check::CheckError;
+use fo_check_image::{Report, check};
 use fo_disk::{BLOCK, Disk, DiskFault, MemDisk};
 use fo_format::format;
 use std::alloc::Global;
@@ -89,6 +90,16 @@ fn chain(rt: HostRuntime) -> Result<(), Fail> {
     Ok(())
 }
 
+/// The score of a last archive; epochs 1 to 2, and a root before the active one, of epoch 1.
+#[test]
+fn not_built(rt: HostRuntime) -> Result<(), Fail> {
+    let last = [(1, 30, 1), (1, 31, 7)];
+    assert!(rt; answer(rt.alloc(), &last)? == Err(CheckError::NotBuilt));
+    let older = [(1, 17, 2), (2, 47, 2), (3, 11, 2), (3, 19, 1), (3, 23, 9)];
+    assert!(rt; answer(rt.alloc(), &older)? == Err(CheckError::NotBuilt));
+    Ok(())
+}
+
 /// The state of the label of block 4, the label of block 0, the bytes after all labels, and the tag of the entries.
 #[test]
 fn tables(rt: HostRuntime) -> Result<(), Fail> {
@@ -144,10 +155,10 @@ fn fails(alloc: Global, main_call: u64, arena_call: u64, fault: CheckError) -> R
     )
 }
 
-/// Each call fails in turn: `format` makes 6 calls of the main device and 3 of the arena, and the check 5 and 2.
+/// Each call fails in turn: `format` makes 6 calls of the main device and 3 of the arena, and the check 6 and 2.
 #[test]
 fn faults(rt: HostRuntime) -> Result<(), Fail> {
-    for call in 6..11 {
+    for call in 6..12 {
         assert!(rt; fails(rt.alloc(), call, 99, CheckError::Main(DiskFault::Read))?);
     }
     for call in 3..5 {

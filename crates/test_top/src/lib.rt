@@ -6,6 +6,8 @@
 #![tactic(auto)]
 
 #[cfg(test)]
+mod images;
+#[cfg(test)]
 mod links;
 #[cfg(test)]
 mod messages;

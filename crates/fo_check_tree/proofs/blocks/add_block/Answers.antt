@@ -6,8 +6,8 @@ use Rattle.fo_check_tree.specs.Follows.{Reads}
 use Rattle.fo_sound.specs.Image.{is_zero}
 use Rattle.fo_check_tree.specs.Notes.{NotesAt, KeepsFormats}
 use Rattle.fo_check_tree.specs.Slots.{unless, HasSlots}
-use Rattle.fo_check_tree.proofs.Adding.{data_adds, dir_adds, on_ok, notes_unless, data_reads, dir_reads, data_clean, dir_clean, entries_read, leaf_names, inner_names, dir_names, root_names, not_leaf_data, not_leaf_dir, not_leaf_root, leaf_seeks, inner_seeks, data_seeks, root_seeks, leaf_deepens, nothing_deepens, other_deepens, leaf_asks, nothing_asks, other_asks, not_entries_data, not_entries_dir, not_entries_root}
-use Rattle.fo_check_tree.proofs.Noting.{keeps_same}
+use Rattle.fo_check_tree.proofs.Adding.{data_adds, dir_adds, on_ok, notes_unless, data_reads, dir_reads, data_clean, dir_clean, entries_read, leaf_names, inner_names, dir_names, root_names, not_leaf_data, not_leaf_dir, not_leaf_root, leaf_seeks, inner_seeks, data_seeks, root_seeks, leaf_deepens, nothing_deepens, other_deepens, leaf_asks, nothing_asks, other_asks, leaf_heads, nothing_heads, other_heads, leaf_depths, same_depths, other_depths, rest_depths, not_entries_data, not_entries_dir, not_entries_root}
+use Rattle.fo_check_tree.proofs.Noting.{keeps_same, numbers_same}
 use Rattle.fo_good.specs.Means.{IsRead}
 use Rattle.fo_check_tree.proofs.blocks.add_block.Goals as goal
 
@@ -143,3 +143,39 @@ returns-in-Dir-clause-asks c c' slots = other_asks c.add_pointers-in-Dir.result 
 
 pub returns-in-Root-clause-asks : goal.returns-in-Root-clause-asks
 returns-in-Root-clause-asks c c' slots = nothing_asks c.args.step.now c' c.args.walk.now.named.items c.args.walk.now.named.items c.args.step.now.kind (not_entries_root c.args.step.now.kind c.in-Root.is)
+
+pub returns-in-Data-eq0-clause-heads : goal.returns-in-Data-eq0-clause-heads
+returns-in-Data-eq0-clause-heads c c' slots = other_heads c.add_records.result c.args.step.now c' c.args.walk.now.named.items c.args.walk.now.folders.items c.add_records.new.walk.folders.items c.args.step.now.kind (not_entries_data _ c.args.step.now.kind c.in-Data-eq0.is)
+
+pub returns-in-Data-clause-heads : goal.returns-in-Data-clause-heads
+returns-in-Data-clause-heads c c' slots = other_heads c.add_pointers.result c.args.step.now c' c.args.walk.now.named.items c.args.walk.now.folders.items c.add_pointers.new.walk.folders.items c.args.step.now.kind (not_entries_data c.in-Data.level c.args.step.now.kind c.in-Data.is)
+
+pub returns-in-Dir-eq0-clause-heads : goal.returns-in-Dir-eq0-clause-heads
+returns-in-Dir-eq0-clause-heads c c' slots =
+    let kind : c.args.step.now.kind ≡ Dir 0 = c.in-Dir-eq0.is ∙ ap (λ (n : ℕ). Dir n) (first_of (omega (arith, c.in-Dir-eq0.field-0-is), grind (arith, c.in-Dir-eq0.field-0-test), search rules)) in
+    leaf_heads c.add_entries.result c.args.step.now c' c.args.walk.now.named.items c.args.walk.now.folders.items c.add_entries.new.walk.folders.items c.args.step.now.kind kind
+    (c.add_entries.ensures.heads c' (subst (λ (k : Kind). HasSlots k c' c.args.block.now) kind slots).0)
+
+pub returns-in-Dir-clause-heads : goal.returns-in-Dir-clause-heads
+returns-in-Dir-clause-heads c c' slots = other_heads c.add_pointers-in-Dir.result c.args.step.now c' c.args.walk.now.named.items c.args.walk.now.folders.items c.add_pointers-in-Dir.new.walk.folders.items c.args.step.now.kind (not_entries_dir c.in-Dir.level c.args.step.now.kind c.in-Dir.is (grind (arith, c.in-Dir.level-test)))
+
+pub returns-in-Root-clause-heads : goal.returns-in-Root-clause-heads
+returns-in-Root-clause-heads c c' slots = nothing_heads c.args.step.now c' c.args.walk.now.named.items c.args.walk.now.folders.items c.args.walk.now.folders.items c.args.step.now.kind (not_entries_root c.args.step.now.kind c.in-Root.is)
+
+pub returns-in-Data-eq0-clause-eight : goal.returns-in-Data-eq0-clause-eight
+returns-in-Data-eq0-clause-eight c c' slots = other_depths c.add_records.result c' (min (c.args.depth + 1) (2 ^ 32 - 1)) c.args.here.block c.args.walk.now.noted c.add_records.new.walk.noted c.args.step.now.kind (not_entries_data _ c.args.step.now.kind c.in-Data-eq0.is) c.add_records.ensures.eight
+
+pub returns-in-Data-clause-eight : goal.returns-in-Data-clause-eight
+returns-in-Data-clause-eight c c' slots = rest_depths c.add_pointers.result c' (min (c.args.depth + 1) (2 ^ 32 - 1)) c.args.here.block c.args.walk.now.noted c.add_pointers.new.walk.noted c.args.step.now.kind (is_zero (drop 8180 c.args.block.now)) (not_entries_data c.in-Data.level c.args.step.now.kind c.in-Data.is) c.add_pointers.ensures.noted
+
+pub returns-in-Dir-eq0-clause-eight : goal.returns-in-Dir-eq0-clause-eight
+returns-in-Dir-eq0-clause-eight c c' slots =
+    let kind : c.args.step.now.kind ≡ Dir 0 = c.in-Dir-eq0.is ∙ ap (λ (n : ℕ). Dir n) (first_of (omega (arith, c.in-Dir-eq0.field-0-is), grind (arith, c.in-Dir-eq0.field-0-test), search rules)) in
+    leaf_depths c.add_entries.result c' (min (c.args.depth + 1) (2 ^ 32 - 1)) c.args.here.block c.args.walk.now.noted c.add_entries.new.walk.noted c.args.step.now.kind kind
+    (c.add_entries.ensures.eight c' (subst (λ (k : Kind). HasSlots k c' c.args.block.now) kind slots).0)
+
+pub returns-in-Dir-clause-eight : goal.returns-in-Dir-clause-eight
+returns-in-Dir-clause-eight c c' slots = rest_depths c.add_pointers-in-Dir.result c' (min (c.args.depth + 1) (2 ^ 32 - 1)) c.args.here.block c.args.walk.now.noted c.add_pointers-in-Dir.new.walk.noted c.args.step.now.kind (is_zero (drop 8180 c.args.block.now)) (not_entries_dir c.in-Dir.level c.args.step.now.kind c.in-Dir.is (grind (arith, c.in-Dir.level-test))) c.add_pointers-in-Dir.ensures.noted
+
+pub returns-in-Root-clause-eight : goal.returns-in-Root-clause-eight
+returns-in-Root-clause-eight c c' slots = same_depths c' (min (c.args.depth + 1) (2 ^ 32 - 1)) c.args.here.block c.args.walk.now.noted c.args.walk.now.noted c.args.step.now.kind (not_entries_root c.args.step.now.kind c.in-Root.is) (numbers_same c.args.walk.now.noted c.args.walk.now.noted refl)

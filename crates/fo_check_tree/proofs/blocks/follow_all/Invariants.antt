@@ -1,21 +1,24 @@
-use Rattle.std.proofs.Common.{◌≡◌, ◌+◌, ℕ, ◌^◌, ◌-◌, ◌*◌, ◌≤◌, true, List, ◌++◌, length}
+use Rattle.std.proofs.Common.{◌≡◌, ◌+◌, ℕ, ◌^◌, ◌-◌, ◌*◌, ◌<◌, ◌≤◌, true, false, List, ◌++◌, length}
 use Rattle.std.specs.Prelude.{min}
 use Rattle.fo_check_tree.specs.Depths.{AreSpread}
 use Rattle.fo_crash.specs.Images.{Image, Arena, Link}
 use Rattle.fo_disk.specs.Disk.{Block}
 use Rattle.fo_good.specs.Sound.{Kept}
 use Rattle.fo_image.specs.declared.types.Super.{Super}
+use Rattle.fo_image.specs.declared.types.Label.{Label}
+use Rattle.fo_check_labels.specs.declared.labels.Known.{Known}
 use Rattle.fo_sound.specs.Device.{Shows}
 use Rattle.fo_check_tree.specs.declared.walk.Step.{Step}
 use Rattle.fo_check_tree.specs.declared.walk.Folder.{Folder}
 use Rattle.fo_check_tree.specs.Formats.{AreFormed}
 use Rattle.fo_check_tree.specs.Grounds.{HasGrounds}
-use Rattle.fo_check_tree.specs.Notes.{KeepsPairs}
+use Rattle.fo_check_tree.specs.Notes.{KeepsPairs, KeepsRules}
 use Rattle.fo_check_tree.specs.Dirs.{AreJudged}
 use Rattle.fo_check_tree.specs.Listing.{IsListing}
-use Rattle.fo_check_tree.specs.Walking.{Walking}
+use Rattle.fo_check_tree.specs.Walking.{Reached, Walking}
 use Rattle.fo_check_tree.specs.Lower.{level}
-use Rattle.fo_check_tree.specs.Pairing.{IsApart, AreSought, AreAsked, Grows}
+use Rattle.fo_check_tree.specs.Numbers.{AreBelow, HasSources, AreFresh}
+use Rattle.fo_check_tree.specs.Pairing.{IsApart, AreSought, AreAsked, AreHidden, AreLed, Grows, GrowsUnnamed}
 use Rattle.fo_check_names.specs.declared.names.Named.{Named}
 use Rattle.fo_check_tree.proofs.blocks.follow_all.Given as goal
 
@@ -34,7 +37,18 @@ invariant-loop-step g l = record {
   pairs : (arena : Arena) (device : List Block) (image : Image) (s : Super) (k : Kept) (entries : Link) (names : List Named) (rest : List Step) → Shows (g.D.Disk.state l.fn.main).holds device → Walking arena device image s k rest l.fn.walk → l.named ≡ true
       → AreSought arena image entries names l.fn.walk.noted l.fn.walk.steps.items l.fn.walk.named.items l.fn.walk.folders.items → AreSought arena image entries names l.walk.noted l.walk.steps.items l.walk.named.items l.walk.folders.items;
   asked : (arena : Arena) (device : List Block) (image : Image) (s : Super) (k : Kept) (entries : Link) (names : List Named) (rest : List Step) → Shows (g.D.Disk.state l.fn.main).holds device → Walking arena device image s k rest l.fn.walk → l.named ≡ true → IsApart names
-      → AreSought arena image entries names l.fn.walk.noted l.fn.walk.steps.items l.fn.walk.named.items l.fn.walk.folders.items → AreAsked arena image k entries l.fn.walk.steps.items l.fn.walk.named.items → AreAsked arena image k entries l.walk.steps.items l.walk.named.items;
+      → AreSought arena image entries names l.fn.walk.noted l.fn.walk.steps.items l.fn.walk.named.items l.fn.walk.folders.items → AreAsked arena image entries l.fn.walk.steps.items l.fn.walk.named.items → AreAsked arena image entries l.walk.steps.items l.walk.named.items;
+  hidden : (arena : Arena) (device : List Block) (image : Image) (s : Super) (k : Kept) (entries : Link) (names : List Named) (rest : List Step) → Shows (g.D.Disk.state l.fn.main).holds device → Walking arena device image s k rest l.fn.walk → l.named ≡ true
+      → AreSought arena image entries names l.fn.walk.noted l.fn.walk.steps.items l.fn.walk.named.items l.fn.walk.folders.items → AreHidden arena image k entries l.fn.walk.named.items → AreHidden arena image k entries l.walk.named.items;
+  rules : KeepsRules l.fn.walk.noted l.walk.noted;
+  heads : (arena : Arena) (device : List Block) (image : Image) (s : Super) (k : Kept) (entries : Link) (names : List Named) (rest : List Step) (before : List Folder) → Shows (g.D.Disk.state l.fn.main).holds device → Walking arena device image s k rest l.fn.walk → l.named ≡ true
+      → AreSought arena image entries names l.fn.walk.noted l.fn.walk.steps.items l.fn.walk.named.items l.fn.walk.folders.items → AreLed arena image entries names l.fn.walk.noted before l.fn.walk.folders.items → AreLed arena image entries names l.walk.noted before l.walk.folders.items;
+  reached : (arena : Arena) (device : List Block) (image : Image) (s : Super) (k : Kept) (rest : List Step) → Shows (g.D.Disk.state l.fn.main).holds device → Walking arena device image s k rest l.fn.walk → (at : ℕ) (m : Label) → Reached l.fn.walk.labels.known.items at m → Reached l.walk.labels.known.items at m;
+  news : (arena : Arena) (device : List Block) (image : Image) (s : Super) (k : Kept) (meta : Link) (rest : List Step) (before : List Known) → Shows (g.D.Disk.state l.fn.main).holds device → Walking arena device image s k rest l.fn.walk
+      → IsListing arena image k meta l.fn.walk.labels.known.items l.fn.walk.steps.items l.fn.walk.named.items → AreFresh before l.fn.walk.labels.known.items l.fn.walk.named.items → AreFresh before l.walk.labels.known.items l.walk.named.items;
+  eight : (arena : Arena) (device : List Block) (image : Image) (s : Super) (k : Kept) (rest : List Step) (numbers : ℕ) → Shows (g.D.Disk.state l.fn.main).holds device → Walking arena device image s k rest l.fn.walk → (8 < level l.fn.walk.noted → AreBelow arena image k l.depth l.fn.walk.steps.items)
+      → HasSources arena image k numbers l.fn.walk.noted l.fn.walk.folders.items → (8 < level l.walk.noted → AreBelow arena image k l.depth l.walk.steps.items) × HasSources arena image k numbers l.walk.noted l.walk.folders.items;
+  unnamed : (arena : Arena) (device : List Block) (image : Image) (s : Super) (k : Kept) (rest : List Step) → Shows (g.D.Disk.state l.fn.main).holds device → Walking arena device image s k rest l.fn.walk → l.named ≡ false → GrowsUnnamed l.fn.walk.folders.items l.walk.folders.items;
   six : (device : List Block) (image : Image) → Shows (g.D.Disk.state l.fn.main).holds device → KeepsPairs l.fn.walk.noted l.walk.noted;
   spread : (arena : Arena) (device : List Block) (image : Image) (s : Super) (k : Kept) (w : Link) (deep : ℕ) (rest : List Step) → Shows (g.D.Disk.state l.fn.main).holds device → Walking arena device image s k rest l.fn.walk → deep ≡ min (l.depth + 1) (2 ^ 32 - 1)
       → AreSpread arena image k w deep l.fn.walk.noted l.fn.walk.steps.items l.fn.walk.folders.items → AreSpread arena image k w deep l.walk.noted l.walk.steps.items l.walk.folders.items;

@@ -2,10 +2,10 @@ use Rattle.std.proofs.Common.{refl, sym, ◌∙◌, ap, subst, arith}
 use Rattle.std.proofs.lemmas.Bool.{false≢true}
 use Rattle.fo_good.specs.Trees.{MayHave}
 use Rattle.fo_sound.specs.Image.{IsDataBlock}
-use Rattle.fo_check_tree.specs.declared.labels.Known.{Known}
+use Rattle.fo_check_labels.specs.declared.labels.Known.{Known}
 use Rattle.fo_check_tree.specs.Steps.{place_of}
 use Rattle.fo_check_tree.specs.Steps.BreaksStep.{label}
-use Rattle.fo_check_tree.proofs.Marking.{only_label}
+use Rattle.fo_check_labels.proofs.Marking.{only_label}
 use Rattle.fo_check_tree.proofs.blocks.label_of.Goals as goal
 
 pub returns-in-None-clause-answer : goal.returns-in-None-clause-answer

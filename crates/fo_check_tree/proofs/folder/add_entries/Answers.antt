@@ -9,13 +9,16 @@ use Rattle.fo_check_tree.specs.Slots.{entry_of, steps_by_pairs, pair_steps, pair
 use Rattle.fo_check_tree.specs.Notes.NotesAt.{same as note_same}
 use Rattle.fo_check_names.specs.Finds.{Finds}
 use Rattle.fo_check_names.specs.declared.names.Named.{Named}
-use Rattle.fo_check_tree.specs.Pairing.{Searches, Asks}
+use Rattle.fo_check_tree.specs.Pairing.{Searches, Asks, Leads}
+use Rattle.fo_check_tree.proofs.Heading.{leads_first, leads_on}
 use Rattle.fo_check_tree.proofs.Searching.{searches_first, searches_on}
 use Rattle.fo_good.specs.Means.{HasEntry}
 use Rattle.std.proofs.lemmas.Bool.{cases_eq, cases_lt}
 use Rattle.fo_check_tree.proofs.Asking.{apart_same, asks_first, asks_on}
 use Rattle.fo_check_tree.proofs.Adding.{then_notes, notes_unless, entry_read}
-use Rattle.fo_check_tree.proofs.Noting.{keeps_same, keeps_then, keeps_deep, deep_at, keeps_zero}
+use Rattle.fo_check_tree.proofs.Noting.{keeps_same, keeps_then, keeps_deep, deep_at, keeps_zero, numbers_same, numbers_then, numbers_unless, folders_kept, folders_by_other, folders_then}
+use Rattle.fo_check_tree.specs.Depths.{HasFolder}
+use Rattle.fo_check_tree.specs.Notes.{KeepsNumbers, NotesFolders}
 use Rattle.fo_check_tree.proofs.Slots.{pairs_first, pairs_more, folders_first, folders_more, low_unless, rest_is}
 use Rattle.fo_check_tree.proofs.folder.add_entries.Goals as goal
 
@@ -28,6 +31,8 @@ loop-k-init c = record {
   put = λ c' each. rw c.note_rest.ensures.folders (folders_first c.args.here c' (min (c.args.depth + 1) (2 ^ 32 - 1)) c.args.named c.args.walk.now.folders.items);
   whole = λ c' each quiet i lt. absurd (omega (arith, lt));
   sought = λ c' each. rw c.note_rest.ensures.named (searches_first c.args.index c' c.args.named c.args.walk.now.named.items c.note_rest.new.self.folders.items);
+  eight = λ c' each. folders_kept (min (c.args.depth + 1) (2 ^ 32 - 1)) c.args.here.block c.args.walk.now.noted c.note_rest.new.self.noted (numbers_unless (is_zero (take (length c.args.block.now - 8160) (drop 8160 c.args.block.now))) c.args.here.block c.args.walk.now.noted c.note_rest.new.self.noted c.note_rest.ensures.noted);
+  heads = λ c' each. rw c.note_rest.ensures.folders (leads_first c.args.index c' c.args.walk.now.named.items c.args.walk.now.folders.items);
   asks = λ c' each small apart. rw c.note_rest.ensures.named (asks_first c.args.index c' small c.args.walk.now.named.items);
   deep = λ c' each quiet i lt. absurd (omega (arith, lt));
   rest = λ no. rw c.note_rest.ensures.noted (low_unless (is_zero (take (length c.args.block.now - 8160) (drop 8160 c.args.block.now))) c.args.here.block c.args.walk.now.noted (ap is_zero (rest_is 8160 c.args.block.now) ∙ no));
@@ -79,6 +84,21 @@ loop-k-preserved c =
           c.entry_at-first.result c.entry_at-second.result c.saturating_add.result (c.saturating_add.ensures ∙ ap (λ (n : ℕ). min (n + c.loop-k.k) (2 ^ 64 - 1)) c.saturating_mul.ensures) c.is_both-leads.ensures
           (c.entry_at-first.ensures.is c' (each (2 * c.loop-k.k) (omega (arith, less)))) (c.entry_at-second.ensures.is c' (each (2 * c.loop-k.k + 1) (omega (arith, less))))
           (c.loop-k.invariant.sought c' each) found (c.in_ok-add_pair.ensures.put ∙ ap (λ (s : List Folder). s ++ pair_folders c.args.here c.entry_at-first.result c.entry_at-second.result c.saturating_add-below.result c.is_both-leads.result) folders);
+      eight = λ c' each.
+          let first : is_folder c.entry_at-first.result ≡ true → HasFolder c' = λ folder. record { slot = 2 * c.loop-k.k; within = omega (arith, less); folder = sym (ap is_folder (c.entry_at-first.ensures.is c' (each (2 * c.loop-k.k) (omega (arith, less))))) ∙ folder } in
+          let second : is_folder c.entry_at-second.result ≡ true → HasFolder c' = λ folder. record { slot = 2 * c.loop-k.k + 1; within = omega (arith, less); folder = sym (ap is_folder (c.entry_at-second.ensures.is c' (each (2 * c.loop-k.k + 1) (omega (arith, less))))) ∙ folder } in
+          let pair : NotesFolders (HasFolder c') c.saturating_add-below.result c.args.here.block c.find_here-of.new.walk.noted c.add_pair.new.walk.noted = folders_by_other c.saturating_add-below.result c.args.here.block c.find_here-of.new.walk.noted c.add_pair.new.walk.noted (λ either. ⊎_elim first second either) c.in_ok-add_pair.ensures.eight in
+          let before : KeepsNumbers c.loop-k.walk.noted c.find_here-of.new.walk.noted = numbers_then c.loop-k.walk.noted c.entry_at-second.new.walk.noted c.find_here-of.new.walk.noted
+          (numbers_then c.loop-k.walk.noted c.entry_at-first.new.walk.noted c.entry_at-second.new.walk.noted c.entry_at-first.ensures.eight c.entry_at-second.ensures.eight)
+          (numbers_same c.entry_at-second.new.walk.noted c.find_here-of.new.walk.noted c.find_here-of.ensures.noted) in
+          let deep = min (c.args.depth + 1) (2 ^ 32 - 1) in
+          folders_then deep c.args.here.block c.args.walk.now.noted c.loop-k.walk.noted c.add_pair.new.walk.noted c.loop-k.invariant.low (c.loop-k.invariant.eight c' each)
+          (folders_then deep c.args.here.block c.loop-k.walk.noted c.find_here-of.new.walk.noted c.add_pair.new.walk.noted (omega (arith, c.entry_at-first.ensures.level, c.entry_at-second.ensures.level, c.find_here-of.ensures.level)) (folders_kept deep c.args.here.block c.loop-k.walk.noted c.find_here-of.new.walk.noted before)
+          (subst (λ (n : ℕ). NotesFolders (HasFolder c') n c.args.here.block c.find_here-of.new.walk.noted c.add_pair.new.walk.noted) c.saturating_add-below.ensures pair));
+      heads = λ c' each. leads_on c.args.index c' c.args.named c.args.here c.saturating_add-below.result c.loop-k.k c.args.walk.now.named.items c.loop-k.walk.named.items c.add_pair.new.walk.named.items c.args.walk.now.folders.items c.loop-k.walk.folders.items c.add_pair.new.walk.folders.items c.find_here-of.result c.is_both-leads.result
+          c.entry_at-first.result c.entry_at-second.result c.saturating_add.result (c.saturating_add.ensures ∙ ap (λ (n : ℕ). min (n + c.loop-k.k) (2 ^ 64 - 1)) c.saturating_mul.ensures) c.is_both-leads.ensures
+          (c.entry_at-first.ensures.is c' (each (2 * c.loop-k.k) (omega (arith, less)))) (c.entry_at-second.ensures.is c' (each (2 * c.loop-k.k + 1) (omega (arith, less))))
+          (c.loop-k.invariant.sought c' each).same (c.loop-k.invariant.heads c' each) found (c.in_ok-add_pair.ensures.put ∙ ap (λ (s : List Folder). s ++ pair_folders c.args.here c.entry_at-first.result c.entry_at-second.result c.saturating_add-below.result c.is_both-leads.result) folders);
       asks = λ c' each small apart.
           let before = c.loop-k.invariant.sought c' each in
           asks_on c.args.index c' small c.loop-k.k less c.args.walk.now.named.items c.loop-k.walk.named.items c.find_here-of.result (apart_same c.args.walk.now.named.items c.loop-k.walk.named.items before.same apart) (c.loop-k.invariant.asks c' each small apart)
@@ -139,3 +159,11 @@ pub returns-clause-asks : goal.returns-clause-asks
 returns-clause-asks c c' each small apart =
     let end : c.loop-k.k ≡ 102 = omega (arith, c.loop-k-test.false, c.loop-k.auto.k-end) in
     subst (λ (n : ℕ). Asks c.args.index c' n c.args.walk.now.named.items c.loop-k.walk.named.items) end (c.loop-k.invariant.asks c' each small apart)
+
+pub returns-clause-heads : goal.returns-clause-heads
+returns-clause-heads c c' each =
+    let end : c.loop-k.k ≡ 102 = omega (arith, c.loop-k-test.false, c.loop-k.auto.k-end) in
+    subst (λ (n : ℕ). Leads c.args.index c' n c.args.walk.now.named.items c.args.walk.now.folders.items c.loop-k.walk.folders.items) end (c.loop-k.invariant.heads c' each)
+
+pub returns-clause-eight : goal.returns-clause-eight
+returns-clause-eight c c' each = c.loop-k.invariant.eight c' each

@@ -4,8 +4,9 @@ use Rattle.fo_crash.specs.Images.{Content}
 use Rattle.fo_good.specs.Means.{HasEntry}
 use Rattle.fo_sound.specs.Image.{is_zero}
 use Rattle.fo_check_tree.specs.Lower.{level}
-use Rattle.fo_check_tree.specs.Notes.{NotesAt, KeepsFormats}
-use Rattle.fo_check_tree.specs.Pairing.{Searches, IsApart, Asks}
+use Rattle.fo_check_tree.specs.Notes.{NotesAt, NotesFolders, KeepsFormats}
+use Rattle.fo_check_tree.specs.Depths.{HasFolder}
+use Rattle.fo_check_tree.specs.Pairing.{Searches, IsApart, Asks, Leads}
 use Rattle.fo_check_names.specs.Pairs.{is_folder}
 use Rattle.fo_check_tree.specs.Slots.{entry_of, HasSlot, steps_by_pairs, AddsFolders}
 use Rattle.fo_check_tree.proofs.folder.add_entries.Given as goal
@@ -17,6 +18,8 @@ invariant-loop-k l = record {
   whole : (c : Content) → ((i : ℕ) → i < 204 → HasSlot c l.block i) → 5 < level l.walk.noted → (i : ℕ) → i < 2 * l.k → HasEntry c l.block i;
   sought : (c : Content) → ((i : ℕ) → i < 204 → HasSlot c l.block i) → Searches l.index c l.named l.k l.fn.walk.named.items l.walk.named.items l.walk.folders.items;
   asks : (c : Content) → ((i : ℕ) → i < 204 → HasSlot c l.block i) → l.index < 27982932961 → IsApart l.fn.walk.named.items → Asks l.index c l.k l.fn.walk.named.items l.walk.named.items;
+  eight : (c : Content) → ((i : ℕ) → i < 204 → HasSlot c l.block i) → NotesFolders (HasFolder c) (min (l.depth + 1) (2 ^ 32 - 1)) l.here.block l.fn.walk.noted l.walk.noted;
+  heads : (c : Content) → ((i : ℕ) → i < 204 → HasSlot c l.block i) → Leads l.index c l.k l.fn.walk.named.items l.fn.walk.folders.items l.walk.folders.items;
   deep : (c : Content) → ((i : ℕ) → i < 204 → HasSlot c l.block i) → 8 < level l.walk.noted → (i : ℕ) → i < 2 * l.k → is_folder (entry_of (c.slot i)) ≡ true → min (l.depth + 1) (2 ^ 32 - 1) ≤ 64;
   rest : is_zero (drop 8160 l.block) ≡ false → level l.walk.noted ≤ 5;
   clean : (c : Content) → ((i : ℕ) → i < 204 → HasEntry c l.block i) → is_zero (drop 8160 l.block) ≡ true → KeepsFormats l.fn.walk.noted l.walk.noted;

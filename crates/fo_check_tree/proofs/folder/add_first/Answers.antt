@@ -1,9 +1,10 @@
 use Rattle.std.proofs.Common.{Bool, List, [], ◌∷◌, ◌++◌, ◌∙◌, ap, arith}
 use Rattle.std.specs.Prelude.{cond}
 use Rattle.fo_check_tree.specs.declared.walk.Step.{Step}
-use Rattle.fo_check_names.specs.Pairs.{is_source}
+use Rattle.fo_check_names.specs.Pairs.{is_source, is_folder}
 use Rattle.fo_check_tree.specs.Lower.{level}
 use Rattle.fo_check_tree.proofs.Levels.{level-lower}
+use Rattle.fo_check_tree.proofs.Noting.{folders_entry}
 use Rattle.fo_check_tree.proofs.folder.add_first.Goals as goal
 
 pub returns-clause-pushed : goal.returns-clause-pushed
@@ -18,3 +19,7 @@ returns-clause-put c = c.add_source.ensures.folders ∙ c.in_ok-add_entry.ensure
 
 pub returns-clause-deep : goal.returns-clause-deep
 returns-clause-deep c folder less = omega (arith, ap level (c.add_source.ensures.noted ∙ c.in_ok-add_entry.ensures.deep folder less), (level-lower c.args.walk.now.noted 8 c.args.here.block (omega arith)).1)
+
+pub returns-clause-eight : goal.returns-clause-eight
+returns-clause-eight c = folders_entry (is_folder c.args.entry.now) c.args.depth c.args.here.block c.args.walk.now.noted c.add_source.new.walk.noted
+    (λ folder less. c.add_source.ensures.noted ∙ c.in_ok-add_entry.ensures.deep folder less) (λ low. c.add_source.ensures.noted ∙ c.add_entry.ensures.quiet low) (λ no'. c.add_source.ensures.noted ∙ c.add_entry.ensures.other no')

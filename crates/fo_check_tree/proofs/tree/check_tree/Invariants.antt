@@ -1,4 +1,4 @@
-use Rattle.std.proofs.Common.{◌≡◌, ◌+◌, ◌*◌, ◌≤◌, List, [], length}
+use Rattle.std.proofs.Common.{◌≡◌, ◌+◌, ◌*◌, ◌<◌, ◌≤◌, List, [], length, Some}
 use Rattle.fo_crash.specs.Images.{Image, Arena}
 use Rattle.fo_disk.specs.Disk.{Block}
 use Rattle.fo_good.specs.Sound.{Kept}
@@ -8,9 +8,11 @@ use Rattle.fo_check_tree.specs.Formats.{AreFormed}
 use Rattle.fo_check_tree.specs.Dirs.{AreJudged}
 use Rattle.fo_check_tree.specs.Grounds.{HasGrounds}
 use Rattle.fo_check_tree.specs.Depths.{AreAbove}
-use Rattle.fo_check_tree.specs.Pairing.{AreSettled}
+use Rattle.fo_check_tree.specs.Numbers.{HasSources, AreNumbers}
+use Rattle.fo_check_tree.specs.Pairing.{AreSettled, HasHeads}
 use Rattle.fo_check_tree.specs.Walking.{Walking}
-use Rattle.fo_check_tree.specs.Lower.{JudgesRoot}
+use Rattle.fo_check_tree.specs.Lower.{IsRule, level, JudgesRoot}
+use Rattle.fo_check_tree.specs.declared.broken.Broken.{Broken}
 use Rattle.fo_check_tree.proofs.tree.check_tree.Given as goal
 
 abbrev pub invariant-loop-folder : goal.invariant-loop-folder
@@ -28,6 +30,13 @@ invariant-loop-folder g l = record {
       → AreAbove arena image k l.walk.noted l.walk.folders.items;
   grounds : (arena : Arena) (device : List Block) (image : Image) (k : Kept) → length device ≡ l.fn.setting.blocks → Shows (g.D.Disk.state l.fn.main).holds device → k.root ≡ l.root → HoldsAny arena device image l.fn.setting.s k
       → HasGrounds arena image k l.walk.noted l.walk.steps.items l.walk.folders.items;
+  heads : (arena : Arena) (device : List Block) (image : Image) (k : Kept) → length device ≡ l.fn.setting.blocks → Shows (g.D.Disk.state l.fn.main).holds device → k.root ≡ l.root → HoldsAny arena device image l.fn.setting.s k
+      → HasHeads arena image k l.walk.noted l.walk.folders.items;
+  eight : (arena : Arena) (device : List Block) (image : Image) (k : Kept) → length device ≡ l.fn.setting.blocks → Shows (g.D.Disk.state l.fn.main).holds device → k.root ≡ l.root → HoldsAny arena device image l.fn.setting.s k
+      → HasSources arena image k l.fn.setting.s.numbers l.walk.noted l.walk.folders.items;
+  counts : (arena : Arena) (device : List Block) (image : Image) (k : Kept) → length device ≡ l.fn.setting.blocks → Shows (g.D.Disk.state l.fn.main).holds device → k.root ≡ l.root → HoldsAny arena device image l.fn.setting.s k
+      → 6 < level l.walk.noted → AreNumbers arena image k l.walk.labels.known.items l.numbers.items;
+  rules : (b : Broken) → l.walk.noted ≡ Some b → IsRule b.rule;
   judged : JudgesRoot l.root l.walk.noted;
   same : g.D.Disk.size l.main ≡ g.D.Disk.size l.fn.main;
   kept : g.D.Disk.state l.main ≡ g.D.Disk.state l.fn.main;

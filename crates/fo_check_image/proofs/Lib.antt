@@ -1,0 +1,5 @@
+mod Bare
+mod Deciding
+mod Normal
+mod Reading
+mod Reporting

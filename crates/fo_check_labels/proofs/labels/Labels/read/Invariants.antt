@@ -1,0 +1,16 @@
+use Rattle.std.proofs.Common.{◌≡◌, ◌*◌, ◌≤◌, List, length}
+use Rattle.fo_disk.specs.Disk.{Block}
+use Rattle.fo_sound.specs.Device.{Shows}
+use Rattle.fo_check_labels.specs.Known.{IsBelow}
+use Rattle.fo_check_labels.specs.Table.{IsScanned}
+use Rattle.fo_check_labels.proofs.labels.Labels.read.Given as goal
+
+abbrev pub invariant-loop-n : goal.invariant-loop-n
+invariant-loop-n g l = record {
+  size : g.D.Disk.size l.main ≡ l.blocks;
+  kept : g.D.Disk.state l.main ≡ g.D.Disk.state l.fn.main;
+  later : g.D.Disk.faults l.fn.main ≤ g.D.Disk.faults l.main;
+  long : length l.block ≡ 8192;
+  below : IsBelow (585 * l.n) l.labels.known.items;
+  table : (image : List Block) → length image ≡ l.blocks → Shows (g.D.Disk.state l.fn.main).holds image → IsScanned image l.n (585 * l.n) l.labels.known.items;
+}

@@ -1,9 +1,0 @@
-use Rattle.std.proofs.Common.{◌≡◌, ◌≤◌, take}
-use Rattle.fo_check_tree.specs.Known.{reached}
-use Rattle.fo_check_tree.proofs.labels.Labels.used.Given as goal
-
-abbrev pub invariant-loop-k : goal.invariant-loop-k
-invariant-loop-k l = record {
-  count : l.used ≡ reached (take l.k-index l.self.known.items);
-  most : l.used ≤ l.k-index;
-}
