@@ -19,18 +19,26 @@ pub struct Stored {
 }
 
 impl Stored {
-    ghost use Rattle.std.specs.Prelude.{None, IfSome, MatchResult, OnOk, OnErr, ◌≢◌};
+    ghost use Rattle.std.specs.Prelude.{None, ◌+◌, IfSome, MatchResult, OnOk, OnErr, ◌≢◌};
     ghost use Rattle.fo_image.specs.Format.{PointerHolds};
     ghost use Rattle.fo_image.specs.declared.types.Pointer.TheVariants.{Local};
-    ghost use Rattle.fo_arch_form.specs.Stored.{found, score_under, Adds};
+    ghost use Rattle.fo_arch_form.specs.Stored.{found, count_of, score_under, Adds};
 
     /// Nothing was stored.
     pub fn new(alloc: Global) -> Stored
-        ensures { (at kind : ℕ) → found result at kind ≡ None }
+        ensures none { (at kind : ℕ) → found result at kind ≡ None }
+        ensures count { count_of result ≡ 0 }
     {
         Stored {
             scores: BTreeMap::new(alloc),
         }
+    }
+
+    /// How many blocks were stored.
+    pub fn count(&self) -> usize
+        ensures { result ≡ count_of self.now }
+    {
+        self.scores.len()
     }
 
     /// The score under which the block of this address and kind was stored.
@@ -65,7 +73,8 @@ impl Stored {
     /// Notes that the block of this address and kind was stored. Where there is no memory, nothing changes.
     pub fn add(&mut self, at: u32, kind: u8, score: Score) -> Result<(), Memory>
         requires { IsScore score.0 }
-        ensures { MatchResult result (λ _. Adds at kind score self.old self.new) (λ _. (a k : ℕ) → found self.new a k ≡ found self.old a k) }
+        ensures adds { MatchResult result (λ _. Adds at kind score self.old self.new) (λ _. (a k : ℕ) → found self.new a k ≡ found self.old a k) }
+        ensures count { MatchResult result (λ _. found self.old at kind ≡ None → count_of self.new ≡ count_of self.old + 1) (λ _. count_of self.new ≡ count_of self.old) }
     {
         self.scores.insert((at, kind), score)?;
         Ok(())

@@ -21,7 +21,7 @@ has_entry (Head e) i bytes fits spelled = record { entry = e; spelled = spelled;
 has_entry (To p) i bytes fits spelled = absurd fits
 has_entry (Prev epoch at) i bytes fits spelled = absurd fits
 
-slot_has : (s : Slot) (i : ℕ) (bytes : List ℕ) (e : Entry) → IsEntry s → SpellsSlot s (take (slot_size s) (drop (40 * i) bytes)) → SpellsEntry e (entry_at bytes i) → s ≡ Head e
+pub slot_has : (s : Slot) (i : ℕ) (bytes : List ℕ) (e : Entry) → IsEntry s → SpellsSlot s (take (slot_size s) (drop (40 * i) bytes)) → SpellsEntry e (entry_at bytes i) → s ≡ Head e
 slot_has (Head f) i bytes e fits spelled read = ap (λ (x : Entry). Head x) (same_entry f e (entry_at bytes i) spelled read)
 slot_has (To p) i bytes e fits spelled read = absurd fits
 slot_has (Prev epoch at) i bytes e fits spelled read = absurd fits

@@ -1,4 +1,9 @@
+mod Beside
+mod Codes
 mod Leaf
 mod Once
+mod Opening
 mod Places
 mod Reading
+mod Steps
+mod Tops

@@ -5,5 +5,6 @@ mod LineBlocks
 mod Lines
 mod Synced
 mod Keeping
-mod Puts
+pub mod Puts
 mod Openings
+pub mod Empty

@@ -154,6 +154,9 @@ line_default (l ∷ lines) zero d lt = refl
 line_default (l ∷ lines) (suc place) d lt = line_default lines place d (omega (arith, lt))
 
 -- two lists that a test found apart
+pub same : (xs ys : List ℕ) (r : Bool) → r ≡ pointwise nat_eq xs ys → r ≡ true → xs ≡ ys
+same xs ys r found equal = (slice_eq-Decides Decides-eqb xs ys r found).0 equal
+
 pub differ : (xs ys zs : List ℕ) (r : Bool) → r ≡ pointwise nat_eq xs ys → r ≡ false → ys ≡ zs → xs ≢ zs
 differ xs ys zs r is found ys_is same =
     let d = slice_eq-Decides Decides-eqb xs ys r is in

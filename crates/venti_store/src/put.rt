@@ -1,12 +1,29 @@
 //! The calls that put and get blocks.
+ghost use Rattle.std.specs.Prelude.{◌≡◌, ◌≢◌, true, false, []};
+ghost use Rattle.sha1.specs.Sha1.{sha1};
+
 use crate::read::{compare, copy_of, read_stored};
 use crate::{Arena, ArenaError};
 use fo_disk::{Disk, DiskFault};
 use fo_image::{ArenaLine, Score, is_score, stored_block};
 use sha1::Sha1;
 
+/// The score of the empty block.
+const EMPTY: [u8; 20] = [
+    0xda, 0x39, 0xa3, 0xee, 0x5e, 0x6b, 0x4b, 0x0d, 0x32, 0x55, 0xbf, 0xef, 0x95, 0x60, 0x18, 0x90,
+    0xaf, 0xd8, 0x07, 0x09,
+];
+
 /// How many blocks may wait in memory.
 const MOST_WAITING: usize = 512;
+
+/// Whether a score is that of the empty block.
+fn is_empty(score: &Score) -> bool
+    ensures yes { result ≡ true → score.now.0 ≡ sha1 [] }
+    ensures no { result ≡ false → score.now.0 ≢ sha1 [] }
+{
+    score.0 == EMPTY
+}
 
 impl<A: Disk> Arena<A> {
     ghost use Rattle.std.specs.Prelude.{◌≡◌, ◌<◌, ◌≤◌, ◌++◌, ◌∷◌, ℕ, List, [], true, length, MatchResult, MatchOption, OnOk, OnErr, IfOk, IfErr, IfSome};
@@ -50,8 +67,7 @@ impl<A: Disk> Arena<A> {
         ensures kept { A.state self.new.device ≡ A.state self.old.device }
         ensures cause { HasCauses (A.faults self.old.device) (A.faults self.new.device) result }
     {
-        let empty = Sha1::digest(&[]);
-        if score.0 == empty {
+        if is_empty(score) {
             return Ok(Some(Vec::new(self.alloc)));
         }
         let Some(place) = self.shelf.index.place(score, kind) else {
@@ -146,17 +162,39 @@ impl<A: Disk> Arena<A> {
     {
         let digest = Sha1::digest(bytes);
         let score = Score(digest);
+        self.put_hashed(score, kind, bytes)?;
+        Ok(score)
+    }
+
+    /// Puts a block whose score was computed elsewhere: what `put` does, without the hash.
+    pub fn put_hashed(&mut self, score: Score, kind: u8, bytes: &[u8]) -> Result<(), ArenaError>
+        requires hashed { score.0 ≡ sha1 bytes.now }
+        requires kind { is_arena_kind kind ≡ true }
+        requires length { length bytes.now ≤ 8192 }
+        ensures score { OnOk result (IsScore score.0) }
+        ensures lines { MatchResult result (λ _. PutsLine kind bytes.now (lines_of self.old.shelf) (lines_of self.new.shelf)) (λ _. lines_of self.new.shelf ≡ lines_of self.old.shelf) }
+        ensures refused { IfErr result (PutRefuses self.old.shelf.blocks (lines_of self.old.shelf) kind bytes.now) }
+        ensures keeps { (stored : List (List ℕ)) (synced : ℕ) → Keeps self.old.shelf stored synced (A.state self.old.device)
+            → MatchResult result (λ _. (now : List (List ℕ)) × PutsBytes kind bytes.now (lines_of self.old.shelf) stored now × Keeps self.new.shelf now synced (A.state self.new.device))
+            (λ e. Keeps self.new.shelf stored synced (A.state self.new.device) × RefusesHeld (lines_of self.old.shelf) stored (sha1 bytes.now) kind e) }
+        ensures moments { (stored : List (List ℕ)) (synced : ℕ) → Keeps self.old.shelf stored synced (A.state self.old.device)
+            → Since (A.state self.old.device).moments (A.state self.new.device).moments (Recovers synced (lines_of self.old.shelf) stored) }
+        ensures added { OnOk result (¬ IsNamed (lines_of self.old.shelf) (sha1 bytes.now) kind → IsAtHand self.new.shelf (sha1 bytes.now) kind) }
+        ensures at_hand { IsAtHand self.old.shelf (sha1 bytes.now) kind → A.calls self.new.device ≡ A.calls self.old.device }
+        ensures blocks { self.new.shelf.blocks ≡ self.old.shelf.blocks }
+        ensures cause { HasCauses (A.faults self.old.device) (A.faults self.new.device) result }
+    {
         if !is_score(score) {
             return Err(ArenaError::BadScore);
         }
         match self.look(&score, kind)? {
             Some(held) => {
                 compare(self.alloc, held, bytes)?;
-                Ok(score)
+                Ok(())
             }
             None => {
                 self.append(score, kind, bytes)?;
-                Ok(score)
+                Ok(())
             }
         }
     }

@@ -3,6 +3,7 @@
 //! The bytes of the blocks that wait and their lines come first and are settled; then the head says that they are used.
 ghost use Rattle.std.specs.Prelude.{◌≡◌, ◌≢◌, ℕ, ◌+◌, ◌/◌, ◌^◌, ◌<◌, ◌≤◌, List, length, take, MatchResult, OnOk, IfErr};
 ghost use Rattle.fo_base.specs.Cause.{HasCause};
+ghost use Rattle.fo_disk.specs.Disk.{IsWrite};
 ghost use Rattle.fo_disk.specs.declared.disk.DiskFault.TheVariants.{Write};
 ghost use Rattle.fo_image.specs.Format.{ArenaLineHolds};
 ghost use Rattle.fo_image.specs.Place.{arena_places};
@@ -12,7 +13,7 @@ ghost use Rattle.venti_store.specs.Settling.{Run, Goes, WroteBytes, WroteLines, 
 
 use crate::waiting::Waiting;
 use fo_base::LINES;
-use fo_disk::{BLOCK, Disk, DiskFault};
+use fo_disk::{BLOCK, Disk, DiskFault, Failed};
 use fo_image::{ArenaHead, ArenaLine, stored_block, write_arena_head, write_arena_line};
 
 /// A block that begins with these bytes, and has zeros behind them.
@@ -23,6 +24,20 @@ fn padded(bytes: &[u8]) -> [u8; BLOCK]
     let mut block = [0; BLOCK];
     block[..bytes.len()].copy_from_slice(bytes);
     block
+}
+
+/// Writes a block that begins with these bytes; whole blocks are not copied.
+fn write_bytes<A: Disk>(device: &mut A, at: u32, bytes: &[u8]) -> Result<(), Failed>
+    requires block { at < A.size device.old }
+    requires length { length bytes.now ≤ 8192 }
+    ensures wrote { (block : List ℕ) × (take (length bytes.now) block ≡ bytes.now) × IsWrite at block result (A.state device.old) (A.state device.new) }
+    ensures size { A.size device.new ≡ A.size device.old }
+    ensures cause { HasCause (A.faults device.old) (A.faults device.new) result }
+{
+    if bytes.len() == BLOCK {
+        return device.write(at, bytes);
+    }
+    device.write(at, &padded(bytes))
 }
 
 /// Writes the blocks that wait, of which the first has this place.
@@ -38,8 +53,7 @@ fn write_waiting<A: Disk>(device: &mut A, first: u32, pending: &[Waiting]) -> Re
     ensures fault { IfErr result (λ e. e ≡ Write) }
 {
     for i in 0..pending.len() {
-        let block = padded(&pending[i].bytes);
-        let Ok(()) = device.write(stored_block(first + i as u32), &block) else {
+        let Ok(()) = write_bytes(device, stored_block(first + i as u32), &pending[i].bytes) else {
             return Err(DiskFault::Write);
         };
     }

@@ -6,8 +6,8 @@ use Rattle.venti_store.proofs.writes.write_waiting.Goals as goal
 pub returns-in_default-clause-goes : goal.returns-in_default-clause-goes
 returns-in_default-clause-goes g c run size first waits start =
     let goes = c.loop-i.invariant.goes run size first waits start in
-    let n : Next run _ c.loop-i.i _ _ = next_waiting c.args.pending.now waits first c.loop-i-test.true c.index-pending-i.result c.stored_block.ensures _ c.deref.ensures.value c.padded-block.ensures in
-    goes_failed goes (adding_bytes n goes.is_run) (g.met.A.Disk.is_newest c.loop-i.device) c.in_default.ensures.state
+    let n : Next run _ c.loop-i.i _ _ = next_waiting c.args.pending.now waits first c.loop-i-test.true c.index-pending-i.result c.stored_block.ensures _ c.deref.ensures.value c.in_default.ensures.wrote.1 in
+    goes_failed goes (adding_bytes n goes.is_run) (g.met.A.Disk.is_newest c.loop-i.device) c.in_default.ensures.wrote.2
 
 pub loop-i-preserved : goal.loop-i-preserved
 loop-i-preserved g c = record {
@@ -15,10 +15,10 @@ loop-i-preserved g c = record {
   later = omega (arith, c.loop-i.invariant.later, c.in-Ok.ensures.cause.later);
   goes = λ run size first waits start.
       let goes = c.loop-i.invariant.goes run size first waits start in
-      let n : Next run _ c.loop-i.i _ _ = next_waiting c.args.pending.now waits first c.loop-i-test.true c.index-pending-i.result c.stored_block.ensures _ c.deref.ensures.value c.padded-block.ensures in
-      goes_wrote goes (adding_bytes n goes.is_run) (g.met.A.Disk.is_newest c.loop-i.device) c.in-Ok.ensures.state;
+      let n : Next run _ c.loop-i.i _ _ = next_waiting c.args.pending.now waits first c.loop-i-test.true c.index-pending-i.result c.stored_block.ensures _ c.deref.ensures.value c.in-Ok.ensures.wrote.1 in
+      goes_wrote goes (adding_bytes n goes.is_run) (g.met.A.Disk.is_newest c.loop-i.device) c.in-Ok.ensures.wrote.2;
   wrote = λ run size first waits start.
       let goes = c.loop-i.invariant.goes run size first waits start in
-      let n : Next run _ c.loop-i.i _ _ = next_waiting c.args.pending.now waits first c.loop-i-test.true c.index-pending-i.result c.stored_block.ensures _ c.deref.ensures.value c.padded-block.ensures in
-      wrote_more n goes.is_run goes.told (c.loop-i.invariant.wrote run size first waits start) c.in-Ok.ensures.state;
+      let n : Next run _ c.loop-i.i _ _ = next_waiting c.args.pending.now waits first c.loop-i-test.true c.index-pending-i.result c.stored_block.ensures _ c.deref.ensures.value c.in-Ok.ensures.wrote.1 in
+      wrote_more n goes.is_run goes.told (c.loop-i.invariant.wrote run size first waits start) c.in-Ok.ensures.wrote.2;
 }

@@ -1,64 +1,7 @@
-use Rattle.std.proofs.Common.{◌++◌, ◌∷◌, [], refl, sym, subst}
 use Rattle.std.proofs.lemmas.Result.{err_from_is_err_and}
-use Rattle.venti_store.proofs.Puts.{kept_keeps, kept_since, stays_since, read_since, collision_held, append_held, named_at, held_at, refuses_at, put_refused, hand_at}
-use Rattle.fo_image.specs.Format.{IsScore}
-use Rattle.sha1.specs.Sha1.{sha1}
-use Rattle.venti_store.specs.Held.{IsNamed}
-use Rattle.venti_store.specs.Arena.{lines_of}
 use Rattle.venti_store.proofs.arena.Arena.put.Goals as goal
 
-pub returns-then-not-is_score-clause-moments : goal.returns-then-not-is_score-clause-moments
-returns-then-not-is_score-clause-moments g c stored synced k = stays_since c.args.self.now.shelf k (g.met.A.Disk.is_newest c.args.self.now.device)
-
-pub returns-in_err-held-clause-keeps : goal.returns-in_err-held-clause-keeps
-returns-in_err-held-clause-keeps g c stored synced k =
+pub returns-in_err-put_hashed-clause-keeps : goal.returns-in_err-put_hashed-clause-keeps
+returns-in_err-put_hashed-clause-keeps g c stored synced k =
     let p = err_from_is_err_and c.from_residual.result c.from_residual.ensures.1 in
-    rw (p.1, p.2) (kept_keeps {s = c.args.self.now.shelf} c.in_err-held.ensures.shelf c.in_err-held.ensures.kept k, refuses_at _ stored _ _ c.digest-digest.ensures (c.in_err-held.ensures.held stored synced k))
-
-pub returns-in_err-held-clause-moments : goal.returns-in_err-held-clause-moments
-returns-in_err-held-clause-moments g c stored synced k = kept_since c.args.self.now.shelf c.in_err-held.ensures.kept k (g.met.A.Disk.is_newest c.args.self.now.device)
-
-pub returns-in_err-compare-in-Some-clause-keeps : goal.returns-in_err-compare-in-Some-clause-keeps
-returns-in_err-compare-in-Some-clause-keeps g c stored synced k =
-    let p = err_from_is_err_and c.from_residual-in_err-compare-in-Some.result c.from_residual-in_err-compare-in-Some.ensures.1 in
-    rw (p.1, p.2) (kept_keeps {s = c.args.self.now.shelf} c.in_ok-held.ensures.shelf c.in_ok-held.ensures.kept k, collision_held _ _ _ _ _ _ _ c.in_err-compare-in-Some.ensures (held_at _ stored _ c.digest-digest.ensures refl (rw c.in-Some.is at (c.in_ok-held.ensures.held stored synced k))))
-
-pub returns-in_err-compare-in-Some-clause-moments : goal.returns-in_err-compare-in-Some-clause-moments
-returns-in_err-compare-in-Some-clause-moments g c stored synced k = kept_since c.args.self.now.shelf c.in_ok-held.ensures.kept k (g.met.A.Disk.is_newest c.args.self.now.device)
-
-pub returns-in_err-append-in-None-clause-keeps : goal.returns-in_err-append-in-None-clause-keeps
-returns-in_err-append-in-None-clause-keeps g c stored synced k =
-    let p = err_from_is_err_and c.from_residual-in_err-append-in-None.result c.from_residual-in_err-append-in-None.ensures.1 in
-    rw (p.1, p.2) (c.in_err-append-in-None.ensures.keeps stored synced (kept_keeps {s = c.args.self.now.shelf} c.in_ok-held.ensures.shelf c.in_ok-held.ensures.kept k), append_held _ _ stored _ c.args.kind _ c.in_err-append-in-None.ensures.refused _)
-
-pub returns-in_err-append-in-None-clause-moments : goal.returns-in_err-append-in-None-clause-moments
-returns-in_err-append-in-None-clause-moments g c stored synced k =
-    read_since {s = c.args.self.now.shelf} c.in_ok-held.ensures.shelf c.in_ok-held.ensures.kept (c.in_err-append-in-None.ensures.moments stored synced (kept_keeps {s = c.args.self.now.shelf} c.in_ok-held.ensures.shelf c.in_ok-held.ensures.kept k))
-
-pub returns-in_ok-compare-in-Some-clause-keeps : goal.returns-in_ok-compare-in-Some-clause-keeps
-returns-in_ok-compare-in-Some-clause-keeps g c stored synced k =
-    let held = rw c.in-Some.is at (c.in_ok-held.ensures.held stored synced k) in
-    let found = rw c.in-Some.is at c.in_ok-held.ensures.finds in
-    let named : IsNamed (lines_of c.args.self.now.shelf) c.digest-digest.result c.args.kind = found.0 in
-    (stored, record { held = λ yes. (refl, held_at _ stored _ c.digest-digest.ensures c.in_ok-compare-in-Some.ensures held); new = λ no. absurd (no (named_at _ _ c.digest-digest.ensures named)) }, kept_keeps {s = c.args.self.now.shelf} c.in_ok-held.ensures.shelf c.in_ok-held.ensures.kept k)
-
-pub returns-in_ok-compare-in-Some-clause-moments : goal.returns-in_ok-compare-in-Some-clause-moments
-returns-in_ok-compare-in-Some-clause-moments g c stored synced k = kept_since c.args.self.now.shelf c.in_ok-held.ensures.kept k (g.met.A.Disk.is_newest c.args.self.now.device)
-
-pub returns-in_ok-append-in-None-clause-keeps : goal.returns-in_ok-append-in-None-clause-keeps
-returns-in_ok-append-in-None-clause-keeps g c stored synced k =
-    let fresh = rw c.in-None.is at c.in_ok-held.ensures.finds in
-    (stored ++ c.args.bytes.now ∷ [], record { held = λ yes. absurd (fresh (named_at _ _ (sym c.digest-digest.ensures) yes)); new = λ no. refl }, c.in_ok-append-in-None.ensures.keeps stored synced (kept_keeps {s = c.args.self.now.shelf} c.in_ok-held.ensures.shelf c.in_ok-held.ensures.kept k))
-
-pub returns-in_ok-append-in-None-clause-moments : goal.returns-in_ok-append-in-None-clause-moments
-returns-in_ok-append-in-None-clause-moments g c stored synced k =
-    read_since {s = c.args.self.now.shelf} c.in_ok-held.ensures.shelf c.in_ok-held.ensures.kept (c.in_ok-append-in-None.ensures.moments stored synced (kept_keeps {s = c.args.self.now.shelf} c.in_ok-held.ensures.shelf c.in_ok-held.ensures.kept k))
-
-pub returns-in_err-held-clause-refused : goal.returns-in_err-held-clause-refused
-returns-in_err-held-clause-refused g c =
-    let p = err_from_is_err_and c.from_residual.result c.from_residual.ensures.1 in
-    let spelled : IsScore (sha1 c.args.bytes.now) = subst IsScore c.digest-digest.ensures (c.is_score.ensures.0 c.if-not-is_score.false) in
-    rw (p.1, p.2) (put_refused c.args.self.now.shelf.blocks (lines_of c.args.self.now.shelf) c.args.kind c.args.bytes.now c.digest-digest.result _ c.digest-digest.ensures spelled c.in_err-held.ensures.finds)
-
-pub returns-in_ok-append-in-None-clause-added : goal.returns-in_ok-append-in-None-clause-added
-returns-in_ok-append-in-None-clause-added g c fresh = hand_at c.append.new.self.shelf c.args.kind c.digest-digest.ensures c.in_ok-append-in-None.ensures.at_hand
+    rw (p.1, p.2) (c.in_err-put_hashed.ensures.keeps stored synced k)

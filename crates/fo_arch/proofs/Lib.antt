@@ -1,0 +1,7 @@
+mod Finishing
+mod Forming
+mod Growing
+mod Putting
+mod Sames
+mod Storing
+mod Taking

@@ -1,0 +1,4 @@
+pub mod Archive
+pub mod Finish
+pub mod Forms
+pub mod Stores
