@@ -1,0 +1,28 @@
+use Rattle.fo_files_leaf.proofs.Altering.{alters_joins}
+use Rattle.fo_files_new.proofs.Dirs.{dir_on, entries_on}
+use Rattle.fo_files_new.proofs.Putting.{caused_after}
+use Rattle.fo_files_new.proofs.pair.ready_both.Goals as goal
+
+pub ready_records-requires-clause-dir : goal.ready_records-requires-clause-dir
+ready_records-requires-clause-dir g c = dir_on (g.B.Blocks.state c.args.on.now) (g.B.Blocks.state c.ready_entries.new.on) c.args.dir _ (g.met.B.Blocks.keeps_all c.args.on.now c.ready_entries.new.on c.ready_entries.ensures.keeps) c.ready_entries.ensures.alters c.requires.dir
+
+pub returns-in-Ok-ready_records-clause-own : goal.returns-in-Ok-ready_records-clause-own
+returns-in-Ok-ready_records-clause-own g c = record {
+  entries_own = entries_on (g.B.Blocks.state c.ready_entries.new.on) (g.B.Blocks.state c.ready_records.new.on) c.args.dir c.in-Ok.entries (g.met.B.Blocks.keeps_all c.ready_entries.new.on c.ready_records.new.on c.ready_records.ensures.keeps) c.ready_records.ensures.alters c.in-Ok.ensures.apart c.in-Ok.ensures.own;
+  records_own = c.in-Ok-ready_records.ensures.own;
+}
+
+pub returns-in-Ok-ready_records-clause-readied : goal.returns-in-Ok-ready_records-clause-readied
+returns-in-Ok-ready_records-clause-readied g c =
+    let e = c.in-Ok.ensures.readied in
+    let r = c.in-Ok-ready_records.ensures.readied in
+    (e.2.0, c.ready_entries.new.on, r.2.0, r.2.1, record { of_entries = e.0; is_entries = e.1; entries_ready = e.2.1; of_records = r.0; is_records = r.1; trimmed = r.2.2; records_ready = r.2.3 })
+
+pub returns-in-Ok-ready_records-clause-alters : goal.returns-in-Ok-ready_records-clause-alters
+returns-in-Ok-ready_records-clause-alters g c = alters_joins (g.met.B.Blocks.keeps_all c.args.on.now c.ready_entries.new.on c.ready_entries.ensures.keeps) c.ready_entries.ensures.alters c.ready_records.ensures.alters
+
+pub returns-in-Err-ready_records-clause-alters : goal.returns-in-Err-ready_records-clause-alters
+returns-in-Err-ready_records-clause-alters g c = alters_joins (g.met.B.Blocks.keeps_all c.args.on.now c.ready_entries.new.on c.ready_entries.ensures.keeps) c.ready_entries.ensures.alters c.ready_records.ensures.alters
+
+pub returns-in-Err-ready_records-clause-cause : goal.returns-in-Err-ready_records-clause-cause
+returns-in-Err-ready_records-clause-cause g c = caused_after (g.B.Blocks.state c.args.on.now) (g.B.Blocks.state c.ready_entries.new.on) (g.B.Blocks.state c.ready_records.new.on) (g.met.B.Blocks.keeps_all c.args.on.now c.ready_entries.new.on c.ready_entries.ensures.keeps) (g.met.B.Blocks.keeps_all c.ready_entries.new.on c.ready_records.new.on c.ready_records.ensures.keeps) c.in-Err-ready_records.why c.in-Err-ready_records.ensures.cause

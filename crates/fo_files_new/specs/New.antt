@@ -1,0 +1,90 @@
+-- A new file comes into a directory.
+use Rattle.std.specs.Prelude.{◌≡◌, ◌⊎◌, ◌+◌, ◌*◌, ◌/◌, ◌%◌, ◌^◌, ℕ, true, false}
+use Rattle.fo_image.specs.declared.types.Label.{Label}
+use Rattle.fo_image.specs.declared.record.Record.{Record}
+use Rattle.fo_image.specs.Record.{RecordHolds}
+use Rattle.fo_ports.specs.State.{State, none}
+use Rattle.fo_dir_put.specs.Paired.{HasBoth}
+use Rattle.fo_dir_add.specs.Adds.{HasAdded, IsNumbered, IsRaised}
+use Rattle.fo_files_dir.specs.declared.dir.DirAt.{DirAt}
+use Rattle.fo_files_leaf.specs.declared.open.LeafOf.{LeafOf}
+use Rattle.fo_files_leaf.specs.Alters.{Alters}
+use Rattle.fo_files_leaf.specs.Leaf.{IsAbove, IsOwnLeaf, Readied}
+use Rattle.fo_files_new.specs.declared.pair.Leaves.{Leaves}
+
+-- the slots of a directory's entries
+abbrev pub IsSlotOf : DirAt → ℕ → Type 0
+IsSlotOf d k = (k ≡ d.slot) ⊎ (k ≡ d.slot + 1)
+
+-- the tags of a directory's sources
+abbrev pub IsTagOf : DirAt → ℕ → Type 0
+IsTagOf d t = (t ≡ 32 + 2 * d.number) ⊎ (t ≡ 33 + 2 * d.number)
+
+-- a label of a block above the leaves of a directory's sources
+abbrev pub IsAboveOf : DirAt → Label → Type 0
+IsAboveOf d l = IsAbove (32 + 2 * d.number) true l ⊎ IsAbove (33 + 2 * d.number) false l
+
+-- one of the two leaves
+abbrev pub IsLeafOf : Leaves → ℕ → Type 0
+IsLeafOf leaves b = (b ≡ leaves.entries) ⊎ (b ≡ leaves.records)
+
+-- The sources of a directory were looked at and linked, and blocks above their leaves put into, beside some leaves; all else stays.
+abbrev pub AltersDir : DirAt → (ℕ → Type 0) → State → State → Type 0
+AltersDir d but s u = Alters d.at (IsSlotOf d) (IsTagOf d) (IsAboveOf d) but s u
+
+-- The leaf of a directory's entries that has a pair.
+pub record IsEntriesLeaf (d : DirAt) (pair : ℕ) (w : LeafOf) : Type 0 where
+  pub at_is : w.at ≡ d.at
+  pub slot_is : w.slot ≡ d.slot
+  pub kind : w.is_dir ≡ true
+  pub tag : w.tag ≡ 32 + 2 * d.number
+  pub rank : w.rank + 32 ≡ d.rank
+  pub limit : w.limit ≡ 2 ^ 38
+  pub leaf_is : w.leaf ≡ pair / 102
+
+-- A leaf of a directory's records.
+pub record IsRecordsLeaf (d : DirAt) (leaf : ℕ) (w : LeafOf) : Type 0 where
+  pub at_is : w.at ≡ d.at
+  pub slot_is : w.slot ≡ d.slot + 1
+  pub kind : w.is_dir ≡ false
+  pub tag : w.tag ≡ 33 + 2 * d.number
+  pub rank : w.rank + 24 ≡ d.rank
+  pub limit : w.limit ≡ 2 ^ 40
+  pub leaf_is : w.leaf ≡ leaf
+
+-- The two leaves may be changed, each of its source.
+pub record AreOwn (s : State) (d : DirAt) (leaves : Leaves) : Type 0 where
+  pub entries_own : IsOwnLeaf s (32 + 2 * d.number) true leaves.entries
+  pub records_own : IsOwnLeaf s (33 + 2 * d.number) false leaves.records
+
+-- The leaf of entries with a pair was made ready, and then a leaf of records, which were trimmed first where they had to be; each source was
+-- linked at once.
+pub record ReadiesBoth (s a b t c u : State) (d : DirAt) (pair leaf : ℕ) (leaves : Leaves) : Type 0 where
+  pub of_entries : LeafOf
+  pub is_entries : IsEntriesLeaf d pair of_entries
+  pub entries_ready : Readied s a b of_entries leaves.entries
+  pub of_records : LeafOf
+  pub is_records : IsRecordsLeaf d leaf of_records
+  pub trimmed : AltersDir d none b t
+  pub records_ready : Readied t c u of_records leaves.records
+
+-- The leaves hung from block 1 when all was last settled, or need not be written yet.
+abbrev pub AreInPlace : State → Leaves → Type 0
+AreInPlace s leaves = (b : ℕ) → IsLeafOf leaves b → s.newborn b ⊎ s.sealed b
+
+-- A record of a new file stands behind the others of its leaf, with its pair; from the moment when the leaves were in place.
+pub record IsPut (s u : State) (d : DirAt) (pair : ℕ) (leaves : Leaves) (named r : Record) : Type 0 where
+  pub numbered : IsNumbered named pair r.generation r
+  pub holds : RecordHolds r
+  pub raised : IsRaised ((s.now leaves.entries).slot (2 * (pair % 102))) r.generation
+  pub has_pair : HasBoth leaves.entries u.now r
+  pub listed : HasAdded r ((s.now leaves.records).bytes) ((u.now leaves.records).bytes)
+  pub alters : AltersDir d (IsLeafOf leaves) s u
+  pub own : AreOwn u d leaves
+
+-- A new file came into a directory: its leaves were made ready, then settled where they had to be, and then the pair and the record put.
+pub record IsNew (s a b t c p m u : State) (d : DirAt) (pair leaf : ℕ) (leaves : Leaves) (named r : Record) : Type 0 where
+  pub ready : ReadiesBoth s a b t c p d pair leaf leaves
+  pub settled : AltersDir d none p m
+  pub in_place : AreInPlace m leaves
+  pub put : IsPut m u d pair leaves named r

@@ -1,0 +1,3 @@
+pub mod Trails
+pub mod Blocks
+pub mod Pairs

@@ -1,0 +1,30 @@
+use Rattle.std.proofs.Common.{◌≡◌, ℕ, Bool, true, false, List, sym, subst, ◌∙◌}
+use Rattle.fo_dir_change.specs.Changes.{HasTaken}
+use Rattle.fo_files_record.specs.Stays.{Rewrites, IsPairSlot}
+use Rattle.fo_files_record.proofs.Rewriting.{rewrites_joins}
+use Rattle.fo_files_record.proofs.take.both_taken.Goals as goal
+
+pub second_cleared-requires-clause-silent : goal.second_cleared-requires-clause-silent
+second_cleared-requires-clause-silent g c = λ h. c.requires.silent ((g.met.B.Blocks.keeps_all c.args.on.now c.record_taken.new.on c.record_taken.ensures.keeps).still_tells.0 h)
+
+pub second_cleared-requires-clause-settled : goal.second_cleared-requires-clause-settled
+second_cleared-requires-clause-settled g c = c.record_taken.ensures.second (c.requires.settled.1 c.if-is_dir.true)
+
+pub returns-then-is_dir-clause-taken : goal.returns-then-is_dir-clause-taken
+returns-then-is_dir-clause-taken g c = subst (λ (xs : List ℕ). HasTaken c.args.name.now (((g.B.Blocks.state c.args.on.now).now c.args.leaf).bytes) xs) (sym c.second_cleared.ensures.bytes) c.record_taken.ensures.taken
+
+pub returns-then-is_dir-clause-second : goal.returns-then-is_dir-clause-second
+returns-then-is_dir-clause-second g c = λ e. c.second_cleared.ensures.second
+
+pub returns-then-is_dir-clause-stays : goal.returns-then-is_dir-clause-stays
+returns-then-is_dir-clause-stays g c =
+    rewrites_joins c.record_taken.ensures.stays (subst (λ (d : Bool). Rewrites (λ b. b ≡ c.args.leaf) (IsPairSlot c.args.entries c.args.p d) (g.B.Blocks.state c.record_taken.new.on) (g.B.Blocks.state c.second_cleared.new.on)) (sym c.if-is_dir.true) c.second_cleared.ensures.stays)
+
+pub returns-then-is_dir-clause-keeps : goal.returns-then-is_dir-clause-keeps
+returns-then-is_dir-clause-keeps g c = g.met.B.Blocks.keeps_joins c.args.on.now c.record_taken.new.on c.second_cleared.new.on c.record_taken.ensures.keeps c.second_cleared.ensures.keeps
+
+pub returns-else-is_dir-clause-second : goal.returns-else-is_dir-clause-second
+returns-else-is_dir-clause-second g c = λ e. let no : true ≡ false = sym e ∙ c.if-is_dir.false in absurd cc
+
+pub returns-else-is_dir-clause-stays : goal.returns-else-is_dir-clause-stays
+returns-else-is_dir-clause-stays g c = c.record_taken.ensures.stays

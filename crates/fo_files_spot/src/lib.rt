@@ -1,0 +1,13 @@
+//! Where a new file of a directory goes, over any blocks of a device that tells nothing.
+//!
+//! `spot_for` looks for the least free pair of a directory's entries, and for the first leaf of its records with room for a record of a
+//! length. `is_full` says whether the directory has as many names as one may have, 2^20.
+//!
+//! Proved: the calls only look, and each refusal has its cause. The pair and the leaf stand within the directory's sources, or right behind
+//! their last leaf. Not said: that the pair is free and that the leaf has room, since nothing is known of what such a device has; whoever
+//! takes the spot tests both again.
+#![tactic(auto)]
+
+mod spot;
+
+pub use spot::{MOST_NAMES, Spot, is_full, spot_for};

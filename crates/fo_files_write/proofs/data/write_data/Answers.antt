@@ -1,0 +1,169 @@
+use Rattle.std.proofs.Common.{◌≡◌, ◌⊎◌, ◌+◌, ◌*◌, ◌%◌, ◌<◌, ◌≤◌, ◌∙◌, ℕ, length, inl, sym, subst, arith}
+use Rattle.std.specs.Prelude.{max, ◌==◌, true, false}
+use Rattle.std.proofs.lemmas.Bool.Decides.{nat_tests}
+use Rattle.fo_ports.specs.State.{State}
+use Rattle.fo_ports.specs.declared.error.BlockError.{BlockError}
+use Rattle.fo_ports.specs.declared.error.BlockError.TheVariants.{Damaged}
+use Rattle.fo_ports.specs.Causes.{Caused}
+use Rattle.fo_base.specs.Cause.{Rose}
+use Rattle.fo_files_dir.proofs.Dirs.{pair_keeps}
+use Rattle.fo_files_write.specs.Alters.{Alters}
+use Rattle.fo_files_write.specs.Data.{HasData}
+use Rattle.fo_files_write.proofs.Steps.{alters_none}
+use Rattle.fo_files_write.proofs.Ends.{data_at, has_with, long_with, stays_with}
+use Rattle.fo_files_write.proofs.data.write_data.Goals as goal
+
+none_of : (n : ℕ) → (n == 0) ≡ true → 0 < n → ⊥
+none_of n = grind (arith, nat_tests)
+
+some_of : (n : ℕ) → (n == 0) ≡ false → 0 < n
+some_of n = grind (arith, nat_tests)
+
+rank_low : (rank high : ℕ) → rank + 8 ≡ high → high % 32 ≡ 8 → rank % 32 ≡ 0
+rank_low rank high is ranked = omega (arith, is, ranked)
+
+damaged_at : (s u : State) (at : ℕ) (why : BlockError) → s.is_block at → why ≡ Damaged at → Caused ⊥ (λ b. s.is_block b ⊎ (b ≡ 1)) (Rose s.faults u.faults) (Rose s.arena_faults u.arena_faults) why
+damaged_at s u at why block is = subst (λ w. Caused ⊥ (λ b. s.is_block b ⊎ (b ≡ 1)) (Rose s.faults u.faults) (Rose s.arena_faults u.arena_faults) w) (sym is) (inl block)
+
+pub returns-in-Err-clause-alters : goal.returns-in-Err-clause-alters
+returns-in-Err-clause-alters g c =
+    alters_none (g.B.Blocks.state c.args.on.now) c.args.file.at c.args.file.slot (32 + 2 * c.args.file.number)
+
+pub returns-in-Err-clause-keeps : goal.returns-in-Err-clause-keeps
+returns-in-Err-clause-keeps g c =
+    g.met.B.Blocks.keeps_at_once c.args.on.now
+
+pub returns-in-Err-clause-file : goal.returns-in-Err-clause-file
+returns-in-Err-clause-file g c =
+    c.requires.file
+
+pub returns-then-is_empty-clause-alters : goal.returns-then-is_empty-clause-alters
+returns-then-is_empty-clause-alters g c =
+    alters_none (g.B.Blocks.state c.args.on.now) c.args.file.at c.args.file.slot (32 + 2 * c.args.file.number)
+
+pub returns-then-is_empty-clause-keeps : goal.returns-then-is_empty-clause-keeps
+returns-then-is_empty-clause-keeps g c =
+    g.met.B.Blocks.keeps_at_once c.args.on.now
+
+pub returns-then-is_empty-clause-file : goal.returns-then-is_empty-clause-file
+returns-then-is_empty-clause-file g c =
+    c.requires.file
+
+pub returns-in-Err-clause-stays : goal.returns-in-Err-clause-stays
+returns-in-Err-clause-stays g c =
+    λ size has. has
+
+pub returns-in-Err-clause-cause : goal.returns-in-Err-clause-cause
+returns-in-Err-clause-cause g c =
+    let s = g.B.Blocks.state c.args.on.now in damaged_at s s c.args.file.at c.in-Err.why c.requires.file.pair.is_one c.in-Err.ensures.damaged
+
+pub returns-then-is_empty-clause-has : goal.returns-then-is_empty-clause-has
+returns-then-is_empty-clause-has g c =
+    let s = g.B.Blocks.state c.args.on.now in
+    let f = c.args.file in
+    let x = c.in-Ok.source.ways in
+    let e = c.in-Ok.ensures in
+    subst (λ z. HasData s f z) (sym c.len.ensures) (data_at s f x.tree x.generation e.entry e.is.1 e.is.0)
+
+pub returns-then-is_empty-clause-length : goal.returns-then-is_empty-clause-length
+returns-then-is_empty-clause-length g c =
+    let s = g.B.Blocks.state c.args.on.now in
+    let f = c.args.file in
+    let x = c.in-Ok.source.ways in
+    let e = c.in-Ok.ensures in
+    (x.tree.size, data_at s f x.tree x.generation e.entry e.is.1 e.is.0, λ none. c.len.ensures, λ more. absurd (none_of (length c.args.piece.now) (sym c.is_empty.ensures ∙ c.if-is_empty.true) more))
+
+pub write_source-requires-clause-data : goal.write_source-requires-clause-data
+write_source-requires-clause-data g c =
+    let s = g.B.Blocks.state c.args.on.now in
+    let f = c.args.file in
+    let x = c.in-Ok.source.ways in
+    let e = c.in-Ok.ensures in
+    (e.is.1, rank_low x.tree.rank f.rank e.is.2 c.requires.file.ranked)
+
+pub write_source-requires-clause-within : goal.write_source-requires-clause-within
+write_source-requires-clause-within g c =
+    let s = g.B.Blocks.state c.args.on.now in
+    let f = c.args.file in
+    let x = c.in-Ok.source.ways in
+    let e = c.in-Ok.ensures in
+    subst (λ z. c.args.offset + length c.args.piece.now ≤ z) (sym e.is.3) c.requires.within
+
+pub returns-clause-has : goal.returns-clause-has
+returns-clause-has g c =
+    let s = g.B.Blocks.state c.args.on.now in
+    let f = c.args.file in
+    let x = c.in-Ok.source.ways in
+    let e = c.in-Ok.ensures in
+    let u = g.B.Blocks.state c.write_source.new.on in
+    let z = c.write_source.new.source.ways in
+    let k = c.write_source.ensures in
+    let n = length c.args.piece.now in
+    let all = g.met.B.Blocks.keeps_all c.args.on.now c.write_source.new.on k.keeps in
+    let plain = k.same.0 ∙ e.is.1 in
+    let tag = k.same.1 ∙ e.is.0 in
+    has_with u f z.tree z.generation (max x.tree.size (c.args.offset + n)) c.write_source.result k.entry plain tag k.size
+
+pub returns-clause-length : goal.returns-clause-length
+returns-clause-length g c =
+    let s = g.B.Blocks.state c.args.on.now in
+    let f = c.args.file in
+    let x = c.in-Ok.source.ways in
+    let e = c.in-Ok.ensures in
+    let u = g.B.Blocks.state c.write_source.new.on in
+    let z = c.write_source.new.source.ways in
+    let k = c.write_source.ensures in
+    let n = length c.args.piece.now in
+    let all = g.met.B.Blocks.keeps_all c.args.on.now c.write_source.new.on k.keeps in
+    let plain = k.same.0 ∙ e.is.1 in
+    let tag = k.same.1 ∙ e.is.0 in
+    long_with s f x.tree x.generation z.tree.size n c.args.offset c.write_source.result e.entry e.is.1 e.is.0 (some_of n (sym c.is_empty.ensures ∙ c.if-is_empty.false)) k.size
+
+pub returns-clause-stays : goal.returns-clause-stays
+returns-clause-stays g c =
+    let s = g.B.Blocks.state c.args.on.now in
+    let f = c.args.file in
+    let x = c.in-Ok.source.ways in
+    let e = c.in-Ok.ensures in
+    let u = g.B.Blocks.state c.write_source.new.on in
+    let z = c.write_source.new.source.ways in
+    let k = c.write_source.ensures in
+    let n = length c.args.piece.now in
+    let all = g.met.B.Blocks.keeps_all c.args.on.now c.write_source.new.on k.keeps in
+    let plain = k.same.0 ∙ e.is.1 in
+    let tag = k.same.1 ∙ e.is.0 in
+    stays_with s u f x.tree z.tree x.generation z.generation c.write_source.result e.entry k.entry plain tag k.stays
+
+pub returns-clause-file : goal.returns-clause-file
+returns-clause-file g c =
+    let s = g.B.Blocks.state c.args.on.now in
+    let f = c.args.file in
+    let x = c.in-Ok.source.ways in
+    let e = c.in-Ok.ensures in
+    let u = g.B.Blocks.state c.write_source.new.on in
+    let z = c.write_source.new.source.ways in
+    let k = c.write_source.ensures in
+    let n = length c.args.piece.now in
+    let all = g.met.B.Blocks.keeps_all c.args.on.now c.write_source.new.on k.keeps in
+    let plain = k.same.0 ∙ e.is.1 in
+    let tag = k.same.1 ∙ e.is.0 in
+    let same = k.alters.others f.at (λ made. made.0 c.requires.file.pair.live) in
+    record { pair = pair_keeps s u f.at f.slot all same.label same.is_pinned c.requires.file.pair; ranked = c.requires.file.ranked; most = c.requires.file.most }
+
+pub returns-clause-alters : goal.returns-clause-alters
+returns-clause-alters g c =
+    let s = g.B.Blocks.state c.args.on.now in
+    let f = c.args.file in
+    let x = c.in-Ok.source.ways in
+    let e = c.in-Ok.ensures in
+    let u = g.B.Blocks.state c.write_source.new.on in
+    let z = c.write_source.new.source.ways in
+    let k = c.write_source.ensures in
+    let n = length c.args.piece.now in
+    let all = g.met.B.Blocks.keeps_all c.args.on.now c.write_source.new.on k.keeps in
+    let plain = k.same.0 ∙ e.is.1 in
+    let tag = k.same.1 ∙ e.is.0 in
+    subst (λ t. Alters f.at f.slot t s u) e.is.0 k.alters
+
+pub write_source-requires-clause-some : goal.write_source-requires-clause-some
+write_source-requires-clause-some g c = some_of (length c.args.piece.now) (sym c.is_empty.ensures ∙ c.if-is_empty.false)
