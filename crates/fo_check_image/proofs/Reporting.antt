@@ -1,6 +1,6 @@
 -- What is answered of a tree that was checked.
-use Rattle.std.proofs.Common.{◌≡◌, ◌⊎◌, ⊎_elim, inl, inr, ℕ, ◌<◌, true, List, [], ◌∷◌, length, Option, None, Some, MatchOption, MatchResult, refl, sym, ◌∙◌, ap, subst, arith}
-use Rattle.std.specs.Prelude.{IfErr}
+use Rattle.std.proofs.Common.{◌≡◌, ◌⊎◌, ⊎_elim, inl, inr, ℕ, ◌+◌, ◌<◌, ◌≤◌, true, List, [], ◌∷◌, length, Option, None, Some, MatchOption, MatchResult, refl, sym, ◌∙◌, ap, subst, arith}
+use Rattle.std.specs.Prelude.{IfErr, IfOk}
 use Rattle.std.specs.List.{Contains}
 use Rattle.std.proofs.lemmas.Bool.{cases_eq}
 use Rattle.std.proofs.lemmas.List.{length-map}
@@ -56,6 +56,11 @@ pub refusal_is : (e : TreeError) → IsOfTree (refusal_of e)
 refusal_is (tree.Label block) = (omega arith, omega arith)
 refusal_is tree.Read = tt
 refusal_is tree.Memory = tt
+
+-- The report has the number of used blocks that was found.
+pub report_reads : (blocks used leaked calls most : ℕ) (o : Option Broken) → calls ≤ most + used → IfOk (report_of blocks used leaked o) (λ r. calls ≤ most + r.used)
+report_reads blocks used leaked calls most None few = few
+report_reads blocks used leaked calls most (Some b) few = tt
 
 pub report_is : (blocks used leaked : ℕ) (o : Option Broken) → ((b : Broken) → o ≡ Some b → IsRule b.rule) → IfErr (report_of blocks used leaked o) IsOfTree
 report_is blocks used leaked None rules = tt

@@ -1,6 +1,7 @@
 //! The check.
-ghost use Rattle.std.specs.Prelude.{◌≡◌, ℕ, ◌<◌, List, length, IfErr, IfOk, MatchResult};
+ghost use Rattle.std.specs.Prelude.{◌≡◌, ℕ, ◌+◌, ◌<◌, ◌≤◌, List, length, IfErr, IfOk, MatchResult};
 ghost use Rattle.fo_disk.specs.Disk.{Block};
+ghost use Rattle.fo_image.specs.Place.{label_blocks};
 ghost use Rattle.fo_sound.specs.Sizes.{IsMainSize, HasSizes, IsArena};
 ghost use Rattle.fo_sound.specs.Device.{Shows};
 ghost use Rattle.fo_sound.specs.Fresh.{IsFresh};
@@ -61,6 +62,8 @@ fn check_opened<D: Disk>(
     ensures of_tree { IfErr result IsOfTree }
     ensures size { D.size main.new ≡ D.size main.old }
     ensures kept { D.state main.new ≡ D.state main.old }
+    ensures most { D.calls main.new ≤ D.calls main.old + opening.now.blocks }
+    ensures reads { IfOk result (λ r. D.calls main.new ≤ D.calls main.old + label_blocks opening.now.blocks + r.used) }
     ensures causes { HasCauses (D.faults main.old) (D.faults main.new) 0 0 result }
 {
     let setting = Setting {

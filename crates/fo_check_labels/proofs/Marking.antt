@@ -1,16 +1,19 @@
 -- The list of blocks that are not free: a look for an address, a block that is marked, one block more.
-use Rattle.std.proofs.Common.{◌≡◌, ◌≢◌, ⊎_elim, ℕ, ◌+◌, ◌<◌, true, false, not, cond, ltb, List, [], ◌∷◌, ◌++◌, length, get_or, set, get_or-set_same, get_or-set_other, length-set, refl, sym, ap, ◌∙◌, subst, Result, Ok, Err, arith}
+use Rattle.std.proofs.Common.{◌≡◌, ◌≢◌, ⊎_elim, ℕ, ◌+◌, ◌<◌, ◌≤◌, true, false, not, cond, ltb, List, [], ◌∷◌, ◌++◌, length, get_or, set, get_or-set_same, get_or-set_other, length-set, refl, sym, ap, ◌∙◌, subst, Result, Ok, Err, arith}
 use Rattle.std.specs.List.{All, Any}
 use Rattle.std.specs.List.Sorted.{IsNonDecreasingBy, IsPartitionPoint}
-use Rattle.std.specs.Prelude.{is_ok, is_err, if◌then◌else◌}
+use Rattle.std.specs.Prelude.{OnOk, is_ok, is_err, if◌then◌else◌}
 use Rattle.std.proofs.lemmas.Bool.{cases_eq, cases_lt, false≢true}
 use Rattle.std.proofs.lemmas.List.Quantifiers.{all_pairs_push}
-use Rattle.std.proofs.lemmas.List.Sums.{sum_by-set, sum_by_push}
+use Rattle.std.proofs.lemmas.List.Filters.{length-filter_both}
+use Rattle.std.proofs.lemmas.List.Sums.{sum_by-set, sum_by_push, length-filter}
 use borrow.Author.Tests.{ltb-true, ltb-false}
 use Rattle.fo_image.specs.declared.types.Label.{Label}
-use Rattle.std.proofs.lemmas.List.{get_or_default}
+use Rattle.std.proofs.lemmas.List.{get_or_default, length-append}
+use Rattle.fo_image.specs.Place.{first_data}
 use Rattle.fo_check_labels.specs.declared.labels.Known.{Known}
-use Rattle.fo_check_labels.specs.Known.{Ascend, IsBelow, IsAt, IsKnown, Marks, unreached}
+use Rattle.fo_check_labels.specs.declared.labels.Labels.{Labels}
+use Rattle.fo_check_labels.specs.Known.{Ascend, IsBelow, IsAt, IsKnown, IsFew, Marks, fresh, unreached, reached}
 
 pub rising : (known : List Known) → Ascend known → IsNonDecreasingBy (λ k. k.address) known
 rising known up i j d le lt = ⊎_elim (λ same. rw same (omega arith)) (λ apart. let less = up i j d (omega arith) lt in omega arith) (cases_eq i j)
@@ -89,3 +92,22 @@ only_label known address l m up a b = ⊎_elim
   where
     at : {n : Label} (c : Any (IsKnown address n) known) (d : Known) → (get_or known c.0 d).address ≡ address
     at c d = ap (λ (k : Known). k.address) (get_or_default known c.0 d c.1 c.2 ∙ c.3) ∙ c.4.address_is
+
+-- ---- how many there are
+
+pub few_upto : {blocks upto next : ℕ} (known : List Known) → upto ≤ next → IsFew blocks upto known → IsFew blocks next known
+few_upto known le f = record { below = omega (arith, le, f.below); most = f.most }
+
+pub few_more : {blocks : ℕ} {E : Type 0} (known new : List Known) (address : ℕ) (l : Label) (r : Result Unit E) → first_data blocks ≤ address → address < blocks → IsFew blocks address known
+    → OnOk r (new ≡ known ++ fresh address l ∷ []) → OnOk r (IsFew blocks (address + 1) new)
+few_more known new address l (Ok x) from to f added =
+    let long : length new ≡ length known + 1 = ap length added ∙ length-append known (fresh address l ∷ []) in
+    record { below = omega (arith, long, from, to, f.below); most = omega (arith, long, from, to, f.below) }
+few_more known new address l (Err e) from to f added = tt
+
+split : (known : List Known) → reached known + unreached known ≡ length known
+split known = omega (arith, length-filter_both (λ k. k.reached) (λ k. not k.reached) (λ k. refl) known, length-filter (λ (k : Known). k.reached) known, length-filter (λ (k : Known). not k.reached) known)
+
+-- Each block was reached, or may still be.
+pub reached_left : (l : Labels) → reached l.known.items + l.left ≡ length l.known.items
+reached_left l = omega (arith, split l.known.items, l.counted)

@@ -1,6 +1,7 @@
 -- The blocks that are not free: in ascending order, reached or not.
-use Rattle.std.specs.Prelude.{◌≡◌, ℕ, ◌<◌, ◌≤◌, true, false, not, ◌&&◌, List, length, count_by, slice_index_or, slice_set}
+use Rattle.std.specs.Prelude.{◌≡◌, ℕ, ◌-◌, ◌<◌, ◌≤◌, true, false, not, ◌&&◌, List, length, count_by, slice_index_or, slice_set}
 use Rattle.std.specs.List.{All, AllPairs}
+use Rattle.fo_image.specs.Place.{first_data}
 use Rattle.fo_image.specs.Usable.{is_usable}
 use Rattle.fo_image.specs.declared.types.Label.{Label}
 use Rattle.fo_check_labels.specs.declared.labels.Known.{Known}
@@ -50,3 +51,8 @@ pub record MarksNone (address : ℕ) (known known' : List Known) : Type 0 where
 pub record IsBelow (upto : ℕ) (known : List Known) : Type 0 where
   pub each : All (λ k. k.address < upto) known
   pub few : length known ≤ upto
+
+-- There are at most so many as there are data blocks below this address.
+pub record IsFew (blocks upto : ℕ) (known : List Known) : Type 0 where
+  pub below : length known ≤ upto - first_data blocks
+  pub most : length known ≤ blocks - first_data blocks

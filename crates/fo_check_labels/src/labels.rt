@@ -1,13 +1,13 @@
 //! The labels of the blocks that are not free, and which of them were reached.
-ghost use Rattle.std.specs.Prelude.{◌≡◌, ◌≢◌, ℕ, ◌+◌, ◌*◌, ◌^◌, ◌<◌, ◌≤◌, ◌↔◌, List, [], ◌∷◌, ◌++◌, length, IfErr, OnOk, IsTrue, MatchBool, MatchOption, MatchResult};
+ghost use Rattle.std.specs.Prelude.{◌≡◌, ◌≢◌, ℕ, ◌+◌, ◌-◌, ◌*◌, ◌^◌, ◌<◌, ◌≤◌, ◌↔◌, List, [], ◌∷◌, ◌++◌, length, IfErr, IfOk, OnOk, IsTrue, MatchBool, MatchOption, MatchResult};
 ghost use Rattle.std.specs.List.{All, Any};
-ghost use Rattle.fo_image.specs.Place.{label_blocks};
+ghost use Rattle.fo_image.specs.Place.{label_blocks, first_data};
 ghost use Rattle.fo_disk.specs.Disk.{Block};
 ghost use Rattle.fo_sound.specs.Device.{Shows};
 ghost use Rattle.fo_sound.specs.Image.{block_of, label_bytes};
 ghost use Rattle.fo_check_labels.specs.Table.{IsScanned, RefusesTable};
 ghost use Rattle.fo_check_labels.specs.Cause.{HasCauses};
-ghost use Rattle.fo_check_labels.specs.Known.{Ascend, IsBelow, fresh, unreached, reached, leaked, IsAt, IsKnown, Marks, MarksNone};
+ghost use Rattle.fo_check_labels.specs.Known.{Ascend, IsBelow, IsFew, fresh, unreached, reached, leaked, IsAt, IsKnown, Marks, MarksNone};
 ghost use Rattle.fo_check_labels.specs.declared.error.TreeError.TheVariants.{Read as ReadFault, Memory as NoMemory};
 ghost use Rattle.fo_image.specs.declared.types.State.TheVariants.{Free};
 
@@ -57,6 +57,8 @@ impl Labels {
         ensures table { (image : List Block) → length image ≡ blocks → Shows (D.state main.old).holds image → MatchResult result (λ l. IsScanned image (label_blocks blocks) (585 * label_blocks blocks) l.known.items) (RefusesTable image) }
         ensures size { D.size main.new ≡ D.size main.old }
         ensures kept { D.state main.new ≡ D.state main.old }
+        ensures few { IfOk result (λ l. length l.known.items ≤ blocks - first_data blocks) }
+        ensures reads { D.calls main.new ≤ D.calls main.old + label_blocks blocks }
         ensures cause { HasCauses (D.faults main.old) (D.faults main.new) result }
     {
         let mut labels = Labels {
@@ -78,6 +80,7 @@ impl Labels {
         requires most { blocks ≤ 2 ^ 20 }
         requires below { IsBelow (585 * n) self.old.known.items }
         ensures below { OnOk result (IsBelow (585 * (n + 1)) self.new.known.items) }
+        ensures few { IsFew blocks (585 * n) self.old.known.items → OnOk result (IsFew blocks (585 * (n + 1)) self.new.known.items) }
         ensures table { (image : List Block) → length image ≡ blocks → block.now ≡ block_of image (2 + n) → IsScanned image n (585 * n) self.old.known.items
             → MatchResult result (λ _. IsScanned image (n + 1) (585 * (n + 1)) self.new.known.items) (RefusesTable image) }
         ensures cause { IfErr result (λ e. e ≡ ReadFault → ⊥) }
@@ -102,6 +105,7 @@ impl Labels {
         requires place { address < 585 * label_blocks blocks }
         requires below { IsBelow address self.old.known.items }
         ensures below { OnOk result (IsBelow (address + 1) self.new.known.items) }
+        ensures few { IsFew blocks address self.old.known.items → OnOk result (IsFew blocks (address + 1) self.new.known.items) }
         ensures table { (image : List Block) (seen : ℕ) → length image ≡ blocks → bytes.now ≡ label_bytes image address → IsScanned image seen address self.old.known.items
             → MatchResult result (λ _. IsScanned image seen (address + 1) self.new.known.items) (RefusesTable image) }
         ensures cause { IfErr result (λ e. e ≡ ReadFault → ⊥) }
@@ -165,6 +169,7 @@ impl Labels {
     pub fn reach(&mut self, address: u32) -> bool
         ensures fewer { IsTrue result → self.new.left + 1 ≤ self.old.left }
         ensures left { self.new.left ≤ self.old.left }
+        ensures long { length self.new.known.items ≡ length self.old.known.items }
         ensures marks { MatchBool result (Marks address self.old.known.items self.new.known.items) (MarksNone address self.old.known.items self.new.known.items) }
     {
         let Some(at) = self.find(address) else {

@@ -9,6 +9,7 @@ pub mod Lower
 pub mod Notes
 pub mod Numbers
 pub mod Pairing
+pub mod Reads
 pub mod Slots
 pub mod Steps
 pub mod Walking

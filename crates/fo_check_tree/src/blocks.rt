@@ -26,6 +26,7 @@ ghost use Rattle.fo_check_tree.specs.Depths.{Deepens, NotesDepths, AreSpread};
 ghost use Rattle.fo_check_tree.specs.Numbers.{AreBelow, HasSources, AreFresh};
 ghost use Rattle.fo_check_tree.specs.Pairing.{Seeks, AsksOf, LeadsOf, IsApart, MissesBy, AreSought, AreAsked, AreHidden, AreLed, Grows, GrowsUnnamed};
 ghost use Rattle.fo_check_names.specs.declared.names.Named.{Named};
+ghost use Rattle.fo_check_tree.specs.Reads.{Spends};
 ghost use Rattle.fo_check_tree.specs.Walking.{Reached, Walking};
 ghost use Rattle.fo_check_tree.specs.Lower.{lower, level};
 ghost use Rattle.fo_check_tree.specs.Slots.{unless, steps_by, steps_below, steps_of, HasSlots};
@@ -93,6 +94,7 @@ pub(crate) fn follow_all<D: Disk>(
     ensures level { OnOk result (level walk.new.noted ≤ level walk.old.noted) }
     ensures size { D.size main.new ≡ D.size main.old }
     ensures kept { D.state main.new ≡ D.state main.old }
+    ensures reads { Spends (D.calls main.old) (D.calls main.new) walk.old.labels walk.new.labels result }
     ensures cause { HasCauses (D.faults main.old) (D.faults main.new) result }
     ensures pairs { (arena : Arena) (device : List Block) (image : Image) (s : Super) (k : Kept) (entries : Link) (names : List Named) (rest : List Step) → Shows (D.state main.old).holds device → Walking arena device image s k rest walk.old → named ≡ true
         → AreSought arena image entries names walk.old.noted walk.old.steps.items walk.old.named.items walk.old.folders.items → OnOk result (AreSought arena image entries names walk.new.noted walk.new.steps.items walk.new.named.items walk.new.folders.items) }
@@ -139,6 +141,7 @@ fn follow<D: Disk>(
     ensures level { OnOk result (level walk.new.noted ≤ level walk.old.noted) }
     ensures size { D.size main.new ≡ D.size main.old }
     ensures kept { D.state main.new ≡ D.state main.old }
+    ensures reads { Spends (D.calls main.old) (D.calls main.new) walk.old.labels walk.new.labels result }
     ensures cause { HasCauses (D.faults main.old) (D.faults main.new) result }
 {
     match step.pointer {
@@ -172,6 +175,7 @@ fn follow_local<D: Disk>(
     ensures level { OnOk result (level walk.new.noted ≤ level walk.old.noted) }
     ensures size { D.size main.new ≡ D.size main.old }
     ensures kept { D.state main.new ≡ D.state main.old }
+    ensures reads { Spends (D.calls main.old) (D.calls main.new) walk.old.labels walk.new.labels result }
     ensures cause { HasCauses (D.faults main.old) (D.faults main.new) result }
 {
     let label = label_of(walk, step, address)?;
@@ -249,6 +253,7 @@ fn enter<D: Disk>(
     ensures level { OnOk result (level walk.new.noted ≤ level walk.old.noted) }
     ensures size { D.size main.new ≡ D.size main.old }
     ensures kept { D.state main.new ≡ D.state main.old }
+    ensures reads { D.calls main.new ≤ D.calls main.old + 1 }
     ensures cause { HasCauses (D.faults main.old) (D.faults main.new) result }
     ensures named { (device : List Block) → Shows (D.state main.old).holds device → OnOk result (Adds step.now here.block (block_of device here.block) step.now.kind walk.old.named.items walk.new.named.items) }
     ensures leaf { (device : List Block) → Shows (D.state main.old).holds device → step.now.kind ≡ Data 0 → step.now.holds ≡ Records → OnOk result (5 < level walk.new.noted → IsLeaf (block_of device here.block)) }

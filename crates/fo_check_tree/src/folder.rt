@@ -18,6 +18,7 @@ ghost use Rattle.fo_sound.specs.Image.{is_zero};
 ghost use Rattle.fo_sound.specs.Device.{Shows};
 ghost use Rattle.fo_check_tree.specs.declared.walk.Holds.TheVariants.{Bytes, Entries};
 ghost use Rattle.fo_check_tree.specs.Answer.{RefusesTree};
+ghost use Rattle.fo_check_tree.specs.Reads.{Spends};
 ghost use Rattle.fo_check_tree.specs.Walking.{Reached, Walking, tops};
 ghost use Rattle.fo_check_labels.specs.Cause.{HasCauses};
 ghost use Rattle.fo_check_tree.specs.Lower.{lower, level};
@@ -332,6 +333,7 @@ fn list<D: Disk>(
     ensures level { OnOk result (level walk.new.noted ≤ level walk.old.noted) }
     ensures size { D.size main.new ≡ D.size main.old }
     ensures kept { D.state main.new ≡ D.state main.old }
+    ensures reads { Spends (D.calls main.old) (D.calls main.new) walk.old.labels walk.new.labels result }
     ensures cause { HasCauses (D.faults main.old) (D.faults main.new) result }
     ensures listed { (arena : Arena) (device : List Block) (image : Image) (s : Super) (k : Kept) (meta : Link) → Shows (D.state main.old).holds device → Walking arena device image s k (tops folder.now) walk.old → IsMetaOf folder.now meta
         → walk.old.steps.items ≡ [] → walk.old.named.items ≡ [] → OnOk result (AreInOrder arena image k meta folder.now.named walk.new.noted walk.new.named.items) }
@@ -399,6 +401,7 @@ pub(crate) fn walk_folder<D: Disk>(
     ensures level { OnOk result (level walk.new.noted ≤ level walk.old.noted) }
     ensures size { D.size main.new ≡ D.size main.old }
     ensures kept { D.state main.new ≡ D.state main.old }
+    ensures reads { Spends (D.calls main.old) (D.calls main.new) walk.old.labels walk.new.labels result }
     ensures cause { HasCauses (D.faults main.old) (D.faults main.new) result }
     ensures pairs { (arena : Arena) (device : List Block) (image : Image) (s : Super) (k : Kept) → Shows (D.state main.old).holds device → Walking arena device image s k (tops folder.now) walk.old → walk.old.steps.items ≡ [] → folder.now.named ≡ true
         → OnOk result (Settles arena image k folder.now walk.new.noted walk.new.folders.items numbers.old.items numbers.new.items) }

@@ -13,6 +13,7 @@ ghost use Rattle.std.specs.List.{All, Any};
 ghost use Rattle.fo_check_names.specs.Names.{number_of, holder_of, Differ, IsTwice, IsFileNumber, IsNoFile};
 ghost use Rattle.fo_check_tree.specs.Numbers.{HasSources};
 ghost use Rattle.fo_check_tree.specs.Pairing.{AreSettled, HasHeads};
+ghost use Rattle.fo_check_tree.specs.Reads.{ReadsOnce};
 ghost use Rattle.fo_check_tree.specs.Walking.{IsUnbegun, Walking};
 ghost use Rattle.fo_disk.specs.Disk.{Block};
 ghost use Rattle.fo_sound.specs.Sound.{HasTable, HasRootEntries};
@@ -73,6 +74,7 @@ pub fn check_tree<D: Disk>(
     ensures rules { IfOk result (λ found. (b : Broken) → found.broken ≡ Some b → IsRule b.rule) }
     ensures size { D.size main.new ≡ D.size main.old }
     ensures kept { D.state main.new ≡ D.state main.old }
+    ensures reads { ReadsOnce (D.calls main.old) (D.calls main.new) setting.blocks result }
     ensures cause { HasCauses (D.faults main.old) (D.faults main.new) result }
 {
     let s = setting.s;
@@ -150,6 +152,7 @@ fn start(walk: &mut Walk, s: &Super, root: &RootBlock) -> Result<(), AllocError>
         → OnOk result (AreFormed arena image k walk.new.labels.known.items walk.new.noted walk.new.steps.items walk.new.folders.items) }
     ensures grounds { (arena : Arena) (device : List Block) (image : Image) (k : Kept) → k.root ≡ root.now → HoldsAny arena device image s.now k → IsUnbegun device s.now walk.old → OnOk result (HasGrounds arena image k walk.new.noted walk.new.steps.items walk.new.folders.items) }
     ensures blocks { OnOk result (walk.new.blocks ≡ walk.old.blocks) }
+    ensures left { OnOk result ((walk.new.labels.left ≤ walk.old.labels.left) × (length walk.new.labels.known.items ≡ length walk.old.labels.known.items)) }
     ensures judged { OnOk result (JudgesRoot root.now walk.new.noted) }
     ensures rules { OnOk result (KeepsRules walk.old.noted walk.new.noted) }
     ensures pairs { (arena : Arena) (device : List Block) (image : Image) (k : Kept) → k.root ≡ root.now → HoldsAny arena device image s.now k → IsUnbegun device s.now walk.old → OnOk result (AreSettled arena image k walk.new.noted walk.new.folders.items []) }

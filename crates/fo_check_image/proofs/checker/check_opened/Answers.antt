@@ -4,7 +4,7 @@ use Rattle.fo_sound.specs.Sound.{HasActiveRoot}
 use Rattle.fo_check_image.proofs.Reading.{reading, empty}
 use Rattle.fo_check_image.proofs.Bare.{bare_holds, bare_report}
 use Rattle.fo_check_image.proofs.Normal.{as_read, same_tree, same_root}
-use Rattle.fo_check_image.proofs.Reporting.{whole, found_answers, refusal_answers, only_found, only_refusal}
+use Rattle.fo_check_image.proofs.Reporting.{whole, found_answers, refusal_answers, only_found, only_refusal, report_reads}
 use Rattle.fo_check_image.proofs.checker.check_opened.Goals as goal
 
 pub returns-in-Ok-clause-answer : goal.returns-in-Ok-clause-answer
@@ -43,3 +43,6 @@ returns-in-Ok-clause-bare g c image vault shows opens bare =
     let o = c.args.opening.now in
     rw c.report_of.ensures (bare_report image vault o opens bare c.in-Ok.found c.in-Ok.found.broken
     (c.in-Ok.ensures.walked empty image (reading image o.s o.root) (record { at = o.s.active; root = o.root }) (sym opens.blocks) shows refl (bare_holds image vault o opens bare)))
+
+pub returns-in-Ok-clause-reads : goal.returns-in-Ok-clause-reads
+returns-in-Ok-clause-reads g c = rw c.report_of.ensures (report_reads _ _ _ _ _ c.in-Ok.found.broken c.in-Ok.ensures.reads.1)

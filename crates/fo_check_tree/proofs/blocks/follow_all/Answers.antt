@@ -153,6 +153,7 @@ loop-step-preserved g c = record {
   same = c.follow.ensures.size ∙ c.loop-step.invariant.same;
   kept = c.follow.ensures.kept ∙ c.loop-step.invariant.kept;
   later = omega (arith, c.follow.ensures.cause.later, c.loop-step.invariant.later);
+  reads = (omega (arith, c.in_ok-follow.ensures.reads.0, c.loop-step.invariant.reads.0), c.in_ok-follow.ensures.reads.1 ∙ c.loop-step.invariant.reads.1);
   budget = omega (arith, c.in_ok-follow.ensures.budget, c.loop-step.invariant.budget);
 }
 
@@ -181,6 +182,7 @@ loop-step-init g c = record {
   same = refl;
   kept = refl;
   later = omega arith;
+  reads = (omega arith, refl);
   budget = omega arith;
 }
 

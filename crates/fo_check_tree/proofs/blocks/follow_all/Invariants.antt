@@ -59,6 +59,7 @@ invariant-loop-step g l = record {
   same : g.D.Disk.size l.main ≡ g.D.Disk.size l.fn.main;
   kept : g.D.Disk.state l.main ≡ g.D.Disk.state l.fn.main;
   later : g.D.Disk.faults l.fn.main ≤ g.D.Disk.faults l.main;
+  reads : (g.D.Disk.calls l.main + l.walk.labels.left ≤ g.D.Disk.calls l.fn.main + l.fn.walk.labels.left) × (length l.walk.labels.known.items ≡ length l.fn.walk.labels.known.items);
   budget : 205 * l.walk.labels.left + length l.walk.folders.items ≤ 205 * l.fn.walk.labels.left + length l.fn.walk.folders.items;
 }
 

@@ -5,6 +5,7 @@ use Rattle.fo_sound.specs.Device.{Shows}
 use Rattle.fo_check_tree.specs.declared.walk.Walk.{Walk}
 use Rattle.fo_image.specs.declared.record.RootBlock.{RootBlock}
 use Rattle.fo_check_labels.specs.declared.labels.Labels.{Labels}
+use Rattle.fo_check_labels.specs.Known.{reached}
 use Rattle.fo_check_tree.specs.Dirs.{AreJudged}
 use Rattle.fo_check_tree.specs.Lower.{IsRule, JudgesRoot}
 use Rattle.fo_check_tree.specs.declared.broken.Broken.{Broken}
@@ -25,6 +26,7 @@ use Rattle.fo_check_tree.proofs.Deepening.{sources_open}
 use Rattle.fo_check_tree.proofs.Lacking.{names_kept, heads_open}
 use Rattle.fo_check_tree.proofs.Levels.{judges_later}
 use Rattle.fo_check_labels.proofs.Scanning.{table_whole}
+use Rattle.fo_check_labels.proofs.Marking.{reached_left}
 use Rattle.fo_check_tree.proofs.Sounding.{holds_sound, names_none, refuses_none}
 use Rattle.fo_check_names.specs.declared.names.Number.{Number}
 use Rattle.fo_check_tree.specs.Pairing.{AreSettled, HasHeads}
@@ -147,6 +149,12 @@ loop-folder-init g c = record {
       ⊎_elim (λ (before : None ≡ Some b). absurd (none_some b before)) (λ (now : IsRule b.rule). now) (r.each b e);
   judged = search rules;
   same = search rules;
+  reads =
+      let left = on_ok_is c.start.result _ (sym c.is_err.ensures.value ∙ c.if-is_err.false) c.start.ensures.left in
+      omega (arith, left.0, left.1, reached_left c.in_ok-labels.labels, c.read.ensures.reads);
+  few =
+      let left = on_ok_is c.start.result _ (sym c.is_err.ensures.value ∙ c.if-is_err.false) c.start.ensures.left in
+      omega (arith, left.1, c.in_ok-labels.ensures.few);
   kept = search rules;
   later = search rules;
 }
@@ -242,6 +250,8 @@ loop-folder-preserved g c = record {
   rules = λ b e. ⊎_elim (λ (before : c.loop-folder.walk.noted ≡ Some b). c.loop-folder.invariant.rules b before) (λ (now : IsRule b.rule). now) (c.in_ok-walk_folder.ensures.rules.each b e);
   judged = judges_later c.in_ok-walk_folder.ensures.level c.loop-folder.invariant.judged;
   same = search rules;
+  reads = omega (arith, c.in_ok-walk_folder.ensures.reads.0, c.in_ok-walk_folder.ensures.reads.1, c.loop-folder.invariant.reads);
+  few = omega (arith, c.in_ok-walk_folder.ensures.reads.1, c.loop-folder.invariant.few);
   kept = search rules;
   later = search rules;
 }
@@ -306,3 +316,9 @@ returns-clause-exact g c arena device image k len shows is root table sound =
 
 pub returns-clause-rules : goal.returns-clause-rules
 returns-clause-rules g c b e = ⊎_elim (λ (before : c.loop-folder.walk.noted ≡ Some b). c.loop-folder.invariant.rules b before) (λ (now : IsRule b.rule). now) (c.check_numbers.ensures.lowers.rules b e)
+
+pub returns-clause-reads : goal.returns-clause-reads
+returns-clause-reads g c =
+    let l = c.loop-folder.walk.labels in
+    let used = c.used.ensures ∙ ap (λ (x : Labels). reached x.known.items) c.check_numbers.ensures.labels in
+    (omega (arith, c.loop-folder.invariant.reads, c.loop-folder.invariant.few, c.requires.least), omega (arith, c.loop-folder.invariant.reads, reached_left l, used))

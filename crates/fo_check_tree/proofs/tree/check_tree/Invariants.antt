@@ -1,6 +1,7 @@
-use Rattle.std.proofs.Common.{◌≡◌, ◌+◌, ◌*◌, ◌<◌, ◌≤◌, List, [], length, Some}
+use Rattle.std.proofs.Common.{◌≡◌, ◌+◌, ◌-◌, ◌*◌, ◌<◌, ◌≤◌, List, [], length, Some}
 use Rattle.fo_crash.specs.Images.{Image, Arena}
 use Rattle.fo_disk.specs.Disk.{Block}
+use Rattle.fo_image.specs.Place.{label_blocks, first_data}
 use Rattle.fo_good.specs.Sound.{Kept}
 use Rattle.fo_sound.specs.Device.{Shows}
 use Rattle.fo_check_tree.specs.Answer.{HoldsAny}
@@ -39,6 +40,8 @@ invariant-loop-folder g l = record {
   rules : (b : Broken) → l.walk.noted ≡ Some b → IsRule b.rule;
   judged : JudgesRoot l.root l.walk.noted;
   same : g.D.Disk.size l.main ≡ g.D.Disk.size l.fn.main;
+  reads : g.D.Disk.calls l.main + l.walk.labels.left ≤ g.D.Disk.calls l.fn.main + (label_blocks l.fn.setting.blocks + length l.walk.labels.known.items);
+  few : length l.walk.labels.known.items ≤ l.fn.setting.blocks - first_data l.fn.setting.blocks;
   kept : g.D.Disk.state l.main ≡ g.D.Disk.state l.fn.main;
   later : g.D.Disk.faults l.fn.main ≤ g.D.Disk.faults l.main;
 }

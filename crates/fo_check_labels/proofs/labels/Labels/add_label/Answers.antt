@@ -7,6 +7,7 @@ use Rattle.fo_sound.specs.Image.{is_zero, IsDataBlock, HasLabel}
 use Rattle.fo_check_labels.specs.Known.{fresh}
 use Rattle.fo_check_labels.specs.Table.BreaksTable.{label, other}
 use Rattle.fo_check_labels.proofs.Scanning.{scanned_more, scanned_push, listed_last, listed_free, table_added}
+use Rattle.fo_check_labels.proofs.Marking.{few_upto, few_more}
 use Rattle.fo_check_labels.proofs.labels.Labels.add_label.Goals.{then-address-first_data-via-then-address-first_data, then-address-first_data-via-else-address-first_data+then-blocks-address}
 use Rattle.fo_check_labels.proofs.labels.Labels.add_label.Goals as goal
 
@@ -42,3 +43,14 @@ returns-in-Ok-2-clause-table c image seen len is scan =
     let k = fresh c.args.address l in
     table_added known c.add_known.new.self.known.items c.args.address l c.add_known.result c.add_known.ensures.added c.add_known.ensures.memory
     (scanned_more (λ _. listed_last known k has (record { address_is = refl; label_is = refl })) (λ isnt. absurd (isnt place)) (scanned_push k (record { place = place; has = has; used = used; fresh = refl }) scan))
+
+pub returns-then-is_zero-clause-few : goal.returns-then-is_zero-clause-few
+returns-then-is_zero-clause-few c f = few_upto c.args.self.now.known.items (omega arith) f
+
+pub returns-in-Ok-clause-few : goal.returns-in-Ok-clause-few
+returns-in-Ok-clause-few c f = few_upto c.args.self.now.known.items (omega arith) f
+
+pub returns-in-Ok-2-clause-few : goal.returns-in-Ok-2-clause-few
+returns-in-Ok-2-clause-few c f =
+    few_more c.args.self.now.known.items c.add_known.new.self.known.items c.args.address c.in-Ok.label c.add_known.result
+    (omega (arith, c.if-address-first_data.false, c.first_data.ensures)) (omega (arith, c.if-blocks-address.false)) f c.add_known.ensures.added

@@ -1,7 +1,7 @@
-use Rattle.std.proofs.Common.{◌≡◌, ◌*◌, ◌≤◌, List, length}
+use Rattle.std.proofs.Common.{◌≡◌, ◌+◌, ◌*◌, ◌≤◌, List, length}
 use Rattle.fo_disk.specs.Disk.{Block}
 use Rattle.fo_sound.specs.Device.{Shows}
-use Rattle.fo_check_labels.specs.Known.{IsBelow}
+use Rattle.fo_check_labels.specs.Known.{IsBelow, IsFew}
 use Rattle.fo_check_labels.specs.Table.{IsScanned}
 use Rattle.fo_check_labels.proofs.labels.Labels.read.Given as goal
 
@@ -12,5 +12,7 @@ invariant-loop-n g l = record {
   later : g.D.Disk.faults l.fn.main ≤ g.D.Disk.faults l.main;
   long : length l.block ≡ 8192;
   below : IsBelow (585 * l.n) l.labels.known.items;
+  few : IsFew l.blocks (585 * l.n) l.labels.known.items;
+  reads : g.D.Disk.calls l.main ≤ g.D.Disk.calls l.fn.main + l.n;
   table : (image : List Block) → length image ≡ l.blocks → Shows (g.D.Disk.state l.fn.main).holds image → IsScanned image l.n (585 * l.n) l.labels.known.items;
 }
