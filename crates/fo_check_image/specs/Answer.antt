@@ -1,5 +1,5 @@
 -- What the check answers over the images of the two devices.
-use Rattle.std.specs.Prelude.{◌≡◌, ℕ, ◌+◌, ◌/◌, ◌<◌, ◌≤◌, true, List, [], ◌∷◌, ◌++◌, slice_index_or}
+use Rattle.std.specs.Prelude.{◌≡◌, ℕ, ◌/◌, ◌<◌, ◌≤◌, true, List, [], ◌∷◌, ◌++◌, slice_index_or}
 use Rattle.fo_disk.specs.Disk.{Block}
 use Rattle.fo_image.specs.declared.types.Super.{Super}
 use Rattle.fo_image.specs.declared.record.RootBlock.{RootBlock}
