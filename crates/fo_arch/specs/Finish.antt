@@ -18,7 +18,7 @@ use Rattle.fo_arch_form.specs.Stored.{found}
 use Rattle.fo_arch.specs.declared.archive.Archive.{Archive}
 use Rattle.fo_arch_tree.specs.Forms.{StoresForms}
 use Rattle.fo_arch_tree.specs.Tree.{IsReadable, IsArchiveOf}
-use Rattle.fo_arch.specs.Stores.{IsMore}
+use Rattle.fo_arch.specs.Stores.{IsMore, HeldRefuses}
 
 -- the root of an archive whose top block has this score
 abbrev pub root_of : Archive → Score → VacRoot
@@ -30,25 +30,22 @@ pub record IsRootOf (a : Archive) (bytes : List ℕ) : Type 0 where
   pub top_is : found a.done a.root 17 ≡ Some top
   pub spelled : SpellsVacRoot (root_of a top) bytes
 
--- The root was put: it takes no place where it is held, else the next; and nothing else does.
-pub record PutsRoot (a : Archive) (old new : List ArenaLine) : Type 0 where
+-- Over any device: the score is the hash of the bytes that spell the root, and the index names it. The root takes no place where it is
+-- held, else the next, and nothing else does.
+pub record Finishes (a : Archive) (old new : List ArenaLine) (score : Score) : Type 0 where
   pub bytes : List ℕ
   pub root : IsRootOf a bytes
   pub line : PutsLine 16 bytes old new
-
--- Over any device: the score is the hash of the bytes that spell the root, and the index names it.
-pub record Finishes (a : Archive) (lines : List ArenaLine) (score : Score) : Type 0 where
-  pub bytes : List ℕ
-  pub root : IsRootOf a bytes
   pub hash : sha1 bytes ≡ score.0
   pub real : IsScore score.0
-  pub named : IsNamed lines score.0 16
+  pub named : IsNamed new score.0 16
 
--- The root was refused, or what was put could not be settled.
-pub record FinishRefused (a : Archive) (blocks : ℕ) (lines : List ArenaLine) (e : ArenaError) : Type 0 where
+-- The root was refused, and nothing was put; or it was put, and could not be settled.
+pub record FinishRefused (a : Archive) (old new : Shelf) (s t : DiskState) (e : ArenaError) : Type 0 where
   pub bytes : List ℕ
   pub root : IsRootOf a bytes
-  pub cause : PutRefuses blocks lines 16 bytes e ⊎ IsWriteOrSync e
+  pub puts : ((lines_of new ≡ lines_of old) × PutRefuses old.blocks (lines_of old) 16 bytes e) ⊎ (PutsLine 16 bytes (lines_of old) (lines_of new) × IsWriteOrSync e)
+  pub told : (stored : List (List ℕ)) (synced : ℕ) → Keeps old stored synced s → HeldRefuses 16 bytes new stored synced t e
 
 -- Over an arena that tells what it holds: it is quiet, and holds the root and all that it held, also the forms of all that was stored. Of
 -- each image whose forms these are, and in which the tree of the root block is readable, it holds the archive: what is read by the score

@@ -1,11 +1,12 @@
 -- What a call that stores pieces does.
 use Rattle.std.specs.Prelude.{◌≡◌, ◌⊎◌, ℕ, ◌+◌, List, ◌∷◌, ◌++◌, take, drop, Some}
 use Rattle.std.specs.List.{AllByRecursion}
+use Rattle.sha1.specs.Sha1.{sha1}
 use Rattle.fo_disk.specs.Disk.{Content, DiskState, Since}
 use Rattle.fo_image.specs.declared.types.ArenaLine.{ArenaLine}
 use Rattle.fo_crash.specs.Images.{Image}
 use Rattle.venti_store.specs.Held.{Recovers}
-use Rattle.venti_store.specs.Arena.{lines_of, Keeps, PutRefuses, PutsLine}
+use Rattle.venti_store.specs.Arena.{lines_of, Keeps, PutRefuses, PutsLine, RefusesHeld, IsMemory}
 use Rattle.venti_store.specs.declared.shelf.Shelf.{Shelf}
 use Rattle.venti_store.specs.declared.error.ArenaError.{ArenaError}
 use Rattle.fo_arch_hash.specs.Batch.{score_of}
@@ -36,18 +37,28 @@ pub data PutsAll (pieces : List Piece) (old : List ArenaLine) : ℕ → List Are
   none : (n : ℕ) (new : List ArenaLine) → n ≡ 0 → new ≡ old → PutsAll pieces old n new
   one : (n m : ℕ) (p : Piece) (rest : List Piece) (mid new : List ArenaLine) → PutsAll pieces old n mid → drop n pieces ≡ p ∷ rest → PutsLine p.kind p.bytes.items mid new → m ≡ n + 1 → PutsAll pieces old m new
 
--- The piece was put, or nothing was.
-abbrev pub MayPut : Piece → List ArenaLine → List ArenaLine → Type 0
-MayPut p old new = (new ≡ old) ⊎ PutsLine p.kind p.bytes.items old new
+-- Nothing was put, or the piece was and then memory was wanting.
+abbrev pub MayPut : Piece → List ArenaLine → List ArenaLine → ArenaError → Type 0
+MayPut p old new e = (new ≡ old) ⊎ (IsMemory e × PutsLine p.kind p.bytes.items old new)
 
--- The pieces in front of one were stored, and the arena refused that one, or there was no memory.
-pub record StoreRefused (pieces : List Piece) (old new : Stored) (blocks : ℕ) (lines : List ArenaLine) (e : ArenaError) : Type 0 where
+-- Over an arena that tells what it holds, where a block is refused: what was held is held, and where the answer says so, the bytes of its
+-- place are damaged or other ones are held under its score.
+pub record HeldRefuses (kind : ℕ) (bytes : List ℕ) (new : Shelf) (stored : List (List ℕ)) (synced : ℕ) (s : DiskState) (e : ArenaError) : Type 0 where
+  pub held : List (List ℕ)
+  pub more : IsMore stored held
+  pub keeps : Keeps new held synced s
+  pub why : RefusesHeld (lines_of new) held (sha1 bytes) kind e
+
+-- The first n pieces were put and stored, and the arena refused the next one, or there was no memory: for its put, or to note it then.
+pub record StoreRefused (pieces : List Piece) (done now : Stored) (old new : Shelf) (s t : DiskState) (e : ArenaError) : Type 0 where
   pub n : ℕ
   pub piece : Piece
   pub rest : List Piece
   pub is : drop n pieces ≡ piece ∷ rest
-  pub took : Took pieces n old new
-  pub refused : PutRefuses blocks lines piece.kind piece.bytes.items e
+  pub took : Took pieces n done now
+  pub puts : PutsAll pieces (lines_of old) n (lines_of new) ⊎ (IsMemory e × PutsAll pieces (lines_of old) (n + 1) (lines_of new))
+  pub refused : PutRefuses new.blocks (lines_of new) piece.kind piece.bytes.items e
+  pub told : (stored : List (List ℕ)) (synced : ℕ) → Keeps old stored synced s → HeldRefuses piece.kind piece.bytes.items new stored synced t e
 
 -- Over an arena that tells what it holds: all that was held stays, each image of each moment is an arena in which what was synced is
 -- held, and of each image of which these are pieces the arena holds the forms of all that was stored, if it held those of before.

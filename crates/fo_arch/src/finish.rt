@@ -33,13 +33,13 @@ fn settle<A: Disk>(arena: &mut Arena<A>) -> Result<(), ArenaError>
 }
 
 impl Archive {
-    ghost use Rattle.std.specs.Prelude.{◌⊎◌, [], Some, IfOk};
+    ghost use Rattle.std.specs.Prelude.{[], Some, IfOk};
     ghost use Rattle.fo_image.specs.Format.{IsScore};
     ghost use Rattle.fo_arch_form.specs.Stored.{found};
     ghost use Rattle.fo_arch.specs.Archive.{HasWhole};
     ghost use Rattle.fo_arch.specs.Forms.{AreNamed};
     ghost use Rattle.fo_arch.specs.Stores.{IsMore, Stores};
-    ghost use Rattle.fo_arch.specs.Finish.{IsRootOf, PutsRoot, Finishes, FinishRefused, IsFinished};
+    ghost use Rattle.fo_arch.specs.Finish.{IsRootOf, Finishes, FinishRefused, IsFinished};
 
     /// The score of the top block.
     fn top(&self) -> Score
@@ -73,9 +73,8 @@ impl Archive {
     /// Puts the root of the archive, once all of the snapshot is stored, and syncs. The archive stays, so it may be finished again.
     pub fn finish<A: Disk>(&self, arena: &mut Arena<A>) -> Result<Score, ArenaError>
         requires whole { HasWhole self.now }
-        ensures score { IfOk result (Finishes self.now (lines_of arena.new.shelf)) }
-        ensures refused { IfErr result (FinishRefused self.now arena.old.shelf.blocks (lines_of arena.old.shelf)) }
-        ensures puts { MatchResult result (λ _. PutsRoot self.now (lines_of arena.old.shelf) (lines_of arena.new.shelf)) (λ _. (lines_of arena.new.shelf ≡ lines_of arena.old.shelf) ⊎ PutsRoot self.now (lines_of arena.old.shelf) (lines_of arena.new.shelf)) }
+        ensures score { IfOk result (Finishes self.now (lines_of arena.old.shelf) (lines_of arena.new.shelf)) }
+        ensures refused { IfErr result (FinishRefused self.now arena.old.shelf arena.new.shelf (A.state arena.old.device) (A.state arena.new.device)) }
         ensures named { AreNamed self.now.done (lines_of arena.old.shelf) → AreNamed self.now.done (lines_of arena.new.shelf) }
         ensures lines { IsMore (lines_of arena.old.shelf) (lines_of arena.new.shelf) }
 

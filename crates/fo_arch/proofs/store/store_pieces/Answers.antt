@@ -6,7 +6,7 @@ use Rattle.fo_arch_walk.specs.Pieces.{IsPieceOf}
 use Rattle.fo_arch.proofs.Forming.{more_stored_none, more_stored_joins, adds_more}
 use Rattle.fo_arch.proofs.Growing.{more_none, more_joins}
 use Rattle.fo_arch.proofs.Storing.{stores_none, stores_joins}
-use Rattle.fo_arch.proofs.Putting.{put_none, put_one, put_maybe}
+use Rattle.fo_arch.proofs.Putting.{put_none, put_one, put_maybe, refused_joins}
 use Rattle.fo_arch.proofs.Taking.{IsAt, is_at, all_at, took_none, fresh_next, took_next, took_same}
 use Rattle.fo_arch.proofs.store.store_pieces.Goals as goal
 
@@ -43,7 +43,9 @@ returns-in_err-store_piece-clause-took g c =
       rest = at.rest;
       is = at.is;
       took = took_same c.loop-i.invariant.took c.in_err-store_piece.ensures.noted.0 c.in_err-store_piece.ensures.noted.1;
+      puts = put_maybe _ c.loop-i.invariant.puts at.is c.in_err-store_piece.ensures.puts;
       refused = c.in_err-store_piece.ensures.refused;
+      told = λ stored synced k. let first = c.loop-i.invariant.keeps stored synced k in refused_joins first.more (c.in_err-store_piece.ensures.told first.held synced first.keeps);
     })
 
 pub returns-in_err-store_piece-clause-keeps : goal.returns-in_err-store_piece-clause-keeps
@@ -53,14 +55,6 @@ returns-in_err-store_piece-clause-keeps g c stored synced k =
     let at : IsAt pieces c.loop-i.i c.index.result.now = is_at pieces c.loop-i.i c.index.result.now lt c.index.ensures in
     let first = c.loop-i.invariant.keeps stored synced k in
     stores_joins first c.loop-i.invariant.more (λ image all. all_at (IsPieceOf c.args.done.now image) pieces c.loop-i.i c.index.result.now at all) c.in_err-store_piece.ensures.lines (c.in_err-store_piece.ensures.keeps first.held synced first.keeps)
-
-pub returns-in_err-store_piece-clause-puts : goal.returns-in_err-store_piece-clause-puts
-returns-in_err-store_piece-clause-puts g c =
-    let pieces = c.args.hashed.now.batch.pieces.items in
-    let lt : c.loop-i.i < length pieces = omega (arith, c.loop-i-test.true, c.len-i-end.ensures) in
-    let at : IsAt pieces c.loop-i.i c.index.result.now = is_at pieces c.loop-i.i c.index.result.now lt c.index.ensures in
-    let p = err_from_is_err_and c.from_residual.result c.from_residual.ensures.1 in
-    rw p.1 (put_maybe c.loop-i.invariant.puts at.is c.in_err-store_piece.ensures.puts)
 
 pub loop-i-preserved : goal.loop-i-preserved
 loop-i-preserved g c =

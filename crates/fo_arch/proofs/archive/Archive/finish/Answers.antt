@@ -2,14 +2,22 @@ use Rattle.std.proofs.Common.{inl, inr, List, refl, sym, subst}
 use Rattle.std.proofs.lemmas.Result.{err_from_is_err_and}
 use Rattle.fo_image.specs.declared.types.ArenaLine.{ArenaLine}
 use Rattle.venti_store.specs.Arena.{lines_of, PutsLine}
-use Rattle.fo_arch.proofs.Storing.{named_same, stores_none, forms_grow}
+use Rattle.fo_arch.proofs.Putting.{refused_same, refused_later}
+use Rattle.fo_arch.proofs.Storing.{named_same, put_bytes_more, stores_none, forms_grow}
 use Rattle.fo_arch.proofs.Finishing.{Rooted, rooted_more, rooted_named, rooted_held, rooted_bytes, rooted_since, finished_tree}
 use Rattle.fo_arch.proofs.archive.Archive.finish.Goals as goal
 
 pub returns-in_err-score-clause-refused : goal.returns-in_err-score-clause-refused
 returns-in_err-score-clause-refused g c =
     let p = err_from_is_err_and c.from_residual.result c.from_residual.ensures.1 in
-    rw (p.1, p.2) (record { bytes = c.root_bytes-bytes.result; root = c.root_bytes-bytes.ensures.root; cause = inl c.in_err-score.ensures.refused })
+    rw (p.1, p.2) (record {
+      bytes = c.root_bytes-bytes.result;
+      root = c.root_bytes-bytes.ensures.root;
+      puts = inl (c.in_err-score.ensures.lines, c.in_err-score.ensures.refused);
+      told = λ stored synced k.
+          let x = c.in_err-score.ensures.keeps stored synced k in
+          refused_same 16 c.root_bytes-bytes.result c.args.arena.now.shelf c.put.new.self.shelf stored synced _ _ c.in_err-score.ensures.lines x.0 x.1;
+    })
 
 pub returns-in_err-score-clause-keeps : goal.returns-in_err-score-clause-keeps
 returns-in_err-score-clause-keeps g c stored synced k =
@@ -19,7 +27,14 @@ returns-in_err-score-clause-keeps g c stored synced k =
 pub returns-in_err-settle-clause-refused : goal.returns-in_err-settle-clause-refused
 returns-in_err-settle-clause-refused g c =
     let p = err_from_is_err_and c.from_residual-in_err-settle.result c.from_residual-in_err-settle.ensures.1 in
-    rw (p.1, p.2) (record { bytes = c.root_bytes-bytes.result; root = c.root_bytes-bytes.ensures.root; cause = inr c.in_err-settle.ensures.fault })
+    rw (p.1, p.2) (record {
+      bytes = c.root_bytes-bytes.result;
+      root = c.root_bytes-bytes.ensures.root;
+      puts = inr (subst (λ (ls : List ArenaLine). PutsLine 16 c.root_bytes-bytes.result (lines_of c.args.arena.now.shelf) ls) (sym c.in_err-settle.ensures.lines) c.in_ok-score.ensures.lines, c.in_err-settle.ensures.fault);
+      told = λ stored synced k.
+          let put = c.in_ok-score.ensures.keeps stored synced k in
+          refused_later 16 c.root_bytes-bytes.result c.settle.new.arena.shelf stored put.0 synced _ _ (put_bytes_more 16 c.root_bytes-bytes.result (lines_of c.args.arena.now.shelf) stored put.0 put.1) (c.in_err-settle.ensures.keeps put.0 synced put.2) c.in_err-settle.ensures.fault;
+    })
 
 pub returns-in_err-settle-clause-named : goal.returns-in_err-settle-clause-named
 returns-in_err-settle-clause-named g c named =
@@ -50,6 +65,7 @@ returns-clause-score g c =
     record {
       bytes = c.root_bytes-bytes.result;
       root = c.root_bytes-bytes.ensures.root;
+      line = subst (λ (ls : List ArenaLine). PutsLine 16 c.root_bytes-bytes.result (lines_of c.args.arena.now.shelf) ls) (sym c.in_ok-settle.ensures.lines) c.in_ok-score.ensures.lines;
       hash = sym c.in_ok-score.ensures.score.0;
       real = c.in_ok-score.ensures.score.1;
       named = rooted_named r c.in_ok-score.score c.in_ok-score.ensures.score.0;
@@ -84,28 +100,4 @@ returns-clause-keeps g c stored synced k =
           finished_tree c.args.self.now arena device image kept c.settle.new.arena.shelf put.0 c.in_ok-score.score.0 c.root_bytes-bytes.result same read
           (forms_grow image (λ at kind. refl) (rooted_more r) (rooted_bytes r stored put.0 put.1) k.count f) c.root_bytes-bytes.ensures.root
           (rooted_held r stored put.0 c.in_ok-score.score c.in_ok-score.ensures.score.0 k.count put.1);
-    }
-
-pub returns-in_err-score-clause-puts : goal.returns-in_err-score-clause-puts
-returns-in_err-score-clause-puts g c =
-    let p = err_from_is_err_and c.from_residual.result c.from_residual.ensures.1 in
-    rw p.1 (inl c.in_err-score.ensures.lines)
-
-pub returns-in_err-settle-clause-puts : goal.returns-in_err-settle-clause-puts
-returns-in_err-settle-clause-puts g c =
-    let p = err_from_is_err_and c.from_residual-in_err-settle.result c.from_residual-in_err-settle.ensures.1 in
-    let old = lines_of c.args.arena.now.shelf in
-    rw p.1 (inr (record {
-      bytes = c.root_bytes-bytes.result;
-      root = c.root_bytes-bytes.ensures.root;
-      line = subst (λ (ls : List ArenaLine). PutsLine 16 c.root_bytes-bytes.result old ls) (sym c.in_err-settle.ensures.lines) c.in_ok-score.ensures.lines;
-    }))
-
-pub returns-clause-puts : goal.returns-clause-puts
-returns-clause-puts g c =
-    let old = lines_of c.args.arena.now.shelf in
-    record {
-      bytes = c.root_bytes-bytes.result;
-      root = c.root_bytes-bytes.ensures.root;
-      line = subst (λ (ls : List ArenaLine). PutsLine 16 c.root_bytes-bytes.result old ls) (sym c.in_ok-settle.ensures.lines) c.in_ok-score.ensures.lines;
     }
