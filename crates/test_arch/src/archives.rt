@@ -122,3 +122,22 @@ fn each_fails(rt: HostRuntime) -> Result<(), Fail> {
     }
     Ok(())
 }
+
+/// Puts so many blocks of one byte.
+fn fill(arena: &mut Arena<MemDisk>, blocks: u8) -> Result<(), Fail> {
+    for byte in 0..blocks {
+        arena.put(0, &[byte])?;
+    }
+    Ok(())
+}
+
+/// Of a batch of five pieces an arena with room for two takes the first two alone.
+#[test]
+fn full(rt: HostRuntime) -> Result<(), Fail> {
+    let alloc = rt.alloc();
+    let mut arena = arena(alloc, Vec::new(alloc))?;
+    fill(&mut arena, 12)?;
+    assert!(rt; !first(alloc, &mut arena));
+    assert!(rt; arena.used() == 14);
+    Ok(())
+}
