@@ -1,3 +1,5 @@
 pub mod Labels
 pub mod Versions
 pub mod Closed
+pub mod Opening
+pub mod Shown

@@ -1,7 +1,7 @@
 -- Which data blocks get a new version.
-use Rattle.std.specs.Prelude.{◌≡◌, ◌⊎◌, ◌<◌, ℕ, true, length}
+use Rattle.std.specs.Prelude.{◌≡◌, ◌⊎◌, ◌<◌, ℕ, true, false, length}
 use Rattle.std.specs.List.{Contains}
-use Rattle.fo_disk.specs.Disk.{Block, Content, versions_of}
+use Rattle.fo_disk.specs.Disk.{Block, Content, versions_of, IsSettled}
 use Rattle.fo_cells_held.specs.Held.{MayGetVersion}
 use Rattle.fo_cells_all.specs.All.{Kept, Format}
 
@@ -13,3 +13,8 @@ GetsVersions at c f old new = (b : ℕ) (v : Block) → f.is_data b ≡ true →
 -- Each version was there.
 abbrev pub GetsNone : Content → Content → Type 0
 GetsNone old new = (b : ℕ) (v : Block) → b < length old → Contains (versions_of new b) v → Contains (versions_of old b) v
+
+-- What a sync leaves that answers Ok: a block has several versions only if its last write failed; what isn't dirty is there as memory has it.
+pub record IsLeftSettled (c : Kept) (new : Content) : Type 0 where
+  pub one : (b : ℕ) → b < length new → c.flags.failed b ≡ false → IsSettled new b
+  pub clean : (b : ℕ) (v : Block) → b < length new → c.flags.failed b ≡ false → c.flags.dirty b ≡ false → Contains (versions_of new b) v → c.mind.read b v ≡ c.mind.memory b

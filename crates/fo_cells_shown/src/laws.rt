@@ -1,12 +1,28 @@
 //! The laws. Each function does nothing: its contract is the law, so that the law is proved with the crate.
 ghost use Rattle.fo_cells_shown.specs.Labels.{LabelsAreShown};
 ghost use Rattle.fo_cells_shown.specs.Closed.{MoveKeepsClosed, GiveKeepsClosed, CloseKeepsClosed, RaiseKeepsClosed, RaiseLoses, MoveStrays, CloseStrays};
+ghost use Rattle.fo_cells_shown.specs.Opening.{OpensClosed, OpensShared, FreshHangs};
+ghost use Rattle.fo_cells_shown.specs.Shown.{DeviceIsShown};
 
 use fo_cells_lost::Gaps;
 
 /// Each block that an image of the device reaches has a label there that fits, whichever version of its block of labels is left.
 pub fn labels_are_shown()
     ensures { LabelsAreShown }
+{}
+
+/// Each image of the device is, in all that tops reach, one that a crash may leave by what is known; and what is reached has a label there
+/// that fits.
+pub fn device_is_shown()
+    ensures { DeviceIsShown }
+{}
+
+/// Where a cache opens, what was closed and may not be given out yet is in a kept tree, and what is older in the tree of memory in that of
+/// the epoch before, exactly where memory has it hang there; so it is of a fresh device.
+pub fn closed_begin()
+    ensures closed { OpensClosed }
+    ensures shared { OpensShared }
+    ensures fresh { FreshHangs }
 {}
 
 /// What was closed and may not be given out yet is in a kept tree, after each step.
