@@ -1,8 +1,8 @@
 -- What the steps that set a length leave of all blocks.
-use Rattle.std.proofs.Common.{◌≡◌, ◌*◌, ℕ, List, inl, inr, ⊎_elim, refl, sym, ◌∙◌, ap, subst, arith}
+use Rattle.std.proofs.Common.{◌≡◌, ◌*◌, ℕ, List, inl, inr, ⊎_elim, sym, ◌∙◌, ap, subst, arith}
 use Rattle.fo_image.specs.declared.types.Label.{Label}
 use Rattle.fo_crash.specs.declared.slot.Slot.TheVariants.{Entry as Head}
-use Rattle.fo_ports.specs.State.{State, KeepsAll}
+use Rattle.fo_ports.specs.State.{State}
 use Rattle.fo_ports.specs.Sources.{Made}
 use Rattle.fo_tree_read.specs.declared.tree.Tree.{Tree}
 use Rattle.fo_tree_look.specs.declared.ways.Kept.{Kept}
