@@ -1,5 +1,6 @@
 //! The check of the images of two devices.
-ghost use Rattle.std.specs.Prelude.{◌≡◌, ℕ, ◌*◌, ◌^◌, ◌<◌, ◌≤◌, List, length, IfOk, IfErr};
+ghost use Rattle.std.specs.Prelude.{◌≡◌, ℕ, ◌+◌, ◌*◌, ◌^◌, ◌<◌, ◌≤◌, List, length, IfOk, IfErr};
+ghost use Rattle.fo_base.specs.Cause.{Counted};
 ghost use Rattle.fo_disk.specs.Disk.{Block};
 ghost use Rattle.fo_sound.specs.Image.{block_of};
 ghost use Rattle.fo_sound.specs.Sound.{IsFormatted, HasActiveRoot};
@@ -28,6 +29,7 @@ fn sizes<D: Disk, A: Disk>(main: &mut D, arena: &mut A) -> Result<(u32, u32), Ch
     ensures arena_fixed { 0 < A.size arena.old → A.size arena.new ≡ A.size arena.old }
     ensures main { D.state main.new ≡ D.state main.old }
     ensures arena { A.state arena.new ≡ A.state arena.old }
+    ensures reads { (D.calls main.new ≤ D.calls main.old + 1) × (A.calls arena.new ≤ A.calls arena.old + 1) }
     ensures causes { HasCauses (D.faults main.old) (D.faults main.new) (A.faults arena.old) (A.faults arena.new) result }
 {
     let blocks = match count(main) {
@@ -55,6 +57,7 @@ fn start<D: Disk>(main: &mut D, blocks: u32) -> Result<Super, CheckError>
     ensures no_size { IfErr result IsNoSize }
     ensures size { D.size main.new ≡ D.size main.old }
     ensures main { D.state main.new ≡ D.state main.old }
+    ensures reads { D.calls main.new ≤ D.calls main.old + 2 }
     ensures causes { HasCauses (D.faults main.old) (D.faults main.new) 0 0 result }
 {
     let mut block = [0; BLOCK];
@@ -77,6 +80,7 @@ fn open_arena<A: Disk>(arena: &mut A, blocks: u32) -> Result<(), CheckError>
     ensures no_size { IfErr result IsNoSize }
     ensures size { A.size arena.new ≡ A.size arena.old }
     ensures arena { A.state arena.new ≡ A.state arena.old }
+    ensures calls { Counted (A.calls arena.old) (A.calls arena.new) }
     ensures causes { HasCauses 0 0 (A.faults arena.old) (A.faults arena.new) result }
 {
     let mut block = [0; BLOCK];
@@ -108,6 +112,7 @@ fn active_root<D: Disk>(
     ensures no_size { IfErr result IsNoSize }
     ensures size { D.size main.new ≡ D.size main.old }
     ensures main { D.state main.new ≡ D.state main.old }
+    ensures reads { D.calls main.new ≤ D.calls main.old + 2 }
     ensures causes { HasCauses (D.faults main.old) (D.faults main.new) 0 0 result }
 {
     if !has_epochs(s) || !is_data_block(blocks, s.active) {
@@ -150,6 +155,9 @@ pub fn open_images<D: Disk, A: Disk>(
     // Nothing is written.
     ensures main { D.state main.new ≡ D.state main.old }
     ensures arena { A.state arena.new ≡ A.state arena.old }
+
+    // Over any devices: at most five calls of main and two of the arena.
+    ensures reads { (D.calls main.new ≤ D.calls main.old + 5) × (A.calls arena.new ≤ A.calls arena.old + 2) }
 
     ensures causes { HasCauses (D.faults main.old) (D.faults main.new) (A.faults arena.old) (A.faults arena.new) result }
 {

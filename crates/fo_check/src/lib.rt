@@ -5,7 +5,7 @@
 //!
 //! Proved over quiet devices that tell what they hold: what is found is so, and is found wherever it is; each refusal comes with its
 //! reason. Over any devices: `Size` comes exactly where a number of blocks that was found is out of range; a fault comes only where that
-//! device's count rose; nothing is written.
+//! device's count rose; the main device is called five times at most, and the arena twice; nothing is written.
 //!
 //! Not proved: anything of what a device holds that tells nothing, as a file; that a fault isn't passed over (`test_disk` lets each
 //! call fail in turn).

@@ -18,7 +18,7 @@ use fo_sound::root_label;
 pub(crate) fn count<D: Disk>(device: &mut D) -> Result<u64, Failed>
     ensures size { IfOk result (λ n. D.size device.new ≡ n) }
     ensures fixed { 0 < D.size device.old → D.size device.new ≡ D.size device.old }
-    ensures asked { Counted (D.calls device.old) (D.calls device.new) }
+    ensures calls { Counted (D.calls device.old) (D.calls device.new) }
     ensures answered { OnOk result (D.faults device.new ≡ D.faults device.old) }
     ensures shown { (image : List Block) → Shows (D.state device.old).holds image → IfOk result (λ n. length image ≡ n) }
     ensures kept { D.state device.new ≡ D.state device.old }
@@ -34,6 +34,7 @@ fn read<D: Disk>(device: &mut D, at: u32, into: &mut [u8]) -> Result<(), Failed>
     ensures shown { (image : List Block) → Shows (D.state device.old).holds image → OnOk result (into.new ≡ block_of image at) }
     ensures size { D.size device.new ≡ D.size device.old }
     ensures kept { D.state device.new ≡ D.state device.old }
+    ensures calls { Counted (D.calls device.old) (D.calls device.new) }
     ensures cause { HasCause (D.faults device.old) (D.faults device.new) result }
 {
     device.read(at, into)
@@ -46,6 +47,7 @@ pub(crate) fn read_main<D: Disk>(main: &mut D, at: u32, into: &mut [u8]) -> Resu
     ensures shown { (image : List Block) → Shows (D.state main.old).holds image → OnOk result (into.new ≡ block_of image at) }
     ensures size { D.size main.new ≡ D.size main.old }
     ensures kept { D.state main.new ≡ D.state main.old }
+    ensures calls { Counted (D.calls main.old) (D.calls main.new) }
     ensures cause { HasCause (D.faults main.old) (D.faults main.new) result }
     ensures fault { IfErr result (λ e. e ≡ MainFailed ReadFault) }
 {
@@ -62,6 +64,7 @@ pub(crate) fn read_arena<A: Disk>(arena: &mut A, at: u32, into: &mut [u8]) -> Re
     ensures shown { (image : List Block) → Shows (A.state arena.old).holds image → OnOk result (into.new ≡ block_of image at) }
     ensures size { A.size arena.new ≡ A.size arena.old }
     ensures kept { A.state arena.new ≡ A.state arena.old }
+    ensures calls { Counted (A.calls arena.old) (A.calls arena.new) }
     ensures cause { HasCause (A.faults arena.old) (A.faults arena.new) result }
     ensures fault { IfErr result (λ e. e ≡ ArenaFailed ReadFault) }
 {
@@ -83,6 +86,7 @@ pub(crate) fn has_root_label<D: Disk>(
         → IfOk result (λ labelled. IsTrue labelled ↔ HasLabel image s.now.active (root_label s.now)) }
     ensures size { D.size main.new ≡ D.size main.old }
     ensures kept { D.state main.new ≡ D.state main.old }
+    ensures calls { Counted (D.calls main.old) (D.calls main.new) }
     ensures cause { HasCause (D.faults main.old) (D.faults main.new) result }
     ensures fault { IfErr result (λ e. e ≡ MainFailed ReadFault) }
 {

@@ -112,6 +112,11 @@ pub fn check<D: Disk, A: Disk>(
     ensures main { D.state main.new ≡ D.state main.old }
     ensures arena { A.state arena.new ≡ A.state arena.old }
 
+    // Over any devices: at most five calls of main and one for each of its blocks, for a report five and one for each block of the
+    // label table and each used block; at most two of the arena.
+    ensures most { (D.calls main.new ≤ D.calls main.old + 5 + D.size main.new) × (A.calls arena.new ≤ A.calls arena.old + 2) }
+    ensures reads { IfOk result (λ r. D.calls main.new ≤ D.calls main.old + 5 + label_blocks (D.size main.new) + r.used) }
+
     ensures causes { HasCauses (D.faults main.old) (D.faults main.new) (A.faults arena.old) (A.faults arena.new) result }
 {
     let opening = open_images(alloc, main, arena)?;
