@@ -1,0 +1,4 @@
+pub mod Finished
+pub mod Loads
+pub mod Opens
+pub mod Refuses
