@@ -1,6 +1,6 @@
 -- Steps of a flushing turn.
 use Rattle.std.proofs.Common.{◌≡◌, ◌≢◌, inl, inr, ⊎_elim, ℕ, ◌<◌, ◌≤◌, true, false, List, length, Option, Some, None, is_some, Result, Ok, Err, refl, sym, ap, ◌∙◌, subst, arith}
-use Rattle.std.specs.Result.{OnErr, IfOk}
+use Rattle.std.specs.Result.{OnErr, IfOk, MatchResult}
 use Rattle.std.proofs.lemmas.Bool.{cases_eq}
 use Rattle.fo_disk.specs.Disk.{DiskState, versions_of}
 use Rattle.fo_disk.specs.Disk.{Content as Holds}
@@ -18,14 +18,13 @@ use Rattle.fo_mind.proofs.Landing.{within_count}
 use Rattle.fo_mind.proofs.Turning.{missed_here, missed_other}
 use Rattle.fo_cache.specs.Easing.{Eases}
 use Rattle.fo_cache.specs.Settling.{Settles}
-use Rattle.fo_cache.specs.Supers.{Overruled}
 use Rattle.fo_cache.proofs.Easing.{eases_none, eases_on}
 use Rattle.fo_cache.proofs.Lessening.{next_kept}
 use Rattle.fo_cache.proofs.Outcomes.{last_written}
 use Rattle.fo_cache.proofs.Settling.{wrote_settles}
 use Rattle.fo_turning.specs.declared.flush.Flushed.{Flushed}
-use Rattle.fo_turning.specs.declared.flush.Flushed.TheVariants.{Wrote, Synced as SyncedIs}
-use Rattle.fo_turning.specs.Flushes.{AtIdle, Does, IsReady, Lands, Misses, Readies, Syncs, Writes}
+use Rattle.fo_turning.specs.declared.flush.Flushed.TheVariants.{Wrote, Synced as SyncedIs, Idle}
+use Rattle.fo_turning.specs.Flushes.{AtIdle, Does, Lands, Misses, Overrules, Syncs, Writes}
 
 never : {A : Type 0} → true ≡ false → A
 never e = cc
@@ -48,40 +47,6 @@ not_quiet t at next quiet = never (sym next.dirty ∙ quiet.clean at)
 
 pub not_due : (t : Turns) → IsDue t → IsQuiet t → ⊥
 not_due t due quiet = let some = due.some in let none = ap length quiet.none in absurd (omega (arith, some, none))
-
--- ---- what makes a cache ready
-
-pub readies_none : (disk : Holds) (faults : ℕ) (p q : Parts) → q ≡ p → Readies disk faults p q
-readies_none disk faults p q e = subst (Readies disk faults p) (sym e) (record { eases = eases_none (record p { disk = disk; faults = faults }); first = inl refl })
-
-pub readies_on : (disk : Holds) (faults : ℕ) (p m q : Parts) → Readies disk faults p m → Readies disk faults m q → Readies disk faults p q
-readies_on disk faults p m q a b = record {
-  eases = eases_on a.eases b.eases;
-  first = ⊎_elim
-      (λ same. ⊎_elim
-      (λ e. inl (e ∙ same))
-      (λ h. inr (subst (λ (z : Parts). IsQuiet z.turns) same h.0, ap (λ (z : Parts). z.doubt) (sym same) ∙ h.1))
-      b.first)
-      (λ h. inr h)
-      a.first;
-}
-
--- a slot was cleared where nothing else was to be done
-pub readies_clear : {M : Type 0} (holds : M → Holds) (faults : M → ℕ) (a b c : M) (p m q : Parts) → m ≡ p → b ≡ a → c ≡ b → IsQuiet p.turns → p.doubt ≡ None
-    → Eases (record m { disk = holds b; faults = faults b }) (record q { disk = holds c; faults = faults c }) → Readies (holds a) (faults a) p q
-readies_clear {M} holds faults a b c p m q same eb ec quiet certain e = record {
-  eases =
-      subst (λ (z : Parts). Eases (record z { disk = holds a; faults = faults a }) (record q { disk = holds a; faults = faults a })) same
-      (subst (λ (x : M). Eases (record m { disk = holds x; faults = faults x }) (record q { disk = holds x; faults = faults x })) eb
-      (subst (λ (x : M). Eases (record m { disk = holds b; faults = faults b }) (record q { disk = holds x; faults = faults x })) ec e));
-  first = inr (quiet, certain);
-}
-
-pub ready_same : (p q : Parts) → q ≡ p → IsReady p → IsReady q
-ready_same p q e h = subst IsReady (sym e) h
-
-pub idle_same : (p q : Parts) → q ≡ p → AtIdle p → AtIdle q
-idle_same p q e h = subst AtIdle (sym e) h
 
 -- ---- what a turn that failed leaves
 
@@ -124,16 +89,9 @@ misses_missed m q at within l = record {
 pub misses_wrote : (p m q : Parts) (at : ℕ) {first count : ℕ} → Placed m.region m.turns m.facts first count → IsNext p.turns at → KeepsTurn p m → Missed at m q → Misses p q
 misses_wrote p m q at placed next kept l = misses_on p m q (misses_kept p m kept) (misses_missed m q at (within_count at placed (next_kept p m at kept next)).1 l)
 
--- slots were cleared only where nothing had a turn and nothing was in doubt
-pub misses_ready : (disk : Holds) (faults : ℕ) (p q : Parts) → Readies disk faults p q → Misses p q
-misses_ready disk faults p q r = ⊎_elim
-    (λ same. misses_same p q same)
-    (λ h. record {
-      dirty = λ b d. never (sym d ∙ h.0.clean b);
-      unsettled = λ b s. h.0.settled b;
-      doubt = λ ne. absurd (ne h.1);
-    })
-    r.first
+-- where nothing had a turn and nothing was in doubt
+pub misses_quiet : (p q : Parts) → IsQuiet p.turns → p.doubt ≡ None → Misses p q
+misses_quiet p q quiet certain = record { dirty = λ b d. never (sym d ∙ quiet.clean b); unsettled = λ b s. quiet.settled b; doubt = λ ne. absurd (ne certain) }
 
 -- ---- what a turn did
 
@@ -156,7 +114,7 @@ writes_of s t p m q at {first} placed turning next kept lands others = record {
     settles : Settles s t m q
     settles = wrote_settles s t m q at placed turning (next_kept p m at kept next) done lands
 
-pub does_first : (s t : DiskState) (p q : Parts) (r : Result Flushed BlockError) → p.doubt ≢ None → IfOk r (λ f. (f ≡ Wrote 1) × Overruled s t p q) → IfOk r (λ f. Does f s t p q)
+pub does_first : (s t : DiskState) (p q : Parts) (r : Result Flushed BlockError) → p.doubt ≢ None → IfOk r (λ f. (f ≡ Wrote 1) × Overrules s t p q) → IfOk r (λ f. Does f s t p q)
 does_first s t p q (Ok f) ne h = subst (λ (x : Flushed). Does x s t p q) (sym h.0) (inl (refl, ne, h.1))
 does_first s t p q (Err e) ne h = tt
 
@@ -167,6 +125,16 @@ does_write s t p q at (Err x) e h = tt
 pub does_sync : (s t : DiskState) (p q : Parts) (r : Result Flushed BlockError) → p.doubt ≡ None → IfOk r (λ f. (f ≡ SyncedIs) × Syncs s t p q) → IfOk r (λ f. Does f s t p q)
 does_sync s t p q (Ok f) e h = subst (λ (x : Flushed). Does x s t p q) (sym h.0) (e, h.1)
 does_sync s t p q (Err x) e h = tt
+
+-- over memory and a device that stayed until then
+pub does_moved : {M : Type 0} (state : M → DiskState) (a b c : M) (p m q : Parts) (r : Result Flushed BlockError) → m ≡ p → b ≡ a → IfOk r (λ f. Does f (state b) (state c) m q) → IfOk r (λ f. Does f (state a) (state c) p q)
+does_moved {M} state a b c p m q r same e h =
+    subst (λ (z : Parts). IfOk r (λ f. Does f (state a) (state c) z q)) same
+    (subst (λ (x : M). IfOk r (λ f. Does f (state x) (state c) m q)) e h)
+
+-- what an idle turn says
+pub idle_did : (s t : DiskState) (p q : Parts) (r : Result Flushed BlockError) → IfOk r (λ f. Does f s t p q) → r ≡ Ok Idle → (q ≡ p) × AtIdle p
+idle_did s t p q r h e = let d : Does Idle s t p q = subst (λ (x : Result Flushed BlockError). IfOk x (λ f. Does f s t p q)) e h in (d.1, d.2)
 
 pub on_err : {T E A B : Type 0} (r : Result T E) → (A → B) → OnErr r A → OnErr r B
 on_err (Ok x) f a = tt
@@ -191,13 +159,11 @@ eases_right {M} holds faults a b p q e h = subst (λ (x : M). Eases (record p { 
 pub eases_still : {M : Type 0} (holds : M → Holds) (faults : M → ℕ) (a b : M) (p q : Parts) → q ≡ p → b ≡ a → Eases (record p { disk = holds a; faults = faults a }) (record q { disk = holds b; faults = faults b })
 eases_still holds faults a b p q same e = eases_moved holds faults a b b p q q same e (eases_none (record q { disk = holds b; faults = faults b }))
 
-pub eases_after : {M : Type 0} (holds : M → Holds) (faults : M → ℕ) (a b c : M) (p m q : Parts) → b ≡ a → Eases (record p { disk = holds a; faults = faults a }) (record m { disk = holds a; faults = faults a })
-    → Eases (record m { disk = holds b; faults = faults b }) (record q { disk = holds c; faults = faults c }) → Eases (record p { disk = holds a; faults = faults a }) (record q { disk = holds c; faults = faults c })
-eases_after holds faults a b c p m q e h k = eases_on (eases_right holds faults a b p m e h) k
-
-pub err_ok : {T E A : Type 0} (r : Result T E) (e : E) (x : T) → r ≡ Err e → r ≡ Ok x → A
-err_ok r e x a b = cc
-
 pub any_err : {T E B : Type 0} (r : Result T E) → B → OnErr r B
 any_err (Ok x) b = tt
 any_err (Err e) b = b
+
+-- whatever it answers
+pub at_both : {T E B : Type 0} (P Q : T → Type 0) (r : Result T E) → B → MatchResult r (λ x. P x → Q x → B) (λ e. B)
+at_both P Q (Ok x) b = λ h k. b
+at_both P Q (Err e) b = b

@@ -1,20 +1,23 @@
 //! Flushing turns.
-ghost use Rattle.std.specs.Prelude.{◌≡◌, ◌≢◌, ◌<◌, ◌≤◌, ℕ, [], true, false, length, Ok, OnOk, OnErr, IfOk, IfErr};
+ghost use Rattle.std.specs.Prelude.{◌≡◌, ◌≢◌, ◌↔◌, ◌<◌, ◌≤◌, ℕ, [], true, length, None, Ok, OnOk, OnErr, IfOk, IfErr};
 ghost use Rattle.fo_base.specs.Cause.{Rose};
-ghost use Rattle.fo_disk.specs.Disk.{versions_of};
-ghost use Rattle.fo_order.specs.Turns.{IsDue, IsNext, flag_at};
+ghost use Rattle.fo_disk.specs.Disk.{IsSettled, IsSync, versions_of};
+ghost use Rattle.fo_disk.specs.declared.disk.Failed.{Failed};
+ghost use Rattle.fo_order.specs.declared.marks.Tried.TheVariants.{Written};
+ghost use Rattle.fo_order.specs.Turns.{IsDue, IsNext, IsQuiet, flag_at};
 ghost use Rattle.fo_ports.specs.Causes.{Caused};
 ghost use Rattle.fo_ports.specs.declared.error.BlockError.TheVariants.{Memory as Wanting};
 ghost use Rattle.fo_waits.specs.Listed.{Clears};
 ghost use Rattle.fo_mind.specs.MindParts.{parts};
 ghost use Rattle.fo_mind.specs.Parts.{IsPinned};
-ghost use Rattle.fo_mind.specs.Turning.{HasTurn, Missed};
+ghost use Rattle.fo_mind.specs.Turning.{HasTurn, Missed, Synced};
 ghost use Rattle.fo_cache.specs.Easing.{Eases};
 ghost use Rattle.fo_cache.specs.Settling.{Settles};
 ghost use Rattle.fo_cache.specs.Supers.{Overruled};
 ghost use Rattle.fo_turning.specs.declared.flush.Flushed.TheVariants.{Wrote, Synced as SyncedIs, Idle};
-ghost use Rattle.fo_turning.specs.Flushes.{AtIdle, Does, IsReady, Lands, Misses, Readies, Syncs, Takes, Writes};
+ghost use Rattle.fo_turning.specs.Flushes.{AtIdle, Does, Lands, Misses, Overrules, Syncs, Writes};
 
+use crate::release::{marks_of, release_written};
 use fo_cache::Cache;
 use fo_disk::{Disk, DiskFault};
 use fo_order::Turn;
@@ -27,61 +30,32 @@ pub enum Flushed {
     Wrote(u32),
     /// What was written was settled.
     Synced,
+    /// A slot was cleared, which waited for a leaf that is settled.
+    Cleared,
     /// Nothing is to be written or settled, and no slot waits.
     Idle,
 }
 
-// Clears the next slot whose leaf is settled, and answers whether there was none.
-fn clear_next<D: Disk>(cache: &mut Cache<D>) -> Result<bool, BlockError>
+// Clears the next slot whose leaf is settled, where nothing else is to be done.
+fn clear_next<D: Disk>(cache: &mut Cache<D>) -> Result<Flushed, BlockError>
+    requires quiet { IsQuiet (parts cache.old.mind [] 0).turns }
+    requires certain { (parts cache.old.mind [] 0).doubt ≡ None }
+    ensures does { IfOk result (λ f. Does f (D.state cache.old.main) (D.state cache.new.main) (parts cache.old.mind [] 0) (parts cache.new.mind [] 0)) }
+    ensures idle { ((b j : ℕ) → Clears (parts cache.old.mind [] 0).clears b j → ⊥) → result ≡ Ok Idle }
     ensures eases { Eases (parts cache.old.mind (D.state cache.old.main).holds (D.faults cache.old.main)) (parts cache.new.mind (D.state cache.new.main).holds (D.faults cache.new.main)) }
-    ensures less { IfOk result (λ b. b ≡ false → length (parts cache.new.mind [] 0).clears < length (parts cache.old.mind [] 0).clears) }
-    ensures none { IfOk result (λ b. b ≡ true → IsReady (parts cache.new.mind [] 0)) }
-    ensures idle { ((b j : ℕ) → Clears (parts cache.old.mind [] 0).clears b j → ⊥) → (result ≡ Ok true) × (parts cache.new.mind [] 0 ≡ parts cache.old.mind [] 0) }
     ensures device { cache.new.main ≡ cache.old.main }
     ensures cause { IfErr result (λ e. e ≡ Wanting) }
 {
     let Some((at, i)) = cache.next_due() else {
-        return Ok(true);
+        return Ok(Flushed::Idle);
     };
     cache.clear_due(at, i)?;
-    Ok(false)
+    Ok(Flushed::Cleared)
 }
 
-// Clears the next slot whose leaf is settled, where nothing else is to be done, and answers whether that is over.
-fn clear_more<D: Disk>(cache: &mut Cache<D>) -> Result<bool, BlockError>
-    ensures over { IfOk result (λ b. b ≡ true → IsReady (parts cache.new.mind [] 0)) }
-    ensures less { IfOk result (λ b. b ≡ false → length (parts cache.new.mind [] 0).clears < length (parts cache.old.mind [] 0).clears) }
-    ensures readies { Readies (D.state cache.old.main).holds (D.faults cache.old.main) (parts cache.old.mind [] 0) (parts cache.new.mind [] 0) }
-    ensures idle { AtIdle (parts cache.old.mind [] 0) → (result ≡ Ok true) × (parts cache.new.mind [] 0 ≡ parts cache.old.mind [] 0) }
-    ensures device { cache.new.main ≡ cache.old.main }
-    ensures cause { IfErr result (λ e. e ≡ Wanting) }
-{
-    if cache.mind.is_doubted() {
-        return Ok(true);
-    }
-    match cache.next_turn() {
-        Turn::Write(_) => Ok(true),
-        Turn::Sync => Ok(true),
-        Turn::Idle => clear_next(cache),
-    }
-}
-
-// Clears slots whose leaves are settled, while nothing else is to be done.
-fn make_ready<D: Disk>(cache: &mut Cache<D>) -> Result<(), BlockError>
-    ensures ready { OnOk result (IsReady (parts cache.new.mind [] 0)) }
-    ensures readies { Readies (D.state cache.old.main).holds (D.faults cache.old.main) (parts cache.old.mind [] 0) (parts cache.new.mind [] 0) }
-    ensures idle { AtIdle (parts cache.old.mind [] 0) → parts cache.new.mind [] 0 ≡ parts cache.old.mind [] 0 }
-    ensures calm { OnErr result (AtIdle (parts cache.old.mind [] 0) → ⊥) }
-    ensures device { cache.new.main ≡ cache.old.main }
-    ensures cause { IfErr result (λ e. e ≡ Wanting) }
-{
-    while !clear_more(cache)? {}
-    Ok(())
-}
-
-// Writes block 1 as memory has it, and settles it.
-fn write_first<D: Disk>(cache: &mut Cache<D>) -> Result<Flushed, BlockError>
-    ensures does { IfOk result (λ f. (f ≡ Wrote 1) × Overruled (D.state cache.old.main) (D.state cache.new.main) (parts cache.old.mind [] 0) (parts cache.new.mind [] 0)) }
+// Writes block 1 as memory has it, and settles it with all that was written.
+fn settle_first<D: Disk>(cache: &mut Cache<D>) -> Result<(), BlockError>
+    ensures overruled { OnOk result (Overruled (D.state cache.old.main) (D.state cache.new.main) (parts cache.old.mind [] 0) (parts cache.new.mind [] 0)) }
     ensures nothing { OnErr result (parts cache.new.mind [] 0 ≡ parts cache.old.mind [] 0) }
     ensures eases { Eases (parts cache.old.mind (D.state cache.old.main).holds (D.faults cache.old.main)) (parts cache.new.mind (D.state cache.new.main).holds (D.faults cache.new.main)) }
     ensures size { D.size cache.new.main ≡ D.size cache.old.main }
@@ -89,6 +63,21 @@ fn write_first<D: Disk>(cache: &mut Cache<D>) -> Result<Flushed, BlockError>
     ensures later { D.faults cache.old.main ≤ D.faults cache.new.main }
 {
     cache.settle_one()?;
+    Ok(())
+}
+
+// Settles block 1 as memory has it with all that was written, which is then given up where it may be.
+fn write_first<D: Disk>(cache: &mut Cache<D>) -> Result<Flushed, BlockError>
+    ensures does { IfOk result (λ f. (f ≡ Wrote 1) × Overrules (D.state cache.old.main) (D.state cache.new.main) (parts cache.old.mind [] 0) (parts cache.new.mind [] 0)) }
+    ensures nothing { OnErr result (parts cache.new.mind [] 0 ≡ parts cache.old.mind [] 0) }
+    ensures eases { Eases (parts cache.old.mind (D.state cache.old.main).holds (D.faults cache.old.main)) (parts cache.new.mind (D.state cache.new.main).holds (D.faults cache.new.main)) }
+    ensures size { D.size cache.new.main ≡ D.size cache.old.main }
+    ensures cause { IfErr result (Caused ⊥ (λ b. ⊥) (Rose (D.faults cache.old.main) (D.faults cache.new.main)) ⊥) }
+    ensures later { D.faults cache.old.main ≤ D.faults cache.new.main }
+{
+    let marks = marks_of(cache)?;
+    settle_first(cache)?;
+    release_written(cache, marks);
     Ok(Flushed::Wrote(1))
 }
 
@@ -127,26 +116,42 @@ fn write_next<D: Disk>(cache: &mut Cache<D>, at: u32) -> Result<Flushed, BlockEr
 }
 
 // Settles what was written.
-fn sync_next<D: Disk>(cache: &mut Cache<D>) -> Result<Flushed, BlockError>
-    requires due { IsDue (parts cache.old.mind [] 0).turns }
-    ensures does { IfOk result (λ f. (f ≡ SyncedIs) × Syncs (D.state cache.old.main) (D.state cache.new.main) (parts cache.old.mind [] 0) (parts cache.new.mind [] 0)) }
-    ensures settles { Settles (D.state cache.old.main) (D.state cache.new.main) (parts cache.old.mind [] 0) (parts cache.new.mind [] 0) }
+fn sync_next<D: Disk>(cache: &mut Cache<D>) -> Result<(), BlockError>
+    ensures synced { OnOk result (Synced (parts cache.old.mind [] 0) (parts cache.new.mind [] 0)) }
+    ensures each { OnOk result ((b : ℕ) → (parts cache.old.mind [] 0).region.first ≤ b → b < length (D.state cache.new.main).holds → (flag_at (parts cache.old.mind [] 0).turns b).tried ≡ Written → IsSettled (D.state cache.new.main).holds b) }
+    ensures state { OnOk result (IsSync {E = Failed} (Ok tt) (D.state cache.old.main) (D.state cache.new.main)) }
     ensures nothing { OnErr result (parts cache.new.mind [] 0 ≡ parts cache.old.mind [] 0) }
+    ensures eases { Eases (parts cache.old.mind (D.state cache.old.main).holds (D.faults cache.old.main)) (parts cache.new.mind (D.state cache.new.main).holds (D.faults cache.new.main)) }
     ensures size { D.size cache.new.main ≡ D.size cache.old.main }
     ensures cause { IfErr result (Caused ⊥ (λ b. ⊥) (Rose (D.faults cache.old.main) (D.faults cache.new.main)) ⊥) }
     ensures later { D.faults cache.old.main ≤ D.faults cache.new.main }
 {
     match cache.sync_turn() {
-        Ok(()) => Ok(Flushed::Synced),
+        Ok(()) => Ok(()),
         Err(_) => Err(BlockError::Fault(DiskFault::Sync)),
     }
 }
 
+// Settles what was written, and gives it up where it may be.
+fn sync_written<D: Disk>(cache: &mut Cache<D>) -> Result<Flushed, BlockError>
+    requires due { IsDue (parts cache.old.mind [] 0).turns }
+    ensures does { IfOk result (λ f. (f ≡ SyncedIs) × Syncs (D.state cache.old.main) (D.state cache.new.main) (parts cache.old.mind [] 0) (parts cache.new.mind [] 0)) }
+    ensures nothing { OnErr result (parts cache.new.mind [] 0 ≡ parts cache.old.mind [] 0) }
+    ensures eases { Eases (parts cache.old.mind (D.state cache.old.main).holds (D.faults cache.old.main)) (parts cache.new.mind (D.state cache.new.main).holds (D.faults cache.new.main)) }
+    ensures size { D.size cache.new.main ≡ D.size cache.old.main }
+    ensures cause { IfErr result (Caused ⊥ (λ b. ⊥) (Rose (D.faults cache.old.main) (D.faults cache.new.main)) ⊥) }
+    ensures later { D.faults cache.old.main ≤ D.faults cache.new.main }
+{
+    let marks = marks_of(cache)?;
+    sync_next(cache)?;
+    release_written(cache, marks);
+    Ok(Flushed::Synced)
+}
+
 // Does what is next.
 fn take_turn<D: Disk>(cache: &mut Cache<D>) -> Result<Flushed, BlockError>
-    requires ready { IsReady (parts cache.old.mind [] 0) }
     ensures does { IfOk result (λ f. Does f (D.state cache.old.main) (D.state cache.new.main) (parts cache.old.mind [] 0) (parts cache.new.mind [] 0)) }
-    ensures idle { AtIdle (parts cache.old.mind [] 0) → (result ≡ Ok Idle) × (parts cache.new.mind [] 0 ≡ parts cache.old.mind [] 0) }
+    ensures idle { AtIdle (parts cache.old.mind [] 0) → result ≡ Ok Idle }
     ensures eases { Eases (parts cache.old.mind (D.state cache.old.main).holds (D.faults cache.old.main)) (parts cache.new.mind (D.state cache.new.main).holds (D.faults cache.new.main)) }
     ensures misses { OnErr result (Misses (parts cache.old.mind [] 0) (parts cache.new.mind [] 0)) }
     ensures size { D.size cache.new.main ≡ D.size cache.old.main }
@@ -158,22 +163,23 @@ fn take_turn<D: Disk>(cache: &mut Cache<D>) -> Result<Flushed, BlockError>
     }
     match cache.next_turn() {
         Turn::Write(at) => write_next(cache, at),
-        Turn::Sync => sync_next(cache),
-        Turn::Idle => Ok(Flushed::Idle),
+        Turn::Sync => sync_written(cache),
+        Turn::Idle => clear_next(cache),
     }
 }
 
-/// Takes one step of a settling, and answers which. It may want memory, for the turn of a pinned block or of one in which a slot is
-/// cleared.
+/// Takes one step of a settling, and answers which: a write, a sync, or a slot that is cleared. What a sync settled is given up where it
+/// may be. It may want memory: for the turn of a pinned block or of one in which a slot is cleared, and for the list of what is settled;
+/// then it did nothing.
 pub fn flush_turn<D: Disk>(cache: &mut Cache<D>) -> Result<Flushed, BlockError>
-    ensures takes { IfOk result (λ f. Takes f (D.state cache.old.main) (D.state cache.new.main) (D.faults cache.old.main) (parts cache.old.mind [] 0) (parts cache.new.mind [] 0)) }
-    ensures idle { AtIdle (parts cache.old.mind [] 0) → (result ≡ Ok Idle) × (parts cache.new.mind [] 0 ≡ parts cache.old.mind [] 0) }
+    ensures does { IfOk result (λ f. Does f (D.state cache.old.main) (D.state cache.new.main) (parts cache.old.mind [] 0) (parts cache.new.mind [] 0)) }
+    ensures idle { (result ≡ Ok Idle) ↔ AtIdle (parts cache.old.mind [] 0) }
+    ensures still { AtIdle (parts cache.old.mind [] 0) → parts cache.new.mind [] 0 ≡ parts cache.old.mind [] 0 }
     ensures eases { Eases (parts cache.old.mind (D.state cache.old.main).holds (D.faults cache.old.main)) (parts cache.new.mind (D.state cache.new.main).holds (D.faults cache.new.main)) }
     ensures misses { OnErr result (Misses (parts cache.old.mind [] 0) (parts cache.new.mind [] 0)) }
     ensures size { D.size cache.new.main ≡ D.size cache.old.main }
     ensures cause { IfErr result (Caused ⊥ (λ b. ⊥) (Rose (D.faults cache.old.main) (D.faults cache.new.main)) ⊥) }
     ensures later { D.faults cache.old.main ≤ D.faults cache.new.main }
 {
-    make_ready(cache)?;
     take_turn(cache)
 }

@@ -1,12 +1,13 @@
 //! Single turns that a core takes between requests: one step of a settling, and one block that is closed.
 //!
 //! A flushing turn writes block 1 where it is in doubt, else does what the order of writing says: a block is written, or what was written
-//! is settled. Where that is nothing, the slots that wait for settled leaves are cleared first. An unlinking turn closes one block that
-//! left the tree, where nothing is to be flushed; it unpins what a request left pinned.
+//! is settled, and given up where it may be, so that memory comes back. Where that is nothing, a slot is cleared that waits for a settled
+//! leaf. An unlinking turn closes one block that left the tree, where nothing is to be flushed; it unpins what a request left pinned.
 //!
-//! Proved: what a turn answers was done, and nothing else (`Takes`, `Unlinks`); a flushing turn is idle exactly where nothing has a turn,
-//! nothing is in doubt and no slot waits; an unlinking turn finds nothing exactly where no removal is queued, and waits exactly where
-//! something is to be flushed. Over any device, what isn't doomed stays (`Rests`). A turn fails only where the device failed, or memory is
+//! Proved: what a turn answers was done, and nothing else (`Does`, `Unlinks`); a flushing turn is idle exactly where nothing has a turn,
+//! nothing is in doubt and no slot waits, and then nothing changes; after a sync no block may be given up that was written before it; an
+//! unlinking turn finds nothing exactly where no removal is queued, waits exactly where something is to be flushed, and else leaves all at
+//! rest, as `close_turn` asks. Over any device, what isn't doomed stays (`Rests`). A turn fails only where the device failed, or memory is
 //! wanting; then nothing counts as written, settled or closed.
 //!
 //! Not proved here: what is said of crash images, places and moments; and how long a turn takes.
@@ -15,6 +16,7 @@
 mod close;
 mod flush;
 mod pins;
+mod release;
 mod unlink;
 mod views;
 

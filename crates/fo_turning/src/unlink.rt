@@ -1,10 +1,11 @@
 //! Unlinking turns.
-ghost use Rattle.std.specs.Prelude.{◌≡◌, ◌≢◌, ◌↔◌, ◌≤◌, ℕ, [], Ok, IsTrue, OnErr, IfOk, IfErr};
+ghost use Rattle.std.specs.Prelude.{◌≡◌, ◌≢◌, ◌↔◌, ◌≤◌, ℕ, [], Ok, IsTrue, MatchResult, OnErr, IfOk, IfErr};
 ghost use Rattle.fo_order.specs.Turns.{IsQuiet};
 ghost use Rattle.fo_waits.specs.Listed.{Clears};
 ghost use Rattle.fo_base.specs.Cause.{Rose};
 ghost use Rattle.fo_ports.specs.Causes.{Caused};
 ghost use Rattle.fo_mind.specs.MindParts.{parts};
+ghost use Rattle.fo_closing.specs.Rest.{AtRest};
 ghost use Rattle.fo_turning.specs.declared.unlink.Unlinked.TheVariants.{Empty, Waits};
 ghost use Rattle.fo_turning.specs.Flushes.{AtIdle};
 ghost use Rattle.fo_turning.specs.Freed.{Yields};
@@ -66,6 +67,7 @@ fn unlink_idle<D: Disk>(cache: &mut Cache<D>) -> Result<Unlinked, BlockError>
     ensures unlinks { IfOk result (λ u. Unlinks (D.state cache.old.main).holds u (parts cache.old.mind (D.state cache.old.main).holds (D.faults cache.old.main)) (parts cache.new.mind (D.state cache.new.main).holds (D.faults cache.new.main)) cache.new.mind.queue) }
     ensures more { (result ≢ Ok Empty) × (result ≢ Ok Waits) }
     ensures yields { Yields (parts cache.old.mind (D.state cache.old.main).holds (D.faults cache.old.main)) (parts cache.new.mind (D.state cache.new.main).holds (D.faults cache.new.main)) }
+    ensures rest { AtRest (parts cache.new.mind [] 0) }
     ensures labels { OnErr result ((parts cache.new.mind [] 0).region ≡ (parts cache.old.mind [] 0).region) }
     ensures removals { OnErr result ((parts cache.new.mind [] 0).removals ≡ (parts cache.old.mind [] 0).removals) }
     ensures size { D.size cache.new.main ≡ D.size cache.old.main }
@@ -78,12 +80,14 @@ fn unlink_idle<D: Disk>(cache: &mut Cache<D>) -> Result<Unlinked, BlockError>
 }
 
 /// Closes one block that left the tree, or passes one over. Nothing is closed before all is flushed, as `Waits` says; then what a request
-/// left pinned is unpinned. Where it fails no label changes, and as many removals are queued.
+/// left pinned is unpinned. But for `Waits` and `Empty` all is at rest after it, so that `close_turn` may go on. Where it fails no label
+/// changes, and as many removals are queued.
 pub fn unlink_turn<D: Disk>(cache: &mut Cache<D>) -> Result<Unlinked, BlockError>
     ensures unlinks { IfOk result (λ u. Unlinks (D.state cache.old.main).holds u (parts cache.old.mind (D.state cache.old.main).holds (D.faults cache.old.main)) (parts cache.new.mind (D.state cache.new.main).holds (D.faults cache.new.main)) cache.new.mind.queue) }
     ensures empty { (result ≡ Ok Empty) ↔ ((parts cache.old.mind [] 0).removals ≡ []) }
     ensures waits { (result ≡ Ok Waits) ↔ (((parts cache.old.mind [] 0).removals ≢ []) × (AtIdle (parts cache.old.mind [] 0) → ⊥)) }
     ensures yields { Yields (parts cache.old.mind (D.state cache.old.main).holds (D.faults cache.old.main)) (parts cache.new.mind (D.state cache.new.main).holds (D.faults cache.new.main)) }
+    ensures rest { MatchResult result (λ u. u ≢ Waits → u ≢ Empty → AtRest (parts cache.new.mind [] 0)) (λ e. AtRest (parts cache.new.mind [] 0)) }
     ensures labels { OnErr result ((parts cache.new.mind [] 0).region ≡ (parts cache.old.mind [] 0).region) }
     ensures removals { OnErr result ((parts cache.new.mind [] 0).removals ≡ (parts cache.old.mind [] 0).removals) }
     ensures size { D.size cache.new.main ≡ D.size cache.old.main }

@@ -1,7 +1,13 @@
-use Rattle.std.proofs.Common.{[], sym, ap, ◌∙◌}
+use Rattle.std.proofs.Common.{[], sym, ap, ◌∙◌, subst}
+use Rattle.std.specs.Result.{IfErr}
+use Rattle.fo_base.specs.Cause.{Rose}
+use Rattle.fo_ports.specs.Causes.{Caused}
+use Rattle.fo_waits.specs.Listed.{Clears}
 use Rattle.fo_mind.specs.MindParts.{parts}
+use Rattle.fo_mind.specs.Parts.{Parts}
+use Rattle.fo_order.specs.Turns.{IsQuiet}
 use Rattle.fo_settling.proofs.Waiting.{eases_turns}
-use Rattle.fo_turning.proofs.Flushing.{certain, eases_moved, eases_still, idle_same, misses_same, on_err}
+use Rattle.fo_turning.proofs.Flushing.{any_err, certain, does_moved, does_sync, eases_moved, misses_quiet, misses_same, on_err}
 use Rattle.fo_turning.proofs.flush.take_turn.Goals as goal
 
 pub returns-then-is_doubted-clause-misses : goal.returns-then-is_doubted-clause-misses
@@ -19,22 +25,58 @@ pub returns-in-Sync-clause-eases : goal.returns-in-Sync-clause-eases
 returns-in-Sync-clause-eases g c =
     let cache = c.args.cache.now in
     let mid = c.next_turn.new.self in
-    let new = c.sync_next.new.cache in
-    eases_moved (λ m. (g.D.Disk.state m).holds) g.D.Disk.faults cache.main mid.main new.main (parts cache.mind [] 0) (parts mid.mind [] 0) (parts new.mind [] 0) c.next_turn.ensures.same c.next_turn.ensures.device
-    (eases_turns (g.D.Disk.state mid.main) (g.D.Disk.state new.main) (parts mid.mind [] 0) (parts new.mind [] 0) (g.D.Disk.faults mid.main) (g.D.Disk.faults new.main) c.sync_next.ensures.settles c.sync_next.ensures.later)
+    let new = c.sync_written.new.cache in
+    eases_moved (λ m. (g.D.Disk.state m).holds) g.D.Disk.faults cache.main mid.main new.main (parts cache.mind [] 0) (parts mid.mind [] 0) (parts new.mind [] 0) c.next_turn.ensures.same c.next_turn.ensures.device c.sync_written.ensures.eases
+
+pub returns-in-Sync-clause-does : goal.returns-in-Sync-clause-does
+returns-in-Sync-clause-does g c =
+    let cache = c.args.cache.now in
+    let mid = c.next_turn.new.self in
+    let new = c.sync_written.new.cache in
+    let p = parts cache.mind [] 0 in
+    let m = parts mid.mind [] 0 in
+    let q = parts new.mind [] 0 in
+    let same = c.next_turn.ensures.same in
+    does_moved g.D.Disk.state cache.main mid.main new.main p m q c.sync_written.result same c.next_turn.ensures.device
+    (does_sync (g.D.Disk.state mid.main) (g.D.Disk.state new.main) m q c.sync_written.result (ap (λ (z : Parts). z.doubt) same ∙ certain cache.mind.doubt (sym c.is_doubted.ensures ∙ c.if-is_doubted.false)) c.sync_written.ensures.does)
+
+pub returns-in-Sync-clause-cause : goal.returns-in-Sync-clause-cause
+returns-in-Sync-clause-cause g c = subst (λ (m : _). IfErr c.sync_written.result (Caused ⊥ (λ b. ⊥) (Rose (g.D.Disk.faults m) (g.D.Disk.faults c.sync_written.new.cache.main)) ⊥)) c.next_turn.ensures.device c.sync_written.ensures.cause
+
+pub returns-in-Sync-clause-misses : goal.returns-in-Sync-clause-misses
+returns-in-Sync-clause-misses g c =
+    let cache = c.args.cache.now in
+    let mid = c.next_turn.new.self in
+    let new = c.sync_written.new.cache in
+    on_err c.sync_written.result (λ e. misses_same (parts cache.mind [] 0) (parts new.mind [] 0) (e ∙ c.next_turn.ensures.same)) c.sync_written.ensures.nothing
+
+pub clear_next-requires : goal.clear_next-requires
+clear_next-requires g c =
+    let mind = c.args.cache.now.mind in
+    let same = c.next_turn.ensures.same in
+    record {
+      quiet = subst (λ (z : Parts). IsQuiet z.turns) (sym same) c.in-Idle.ensures.turn;
+      certain = ap (λ (z : Parts). z.doubt) same ∙ certain mind.doubt (sym c.is_doubted.ensures ∙ c.if-is_doubted.false);
+    }
 
 pub returns-in-Idle-clause-does : goal.returns-in-Idle-clause-does
 returns-in-Idle-clause-does g c =
     let cache = c.args.cache.now in
-    let sure = certain cache.mind.doubt (sym c.is_doubted.ensures ∙ c.if-is_doubted.false) in
-    let quiet = c.in-Idle.ensures.turn in (
-      ap g.D.Disk.state c.next_turn.ensures.device,
-      c.next_turn.ensures.same,
-      idle_same (parts cache.mind [] 0) (parts c.next_turn.new.self.mind [] 0) c.next_turn.ensures.same (record { quiet = quiet; certain = sure; none = c.requires.ready.none sure quiet }),
-    )
+    let mid = c.next_turn.new.self in
+    let new = c.clear_next.new.cache in
+    does_moved g.D.Disk.state cache.main mid.main new.main (parts cache.mind [] 0) (parts mid.mind [] 0) (parts new.mind [] 0) c.clear_next.result c.next_turn.ensures.same c.next_turn.ensures.device c.clear_next.ensures.does
+
+pub returns-in-Idle-clause-idle : goal.returns-in-Idle-clause-idle
+returns-in-Idle-clause-idle g c = λ at. c.clear_next.ensures.idle (λ b j h. at.none b j (subst (λ (p : Parts). Clears p.clears b j) c.next_turn.ensures.same h))
 
 pub returns-in-Idle-clause-eases : goal.returns-in-Idle-clause-eases
 returns-in-Idle-clause-eases g c =
     let cache = c.args.cache.now in
     let mid = c.next_turn.new.self in
-    eases_still (λ m. (g.D.Disk.state m).holds) g.D.Disk.faults cache.main mid.main (parts cache.mind [] 0) (parts mid.mind [] 0) c.next_turn.ensures.same c.next_turn.ensures.device
+    let new = c.clear_next.new.cache in
+    eases_moved (λ m. (g.D.Disk.state m).holds) g.D.Disk.faults cache.main mid.main new.main (parts cache.mind [] 0) (parts mid.mind [] 0) (parts new.mind [] 0) c.next_turn.ensures.same c.next_turn.ensures.device c.clear_next.ensures.eases
+
+pub returns-in-Idle-clause-misses : goal.returns-in-Idle-clause-misses
+returns-in-Idle-clause-misses g c =
+    let cache = c.args.cache.now in
+    any_err c.clear_next.result (misses_quiet (parts cache.mind [] 0) (parts c.clear_next.new.cache.mind [] 0) c.in-Idle.ensures.turn (certain cache.mind.doubt (sym c.is_doubted.ensures ∙ c.if-is_doubted.false)))

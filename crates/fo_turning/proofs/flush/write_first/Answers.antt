@@ -1,18 +1,27 @@
-use Rattle.std.proofs.Common.{[]}
+use Rattle.std.proofs.Common.{[], refl, sym, subst}
+use Rattle.fo_cache.proofs.Easing.{eases_on}
+use Rattle.fo_order.specs.declared.marks.Mark.{Mark}
 use Rattle.fo_mind.specs.MindParts.{parts}
-use Rattle.fo_cache.proofs.Easing.{eases_doubt}
+use Rattle.fo_cache.specs.Supers.{Overruled}
+use Rattle.fo_turning.specs.Flushes.{Overrules}
+use Rattle.fo_turning.proofs.Releasing.{moved_overruled, releases_moved}
 use Rattle.fo_turning.proofs.flush.write_first.Goals as goal
 
-pub returns-in_err-settle_one-clause-eases : goal.returns-in_err-settle_one-clause-eases
-returns-in_err-settle_one-clause-eases g c =
-    let self = c.args.cache.now in
-    let n = c.settle_one.new.self in
-    let e = c.settle_one.ensures in
-    eases_doubt (g.D.Disk.state self.main) (g.D.Disk.state n.main) (parts self.mind [] 0) (parts n.mind [] 0) (g.D.Disk.faults self.main) (g.D.Disk.faults n.main) c.settle_one.result e.others e.overruled e.nothing e.later
+pub returns-clause-does : goal.returns-clause-does
+returns-clause-does g c =
+    let cache = c.args.cache.now in
+    let mid = c.settle_first.new.cache in
+    let new = c.release_written.new.cache in
+    let m = parts mid.mind [] 0 in
+    let q = parts new.mind [] 0 in
+    let d = c.release_written.ensures.device in (
+      refl,
+      record {
+        settled = m;
+        overruled = moved_overruled g.D.Disk.state cache.main mid.main new.main (parts cache.mind [] 0) m d c.in_ok-settle_first.ensures.overruled;
+        releases = releases_moved (λ x. (g.D.Disk.state x).holds) mid.main new.main m q d c.in_ok-marks.ensures.marks c.release_written.ensures.releases;
+      },
+    )
 
 pub returns-clause-eases : goal.returns-clause-eases
-returns-clause-eases g c =
-    let self = c.args.cache.now in
-    let n = c.settle_one.new.self in
-    let e = c.settle_one.ensures in
-    eases_doubt (g.D.Disk.state self.main) (g.D.Disk.state n.main) (parts self.mind [] 0) (parts n.mind [] 0) (g.D.Disk.faults self.main) (g.D.Disk.faults n.main) c.settle_one.result e.others e.overruled e.nothing e.later
+returns-clause-eases g c = eases_on c.settle_first.ensures.eases c.release_written.ensures.eases

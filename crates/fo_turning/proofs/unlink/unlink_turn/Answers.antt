@@ -1,9 +1,11 @@
-use Rattle.std.proofs.Common.{ap, ◌∙◌, subst}
+use Rattle.std.proofs.Common.{◌≢◌, ap, ◌∙◌, subst}
 use Rattle.std.specs.Result.{IfOk}
 use Rattle.fo_disk.specs.Disk.{DiskState}
 use Rattle.fo_mind.specs.MindParts.{parts}
 use Rattle.fo_mind.specs.Parts.{Parts}
+use Rattle.fo_turning.specs.declared.unlink.Unlinked.TheVariants.{Empty, Waits}
 use Rattle.fo_turning.specs.Unlinks.{Unlinks}
+use Rattle.fo_turning.proofs.Flushing.{at_both}
 use Rattle.fo_turning.proofs.Freeing.{loosens_same}
 use Rattle.fo_turning.proofs.unlink.unlink_turn.Goals as goal
 
@@ -26,3 +28,6 @@ returns-clause-unlinks g c =
     (ap (λ (x : _). parts mid.mind (g.D.Disk.state x).holds (g.D.Disk.faults x)) c.is_idle.ensures.device
     ∙ ap (λ (z : Parts). record z { disk = (g.D.Disk.state cache.main).holds; faults = g.D.Disk.faults cache.main }) c.is_idle.ensures.same)
     (subst (λ (s : DiskState). IfOk c.unlink_idle.result (λ u. Unlinks s.holds u m q new.mind.queue)) (ap g.D.Disk.state c.is_idle.ensures.device) c.unlink_idle.ensures.unlinks)
+
+pub returns-clause-rest : goal.returns-clause-rest
+returns-clause-rest g c = at_both (λ u. u ≢ Waits) (λ u. u ≢ Empty) c.unlink_idle.result c.unlink_idle.ensures.rest
