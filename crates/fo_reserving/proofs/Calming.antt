@@ -21,17 +21,18 @@ pub always : {T E A : Type 0} (r : Result T E) → A → OnOk r A
 always (Ok x) h = h
 always (Err e) h = tt
 
-pub none_waits : (ws : List Wait) → ((a on j : ℕ) → Awaits ws a on j → ⊥) → ws ≡ []
-none_waits [] none = refl
-none_waits (w ∷ ws) none = absurd (none w.at w.on (2 * w.pair) (inl (refl, refl, omega arith)))
-
 pub none_clears : (cs : List Clearing) → ((b j : ℕ) → Clears cs b j → ⊥) → cs ≡ []
 none_clears [] none = refl
 none_clears (c ∷ cs) none = absurd (none c.at c.slot (inl (refl, refl)))
 
--- turns leave what waits, and what is in doubt
-pub calm_turned : (p q : Parts) → q ≡ record p { held = q.held; turns = q.turns; facts = q.facts } → p.clears ≡ [] → p.waits ≡ [] → p.doubt ≡ None → (q.clears ≡ []) × (q.waits ≡ []) × (q.doubt ≡ None)
-calm_turned p q rest clears waits doubt = (ap (λ (z : Parts). z.clears) rest ∙ clears, ap (λ (z : Parts). z.waits) rest ∙ waits, ap (λ (z : Parts). z.doubt) rest ∙ doubt)
+-- where some slot waits
+pub some_slot : (cs : List Clearing) → 0 < length cs → (b : ℕ) × (j : ℕ) × Clears cs b j
+some_slot [] some = absurd (omega (arith, some))
+some_slot (c ∷ cs) some = (c.at, c.slot, inl (refl, refl))
+
+-- turns leave what waits to be cleared, and what is in doubt
+pub calm_turned : (p q : Parts) → q ≡ record p { held = q.held; turns = q.turns; facts = q.facts } → p.clears ≡ [] → p.doubt ≡ None → (q.clears ≡ []) × (q.doubt ≡ None)
+calm_turned p q rest clears doubt = (ap (λ (z : Parts). z.clears) rest ∙ clears, ap (λ (z : Parts). z.doubt) rest ∙ doubt)
 
 -- where all is settled, after pins ended
 pub rest_let : (p q : Parts) → Lets p q → IsQuiet p.turns → p.clears ≡ [] → p.doubt ≡ None → ((b : ℕ) → IsPinned q.held b → ⊥) → AtRest q

@@ -230,4 +230,4 @@ module _ (p q : Parts) (disk : Holds) (faults : ℕ) {first count : ℕ} (placed
 
   pub reserves_let : Reserves (record p { disk = disk; faults = faults }) (record q { disk = disk; faults = faults })
   reserves_let = subst (λ (z : Parts). Reserves P (record z { disk = disk; faults = faults })) (sym l.rest)
-      (reserves_of P Q rests_let (record { first = refl; count = refl; high = refl; low = refl; root = refl; faults = omega arith }) (λ x. refl))
+      (reserves_of P Q rests_let (record { first = refl; count = refl; high = refl; low = refl; root = refl; faults = omega arith }) (λ x. refl) (inl refl))

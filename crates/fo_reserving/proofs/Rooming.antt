@@ -55,7 +55,7 @@ module _ (p : Parts) (a b links spare pins room : ℕ) (walk : Walking) where
   }
 
   reserves_room : Reserves p Q
-  reserves_room = reserves_of p Q rests (record { first = refl; count = refl; high = refl; low = refl; root = refl; faults = omega arith }) (λ x. refl)
+  reserves_room = reserves_of p Q rests (record { first = refl; count = refl; high = refl; low = refl; root = refl; faults = omega arith }) (λ x. refl) (inl refl)
 
 -- as much room in its parts, and so many blocks, pins and removals
 grown_so : (p q : Parts) → Grown p (record q { spare = p.spare; pins = p.pins; room = p.room }) → q ≡ record p { held = record p.held { room = q.held.room }; turns = record p.turns { room = q.turns.room }; walk = q.walk; links = q.links; spare = q.spare; pins = q.pins; room = q.room }

@@ -44,7 +44,7 @@ use Rattle.fo_closing.specs.Known.{Looked}
 use Rattle.fo_closing.specs.Leaves.{Leaves, Shuts}
 use Rattle.fo_closing.specs.Rest.{AtRest}
 use Rattle.fo_closing.specs.Turned.{Goes, Turned}
-use Rattle.fo_reserving.specs.Steps.{Reserves}
+use Rattle.fo_reserving.specs.Steps.{ClosesAtRest, Reserves}
 
 never : {A : Type 0} → false ≡ true → A
 never e = cc
@@ -218,7 +218,7 @@ module _ (p q : Parts) (disk : Holds) (f g : ℕ) (l : Leaves disk (record p { d
   abbrev Q : Parts
   Q = record p { held = q.held; turns = q.turns; region = q.region; waits = q.waits; removals = q.removals; disk = disk; faults = g }
 
-  module _ (x : Shutting p q) (some : 0 < length p.removals) (clears : p.clears ≡ []) (count : count_of q.region ≡ count_of p.region) where
+  module _ (x : Shutting p q) (some : 0 < length p.removals) (clears : p.clears ≡ []) (count : count_of q.region ≡ count_of p.region) (closes : ClosesAtRest (record p { disk = disk; faults = f }) (record q { disk = disk; faults = g })) where
     label_changed : (b : ℕ) → Shuts (label_at p.region b) (label_at q.region b) → label_at q.region b ≢ label_at p.region b
     label_changed b s e = live_shut (ap (λ (z : Label). z.state) e ∙ s.0) s.1
 
@@ -288,11 +288,12 @@ module _ (p q : Parts) (disk : Holds) (f g : ℕ) (l : Leaves disk (record p { d
         (l.label b)
 
     pub reserves_shut : Reserves P (record q { disk = disk; faults = g })
-    reserves_shut = subst (Reserves P) (sym l.rest) (record {
+    reserves_shut = subst (λ (z : Parts). ClosesAtRest P z → Reserves P z) (sym l.rest) (λ closes. record {
       rests = rests_shut;
       keeps = record { first = first; count = omega (arith, first, count); high = refl; low = refl; root = refl; faults = l.faults };
       apart = apart_shut;
-    })
+      closes = closes;
+    }) closes
 
 -- ---- over a device whose state stays
 
@@ -309,5 +310,6 @@ module _ (p q : Parts) (s t : DiskState) (same : t ≡ s) (f g : ℕ) (l : Leave
   pub one_closed : FitsOne p.one_bytes p.doubt s.holds → FitsOne q.one_bytes q.doubt t.holds
   one_closed fits = subst (λ (z : DiskState). FitsOne q.one_bytes q.doubt z.holds) (sym same) (one_like p q s.holds (ap (λ (z : Parts). z.one_bytes) over.rest) (ap (λ (z : Parts). z.doubt) over.rest) fits)
 
-  pub reserves_closed : Shutting p q → 0 < length p.removals → p.clears ≡ [] → count_of q.region ≡ count_of p.region → Reserves (record p { disk = s.holds; faults = f }) (record q { disk = t.holds; faults = g })
-  reserves_closed x some clears count = subst (λ (z : DiskState). Reserves (record p { disk = s.holds; faults = f }) (record q { disk = z.holds; faults = g })) (sym same) (reserves_shut p q s.holds f g over quiet rest first x some clears count)
+  pub reserves_closed : Shutting p q → 0 < length p.removals → p.clears ≡ [] → count_of q.region ≡ count_of p.region → ClosesAtRest (record p { disk = s.holds; faults = f }) (record q { disk = t.holds; faults = g }) → Reserves (record p { disk = s.holds; faults = f }) (record q { disk = t.holds; faults = g })
+  reserves_closed x some clears count closes = subst (λ (z : DiskState). Reserves (record p { disk = s.holds; faults = f }) (record q { disk = z.holds; faults = g })) (sym same)
+      (reserves_shut p q s.holds f g over quiet rest first x some clears count (subst (λ (z : DiskState). ClosesAtRest (record p { disk = s.holds; faults = f }) (record q { disk = z.holds; faults = g })) same closes))

@@ -1,5 +1,5 @@
 -- What the steps of a reservation leave.
-use Rattle.std.specs.Prelude.{◌≡◌, ◌≢◌, ◌⊎◌, ◌+◌, ◌≤◌, ℕ, zero, suc, false, cond, length, count_by, Option, None}
+use Rattle.std.specs.Prelude.{◌≡◌, ◌≢◌, ◌⊎◌, ◌+◌, ◌≤◌, ℕ, zero, suc, true, false, cond, List, [], ◌∷◌, length, count_by, Option, None, is_some}
 use Rattle.std.specs.Option.{option_map}
 use Rattle.fo_buffers.specs.declared.block.Buffer.{Buffer}
 use Rattle.fo_buffers.specs.Held.{Held, held_at, pinned_as}
@@ -8,11 +8,15 @@ use Rattle.fo_image.specs.Place.{label_block}
 use Rattle.fo_order.specs.declared.marks.Tried.TheVariants.{Settled}
 use Rattle.fo_order.specs.Flags.{is_dirty}
 use Rattle.fo_order.specs.Keeps.{Turns}
-use Rattle.fo_order.specs.Turns.{flag_at}
+use Rattle.fo_order.specs.Turns.{IsQuiet, flag_at}
+use Rattle.fo_ports.specs.Causes.{IsFull}
 use Rattle.fo_ports.specs.State.{Rests}
+use Rattle.fo_unlink.specs.Pending.{Pending}
 use Rattle.fo_waits.specs.Listed.{Clears}
-use Rattle.fo_mind.specs.Parts.{CacheKeeps, IsBlock, IsPinned, Parts, label_at, state_of}
+use Rattle.fo_mind.specs.Parts.{CacheKeeps, IsBlock, IsNewborn, IsPinned, Parts, label_at, state_of}
 use Rattle.fo_mind.specs.Turning.{is_changed, is_pinned_at, may_release}
+use Rattle.fo_closing.specs.Closings.{Closings}
+use Rattle.fo_closing.specs.Rest.{AtRest}
 
 -- what is held of a block, pinned or not
 abbrev pub as_held : Held → ℕ → Option Buffer
@@ -43,8 +47,51 @@ abbrev pub pins_below : Held → ℕ → ℕ
 pins_below h zero = 0
 pins_below h (suc n) = pins_below h n + cond (is_pinned_at h n) 1 0
 
--- What steps of a reservation leave, in the words of calls on blocks; and labels that changed have their places in blocks of labels.
+-- Labels stay, and no removal is lost. The queue stays, but that more may be queued where a slot waited, with what left with it.
+pub record KeepsLabels (p q : Parts) : Type 0 where
+  pub label : (x : ℕ) → label_at q.region x ≡ label_at p.region x
+  pub queued : (q.removals ≡ p.removals) ⊎ ((length p.removals ≤ length q.removals) × ((b : ℕ) × (j : ℕ) × Clears p.clears b j))
+  pub order : (b j : ℕ) → Clears q.clears b j → Clears p.clears b j
+  pub keeps : CacheKeeps p q
+
+-- turns of closing, one after the other: what memory and the queue were before and after them
+pub record Row : Type 0 where
+  pub before : Parts
+  pub after : Parts
+  pub queue : Pending
+  pub left : Pending
+
+-- They were taken where all is settled and at rest, and nothing is held but what is newborn; over the device as it was then, and the queue of memory.
+pub record IsRow (r : Row) : Type 0 where
+  pub quiet : IsQuiet r.before.turns
+  pub rest : AtRest r.before
+  pub held : (b : ℕ) → is_some (held_at r.before.held b) ≡ true → IsNewborn r.before.facts b
+  pub queue : r.queue.removals ≡ r.before.removals
+  pub left : r.left.removals ≡ r.after.removals
+  pub closes : Closings r.before.disk r.before r.after r.queue r.left
+
+-- Labels change and removals leave the queue by these turns of closing, and by nothing else.
+abbrev pub ClosesBy : List Row → Parts → Parts → Type 0
+ClosesBy [] p q = KeepsLabels p q
+ClosesBy (r ∷ rs) p q = KeepsLabels p r.before × IsRow r × ClosesBy rs r.after q
+
+pub record ClosesAtRest (p q : Parts) : Type 0 where
+  pub rows : List Row
+  pub closes : ClosesBy rows p q
+
+-- What steps of a reservation leave, in the words of calls on blocks; labels that changed have their places in blocks of labels; and which
+-- blocks are closed.
 pub record Reserves (p q : Parts) : Type 0 where
   pub rests : Rests (state_of p) (state_of q)
   pub keeps : CacheKeeps p q
   pub apart : (x : ℕ) → label_at q.region x ≢ label_at p.region x → IsBlock p (label_block x) → ⊥
+  pub closes : ClosesAtRest p q
+
+-- Nothing is pinned, and no block is held that may be given up.
+pub record GivesAll (p : Parts) : Type 0 where
+  pub free : (b : ℕ) → IsPinned p.held b → ⊥
+  pub none : (b : ℕ) → IsBlock p b → may_release p b ≡ false
+
+-- There is no room: too few blocks are usable, all is settled, no removal is queued and no slot waits; and the device has all of it for certain.
+abbrev pub IsStuck : Parts → ℕ → Type 0
+IsStuck p asked = IsFull (state_of p) asked × IsQuiet p.turns × AtRest p

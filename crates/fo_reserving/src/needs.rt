@@ -3,15 +3,16 @@ ghost use Rattle.std.specs.Prelude.{◌≡◌, ◌⊎◌, ◌↔◌, ◌+◌, �
 ghost use Rattle.fo_base.specs.Cause.{Rose};
 ghost use Rattle.fo_order.specs.Flags.{is_dirty};
 ghost use Rattle.fo_labels.specs.Region.{usable_count};
-ghost use Rattle.fo_ports.specs.Causes.{Caused, IsFull};
+ghost use Rattle.fo_ports.specs.Causes.{Caused};
+ghost use Rattle.fo_ports.specs.declared.error.BlockError.TheVariants.{Memory as Wanting};
 ghost use Rattle.fo_ports.specs.State.{Rests};
 ghost use Rattle.fo_mind.specs.MindParts.{parts};
 ghost use Rattle.fo_mind.specs.Parts.{CacheKeeps, IsPinned, state_of};
 ghost use Rattle.fo_closing.specs.Rest.{AtRest};
-ghost use Rattle.fo_reserving.specs.Steps.{AreFew, Reserves};
+ghost use Rattle.fo_reserving.specs.Steps.{AreFew, ClosesAtRest, GivesAll, IsStuck, Reserves};
 
 use crate::closing::close_until_usable;
-use crate::pins::unpin_all;
+use crate::pins::{give_up_all, unpin_all};
 use crate::rest::{come_to_rest, settle_down};
 use fo_base::Memory;
 use fo_cache::Cache;
@@ -21,6 +22,9 @@ use fo_ports::BlockError;
 
 /// How many blocks may be to be written or settled before a request settles them first.
 const MOST: usize = 4096;
+
+/// How many blocks are closed beyond what a request needs, since all is settled for it.
+const BATCH: u32 = 256;
 
 // Whether more blocks are to be written or settled.
 fn are_many(order: &Order) -> bool
@@ -76,7 +80,7 @@ fn make_last<D: Disk>(
     ensures few { OnOk result (AreFew (parts cache.new.mind [] 0).turns (parts cache.new.mind [] 0).region.first) }
     ensures leaves { Reserves (parts cache.old.mind (D.state cache.old.main).holds (D.faults cache.old.main)) (parts cache.new.mind (D.state cache.new.main).holds (D.faults cache.new.main)) }
     ensures size { D.size cache.new.main ≡ D.size cache.old.main }
-    ensures cause { IfErr result (Caused (IsFull (state_of (parts cache.new.mind (D.state cache.new.main).holds (D.faults cache.new.main))) blocks) (λ b. ⊥) (Rose (D.faults cache.old.main) (D.faults cache.new.main)) ⊥) }
+    ensures cause { IfErr result (Caused (IsStuck (parts cache.new.mind (D.state cache.new.main).holds (D.faults cache.new.main)) blocks) (λ b. ⊥) (Rose (D.faults cache.old.main) (D.faults cache.new.main)) ⊥) }
     ensures later { D.faults cache.old.main ≤ D.faults cache.new.main }
 {
     if let Err(e) = settle_down(cache) {
@@ -91,7 +95,7 @@ fn make_last<D: Disk>(
     Err(BlockError::Full)
 }
 
-// Settles all, and closes blocks until enough are usable.
+// Settles all, and closes blocks until enough are usable, and some more, so that the next requests need no settling.
 fn close_more<D: Disk>(cache: &mut Cache<D>, blocks: u32) -> Result<(), BlockError>
     ensures over { OnOk result ((blocks ≤ usable_count (parts cache.new.mind [] 0).one.low (parts cache.new.mind [] 0).region) ⊎ ((parts cache.new.mind [] 0).removals ≡ [])) }
     ensures rest { OnOk result (AtRest (parts cache.new.mind [] 0)) }
@@ -101,7 +105,7 @@ fn close_more<D: Disk>(cache: &mut Cache<D>, blocks: u32) -> Result<(), BlockErr
     ensures later { D.faults cache.old.main ≤ D.faults cache.new.main }
 {
     come_to_rest(cache)?;
-    close_until_usable(cache, blocks)
+    close_until_usable(cache, blocks.saturating_add(BATCH))
 }
 
 // Makes room where too few blocks are usable, after a settling and closing.
@@ -116,7 +120,7 @@ fn make_more<D: Disk>(
     ensures few { OnOk result (AreFew (parts cache.new.mind [] 0).turns (parts cache.new.mind [] 0).region.first) }
     ensures leaves { Reserves (parts cache.old.mind (D.state cache.old.main).holds (D.faults cache.old.main)) (parts cache.new.mind (D.state cache.new.main).holds (D.faults cache.new.main)) }
     ensures size { D.size cache.new.main ≡ D.size cache.old.main }
-    ensures cause { IfErr result (Caused (IsFull (state_of (parts cache.new.mind (D.state cache.new.main).holds (D.faults cache.new.main))) blocks) (λ b. ⊥) (Rose (D.faults cache.old.main) (D.faults cache.new.main)) ⊥) }
+    ensures cause { IfErr result (Caused (IsStuck (parts cache.new.mind (D.state cache.new.main).holds (D.faults cache.new.main)) blocks) (λ b. ⊥) (Rose (D.faults cache.old.main) (D.faults cache.new.main)) ⊥) }
     ensures later { D.faults cache.old.main ≤ D.faults cache.new.main }
 {
     if let Err(e) = close_more(cache, blocks) {
@@ -143,7 +147,7 @@ fn make_now<D: Disk>(
     ensures few { OnOk result (AreFew (parts cache.new.mind [] 0).turns (parts cache.new.mind [] 0).region.first) }
     ensures leaves { Reserves (parts cache.old.mind (D.state cache.old.main).holds (D.faults cache.old.main)) (parts cache.new.mind (D.state cache.new.main).holds (D.faults cache.new.main)) }
     ensures size { D.size cache.new.main ≡ D.size cache.old.main }
-    ensures cause { IfErr result (Caused (IsFull (state_of (parts cache.new.mind (D.state cache.new.main).holds (D.faults cache.new.main))) blocks) (λ b. ⊥) (Rose (D.faults cache.old.main) (D.faults cache.new.main)) ⊥) }
+    ensures cause { IfErr result (Caused (IsStuck (parts cache.new.mind (D.state cache.new.main).holds (D.faults cache.new.main)) blocks) (λ b. ⊥) (Rose (D.faults cache.old.main) (D.faults cache.new.main)) ⊥) }
     ensures later { D.faults cache.old.main ≤ D.faults cache.new.main }
 {
     unpin_all(cache);
@@ -159,8 +163,80 @@ fn make_now<D: Disk>(
     make_more(cache, blocks, pins, removals)
 }
 
+// Gives all up, settles all, and makes room then.
+fn make_rested<D: Disk>(
+    cache: &mut Cache<D>,
+    blocks: u32,
+    pins: u32,
+    removals: u32,
+) -> Result<(), BlockError>
+    ensures room { OnOk result ((blocks ≤ (parts cache.new.mind [] 0).spare) × (pins ≤ (parts cache.new.mind [] 0).pins) × (removals ≤ (parts cache.new.mind [] 0).room)) }
+    ensures none { OnOk result ((b : ℕ) → IsPinned (parts cache.new.mind [] 0).held b → ⊥) }
+    ensures few { OnOk result (AreFew (parts cache.new.mind [] 0).turns (parts cache.new.mind [] 0).region.first) }
+    ensures leaves { Reserves (parts cache.old.mind (D.state cache.old.main).holds (D.faults cache.old.main)) (parts cache.new.mind (D.state cache.new.main).holds (D.faults cache.new.main)) }
+    ensures size { D.size cache.new.main ≡ D.size cache.old.main }
+    ensures cause { IfErr result (Caused (IsStuck (parts cache.new.mind (D.state cache.new.main).holds (D.faults cache.new.main)) blocks) (λ b. ⊥) (Rose (D.faults cache.old.main) (D.faults cache.new.main)) ⊥) }
+    ensures later { D.faults cache.old.main ≤ D.faults cache.new.main }
+{
+    give_up_all(cache);
+    if let Err(e) = come_to_rest(cache) {
+        return Err(e);
+    }
+    make_now(cache, blocks, pins, removals)
+}
+
+// Makes room once more, where memory was wanting: first all is given up that may be. Where memory is wanting still, so it is then.
+fn make_again<D: Disk>(
+    cache: &mut Cache<D>,
+    blocks: u32,
+    pins: u32,
+    removals: u32,
+) -> Result<(), BlockError>
+    ensures room { OnOk result ((blocks ≤ (parts cache.new.mind [] 0).spare) × (pins ≤ (parts cache.new.mind [] 0).pins) × (removals ≤ (parts cache.new.mind [] 0).room)) }
+    ensures none { OnOk result ((b : ℕ) → IsPinned (parts cache.new.mind [] 0).held b → ⊥) }
+    ensures few { OnOk result (AreFew (parts cache.new.mind [] 0).turns (parts cache.new.mind [] 0).region.first) }
+    ensures wanting { IfErr result (λ e. e ≡ Wanting → GivesAll (parts cache.new.mind [] 0)) }
+    ensures leaves { Reserves (parts cache.old.mind (D.state cache.old.main).holds (D.faults cache.old.main)) (parts cache.new.mind (D.state cache.new.main).holds (D.faults cache.new.main)) }
+    ensures size { D.size cache.new.main ≡ D.size cache.old.main }
+    ensures cause { IfErr result (Caused (IsStuck (parts cache.new.mind (D.state cache.new.main).holds (D.faults cache.new.main)) blocks) (λ b. ⊥) (Rose (D.faults cache.old.main) (D.faults cache.new.main)) ⊥) }
+    ensures later { D.faults cache.old.main ≤ D.faults cache.new.main }
+{
+    match make_rested(cache, blocks, pins, removals) {
+        Ok(()) => Ok(()),
+        Err(BlockError::Memory) => {
+            give_up_all(cache);
+            Err(BlockError::Memory)
+        }
+        Err(e) => Err(e),
+    }
+}
+
+// Makes room, and once more where memory was wanting.
+fn make_whole<D: Disk>(
+    cache: &mut Cache<D>,
+    blocks: u32,
+    pins: u32,
+    removals: u32,
+) -> Result<(), BlockError>
+    ensures room { OnOk result ((blocks ≤ (parts cache.new.mind [] 0).spare) × (pins ≤ (parts cache.new.mind [] 0).pins) × (removals ≤ (parts cache.new.mind [] 0).room)) }
+    ensures none { OnOk result ((b : ℕ) → IsPinned (parts cache.new.mind [] 0).held b → ⊥) }
+    ensures few { OnOk result (AreFew (parts cache.new.mind [] 0).turns (parts cache.new.mind [] 0).region.first) }
+    ensures wanting { IfErr result (λ e. e ≡ Wanting → GivesAll (parts cache.new.mind [] 0)) }
+    ensures leaves { Reserves (parts cache.old.mind (D.state cache.old.main).holds (D.faults cache.old.main)) (parts cache.new.mind (D.state cache.new.main).holds (D.faults cache.new.main)) }
+    ensures size { D.size cache.new.main ≡ D.size cache.old.main }
+    ensures cause { IfErr result (Caused (IsStuck (parts cache.new.mind (D.state cache.new.main).holds (D.faults cache.new.main)) blocks) (λ b. ⊥) (Rose (D.faults cache.old.main) (D.faults cache.new.main)) ⊥) }
+    ensures later { D.faults cache.old.main ≤ D.faults cache.new.main }
+{
+    match make_now(cache, blocks, pins, removals) {
+        Ok(()) => Ok(()),
+        Err(BlockError::Memory) => make_again(cache, blocks, pins, removals),
+        Err(e) => Err(e),
+    }
+}
+
 /// Reserves so many blocks, pins, and removals and waits for one request. All pins end. Where too few blocks are usable, all is settled,
-/// and blocks that left the tree are closed. All is settled, too, where more than 4,096 blocks are to be written or settled.
+/// and blocks that left the tree are closed. All is settled, too, where more than 4,096 blocks are to be written or settled. Where memory is
+/// wanting, all that may be given up is, all is settled, and it is tried once more.
 pub fn reserve<D: Disk>(
     cache: &mut Cache<D>,
     blocks: u32,
@@ -170,11 +246,13 @@ pub fn reserve<D: Disk>(
     ensures room { OnOk result ((blocks ≤ (state_of (parts cache.new.mind (D.state cache.new.main).holds (D.faults cache.new.main))).spare) × (pins ≤ (state_of (parts cache.new.mind (D.state cache.new.main).holds (D.faults cache.new.main))).pins_left) × (removals ≤ (state_of (parts cache.new.mind (D.state cache.new.main).holds (D.faults cache.new.main))).room)) }
     ensures none { OnOk result ((b : ℕ) → (state_of (parts cache.new.mind (D.state cache.new.main).holds (D.faults cache.new.main))).pinned b → ⊥) }
     ensures few { OnOk result (AreFew (parts cache.new.mind [] 0).turns (parts cache.new.mind [] 0).region.first) }
+    ensures closes { ClosesAtRest (parts cache.old.mind (D.state cache.old.main).holds (D.faults cache.old.main)) (parts cache.new.mind (D.state cache.new.main).holds (D.faults cache.new.main)) }
+    ensures wanting { IfErr result (λ e. e ≡ Wanting → GivesAll (parts cache.new.mind [] 0)) }
     ensures rests { Rests (state_of (parts cache.old.mind (D.state cache.old.main).holds (D.faults cache.old.main))) (state_of (parts cache.new.mind (D.state cache.new.main).holds (D.faults cache.new.main))) }
     ensures keeps { CacheKeeps (parts cache.old.mind (D.state cache.old.main).holds (D.faults cache.old.main)) (parts cache.new.mind (D.state cache.new.main).holds (D.faults cache.new.main)) }
     ensures size { D.size cache.new.main ≡ D.size cache.old.main }
-    ensures cause { IfErr result (Caused (IsFull (state_of (parts cache.new.mind (D.state cache.new.main).holds (D.faults cache.new.main))) blocks) (λ b. ⊥) (Rose (D.faults cache.old.main) (D.faults cache.new.main)) ⊥) }
+    ensures cause { IfErr result (Caused (IsStuck (parts cache.new.mind (D.state cache.new.main).holds (D.faults cache.new.main)) blocks) (λ b. ⊥) (Rose (D.faults cache.old.main) (D.faults cache.new.main)) ⊥) }
     ensures later { D.faults cache.old.main ≤ D.faults cache.new.main }
 {
-    make_now(cache, blocks, pins, removals)
+    make_whole(cache, blocks, pins, removals)
 }

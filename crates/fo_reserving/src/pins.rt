@@ -3,7 +3,7 @@ ghost use Rattle.std.specs.Prelude.{◌≡◌, ◌<◌, ℕ, [], true, false};
 ghost use Rattle.fo_mind.specs.MindParts.{parts};
 ghost use Rattle.fo_mind.specs.Parts.{IsBlock, IsPinned, count_of};
 ghost use Rattle.fo_mind.specs.Turning.{may_release};
-ghost use Rattle.fo_reserving.specs.Steps.{IsKept, Lets, Reserves, pins_below};
+ghost use Rattle.fo_reserving.specs.Steps.{GivesAll, IsKept, Lets, Reserves, pins_below};
 
 use fo_cache::Cache;
 use fo_disk::Disk;
@@ -77,4 +77,14 @@ pub fn release_all<D: Disk>(cache: &mut Cache<D>)
     ensures device { cache.new.main ≡ cache.old.main }
 {
     release_each(cache);
+}
+
+/// Ends all pins, and gives each block up that may be. It goes over all addresses.
+pub fn give_up_all<D: Disk>(cache: &mut Cache<D>)
+    ensures all { GivesAll (parts cache.new.mind [] 0) }
+    ensures leaves { Reserves (parts cache.old.mind (D.state cache.old.main).holds (D.faults cache.old.main)) (parts cache.new.mind (D.state cache.new.main).holds (D.faults cache.new.main)) }
+    ensures device { cache.new.main ≡ cache.old.main }
+{
+    unpin_all(cache);
+    release_all(cache);
 }

@@ -1,5 +1,6 @@
-use Rattle.std.proofs.Common.{[]}
+use Rattle.std.proofs.Common.{[], refl}
 use Rattle.fo_mind.specs.MindParts.{parts}
+use Rattle.fo_reserving.proofs.Joining.{closes_row}
 use Rattle.fo_reserving.proofs.Shutting.{first_same, fits_closed, labels_closed, one_closed, reserves_closed, shutting_closings}
 use Rattle.fo_reserving.proofs.closing.close_queued.Goals as goal
 
@@ -40,3 +41,6 @@ returns-clause-leaves g c =
     let q = parts new.mind [] 0 in
     reserves_closed p q (g.D.Disk.state old.main) (g.D.Disk.state new.main) e.state (g.D.Disk.faults old.main) (g.D.Disk.faults new.main) e.leaves c.requires.quiet e.rest (first_same p q old.mind.placed new.mind.placed e.count)
     (shutting_closings p q (g.D.Disk.state old.main).holds (g.D.Disk.state new.main).holds (g.D.Disk.faults old.main) (g.D.Disk.faults new.main) old.mind.queue new.mind.queue e.closes) c.requires.some c.requires.rest.none e.count
+    (closes_row
+    (record { before = parts old.mind (g.D.Disk.state old.main).holds (g.D.Disk.faults old.main); after = parts new.mind (g.D.Disk.state new.main).holds (g.D.Disk.faults new.main); queue = old.mind.queue; left = new.mind.queue })
+    (record { quiet = c.requires.quiet; rest = record { clean = c.requires.rest.clean; settled = c.requires.rest.settled; free = c.requires.rest.free; none = c.requires.rest.none; sure = c.requires.rest.sure }; held = c.requires.held; queue = refl; left = refl; closes = e.closes }))
