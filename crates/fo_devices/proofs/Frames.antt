@@ -1,5 +1,6 @@
 -- What calls keep of two states they keep with any counts of the arena's faults.
 use Rattle.std.specs.Prelude.{◌≡◌, ℕ, Result, Ok, Err, IfErr}
+use Rattle.std.proofs.Common.{subst}
 use Rattle.fo_image.specs.declared.types.Label.{Label}
 use Rattle.fo_crash.specs.declared.slot.Slot.{Slot}
 use Rattle.fo_crash.specs.Images.{Content}
@@ -143,10 +144,15 @@ rests s t a b h = record {
 }
 
 -- A refusal for want of room is caused by the same.
-pub caused : {T : Type 0} (r : Result T BlockError) (t : State) (b asked : ℕ) (damaged : ℕ → Type 0) (fault arena : Type 0) → IfErr r (Caused (IsFull t asked) damaged fault arena) → IfErr r (Caused (IsFull (beside t b) asked) damaged fault arena)
-caused (Ok x) t b asked damaged fault arena h = tt
-caused (Err Full) t b asked damaged fault arena h = (h.0, settled t b h.1)
-caused (Err (Damaged at)) t b asked damaged fault arena h = h
-caused (Err (Fault which)) t b asked damaged fault arena h = h
-caused (Err (Arena which)) t b asked damaged fault arena h = h
-caused (Err Memory) t b asked damaged fault arena h = h
+pub caused : {T : Type 0} (r : Result T BlockError) (t : State) (b asked : ℕ) (quiet rest : Type 0) (damaged : ℕ → Type 0) (fault arena : Type 0) → IfErr r (Caused (IsFull t asked × quiet × rest) damaged fault arena) → IfErr r (Caused (IsFull (beside t b) asked) damaged fault arena)
+caused (Ok x) t b asked quiet rest damaged fault arena h = tt
+caused (Err Full) t b asked quiet rest damaged fault arena h = (h.0.0, settled t b h.0.1)
+caused (Err (Damaged at)) t b asked quiet rest damaged fault arena h = h
+caused (Err (Fault which)) t b asked quiet rest damaged fault arena h = h
+caused (Err (Arena which)) t b asked quiet rest damaged fault arena h = h
+caused (Err Memory) t b asked quiet rest damaged fault arena h = h
+
+-- what is so beside that where there is no room
+pub full_more : {T : Type 0} (r : Result T BlockError) (full quiet rest : Type 0) (damaged : ℕ → Type 0) (fault arena : Type 0) → IfErr r (Caused (full × quiet × rest) damaged fault arena) → IfErr r (λ e. e ≡ Full → quiet × rest)
+full_more (Ok x) full quiet rest damaged fault arena h = tt
+full_more (Err e) full quiet rest damaged fault arena h = λ is. let c : full × quiet × rest = subst (Caused (full × quiet × rest) damaged fault arena) is h in (c.1, c.2)
