@@ -3,9 +3,10 @@
 //! `spot_for` looks for the least free pair of a directory's entries, and for the first leaf of its records with room for a record of a
 //! length. `is_full` says whether the directory has as many names as one may have, 2^20.
 //!
-//! Proved: the calls only look, and each refusal has its cause. The pair and the leaf stand within the directory's sources, or right behind
-//! their last leaf. Not said: that the pair is free and that the leaf has room, since nothing is known of what such a device has; whoever
-//! takes the spot tests both again.
+//! Proved: the calls only look, within the pins that reading each leaf takes, and each refusal has its cause. The pair and the leaf stand within
+//! the directory's sources, or right behind their last leaf; a directory is full only where its leaves have room for so many names. Not said: that
+//! the pair is free, that the leaf has room, and that a directory with so many names is full, since nothing is known of what such a device has;
+//! whoever takes the spot tests both again.
 #![tactic(auto)]
 
 mod spot;

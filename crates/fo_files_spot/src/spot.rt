@@ -1,11 +1,13 @@
 //! A free pair, and a leaf with room.
-ghost use Rattle.std.specs.Prelude.{◌≡◌, ◌⊎◌, ◌↔◌, ◌+◌, ◌*◌, ◌^◌, ◌≤◌, ℕ, IfOk, IfErr, IsTrue};
+ghost use Rattle.std.specs.Prelude.{◌≡◌, ◌⊎◌, ◌↔◌, ◌+◌, ◌*◌, ◌^◌, ◌≤◌, ℕ, true, IfOk, IfErr, IsTrue};
 ghost use Rattle.fo_base.specs.Cause.{Rose};
 ghost use Rattle.fo_ports.specs.Causes.{Caused};
 ghost use Rattle.fo_ports.specs.State.{Looks};
+ghost use Rattle.fo_ports.specs.Sources.{depth_for};
 ghost use Rattle.fo_dir_read.specs.Names.{leaf_count};
 ghost use Rattle.fo_files_at.specs.Held.{FileHolds};
 
+use fo_base::BLOCK;
 use fo_dir_list::{count, leaf_for};
 use fo_dir_read::free_pair;
 use fo_files_at::{ENTRIES_BELOW, File, RECORDS_BELOW, entries_of, records_of};
@@ -14,6 +16,9 @@ use std::alloc::Global;
 
 /// How many names a directory may have.
 pub const MOST_NAMES: u64 = 1 << 20;
+
+/// How many records a leaf may have.
+const MOST_IN_LEAF: u64 = 240;
 
 /// Where a new file goes: the pair of entries that it gets, and the leaf that gets its record.
 #[derive(Clone, Copy, Debug, PartialEq, Eq)]
@@ -28,6 +33,7 @@ fn pair_for<B: Blocks>(alloc: Global, on: &mut B, dir: &File) -> Result<u32, Blo
     requires high { 40 ≤ dir.now.rank }
     requires silent { (B.state on.old).tells → ⊥ }
     ensures within { IfOk result (λ k. k ≤ 102 * leaf_count dir.now.first.size) }
+    ensures pins { (B.state on.old).pins_left ≤ (B.state on.new).pins_left + leaf_count dir.now.first.size * (depth_for dir.now.first.size + 1) }
     ensures looks { Looks (B.state on.old) (B.state on.new) × B.keeps on.old on.new }
     ensures cause { IfErr result (Caused ⊥ (λ b. (B.state on.old).is_block b) (Rose (B.state on.old).faults (B.state on.new).faults) ⊥) }
 {
@@ -48,6 +54,7 @@ fn room_for<B: Blocks>(alloc: Global, on: &mut B, dir: &File, len: usize) -> Res
     requires short { len ≤ 481 }
     requires silent { (B.state on.old).tells → ⊥ }
     ensures within { IfOk result (λ i. i ≤ leaf_count dir.now.second.size) }
+    ensures pins { (B.state on.old).pins_left ≤ (B.state on.new).pins_left + leaf_count dir.now.second.size * (depth_for dir.now.second.size + 1) }
     ensures looks { Looks (B.state on.old) (B.state on.new) × B.keeps on.old on.new }
     ensures cause { IfErr result (Caused ⊥ (λ b. (B.state on.old).is_block b) (Rose (B.state on.old).faults (B.state on.new).faults) ⊥) }
 {
@@ -75,6 +82,7 @@ pub fn spot_for<B: Blocks>(
     requires silent { (B.state on.old).tells → ⊥ }
     ensures pair { IfOk result (λ s. s.pair ≤ 102 * leaf_count dir.now.first.size) }
     ensures leaf { IfOk result (λ s. s.leaf ≤ leaf_count dir.now.second.size) }
+    ensures pins { (B.state on.old).pins_left ≤ (B.state on.new).pins_left + (leaf_count dir.now.first.size * (depth_for dir.now.first.size + 1) + leaf_count dir.now.second.size * (depth_for dir.now.second.size + 1)) }
     ensures looks { Looks (B.state on.old) (B.state on.new) × B.keeps on.old on.new }
     ensures cause { IfErr result (Caused ⊥ (λ b. (B.state on.old).is_block b) (Rose (B.state on.old).faults (B.state on.new).faults) ⊥) }
 {
@@ -95,14 +103,27 @@ fn are_most(names: u64) -> bool
     MOST_NAMES <= names
 }
 
-/// Whether a directory has as many names as one may have, and so takes no more.
+/// Whether leaves of so many bytes have room for as many names as a directory may have: one of 8192 bytes has 8188 for records, and each takes
+/// at least 34.
+fn has_leaves(size: u64) -> bool
+    ensures { IsTrue result ↔ (2 ^ 20 ≤ 240 * leaf_count size) }
+{
+    MOST_NAMES <= MOST_IN_LEAF * size.div_ceil(BLOCK as u64)
+}
+
+/// Whether a directory has as many names as one may have, and so takes no more. It isn't read where it has too few leaves for that.
 pub fn is_full<B: Blocks>(alloc: Global, on: &mut B, dir: &File) -> Result<bool, BlockError>
     requires holds { FileHolds (B.state on.old) dir.now }
     requires high { 40 ≤ dir.now.rank }
     requires silent { (B.state on.old).tells → ⊥ }
+    ensures full { IfOk result (λ full. full ≡ true → 2 ^ 20 ≤ 240 * leaf_count dir.now.second.size) }
+    ensures pins { (B.state on.old).pins_left ≤ (B.state on.new).pins_left + leaf_count dir.now.second.size * (depth_for dir.now.second.size + 1) }
     ensures looks { Looks (B.state on.old) (B.state on.new) × B.keeps on.old on.new }
     ensures cause { IfErr result (Caused ⊥ (λ b. (B.state on.old).is_block b) (Rose (B.state on.old).faults (B.state on.new).faults) ⊥) }
 {
+    if !has_leaves(dir.second.size) {
+        return Ok(false);
+    }
     let mut records = match records_of(alloc, on, dir) {
         Ok(records) => records,
         Err(why) => return Err(why),
