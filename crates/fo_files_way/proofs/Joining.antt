@@ -14,9 +14,9 @@ cases_live Live = inl refl
 cases_live Closed = inr (λ e. cc)
 
 -- what may be put into may be more
-pub owns_wider : {s u : State} {root wide : ℕ} {tags wider : ℕ → Type 0} → ((b : ℕ) → MayPutInto root tags s b → MayPutInto wide wider s b) → ((t : ℕ) → tags t → wider t) → Owns root tags s u → Owns wide wider s u
-owns_wider {u = u} into more x = record {
-  memory = λ b not_made not_put. x.memory b not_made (λ put. not_put (into b put));
+pub owns_wider : {s u : State} {here more_here : ℕ → Type 0} {labels more_labels : Label → Type 0} {tags more_tags : ℕ → Type 0} → ((b : ℕ) → here b → more_here b) → ((l : Label) → labels l → more_labels l) → ((t : ℕ) → tags t → more_tags t) → Owns here labels tags s u → Owns more_here more_labels more_tags s u
+owns_wider {s = s} into labelled more x = record {
+  memory = λ b not_made not_put. x.memory b not_made (λ put. not_put (⊎_elim (λ h. inl (into b h)) (λ own. inr (own.0, labelled (s.label b) own.1)) put));
   made = λ b made. let is = x.made b made in (is.0, is.1, more _ is.2, is.3, is.4, is.5);
   others = x.others;
   apart = x.apart;
@@ -24,7 +24,7 @@ owns_wider {u = u} into more x = record {
   no_wait = x.no_wait;
   clearing = x.clearing;
   goes_on = x.goes_on;
-  dirty = λ b h. ⊎_elim (λ old. inl old) (λ new. inr (⊎_elim (λ made. inl made) (λ other. inr (⊎_elim (λ put. inl (into b put)) (λ block. inr block) other)) new)) (x.dirty b h);
+  dirty = λ b h. ⊎_elim (λ old. inl old) (λ new. inr (⊎_elim (λ made. inl made) (λ other. inr (⊎_elim (λ put. inl (⊎_elim (λ is. inl (into b is)) (λ own. inr (own.0, more _ own.1)) put)) (λ block. inr block) other)) new)) (x.dirty b h);
   moments = x.moments;
   left = x.left;
   pins = x.pins;
@@ -33,15 +33,15 @@ owns_wider {u = u} into more x = record {
   numbers = x.numbers;
 }
 
-module _ {s m u : State} {root : ℕ} {tags : ℕ → Type 0} (all : KeepsAll s m) (more : KeepsAll m u) (x : Owns root tags s m) (y : Owns root tags m u) where
+module _ {s m u : State} {here : ℕ → Type 0} {labels : Label → Type 0} {tags : ℕ → Type 0} (all : KeepsAll s m) (more : KeepsAll m u) (x : Owns here labels tags s m) (y : Owns (λ b. here b ⊎ Made s m b) labels tags m u) where
   -- a block that was given out first stays
   first_live : (b : ℕ) → Made s m b → Made m u b → ⊥
   first_live b first second = second.0 first.1
 
-  made_first : (b : ℕ) → Made s m b → Made s u b
+  pub made_first : (b : ℕ) → Made s m b → Made s u b
   made_first b made = (made.0, ap (λ (z : Label). z.state) (y.others b (first_live b made)).label ∙ made.1)
 
-  made_second : (b : ℕ) → Made m u b → Made s u b
+  pub made_second : (b : ℕ) → Made m u b → Made s u b
   made_second b made = (λ live. made.0 (ap (λ (z : Label). z.state) (x.others b (λ first. first.0 live)).label ∙ live), made.1)
 
   not_first : (b : ℕ) → (Made s u b → ⊥) → Made s m b → ⊥
@@ -50,10 +50,10 @@ module _ {s m u : State} {root : ℕ} {tags : ℕ → Type 0} (all : KeepsAll s 
   not_second : (b : ℕ) → (Made s u b → ⊥) → Made m u b → ⊥
   not_second b none made = none (made_second b made)
 
-  put_back : (b : ℕ) → (Made s m b → ⊥) → MayPutInto root tags m b → MayPutInto root tags s b
-  put_back b none put = let same = (x.others b none).label in ⊎_elim
-      (λ here. inl here)
-      (λ own. inr (ap (λ (z : Label). z.epoch) (sym same) ∙ own.0 ∙ all.same_high, subst tags (ap (λ (z : Label). z.tag) same) own.1))
+  put_back : (P : Label → Type 0) (b : ℕ) → (Made s m b → ⊥) → MayPutInto (λ c. here c ⊎ Made s m c) P m b → MayPutInto here P s b
+  put_back P b none put = let same = (x.others b none).label in ⊎_elim
+      (λ one. ⊎_elim (λ is. inl is) (λ made. absurd (none made)) one)
+      (λ own. inr (ap (λ (z : Label). z.epoch) (sym same) ∙ own.0 ∙ all.same_high, subst P same own.1))
       put
 
   cases_made : (b : ℕ) → Made s u b → Made s m b ⊎ ((Made s m b → ⊥) × Made m u b)
@@ -62,9 +62,9 @@ module _ {s m u : State} {root : ℕ} {tags : ℕ → Type 0} (all : KeepsAll s 
       (λ none. inr (λ first. none first.1, (none, made.1)))
       (cases_live (m.label b).state)
 
-  pub owns_joins : Owns root tags s u
+  pub owns_joins : Owns here labels tags s u
   owns_joins = record {
-    memory = λ b none not_put. content_joins (y.memory b (not_second b none) (λ put. not_put (put_back b (not_first b none) put))) (x.memory b (not_first b none) not_put);
+    memory = λ b none not_put. content_joins (y.memory b (not_second b none) (λ put. not_put (put_back labels b (not_first b none) put))) (x.memory b (not_first b none) not_put);
     made = λ b made. ⊎_elim
         (λ first. let is = x.made b first in let stays = y.others b (first_live b first) in (
           is.0,
@@ -106,11 +106,11 @@ module _ {s m u : State} {root : ℕ} {tags : ℕ → Type 0} (all : KeepsAll s 
     numbers = record { next = y.numbers.next ∙ x.numbers.next; grants = λ h. y.numbers.grants (x.numbers.grants h) };
   }
     where
-      put_cases : (b : ℕ) → MayPutInto root tags m b → Made s u b ⊎ (MayPutInto root tags s b ⊎ ((z : ℕ) × Made s u z × (b ≡ s.label_block z)))
+      put_cases : (b : ℕ) → MayPutInto (λ c. here c ⊎ Made s m c) (λ l. tags l.tag) m b → Made s u b ⊎ (MayPutInto here (λ l. tags l.tag) s b ⊎ ((z : ℕ) × Made s u z × (b ≡ s.label_block z)))
       put_cases b put = ⊎_elim
-          (λ live. inr (inl (put_back b (λ made. made.0 live) put)))
+          (λ live. inr (inl (put_back (λ l. tags l.tag) b (λ made. made.0 live) put)))
           (λ dead. ⊎_elim
           (λ live. inl (made_first b (dead, live)))
-          (λ none. inr (inl (put_back b (λ made. none made.1) put)))
+          (λ none. inr (inl (put_back (λ l. tags l.tag) b (λ made. none made.1) put)))
           (cases_live (m.label b).state))
           (cases_live (s.label b).state)

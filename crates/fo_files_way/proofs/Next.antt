@@ -1,8 +1,10 @@
 -- The next level of a plan is owned.
-use Rattle.std.proofs.Common.{◌≡◌, ◌≢◌, ◌+◌, ◌*◌, ◌<◌, ◌≤◌, ℕ, zero, suc, List, [], ◌∷◌, length, get_or, set, inl, inr, ⊎_elim, refl, sym, ap, subst, ◌∙◌, arith}
+use Rattle.std.proofs.Common.{◌≡◌, ◌≢◌, ◌+◌, ◌*◌, ◌<◌, ◌≤◌, ◌++◌, ℕ, zero, suc, Bool, true, false, List, [], ◌∷◌, Some, length, get_or, set, inl, inr, ⊎_elim, refl, sym, ap, subst, ◌∙◌, arith}
 use Rattle.std.proofs.lemmas.Bool.{cases_lt, cases_eq}
 use Rattle.std.proofs.lemmas.List.{length-set, get_or-set_same, get_or-set_other}
 use Rattle.fo_image.specs.declared.types.Label.{Label}
+use Rattle.fo_image.specs.declared.types.Kind.{Kind}
+use Rattle.fo_image.specs.declared.types.Kind.TheVariants.{Dir}
 use Rattle.fo_image.specs.declared.types.Entry.{Entry}
 use Rattle.fo_crash.specs.declared.slot.Slot.TheVariants.{Entry as Head}
 use Rattle.fo_crash.specs.Images.{SameContent}
@@ -10,16 +12,33 @@ use Rattle.fo_ports.specs.State.{State, KeepsAll}
 use Rattle.fo_ports.specs.Sources.{Made, IsReady, StaysReady}
 use Rattle.fo_tree.specs.declared.source.Source.{Source}
 use Rattle.fo_tree.specs.Laws.{keeps_over, keeps_prepared}
+use Rattle.fo_tree_read.specs.Tree.{kind_at}
+use Rattle.fo_tree_look.specs.Source.{address_here}
 use Rattle.fo_tree_link.specs.Link.{entry_of}
 use Rattle.fo_tree_open.specs.Open.{HasEntry}
 use Rattle.fo_tree_shorten.specs.Shorten.{EntryAt}
 use Rattle.fo_files_way.specs.declared.plan.Level.{Level}
 use Rattle.fo_files_way.specs.Plan.{IsHeld, IsLeafReady, IsEntryIn, IsLevel, AreLevels, MayOwnAll}
-use Rattle.fo_files_way.specs.Owns.{OwnsOne, MayPutInto, Carries, IsTag, SetsAt}
+use Rattle.fo_files_way.specs.Owns.{OwnsOne, Carries, IsTag, IsLinked, AreLinked, SetsAt}
+use Rattle.fo_files_way.proofs.Prepared.{leaf_ready}
 use Rattle.fo_files_way.proofs.Stays.{address_stays}
 
 head_tag : (a b : Source) → Head (entry_of a.ways.tree a.ways.generation) ≡ Head (entry_of b.ways.tree b.ways.generation) → a.ways.tree.tag ≡ b.ways.tree.tag
 head_tag a b e = let same : entry_of a.ways.tree a.ways.generation ≡ entry_of b.ways.tree b.ways.generation = cc in ap (λ (x : Entry). x.tag) same
+
+entry_kind : (kind : Kind) (dir : Bool) (j : ℕ) → kind ≡ kind_at dir 0 → HasEntry kind j → kind ≡ Dir 0
+entry_kind kind true j is h = is
+entry_kind kind false j is h = absurd (subst (λ k. HasEntry k j) is h)
+
+linked_more : (u : State) (at : List ℕ) (n : ℕ) (done : List Level) (x : Level) → AreLinked u at n done → IsLinked u at (n + length done) x → AreLinked u at n (done ++ x ∷ [])
+linked_more u at n [] x h is = (subst (λ m. IsLinked u at m x) (sum n) is, tt)
+  where
+    sum : (m : ℕ) → m + 0 ≡ m
+    sum m = omega arith
+linked_more u at n (z ∷ done) x h is = (h.0, linked_more u at (n + 1) done x h.1 (subst (λ m. IsLinked u at m x) (sum n (length done)) is))
+  where
+    sum : (m k : ℕ) → m + suc k ≡ m + 1 + k
+    sum m k = omega arith
 
 module _ {s u : State} {y : Source} {k leaf : ℕ} {at new tags : List ℕ} {l : Level} {rest : List Level}
     (silent : s.tells → ⊥) (all : KeepsAll s u) (may : MayOwnAll s k at tags (l ∷ rest)) (one : OwnsOne s u l.source y l.leaf (get_or at l.above 0) l.slot leaf) (sets : SetsAt at new (k + 1) leaf) where
@@ -48,7 +67,7 @@ module _ {s u : State} {y : Source} {k leaf : ℕ} {at new tags : List ℕ} {l :
 
   -- what has another tag than the level and than the block of its entry stays as it is
   content : (c t : ℕ) → IsHeld s t c → t ≢ get_or tags (k + 1) 0 → c ≢ get_or at l.above 0 → SameContent (u.now c) (s.now c)
-  content c t held other away = one.owns.memory c (not_made c t held) (λ put. ⊎_elim away (λ own. other (sym held.tagged ∙ sym own.1 ∙ first.tagged)) put)
+  content c t held other away = one.owns.memory c (not_made c t held) (λ put. ⊎_elim away (λ own. other (sym held.tagged ∙ sym own.1.0 ∙ first.tagged)) put)
 
   apart_from : (c t : ℕ) → IsHeld s t c → t ≢ get_or tags l.above 0 → c ≢ get_or at l.above 0
   apart_from c t held other here = other (sym held.tagged ∙ ap (λ x. (s.label x).tag) here ∙ (may.held l.above above_few).tagged)
@@ -134,6 +153,98 @@ module _ {s u : State} {y : Source} {k leaf : ℕ} {at new tags : List ℕ} {l :
         levels_stay (n + 1) rows (omega (arith, later)) (omega (arith, fits)) levels.1,
       )
 
+  -- what was prepared of a level that was owned before stays so, though its leaf may have got an entry
+  earlier_ready : (n i : ℕ) (x : Source) → n < k → x.ways.tree.tag ≡ get_or tags (n + 1) 0 → IsLeafReady s x i (get_or at (n + 1) 0) → (c : ℕ) → IsReady x.ways.tree.tag s c → StaysReady s u c
+  earlier_ready n i x early is ready c r =
+      let held : IsHeld s x.ways.tree.tag c = record { is_pinned = r.is_pinned; live = r.live; tagged = r.tagged } in
+      let f = few in
+      let inside : n + 1 < length at = omega (arith, early, f) in
+      let marks = one.owns.others c (not_made c x.ways.tree.tag held) in
+      ⊎_elim
+      (λ here.
+      let index : l.above ≡ n + 1 = may.differ l.above (n + 1) above_few inside (sym (may.held l.above above_few).tagged ∙ ap (λ z. (s.label z).tag) (sym here) ∙ held.tagged ∙ is) in
+      let block : c ≡ get_or at (n + 1) 0 = here ∙ ap (λ m. get_or at m 0) index in
+      let kind : (s.label c).kind ≡ kind_at x.ways.tree.dir 0 = ap (λ z. (s.label z).kind) block ∙ (leaf_ready s x.ways.tree x.ways.kept.items x.ways.limit i (get_or at (n + 1) 0) ready.prepared ready.there).has_kind in
+      record {
+        is_pinned = marks.marks.0 r.is_pinned;
+        same_label = marks.label;
+        same_slots = inl (entry_kind (s.label c).kind x.ways.tree.dir l.slot kind (subst (λ z. HasEntry (s.label z).kind l.slot) (sym here) first.entry.leaf));
+        same_length = ap (λ (z : List ℕ). length z) (subst (λ z. (u.now z).bytes ≡ (s.now z).bytes) (sym here) one.bytes);
+      })
+      (λ away.
+      let same = content c x.ways.tree.tag held (λ e. differs (n + 1) (k + 1) inside few (λ z. omega (arith, z, early)) (sym is ∙ e)) away in
+      record {
+        is_pinned = marks.marks.0 r.is_pinned;
+        same_label = marks.label;
+        same_slots = inr (λ j. same.slots j);
+        same_length = ap (λ (z : List ℕ). length z) same.bytes;
+      })
+      (cases_eq c (get_or at l.above 0))
+
+  earlier_leaf : (n i : ℕ) (x : Source) → n < k → x.ways.tree.tag ≡ get_or tags (n + 1) 0 → IsLeafReady s x i (get_or at (n + 1) 0) → IsLeafReady u x i (get_or at (n + 1) 0)
+  earlier_leaf n i x early is ready =
+      let stays = earlier_ready n i x early is ready in
+      record {
+        over = keeps_over s u x.ways.tree x.ways.kept.items x.ways.limit all ready.over (λ told. absurd (silent told)) (λ told. absurd (silent told));
+        prepared = keeps_prepared s u x.ways.tree x.ways.kept.items x.ways.limit all stays (8192 * i) 8192 ready.prepared;
+        within = ready.within;
+        there = address_stays x.ways.tree x.ways.kept.items s u all stays x.ways.limit i (get_or at (n + 1) 0) ready.prepared ready.there;
+        other = ready.other;
+      }
+
+  earlier_entry : (n above slot : ℕ) (x : Source) → n < k → above ≤ n → x.ways.tree.tag ≡ get_or tags (n + 1) 0 → EntryAt s x.ways.tree x.ways.generation (get_or at above 0) slot → EntryAt u x.ways.tree x.ways.generation (get_or new above 0) slot
+  earlier_entry n above slot x early le is e =
+      let f = few in
+      let inside : n + 1 < length at = omega (arith, early, f) in
+      let in_list : above < length at = omega (arith, inside, le) in
+      let stays : get_or new above 0 ≡ get_or at above 0 = sets.others above (λ z. omega (arith, z, early, le)) in
+      let marks = one.owns.others (get_or at above 0) (not_made (get_or at above 0) (get_or tags above 0) (may.held above in_list)) in
+      let same : (u.now (get_or at above 0)).slot slot ≡ (s.now (get_or at above 0)).slot slot = ap (λ z. (u.now z).slot slot) (sym stays) ∙ (carried above in_list).1 slot
+      (λ both. differs (n + 1) (k + 1) inside few (λ z. omega (arith, z, early)) (sym is ∙ head_tag x l.source (sym e.is ∙ ap (λ j. (s.now (get_or at above 0)).slot j) (sym both.1) ∙ ap (λ m. (s.now (get_or at m 0)).slot l.slot) (sym both.0) ∙ first.entry.is) ∙ first.tagged)) in
+      subst (λ z. EntryAt u x.ways.tree x.ways.generation z slot) (sym stays) (record {
+        is = same ∙ e.is;
+        is_pinned = marks.marks.0 e.is_pinned;
+        live = ap (λ (z : Label). z.state) marks.label ∙ e.live;
+        current = ap (λ (z : Label). z.epoch) marks.label ∙ e.current ∙ sym all.same_high;
+        apart = λ t. e.apart (ap (λ (z : Label). z.tag) (sym marks.label) ∙ t);
+        leaf = subst (λ (z : Label). HasEntry z.kind slot) (sym marks.label) e.leaf;
+        settled = λ h. e.settled (one.owns.clearing (get_or at above 0) slot h).1;
+      })
+
+  linked_on : (n : ℕ) (x : Level) → n < k → IsLinked s at n x → IsLinked u new n x
+  linked_on n x early is =
+      let z = is.source in
+      let f = few in
+      let inside : n + 1 < length at = omega (arith, early, f) in
+      let tag : z.ways.tree.tag ≡ get_or tags (n + 1) 0 = sym (leaf_ready s z.ways.tree z.ways.kept.items z.ways.limit x.leaf (get_or at (n + 1) 0) is.ready.prepared is.ready.there).tagged ∙ (may.held (n + 1) inside).tagged in
+      record {
+        source = z;
+        form = is.form;
+        above = is.above;
+        entry = earlier_entry n x.above x.slot z early is.above tag is.entry;
+        ready = subst (λ c. IsLeafReady u z x.leaf c) (sym (sets.others (n + 1) (λ e. omega (arith, e, early)))) (earlier_leaf n x.leaf z early tag is.ready);
+      }
+
+  all_linked : (n : ℕ) (rows : List Level) → n + length rows ≤ k → AreLinked s at n rows → AreLinked u new n rows
+  all_linked n [] fits h = tt
+  all_linked n (x ∷ rows) fits h = (linked_on n x (omega (arith, fits)) h.0, all_linked (n + 1) rows (omega (arith, fits)) h.1)
+
+  -- the level hangs from the block above it, as those before do
+  pub linked_next : (done : List Level) → length done ≡ k → AreLinked s at 0 done → AreLinked u new 0 (done ++ l ∷ [])
+  linked_next done count h = linked_more u new 0 done l (all_linked 0 done (omega (arith, count)) h) (subst (λ n. IsLinked u new n l) (sym (from_none (length done) count)) here)
+    where
+      from_none : (n : ℕ) → n ≡ k → 0 + n ≡ k
+      from_none n e = omega (arith, e)
+
+      here : IsLinked u new k l
+      here = record {
+        source = y;
+        form = one.form;
+        above = first.above;
+        entry = subst (λ c. EntryAt u y.ways.tree y.ways.generation c l.slot) (sym (sets.others l.above (λ e. let a = first.above in omega (arith, e, a)))) one.entry;
+        ready = subst (λ c. IsLeafReady u y l.leaf c) (sym sets.here) one.ready;
+      }
+
   -- so the rest may be owned
   pub may_next : MayOwnAll u (k + 1) new tags rest
   may_next = record {
@@ -155,24 +266,16 @@ module _ {s u : State} {y : Source} {k leaf : ℕ} {at new tags : List ℕ} {l :
       before : (i : ℕ) → i ≤ k + 1 → i ≢ k + 1 → i ≤ k
       before i le ne = ⊎_elim (λ lt. omega (arith, lt)) (λ ge. absurd (ne (omega (arith, le, ge)))) (cases_lt i (k + 1))
 
-  -- what was put into is the root block, or a current block of one of the tags
-  pub put_into : (b : ℕ) → MayPutInto (get_or at l.above 0) (λ tag. l.source.ways.tree.tag ≡ tag) s b → MayPutInto (get_or at 0 0) (IsTag tags) s b
-  put_into b put = ⊎_elim
-      (λ here. ⊎_elim
-      (λ some. inr (
-        ap (λ c. (s.label c).epoch) here ∙ may.current l.above first.above,
-        (l.above, some, (let f = above_few in let n = may.tag_count in omega (arith, f, n)), sym (may.held l.above above_few).tagged ∙ ap (λ c. (s.label c).tag) (sym here)),
-      ))
-      (λ none. let is : l.above ≡ 0 = omega (arith, none) in inl (here ∙ ap (λ n. get_or at n 0) is))
-      (cases_lt 0 l.above))
-      (λ own. inr (own.0, tag_in (s.label b).tag own.1))
-      put
-    where
-      tag_in : (t : ℕ) → l.source.ways.tree.tag ≡ t → IsTag tags t
-      tag_in t e = (k + 1, omega arith, (let f = few in let n = may.tag_count in omega (arith, f, n)), sym first.tagged ∙ e)
-
   pub own_tag : (t : ℕ) → l.source.ways.tree.tag ≡ t → IsTag tags t
   own_tag t e = (k + 1, omega arith, (let f = few in let n = may.tag_count in omega (arith, f, n)), sym first.tagged ∙ e)
+
+-- the next level's leaf, and how far below the end the block above it stands
+pub next_level : {s : State} {k : ℕ} {at tags : List ℕ} {l : Level} {rest : List Level} → MayOwnAll s k at tags (l ∷ rest) → (address_here s l.source.ways.tree l.leaf ≡ Some (get_or at (k + 1) 0)) × (l.above < length at)
+next_level {k = k} {at = at} {l = l} may =
+    let level = may.each.0 in
+    let count = may.count in
+    let above = level.above in
+    (level.ready.there, omega (arith, count, above))
 
 -- the entry of the next level stands where it may be put
 pub next_entry : {s : State} {k : ℕ} {at tags : List ℕ} {l : Level} {rest : List Level} → MayOwnAll s k at tags (l ∷ rest) → EntryAt s l.source.ways.tree l.source.ways.generation (get_or at l.above 0) l.slot

@@ -22,7 +22,7 @@ use Rattle.fo_tree_down.proofs.Join.{local_cases}
 use Rattle.fo_tree_shorten.specs.Shorten.{EntryAt, Links}
 use Rattle.fo_tree_shorten.proofs.Entries.{entry_owned, entry_put}
 use Rattle.fo_files_way.specs.Plan.{IsLeafReady}
-use Rattle.fo_files_way.specs.Owns.{Owns, OwnsOne}
+use Rattle.fo_files_way.specs.Owns.{Owns, OwnsOne, IsAboveOf}
 use Rattle.fo_files_way.proofs.Prepared.{leaf_ready, top_prepared}
 use Rattle.fo_files_way.proofs.Stays.{address_stays}
 
@@ -111,9 +111,12 @@ module _ {s m : State} {x y : Source} {i b leaf at j : ℕ} (k : Took s m x y i 
         (cases_eq c at))
         (local_cases y.ways.tree.top c)
 
-    moved : u.room ≡ s.room → Owns at (λ tag. x.ways.tree.tag ≡ tag) s u
+    inner_label : (c : ℕ) → MayZero (form_of x.ways.tree x.ways.generation x.ways.limit) x.ways.tree.size i s (leaves_of s x.ways.tree x.ways.kept.items x.ways.limit) c → (s.label c).kind ≢ kind_at x.ways.tree.dir 0
+    inner_label c own = ⊎_elim (λ inner. inner.1) (λ last. absurd (k.ready.other last.1.0)) own
+
+    moved : u.room ≡ s.room → Owns (λ b. b ≡ at) (IsAboveOf x) (λ tag. x.ways.tree.tag ≡ tag) s u
     moved room = record {
-      memory = λ c not_made not_put. content_joins (content_u c (λ here. not_put (inl here))) (k.changes.memory c (λ touched. ⊎_elim (λ made. not_made (made_on c made)) (λ own. not_put (inr (own.1, sym own.2))) touched));
+      memory = λ c not_made not_put. content_joins (content_u c (λ here. not_put (inl here))) (k.changes.memory c (λ touched. ⊎_elim (λ made. not_made (made_on c made)) (λ own. not_put (inr (own.1, (sym own.2, inner_label c own.0)))) touched));
       made = λ c made. let is = k.changes.made c (made_back c made) in let marks = l.frame.stays.marks c (λ h. h) in (
         is.was.0,
         ap (λ (z : Label). z.epoch) (label_u c) ∙ is.labelled.0,
@@ -183,6 +186,10 @@ module _ {s m : State} {x y : Source} {i b leaf at j : ℕ} (k : Took s m x y i 
         tagged = leaf_label;
       };
       current = ap (λ (z : Label). z.epoch) (label_u leaf) ∙ k.owned.label.3 ∙ sym more.same_high;
+      copied = λ c is. ⊎_elim
+          (λ one. inl (sym one.0))
+          (λ copy. inr (made_on leaf copy.1))
+          (subst (λ (o : Option ℕ). MatchOption o (Made s m leaf) (λ z. ((z ≡ leaf) × ((s.label z).epoch ≡ s.high)) ⊎ (((s.label z).epoch < s.high) × Made s m leaf))) is k.owned.copied);
       carries = λ c is. (
         record {
           kind = ap (λ (z : Label). z.kind) (label_u leaf) ∙ k.owned.label.1 ∙ sym (was_ready c is).0;

@@ -6,9 +6,10 @@
 //! way). Want of memory, faults and damage come there. Then `own` owns each leaf and links its source, from the root down, and refuses
 //! nothing.
 //!
-//! Proved: where it is owned, each leaf is pinned, of the current epoch, and has what it had, but for the entries that were linked; it takes
-//! at most so many blocks as the plan says, up to five a leaf, and no removal or wait; and all but blocks that were given out, current ones
-//! of the sources' tags, and the root block, stays as it is. Not said yet: that one call plans a whole way, and what holds of images.
+//! Proved: where it is owned, each leaf is pinned, of the current epoch, and has what it had, but for the entries that were linked; it hangs from
+//! the block above it, of whose entry the source has the leaf there (`AreLinked`); it takes at most so many blocks as the plan says, up to five a
+//! leaf, and no removal or wait; and all but blocks that were given out, current ones above the leaves of the sources, and blocks of the plan,
+//! stays as it is. Not said yet: that one call plans a whole way, and what holds of images.
 #![tactic(auto)]
 
 mod add;

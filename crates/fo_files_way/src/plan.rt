@@ -3,7 +3,7 @@ ghost use Rattle.std.specs.Prelude.{◌≡◌, ◌+◌, ◌<◌, ◌≤◌, ℕ,
 ghost use Rattle.fo_ports.specs.Sources.{most_to_own};
 ghost use Rattle.fo_tree_shorten.specs.Shorten.{EntryAt};
 ghost use Rattle.fo_files_way.specs.Plan.{IsLeafReady, MayOwnAll, most_for_levels};
-ghost use Rattle.fo_files_way.specs.Owns.{Owns, IsTag, AreCarried, AreCurrent, IsOwned};
+ghost use Rattle.fo_files_way.specs.Owns.{Owns, IsTag, IsIn, IsAboveLeaves, AreCarried, AreLinked, AreCurrent, IsOwned};
 
 use crate::own::own_linked;
 use fo_ports::Blocks;
@@ -34,8 +34,9 @@ impl Plan {
         requires silent { (B.state on.old).tells → ⊥ }
         requires may { MayOwnAll (B.state on.old) 0 self.at.items self.tags.items self.levels.items }
         requires spare { most_for_levels self.levels.items ≤ (B.state on.old).spare }
-        ensures owns { Owns (slice_index self.at.items 0) (IsTag self.tags.items) (B.state on.old) (B.state on.new) }
+        ensures owns { Owns (IsIn self.at.items) (IsAboveLeaves self.levels.items) (IsTag self.tags.items) (B.state on.old) (B.state on.new) }
         ensures carried { AreCarried (B.state on.old) (B.state on.new) self.levels.items self.at.items result.items }
+        ensures linked { AreLinked (B.state on.new) result.items 0 self.levels.items }
         ensures current { AreCurrent (B.state on.new) self.tags.items result.items }
         ensures spare { (B.state on.old).spare ≤ (B.state on.new).spare + most_for_levels self.levels.items }
         ensures keeps { B.keeps on.old on.new }
