@@ -1,3 +1,4 @@
 pub mod Rewriting
 pub mod Owned
 pub mod Rooted
+pub mod Going

@@ -1,8 +1,7 @@
 -- Leaves of a directory that may be changed.
-use Rattle.std.specs.Prelude.{◌≡◌, ◌⊎◌, ℕ}
+use Rattle.std.specs.Prelude.{◌≡◌, ℕ}
 use Rattle.fo_image.specs.declared.types.Kind.TheVariants.{Dir}
 use Rattle.fo_image.specs.declared.types.State.TheVariants.{Live}
-use Rattle.fo_crash.specs.Names.{IsInUse}
 use Rattle.fo_ports.specs.State.{State}
 use Rattle.fo_dir_put.specs.Puts.{IsOwnedRecords}
 
@@ -18,7 +17,3 @@ pub record IsEntriesAt (s : State) (entries : ℕ) : Type 0 where
   pub live : (s.label entries).state ≡ Live
   pub current : (s.label entries).epoch ≡ s.high
   pub leaf_kind : (s.label entries).kind ≡ Dir 0
-
--- An entry is in use no more, or waits to be cleared.
-abbrev pub IsOut : State → (at j : ℕ) → Type 0
-IsOut s at j = s.clearing at j ⊎ ((generation : ℕ) → IsInUse ((s.now at).slot j) generation → ⊥)

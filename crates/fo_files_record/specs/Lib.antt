@@ -1,3 +1,4 @@
 pub mod Leaf
 pub mod Stays
 pub mod Own
+pub mod Takes

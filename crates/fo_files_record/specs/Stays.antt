@@ -20,3 +20,8 @@ pub record Rewrites (leaves : ℕ → Type 0) (clears : ℕ → ℕ → Type 0) 
   pub clearing : (b n : ℕ) → u.clearing b n → s.clearing b n ⊎ clears b n
   pub left : (u.spare ≡ s.spare) × (u.pins_left ≡ s.pins_left) × (s.usable ≤ u.usable)
   pub numbers : KeepsNumbers s u
+
+-- All was just settled: nothing is to be written but what is newborn, and no slot waits to be cleared.
+pub record IsClean (s : State) : Type 0 where
+  pub clean : (b : ℕ) → s.dirty b → s.newborn b
+  pub none : (b j : ℕ) → s.clearing b j → ⊥

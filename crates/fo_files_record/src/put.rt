@@ -2,6 +2,7 @@
 ghost use Rattle.std.specs.Prelude.{◌≡◌, ◌⊎◌, ◌+◌, ◌%◌, ◌≤◌, ℕ, true, false, length, IfOk, IfErr, OnOk, OnErr};
 ghost use Rattle.fo_base.specs.Cause.{Rose};
 ghost use Rattle.fo_image.specs.Record.{RecordHolds};
+ghost use Rattle.fo_meta.specs.Leaf.{IsLeaf};
 ghost use Rattle.fo_ports.specs.Causes.{Caused};
 ghost use Rattle.fo_ports.specs.State.{Looks};
 ghost use Rattle.fo_dir_change.specs.Changes.{Bears, HasChanged, IsTooLong};
@@ -27,7 +28,7 @@ pub fn change_in<B: Blocks>(
     requires leaf { IsRecordsAt (B.state on.old) leaf }
     requires rank { rank % 32 ≡ 16 }
     requires spelled { RecordHolds named.now }
-    ensures there { OnOk result (Bears name.now (((B.state on.old).now leaf).bytes)) }
+    ensures there { OnOk result (IsLeaf (((B.state on.old).now leaf).bytes) × Bears name.now (((B.state on.old).now leaf).bytes)) }
     ensures changed { IfOk result (λ fits. fits ≡ true → HasChanged name.now named.now (((B.state on.old).now leaf).bytes) (((B.state on.new).now leaf).bytes)) }
     ensures full { IfOk result (λ fits. fits ≡ false → IsTooLong name.now named.now (((B.state on.old).now leaf).bytes) × Looks (B.state on.old) (B.state on.new)) }
     ensures nothing { OnErr result (Looks (B.state on.old) (B.state on.new)) }

@@ -1,6 +1,7 @@
-use Rattle.std.proofs.Common.{◌≡◌, ℕ, Bool, true, false, List, sym, subst, ◌∙◌}
+use Rattle.std.proofs.Common.{◌≡◌, ◌+◌, ◌*◌, ℕ, Bool, true, false, List, sym, subst, ◌∙◌}
 use Rattle.fo_dir_change.specs.Changes.{HasTaken}
 use Rattle.fo_files_record.specs.Stays.{Rewrites, IsPairSlot}
+use Rattle.fo_files_record.proofs.Going.{going_later, going_before}
 use Rattle.fo_files_record.proofs.Rewriting.{rewrites_joins}
 use Rattle.fo_files_record.proofs.take.both_taken.Goals as goal
 
@@ -8,13 +9,16 @@ pub second_cleared-requires-clause-silent : goal.second_cleared-requires-clause-
 second_cleared-requires-clause-silent g c = λ h. c.requires.silent ((g.met.B.Blocks.keeps_all c.args.on.now c.record_taken.new.on c.record_taken.ensures.keeps).still_tells.0 h)
 
 pub second_cleared-requires-clause-settled : goal.second_cleared-requires-clause-settled
-second_cleared-requires-clause-settled g c = c.record_taken.ensures.second (c.requires.settled.1 c.if-is_dir.true)
+second_cleared-requires-clause-settled g c = λ h. c.requires.settled.1 c.if-is_dir.true (c.record_taken.ensures.second.1 h)
 
 pub returns-then-is_dir-clause-taken : goal.returns-then-is_dir-clause-taken
 returns-then-is_dir-clause-taken g c = subst (λ (xs : List ℕ). HasTaken c.args.name.now (((g.B.Blocks.state c.args.on.now).now c.args.leaf).bytes) xs) (sym c.second_cleared.ensures.bytes) c.record_taken.ensures.taken
 
+pub returns-then-is_dir-clause-first : goal.returns-then-is_dir-clause-first
+returns-then-is_dir-clause-first g c = going_later (g.B.Blocks.state c.args.on.now) (g.B.Blocks.state c.record_taken.new.on) (g.B.Blocks.state c.second_cleared.new.on) c.args.entries (2 * c.args.p) c.second_cleared.ensures.first.0 c.second_cleared.ensures.first.1 c.record_taken.ensures.first
+
 pub returns-then-is_dir-clause-second : goal.returns-then-is_dir-clause-second
-returns-then-is_dir-clause-second g c = λ e. c.second_cleared.ensures.second
+returns-then-is_dir-clause-second g c = λ e. going_before (g.B.Blocks.state c.args.on.now) (g.B.Blocks.state c.record_taken.new.on) (g.B.Blocks.state c.second_cleared.new.on) c.args.entries (2 * c.args.p + 1) c.record_taken.ensures.second.0 c.second_cleared.ensures.second
 
 pub returns-then-is_dir-clause-stays : goal.returns-then-is_dir-clause-stays
 returns-then-is_dir-clause-stays g c =
