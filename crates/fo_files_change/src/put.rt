@@ -1,5 +1,5 @@
 //! A record changes.
-ghost use Rattle.std.specs.Prelude.{◌≡◌, ◌⊎◌, ◌+◌, ◌≤◌, ℕ, IfOk, OnErr, IfErr};
+ghost use Rattle.std.specs.Prelude.{◌≡◌, ◌⊎◌, ◌+◌, ◌≤◌, ℕ, IfOk, OnOk, OnErr, IfErr};
 ghost use Rattle.fo_base.specs.Cause.{Rose};
 ghost use Rattle.fo_image.specs.Record.{RecordHolds};
 ghost use Rattle.fo_ports.specs.Causes.{Caused};
@@ -7,7 +7,7 @@ ghost use Rattle.fo_ports.specs.State.{Looks};
 ghost use Rattle.fo_files_dir.specs.Dir.{IsDirAt};
 ghost use Rattle.fo_files_leaf.specs.Leaf.{Readied};
 ghost use Rattle.fo_files_record.specs.Leaf.{IsEntriesAt};
-ghost use Rattle.fo_files_change.specs.Records.{AltersRecords, ChangesIn, records_of};
+ghost use Rattle.fo_files_change.specs.Records.{AltersRecords, ChangesIn, HasLeaf, records_of};
 
 use crate::leaf::{RECORDS_BELOW, records_leaf};
 use fo_files_dir::DirAt;
@@ -32,6 +32,7 @@ pub fn change_at<B: Blocks>(
     requires spare { 10 ≤ (B.state on.old).spare }
     requires spelled { RecordHolds named.now }
     ensures changes { IfOk result (λ fits. (a m : B) × (leaf : ℕ) × Readied (B.state on.old) (B.state a) (B.state m) (records_of dir i) leaf × AltersRecords dir (B.state on.old) (B.state m) × ChangesIn (B.state m) (B.state on.new) leaf name.now named.now fits) }
+    ensures there { OnOk result (HasLeaf (B.state on.old) dir i) }
     ensures nothing { OnErr result ((m : B) × AltersRecords dir (B.state on.old) (B.state m) × Looks (B.state m) (B.state on.new)) }
     ensures dir { IsDirAt (B.state on.new) dir }
     ensures entries { (e : ℕ) → IsEntriesAt (B.state on.old) e → IsEntriesAt (B.state on.new) e }

@@ -18,19 +18,19 @@ altered : (d at slot tag : ℕ) (s u : State) → tag ≡ 33 + 2 * d → Alters 
 altered d at slot tag s u e x = subst (λ n. Alters at (λ k. k ≡ slot) (λ t. t ≡ n) (IsAbove n false) none s u) e x
 
 pub returns-in-Ok-clause-alters : goal.returns-in-Ok-clause-alters
-returns-in-Ok-clause-alters g c = altered c.args.dir.number c.args.dir.at (c.args.dir.slot + 1) c.in-Some.tag (g.B.Blocks.state c.args.on.now) (g.B.Blocks.state c.ready_leaf.new.on) c.in-Some.ensures c.ready_leaf.ensures.alters
+returns-in-Ok-clause-alters g c = altered c.args.dir.number c.args.dir.at (c.args.dir.slot + 1) c.in-Some.tag (g.B.Blocks.state c.args.on.now) (g.B.Blocks.state c.ready_leaf.new.on) c.in-Some.ensures.tag c.ready_leaf.ensures.alters
 
 pub returns-in-Err-clause-alters : goal.returns-in-Err-clause-alters
-returns-in-Err-clause-alters g c = altered c.args.dir.number c.args.dir.at (c.args.dir.slot + 1) c.in-Some.tag (g.B.Blocks.state c.args.on.now) (g.B.Blocks.state c.ready_leaf.new.on) c.in-Some.ensures c.ready_leaf.ensures.alters
+returns-in-Err-clause-alters g c = altered c.args.dir.number c.args.dir.at (c.args.dir.slot + 1) c.in-Some.tag (g.B.Blocks.state c.args.on.now) (g.B.Blocks.state c.ready_leaf.new.on) c.in-Some.ensures.tag c.ready_leaf.ensures.alters
 
 pub returns-in-Ok-clause-dir : goal.returns-in-Ok-clause-dir
-returns-in-Ok-clause-dir g c = dir_readied c.args.dir (g.met.B.Blocks.keeps_all c.args.on.now c.ready_leaf.new.on c.ready_leaf.ensures.keeps) (altered c.args.dir.number c.args.dir.at (c.args.dir.slot + 1) c.in-Some.tag (g.B.Blocks.state c.args.on.now) (g.B.Blocks.state c.ready_leaf.new.on) c.in-Some.ensures c.ready_leaf.ensures.alters) c.requires.dir
+returns-in-Ok-clause-dir g c = dir_readied c.args.dir (g.met.B.Blocks.keeps_all c.args.on.now c.ready_leaf.new.on c.ready_leaf.ensures.keeps) (altered c.args.dir.number c.args.dir.at (c.args.dir.slot + 1) c.in-Some.tag (g.B.Blocks.state c.args.on.now) (g.B.Blocks.state c.ready_leaf.new.on) c.in-Some.ensures.tag c.ready_leaf.ensures.alters) c.requires.dir
 
 pub returns-in-Err-clause-dir : goal.returns-in-Err-clause-dir
-returns-in-Err-clause-dir g c = dir_readied c.args.dir (g.met.B.Blocks.keeps_all c.args.on.now c.ready_leaf.new.on c.ready_leaf.ensures.keeps) (altered c.args.dir.number c.args.dir.at (c.args.dir.slot + 1) c.in-Some.tag (g.B.Blocks.state c.args.on.now) (g.B.Blocks.state c.ready_leaf.new.on) c.in-Some.ensures c.ready_leaf.ensures.alters) c.requires.dir
+returns-in-Err-clause-dir g c = dir_readied c.args.dir (g.met.B.Blocks.keeps_all c.args.on.now c.ready_leaf.new.on c.ready_leaf.ensures.keeps) (altered c.args.dir.number c.args.dir.at (c.args.dir.slot + 1) c.in-Some.tag (g.B.Blocks.state c.args.on.now) (g.B.Blocks.state c.ready_leaf.new.on) c.in-Some.ensures.tag c.ready_leaf.ensures.alters) c.requires.dir
 
 pub returns-in-Ok-clause-entries : goal.returns-in-Ok-clause-entries
-returns-in-Ok-clause-entries g c = λ e. entries_readied c.args.dir e (g.met.B.Blocks.keeps_all c.args.on.now c.ready_leaf.new.on c.ready_leaf.ensures.keeps) (altered c.args.dir.number c.args.dir.at (c.args.dir.slot + 1) c.in-Some.tag (g.B.Blocks.state c.args.on.now) (g.B.Blocks.state c.ready_leaf.new.on) c.in-Some.ensures c.ready_leaf.ensures.alters)
+returns-in-Ok-clause-entries g c = λ e. entries_readied c.args.dir e (g.met.B.Blocks.keeps_all c.args.on.now c.ready_leaf.new.on c.ready_leaf.ensures.keeps) (altered c.args.dir.number c.args.dir.at (c.args.dir.slot + 1) c.in-Some.tag (g.B.Blocks.state c.args.on.now) (g.B.Blocks.state c.ready_leaf.new.on) c.in-Some.ensures.tag c.ready_leaf.ensures.alters)
 
 pub returns-in-Err-clause-entries : goal.returns-in-Err-clause-entries
-returns-in-Err-clause-entries g c = λ e. entries_readied c.args.dir e (g.met.B.Blocks.keeps_all c.args.on.now c.ready_leaf.new.on c.ready_leaf.ensures.keeps) (altered c.args.dir.number c.args.dir.at (c.args.dir.slot + 1) c.in-Some.tag (g.B.Blocks.state c.args.on.now) (g.B.Blocks.state c.ready_leaf.new.on) c.in-Some.ensures c.ready_leaf.ensures.alters)
+returns-in-Err-clause-entries g c = λ e. entries_readied c.args.dir e (g.met.B.Blocks.keeps_all c.args.on.now c.ready_leaf.new.on c.ready_leaf.ensures.keeps) (altered c.args.dir.number c.args.dir.at (c.args.dir.slot + 1) c.in-Some.tag (g.B.Blocks.state c.args.on.now) (g.B.Blocks.state c.ready_leaf.new.on) c.in-Some.ensures.tag c.ready_leaf.ensures.alters)

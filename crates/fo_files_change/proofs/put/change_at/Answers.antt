@@ -14,7 +14,7 @@ pub change_in-requires-clause-rank : goal.change_in-requires-clause-rank
 change_in-requires-clause-rank g c = records_rank c.args.dir.rank c.requires.dir.ranked c.requires.dir.least
 
 pub returns-in-Ok-change_in-clause-changes : goal.returns-in-Ok-change_in-clause-changes
-returns-in-Ok-change_in-clause-changes g c = let e = c.in-Ok-change_in.ensures in let r = c.in-Ok.ensures.readied in (r.0, c.records_leaf.new.on, c.in-Ok.leaf, r.1, c.records_leaf.ensures.alters, record { there = e.there; changed = e.changed; full = e.full; stays = e.stays })
+returns-in-Ok-change_in-clause-changes g c = let e = c.in-Ok-change_in.ensures in let r = c.in-Ok.ensures.readied in (r.0, c.records_leaf.new.on, c.in-Ok.leaf, r.1, c.records_leaf.ensures.alters, record { was_leaf = e.there.0; there = e.there.1; changed = e.changed; full = e.full; stays = e.stays })
 
 pub returns-in-Ok-change_in-clause-dir : goal.returns-in-Ok-change_in-clause-dir
 returns-in-Ok-change_in-clause-dir g c = dir_rewritten c.args.dir (g.met.B.Blocks.keeps_all c.records_leaf.new.on c.change_in.new.on c.change_in.ensures.keeps) c.change_in.ensures.stays c.records_leaf.ensures.dir

@@ -12,7 +12,7 @@ pub take_out-requires-clause-rank : goal.take_out-requires-clause-rank
 take_out-requires-clause-rank g c = records_rank c.args.dir.rank c.requires.dir.ranked c.requires.dir.least
 
 pub returns-in-Ok-take_out-clause-takes : goal.returns-in-Ok-take_out-clause-takes
-returns-in-Ok-take_out-clause-takes g c = let e = c.in-Ok-take_out.ensures in let r = c.in-Ok.ensures.readied in (r.0, c.records_leaf.new.on, c.in-Ok.leaf, r.1, c.records_leaf.ensures.alters, record { there = e.there; taken = e.taken; first = e.first; second = e.second; stays = e.stays })
+returns-in-Ok-take_out-clause-takes g c = let e = c.in-Ok-take_out.ensures in let r = c.in-Ok.ensures.readied in (r.0, c.records_leaf.new.on, e.takes.0, c.in-Ok.leaf, r.1, c.records_leaf.ensures.alters, e.takes.1)
 
 pub returns-in-Ok-take_out-clause-dir : goal.returns-in-Ok-take_out-clause-dir
 returns-in-Ok-take_out-clause-dir g c = dir_rewritten c.args.dir (g.met.B.Blocks.keeps_all c.records_leaf.new.on c.take_out.new.on c.take_out.ensures.keeps) c.take_out.ensures.stays c.records_leaf.ensures.dir
