@@ -1,11 +1,11 @@
 -- A record moves, and what stays.
-use Rattle.std.proofs.Common.{◌≡◌, ◌≢◌, ◌⊎◌, ◌+◌, ◌≤◌, ◌<◌, ℕ, Bool, true, false, List, length, inl, inr, ⊎_elim, refl, sym, ap, subst, ◌∙◌, arith}
+use Rattle.std.proofs.Common.{◌≡◌, ◌⊎◌, ℕ, Bool, List, length, inl, inr, ⊎_elim, sym, ap, subst, ◌∙◌}
 use Rattle.fo_base.specs.Cause.{Rose}
 use Rattle.fo_ports.specs.declared.error.BlockError.{BlockError}
 use Rattle.fo_ports.specs.declared.error.BlockError.TheVariants.{Damaged, Memory}
+use Rattle.fo_meta.specs.Leaf.{IsLeaf}
 use Rattle.fo_ports.specs.Causes.{Caused}
 use Rattle.std.specs.Prelude.{Result, Ok, Err, IfErr}
-use Rattle.fo_image.specs.declared.types.Label.{Label}
 use Rattle.fo_ports.specs.State.{State, KeepsAll, Looks}
 use Rattle.fo_dir_move.specs.Moves.{AreReady, HasLeaves, MovesAlone}
 use Rattle.fo_files_record.specs.Leaf.{IsRecordsAt, IsEntriesAt}
@@ -37,6 +37,10 @@ are_ready from to entries silent told one other is = record {
 pub records_looks : {s u : State} (leaf : ℕ) → (s.tells → ⊥) → (u.covered leaf → u.tells) → KeepsAll s u → Looks s u → IsRecordsAt s leaf → IsRecordsAt u leaf
 records_looks leaf silent told all looks is =
     records_stay leaf silent told all (looks.stays.labels leaf (λ n. n)) (looks.stays.marks leaf (λ n. n)).0 (ap (λ (xs : List ℕ). length xs) (looks.known leaf is.owned.is_pinned).bytes ∙ is.owned.whole) is
+
+-- bytes that are a leaf's
+pub leaf_was : {bytes old : List ℕ} → bytes ≡ old → IsLeaf bytes → IsLeaf old
+leaf_was same is = subst IsLeaf same is
 
 -- two leaves have what they had
 pub leaves_join : {m u : State} {from to : ℕ} {a b : List ℕ} → HasLeaves from to a b m → HasLeaves from to ((m.now from).bytes) ((m.now to).bytes) u → HasLeaves from to a b u

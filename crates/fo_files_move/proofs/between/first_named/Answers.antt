@@ -1,4 +1,4 @@
-use Rattle.std.proofs.Common.{◌≡◌, true, Option, Some, IfSome, sym, subst}
+use Rattle.std.proofs.Common.{◌≡◌, true, Option, IfSome, sym, subst}
 use Rattle.fo_image.specs.declared.record.Record.{Record}
 use Rattle.fo_image.specs.Record.{RecordHolds}
 use Rattle.fo_meta.specs.Leaf.{is_named}

@@ -1,10 +1,8 @@
-use Rattle.std.proofs.Common.{◌≡◌, ◌⊎◌, ◌+◌, ◌≤◌, ℕ, Bool, true, false, sym, subst, ap, arith}
-use Rattle.fo_ports.specs.State.{State}
+use Rattle.std.proofs.Common.{◌≡◌, ◌⊎◌, ◌+◌, ◌≤◌, ℕ, sym, subst, ap, arith}
 use Rattle.fo_files_record.specs.Stays.{Rewrites, no_slot}
 use Rattle.fo_files_record.proofs.Rewriting.{rewrites_same, by_cases}
 use Rattle.fo_files_record.proofs.Owned.{entries_stay, settle_failed}
-use Rattle.fo_files_move.proofs.Moving.{rewrites_moves, are_ready}
-use Rattle.fo_files_move.proofs.between.moved.Given as given
+use Rattle.fo_files_move.proofs.Moving.{rewrites_moves, are_ready, leaf_was}
 use Rattle.fo_files_move.proofs.between.moved.Goals as goal
 
 pub move_record-requires-clause-ready : goal.move_record-requires-clause-ready
@@ -14,10 +12,10 @@ pub move_record-requires-clause-may : goal.move_record-requires-clause-may
 move_record-requires-clause-may g c = λ told. absurd (c.requires.silent told)
 
 pub returns-in-Ok-clause-moved : goal.returns-in-Ok-clause-moved
-returns-in-Ok-clause-moved g c = λ fits. let e = c.in-Ok.ensures.moved fits in record { moved = c.args.named.now; first = c.requires.first; taken = e.0; added = e.1 }
+returns-in-Ok-clause-moved g c = λ fits. let e = c.in-Ok.ensures.moved fits in record { was_from = leaf_was c.requires.from_bytes.1 c.requires.from_bytes.0; was_to = leaf_was c.requires.to_bytes.1 c.requires.to_bytes.0; moved = c.args.named.now; first = c.requires.first; taken = e.0; added = e.1 }
 
 pub returns-in-Ok-clause-full : goal.returns-in-Ok-clause-full
-returns-in-Ok-clause-full g c = λ full. let e = c.in-Ok.ensures.full full in (record { moved = c.args.named.now; first = c.requires.first; full = e.0 }, e.1)
+returns-in-Ok-clause-full g c = λ full. let e = c.in-Ok.ensures.full full in (record { was_from = leaf_was c.requires.from_bytes.1 c.requires.from_bytes.0; was_to = leaf_was c.requires.to_bytes.1 c.requires.to_bytes.0; moved = c.args.named.now; first = c.requires.first; full = e.0 }, e.1)
 
 pub returns-in-Ok-clause-from : goal.returns-in-Ok-clause-from
 returns-in-Ok-clause-from g c = record { is_one = ((g.met.B.Blocks.keeps_all c.args.on.now c.move_record.new.on c.move_record.ensures.keeps).same_blocks c.args.from).1 c.requires.from.is_one; owned = c.move_record.ensures.ready.from_owned }
