@@ -7,8 +7,8 @@
 //! Proved: a plan has a block more than the trail has numbers, the first is the root block, and level k is the leaf of directory k with the
 //! pair of the next file, whose entry stands in block k where directory k's own pair says; no entry of a level stands in the last block, and
 //! a level takes at most five blocks to own. Where it is owned, each block is a data block, pinned, live and of the current epoch, of the
-//! kind that it had, and two of them are two blocks; each has what it had, but for the entries that were linked. A refused plan has its
-//! cause. Not said: what holds of images; that the pair in a block is that of a record, which is for who opens its sources.
+//! kind that it had, and two of them are two blocks; each has what it had, but for the entries that were linked, and hangs by its source's entry
+//! from the block above it. A refused plan has its cause. Not said: what holds of images; that the pair in a block is that of a record, which is for who opens its sources.
 #![tactic(auto)]
 
 mod along;

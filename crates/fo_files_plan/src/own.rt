@@ -3,7 +3,7 @@ ghost use Rattle.std.specs.Prelude.{◌≡◌, ◌+◌, ◌<◌, ◌≤◌, ℕ,
 ghost use Rattle.fo_ports.specs.Sources.{most_to_own};
 ghost use Rattle.fo_tree_shorten.specs.Shorten.{EntryAt};
 ghost use Rattle.fo_files_way.specs.Plan.{IsLeafReady, IsPlanned, AreBlocks, most_for_levels};
-ghost use Rattle.fo_files_way.specs.Owns.{Owns, IsTag, AreCarried, IsOwned};
+ghost use Rattle.fo_files_way.specs.Owns.{Owns, IsTag, IsIn, IsAboveLeaves, AreCarried, AreLinked, IsOwned};
 ghost use Rattle.fo_files_plan.specs.Owned.{AreOwned};
 
 use fo_files_way::{Level, Plan, own_linked};
@@ -14,8 +14,9 @@ pub fn own_way<B: Blocks>(plan: Plan, on: &mut B) -> Vec<u32>
     requires silent { (B.state on.old).tells → ⊥ }
     requires plan { IsPlanned (B.state on.old) plan }
     requires spare { most_for_levels plan.levels.items ≤ (B.state on.old).spare }
-    ensures owns { Owns (slice_index plan.at.items 0) (IsTag plan.tags.items) (B.state on.old) (B.state on.new) }
+    ensures owns { Owns (IsIn plan.at.items) (IsAboveLeaves plan.levels.items) (IsTag plan.tags.items) (B.state on.old) (B.state on.new) }
     ensures carried { AreCarried (B.state on.old) (B.state on.new) plan.levels.items plan.at.items result.items }
+    ensures linked { AreLinked (B.state on.new) result.items 0 plan.levels.items }
     ensures owned { AreOwned (B.state on.new) result.items }
     ensures spare { (B.state on.old).spare ≤ (B.state on.new).spare + most_for_levels plan.levels.items }
     ensures keeps { B.keeps on.old on.new }
