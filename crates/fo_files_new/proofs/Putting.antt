@@ -4,6 +4,7 @@ use Rattle.fo_base.specs.Cause.{Rose}
 use Rattle.fo_image.specs.declared.types.Label.{Label}
 use Rattle.fo_image.specs.declared.record.Record.{Record}
 use Rattle.fo_image.specs.Record.{RecordHolds}
+use Rattle.fo_meta.specs.Leaf.{IsLeaf}
 use Rattle.fo_ports.specs.declared.error.BlockError.{BlockError}
 use Rattle.fo_ports.specs.declared.error.BlockError.TheVariants.{Full, Damaged, Fault, Arena, Memory}
 use Rattle.fo_ports.specs.Causes.{Caused}
@@ -90,12 +91,16 @@ odd_even : (n m : ℕ) → 32 + 2 * n ≡ 33 + 2 * m → ⊥
 odd_even n m e = omega (arith, e)
 
 pub is_put : (s m u : State) (d : DirAt) (pair : ℕ) (leaves : Leaves) (named r : Record) → KeepsAll s m → KeepsAll m u → Looks s m → s.pinned d.at → leaves.entries ≢ d.at → leaves.records ≢ d.at → AreOwn s d leaves
-    → Adds m u leaves (pair % 102) named r → IsNumbered named (102 * (pair / 102) + pair % 102) r.generation r → IsRaised ((m.now leaves.entries).slot (2 * (pair % 102))) r.generation → RecordHolds r → IsPut s u d pair leaves named r
-is_put s m u d pair leaves named r all more looks pinned entries_ne records_ne own x numbered raised holds = record {
+    → Adds m u leaves (pair % 102) named r → IsNumbered named (102 * (pair / 102) + pair % 102) r.generation r → IsRaised ((m.now leaves.entries).slot (2 * (pair % 102))) r.generation → RecordHolds r → IsLeaf ((m.now leaves.records).bytes) → IsPut s m u d pair leaves named r
+is_put s m u d pair leaves named r all more looks pinned entries_ne records_ne own x numbered raised holds leaf = record {
   numbered = subst (λ n. IsNumbered named n r.generation r) (pair_number pair) numbered;
   holds = holds;
   raised = subst (λ z. IsRaised z r.generation) ((looks.known leaves.entries own.entries_own.is_pinned).slots (2 * (pair % 102))) raised;
   has_pair = x.added.1;
+  was_leaf = subst IsLeaf (looks.known leaves.records own.records_own.is_pinned).bytes leaf;
+  others = λ k first second. x.slots leaves.entries k (inr (first, second)) ∙ (looks.known leaves.entries own.entries_own.is_pinned).slots k;
+  looks = looks;
+  calm = x.calm;
   listed = subst (λ (z : List ℕ). HasAdded r z ((u.now leaves.records).bytes)) (looks.known leaves.records own.records_own.is_pinned).bytes x.added.0;
   alters = alters_joins all (alters_looks d.at (IsSlotOf d) (IsTagOf d) (IsAboveOf d) (IsLeafOf leaves) s m pinned looks) (alters_put m u d leaves (pair % 102) named r entries_ne records_ne x);
   own = record {

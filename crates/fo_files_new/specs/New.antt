@@ -1,10 +1,12 @@
 -- A new file comes into a directory.
-use Rattle.std.specs.Prelude.{◌≡◌, ◌⊎◌, ◌+◌, ◌*◌, ◌/◌, ◌%◌, ◌^◌, ℕ, true, false}
+use Rattle.std.specs.Prelude.{◌≡◌, ◌≢◌, ◌⊎◌, ◌+◌, ◌*◌, ◌/◌, ◌%◌, ◌^◌, ℕ, true, false}
 use Rattle.fo_image.specs.declared.types.Label.{Label}
 use Rattle.fo_image.specs.declared.record.Record.{Record}
 use Rattle.fo_image.specs.Record.{RecordHolds}
-use Rattle.fo_ports.specs.State.{State, none}
+use Rattle.fo_meta.specs.Leaf.{IsLeaf}
+use Rattle.fo_ports.specs.State.{State, Looks, none}
 use Rattle.fo_dir_put.specs.Paired.{HasBoth}
+use Rattle.fo_dir_put.specs.Puts.{StaysCalm}
 use Rattle.fo_dir_add.specs.Adds.{HasAdded, IsNumbered, IsRaised}
 use Rattle.fo_files_dir.specs.declared.dir.DirAt.{DirAt}
 use Rattle.fo_files_leaf.specs.declared.open.LeafOf.{LeafOf}
@@ -72,19 +74,24 @@ pub record ReadiesBoth (s a b t c u : State) (d : DirAt) (pair leaf : ℕ) (leav
 abbrev pub AreInPlace : State → Leaves → Type 0
 AreInPlace s leaves = (b : ℕ) → IsLeafOf leaves b → s.newborn b ⊎ s.sealed b
 
--- A record of a new file stands behind the others of its leaf, with its pair; from the moment when the leaves were in place.
-pub record IsPut (s u : State) (d : DirAt) (pair : ℕ) (leaves : Leaves) (named r : Record) : Type 0 where
+-- A record of a new file stands behind the others of its leaf, with its pair; from the moment when the leaves were in place. The leaf of records
+-- was looked at, up to the second state. Each other pair of the leaf of entries stays, and no slot begins to wait to be cleared, or is cleared.
+pub record IsPut (s n u : State) (d : DirAt) (pair : ℕ) (leaves : Leaves) (named r : Record) : Type 0 where
   pub numbered : IsNumbered named pair r.generation r
   pub holds : RecordHolds r
   pub raised : IsRaised ((s.now leaves.entries).slot (2 * (pair % 102))) r.generation
   pub has_pair : HasBoth leaves.entries u.now r
+  pub was_leaf : IsLeaf ((s.now leaves.records).bytes)
   pub listed : HasAdded r ((s.now leaves.records).bytes) ((u.now leaves.records).bytes)
+  pub others : (k : ℕ) → k ≢ 2 * (pair % 102) → k ≢ 2 * (pair % 102) + 1 → (u.now leaves.entries).slot k ≡ (s.now leaves.entries).slot k
+  pub looks : Looks s n
+  pub calm : StaysCalm n u
   pub alters : AltersDir d (IsLeafOf leaves) s u
   pub own : AreOwn u d leaves
 
 -- A new file came into a directory: its leaves were made ready, then settled where they had to be, and then the pair and the record put.
-pub record IsNew (s a b t c p m u : State) (d : DirAt) (pair leaf : ℕ) (leaves : Leaves) (named r : Record) : Type 0 where
+pub record IsNew (s a b t c p m n u : State) (d : DirAt) (pair leaf : ℕ) (leaves : Leaves) (named r : Record) : Type 0 where
   pub ready : ReadiesBoth s a b t c p d pair leaf leaves
   pub settled : AltersDir d none p m
   pub in_place : AreInPlace m leaves
-  pub put : IsPut m u d pair leaves named r
+  pub put : IsPut m n u d pair leaves named r

@@ -54,7 +54,7 @@ fn put_new<B: Blocks>(
     requires named { RecordHolds named × (named.number < 2 ^ 30) }
     requires room { 0 < (B.state on.old).room }
     requires silent { (B.state on.old).tells → ⊥ }
-    ensures put { IfOk result (IsPut (B.state on.old) (B.state on.new) dir pair leaves named) }
+    ensures put { IfOk result (λ r. (n : B) × IsPut (B.state on.old) (B.state n) (B.state on.new) dir pair leaves named r) }
     ensures nothing { OnErr result (Looks (B.state on.old) (B.state on.new)) }
     ensures left { ((B.state on.new).spare ≡ (B.state on.old).spare) × ((B.state on.old).pins_left ≤ (B.state on.new).pins_left + 1) }
     ensures room { (B.state on.old).room ≤ (B.state on.new).room + 1 }
@@ -101,7 +101,7 @@ pub fn new_file<B: Blocks>(
     requires spare { 24 ≤ (B.state on.old).spare }
     requires room { 1637 ≤ (B.state on.old).room }
     requires silent { (B.state on.old).tells → ⊥ }
-    ensures new { IfOk result (λ r. (leaves : Leaves) × (a : B) × (b : B) × (t : B) × (c : B) × (p : B) × (m : B) × IsNew (B.state on.old) (B.state a) (B.state b) (B.state t) (B.state c) (B.state p) (B.state m) (B.state on.new) dir pair leaf leaves named r) }
+    ensures new { IfOk result (λ r. (leaves : Leaves) × (a b t c p m n : B) × IsNew (B.state on.old) (B.state a) (B.state b) (B.state t) (B.state c) (B.state p) (B.state m) (B.state n) (B.state on.new) dir pair leaf leaves named r) }
     ensures alters { IfOk result (λ r. (leaves : Leaves) × AltersDir dir (IsLeafOf leaves) (B.state on.old) (B.state on.new) × AreOwn (B.state on.new) dir leaves) }
     ensures nothing { OnErr result (AltersDir dir none (B.state on.old) (B.state on.new)) }
     ensures dir { IsDirAt (B.state on.new) dir }

@@ -13,15 +13,15 @@ put_new-requires-clause-dir g c = (dir_on (g.B.Blocks.state c.ready_both.new.on)
 pub returns-in-Ok-put_new-clause-new : goal.returns-in-Ok-put_new-clause-new
 returns-in-Ok-put_new-clause-new g c =
     let e = c.in-Ok.ensures.readied in
-    (c.in-Ok.leaves, e.0, e.1, e.2, e.3, c.ready_both.new.on, c.settle_for.new.on, record { ready = e.4; settled = c.settle_for.ensures.alters; in_place = c.in-Ok-settle_for.ensures.in_place; put = c.in-Ok-put_new.ensures.put })
+    (c.in-Ok.leaves, e.0, e.1, e.2, e.3, c.ready_both.new.on, c.settle_for.new.on, c.in-Ok-put_new.ensures.put.0, record { ready = e.4; settled = c.settle_for.ensures.alters; in_place = c.in-Ok-settle_for.ensures.in_place; put = c.in-Ok-put_new.ensures.put.1 })
 
 pub returns-in-Ok-put_new-clause-alters : goal.returns-in-Ok-put_new-clause-alters
 returns-in-Ok-put_new-clause-alters g c =
-    let put = c.in-Ok-put_new.ensures.put in
+    let put = c.in-Ok-put_new.ensures.put.1 in
     (c.in-Ok.leaves, alters_joins (g.met.B.Blocks.keeps_all c.args.on.now c.ready_both.new.on c.ready_both.ensures.keeps) (alters_leaves (g.B.Blocks.state c.args.on.now) (g.B.Blocks.state c.ready_both.new.on) c.args.dir c.in-Ok.leaves c.ready_both.ensures.alters) (alters_joins (g.met.B.Blocks.keeps_all c.ready_both.new.on c.settle_for.new.on c.settle_for.ensures.keeps) (alters_leaves (g.B.Blocks.state c.ready_both.new.on) (g.B.Blocks.state c.settle_for.new.on) c.args.dir c.in-Ok.leaves c.settle_for.ensures.alters) put.alters), put.own)
 
 pub returns-in-Ok-put_new-clause-dir : goal.returns-in-Ok-put_new-clause-dir
-returns-in-Ok-put_new-clause-dir g c = dir_on (g.B.Blocks.state c.settle_for.new.on) (g.B.Blocks.state c.put_new.new.on) c.args.dir _ (g.met.B.Blocks.keeps_all c.settle_for.new.on c.put_new.new.on c.put_new.ensures.keeps) c.in-Ok-put_new.ensures.put.alters (dir_on (g.B.Blocks.state c.ready_both.new.on) (g.B.Blocks.state c.settle_for.new.on) c.args.dir _ (g.met.B.Blocks.keeps_all c.ready_both.new.on c.settle_for.new.on c.settle_for.ensures.keeps) c.settle_for.ensures.alters (dir_on (g.B.Blocks.state c.args.on.now) (g.B.Blocks.state c.ready_both.new.on) c.args.dir _ (g.met.B.Blocks.keeps_all c.args.on.now c.ready_both.new.on c.ready_both.ensures.keeps) c.ready_both.ensures.alters c.requires.dir))
+returns-in-Ok-put_new-clause-dir g c = dir_on (g.B.Blocks.state c.settle_for.new.on) (g.B.Blocks.state c.put_new.new.on) c.args.dir _ (g.met.B.Blocks.keeps_all c.settle_for.new.on c.put_new.new.on c.put_new.ensures.keeps) c.in-Ok-put_new.ensures.put.1.alters (dir_on (g.B.Blocks.state c.ready_both.new.on) (g.B.Blocks.state c.settle_for.new.on) c.args.dir _ (g.met.B.Blocks.keeps_all c.ready_both.new.on c.settle_for.new.on c.settle_for.ensures.keeps) c.settle_for.ensures.alters (dir_on (g.B.Blocks.state c.args.on.now) (g.B.Blocks.state c.ready_both.new.on) c.args.dir _ (g.met.B.Blocks.keeps_all c.args.on.now c.ready_both.new.on c.ready_both.ensures.keeps) c.ready_both.ensures.alters c.requires.dir))
 
 pub returns-in-Err-put_new-clause-dir : goal.returns-in-Err-put_new-clause-dir
 returns-in-Err-put_new-clause-dir g c =
