@@ -1,5 +1,5 @@
 -- What is asked where a source of data is put, and its entry.
-use Rattle.std.proofs.Common.{◌≡◌, ◌≢◌, ◌+◌, ◌-◌, ◌*◌, ◌/◌, ◌<◌, ◌≤◌, ℕ, zero, suc, false, List, ⊎_elim, refl, sym, ap, subst, ◌∙◌, arith}
+use Rattle.std.proofs.Common.{◌≡◌, ◌≢◌, ◌⊎◌, ◌+◌, ◌-◌, ◌*◌, ◌/◌, ◌<◌, ◌≤◌, ℕ, zero, suc, false, List, inl, ⊎_elim, refl, sym, ap, subst, ◌∙◌, arith}
 use Rattle.std.specs.Prelude.{max, Result, Ok, Err, IfOk, IfErr}
 use Rattle.fo_ports.specs.declared.error.BlockError.{BlockError}
 use Rattle.std.proofs.lemmas.Bool.{cases_lt}
@@ -12,7 +12,8 @@ use Rattle.fo_crash.specs.Images.{target}
 use Rattle.fo_crash.specs.Names.{SameUse}
 use Rattle.fo_ports.specs.Blocks.{cost, dropped, ends}
 use Rattle.fo_ports.specs.State.{State, KeepsAll, Looks}
-use Rattle.fo_ports.specs.Sources.{Form, Grows, Changes, most_for}
+use Rattle.fo_image.specs.declared.types.Kind.TheVariants.{Dir}
+use Rattle.fo_ports.specs.Sources.{Form, Grows, Changes, StaysReady, most_for}
 use Rattle.fo_tree.specs.declared.source.Source.{Source}
 use Rattle.fo_tree_read.specs.declared.tree.Tree.{Tree}
 use Rattle.fo_tree_read.specs.Tree.{kind_at}
@@ -22,12 +23,14 @@ use Rattle.fo_tree_down.proofs.Topping.{ready_local}
 use Rattle.fo_tree_open.specs.Open.{HasEntry}
 use Rattle.fo_tree_link.specs.Link.{entry_of}
 use Rattle.fo_tree_link.specs.Change.{SameSource}
+use Rattle.fo_tree.specs.Laws.{keeps_prepared}
 use Rattle.fo_tree.proofs.Relinking.{same_source}
 use Rattle.fo_tree_shorten.specs.Shorten.{EntryAt}
 use Rattle.fo_tree_shorten.proofs.Entries.{entry_owned}
 use Rattle.fo_tree_trim.proofs.Least.{few_for}
 use Rattle.fo_files_dir.specs.declared.dir.FileAt.{FileAt}
-use Rattle.fo_files_write.specs.Data.{HasData, SameData, most_of}
+use Rattle.fo_files_write.specs.Data.{HasData, PutsPiece, SameData, most_of}
+use Rattle.fo_files_write.specs.Alters.{Alters, is_above}
 
 -- ---- entries
 
@@ -48,15 +51,21 @@ entry_looks {u = u} {j = j} all looks e =
 pub entry_same : {s : State} {t new : Tree} {generation other at j : ℕ} → new ≡ t → other ≡ generation → EntryAt s t generation at j → EntryAt s new other at j
 entry_same {s = s} {t = t} {generation = generation} {other = other} {at = at} {j = j} tree is e = subst (λ (y : Tree). EntryAt s y other at j) (sym tree) (subst (λ n. EntryAt s t n at j) (sym is) e)
 
-pub data_at : (s : State) (file : FileAt) (t : Tree) (generation : ℕ) → EntryAt s t generation file.at file.slot → t.dir ≡ false → t.tag ≡ 32 + 2 * file.number → HasData s file t.size
-data_at s file t generation e plain tag = record { entry = entry_of t generation; is = e.is; used = refl; is_data = plain; tagged = tag; long = refl }
+pub data_at : (s : State) (file : FileAt) (t : Tree) (generation : ℕ) → EntryAt s t generation file.at file.slot → t.dir ≡ false → t.tag ≡ 32 + 2 * file.number → HasData s file generation t.size
+data_at s file t generation e plain tag = record { entry = entry_of t generation; is = e.is; generation_is = refl; used = refl; is_data = plain; tagged = tag; long = refl }
 
 head_size : (a b : Entry) → Head a ≡ Head b → a.size ≡ b.size
 head_size a b e = let same : a ≡ b = cc in ap (λ (x : Entry). x.size) same
 
--- a length is that of the source
-pub data_size : (s : State) (file : FileAt) (t : Tree) (generation size : ℕ) → EntryAt s t generation file.at file.slot → HasData s file size → size ≡ t.size
-data_size s file t generation size e has = sym has.long ∙ head_size has.entry (entry_of t generation) (sym has.is ∙ e.is)
+head_generation : (a b : Entry) → Head a ≡ Head b → a.generation ≡ b.generation
+head_generation a b e = let same : a ≡ b = cc in ap (λ (x : Entry). x.generation) same
+
+-- a generation and a length are those of the source
+pub data_generation : (s : State) (file : FileAt) (t : Tree) (generation other size : ℕ) → EntryAt s t generation file.at file.slot → HasData s file other size → other ≡ generation
+data_generation s file t generation other size e has = sym has.generation_is ∙ head_generation has.entry (entry_of t generation) (sym has.is ∙ e.is)
+
+pub data_size : (s : State) (file : FileAt) (t : Tree) (generation other size : ℕ) → EntryAt s t generation file.at file.slot → HasData s file other size → size ≡ t.size
+data_size s file t generation other size e has = sym has.long ∙ head_size has.entry (entry_of t generation) (sym has.is ∙ e.is)
 
 -- ---- how much it takes
 
@@ -108,6 +117,9 @@ module _ {s m : State} {x y : Source} {offset n at j : ℕ} (w : Wrote s m x y o
   pub tag_same : y.ways.tree.tag ≡ x.ways.tree.tag
   tag_same = ap (λ (f : Form). f.tag) w.form
 
+  pub generation_same : y.ways.generation ≡ x.ways.generation
+  generation_same = ap (λ (f : Form). f.generation) w.form
+
   pub dir_same : y.ways.tree.dir ≡ x.ways.tree.dir
   dir_same = same.dir
 
@@ -127,6 +139,11 @@ module _ {s m : State} {x y : Source} {offset n at j : ℕ} (w : Wrote s m x y o
 
   pub no_levels : (i : ℕ) → i < dropped ((m.now at).slot j) (Head (entry_of y.ways.tree y.ways.generation)) → ⊥
   no_levels i lt = let none = levels in omega (arith, none, lt)
+
+-- what was prepared stays so where the source is linked
+pub prepared_linked : (m u : State) (y : Source) (tag offset n at : ℕ) → KeepsAll m u → (m.label at).tag ≢ tag → y.ways.tree.tag ≡ tag → ((b : ℕ) → (b ≢ at) ⊎ ((m.label b).kind ≡ Dir 0) → m.pinned b → StaysReady m u b)
+    → Prepared m y.ways.tree y.ways.kept.items y.ways.limit offset n → Prepared u y.ways.tree y.ways.kept.items y.ways.limit offset n
+prepared_linked m u y tag offset n at more apart is ready was = keeps_prepared m u y.ways.tree y.ways.kept.items y.ways.limit more (λ c r. ready c (inl (λ here. apart (sym (ap (λ z. (m.label z).tag) here) ∙ r.tagged ∙ is))) r.is_pinned) offset n was
 
 pub wrote_of : (s m : State) (x y : Source) (offset n at j : ℕ) → KeepsAll s m → Over s x.ways.tree x.ways.kept.items x.ways.limit → EntryAt s x.ways.tree x.ways.generation at j → 0 < n → Prepared s x.ways.tree x.ways.kept.items x.ways.limit offset n
     → Over m y.ways.tree y.ways.kept.items y.ways.limit → form_of y.ways.tree y.ways.generation y.ways.limit ≡ form_of x.ways.tree x.ways.generation x.ways.limit → y.ways.tree.size ≡ max x.ways.tree.size (offset + n)
@@ -158,16 +175,27 @@ pub same_joins : {a b c : Tree} → SameData a b → SameData b c → SameData a
 same_joins p q = record { dir = q.dir ∙ p.dir; tag = q.tag ∙ p.tag; rank = q.rank ∙ p.rank; size = q.size ∙ p.size }
 
 -- what is answered of the data
-pub has_with : (u : State) (file : FileAt) (t : Tree) (generation most : ℕ) (r : Result ℕ BlockError) → EntryAt u t generation file.at file.slot → t.dir ≡ false → t.tag ≡ 32 + 2 * file.number → IfOk r (λ n. (n ≡ t.size) × (n ≡ most)) → IfOk r (HasData u file)
-has_with u file t generation most (Ok n) e plain tag is = subst (λ z. HasData u file z) (sym is.0) (data_at u file t generation e plain tag)
-has_with u file t generation most (Err why) e plain tag is = tt
+pub long_with : (s u : State) (file : FileAt) (t new : Tree) (generation other n offset : ℕ) (r : Result ℕ BlockError) → EntryAt s t generation file.at file.slot → t.dir ≡ false → t.tag ≡ 32 + 2 * file.number → EntryAt u new other file.at file.slot → new.dir ≡ false → new.tag ≡ 32 + 2 * file.number → other ≡ generation
+    → 0 < n → IfOk r (λ z. (z ≡ new.size) × (z ≡ max t.size (offset + n)))
+    → IfOk r (λ z. (g size : ℕ) × HasData s file g size × HasData u file g z × (n ≡ 0 → z ≡ size) × (0 < n → z ≡ max size (offset + n)))
+long_with s u file t new generation other n offset (Ok z) e plain tag f plain_now tag_now same some is =
+    let has : HasData u file generation z = subst (λ g. HasData u file g z) same (subst (λ y. HasData u file other y) (sym is.0) (data_at u file new other f plain_now tag_now)) in
+    (generation, t.size, data_at s file t generation e plain tag, has, λ none. absurd (omega (arith, some, none)), λ more. is.1)
+long_with s u file t new generation other n offset (Err why) e plain tag f plain_now tag_now same some is = tt
 
-pub long_with : (s : State) (file : FileAt) (t : Tree) (generation long n offset : ℕ) (r : Result ℕ BlockError) → EntryAt s t generation file.at file.slot → t.dir ≡ false → t.tag ≡ 32 + 2 * file.number → 0 < n → IfOk r (λ z. (z ≡ long) × (z ≡ max t.size (offset + n)))
-    → IfOk r (λ z. (size : ℕ) × HasData s file size × (n ≡ 0 → z ≡ size) × (0 < n → z ≡ max size (offset + n)))
-long_with s file t generation long n offset (Ok z) e plain tag some is = (t.size, data_at s file t generation e plain tag, λ none. absurd (omega (arith, some, none)), λ more. is.1)
-long_with s file t generation long n offset (Err why) e plain tag some is = tt
+pub stays_with : (s u : State) (file : FileAt) (t new : Tree) (generation other : ℕ) (r : Result ℕ BlockError) → EntryAt s t generation file.at file.slot → EntryAt u new other file.at file.slot → new.dir ≡ false → new.tag ≡ 32 + 2 * file.number → other ≡ generation → IfErr r (λ why. new.size ≡ t.size)
+    → IfErr r (λ why. (g size : ℕ) → HasData s file g size → HasData u file g size)
+stays_with s u file t new generation other (Ok z) e f plain tag one is = tt
+stays_with s u file t new generation other (Err why) e f plain tag one is = λ g size has.
+    subst (λ k. HasData u file k size) (one ∙ sym (data_generation s file t generation g size e has)) (subst (λ z. HasData u file other z) (is ∙ sym (data_size s file t generation g size e has)) (data_at u file new other f plain tag))
 
-pub stays_with : (s u : State) (file : FileAt) (t new : Tree) (generation other : ℕ) (r : Result ℕ BlockError) → EntryAt s t generation file.at file.slot → EntryAt u new other file.at file.slot → new.dir ≡ false → new.tag ≡ 32 + 2 * file.number → IfErr r (λ why. new.size ≡ t.size)
-    → IfErr r (λ why. (size : ℕ) → HasData s file size → HasData u file size)
-stays_with s u file t new generation other (Ok z) e f plain tag is = tt
-stays_with s u file t new generation other (Err why) e f plain tag is = λ size has. subst (λ z. HasData u file z) (is ∙ sym (data_size s file t generation size e has)) (data_at u file new other f plain tag)
+-- where a piece was put
+pub puts_since : {B : Type 0} (state : B → State) (s u : State) (file : FileAt) (tag other offset n : ℕ) (r : Result ℕ BlockError) → tag ≡ other → IfOk r (λ z. (m : B) × Alters file.at file.slot tag is_above s (state m) × PutsPiece (state m) u file offset n)
+    → IfOk r (λ z. 0 < n → (m : B) × Alters file.at file.slot other is_above s (state m) × PutsPiece (state m) u file offset n)
+puts_since state s u file tag other offset n (Ok z) is h = λ some. (h.0, subst (λ t. Alters file.at file.slot t is_above s (state h.0)) is h.1, h.2)
+puts_since state s u file tag other offset n (Err why) is h = tt
+
+-- and where it is refused
+pub err_since : (s u : State) (file : FileAt) (tag other : ℕ) (r : Result ℕ BlockError) → tag ≡ other → IfErr r (λ why. Alters file.at file.slot tag is_above s u) → IfErr r (λ why. Alters file.at file.slot other is_above s u)
+err_since s u file tag other (Ok z) is h = tt
+err_since s u file tag other (Err why) is h = subst (λ t. Alters file.at file.slot t is_above s u) is h

@@ -1,5 +1,5 @@
 -- The steps of a change, one after another.
-use Rattle.std.proofs.Common.{◌≡◌, ◌≢◌, ◌⊎◌, ◌/◌, ℕ, List, inl, inr, ⊎_elim, refl, sym, ap, ◌∙◌, arith}
+use Rattle.std.proofs.Common.{◌≡◌, ◌≢◌, ◌⊎◌, ◌-◌, ◌/◌, ◌<◌, ℕ, zero, suc, Bool, true, false, List, inl, inr, ⊎_elim, refl, sym, ap, subst, ◌∙◌, arith}
 use Rattle.std.specs.Prelude.{Result, Ok, Err, IfErr}
 use Rattle.fo_base.specs.Cause.{Rose}
 use Rattle.fo_ports.specs.declared.error.BlockError.{BlockError}
@@ -7,6 +7,8 @@ use Rattle.fo_ports.specs.declared.error.BlockError.TheVariants.{Full, Damaged, 
 use Rattle.fo_ports.specs.Causes.{Caused}
 use Rattle.fo_looks.proofs.Looks.{rose_later}
 use Rattle.fo_image.specs.declared.types.Label.{Label}
+use Rattle.fo_image.specs.declared.types.Kind.{Kind}
+use Rattle.fo_image.specs.declared.types.Kind.TheVariants.{Data}
 use Rattle.fo_image.specs.declared.types.State.{State as Living}
 use Rattle.fo_image.specs.declared.types.State.TheVariants.{Free, Live, Closed}
 use Rattle.fo_image.specs.declared.types.Pointer.TheVariants.{Local}
@@ -27,7 +29,7 @@ use Rattle.fo_tree_trim.specs.Cut.{CutSlot}
 use Rattle.fo_tree_trim.proofs.Along.{Aside, on_device}
 use Rattle.fo_tree_trim.proofs.Past.{index_above}
 use Rattle.fo_tree_shorten.specs.Shorten.{EntryAt, Readies}
-use Rattle.fo_files_write.specs.Alters.{MayChange, Alters}
+use Rattle.fo_files_write.specs.Alters.{MayChange, Alters, is_above, any_kind}
 
 -- ---- a block that stays known
 
@@ -57,7 +59,7 @@ cases_live Free = inr (λ e. cc)
 cases_live Live = inl refl
 cases_live Closed = inr (λ e. cc)
 
-module _ {s m u : State} {at j tag : ℕ} (all : KeepsAll s m) (x : Alters at j tag s m) (y : Alters at j tag m u) where
+module _ {s m u : State} {at j tag : ℕ} {kinds : Kind → Type 0} (all : KeepsAll s m) (x : Alters at j tag kinds s m) (y : Alters at j tag kinds m u) where
   first_live : (b : ℕ) → Made s m b → Made m u b → ⊥
   first_live b first second = second.0 first.1
 
@@ -73,10 +75,10 @@ module _ {s m u : State} {at j tag : ℕ} (all : KeepsAll s m) (x : Alters at j 
   not_second : (b : ℕ) → (Made s u b → ⊥) → Made m u b → ⊥
   not_second b none made = none (made_second b made)
 
-  may_back : (b : ℕ) → (Made s m b → ⊥) → MayChange at tag m b → MayChange at tag s b
+  may_back : (b : ℕ) → (Made s m b → ⊥) → MayChange at tag kinds m b → MayChange at tag kinds s b
   may_back b none may = let same = (x.others b none).label in ⊎_elim
       (λ here. inl here)
-      (λ own. inr (ap (λ (z : Label). z.epoch) (sym same) ∙ own.0 ∙ all.same_high, ap (λ (z : Label). z.tag) (sym same) ∙ own.1))
+      (λ own. inr (ap (λ (z : Label). z.epoch) (sym same) ∙ own.0 ∙ all.same_high, ap (λ (z : Label). z.tag) (sym same) ∙ own.1, subst kinds (ap (λ (z : Label). z.kind) same) own.2))
       may
 
   cases_made : (b : ℕ) → Made s u b → Made s m b ⊎ ((Made s m b → ⊥) × Made m u b)
@@ -85,7 +87,7 @@ module _ {s m u : State} {at j tag : ℕ} (all : KeepsAll s m) (x : Alters at j 
       (λ none. inr (λ first. none first.1, (none, made.1)))
       (cases_live (m.label b).state)
 
-  pub alters_joins : Alters at j tag s u
+  pub alters_joins : Alters at j tag kinds s u
   alters_joins = record {
     made = λ b made. ⊎_elim
         (λ first. let is = x.made b first in let stays = y.others b (first_live b first) in (
@@ -117,8 +119,8 @@ module _ {s m u : State} {at j tag : ℕ} (all : KeepsAll s m) (x : Alters at j 
 none_made : (s u : State) → ((b : ℕ) → u.label b ≡ s.label b) → (b : ℕ) → Made s u b → ⊥
 none_made s u same b made = made.0 (ap (λ (z : Label). z.state) (sym (same b)) ∙ made.1)
 
-pub alters_none : (s : State) (at j tag : ℕ) → Alters at j tag s s
-alters_none s at j tag = record {
+pub alters_none : (kinds : Kind → Type 0) (s : State) (at j tag : ℕ) → Alters at j tag kinds s s
+alters_none kinds s at j tag = record {
   made = λ b made. absurd (none_made s s (λ x. refl) b made);
   others = λ b no. record { label = refl; is_pinned = λ h. h; still_sealed = λ h. h };
   memory = λ b pinned no not. record { bytes = refl; slots = λ k. inl (refl, λ h. h) };
@@ -131,8 +133,8 @@ alters_none s at j tag = record {
 }
 
 -- a look
-pub alters_looks : (s u : State) (at j tag : ℕ) → Looks s u → s.pinned at → Alters at j tag s u
-alters_looks s u at j tag looks pinned =
+pub alters_looks : (kinds : Kind → Type 0) (s u : State) (at j tag : ℕ) → Looks s u → s.pinned at → Alters at j tag kinds s u
+alters_looks kinds s u at j tag looks pinned =
     let same : (b : ℕ) → u.label b ≡ s.label b = λ b. looks.stays.labels b (λ n. n) in
     record {
       made = λ b made. absurd (none_made s u same b made);
@@ -157,8 +159,8 @@ pub record Moves (at j : ℕ) (s m u : State) (t : Tree) (slot : Slot) (mine inn
   pub order : KeepsOrder none m u
   pub no_wait : AddsNoWait none m u
 
-pub alters_moves : (at j : ℕ) (s m u : State) (t : Tree) (generation : ℕ) (slot : Slot) (mine inner : ℕ → Type 0) → EntryAt s t generation at j → Moves at j s m u t slot mine inner → Alters at j t.tag s u
-alters_moves at j s m u t generation slot mine inner e x =
+pub alters_moves : (kinds : Kind → Type 0) (at j : ℕ) (s m u : State) (t : Tree) (generation : ℕ) (slot : Slot) (mine inner : ℕ → Type 0) → ((b : ℕ) → inner b → kinds (s.label b).kind) → EntryAt s t generation at j → Moves at j s m u t slot mine inner → Alters at j t.tag kinds s u
+alters_moves kinds at j s m u t generation slot mine inner each e x =
     let c = x.changes in
     let label : (b : ℕ) → u.label b ≡ m.label b = λ b. x.frame.stays.labels b (λ h. h) in
     let made_back : (b : ℕ) → Made s u b → Made s m b = λ b made. (made.0, ap (λ (z : Label). z.state) (sym (label b)) ∙ made.1) in
@@ -178,7 +180,7 @@ alters_moves at j s m u t generation slot mine inner e x =
         still_sealed = λ h. marks.1 (was.marks.1 h);
       };
       memory = λ b pinned no not.
-          let same = c.memory b (λ touched. ⊎_elim (λ made. no (made_on b made)) (λ own. not (inr (own.1, own.2))) touched) in
+          let same = c.memory b (λ touched. ⊎_elim (λ made. no (made_on b made)) (λ own. not (inr (own.1, own.2, each b own.0))) touched) in
           record {
             bytes = x.puts.bytes b ∙ same.bytes;
             slots = λ k. inl (
@@ -195,8 +197,8 @@ alters_moves at j s m u t generation slot mine inner e x =
     }
 
 -- a settling
-pub alters_rests : (s u : State) (at j tag : ℕ) → Rests s u → ((b : ℕ) → s.pinned b → StaysKnown s u b) → ((b : ℕ) → (u.label b ≡ s.label b) × (s.pinned b → u.pinned b) × (s.sealed b → u.sealed b)) → u.spare ≡ s.spare → s.pinned at → Alters at j tag s u
-alters_rests s u at j tag rests known blocks spare pinned =
+pub alters_rests : (kinds : Kind → Type 0) (s u : State) (at j tag : ℕ) → Rests s u → ((b : ℕ) → s.pinned b → StaysKnown s u b) → ((b : ℕ) → (u.label b ≡ s.label b) × (s.pinned b → u.pinned b) × (s.sealed b → u.sealed b)) → u.spare ≡ s.spare → s.pinned at → Alters at j tag kinds s u
+alters_rests kinds s u at j tag rests known blocks spare pinned =
     let same : (b : ℕ) → u.label b ≡ s.label b = λ b. (blocks b).0 in
     record {
       made = λ b made. absurd (none_made s u same b made);
@@ -213,14 +215,20 @@ alters_rests s u at j tag rests known blocks spare pinned =
 local_same : {a b : ℕ} → Local a ≡ Local b → a ≡ b
 local_same e = cc
 
+kind_above : (dir : Bool) (n : ℕ) → 0 < n → dir ≡ false → kind_at dir n ≡ Data 0 → ⊥
+kind_above true n some plain e = cc
+kind_above false (suc n) some plain e = cc
+kind_above false zero some plain e = absurd (omega (arith, some))
+
 -- and a cut of what stands behind the end
-pub alters_cuts : (s u : State) (t : Tree) (kept : List Kept) (last x generation at j : ℕ) → Aside s u t kept last x → EntryAt s t generation at j → Alters at j t.tag s u
-alters_cuts s u t kept last x generation at j aside e =
+pub alters_cuts : (s u : State) (t : Tree) (kept : List Kept) (last x generation at j : ℕ) → t.dir ≡ false → Aside s u t kept last x → EntryAt s t generation at j → Alters at j t.tag is_above s u
+alters_cuts s u t kept last x generation at j plain aside e =
     let cuts = aside.cuts in
-    let own : (b k : ℕ) → CutSlot s t last x b k → ((s.label b).epoch ≡ s.high) × ((s.label b).tag ≡ t.tag) = λ b k p.
+    let own : (b k : ℕ) → CutSlot s t last x b k → ((s.label b).epoch ≡ s.high) × ((s.label b).tag ≡ t.tag) × is_above (s.label b).kind = λ b k p.
     let d = on_device aside p.down (p.way / 409) p.within (index_above t.depth last p.down p.way p.is_way) in
     let here : d.at ≡ b = local_same (sym d.is ∙ p.is) in
-    (ap (λ y. (s.label y).epoch) (sym here) ∙ d.current, ap (λ y. (s.label y).tag) (sym here) ∙ d.ready.tagged) in
+    let within = p.within in
+    (ap (λ y. (s.label y).epoch) (sym here) ∙ d.current, ap (λ y. (s.label y).tag) (sym here) ∙ d.ready.tagged, λ leaf. kind_above t.dir (t.depth - p.down) (omega (arith, within)) plain (sym d.ready.has_kind ∙ ap (λ y. (s.label y).kind) here ∙ leaf)) in
     record {
       made = λ b made. absurd (none_made s u cuts.labels b made);
       others = λ b no. let marks = cuts.marks b in record { label = cuts.labels b; is_pinned = marks.0; still_sealed = marks.1 };
@@ -236,10 +244,14 @@ alters_cuts s u t kept last x generation at j aside e =
       numbers = cuts.numbers;
     }
 
+data_kind : (dir : Bool) → dir ≡ false → kind_at dir 0 ≡ Data 0
+data_kind true plain = cc
+data_kind false plain = refl
+
 -- what makes a source ready to be cut
-pub alters_readies : (s m u : State) (t : Tree) (generation at j top : ℕ) → EntryAt s t generation at j → Readies s m u t generation at j top → Alters at j t.tag s u
-alters_readies s m u t generation at j top e x =
-    alters_moves at j s m u t generation (Head (entry_of (with_top t top) generation)) (HasBlock s t) (λ b. HasBlock s t b × ((s.label b).kind ≢ kind_at t.dir 0)) e (record {
+pub alters_readies : (s m u : State) (t : Tree) (generation at j top : ℕ) → t.dir ≡ false → EntryAt s t generation at j → Readies s m u t generation at j top → Alters at j t.tag is_above s u
+alters_readies s m u t generation at j top plain e x =
+    alters_moves is_above at j s m u t generation (Head (entry_of (with_top t top) generation)) (HasBlock s t) (λ b. HasBlock s t b × ((s.label b).kind ≢ kind_at t.dir 0)) (λ b own leaf. own.1 (leaf ∙ sym (data_kind t.dir plain))) e (record {
       changes = x.made;
       puts = x.linked.now;
       here = λ b. b ≡ at;
@@ -249,6 +261,20 @@ alters_readies s m u t generation at j top e x =
       order = x.linked.order;
       no_wait = x.linked.no_wait;
     })
+
+-- more kinds of blocks may be put into
+pub alters_any : {s u : State} {at j tag : ℕ} → Alters at j tag is_above s u → Alters at j tag any_kind s u
+alters_any x = record {
+  made = x.made;
+  others = x.others;
+  memory = λ b pinned none not. x.memory b pinned none (λ may. not (⊎_elim (λ here. inl here) (λ own. inr (own.0, own.1, tt)) may));
+  beside = x.beside;
+  bytes = x.bytes;
+  no_wait = x.no_wait;
+  clearing = x.clearing;
+  usable = x.usable;
+  numbers = x.numbers;
+}
 
 pub pins_readies : (s m u : State) (t : Tree) (generation at j top : ℕ) → Readies s m u t generation at j top → u.pins_left ≡ s.pins_left
 pins_readies s m u t generation at j top x = x.linked.frame.uses.pins ∙ x.made.pins

@@ -5,8 +5,8 @@ ghost use Rattle.fo_ports.specs.Causes.{Caused};
 ghost use Rattle.fo_tree_look.specs.Source.{Over};
 ghost use Rattle.fo_tree_shorten.specs.Shorten.{EntryAt};
 ghost use Rattle.fo_files_dir.specs.Dir.{IsFileAt};
-ghost use Rattle.fo_files_write.specs.Alters.{Alters};
-ghost use Rattle.fo_files_write.specs.Data.{HasData, most_of};
+ghost use Rattle.fo_files_write.specs.Alters.{Alters, is_above, any_kind};
+ghost use Rattle.fo_files_write.specs.Data.{HasData, PutsPiece, most_of};
 
 use crate::open::opened;
 use crate::put::{put, ready_for};
@@ -16,7 +16,7 @@ use fo_tree::Source;
 use std::alloc::Global;
 
 /// Puts a piece in the place of a file's bytes from the offset on, and gives the file's length then. Where it is refused, the
-/// file's entry has the length that it had. Damaged is the block with its entry, where that is another, isn't in use, or waits to be cleared.
+/// file's entry has the length that it had. The entry keeps its generation. Damaged is the block with its entry, where that is another, isn't in use, or waits to be cleared.
 pub fn write_data<B: Blocks>(
     alloc: Global,
     on: &mut B,
@@ -30,11 +30,12 @@ pub fn write_data<B: Blocks>(
     requires pins { most_of (length piece.now) + 15 ≤ (B.state on.old).pins_left }
     requires spare { most_of (length piece.now) + 4 ≤ (B.state on.old).spare }
     requires room { 1637 ≤ (B.state on.old).room }
-    ensures has { IfOk result (HasData (B.state on.new) file) }
-    ensures length { IfOk result (λ n. (size : ℕ) × HasData (B.state on.old) file size × (length piece.now ≡ 0 → n ≡ size) × (0 < length piece.now → n ≡ max size (offset + length piece.now))) }
-    ensures stays { IfErr result (λ why. (size : ℕ) → HasData (B.state on.old) file size → HasData (B.state on.new) file size) }
+    ensures length { IfOk result (λ n. (generation size : ℕ) × HasData (B.state on.old) file generation size × HasData (B.state on.new) file generation n × (length piece.now ≡ 0 → n ≡ size) × (0 < length piece.now → n ≡ max size (offset + length piece.now))) }
+    ensures puts { IfOk result (λ n. 0 < length piece.now → (m : B) × Alters file.at file.slot (32 + 2 * file.number) is_above (B.state on.old) (B.state m) × PutsPiece (B.state m) (B.state on.new) file offset (length piece.now)) }
+    ensures stays { IfErr result (λ why. (generation size : ℕ) → HasData (B.state on.old) file generation size → HasData (B.state on.new) file generation size) }
     ensures file { IsFileAt (B.state on.new) file }
-    ensures alters { Alters file.at file.slot (32 + 2 * file.number) (B.state on.old) (B.state on.new) }
+    ensures nothing { IfErr result (λ why. Alters file.at file.slot (32 + 2 * file.number) is_above (B.state on.old) (B.state on.new)) }
+    ensures alters { Alters file.at file.slot (32 + 2 * file.number) any_kind (B.state on.old) (B.state on.new) }
     ensures spare { (B.state on.old).spare ≤ (B.state on.new).spare + (most_of (length piece.now) + 4) }
     ensures room { (B.state on.old).room ≤ (B.state on.new).room + 1637 }
     ensures pins { (B.state on.old).pins_left ≤ (B.state on.new).pins_left + (most_of (length piece.now) + 15) }
@@ -68,11 +69,13 @@ fn write_source<B: Blocks>(
     requires pins { most_of (length piece.now) + 15 ≤ (B.state on.old).pins_left }
     requires spare { most_of (length piece.now) + 4 ≤ (B.state on.old).spare }
     requires room { 1637 ≤ (B.state on.old).room }
-    ensures same { (source.new.ways.tree.dir ≡ source.old.ways.tree.dir) × (source.new.ways.tree.tag ≡ source.old.ways.tree.tag) }
+    ensures same { (source.new.ways.tree.dir ≡ source.old.ways.tree.dir) × (source.new.ways.tree.tag ≡ source.old.ways.tree.tag) × (source.new.ways.generation ≡ source.old.ways.generation) }
     ensures entry { EntryAt (B.state on.new) source.new.ways.tree source.new.ways.generation file.at file.slot }
+    ensures puts { IfOk result (λ n. (m : B) × Alters file.at file.slot source.old.ways.tree.tag is_above (B.state on.old) (B.state m) × PutsPiece (B.state m) (B.state on.new) file offset (length piece.now)) }
     ensures size { IfOk result (λ n. (n ≡ source.new.ways.tree.size) × (n ≡ max source.old.ways.tree.size (offset + length piece.now))) }
     ensures stays { IfErr result (λ why. source.new.ways.tree.size ≡ source.old.ways.tree.size) }
-    ensures alters { Alters file.at file.slot source.old.ways.tree.tag (B.state on.old) (B.state on.new) }
+    ensures nothing { IfErr result (λ why. Alters file.at file.slot source.old.ways.tree.tag is_above (B.state on.old) (B.state on.new)) }
+    ensures alters { Alters file.at file.slot source.old.ways.tree.tag any_kind (B.state on.old) (B.state on.new) }
     ensures spare { (B.state on.old).spare ≤ (B.state on.new).spare + (most_of (length piece.now) + 4) }
     ensures room { (B.state on.old).room ≤ (B.state on.new).room + 1637 }
     ensures pins { (B.state on.old).pins_left ≤ (B.state on.new).pins_left + (most_of (length piece.now) + 15) }

@@ -6,7 +6,7 @@ ghost use Rattle.fo_ports.specs.State.{Looks};
 ghost use Rattle.fo_tree_look.specs.Source.{Over, WayReady};
 ghost use Rattle.fo_tree_down.specs.Clear.{EndsClear, last_leaf};
 ghost use Rattle.fo_tree_shorten.specs.Shorten.{EntryAt};
-ghost use Rattle.fo_files_write.specs.Alters.{Alters};
+ghost use Rattle.fo_files_write.specs.Alters.{Alters, is_above};
 ghost use Rattle.fo_files_write.specs.Data.{SameData};
 
 use fo_ports::{BlockError, Blocks, Bytes};
@@ -56,7 +56,7 @@ fn cut_end<B: Blocks>(on: &mut B, ways: &mut Ways, at: u32, slot: u32) -> Result
     ensures over { Over (B.state on.new) ways.new.tree ways.new.kept.items ways.new.limit }
     ensures entry { EntryAt (B.state on.new) ways.new.tree ways.new.generation at slot }
     ensures clear { IfOk result (λ _. EndsClear (B.state on.new) ways.new.tree ways.new.kept.items) }
-    ensures alters { Alters at slot ways.old.tree.tag (B.state on.old) (B.state on.new) }
+    ensures alters { Alters at slot ways.old.tree.tag is_above (B.state on.old) (B.state on.new) }
     ensures spare { (B.state on.old).spare ≤ (B.state on.new).spare + 4 }
     ensures room { (B.state on.old).room ≤ (B.state on.new).room + 1636 }
     ensures pins { (B.state on.new).pins_left ≡ (B.state on.old).pins_left }
@@ -92,7 +92,7 @@ pub(crate) fn trim_for<B: Blocks>(
     ensures over { Over (B.state on.new) source.new.ways.tree source.new.ways.kept.items source.new.ways.limit }
     ensures entry { EntryAt (B.state on.new) source.new.ways.tree source.new.ways.generation at slot }
     ensures clear { IfOk result (λ _. source.new.ways.tree.size < end → EndsClear (B.state on.new) source.new.ways.tree source.new.ways.kept.items) }
-    ensures alters { Alters at slot source.old.ways.tree.tag (B.state on.old) (B.state on.new) }
+    ensures alters { Alters at slot source.old.ways.tree.tag is_above (B.state on.old) (B.state on.new) }
     ensures spare { (B.state on.old).spare ≤ (B.state on.new).spare + 4 }
     ensures room { (B.state on.old).room ≤ (B.state on.new).room + 1636 }
     ensures pins { (B.state on.old).pins_left ≤ (B.state on.new).pins_left + 15 }

@@ -5,10 +5,11 @@
 //! current and linked, with a settling before the slots are cleared. Then the ways to the piece are prepared, it is put, and the source is
 //! linked.
 //!
-//! Proved: it is refused by want of memory, faults and damage alone, and the entry has then the length that it had; where it is granted, the
-//! entry has the length that is answered, the old one or that of the piece's end. All else stays but blocks that were given out, current ones
-//! of the file's tag, and slots that waited to be cleared; the block with the entry stays owned, and its other slots stay. It takes at most so
-//! many blocks as `most_of` says, and four to trim. Not said: what bytes the file has, since the device doesn't tell; and what holds of images.
+//! Proved: it is refused by want of memory, faults and damage alone, and the entry has then the length that it had, and each leaf of data what it
+//! had; where it is granted, the entry has its generation and the length that is answered, the old one or that of the piece's end, and the piece
+//! was put into the source whose entry stood there, prepared for it (`PutsPiece`). All else stays but blocks that were given out, current ones of
+//! the file's tag, and slots that waited to be cleared; the block with the entry stays owned, and its other slots stay. It takes at most so many
+//! blocks as `most_of` says, and four to trim. Not said: what bytes the file has, since the device doesn't tell; and what holds of images.
 #![tactic(auto)]
 
 mod data;

@@ -3,10 +3,10 @@ ghost use Rattle.std.specs.Prelude.{◌≡◌, ◌⊎◌, ◌+◌, ◌*◌, ◌%
 ghost use Rattle.fo_base.specs.Cause.{Rose};
 ghost use Rattle.fo_ports.specs.Causes.{Caused};
 ghost use Rattle.fo_ports.specs.State.{Looks};
-ghost use Rattle.fo_tree_look.specs.Source.{Over, Prepared};
+ghost use Rattle.fo_tree_look.specs.Source.{Over, Prepared, form_of};
 ghost use Rattle.fo_tree_down.specs.Clear.{EndsClear};
 ghost use Rattle.fo_tree_shorten.specs.Shorten.{EntryAt};
-ghost use Rattle.fo_files_write.specs.Alters.{Alters};
+ghost use Rattle.fo_files_write.specs.Alters.{Alters, is_above, any_kind};
 ghost use Rattle.fo_files_write.specs.Data.{SameData, most_of};
 
 use crate::grow::trim_for;
@@ -35,7 +35,7 @@ pub(crate) fn ready_for<B: Blocks>(
     ensures entry { EntryAt (B.state on.new) source.new.ways.tree source.new.ways.generation at slot }
     ensures prepared { IfOk result (λ _. Prepared (B.state on.new) source.new.ways.tree source.new.ways.kept.items source.new.ways.limit offset len) }
     ensures clear { IfOk result (λ _. source.new.ways.tree.size < offset + len → EndsClear (B.state on.new) source.new.ways.tree source.new.ways.kept.items) }
-    ensures alters { Alters at slot source.old.ways.tree.tag (B.state on.old) (B.state on.new) }
+    ensures alters { Alters at slot source.old.ways.tree.tag is_above (B.state on.old) (B.state on.new) }
     ensures spare { (B.state on.old).spare ≤ (B.state on.new).spare + 4 }
     ensures room { (B.state on.old).room ≤ (B.state on.new).room + 1636 }
     ensures pins { (B.state on.old).pins_left ≤ (B.state on.new).pins_left + (most_of len + 15) }
@@ -89,10 +89,13 @@ pub(crate) fn put<B: Blocks>(
     requires clear { source.old.ways.tree.size < offset + length piece.now → EndsClear (B.state on.old) source.old.ways.tree source.old.ways.kept.items }
     requires spare { most_of (length piece.now) ≤ (B.state on.old).spare }
     requires room { 1 ≤ (B.state on.old).room }
-    ensures same { (source.new.ways.tree.dir ≡ source.old.ways.tree.dir) × (source.new.ways.tree.tag ≡ source.old.ways.tree.tag) }
+    ensures same { (source.new.ways.tree.dir ≡ source.old.ways.tree.dir) × (source.new.ways.tree.tag ≡ source.old.ways.tree.tag) × (source.new.ways.generation ≡ source.old.ways.generation) }
+    ensures form { form_of source.new.ways.tree source.new.ways.generation source.new.ways.limit ≡ form_of source.old.ways.tree source.old.ways.generation source.old.ways.limit }
+    ensures over { Over (B.state on.new) source.new.ways.tree source.new.ways.kept.items source.new.ways.limit }
+    ensures prepared { Prepared (B.state on.new) source.new.ways.tree source.new.ways.kept.items source.new.ways.limit offset (length piece.now) }
     ensures size { source.new.ways.tree.size ≡ max source.old.ways.tree.size (offset + length piece.now) }
     ensures entry { EntryAt (B.state on.new) source.new.ways.tree source.new.ways.generation at slot }
-    ensures alters { Alters at slot source.old.ways.tree.tag (B.state on.old) (B.state on.new) }
+    ensures alters { Alters at slot source.old.ways.tree.tag any_kind (B.state on.old) (B.state on.new) }
     ensures spare { (B.state on.old).spare ≤ (B.state on.new).spare + most_of (length piece.now) }
     ensures room { (B.state on.old).room ≤ (B.state on.new).room + 1 }
     ensures pins { (B.state on.new).pins_left ≡ (B.state on.old).pins_left }

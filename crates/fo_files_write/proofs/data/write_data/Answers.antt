@@ -1,5 +1,5 @@
 use Rattle.std.proofs.Common.{◌≡◌, ◌⊎◌, ◌+◌, ◌*◌, ◌%◌, ◌<◌, ◌≤◌, ◌∙◌, ℕ, length, inl, sym, subst, arith}
-use Rattle.std.specs.Prelude.{max, ◌==◌, true, false}
+use Rattle.std.specs.Prelude.{◌==◌, true, false}
 use Rattle.std.proofs.lemmas.Bool.Decides.{nat_tests}
 use Rattle.fo_ports.specs.State.{State}
 use Rattle.fo_ports.specs.declared.error.BlockError.{BlockError}
@@ -7,10 +7,10 @@ use Rattle.fo_ports.specs.declared.error.BlockError.TheVariants.{Damaged}
 use Rattle.fo_ports.specs.Causes.{Caused}
 use Rattle.fo_base.specs.Cause.{Rose}
 use Rattle.fo_files_dir.proofs.Dirs.{pair_keeps}
-use Rattle.fo_files_write.specs.Alters.{Alters}
+use Rattle.fo_files_write.specs.Alters.{Alters, is_above, any_kind}
 use Rattle.fo_files_write.specs.Data.{HasData}
 use Rattle.fo_files_write.proofs.Steps.{alters_none}
-use Rattle.fo_files_write.proofs.Ends.{data_at, has_with, long_with, stays_with}
+use Rattle.fo_files_write.proofs.Ends.{data_at, long_with, stays_with, puts_since, err_since}
 use Rattle.fo_files_write.proofs.data.write_data.Goals as goal
 
 none_of : (n : ℕ) → (n == 0) ≡ true → 0 < n → ⊥
@@ -27,7 +27,7 @@ damaged_at s u at why block is = subst (λ w. Caused ⊥ (λ b. s.is_block b ⊎
 
 pub returns-in-Err-clause-alters : goal.returns-in-Err-clause-alters
 returns-in-Err-clause-alters g c =
-    alters_none (g.B.Blocks.state c.args.on.now) c.args.file.at c.args.file.slot (32 + 2 * c.args.file.number)
+    alters_none any_kind (g.B.Blocks.state c.args.on.now) c.args.file.at c.args.file.slot (32 + 2 * c.args.file.number)
 
 pub returns-in-Err-clause-keeps : goal.returns-in-Err-clause-keeps
 returns-in-Err-clause-keeps g c =
@@ -39,7 +39,7 @@ returns-in-Err-clause-file g c =
 
 pub returns-then-is_empty-clause-alters : goal.returns-then-is_empty-clause-alters
 returns-then-is_empty-clause-alters g c =
-    alters_none (g.B.Blocks.state c.args.on.now) c.args.file.at c.args.file.slot (32 + 2 * c.args.file.number)
+    alters_none any_kind (g.B.Blocks.state c.args.on.now) c.args.file.at c.args.file.slot (32 + 2 * c.args.file.number)
 
 pub returns-then-is_empty-clause-keeps : goal.returns-then-is_empty-clause-keeps
 returns-then-is_empty-clause-keeps g c =
@@ -51,19 +51,11 @@ returns-then-is_empty-clause-file g c =
 
 pub returns-in-Err-clause-stays : goal.returns-in-Err-clause-stays
 returns-in-Err-clause-stays g c =
-    λ size has. has
+    λ generation size has. has
 
 pub returns-in-Err-clause-cause : goal.returns-in-Err-clause-cause
 returns-in-Err-clause-cause g c =
     let s = g.B.Blocks.state c.args.on.now in damaged_at s s c.args.file.at c.in-Err.why c.requires.file.pair.is_one c.in-Err.ensures.damaged
-
-pub returns-then-is_empty-clause-has : goal.returns-then-is_empty-clause-has
-returns-then-is_empty-clause-has g c =
-    let s = g.B.Blocks.state c.args.on.now in
-    let f = c.args.file in
-    let x = c.in-Ok.source.ways in
-    let e = c.in-Ok.ensures in
-    subst (λ z. HasData s f z) (sym c.len.ensures) (data_at s f x.tree x.generation e.entry e.is.1 e.is.0)
 
 pub returns-then-is_empty-clause-length : goal.returns-then-is_empty-clause-length
 returns-then-is_empty-clause-length g c =
@@ -71,7 +63,8 @@ returns-then-is_empty-clause-length g c =
     let f = c.args.file in
     let x = c.in-Ok.source.ways in
     let e = c.in-Ok.ensures in
-    (x.tree.size, data_at s f x.tree x.generation e.entry e.is.1 e.is.0, λ none. c.len.ensures, λ more. absurd (none_of (length c.args.piece.now) (sym c.is_empty.ensures ∙ c.if-is_empty.true) more))
+    let has = data_at s f x.tree x.generation e.entry e.is.1 e.is.0 in
+    (x.generation, x.tree.size, has, subst (λ z. HasData s f x.generation z) (sym c.len.ensures) has, λ none. c.len.ensures, λ more. absurd (none_of (length c.args.piece.now) (sym c.is_empty.ensures ∙ c.if-is_empty.true) more))
 
 pub write_source-requires-clause-data : goal.write_source-requires-clause-data
 write_source-requires-clause-data g c =
@@ -89,21 +82,6 @@ write_source-requires-clause-within g c =
     let e = c.in-Ok.ensures in
     subst (λ z. c.args.offset + length c.args.piece.now ≤ z) (sym e.is.3) c.requires.within
 
-pub returns-clause-has : goal.returns-clause-has
-returns-clause-has g c =
-    let s = g.B.Blocks.state c.args.on.now in
-    let f = c.args.file in
-    let x = c.in-Ok.source.ways in
-    let e = c.in-Ok.ensures in
-    let u = g.B.Blocks.state c.write_source.new.on in
-    let z = c.write_source.new.source.ways in
-    let k = c.write_source.ensures in
-    let n = length c.args.piece.now in
-    let all = g.met.B.Blocks.keeps_all c.args.on.now c.write_source.new.on k.keeps in
-    let plain = k.same.0 ∙ e.is.1 in
-    let tag = k.same.1 ∙ e.is.0 in
-    has_with u f z.tree z.generation (max x.tree.size (c.args.offset + n)) c.write_source.result k.entry plain tag k.size
-
 pub returns-clause-length : goal.returns-clause-length
 returns-clause-length g c =
     let s = g.B.Blocks.state c.args.on.now in
@@ -117,7 +95,7 @@ returns-clause-length g c =
     let all = g.met.B.Blocks.keeps_all c.args.on.now c.write_source.new.on k.keeps in
     let plain = k.same.0 ∙ e.is.1 in
     let tag = k.same.1 ∙ e.is.0 in
-    long_with s f x.tree x.generation z.tree.size n c.args.offset c.write_source.result e.entry e.is.1 e.is.0 (some_of n (sym c.is_empty.ensures ∙ c.if-is_empty.false)) k.size
+    long_with s u f x.tree z.tree x.generation z.generation n c.args.offset c.write_source.result e.entry e.is.1 e.is.0 k.entry plain tag k.same.2 (some_of n (sym c.is_empty.ensures ∙ c.if-is_empty.false)) k.size
 
 pub returns-clause-stays : goal.returns-clause-stays
 returns-clause-stays g c =
@@ -132,7 +110,7 @@ returns-clause-stays g c =
     let all = g.met.B.Blocks.keeps_all c.args.on.now c.write_source.new.on k.keeps in
     let plain = k.same.0 ∙ e.is.1 in
     let tag = k.same.1 ∙ e.is.0 in
-    stays_with s u f x.tree z.tree x.generation z.generation c.write_source.result e.entry k.entry plain tag k.stays
+    stays_with s u f x.tree z.tree x.generation z.generation c.write_source.result e.entry k.entry plain tag k.same.2 k.stays
 
 pub returns-clause-file : goal.returns-clause-file
 returns-clause-file g c =
@@ -163,7 +141,26 @@ returns-clause-alters g c =
     let all = g.met.B.Blocks.keeps_all c.args.on.now c.write_source.new.on k.keeps in
     let plain = k.same.0 ∙ e.is.1 in
     let tag = k.same.1 ∙ e.is.0 in
-    subst (λ t. Alters f.at f.slot t s u) e.is.0 k.alters
+    subst (λ t. Alters f.at f.slot t any_kind s u) e.is.0 k.alters
 
 pub write_source-requires-clause-some : goal.write_source-requires-clause-some
 write_source-requires-clause-some g c = some_of (length c.args.piece.now) (sym c.is_empty.ensures ∙ c.if-is_empty.false)
+
+pub returns-then-is_empty-clause-puts : goal.returns-then-is_empty-clause-puts
+returns-then-is_empty-clause-puts g c = λ more. absurd (none_of (length c.args.piece.now) (sym c.is_empty.ensures ∙ c.if-is_empty.true) more)
+
+pub returns-clause-puts : goal.returns-clause-puts
+returns-clause-puts g c =
+    let s = g.B.Blocks.state c.args.on.now in
+    let u = g.B.Blocks.state c.write_source.new.on in
+    let f = c.args.file in
+    let n = length c.args.piece.now in
+    let k = c.write_source.ensures in
+    let e = c.in-Ok.ensures in
+    puts_since (λ b. g.B.Blocks.state b) s u f c.in-Ok.source.ways.tree.tag (32 + 2 * f.number) c.args.offset n c.write_source.result e.is.0 k.puts
+
+pub returns-in-Err-clause-nothing : goal.returns-in-Err-clause-nothing
+returns-in-Err-clause-nothing g c = alters_none is_above (g.B.Blocks.state c.args.on.now) c.args.file.at c.args.file.slot (32 + 2 * c.args.file.number)
+
+pub returns-clause-nothing : goal.returns-clause-nothing
+returns-clause-nothing g c = err_since (g.B.Blocks.state c.args.on.now) (g.B.Blocks.state c.write_source.new.on) c.args.file c.in-Ok.source.ways.tree.tag (32 + 2 * c.args.file.number) c.write_source.result c.in-Ok.ensures.is.0 c.write_source.ensures.nothing

@@ -1,7 +1,7 @@
 use Rattle.std.proofs.Common.{◌+◌, ◌%◌, ◌∙◌, length, ap, subst, arith}
 use Rattle.std.specs.Prelude.{max}
-use Rattle.fo_files_write.specs.Alters.{Alters}
-use Rattle.fo_files_write.proofs.Steps.{alters_joins}
+use Rattle.fo_files_write.specs.Alters.{Alters, any_kind}
+use Rattle.fo_files_write.proofs.Steps.{alters_joins, alters_any}
 use Rattle.fo_files_write.proofs.data.write_source.Goals as goal
 
 pub returns-in-Err-clause-same : goal.returns-in-Err-clause-same
@@ -12,7 +12,7 @@ returns-in-Err-clause-same g c =
     let y = c.ready_for.new.source.ways in
     let e = c.ready_for.ensures in
     let all = g.met.B.Blocks.keeps_all c.args.on.now c.ready_for.new.on e.keeps in
-    (e.same.0.dir, e.same.0.tag)
+    (e.same.0.dir, e.same.0.tag, e.same.1)
 
 pub returns-in-Err-clause-stays : goal.returns-in-Err-clause-stays
 returns-in-Err-clause-stays g c =
@@ -106,7 +106,7 @@ returns-clause-same g c =
     let z = c.put.new.source.ways in
     let k = c.put.ensures in
     let n = length c.args.piece.now in
-    (k.same.0 ∙ e.same.0.dir, k.same.1 ∙ e.same.0.tag)
+    (k.same.0 ∙ e.same.0.dir, k.same.1 ∙ e.same.0.tag, k.same.2 ∙ e.same.1)
 
 pub returns-clause-size : goal.returns-clause-size
 returns-clause-size g c =
@@ -134,7 +134,7 @@ returns-clause-alters g c =
     let z = c.put.new.source.ways in
     let k = c.put.ensures in
     let n = length c.args.piece.now in
-    alters_joins all e.alters (subst (λ tag. Alters c.args.file.at c.args.file.slot tag m u) e.same.0.tag k.alters)
+    alters_joins all (alters_any e.alters) (subst (λ tag. Alters c.args.file.at c.args.file.slot tag any_kind m u) e.same.0.tag k.alters)
 
 pub returns-clause-spare : goal.returns-clause-spare
 returns-clause-spare g c =
@@ -191,3 +191,27 @@ returns-clause-keeps g c =
     let k = c.put.ensures in
     let n = length c.args.piece.now in
     g.met.B.Blocks.keeps_joins c.args.on.now c.ready_for.new.on c.put.new.on e.keeps k.keeps
+
+pub returns-clause-puts : goal.returns-clause-puts
+returns-clause-puts g c =
+    let e = c.ready_for.ensures in
+    let k = c.put.ensures in (
+      c.ready_for.new.on,
+      e.alters,
+      record {
+        before = c.ready_for.new.source;
+        after = c.put.new.source;
+        entry_was = e.entry;
+        over_was = e.over;
+        prepared = c.in-Ok.ensures.prepared;
+        clear = c.in-Ok.ensures.clear;
+        entry = k.entry;
+        over = k.over;
+        form = k.form;
+        size = k.size;
+        still = k.prepared;
+      },
+    )
+
+pub returns-in-Err-clause-alters : goal.returns-in-Err-clause-alters
+returns-in-Err-clause-alters g c = alters_any c.ready_for.ensures.alters

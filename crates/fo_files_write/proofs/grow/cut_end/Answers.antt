@@ -11,7 +11,7 @@ use Rattle.fo_tree_trim.specs.Trim.{IsEndCurrent}
 use Rattle.fo_tree_trim.proofs.Along.{Aside}
 use Rattle.fo_tree_shorten.specs.Shorten.{EntryAt}
 use Rattle.fo_tree_shorten.proofs.Settling.{Settles, entry_settled, ready_settled, current_settled, over_settled}
-use Rattle.fo_files_write.specs.Alters.{Alters}
+use Rattle.fo_files_write.specs.Alters.{Alters, is_above}
 use Rattle.fo_files_write.specs.Data.{SameData}
 use Rattle.fo_files_write.proofs.Steps.{keeps_two, caused_rose, alters_joins, alters_readies, alters_rests, alters_cuts, pins_readies}
 use Rattle.fo_files_write.proofs.grow.cut_end.Given as given
@@ -92,7 +92,7 @@ cut-requires-clause-over g c =
     let q = c.settle.ensures in
     let x = settled g mid end w at j (λ told. c.requires.silent (all.still_tells.0 told)) q.keeps k.over (same.dir ∙ c.requires.data) k.entry q.rests q.known q.blocks in
     let next = g.met.B.Blocks.keeps_all mid end q.keeps in
-    let moved = alters_joins all (alters_readies s (g.B.Blocks.state k.steps.2.0) u old.tree old.generation at j k.steps.0 c.requires.entry k.steps.2.1) (alters_rests u v at j old.tree.tag q.rests q.known q.blocks q.room.0 k.entry.is_pinned) in
+    let moved = alters_joins all (alters_readies s (g.B.Blocks.state k.steps.2.0) u old.tree old.generation at j k.steps.0 c.requires.data c.requires.entry k.steps.2.1) (alters_rests is_above u v at j old.tree.tag q.rests q.known q.blocks q.room.0 k.entry.is_pinned) in
     let pins = pins_readies s (g.B.Blocks.state k.steps.2.0) u old.tree old.generation at j k.steps.0 k.steps.2.1 in
     let few = c.requires.over.hangs.few in
     over_settled x
@@ -116,7 +116,7 @@ cut-requires-clause-data g c =
     let q = c.settle.ensures in
     let x = settled g mid end w at j (λ told. c.requires.silent (all.still_tells.0 told)) q.keeps k.over (same.dir ∙ c.requires.data) k.entry q.rests q.known q.blocks in
     let next = g.met.B.Blocks.keeps_all mid end q.keeps in
-    let moved = alters_joins all (alters_readies s (g.B.Blocks.state k.steps.2.0) u old.tree old.generation at j k.steps.0 c.requires.entry k.steps.2.1) (alters_rests u v at j old.tree.tag q.rests q.known q.blocks q.room.0 k.entry.is_pinned) in
+    let moved = alters_joins all (alters_readies s (g.B.Blocks.state k.steps.2.0) u old.tree old.generation at j k.steps.0 c.requires.data c.requires.entry k.steps.2.1) (alters_rests is_above u v at j old.tree.tag q.rests q.known q.blocks q.room.0 k.entry.is_pinned) in
     let pins = pins_readies s (g.B.Blocks.state k.steps.2.0) u old.tree old.generation at j k.steps.0 k.steps.2.1 in
     let few = c.requires.over.hangs.few in
     same.dir ∙ c.requires.data
@@ -140,7 +140,7 @@ cut-requires-clause-deep g c =
     let q = c.settle.ensures in
     let x = settled g mid end w at j (λ told. c.requires.silent (all.still_tells.0 told)) q.keeps k.over (same.dir ∙ c.requires.data) k.entry q.rests q.known q.blocks in
     let next = g.met.B.Blocks.keeps_all mid end q.keeps in
-    let moved = alters_joins all (alters_readies s (g.B.Blocks.state k.steps.2.0) u old.tree old.generation at j k.steps.0 c.requires.entry k.steps.2.1) (alters_rests u v at j old.tree.tag q.rests q.known q.blocks q.room.0 k.entry.is_pinned) in
+    let moved = alters_joins all (alters_readies s (g.B.Blocks.state k.steps.2.0) u old.tree old.generation at j k.steps.0 c.requires.data c.requires.entry k.steps.2.1) (alters_rests is_above u v at j old.tree.tag q.rests q.known q.blocks q.room.0 k.entry.is_pinned) in
     let pins = pins_readies s (g.B.Blocks.state k.steps.2.0) u old.tree old.generation at j k.steps.0 k.steps.2.1 in
     let few = c.requires.over.hangs.few in
     subst (λ d. 0 < d) (sym level) c.requires.deep
@@ -164,7 +164,7 @@ cut-requires-clause-entry g c =
     let q = c.settle.ensures in
     let x = settled g mid end w at j (λ told. c.requires.silent (all.still_tells.0 told)) q.keeps k.over (same.dir ∙ c.requires.data) k.entry q.rests q.known q.blocks in
     let next = g.met.B.Blocks.keeps_all mid end q.keeps in
-    let moved = alters_joins all (alters_readies s (g.B.Blocks.state k.steps.2.0) u old.tree old.generation at j k.steps.0 c.requires.entry k.steps.2.1) (alters_rests u v at j old.tree.tag q.rests q.known q.blocks q.room.0 k.entry.is_pinned) in
+    let moved = alters_joins all (alters_readies s (g.B.Blocks.state k.steps.2.0) u old.tree old.generation at j k.steps.0 c.requires.data c.requires.entry k.steps.2.1) (alters_rests is_above u v at j old.tree.tag q.rests q.known q.blocks q.room.0 k.entry.is_pinned) in
     let pins = pins_readies s (g.B.Blocks.state k.steps.2.0) u old.tree old.generation at j k.steps.0 k.steps.2.1 in
     let few = c.requires.over.hangs.few in
     entry_settled x
@@ -188,7 +188,7 @@ cut-requires-clause-ready g c =
     let q = c.settle.ensures in
     let x = settled g mid end w at j (λ told. c.requires.silent (all.still_tells.0 told)) q.keeps k.over (same.dir ∙ c.requires.data) k.entry q.rests q.known q.blocks in
     let next = g.met.B.Blocks.keeps_all mid end q.keeps in
-    let moved = alters_joins all (alters_readies s (g.B.Blocks.state k.steps.2.0) u old.tree old.generation at j k.steps.0 c.requires.entry k.steps.2.1) (alters_rests u v at j old.tree.tag q.rests q.known q.blocks q.room.0 k.entry.is_pinned) in
+    let moved = alters_joins all (alters_readies s (g.B.Blocks.state k.steps.2.0) u old.tree old.generation at j k.steps.0 c.requires.data c.requires.entry k.steps.2.1) (alters_rests is_above u v at j old.tree.tag q.rests q.known q.blocks q.room.0 k.entry.is_pinned) in
     let pins = pins_readies s (g.B.Blocks.state k.steps.2.0) u old.tree old.generation at j k.steps.0 k.steps.2.1 in
     let few = c.requires.over.hangs.few in
     ready_settled x w.tree.depth (last_leaf w.tree.size) (omega arith) k.ready
@@ -212,7 +212,7 @@ cut-requires-clause-current g c =
     let q = c.settle.ensures in
     let x = settled g mid end w at j (λ told. c.requires.silent (all.still_tells.0 told)) q.keeps k.over (same.dir ∙ c.requires.data) k.entry q.rests q.known q.blocks in
     let next = g.met.B.Blocks.keeps_all mid end q.keeps in
-    let moved = alters_joins all (alters_readies s (g.B.Blocks.state k.steps.2.0) u old.tree old.generation at j k.steps.0 c.requires.entry k.steps.2.1) (alters_rests u v at j old.tree.tag q.rests q.known q.blocks q.room.0 k.entry.is_pinned) in
+    let moved = alters_joins all (alters_readies s (g.B.Blocks.state k.steps.2.0) u old.tree old.generation at j k.steps.0 c.requires.data c.requires.entry k.steps.2.1) (alters_rests is_above u v at j old.tree.tag q.rests q.known q.blocks q.room.0 k.entry.is_pinned) in
     let pins = pins_readies s (g.B.Blocks.state k.steps.2.0) u old.tree old.generation at j k.steps.0 k.steps.2.1 in
     let few = c.requires.over.hangs.few in
     λ deep. current_after x deep k.ready k.current
@@ -236,7 +236,7 @@ cut-requires-clause-linked g c =
     let q = c.settle.ensures in
     let x = settled g mid end w at j (λ told. c.requires.silent (all.still_tells.0 told)) q.keeps k.over (same.dir ∙ c.requires.data) k.entry q.rests q.known q.blocks in
     let next = g.met.B.Blocks.keeps_all mid end q.keeps in
-    let moved = alters_joins all (alters_readies s (g.B.Blocks.state k.steps.2.0) u old.tree old.generation at j k.steps.0 c.requires.entry k.steps.2.1) (alters_rests u v at j old.tree.tag q.rests q.known q.blocks q.room.0 k.entry.is_pinned) in
+    let moved = alters_joins all (alters_readies s (g.B.Blocks.state k.steps.2.0) u old.tree old.generation at j k.steps.0 c.requires.data c.requires.entry k.steps.2.1) (alters_rests is_above u v at j old.tree.tag q.rests q.known q.blocks q.room.0 k.entry.is_pinned) in
     let pins = pins_readies s (g.B.Blocks.state k.steps.2.0) u old.tree old.generation at j k.steps.0 k.steps.2.1 in
     let few = c.requires.over.hangs.few in
     λ told. absurd (c.requires.silent (all.still_tells.0 (next.still_tells.0 told)))
@@ -260,7 +260,7 @@ cut-requires-clause-room g c =
     let q = c.settle.ensures in
     let x = settled g mid end w at j (λ told. c.requires.silent (all.still_tells.0 told)) q.keeps k.over (same.dir ∙ c.requires.data) k.entry q.rests q.known q.blocks in
     let next = g.met.B.Blocks.keeps_all mid end q.keeps in
-    let moved = alters_joins all (alters_readies s (g.B.Blocks.state k.steps.2.0) u old.tree old.generation at j k.steps.0 c.requires.entry k.steps.2.1) (alters_rests u v at j old.tree.tag q.rests q.known q.blocks q.room.0 k.entry.is_pinned) in
+    let moved = alters_joins all (alters_readies s (g.B.Blocks.state k.steps.2.0) u old.tree old.generation at j k.steps.0 c.requires.data c.requires.entry k.steps.2.1) (alters_rests is_above u v at j old.tree.tag q.rests q.known q.blocks q.room.0 k.entry.is_pinned) in
     let pins = pins_readies s (g.B.Blocks.state k.steps.2.0) u old.tree old.generation at j k.steps.0 k.steps.2.1 in
     let few = c.requires.over.hangs.few in
     let room = c.requires.room in let first = k.room in let second = q.room.2 in omega (arith, few, level, room, first, second)
@@ -316,7 +316,7 @@ returns-in-Ok-clause-alters g c =
     let q = c.settle.ensures in
     let x = settled g mid end w at j (λ told. c.requires.silent (all.still_tells.0 told)) q.keeps k.over (same.dir ∙ c.requires.data) k.entry q.rests q.known q.blocks in
     let next = g.met.B.Blocks.keeps_all mid end q.keeps in
-    let moved = alters_joins all (alters_readies s (g.B.Blocks.state k.steps.2.0) u old.tree old.generation at j k.steps.0 c.requires.entry k.steps.2.1) (alters_rests u v at j old.tree.tag q.rests q.known q.blocks q.room.0 k.entry.is_pinned) in
+    let moved = alters_joins all (alters_readies s (g.B.Blocks.state k.steps.2.0) u old.tree old.generation at j k.steps.0 c.requires.data c.requires.entry k.steps.2.1) (alters_rests is_above u v at j old.tree.tag q.rests q.known q.blocks q.room.0 k.entry.is_pinned) in
     let pins = pins_readies s (g.B.Blocks.state k.steps.2.0) u old.tree old.generation at j k.steps.0 k.steps.2.1 in
     let few = c.requires.over.hangs.few in
     let done = c.cut.new.on in
@@ -326,7 +326,7 @@ returns-in-Ok-clause-alters g c =
     let deep = subst (λ d. 0 < d) (sym level) c.requires.deep in
     let ready = ready_settled x w.tree.depth (last_leaf w.tree.size) (omega arith) k.ready in
     let aside : Aside v z w.tree w.kept.items (last_leaf w.tree.size) (409 * w.tree.depth) = record { cuts = e.cuts; all = last; deep = deep; ready = ready; current = current_after x deep k.ready k.current } in
-    alters_joins (keeps_two all next) moved (subst (λ tag. Alters at j tag v z) same.tag (alters_cuts v z w.tree w.kept.items (last_leaf w.tree.size) (409 * w.tree.depth) w.generation at j aside (entry_settled x)))
+    alters_joins (keeps_two all next) moved (subst (λ tag. Alters at j tag is_above v z) same.tag (alters_cuts v z w.tree w.kept.items (last_leaf w.tree.size) (409 * w.tree.depth) w.generation at j x.plain aside (entry_settled x)))
 
 pub returns-in-Ok-clause-spare : goal.returns-in-Ok-clause-spare
 returns-in-Ok-clause-spare g c =
@@ -347,7 +347,7 @@ returns-in-Ok-clause-spare g c =
     let q = c.settle.ensures in
     let x = settled g mid end w at j (λ told. c.requires.silent (all.still_tells.0 told)) q.keeps k.over (same.dir ∙ c.requires.data) k.entry q.rests q.known q.blocks in
     let next = g.met.B.Blocks.keeps_all mid end q.keeps in
-    let moved = alters_joins all (alters_readies s (g.B.Blocks.state k.steps.2.0) u old.tree old.generation at j k.steps.0 c.requires.entry k.steps.2.1) (alters_rests u v at j old.tree.tag q.rests q.known q.blocks q.room.0 k.entry.is_pinned) in
+    let moved = alters_joins all (alters_readies s (g.B.Blocks.state k.steps.2.0) u old.tree old.generation at j k.steps.0 c.requires.data c.requires.entry k.steps.2.1) (alters_rests is_above u v at j old.tree.tag q.rests q.known q.blocks q.room.0 k.entry.is_pinned) in
     let pins = pins_readies s (g.B.Blocks.state k.steps.2.0) u old.tree old.generation at j k.steps.0 k.steps.2.1 in
     let few = c.requires.over.hangs.few in
     let done = c.cut.new.on in
@@ -378,7 +378,7 @@ returns-in-Ok-clause-room g c =
     let q = c.settle.ensures in
     let x = settled g mid end w at j (λ told. c.requires.silent (all.still_tells.0 told)) q.keeps k.over (same.dir ∙ c.requires.data) k.entry q.rests q.known q.blocks in
     let next = g.met.B.Blocks.keeps_all mid end q.keeps in
-    let moved = alters_joins all (alters_readies s (g.B.Blocks.state k.steps.2.0) u old.tree old.generation at j k.steps.0 c.requires.entry k.steps.2.1) (alters_rests u v at j old.tree.tag q.rests q.known q.blocks q.room.0 k.entry.is_pinned) in
+    let moved = alters_joins all (alters_readies s (g.B.Blocks.state k.steps.2.0) u old.tree old.generation at j k.steps.0 c.requires.data c.requires.entry k.steps.2.1) (alters_rests is_above u v at j old.tree.tag q.rests q.known q.blocks q.room.0 k.entry.is_pinned) in
     let pins = pins_readies s (g.B.Blocks.state k.steps.2.0) u old.tree old.generation at j k.steps.0 k.steps.2.1 in
     let few = c.requires.over.hangs.few in
     let done = c.cut.new.on in
@@ -409,7 +409,7 @@ returns-in-Ok-clause-pins g c =
     let q = c.settle.ensures in
     let x = settled g mid end w at j (λ told. c.requires.silent (all.still_tells.0 told)) q.keeps k.over (same.dir ∙ c.requires.data) k.entry q.rests q.known q.blocks in
     let next = g.met.B.Blocks.keeps_all mid end q.keeps in
-    let moved = alters_joins all (alters_readies s (g.B.Blocks.state k.steps.2.0) u old.tree old.generation at j k.steps.0 c.requires.entry k.steps.2.1) (alters_rests u v at j old.tree.tag q.rests q.known q.blocks q.room.0 k.entry.is_pinned) in
+    let moved = alters_joins all (alters_readies s (g.B.Blocks.state k.steps.2.0) u old.tree old.generation at j k.steps.0 c.requires.data c.requires.entry k.steps.2.1) (alters_rests is_above u v at j old.tree.tag q.rests q.known q.blocks q.room.0 k.entry.is_pinned) in
     let pins = pins_readies s (g.B.Blocks.state k.steps.2.0) u old.tree old.generation at j k.steps.0 k.steps.2.1 in
     let few = c.requires.over.hangs.few in
     let done = c.cut.new.on in
@@ -444,7 +444,7 @@ returns-in-Err-clause-over g c =
     let q = c.settle.ensures in
     let x = settled g mid end w at j (λ told. c.requires.silent (all.still_tells.0 told)) q.keeps k.over (same.dir ∙ c.requires.data) k.entry q.rests q.known q.blocks in
     let next = g.met.B.Blocks.keeps_all mid end q.keeps in
-    let moved = alters_joins all (alters_readies s (g.B.Blocks.state k.steps.2.0) u old.tree old.generation at j k.steps.0 c.requires.entry k.steps.2.1) (alters_rests u v at j old.tree.tag q.rests q.known q.blocks q.room.0 k.entry.is_pinned) in
+    let moved = alters_joins all (alters_readies s (g.B.Blocks.state k.steps.2.0) u old.tree old.generation at j k.steps.0 c.requires.data c.requires.entry k.steps.2.1) (alters_rests is_above u v at j old.tree.tag q.rests q.known q.blocks q.room.0 k.entry.is_pinned) in
     let pins = pins_readies s (g.B.Blocks.state k.steps.2.0) u old.tree old.generation at j k.steps.0 k.steps.2.1 in
     let few = c.requires.over.hangs.few in
     over_settled x
@@ -468,7 +468,7 @@ returns-in-Err-clause-entry g c =
     let q = c.settle.ensures in
     let x = settled g mid end w at j (λ told. c.requires.silent (all.still_tells.0 told)) q.keeps k.over (same.dir ∙ c.requires.data) k.entry q.rests q.known q.blocks in
     let next = g.met.B.Blocks.keeps_all mid end q.keeps in
-    let moved = alters_joins all (alters_readies s (g.B.Blocks.state k.steps.2.0) u old.tree old.generation at j k.steps.0 c.requires.entry k.steps.2.1) (alters_rests u v at j old.tree.tag q.rests q.known q.blocks q.room.0 k.entry.is_pinned) in
+    let moved = alters_joins all (alters_readies s (g.B.Blocks.state k.steps.2.0) u old.tree old.generation at j k.steps.0 c.requires.data c.requires.entry k.steps.2.1) (alters_rests is_above u v at j old.tree.tag q.rests q.known q.blocks q.room.0 k.entry.is_pinned) in
     let pins = pins_readies s (g.B.Blocks.state k.steps.2.0) u old.tree old.generation at j k.steps.0 k.steps.2.1 in
     let few = c.requires.over.hangs.few in
     entry_settled x
@@ -492,7 +492,7 @@ returns-in-Err-clause-alters g c =
     let q = c.settle.ensures in
     let x = settled g mid end w at j (λ told. c.requires.silent (all.still_tells.0 told)) q.keeps k.over (same.dir ∙ c.requires.data) k.entry q.rests q.known q.blocks in
     let next = g.met.B.Blocks.keeps_all mid end q.keeps in
-    let moved = alters_joins all (alters_readies s (g.B.Blocks.state k.steps.2.0) u old.tree old.generation at j k.steps.0 c.requires.entry k.steps.2.1) (alters_rests u v at j old.tree.tag q.rests q.known q.blocks q.room.0 k.entry.is_pinned) in
+    let moved = alters_joins all (alters_readies s (g.B.Blocks.state k.steps.2.0) u old.tree old.generation at j k.steps.0 c.requires.data c.requires.entry k.steps.2.1) (alters_rests is_above u v at j old.tree.tag q.rests q.known q.blocks q.room.0 k.entry.is_pinned) in
     let pins = pins_readies s (g.B.Blocks.state k.steps.2.0) u old.tree old.generation at j k.steps.0 k.steps.2.1 in
     let few = c.requires.over.hangs.few in
     moved
@@ -516,7 +516,7 @@ returns-in-Err-clause-spare g c =
     let q = c.settle.ensures in
     let x = settled g mid end w at j (λ told. c.requires.silent (all.still_tells.0 told)) q.keeps k.over (same.dir ∙ c.requires.data) k.entry q.rests q.known q.blocks in
     let next = g.met.B.Blocks.keeps_all mid end q.keeps in
-    let moved = alters_joins all (alters_readies s (g.B.Blocks.state k.steps.2.0) u old.tree old.generation at j k.steps.0 c.requires.entry k.steps.2.1) (alters_rests u v at j old.tree.tag q.rests q.known q.blocks q.room.0 k.entry.is_pinned) in
+    let moved = alters_joins all (alters_readies s (g.B.Blocks.state k.steps.2.0) u old.tree old.generation at j k.steps.0 c.requires.data c.requires.entry k.steps.2.1) (alters_rests is_above u v at j old.tree.tag q.rests q.known q.blocks q.room.0 k.entry.is_pinned) in
     let pins = pins_readies s (g.B.Blocks.state k.steps.2.0) u old.tree old.generation at j k.steps.0 k.steps.2.1 in
     let few = c.requires.over.hangs.few in
     let first = k.spare in let second = q.room.0 in omega (arith, few, first, second)
@@ -540,7 +540,7 @@ returns-in-Err-clause-room g c =
     let q = c.settle.ensures in
     let x = settled g mid end w at j (λ told. c.requires.silent (all.still_tells.0 told)) q.keeps k.over (same.dir ∙ c.requires.data) k.entry q.rests q.known q.blocks in
     let next = g.met.B.Blocks.keeps_all mid end q.keeps in
-    let moved = alters_joins all (alters_readies s (g.B.Blocks.state k.steps.2.0) u old.tree old.generation at j k.steps.0 c.requires.entry k.steps.2.1) (alters_rests u v at j old.tree.tag q.rests q.known q.blocks q.room.0 k.entry.is_pinned) in
+    let moved = alters_joins all (alters_readies s (g.B.Blocks.state k.steps.2.0) u old.tree old.generation at j k.steps.0 c.requires.data c.requires.entry k.steps.2.1) (alters_rests is_above u v at j old.tree.tag q.rests q.known q.blocks q.room.0 k.entry.is_pinned) in
     let pins = pins_readies s (g.B.Blocks.state k.steps.2.0) u old.tree old.generation at j k.steps.0 k.steps.2.1 in
     let few = c.requires.over.hangs.few in
     let first = k.room in let second = q.room.2 in omega (arith, first, second)
@@ -564,7 +564,7 @@ returns-in-Err-clause-pins g c =
     let q = c.settle.ensures in
     let x = settled g mid end w at j (λ told. c.requires.silent (all.still_tells.0 told)) q.keeps k.over (same.dir ∙ c.requires.data) k.entry q.rests q.known q.blocks in
     let next = g.met.B.Blocks.keeps_all mid end q.keeps in
-    let moved = alters_joins all (alters_readies s (g.B.Blocks.state k.steps.2.0) u old.tree old.generation at j k.steps.0 c.requires.entry k.steps.2.1) (alters_rests u v at j old.tree.tag q.rests q.known q.blocks q.room.0 k.entry.is_pinned) in
+    let moved = alters_joins all (alters_readies s (g.B.Blocks.state k.steps.2.0) u old.tree old.generation at j k.steps.0 c.requires.data c.requires.entry k.steps.2.1) (alters_rests is_above u v at j old.tree.tag q.rests q.known q.blocks q.room.0 k.entry.is_pinned) in
     let pins = pins_readies s (g.B.Blocks.state k.steps.2.0) u old.tree old.generation at j k.steps.0 k.steps.2.1 in
     let few = c.requires.over.hangs.few in
     q.room.1 ∙ pins

@@ -2,7 +2,7 @@ use Rattle.std.proofs.Common.{◌<◌, ◌∙◌, refl, ap, subst, arith}
 use Rattle.fo_tree_read.specs.declared.tree.Tree.{Tree}
 use Rattle.fo_tree_down.specs.Clear.{EndsClear}
 use Rattle.fo_tree_trim.proofs.Above.{deep_size}
-use Rattle.fo_files_write.specs.Alters.{Alters}
+use Rattle.fo_files_write.specs.Alters.{Alters, is_above}
 use Rattle.fo_files_write.proofs.Steps.{alters_none, alters_looks, alters_joins, refused_settling}
 use Rattle.fo_files_write.proofs.Ends.{entry_looks, entry_same, same_tree, same_joins, ok_under}
 use Rattle.fo_files_write.proofs.grow.trim_for.Goals as goal
@@ -17,7 +17,7 @@ returns-then-end-len-clause-clear g c =
 
 pub returns-then-end-len-clause-alters : goal.returns-then-end-len-clause-alters
 returns-then-end-len-clause-alters g c =
-    alters_none (g.B.Blocks.state c.args.on.now) c.args.at c.args.slot c.args.source.now.ways.tree.tag
+    alters_none is_above (g.B.Blocks.state c.args.on.now) c.args.at c.args.slot c.args.source.now.ways.tree.tag
 
 pub returns-then-end-len-clause-keeps : goal.returns-then-end-len-clause-keeps
 returns-then-end-len-clause-keeps g c =
@@ -32,7 +32,7 @@ returns-in-Err-clause-same g c =
     let e = c.prepare_end.ensures in
     let all = g.met.B.Blocks.keeps_all c.args.on.now c.prepare_end.new.on e.looks.1 in
     let entry = entry_same e.same.0 e.same.1 (entry_looks all e.looks.0 c.requires.entry) in
-    let looked = alters_looks s u c.args.at c.args.slot x.tree.tag e.looks.0 c.requires.entry.is_pinned in
+    let looked = alters_looks is_above s u c.args.at c.args.slot x.tree.tag e.looks.0 c.requires.entry.is_pinned in
     let spare = e.looks.0.room.0 in
     let room = e.looks.0.room.1 in
     (same_tree x.tree y.tree e.same.0, e.same.1, e.same.2)
@@ -46,7 +46,7 @@ returns-in-Err-clause-entry g c =
     let e = c.prepare_end.ensures in
     let all = g.met.B.Blocks.keeps_all c.args.on.now c.prepare_end.new.on e.looks.1 in
     let entry = entry_same e.same.0 e.same.1 (entry_looks all e.looks.0 c.requires.entry) in
-    let looked = alters_looks s u c.args.at c.args.slot x.tree.tag e.looks.0 c.requires.entry.is_pinned in
+    let looked = alters_looks is_above s u c.args.at c.args.slot x.tree.tag e.looks.0 c.requires.entry.is_pinned in
     let spare = e.looks.0.room.0 in
     let room = e.looks.0.room.1 in
     entry
@@ -60,7 +60,7 @@ returns-in-Err-clause-alters g c =
     let e = c.prepare_end.ensures in
     let all = g.met.B.Blocks.keeps_all c.args.on.now c.prepare_end.new.on e.looks.1 in
     let entry = entry_same e.same.0 e.same.1 (entry_looks all e.looks.0 c.requires.entry) in
-    let looked = alters_looks s u c.args.at c.args.slot x.tree.tag e.looks.0 c.requires.entry.is_pinned in
+    let looked = alters_looks is_above s u c.args.at c.args.slot x.tree.tag e.looks.0 c.requires.entry.is_pinned in
     let spare = e.looks.0.room.0 in
     let room = e.looks.0.room.1 in
     looked
@@ -74,7 +74,7 @@ returns-in-Err-clause-spare g c =
     let e = c.prepare_end.ensures in
     let all = g.met.B.Blocks.keeps_all c.args.on.now c.prepare_end.new.on e.looks.1 in
     let entry = entry_same e.same.0 e.same.1 (entry_looks all e.looks.0 c.requires.entry) in
-    let looked = alters_looks s u c.args.at c.args.slot x.tree.tag e.looks.0 c.requires.entry.is_pinned in
+    let looked = alters_looks is_above s u c.args.at c.args.slot x.tree.tag e.looks.0 c.requires.entry.is_pinned in
     let spare = e.looks.0.room.0 in
     let room = e.looks.0.room.1 in
     omega (arith, spare)
@@ -88,7 +88,7 @@ returns-in-Err-clause-room g c =
     let e = c.prepare_end.ensures in
     let all = g.met.B.Blocks.keeps_all c.args.on.now c.prepare_end.new.on e.looks.1 in
     let entry = entry_same e.same.0 e.same.1 (entry_looks all e.looks.0 c.requires.entry) in
-    let looked = alters_looks s u c.args.at c.args.slot x.tree.tag e.looks.0 c.requires.entry.is_pinned in
+    let looked = alters_looks is_above s u c.args.at c.args.slot x.tree.tag e.looks.0 c.requires.entry.is_pinned in
     let spare = e.looks.0.room.0 in
     let room = e.looks.0.room.1 in
     omega (arith, room)
@@ -102,7 +102,7 @@ returns-in-Err-clause-keeps g c =
     let e = c.prepare_end.ensures in
     let all = g.met.B.Blocks.keeps_all c.args.on.now c.prepare_end.new.on e.looks.1 in
     let entry = entry_same e.same.0 e.same.1 (entry_looks all e.looks.0 c.requires.entry) in
-    let looked = alters_looks s u c.args.at c.args.slot x.tree.tag e.looks.0 c.requires.entry.is_pinned in
+    let looked = alters_looks is_above s u c.args.at c.args.slot x.tree.tag e.looks.0 c.requires.entry.is_pinned in
     let spare = e.looks.0.room.0 in
     let room = e.looks.0.room.1 in
     e.looks.1
@@ -116,7 +116,7 @@ returns-then-is_clear-clause-same g c =
     let e = c.prepare_end.ensures in
     let all = g.met.B.Blocks.keeps_all c.args.on.now c.prepare_end.new.on e.looks.1 in
     let entry = entry_same e.same.0 e.same.1 (entry_looks all e.looks.0 c.requires.entry) in
-    let looked = alters_looks s u c.args.at c.args.slot x.tree.tag e.looks.0 c.requires.entry.is_pinned in
+    let looked = alters_looks is_above s u c.args.at c.args.slot x.tree.tag e.looks.0 c.requires.entry.is_pinned in
     let spare = e.looks.0.room.0 in
     let room = e.looks.0.room.1 in
     (same_tree x.tree y.tree e.same.0, e.same.1, e.same.2)
@@ -130,7 +130,7 @@ returns-then-is_clear-clause-entry g c =
     let e = c.prepare_end.ensures in
     let all = g.met.B.Blocks.keeps_all c.args.on.now c.prepare_end.new.on e.looks.1 in
     let entry = entry_same e.same.0 e.same.1 (entry_looks all e.looks.0 c.requires.entry) in
-    let looked = alters_looks s u c.args.at c.args.slot x.tree.tag e.looks.0 c.requires.entry.is_pinned in
+    let looked = alters_looks is_above s u c.args.at c.args.slot x.tree.tag e.looks.0 c.requires.entry.is_pinned in
     let spare = e.looks.0.room.0 in
     let room = e.looks.0.room.1 in
     entry
@@ -144,7 +144,7 @@ returns-then-is_clear-clause-alters g c =
     let e = c.prepare_end.ensures in
     let all = g.met.B.Blocks.keeps_all c.args.on.now c.prepare_end.new.on e.looks.1 in
     let entry = entry_same e.same.0 e.same.1 (entry_looks all e.looks.0 c.requires.entry) in
-    let looked = alters_looks s u c.args.at c.args.slot x.tree.tag e.looks.0 c.requires.entry.is_pinned in
+    let looked = alters_looks is_above s u c.args.at c.args.slot x.tree.tag e.looks.0 c.requires.entry.is_pinned in
     let spare = e.looks.0.room.0 in
     let room = e.looks.0.room.1 in
     looked
@@ -158,7 +158,7 @@ returns-then-is_clear-clause-spare g c =
     let e = c.prepare_end.ensures in
     let all = g.met.B.Blocks.keeps_all c.args.on.now c.prepare_end.new.on e.looks.1 in
     let entry = entry_same e.same.0 e.same.1 (entry_looks all e.looks.0 c.requires.entry) in
-    let looked = alters_looks s u c.args.at c.args.slot x.tree.tag e.looks.0 c.requires.entry.is_pinned in
+    let looked = alters_looks is_above s u c.args.at c.args.slot x.tree.tag e.looks.0 c.requires.entry.is_pinned in
     let spare = e.looks.0.room.0 in
     let room = e.looks.0.room.1 in
     omega (arith, spare)
@@ -172,7 +172,7 @@ returns-then-is_clear-clause-room g c =
     let e = c.prepare_end.ensures in
     let all = g.met.B.Blocks.keeps_all c.args.on.now c.prepare_end.new.on e.looks.1 in
     let entry = entry_same e.same.0 e.same.1 (entry_looks all e.looks.0 c.requires.entry) in
-    let looked = alters_looks s u c.args.at c.args.slot x.tree.tag e.looks.0 c.requires.entry.is_pinned in
+    let looked = alters_looks is_above s u c.args.at c.args.slot x.tree.tag e.looks.0 c.requires.entry.is_pinned in
     let spare = e.looks.0.room.0 in
     let room = e.looks.0.room.1 in
     omega (arith, room)
@@ -186,7 +186,7 @@ returns-then-is_clear-clause-keeps g c =
     let e = c.prepare_end.ensures in
     let all = g.met.B.Blocks.keeps_all c.args.on.now c.prepare_end.new.on e.looks.1 in
     let entry = entry_same e.same.0 e.same.1 (entry_looks all e.looks.0 c.requires.entry) in
-    let looked = alters_looks s u c.args.at c.args.slot x.tree.tag e.looks.0 c.requires.entry.is_pinned in
+    let looked = alters_looks is_above s u c.args.at c.args.slot x.tree.tag e.looks.0 c.requires.entry.is_pinned in
     let spare = e.looks.0.room.0 in
     let room = e.looks.0.room.1 in
     e.looks.1
@@ -204,7 +204,7 @@ cut_end-requires-clause-silent g c =
     let e = c.prepare_end.ensures in
     let all = g.met.B.Blocks.keeps_all c.args.on.now c.prepare_end.new.on e.looks.1 in
     let entry = entry_same e.same.0 e.same.1 (entry_looks all e.looks.0 c.requires.entry) in
-    let looked = alters_looks s u c.args.at c.args.slot x.tree.tag e.looks.0 c.requires.entry.is_pinned in
+    let looked = alters_looks is_above s u c.args.at c.args.slot x.tree.tag e.looks.0 c.requires.entry.is_pinned in
     let spare = e.looks.0.room.0 in
     let room = e.looks.0.room.1 in
     λ told. c.requires.silent (all.still_tells.0 told)
@@ -218,7 +218,7 @@ cut_end-requires-clause-data g c =
     let e = c.prepare_end.ensures in
     let all = g.met.B.Blocks.keeps_all c.args.on.now c.prepare_end.new.on e.looks.1 in
     let entry = entry_same e.same.0 e.same.1 (entry_looks all e.looks.0 c.requires.entry) in
-    let looked = alters_looks s u c.args.at c.args.slot x.tree.tag e.looks.0 c.requires.entry.is_pinned in
+    let looked = alters_looks is_above s u c.args.at c.args.slot x.tree.tag e.looks.0 c.requires.entry.is_pinned in
     let spare = e.looks.0.room.0 in
     let room = e.looks.0.room.1 in
     ap (λ (t : Tree). t.dir) e.same.0 ∙ c.requires.data
@@ -236,7 +236,7 @@ cut_end-requires-clause-entry g c =
     let e = c.prepare_end.ensures in
     let all = g.met.B.Blocks.keeps_all c.args.on.now c.prepare_end.new.on e.looks.1 in
     let entry = entry_same e.same.0 e.same.1 (entry_looks all e.looks.0 c.requires.entry) in
-    let looked = alters_looks s u c.args.at c.args.slot x.tree.tag e.looks.0 c.requires.entry.is_pinned in
+    let looked = alters_looks is_above s u c.args.at c.args.slot x.tree.tag e.looks.0 c.requires.entry.is_pinned in
     let spare = e.looks.0.room.0 in
     let room = e.looks.0.room.1 in
     entry
@@ -250,7 +250,7 @@ cut_end-requires-clause-ready g c =
     let e = c.prepare_end.ensures in
     let all = g.met.B.Blocks.keeps_all c.args.on.now c.prepare_end.new.on e.looks.1 in
     let entry = entry_same e.same.0 e.same.1 (entry_looks all e.looks.0 c.requires.entry) in
-    let looked = alters_looks s u c.args.at c.args.slot x.tree.tag e.looks.0 c.requires.entry.is_pinned in
+    let looked = alters_looks is_above s u c.args.at c.args.slot x.tree.tag e.looks.0 c.requires.entry.is_pinned in
     let spare = e.looks.0.room.0 in
     let room = e.looks.0.room.1 in
     let over = e.over in
@@ -266,7 +266,7 @@ cut_end-requires-clause-spare g c =
     let e = c.prepare_end.ensures in
     let all = g.met.B.Blocks.keeps_all c.args.on.now c.prepare_end.new.on e.looks.1 in
     let entry = entry_same e.same.0 e.same.1 (entry_looks all e.looks.0 c.requires.entry) in
-    let looked = alters_looks s u c.args.at c.args.slot x.tree.tag e.looks.0 c.requires.entry.is_pinned in
+    let looked = alters_looks is_above s u c.args.at c.args.slot x.tree.tag e.looks.0 c.requires.entry.is_pinned in
     let spare = e.looks.0.room.0 in
     let room = e.looks.0.room.1 in
     let few = c.requires.spare in omega (arith, spare, few)
@@ -280,7 +280,7 @@ cut_end-requires-clause-room g c =
     let e = c.prepare_end.ensures in
     let all = g.met.B.Blocks.keeps_all c.args.on.now c.prepare_end.new.on e.looks.1 in
     let entry = entry_same e.same.0 e.same.1 (entry_looks all e.looks.0 c.requires.entry) in
-    let looked = alters_looks s u c.args.at c.args.slot x.tree.tag e.looks.0 c.requires.entry.is_pinned in
+    let looked = alters_looks is_above s u c.args.at c.args.slot x.tree.tag e.looks.0 c.requires.entry.is_pinned in
     let spare = e.looks.0.room.0 in
     let room = e.looks.0.room.1 in
     let few = c.requires.room in omega (arith, room, few)
@@ -294,7 +294,7 @@ returns-clause-same g c =
     let e = c.prepare_end.ensures in
     let all = g.met.B.Blocks.keeps_all c.args.on.now c.prepare_end.new.on e.looks.1 in
     let entry = entry_same e.same.0 e.same.1 (entry_looks all e.looks.0 c.requires.entry) in
-    let looked = alters_looks s u c.args.at c.args.slot x.tree.tag e.looks.0 c.requires.entry.is_pinned in
+    let looked = alters_looks is_above s u c.args.at c.args.slot x.tree.tag e.looks.0 c.requires.entry.is_pinned in
     let spare = e.looks.0.room.0 in
     let room = e.looks.0.room.1 in
     let z = g.B.Blocks.state c.cut_end.new.on in
@@ -311,7 +311,7 @@ returns-clause-clear g c =
     let e = c.prepare_end.ensures in
     let all = g.met.B.Blocks.keeps_all c.args.on.now c.prepare_end.new.on e.looks.1 in
     let entry = entry_same e.same.0 e.same.1 (entry_looks all e.looks.0 c.requires.entry) in
-    let looked = alters_looks s u c.args.at c.args.slot x.tree.tag e.looks.0 c.requires.entry.is_pinned in
+    let looked = alters_looks is_above s u c.args.at c.args.slot x.tree.tag e.looks.0 c.requires.entry.is_pinned in
     let spare = e.looks.0.room.0 in
     let room = e.looks.0.room.1 in
     let z = g.B.Blocks.state c.cut_end.new.on in
@@ -328,13 +328,13 @@ returns-clause-alters g c =
     let e = c.prepare_end.ensures in
     let all = g.met.B.Blocks.keeps_all c.args.on.now c.prepare_end.new.on e.looks.1 in
     let entry = entry_same e.same.0 e.same.1 (entry_looks all e.looks.0 c.requires.entry) in
-    let looked = alters_looks s u c.args.at c.args.slot x.tree.tag e.looks.0 c.requires.entry.is_pinned in
+    let looked = alters_looks is_above s u c.args.at c.args.slot x.tree.tag e.looks.0 c.requires.entry.is_pinned in
     let spare = e.looks.0.room.0 in
     let room = e.looks.0.room.1 in
     let z = g.B.Blocks.state c.cut_end.new.on in
     let k = c.cut_end.ensures in
     let t = c.cut_end.new.ways in
-    alters_joins all looked (subst (λ tag. Alters c.args.at c.args.slot tag u z) (ap (λ (q : Tree). q.tag) e.same.0) k.alters)
+    alters_joins all looked (subst (λ tag. Alters c.args.at c.args.slot tag is_above u z) (ap (λ (q : Tree). q.tag) e.same.0) k.alters)
 
 pub returns-clause-spare : goal.returns-clause-spare
 returns-clause-spare g c =
@@ -345,7 +345,7 @@ returns-clause-spare g c =
     let e = c.prepare_end.ensures in
     let all = g.met.B.Blocks.keeps_all c.args.on.now c.prepare_end.new.on e.looks.1 in
     let entry = entry_same e.same.0 e.same.1 (entry_looks all e.looks.0 c.requires.entry) in
-    let looked = alters_looks s u c.args.at c.args.slot x.tree.tag e.looks.0 c.requires.entry.is_pinned in
+    let looked = alters_looks is_above s u c.args.at c.args.slot x.tree.tag e.looks.0 c.requires.entry.is_pinned in
     let spare = e.looks.0.room.0 in
     let room = e.looks.0.room.1 in
     let z = g.B.Blocks.state c.cut_end.new.on in
@@ -362,7 +362,7 @@ returns-clause-room g c =
     let e = c.prepare_end.ensures in
     let all = g.met.B.Blocks.keeps_all c.args.on.now c.prepare_end.new.on e.looks.1 in
     let entry = entry_same e.same.0 e.same.1 (entry_looks all e.looks.0 c.requires.entry) in
-    let looked = alters_looks s u c.args.at c.args.slot x.tree.tag e.looks.0 c.requires.entry.is_pinned in
+    let looked = alters_looks is_above s u c.args.at c.args.slot x.tree.tag e.looks.0 c.requires.entry.is_pinned in
     let spare = e.looks.0.room.0 in
     let room = e.looks.0.room.1 in
     let z = g.B.Blocks.state c.cut_end.new.on in
@@ -379,7 +379,7 @@ returns-clause-pins g c =
     let e = c.prepare_end.ensures in
     let all = g.met.B.Blocks.keeps_all c.args.on.now c.prepare_end.new.on e.looks.1 in
     let entry = entry_same e.same.0 e.same.1 (entry_looks all e.looks.0 c.requires.entry) in
-    let looked = alters_looks s u c.args.at c.args.slot x.tree.tag e.looks.0 c.requires.entry.is_pinned in
+    let looked = alters_looks is_above s u c.args.at c.args.slot x.tree.tag e.looks.0 c.requires.entry.is_pinned in
     let spare = e.looks.0.room.0 in
     let room = e.looks.0.room.1 in
     let z = g.B.Blocks.state c.cut_end.new.on in
@@ -396,7 +396,7 @@ returns-clause-keeps g c =
     let e = c.prepare_end.ensures in
     let all = g.met.B.Blocks.keeps_all c.args.on.now c.prepare_end.new.on e.looks.1 in
     let entry = entry_same e.same.0 e.same.1 (entry_looks all e.looks.0 c.requires.entry) in
-    let looked = alters_looks s u c.args.at c.args.slot x.tree.tag e.looks.0 c.requires.entry.is_pinned in
+    let looked = alters_looks is_above s u c.args.at c.args.slot x.tree.tag e.looks.0 c.requires.entry.is_pinned in
     let spare = e.looks.0.room.0 in
     let room = e.looks.0.room.1 in
     let z = g.B.Blocks.state c.cut_end.new.on in
@@ -413,7 +413,7 @@ returns-clause-cause g c =
     let e = c.prepare_end.ensures in
     let all = g.met.B.Blocks.keeps_all c.args.on.now c.prepare_end.new.on e.looks.1 in
     let entry = entry_same e.same.0 e.same.1 (entry_looks all e.looks.0 c.requires.entry) in
-    let looked = alters_looks s u c.args.at c.args.slot x.tree.tag e.looks.0 c.requires.entry.is_pinned in
+    let looked = alters_looks is_above s u c.args.at c.args.slot x.tree.tag e.looks.0 c.requires.entry.is_pinned in
     let spare = e.looks.0.room.0 in
     let room = e.looks.0.room.1 in
     let z = g.B.Blocks.state c.cut_end.new.on in

@@ -5,8 +5,9 @@ use Rattle.fo_tree_read.specs.Tree.{kind_at}
 use Rattle.fo_tree_look.specs.Source.{HasBlock}
 use Rattle.fo_tree_link.specs.Link.{entry_of}
 use Rattle.fo_tree_shorten.proofs.Entries.{entry_put}
+use Rattle.fo_files_write.specs.Alters.{any_kind}
 use Rattle.fo_files_write.proofs.Steps.{alters_moves}
-use Rattle.fo_files_write.proofs.Ends.{most_few, wrote_of, use_same, top_other, cost_few, no_levels, tag_same, dir_same}
+use Rattle.fo_files_write.proofs.Ends.{most_few, wrote_of, use_same, top_other, cost_few, no_levels, tag_same, dir_same, generation_same, prepared_linked}
 use Rattle.fo_files_write.proofs.put.put.Goals as goal
 
 none_of : (rank : ℕ) → rank % 32 ≡ 0 → rank % 32 ≡ 16 → ⊥
@@ -140,7 +141,7 @@ returns-clause-same g c =
     let e = c.write.ensures in
     let all = g.met.B.Blocks.keeps_all c.args.on.now c.write.new.on e.changes.1 in
     let w = wrote_of s m x y c.args.offset n c.args.at c.args.slot all r.over r.entry r.some r.prepared e.over.0 e.over.1 (e.size.1 r.some) e.grows e.changes.0 in
-    (dir_same w, tag_same w)
+    (dir_same w, tag_same w, generation_same w)
 
 pub returns-clause-size : goal.returns-clause-size
 returns-clause-size g c =
@@ -185,7 +186,7 @@ returns-clause-alters g c =
     let u = g.B.Blocks.state c.link.new.on in
     let k = c.link.ensures in
     let more = g.met.B.Blocks.keeps_all c.write.new.on c.link.new.on k.keeps in
-    alters_moves c.args.at c.args.slot s m u x.ways.tree x.ways.generation (Head (entry_of y.ways.tree y.ways.generation)) (HasBlock s x.ways.tree) (HasBlock s x.ways.tree) r.entry (record {
+    alters_moves any_kind c.args.at c.args.slot s m u x.ways.tree x.ways.generation (Head (entry_of y.ways.tree y.ways.generation)) (HasBlock s x.ways.tree) (HasBlock s x.ways.tree) (λ b own. tt) r.entry (record {
       changes = e.changes.0;
       puts = k.now;
       here = _;
@@ -253,3 +254,19 @@ returns-clause-pins g c =
 pub returns-clause-keeps : goal.returns-clause-keeps
 returns-clause-keeps g c =
     g.met.B.Blocks.keeps_joins c.args.on.now c.write.new.on c.link.new.on c.write.ensures.changes.1 c.link.ensures.keeps
+
+pub returns-clause-prepared : goal.returns-clause-prepared
+returns-clause-prepared g c =
+    let s = g.B.Blocks.state c.args.on.now in
+    let m = g.B.Blocks.state c.write.new.on in
+    let x = c.args.source.now in
+    let y = c.write.new.self in
+    let n = length c.args.piece.now in
+    let r = c.requires in
+    let e = c.write.ensures in
+    let all = g.met.B.Blocks.keeps_all c.args.on.now c.write.new.on e.changes.1 in
+    let w = wrote_of s m x y c.args.offset n c.args.at c.args.slot all r.over r.entry r.some r.prepared e.over.0 e.over.1 (e.size.1 r.some) e.grows e.changes.0 in
+    let u = g.B.Blocks.state c.link.new.on in
+    let k = c.link.ensures in
+    let more = g.met.B.Blocks.keeps_all c.write.new.on c.link.new.on k.keeps in
+    prepared_linked m u y x.ways.tree.tag c.args.offset n c.args.at more w.entry.apart (tag_same w) k.ready w.prepared

@@ -1,6 +1,7 @@
 use Rattle.std.proofs.Common.{◌+◌, ◌<◌, ◌≤◌, ◌∙◌, sym, subst, arith}
 use Rattle.fo_tree_read.specs.declared.tree.Tree.{Tree}
 use Rattle.fo_tree_down.specs.Clear.{EndsClear}
+use Rattle.fo_files_write.specs.Alters.{is_above}
 use Rattle.fo_files_write.proofs.Steps.{alters_looks, alters_joins, refused_since}
 use Rattle.fo_files_write.proofs.Ends.{entry_looks, entry_same, same_tree, same_joins, ok_of}
 use Rattle.fo_files_write.proofs.put.ready_for.Goals as goal
@@ -107,7 +108,7 @@ returns-clause-alters g c =
     let z = c.prepare_piece.new.source.ways in
     let k = c.prepare_piece.ensures in
     let more = g.met.B.Blocks.keeps_all c.trim_for.new.on c.prepare_piece.new.on k.looks.1 in
-    alters_joins all e.alters (alters_looks m u c.args.at c.args.slot x.tree.tag k.looks.0 e.entry.is_pinned)
+    alters_joins all e.alters (alters_looks is_above m u c.args.at c.args.slot x.tree.tag k.looks.0 e.entry.is_pinned)
 
 pub returns-clause-spare : goal.returns-clause-spare
 returns-clause-spare g c =
