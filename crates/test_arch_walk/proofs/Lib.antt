@@ -1,1 +1,1 @@
-pub mod Gets
+pub mod Quieting

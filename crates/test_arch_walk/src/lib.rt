@@ -1,16 +1,14 @@
-//! Tests of the archiver (`fo_arch`) over whole trees, which are read from blocks that nothing changes.
+//! Tests of the archiver (`fo_arch`) over whole trees, which are read from a cache over a disk in memory.
 //!
-//! `StillBlocks` are blocks of bytes in memory that tell nothing, of which each is read as its kind. Trees are made by hand from
-//! docs/FORMATS.md; the scores of their archives, and how many places these take, are from another program.
+//! Disks are made by hand from docs/FORMATS.md, byte by byte; the scores of their archives, and how many places these take, are from another
+//! program.
 #![tactic(auto)]
 
-mod calls;
 #[cfg(test)]
 mod deep;
+#[cfg(test)]
+mod disks;
 #[cfg(test)]
 mod made;
 #[cfg(test)]
 mod small;
-mod still;
-
-pub use still::StillBlocks;

@@ -1,15 +1,14 @@
-//! Batches of an archive, one after another, and an arena for it.
-ghost use Rattle.std.specs.Prelude.{◌≡◌, ◌≤◌};
+//! Batches of an archive, one after another.
+ghost use Rattle.std.specs.Prelude.{◌≡◌, ◌≤◌, IfOk};
 ghost use Rattle.fo_arch.specs.Archive.{IsOf};
 
-use crate::still::StillBlocks;
 use fo_arch::Archive;
 use fo_arch_hash::{Batch, hash_here};
-use fo_disk::{BLOCK, Disk, MemDisk};
+use fo_devices::Devices;
+use fo_disk::Disk;
 use fo_image::Score;
 use fo_ports::BlockError;
 use std::alloc::Global;
-use std::test::Fail;
 use venti_store::Arena;
 
 /// What comes of a batch.
@@ -25,31 +24,8 @@ pub(crate) enum Next {
     Refused,
 }
 
-/// An empty arena of 16 blocks.
-pub(crate) fn arena(alloc: Global) -> Result<Arena<MemDisk>, Fail> {
-    let mut disk = MemDisk::new(alloc, 16, Vec::new(alloc))?;
-    let mut head = [0; BLOCK];
-    head[..8].copy_from_slice(b"FSARENA1");
-    head[11] = 16;
-    if 0 < disk.blocks()? {
-        disk.write(0, &head)?;
-    }
-    disk.sync()?;
-    match Arena::open(alloc, disk) {
-        Ok(arena) => Ok(arena),
-        Err(refused) => Err(Fail::from(refused.why)),
-    }
-}
-
-/// Gives bytes of blocks these values, by block and place.
-pub(crate) fn put_all(on: &mut StillBlocks, rows: &[(u32, usize, &[u8])]) {
-    for (at, place, bytes) in rows {
-        on.put(*at, *place, bytes);
-    }
-}
-
 /// Stores a batch of an archive, if it isn't empty.
-fn stored(alloc: Global, archive: &mut Archive, arena: &mut Arena<MemDisk>, batch: Batch) -> Next
+fn stored<A: Disk>(alloc: Global, archive: &mut Archive, arena: &mut Arena<A>, batch: Batch) -> Next
     requires { IsOf archive.old batch }
     ensures { archive.new.root ≡ archive.old.root }
 {
@@ -65,39 +41,53 @@ fn stored(alloc: Global, archive: &mut Archive, arena: &mut Arena<MemDisk>, batc
     }
 }
 
-/// Reads a batch of at most `n` blocks, and stores it.
-pub(crate) fn step(
+/// Reads a batch of at most `n` blocks.
+fn batch<D: Disk, A: Disk>(
+    on: &mut Devices<D, A>,
+    archive: &Archive,
+    n: usize,
+) -> Result<Batch, BlockError>
+    requires root { archive.now.root ≡ 3 }
+    requires some { 1 ≤ n }
+    ensures { IfOk result (IsOf archive.now) }
+{
+    if !on.cache.mind.is_block(3) {
+        return Err(BlockError::Memory);
+    }
+    archive.batch(on, n)
+}
+
+/// Reads a batch of at most `n` blocks, and stores it in the arena beside them.
+pub(crate) fn step<D: Disk, A: Disk>(
     alloc: Global,
-    on: &mut StillBlocks,
+    on: &mut Devices<D, A>,
     archive: &mut Archive,
-    arena: &mut Arena<MemDisk>,
     n: usize,
 ) -> Next
-    requires root { archive.old.root ≡ 2 }
+    requires root { archive.old.root ≡ 3 }
     requires some { 1 ≤ n }
-    ensures { archive.new.root ≡ 2 }
+    ensures { archive.new.root ≡ 3 }
 {
-    match archive.batch(on, n) {
-        Ok(batch) => stored(alloc, archive, arena, batch),
+    match batch(on, archive, n) {
+        Ok(batch) => stored(alloc, archive, &mut on.arena, batch),
         Err(BlockError::Damaged(at)) => Next::Damaged(at),
         Err(_) => Next::Refused,
     }
 }
 
 /// Stores batches of at most `n` blocks, until one isn't stored; at most 40.
-pub(crate) fn run(
+pub(crate) fn run<D: Disk, A: Disk>(
     alloc: Global,
-    on: &mut StillBlocks,
+    on: &mut Devices<D, A>,
     archive: &mut Archive,
-    arena: &mut Arena<MemDisk>,
     n: usize,
 ) -> Next
-    requires root { archive.old.root ≡ 2 }
+    requires root { archive.old.root ≡ 3 }
     requires some { 1 ≤ n }
-    ensures { archive.new.root ≡ 2 }
+    ensures { archive.new.root ≡ 3 }
 {
     for _ in 0..40 {
-        let next = step(alloc, on, archive, arena, n);
+        let next = step(alloc, on, archive, n);
         if next != Next::Stored {
             return next;
         }
@@ -106,18 +96,17 @@ pub(crate) fn run(
 }
 
 /// The score of an archive, once all is stored in batches of at most `n` blocks.
-pub(crate) fn archived(
+pub(crate) fn archived<D: Disk, A: Disk>(
     alloc: Global,
-    on: &mut StillBlocks,
-    arena: &mut Arena<MemDisk>,
+    on: &mut Devices<D, A>,
     mut archive: Archive,
     n: usize,
 ) -> Option<Score>
-    requires root { archive.root ≡ 2 }
+    requires root { archive.root ≡ 3 }
     requires some { 1 ≤ n }
 {
-    if run(alloc, on, &mut archive, arena, n) != Next::Whole || !archive.is_whole() {
+    if run(alloc, on, &mut archive, n) != Next::Whole || !archive.is_whole() {
         return None;
     }
-    archive.finish(arena).ok()
+    archive.finish(&mut on.arena).ok()
 }
