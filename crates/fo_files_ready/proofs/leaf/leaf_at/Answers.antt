@@ -1,0 +1,34 @@
+use Rattle.std.proofs.Common.{subst}
+use Rattle.fo_files_leaf.specs.declared.open.LeafOf.{LeafOf}
+use Rattle.fo_files_leaf.specs.Leaf.{Readied}
+use Rattle.fo_files_change.proofs.Records.{records_ready}
+use Rattle.fo_files_ready.proofs.Steps.{wanted_holder, wanted_is, wanted_alters, wanted_own, unchanged}
+use Rattle.fo_files_ready.proofs.leaf.leaf_at.Goals as goal
+
+pub own_few-requires-clause-holder : goal.own_few-requires-clause-holder
+own_few-requires-clause-holder g c = wanted_holder (g.B.Blocks.state c.args.on.now) c.args.dir c.args.i c.in-Some.wanted c.in-Some.ensures.is c.requires.dir
+
+pub own_few-requires-clause-wanted : goal.own_few-requires-clause-wanted
+own_few-requires-clause-wanted g c = wanted_is (g.B.Blocks.state c.args.on.now) c.args.dir c.args.i c.in-Some.wanted c.in-Some.ensures.is c.requires.dir
+
+pub returns-in_default-clause-alters : goal.returns-in_default-clause-alters
+returns-in_default-clause-alters g c = unchanged (g.B.Blocks.state c.args.on.now) c.args.dir
+
+pub returns-in-Ok-clause-own : goal.returns-in-Ok-clause-own
+returns-in-Ok-clause-own g c = wanted_own (g.B.Blocks.state c.own_few.new.on) c.args.dir c.args.i c.in-Ok.leaf c.in-Some.wanted c.in-Some.ensures.is c.in-Ok.ensures.own
+
+pub returns-in-Ok-clause-leaf : goal.returns-in-Ok-clause-leaf
+returns-in-Ok-clause-leaf g c =
+    let all = g.met.B.Blocks.keeps_all c.args.on.now c.own_few.new.on c.own_few.ensures.keeps in
+    records_ready _ c.in-Ok.leaf (λ h. c.requires.silent (all.still_tells.0 h)) (λ h. g.met.B.Blocks.covers_told c.own_few.new.on c.in-Ok.leaf h) (wanted_own (g.B.Blocks.state c.own_few.new.on) c.args.dir c.args.i c.in-Ok.leaf c.in-Some.wanted c.in-Some.ensures.is c.in-Ok.ensures.own)
+
+pub returns-in-Ok-clause-readied : goal.returns-in-Ok-clause-readied
+returns-in-Ok-clause-readied g c =
+    let r = c.in-Ok.ensures.readied in
+    (r.0, subst (λ (w : LeafOf). Readied (g.B.Blocks.state c.args.on.now) (g.B.Blocks.state r.0) (g.B.Blocks.state c.own_few.new.on) w c.in-Ok.leaf) c.in-Some.ensures.is r.1)
+
+pub returns-in-Ok-clause-alters : goal.returns-in-Ok-clause-alters
+returns-in-Ok-clause-alters g c = wanted_alters (g.B.Blocks.state c.args.on.now) (g.B.Blocks.state c.own_few.new.on) c.args.dir c.args.i c.in-Some.wanted c.in-Some.ensures.is c.own_few.ensures.alters
+
+pub returns-in-Err-clause-alters : goal.returns-in-Err-clause-alters
+returns-in-Err-clause-alters g c = wanted_alters (g.B.Blocks.state c.args.on.now) (g.B.Blocks.state c.own_few.new.on) c.args.dir c.args.i c.in-Some.wanted c.in-Some.ensures.is c.own_few.ensures.alters

@@ -1,0 +1,28 @@
+use Rattle.fo_files_leaf.proofs.Altering.{alters_joins}
+use Rattle.fo_files_change.proofs.Records.{dir_readied}
+use Rattle.fo_files_ready.proofs.Steps.{failed_since}
+use Rattle.fo_files_ready.proofs.leaf.spare_leaf.Goals as goal
+
+pub leaf_at-requires-clause-silent : goal.leaf_at-requires-clause-silent
+leaf_at-requires-clause-silent g c = λ h. c.requires.silent ((g.met.B.Blocks.keeps_all c.args.on.now c.trim_for.new.on c.trim_for.ensures.keeps).still_tells.0 h)
+
+pub leaf_at-requires-clause-dir : goal.leaf_at-requires-clause-dir
+leaf_at-requires-clause-dir g c = dir_readied c.args.dir (g.met.B.Blocks.keeps_all c.args.on.now c.trim_for.new.on c.trim_for.ensures.keeps) c.trim_for.ensures.alters c.requires.dir
+
+pub returns-in-Ok-leaf_at-clause-readied : goal.returns-in-Ok-leaf_at-clause-readied
+returns-in-Ok-leaf_at-clause-readied g c = let r = c.in-Ok-leaf_at.ensures.readied in (c.trim_for.new.on, r.0, c.trim_for.ensures.alters, r.1)
+
+pub returns-in-Ok-leaf_at-clause-alters : goal.returns-in-Ok-leaf_at-clause-alters
+returns-in-Ok-leaf_at-clause-alters g c = alters_joins (g.met.B.Blocks.keeps_all c.args.on.now c.trim_for.new.on c.trim_for.ensures.keeps) c.trim_for.ensures.alters c.leaf_at.ensures.alters
+
+pub returns-in-Err-leaf_at-clause-alters : goal.returns-in-Err-leaf_at-clause-alters
+returns-in-Err-leaf_at-clause-alters g c = alters_joins (g.met.B.Blocks.keeps_all c.args.on.now c.trim_for.new.on c.trim_for.ensures.keeps) c.trim_for.ensures.alters c.leaf_at.ensures.alters
+
+pub returns-in-Err-leaf_at-clause-cause : goal.returns-in-Err-leaf_at-clause-cause
+returns-in-Err-leaf_at-clause-cause g c = failed_since (g.B.Blocks.state c.args.on.now) (g.B.Blocks.state c.trim_for.new.on) (g.B.Blocks.state c.leaf_at.new.on) (g.met.B.Blocks.keeps_all c.args.on.now c.trim_for.new.on c.trim_for.ensures.keeps) (g.met.B.Blocks.keeps_all c.trim_for.new.on c.leaf_at.new.on c.leaf_at.ensures.keeps) c.in-Err-leaf_at.why c.in-Err-leaf_at.ensures.cause
+
+pub returns-in-Ok-leaf_at-clause-keeps : goal.returns-in-Ok-leaf_at-clause-keeps
+returns-in-Ok-leaf_at-clause-keeps g c = g.met.B.Blocks.keeps_joins c.args.on.now c.trim_for.new.on c.leaf_at.new.on c.trim_for.ensures.keeps c.leaf_at.ensures.keeps
+
+pub returns-in-Err-leaf_at-clause-keeps : goal.returns-in-Err-leaf_at-clause-keeps
+returns-in-Err-leaf_at-clause-keeps g c = g.met.B.Blocks.keeps_joins c.args.on.now c.trim_for.new.on c.leaf_at.new.on c.trim_for.ensures.keeps c.leaf_at.ensures.keeps

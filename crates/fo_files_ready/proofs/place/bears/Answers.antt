@@ -1,0 +1,6 @@
+use Rattle.std.proofs.Common.{sym}
+use Rattle.fo_dir_put.proofs.Leaves.{leaf_long}
+use Rattle.fo_files_ready.proofs.place.bears.Goals as goal
+
+pub copy_from_slice-requires : goal.copy_from_slice-requires
+copy_from_slice-requires c = sym (leaf_long c.requires)

@@ -1,0 +1,47 @@
+-- A leaf of records in which a record may change.
+use Rattle.std.specs.Prelude.{◌≡◌, ◌⊎◌, ◌+◌, ◌*◌, ℕ, List, false}
+use Rattle.fo_image.specs.declared.record.Record.{Record}
+use Rattle.fo_meta.specs.Leaf.{IsLeaf}
+use Rattle.fo_ports.specs.State.{State, Looks}
+use Rattle.fo_dir_change.specs.Changes.{Bears, BearsNot, IsTooLong}
+use Rattle.fo_files_dir.specs.declared.dir.DirAt.{DirAt}
+use Rattle.fo_files_leaf.specs.Leaf.{IsOwnLeaf, Readied}
+use Rattle.fo_files_record.specs.Leaf.{IsRecordsAt}
+use Rattle.fo_files_record.specs.Stays.{Rewrites, no_slot}
+use Rattle.fo_files_move.specs.Moves.{HasMoved}
+use Rattle.fo_files_change.specs.Records.{AltersRecords, records_of}
+
+-- A leaf has a record of this name, and room for another in its place.
+pub record HasPlace (name : List ℕ) (named : Record) (bytes : List ℕ) : Type 0 where
+  pub bears : Bears name bytes
+  pub fits : IsTooLong name named bytes → ⊥
+
+-- A leaf has no record of this name, and room for one.
+pub record HasRoom (name : List ℕ) (named : Record) (bytes : List ℕ) : Type 0 where
+  pub leaf : IsLeaf bytes
+  pub bears_not : BearsNot name bytes
+  pub fits : IsTooLong name named bytes → ⊥
+
+-- a leaf of a directory's records that may be changed
+abbrev pub IsLeafOf : DirAt → State → ℕ → Type 0
+IsLeafOf d s leaf = IsOwnLeaf s (33 + 2 * d.number) false leaf
+
+-- Such a leaf has a record of this name, and room for another in its place.
+pub record IsReadyFor (s : State) (d : DirAt) (leaf : ℕ) (name : List ℕ) (named : Record) : Type 0 where
+  pub own : IsLeafOf d s leaf
+  pub records : IsRecordsAt s leaf
+  pub place : HasPlace name named ((s.now leaf).bytes)
+
+-- Leaf i of a directory's records was made ready, up to the third of these states; from there on all was looked at.
+pub record Stands (s a m u : State) (d : DirAt) (i leaf : ℕ) : Type 0 where
+  pub ready : Readied s a m (records_of d i) leaf
+  pub looks : Looks m u
+
+-- Leaf i was made ready, and then another, after the records were trimmed; and then the record of this name moved from the one to the other.
+pub record Goes (s a m n b c e u : State) (d : DirAt) (i spare from leaf : ℕ) (name : List ℕ) : Type 0 where
+  pub ready : Readied s a m (records_of d i) from
+  pub trimmed : AltersRecords d m n
+  pub spare_ready : Readied n b c (records_of d spare) leaf
+  pub looks : Looks c e
+  pub moved : HasMoved name ((m.now from).bytes) ((c.now leaf).bytes) ((u.now from).bytes) ((u.now leaf).bytes)
+  pub stays : Rewrites (λ x. (x ≡ from) ⊎ (x ≡ leaf)) no_slot e u
