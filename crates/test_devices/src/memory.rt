@@ -53,7 +53,9 @@ fn comes_back(cache: &mut Cache<Zeros>) -> bool
 /// Whether memory comes back in a new cache.
 fn works(alloc: Global) -> Result<bool, Memory> {
     let mut cache = small(alloc)?;
-    Ok(comes_back(&mut cache))
+    let back = comes_back(&mut cache);
+    let _ = cache.close();
+    Ok(back)
 }
 
 /// A block that was changed is given up by the turn that settles it.
