@@ -58,9 +58,9 @@ fn works(alloc: Global) -> Result<bool, Memory> {
     Ok(back)
 }
 
-/// A block that was changed is given up by the turn that settles it.
+/// With ample memory a block that was changed is given up by the turn that settles it.
 #[test]
-fn settled(rt: HostRuntime) -> Result<(), Fail> {
+fn ample(rt: HostRuntime) -> Result<(), Fail> {
     assert!(rt; works(rt.alloc())?);
     Ok(())
 }
