@@ -1,5 +1,5 @@
 -- What the steps that set a length leave of all blocks.
-use Rattle.std.proofs.Common.{◌≡◌, ◌*◌, ℕ, List, inl, inr, ⊎_elim, sym, ◌∙◌, ap, subst, arith}
+use Rattle.std.proofs.Common.{◌≡◌, ◌*◌, ℕ, List, false, inl, inr, ⊎_elim, sym, ◌∙◌, ap, subst, arith}
 use Rattle.fo_image.specs.declared.types.Label.{Label}
 use Rattle.fo_crash.specs.declared.slot.Slot.TheVariants.{Entry as Head}
 use Rattle.fo_ports.specs.State.{State}
@@ -14,14 +14,14 @@ use Rattle.fo_tree_append.proofs.Joining.{rises_changes}
 use Rattle.fo_tree_shorten.specs.Shorten.{EntryAt, Links}
 use Rattle.fo_tree_set.specs.Set.{CutsSettled, MayTrim, ShortensBy, LengthensBy, SetsBy}
 use Rattle.fo_tree_set.proofs.Lengths.{shape_trims}
-use Rattle.fo_files_write.specs.Alters.{Alters}
-use Rattle.fo_files_write.proofs.Steps.{keeps_two, alters_none, alters_joins, alters_readies, alters_rests, alters_cuts, alters_moves}
+use Rattle.fo_files_write.specs.Alters.{Alters, any_kind}
+use Rattle.fo_files_write.proofs.Steps.{keeps_two, alters_none, alters_joins, alters_readies, alters_rests, alters_cuts, alters_moves, alters_any}
 
 none_made : (s u : State) → ((b : ℕ) → u.label b ≡ s.label b) → (b : ℕ) → Made s u b → ⊥
 none_made s u same b made = made.0 (ap (λ (z : Label). z.state) (sym (same b)) ∙ made.1)
 
 -- a link
-pub alters_links : (s u : State) (t : Tree) (tag generation at j : ℕ) → Links s u t generation at j → Alters at j tag s u
+pub alters_links : (s u : State) (t : Tree) (tag generation at j : ℕ) → Links s u t generation at j → Alters at j tag any_kind s u
 alters_links s u t tag generation at j x =
     let same : (b : ℕ) → u.label b ≡ s.label b = λ b. x.frame.stays.labels b (λ n. n) in
     record {
@@ -37,38 +37,38 @@ alters_links s u t tag generation at j x =
     }
 
 -- a cut
-cuts_settled : (v w : State) (t : Tree) (kept : List Kept) (generation at j : ℕ) → CutsSettled v w t kept generation at j → Alters at j t.tag v w
-cuts_settled v w t kept generation at j x =
+cuts_settled : (v w : State) (t : Tree) (kept : List Kept) (generation at j : ℕ) → t.dir ≡ false → CutsSettled v w t kept generation at j → Alters at j t.tag any_kind v w
+cuts_settled v w t kept generation at j plain x =
     let aside : Aside v w t kept (last_leaf t.size) (409 * t.depth) = record { cuts = x.cuts; all = x.all; deep = x.deep; ready = x.ready; current = x.current x.deep } in
-    alters_cuts v w t kept (last_leaf t.size) (409 * t.depth) generation at j aside x.entry
+    alters_any (alters_cuts v w t kept (last_leaf t.size) (409 * t.depth) generation at j plain aside x.entry)
 
 -- what trims a source
-pub alters_trims : (B : Type 0) (state : B → State) (old new : B) (t now : Tree) (kept : List Kept) (generation at j : ℕ) → EntryAt (state old) t generation at j → MayTrim B state old new t now kept generation at j → Alters at j t.tag (state old) (state new)
-alters_trims B state old new t now kept generation at j entry x = ⊎_elim
-    (λ none. subst (λ y. Alters at j t.tag (state old) (state y)) (sym none.0) (alters_none (state old) at j t.tag))
+pub alters_trims : (B : Type 0) (state : B → State) (old new : B) (t now : Tree) (kept : List Kept) (generation at j : ℕ) → t.dir ≡ false → EntryAt (state old) t generation at j → MayTrim B state old new t now kept generation at j → Alters at j t.tag any_kind (state old) (state new)
+alters_trims B state old new t now kept generation at j plain entry x = ⊎_elim
+    (λ none. subst (λ y. Alters at j t.tag any_kind (state old) (state y)) (sym none.0) (alters_none any_kind (state old) at j t.tag))
     (λ x.
     let r = x.rested in
-    let both : Alters at j t.tag (state old) (state x.rest) = alters_joins r.kept
-    (alters_readies (state old) (state x.own) (state x.put) t generation at j x.top entry r.ready)
-    (alters_rests (state x.put) (state x.rest) at j t.tag r.rests r.known r.blocks r.units.0 r.entry.is_pinned) in
+    let both : Alters at j t.tag any_kind (state old) (state x.rest) = alters_joins r.kept
+    (alters_any (alters_readies (state old) (state x.own) (state x.put) t generation at j x.top plain entry r.ready))
+    (alters_rests any_kind (state x.put) (state x.rest) at j t.tag r.rests r.known r.blocks r.units.0 r.entry.is_pinned) in
     ⊎_elim
-    (λ same. subst (λ y. Alters at j t.tag (state old) (state y)) (sym same) both)
-    (λ c. alters_joins (keeps_two r.kept r.settled) both (subst (λ tag. Alters at j tag (state x.rest) (state new)) (ap (λ (y : Tree). y.tag) x.is) (cuts_settled (state x.rest) (state new) now kept generation at j c)))
+    (λ same. subst (λ y. Alters at j t.tag any_kind (state old) (state y)) (sym same) both)
+    (λ c. alters_joins (keeps_two r.kept r.settled) both (subst (λ tag. Alters at j tag any_kind (state x.rest) (state new)) (ap (λ (y : Tree). y.tag) x.is) (cuts_settled (state x.rest) (state new) now kept generation at j (ap (λ (y : Tree). y.dir) x.is ∙ plain) c)))
     x.cut)
     x
 
-shortens : (B : Type 0) (state : B → State) (old new : B) (t now : Tree) (kept : List Kept) (generation at j len : ℕ) → ShortensBy B state old new t now kept generation at j len → Alters at j t.tag (state old) (state new)
-shortens B state old new t now kept generation at j len x =
-    alters_joins x.all (alters_links (state old) (state x.put) _ t.tag generation at j x.links) (alters_trims B state x.put new _ now kept generation at j x.entry x.trims)
+shortens : (B : Type 0) (state : B → State) (old new : B) (t now : Tree) (kept : List Kept) (generation at j len : ℕ) → t.dir ≡ false → ShortensBy B state old new t now kept generation at j len → Alters at j t.tag any_kind (state old) (state new)
+shortens B state old new t now kept generation at j len plain x =
+    alters_joins x.all (alters_links (state old) (state x.put) _ t.tag generation at j x.links) (alters_trims B state x.put new _ now kept generation at j plain x.entry x.trims)
 
-lengthens : (B : Type 0) (state : B → State) (old new : B) (t now : Tree) (kept : List Kept) (generation at j len : ℕ) → EntryAt (state old) t generation at j → LengthensBy B state old new t now kept generation at j len → Alters at j t.tag (state old) (state new)
-lengthens B state old new t now kept generation at j len entry x =
-    let first = alters_trims B state old x.middle t x.tree kept generation at j entry x.trims in
+lengthens : (B : Type 0) (state : B → State) (old new : B) (t now : Tree) (kept : List Kept) (generation at j len : ℕ) → t.dir ≡ false → EntryAt (state old) t generation at j → LengthensBy B state old new t now kept generation at j len → Alters at j t.tag any_kind (state old) (state new)
+lengthens B state old new t now kept generation at j len plain entry x =
+    let first = alters_trims B state old x.middle t x.tree kept generation at j plain entry x.trims in
     ⊎_elim
-    (λ none. subst (λ y. Alters at j t.tag (state old) (state y)) (sym none.0) first)
+    (λ none. subst (λ y. Alters at j t.tag any_kind (state old) (state y)) (sym none.0) first)
     (λ g.
     let m = state x.middle in
-    let next : Alters at j x.tree.tag m (state new) = alters_moves at j m (state g.grown) (state new) x.tree generation (Head (entry_of now generation)) (HasBlock m x.tree) (HasBlock m x.tree) x.entry (record {
+    let next : Alters at j x.tree.tag any_kind m (state new) = alters_moves any_kind at j m (state g.grown) (state new) x.tree generation (Head (entry_of now generation)) (HasBlock m x.tree) (HasBlock m x.tree) (λ b own. tt) x.entry (record {
       changes = rises_changes g.grows.rises;
       puts = g.links.now;
       here = _;
@@ -78,14 +78,14 @@ lengthens B state old new t now kept generation at j len entry x =
       order = g.links.order;
       no_wait = g.links.no_wait;
     }) in
-    alters_joins x.all first (subst (λ tag. Alters at j tag m (state new)) (shape_trims B state old x.middle t x.tree kept generation at j x.trims).tag next))
+    alters_joins x.all first (subst (λ tag. Alters at j tag any_kind m (state new)) (shape_trims B state old x.middle t x.tree kept generation at j x.trims).tag next))
     x.grows
 
-pub alters_sets : (B : Type 0) (state : B → State) (old new : B) (t now : Tree) (kept : List Kept) (generation at j len : ℕ) → EntryAt (state old) t generation at j → SetsBy B state old new t now kept generation at j len → Alters at j t.tag (state old) (state new)
-alters_sets B state old new t now kept generation at j len entry x = ⊎_elim
-    (λ none. subst (λ y. Alters at j t.tag (state old) (state y)) (sym none.0) (alters_none (state old) at j t.tag))
+pub alters_sets : (B : Type 0) (state : B → State) (old new : B) (t now : Tree) (kept : List Kept) (generation at j len : ℕ) → t.dir ≡ false → EntryAt (state old) t generation at j → SetsBy B state old new t now kept generation at j len → Alters at j t.tag any_kind (state old) (state new)
+alters_sets B state old new t now kept generation at j len plain entry x = ⊎_elim
+    (λ none. subst (λ y. Alters at j t.tag any_kind (state old) (state y)) (sym none.0) (alters_none any_kind (state old) at j t.tag))
     (λ some. ⊎_elim
-    (λ less. shortens B state old new t now kept generation at j len less)
-    (λ more. lengthens B state old new t now kept generation at j len entry more)
+    (λ less. shortens B state old new t now kept generation at j len plain less)
+    (λ more. lengthens B state old new t now kept generation at j len plain entry more)
     some)
     x

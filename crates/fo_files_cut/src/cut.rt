@@ -8,7 +8,7 @@ ghost use Rattle.fo_tree_down.specs.Clear.{last_leaf};
 ghost use Rattle.fo_tree_shorten.specs.Shorten.{EntryAt};
 ghost use Rattle.fo_tree_set.specs.Set.{SameForm, SetsBy};
 ghost use Rattle.fo_files_dir.specs.Dir.{IsFileAt};
-ghost use Rattle.fo_files_write.specs.Alters.{Alters};
+ghost use Rattle.fo_files_write.specs.Alters.{Alters, any_kind};
 ghost use Rattle.fo_files_write.specs.Data.{HasData};
 ghost use Rattle.fo_files_cut.specs.declared.error.CutError.TheVariants.{TooBig};
 ghost use Rattle.fo_files_cut.specs.Cut.{IsData, KeepsUse, CutsBy, CutCaused};
@@ -35,12 +35,12 @@ pub fn cut_data<B: Blocks>(
     requires spare { 9 ≤ (B.state on.old).spare }
     requires room { 3273 ≤ (B.state on.old).room }
     ensures too_big { (2 ^ 40 < len → result ≡ Err TooBig) × (result ≡ Err TooBig → 2 ^ 40 < len) }
-    ensures length { IfOk result (λ n. (n ≡ len) × HasData (B.state on.new) file len) }
-    ensures stays { IfErr result (λ why. (size : ℕ) → HasData (B.state on.old) file size → HasData (B.state on.new) file size) }
+    ensures length { IfOk result (λ n. (n ≡ len) × ((generation : ℕ) × HasData (B.state on.new) file generation len)) }
+    ensures stays { IfErr result (λ why. (generation size : ℕ) → HasData (B.state on.old) file generation size → HasData (B.state on.new) file generation size) }
     ensures uses { KeepsUse (B.state on.old) (B.state on.new) file.at file.slot }
     ensures cuts { (on.new ≡ on.old) ⊎ CutsBy B B.state on.old on.new file len }
     ensures file { IsFileAt (B.state on.new) file }
-    ensures alters { Alters file.at file.slot (32 + 2 * file.number) (B.state on.old) (B.state on.new) }
+    ensures alters { Alters file.at file.slot (32 + 2 * file.number) any_kind (B.state on.old) (B.state on.new) }
     ensures spare { (B.state on.old).spare ≤ (B.state on.new).spare + 9 }
     ensures room { (B.state on.old).room ≤ (B.state on.new).room + 3273 }
     ensures pins { (B.state on.old).pins_left ≤ (B.state on.new).pins_left + 15 }
@@ -81,7 +81,7 @@ fn set_data<B: Blocks>(
     ensures stays { IfErr result (λ why. ways.new.tree.size ≡ ways.old.tree.size) }
     ensures entry { EntryAt (B.state on.new) ways.new.tree ways.new.generation file.at file.slot }
     ensures cuts { CutsBy B B.state on.old on.new file len }
-    ensures alters { Alters file.at file.slot ways.old.tree.tag (B.state on.old) (B.state on.new) }
+    ensures alters { Alters file.at file.slot ways.old.tree.tag any_kind (B.state on.old) (B.state on.new) }
     ensures spare { (B.state on.old).spare ≤ (B.state on.new).spare + 9 }
     ensures room { (B.state on.old).room ≤ (B.state on.new).room + 3273 }
     ensures pins { (B.state on.old).pins_left ≤ (B.state on.new).pins_left + 15 }

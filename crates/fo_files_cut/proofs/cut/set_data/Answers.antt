@@ -1,6 +1,6 @@
-use Rattle.std.proofs.Common.{ap, subst}
+use Rattle.std.proofs.Common.{ap, subst, ◌∙◌}
 use Rattle.fo_tree_read.specs.declared.tree.Tree.{Tree}
-use Rattle.fo_files_write.specs.Alters.{Alters}
+use Rattle.fo_files_write.specs.Alters.{Alters, any_kind}
 use Rattle.fo_files_write.proofs.Steps.{alters_joins, alters_looks}
 use Rattle.fo_files_write.proofs.Ends.{entry_looks, entry_same}
 use Rattle.fo_files_cut.proofs.Sets.{alters_sets}
@@ -19,6 +19,6 @@ returns-clause-alters g c =
     let k = c.prepare_end.ensures in
     let all = g.met.B.Blocks.keeps_all first mid k.looks.1 in
     let entry = entry_same k.same.0 k.same.1 (entry_looks all k.looks.0 c.requires.entry) in
-    let looked = alters_looks s m c.args.file.at c.args.file.slot old.tree.tag k.looks.0 c.requires.entry.is_pinned in
-    let set = alters_sets g.row.B.Denot g.B.Blocks.state mid end w.tree c.set_ready.new.ways.tree w.kept.items w.generation c.args.file.at c.args.file.slot c.args.len entry c.set_ready.ensures.sets in
-    alters_joins all looked (subst (λ tag. Alters c.args.file.at c.args.file.slot tag m u) (ap (λ (t : Tree). t.tag) k.same.0) set)
+    let looked = alters_looks any_kind s m c.args.file.at c.args.file.slot old.tree.tag k.looks.0 c.requires.entry.is_pinned in
+    let set = alters_sets g.row.B.Denot g.B.Blocks.state mid end w.tree c.set_ready.new.ways.tree w.kept.items w.generation c.args.file.at c.args.file.slot c.args.len (ap (λ (t : Tree). t.dir) k.same.0 ∙ c.requires.data.0) entry c.set_ready.ensures.sets in
+    alters_joins all looked (subst (λ tag. Alters c.args.file.at c.args.file.slot tag any_kind m u) (ap (λ (t : Tree). t.tag) k.same.0) set)
