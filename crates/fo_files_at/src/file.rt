@@ -35,7 +35,7 @@ pub const ENTRIES_LIMIT: u64 = 1 << 38;
 
 pub const RECORDS_LIMIT: u64 = 1 << 40;
 
-pub const DATA_LIMIT: u64 = 1 << 47;
+pub const DATA_LIMIT: u64 = 1 << 40;
 
 /// How many pairs a leaf of entries has.
 pub const PAIRS: u32 = 102;
@@ -136,7 +136,7 @@ pub fn records_of<B: Blocks>(alloc: Global, on: &B, dir: &File) -> Result<Source
 pub fn data_of<B: Blocks>(alloc: Global, on: &B, file: &File) -> Result<Source, BlockError>
     requires holds { FileHolds (B.state on.now) file.now }
     requires silent { (B.state on.now).tells → ⊥ }
-    ensures is { IfOk result (λ s. IsSource file.now.first (tag_for file.now.named.number false) (file.now.rank - 8) (2 ^ 47) s × (file.now.first.dir ≡ false) × (file.now.named.number < 2 ^ 30)) }
+    ensures is { IfOk result (λ s. IsSource file.now.first (tag_for file.now.named.number false) (file.now.rank - 8) (2 ^ 40) s × (file.now.first.dir ≡ false) × (file.now.named.number < 2 ^ 30)) }
     ensures over { IfOk result (λ s. Over (B.state on.now) s.ways.tree s.ways.kept.items s.ways.limit) }
     ensures damaged { IfErr result (λ e. e ≡ Damaged file.now.leaf) }
 {

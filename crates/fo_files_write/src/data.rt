@@ -26,7 +26,7 @@ pub fn write_data<B: Blocks>(
 ) -> Result<u64, BlockError>
     requires silent { (B.state on.old).tells → ⊥ }
     requires file { IsFileAt (B.state on.old) file }
-    requires within { offset + length piece.now ≤ 2 ^ 47 }
+    requires within { offset + length piece.now ≤ 2 ^ 40 }
     requires pins { most_of (length piece.now) + 15 ≤ (B.state on.old).pins_left }
     requires spare { most_of (length piece.now) + 4 ≤ (B.state on.old).spare }
     requires room { 1637 ≤ (B.state on.old).room }

@@ -17,7 +17,7 @@ use std::alloc::Global;
 /// How many ranks the leaves of a file's data are below the leaf of entries that has its entry, and how long it may get.
 const DATA_BELOW: u32 = 8;
 
-const DATA_LIMIT: u64 = 1 << 47;
+const DATA_LIMIT: u64 = 1 << 40;
 
 /// The tag of a file's data; None where the number is none.
 fn tag_of(number: u32) -> Option<u32>
@@ -63,7 +63,7 @@ pub(crate) fn opened<B: Blocks>(alloc: Global, on: &B, file: FileAt) -> Result<S
     requires file { IsFileAt (B.state on.now) file }
     ensures entry { IfOk result (λ x. EntryAt (B.state on.now) x.ways.tree x.ways.generation file.at file.slot) }
     ensures over { IfOk result (λ x. Over (B.state on.now) x.ways.tree x.ways.kept.items x.ways.limit) }
-    ensures is { IfOk result (λ x. (x.ways.tree.tag ≡ 32 + 2 * file.number) × (x.ways.tree.dir ≡ false) × (x.ways.tree.rank + 8 ≡ file.rank) × (x.ways.limit ≡ 2 ^ 47)) }
+    ensures is { IfOk result (λ x. (x.ways.tree.tag ≡ 32 + 2 * file.number) × (x.ways.tree.dir ≡ false) × (x.ways.tree.rank + 8 ≡ file.rank) × (x.ways.limit ≡ 2 ^ 40)) }
     ensures damaged { IfErr result (λ e. e ≡ Damaged file.at) }
 {
     let tag = match tag_beside(on, file) {

@@ -156,8 +156,9 @@ pub trait Blocks {
         ensures covers { (state self.old).tells → Covers (IsPointers (state self.old)) (((state self.old).now at).slot i) (state self.old).now (state self.new).now (state self.old).covered (state self.new).covered }
         ensures keeps { keeps self.old self.new };
 
-    /// Clears a slot: at once, or, of a leaf of entries, when block `after` is settled with what it has now or later. An image with
-    /// the cleared slot has that block's bytes as they are now. What the slot named is queued to be closed.
+    /// Clears a slot: at once, or, of a leaf of entries, when block `after` is settled with what it has now or later; it waits wherever
+    /// that block is dirty, and linked. An image with the cleared slot has that block's bytes as they are now. What the slot named is
+    /// queued to be closed.
     fn remove_slot(&mut self, at: u32, i: u32, after: Option<u32>)
         requires pinned { (state self.old).pinned at }
         requires current { ((state self.old).label at).epoch ≡ (state self.old).high }
@@ -172,6 +173,7 @@ pub trait Blocks {
         ensures hangs { Hangs at i (cleared (((state self.old).now at).slot i)) (state self.old) (state self.new) }
         ensures order { (b j : ℕ) → ((state self.new).clearing b j → (state self.old).clearing b j ⊎ ((b ≡ at) × (j ≡ i))) × ((state self.old).clearing b j → (state self.new).clearing b j) }
         ensures no_wait { AddsNoWait none (state self.old) (state self.new) }
+        ensures later { IfSome after (λ leaf. (state self.old).dirty leaf → ((state self.old).newborn leaf → ⊥) → (state self.new).clearing at i) }
         ensures queues { ((state self.old).queued ≤ (state self.new).queued) × ((c : ℕ) → target (((state self.old).now at).slot i) ≡ Local c → (state self.new).clearing at i ⊎ QueuesOne (state self.old) (state self.new)) }
         ensures covers { (state self.old).tells → Covers (IsPointers (state self.old)) (((state self.old).now at).slot i) (state self.old).now (state self.new).now (state self.old).covered (state self.new).covered }
         ensures keeps { keeps self.old self.new };
@@ -214,7 +216,7 @@ pub trait Blocks {
         requires apart { (state self.old).tells → (y x : ℕ) → (state self.old).instead y x → IsDoomed (state self.old) x → ⊥ }
         ensures room { OnOk result ((blocks ≤ (state self.new).spare) × (pins ≤ (state self.new).pins_left) × (removals ≤ (state self.new).room)) }
         ensures rests { Rests (state self.old) (state self.new) }
-        ensures cause { IfErr result (Caused (IsFull (state self.new) blocks) (λ b. (state self.old).tells → ⊥) (Rose (state self.old).faults (state self.new).faults) ⊥) }
+        ensures cause { IfErr result (Caused (IsFull (state self.new) blocks) (λ b. ⊥) (Rose (state self.old).faults (state self.new).faults) ⊥) }
         ensures keeps { keeps self.old self.new };
 
     /// Whether this block hung from block 1 when all was settled.
