@@ -10,7 +10,7 @@ ghost use Rattle.fo_dir_put.specs.Paired.{AllPaired};
 ghost use Rattle.fo_dir_put.specs.Puts.{IsOwnedEntries, IsOwnedRecords, IsInPlace, IsUnused, IsNewEntry, StaysCalm};
 ghost use Rattle.fo_dir_put.specs.There.{IsThere};
 ghost use Rattle.fo_crash.specs.Images.{Reaches, to_block};
-ghost use Rattle.fo_ports.specs.State.{IsDoomed};
+ghost use Rattle.fo_ports.specs.State.{AddsNoWait, IsDoomed};
 ghost use Rattle.fo_dir_add.specs.Adds.{HasAdded, IsFullFor, IsAlone, AddsAlone};
 
 use fo_dir_put::add_name;
@@ -51,6 +51,7 @@ pub fn add_record<B: Blocks>(
     ensures bytes { result ≡ true → (b : ℕ) → b ≢ leaf → ((B.state on.new).now b).bytes ≡ ((B.state on.old).now b).bytes }
     ensures slots { result ≡ true → (b j : ℕ) → (b ≢ entries) ⊎ ((j ≢ 2 * p) × (j ≢ 2 * p + 1)) → ((B.state on.new).now b).slot j ≡ ((B.state on.old).now b).slot j }
     ensures calm { result ≡ true → StaysCalm (B.state on.old) (B.state on.new) }
+    ensures waits { result ≡ true → (B.state on.new).waits leaf entries (2 * p) × (B.state on.new).waits leaf entries (2 * p + 1) × AddsNoWait (λ a. a ≡ leaf) (B.state on.old) (B.state on.new) }
     ensures room { result ≡ true → (B.state on.new).room + 1 ≡ (B.state on.old).room }
     ensures keeps { B.keeps on.old on.new }
 {

@@ -5,6 +5,7 @@ ghost use Rattle.fo_image.specs.declared.record.Record.{Record};
 ghost use Rattle.fo_image.specs.Record.{RecordHolds};
 ghost use Rattle.fo_crash.specs.declared.slot.Slot.TheVariants.{Entry as Head};
 ghost use Rattle.fo_meta.specs.Leaf.{IsLeaf};
+ghost use Rattle.fo_ports.specs.State.{AddsNoWait};
 ghost use Rattle.fo_world.specs.Step.{is_dir_mode};
 ghost use Rattle.fo_good.specs.Trees.{IsFirst, IsSecond};
 ghost use Rattle.fo_dir_put.specs.Names.{AllApart};
@@ -104,6 +105,7 @@ pub fn add_new<B: Blocks>(
     ensures bytes { result ≡ Outcome.Added → (b : ℕ) → b ≢ leaf → ((B.state on.new).now b).bytes ≡ ((B.state on.old).now b).bytes }
     ensures slots { result ≡ Outcome.Added → (b j : ℕ) → (b ≢ entries) ⊎ ((j ≢ 2 * p) × (j ≢ 2 * p + 1)) → ((B.state on.new).now b).slot j ≡ ((B.state on.old).now b).slot j }
     ensures calm { result ≡ Outcome.Added → StaysCalm (B.state on.old) (B.state on.new) }
+    ensures waits { result ≡ Outcome.Added → (B.state on.new).waits leaf entries (2 * p) × (B.state on.new).waits leaf entries (2 * p + 1) × AddsNoWait (λ a. a ≡ leaf) (B.state on.old) (B.state on.new) }
     ensures room { result ≡ Outcome.Added → (B.state on.new).room + 1 ≡ (B.state on.old).room }
     ensures keeps { B.keeps on.old on.new }
 {

@@ -4,7 +4,7 @@ ghost use Rattle.fo_meta.specs.Leaf.{IsLeaf};
 ghost use Rattle.fo_dir_put.specs.Names.{AllFit, AllApart, LeavesRest};
 ghost use Rattle.fo_dir_put.specs.Differ.{AllDiffer};
 ghost use Rattle.fo_dir_put.specs.Paired.{AllPaired};
-ghost use Rattle.fo_dir_put.specs.Puts.{IsOwnedRecords, StaysCalm};
+ghost use Rattle.fo_dir_put.specs.Puts.{IsOwnedRecords, QueuesNone, StaysCalm};
 ghost use Rattle.fo_dir_change.specs.Changes.{Bears, BearsNot, HasTaken};
 
 use fo_dir_put::change_leaf;
@@ -26,6 +26,7 @@ pub fn take_record<B: Blocks>(on: &mut B, leaf: u32, name: &[u8], bytes: &mut [u
     ensures slots { (b j : ℕ) → ((B.state on.new).now b).slot j ≡ ((B.state on.old).now b).slot j }
     ensures others { result ≡ true → LeavesRest leaf (B.state on.old).may_leave (B.state on.new).may_leave }
     ensures calm { result ≡ true → StaysCalm (B.state on.old) (B.state on.new) }
+    ensures queues { result ≡ true → QueuesNone (B.state on.old) (B.state on.new) }
     ensures room { (B.state on.new).room ≡ (B.state on.old).room }
     ensures keeps { B.keeps on.old on.new }
 {

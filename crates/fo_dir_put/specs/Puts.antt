@@ -57,6 +57,12 @@ pub record StaysCalm (old new : State) : Type 0 where
   pub passes : (new.moments ≡ old.moments) × ((k : ℕ) (image : Image) → new.left k image → old.left k image)
   pub numbers : KeepsNumbers old new
 
+-- No removal is queued, no leaf begins to wait, and no block becomes newborn.
+pub record QueuesNone (old new : State) : Type 0 where
+  pub queued : new.queued ≡ old.queued
+  pub no_wait : AddsNoWait none old new
+  pub newborn : (b : ℕ) → new.newborn b → old.newborn b
+
 -- In memory these two entries are put, and all else stays.
 pub record PutsPair (at p : ℕ) (first second : Entry) (old new : State) : Type 0 where
   pub bytes : (b : ℕ) → (new.now b).bytes ≡ (old.now b).bytes

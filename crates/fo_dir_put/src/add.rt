@@ -1,9 +1,10 @@
 //! A name is added, and its entry cleared.
-ghost use Rattle.std.specs.Prelude.{◌≡◌, ◌≢◌, ◌⊎◌, ◌+◌, ◌*◌, ◌/◌, ◌<◌, ℕ, List, true};
-ghost use Rattle.fo_crash.specs.Images.{Reaches, to_block};
+ghost use Rattle.std.specs.Prelude.{◌≡◌, ◌≢◌, ◌⊎◌, ◌+◌, ◌*◌, ◌/◌, ◌<◌, ◌≤◌, ℕ, List, true};
+ghost use Rattle.fo_image.specs.declared.types.Pointer.TheVariants.{Local};
+ghost use Rattle.fo_crash.specs.Images.{Reaches, target, to_block};
 ghost use Rattle.fo_crash.specs.Steps.{Covers, HasBytes, cleared};
 ghost use Rattle.fo_meta.specs.Leaf.{IsLeaf};
-ghost use Rattle.fo_ports.specs.State.{IsDoomed, IsPointers};
+ghost use Rattle.fo_ports.specs.State.{AddsNoWait, IsDoomed, IsPointers, QueuesOne};
 ghost use Rattle.fo_dir_put.specs.Names.{ListsIn, AllFit, AddsOne, Lacks, AllApart, MayStand, ShowsBut, ShowsBytes};
 ghost use Rattle.fo_dir_put.specs.Differ.{AllDiffer, MayName};
 ghost use Rattle.fo_dir_put.specs.Paired.{AllPaired, AddsPaired, IsUnnamed};
@@ -43,6 +44,7 @@ pub fn add_name<B: Blocks>(
     ensures others { ShowsBut leaf (B.state on.old).may_leave (B.state on.new).may_leave }
     ensures there { (B.state on.old).tells → (b : ℕ) → (B.state on.old).sealed b → (IsDoomed (B.state on.old) b → ⊥) → Reaches (B.state on.old).now (to_block 1) b → IsThere (B.state on.new) b }
     ensures calm { StaysCalm (B.state on.old) (B.state on.new) }
+    ensures waits { (B.state on.new).waits leaf entries (2 * p) × (B.state on.new).waits leaf entries (2 * p + 1) × AddsNoWait (λ a. a ≡ leaf) (B.state on.old) (B.state on.new) }
     ensures room { (B.state on.new).room + 1 ≡ (B.state on.old).room }
     ensures keeps { B.keeps on.old on.new }
 {
@@ -66,6 +68,9 @@ pub fn clear_entry<B: Blocks>(on: &mut B, leaf: u32, entries: u32, j: u32)
     ensures alone { ClearsAlone entries j (B.state on.old) (B.state on.new) }
     ensures covers { (B.state on.old).tells → Covers (IsPointers (B.state on.old)) (((B.state on.old).now entries).slot j) (B.state on.old).now (B.state on.new).now (B.state on.old).covered (B.state on.new).covered }
     ensures order { (b i : ℕ) → ((B.state on.new).clearing b i → (B.state on.old).clearing b i ⊎ ((b ≡ entries) × (i ≡ j))) × ((B.state on.old).clearing b i → (B.state on.new).clearing b i) }
+    ensures later { (B.state on.old).dirty leaf → ((B.state on.old).newborn leaf → ⊥) → (B.state on.new).clearing entries j }
+    ensures dirty { (b : ℕ) → (B.state on.new).dirty b → (B.state on.old).dirty b ⊎ (b ≡ entries) }
+    ensures queues { ((B.state on.old).queued ≤ (B.state on.new).queued) × ((c : ℕ) → target (((B.state on.old).now entries).slot j) ≡ Local c → (B.state on.new).clearing entries j ⊎ QueuesOne (B.state on.old) (B.state on.new)) }
     ensures room { (B.state on.new).room + 1 ≡ (B.state on.old).room }
     ensures keeps { B.keeps on.old on.new }
 {

@@ -4,12 +4,12 @@ ghost use Rattle.fo_image.specs.declared.types.Kind.TheVariants.{Data};
 ghost use Rattle.fo_crash.specs.declared.place.Place.{Place};
 ghost use Rattle.fo_crash.specs.Images.{Reaches, to_block};
 ghost use Rattle.fo_crash.specs.Steps.{PutsBytes};
-ghost use Rattle.fo_ports.specs.State.{IsDoomed};
+ghost use Rattle.fo_ports.specs.State.{IsDoomed, AddsNoWait, WaitsForPairs};
 ghost use Rattle.fo_meta.specs.Leaf.{IsLeaf};
 ghost use Rattle.fo_dir_put.specs.Names.{AllFit, AreBacked, AreKept, AllApart, MayStand, LeavesRest};
 ghost use Rattle.fo_dir_put.specs.Differ.{AllDiffer, MayName};
 ghost use Rattle.fo_dir_put.specs.Paired.{AllPaired, AllStood, ArePaired};
-ghost use Rattle.fo_dir_put.specs.Puts.{IsHeldEntries, IsOwnedRecords, IsInPlace, StaysCalm};
+ghost use Rattle.fo_dir_put.specs.Puts.{IsHeldEntries, IsOwnedRecords, IsInPlace, StaysCalm, QueuesNone};
 ghost use Rattle.fo_dir_put.specs.There.{IsThere};
 
 use fo_ports::Blocks;
@@ -29,6 +29,7 @@ pub fn put_record<B: Blocks>(on: &mut B, leaf: u32, entries: u32, bytes: &[u8])
     ensures others { LeavesRest leaf (B.state on.old).may_leave (B.state on.new).may_leave }
     ensures there { (B.state on.old).tells → (b : ℕ) → (B.state on.old).sealed b → (IsDoomed (B.state on.old) b → ⊥) → Reaches (B.state on.old).now (to_block 1) b → IsThere (B.state on.new) b }
     ensures calm { StaysCalm (B.state on.old) (B.state on.new) }
+    ensures waits { WaitsForPairs leaf entries (B.state on.old) (B.state on.new) × AddsNoWait (λ a. a ≡ leaf) (B.state on.old) (B.state on.new) }
     ensures room { (B.state on.new).room + 1 ≡ (B.state on.old).room }
     ensures keeps { B.keeps on.old on.new }
 {
@@ -47,6 +48,7 @@ pub fn change_leaf<B: Blocks>(on: &mut B, leaf: u32, bytes: &[u8])
     ensures paired { (n a e : ℕ) → (a ≡ leaf → AllStood n bytes.now (((B.state on.old).now leaf).bytes)) → AllPaired n a e (B.state on.old) → AllPaired n a e (B.state on.new) }
     ensures others { LeavesRest leaf (B.state on.old).may_leave (B.state on.new).may_leave }
     ensures calm { StaysCalm (B.state on.old) (B.state on.new) }
+    ensures queues { QueuesNone (B.state on.old) (B.state on.new) }
     ensures room { (B.state on.new).room ≡ (B.state on.old).room }
     ensures keeps { B.keeps on.old on.new }
 {

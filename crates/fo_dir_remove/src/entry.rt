@@ -1,7 +1,9 @@
 //! The second entry of a pair is cleared.
-ghost use Rattle.std.specs.Prelude.{◌≡◌, ◌≢◌, ◌⊎◌, ◌+◌, ◌*◌, ◌/◌, ◌<◌, ℕ};
+ghost use Rattle.std.specs.Prelude.{◌≡◌, ◌≢◌, ◌⊎◌, ◌+◌, ◌*◌, ◌/◌, ◌<◌, ◌≤◌, ℕ};
+ghost use Rattle.fo_image.specs.declared.types.Pointer.TheVariants.{Local};
+ghost use Rattle.fo_crash.specs.Images.{target};
 ghost use Rattle.fo_crash.specs.Steps.{Covers, cleared};
-ghost use Rattle.fo_ports.specs.State.{IsPointers};
+ghost use Rattle.fo_ports.specs.State.{IsPointers, QueuesOne};
 ghost use Rattle.fo_dir_put.specs.Names.{ShowsBytes};
 ghost use Rattle.fo_dir_put.specs.Paired.{AllPaired};
 ghost use Rattle.fo_dir_put.specs.Puts.{IsOwnedEntries, IsOwnedRecords, ClearsAlone};
@@ -23,6 +25,8 @@ fn clear_unnamed<B: Blocks>(on: &mut B, entries: u32, j: u32)
     ensures alone { ClearsAlone entries j (B.state on.old) (B.state on.new) }
     ensures covers { (B.state on.old).tells → Covers (IsPointers (B.state on.old)) (((B.state on.old).now entries).slot j) (B.state on.old).now (B.state on.new).now (B.state on.old).covered (B.state on.new).covered }
     ensures order { (b i : ℕ) → ((B.state on.new).clearing b i → (B.state on.old).clearing b i ⊎ ((b ≡ entries) × (i ≡ j))) × ((B.state on.old).clearing b i → (B.state on.new).clearing b i) }
+    ensures dirty { (b : ℕ) → (B.state on.new).dirty b → (B.state on.old).dirty b ⊎ (b ≡ entries) }
+    ensures queues { ((B.state on.old).queued ≤ (B.state on.new).queued) × ((c : ℕ) → target (((B.state on.old).now entries).slot j) ≡ Local c → (B.state on.new).clearing entries j ⊎ QueuesOne (B.state on.old) (B.state on.new)) }
     ensures room { (B.state on.new).room + 1 ≡ (B.state on.old).room }
     ensures keeps { B.keeps on.old on.new }
 {
@@ -44,6 +48,9 @@ pub fn clear_second<B: Blocks>(on: &mut B, leaf: u32, entries: u32, p: u32)
     ensures alone { ClearsAlone entries (2 * p + 1) (B.state on.old) (B.state on.new) }
     ensures covers { (B.state on.old).tells → Covers (IsPointers (B.state on.old)) (((B.state on.old).now entries).slot (2 * p + 1)) (B.state on.old).now (B.state on.new).now (B.state on.old).covered (B.state on.new).covered }
     ensures order { (b i : ℕ) → ((B.state on.new).clearing b i → (B.state on.old).clearing b i ⊎ ((b ≡ entries) × (i ≡ 2 * p + 1))) × ((B.state on.old).clearing b i → (B.state on.new).clearing b i) }
+    ensures later { (B.state on.old).clearing entries (2 * p) → (B.state on.old).dirty leaf → ((B.state on.old).newborn leaf → ⊥) → (B.state on.new).clearing entries (2 * p + 1) }
+    ensures dirty { (b : ℕ) → (B.state on.new).dirty b → (B.state on.old).dirty b ⊎ (b ≡ entries) }
+    ensures queues { ((B.state on.old).queued ≤ (B.state on.new).queued) × ((c : ℕ) → target (((B.state on.old).now entries).slot (2 * p + 1)) ≡ Local c → (B.state on.new).clearing entries (2 * p + 1) ⊎ QueuesOne (B.state on.old) (B.state on.new)) }
     ensures room { (B.state on.new).room + 1 ≡ (B.state on.old).room }
     ensures keeps { B.keeps on.old on.new }
 {

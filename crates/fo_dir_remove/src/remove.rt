@@ -1,10 +1,11 @@
 //! A record goes, and then the first entry of its pair.
-ghost use Rattle.std.specs.Prelude.{◌≡◌, ◌≢◌, ◌⊎◌, ◌+◌, ◌*◌, ◌<◌, ℕ, List, true, false};
+ghost use Rattle.std.specs.Prelude.{◌≡◌, ◌≢◌, ◌⊎◌, ◌+◌, ◌*◌, ◌<◌, ◌≤◌, ℕ, List, true, false};
 ghost use Rattle.std.specs.List.{Contains};
 ghost use Rattle.fo_meta.specs.Leaf.{IsLeaf};
-ghost use Rattle.fo_crash.specs.Images.{Reaches};
+ghost use Rattle.fo_image.specs.declared.types.Pointer.TheVariants.{Local};
+ghost use Rattle.fo_crash.specs.Images.{Reaches, target};
 ghost use Rattle.fo_crash.specs.Steps.{Covers, PutsBytes};
-ghost use Rattle.fo_ports.specs.State.{IsPointers};
+ghost use Rattle.fo_ports.specs.State.{IsPointers, QueuesOne};
 ghost use Rattle.fo_dir_put.specs.Names.{ShowsBut};
 ghost use Rattle.fo_dir_put.specs.Differ.{AllDiffer};
 ghost use Rattle.fo_dir_put.specs.Paired.{AllPaired};
@@ -45,6 +46,8 @@ pub fn remove_record<B: Blocks>(
     ensures owned_still { IsOwnedEntries (B.state on.new) entries × (((B.state on.old).tells → Reaches (B.state on.old).now (((B.state on.old).now entries).slot (2 * p)) leaf → ⊥) → IsOwnedRecords (B.state on.new) leaf) }
     ensures quiet { (i : ℕ) → i ≢ 2 * p → (B.state on.old).tells → IsQuiet (B.state on.old) entries i → IsQuiet (B.state on.new) entries i }
     ensures order { (b i : ℕ) → ((B.state on.new).clearing b i → (B.state on.old).clearing b i ⊎ ((b ≡ entries) × (i ≡ 2 * p))) × ((B.state on.old).clearing b i → (B.state on.new).clearing b i) }
+    ensures later { result ≡ true → (B.state on.new).dirty leaf → ((B.state on.old).newborn leaf → ⊥) → (B.state on.new).clearing entries (2 * p) }
+    ensures queues { result ≡ true → ((B.state on.old).queued ≤ (B.state on.new).queued) × ((c : ℕ) → target (((B.state on.old).now entries).slot (2 * p)) ≡ Local c → (B.state on.new).clearing entries (2 * p) ⊎ QueuesOne (B.state on.old) (B.state on.new)) }
     ensures room { result ≡ true → (B.state on.new).room + 1 ≡ (B.state on.old).room }
     ensures keeps { B.keeps on.old on.new }
 {

@@ -52,3 +52,12 @@ returns-clause-there g c = λ told b sealed spared linked.
 
 pub returns-clause-calm : goal.returns-clause-calm
 returns-clause-calm g c = calm_joins (g.met.B.Blocks.keeps_all c.args.on.now c.put_pair.new.on c.put_pair.ensures.keeps) c.put_pair.ensures.calm c.put_record.ensures.calm
+
+pub returns-clause-waits : goal.returns-clause-waits
+returns-clause-waits g c =
+    let t = g.B.Blocks.state c.put_pair.new.on in
+    let settled : t.clearing c.args.entries (2 * c.args.p) → ⊥ = λ h. c.requires.first_unused.settled (c.put_pair.ensures.calm.order.clearing c.args.entries (2 * c.args.p) h).1 in
+    let used : IsInUse ((t.now c.args.entries).slot (2 * c.args.p)) c.args.first.generation = subst (λ (x : Slot). IsInUse x c.args.first.generation) (sym c.put_pair.ensures.puts.first_is) (c.requires.active, refl) in
+    let waits = c.put_record.ensures.waits in
+    let both = waits.0.each c.args.p c.args.first.generation used settled in
+    (both.0, both.1, record { each = λ a on j other h. c.put_pair.ensures.no_wait.each a on j (λ n. n) (waits.1.each a on j other h) })

@@ -42,3 +42,12 @@ returns-clause-alone g c =
     let within = subst (λ (k : Kind). c.args.j < slot_count k) (sym c.requires.entries.leaf_kind) c.requires.within in
     let nil = cleared_nil (s.label c.args.entries).kind c.args.j ((s.now c.args.entries).slot c.args.j) c.requires.entries.leaf_kind (g.met.B.Blocks.spelled c.args.on.now c.args.entries c.args.j c.requires.entries.is_pinned within) in
     clears_alone (g.met.B.Blocks.keeps_all c.args.on.now c.remove_slot.new.self c.remove_slot.ensures.keeps) c.remove_slot.ensures.frame c.remove_slot.ensures.hangs c.remove_slot.ensures.no_wait nil (⊎_elim (λ h. inl h.0) (λ h. inr h.0) c.remove_slot.ensures.now)
+
+pub returns-clause-later : goal.returns-clause-later
+returns-clause-later g c = c.remove_slot.ensures.later
+
+pub returns-clause-dirty : goal.returns-clause-dirty
+returns-clause-dirty g c = c.remove_slot.ensures.frame.dirty
+
+pub returns-clause-queues : goal.returns-clause-queues
+returns-clause-queues g c = c.remove_slot.ensures.queues

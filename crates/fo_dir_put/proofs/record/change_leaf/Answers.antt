@@ -1,4 +1,4 @@
-use Rattle.std.proofs.Common.{◌≡◌, ℕ, inl, ⊎_elim, sym, ◌∙◌, subst, arith}
+use Rattle.std.proofs.Common.{ℕ, inl, ⊎_elim, sym, ◌∙◌, subst, arith}
 use Rattle.std.proofs.lemmas.Bool.{cases_eq}
 use Rattle.fo_crash.specs.Images.{Image}
 use Rattle.fo_crash.specs.Steps.{AddsBytes, PutsBytes}
@@ -70,3 +70,6 @@ returns-clause-paired g c = λ n a e stood all.
     (λ is. subst (λ x. AllPaired n x e v) (sym is) (bytes_paired {old = s} {new = v} {e = e} adds c.put_bytes.ensures.now.slots (λ r has slot. inl ((stood is).each r has slot)) (subst (λ x. AllPaired n x e s) is all)))
     (λ ne. bytes_others {old = s} {new = v} ne adds c.put_bytes.ensures.now.slots all)
     (cases_eq a c.args.leaf)
+
+pub returns-clause-queues : goal.returns-clause-queues
+returns-clause-queues g c = record { queued = c.put_bytes.ensures.calm.queued; no_wait = c.put_bytes.ensures.no_wait; newborn = λ b h. c.put_bytes.ensures.calm.frame.stays.newborn b (λ n. n) h }

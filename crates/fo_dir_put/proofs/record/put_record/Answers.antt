@@ -1,4 +1,4 @@
-use Rattle.std.proofs.Common.{◌≡◌, ℕ, length, List, ⊎_elim, sym, ◌∙◌, ap, subst, arith}
+use Rattle.std.proofs.Common.{◌+◌, ◌*◌, ℕ, length, List, ⊎_elim, sym, ◌∙◌, ap, subst, arith}
 use Rattle.std.proofs.lemmas.Bool.{cases_eq}
 use Rattle.fo_image.specs.declared.types.Label.{Label}
 use Rattle.fo_crash.specs.Images.{Image}
@@ -112,3 +112,14 @@ returns-clause-there g c = λ told b sealed spared linked.
     let calm = calm_joins first (bytes_calm first c.wait_for.ensures.calm (λ x j. (c.wait_for.ensures.now.each x).slots j)) (bytes_calm last c.put_bytes.ensures.calm c.put_bytes.ensures.now.slots) in
     is_there (g.B.Blocks.state n) b (g.met.B.Blocks.active n).0 (g.met.B.Blocks.present n (last.still_tells.1 (first.still_tells.1 told))) (g.met.B.Blocks.one_spot n)
     (g.met.B.Blocks.in_place n b ((calm.marks b).1 sealed) (calm.spared b spared) (calm.linked told b linked))
+
+pub returns-clause-waits : goal.returns-clause-waits
+returns-clause-waits g c =
+    let waits = c.wait_for.ensures.waits in
+    let stays = c.put_bytes.ensures.calm.frame.stays in (
+      record {
+        each = λ k generation used settled. let w = waits.0.each k generation used settled in
+            (stays.waits c.args.leaf c.args.entries (2 * k) (λ n. n) (λ n. n) (λ n. n) w.0, stays.waits c.args.leaf c.args.entries (2 * k + 1) (λ n. n) (λ n. n) (λ n. n) w.1);
+      },
+      record { each = λ a on j other h. waits.1.each a on j other (c.put_bytes.ensures.no_wait.each a on j (λ n. n) h) },
+    )

@@ -1,7 +1,9 @@
-use Rattle.std.proofs.Common.{◌≡◌, ℕ, ◌*◌, ◌/◌, ◌<◌, length, List, refl, sym, ◌∙◌, ap, subst, arith}
+use Rattle.std.proofs.Common.{◌≡◌, ◌⊎◌, inl, inr, ⊎_elim, ℕ, ◌-◌, ◌*◌, ◌/◌, ◌^◌, ◌<◌, ◌≤◌, length, List, refl, sym, ◌∙◌, ap, subst, arith}
 use Rattle.fo_image.specs.declared.types.Kind.{Kind}
-use Rattle.fo_image.specs.declared.types.Pointer.TheVariants.{Nil}
+use Rattle.fo_image.specs.declared.types.Kind.TheVariants.{Data, Dir}
+use Rattle.fo_image.specs.declared.types.Pointer.TheVariants.{Nil, Local}
 use Rattle.fo_meta.specs.Leaf.{SpellsLeaf}
+use Rattle.fo_crash.specs.declared.slot.Slot.{Slot}
 use Rattle.fo_crash.specs.Images.{Reaches, target}
 use Rattle.fo_crash.specs.Spots.{OnePath}
 use Rattle.fo_crash.specs.Steps.{cleared}
@@ -100,3 +102,24 @@ returns-clause-quiet g c = λ i ne told q.
     let tells = first.still_tells.1 told in
     quiet_then c.clear_entry.ensures.entry c.clear_entry.ensures.alone (nil_at g m c.args.entries (2 * c.args.p) lt owned) second (λ x k. (c.clear_entry.ensures.order x k).0) i ne
     (λ r. no_way_back (one_at g m tells) (owned.linked tells) r) (calm_quiet calm same c.args.entries i q)
+
+pub returns-clause-later : goal.returns-clause-later
+returns-clause-later g c = λ yes' dirty linked.
+    let s = g.B.Blocks.state c.args.on.now in
+    let calm = c.take_record.ensures.queues c.if-not-take_record.false in
+    ⊎_elim
+    (λ was. c.clear_entry.ensures.later was (λ h. linked (calm.newborn c.args.leaf h)))
+    (λ e. let no : Data 0 ≡ Dir 0 = sym c.requires.owned.leaf_kind ∙ ap (λ b. (s.label b).kind) e ∙ c.requires.entries.leaf_kind in absurd (cc))
+    (c.clear_entry.ensures.dirty c.args.leaf dirty)
+
+pub returns-clause-queues : goal.returns-clause-queues
+returns-clause-queues g c = λ yes'.
+    let u = g.B.Blocks.state c.clear_entry.new.on in
+    let queues = c.clear_entry.ensures.queues in
+    let same = (c.take_record.ensures.queues c.if-not-take_record.false).queued in (
+      subst (λ n. n ≤ u.queued) same queues.0,
+      λ x leads. ⊎_elim
+          (λ waits. inl waits)
+          (λ one. inr (subst (λ n. (n < u.queued) ⊎ (2 ^ 32 - 1 ≤ u.queued)) same one))
+          (queues.1 x (subst (λ (t : Slot). target t ≡ Local x) (sym (c.take_record.ensures.slots c.args.entries (2 * c.args.p))) leads)),
+    )
