@@ -189,3 +189,7 @@ returns-clause-queues c =
           let one = c.take_out.ensures.queued.1 x e (λ to. cleared_nowhere (slot_of (block_at p.blocks c.args.at) c.args.i) x (ap target (sym cleared_is) ∙ to)) in
           inr (subst (λ n. CountsOne p.queued n) (sym is) one),
     )
+
+-- nothing is dirty
+pub returns-clause-later : goal.returns-clause-later
+returns-clause-later c = if_some c.args.after (λ leaf. ⊥ → (⊥ → ⊥) → ⊥) (λ leaf d _. absurd d)
