@@ -7,6 +7,7 @@ use Rattle.test_blocks.specs.declared.silent.Block.{Block}
 use Rattle.test_blocks.specs.Silent.{Silent, Joins, memory, state_of}
 use Rattle.test_blocks.specs.SilentParts.{parts}
 use Rattle.test_blocks.proofs.Joining.{frame, hangs, still_waits, cleared_nowhere}
+use Rattle.fo_ports_plain.proofs.Memory.{if_some}
 use Rattle.test_blocks.proofs.silent_calls.CarelessBlocksBlocks.remove_slot.Goals as goal
 
 pub returns-clause-frame : goal.returns-clause-frame
@@ -41,3 +42,7 @@ returns-clause-hangs c =
     let still = still_waits self.blocks.items self.waits.items ws c.args.at c.args.i self.waiting c.end_waits.ensures.still in
     subst (λ (z : Silent). Hangs c.args.at c.args.i s (state_of p) (state_of z)) (sym all)
     (hangs p bs ws room c.take_room.new.self.queued c.args.at c.args.i s joined still (λ e. cleared_nowhere ((memory self.blocks.items c.args.at).slot c.args.i) c.args.at e))
+
+-- nothing is dirty
+pub returns-clause-later : goal.returns-clause-later
+returns-clause-later c = if_some c.args.after (λ leaf. ⊥ → (⊥ → ⊥) → ⊥) (λ leaf d _. absurd d)
