@@ -38,6 +38,15 @@ pub record PutsBytes (kind : ℕ) (bytes : List ℕ) (lines : List ArenaLine) (s
   pub held : IsNamed lines (sha1 bytes) kind → (now ≡ stored) × IsHeld lines stored (sha1 bytes) kind bytes
   pub new : ¬ IsNamed lines (sha1 bytes) kind → now ≡ stored ++ bytes ∷ []
 
+-- A put of this block takes no place: it is held, its score has no spelling in an archive, or no place is left.
+abbrev pub TakesNone : ℕ → List ArenaLine → ℕ → List ℕ → Type 0
+TakesNone blocks lines kind bytes = IsNamed lines (sha1 bytes) kind ⊎ (¬ IsScore (sha1 bytes)) ⊎ (length lines ≡ arena_places blocks)
+
+-- Nothing changed, in memory or on the device: nothing was written, and no more waits to be.
+pub record IsUntouched (old new : Shelf) (before now : DiskState) : Type 0 where
+  pub shelf : new ≡ old
+  pub state : now ≡ before
+
 -- The bytes are in memory: those of the empty block, and of a block that waits to be settled.
 abbrev pub IsAtHand : Shelf → List ℕ → ℕ → Type 0
 IsAtHand shelf score kind = (score ≡ sha1 []) ⊎ ((place : ℕ) × HasName (lines_of shelf) score kind place × (settled_count (lines_of shelf) (waits shelf.pending.items) ≤ place))

@@ -26,14 +26,14 @@ fn is_empty(score: &Score) -> bool
 }
 
 impl<A: Disk> Arena<A> {
-    ghost use Rattle.std.specs.Prelude.{◌≡◌, ◌<◌, ◌≤◌, ◌++◌, ◌∷◌, ℕ, List, [], true, length, MatchResult, MatchOption, OnOk, OnErr, IfOk, IfErr, IfSome};
+    ghost use Rattle.std.specs.Prelude.{◌≡◌, ◌+◌, ◌<◌, ◌≤◌, ◌++◌, ◌∷◌, ℕ, List, [], true, length, MatchResult, MatchOption, OnOk, OnErr, IfOk, IfErr, IfSome};
     ghost use Rattle.fo_disk.specs.Disk.{Since};
     ghost use Rattle.fo_image.specs.Format.{IsScore, is_arena_kind};
     ghost use Rattle.fo_image.specs.Place.{arena_places};
     ghost use Rattle.sha1.specs.Sha1.{sha1};
     ghost use Rattle.venti_store.specs.Held.{stored_at, HasName, IsNamed, IsHeld, Recovers};
     ghost use Rattle.venti_store.specs.Kept.{waits, settled_count};
-    ghost use Rattle.venti_store.specs.Arena.{lines_of, Keeps, IsAtHand, IsPlaceOf, line_for, PutsLine, PutsBytes, LookRefuses, GetRefuses, PutRefuses, RefusesHeld, AppendRefuses, IsReadOrMemory, IsWriteOrSync, HasCauses};
+    ghost use Rattle.venti_store.specs.Arena.{lines_of, Keeps, IsAtHand, IsPlaceOf, line_for, PutsLine, PutsBytes, TakesNone, IsUntouched, LookRefuses, GetRefuses, PutRefuses, RefusesHeld, AppendRefuses, IsReadOrMemory, IsWriteOrSync, HasCauses};
 
     /// The bytes of a place in use.
     fn read_place(&mut self, place: u32) -> Result<Vec<u8>, ArenaError>
@@ -41,6 +41,7 @@ impl<A: Disk> Arena<A> {
         ensures read { (stored : List (List ℕ)) (synced : ℕ) → Keeps self.old.shelf stored synced (A.state self.old.device) → IfOk result (λ v. v.items ≡ stored_at stored place) }
         ensures short { IfOk result (λ v. length v.items ≤ 8192) }
         ensures at_hand { settled_count (lines_of self.old.shelf) (waits self.old.shelf.pending.items) ≤ place → A.calls self.new.device ≡ A.calls self.old.device }
+        ensures calls { A.calls self.new.device ≤ A.calls self.old.device + 1 }
         ensures shelf { self.new.shelf ≡ self.old.shelf }
         ensures kept { A.state self.new.device ≡ A.state self.old.device }
         ensures cause { HasCauses (A.faults self.old.device) (A.faults self.new.device) result }
@@ -63,6 +64,7 @@ impl<A: Disk> Arena<A> {
         ensures held { (stored : List (List ℕ)) (synced : ℕ) → Keeps self.old.shelf stored synced (A.state self.old.device)
             → MatchResult result (λ found. MatchOption found (Unit {0}) (λ v. IsHeld (lines_of self.old.shelf) stored score.now.0 kind v.items)) (RefusesHeld (lines_of self.old.shelf) stored score.now.0 kind) }
         ensures at_hand { IsAtHand self.old.shelf score.now.0 kind → A.calls self.new.device ≡ A.calls self.old.device }
+        ensures calls { A.calls self.new.device ≤ A.calls self.old.device + 1 }
         ensures shelf { self.new.shelf ≡ self.old.shelf }
         ensures kept { A.state self.new.device ≡ A.state self.old.device }
         ensures cause { HasCauses (A.faults self.old.device) (A.faults self.new.device) result }
@@ -112,6 +114,8 @@ impl<A: Disk> Arena<A> {
         ensures at_hand { OnOk result (IsAtHand self.new.shelf score.0 kind) }
         ensures same { OnErr result (lines_of self.new.shelf ≡ lines_of self.old.shelf) }
         ensures refused { IfErr result (AppendRefuses self.old.shelf.blocks (lines_of self.old.shelf)) }
+        ensures full { length (lines_of self.old.shelf) ≡ arena_places self.old.shelf.blocks
+            → IsUntouched self.old.shelf self.new.shelf (A.state self.old.device) (A.state self.new.device) × (A.calls self.new.device ≡ A.calls self.old.device) }
         ensures keeps { (stored : List (List ℕ)) (synced : ℕ) → Keeps self.old.shelf stored synced (A.state self.old.device)
             → MatchResult result (λ _. Keeps self.new.shelf (stored ++ bytes.now ∷ []) synced (A.state self.new.device)) (λ _. Keeps self.new.shelf stored synced (A.state self.new.device)) }
         ensures moments { (stored : List (List ℕ)) (synced : ℕ) → Keeps self.old.shelf stored synced (A.state self.old.device)
@@ -153,6 +157,11 @@ impl<A: Disk> Arena<A> {
         ensures moments { (stored : List (List ℕ)) (synced : ℕ) → Keeps self.old.shelf stored synced (A.state self.old.device)
             → Since (A.state self.old.device).moments (A.state self.new.device).moments (Recovers synced (lines_of self.old.shelf) stored) }
 
+        // Only a block that is not held is written, and only where a place is left for it. Else nothing changes, in memory or on the
+        // device, and one block is read at most.
+        ensures unwritten { TakesNone self.old.shelf.blocks (lines_of self.old.shelf) kind bytes.now
+            → IsUntouched self.old.shelf self.new.shelf (A.state self.old.device) (A.state self.new.device) × (A.calls self.new.device ≤ A.calls self.old.device + 1) }
+
         // A block that is put at a new place is at hand. One that was at hand costs no call of the device.
         ensures added { OnOk result (¬ IsNamed (lines_of self.old.shelf) (sha1 bytes.now) kind → IsAtHand self.new.shelf (sha1 bytes.now) kind) }
         ensures at_hand { IsAtHand self.old.shelf (sha1 bytes.now) kind → A.calls self.new.device ≡ A.calls self.old.device }
@@ -179,6 +188,8 @@ impl<A: Disk> Arena<A> {
             (λ e. Keeps self.new.shelf stored synced (A.state self.new.device) × RefusesHeld (lines_of self.old.shelf) stored (sha1 bytes.now) kind e) }
         ensures moments { (stored : List (List ℕ)) (synced : ℕ) → Keeps self.old.shelf stored synced (A.state self.old.device)
             → Since (A.state self.old.device).moments (A.state self.new.device).moments (Recovers synced (lines_of self.old.shelf) stored) }
+        ensures unwritten { TakesNone self.old.shelf.blocks (lines_of self.old.shelf) kind bytes.now
+            → IsUntouched self.old.shelf self.new.shelf (A.state self.old.device) (A.state self.new.device) × (A.calls self.new.device ≤ A.calls self.old.device + 1) }
         ensures added { OnOk result (¬ IsNamed (lines_of self.old.shelf) (sha1 bytes.now) kind → IsAtHand self.new.shelf (sha1 bytes.now) kind) }
         ensures at_hand { IsAtHand self.old.shelf (sha1 bytes.now) kind → A.calls self.new.device ≡ A.calls self.old.device }
         ensures blocks { self.new.shelf.blocks ≡ self.old.shelf.blocks }
@@ -210,8 +221,9 @@ impl<A: Disk> Arena<A> {
         ensures held { (stored : List (List ℕ)) (synced : ℕ) → Keeps self.old.shelf stored synced (A.state self.old.device)
             → MatchResult result (λ _. IsHeld (lines_of self.old.shelf) stored score.now.0 kind into.new.items) (RefusesHeld (lines_of self.old.shelf) stored score.now.0 kind) }
 
-        // Nothing changes, and a block that is at hand costs no call of the device.
+        // Nothing changes. It costs one read at most, and none of a block that is at hand.
         ensures at_hand { IsAtHand self.old.shelf score.now.0 kind → A.calls self.new.device ≡ A.calls self.old.device }
+        ensures calls { A.calls self.new.device ≤ A.calls self.old.device + 1 }
         ensures shelf { self.new.shelf ≡ self.old.shelf }
         ensures kept { A.state self.new.device ≡ A.state self.old.device }
         ensures cause { HasCauses (A.faults self.old.device) (A.faults self.new.device) result }

@@ -1,5 +1,5 @@
 //! Reads of held blocks.
-ghost use Rattle.std.specs.Prelude.{◌≡◌, ◌≢◌, ◌<◌, ◌≤◌, ◌^◌, ℕ, length, take, IfOk, IfErr, MatchResult, OnOk};
+ghost use Rattle.std.specs.Prelude.{◌≡◌, ◌≢◌, ◌<◌, ◌≤◌, ◌+◌, ◌^◌, ℕ, length, take, IfOk, IfErr, MatchResult, OnOk};
 ghost use Rattle.std.specs.List.{Contains};
 ghost use Rattle.fo_disk.specs.Disk.{Block, versions_of};
 ghost use Rattle.fo_image.specs.Place.{stored_block};
@@ -33,6 +33,7 @@ pub(crate) fn read_stored<A: Disk>(
     requires len { len ≤ 8192 }
     ensures read { IfOk result (λ v. stored_block place < length (A.state device.old).holds → (block : Block) × Contains (versions_of (A.state device.old).holds (stored_block place)) block × (v.items ≡ take len block)) }
     ensures short { IfOk result (λ v. length v.items ≤ 8192) }
+    ensures calls { A.calls device.new ≤ A.calls device.old + 1 }
     ensures kept { A.state device.new ≡ A.state device.old }
     ensures size { A.size device.new ≡ A.size device.old }
     ensures cause { HasCauses (A.faults device.old) (A.faults device.new) result }
