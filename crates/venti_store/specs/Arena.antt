@@ -1,5 +1,5 @@
 -- What an open arena keeps, and what its calls do.
-use Rattle.std.specs.Prelude.{◌≡◌, ◌≢◌, ◌⊎◌, ℕ, ◌<◌, ◌≤◌, List, [], ◌∷◌, ◌++◌, length, Result, IfErr}
+use Rattle.std.specs.Prelude.{◌≡◌, ◌≢◌, ◌⊎◌, ℕ, ◌+◌, ◌-◌, ◌/◌, ◌<◌, ◌≤◌, List, [], ◌∷◌, ◌++◌, length, Result, IfErr}
 use Rattle.fo_base.specs.Cause.{Rose}
 use Rattle.fo_disk.specs.Disk.{Block, Content, DiskState, IsImage, IsQuiet}
 use Rattle.fo_image.specs.declared.types.ArenaLine.{ArenaLine}
@@ -37,6 +37,13 @@ pub record PutsLine (kind : ℕ) (bytes : List ℕ) (lines now : List ArenaLine)
 pub record PutsBytes (kind : ℕ) (bytes : List ℕ) (lines : List ArenaLine) (stored now : List (List ℕ)) : Type 0 where
   pub held : IsNamed lines (sha1 bytes) kind → (now ≡ stored) × IsHeld lines stored (sha1 bytes) kind bytes
   pub new : ¬ IsNamed lines (sha1 bytes) kind → now ≡ stored ++ bytes ∷ []
+
+-- The most calls that settle the blocks that wait: a write of each, and of each block of the index with a line of one of them, and a sync.
+abbrev pub settle_calls : Shelf → ℕ
+settle_calls shelf =
+    let used = length (lines_of shelf) in
+    let waiting = length shelf.pending.items in
+    waiting + ((used + 340) / 341 - (used - waiting) / 341) + 1
 
 -- A put of this block takes no place: it is held, its score has no spelling in an archive, or no place is left.
 abbrev pub TakesNone : ℕ → List ArenaLine → ℕ → List ℕ → Type 0

@@ -27,7 +27,7 @@ impl<A: Disk> Arena<A> {
     ghost use Rattle.fo_image.specs.Place.{arena_places};
     ghost use Rattle.venti_store.specs.Held.{Recovers};
     ghost use Rattle.venti_store.specs.Kept.{IsLater};
-    ghost use Rattle.venti_store.specs.Arena.{lines_of, Keeps, Settled};
+    ghost use Rattle.venti_store.specs.Arena.{lines_of, Keeps, Settled, settle_calls};
     ghost use Rattle.venti_store.specs.Opening.{Opens, OpenRefuses, OpenBlames};
 
     /// Opens the arena of a device. A refusal hands the device back.
@@ -37,7 +37,8 @@ impl<A: Disk> Arena<A> {
             → MatchResult result (λ a. Opens vault a.shelf (A.state a.device)) (λ e. OpenRefuses vault e.why) }
 
         // Its blocks are counted, and block 0 and each block of the index with a used line are read, once each. None is written.
-        ensures reads { IfOk result (λ a. A.calls a.device ≤ A.calls device + 2 + (length (lines_of a.shelf) + 340) / 341) }
+        ensures reads { MatchResult result (λ a. A.calls a.device ≤ A.calls device + 2 + (length (lines_of a.shelf) + 340) / 341)
+            (λ e. A.calls e.device ≤ A.calls device + 2 + (arena_places (A.size e.device) + 340) / 341) }
         ensures kept { MatchResult result (λ a. A.state a.device ≡ A.state device)
             (λ e. A.state e.device ≡ A.state device) }
         ensures later { MatchResult result (λ a. A.faults device ≤ A.faults a.device) (λ e. A.faults device ≤ A.faults e.device) }
@@ -83,6 +84,7 @@ impl<A: Disk> Arena<A> {
         ensures blocks { self.new.shelf.blocks ≡ self.old.shelf.blocks }
         ensures index { self.new.shelf.index ≡ self.old.shelf.index }
         ensures none { OnOk result (self.new.shelf.pending.items ≡ []) }
+        ensures calls { A.calls self.new.device ≤ A.calls self.old.device + settle_calls self.old.shelf }
         ensures cause { HasCause (A.faults self.old.device) (A.faults self.new.device) result }
         ensures fault { IfErr result IsLater }
     {
@@ -108,6 +110,9 @@ impl<A: Disk> Arena<A> {
         // Each image of each moment is an arena in which at least what was synced is held.
         ensures moments { (stored : List (List ℕ)) (synced : ℕ) → Keeps self.old.shelf stored synced (A.state self.old.device)
             → Since (A.state self.old.device).moments (A.state self.new.device).moments (Recovers synced (lines_of self.old.shelf) stored) }
+
+        // Beside what settles the blocks that wait, the head is written and settled.
+        ensures calls { A.calls self.new.device ≤ A.calls self.old.device + settle_calls self.old.shelf + 2 }
 
         ensures blocks { self.new.shelf.blocks ≡ self.old.shelf.blocks }
         ensures cause { HasCause (A.faults self.old.device) (A.faults self.new.device) result }

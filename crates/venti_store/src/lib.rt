@@ -7,7 +7,8 @@
 //!
 //! Proved over any device: a put answers the hash of the bytes, and takes a place exactly where the block is not held; the cause of
 //! each refusal, with a fault only where the device's count rose; a refused call changes neither what is held nor how many places
-//! are used; a block at hand costs no call of the device; an opening reads each block of the index at most once, and writes none.
+//! are used; a block that is held writes nothing, and one at hand costs no call of the device; how many calls a put and a sync make
+//! at most; an opening reads each block of the index at most once, and writes none.
 //!
 //! Proved over a device that tells what it holds: a get gives just what is held, and `Damaged` comes exactly where the bytes of the
 //! place don't hash to its score; a collision names the block that is held; each image of each moment is an arena in which what the

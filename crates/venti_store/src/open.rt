@@ -21,7 +21,7 @@ use std::alloc::Global;
 fn count<A: Disk>(device: &mut A) -> Result<u32, ArenaWhy>
     ensures size { IfOk result (λ n. (A.size device.new ≡ n) × (16 ≤ n) × (n ≤ 2 ^ 20)) }
     ensures shown { (vault : List Block) → Shows (A.state device.old).holds vault → MatchResult result (λ n. length vault ≡ n) (OpenRefuses vault) }
-    ensures calls { OnOk result (A.calls device.new ≤ A.calls device.old + 1) }
+    ensures calls { A.calls device.new ≤ A.calls device.old + 1 }
     ensures kept { A.state device.new ≡ A.state device.old }
     ensures cause { HasOpenCauses (A.faults device.old) (A.faults device.new) result }
 {
@@ -40,7 +40,7 @@ fn read<A: Disk>(device: &mut A, at: u32, into: &mut [u8]) -> Result<(), Failed>
     requires length { length into.old ≡ 8192 }
     ensures shown { (vault : List Block) → Shows (A.state device.old).holds vault → OnOk result (into.new ≡ block_of vault at) }
     ensures size { A.size device.new ≡ A.size device.old }
-    ensures calls { OnOk result (A.calls device.new ≤ A.calls device.old + 1) }
+    ensures calls { A.calls device.new ≤ A.calls device.old + 1 }
     ensures kept { A.state device.new ≡ A.state device.old }
     ensures cause { HasCause (A.faults device.old) (A.faults device.new) result }
 {
@@ -53,7 +53,7 @@ fn read_head<A: Disk>(device: &mut A, blocks: u32) -> Result<u32, ArenaWhy>
     requires least { 16 ≤ blocks }
     ensures shown { (vault : List Block) → length vault ≡ blocks → Shows (A.state device.old).holds vault → MatchResult result (UsedIs vault) (HeadRefuses vault) }
     ensures places { IfOk result (λ used. used ≤ arena_places blocks) }
-    ensures calls { OnOk result (A.calls device.new ≤ A.calls device.old + 1) }
+    ensures calls { A.calls device.new ≤ A.calls device.old + 1 }
     ensures size { A.size device.new ≡ A.size device.old }
     ensures kept { A.state device.new ≡ A.state device.old }
     ensures cause { HasOpenCauses (A.faults device.old) (A.faults device.new) result }
@@ -112,7 +112,7 @@ fn read_index<A: Disk>(alloc: Global, device: &mut A, used: u32) -> Result<Index
     requires places { used ≤ arena_places (A.size device.old) }
     ensures lines { (vault : List Block) → Shows (A.state device.old).holds vault → MatchResult result (λ i. ReadLines used i.lines.items vault) (LinesRefuse used vault) }
     ensures count { IfOk result (λ i. length i.lines.items ≡ used) }
-    ensures calls { OnOk result (A.calls device.new ≤ A.calls device.old + (used + 340) / 341) }
+    ensures calls { A.calls device.new ≤ A.calls device.old + (used + 340) / 341 }
     ensures size { A.size device.new ≡ A.size device.old }
     ensures kept { A.state device.new ≡ A.state device.old }
     ensures cause { HasOpenCauses (A.faults device.old) (A.faults device.new) result }
@@ -133,7 +133,8 @@ pub(crate) fn read_shelf<A: Disk>(alloc: Global, device: &mut A) -> Result<Shelf
     ensures answer { (vault : List Block) → Shows (A.state device.old).holds vault → MatchResult result (λ s. IsIndexed (length (lines_of s)) (lines_of s) vault) (OpenRefuses vault) }
     ensures size { IfOk result (λ s. A.size device.new ≡ s.blocks) }
     ensures none { IfOk result (λ s. s.pending.items ≡ []) }
-    ensures calls { IfOk result (λ s. A.calls device.new ≤ A.calls device.old + 2 + (length (lines_of s) + 340) / 341) }
+    ensures calls { MatchResult result (λ s. A.calls device.new ≤ A.calls device.old + 2 + (length (lines_of s) + 340) / 341)
+        (λ _. A.calls device.new ≤ A.calls device.old + 2 + (arena_places (A.size device.new) + 340) / 341) }
     ensures kept { A.state device.new ≡ A.state device.old }
     ensures cause { HasOpenCauses (A.faults device.old) (A.faults device.new) result }
 {

@@ -26,14 +26,14 @@ fn is_empty(score: &Score) -> bool
 }
 
 impl<A: Disk> Arena<A> {
-    ghost use Rattle.std.specs.Prelude.{◌≡◌, ◌+◌, ◌<◌, ◌≤◌, ◌++◌, ◌∷◌, ℕ, List, [], true, length, MatchResult, MatchOption, OnOk, OnErr, IfOk, IfErr, IfSome};
+    ghost use Rattle.std.specs.Prelude.{◌≡◌, ◌+◌, ◌<◌, ◌≤◌, ◌++◌, ◌∷◌, ℕ, List, [], true, length, MatchResult, MatchOption, OnOk, OnErr, IfOk, IfErr, IfSome, IfNone};
     ghost use Rattle.fo_disk.specs.Disk.{Since};
     ghost use Rattle.fo_image.specs.Format.{IsScore, is_arena_kind};
     ghost use Rattle.fo_image.specs.Place.{arena_places};
     ghost use Rattle.sha1.specs.Sha1.{sha1};
     ghost use Rattle.venti_store.specs.Held.{stored_at, HasName, IsNamed, IsHeld, Recovers};
     ghost use Rattle.venti_store.specs.Kept.{waits, settled_count};
-    ghost use Rattle.venti_store.specs.Arena.{lines_of, Keeps, IsAtHand, IsPlaceOf, line_for, PutsLine, PutsBytes, TakesNone, IsUntouched, LookRefuses, GetRefuses, PutRefuses, RefusesHeld, AppendRefuses, IsReadOrMemory, IsWriteOrSync, HasCauses};
+    ghost use Rattle.venti_store.specs.Arena.{lines_of, Keeps, IsAtHand, settle_calls, IsPlaceOf, line_for, PutsLine, PutsBytes, TakesNone, IsUntouched, LookRefuses, GetRefuses, PutRefuses, RefusesHeld, AppendRefuses, IsReadOrMemory, IsWriteOrSync, HasCauses};
 
     /// The bytes of a place in use.
     fn read_place(&mut self, place: u32) -> Result<Vec<u8>, ArenaError>
@@ -63,6 +63,7 @@ impl<A: Disk> Arena<A> {
         ensures short { IfOk result (λ found. IfSome found (λ v. length v.items ≤ 8192)) }
         ensures held { (stored : List (List ℕ)) (synced : ℕ) → Keeps self.old.shelf stored synced (A.state self.old.device)
             → MatchResult result (λ found. MatchOption found (Unit {0}) (λ v. IsHeld (lines_of self.old.shelf) stored score.now.0 kind v.items)) (RefusesHeld (lines_of self.old.shelf) stored score.now.0 kind) }
+        ensures none { IfOk result (λ found. IfNone found (A.calls self.new.device ≡ A.calls self.old.device)) }
         ensures at_hand { IsAtHand self.old.shelf score.now.0 kind → A.calls self.new.device ≡ A.calls self.old.device }
         ensures calls { A.calls self.new.device ≤ A.calls self.old.device + 1 }
         ensures shelf { self.new.shelf ≡ self.old.shelf }
@@ -88,6 +89,7 @@ impl<A: Disk> Arena<A> {
         ensures keeps { (stored : List (List ℕ)) (synced : ℕ) → Keeps self.old.shelf stored synced (A.state self.old.device) → Keeps self.new.shelf stored synced (A.state self.new.device) }
         ensures moments { (stored : List (List ℕ)) (synced : ℕ) → Keeps self.old.shelf stored synced (A.state self.old.device)
             → Since (A.state self.old.device).moments (A.state self.new.device).moments (Recovers synced (lines_of self.old.shelf) stored) }
+        ensures calls { A.calls self.new.device ≤ A.calls self.old.device + settle_calls self.old.shelf }
         ensures blocks { self.new.shelf.blocks ≡ self.old.shelf.blocks }
         ensures index { self.new.shelf.index ≡ self.old.shelf.index }
         ensures cause { HasCauses (A.faults self.old.device) (A.faults self.new.device) result }
@@ -120,6 +122,7 @@ impl<A: Disk> Arena<A> {
             → MatchResult result (λ _. Keeps self.new.shelf (stored ++ bytes.now ∷ []) synced (A.state self.new.device)) (λ _. Keeps self.new.shelf stored synced (A.state self.new.device)) }
         ensures moments { (stored : List (List ℕ)) (synced : ℕ) → Keeps self.old.shelf stored synced (A.state self.old.device)
             → Since (A.state self.old.device).moments (A.state self.new.device).moments (Recovers synced (lines_of self.old.shelf) stored) }
+        ensures calls { A.calls self.new.device ≤ A.calls self.old.device + settle_calls self.old.shelf }
         ensures blocks { self.new.shelf.blocks ≡ self.old.shelf.blocks }
         ensures cause { HasCauses (A.faults self.old.device) (A.faults self.new.device) result }
     {
@@ -162,10 +165,12 @@ impl<A: Disk> Arena<A> {
         ensures unwritten { TakesNone self.old.shelf.blocks (lines_of self.old.shelf) kind bytes.now
             → IsUntouched self.old.shelf self.new.shelf (A.state self.old.device) (A.state self.new.device) × (A.calls self.new.device ≤ A.calls self.old.device + 1) }
 
-        // A block that is put at a new place is at hand. One that was at hand costs no call of the device.
+        // A block that is put at a new place is at hand. One that was at hand costs no call of the device, and any other no more than
+        // to settle those that wait.
         ensures added { OnOk result (¬ IsNamed (lines_of self.old.shelf) (sha1 bytes.now) kind → IsAtHand self.new.shelf (sha1 bytes.now) kind) }
         ensures at_hand { IsAtHand self.old.shelf (sha1 bytes.now) kind → A.calls self.new.device ≡ A.calls self.old.device }
 
+        ensures calls { A.calls self.new.device ≤ A.calls self.old.device + settle_calls self.old.shelf }
         ensures blocks { self.new.shelf.blocks ≡ self.old.shelf.blocks }
         ensures cause { HasCauses (A.faults self.old.device) (A.faults self.new.device) result }
     {
@@ -192,6 +197,7 @@ impl<A: Disk> Arena<A> {
             → IsUntouched self.old.shelf self.new.shelf (A.state self.old.device) (A.state self.new.device) × (A.calls self.new.device ≤ A.calls self.old.device + 1) }
         ensures added { OnOk result (¬ IsNamed (lines_of self.old.shelf) (sha1 bytes.now) kind → IsAtHand self.new.shelf (sha1 bytes.now) kind) }
         ensures at_hand { IsAtHand self.old.shelf (sha1 bytes.now) kind → A.calls self.new.device ≡ A.calls self.old.device }
+        ensures calls { A.calls self.new.device ≤ A.calls self.old.device + settle_calls self.old.shelf }
         ensures blocks { self.new.shelf.blocks ≡ self.old.shelf.blocks }
         ensures cause { HasCauses (A.faults self.old.device) (A.faults self.new.device) result }
     {

@@ -1,7 +1,7 @@
 //! The writes and syncs that settle the blocks of an arena on its device.
 //!
 //! The bytes of the blocks that wait and their lines come first and are settled; then the head says that they are used.
-ghost use Rattle.std.specs.Prelude.{◌≡◌, ◌≢◌, ℕ, ◌+◌, ◌/◌, ◌^◌, ◌<◌, ◌≤◌, List, length, take, MatchResult, OnOk, IfErr};
+ghost use Rattle.std.specs.Prelude.{◌≡◌, ◌≢◌, ℕ, ◌+◌, ◌-◌, ◌/◌, ◌^◌, ◌<◌, ◌≤◌, List, length, take, MatchResult, OnOk, IfErr};
 ghost use Rattle.fo_base.specs.Cause.{HasCause};
 ghost use Rattle.fo_disk.specs.Disk.{IsWrite};
 ghost use Rattle.fo_disk.specs.declared.disk.DiskFault.TheVariants.{Write};
@@ -32,6 +32,7 @@ fn write_bytes<A: Disk>(device: &mut A, at: u32, bytes: &[u8]) -> Result<(), Fai
     requires length { length bytes.now ≤ 8192 }
     ensures wrote { (block : List ℕ) × (take (length bytes.now) block ≡ bytes.now) × IsWrite at block result (A.state device.old) (A.state device.new) }
     ensures size { A.size device.new ≡ A.size device.old }
+    ensures calls { A.calls device.new ≤ A.calls device.old + 1 }
     ensures cause { HasCause (A.faults device.old) (A.faults device.new) result }
 {
     if bytes.len() == BLOCK {
@@ -49,6 +50,7 @@ fn write_waiting<A: Disk>(device: &mut A, first: u32, pending: &[Waiting]) -> Re
     ensures wrote { OnOk result ((run : Run) → run.size ≡ A.size device.old → run.settled ≡ first → Waits run (waits pending.now) → Goes run (A.state device.old)
         → WroteBytes run (length run.lines) (A.state device.new)) }
     ensures size { A.size device.new ≡ A.size device.old }
+    ensures calls { A.calls device.new ≤ A.calls device.old + length pending.now }
     ensures cause { HasCause (A.faults device.old) (A.faults device.new) result }
     ensures fault { IfErr result (λ e. e ≡ Write) }
 {
@@ -87,6 +89,7 @@ fn write_lines<A: Disk>(device: &mut A, first: u32, lines: &[ArenaLine]) -> Resu
         → WroteLines run (length run.lines) (A.state device.new)) }
     ensures bytes { OnOk result ((run : Run) → WroteBytes run (length run.lines) (A.state device.old) → WroteBytes run (length run.lines) (A.state device.new)) }
     ensures size { A.size device.new ≡ A.size device.old }
+    ensures calls { A.calls device.new ≤ A.calls device.old + ((length lines.now + 340) / 341 - first / 341) }
     ensures cause { HasCause (A.faults device.old) (A.faults device.new) result }
     ensures fault { IfErr result (λ e. e ≡ Write) }
 {
@@ -114,6 +117,7 @@ pub(crate) fn settle<A: Disk>(
     ensures goes { (run : Run) → run.size ≡ A.size device.old → run.settled ≡ first → run.lines ≡ lines.now → Waits run (waits pending.now) → Goes run (A.state device.old)
         → MatchResult result (λ _. Goes (all_settled run) (A.state device.new)) (λ _. Goes run (A.state device.new)) }
     ensures size { A.size device.new ≡ A.size device.old }
+    ensures calls { A.calls device.new ≤ A.calls device.old + length pending.now + ((length lines.now + 340) / 341 - first / 341) + 1 }
     ensures cause { HasCause (A.faults device.old) (A.faults device.new) result }
     ensures fault { IfErr result IsLater }
 {
@@ -135,6 +139,7 @@ pub(crate) fn write_head<A: Disk>(device: &mut A, blocks: u32, used: u32) -> Res
     ensures ends { (run : Run) → run.size ≡ blocks → run.settled ≡ used → length run.lines ≡ used → Goes run (A.state device.old)
         → MatchResult result (λ _. Ends run (A.state device.new)) (λ _. Goes run (A.state device.new)) }
     ensures size { A.size device.new ≡ A.size device.old }
+    ensures calls { A.calls device.new ≤ A.calls device.old + 2 }
     ensures cause { HasCause (A.faults device.old) (A.faults device.new) result }
     ensures fault { IfErr result IsLater }
 {

@@ -13,6 +13,7 @@ pub loop-group-preserved : goal.loop-group-preserved
 loop-group-preserved g c = record {
   size = c.in-Ok.ensures.size ∙ c.loop-group.invariant.size;
   later = omega (arith, c.loop-group.invariant.later, c.in-Ok.ensures.cause.later);
+  calls = omega (arith, c.loop-group.invariant.calls, c.in-Ok.ensures.calls);
   goes = λ run size first lines start.
       let goes = c.loop-group.invariant.goes run size first lines start in
       let n : NextLines run c.loop-group.group _ _ = next_lines lines first c.requires.some (omega (arith, c.loop-group.auto.group)) (omega (arith, c.loop-group-test.true, c.div_ceil-group-end.ensures)) refl c.lines_of_group-block.ensures in

@@ -13,6 +13,7 @@ pub loop-i-preserved : goal.loop-i-preserved
 loop-i-preserved g c = record {
   size = c.in-Ok.ensures.size ∙ c.loop-i.invariant.size;
   later = omega (arith, c.loop-i.invariant.later, c.in-Ok.ensures.cause.later);
+  calls = omega (arith, c.loop-i.invariant.calls, c.in-Ok.ensures.calls);
   goes = λ run size first waits start.
       let goes = c.loop-i.invariant.goes run size first waits start in
       let n : Next run _ c.loop-i.i _ _ = next_waiting c.args.pending.now waits first c.loop-i-test.true c.index-pending-i.result c.stored_block.ensures _ c.deref.ensures.value c.in-Ok.ensures.wrote.1 in

@@ -7,6 +7,7 @@ abbrev pub invariant-loop-i : goal.invariant-loop-i
 invariant-loop-i g l = record {
   size : g.A.Disk.size l.device ≡ g.A.Disk.size l.fn.device;
   later : g.A.Disk.faults l.fn.device ≤ g.A.Disk.faults l.device;
+  calls : g.A.Disk.calls l.device ≤ g.A.Disk.calls l.fn.device + l.i;
   goes : (run : Run) → run.size ≡ g.A.Disk.size l.fn.device → run.settled ≡ l.first → Waits run (waits l.pending) → Goes run (g.A.Disk.state l.fn.device)
       → Goes run (g.A.Disk.state l.device);
   wrote : (run : Run) → run.size ≡ g.A.Disk.size l.fn.device → run.settled ≡ l.first → Waits run (waits l.pending) → Goes run (g.A.Disk.state l.fn.device)
