@@ -1,7 +1,7 @@
 -- A write and a sync of the device are steps of what is known.
 use Rattle.std.proofs.Common.{◌≡◌, ◌≢◌, ◌⊎◌, inl, inr, ⊎_elim, ℕ, suc, ◌-◌, ◌<◌, Bool, true, false, cond, not, ◌&&◌, nat_eq, List, [], ◌∷◌, ◌++◌, map, length, drop, get_or, set, length-set, get_or-set_other, get_or-set_same, refl, sym, ◌∙◌, ap, subst, arith}
 use Rattle.std.proofs.lemmas.Bool.{cases_eq, cases_lt}
-use Rattle.std.proofs.lemmas.List.{get_or_push, length_push, get_or_past}
+use Rattle.std.proofs.lemmas.List.{get_or_push, length_push, length-map, get_or_past}
 use Rattle.std.proofs.lemmas.Grind.{common_steps}
 use Rattle.std.specs.List.{Contains}
 use Rattle.fo_disk.specs.Disk.{Block, Versions, versions_of, latest_of, newest, Adds, IsContent}
@@ -10,7 +10,7 @@ use Rattle.fo_disk.proofs.Images.{adds-other, adds-here, contains-drop, contains
 use Rattle.fo_image.specs.declared.types.Pointer.TheVariants.{Local}
 use Rattle.fo_crash.specs.Images.{Content, target}
 use Rattle.fo_cells.specs.Known.{Clear, IsClear, IsSince, MayName}
-use Rattle.fo_cells.specs.Writes.{Writes, Syncs, Born}
+use Rattle.fo_cells.specs.Writes.{KeepsSome, Writes, Syncs, Born}
 use Rattle.fo_cells.specs.Device.{Clearing, Mind, since_of, known, noted, wrote, synced, MayWrite, MayWriteOver, Fits, Stepped, after_sync}
 use Rattle.fo_cells.proofs.Writing.{write_adds, write_keeps}
 use Rattle.fo_cells.proofs.Settling.{sync_adds, sync_keeps}
@@ -44,6 +44,13 @@ among_push (z ∷ xs) x y h = ⊎_elim
     (λ e. inl (subst (λ v. Contains (z ∷ xs) v) e (first_among z xs)))
     (λ more. ⊎_elim (λ was. inl (next_among z y xs was)) (λ is. inr is) (among_push xs x y more))
     (among_cases z (xs ++ x ∷ []) y h)
+
+-- a block that had a version has one after the step, so it has a content and a label
+pub some_known : (m : Mind) (old new : Holds) → ((b : ℕ) → 0 < length (versions_of old b) → 0 < length (versions_of new b)) → KeepsSome (known m old) (known m new)
+some_known m old new some = record {
+  versions = λ b h. omega (arith, some b (omega (arith, h, length-map (versions_of old b) (m.read b))), length-map (versions_of new b) (m.read b));
+  labels = λ b h. omega (arith, some (m.label_block b) (omega (arith, h, length-map (versions_of old (m.label_block b)) (m.label_in b))), length-map (versions_of new (m.label_block b)) (m.label_in b));
+}
 
 pub latest_push : (versions : Versions) (b : Block) → latest_of (versions ++ b ∷ []) ≡ b
 latest_push versions b = get_or_push versions b [] _ (omega (arith, length_push versions b))
@@ -168,10 +175,17 @@ module _ (ok : Bool) {m : Mind} {at : ℕ} {bytes : Block} {is_complete : Bool} 
           noted_is : (d : Clearing) → d.leaf ≢ at → noted at ok d ≡ d
           noted_is d ne = ap (λ v. cond (ok && v) (record d { wrote = true }) d) (nat_eq_other d.leaf at ne) ∙ ap (λ v. cond v (record d { wrote = true }) d) (never ok)
 
+  some_new : (b : ℕ) → 0 < length (versions_of old b) → 0 < length (versions_of new b)
+  some_new b some = ⊎_elim
+      (λ e. subst (λ y. 0 < length (versions_of new y)) (sym e) (subst (λ (vs : Versions). 0 < length vs) (sym (adds-here w here)) (omega (arith, length_push (drop w.gone (versions_of old at)) bytes))))
+      (λ ne. subst (λ (vs : Versions). 0 < length vs) (sym (other b ne)) some)
+      (cases_eq b at)
+
   -- A write that landed is a step of what is known.
   pub landed : Writes at (m.read at bytes) (known m old) (known (wrote at ok is_complete m) new)
   landed = record {
     same = record { memory = refl; tops = refl; label = refl; low = refl };
+    some = let s = some_known m old new some_new in record { versions = s.versions; labels = s.labels };
     newborn = refl;
     labels = λ b l h. subst (λ (vs : Versions). Contains (map (m.label_in b) vs) l) (other (m.label_block b) (may.apart b)) h;
     bytes = may.bytes_are;
@@ -197,6 +211,7 @@ same_list f h (x ∷ xs) = ap (λ y. y ∷ map f xs) (h x) ∙ ap (λ ys. x ∷ 
 pub lost : {m : Mind} {at : ℕ} {bytes : Block} {is_complete : Bool} {old : Holds} → MayWrite m old at bytes is_complete → Writes at (m.read at bytes) (known m old) (known (wrote at false is_complete m) old)
 lost {m} {at} {bytes} {is_complete} {old} may = record {
   same = record { memory = refl; tops = refl; label = refl; low = refl };
+  some = record { versions = λ b some. some; labels = λ b some. some };
   newborn = refl;
   labels = λ b l h. h;
   bytes = may.bytes_are;
@@ -285,10 +300,21 @@ module _ {m : Mind} {unsure : List Bool} {old new : Holds} (y : DiskSettles unsu
           (λ le. ap latest_of (get_or_past new d.leaf [] (omega (arith, le, y.count)) ∙ sym (get_or_past old d.leaf [] le)))
           (cases_lt d.leaf (length old))
 
+  some_left : (b : ℕ) → 0 < length (versions_of old b) → 0 < length (versions_of new b)
+  some_left b some = ⊎_elim
+      (λ lt. subst (λ (vs : Versions). 0 < length vs) (sym (y.each b lt)) (by (get_or unsure b false)))
+      (λ le. absurd (omega (arith, some, ap (λ (vs : Versions). length vs) (get_or_past old b [] le))))
+      (cases_lt b (length old))
+    where
+      by : (v : Bool) → 0 < length (cond v (versions_of old b) (newest (versions_of old b)))
+      by true = some
+      by false = subst (λ (vs : Versions). 0 < length vs) (sym (newest_one (versions_of old b) some)) (omega arith)
+
   -- A sync is a step of what is known.
   pub settled : Syncs (known m old) (known (synced m) new)
   settled = record {
     same = record { memory = refl; tops = refl; label = refl; low = refl };
+    some = let s = some_known m old new some_left in record { versions = s.versions; labels = s.labels };
     versions = fewer_content;
     labels = λ b l h.
         let (x, among, is) = among_map (m.label_in b) (versions_of new (m.label_block b)) l h in

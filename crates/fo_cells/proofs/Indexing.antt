@@ -1,5 +1,5 @@
 -- A block that was made gets its index; and a doubt that is overruled.
-use Rattle.std.proofs.Common.{◌≡◌, ◌≢◌, ◌⊎◌, inl, inr, ⊎_elim, ℕ, ◌<◌, ◌≤◌, false, List, [], ◌∷◌, sym, ◌∙◌, ap, subst, arith}
+use Rattle.std.proofs.Common.{◌≡◌, ◌≢◌, ◌⊎◌, inl, inr, ⊎_elim, ℕ, ◌<◌, ◌≤◌, false, List, [], ◌∷◌, length, sym, ◌∙◌, ap, subst, arith}
 use Rattle.std.specs.List.{Contains}
 use Rattle.fo_image.specs.declared.types.Label.{Label}
 use Rattle.fo_image.specs.declared.types.Pointer.TheVariants.{Local}
@@ -95,6 +95,16 @@ module _ {at : ℕ} {q : Place} {old new : Known} (x : Indexes at q old new) whe
   pub index_safe : {high : ℕ} {doubt : Content → Type 0} → (Contains old.tops super_top → Contains new.tops super_top) → (old.label at).epoch ≡ high → ((leaf on j : ℕ) → IsWait old.waits leaf on j → (leaf ≢ at) × (on ≢ at)) → IsSafe old high doubt → IsSafe new high doubt
   index_safe {high} {doubt} top epoch unwaited safe = record {
     kept = index_keeps safe.kept;
+    of_device = record {
+      blocks = λ b p st. subst (λ (cs : List Content). 0 < length cs) (sym (at_b b x.device.versions)) (⊎_elim
+          (λ was. safe.of_device.blocks b p was.0)
+          (λ is. subst (λ y. 0 < length (old.versions y)) (sym is.0) x.of_device.0)
+          (stands_index b p st));
+      labels = λ b p ne st. subst (λ (ls : List Label). 0 < length ls) (sym (at_b b x.device.labels)) (⊎_elim
+          (λ was. safe.of_device.labels b p ne was.0)
+          (λ is. subst (λ y. 0 < length (old.labels y)) (sym is.0) x.of_device.1)
+          (stands_index b p st));
+    };
     top = top safe.top;
     old = λ b p ne st young. ⊎_elim
         (λ was. let set = safe.old b p ne was.0 (subst (λ (l : Label). l.epoch < high) (at_b b x.label) young) in record {
@@ -121,7 +131,8 @@ module _ {at : ℕ} {q : Place} {old new : Known} (x : Indexes at q old new) whe
           at_b leaf x.device.newborn ∙ m.0,
           m.1,
           m.2,
-          λ p r sp sr. m.3 p r (⊎_elim (λ y. y.0) (λ is. absurd (away.0 is.0)) (stands_index leaf p sp)) (⊎_elim (λ y. y.0) (λ is. absurd (away.1 is.0)) (stands_index on r sr)),
+          subst (λ (cs : List Content). 0 < length cs) (sym (at_b leaf x.device.versions)) m.3,
+          λ p r sp sr. m.4 p r (⊎_elim (λ y. y.0) (λ is. absurd (away.0 is.0)) (stands_index leaf p sp)) (⊎_elim (λ y. y.0) (λ is. absurd (away.1 is.0)) (stands_index on r sr)),
         );
     clears = λ b i leaf h. let m = safe.clears b i leaf (subst (λ (cs : List Clear). IsClear cs b i leaf) x.clears h) in (at_b b x.device.newborn ∙ m.0, m.1, m.2, ap (λ (l : Label). l.kind) (at_b b x.label) ∙ m.3, ap (λ (l : Label). l.epoch) (at_b b x.label) ∙ m.4);
   }
@@ -130,6 +141,7 @@ module _ {at : ℕ} {q : Place} {old new : Known} (x : Indexes at q old new) whe
 pub no_doubt : {k : Known} {high : ℕ} {doubt : Content → Type 0} → ((c : Content) → Contains (k.versions 1) c → SameContent c (k.memory 1)) → IsSafe k high doubt → IsSafe k high (λ c. ⊥)
 no_doubt {k} {high} {doubt} all safe = record {
   kept = safe.kept;
+  of_device = safe.of_device;
   top = safe.top;
   old = safe.old;
   epochs = safe.epochs;

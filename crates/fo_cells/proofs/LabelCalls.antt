@@ -1,24 +1,25 @@
 -- A write of a block of labels of the device is a step of what is known, whatever is answered.
-use Rattle.std.proofs.Common.{◌≡◌, ◌≢◌, ◌⊎◌, inl, inr, ⊎_elim, ℕ, ◌<◌, Bool, true, false, cond, not, ◌&&◌, nat_eq, List, [], ◌∷◌, map, length, drop, get_or, refl, sym, ◌∙◌, ap, subst, arith}
+use Rattle.std.proofs.Common.{◌≡◌, ◌≢◌, ◌⊎◌, inl, inr, ⊎_elim, ℕ, ◌<◌, Bool, true, false, cond, not, ◌&&◌, [], ◌∷◌, map, length, drop, refl, sym, ◌∙◌, ap, subst, arith}
 use Rattle.std.proofs.lemmas.Bool.{cases_eq}
+use Rattle.std.proofs.lemmas.List.{length_push}
 use Rattle.std.specs.Prelude.{Result, Ok, Err, is_err}
 use Rattle.std.specs.List.{Contains}
 use Rattle.fo_disk.specs.Disk.{Block, Versions, versions_of, latest_of}
 use Rattle.fo_disk.specs.Disk.{Content as Holds, Writes as DiskWrites}
 use Rattle.fo_disk.proofs.Images.{adds-other, adds-here, appends-adds, contains-drop}
-use Rattle.fo_image.specs.declared.types.Label.{Label}
 use Rattle.fo_crash.specs.Images.{Content}
-use Rattle.fo_cells.specs.Known.{Clear, IsClear, IsSince}
+use Rattle.fo_cells.specs.Known.{Clear}
 use Rattle.fo_cells.specs.Writes.{WritesLabels}
 use Rattle.fo_cells.specs.Device.{Clearing, Mind, since_of, known, noted, wrote, MayWriteLabels}
 use Rattle.fo_cells.proofs.Standing.{first_among}
-use Rattle.fo_cells.proofs.Calls.{among_map, map_among, among_push, nat_eq_other, never}
+use Rattle.fo_cells.proofs.Calls.{some_known, among_map, map_among, among_push, nat_eq_other, never}
 
 -- the versions after it: those of before, and at this block perhaps these bytes
 record LabelVersions (at : ℕ) (bytes : Block) (old new : Holds) : Type 0 where
   pub others : (b : ℕ) → b ≢ at → versions_of new b ≡ versions_of old b
   pub here : (x : Block) → Contains (versions_of new at) x → Contains (versions_of old at) x ⊎ (x ≡ bytes)
   pub some : 0 < length (versions_of old at)
+  pub left : 0 < length (versions_of new at)
 
 some_first : (vs : Versions) → 0 < length vs → (x : Block) × Contains vs x
 some_first [] some = absurd (omega (arith, some))
@@ -27,6 +28,7 @@ some_first (v ∷ vs) some = (v, first_among v vs)
 labels_step : (ok is_complete : Bool) {m : Mind} {at : ℕ} {bytes : Block} {old new : Holds} → LabelVersions at bytes old new → MayWriteLabels m at bytes → WritesLabels (known m old) (known (wrote at ok is_complete m) new)
 labels_step ok is_complete {m} {at} {bytes} {old} {new} v may = record {
   same = record { memory = refl; tops = refl; label = refl; low = refl };
+  some = let s = some_known m old new some_new in record { versions = s.versions; labels = s.labels };
   newborn = refl;
   versions = λ b c h. ⊎_elim
       (λ e. subst (λ y. Contains (map (m.read y) (versions_of old y)) c) (sym e) (alike c (subst (λ y. Contains (map (m.read y) (versions_of new y)) c) e h)))
@@ -61,6 +63,12 @@ labels_step ok is_complete {m} {at} {bytes} {old} {new} v may = record {
       (cases_eq (m.label_block b) at);
 }
   where
+    some_new : (b : ℕ) → 0 < length (versions_of old b) → 0 < length (versions_of new b)
+    some_new b some = ⊎_elim
+        (λ e. subst (λ y. 0 < length (versions_of new y)) (sym e) v.left)
+        (λ ne. subst (λ (vs : Versions). 0 < length vs) (sym (v.others b ne)) some)
+        (cases_eq b at)
+
     first : (x : Block) × Contains (versions_of old at) x
     first = some_first (versions_of old at) v.some
 
@@ -86,11 +94,12 @@ label_landed {at} {bytes} {old} {new} w here some = record {
       (λ same. inr same)
       (among_push (drop w.gone (versions_of old at)) bytes y (subst (λ (vs : Versions). Contains vs y) (adds-here w here) among));
   some = some;
+  left = subst (λ (vs : Versions). 0 < length vs) (sym (adds-here w here)) (omega (arith, length_push (drop w.gone (versions_of old at)) bytes));
 }
 
 pub labels_known : {E : Type 0} (result : Result Unit E) (m : Mind) (at : ℕ) (bytes : Block) (is_complete : Bool) (old new : Holds) → DiskWrites at bytes result old new → at < length old → 0 < length (versions_of old at) → MayWriteLabels m at bytes → WritesLabels (known m old) (known (wrote at (not (is_err result)) is_complete m) new)
 labels_known (Ok x) m at bytes is_complete old new w here some may = labels_step true is_complete (label_landed w here some) may
 labels_known (Err e) m at bytes is_complete old new w here some may = ⊎_elim
-    (λ same. subst (λ h. WritesLabels (known m old) (known (wrote at false is_complete m) h)) (sym same) (labels_step false is_complete (record { others = λ b ne. refl; here = λ y among. inl among; some = some }) may))
+    (λ same. subst (λ h. WritesLabels (known m old) (known (wrote at false is_complete m) h)) (sym same) (labels_step false is_complete (record { others = λ b ne. refl; here = λ y among. inl among; some = some; left = some }) may))
     (λ appends. labels_step false is_complete (label_landed (appends-adds appends) here some) may)
     w

@@ -24,3 +24,4 @@ pub mod Flags
 pub mod Labels
 pub mod Buffering
 pub mod LabelCalls
+pub mod Left

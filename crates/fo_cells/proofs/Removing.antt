@@ -1,25 +1,26 @@
 -- What the laws of the steps still want.
-use Rattle.std.proofs.Common.{◌≡◌, ◌≢◌, ◌⊎◌, inl, inr, ⊎_elim, ℕ, false, List, refl, sym, ◌∙◌, ap, subst}
+use Rattle.std.proofs.Common.{◌≡◌, ◌≢◌, inl, inr, ⊎_elim, ℕ, false, List, sym, ◌∙◌, subst}
 use Rattle.std.specs.List.{Contains}
 use Rattle.fo_image.specs.declared.types.Label.{Label}
 use Rattle.fo_image.specs.declared.types.Pointer.TheVariants.{Local}
 use Rattle.fo_crash.specs.declared.slot.Slot.{Slot}
 use Rattle.fo_crash.specs.declared.place.Place.{Place}
 use Rattle.fo_crash.specs.Images.{Content, Image, to_block}
+use Rattle.fo_crash.specs.Places.{super_place}
 use Rattle.fo_crash.specs.Steps.{AddsNothing, AddsSlot, Brings, Fills, HasBytes, IsOneOf, cleared}
 use Rattle.fo_crash.proofs.Reach.{lost}
 use Rattle.fo_crash.proofs.Sure.{same_if}
-use Rattle.fo_cells.specs.Known.{Known, Wait, Clear, IsWait, IsClear, IsSince, IsKept, IsLeft, Images, Remains, Stands}
+use Rattle.fo_cells.specs.Known.{Known, Wait, Clear, IsWait, IsClear, IsSince, IsLeft, Images, Remains, Stands}
 use Rattle.fo_cells.specs.Writes.{Puts, Gives, Relabels, Fires}
 use Rattle.fo_cells.specs.Calls.{IsSetLeaf, SuperStays}
-use Rattle.fo_cells.specs.Safe.{IsLive}
-use Rattle.fo_cells.proofs.Standing.{at_b}
+use Rattle.fo_cells.specs.Safe.{super_top, IsLive, IsSafe}
+use Rattle.fo_cells.proofs.Standing.{at_b, stands_top}
 use Rattle.fo_cells.proofs.Settling.{Fewer, fewer_adds, same_seen}
 use Rattle.fo_cells.proofs.Putting.{put_adds}
 use Rattle.fo_cells.proofs.Filling.{fill_one}
 use Rattle.fo_cells.proofs.Waiting.{cleared_leads, leaf_set}
 use Rattle.fo_cells.proofs.Super.{remains_slot, super_fewer, whole_same}
-use Rattle.fo_cells.proofs.Read.{rebuilt, rebuilt_may, rebuilt_same}
+use Rattle.fo_cells.proofs.Read.{rebuilt, here, rebuilt_may, rebuilt_same}
 
 -- a cleared slot brings nothing
 pub nothing_brought : (k : Known) {high : ℕ} (s : Slot) → Brings k.memory (cleared s) (λ b. IsLive high (k.label b))
@@ -63,17 +64,17 @@ one_fill {at} {i} {leaf} {old} {new} r other stays = record {
 }
 
 -- EVERY IMAGE OF THE DEVICE is one of these, as far as paths from the tops lead.
-pub shown_from : {k : Known} {image : Image} {labels : ℕ → Label} (tops : ℕ → Type 0) → IsKept k → k.newborn 1 ≡ false → IsLeft k image labels → ((t : ℕ) → tops t → (p : Place) × Stands k t p × (k.newborn t ≡ false)) → IsOneOf tops (Remains k) image
-shown_from {k} {image} {labels} tops kept settled left stand = record {
+pub shown_from : {k : Known} {high : ℕ} {doubt : Content → Type 0} {image : Image} {labels : ℕ → Label} (tops : ℕ → Type 0) → IsSafe k high doubt → IsLeft k image labels → ((t : ℕ) → tops t → (p : Place) × Stands k t p × (k.newborn t ≡ false)) → IsOneOf tops (Remains k) image
+shown_from {k} {high} {doubt} {image} {labels} tops safe left stand = record {
   other = rebuilt k image;
   is = record {
-    cells = rebuilt_may kept left.each;
-    super = inr (image 1, left.each 1, same_if (ap (λ v. Rattle.std.proofs.Common.cond v (k.memory 1) (image 1)) settled));
+    cells = rebuilt_may safe left.each;
+    super = inr (image 1, left.each 1 (safe.of_device.blocks 1 super_place one), same_if (here safe left.each 1 (record { place = super_place; stands = one; settled = safe.settled })));
   };
   same = record {
     each = λ t b is r.
         let top = stand t is in
-        (rebuilt_same kept left.each (to_block t) (λ x e. let is_t : t ≡ x = same_local t x e in record {
+        (rebuilt_same safe left.each (to_block t) (λ x e. let is_t : t ≡ x = same_local t x e in record {
           place = top.0;
           stands = subst (λ y. Stands k y top.0) is_t top.1;
           settled = subst (λ y. k.newborn y ≡ false) is_t top.2;
@@ -81,8 +82,11 @@ shown_from {k} {image} {labels} tops kept settled left stand = record {
   };
 }
   where
+    one : Stands k 1 super_place
+    one = stands_top super_top safe.top
+
     same_local : (a b : ℕ) → Local a ≡ Local b → a ≡ b
     same_local a b e = cc
 
-pub shown : {k : Known} {image : Image} {labels : ℕ → Label} (tops : List ℕ) → IsKept k → k.newborn 1 ≡ false → IsLeft k image labels → ((t : ℕ) → Contains tops t → (p : Place) × Stands k t p × (k.newborn t ≡ false)) → IsOneOf (λ t. Contains tops t) (Remains k) image
-shown tops kept settled left stand = shown_from (λ t. Contains tops t) kept settled left stand
+pub shown : {k : Known} {high : ℕ} {doubt : Content → Type 0} {image : Image} {labels : ℕ → Label} (tops : List ℕ) → IsSafe k high doubt → IsLeft k image labels → ((t : ℕ) → Contains tops t → (p : Place) × Stands k t p × (k.newborn t ≡ false)) → IsOneOf (λ t. Contains tops t) (Remains k) image
+shown tops safe left stand = shown_from (λ t. Contains tops t) safe left stand

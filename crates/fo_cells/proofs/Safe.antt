@@ -16,6 +16,10 @@ use Rattle.fo_cells.proofs.Super.{super_known, supers_still}
 pub safe_step : {old new : Known} {high : ℕ} {doubt : Content → Type 0} → KeepsSafe old new high → IsSafe old high doubt → IsSafe new high doubt
 safe_step {old} {new} {high} {doubt} k safe = record {
   kept = k.kept safe.kept;
+  of_device = record {
+    blocks = λ b p st. k.some.versions b (safe.of_device.blocks b p (k.stands b p st));
+    labels = λ b p ne st. k.some.labels b (safe.of_device.labels b p ne (k.stands b p st));
+  };
   top = k.top safe.top;
   old = λ b p ne st young. let was = k.stands b p st in
       let before : (old.label b).epoch < high = subst (λ n. n < high) (k.label b p was) young in
@@ -32,7 +36,7 @@ safe_step {old} {new} {high} {doubt} k safe = record {
       (k.live b ne r);
   settled = k.newborn 1 safe.settled;
   supers = supers_still k.supers safe.supers;
-  waits = λ leaf on j h. let m = ⊎_elim (λ was. safe.waits leaf on j was) (λ n. n) (k.waits leaf on j h) in (k.newborn leaf m.0, m.1, m.2, λ p q sp sq. m.3 p q (k.stands leaf p sp) (k.stands on q sq));
+  waits = λ leaf on j h. let m = ⊎_elim (λ was. safe.waits leaf on j was) (λ n. n) (k.waits leaf on j h) in (k.newborn leaf m.0, m.1, m.2, k.some.versions leaf m.3, λ p q sp sq. m.4 p q (k.stands leaf p sp) (k.stands on q sq));
   clears = λ at i leaf h.
       let c = k.clears at i leaf h in
       let m = ⊎_elim (λ was. safe.clears at i leaf was) (λ n. n) c.0 in (

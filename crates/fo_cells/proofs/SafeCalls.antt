@@ -1,5 +1,5 @@
 -- The whole invariant is kept where a block is given out, and where a super block is tried or counts.
-use Rattle.std.proofs.Common.{◌≡◌, ◌≢◌, inl, ⊎_elim, ℕ, ◌<◌, ◌≤◌, List, [], ◌∷◌, refl, sym, ◌∙◌, ap, subst, arith}
+use Rattle.std.proofs.Common.{◌≡◌, ◌≢◌, inl, ⊎_elim, ℕ, ◌<◌, ◌≤◌, List, [], ◌∷◌, length, refl, sym, ◌∙◌, ap, subst, arith}
 use Rattle.std.proofs.lemmas.Bool.{cases_eq}
 use Rattle.std.specs.List.{Contains}
 use Rattle.fo_image.specs.declared.types.Label.{Label}
@@ -36,6 +36,16 @@ walk_beside old new at same (i ∷ path) s never =
 pub give_over : {at : ℕ} {c : Content} {p : Place} {old new : Known} {high : ℕ} {doubt : Content → Type 0} → Gives at c p old new → at ≢ 1 → high ≤ (new.label at).epoch → ((i t : ℕ) → target (c.slot i) ≡ Local t → (old.label t).epoch ≤ (new.label at).epoch) → (Contains old.tops super_top → Contains new.tops super_top) → ((leaf on j : ℕ) → IsWait new.waits leaf on j → IsWait old.waits leaf on j) → IsSafe old high doubt → IsSafe new high doubt
 give_over {at} {c} {p} {old} {new} {high} {doubt} g other up below top waits safe = record {
   kept = give_keeps g safe.kept;
+  of_device = record {
+    blocks = λ b q st. subst (λ (cs : List Content). 0 < length cs) (sym (at_b b g.versions)) (⊎_elim
+        (λ was. safe.of_device.blocks b q was)
+        (λ n. subst (λ y. 0 < length (old.versions y)) (sym n.0) g.of_device.0)
+        (stands_new g b q st));
+    labels = λ b q ne st. subst (λ (ls : List Label). 0 < length ls) (sym (at_b b g.labels)) (⊎_elim
+        (λ was. safe.of_device.labels b q ne was)
+        (λ n. subst (λ y. 0 < length (old.labels y)) (sym n.0) g.of_device.1)
+        (stands_new g b q st));
+  };
   top = top safe.top;
   old = λ b q ne st young. ⊎_elim
       (λ was. let away = stood g b q was in
@@ -74,7 +84,8 @@ give_over {at} {c} {p} {old} {new} {high} {doubt} g other up below top waits saf
         g.newborn leaf away.1 ∙ m.0,
         m.1,
         m.2,
-        λ q r sq sr. m.3 q r (⊎_elim (λ x. x) (λ n. absurd (away.1 n.0)) (stands_new g leaf q sq)) (⊎_elim (λ x. x) (λ n. absurd (away.2 n.0)) (stands_new g on r sr)),
+        subst (λ (cs : List Content). 0 < length cs) (sym (at_b leaf g.versions)) m.3,
+        λ q r sq sr. m.4 q r (⊎_elim (λ x. x) (λ n. absurd (away.1 n.0)) (stands_new g leaf q sq)) (⊎_elim (λ x. x) (λ n. absurd (away.2 n.0)) (stands_new g on r sr)),
       );
   clears = λ b i leaf h.
       let was = g.clears b i leaf h in
@@ -105,13 +116,17 @@ set_beside {old} {new} w b ne set = record {
 super_safe : {old new : Known} {high : ℕ} {before after : Content → Type 0} → SameButSuper old new → IsKept new → ((b : ℕ) (q : Place) → Stands new b q → Stands old b q) → ((b : ℕ) → b ≢ 1 → Reaches new.memory (to_block 1) b → IsLive high (old.label b)) → HasSupers new after → IsSafe old high before → IsSafe new high after
 super_safe {old} {new} {high} {before} {after} w kept stands live supers safe = record {
   kept = kept;
+  of_device = record {
+    blocks = λ b q st. w.some.versions b (safe.of_device.blocks b q (stands b q st));
+    labels = λ b q ne st. w.some.labels b (safe.of_device.labels b q ne (stands b q st));
+  };
   top = subst (λ (ts : List Top). Contains ts super_top) (sym w.tops) safe.top;
   old = λ b q ne st young. set_beside w b ne (safe.old b q ne (stands b q st) (subst (λ (l : Label). l.epoch < high) (at_b b w.label) young));
   epochs = λ a i b s q ne st may e. subst (λ (l : Label). l.epoch ≤ (new.label a).epoch) (sym (at_b b w.label)) (subst (λ (l : Label). (old.label b).epoch ≤ l.epoch) (sym (at_b a w.label)) (safe.epochs a i b s q ne (stands a q st) (may_other w a i s ne may) e));
   live = λ b ne r. subst (λ (l : Label). IsLive high l) (sym (at_b b w.label)) (live b ne r);
   settled = at_b 1 w.newborn ∙ w.settled;
   supers = supers;
-  waits = λ leaf on j h. let m = safe.waits leaf on j (subst (λ (ws : List Wait). IsWait ws leaf on j) w.waits h) in (at_b leaf w.newborn ∙ m.0, m.1, m.2, λ p q sp sq. m.3 p q (stands leaf p sp) (stands on q sq));
+  waits = λ leaf on j h. let m = safe.waits leaf on j (subst (λ (ws : List Wait). IsWait ws leaf on j) w.waits h) in (at_b leaf w.newborn ∙ m.0, m.1, m.2, w.some.versions leaf m.3, λ p q sp sq. m.4 p q (stands leaf p sp) (stands on q sq));
   clears = λ b i leaf h. let m = safe.clears b i leaf (subst (λ (cs : List Clear). IsClear cs b i leaf) w.clears h) in (at_b b w.newborn ∙ m.0, m.1, m.2, ap (λ (l : Label). l.kind) (at_b b w.label) ∙ m.3, ap (λ (l : Label). l.epoch) (at_b b w.label) ∙ m.4);
 }
 

@@ -14,7 +14,7 @@ use Rattle.fo_cells.specs.Writes.{SameDevice, Writes, WritesLabels, Syncs, Ends,
 use Rattle.fo_cells.specs.Calls.{PutsInto, Awaits, WaitsMore, SuperStays}
 use Rattle.fo_cells.specs.Safe.{super_top, IsSet, IsLive, KeepsSafe, IsCurrent, MayWait, MayClear}
 use Rattle.fo_cells.proofs.Standing.{at_b, stands_by, stands_top, stands_below}
-use Rattle.fo_cells.proofs.Keeping.{stands_fewer}
+use Rattle.fo_cells.proofs.Keeping.{stands_fewer, device_some}
 use Rattle.fo_cells.proofs.Settling.{may_fewer, labels_fewer, sync_fewer, ends_fewer, label_keeps, sync_keeps, settled_still, end_keeps}
 use Rattle.fo_cells.proofs.Writing.{write_keeps}
 
@@ -22,6 +22,7 @@ use Rattle.fo_cells.proofs.Writing.{write_keeps}
 pub write_safe : {at : ℕ} {f : Content} {old new : Known} {high : ℕ} → Writes at f old new → IsCurrent old high at → (at ≡ 1 → SameContent f (old.memory 1)) → ((leaf on j : ℕ) → IsWait new.waits leaf on j → IsWait old.waits leaf on j) → KeepsSafe old new high
 write_safe {at} {f} {old} {new} {high} w current super waits = record {
   kept = λ k. write_keeps w k;
+  some = w.some;
   top = λ h. subst (λ (ts : List Top). Contains ts super_top) (sym w.same.tops) h;
   stands = stands_fewer (λ t h. subst (λ (ts : List Top). Contains ts t) w.same.tops h) (Rattle.fo_cells.proofs.Writing.may_old w);
   label = λ b q st. ap (λ (l : Label). l.epoch) (at_b b w.same.label);
@@ -48,6 +49,7 @@ write_safe {at} {f} {old} {new} {high} w current super waits = record {
 pub label_safe : {old new : Known} {high : ℕ} → WritesLabels old new → KeepsSafe old new high
 label_safe {old} {new} {high} w = record {
   kept = λ k. label_keeps w k;
+  some = w.some;
   top = λ h. subst (λ (ts : List Top). Contains ts super_top) (sym w.same.tops) h;
   stands = stands_fewer (λ t h. subst (λ (ts : List Top). Contains ts t) w.same.tops h) (may_fewer (labels_fewer w));
   label = λ b q st. ap (λ (l : Label). l.epoch) (at_b b w.same.label);
@@ -68,6 +70,7 @@ label_safe {old} {new} {high} w = record {
 pub sync_safe : {old new : Known} {high : ℕ} → Syncs old new → ((leaf on j : ℕ) → IsWait new.waits leaf on j → IsWait old.waits leaf on j) → KeepsSafe old new high
 sync_safe {old} {new} {high} w waits = record {
   kept = λ k. sync_keeps w k;
+  some = w.some;
   top = λ h. subst (λ (ts : List Top). Contains ts super_top) (sym w.same.tops) h;
   stands = stands_fewer (λ t h. subst (λ (ts : List Top). Contains ts t) w.same.tops h) (may_fewer (sync_fewer w));
   label = λ b q st. ap (λ (l : Label). l.epoch) (at_b b w.same.label);
@@ -101,6 +104,7 @@ pub end_safe : {old new : Known} {high : ℕ} → Ends old new → ((leaf on j :
 end_safe {old} {new} {high} w waits =
     let clears : (b i leaf : ℕ) → IsClear new.clears b i leaf → IsClear old.clears b i leaf = λ b i leaf h. subst (λ (cs : List Clear). IsClear cs b i leaf) w.clears h in record {
       kept = λ k. end_keeps w k;
+      some = device_some w.device;
       top = λ h. subst (λ (ts : List Top). Contains ts super_top) (sym w.same.tops) h;
       stands = stands_fewer (λ t h. subst (λ (ts : List Top). Contains ts t) w.same.tops h) (may_fewer (ends_fewer w));
       label = λ b q st. ap (λ (l : Label). l.epoch) (at_b b w.same.label);
@@ -119,6 +123,7 @@ bytes_safe {at} {bytes} {old} {new} {high} u current other =
     let clears : (b i leaf : ℕ) → IsClear new.clears b i leaf → IsClear old.clears b i leaf = λ b i leaf h. subst (λ (cs : List Clear). IsClear cs b i leaf) u.clears h in
     let same : (b : ℕ) → b ≢ at → SameContent (old.memory b) (new.memory b) = λ b ne. record { bytes = sym (u.memory.others b ne); slots = λ j. sym (u.memory.slots b j) } in record {
       kept = λ k. Rattle.fo_cells.proofs.Bytes.bytes_keeps u k;
+      some = device_some u.device;
       top = λ h. subst (λ (ts : List Top). Contains ts super_top) (sym u.tops) h;
       stands = stands_fewer (λ t h. subst (λ (ts : List Top). Contains ts t) u.tops h) (Rattle.fo_cells.proofs.Bytes.may_bytes u);
       label = λ b q st. ap (λ (l : Label). l.epoch) (at_b b u.label);
@@ -137,6 +142,7 @@ put_safe {at} {i} {s} {old} {new} {high} u was top current other epoch brings =
     let clears : (b j leaf : ℕ) → IsClear new.clears b j leaf → IsClear old.clears b j leaf = λ b j leaf h. subst (λ (cs : List Clear). IsClear cs b j leaf) u.clears h in
     let same : (b : ℕ) → b ≢ at → SameContent (old.memory b) (new.memory b) = λ b ne. record { bytes = sym (u.memory.bytes b); slots = λ j. sym (u.memory.others b j (inl ne)) } in record {
       kept = λ k. Rattle.fo_cells.proofs.Putting.put_keeps u k;
+      some = device_some u.device;
       top = top;
       stands = Rattle.fo_cells.proofs.Putting.stands_put u was;
       label = λ b q st. ap (λ (l : Label). l.epoch) (at_b b u.label);
@@ -164,6 +170,7 @@ fire_safe {at} {i} {leaf} {old} {new} {high} r other waits =
     let clears : (b j l : ℕ) → IsClear new.clears b j l → IsClear old.clears b j l = λ b j l h. (r.clears b j l h).0 in
     let same : (b : ℕ) → b ≢ at → SameContent (old.memory b) (new.memory b) = λ b ne. record { bytes = sym (r.memory.bytes b); slots = λ j. sym (r.memory.others b j (inl ne)) } in record {
       kept = λ k. Rattle.fo_cells.proofs.Firing.fire_keeps r k;
+      some = device_some r.device;
       top = λ h. subst (λ (ts : List Top). Contains ts super_top) (sym r.tops) h;
       stands = stands_fewer (λ t h. subst (λ (ts : List Top). Contains ts t) r.tops h) (Rattle.fo_cells.proofs.Firing.may_old r);
       label = λ b q st. ap (λ (l : Label). l.epoch) (at_b b r.label);
@@ -184,6 +191,7 @@ pub close_safe : {b : ℕ} {l : Label} {old new : Known} {high : ℕ} → Relabe
 close_safe {b} {l} {old} {new} {high} r outside unclear =
     let clears : (a j leaf : ℕ) → IsClear new.clears a j leaf → IsClear old.clears a j leaf = λ a j leaf h. subst (λ (cs : List Clear). IsClear cs a j leaf) r.clears h in record {
       kept = λ k. Rattle.fo_cells.proofs.Closing.relabel_keeps r k;
+      some = device_some r.device;
       top = λ h. subst (λ (ts : List Top). Contains ts super_top) (sym r.tops) h;
       stands = Rattle.fo_cells.proofs.Closing.stands_old r;
       label = λ a q st. ⊎_elim (λ same. ap (λ (x : Label). x.epoch) same) (λ fits. fits.epoch) (Rattle.fo_cells.proofs.Closing.label_fits r a q st);
@@ -206,6 +214,7 @@ close_safe {b} {l} {old} {new} {high} r outside unclear =
 pub await_safe : {at i leaf : ℕ} {old new : Known} {high : ℕ} → Awaits at i leaf old new → MayClear old high at leaf → KeepsSafe old new high
 await_safe {at} {i} {leaf} {old} {new} {high} w may = record {
   kept = λ k. Rattle.fo_cells.proofs.Waiting.await_keeps w k;
+  some = device_some w.device;
   top = λ h. subst (λ (ts : List Top). Contains ts super_top) (sym w.same.tops) h;
   stands = stands_by (λ t h. stands_top t (subst (λ (ts : List Top). Contains ts t) w.same.tops h)) (λ a j s p b st m e. stands_below j s b st (Rattle.fo_cells.proofs.Waiting.may_await w a j s b m e) e);
   label = λ b q st. ap (λ (l : Label). l.epoch) (at_b b w.same.label);
@@ -230,6 +239,7 @@ pub more_safe : {old new : Known} {high : ℕ} → WaitsMore old new → ((leaf 
 more_safe {old} {new} {high} w waits =
     let clears : (b i leaf : ℕ) → IsClear new.clears b i leaf → IsClear old.clears b i leaf = λ b i leaf h. subst (λ (cs : List Clear). IsClear cs b i leaf) w.clears h in record {
       kept = λ k. Rattle.fo_cells.proofs.Waiting.more_keeps w k;
+      some = device_some w.device;
       top = λ h. subst (λ (ts : List Top). Contains ts super_top) (sym w.same.tops) h;
       stands = stands_fewer (λ t h. subst (λ (ts : List Top). Contains ts t) w.same.tops h) (may_fewer (Rattle.fo_cells.proofs.Waiting.more_fewer w));
       label = λ b q st. ap (λ (l : Label). l.epoch) (at_b b w.same.label);

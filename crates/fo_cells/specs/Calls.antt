@@ -1,5 +1,5 @@
 -- What calls in memory do to what a cache knows, beside the steps of its device.
-use Rattle.std.specs.Prelude.{◌≡◌, ◌≢◌, ◌⊎◌, ◌<◌, ℕ, true, false, List}
+use Rattle.std.specs.Prelude.{◌≡◌, ◌≢◌, ◌⊎◌, ◌<◌, ℕ, true, false, List, length}
 use Rattle.std.specs.List.{Contains}
 use Rattle.fo_image.specs.declared.types.Pointer.TheVariants.{Local}
 use Rattle.fo_image.specs.Usable.{is_usable}
@@ -9,7 +9,7 @@ use Rattle.fo_crash.specs.Images.{Content, SameContent, target}
 use Rattle.fo_crash.specs.Places.{place_below}
 use Rattle.fo_crash.specs.Steps.{PutsBytes}
 use Rattle.fo_cells.specs.Known.{Known, Top, MaySlot, HasBytes, IsWait, IsClear, IsSince, MayName, Stands, seen}
-use Rattle.fo_cells.specs.Writes.{SameMind, SameDevice}
+use Rattle.fo_cells.specs.Writes.{SameMind, SameDevice, KeepsSome}
 
 -- Bytes that spell no slot are put in memory.
 pub record PutsInto (at : ℕ) (bytes : List ℕ) (old new : Known) : Type 0 where
@@ -46,6 +46,7 @@ pub record IsSetLeaf (k : Known) (leaf : ℕ) : Type 0 where
 
 -- All but block 1 stays, which is settled, waits for nothing, and is waited for by nothing.
 pub record SameButSuper (old new : Known) : Type 0 where
+  pub some : KeepsSome old new
   pub memory : (b : ℕ) → b ≢ 1 → new.memory b ≡ old.memory b
   pub versions : (b : ℕ) (c : Content) → b ≢ 1 → Contains (new.versions b) c → Contains (old.versions b) c
   pub newborn : new.newborn ≡ old.newborn
@@ -86,8 +87,9 @@ pub record SuperStays (old new : Known) : Type 0 where
   pub memory : SameContent (new.memory 1) (old.memory 1)
   pub versions : (c : Content) → Contains (new.versions 1) c → Contains (old.versions 1) c ⊎ SameContent c (old.memory 1)
 
--- A block that was made gets the place at which it is put, before it is: no slot leads to it, and none of its own leads on.
+-- A block of the device that was made gets the place at which it is put, before it is: no slot leads to it, and none of its own leads on.
 pub record Indexes (at : ℕ) (q : Place) (old new : Known) : Type 0 where
+  pub of_device : (0 < length (old.versions at)) × (0 < length (old.labels at))
   pub memory : new.memory ≡ old.memory
   pub device : SameDevice old new
   pub label : new.label ≡ old.label

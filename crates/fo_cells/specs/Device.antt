@@ -99,6 +99,13 @@ pub record Fits (m : Mind) (unsure : List Bool) (holds : Holds) : Type 0 where
   pub some : (b : ℕ) → b < length holds → 0 < length (versions_of holds b)
   pub leaves : (c : Clearing) → Contains m.clears c → c.leaf < length holds
 
+-- an image of the device, and the labels in it, as the format reads them
+abbrev pub read_image : Mind → List Block → Image
+read_image m device = λ b. m.read b (slice_index_or device b [])
+
+abbrev pub read_labels : Mind → List Block → ℕ → Label
+read_labels m device = λ b. m.label_in b (slice_index_or device (m.label_block b) [])
+
 -- No image is added, the invariant is kept, and so is what is known of the device's failed writes.
 pub record Stepped (m next : Mind) (unsure after : List Bool) (old new : Holds) : Type 0 where
   pub adds : AddsNothing (Images (known m old)) (Images (known next new))

@@ -1,6 +1,7 @@
 -- Laws of the steps: what each adds to the images, and that it keeps the invariant.
 use Rattle.std.specs.Prelude.{◌≡◌, ◌≢◌, ◌⊎◌, ◌<◌, ◌≤◌, ℕ, Bool, false, List}
 use Rattle.std.specs.List.{Contains}
+use Rattle.fo_disk.specs.Disk.{Block, IsImage, latest}
 use Rattle.fo_disk.specs.Disk.{Content as Holds}
 use Rattle.fo_image.specs.declared.types.Label.{Label}
 use Rattle.fo_image.specs.declared.types.Pointer.TheVariants.{Local}
@@ -14,7 +15,7 @@ use Rattle.fo_cells.specs.Known.{Known, IsWait, IsClear, IsLeft, Remains, Stands
 use Rattle.fo_cells.specs.Writes.{Writes, WritesLabels, Syncs, Ends, Puts, Gives, Relabels, Fires}
 use Rattle.fo_cells.specs.Calls.{PutsInto, Awaits, WaitsMore, IsSetLeaf, TriesSuper, CountsSuper, Indexes}
 use Rattle.fo_cells.specs.Safe.{super_top, IsLive, IsSafe, IsCurrent, MayWait, MayClear}
-use Rattle.fo_cells.specs.Device.{Mind, known}
+use Rattle.fo_cells.specs.Device.{Mind, known, read_image, read_labels}
 use Rattle.fo_cells.specs.Flags.{Flags, FlagsFit, LabelsFit, IsUnmarked}
 
 -- the doubt, where there is one
@@ -91,6 +92,13 @@ OverrulingIsSafe = (high : ℕ) (doubts : List Content) (k : Known) → ((c : Co
 -- Every image of the device is one of these, as far as paths from tops lead that were settled whole.
 abbrev pub ImagesAreShown : Type 0
 ImagesAreShown = (high : ℕ) (doubts : List Content) (k : Known) (image : Image) (labels : ℕ → Label) (tops : List ℕ) → Safe k high doubts → IsLeft k image labels → ((t : ℕ) → Contains tops t → (p : Place) × Stands k t p × (k.newborn t ≡ false)) → IsOneOf (λ t. Contains tops t) (Remains k) image
+
+-- Each image of the device is left, as the format reads it; and where each block has a version there is one, of the last versions.
+abbrev pub DeviceIsLeft : Type 0
+DeviceIsLeft = (m : Mind) (holds : Holds) (device : List Block) → IsImage holds device → IsLeft (known m holds) (read_image m device) (read_labels m device)
+
+abbrev pub DeviceHasImage : Type 0
+DeviceHasImage = (m : Mind) (f : Flags) (unsure : List Bool) (holds : Holds) → FlagsFit m f unsure holds → IsImage holds (latest holds)
 
 abbrev pub MemoryIsLeft : Type 0
 MemoryIsLeft = (k : Known) → Remains k k.memory

@@ -1,5 +1,5 @@
 -- THE INVARIANT with epochs, waits and the super block, in one record.
-use Rattle.std.specs.Prelude.{◌≡◌, ◌≢◌, ◌⊎◌, ◌<◌, ◌≤◌, ℕ, false}
+use Rattle.std.specs.Prelude.{◌≡◌, ◌≢◌, ◌⊎◌, ◌<◌, ◌≤◌, ℕ, false, length}
 use Rattle.std.specs.List.{Contains}
 use Rattle.fo_image.specs.declared.types.Kind.TheVariants.{Dir}
 use Rattle.fo_image.specs.declared.types.Label.{Label}
@@ -10,6 +10,7 @@ use Rattle.fo_crash.specs.declared.place.Place.{Place}
 use Rattle.fo_crash.specs.Images.{Content, SameContent, Reaches, target, to_block}
 use Rattle.fo_crash.specs.Places.{super_place}
 use Rattle.fo_cells.specs.Known.{Known, Top, IsWait, IsClear, IsKept, MaySlot, Stands}
+use Rattle.fo_cells.specs.Writes.{KeepsSome}
 use Rattle.fo_cells.specs.Calls.{HasSupers, SuperStays}
 
 -- All that may be on the device of a block is what memory has, and no slot of it waits.
@@ -22,9 +23,9 @@ pub record IsSet (k : Known) (b : ℕ) : Type 0 where
 abbrev pub IsLive : ℕ → Label → Type 0
 IsLive high l = (l.state ≡ Live) × (l.epoch ≤ high)
 
--- A leaf waits for an entry of a leaf of lower rank, and was settled before; neither is block 1.
+-- A leaf of the device waits for an entry of a leaf of lower rank, and was settled before; neither is block 1.
 abbrev pub MayWait : Known → ℕ → ℕ → Type 0
-MayWait k leaf on = (k.newborn leaf ≡ false) × (leaf ≢ 1) × (on ≢ 1) × ((p q : Place) → Stands k leaf p → Stands k on q → q.rank < p.rank)
+MayWait k leaf on = (k.newborn leaf ≡ false) × (leaf ≢ 1) × (on ≢ 1) × (0 < length (k.versions leaf)) × ((p q : Place) → Stands k leaf p → Stands k on q → q.rank < p.rank)
 
 -- A slot waits in a current leaf of entries, which was settled before.
 abbrev pub MayClear : Known → ℕ → ℕ → ℕ → Type 0
@@ -34,8 +35,14 @@ MayClear k high at leaf = (k.newborn at ≡ false) × (at ≢ 1) × (leaf ≢ 1)
 abbrev pub super_top : Top
 super_top = record { at = 1; place = super_place }
 
+-- All that stands somewhere is a block of the device: it has a version there, and, but for block 1, a label.
+pub record IsOfDevice (k : Known) : Type 0 where
+  pub blocks : (b : ℕ) (p : Place) → Stands k b p → 0 < length (k.versions b)
+  pub labels : (b : ℕ) (p : Place) → b ≢ 1 → Stands k b p → 0 < length (k.labels b)
+
 pub record IsSafe (k : Known) (high : ℕ) (doubt : Content → Type 0) : Type 0 where
   pub kept : IsKept k
+  pub of_device : IsOfDevice k
   -- block 1 is a top, so that what is said of what stands is said of what hangs from it
   pub top : Contains k.tops super_top
   -- an older block that stands somewhere is set
@@ -53,6 +60,7 @@ pub record IsSafe (k : Known) (high : ℕ) (doubt : Content → Type 0) : Type 0
 -- A step after which nothing stands anew.
 pub record KeepsSafe (old new : Known) (high : ℕ) : Type 0 where
   pub kept : IsKept old → IsKept new
+  pub some : KeepsSome old new
   pub top : Contains old.tops super_top → Contains new.tops super_top
   pub stands : (b : ℕ) (q : Place) → Stands new b q → Stands old b q
   -- labels of what stands keep kind and epoch

@@ -1,5 +1,5 @@
 //! Laws of the steps. Each function does nothing: its contract is the law, so that the law is proved with the crate.
-ghost use Rattle.fo_cells.specs.Laws.{WriteIsSafe, LabelIsSafe, SyncIsSafe, EndIsSafe, SlotIsSafe, BytesAreSafe, AwaitIsSafe, RemovalIsSafe, WaitIsSafe, ClearingIsSafe, GivingIsSafe, IndexingIsSafe, ClosingIsSafe, SuperIsSafe, CountingIsSafe, OverrulingIsSafe, ImagesAreShown, MemoryIsLeft, PlacesHold, OlderIsSure, SuperIsKnown, AllIsSettled, LabelIsNamed, PlacesStay, ClearingsJoin};
+ghost use Rattle.fo_cells.specs.Laws.{WriteIsSafe, LabelIsSafe, SyncIsSafe, EndIsSafe, SlotIsSafe, BytesAreSafe, AwaitIsSafe, RemovalIsSafe, WaitIsSafe, ClearingIsSafe, GivingIsSafe, IndexingIsSafe, ClosingIsSafe, SuperIsSafe, CountingIsSafe, OverrulingIsSafe, ImagesAreShown, DeviceIsLeft, DeviceHasImage, MemoryIsLeft, PlacesHold, OlderIsSure, SuperIsKnown, AllIsSettled, LabelIsNamed, PlacesStay, ClearingsJoin};
 
 /// A write of a block or of a block of labels, a sync, and the end of a wait add no image, and keep the invariant.
 pub fn device_steps_are_safe()
@@ -43,6 +43,8 @@ pub fn supers_are_safe()
 /// What the images are.
 pub fn images_are_known()
     ensures shown { ImagesAreShown }
+    ensures device { DeviceIsLeft }
+    ensures some { DeviceHasImage }
     ensures memory { MemoryIsLeft }
     ensures places { PlacesHold }
     ensures older { OlderIsSure }

@@ -1,7 +1,8 @@
 -- A write of another super block of the device is a trial of it, whatever is answered.
-use Rattle.std.proofs.Common.{◌≡◌, ◌≢◌, ◌⊎◌, inl, inr, ⊎_elim, ℕ, ◌<◌, Bool, true, false, cond, not, ◌&&◌, List, [], ◌∷◌, map, length, drop, refl, sym, ◌∙◌, ap, subst}
+use Rattle.std.proofs.Common.{◌≡◌, ◌≢◌, ◌⊎◌, inl, inr, ⊎_elim, ℕ, ◌<◌, Bool, true, false, cond, not, ◌&&◌, List, [], ◌∷◌, map, length, drop, refl, sym, ◌∙◌, ap, subst, arith}
 use Rattle.std.proofs.Math.Path.{fun_ext}
 use Rattle.std.proofs.lemmas.Bool.{cases_eq}
+use Rattle.std.proofs.lemmas.List.{length_push}
 use Rattle.std.specs.Prelude.{Result, Ok, Err, is_err}
 use Rattle.std.specs.List.{Contains}
 use Rattle.fo_disk.specs.Disk.{Block, Versions, versions_of, latest_of, Adds}
@@ -12,13 +13,14 @@ use Rattle.fo_cells.specs.Known.{Clear}
 use Rattle.fo_cells.specs.Calls.{TriesSuper}
 use Rattle.fo_cells.specs.Device.{Clearing, Mind, since_of, known, noted, wrote}
 use Rattle.fo_cells.proofs.Standing.{first_among, next_among}
-use Rattle.fo_cells.proofs.Calls.{among_map, map_among, among_push, nat_eq_here, nat_eq_other, never}
+use Rattle.fo_cells.proofs.Calls.{some_known, among_map, map_among, among_push, nat_eq_here, nat_eq_other, never}
 use Rattle.fo_cells_all.specs.All.{MayTry}
 
 -- the versions after it
 record SuperVersions (bytes : Block) (old new : Holds) : Type 0 where
   pub others : (b : ℕ) → b ≢ 1 → versions_of new b ≡ versions_of old b
   pub here : (x : Block) → Contains (versions_of new 1) x → Contains (versions_of old 1) x ⊎ (x ≡ bytes)
+  pub left : 0 < length (versions_of old 1) → 0 < length (versions_of new 1)
 
 both_map : (f g : Clearing → Clear) (n : Clearing → Clearing) (cs : List Clearing) → ((c : Clearing) → Contains cs c → f (n c) ≡ g c) → map f (map n cs) ≡ map g cs
 both_map f g n [] same = refl
@@ -27,6 +29,7 @@ both_map f g n (c ∷ cs) same = ap (λ y. y ∷ map f (map n cs)) (same c (firs
 tries_step : (ok : Bool) {m : Mind} {d : Content} {bytes : Block} {old new : Holds} → SuperVersions bytes old new → MayTry m old d bytes → TriesSuper d (known m old) (known (wrote 1 ok false m) new)
 tries_step ok {m} {d} {bytes} {old} {new} v may = record {
   same = record {
+    some = let s = some_known m old new some_new in record { versions = s.versions; labels = s.labels };
     memory = λ b ne. refl;
     versions = λ b c ne h. subst (λ (vs : Versions). Contains (map (m.read b) vs) c) (v.others b ne) h;
     newborn = refl;
@@ -57,6 +60,12 @@ tries_step ok {m} {d} {bytes} {old} {new} v may = record {
   fits = may.fits;
 }
   where
+    some_new : (b : ℕ) → 0 < length (versions_of old b) → 0 < length (versions_of new b)
+    some_new b some = ⊎_elim
+        (λ e. subst (λ y. 0 < length (versions_of new y)) (sym e) (v.left (subst (λ y. 0 < length (versions_of old y)) e some)))
+        (λ ne. subst (λ (vs : Versions). 0 < length vs) (sym (v.others b ne)) some)
+        (cases_eq b 1)
+
     late_new : ℕ → List Content
     late_new b = (known (wrote 1 ok false m) new).late b
 
@@ -87,11 +96,12 @@ super_landed {bytes} {old} {new} w here = record {
       (λ was. inl (contains-drop w.gone (versions_of old 1) y was))
       (λ same. inr same)
       (among_push (drop w.gone (versions_of old 1)) bytes y (subst (λ (vs : Versions). Contains vs y) (adds-here w here) among));
+  left = λ some. subst (λ (vs : Versions). 0 < length vs) (sym (adds-here w here)) (omega (arith, length_push (drop w.gone (versions_of old 1)) bytes));
 }
 
 pub tries_known : {E : Type 0} (result : Result Unit E) (m : Mind) (d : Content) (bytes : Block) (old new : Holds) → DiskWrites 1 bytes result old new → 1 < length old → MayTry m old d bytes → TriesSuper d (known m old) (known (wrote 1 (not (is_err result)) false m) new)
 tries_known (Ok x) m d bytes old new w here may = tries_step true (super_landed w here) may
 tries_known (Err e) m d bytes old new w here may = ⊎_elim
-    (λ same. subst (λ h. TriesSuper d (known m old) (known (wrote 1 false false m) h)) (sym same) (tries_step false (record { others = λ b ne. refl; here = λ y among. inl among }) may))
+    (λ same. subst (λ h. TriesSuper d (known m old) (known (wrote 1 false false m) h)) (sym same) (tries_step false (record { others = λ b ne. refl; here = λ y among. inl among; left = λ some. some }) may))
     (λ appends. tries_step false (super_landed (appends-adds appends) here) may)
     w

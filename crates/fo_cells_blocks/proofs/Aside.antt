@@ -38,6 +38,7 @@ use Rattle.fo_cells_blocks.specs.Indexing.{SetsAside}
 pub view_safe : (k : Known) (ts : List Top) (high : ℕ) → ((y : Top) → Contains ts y → Contains k.tops y) → Contains ts super_top → KeepsSafe k (view k ts) high
 view_safe k ts high sub top = record {
   kept = λ kept. view_kept k ts sub kept;
+  some = record { versions = λ b some. some; labels = λ b some. some };
   top = λ was. top;
   stands = λ b q st. view_stands k ts sub b q st;
   label = λ b q st. refl;

@@ -98,6 +98,7 @@ module _ {at : ℕ} {q : Place} {c d : Kept} {f : Format} {x : Used} {Made : ℕ
 
   index_view : Indexes at q (view Old c.active) (view New d.active)
   index_view = record {
+    of_device = o.indexes.of_device;
     memory = o.indexes.memory;
     device = record { versions = o.indexes.device.versions; newborn = o.indexes.device.newborn; late = o.indexes.device.late; labels = o.indexes.device.labels };
     label = o.indexes.label;

@@ -29,6 +29,7 @@ use Rattle.fo_cells_epochs.proofs.Made.{give_trees, index_trees}
 pub with_doubt : {k : Known} {high : ℕ} {before after : Content → Type 0} → HasSupers k after → IsSafe k high before → IsSafe k high after
 with_doubt {k} {high} {before} {after} supers safe = record {
   kept = safe.kept;
+  of_device = safe.of_device;
   top = safe.top;
   old = safe.old;
   epochs = safe.epochs;

@@ -29,6 +29,7 @@ module _ {at : ℕ} {c : Content} {p : Place} {old new : Known} {high : ℕ} {ac
   pub given_view : Gives at c p (view old active) (view new (made_top at p ∷ active))
   given_view = record {
     nowhere = λ q st. g.nowhere q (active_stands h at q st);
+    of_device = g.of_device;
     memory = g.memory;
     versions = g.versions;
     labels = g.labels;
@@ -85,6 +86,7 @@ module _ {at : ℕ} {c : Content} {p : Place} {old new : Known} {high : ℕ} {ac
 module _ {at : ℕ} {q : Place} {old new : Known} {high : ℕ} {active after : List Top} {roots : List Root} (x : Indexes at q old new) (h : HasTrees old high active roots) (moves : MovesTop at q active after) (stood_at : (r : Place) × Stands (view old active) at r) where
   index_view : Indexes at q (view old active) (view new after)
   index_view = record {
+    of_device = x.of_device;
     memory = x.memory;
     device = record { versions = x.device.versions; newborn = x.device.newborn; late = x.device.late; labels = x.device.labels };
     label = x.label;

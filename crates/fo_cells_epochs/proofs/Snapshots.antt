@@ -47,13 +47,14 @@ module _ {k : Known} (ts : List Top) (low : ℕ) (stand : (t : Top) → Contains
   pub from_safe : {high : ℕ} {doubt : Content → Type 0} → Contains ts super_top → IsKept (from_tops k ts low) → IsSafe k high doubt → IsSafe (from_tops k ts low) high doubt
   from_safe {high} {doubt} top kept safe = record {
     kept = kept;
+    of_device = record { blocks = λ b p st. safe.of_device.blocks b p (from_stands b p st); labels = λ b p ne st. safe.of_device.labels b p ne (from_stands b p st) };
     top = top;
     old = λ b p ne st young. let s = safe.old b p ne (from_stands b p st) young in record { newborn = s.newborn; versions = s.versions; clears = s.clears };
     epochs = λ a i b s p ne st m e. safe.epochs a i b s p ne (from_stands a p st) m e;
     live = safe.live;
     settled = safe.settled;
     supers = record { versions = safe.supers.versions };
-    waits = λ leaf on j is. let m = safe.waits leaf on j is in (m.0, m.1, m.2, λ p q sp sq. m.3 p q (from_stands leaf p sp) (from_stands on q sq));
+    waits = λ leaf on j is. let m = safe.waits leaf on j is in (m.0, m.1, m.2, m.3, λ p q sp sq. m.4 p q (from_stands leaf p sp) (from_stands on q sq));
     clears = safe.clears;
   }
 
@@ -245,6 +246,10 @@ module _ {d : Content} {root next high : ℕ} {old mid : Known} (x : BeginsEpoch
   begun_safe =
       let back : (b : ℕ) (q : Place) → Stands (begun mid after (kept_root root high ∷ roots)) b q → Stands old b q = λ b q st. mid_old b q (from_stands (after ++ map root_top (kept_root root high ∷ roots)) mid.low (new_top (kept_root root high ∷ roots) (λ r is. is)) b q st) in record {
         kept = begun_kept;
+        of_device = record {
+          blocks = λ b q st. x.counts.same.some.versions b (safe.of_device.blocks b q (back b q st));
+          labels = λ b q ne st. x.counts.same.some.labels b (safe.of_device.labels b q ne (back b q st));
+        };
         top = Contains-append_left after (map root_top (kept_root root high ∷ roots)) super_top fewer.top;
         old = λ b q ne st young.
             let s = (x.settled b q ne (back b q st)).0 in
@@ -257,7 +262,7 @@ module _ {d : Content} {root next high : ℕ} {old mid : Known} (x : BeginsEpoch
         supers = record { versions = (counts_doubt x.counts).versions };
         waits = λ leaf on j is.
             let m = safe.waits leaf on j (subst (λ (ws : List Wait). IsWait ws leaf on j) x.counts.same.waits is) in
-            (at_b leaf x.counts.same.newborn ∙ m.0, m.1, m.2, λ p q sp sq. m.3 p q (back leaf p sp) (back on q sq));
+            (at_b leaf x.counts.same.newborn ∙ m.0, m.1, m.2, x.counts.same.some.versions leaf m.3, λ p q sp sq. m.4 p q (back leaf p sp) (back on q sq));
         clears = λ b i leaf is. absurd (x.unclear b i leaf (subst (λ (cs : List Clear). IsClear cs b i leaf) x.counts.same.clears is));
       }
 

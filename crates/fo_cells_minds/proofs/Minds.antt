@@ -134,9 +134,10 @@ clearing_step {at} {i} {leaf} {m} {n} holds r one in_use = record {
   in_use = in_use;
 }
 
-pub giving_step : {at : ℕ} {content : Content} {p : Place} {m n : Mind} (holds : Holds) → GivesMind at content p m n → ((q : Place) → Stands (known m holds) at q → ⊥) → ((i t : ℕ) → target (content.slot i) ≡ Local t → Stands (known m holds) t (place_below p i (content.slot i)) × ((place_below p i (content.slot i)).rank < p.rank)) → Gives at content p (known m holds) (known n holds)
-giving_step {at} {content} {p} {m} {n} holds r nowhere fits = record {
+pub giving_step : {at : ℕ} {content : Content} {p : Place} {m n : Mind} (holds : Holds) → GivesMind at content p m n → (0 < length ((known m holds).versions at)) × (0 < length ((known m holds).labels at)) → ((q : Place) → Stands (known m holds) at q → ⊥) → ((i t : ℕ) → target (content.slot i) ≡ Local t → Stands (known m holds) t (place_below p i (content.slot i)) × ((place_below p i (content.slot i)).rank < p.rank)) → Gives at content p (known m holds) (known n holds)
+giving_step {at} {content} {p} {m} {n} holds r there nowhere fits = record {
   nowhere = nowhere;
+  of_device = there;
   memory = r.memory;
   versions = ap (λ (y : ℕ → Block → Content). λ b. map (y b) (versions_of holds b)) r.read;
   labels = ap (λ (l : ℕ → Block → Label). λ b. map (l b) (versions_of holds (n.label_block b))) r.label_in ∙ ap (λ (k : ℕ → ℕ). λ b. map (m.label_in b) (versions_of holds (k b))) r.label_block;

@@ -1,5 +1,5 @@
 -- What a cache changes of what it keeps, as steps of what is known, over any device.
-use Rattle.std.specs.Prelude.{◌≡◌, ◌≢◌, ◌⊎◌, ◌<◌, ℕ, true, false, List}
+use Rattle.std.specs.Prelude.{◌≡◌, ◌≢◌, ◌⊎◌, ◌<◌, ℕ, true, false, List, length}
 use Rattle.std.specs.List.{Contains}
 use Rattle.fo_disk.specs.Disk.{Block, IsSettled}
 use Rattle.fo_disk.specs.Disk.{Content as Holds}
@@ -101,7 +101,7 @@ pub record FiresMind (at i leaf : ℕ) (m n : Mind) : Type 0 where
 abbrev pub ClearingStep : Type 0
 ClearingStep = (at i leaf : ℕ) (m n : Mind) (holds : Holds) → FiresMind at i leaf m n → IsSettled holds leaf → ((a : ℕ) → IsWait m.waits a at i → (s : Slot) → HasSlot (seen (known m holds) at) i s → SameUse s ((m.memory at).slot i)) → Fires at i leaf (known m holds) (known n holds)
 
--- `new_block`, `copy`: a block is given out for this place
+-- `new_block`, `copy`: a block of the device is given out for this place
 pub record GivesMind (at : ℕ) (content : Content) (p : Place) (m n : Mind) : Type 0 where
   pub read : n.read ≡ m.read
   pub label_in : n.label_in ≡ m.label_in
@@ -116,7 +116,7 @@ pub record GivesMind (at : ℕ) (content : Content) (p : Place) (m n : Mind) : T
   pub clears : (k : Clearing) → Contains n.clears k → Contains m.clears k × (k.at ≢ at) × (k.leaf ≢ at)
 
 abbrev pub GivingStep : Type 0
-GivingStep = (at : ℕ) (content : Content) (p : Place) (m n : Mind) (holds : Holds) → GivesMind at content p m n → ((q : Place) → Stands (known m holds) at q → ⊥) → ((i t : ℕ) → target (content.slot i) ≡ Local t → Stands (known m holds) t (place_below p i (content.slot i)) × ((place_below p i (content.slot i)).rank < p.rank)) → Gives at content p (known m holds) (known n holds)
+GivingStep = (at : ℕ) (content : Content) (p : Place) (m n : Mind) (holds : Holds) → GivesMind at content p m n → (0 < length ((known m holds).versions at)) × (0 < length ((known m holds).labels at)) → ((q : Place) → Stands (known m holds) at q → ⊥) → ((i t : ℕ) → target (content.slot i) ≡ Local t → Stands (known m holds) t (place_below p i (content.slot i)) × ((place_below p i (content.slot i)).rank < p.rank)) → Gives at content p (known m holds) (known n holds)
 
 -- a label changes, and nothing else
 pub record LabelsMind (b : ℕ) (l : Label) (m n : Mind) : Type 0 where

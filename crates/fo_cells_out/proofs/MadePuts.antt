@@ -7,7 +7,7 @@ use Rattle.fo_cells.specs.Known.{Known}
 use Rattle.fo_cells_out.specs.Parents.{Tree, Points, Over, HoldsNow, IsTree, IsForest, Replaces}
 use Rattle.fo_cells_out.specs.Origins.{Origins, Under, ByCopy, ByTop, HasOrigins, LinkedBy, SharedBy, OutAt, Out, Chain, PutsMade, CopyBy, GoneBy, TurnsBy, FromBy, Low, copied_tree}
 use Rattle.fo_cells_out.proofs.Shapes.{turn_first, turn_next}
-use Rattle.fo_cells_out.proofs.Takeout.{same_block, held_once, replaced_tree}
+use Rattle.fo_cells_out.proofs.Takeout.{same_block, held_once}
 
 -- WHO IS TO COME IN THE PLACE OF WHAT LEAVES
 -- `O` leaves, and hangs from blocks that leave but for the slot of the current block `at`; then a made block that is to come in the

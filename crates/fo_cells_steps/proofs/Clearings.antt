@@ -1,11 +1,10 @@
 -- The laws of a slot that is cleared, and of one that leads where it led.
-use Rattle.std.proofs.Common.{◌≡◌, ◌⊎◌, inl, ⊎_elim, ℕ, Bool, List, [], ◌++◌, map, sym, ◌∙◌, ap, subst, arith}
-use Rattle.std.proofs.lemmas.List.Elements.{Contains-append_left}
+use Rattle.std.proofs.Common.{◌≡◌, inl, ⊎_elim, ℕ, Bool, List, ◌++◌, map, sym, ◌∙◌, ap, subst, arith}
 use Rattle.std.specs.List.{Contains}
 use Rattle.fo_disk.specs.Disk.{Content as Holds}
 use Rattle.fo_image.specs.declared.types.Pointer.TheVariants.{Local}
 use Rattle.fo_crash.specs.declared.slot.Slot.{Slot}
-use Rattle.fo_crash.specs.Images.{Reaches, target, to_block}
+use Rattle.fo_crash.specs.Images.{target}
 use Rattle.fo_crash.specs.Steps.{AddsNothing, AddsSlot, Fills, HasBytes, cleared}
 use Rattle.fo_cells.specs.Known.{Top}
 use Rattle.fo_cells.specs.Writes.{Puts, Fires}
@@ -27,10 +26,9 @@ use Rattle.fo_cells_held.specs.Room.{Used}
 use Rattle.fo_cells_epochs.specs.Epochs.{KeepsTrees, root_top}
 use Rattle.fo_cells_epochs.proofs.TreeSteps.{put_trees, fire_trees}
 use Rattle.fo_cells_all.specs.All.{Kept, Format}
-use Rattle.fo_cells_steps.specs.Division.{HoldsMade, division}
+use Rattle.fo_cells_steps.specs.Division.{HoldsMade}
 use Rattle.fo_cells_steps.specs.Calls.{Beside, images}
 use Rattle.fo_cells_steps.specs.Taking.{LeavesWith, InTree}
-use Rattle.fo_cells_steps.proofs.Facts.{held_stands}
 use Rattle.fo_cells_steps.proofs.Taking.{taken_made, tops_stay}
 use Rattle.fo_cells_steps.proofs.Alike.{alike_made}
 

@@ -9,11 +9,14 @@ use Rattle.fo_cells.proofs.Safe.{old_sure, safe_super}
 use Rattle.fo_cells.proofs.Labels.{set_label_named}
 use Rattle.fo_cells.proofs.Flags.{all_settled}
 use Rattle.fo_cells.proofs.Removing.{shown}
+use Rattle.fo_cells.proofs.Left.{device_left, latest_image}
 use Rattle.fo_cells.proofs.laws.images_are_known.Goals as goal
 
 pub returns : goal.returns
 returns c = record {
-  shown = λ high doubts k image labels tops safe left stand. shown tops safe.kept safe.settled left stand;
+  shown = λ high doubts k image labels tops safe left stand. shown tops safe left stand;
+  device = λ m holds device is. device_left m holds device is;
+  some = λ m f unsure holds fits. latest_image holds fits.some;
   memory = λ k. memory_remains k;
   places = λ high doubts k image safe r. (one_place safe.kept, placed k image r.cells, ranked safe.kept image r.cells);
   older = λ high b p doubts k safe ne st young. old_sure safe b p ne st young;

@@ -9,6 +9,6 @@ returns c = record {
   more = λ m n holds r more. wait_step holds r more;
   ends = λ m n holds r ends. end_step holds r ends;
   cleared = λ at i leaf m n holds r one in_use. clearing_step holds r one in_use;
-  given = λ at content p m n holds r nowhere fits. giving_step holds r nowhere fits;
+  given = λ at content p m n holds r there nowhere fits. giving_step holds r there nowhere fits;
   label = λ b l m n holds r. label_step holds r;
 }
