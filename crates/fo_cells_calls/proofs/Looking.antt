@@ -1,20 +1,22 @@
 -- A call that only looks, as the trait says it.
-use Rattle.std.proofs.Common.{◌≡◌, refl, false, inl, inr, ⊎_elim}
+use Rattle.std.proofs.Common.{ℕ, refl, inl, inr, ⊎_elim}
 use Rattle.fo_crash.proofs.Sure.{same_content}
-use Rattle.fo_cells.specs.Known.{Known, IsKept}
+use Rattle.fo_crash.specs.Images.{Content}
+use Rattle.fo_cells.specs.Known.{Known}
+use Rattle.fo_cells.specs.Safe.{IsSafe}
 use Rattle.fo_cells.proofs.Removing.{shown_from}
 use Rattle.fo_cells_calls.specs.State.{Rest, Looked, state_of}
 use Rattle.fo_ports.specs.State.{Looks}
 
-pub looks : {k : Known} (x y : Rest) → IsKept k → k.newborn 1 ≡ false → Looked k x y → Looks (state_of k x) (state_of k y)
-looks {k} x y kept settled l = record {
+pub looks : {k : Known} {high : ℕ} {doubt : Content → Type 0} (x y : Rest) → IsSafe k high doubt → Looked k x y → Looks (state_of k x) (state_of k y)
+looks {k} x y safe l = record {
   memory = λ told. record { each = λ b. same_content (k.memory b) };
   known = λ b pinned. same_content (k.memory b);
   images = record { each = λ image h. (l.tells h.0, h.1) };
   passes = record {
     later = l.later;
     before = λ n image le h. l.before n image le h;
-    within = λ n image lt le h. let (told, (labels, left)) = l.within n image lt le h in let o = shown_from x.tops kept settled left l.tops in record { other = o.other; is = (told, o.is); same = o.same };
+    within = λ n image lt le h. let (told, (labels, left)) = l.within n image lt le h in let o = shown_from x.tops safe left l.tops in record { other = o.other; is = (told, o.is); same = o.same };
   };
   stays = record {
     labels = λ b unmade. refl;

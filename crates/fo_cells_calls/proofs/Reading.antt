@@ -37,7 +37,7 @@ laws_hold k x doubts h = record {
   present = λ told. (told, memory_remains k);
   shown = λ image left.
       let (told, (labels, is)) = h.left image left in
-      let one = shown_from x.tops (h.safe told).kept h.settled is (λ t top. h.tops t top told) in
+      let one = shown_from x.tops (h.safe told) is (λ t top. h.tops t top told) in
       record { other = one.other; is = (told, one.is); same = one.same };
   told = λ image m. m.0;
   one_place = record { each = λ b p q sp sq. (h.safe sp.0).kept.one b p q sp.1 sq.1 };

@@ -1,5 +1,5 @@
 -- What a cache changes is a step of what is known.
-use Rattle.std.proofs.Common.{◌≡◌, ◌⊎◌, inl, inr, ⊎_elim, ℕ, ◌<◌, Bool, cond, List, [], ◌∷◌, map, sym, ◌∙◌, ap, subst}
+use Rattle.std.proofs.Common.{◌≡◌, ◌⊎◌, inl, inr, ⊎_elim, ℕ, ◌<◌, Bool, cond, List, length, [], ◌∷◌, map, sym, ◌∙◌, ap, subst}
 use Rattle.std.specs.List.{Contains}
 use Rattle.fo_disk.specs.Disk.{Block, versions_of, latest_of, IsSettled}
 use Rattle.fo_disk.specs.Disk.{Content as Holds}

@@ -1,15 +1,14 @@
 -- What an image of the device shows.
-use Rattle.std.specs.Prelude.{◌≡◌, ◌≢◌, ◌<◌, ℕ, false, List, [], length, slice_index_or}
+use Rattle.std.specs.Prelude.{◌≡◌, ◌≢◌, ◌<◌, ℕ, false, List, length}
 use Rattle.std.specs.List.{Contains}
 use Rattle.fo_disk.specs.Disk.{Block, IsImage}
 use Rattle.fo_disk.specs.Disk.{Content as Holds}
-use Rattle.fo_image.specs.declared.types.Label.{Label}
 use Rattle.fo_image.specs.declared.types.Pointer.TheVariants.{Local}
 use Rattle.fo_crash.specs.declared.place.Place.{Place}
-use Rattle.fo_crash.specs.Images.{Content, Image, Reaches, target, to_block}
+use Rattle.fo_crash.specs.Images.{Content, Reaches, target, to_block}
 use Rattle.fo_crash.specs.Steps.{IsOneOf}
 use Rattle.fo_cells.specs.Known.{IsWait, Remains, Stands}
-use Rattle.fo_cells.specs.Device.{Mind, known}
+use Rattle.fo_cells.specs.Device.{Mind, known, read_image, read_labels}
 use Rattle.fo_cells.specs.Laws.{Safe}
 use Rattle.fo_cells_shown.specs.Labels.{IsLabelled}
 
@@ -19,18 +18,15 @@ pub record IsWithin (m : Mind) (holds : Holds) : Type 0 where
   pub labels : (b : ℕ) (q : Place) → b ≢ 1 → Stands (known m holds) b q → m.label_block b < length holds
   pub waits : (leaf on j : ℕ) → IsWait m.waits leaf on j → leaf < length holds
 
--- an image of the device, and the labels in it, as the format reads them
-abbrev pub read_image : Mind → List Block → Image
-read_image m device = λ b. m.read b (slice_index_or device b [])
-
-abbrev pub read_labels : Mind → List Block → ℕ → Label
-read_labels m device = λ b. m.label_in b (slice_index_or device (m.label_block b) [])
-
 -- tops that stand somewhere, and were settled whole
 abbrev pub AreTops : Mind → Holds → List ℕ → Type 0
 AreTops m holds tops = (t : ℕ) → Contains tops t → (p : Place) × Stands (known m holds) t p × (m.newborn t ≡ false)
 
+-- The invariant has it that all which stands is of the device.
+abbrev pub StandsWithin : Type 0
+StandsWithin = (high : ℕ) (doubts : List Content) (m : Mind) (holds : Holds) → Safe (known m holds) high doubts → IsWithin m holds
+
 -- EACH IMAGE OF THE DEVICE is, in all that these tops reach, one that a crash may leave by what is known; and each block reached has a label
 -- there that fits.
 abbrev pub DeviceIsShown : Type 0
-DeviceIsShown = (high : ℕ) (doubts : List Content) (m : Mind) (holds : Holds) (device : List Block) (tops : List ℕ) → Safe (known m holds) high doubts → IsWithin m holds → AreTops m holds tops → IsImage holds device → IsOneOf (λ t. Contains tops t) (Remains (known m holds)) (read_image m device) × ((t a i b : ℕ) → Contains tops t → Reaches (read_image m device) (to_block t) a → target ((read_image m device a).slot i) ≡ Local b → IsLabelled (known m holds) (read_labels m device) b)
+DeviceIsShown = (high : ℕ) (doubts : List Content) (m : Mind) (holds : Holds) (device : List Block) (tops : List ℕ) → Safe (known m holds) high doubts → AreTops m holds tops → IsImage holds device → IsOneOf (λ t. Contains tops t) (Remains (known m holds)) (read_image m device) × ((t a i b : ℕ) → Contains tops t → Reaches (read_image m device) (to_block t) a → target ((read_image m device a).slot i) ≡ Local b → IsLabelled (known m holds) (read_labels m device) b)

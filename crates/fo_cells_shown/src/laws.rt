@@ -2,7 +2,7 @@
 ghost use Rattle.fo_cells_shown.specs.Labels.{LabelsAreShown};
 ghost use Rattle.fo_cells_shown.specs.Closed.{MoveKeepsClosed, GiveKeepsClosed, CloseKeepsClosed, RaiseKeepsClosed, RaiseLoses, MoveStrays, CloseStrays};
 ghost use Rattle.fo_cells_shown.specs.Opening.{OpensClosed, OpensShared, FreshHangs};
-ghost use Rattle.fo_cells_shown.specs.Shown.{DeviceIsShown};
+ghost use Rattle.fo_cells_shown.specs.Shown.{DeviceIsShown, StandsWithin};
 
 use fo_cells_lost::Gaps;
 
@@ -12,9 +12,10 @@ pub fn labels_are_shown()
 {}
 
 /// Each image of the device is, in all that tops reach, one that a crash may leave by what is known; and what is reached has a label there
-/// that fits.
+/// that fits. All that stands is of the device.
 pub fn device_is_shown()
-    ensures { DeviceIsShown }
+    ensures shown { DeviceIsShown }
+    ensures within { StandsWithin }
 {}
 
 /// Where a cache opens, what was closed and may not be given out yet is in a kept tree, and what is older in the tree of memory in that of

@@ -1,8 +1,8 @@
 //! What all that holds of a block cache gives of its device: labels of what an image reaches, which blocks get versions, and what a low epoch
 //! that rises loses.
 //!
-//! Proved: each image of the device is, in all that settled tops reach, one that a crash may leave by what is known; each block that they
-//! reach there stands at a place, and its label there has the kind and tag of the place, fits memory's, and may not be given out
+//! Proved: all that stands is of the device, and each image of the device is, in all that settled tops reach, one that a crash may leave by
+//! what is known; each block that they reach there stands at a place, and its label there has the kind and tag of the place, fits memory's, and may not be given out
 //! (`device_is_shown`; `labels_are_shown` says so of any choice of versions). A data block gets a new version only by a write while it is
 //! dirty, and then it is live and current, or was closed in its own epoch after a failed write; where it isn't dirty nothing is written
 //! (`write_live`). A sync gives none; where it answers Ok, a block has several versions only if its last write failed, and what isn't dirty
