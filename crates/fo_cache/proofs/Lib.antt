@@ -1,5 +1,6 @@
 pub mod Calling
 pub mod Clearing
+pub mod Delaying
 pub mod Easing
 pub mod Firsts
 pub mod Fitting

@@ -14,8 +14,9 @@ impl<D: Disk> Cache<D> {
     ghost use Rattle.fo_ports.specs.State.{AddsNoWait, Frame, Hangs, KeepsOrder, QueuesOne, none};
     ghost use Rattle.fo_waits.specs.Listed.{Awaits, Clears};
     ghost use Rattle.fo_mind.specs.MindParts.{parts};
-    ghost use Rattle.fo_mind.specs.Parts.{CacheKeeps, IsBlock, IsPinned, label_at, memory, state_of};
+    ghost use Rattle.fo_mind.specs.Parts.{CacheKeeps, IsBlock, IsDirty, IsNewborn, IsPinned, label_at, memory, state_of};
     ghost use Rattle.fo_put.specs.Queued.{Queues};
+    ghost use Rattle.fo_put.specs.Removed.{ClearsOrWaits};
 
     /// Puts a slot of a pinned block (`put_slot` of `fo_put`).
     pub fn put_slot(&mut self, at: u32, i: u32, slot: Slot)
@@ -38,7 +39,7 @@ impl<D: Disk> Cache<D> {
     }
 
     /// Clears a slot of a pinned block: at once, or, of a leaf of entries, when block `after` is settled, where it isn't yet (`remove_slot`
-    /// of `fo_put`).
+    /// of `fo_put`). So it waits wherever that block is dirty, and in the tree.
     pub fn remove_slot(&mut self, at: u32, i: u32, after: Option<u32>)
         requires pinned { IsPinned (parts self.old.mind [] 0).held at }
         requires current { (label_at (parts self.old.mind [] 0).region at).epoch ≡ (parts self.old.mind [] 0).one.high }
@@ -53,6 +54,8 @@ impl<D: Disk> Cache<D> {
         ensures no_wait { AddsNoWait none (state_of (parts self.old.mind (D.state self.old.main).holds (D.faults self.old.main))) (state_of (parts self.new.mind (D.state self.new.main).holds (D.faults self.new.main))) }
         ensures queues { ((state_of (parts self.old.mind (D.state self.old.main).holds (D.faults self.old.main))).queued ≤ (state_of (parts self.new.mind (D.state self.new.main).holds (D.faults self.new.main))).queued) × ((c : ℕ) → target ((memory (parts self.old.mind (D.state self.old.main).holds (D.faults self.old.main)) at).slot i) ≡ Local c → Clears (parts self.new.mind [] 0).clears at i ⊎ QueuesOne (state_of (parts self.old.mind (D.state self.old.main).holds (D.faults self.old.main))) (state_of (parts self.new.mind (D.state self.new.main).holds (D.faults self.new.main)))) }
         ensures keeps { CacheKeeps (parts self.old.mind (D.state self.old.main).holds (D.faults self.old.main)) (parts self.new.mind (D.state self.new.main).holds (D.faults self.new.main)) }
+        ensures later { IfSome after (λ leaf. IsDirty (parts self.old.mind [] 0).turns (parts self.old.mind [] 0).held leaf → (IsNewborn (parts self.old.mind [] 0).facts leaf → ⊥) → Clears (parts self.new.mind [] 0).clears at i) }
+        ensures is { ClearsOrWaits at i after (parts self.old.mind (D.state self.old.main).holds (D.faults self.old.main)) (parts self.new.mind (D.state self.new.main).holds (D.faults self.new.main)) }
         ensures device { self.new.main ≡ self.old.main }
     {
         fo_put::remove_slot(&mut self.mind, at, i, after);

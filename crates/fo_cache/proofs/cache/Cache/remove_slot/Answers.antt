@@ -2,6 +2,7 @@ use Rattle.std.proofs.Common.{◌≤◌, [], sym, subst}
 use Rattle.fo_labels.specs.Region.{Region}
 use Rattle.fo_mind.specs.MindParts.{parts}
 use Rattle.fo_mind.specs.Parts.{count_of}
+use Rattle.fo_cache.proofs.Delaying.{waits_later}
 use Rattle.fo_cache.proofs.Firsts.{one_like}
 use Rattle.fo_cache.proofs.Placing.{fit_removed}
 use Rattle.fo_cache.proofs.cache.Cache.remove_slot.Goals as goal
@@ -59,3 +60,11 @@ returns-clause-queues g c = let self = c.args.self.now in c.remove_slot.ensures.
 
 pub returns-clause-keeps : goal.returns-clause-keeps
 returns-clause-keeps g c = let self = c.args.self.now in c.remove_slot.ensures.keeps (g.D.Disk.state self.main).holds (g.D.Disk.faults self.main)
+
+pub returns-clause-is : goal.returns-clause-is
+returns-clause-is g c = let self = c.args.self.now in c.remove_slot.ensures.is (g.D.Disk.state self.main).holds (g.D.Disk.faults self.main)
+
+pub returns-clause-later : goal.returns-clause-later
+returns-clause-later g c =
+    let self = c.args.self.now in
+    waits_later (parts self.mind [] 0) (parts c.remove_slot.new.mind [] 0) c.args.at c.args.i c.args.after self.mind.turning (c.remove_slot.ensures.is [] 0)
