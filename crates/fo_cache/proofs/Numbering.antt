@@ -1,5 +1,5 @@
 -- Calls for a file number, one after another, and what calls on blocks see of them.
-use Rattle.std.proofs.Common.{◌≡◌, ◌≢◌, ⊎_elim, inl, inr, ℕ, ◌≤◌, ◌^◌, Bool, true, nat_eq, cond, List, [], ◌∷◌, Option, None, Result, Ok, Err, refl, sym, ap, ◌∙◌, subst, arith}
+use Rattle.std.proofs.Common.{◌≡◌, ◌≢◌, ⊎_elim, inl, inr, ℕ, ◌≤◌, ◌^◌, Bool, true, nat_eq, cond, List, [], ◌∷◌, length, Option, None, Result, Ok, Err, refl, sym, ap, ◌∙◌, subst, arith}
 use Rattle.std.specs.Result.{OnOk, OnErr}
 use Rattle.std.proofs.lemmas.Bool.{ne_eqb}
 use Rattle.std.specs.Map.{lookup}
@@ -40,11 +40,12 @@ certain_limit one doubt none = ap (least_limit one) none
 -- ---- steps
 
 pub no_step : (s : DiskState) (p : Parts) → Renumbers s s p p
-no_step s p = record { others = λ k ne. inl refl; turn = λ b. refl; rank = λ b. refl; turn_room = refl; one = refl; numbers = omega arith; rest = refl }
+no_step s p = record { others = λ k ne. inl refl; count = refl; turn = λ b. refl; rank = λ b. refl; turn_room = refl; one = refl; numbers = omega arith; rest = refl }
 
 pub then : (s m t : DiskState) (p n q : Parts) → Renumbers s m p n → Renumbers m t n q → Renumbers s t p q
 then s m t p n q h k = record {
   others = λ b ne. join (versions_of s.holds b) (versions_of m.holds b) (versions_of t.holds b) (h.others b ne) (k.others b ne);
+  count = k.count ∙ h.count;
   turn = λ b. k.turn b ∙ h.turn b;
   rank = λ b. k.rank b ∙ h.rank b;
   turn_room = k.turn_room ∙ h.turn_room;
@@ -54,7 +55,7 @@ then s m t p n q h k = record {
 }
 
 pub granted : (s : DiskState) (p q : Parts) → q ≡ record p { granted = true } → Renumbers s s p q
-granted s p q is = subst (λ (z : Parts). Renumbers s s p z) (sym is) (record { others = λ k ne. inl refl; turn = λ b. refl; rank = λ b. refl; turn_room = refl; one = refl; numbers = omega arith; rest = refl })
+granted s p q is = subst (λ (z : Parts). Renumbers s s p z) (sym is) (record { others = λ k ne. inl refl; count = refl; turn = λ b. refl; rank = λ b. refl; turn_room = refl; one = refl; numbers = omega arith; rest = refl })
 
 module _ (p q : Parts) (is : q ≡ record p { granted = true }) (holds : Holds) (unsure : List Bool) where
   pub fits_granted : Fits (record p { disk = holds }) unsure → Fits (record q { disk = holds }) unsure
@@ -66,10 +67,11 @@ module _ (p q : Parts) (is : q ≡ record p { granted = true }) (holds : Holds) 
   pub sized_granted : (size : ℕ) → count_of p.region ≤ size → count_of q.region ≤ size
   sized_granted size le = subst (λ (z : Parts). count_of z.region ≤ size) (sym is) le
 
-module _ (s t : DiskState) (p q : Parts) (others : (k : ℕ) → k ≢ 1 → Rested (versions_of s.holds k) (versions_of t.holds k)) where
+module _ (s t : DiskState) (p q : Parts) (others : (k : ℕ) → k ≢ 1 → Rested (versions_of s.holds k) (versions_of t.holds k)) (count : length t.holds ≡ length s.holds) where
   synced_step : (turns : Turns) (one : Super) (bytes : List ℕ) (doubt : Option (List ℕ)) → IsSynced p.turns turns → one ≡ record p.one { numbers = one.numbers } → p.one.numbers ≤ one.numbers → q ≡ record p { one = one; one_bytes = bytes; turns = turns; doubt = doubt } → Renumbers s t p q
   synced_step turns one bytes doubt y same more is = subst (λ (z : Parts). Renumbers s t p z) (sym is) (record {
     others = others;
+    count = count;
     turn = λ b. ap (λ f. f.dirty) (y.each b);
     rank = λ b. ap (λ f. f.rank) (y.each b);
     turn_room = y.room;
@@ -80,11 +82,11 @@ module _ (s t : DiskState) (p q : Parts) (others : (k : ℕ) → k ≢ 1 → Res
 
   pub settled_step : {T : Type 0} (r : Result T BlockError) → OnOk r (Overruled s t p q) → OnErr r (q ≡ p) → Renumbers s t p q
   settled_step (Ok x) o e = synced_step q.turns p.one p.one_bytes None o.turns refl (omega arith) o.rest
-  settled_step (Err x) o e = subst (λ (z : Parts). Renumbers s t p z) (sym e) (record { others = others; turn = λ b. refl; rank = λ b. refl; turn_room = refl; one = refl; numbers = omega arith; rest = refl })
+  settled_step (Err x) o e = subst (λ (z : Parts). Renumbers s t p z) (sym e) (record { others = others; count = count; turn = λ b. refl; rank = λ b. refl; turn_room = refl; one = refl; numbers = omega arith; rest = refl })
 
   pub raised_step : {T : Type 0} (n : ℕ) (r : Result T BlockError) → p.one.numbers ≤ n → OnOk r (Counts (record p.one { numbers = n }) s t p q) → OnErr r (Doubted (record p.one { numbers = n }) p q) → Renumbers s t p q
   raised_step n (Ok x) more c d = synced_step q.turns (record p.one { numbers = n }) q.one_bytes None c.turns refl more c.rest
-  raised_step n (Err x) more c d = subst (λ (z : Parts). Renumbers s t p z) (sym d.rest) (record { others = others; turn = λ b. refl; rank = λ b. refl; turn_room = refl; one = refl; numbers = omega arith; rest = refl })
+  raised_step n (Err x) more c d = subst (λ (z : Parts). Renumbers s t p z) (sym d.rest) (record { others = others; count = count; turn = λ b. refl; rank = λ b. refl; turn_room = refl; one = refl; numbers = omega arith; rest = refl })
 
 -- ---- what calls on blocks see
 

@@ -78,6 +78,14 @@ synced_rested s t (Err e) y b = inl (ap (λ (h : Content). versions_of h b) y.ho
 pub others_rested : (s m t : DiskState) {bytes : List ℕ} (r v : Result Unit Failed) → IsWrite 1 bytes r s m → IsSync v m t → (b : ℕ) → b ≢ 1 → Rested (versions_of s.holds b) (versions_of t.holds b)
 others_rested s m t r v w y b ne = subst (λ (vs : Versions). Rested vs (versions_of t.holds b)) (versions_kept r w b ne) (synced_rested m t v y b)
 
+-- and as many blocks are told
+pub count_synced : (s t : DiskState) (r : Result Unit Failed) → IsSync r s t → length t.holds ≡ length s.holds
+count_synced s t (Ok u) y = let leaves : Leaves s.unsure s.holds t.holds = y.holds in leaves.count
+count_synced s t (Err e) y = ap length y.holds
+
+pub count_tried : (s m t : DiskState) {bytes : List ℕ} (r v : Result Unit Failed) → IsWrite 1 bytes r s m → IsSync v m t → length t.holds ≡ length s.holds
+count_tried s m t r v w y = count_synced m t v y ∙ count_kept r w
+
 pub one_settled : (s m t : DiskState) {bytes : List ℕ} {u v : Unit} → IsWrite {E = Failed} 1 bytes (Ok u) s m → IsSync {E = Failed} (Ok v) m t → 1 < length s.holds → versions_of t.holds 1 ≡ bytes ∷ []
 one_settled s m t {bytes} {u} {v} w y lt =
     let here = adds-here w.holds lt in

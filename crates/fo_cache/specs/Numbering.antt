@@ -1,5 +1,5 @@
 -- What a call for a file number leaves of memory and of the device.
-use Rattle.std.specs.Prelude.{◌≡◌, ◌≢◌, ◌≤◌, ℕ}
+use Rattle.std.specs.Prelude.{◌≡◌, ◌≢◌, ◌≤◌, ℕ, length}
 use Rattle.fo_disk.specs.Disk.{DiskState, versions_of}
 use Rattle.fo_order.specs.Turns.{flag_at}
 use Rattle.fo_mind.specs.Parts.{Parts}
@@ -9,6 +9,7 @@ use Rattle.fo_cache.specs.Settling.{Rested}
 -- what it said; a number may be granted, and a super block be in doubt. All else stays.
 pub record Renumbers (s t : DiskState) (p q : Parts) : Type 0 where
   pub others : (k : ℕ) → k ≢ 1 → Rested (versions_of s.holds k) (versions_of t.holds k)
+  pub count : length t.holds ≡ length s.holds
   pub turn : (b : ℕ) → (flag_at q.turns b).dirty ≡ (flag_at p.turns b).dirty
   pub rank : (b : ℕ) → (flag_at q.turns b).rank ≡ (flag_at p.turns b).rank
   pub turn_room : q.turns.room ≡ p.turns.room

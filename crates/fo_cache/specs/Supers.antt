@@ -4,6 +4,8 @@ use Rattle.fo_disk.specs.Disk.{DiskState, versions_of}
 use Rattle.fo_image.specs.declared.types.Super.{Super}
 use Rattle.fo_image.specs.Format.{SpellsSuper}
 use Rattle.fo_order.specs.Turns.{IsSynced}
+use Rattle.fo_ports.specs.declared.error.BlockError.{BlockError}
+use Rattle.fo_ports.specs.declared.error.BlockError.TheVariants.{Full, Damaged, Fault, Arena, Memory}
 use Rattle.fo_mind.specs.Parts.{Parts}
 
 -- It counts: block 1 has one version, as far as the device tells, which spells it. What was written is settled, too.
@@ -24,3 +26,11 @@ pub record Overruled (s t : DiskState) (p q : Parts) : Type 0 where
   pub settled : 1 < length s.holds → versions_of t.holds 1 ≡ p.one_bytes ∷ []
   pub turns : IsSynced p.turns q.turns
   pub rest : q ≡ record p { turns = q.turns; doubt = None }
+
+-- The device failed.
+abbrev pub IsFault : BlockError → Type 0
+IsFault Full = ⊥
+IsFault (Damaged at) = ⊥
+IsFault (Fault which) = Unit {0}
+IsFault (Arena which) = ⊥
+IsFault Memory = ⊥

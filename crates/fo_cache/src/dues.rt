@@ -6,13 +6,14 @@ use fo_ports::BlockError;
 
 impl<D: Disk> Cache<D> {
     ghost use Rattle.std.specs.Prelude.{◌≡◌, ◌<◌, ◌≤◌, ℕ, [], true, false, length, OnOk, OnErr, IfErr, MatchOption};
+    ghost use Rattle.fo_disk.specs.Disk.{Content as Holds};
     ghost use Rattle.fo_ports.specs.declared.error.BlockError.TheVariants.{Memory as Wanting};
     ghost use Rattle.fo_waits.specs.Listed.{Clears, ClearsAfter};
     ghost use Rattle.fo_mind.specs.Due.{ClearedDue, IsDueSlot, is_over};
     ghost use Rattle.fo_mind.specs.MindParts.{parts};
     ghost use Rattle.fo_mind.specs.Sealed.{SealsPinned};
     ghost use Rattle.fo_mind.specs.Turning.{HasTurn, KeepsTurn};
-    ghost use Rattle.fo_cache.specs.Easing.{Eases};
+    ghost use Rattle.fo_cache.specs.Easing.{ClearsDue, Eases};
 
     /// A slot that waits for a leaf that is settled, and None exactly where none does.
     pub fn next_due(&self) -> Option<(u32, u32)>
@@ -24,7 +25,7 @@ impl<D: Disk> Cache<D> {
     // Makes room for one turn more.
     fn keep_turn(&mut self) -> Result<(), Memory>
         ensures ok { OnOk result (HasTurn (parts self.new.mind [] 0)) }
-        ensures kept { KeepsTurn (parts self.old.mind [] 0) (parts self.new.mind [] 0) }
+        ensures kept { (disk : Holds) (faults : ℕ) → KeepsTurn (parts self.old.mind disk faults) (parts self.new.mind disk faults) }
         ensures eases { Eases (parts self.old.mind (D.state self.old.main).holds (D.faults self.old.main)) (parts self.new.mind (D.state self.new.main).holds (D.faults self.new.main)) }
         ensures device { self.new.main ≡ self.old.main }
     {
@@ -35,7 +36,7 @@ impl<D: Disk> Cache<D> {
     fn clear_now(&mut self, at: u32, i: u32)
         requires waits { Clears (parts self.old.mind [] 0).clears at i }
         requires room { HasTurn (parts self.old.mind [] 0) }
-        ensures cleared { ClearedDue at i (parts self.old.mind [] 0) (parts self.new.mind [] 0) }
+        ensures cleared { (disk : Holds) (faults : ℕ) → ClearedDue at i (parts self.old.mind disk faults) (parts self.new.mind disk faults) }
         ensures eases { Eases (parts self.old.mind (D.state self.old.main).holds (D.faults self.old.main)) (parts self.new.mind (D.state self.new.main).holds (D.faults self.new.main)) }
         ensures fewer { length (parts self.new.mind [] 0).clears < length (parts self.old.mind [] 0).clears }
         ensures device { self.new.main ≡ self.old.main }
@@ -44,10 +45,12 @@ impl<D: Disk> Cache<D> {
     }
 
     /// A slot that waits is cleared, with the unit of room that was kept for it, whether its block is pinned or not; what left with it is
-    /// queued. The room for its block's turn may want memory, and then nothing changes that calls on blocks see.
+    /// queued, and no more (`ClearsDue`). The room for its block's turn may want memory, and then nothing else changed.
     pub fn clear_due(&mut self, at: u32, i: u32) -> Result<(), BlockError>
         requires waits { Clears (parts self.old.mind [] 0).clears at i }
         ensures eases { Eases (parts self.old.mind (D.state self.old.main).holds (D.faults self.old.main)) (parts self.new.mind (D.state self.new.main).holds (D.faults self.new.main)) }
+        ensures cleared { OnOk result ((disk : Holds) (faults : ℕ) → ClearsDue at i (parts self.old.mind disk faults) (parts self.new.mind disk faults)) }
+        ensures kept { OnErr result (KeepsTurn (parts self.old.mind [] 0) (parts self.new.mind [] 0)) }
         ensures fewer { OnOk result (length (parts self.new.mind [] 0).clears < length (parts self.old.mind [] 0).clears) }
         ensures device { self.new.main ≡ self.old.main }
         ensures cause { IfErr result (λ e. e ≡ Wanting) }

@@ -30,6 +30,7 @@ impl<D: Disk> Cache<D> {
     ghost use Rattle.fo_mind.specs.Parts.{CacheKeeps, least_limit, memory, state_of};
     ghost use Rattle.fo_cache.specs.Easing.{Eases};
     ghost use Rattle.fo_cache.specs.Numbering.{Renumbers};
+    ghost use Rattle.fo_cache.specs.Supers.{IsFault};
 
     /// Grants the next file number, which is below the limit of each super block that the device may have; None where it would be 2^30.
     /// Where none says so many, another super block is written and settled. It stays granted until it is taken.
@@ -94,13 +95,15 @@ impl<D: Disk> Cache<D> {
         self.raise_numbers()
     }
 
-    /// No super block is in doubt, from now on: block 1 is written and settled as memory has it, where one was.
+    /// No super block is in doubt, from now on: block 1 is written and settled as memory has it, where one was. It fails only where the
+    /// device does.
     pub fn settle_doubt(&mut self) -> Result<(), BlockError>
         ensures eases { Eases (parts self.old.mind (D.state self.old.main).holds (D.faults self.old.main)) (parts self.new.mind (D.state self.new.main).holds (D.faults self.new.main)) }
         ensures certain { OnOk result ((parts self.new.mind [] 0).doubt ≡ None) }
         ensures renumbers { Renumbers (D.state self.old.main) (D.state self.new.main) (parts self.old.mind [] 0) (parts self.new.mind [] 0) }
         ensures size { D.size self.new.main ≡ D.size self.old.main }
         ensures cause { IfErr result (Caused ⊥ (λ b. ⊥) (Rose (D.faults self.old.main) (D.faults self.new.main)) ⊥) }
+        ensures failed { IfErr result IsFault }
         ensures later { D.faults self.old.main ≤ D.faults self.new.main }
     {
         if !self.mind.is_doubted() {

@@ -18,7 +18,7 @@ impl<D: Disk> Cache<D> {
     ghost use Rattle.fo_facts.specs.Known.{fact_at};
     ghost use Rattle.fo_mind.specs.Parts.{IsBlock, label_at};
     ghost use Rattle.fo_cache.specs.Settling.{Rested};
-    ghost use Rattle.fo_cache.specs.Supers.{Counts, Doubted, Overruled};
+    ghost use Rattle.fo_cache.specs.Supers.{Counts, Doubted, IsFault, Overruled};
 
     // Writes block 1 as memory has it.
     fn write_one(&mut self) -> Result<(), Failed>
@@ -80,14 +80,16 @@ impl<D: Disk> Cache<D> {
     }
 
     /// Writes block 1 as memory has it, and settles it with all that was written: nothing is in doubt any more. It gives back the block
-    /// that was tried. Where it fails, memory stays.
+    /// that was tried. It fails only where the device does, and then memory stays.
     pub fn settle_one(&mut self) -> Result<Option<Block>, BlockError>
         ensures overruled { OnOk result (Overruled (D.state self.old.main) (D.state self.new.main) (parts self.old.mind [] 0) (parts self.new.mind [] 0)) }
         ensures given { IfOk result (λ o. o ≡ (parts self.old.mind [] 0).doubt) }
         ensures nothing { OnErr result (parts self.new.mind [] 0 ≡ parts self.old.mind [] 0) }
         ensures others { (k : ℕ) → k ≢ 1 → Rested (versions_of (D.state self.old.main).holds k) (versions_of (D.state self.new.main).holds k) }
+        ensures count { length (D.state self.new.main).holds ≡ length (D.state self.old.main).holds }
         ensures size { D.size self.new.main ≡ D.size self.old.main }
         ensures cause { IfErr result (Caused ⊥ (λ b. ⊥) (Rose (D.faults self.old.main) (D.faults self.new.main)) ⊥) }
+        ensures failed { IfErr result IsFault }
         ensures later { D.faults self.old.main ≤ D.faults self.new.main }
     {
         let Ok(()) = self.write_one() else {
@@ -100,7 +102,7 @@ impl<D: Disk> Cache<D> {
     }
 
     /// Writes another super block into block 1, whose root is in the tree, and settles it with all that was written: then it counts, and the block that it replaces
-    /// is given back. The next file number is up to what it says, and below it while it is granted. Where that fails it is in doubt, and memory has the one that it had.
+    /// is given back. The next file number is up to what it says, and below it while it is granted. Only the device may fail; then it is in doubt, and memory has the one that it had.
     pub fn write_super(&mut self, one: Super, block: Block) -> Result<Option<Block>, BlockError>
         requires spelled { SuperHolds one }
         requires root { IsBlock (parts self.old.mind [] 0) one.active }
@@ -115,8 +117,10 @@ impl<D: Disk> Cache<D> {
         ensures given { IfOk result (λ o. o ≡ Some (parts self.old.mind [] 0).one_bytes) }
         ensures doubted { OnErr result (Doubted one (parts self.old.mind [] 0) (parts self.new.mind [] 0)) }
         ensures others { (k : ℕ) → k ≢ 1 → Rested (versions_of (D.state self.old.main).holds k) (versions_of (D.state self.new.main).holds k) }
+        ensures count { length (D.state self.new.main).holds ≡ length (D.state self.old.main).holds }
         ensures size { D.size self.new.main ≡ D.size self.old.main }
         ensures cause { IfErr result (Caused ⊥ (λ b. ⊥) (Rose (D.faults self.old.main) (D.faults self.new.main)) ⊥) }
+        ensures failed { IfErr result IsFault }
         ensures later { D.faults self.old.main ≤ D.faults self.new.main }
     {
         let mut bytes = [0; BLOCK];

@@ -48,7 +48,7 @@ invariant_of-self-clause-first g c =
     one_like p q s.holds z.one_bytes z.doubt self.first
 
 pub returns-clause-cleared : goal.returns-clause-cleared
-returns-clause-cleared g c = c.clear_due.ensures [] 0
+returns-clause-cleared g c = c.clear_due.ensures
 
 pub returns-clause-eases : goal.returns-clause-eases
 returns-clause-eases g c =

@@ -28,7 +28,7 @@ invariant_of-self-clause-sized g c =
     subst (λ (x : Region). count_of x ≤ g.D.Disk.size self.main) (sym (ap (λ (z : Parts). z.region) (kept_turn c.keep_turn.result (parts c.args.self.now.mind) (parts c.keep_turn.new.self) c.keep_turn.ensures.kept c.keep_turn.ensures.err [] 0).rest)) self.sized
 
 pub returns-clause-kept : goal.returns-clause-kept
-returns-clause-kept g c = kept_turn c.keep_turn.result (parts c.args.self.now.mind) (parts c.keep_turn.new.self) c.keep_turn.ensures.kept c.keep_turn.ensures.err [] 0
+returns-clause-kept g c = kept_turn c.keep_turn.result (parts c.args.self.now.mind) (parts c.keep_turn.new.self) c.keep_turn.ensures.kept c.keep_turn.ensures.err
 
 pub invariant_of-self-clause-first : goal.invariant_of-self-clause-first
 invariant_of-self-clause-first g c =

@@ -20,6 +20,6 @@ returns-clause-renumbers g c =
     let e = c.raised.ensures in
     let top = self.mind.spelled.holds.numbers_are.1 in
     let le : self.mind.one.numbers ≤ c.raised.result = most n self.mind.one.numbers (subst (λ (o : Super). n ≡ min (o.numbers + 1024) (2 ^ 30)) is e) top in
-    raised_step s t p q c.write_super.ensures.others n c.write_super.result le
+    raised_step s t p q c.write_super.ensures.others c.write_super.ensures.count n c.write_super.result le
     (subst (λ (o : Super). OnOk c.write_super.result (Counts (record o { numbers = n }) s t p q)) is c.write_super.ensures.counts)
     (subst (λ (o : Super). OnErr c.write_super.result (Doubted (record o { numbers = n }) p q)) is c.write_super.ensures.doubted)

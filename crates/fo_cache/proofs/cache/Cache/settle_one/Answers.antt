@@ -1,10 +1,10 @@
-use Rattle.std.proofs.Common.{[], sym, ap, subst}
+use Rattle.std.proofs.Common.{[], length, sym, ap, ◌∙◌, subst}
 use Rattle.fo_disk.specs.Disk.{DiskState, versions_of}
 use Rattle.fo_mind.specs.MindParts.{parts}
 use Rattle.fo_mind.specs.Turning.{Synced}
 use Rattle.fo_cache.specs.Settling.{Rested}
 use Rattle.fo_cache.specs.Supers.{Overruled}
-use Rattle.fo_cache.proofs.Trials.{others_rested, overruled}
+use Rattle.fo_cache.proofs.Trials.{count_tried, others_rested, overruled}
 use Rattle.fo_cache.proofs.Firsts.{memory_alone}
 use Rattle.fo_cache.proofs.cache.Cache.settle_one.Goals as goal
 
@@ -35,3 +35,10 @@ overrule-requires g c =
     let n = parts c.sync_turn.new.self.mind [] 0 in
     let synced = subst (λ mind. Synced (parts mind [] 0) n) c.write_one.ensures.mind c.in-Ok-sync_turn.ensures.synced in
     memory_alone (g.D.Disk.state self.main) (g.D.Disk.state c.write_one.new.self.main) (g.D.Disk.state c.sync_turn.new.self.main) (parts self.mind [] 0) n c.in-Ok.ensures.wrote c.in-Ok-sync_turn.ensures.state synced
+
+pub returns-clause-count : goal.returns-clause-count
+returns-clause-count g c =
+    let s = g.D.Disk.state c.args.self.now.main in
+    let m = g.D.Disk.state c.write_one.new.self.main in
+    let t = g.D.Disk.state c.sync_turn.new.self.main in
+    ap (λ d. length (g.D.Disk.state d).holds) c.overrule.ensures.device ∙ count_tried s m t c.write_one.result c.sync_turn.result c.write_one.ensures.wrote c.sync_turn.ensures.state

@@ -1,4 +1,4 @@
-use Rattle.std.proofs.Common.{◌≡◌, List, ℕ, [], Ok, Some, sym, ap, ◌∙◌, subst, arith}
+use Rattle.std.proofs.Common.{◌≡◌, List, ℕ, [], length, Ok, Some, sym, ap, ◌∙◌, subst, arith}
 use Rattle.fo_disk.specs.Disk.{DiskState, IsWrite, versions_of}
 use Rattle.fo_disk.specs.declared.disk.Failed.{Failed}
 use Rattle.fo_image.specs.Field.{Four, number_at}
@@ -8,7 +8,7 @@ use Rattle.fo_mind.specs.Turning.{Synced}
 use Rattle.fo_mind.proofs.Limits.{super_limit}
 use Rattle.fo_cache.specs.Settling.{Rested}
 use Rattle.fo_cache.specs.Supers.{Counts}
-use Rattle.fo_cache.proofs.Trials.{counted, others_rested}
+use Rattle.fo_cache.proofs.Trials.{count_tried, counted, others_rested}
 use Rattle.fo_cache.proofs.Firsts.{tried_alone}
 use Rattle.fo_cache.proofs.cache.Cache.write_super.Goals as goal
 
@@ -62,3 +62,10 @@ accept-requires-clause-alone g c =
     let synced = subst (λ (z : Parts). Synced z n) tried c.in-Ok-sync_turn.ensures.synced in
     let wrote = subst (λ (u : DiskState). IsWrite {E = Failed} 1 into (Ok c.in-Ok.field-0) u m) (ap g.D.Disk.state c.try_one.ensures.device) c.in-Ok.ensures.wrote in
     tried_alone s m t p n into wrote c.in-Ok-sync_turn.ensures.state synced
+
+pub returns-clause-count : goal.returns-clause-count
+returns-clause-count g c =
+    let o = g.D.Disk.state c.try_one.new.self.main in
+    let m = g.D.Disk.state c.write_trial.new.self.main in
+    let t = g.D.Disk.state c.sync_turn.new.self.main in
+    ap (λ d. length (g.D.Disk.state d).holds) c.accept.ensures.device ∙ count_tried o m t c.write_trial.result c.sync_turn.result c.write_trial.ensures.wrote c.sync_turn.ensures.state ∙ ap (λ d. length (g.D.Disk.state d).holds) c.try_one.ensures.device
