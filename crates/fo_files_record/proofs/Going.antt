@@ -1,11 +1,11 @@
 -- Entries that go, and the record whose they are.
-use Rattle.std.proofs.Common.{◌≡◌, ◌⊎◌, ◌↔◌, ℕ, Bool, true, false, List, [], ◌∷◌, find, Some, inl, inr, ⊎_elim, refl, sym, ap, ◌∙◌}
+use Rattle.std.proofs.Common.{◌≡◌, ◌⊎◌, ◌↔◌, ◌<◌, ◌≤◌, ℕ, Bool, true, false, List, [], ◌∷◌, find, Some, inl, inr, ⊎_elim, refl, sym, ap, ◌∙◌, arith}
 use Rattle.std.specs.List.{list_any}
 use Rattle.fo_image.specs.declared.record.Record.{Record}
 use Rattle.fo_meta.specs.Leaf.{is_named}
 use Rattle.fo_crash.specs.Steps.{cleared}
 use Rattle.fo_crash.specs.declared.slot.Slot.{Slot}
-use Rattle.fo_ports.specs.State.{State}
+use Rattle.fo_ports.specs.State.{State, QueuesOne}
 use Rattle.fo_dir_change.specs.Changes.{Bears, IsFirstOf}
 use Rattle.fo_dir_remove.specs.Removes.{IsGoing}
 
@@ -22,6 +22,10 @@ going_before s m u at j same going = ⊎_elim
     (λ p. inl (p.0 ∙ ap (λ (z : Slot). cleared z) same, p.1))
     (λ p. inr (p.0 ∙ same, p.1))
     going
+
+-- what was queued is queued still
+pub still_queues : (s m u : State) → QueuesOne s m → m.queued ≤ u.queued → QueuesOne s u
+still_queues s m u one more = ⊎_elim (λ h. inl (omega (arith, h, more))) (λ h. inr (omega (arith, h, more))) one
 
 decide : (b : Bool) → (b ≡ true) ⊎ (b ≡ false)
 decide true = inl refl

@@ -8,8 +8,9 @@
 //! Proved: each is refused by faults, damage and want of memory alone, and then all was only looked at, but for a settling that fails. Where it
 //! is granted the leaf has its records without the first of the name, and the new one behind them; the entries of the pair of the one that went,
 //! of its generation, are cleared, or wait for it, a directory's from a moment on when all was settled; the root block is the same but for the
-//! own record. What is pinned stays else, but for slots that waited to be cleared (`Rewrites`). No block and no pin is taken, and a removal for
-//! each entry that is cleared. Not said: that an entry waits for the leaf, and what holds of images.
+//! own record. The first entry waits while the leaf is to be written, and else a removal is queued. What is pinned stays else, but for slots that
+//! waited to be cleared (`Rewrites`). No block and no pin is taken, and a removal for each entry that is cleared. Not said: that a directory's
+//! second entry waits too, and what holds of images.
 #![tactic(auto)]
 
 mod leaf;

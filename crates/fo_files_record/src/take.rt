@@ -2,12 +2,14 @@
 ghost use Rattle.std.specs.Prelude.{◌≡◌, ◌⊎◌, ◌↔◌, ◌+◌, ◌*◌, ◌%◌, ◌<◌, ◌≤◌, ℕ, true, false, length, IfOk, IfErr, OnOk, OnErr};
 ghost use Rattle.fo_base.specs.Cause.{Rose};
 ghost use Rattle.fo_image.specs.declared.record.Record.{Record};
+ghost use Rattle.fo_image.specs.declared.types.Pointer.TheVariants.{Local};
+ghost use Rattle.fo_crash.specs.Images.{target};
 ghost use Rattle.fo_crash.specs.Names.{IsInUse};
 ghost use Rattle.fo_meta.specs.Leaf.{IsLeaf};
 ghost use Rattle.fo_world.specs.Step.{is_dir_mode};
 ghost use Rattle.fo_ports.specs.declared.error.BlockError.TheVariants.{Damaged, Memory};
 ghost use Rattle.fo_ports.specs.Causes.{Caused};
-ghost use Rattle.fo_ports.specs.State.{Looks};
+ghost use Rattle.fo_ports.specs.State.{Looks, QueuesOne};
 ghost use Rattle.fo_dir_change.specs.Changes.{Bears, HasTaken};
 ghost use Rattle.fo_dir_remove.specs.Removes.{IsGoing};
 ghost use Rattle.fo_files_record.specs.Leaf.{IsRecordsAt, IsEntriesAt};
@@ -137,6 +139,8 @@ fn record_taken<B: Blocks>(
     ensures taken { HasTaken name.now (((B.state on.old).now leaf).bytes) (((B.state on.new).now leaf).bytes) }
     ensures first { IsGoing (B.state on.old) (B.state on.new) entries (2 * p) }
     ensures second { (((B.state on.new).now entries).slot (2 * p + 1) ≡ ((B.state on.old).now entries).slot (2 * p + 1)) × ((B.state on.new).clearing entries (2 * p + 1) → (B.state on.old).clearing entries (2 * p + 1)) }
+    ensures later { (B.state on.new).dirty leaf → ((B.state on.old).newborn leaf → ⊥) → (B.state on.new).clearing entries (2 * p) }
+    ensures queues { ((c : ℕ) → target (((B.state on.old).now entries).slot (2 * p)) ≡ Local c → (B.state on.new).clearing entries (2 * p) ⊎ QueuesOne (B.state on.old) (B.state on.new)) }
     ensures leaf { IsRecordsAt (B.state on.new) leaf }
     ensures entries { IsEntriesAt (B.state on.new) entries }
     ensures stays { Rewrites (λ b. b ≡ leaf) (IsPairSlot entries p is_dir) (B.state on.old) (B.state on.new) }
@@ -158,6 +162,8 @@ fn second_cleared<B: Blocks>(on: &mut B, leaf: u32, entries: u32, p: u32)
     ensures bytes { ((B.state on.new).now leaf).bytes ≡ ((B.state on.old).now leaf).bytes }
     ensures first { (((B.state on.new).now entries).slot (2 * p) ≡ ((B.state on.old).now entries).slot (2 * p)) × ((B.state on.new).clearing entries (2 * p) ↔ (B.state on.old).clearing entries (2 * p)) }
     ensures second { IsGoing (B.state on.old) (B.state on.new) entries (2 * p + 1) }
+    ensures dirty { (B.state on.new).dirty leaf → (B.state on.old).dirty leaf }
+    ensures queued { (B.state on.old).queued ≤ (B.state on.new).queued }
     ensures leaf { IsRecordsAt (B.state on.new) leaf }
     ensures entries { IsEntriesAt (B.state on.new) entries }
     ensures stays { Rewrites (λ b. b ≡ leaf) (IsPairSlot entries p true) (B.state on.old) (B.state on.new) }
@@ -275,6 +281,8 @@ fn both_taken<B: Blocks>(
     ensures taken { HasTaken name.now (((B.state on.old).now leaf).bytes) (((B.state on.new).now leaf).bytes) }
     ensures first { IsGoing (B.state on.old) (B.state on.new) entries (2 * p) }
     ensures second { is_dir ≡ true → IsGoing (B.state on.old) (B.state on.new) entries (2 * p + 1) }
+    ensures later { (B.state on.new).dirty leaf → ((B.state on.old).newborn leaf → ⊥) → (B.state on.new).clearing entries (2 * p) }
+    ensures queues { ((c : ℕ) → target (((B.state on.old).now entries).slot (2 * p)) ≡ Local c → (B.state on.new).clearing entries (2 * p) ⊎ QueuesOne (B.state on.old) (B.state on.new)) }
     ensures leaf { IsRecordsAt (B.state on.new) leaf }
     ensures entries { IsEntriesAt (B.state on.new) entries }
     ensures stays { Rewrites (λ b. b ≡ leaf) (IsPairSlot entries p is_dir) (B.state on.old) (B.state on.new) }

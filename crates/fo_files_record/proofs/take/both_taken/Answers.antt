@@ -1,7 +1,7 @@
-use Rattle.std.proofs.Common.{◌≡◌, ◌+◌, ◌*◌, ℕ, Bool, true, false, List, sym, subst, ◌∙◌}
+use Rattle.std.proofs.Common.{◌≡◌, ◌+◌, ◌*◌, ℕ, Bool, true, false, List, inl, inr, ⊎_elim, sym, subst, ◌∙◌}
 use Rattle.fo_dir_change.specs.Changes.{HasTaken}
 use Rattle.fo_files_record.specs.Stays.{Rewrites, IsPairSlot}
-use Rattle.fo_files_record.proofs.Going.{going_later, going_before}
+use Rattle.fo_files_record.proofs.Going.{going_later, going_before, still_queues}
 use Rattle.fo_files_record.proofs.Rewriting.{rewrites_joins}
 use Rattle.fo_files_record.proofs.take.both_taken.Goals as goal
 
@@ -32,3 +32,12 @@ returns-else-is_dir-clause-second g c = λ e. let no : true ≡ false = sym e �
 
 pub returns-else-is_dir-clause-stays : goal.returns-else-is_dir-clause-stays
 returns-else-is_dir-clause-stays g c = c.record_taken.ensures.stays
+
+pub returns-then-is_dir-clause-later : goal.returns-then-is_dir-clause-later
+returns-then-is_dir-clause-later g c = λ dirty linked. c.second_cleared.ensures.first.1.1 (c.record_taken.ensures.later (c.second_cleared.ensures.dirty dirty) linked)
+
+pub returns-then-is_dir-clause-queues : goal.returns-then-is_dir-clause-queues
+returns-then-is_dir-clause-queues g c = λ x leads. ⊎_elim
+    (λ waits. inl (c.second_cleared.ensures.first.1.1 waits))
+    (λ one. inr (still_queues (g.B.Blocks.state c.args.on.now) (g.B.Blocks.state c.record_taken.new.on) (g.B.Blocks.state c.second_cleared.new.on) one c.second_cleared.ensures.queued))
+    (c.record_taken.ensures.queues x leads)

@@ -85,6 +85,8 @@ returns-in-Ok-settled_for-clause-takes g c =
         taken = subst (λ (xs : List ℕ). HasTaken c.args.name.now xs (((g.B.Blocks.state c.both_taken.new.on).now c.args.leaf).bytes)) (c.settled_for.ensures.bytes ∙ c.looked.ensures.same) c.both_taken.ensures.taken;
         first = c.both_taken.ensures.first;
         second = c.both_taken.ensures.second;
+        later = c.both_taken.ensures.later;
+        queues = c.both_taken.ensures.queues;
         stays = c.both_taken.ensures.stays;
       },
     )
