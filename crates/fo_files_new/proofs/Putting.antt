@@ -8,7 +8,7 @@ use Rattle.fo_meta.specs.Leaf.{IsLeaf}
 use Rattle.fo_ports.specs.declared.error.BlockError.{BlockError}
 use Rattle.fo_ports.specs.declared.error.BlockError.TheVariants.{Full, Damaged, Fault, Arena, Memory}
 use Rattle.fo_ports.specs.Causes.{Caused}
-use Rattle.fo_ports.specs.State.{State, KeepsAll, Looks, none}
+use Rattle.fo_ports.specs.State.{State, AddsNoWait, KeepsAll, Looks, none}
 use Rattle.fo_looks.proofs.Looks.{rose_later}
 use Rattle.fo_dir_put.specs.Paired.{HasBoth}
 use Rattle.fo_dir_put.specs.Puts.{IsOwnedEntries, IsOwnedRecords, StaysCalm}
@@ -53,6 +53,7 @@ pub record Adds (m u : State) (leaves : Leaves) (p : ℕ) (named r : Record) : T
   pub slots : (b j : ℕ) → (b ≢ leaves.entries) ⊎ ((j ≢ 2 * p) × (j ≢ 2 * p + 1)) → (u.now b).slot j ≡ (m.now b).slot j
   pub calm : StaysCalm m u
   pub whole : length ((u.now leaves.records).bytes) ≡ 8192
+  pub waits : u.waits leaves.records leaves.entries (2 * p) × u.waits leaves.records leaves.entries (2 * p + 1) × AddsNoWait (λ b. b ≡ leaves.records) m u
 
 alters_put : (m u : State) (d : DirAt) (leaves : Leaves) (p : ℕ) (named r : Record) → leaves.entries ≢ d.at → leaves.records ≢ d.at → Adds m u leaves p named r → AltersDir d (IsLeafOf leaves) m u
 alters_put m u d leaves p named r entries_ne records_ne x = record {
@@ -101,6 +102,8 @@ is_put s m u d pair leaves named r all more looks pinned entries_ne records_ne o
   others = λ k first second. x.slots leaves.entries k (inr (first, second)) ∙ (looks.known leaves.entries own.entries_own.is_pinned).slots k;
   looks = looks;
   calm = x.calm;
+  waits = (x.waits.0, x.waits.1);
+  no_wait = x.waits.2;
   listed = subst (λ (z : List ℕ). HasAdded r z ((u.now leaves.records).bytes)) (looks.known leaves.records own.records_own.is_pinned).bytes x.added.0;
   alters = alters_joins all (alters_looks d.at (IsSlotOf d) (IsTagOf d) (IsAboveOf d) (IsLeafOf leaves) s m pinned looks) (alters_put m u d leaves (pair % 102) named r entries_ne records_ne x);
   own = record {

@@ -4,7 +4,7 @@ use Rattle.fo_image.specs.declared.types.Label.{Label}
 use Rattle.fo_image.specs.declared.record.Record.{Record}
 use Rattle.fo_image.specs.Record.{RecordHolds}
 use Rattle.fo_meta.specs.Leaf.{IsLeaf}
-use Rattle.fo_ports.specs.State.{State, Looks, none}
+use Rattle.fo_ports.specs.State.{State, AddsNoWait, Looks, none}
 use Rattle.fo_dir_put.specs.Paired.{HasBoth}
 use Rattle.fo_dir_put.specs.Puts.{StaysCalm}
 use Rattle.fo_dir_add.specs.Adds.{HasAdded, IsNumbered, IsRaised}
@@ -75,7 +75,8 @@ abbrev pub AreInPlace : State → Leaves → Type 0
 AreInPlace s leaves = (b : ℕ) → IsLeafOf leaves b → s.newborn b ⊎ s.sealed b
 
 -- A record of a new file stands behind the others of its leaf, with its pair; from the moment when the leaves were in place. The leaf of records
--- was looked at, up to the second state. Each other pair of the leaf of entries stays, and no slot begins to wait to be cleared, or is cleared.
+-- was looked at, up to the second state. Each other pair of the leaf of entries stays, no slot begins to wait to be cleared, or is cleared, and the
+-- leaf waits for both entries.
 pub record IsPut (s n u : State) (d : DirAt) (pair : ℕ) (leaves : Leaves) (named r : Record) : Type 0 where
   pub numbered : IsNumbered named pair r.generation r
   pub holds : RecordHolds r
@@ -86,6 +87,8 @@ pub record IsPut (s n u : State) (d : DirAt) (pair : ℕ) (leaves : Leaves) (nam
   pub others : (k : ℕ) → k ≢ 2 * (pair % 102) → k ≢ 2 * (pair % 102) + 1 → (u.now leaves.entries).slot k ≡ (s.now leaves.entries).slot k
   pub looks : Looks s n
   pub calm : StaysCalm n u
+  pub waits : u.waits leaves.records leaves.entries (2 * (pair % 102)) × u.waits leaves.records leaves.entries (2 * (pair % 102) + 1)
+  pub no_wait : AddsNoWait (λ b. b ≡ leaves.records) n u
   pub alters : AltersDir d (IsLeafOf leaves) s u
   pub own : AreOwn u d leaves
 

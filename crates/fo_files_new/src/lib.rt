@@ -5,11 +5,10 @@
 //! and the record put behind the others.
 //!
 //! Proved: the record that was added is the one given, with its pair and the next generation of that; memory has it behind the others of its
-//! leaf, and both entries of the pair; each other pair of the leaf of entries stays, and no slot begins to wait to be cleared. Refusals are by
+//! leaf, and both entries of the pair, for which the leaf waits; each other pair stays, and no slot begins to wait to be cleared. Refusals are by
 //! faults, damage and want of memory, and then no leaf that was there was changed, but for slots that waited to be cleared. The block with the
 //! directory's entries stays what it was; at most 24 blocks, 61 pins, and 1637 removals and waits are used; of other blocks that were there only
-//! current ones above the directory's leaves, and the two leaves, are put into (`Alters`). Not said: that the leaf of records waits for the pair,
-//! and what holds of images.
+//! current ones above the directory's leaves, and the two leaves, are put into (`Alters`). Not said: what holds of images.
 #![tactic(auto)]
 
 mod new;

@@ -22,5 +22,5 @@ returns-in-Added-clause-put g c =
     let is = c.in-Added.is in (
       c.get.new.self,
       is_put (g.B.Blocks.state c.args.on.now) m u c.args.dir c.args.pair c.args.leaves c.args.named c.add_new.new.named (g.met.B.Blocks.keeps_all c.args.on.now c.get.new.self c.get.ensures.keeps) (g.met.B.Blocks.keeps_all c.get.new.self c.add_new.new.on e.keeps) c.get.ensures.looks c.requires.dir.pair.is_pinned c.requires.apart.0 c.requires.apart.1 c.requires.own
-          (record { added = e.added is; bytes = e.bytes is; slots = e.slots is; calm = e.calm is; whole = ap (λ z. length z) (sym e.hand.1) ∙ leaf_long e.hand.0 }) (e.gets is).0 (e.gets is).1 e.holds (subst IsLeaf c.in-Ok.ensures.bytes.0.behind (c.in-Ok.ensures.formed.0.1 (leaf_rank c.args.dir.rank c.requires.dir.ranked c.requires.dir.least))),
+          (record { added = e.added is; bytes = e.bytes is; slots = e.slots is; calm = e.calm is; whole = ap (λ z. length z) (sym e.hand.1) ∙ leaf_long e.hand.0; waits = e.waits is }) (e.gets is).0 (e.gets is).1 e.holds (subst IsLeaf c.in-Ok.ensures.bytes.0.behind (c.in-Ok.ensures.formed.0.1 (leaf_rank c.args.dir.rank c.requires.dir.ranked c.requires.dir.least))),
     )
