@@ -182,9 +182,11 @@ own_unchanged at given = by_root (is_dated_root at) (unchanged given) (own given
     by_test : (test : Bool) → IsOwn (cond test error.IsDir error.ReadOnly)
     by_test true = tt
     by_test false = tt
+
     own : (given : Option ℕ) → IsOwn (unchanged given)
     own None = tt
     own (Some n) = by_test (nat_lt 0 n)
+
     by_root : (root : Bool) (e : FileError) → IsOwn e → IsOwn (cond root e error.Gone)
     by_root true e h = h
     by_root false e h = tt

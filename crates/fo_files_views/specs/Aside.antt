@@ -12,9 +12,13 @@ pub record HasNone (w : World) : Type 0 where
   pub snaps : w.snaps ≡ []
   pub archives : w.archives ≡ []
 
--- In each world without snapshots and archives the step gives this, and leaves the world; or memory is wanting.
+-- In each world without snapshots and archives the step gives this, and leaves the world.
 abbrev pub Says : {A : Type 0} → (World → Result (A × World) FileError) → Result A FileError → Type 0
-Says step r = MatchResult r (λ x. (w : World) → HasNone w → step w ≡ Ok (x, w)) (λ e. ((w : World) → HasNone w → step w ≡ Err e) ⊎ (e ≡ error.Memory))
+Says step r = MatchResult r (λ x. (w : World) → HasNone w → step w ≡ Ok (x, w)) (λ e. (w : World) → HasNone w → step w ≡ Err e)
+
+-- It does, or memory is wanting.
+abbrev pub SaysOrWants : {A : Type 0} → (World → Result (A × World) FileError) → Result A FileError → Type 0
+SaysOrWants step r = MatchResult r (λ x. (w : World) → HasNone w → step w ≡ Ok (x, w)) (λ e. ((w : World) → HasNone w → step w ≡ Err e) ⊎ (e ≡ error.Memory))
 
 -- In each such world the step is refused so.
 abbrev pub SaysWhy : {A : Type 0} → (World → Result A FileError) → FileError → Type 0

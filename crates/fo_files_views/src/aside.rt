@@ -7,7 +7,7 @@ ghost use Rattle.fo_world.specs.Dated.{adm, dated_node, slash};
 ghost use Rattle.fo_world.specs.Fits.{InfoFits};
 ghost use Rattle.fo_world.specs.Step as step;
 ghost use Rattle.fo_world.specs.Step.{info_of, is_active};
-ghost use Rattle.fo_files_views.specs.Aside.{IsOwn, Says, SaysWhy, is_years, is_dated_root, refused_at, unchanged};
+ghost use Rattle.fo_files_views.specs.Aside.{IsOwn, Says, SaysOrWants, SaysWhy, is_years, is_dated_root, refused_at, unchanged};
 
 use fo_base::Bytes;
 use fo_world::{DMDIR, FileError, Info, Place, View};
@@ -78,7 +78,7 @@ fn refused_at(at: &Place, why: FileError) -> FileError
 pub(crate) fn info_aside(alloc: Global, at: &Place) -> Result<Info, FileError>
     requires aside { is_active at.now.view ≡ false }
     ensures fits { IfOk result InfoFits }
-    ensures told { Says (λ w. step.info true w at.now) result }
+    ensures told { SaysOrWants (λ w. step.info true w at.now) result }
     ensures own { IfErr result IsOwn }
 {
     if !is_dated_root(at) {
@@ -94,7 +94,7 @@ pub(crate) fn info_aside(alloc: Global, at: &Place) -> Result<Info, FileError>
 pub(crate) fn parent_aside(alloc: Global, at: &Place) -> Result<Info, FileError>
     requires aside { is_active at.now.view ≡ false }
     ensures fits { IfOk result InfoFits }
-    ensures told { Says (λ w. step.parent true w at.now) result }
+    ensures told { SaysOrWants (λ w. step.parent true w at.now) result }
     ensures own { IfErr result IsOwn }
 {
     if !is_dated_root(at) {

@@ -8,7 +8,7 @@ ghost use Rattle.fo_world.specs.Step as step;
 ghost use Rattle.fo_world.specs.Step.{below, is_active};
 ghost use Rattle.fo_world.specs.Tree.{comes_before, last};
 ghost use Rattle.fo_files_look.specs.Told.{faults_of, above, name_given, IsTold, IsRead};
-ghost use Rattle.fo_files_views.specs.Aside.{Says, SaysWhy};
+ghost use Rattle.fo_files_views.specs.Aside.{Says, SaysOrWants, SaysWhy};
 
 use crate::aside::{info_aside, next_aside, no_find, no_read, parent_aside};
 use fo_base::Bytes;
@@ -23,7 +23,7 @@ pub fn info<B: Blocks>(alloc: Global, on: &mut B, at: &Place) -> Result<Info, Fi
     requires silent { (B.state on.old).tells → ⊥ }
     ensures fits { IfOk result InfoFits }
     ensures active { is_active at.now.view ≡ true → IfOk result (λ i. IsTold (B.state on.new) at.now i × (i.place ≡ at.now) × (0 < length at.now.trail → i.path ≡ last at.now.trail)) }
-    ensures aside { is_active at.now.view ≡ false → Says (λ w. step.info true w at.now) result }
+    ensures aside { is_active at.now.view ≡ false → SaysOrWants (λ w. step.info true w at.now) result }
     ensures looks { Looks (B.state on.old) (B.state on.new) × B.keeps on.old on.new }
     ensures cause { Refuses (faults_of (B.state on.old)) (faults_of (B.state on.new)) ⊥ (λ n. ⊥) 0 result }
 {
@@ -42,7 +42,7 @@ pub fn parent<B: Blocks>(alloc: Global, on: &mut B, at: &Place) -> Result<Info, 
     requires silent { (B.state on.old).tells → ⊥ }
     ensures fits { IfOk result InfoFits }
     ensures active { is_active at.now.view ≡ true → IfOk result (λ i. IsTold (B.state on.new) (above at.now) i × (i.place ≡ above at.now) × (0 < length (above at.now).trail → i.path ≡ last (above at.now).trail)) }
-    ensures aside { is_active at.now.view ≡ false → Says (λ w. step.parent true w at.now) result }
+    ensures aside { is_active at.now.view ≡ false → SaysOrWants (λ w. step.parent true w at.now) result }
     ensures looks { Looks (B.state on.old) (B.state on.new) × B.keeps on.old on.new }
     ensures cause { Refuses (faults_of (B.state on.old)) (faults_of (B.state on.new)) ⊥ (λ n. ⊥) 0 result }
 {
