@@ -1,5 +1,5 @@
 //! The way to a file is made ready.
-ghost use Rattle.std.specs.Prelude.{◌≡◌, ◌≢◌, ◌⊎◌, ◌+◌, ◌*◌, ◌<◌, ◌≤◌, ℕ, true, List, length, IfOk, IfErr, OnErr, MatchOption};
+ghost use Rattle.std.specs.Prelude.{◌≡◌, ◌≢◌, ◌⊎◌, ◌+◌, ◌*◌, ◌<◌, ◌≤◌, ℕ, true, false, List, length, IfOk, IfErr, OnErr, MatchOption};
 ghost use Rattle.fo_base.specs.Cause.{Rose};
 ghost use Rattle.fo_ports.specs.Causes.{Caused};
 ghost use Rattle.fo_ports.specs.State.{Looks};
@@ -84,11 +84,7 @@ fn above_at<B: Blocks>(on: &B, at: &Vec<u32>, way: &Way, k: usize) -> Option<Dir
 
 /// Plans and owns the way to a file below the root directory, and says where its pair stands, its directory's, and that of the directory above that.
 /// Where it is refused all was only looked at.
-pub fn own_along<B: Blocks>(
-    alloc: Global,
-    on: &mut B,
-    way: &Way,
-) -> Result<Stand, BlockError>
+pub fn own_along<B: Blocks>(alloc: Global, on: &mut B, way: &Way) -> Result<Stand, BlockError>
     requires silent { (B.state on.old).tells → ⊥ }
     requires way { (root : ℕ) × ((trail : List ℕ) × IsWay (B.state on.old) root trail way.now) }
     requires some { 0 < length way.now.steps.items }
@@ -118,15 +114,15 @@ pub fn own_along<B: Blocks>(
     Ok(Stand { dir, file, above })
 }
 
-/// Whether a directory has another number than that above it.
-fn is_apart(way: &Way) -> bool
-    ensures { result ≡ true → IsApart way.now }
+/// Whether a directory has the number of the one above it.
+fn is_looped(way: &Way) -> bool
+    ensures { result ≡ false → IsApart way.now }
 {
     let depth = way.steps.len();
     if depth == 0 {
-        return true;
+        return false;
     }
-    way.steps[depth - 1].dir.named.number != way.file.named.number
+    way.steps[depth - 1].dir.named.number == way.file.named.number
 }
 
 /// The same for a directory, which may be the root: then its pair stands in the root block. The block with a directory's pair is damaged where the
@@ -153,7 +149,7 @@ pub fn own_dir_along<B: Blocks>(
     ensures cause { IfErr result (Caused ⊥ (λ b. (B.state on.old).is_block b ⊎ (b ≡ 1)) (Rose (B.state on.old).faults (B.state on.new).faults) (Rose (B.state on.old).arena_faults (B.state on.new).arena_faults)) }
     ensures keeps { B.keeps on.old on.new }
 {
-    if !is_apart(way) {
+    if is_looped(way) {
         return Err(BlockError::Damaged(way.file.leaf));
     }
     let blocks = match own_blocks(alloc, on, way) {
