@@ -11,6 +11,7 @@ ghost use Rattle.fo_waits.specs.Listed.{Clears};
 ghost use Rattle.fo_mind.specs.MindParts.{parts};
 ghost use Rattle.fo_mind.specs.Parts.{CacheKeeps, IsNewborn, IsPinned, state_of};
 ghost use Rattle.fo_cache.specs.Easing.{Eases};
+ghost use Rattle.fo_settling.specs.Clearings.{Clearings};
 
 use fo_cache::Cache;
 use fo_disk::Disk;
@@ -19,6 +20,7 @@ use fo_ports::BlockError;
 // Clears the next slot whose leaf is settled, and answers whether there was none.
 fn clear_next<D: Disk>(cache: &mut Cache<D>) -> Result<bool, BlockError>
     ensures eases { Eases (parts cache.old.mind (D.state cache.old.main).holds (D.faults cache.old.main)) (parts cache.new.mind (D.state cache.new.main).holds (D.faults cache.new.main)) }
+    ensures clears { Clearings (parts cache.old.mind (D.state cache.old.main).holds (D.faults cache.old.main)) (parts cache.new.mind (D.state cache.new.main).holds (D.faults cache.new.main)) }
     ensures less { IfOk result (λ b. b ≡ false → length (parts cache.new.mind [] 0).clears < length (parts cache.old.mind [] 0).clears) }
     ensures same { IfOk result (λ b. b ≡ true → cache.new ≡ cache.old) }
     ensures device { cache.new.main ≡ cache.old.main }
@@ -34,6 +36,7 @@ fn clear_next<D: Disk>(cache: &mut Cache<D>) -> Result<bool, BlockError>
 // Clears each slot whose leaf is settled.
 fn clear_all<D: Disk>(cache: &mut Cache<D>) -> Result<(), BlockError>
     ensures eases { Eases (parts cache.old.mind (D.state cache.old.main).holds (D.faults cache.old.main)) (parts cache.new.mind (D.state cache.new.main).holds (D.faults cache.new.main)) }
+    ensures clears { Clearings (parts cache.old.mind (D.state cache.old.main).holds (D.faults cache.old.main)) (parts cache.new.mind (D.state cache.new.main).holds (D.faults cache.new.main)) }
     ensures fewer { OnOk result (length (parts cache.new.mind [] 0).clears ≤ length (parts cache.old.mind [] 0).clears) }
     ensures device { cache.new.main ≡ cache.old.main }
     ensures cause { IfErr result (λ e. e ≡ Wanting) }
@@ -45,6 +48,7 @@ fn clear_all<D: Disk>(cache: &mut Cache<D>) -> Result<(), BlockError>
 // Takes all turns, and then clears the slots whose leaves are settled; true where none was left, so that nothing waits any more.
 fn settle_round<D: Disk>(cache: &mut Cache<D>) -> Result<bool, BlockError>
     ensures eases { Eases (parts cache.old.mind (D.state cache.old.main).holds (D.faults cache.old.main)) (parts cache.new.mind (D.state cache.new.main).holds (D.faults cache.new.main)) }
+    ensures clears { Clearings (parts cache.old.mind (D.state cache.old.main).holds (D.faults cache.old.main)) (parts cache.new.mind (D.state cache.new.main).holds (D.faults cache.new.main)) }
     ensures done { IfOk result (λ b. b ≡ true → IsQuiet (parts cache.new.mind [] 0).turns × ((b j : ℕ) → Clears (parts cache.new.mind [] 0).clears b j → ⊥)) }
     ensures less { IfOk result (λ b. b ≡ false → length (parts cache.new.mind [] 0).clears < length (parts cache.old.mind [] 0).clears) }
     ensures size { D.size cache.new.main ≡ D.size cache.old.main }
@@ -63,6 +67,7 @@ fn settle_round<D: Disk>(cache: &mut Cache<D>) -> Result<bool, BlockError>
 // Takes turns and clears slots until neither is left.
 fn settle_rounds<D: Disk>(cache: &mut Cache<D>) -> Result<(), BlockError>
     ensures eases { Eases (parts cache.old.mind (D.state cache.old.main).holds (D.faults cache.old.main)) (parts cache.new.mind (D.state cache.new.main).holds (D.faults cache.new.main)) }
+    ensures clears { Clearings (parts cache.old.mind (D.state cache.old.main).holds (D.faults cache.old.main)) (parts cache.new.mind (D.state cache.new.main).holds (D.faults cache.new.main)) }
     ensures done { OnOk result (IsQuiet (parts cache.new.mind [] 0).turns × ((b j : ℕ) → Clears (parts cache.new.mind [] 0).clears b j → ⊥)) }
     ensures size { D.size cache.new.main ≡ D.size cache.old.main }
     ensures later { D.faults cache.old.main ≤ D.faults cache.new.main }
@@ -81,6 +86,7 @@ pub fn settle<D: Disk>(cache: &mut Cache<D>) -> Result<(), BlockError>
     ensures clean { OnOk result ((b : ℕ) → (state_of (parts cache.new.mind (D.state cache.new.main).holds (D.faults cache.new.main))).dirty b → (state_of (parts cache.new.mind (D.state cache.new.main).holds (D.faults cache.new.main))).newborn b × ((state_of (parts cache.new.mind (D.state cache.new.main).holds (D.faults cache.new.main))).tells → IsUnlinked (state_of (parts cache.new.mind (D.state cache.new.main).holds (D.faults cache.new.main))) b)) }
     ensures no_wait { OnOk result ((a on j : ℕ) → (state_of (parts cache.new.mind (D.state cache.new.main).holds (D.faults cache.new.main))).waits a on j → ⊥) }
     ensures pinned { OnOk result ((b : ℕ) → (state_of (parts cache.new.mind (D.state cache.new.main).holds (D.faults cache.new.main))).pinned b → (state_of (parts cache.new.mind (D.state cache.new.main).holds (D.faults cache.new.main))).newborn b ⊎ (state_of (parts cache.new.mind (D.state cache.new.main).holds (D.faults cache.new.main))).sealed b) }
+    ensures clears { Clearings (parts cache.old.mind (D.state cache.old.main).holds (D.faults cache.old.main)) (parts cache.new.mind (D.state cache.new.main).holds (D.faults cache.new.main)) }
     ensures rests { Rests (state_of (parts cache.old.mind (D.state cache.old.main).holds (D.faults cache.old.main))) (state_of (parts cache.new.mind (D.state cache.new.main).holds (D.faults cache.new.main))) }
     ensures queued { (state_of (parts cache.old.mind (D.state cache.old.main).holds (D.faults cache.old.main))).queued ≤ (state_of (parts cache.new.mind (D.state cache.new.main).holds (D.faults cache.new.main))).queued }
     ensures known { (b : ℕ) → (state_of (parts cache.old.mind (D.state cache.old.main).holds (D.faults cache.old.main))).pinned b → StaysKnown (state_of (parts cache.old.mind (D.state cache.old.main).holds (D.faults cache.old.main))) (state_of (parts cache.new.mind (D.state cache.new.main).holds (D.faults cache.new.main))) b }
@@ -97,6 +103,7 @@ pub fn settle<D: Disk>(cache: &mut Cache<D>) -> Result<(), BlockError>
 // Settles all, ends the waits, and seals what is pinned.
 fn settle_all<D: Disk>(cache: &mut Cache<D>) -> Result<(), BlockError>
     ensures eases { Eases (parts cache.old.mind (D.state cache.old.main).holds (D.faults cache.old.main)) (parts cache.new.mind (D.state cache.new.main).holds (D.faults cache.new.main)) }
+    ensures clears { Clearings (parts cache.old.mind (D.state cache.old.main).holds (D.faults cache.old.main)) (parts cache.new.mind (D.state cache.new.main).holds (D.faults cache.new.main)) }
     ensures none { OnOk result ((b j : ℕ) → Clears (parts cache.new.mind [] 0).clears b j → ⊥) }
     ensures quiet { OnOk result (IsQuiet (parts cache.new.mind [] 0).turns) }
     ensures no_wait { OnOk result ((parts cache.new.mind [] 0).waits ≡ []) }

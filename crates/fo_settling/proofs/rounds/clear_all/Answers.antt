@@ -1,5 +1,6 @@
 use Rattle.std.proofs.Common.{◌∙◌, arith}
 use Rattle.fo_cache.proofs.Easing.{eases_on}
+use Rattle.fo_settling.proofs.Clearing.{clearings_on}
 use Rattle.fo_settling.proofs.rounds.clear_all.Goals as goal
 
 pub returns-in_err-clear_next-clause-eases : goal.returns-in_err-clear_next-clause-eases
@@ -14,6 +15,13 @@ loop-preserved g c =
     let was = c.loop.invariant.fewer in
     record {
       eases = eases_on c.loop.invariant.eases c.clear_next.ensures.eases;
+      clears = clearings_on c.loop.invariant.clears c.clear_next.ensures.clears;
       fewer = omega (arith, l, was);
       device = c.clear_next.ensures.device ∙ c.loop.invariant.device;
     }
+
+pub returns-in_err-clear_next-clause-clears : goal.returns-in_err-clear_next-clause-clears
+returns-in_err-clear_next-clause-clears g c = clearings_on c.loop.invariant.clears c.clear_next.ensures.clears
+
+pub returns-clause-clears : goal.returns-clause-clears
+returns-clause-clears g c = clearings_on c.loop.invariant.clears c.clear_next.ensures.clears

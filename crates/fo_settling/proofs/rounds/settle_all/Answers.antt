@@ -1,8 +1,10 @@
-use Rattle.std.proofs.Common.{sym, ap, ◌∙◌, subst}
+use Rattle.std.proofs.Common.{[], sym, ap, ◌∙◌, subst}
 use Rattle.fo_order.specs.Turns.{IsQuiet}
 use Rattle.fo_waits.specs.Listed.{Clears}
 use Rattle.fo_mind.specs.Parts.{IsPinned, Parts}
 use Rattle.fo_cache.proofs.Easing.{eases_on}
+use Rattle.fo_mind.specs.MindParts.{parts}
+use Rattle.fo_settling.proofs.Clearing.{clearings_of, clearings_on, lasts_on, lasts_renumbered, lasts_sealed, lasts_waited}
 use Rattle.fo_settling.proofs.Waiting.{newborn_or_sealed}
 use Rattle.fo_settling.proofs.rounds.settle_all.Goals as goal
 
@@ -25,3 +27,26 @@ pub returns-clause-pinned : goal.returns-clause-pinned
 returns-clause-pinned g c = λ b is.
     let z = c.seal_pinned.ensures.sealed in
     newborn_or_sealed c.seal_pinned.new.self.mind.facts b (z.pinned b (subst (λ (q : Parts). IsPinned q.held b) z.rest is))
+
+pub returns-in_err-settle_doubt-clause-clears : goal.returns-in_err-settle_doubt-clause-clears
+returns-in_err-settle_doubt-clause-clears g c =
+    let old = c.args.cache.now in
+    let mid = c.settle_doubt.new.self in
+    clearings_of (lasts_renumbered (g.D.Disk.state old.main) (g.D.Disk.state mid.main) (parts old.mind [] 0) (parts mid.mind [] 0) (g.D.Disk.faults old.main) (g.D.Disk.faults mid.main) old.mind.placed c.settle_doubt.ensures.renumbers)
+
+pub returns-in_err-settle_rounds-clause-clears : goal.returns-in_err-settle_rounds-clause-clears
+returns-in_err-settle_rounds-clause-clears g c =
+    let old = c.args.cache.now in
+    let mid = c.settle_doubt.new.self in
+    clearings_on (clearings_of (lasts_renumbered (g.D.Disk.state old.main) (g.D.Disk.state mid.main) (parts old.mind [] 0) (parts mid.mind [] 0) (g.D.Disk.faults old.main) (g.D.Disk.faults mid.main) old.mind.placed c.settle_doubt.ensures.renumbers)) c.settle_rounds.ensures.clears
+
+pub returns-clause-clears : goal.returns-clause-clears
+returns-clause-clears g c =
+    let old = c.args.cache.now in
+    let mid = c.settle_doubt.new.self in
+    let done = c.settle_rounds.new.cache in
+    let over = c.waits_over.new.self in
+    let end = c.seal_pinned.new.self in
+    clearings_on (clearings_on (clearings_of (lasts_renumbered (g.D.Disk.state old.main) (g.D.Disk.state mid.main) (parts old.mind [] 0) (parts mid.mind [] 0) (g.D.Disk.faults old.main) (g.D.Disk.faults mid.main) old.mind.placed c.settle_doubt.ensures.renumbers)) c.settle_rounds.ensures.clears) (clearings_of (lasts_on
+    (lasts_waited (parts done.mind [] 0) (parts over.mind [] 0) (g.D.Disk.state done.main).holds (g.D.Disk.state over.main).holds (g.D.Disk.faults done.main) (g.D.Disk.faults over.main) (ap (λ m. (g.D.Disk.state m).holds) c.waits_over.ensures.device) c.waits_over.ensures.over)
+    (lasts_sealed (parts over.mind [] 0) (parts end.mind [] 0) (g.D.Disk.state over.main).holds (g.D.Disk.state end.main).holds (g.D.Disk.faults over.main) (g.D.Disk.faults end.main) (ap (λ m. (g.D.Disk.state m).holds) c.seal_pinned.ensures.device) c.seal_pinned.ensures.sealed)))

@@ -1,5 +1,6 @@
 use Rattle.std.proofs.Common.{◌∙◌, arith}
 use Rattle.fo_cache.proofs.Easing.{eases_on}
+use Rattle.fo_settling.proofs.Clearing.{clearings_on}
 use Rattle.fo_settling.proofs.rounds.settle_rounds.Goals as goal
 
 pub returns-in_err-settle_round-clause-eases : goal.returns-in_err-settle_round-clause-eases
@@ -14,6 +15,13 @@ loop-preserved g c =
     let b = c.settle_round.ensures.later in
     record {
       eases = eases_on c.loop.invariant.eases c.settle_round.ensures.eases;
+      clears = clearings_on c.loop.invariant.clears c.settle_round.ensures.clears;
       size = c.settle_round.ensures.size ∙ c.loop.invariant.size;
       later = omega (arith, a, b);
     }
+
+pub returns-in_err-settle_round-clause-clears : goal.returns-in_err-settle_round-clause-clears
+returns-in_err-settle_round-clause-clears g c = clearings_on c.loop.invariant.clears c.settle_round.ensures.clears
+
+pub returns-clause-clears : goal.returns-clause-clears
+returns-clause-clears g c = clearings_on c.loop.invariant.clears c.settle_round.ensures.clears

@@ -1,11 +1,13 @@
 use Rattle.std.proofs.Common.{◌≡◌, ◌≤◌, length}
 use Rattle.fo_mind.specs.MindParts.{parts}
 use Rattle.fo_cache.specs.Easing.{Eases}
+use Rattle.fo_settling.specs.Clearings.{Clearings}
 use Rattle.fo_settling.proofs.rounds.settle_rounds.Given as goal
 
 abbrev pub invariant-loop : goal.invariant-loop
 invariant-loop g l = record {
   eases : Eases (parts l.fn.cache.mind (g.D.Disk.state l.fn.cache.main).holds (g.D.Disk.faults l.fn.cache.main)) (parts l.cache.mind (g.D.Disk.state l.cache.main).holds (g.D.Disk.faults l.cache.main));
+  clears : Clearings (parts l.fn.cache.mind (g.D.Disk.state l.fn.cache.main).holds (g.D.Disk.faults l.fn.cache.main)) (parts l.cache.mind (g.D.Disk.state l.cache.main).holds (g.D.Disk.faults l.cache.main));
   size : g.D.Disk.size l.cache.main ≡ g.D.Disk.size l.fn.cache.main;
   later : g.D.Disk.faults l.fn.cache.main ≤ g.D.Disk.faults l.cache.main;
 }

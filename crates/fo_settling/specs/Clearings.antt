@@ -1,0 +1,40 @@
+-- Which slots that waited a settling clears, what is queued with them, and what stays beside that.
+use Rattle.std.specs.Prelude.{◌≡◌, ◌⊎◌, ◌≤◌, ◌<◌, ℕ, List, [], ◌∷◌, length, None}
+use Rattle.std.specs.Option.{option_map}
+use Rattle.fo_buffers.specs.Held.{block_in, held_at}
+use Rattle.fo_facts.specs.Known.{fact_at}
+use Rattle.fo_mind.specs.Due.{ClearedDue, IsDueSlot}
+use Rattle.fo_mind.specs.Parts.{Parts, bytes_at}
+
+-- What stays while no slot is cleared and no block is closed: labels, the queue, the slots that wait, and who is in the tree. What is held
+-- has its bytes, or is held no more; and what memory has of data blocks stays, as far as the device tells.
+pub record Lasts (p q : Parts) : Type 0 where
+  pub region : q.region ≡ p.region
+  pub removals : q.removals ≡ p.removals
+  pub clears : q.clears ≡ p.clears
+  pub linked : (b : ℕ) → (fact_at q.facts b).linked ≡ (fact_at p.facts b).linked
+  pub held : (b : ℕ) → (option_map block_in (held_at q.held b) ≡ option_map block_in (held_at p.held b)) ⊎ (held_at q.held b ≡ None)
+  pub count : length q.disk ≡ length p.disk
+  pub bytes : (b : ℕ) → p.region.first ≤ b → b < length p.disk → bytes_at q.held q.disk b ≡ bytes_at p.held p.disk b
+
+-- one slot that is cleared, and what memory was before and after that
+pub record Due : Type 0 where
+  pub at : ℕ
+  pub slot : ℕ
+  pub before : Parts
+  pub after : Parts
+
+-- It waited for a leaf that is settled, and is cleared; what left with it is queued, as the walk over memory gives it, and no more.
+pub record IsDue (d : Due) : Type 0 where
+  pub due : IsDueSlot d.before.turns d.before.clears d.at d.slot
+  pub clears : ClearedDue d.at d.slot d.before d.after
+
+-- These slots are cleared, one after the other.
+abbrev pub ClearsBy : List Due → Parts → Parts → Type 0
+ClearsBy [] p q = Lasts p q
+ClearsBy (d ∷ ds) p q = Lasts p d.before × IsDue d × ClearsBy ds d.after q
+
+-- Slots that waited for settled leaves are cleared, each with what is queued with it; beside that labels, the queue and memory's bytes stay.
+pub record Clearings (p q : Parts) : Type 0 where
+  pub dues : List Due
+  pub clears : ClearsBy dues p q
