@@ -6,6 +6,7 @@ use Rattle.fo_disk.specs.Disk.{DiskState, versions_of}
 use Rattle.fo_disk.specs.Disk.{Content as Holds}
 use Rattle.fo_buffers.specs.declared.block.Buffer.{Buffer}
 use Rattle.fo_buffers.specs.Held.{block_in, held_at, settled}
+use Rattle.fo_image.specs.declared.types.Super.{Super}
 use Rattle.fo_labels.specs.Region.{Region}
 use Rattle.fo_facts.specs.declared.fact.Fact.{Fact}
 use Rattle.fo_facts.specs.Known.{fact_at}
@@ -23,7 +24,7 @@ use Rattle.fo_settling.specs.Clearings.{Clearings, ClearsBy, Due, Lasts}
 -- ---- what stays
 
 pub lasts_none : (p : Parts) → Lasts p p
-lasts_none p = record { region = refl; removals = refl; clears = refl; linked = λ b. refl; held = λ b. inl refl; count = refl; bytes = λ b le lt. refl }
+lasts_none p = record { region = refl; high = refl; removals = refl; clears = refl; linked = λ b. refl; held = λ b. inl refl; count = refl; bytes = λ b le lt. refl }
 
 none_held : (o : Option Buffer) → option_map block_in o ≡ None → o ≡ None
 none_held (Some x) e = absurd (clash e)
@@ -35,6 +36,7 @@ none_held None e = refl
 pub lasts_on : {p m q : Parts} → Lasts p m → Lasts m q → Lasts p q
 lasts_on {p} {m} {q} a b = record {
   region = b.region ∙ a.region;
+  high = b.high ∙ a.high;
   removals = b.removals ∙ a.removals;
   clears = b.clears ∙ a.clears;
   linked = λ k. b.linked k ∙ a.linked k;
@@ -50,7 +52,7 @@ lasts_on {p} {m} {q} a b = record {
 pub lasts_room : (p q : Parts) (h k : Holds) (f g : ℕ) → k ≡ h → KeepsTurn p q → Lasts (record p { disk = h; faults = f }) (record q { disk = k; faults = g })
 lasts_room p q h k f g disk kept = subst (λ (x : Holds). Lasts (record p { disk = h; faults = f }) (record q { disk = x; faults = g })) (sym disk)
     (subst (λ (z : Parts). Lasts (record p { disk = h; faults = f }) (record z { disk = h; faults = g })) (sym kept.rest)
-    (record { region = refl; removals = refl; clears = refl; linked = λ b. refl; held = λ b. inl refl; count = refl; bytes = λ b le lt. refl }))
+    (record { region = refl; high = refl; removals = refl; clears = refl; linked = λ b. refl; held = λ b. inl refl; count = refl; bytes = λ b le lt. refl }))
 
 same_blocks : (o n : Option Buffer) → option_map settled n ≡ option_map settled o → option_map block_in n ≡ option_map block_in o
 same_blocks o n e = sym (plain n) ∙ ap (option_map block_in) e ∙ plain o
@@ -63,6 +65,7 @@ same_blocks o n e = sym (plain n) ∙ ap (option_map block_in) e ∙ plain o
 pub lasts_turned : (s t : DiskState) (p q : Parts) (f g : ℕ) → Settles s t p q → Lasts (record p { disk = s.holds; faults = f }) (record q { disk = t.holds; faults = g })
 lasts_turned s t p q f g k = record {
   region = ap (λ (z : Parts). z.region) k.rest;
+  high = ap (λ (z : Parts). z.one.high) k.rest;
   removals = ap (λ (z : Parts). z.removals) k.rest;
   clears = ap (λ (z : Parts). z.clears) k.rest;
   linked = λ b. ap (λ (x : Fact). x.linked) (k.lasts b);
@@ -75,6 +78,7 @@ lasts_turned s t p q f g k = record {
 pub lasts_renumbered : (s t : DiskState) (p q : Parts) (f g : ℕ) {first count : ℕ} → Placed p.region p.turns p.facts first count → Renumbers s t p q → Lasts (record p { disk = s.holds; faults = f }) (record q { disk = t.holds; faults = g })
 lasts_renumbered s t p q f g placed k = record {
   region = ap (λ (z : Parts). z.region) k.rest;
+  high = ap (λ (x : Super). x.high) k.one;
   removals = ap (λ (z : Parts). z.removals) k.rest;
   clears = ap (λ (z : Parts). z.clears) k.rest;
   linked = λ b. ap (λ (z : Parts). (fact_at z.facts b).linked) k.rest;
@@ -89,7 +93,7 @@ lasts_renumbered s t p q f g placed k = record {
 pub lasts_beside : (p q : Parts) (h k : Holds) (f g : ℕ) → k ≡ h → q ≡ record p { waits = q.waits; facts = q.facts } → ((b : ℕ) → (fact_at q.facts b).linked ≡ (fact_at p.facts b).linked) → Lasts (record p { disk = h; faults = f }) (record q { disk = k; faults = g })
 lasts_beside p q h k f g disk is linked = subst (λ (x : Holds). Lasts (record p { disk = h; faults = f }) (record q { disk = x; faults = g })) (sym disk)
     (subst (λ (z : Parts). Lasts (record p { disk = h; faults = f }) (record z { disk = h; faults = g })) (sym is)
-    (record { region = refl; removals = refl; clears = refl; linked = linked; held = λ b. inl refl; count = refl; bytes = λ b le lt. refl }))
+    (record { region = refl; high = refl; removals = refl; clears = refl; linked = linked; held = λ b. inl refl; count = refl; bytes = λ b le lt. refl }))
 
 pub lasts_waited : (p q : Parts) (h k : Holds) (f g : ℕ) → k ≡ h → q ≡ record p { waits = [] } → Lasts (record p { disk = h; faults = f }) (record q { disk = k; faults = g })
 lasts_waited p q h k f g disk over = lasts_beside p q h k f g disk (over ∙ ap (λ (z : Parts). record p { waits = z.waits; facts = z.facts }) (sym over)) (λ b. ap (λ (z : Parts). (fact_at z.facts b).linked) over)
@@ -116,18 +120,18 @@ clearings_of l = record { dues = []; clears = l }
 pub clearings_none : (p : Parts) → Clearings p p
 clearings_none p = clearings_of (lasts_none p)
 
-clears_one : (at i : ℕ) (p q : Parts) → ClearsDue at i p q → IsDueSlot p.turns p.clears at i → Clearings p q
-clears_one at i p q c due = record {
+clears_one : (at i : ℕ) (p q : Parts) → length p.walk.pairs ≡ 0 → ClearsDue at i p q → IsDueSlot p.turns p.clears at i → Clearings p q
+clears_one at i p q rests c due = record {
   dues = record { at = at; slot = i; before = c.roomy; after = q } ∷ [];
   clears = (
     lasts_room p c.roomy p.disk c.roomy.disk p.faults c.roomy.faults (ap (λ (z : Parts). z.disk) c.kept.rest) c.kept,
-    record { due = subst (λ (z : Parts). IsDueSlot z.turns z.clears at i) (sym c.kept.rest) due; clears = c.cleared },
+    record { rests = subst (λ (z : Parts). length z.walk.pairs ≡ 0) (sym c.kept.rest) rests; due = subst (λ (z : Parts). IsDueSlot z.turns z.clears at i) (sym c.kept.rest) due; clears = c.cleared },
     lasts_none q,
   );
 }
 
 -- over a device that stays
-pub clearings_one : (at i : ℕ) (p q : Parts) (h k : Holds) (f g : ℕ) → k ≡ h → g ≡ f → ClearsDue at i (record p { disk = h; faults = f }) (record q { disk = h; faults = f }) → IsDueSlot p.turns p.clears at i → Clearings (record p { disk = h; faults = f }) (record q { disk = k; faults = g })
-clearings_one at i p q h k f g disk faults c due = subst (λ (x : Holds). Clearings (record p { disk = h; faults = f }) (record q { disk = x; faults = g })) (sym disk)
+pub clearings_one : (at i : ℕ) (p q : Parts) (h k : Holds) (f g : ℕ) → k ≡ h → g ≡ f → length p.walk.pairs ≡ 0 → ClearsDue at i (record p { disk = h; faults = f }) (record q { disk = h; faults = f }) → IsDueSlot p.turns p.clears at i → Clearings (record p { disk = h; faults = f }) (record q { disk = k; faults = g })
+clearings_one at i p q h k f g disk faults rests c due = subst (λ (x : Holds). Clearings (record p { disk = h; faults = f }) (record q { disk = x; faults = g })) (sym disk)
     (subst (λ n. Clearings (record p { disk = h; faults = f }) (record q { disk = h; faults = n })) (sym faults)
-    (clears_one at i (record p { disk = h; faults = f }) (record q { disk = h; faults = f }) c due))
+    (clears_one at i (record p { disk = h; faults = f }) (record q { disk = h; faults = f }) rests c due))

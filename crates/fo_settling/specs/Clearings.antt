@@ -6,10 +6,11 @@ use Rattle.fo_facts.specs.Known.{fact_at}
 use Rattle.fo_mind.specs.Due.{ClearedDue, IsDueSlot}
 use Rattle.fo_mind.specs.Parts.{Parts, bytes_at}
 
--- What stays while no slot is cleared and no block is closed: labels, the queue, the slots that wait, and who is in the tree. What is held
--- has its bytes, or is held no more; and what memory has of data blocks stays, as far as the device tells.
+-- What stays while no slot is cleared and no block is closed: labels, the epoch, the queue, the slots that wait, and who is in the tree.
+-- What is held has its bytes, or is held no more; and what memory has of data blocks stays, as far as the device tells.
 pub record Lasts (p q : Parts) : Type 0 where
   pub region : q.region ≡ p.region
+  pub high : q.one.high ≡ p.one.high
   pub removals : q.removals ≡ p.removals
   pub clears : q.clears ≡ p.clears
   pub linked : (b : ℕ) → (fact_at q.facts b).linked ≡ (fact_at p.facts b).linked
@@ -24,8 +25,10 @@ pub record Due : Type 0 where
   pub before : Parts
   pub after : Parts
 
--- It waited for a leaf that is settled, and is cleared; what left with it is queued, as the walk over memory gives it, and no more.
+-- It waited for a leaf that is settled, and is cleared, while no walk was under way; what left with it is queued, as the walk over memory
+-- gives it, and no more.
 pub record IsDue (d : Due) : Type 0 where
+  pub rests : length d.before.walk.pairs ≡ 0
   pub due : IsDueSlot d.before.turns d.before.clears d.at d.slot
   pub clears : ClearedDue d.at d.slot d.before d.after
 

@@ -19,4 +19,4 @@ returns-clause-clears g c =
     let h = (g.D.Disk.state old.main).holds in
     let f = g.D.Disk.faults old.main in
     let same = c.clear_due.ensures.device in
-    clearings_one c.in-Some.at c.in-Some.i (parts old.mind [] 0) (parts new.mind [] 0) h (g.D.Disk.state new.main).holds f (g.D.Disk.faults new.main) (ap (λ m. (g.D.Disk.state m).holds) same) (ap (λ m. g.D.Disk.faults m) same) (c.in_ok-clear_due.ensures.cleared h f) c.in-Some.ensures.0
+    clearings_one c.in-Some.at c.in-Some.i (parts old.mind [] 0) (parts new.mind [] 0) h (g.D.Disk.state new.main).holds f (g.D.Disk.faults new.main) (ap (λ m. (g.D.Disk.state m).holds) same) (ap (λ m. g.D.Disk.faults m) same) old.mind.rests (c.in_ok-clear_due.ensures.cleared h f) c.in-Some.ensures.0

@@ -35,7 +35,7 @@ pub returns-in_err-clear_due-clause-clears : goal.returns-in_err-clear_due-claus
 returns-in_err-clear_due-clause-clears g c = clearings_of (lasts_on (lasts_turned (g.D.Disk.state c.args.cache.now.main) (g.D.Disk.state c.settle_turns.new.self.main) (parts c.args.cache.now.mind [] 0) (parts c.settle_turns.new.self.mind [] 0) (g.D.Disk.faults c.args.cache.now.main) (g.D.Disk.faults c.settle_turns.new.self.main) c.settle_turns.ensures.settles) (lasts_room (parts c.settle_turns.new.self.mind [] 0) (parts c.clear_due.new.self.mind [] 0) (g.D.Disk.state c.settle_turns.new.self.main).holds (g.D.Disk.state c.clear_due.new.self.main).holds (g.D.Disk.faults c.settle_turns.new.self.main) (g.D.Disk.faults c.clear_due.new.self.main) (ap (λ m. (g.D.Disk.state m).holds) c.clear_due.ensures.device) c.in_err-clear_due.ensures.kept))
 
 pub returns-in_err-clear_all-clause-clears : goal.returns-in_err-clear_all-clause-clears
-returns-in_err-clear_all-clause-clears g c = clearings_on (clearings_on (clearings_of (lasts_turned (g.D.Disk.state c.args.cache.now.main) (g.D.Disk.state c.settle_turns.new.self.main) (parts c.args.cache.now.mind [] 0) (parts c.settle_turns.new.self.mind [] 0) (g.D.Disk.faults c.args.cache.now.main) (g.D.Disk.faults c.settle_turns.new.self.main) c.settle_turns.ensures.settles)) (clearings_one c.in-Some.at c.in-Some.i (parts c.settle_turns.new.self.mind [] 0) (parts c.clear_due.new.self.mind [] 0) (g.D.Disk.state c.settle_turns.new.self.main).holds (g.D.Disk.state c.clear_due.new.self.main).holds (g.D.Disk.faults c.settle_turns.new.self.main) (g.D.Disk.faults c.clear_due.new.self.main) (ap (λ m. (g.D.Disk.state m).holds) c.clear_due.ensures.device) (ap (λ m. g.D.Disk.faults m) c.clear_due.ensures.device) (c.in_ok-clear_due.ensures.cleared (g.D.Disk.state c.settle_turns.new.self.main).holds (g.D.Disk.faults c.settle_turns.new.self.main)) c.in-Some.ensures.0)) c.clear_all.ensures.clears
+returns-in_err-clear_all-clause-clears g c = clearings_on (clearings_on (clearings_of (lasts_turned (g.D.Disk.state c.args.cache.now.main) (g.D.Disk.state c.settle_turns.new.self.main) (parts c.args.cache.now.mind [] 0) (parts c.settle_turns.new.self.mind [] 0) (g.D.Disk.faults c.args.cache.now.main) (g.D.Disk.faults c.settle_turns.new.self.main) c.settle_turns.ensures.settles)) (clearings_one c.in-Some.at c.in-Some.i (parts c.settle_turns.new.self.mind [] 0) (parts c.clear_due.new.self.mind [] 0) (g.D.Disk.state c.settle_turns.new.self.main).holds (g.D.Disk.state c.clear_due.new.self.main).holds (g.D.Disk.faults c.settle_turns.new.self.main) (g.D.Disk.faults c.clear_due.new.self.main) (ap (λ m. (g.D.Disk.state m).holds) c.clear_due.ensures.device) (ap (λ m. g.D.Disk.faults m) c.clear_due.ensures.device) c.settle_turns.new.self.mind.rests (c.in_ok-clear_due.ensures.cleared (g.D.Disk.state c.settle_turns.new.self.main).holds (g.D.Disk.faults c.settle_turns.new.self.main)) c.in-Some.ensures.0)) c.clear_all.ensures.clears
 
 pub returns-clause-clears : goal.returns-clause-clears
-returns-clause-clears g c = clearings_on (clearings_on (clearings_of (lasts_turned (g.D.Disk.state c.args.cache.now.main) (g.D.Disk.state c.settle_turns.new.self.main) (parts c.args.cache.now.mind [] 0) (parts c.settle_turns.new.self.mind [] 0) (g.D.Disk.faults c.args.cache.now.main) (g.D.Disk.faults c.settle_turns.new.self.main) c.settle_turns.ensures.settles)) (clearings_one c.in-Some.at c.in-Some.i (parts c.settle_turns.new.self.mind [] 0) (parts c.clear_due.new.self.mind [] 0) (g.D.Disk.state c.settle_turns.new.self.main).holds (g.D.Disk.state c.clear_due.new.self.main).holds (g.D.Disk.faults c.settle_turns.new.self.main) (g.D.Disk.faults c.clear_due.new.self.main) (ap (λ m. (g.D.Disk.state m).holds) c.clear_due.ensures.device) (ap (λ m. g.D.Disk.faults m) c.clear_due.ensures.device) (c.in_ok-clear_due.ensures.cleared (g.D.Disk.state c.settle_turns.new.self.main).holds (g.D.Disk.faults c.settle_turns.new.self.main)) c.in-Some.ensures.0)) c.clear_all.ensures.clears
+returns-clause-clears g c = clearings_on (clearings_on (clearings_of (lasts_turned (g.D.Disk.state c.args.cache.now.main) (g.D.Disk.state c.settle_turns.new.self.main) (parts c.args.cache.now.mind [] 0) (parts c.settle_turns.new.self.mind [] 0) (g.D.Disk.faults c.args.cache.now.main) (g.D.Disk.faults c.settle_turns.new.self.main) c.settle_turns.ensures.settles)) (clearings_one c.in-Some.at c.in-Some.i (parts c.settle_turns.new.self.mind [] 0) (parts c.clear_due.new.self.mind [] 0) (g.D.Disk.state c.settle_turns.new.self.main).holds (g.D.Disk.state c.clear_due.new.self.main).holds (g.D.Disk.faults c.settle_turns.new.self.main) (g.D.Disk.faults c.clear_due.new.self.main) (ap (λ m. (g.D.Disk.state m).holds) c.clear_due.ensures.device) (ap (λ m. g.D.Disk.faults m) c.clear_due.ensures.device) c.settle_turns.new.self.mind.rests (c.in_ok-clear_due.ensures.cleared (g.D.Disk.state c.settle_turns.new.self.main).holds (g.D.Disk.faults c.settle_turns.new.self.main)) c.in-Some.ensures.0)) c.clear_all.ensures.clears
