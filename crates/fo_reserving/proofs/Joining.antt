@@ -9,6 +9,9 @@ use Rattle.fo_mind.specs.Laws.{keeps_joins}
 use Rattle.fo_mind.specs.Parts.{CacheKeeps, IsBlock, Parts, label_at, state_of}
 use Rattle.fo_cache.specs.Easing.{Eases}
 use Rattle.fo_cache.proofs.Easing.{eases_none, rests_joins}
+use Rattle.fo_labels.specs.Region.{Region}
+use Rattle.fo_settling.specs.Clearings.{Clearings, Lasts}
+use Rattle.fo_settling.proofs.Clearing.{clearings_none, clearings_of, clearings_on, lasts_none}
 use Rattle.fo_reserving.specs.Steps.{ClosesAtRest, ClosesBy, IsRow, KeepsLabels, Reserves, Row}
 
 -- ---- labels that stay
@@ -26,6 +29,7 @@ labels_on {p} {m} {q} a b = record {
       (λ before. inr (let f = before.0 in let le = more.0 in omega (arith, f, le), before.1))
       a.queued)
       b.queued;
+  clears = clearings_on a.clears b.clears;
   order = λ k j h. a.order k j (b.order k j h);
   keeps = keeps_joins p m q a.keeps b.keeps;
 }
@@ -47,7 +51,7 @@ pub closes_on : {p m q : Parts} → ClosesAtRest p m → ClosesAtRest m q → Cl
 closes_on {p} {m} {q} a b = record { rows = a.rows ++ b.rows; closes = rows_on p m q a.rows b.rows a.closes b.closes }
 
 pub labels_none : (p : Parts) → KeepsLabels p p
-labels_none p = record { label = λ x. refl; queued = inl refl; order = λ b j h. h; keeps = record { first = refl; count = refl; high = refl; low = refl; root = refl; faults = omega arith } }
+labels_none p = record { label = λ x. refl; queued = inl refl; clears = clearings_none p; order = λ b j h. h; keeps = record { first = refl; count = refl; high = refl; low = refl; root = refl; faults = omega arith } }
 
 pub closes_row : (r : Row) → IsRow r → ClosesAtRest r.before r.after
 closes_row r is = record { rows = r ∷ []; closes = (labels_none r.before, is, labels_none r.after) }
@@ -76,21 +80,24 @@ reserves_on {p} {m} {q} a b = record {
     second : (x : ℕ) → label_at q.region x ≢ label_at m.region x → IsBlock p (label_block x) → ⊥
     second x ne is = b.apart x ne (still (label_block x) is)
 
--- a step after which all labels are what they were, and the queue
-pub reserves_of : (p q : Parts) → Rests (state_of p) (state_of q) → CacheKeeps p q → ((x : ℕ) → label_at q.region x ≡ label_at p.region x) → (q.removals ≡ p.removals) ⊎ ((length p.removals ≤ length q.removals) × ((b : ℕ) × (j : ℕ) × Clears p.clears b j)) → Reserves p q
-reserves_of p q rests keeps same queued = record {
+-- a step after which all labels are what they were, and the queue but for slots that are cleared
+pub reserves_of : (p q : Parts) → Rests (state_of p) (state_of q) → CacheKeeps p q → ((x : ℕ) → label_at q.region x ≡ label_at p.region x) → (q.removals ≡ p.removals) ⊎ ((length p.removals ≤ length q.removals) × ((b : ℕ) × (j : ℕ) × Clears p.clears b j)) → Clearings p q → Reserves p q
+reserves_of p q rests keeps same queued clears = record {
   rests = rests;
   keeps = keeps;
   apart = λ x ne is. ne (same x);
-  closes = record { rows = []; closes = record { label = same; queued = queued; order = rests.order; keeps = keeps } };
+  closes = record { rows = []; closes = record { label = same; queued = queued; clears = clears; order = rests.order; keeps = keeps } };
 }
 
--- one that leaves the queue as it is
-pub reserves_eased : {p q : Parts} → Eases p q → q.removals ≡ p.removals → Reserves p q
-reserves_eased {p} {q} e same = reserves_of p q e.rests e.keeps (λ x. (e.blocks x).0) (inl same)
+-- one that clears no slot
+pub reserves_lasting : (p q : Parts) → Rests (state_of p) (state_of q) → CacheKeeps p q → Lasts p q → Reserves p q
+reserves_lasting p q rests keeps l = reserves_of p q rests keeps (λ x. ap (λ (r : Region). label_at r x) l.region) (inl l.removals) (clearings_of l)
+
+pub reserves_eased : {p q : Parts} → Eases p q → Lasts p q → Reserves p q
+reserves_eased {p} {q} e l = reserves_lasting p q e.rests e.keeps l
 
 pub reserves_none : (p : Parts) → Reserves p p
-reserves_none p = reserves_eased (eases_none p) refl
+reserves_none p = reserves_eased (eases_none p) (lasts_none p)
 
 -- over a device that stays
 pub reserves_still : (p q : Parts) {h k : Holds} {f g : ℕ} → k ≡ h → g ≡ f → Reserves (record p { disk = h; faults = f }) (record q { disk = h; faults = f }) → Reserves (record p { disk = h; faults = f }) (record q { disk = k; faults = g })

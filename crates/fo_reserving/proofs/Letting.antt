@@ -1,5 +1,5 @@
 -- Pins end, and blocks are given up.
-use Rattle.std.proofs.Common.{◌≡◌, inl, inr, ⊎_elim, ℕ, ◌<◌, ◌||◌, ◌==◌, Bool, true, false, cond, nat_eq, List, [], ◌∷◌, length, set, Option, Some, None, is_some, refl, sym, ap, ◌∙◌, subst, arith}
+use Rattle.std.proofs.Common.{◌≡◌, inl, inr, ⊎_elim, ℕ, ◌<◌, ◌≤◌, ◌||◌, ◌==◌, Bool, true, false, cond, nat_eq, List, [], ◌∷◌, length, set, Option, Some, None, is_some, refl, sym, ap, ◌∙◌, subst, arith}
 use Rattle.std.specs.Cmp.{nat_eq_equiv}
 use Rattle.std.specs.List.{list_any}
 use Rattle.std.specs.Map.{lookup}
@@ -9,7 +9,7 @@ use Rattle.std.proofs.lemmas.List.{get_or-set_same, get_or-set_other}
 use Rattle.fo_disk.specs.Disk.{Content as Holds}
 use Rattle.fo_disk.specs.Disk.{latest_of, versions_of}
 use Rattle.fo_buffers.specs.declared.block.Buffer.{Buffer}
-use Rattle.fo_buffers.specs.Held.{held_at, is_pinned, pinned_as}
+use Rattle.fo_buffers.specs.Held.{block_in, held_at, is_pinned, pinned_as}
 use Rattle.fo_crash.specs.Images.{Content}
 use Rattle.fo_ports.specs.State.{IsChanging, Rests, StaysKnown}
 use Rattle.fo_slots.specs.Read.{read}
@@ -18,14 +18,17 @@ use Rattle.fo_facts.specs.Known.{fact_at, no_fact, owing_no_more}
 use Rattle.fo_waits.specs.declared.listed.Clearing.{Clearing}
 use Rattle.fo_waits.specs.Listed.{Clears}
 use Rattle.fo_mind.specs.Laws.{held_pinned}
-use Rattle.fo_mind.specs.Parts.{IsBlock, IsDirty, IsPinned, Parts, bytes_of, label_at, memory, one_content, state_of}
+use Rattle.fo_mind.specs.Parts.{IsBlock, IsDirty, IsPinned, Parts, bytes_at, bytes_of, label_at, memory, one_content, state_of}
 use Rattle.fo_mind.specs.Sound.{Holding, Placed, Standing}
 use Rattle.fo_mind.specs.Turning.{Released, Turning, Unpinned, is_changed, may_release, unpinned_fact}
 use Rattle.fo_mind.proofs.Refilling.{within_facts}
 use Rattle.fo_mind.proofs.Releasing.{Cuts, MayBe, cuts_of, may_be}
 use Rattle.fo_mind.proofs.Unpinning.{Unpins, unpins_of}
+use Rattle.fo_cache.specs.Fits.{Fits}
+use Rattle.fo_cache.proofs.Outcomes.{lookup_contains}
+use Rattle.fo_settling.specs.Clearings.{Lasts}
 use Rattle.fo_reserving.specs.Steps.{Lets, Reserves, as_held}
-use Rattle.fo_reserving.proofs.Joining.{reserves_of}
+use Rattle.fo_reserving.proofs.Joining.{reserves_lasting}
 
 never : {A : Type 0} → false ≡ true → A
 never e = cc
@@ -228,6 +231,45 @@ module _ (p q : Parts) (disk : Holds) (faults : ℕ) {first count : ℕ} (placed
     numbers = record { next = refl; grants = λ h. h };
   }
 
-  pub reserves_let : Reserves (record p { disk = disk; faults = faults }) (record q { disk = disk; faults = faults })
-  reserves_let = subst (λ (z : Parts). Reserves P (record z { disk = disk; faults = faults })) (sym l.rest)
-      (reserves_of P Q rests_let (record { first = refl; count = refl; high = refl; low = refl; root = refl; faults = omega arith }) (λ x. refl) (inl refl))
+  module _ (unsure : List Bool) (was : Fits (record p { disk = disk }) unsure) (is : Fits (record q { disk = disk }) unsure) where
+    -- what isn't changed is in memory as the device has it
+    calm_bytes : (z : Parts) → Fits (record z { disk = disk }) unsure → (b : ℕ) → z.region.first ≤ b → b < length disk → (o : Option Buffer) → held_at z.held b ≡ o → is_changed o ≡ false → bytes_at z.held disk b ≡ latest_of (versions_of disk b)
+    calm_bytes z fits b le lt (Some x) has calm = ap (λ (o : Option Buffer). bytes_of o (lookup (nat_eq b) z.held.clean) (latest_of (versions_of disk b))) has ∙ sym ((fits.each b le lt).held x has calm)
+    calm_bytes z fits b le lt None has calm = ap (λ (o : Option Buffer). bytes_of o (lookup (nat_eq b) z.held.clean) (latest_of (versions_of disk b))) has ∙ by (lookup (nat_eq b) z.held.clean) refl
+      where
+        by : (c : Option (List ℕ)) → lookup (nat_eq b) z.held.clean ≡ c → bytes_of None c (latest_of (versions_of disk b)) ≡ latest_of (versions_of disk b)
+        by (Some bytes) e = sym ((fits.each b le lt).listed bytes has (lookup_contains b z.held.clean bytes e))
+        by None e = refl
+
+    bytes_let : (b : ℕ) → p.region.first ≤ b → b < length disk → bytes_at q.held disk b ≡ bytes_at p.held disk b
+    bytes_let b le lt = ⊎_elim
+        (λ same. by (held_at p.held b) refl same)
+        (λ gone. calm_bytes q is b now lt None gone.0 refl ∙ sym (calm_bytes p was b le lt (held_at p.held b) refl gone.1))
+        (l.held b)
+      where
+        now : q.region.first ≤ b
+        now = subst (λ (z : Parts). z.region.first ≤ b) (sym l.rest) le
+
+        by : (o : Option Buffer) → held_at p.held b ≡ o → as_held q.held b ≡ as_held p.held b → bytes_at q.held disk b ≡ bytes_at p.held disk b
+        by (Some x) has same = freed_bytes (held_at p.held b) (held_at q.held b) (lookup (nat_eq b) q.held.clean) (lookup (nat_eq b) p.held.clean) (latest_of (versions_of disk b)) (latest_of (versions_of disk b)) same (ap is_some has)
+        by None has same = calm_bytes q is b now lt None (freed_none (held_at q.held b) (same ∙ ap freed has)) refl ∙ sym (calm_bytes p was b le lt None has refl)
+
+    freed_blocks : (o : Option Buffer) → option_map block_in (freed o) ≡ option_map block_in o
+    freed_blocks (Some x) = refl
+    freed_blocks None = refl
+
+    lasts_let : Lasts P Q
+    lasts_let = record {
+      region = refl;
+      high = refl;
+      removals = refl;
+      clears = refl;
+      linked = linked_same;
+      held = λ b. ⊎_elim (λ same. inl (sym (freed_blocks (held_at q.held b)) ∙ ap (option_map block_in) same ∙ freed_blocks (held_at p.held b))) (λ gone. inr gone.0) (l.held b);
+      count = refl;
+      bytes = bytes_let;
+    }
+
+    pub reserves_let : Reserves (record p { disk = disk; faults = faults }) (record q { disk = disk; faults = faults })
+    reserves_let = subst (λ (z : Parts). Reserves P (record z { disk = disk; faults = faults })) (sym l.rest)
+        (reserves_lasting P Q rests_let (record { first = refl; count = refl; high = refl; low = refl; root = refl; faults = omega arith }) lasts_let)

@@ -16,7 +16,7 @@ use Rattle.fo_ports.specs.declared.error.BlockError.TheVariants.{Arena, Damaged,
 use Rattle.fo_mind.specs.Parts.{IsPinned, Parts, state_of}
 use Rattle.fo_mind.specs.Roomed.{Grown, Roomed}
 use Rattle.fo_reserving.specs.Steps.{AreFew, Reserves}
-use Rattle.fo_reserving.proofs.Joining.{reserves_none, reserves_of}
+use Rattle.fo_reserving.proofs.Joining.{reserves_lasting, reserves_none}
 
 never : {A : Type 0} → false ≡ true → A
 never e = cc
@@ -55,7 +55,8 @@ module _ (p : Parts) (a b links spare pins room : ℕ) (walk : Walking) where
   }
 
   reserves_room : Reserves p Q
-  reserves_room = reserves_of p Q rests (record { first = refl; count = refl; high = refl; low = refl; root = refl; faults = omega arith }) (λ x. refl) (inl refl)
+  reserves_room = reserves_lasting p Q rests (record { first = refl; count = refl; high = refl; low = refl; root = refl; faults = omega arith })
+      (record { region = refl; high = refl; removals = refl; clears = refl; linked = λ b. refl; held = λ b. inl refl; count = refl; bytes = λ b le lt. refl })
 
 -- as much room in its parts, and so many blocks, pins and removals
 grown_so : (p q : Parts) → Grown p (record q { spare = p.spare; pins = p.pins; room = p.room }) → q ≡ record p { held = record p.held { room = q.held.room }; turns = record p.turns { room = q.turns.room }; walk = q.walk; links = q.links; spare = q.spare; pins = q.pins; room = q.room }

@@ -1,6 +1,7 @@
 -- What the steps of a reservation leave.
-use Rattle.std.specs.Prelude.{◌≡◌, ◌≢◌, ◌⊎◌, ◌+◌, ◌≤◌, ℕ, zero, suc, true, false, cond, List, [], ◌∷◌, length, count_by, Option, None, is_some}
+use Rattle.std.specs.Prelude.{◌≡◌, ◌≢◌, ◌⊎◌, ◌+◌, ◌<◌, ◌≤◌, ℕ, zero, suc, true, false, cond, List, [], ◌∷◌, length, count_by, Option, None, is_some}
 use Rattle.std.specs.Option.{option_map}
+use Rattle.fo_disk.specs.Disk.{versions_of}
 use Rattle.fo_buffers.specs.declared.block.Buffer.{Buffer}
 use Rattle.fo_buffers.specs.Held.{Held, held_at, pinned_as}
 use Rattle.fo_facts.specs.Known.{fact_at, owing_no_more}
@@ -13,8 +14,9 @@ use Rattle.fo_ports.specs.Causes.{IsFull}
 use Rattle.fo_ports.specs.State.{Rests}
 use Rattle.fo_unlink.specs.Pending.{Pending}
 use Rattle.fo_waits.specs.Listed.{Clears}
-use Rattle.fo_mind.specs.Parts.{CacheKeeps, IsBlock, IsNewborn, IsPinned, Parts, label_at, state_of}
+use Rattle.fo_mind.specs.Parts.{CacheKeeps, IsBlock, IsNewborn, IsPinned, Parts, bytes_at, label_at, state_of}
 use Rattle.fo_mind.specs.Turning.{is_changed, is_pinned_at, may_release}
+use Rattle.fo_settling.specs.Clearings.{Clearings}
 use Rattle.fo_closing.specs.Closings.{Closings}
 use Rattle.fo_closing.specs.Rest.{AtRest}
 
@@ -47,10 +49,12 @@ abbrev pub pins_below : Held → ℕ → ℕ
 pins_below h zero = 0
 pins_below h (suc n) = pins_below h n + cond (is_pinned_at h n) 1 0
 
--- Labels stay, and no removal is lost. The queue stays, but that more may be queued where a slot waited, with what left with it.
+-- Labels stay, and no removal is lost. Removals are queued with slots that waited for settled leaves and are cleared, and by nothing else;
+-- beside that memory's bytes stay, as far as the device tells, and so does who is in the tree.
 pub record KeepsLabels (p q : Parts) : Type 0 where
   pub label : (x : ℕ) → label_at q.region x ≡ label_at p.region x
   pub queued : (q.removals ≡ p.removals) ⊎ ((length p.removals ≤ length q.removals) × ((b : ℕ) × (j : ℕ) × Clears p.clears b j))
+  pub clears : Clearings p q
   pub order : (b j : ℕ) → Clears q.clears b j → Clears p.clears b j
   pub keeps : CacheKeeps p q
 
@@ -61,11 +65,13 @@ pub record Row : Type 0 where
   pub queue : Pending
   pub left : Pending
 
--- They were taken where all is settled and at rest, and nothing is held but what is newborn; over the device as it was then, and the queue of memory.
+-- They were taken where all is settled and at rest, and nothing is held but what is newborn; over the device as it was then, which has
+-- memory's bytes of each block of the tree, and the queue of memory.
 pub record IsRow (r : Row) : Type 0 where
   pub quiet : IsQuiet r.before.turns
   pub rest : AtRest r.before
   pub held : (b : ℕ) → is_some (held_at r.before.held b) ≡ true → IsNewborn r.before.facts b
+  pub memory : (b : ℕ) → r.before.region.first ≤ b → b < length r.before.disk → (fact_at r.before.facts b).linked ≡ true → versions_of r.before.disk b ≡ bytes_at r.before.held r.before.disk b ∷ []
   pub queue : r.queue.removals ≡ r.before.removals
   pub left : r.left.removals ≡ r.after.removals
   pub closes : Closings r.before.disk r.before r.after r.queue r.left

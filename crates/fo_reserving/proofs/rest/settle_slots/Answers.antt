@@ -19,6 +19,7 @@ returns-clause-leaves g c =
     let e = c.settle.ensures in
     reserves_of (parts old.mind (g.D.Disk.state old.main).holds (g.D.Disk.faults old.main)) (parts new.mind (g.D.Disk.state new.main).holds (g.D.Disk.faults new.main)) e.rests e.keeps (λ x. (e.blocks x).0)
     (inr (e.queued, some_slot old.mind.clears.items (subst (λ (cs : List Clearing). 0 < length cs) c.deref.ensures.value (c.are_none.ensures.some c.if-are_none.false))))
+    e.clears
 
 pub returns-then-are_none-clause-clears : goal.returns-then-are_none-clause-clears
 returns-then-are_none-clause-clears g c = sym c.deref.ensures.value ∙ c.are_none.ensures.none c.if-are_none.true
