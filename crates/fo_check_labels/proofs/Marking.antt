@@ -5,6 +5,7 @@ use Rattle.std.specs.List.Sorted.{IsNonDecreasingBy, IsPartitionPoint}
 use Rattle.std.specs.Prelude.{OnOk, is_ok, is_err, if◌then◌else◌}
 use Rattle.std.proofs.lemmas.Bool.{cases_eq, cases_lt, false≢true}
 use Rattle.std.proofs.lemmas.List.Quantifiers.{all_pairs_push}
+use Rattle.std.proofs.lemmas.List.Elements.{All-push}
 use Rattle.std.proofs.lemmas.List.Filters.{length-filter_both}
 use Rattle.std.proofs.lemmas.List.Sums.{sum_by-set, sum_by_push, length-filter}
 use borrow.Author.Tests.{ltb-true, ltb-false}
@@ -96,13 +97,17 @@ only_label known address l m up a b = ⊎_elim
 -- ---- how many there are
 
 pub few_upto : {blocks upto next : ℕ} (known : List Known) → upto ≤ next → IsFew blocks upto known → IsFew blocks next known
-few_upto known le f = record { below = omega (arith, le, f.below); most = f.most }
+few_upto known le f = record { below = omega (arith, le, f.below); most = f.most; from = f.from }
 
 pub few_more : {blocks : ℕ} {E : Type 0} (known new : List Known) (address : ℕ) (l : Label) (r : Result Unit E) → first_data blocks ≤ address → address < blocks → IsFew blocks address known
     → OnOk r (new ≡ known ++ fresh address l ∷ []) → OnOk r (IsFew blocks (address + 1) new)
-few_more known new address l (Ok x) from to f added =
+few_more {blocks = blocks} known new address l (Ok x) from to f added =
     let long : length new ≡ length known + 1 = ap length added ∙ length-append known (fresh address l ∷ []) in
-    record { below = omega (arith, long, from, to, f.below); most = omega (arith, long, from, to, f.below) }
+    record {
+      below = omega (arith, long, from, to, f.below);
+      most = omega (arith, long, from, to, f.below);
+      from = subst (λ (ks : List Known). All (λ k. first_data blocks ≤ k.address) ks) (sym added) (All-push (λ k. first_data blocks ≤ k.address) known (fresh address l) f.from from);
+    }
 few_more known new address l (Err e) from to f added = tt
 
 split : (known : List Known) → reached known + unreached known ≡ length known

@@ -1,5 +1,5 @@
 -- The blocks that are not free: in ascending order, reached or not.
-use Rattle.std.specs.Prelude.{◌≡◌, ℕ, ◌-◌, ◌<◌, ◌≤◌, true, false, not, ◌&&◌, List, length, count_by, slice_index_or, slice_set}
+use Rattle.std.specs.Prelude.{◌≡◌, ℕ, ◌-◌, ◌<◌, ◌≤◌, nat_eq, true, false, not, ◌&&◌, List, length, count_by, slice_index_or, slice_set}
 use Rattle.std.specs.List.{All, AllPairs}
 use Rattle.fo_image.specs.Place.{first_data}
 use Rattle.fo_image.specs.Usable.{is_usable}
@@ -20,6 +20,10 @@ unreached = count_by (λ k. not k.reached)
 
 abbrev pub reached : List Known → ℕ
 reached = count_by (λ k. k.reached)
+
+-- how often a block may still be reached
+abbrev pub left_at : ℕ → List Known → ℕ
+left_at at = count_by (λ k. not k.reached && nat_eq k.address at)
 
 -- how many were neither reached nor may be given out
 abbrev pub leaked : ℕ → List Known → ℕ
@@ -52,7 +56,8 @@ pub record IsBelow (upto : ℕ) (known : List Known) : Type 0 where
   pub each : All (λ k. k.address < upto) known
   pub few : length known ≤ upto
 
--- There are at most so many as there are data blocks below this address.
+-- They are data blocks, and at most so many as there are below this address.
 pub record IsFew (blocks upto : ℕ) (known : List Known) : Type 0 where
   pub below : length known ≤ upto - first_data blocks
   pub most : length known ≤ blocks - first_data blocks
+  pub from : All (λ k. first_data blocks ≤ k.address) known

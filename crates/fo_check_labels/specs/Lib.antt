@@ -1,3 +1,4 @@
 pub mod Cause
 pub mod Known
 pub mod Table
+pub mod Watch

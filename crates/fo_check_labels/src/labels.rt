@@ -1,5 +1,5 @@
 //! The labels of the blocks that are not free, and which of them were reached.
-ghost use Rattle.std.specs.Prelude.{◌≡◌, ◌≢◌, ℕ, ◌+◌, ◌-◌, ◌*◌, ◌^◌, ◌<◌, ◌≤◌, ◌↔◌, List, [], ◌∷◌, ◌++◌, length, IfErr, IfOk, OnOk, IsTrue, MatchBool, MatchOption, MatchResult};
+ghost use Rattle.std.specs.Prelude.{◌≡◌, ◌≢◌, ℕ, ◌+◌, ◌-◌, ◌*◌, ◌^◌, ◌<◌, ◌≤◌, ◌↔◌, List, [], ◌∷◌, ◌++◌, length, IfErr, IfOk, OnOk, IsTrue, MatchBool, MatchOption, MatchResult, cond};
 ghost use Rattle.std.specs.List.{All, Any};
 ghost use Rattle.fo_image.specs.Place.{label_blocks, first_data};
 ghost use Rattle.fo_disk.specs.Disk.{Block};
@@ -7,13 +7,14 @@ ghost use Rattle.fo_sound.specs.Device.{Shows};
 ghost use Rattle.fo_sound.specs.Image.{block_of, label_bytes};
 ghost use Rattle.fo_check_labels.specs.Table.{IsScanned, RefusesTable};
 ghost use Rattle.fo_check_labels.specs.Cause.{HasCauses};
-ghost use Rattle.fo_check_labels.specs.Known.{Ascend, IsBelow, IsFew, fresh, unreached, reached, leaked, IsAt, IsKnown, Marks, MarksNone};
+ghost use Rattle.fo_check_labels.specs.Known.{Ascend, IsBelow, IsFew, fresh, unreached, reached, leaked, IsAt, IsKnown, Marks, MarksNone, left_at};
+ghost use Rattle.fo_check_labels.specs.Watch.{hits};
 ghost use Rattle.fo_check_labels.specs.declared.error.TreeError.TheVariants.{Read as ReadFault, Memory as NoMemory};
 ghost use Rattle.fo_image.specs.declared.types.State.TheVariants.{Free};
 
 use crate::error::TreeError;
-use crate::reads::read;
-use fo_disk::{BLOCK, Disk};
+use crate::reads::{Reads, read};
+use fo_disk::BLOCK;
 use fo_image::{
     Label, State, first_data, is_usable, is_zero, label_blocks, label_place, read_label,
 };
@@ -50,7 +51,7 @@ fn is_free(label: &Label) -> bool
 
 impl Labels {
     /// Reads the label table, each block once. Free blocks take no memory.
-    pub fn read<D: Disk>(alloc: Global, main: &mut D, blocks: u32) -> Result<Labels, TreeError>
+    pub fn read<D: Reads>(alloc: Global, main: &mut D, blocks: u32) -> Result<Labels, TreeError>
         requires size { D.size main.old ≡ blocks }
         requires least { 64 ≤ blocks }
         requires most { blocks ≤ 2 ^ 20 }
@@ -59,6 +60,7 @@ impl Labels {
         ensures kept { D.state main.new ≡ D.state main.old }
         ensures few { IfOk result (λ l. length l.known.items ≤ blocks - first_data blocks) }
         ensures reads { D.calls main.new ≤ D.calls main.old + label_blocks blocks }
+        ensures once { MatchResult result (λ l. D.reads main.new + left_at D.watched l.known.items ≤ D.reads main.old + 1) (λ _. D.reads main.new ≤ D.reads main.old + 1) }
         ensures cause { HasCauses (D.faults main.old) (D.faults main.new) result }
     {
         let mut labels = Labels {
@@ -170,6 +172,7 @@ impl Labels {
         ensures fewer { IsTrue result → self.new.left + 1 ≤ self.old.left }
         ensures left { self.new.left ≤ self.old.left }
         ensures long { length self.new.known.items ≡ length self.old.known.items }
+        ensures spends { (at : ℕ) → left_at at self.new.known.items + cond result (hits address at) 0 ≤ left_at at self.old.known.items }
         ensures marks { MatchBool result (Marks address self.old.known.items self.new.known.items) (MarksNone address self.old.known.items self.new.known.items) }
     {
         let Some(at) = self.find(address) else {

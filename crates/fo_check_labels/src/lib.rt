@@ -13,4 +13,4 @@ mod reads;
 
 pub use error::TreeError;
 pub use labels::{Known, Labels};
-pub use reads::read;
+pub use reads::{Reads, read};

@@ -10,6 +10,10 @@ use Rattle.fo_check_tree.specs.declared.tree.Found.{Found}
 abbrev pub Spends : {T E : Type 0} → ℕ → ℕ → Labels → Labels → Result T E → Type 0
 Spends before now old new result = MatchResult result (λ _. (now + new.left ≤ before + old.left) × (length new.known.items ≡ length old.known.items)) (λ _. now ≤ before + old.left)
 
+-- The same of one block: it is read at most as often as it may still be reached, and that is at most once.
+abbrev pub SpendsAt : {T E : Type 0} → ℕ → ℕ → ℕ → ℕ → Result T E → Type 0
+SpendsAt before now old new result = MatchResult result (λ _. now + new ≤ before + old) (λ _. now ≤ before + old)
+
 -- There are never more calls than blocks, and where there is a report at most one for each block of the label table and one for each
 -- block that is used.
 abbrev pub ReadsOnce : ℕ → ℕ → ℕ → Result Found TreeError → Type 0

@@ -26,7 +26,9 @@ ghost use Rattle.fo_check_tree.specs.Depths.{Deepens, NotesDepths, AreSpread};
 ghost use Rattle.fo_check_tree.specs.Numbers.{AreBelow, HasSources, AreFresh};
 ghost use Rattle.fo_check_tree.specs.Pairing.{Seeks, AsksOf, LeadsOf, IsApart, MissesBy, AreSought, AreAsked, AreHidden, AreLed, Grows, GrowsUnnamed};
 ghost use Rattle.fo_check_names.specs.declared.names.Named.{Named};
-ghost use Rattle.fo_check_tree.specs.Reads.{Spends};
+ghost use Rattle.fo_check_labels.specs.Known.{left_at};
+ghost use Rattle.fo_check_labels.specs.Watch.{hits};
+ghost use Rattle.fo_check_tree.specs.Reads.{Spends, SpendsAt};
 ghost use Rattle.fo_check_tree.specs.Walking.{Reached, Walking};
 ghost use Rattle.fo_check_tree.specs.Lower.{lower, level};
 ghost use Rattle.fo_check_tree.specs.Slots.{unless, steps_by, steps_below, steps_of, HasSlots};
@@ -35,10 +37,10 @@ ghost use Rattle.fo_check_labels.specs.declared.error.TreeError.TheVariants.{Rea
 
 use crate::folder::add_entries;
 use crate::walk::{Holder, Holds, Step, Walk};
-use fo_check_labels::{TreeError, read};
+use fo_check_labels::{Reads, TreeError, read};
 use fo_check_names::{add_named, miss_pairs};
 use fo_crash::Place;
-use fo_disk::{BLOCK, Disk};
+use fo_disk::BLOCK;
 use fo_image::{Kind, Label, Pointer, first_data, read_pointer};
 use fo_rules::{may_have, read_leaf};
 use std::alloc::{AllocError, Global};
@@ -68,7 +70,7 @@ fn label_of(walk: &Walk, step: &Step, address: u32) -> Result<Label, TreeError>
 }
 
 /// Follows all pointers that are left.
-pub(crate) fn follow_all<D: Disk>(
+pub(crate) fn follow_all<D: Reads>(
     alloc: Global,
     main: &mut D,
     walk: &mut Walk,
@@ -95,6 +97,7 @@ pub(crate) fn follow_all<D: Disk>(
     ensures size { D.size main.new ≡ D.size main.old }
     ensures kept { D.state main.new ≡ D.state main.old }
     ensures reads { Spends (D.calls main.old) (D.calls main.new) walk.old.labels walk.new.labels result }
+    ensures once { SpendsAt (D.reads main.old) (D.reads main.new) (left_at D.watched walk.old.labels.known.items) (left_at D.watched walk.new.labels.known.items) result }
     ensures cause { HasCauses (D.faults main.old) (D.faults main.new) result }
     ensures pairs { (arena : Arena) (device : List Block) (image : Image) (s : Super) (k : Kept) (entries : Link) (names : List Named) (rest : List Step) → Shows (D.state main.old).holds device → Walking arena device image s k rest walk.old → named ≡ true
         → AreSought arena image entries names walk.old.noted walk.old.steps.items walk.old.named.items walk.old.folders.items → OnOk result (AreSought arena image entries names walk.new.noted walk.new.steps.items walk.new.named.items walk.new.folders.items) }
@@ -122,7 +125,7 @@ pub(crate) fn follow_all<D: Disk>(
 }
 
 /// Follows one pointer.
-fn follow<D: Disk>(
+fn follow<D: Reads>(
     alloc: Global,
     main: &mut D,
     walk: &mut Walk,
@@ -142,6 +145,7 @@ fn follow<D: Disk>(
     ensures size { D.size main.new ≡ D.size main.old }
     ensures kept { D.state main.new ≡ D.state main.old }
     ensures reads { Spends (D.calls main.old) (D.calls main.new) walk.old.labels walk.new.labels result }
+    ensures once { SpendsAt (D.reads main.old) (D.reads main.new) (left_at D.watched walk.old.labels.known.items) (left_at D.watched walk.new.labels.known.items) result }
     ensures cause { HasCauses (D.faults main.old) (D.faults main.new) result }
 {
     match step.pointer {
@@ -155,7 +159,7 @@ fn follow<D: Disk>(
 }
 
 /// Follows a pointer to a block.
-fn follow_local<D: Disk>(
+fn follow_local<D: Reads>(
     alloc: Global,
     main: &mut D,
     walk: &mut Walk,
@@ -176,6 +180,7 @@ fn follow_local<D: Disk>(
     ensures size { D.size main.new ≡ D.size main.old }
     ensures kept { D.state main.new ≡ D.state main.old }
     ensures reads { Spends (D.calls main.old) (D.calls main.new) walk.old.labels walk.new.labels result }
+    ensures once { SpendsAt (D.reads main.old) (D.reads main.new) (left_at D.watched walk.old.labels.known.items) (left_at D.watched walk.new.labels.known.items) result }
     ensures cause { HasCauses (D.faults main.old) (D.faults main.new) result }
 {
     let label = label_of(walk, step, address)?;
@@ -226,7 +231,7 @@ fn miss(walk: &mut Walk, step: &Step)
 }
 
 /// Reads a block that was reached, unless it holds a file's bytes.
-fn enter<D: Disk>(
+fn enter<D: Reads>(
     alloc: Global,
     main: &mut D,
     walk: &mut Walk,
@@ -254,6 +259,7 @@ fn enter<D: Disk>(
     ensures size { D.size main.new ≡ D.size main.old }
     ensures kept { D.state main.new ≡ D.state main.old }
     ensures reads { D.calls main.new ≤ D.calls main.old + 1 }
+    ensures once { D.reads main.new ≤ D.reads main.old + hits here.block D.watched }
     ensures cause { HasCauses (D.faults main.old) (D.faults main.new) result }
     ensures named { (device : List Block) → Shows (D.state main.old).holds device → OnOk result (Adds step.now here.block (block_of device here.block) step.now.kind walk.old.named.items walk.new.named.items) }
     ensures leaf { (device : List Block) → Shows (D.state main.old).holds device → step.now.kind ≡ Data 0 → step.now.holds ≡ Records → OnOk result (5 < level walk.new.noted → IsLeaf (block_of device here.block)) }

@@ -18,7 +18,8 @@ ghost use Rattle.fo_sound.specs.Image.{is_zero};
 ghost use Rattle.fo_sound.specs.Device.{Shows};
 ghost use Rattle.fo_check_tree.specs.declared.walk.Holds.TheVariants.{Bytes, Entries};
 ghost use Rattle.fo_check_tree.specs.Answer.{RefusesTree};
-ghost use Rattle.fo_check_tree.specs.Reads.{Spends};
+ghost use Rattle.fo_check_labels.specs.Known.{left_at};
+ghost use Rattle.fo_check_tree.specs.Reads.{Spends, SpendsAt};
 ghost use Rattle.fo_check_tree.specs.Walking.{Reached, Walking, tops};
 ghost use Rattle.fo_check_labels.specs.Cause.{HasCauses};
 ghost use Rattle.fo_check_tree.specs.Lower.{lower, level};
@@ -33,12 +34,11 @@ ghost use Rattle.fo_check_names.specs.Finds.{Finds};
 
 use crate::blocks::follow_all;
 use crate::walk::{Folder, Holder, Holds, Step, Walk};
-use fo_check_labels::TreeError;
+use fo_check_labels::{Reads, TreeError};
 use fo_check_names::{
     Number, add_numbers, find_pair, is_alone, is_both, is_folder, is_source, leaf_unless,
     records_of, same_name, same_pair, without_pair,
 };
-use fo_disk::Disk;
 use fo_image::{Entry, Pointer, read_entry};
 use std::alloc::{AllocError, Global};
 
@@ -311,7 +311,7 @@ fn holds_in(entry: &Entry) -> Holds
 }
 
 /// The records of a directory, and the rules that they have to keep by themselves.
-fn list<D: Disk>(
+fn list<D: Reads>(
     alloc: Global,
     main: &mut D,
     walk: &mut Walk,
@@ -334,6 +334,7 @@ fn list<D: Disk>(
     ensures size { D.size main.new ≡ D.size main.old }
     ensures kept { D.state main.new ≡ D.state main.old }
     ensures reads { Spends (D.calls main.old) (D.calls main.new) walk.old.labels walk.new.labels result }
+    ensures once { SpendsAt (D.reads main.old) (D.reads main.new) (left_at D.watched walk.old.labels.known.items) (left_at D.watched walk.new.labels.known.items) result }
     ensures cause { HasCauses (D.faults main.old) (D.faults main.new) result }
     ensures listed { (arena : Arena) (device : List Block) (image : Image) (s : Super) (k : Kept) (meta : Link) → Shows (D.state main.old).holds device → Walking arena device image s k (tops folder.now) walk.old → IsMetaOf folder.now meta
         → walk.old.steps.items ≡ [] → walk.old.named.items ≡ [] → OnOk result (AreInOrder arena image k meta folder.now.named walk.new.noted walk.new.named.items) }
@@ -378,7 +379,7 @@ fn list<D: Disk>(
 }
 
 /// Walks a directory: its records, and then its entries with what hangs from them.
-pub(crate) fn walk_folder<D: Disk>(
+pub(crate) fn walk_folder<D: Reads>(
     alloc: Global,
     main: &mut D,
     walk: &mut Walk,
@@ -402,6 +403,7 @@ pub(crate) fn walk_folder<D: Disk>(
     ensures size { D.size main.new ≡ D.size main.old }
     ensures kept { D.state main.new ≡ D.state main.old }
     ensures reads { Spends (D.calls main.old) (D.calls main.new) walk.old.labels walk.new.labels result }
+    ensures once { SpendsAt (D.reads main.old) (D.reads main.new) (left_at D.watched walk.old.labels.known.items) (left_at D.watched walk.new.labels.known.items) result }
     ensures cause { HasCauses (D.faults main.old) (D.faults main.new) result }
     ensures pairs { (arena : Arena) (device : List Block) (image : Image) (s : Super) (k : Kept) → Shows (D.state main.old).holds device → Walking arena device image s k (tops folder.now) walk.old → walk.old.steps.items ≡ [] → folder.now.named ≡ true
         → OnOk result (Settles arena image k folder.now walk.new.noted walk.new.folders.items numbers.old.items numbers.new.items) }

@@ -24,5 +24,5 @@ mod tree;
 mod walk;
 
 pub use broken::Broken;
-pub use fo_check_labels::TreeError;
+pub use fo_check_labels::{Reads, TreeError};
 pub use tree::{Found, Setting, check_tree};

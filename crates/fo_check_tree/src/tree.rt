@@ -1,5 +1,5 @@
 //! The check of the tree of one root.
-ghost use Rattle.std.specs.Prelude.{◌≡◌, ◌⊎◌, ℕ, true, None, ◌^◌, ◌<◌, ◌≤◌, ◌↔◌, List, [], length, IsTrue, IfOk, OnOk, MatchResult};
+ghost use Rattle.std.specs.Prelude.{◌≡◌, ◌⊎◌, ℕ, true, None, ◌+◌, ◌^◌, ◌<◌, ◌≤◌, ◌↔◌, List, [], length, IsTrue, IfOk, OnOk, MatchResult};
 ghost use Rattle.fo_crash.specs.Images.{Arena, Image};
 ghost use Rattle.fo_good.specs.Sound.{Kept, IsSoundTree};
 ghost use Rattle.fo_check_labels.specs.declared.error.TreeError.TheVariants.{Label as BadLabel};
@@ -19,15 +19,15 @@ ghost use Rattle.fo_disk.specs.Disk.{Block};
 ghost use Rattle.fo_sound.specs.Sound.{HasTable, HasRootEntries};
 ghost use Rattle.fo_sound.specs.Device.{Shows};
 ghost use Rattle.fo_check_labels.specs.Cause.{HasCauses};
+ghost use Rattle.fo_check_labels.specs.Known.{left_at};
 ghost use Rattle.fo_check_tree.specs.declared.broken.Broken.{Broken};
 ghost use Rattle.fo_check_tree.specs.Lower.{IsRule, level, JudgesRoot};
 
 use crate::broken::Broken;
 use crate::folder::{shallow, walk_folder};
 use crate::walk::{Folder, Holder, Walk};
-use fo_check_labels::{Labels, TreeError};
+use fo_check_labels::{Labels, Reads, TreeError};
 use fo_check_names::{Number, no_file, same_number};
-use fo_disk::Disk;
 use fo_image::{RootBlock, Super};
 use fo_sound::root_label;
 use std::alloc::{AllocError, Global};
@@ -56,7 +56,7 @@ fn has_root_entries(root: &RootBlock) -> bool
 }
 
 /// Checks the label table and the active tree, whose root block was read.
-pub fn check_tree<D: Disk>(
+pub fn check_tree<D: Reads>(
     alloc: Global,
     main: &mut D,
     setting: Setting,
@@ -75,6 +75,7 @@ pub fn check_tree<D: Disk>(
     ensures size { D.size main.new ≡ D.size main.old }
     ensures kept { D.state main.new ≡ D.state main.old }
     ensures reads { ReadsOnce (D.calls main.old) (D.calls main.new) setting.blocks result }
+    ensures once { D.reads main.new ≤ D.reads main.old + 1 }
     ensures cause { HasCauses (D.faults main.old) (D.faults main.new) result }
 {
     let s = setting.s;
@@ -152,6 +153,7 @@ fn start(walk: &mut Walk, s: &Super, root: &RootBlock) -> Result<(), AllocError>
         → OnOk result (AreFormed arena image k walk.new.labels.known.items walk.new.noted walk.new.steps.items walk.new.folders.items) }
     ensures grounds { (arena : Arena) (device : List Block) (image : Image) (k : Kept) → k.root ≡ root.now → HoldsAny arena device image s.now k → IsUnbegun device s.now walk.old → OnOk result (HasGrounds arena image k walk.new.noted walk.new.steps.items walk.new.folders.items) }
     ensures blocks { OnOk result (walk.new.blocks ≡ walk.old.blocks) }
+    ensures watched { (at : ℕ) → OnOk result (left_at at walk.new.labels.known.items ≤ left_at at walk.old.labels.known.items) }
     ensures left { OnOk result ((walk.new.labels.left ≤ walk.old.labels.left) × (length walk.new.labels.known.items ≡ length walk.old.labels.known.items)) }
     ensures judged { OnOk result (JudgesRoot root.now walk.new.noted) }
     ensures rules { OnOk result (KeepsRules walk.old.noted walk.new.noted) }

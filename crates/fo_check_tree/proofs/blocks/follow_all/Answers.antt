@@ -154,6 +154,7 @@ loop-step-preserved g c = record {
   kept = c.follow.ensures.kept ∙ c.loop-step.invariant.kept;
   later = omega (arith, c.follow.ensures.cause.later, c.loop-step.invariant.later);
   reads = (omega (arith, c.in_ok-follow.ensures.reads.0, c.loop-step.invariant.reads.0), c.in_ok-follow.ensures.reads.1 ∙ c.loop-step.invariant.reads.1);
+  once = omega (arith, c.in_ok-follow.ensures.once, c.loop-step.invariant.once);
   budget = omega (arith, c.in_ok-follow.ensures.budget, c.loop-step.invariant.budget);
 }
 
@@ -183,6 +184,7 @@ loop-step-init g c = record {
   kept = refl;
   later = omega arith;
   reads = (omega arith, refl);
+  once = omega arith;
   budget = omega arith;
 }
 

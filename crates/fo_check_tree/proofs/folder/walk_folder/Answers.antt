@@ -61,7 +61,7 @@ returns-in_err-follow_all-clause-walks g c arena device image s k shows w =
     is_pushed c.push.result c.list.new.walk.steps.items (c.list.new.walk.steps.items ++ c.top-top.result ∷ []) c.push.new.self.items (sym c.is_err.ensures.value ∙ c.if-is_err.false) c.push.ensures.items
     ∙ ap (λ (x : Step). c.list.new.walk.steps.items ++ x ∷ []) c.top-top.ensures in
     let next : Walking arena device image s k [] (record c.list.new.walk { steps = c.push.new.self }) = pushed arena device image s k c.list.new.walk (record c.list.new.walk { steps = c.push.new.self }) (record { blocks = refl; epoch = refl; active = refl; labels = refl; noted = refl }) [] f.entries f.holder Bytes c.holds_in-holds.result items refl listed in
-    let still : Shows (g.D.Disk.state c.list.new.main).holds device = subst (λ (s : DiskState). Shows s.holds device) (sym c.list.ensures.kept) shows in
+    let still : Shows (g.D.Reads.state c.list.new.main).holds device = subst (λ (s : DiskState). Shows s.holds device) (sym c.list.ensures.kept) shows in
     rw (p.1, p.2) (c.in_err-follow_all.ensures.walks arena device image s k [] still next)
 
 pub returns-then-not-folder-clause-walks : goal.returns-then-not-folder-clause-walks
@@ -74,7 +74,7 @@ returns-then-not-folder-clause-walks g c arena device image s k shows w =
     is_pushed c.push.result c.list.new.walk.steps.items (c.list.new.walk.steps.items ++ c.top-top.result ∷ []) c.push.new.self.items (sym c.is_err.ensures.value ∙ c.if-is_err.false) c.push.ensures.items
     ∙ ap (λ (x : Step). c.list.new.walk.steps.items ++ x ∷ []) c.top-top.ensures in
     let next : Walking arena device image s k [] (record c.list.new.walk { steps = c.push.new.self }) = pushed arena device image s k c.list.new.walk (record c.list.new.walk { steps = c.push.new.self }) (record { blocks = refl; epoch = refl; active = refl; labels = refl; noted = refl }) [] f.entries f.holder Bytes c.holds_in-holds.result items refl listed in
-    let still : Shows (g.D.Disk.state c.list.new.main).holds device = subst (λ (s : DiskState). Shows s.holds device) (sym c.list.ensures.kept) shows in
+    let still : Shows (g.D.Reads.state c.list.new.main).holds device = subst (λ (s : DiskState). Shows s.holds device) (sym c.list.ensures.kept) shows in
     c.in_ok-follow_all.ensures.walks arena device image s k [] still next
 
 pub returns-clause-walks : goal.returns-clause-walks
@@ -87,7 +87,7 @@ returns-clause-walks g c arena device image s k shows w =
     is_pushed c.push.result c.list.new.walk.steps.items (c.list.new.walk.steps.items ++ c.top-top.result ∷ []) c.push.new.self.items (sym c.is_err.ensures.value ∙ c.if-is_err.false) c.push.ensures.items
     ∙ ap (λ (x : Step). c.list.new.walk.steps.items ++ x ∷ []) c.top-top.ensures in
     let next : Walking arena device image s k [] (record c.list.new.walk { steps = c.push.new.self }) = pushed arena device image s k c.list.new.walk (record c.list.new.walk { steps = c.push.new.self }) (record { blocks = refl; epoch = refl; active = refl; labels = refl; noted = refl }) [] f.entries f.holder Bytes c.holds_in-holds.result items refl listed in
-    let still : Shows (g.D.Disk.state c.list.new.main).holds device = subst (λ (s : DiskState). Shows s.holds device) (sym c.list.ensures.kept) shows in
+    let still : Shows (g.D.Reads.state c.list.new.main).holds device = subst (λ (s : DiskState). Shows s.holds device) (sym c.list.ensures.kept) shows in
     walking_like arena device image s k [] c.follow_all.new.walk c.note_leaf.new.self
     (record { blocks = c.note_leaf.ensures.blocks; epoch = c.note_leaf.ensures.tree.0; active = c.note_leaf.ensures.tree.1; labels = c.note_leaf.ensures.labels; steps = c.note_leaf.ensures.steps; folders = c.note_leaf.ensures.folders })
     (lowers_leaf c.follow_all.new.walk.noted c.note_leaf.new.self.noted 6 c.without_pair-alone.result (omega arith, omega arith) (λ e. omega (arith, e)) (λ e. omega (arith, e)) c.note_leaf.ensures.level c.note_leaf.ensures.noted)
@@ -113,7 +113,7 @@ returns-then-not-folder-clause-dirs g c arena device image s k others shows walk
     is_pushed c.push.result c.list.new.walk.steps.items (c.list.new.walk.steps.items ++ c.top-top.result ∷ []) c.push.new.self.items (sym c.is_err.ensures.value ∙ c.if-is_err.false) c.push.ensures.items
     ∙ ap (λ (x : Step). c.list.new.walk.steps.items ++ x ∷ []) c.top-top.ensures in
     let next : Walking arena device image s k [] (record c.list.new.walk { steps = c.push.new.self }) = pushed arena device image s k c.list.new.walk (record c.list.new.walk { steps = c.push.new.self }) (record { blocks = refl; epoch = refl; active = refl; labels = refl; noted = refl }) [] f.entries f.holder Bytes c.holds_in-holds.result items refl listed in
-    let still : Shows (g.D.Disk.state c.list.new.main).holds device = subst (λ (s : DiskState). Shows s.holds device) (sym c.list.ensures.kept) shows in
+    let still : Shows (g.D.Reads.state c.list.new.main).holds device = subst (λ (s : DiskState). Shows s.holds device) (sym c.list.ensures.kept) shows in
     let fresh' : AreJudged arena image k others (record c.args.walk.now { named = c.new.result }) = judged_like arena device image s k others c.args.walk.now (record c.args.walk.now { named = c.new.result }) refl refl (omega arith) j in
     let listed' : AreJudged arena image k others c.list.new.walk = c.in_ok-list.ensures.dirs arena device image s k others shows fresh fresh' in
     let next' : AreJudged arena image k others (record c.list.new.walk { steps = c.push.new.self }) = judged_like arena device image s k others c.list.new.walk (record c.list.new.walk { steps = c.push.new.self }) refl refl (omega arith) listed' in
@@ -129,7 +129,7 @@ returns-clause-dirs g c arena device image s k others shows walking j =
     is_pushed c.push.result c.list.new.walk.steps.items (c.list.new.walk.steps.items ++ c.top-top.result ∷ []) c.push.new.self.items (sym c.is_err.ensures.value ∙ c.if-is_err.false) c.push.ensures.items
     ∙ ap (λ (x : Step). c.list.new.walk.steps.items ++ x ∷ []) c.top-top.ensures in
     let next : Walking arena device image s k [] (record c.list.new.walk { steps = c.push.new.self }) = pushed arena device image s k c.list.new.walk (record c.list.new.walk { steps = c.push.new.self }) (record { blocks = refl; epoch = refl; active = refl; labels = refl; noted = refl }) [] f.entries f.holder Bytes c.holds_in-holds.result items refl listed in
-    let still : Shows (g.D.Disk.state c.list.new.main).holds device = subst (λ (s : DiskState). Shows s.holds device) (sym c.list.ensures.kept) shows in
+    let still : Shows (g.D.Reads.state c.list.new.main).holds device = subst (λ (s : DiskState). Shows s.holds device) (sym c.list.ensures.kept) shows in
     let fresh' : AreJudged arena image k others (record c.args.walk.now { named = c.new.result }) = judged_like arena device image s k others c.args.walk.now (record c.args.walk.now { named = c.new.result }) refl refl (omega arith) j in
     let listed' : AreJudged arena image k others c.list.new.walk = c.in_ok-list.ensures.dirs arena device image s k others shows fresh fresh' in
     let next' : AreJudged arena image k others (record c.list.new.walk { steps = c.push.new.self }) = judged_like arena device image s k others c.list.new.walk (record c.list.new.walk { steps = c.push.new.self }) refl refl (omega arith) listed' in
@@ -146,7 +146,7 @@ returns-then-not-folder-clause-formed g c arena device image s k others shows wa
     is_pushed c.push.result c.list.new.walk.steps.items (c.list.new.walk.steps.items ++ c.top-top.result ∷ []) c.push.new.self.items (sym c.is_err.ensures.value ∙ c.if-is_err.false) c.push.ensures.items
     ∙ ap (λ (x : Step). c.list.new.walk.steps.items ++ x ∷ []) c.top-top.ensures in
     let next : Walking arena device image s k [] (record c.list.new.walk { steps = c.push.new.self }) = pushed arena device image s k c.list.new.walk (record c.list.new.walk { steps = c.push.new.self }) (record { blocks = refl; epoch = refl; active = refl; labels = refl; noted = refl }) [] f.entries f.holder Bytes c.holds_in-holds.result items refl listed in
-    let still : Shows (g.D.Disk.state c.list.new.main).holds device = subst (λ (s : DiskState). Shows s.holds device) (sym c.list.ensures.kept) shows in
+    let still : Shows (g.D.Reads.state c.list.new.main).holds device = subst (λ (s : DiskState). Shows s.holds device) (sym c.list.ensures.kept) shows in
     let listed' = c.in_ok-list.ensures.formed arena device image s k others shows fresh j in
     let grown = formed_push arena image k c.list.new.walk.labels.known.items c.list.new.walk.noted c.list.new.walk.steps.items (top_step f.entries c.holds_in-holds.result f.holder ∷ []) (others ++ c.list.new.walk.folders.items) listed' in
     let next' : AreFormed arena image k c.list.new.walk.labels.known.items c.list.new.walk.noted c.push.new.self.items (others ++ c.list.new.walk.folders.items) =
@@ -163,7 +163,7 @@ returns-clause-formed g c arena device image s k others shows walking j =
     is_pushed c.push.result c.list.new.walk.steps.items (c.list.new.walk.steps.items ++ c.top-top.result ∷ []) c.push.new.self.items (sym c.is_err.ensures.value ∙ c.if-is_err.false) c.push.ensures.items
     ∙ ap (λ (x : Step). c.list.new.walk.steps.items ++ x ∷ []) c.top-top.ensures in
     let next : Walking arena device image s k [] (record c.list.new.walk { steps = c.push.new.self }) = pushed arena device image s k c.list.new.walk (record c.list.new.walk { steps = c.push.new.self }) (record { blocks = refl; epoch = refl; active = refl; labels = refl; noted = refl }) [] f.entries f.holder Bytes c.holds_in-holds.result items refl listed in
-    let still : Shows (g.D.Disk.state c.list.new.main).holds device = subst (λ (s : DiskState). Shows s.holds device) (sym c.list.ensures.kept) shows in
+    let still : Shows (g.D.Reads.state c.list.new.main).holds device = subst (λ (s : DiskState). Shows s.holds device) (sym c.list.ensures.kept) shows in
     let listed' = c.in_ok-list.ensures.formed arena device image s k others shows fresh j in
     let grown = formed_push arena image k c.list.new.walk.labels.known.items c.list.new.walk.noted c.list.new.walk.steps.items (top_step f.entries c.holds_in-holds.result f.holder ∷ []) (others ++ c.list.new.walk.folders.items) listed' in
     let next' : AreFormed arena image k c.list.new.walk.labels.known.items c.list.new.walk.noted c.push.new.self.items (others ++ c.list.new.walk.folders.items) =
@@ -182,7 +182,7 @@ returns-then-not-folder-clause-grows g c arena device image s k shows w =
     is_pushed c.push.result c.list.new.walk.steps.items (c.list.new.walk.steps.items ++ c.top-top.result ∷ []) c.push.new.self.items (sym c.is_err.ensures.value ∙ c.if-is_err.false) c.push.ensures.items
     ∙ ap (λ (x : Step). c.list.new.walk.steps.items ++ x ∷ []) c.top-top.ensures in
     let next : Walking arena device image s k [] (record c.list.new.walk { steps = c.push.new.self }) = pushed arena device image s k c.list.new.walk (record c.list.new.walk { steps = c.push.new.self }) (record { blocks = refl; epoch = refl; active = refl; labels = refl; noted = refl }) [] f.entries f.holder Bytes c.holds_in-holds.result items refl listed in
-    let still : Shows (g.D.Disk.state c.list.new.main).holds device = subst (λ (s : DiskState). Shows s.holds device) (sym c.list.ensures.kept) shows in
+    let still : Shows (g.D.Reads.state c.list.new.main).holds device = subst (λ (s : DiskState). Shows s.holds device) (sym c.list.ensures.kept) shows in
     grows_then c.args.walk.now.folders.items c.list.new.walk.folders.items c.follow_all.new.walk.folders.items (c.in_ok-list.ensures.grows arena device image s k shows fresh) (c.in_ok-follow_all.ensures.grows arena device image s k [] still next)
 
 pub returns-clause-grows : goal.returns-clause-grows
@@ -195,7 +195,7 @@ returns-clause-grows g c arena device image s k shows w =
     is_pushed c.push.result c.list.new.walk.steps.items (c.list.new.walk.steps.items ++ c.top-top.result ∷ []) c.push.new.self.items (sym c.is_err.ensures.value ∙ c.if-is_err.false) c.push.ensures.items
     ∙ ap (λ (x : Step). c.list.new.walk.steps.items ++ x ∷ []) c.top-top.ensures in
     let next : Walking arena device image s k [] (record c.list.new.walk { steps = c.push.new.self }) = pushed arena device image s k c.list.new.walk (record c.list.new.walk { steps = c.push.new.self }) (record { blocks = refl; epoch = refl; active = refl; labels = refl; noted = refl }) [] f.entries f.holder Bytes c.holds_in-holds.result items refl listed in
-    let still : Shows (g.D.Disk.state c.list.new.main).holds device = subst (λ (s : DiskState). Shows s.holds device) (sym c.list.ensures.kept) shows in
+    let still : Shows (g.D.Reads.state c.list.new.main).holds device = subst (λ (s : DiskState). Shows s.holds device) (sym c.list.ensures.kept) shows in
     grows_like c.args.walk.now.folders.items c.follow_all.new.walk.folders.items c.note_leaf.new.self.folders.items c.note_leaf.ensures.folders
     (grows_then c.args.walk.now.folders.items c.list.new.walk.folders.items c.follow_all.new.walk.folders.items (c.in_ok-list.ensures.grows arena device image s k shows fresh) (c.in_ok-follow_all.ensures.grows arena device image s k [] still next))
 
@@ -212,7 +212,7 @@ returns-clause-pairs g c arena device image s k shows w no_steps lead =
     is_pushed c.push.result c.list.new.walk.steps.items (c.list.new.walk.steps.items ++ c.top-top.result ∷ []) c.push.new.self.items (sym c.is_err.ensures.value ∙ c.if-is_err.false) c.push.ensures.items
     ∙ ap (λ (x : Step). c.list.new.walk.steps.items ++ x ∷ []) c.top-top.ensures in
     let next : Walking arena device image s k [] (record c.list.new.walk { steps = c.push.new.self }) = pushed arena device image s k c.list.new.walk (record c.list.new.walk { steps = c.push.new.self }) (record { blocks = refl; epoch = refl; active = refl; labels = refl; noted = refl }) [] f.entries f.holder Bytes c.holds_in-holds.result items refl listed in
-    let still : Shows (g.D.Disk.state c.list.new.main).holds device = subst (λ (s : DiskState). Shows s.holds device) (sym c.list.ensures.kept) shows in
+    let still : Shows (g.D.Reads.state c.list.new.main).holds device = subst (λ (s : DiskState). Shows s.holds device) (sym c.list.ensures.kept) shows in
     record {
       names = c.list.new.walk.named.items;
       grown = c.in_ok-list.ensures.counted c.new.ensures.items lead;
@@ -249,7 +249,7 @@ returns-then-not-folder-clause-spread g c arena device image s k deep link shows
     is_pushed c.push.result c.list.new.walk.steps.items (c.list.new.walk.steps.items ++ c.top-top.result ∷ []) c.push.new.self.items (sym c.is_err.ensures.value ∙ c.if-is_err.false) c.push.ensures.items
     ∙ ap (λ (x : Step). c.list.new.walk.steps.items ++ x ∷ []) c.top-top.ensures in
     let next : Walking arena device image s k [] (record c.list.new.walk { steps = c.push.new.self }) = pushed arena device image s k c.list.new.walk (record c.list.new.walk { steps = c.push.new.self }) (record { blocks = refl; epoch = refl; active = refl; labels = refl; noted = refl }) [] f.entries f.holder Bytes c.holds_in-holds.result items refl listed in
-    let still : Shows (g.D.Disk.state c.list.new.main).holds device = subst (λ (s : DiskState). Shows s.holds device) (sym c.list.ensures.kept) shows in
+    let still : Shows (g.D.Reads.state c.list.new.main).holds device = subst (λ (s : DiskState). Shows s.holds device) (sym c.list.ensures.kept) shows in
     let one : c.push.new.self.items ≡ top_step f.entries c.holds_in-holds.result f.holder ∷ [] = items ∙ ap (λ (xs : List Step). xs ++ top_step f.entries c.holds_in-holds.result f.holder ∷ []) (c.in_ok-list.ensures.done no_steps) in
     let start : AreSpread arena image k link (suc deep) c.list.new.walk.noted c.push.new.self.items c.list.new.walk.folders.items =
     subst (λ (xs : List Step). AreSpread arena image k link (suc deep) c.list.new.walk.noted xs c.list.new.walk.folders.items) (sym one) (spread_first arena image k deep (suc deep) link f source c.holds_in-holds.result c.list.new.walk.noted c.list.new.walk.folders.items) in
@@ -269,7 +269,7 @@ returns-clause-spread g c arena device image s k deep link shows w no_steps sour
     is_pushed c.push.result c.list.new.walk.steps.items (c.list.new.walk.steps.items ++ c.top-top.result ∷ []) c.push.new.self.items (sym c.is_err.ensures.value ∙ c.if-is_err.false) c.push.ensures.items
     ∙ ap (λ (x : Step). c.list.new.walk.steps.items ++ x ∷ []) c.top-top.ensures in
     let next : Walking arena device image s k [] (record c.list.new.walk { steps = c.push.new.self }) = pushed arena device image s k c.list.new.walk (record c.list.new.walk { steps = c.push.new.self }) (record { blocks = refl; epoch = refl; active = refl; labels = refl; noted = refl }) [] f.entries f.holder Bytes c.holds_in-holds.result items refl listed in
-    let still : Shows (g.D.Disk.state c.list.new.main).holds device = subst (λ (s : DiskState). Shows s.holds device) (sym c.list.ensures.kept) shows in
+    let still : Shows (g.D.Reads.state c.list.new.main).holds device = subst (λ (s : DiskState). Shows s.holds device) (sym c.list.ensures.kept) shows in
     let one : c.push.new.self.items ≡ top_step f.entries c.holds_in-holds.result f.holder ∷ [] = items ∙ ap (λ (xs : List Step). xs ++ top_step f.entries c.holds_in-holds.result f.holder ∷ []) (c.in_ok-list.ensures.done no_steps) in
     let start : AreSpread arena image k link (suc deep) c.list.new.walk.noted c.push.new.self.items c.list.new.walk.folders.items =
     subst (λ (xs : List Step). AreSpread arena image k link (suc deep) c.list.new.walk.noted xs c.list.new.walk.folders.items) (sym one) (spread_first arena image k deep (suc deep) link f source c.holds_in-holds.result c.list.new.walk.noted c.list.new.walk.folders.items) in
@@ -290,7 +290,7 @@ returns-then-not-folder-clause-grounds g c arena device image s k shows w no_ste
     is_pushed c.push.result c.list.new.walk.steps.items (c.list.new.walk.steps.items ++ c.top-top.result ∷ []) c.push.new.self.items (sym c.is_err.ensures.value ∙ c.if-is_err.false) c.push.ensures.items
     ∙ ap (λ (x : Step). c.list.new.walk.steps.items ++ x ∷ []) c.top-top.ensures in
     let next : Walking arena device image s k [] (record c.list.new.walk { steps = c.push.new.self }) = pushed arena device image s k c.list.new.walk (record c.list.new.walk { steps = c.push.new.self }) (record { blocks = refl; epoch = refl; active = refl; labels = refl; noted = refl }) [] f.entries f.holder Bytes c.holds_in-holds.result items refl listed in
-    let still : Shows (g.D.Disk.state c.list.new.main).holds device = subst (λ (s : DiskState). Shows s.holds device) (sym c.list.ensures.kept) shows in
+    let still : Shows (g.D.Reads.state c.list.new.main).holds device = subst (λ (s : DiskState). Shows s.holds device) (sym c.list.ensures.kept) shows in
     let first : HasGrounds arena image k c.list.new.walk.noted c.list.new.walk.steps.items c.list.new.walk.folders.items = c.in_ok-list.ensures.grounds arena device image s k shows fresh no_steps c.new.ensures.items has grounds in
     let start : HasGrounds arena image k c.list.new.walk.noted c.push.new.self.items c.list.new.walk.folders.items =
     grounds_push arena image k c.list.new.walk.noted c.list.new.walk.steps.items c.push.new.self.items (top_step f.entries c.holds_in-holds.result f.holder) c.list.new.walk.folders.items items (entries_top arena image k f.entries c.holds_in-holds.result f.holder c.holds_in-holds.ensures) first in
@@ -307,7 +307,7 @@ returns-clause-grounds g c arena device image s k shows w no_steps has grounds =
     is_pushed c.push.result c.list.new.walk.steps.items (c.list.new.walk.steps.items ++ c.top-top.result ∷ []) c.push.new.self.items (sym c.is_err.ensures.value ∙ c.if-is_err.false) c.push.ensures.items
     ∙ ap (λ (x : Step). c.list.new.walk.steps.items ++ x ∷ []) c.top-top.ensures in
     let next : Walking arena device image s k [] (record c.list.new.walk { steps = c.push.new.self }) = pushed arena device image s k c.list.new.walk (record c.list.new.walk { steps = c.push.new.self }) (record { blocks = refl; epoch = refl; active = refl; labels = refl; noted = refl }) [] f.entries f.holder Bytes c.holds_in-holds.result items refl listed in
-    let still : Shows (g.D.Disk.state c.list.new.main).holds device = subst (λ (s : DiskState). Shows s.holds device) (sym c.list.ensures.kept) shows in
+    let still : Shows (g.D.Reads.state c.list.new.main).holds device = subst (λ (s : DiskState). Shows s.holds device) (sym c.list.ensures.kept) shows in
     let first : HasGrounds arena image k c.list.new.walk.noted c.list.new.walk.steps.items c.list.new.walk.folders.items = c.in_ok-list.ensures.grounds arena device image s k shows fresh no_steps c.new.ensures.items has grounds in
     let start : HasGrounds arena image k c.list.new.walk.noted c.push.new.self.items c.list.new.walk.folders.items =
     grounds_push arena image k c.list.new.walk.noted c.list.new.walk.steps.items c.push.new.self.items (top_step f.entries c.holds_in-holds.result f.holder) c.list.new.walk.folders.items items (entries_top arena image k f.entries c.holds_in-holds.result f.holder c.holds_in-holds.ensures) first in
@@ -326,7 +326,7 @@ returns-then-not-folder-clause-heads g c arena device image s k shows w no_steps
     is_pushed c.push.result c.list.new.walk.steps.items (c.list.new.walk.steps.items ++ c.top-top.result ∷ []) c.push.new.self.items (sym c.is_err.ensures.value ∙ c.if-is_err.false) c.push.ensures.items
     ∙ ap (λ (x : Step). c.list.new.walk.steps.items ++ x ∷ []) c.top-top.ensures in
     let next : Walking arena device image s k [] (record c.list.new.walk { steps = c.push.new.self }) = pushed arena device image s k c.list.new.walk (record c.list.new.walk { steps = c.push.new.self }) (record { blocks = refl; epoch = refl; active = refl; labels = refl; noted = refl }) [] f.entries f.holder Bytes c.holds_in-holds.result items refl listed in
-    let still : Shows (g.D.Disk.state c.list.new.main).holds device = subst (λ (s : DiskState). Shows s.holds device) (sym c.list.ensures.kept) shows in
+    let still : Shows (g.D.Reads.state c.list.new.main).holds device = subst (λ (s : DiskState). Shows s.holds device) (sym c.list.ensures.kept) shows in
     let isnt : f.named ≡ false = search rules in
     record {
       pairs = names_kept arena image k c.list.new.walk.noted c.follow_all.new.walk.noted (c.in_ok-follow_all.ensures.six device image still)
@@ -346,7 +346,7 @@ returns-clause-heads g c arena device image s k shows w no_steps dir h =
     is_pushed c.push.result c.list.new.walk.steps.items (c.list.new.walk.steps.items ++ c.top-top.result ∷ []) c.push.new.self.items (sym c.is_err.ensures.value ∙ c.if-is_err.false) c.push.ensures.items
     ∙ ap (λ (x : Step). c.list.new.walk.steps.items ++ x ∷ []) c.top-top.ensures in
     let next : Walking arena device image s k [] (record c.list.new.walk { steps = c.push.new.self }) = pushed arena device image s k c.list.new.walk (record c.list.new.walk { steps = c.push.new.self }) (record { blocks = refl; epoch = refl; active = refl; labels = refl; noted = refl }) [] f.entries f.holder Bytes c.holds_in-holds.result items refl listed in
-    let still : Shows (g.D.Disk.state c.list.new.main).holds device = subst (λ (s : DiskState). Shows s.holds device) (sym c.list.ensures.kept) shows in
+    let still : Shows (g.D.Reads.state c.list.new.main).holds device = subst (λ (s : DiskState). Shows s.holds device) (sym c.list.ensures.kept) shows in
     let lead : f.named ≡ true = search rules in
     let names = c.list.new.walk.named.items in
     let one : c.push.new.self.items ≡ top_step f.entries c.holds_in-holds.result f.holder ∷ [] = items ∙ ap (λ (xs : List Step). xs ++ top_step f.entries c.holds_in-holds.result f.holder ∷ []) (c.in_ok-list.ensures.done no_steps) in
@@ -396,7 +396,7 @@ returns-then-not-folder-clause-eight g c arena device image s k limit shows w no
     is_pushed c.push.result c.list.new.walk.steps.items (c.list.new.walk.steps.items ++ c.top-top.result ∷ []) c.push.new.self.items (sym c.is_err.ensures.value ∙ c.if-is_err.false) c.push.ensures.items
     ∙ ap (λ (x : Step). c.list.new.walk.steps.items ++ x ∷ []) c.top-top.ensures in
     let next : Walking arena device image s k [] (record c.list.new.walk { steps = c.push.new.self }) = pushed arena device image s k c.list.new.walk (record c.list.new.walk { steps = c.push.new.self }) (record { blocks = refl; epoch = refl; active = refl; labels = refl; noted = refl }) [] f.entries f.holder Bytes c.holds_in-holds.result items refl listed in
-    let still : Shows (g.D.Disk.state c.list.new.main).holds device = subst (λ (s : DiskState). Shows s.holds device) (sym c.list.ensures.kept) shows in
+    let still : Shows (g.D.Reads.state c.list.new.main).holds device = subst (λ (s : DiskState). Shows s.holds device) (sym c.list.ensures.kept) shows in
     let one : c.push.new.self.items ≡ top_step f.entries c.holds_in-holds.result f.holder ∷ [] = items ∙ ap (λ (xs : List Step). xs ++ top_step f.entries c.holds_in-holds.result f.holder ∷ []) (c.in_ok-list.ensures.done no_steps) in
     let begin : 8 < level c.list.new.walk.noted → AreBelow arena image k f.depth c.push.new.self.items = λ above. subst (λ (xs : List Step). AreBelow arena image k f.depth xs) (sym one) (below_entries arena image k f c.holds_in-holds.result (source (omega (arith, above, c.in_ok-list.ensures.level)))) in
     let first : HasSources arena image k limit c.list.new.walk.noted c.list.new.walk.folders.items = c.in_ok-list.ensures.eight arena device image s k limit shows fresh no_steps source h in
@@ -413,7 +413,7 @@ returns-clause-eight g c arena device image s k limit shows w no_steps source h 
     is_pushed c.push.result c.list.new.walk.steps.items (c.list.new.walk.steps.items ++ c.top-top.result ∷ []) c.push.new.self.items (sym c.is_err.ensures.value ∙ c.if-is_err.false) c.push.ensures.items
     ∙ ap (λ (x : Step). c.list.new.walk.steps.items ++ x ∷ []) c.top-top.ensures in
     let next : Walking arena device image s k [] (record c.list.new.walk { steps = c.push.new.self }) = pushed arena device image s k c.list.new.walk (record c.list.new.walk { steps = c.push.new.self }) (record { blocks = refl; epoch = refl; active = refl; labels = refl; noted = refl }) [] f.entries f.holder Bytes c.holds_in-holds.result items refl listed in
-    let still : Shows (g.D.Disk.state c.list.new.main).holds device = subst (λ (s : DiskState). Shows s.holds device) (sym c.list.ensures.kept) shows in
+    let still : Shows (g.D.Reads.state c.list.new.main).holds device = subst (λ (s : DiskState). Shows s.holds device) (sym c.list.ensures.kept) shows in
     let one : c.push.new.self.items ≡ top_step f.entries c.holds_in-holds.result f.holder ∷ [] = items ∙ ap (λ (xs : List Step). xs ++ top_step f.entries c.holds_in-holds.result f.holder ∷ []) (c.in_ok-list.ensures.done no_steps) in
     let begin : 8 < level c.list.new.walk.noted → AreBelow arena image k f.depth c.push.new.self.items = λ above. subst (λ (xs : List Step). AreBelow arena image k f.depth xs) (sym one) (below_entries arena image k f c.holds_in-holds.result (source (omega (arith, above, c.in_ok-list.ensures.level)))) in
     let first : HasSources arena image k limit c.list.new.walk.noted c.list.new.walk.folders.items = c.in_ok-list.ensures.eight arena device image s k limit shows fresh no_steps source h in
@@ -431,7 +431,7 @@ returns-then-not-folder-clause-counts g c arena device image s k shows w no_step
     is_pushed c.push.result c.list.new.walk.steps.items (c.list.new.walk.steps.items ++ c.top-top.result ∷ []) c.push.new.self.items (sym c.is_err.ensures.value ∙ c.if-is_err.false) c.push.ensures.items
     ∙ ap (λ (x : Step). c.list.new.walk.steps.items ++ x ∷ []) c.top-top.ensures in
     let next : Walking arena device image s k [] (record c.list.new.walk { steps = c.push.new.self }) = pushed arena device image s k c.list.new.walk (record c.list.new.walk { steps = c.push.new.self }) (record { blocks = refl; epoch = refl; active = refl; labels = refl; noted = refl }) [] f.entries f.holder Bytes c.holds_in-holds.result items refl listed in
-    let still : Shows (g.D.Disk.state c.list.new.main).holds device = subst (λ (s : DiskState). Shows s.holds device) (sym c.list.ensures.kept) shows in
+    let still : Shows (g.D.Reads.state c.list.new.main).holds device = subst (λ (s : DiskState). Shows s.holds device) (sym c.list.ensures.kept) shows in
     let isnt : f.named ≡ false = search rules in
     subst (λ (xs : List Number). AreNumbers arena image k c.follow_all.new.walk.labels.known.items xs) (sym (c.in_ok-list.ensures.uncounted isnt))
     (numbers_seen arena image k c.args.walk.now.labels.known.items c.follow_all.new.walk.labels.known.items c.args.numbers.now.items
@@ -448,7 +448,7 @@ returns-clause-counts g c arena device image s k shows w no_steps dir h above =
     is_pushed c.push.result c.list.new.walk.steps.items (c.list.new.walk.steps.items ++ c.top-top.result ∷ []) c.push.new.self.items (sym c.is_err.ensures.value ∙ c.if-is_err.false) c.push.ensures.items
     ∙ ap (λ (x : Step). c.list.new.walk.steps.items ++ x ∷ []) c.top-top.ensures in
     let next : Walking arena device image s k [] (record c.list.new.walk { steps = c.push.new.self }) = pushed arena device image s k c.list.new.walk (record c.list.new.walk { steps = c.push.new.self }) (record { blocks = refl; epoch = refl; active = refl; labels = refl; noted = refl }) [] f.entries f.holder Bytes c.holds_in-holds.result items refl listed in
-    let still : Shows (g.D.Disk.state c.list.new.main).holds device = subst (λ (s : DiskState). Shows s.holds device) (sym c.list.ensures.kept) shows in
+    let still : Shows (g.D.Reads.state c.list.new.main).holds device = subst (λ (s : DiskState). Shows s.holds device) (sym c.list.ensures.kept) shows in
     let lead : f.named ≡ true = search rules in
     let before : 6 < level c.args.walk.now.noted = omega (arith, above, c.note_leaf.ensures.level, c.in_ok-follow_all.ensures.level, c.in_ok-list.ensures.level) in
     let d : IsOfDir arena image k f = dir before lead in

@@ -152,6 +152,9 @@ loop-folder-init g c = record {
   reads =
       let left = on_ok_is c.start.result _ (sym c.is_err.ensures.value ∙ c.if-is_err.false) c.start.ensures.left in
       omega (arith, left.0, left.1, reached_left c.in_ok-labels.labels, c.read.ensures.reads);
+  once =
+      let left = on_ok_is c.start.result _ (sym c.is_err.ensures.value ∙ c.if-is_err.false) (c.start.ensures.watched g.D.Reads.watched) in
+      omega (arith, left, c.in_ok-labels.ensures.once);
   few =
       let left = on_ok_is c.start.result _ (sym c.is_err.ensures.value ∙ c.if-is_err.false) c.start.ensures.left in
       omega (arith, left.1, c.in_ok-labels.ensures.few);
@@ -174,7 +177,7 @@ loop-folder-preserved g c = record {
       let before = c.loop-folder.invariant.walks arena device image k len shows is holds in
       let old : Walk = record c.loop-folder.walk { folders = c.pop.new.self } in
       let open' : Walking arena device image s k (tops f) old = opened arena device image s k c.loop-folder.walk old (record { blocks = refl; epoch = refl; active = refl; labels = refl; noted = refl }) f c.in-Some.ensures.items refl before.0 in
-      let shows' : Shows (g.D.Disk.state c.loop-folder.main).holds device = subst (λ (s : DiskState). Shows s.holds device) (sym c.loop-folder.invariant.kept) shows in
+      let shows' : Shows (g.D.Reads.state c.loop-folder.main).holds device = subst (λ (s : DiskState). Shows s.holds device) (sym c.loop-folder.invariant.kept) shows in
       let left : AreJudged arena image k (f ∷ []) old = judged_open arena device image s k c.loop-folder.walk old f refl refl c.in-Some.ensures.items (c.loop-folder.invariant.dirs arena device image k len shows is holds) in
       let after : AreJudged arena image k (f ∷ []) c.walk_folder.new.walk = c.in_ok-walk_folder.ensures.dirs arena device image s k (f ∷ []) shows' open' left in
       judged_folder arena device image s k c.walk_folder.new.walk f (c.in_ok-walk_folder.ensures.walks arena device image s k shows' open')
@@ -185,7 +188,7 @@ loop-folder-preserved g c = record {
       let before = c.loop-folder.invariant.walks arena device image k len shows is holds in
       let old : Walk = record c.loop-folder.walk { folders = c.pop.new.self } in
       let open' : Walking arena device image s k (tops f) old = opened arena device image s k c.loop-folder.walk old (record { blocks = refl; epoch = refl; active = refl; labels = refl; noted = refl }) f c.in-Some.ensures.items refl before.0 in
-      let shows' : Shows (g.D.Disk.state c.loop-folder.main).holds device = subst (λ (x : DiskState). Shows x.holds device) (sym c.loop-folder.invariant.kept) shows in
+      let shows' : Shows (g.D.Reads.state c.loop-folder.main).holds device = subst (λ (x : DiskState). Shows x.holds device) (sym c.loop-folder.invariant.kept) shows in
       c.in_ok-walk_folder.ensures.formed arena device image s k [] shows' open'
       (formed_open arena image k c.loop-folder.walk.labels.known.items c.loop-folder.walk.noted c.loop-folder.walk.steps.items c.loop-folder.walk.folders.items c.pop.new.self.items f c.in-Some.ensures.items (c.loop-folder.invariant.formed arena device image k len shows is holds));
   settled = λ arena device image k len shows is holds.
@@ -194,7 +197,7 @@ loop-folder-preserved g c = record {
       let before = c.loop-folder.invariant.walks arena device image k len shows is holds in
       let old : Walk = record c.loop-folder.walk { folders = c.pop.new.self } in
       let open' : Walking arena device image s k (tops f) old = opened arena device image s k c.loop-folder.walk old (record { blocks = refl; epoch = refl; active = refl; labels = refl; noted = refl }) f c.in-Some.ensures.items refl before.0 in
-      let shows' : Shows (g.D.Disk.state c.loop-folder.main).holds device = subst (λ (x : DiskState). Shows x.holds device) (sym c.loop-folder.invariant.kept) shows in
+      let shows' : Shows (g.D.Reads.state c.loop-folder.main).holds device = subst (λ (x : DiskState). Shows x.holds device) (sym c.loop-folder.invariant.kept) shows in
       settled_on arena image k c.loop-folder.walk.noted c.walk_folder.new.walk.noted c.pop.new.self.items c.walk_folder.new.walk.folders.items c.loop-folder.walk.folders.items f c.in-Some.ensures.items
       (c.in_ok-walk_folder.ensures.grows arena device image s k shows' open') c.in_ok-walk_folder.ensures.level c.loop-folder.numbers.items c.walk_folder.new.numbers.items
       (c.loop-folder.invariant.settled arena device image k len shows is holds)
@@ -206,7 +209,7 @@ loop-folder-preserved g c = record {
       let before = c.loop-folder.invariant.walks arena device image k len shows is holds in
       let old : Walk = record c.loop-folder.walk { folders = c.pop.new.self } in
       let open' : Walking arena device image s k (tops f) old = opened arena device image s k c.loop-folder.walk old (record { blocks = refl; epoch = refl; active = refl; labels = refl; noted = refl }) f c.in-Some.ensures.items refl before.0 in
-      let shows' : Shows (g.D.Disk.state c.loop-folder.main).holds device = subst (λ (x : DiskState). Shows x.holds device) (sym c.loop-folder.invariant.kept) shows in
+      let shows' : Shows (g.D.Reads.state c.loop-folder.main).holds device = subst (λ (x : DiskState). Shows x.holds device) (sym c.loop-folder.invariant.kept) shows in
       above_on arena image k c.loop-folder.walk.noted c.walk_folder.new.walk.noted c.pop.new.self.items c.walk_folder.new.walk.folders.items c.loop-folder.walk.folders.items f c.in-Some.ensures.items
       (c.in_ok-walk_folder.ensures.grows arena device image s k shows' open') c.in_ok-walk_folder.ensures.level
       (λ deep w source quiet tree j h. c.in_ok-walk_folder.ensures.spread arena device image s k deep w shows' open' before.1 source quiet tree j h)
@@ -217,7 +220,7 @@ loop-folder-preserved g c = record {
       let before = c.loop-folder.invariant.walks arena device image k len shows is holds in
       let old : Walk = record c.loop-folder.walk { folders = c.pop.new.self } in
       let open' : Walking arena device image s k (tops f) old = opened arena device image s k c.loop-folder.walk old (record { blocks = refl; epoch = refl; active = refl; labels = refl; noted = refl }) f c.in-Some.ensures.items refl before.0 in
-      let shows' : Shows (g.D.Disk.state c.loop-folder.main).holds device = subst (λ (x : DiskState). Shows x.holds device) (sym c.loop-folder.invariant.kept) shows in
+      let shows' : Shows (g.D.Reads.state c.loop-folder.main).holds device = subst (λ (x : DiskState). Shows x.holds device) (sym c.loop-folder.invariant.kept) shows in
       let left = grounds_open arena image k c.loop-folder.walk.noted c.loop-folder.walk.steps.items c.loop-folder.walk.folders.items c.pop.new.self.items f c.in-Some.ensures.items (c.loop-folder.invariant.grounds arena device image k len shows is holds) in
       c.in_ok-walk_folder.ensures.grounds arena device image s k shows' open' before.1 left.1 left.0;
   heads = λ arena device image k len shows is holds.
@@ -226,7 +229,7 @@ loop-folder-preserved g c = record {
       let before = c.loop-folder.invariant.walks arena device image k len shows is holds in
       let old : Walk = record c.loop-folder.walk { folders = c.pop.new.self } in
       let open' : Walking arena device image s k (tops f) old = opened arena device image s k c.loop-folder.walk old (record { blocks = refl; epoch = refl; active = refl; labels = refl; noted = refl }) f c.in-Some.ensures.items refl before.0 in
-      let shows' : Shows (g.D.Disk.state c.loop-folder.main).holds device = subst (λ (x : DiskState). Shows x.holds device) (sym c.loop-folder.invariant.kept) shows in
+      let shows' : Shows (g.D.Reads.state c.loop-folder.main).holds device = subst (λ (x : DiskState). Shows x.holds device) (sym c.loop-folder.invariant.kept) shows in
       let left = heads_open arena image k c.loop-folder.walk.noted c.loop-folder.walk.folders.items c.pop.new.self.items f c.in-Some.ensures.items (c.loop-folder.invariant.heads arena device image k len shows is holds) in
       c.in_ok-walk_folder.ensures.heads arena device image s k shows' open' before.1 left.0 left.1;
   eight = λ arena device image k len shows is holds.
@@ -235,7 +238,7 @@ loop-folder-preserved g c = record {
       let before = c.loop-folder.invariant.walks arena device image k len shows is holds in
       let old : Walk = record c.loop-folder.walk { folders = c.pop.new.self } in
       let open' : Walking arena device image s k (tops f) old = opened arena device image s k c.loop-folder.walk old (record { blocks = refl; epoch = refl; active = refl; labels = refl; noted = refl }) f c.in-Some.ensures.items refl before.0 in
-      let shows' : Shows (g.D.Disk.state c.loop-folder.main).holds device = subst (λ (x : DiskState). Shows x.holds device) (sym c.loop-folder.invariant.kept) shows in
+      let shows' : Shows (g.D.Reads.state c.loop-folder.main).holds device = subst (λ (x : DiskState). Shows x.holds device) (sym c.loop-folder.invariant.kept) shows in
       let left = sources_open arena image k s.numbers c.loop-folder.walk.noted c.loop-folder.walk.folders.items c.pop.new.self.items f c.in-Some.ensures.items (c.loop-folder.invariant.eight arena device image k len shows is holds) in
       c.in_ok-walk_folder.ensures.eight arena device image s k s.numbers shows' open' before.1 left.0 left.1;
   counts = λ arena device image k len shows is holds.
@@ -244,13 +247,14 @@ loop-folder-preserved g c = record {
       let before = c.loop-folder.invariant.walks arena device image k len shows is holds in
       let old : Walk = record c.loop-folder.walk { folders = c.pop.new.self } in
       let open' : Walking arena device image s k (tops f) old = opened arena device image s k c.loop-folder.walk old (record { blocks = refl; epoch = refl; active = refl; labels = refl; noted = refl }) f c.in-Some.ensures.items refl before.0 in
-      let shows' : Shows (g.D.Disk.state c.loop-folder.main).holds device = subst (λ (x : DiskState). Shows x.holds device) (sym c.loop-folder.invariant.kept) shows in
+      let shows' : Shows (g.D.Reads.state c.loop-folder.main).holds device = subst (λ (x : DiskState). Shows x.holds device) (sym c.loop-folder.invariant.kept) shows in
       let left = heads_open arena image k c.loop-folder.walk.noted c.loop-folder.walk.folders.items c.pop.new.self.items f c.in-Some.ensures.items (c.loop-folder.invariant.heads arena device image k len shows is holds) in
       c.in_ok-walk_folder.ensures.counts arena device image s k shows' open' before.1 left.0 (c.loop-folder.invariant.counts arena device image k len shows is holds);
   rules = λ b e. ⊎_elim (λ (before : c.loop-folder.walk.noted ≡ Some b). c.loop-folder.invariant.rules b before) (λ (now : IsRule b.rule). now) (c.in_ok-walk_folder.ensures.rules.each b e);
   judged = judges_later c.in_ok-walk_folder.ensures.level c.loop-folder.invariant.judged;
   same = search rules;
   reads = omega (arith, c.in_ok-walk_folder.ensures.reads.0, c.in_ok-walk_folder.ensures.reads.1, c.loop-folder.invariant.reads);
+  once = omega (arith, c.in_ok-walk_folder.ensures.once, c.loop-folder.invariant.once);
   few = omega (arith, c.in_ok-walk_folder.ensures.reads.1, c.loop-folder.invariant.few);
   kept = search rules;
   later = search rules;

@@ -1,6 +1,8 @@
 use Rattle.std.proofs.Common.{◌≡◌, ◌<◌, ⊎_elim, inl, inr, Option, None, refl, List, [], ◌∷◌, ◌++◌, Some, true, sym, ap, ◌∙◌, subst, arith}
 use Rattle.fo_image.specs.declared.record.RootBlock.{RootBlock}
 use Rattle.fo_image.specs.declared.types.Label.{Label}
+use Rattle.fo_check_labels.specs.declared.labels.Labels.{Labels}
+use Rattle.fo_check_labels.specs.Known.{left_at}
 use Rattle.fo_check_tree.specs.declared.walk.Folder.{Folder}
 use Rattle.fo_check_tree.specs.Lower.{JudgesRoot}
 use Rattle.fo_sound.specs.Sound.{root_label, HasRootEntries}
@@ -11,6 +13,12 @@ use Rattle.fo_check_tree.proofs.Granting.{formats_root, formats_none, grounds_be
 use Rattle.fo_check_tree.proofs.Noting.{lowers_then, lowers_at, pairs_at, rules_then, rules_at, rules_by}
 use Rattle.fo_check_tree.proofs.Starting.{IsEntryOf, begun, directories, formats, settles, heads_begin, sources_begin, depths_begin}
 use Rattle.fo_check_tree.proofs.tree.start.Goals as goal
+
+pub returns-clause-watched : goal.returns-clause-watched
+returns-clause-watched c at =
+    let same = ap (λ (l : Labels). left_at at l.known.items) (c.note_entries.ensures.labels ∙ c.shallow-records.ensures.labels ∙ c.shallow-entries.ensures.labels) in
+    let spent = c.reach.ensures.spends at in
+    omega (arith, same, spent)
 
 pub returns-clause-judged : goal.returns-clause-judged
 returns-clause-judged c = record {

@@ -7,12 +7,14 @@ use Rattle.fo_check_labels.proofs.labels.Labels.read.Given as goal
 
 abbrev pub invariant-loop-n : goal.invariant-loop-n
 invariant-loop-n g l = record {
-  size : g.D.Disk.size l.main ≡ l.blocks;
-  kept : g.D.Disk.state l.main ≡ g.D.Disk.state l.fn.main;
-  later : g.D.Disk.faults l.fn.main ≤ g.D.Disk.faults l.main;
+  size : g.D.Reads.size l.main ≡ l.blocks;
+  kept : g.D.Reads.state l.main ≡ g.D.Reads.state l.fn.main;
+  later : g.D.Reads.faults l.fn.main ≤ g.D.Reads.faults l.main;
   long : length l.block ≡ 8192;
   below : IsBelow (585 * l.n) l.labels.known.items;
   few : IsFew l.blocks (585 * l.n) l.labels.known.items;
-  reads : g.D.Disk.calls l.main ≤ g.D.Disk.calls l.fn.main + l.n;
-  table : (image : List Block) → length image ≡ l.blocks → Shows (g.D.Disk.state l.fn.main).holds image → IsScanned image l.n (585 * l.n) l.labels.known.items;
+  once : g.D.Reads.reads l.main ≤ g.D.Reads.reads l.fn.main + 1;
+  unread : 2 + l.n ≤ g.D.Reads.watched → g.D.Reads.reads l.main ≤ g.D.Reads.reads l.fn.main;
+  reads : g.D.Reads.calls l.main ≤ g.D.Reads.calls l.fn.main + l.n;
+  table : (image : List Block) → length image ≡ l.blocks → Shows (g.D.Reads.state l.fn.main).holds image → IsScanned image l.n (585 * l.n) l.labels.known.items;
 }
