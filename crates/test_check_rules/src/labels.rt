@@ -38,11 +38,13 @@ fn formats(rt: HostRuntime) -> Result<(), Fail> {
     Ok(())
 }
 
-/// A block that was closed before its epoch.
+/// A block that was closed before its epoch, and one whose end is no epoch.
 #[test]
 fn ends(rt: HostRuntime) -> Result<(), Fail> {
-    let changes: [(u32, usize, &[u8]); 1] = [(2, 280, b"\x09\0\0\0\0\x02\0\0\0\x01\0\0\0\x20")];
-    assert!(rt; names(rt.alloc(), &changes, 4, 20)?);
+    let before: [(u32, usize, &[u8]); 1] = [(2, 280, b"\x09\0\0\0\0\x02\0\0\0\x01\0\0\0\x20")];
+    assert!(rt; names(rt.alloc(), &before, 4, 20)?);
+    let none: [(u32, usize, &[u8]); 1] = [(2, 280, b"\x09\0\0\0\0\x02\x80\0\0\0\0\0\0\x20")];
+    assert!(rt; names(rt.alloc(), &none, 4, 20)?);
     Ok(())
 }
 

@@ -15,6 +15,8 @@ mod labels;
 #[cfg(test)]
 mod made;
 #[cfg(test)]
+mod reads;
+#[cfg(test)]
 mod starts;
 #[cfg(test)]
 mod trees;
