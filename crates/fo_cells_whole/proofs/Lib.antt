@@ -1,0 +1,6 @@
+pub mod Rest
+pub mod Calls
+pub mod Puts
+pub mod Blocks
+pub mod Supers
+pub mod Turns

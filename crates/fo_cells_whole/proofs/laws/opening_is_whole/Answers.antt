@@ -1,0 +1,6 @@
+use Rattle.fo_cells_turns.proofs.Opening.{open_made}
+use Rattle.fo_cells_shown.proofs.Opening.{hang_closed, hang_shared}
+use Rattle.fo_cells_whole.proofs.laws.opening_is_whole.Goals as goal
+
+pub returns : goal.returns
+returns c = λ k f unsure holds o closed older. record { made = open_made o; closed = hang_closed o closed; shared = hang_shared o older }
