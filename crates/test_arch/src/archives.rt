@@ -75,12 +75,12 @@ fn archived(
     stored(alloc, arena, &mut archive, batch)
 }
 
-/// Whether the first archive has its score and takes six places.
-fn first(alloc: Global, arena: &mut Arena<MemDisk>) -> bool {
+/// Whether the first archive has its score, and so many places are used then.
+fn first(alloc: Global, arena: &mut Arena<MemDisk>, used: u32) -> bool {
     let archive = Archive::begin(alloc, 9, 77, 2, None);
     match image(alloc) {
         Ok(pieces) => archived(alloc, arena, archive, 9, pieces) == Some(FIRST)
-            && arena.used() == 6,
+            && arena.used() == used,
         Err(_) => false,
     }
 }
@@ -100,17 +100,17 @@ fn second(alloc: Global, arena: &mut Arena<MemDisk>) -> bool {
 fn ample(rt: HostRuntime) -> Result<(), Fail> {
     let alloc = rt.alloc();
     let mut arena = arena(alloc, Vec::new(alloc))?;
-    assert!(rt; first(alloc, &mut arena));
+    assert!(rt; first(alloc, &mut arena, 6));
     assert!(rt; second(alloc, &mut arena));
     Ok(())
 }
 
 /// Whether an archive fails, and then goes through, and is held once the arena is opened again.
 fn loses_nothing(alloc: Global, mut arena: Arena<MemDisk>) -> Result<bool, Fail> {
-    let failed = !first(alloc, &mut arena);
-    let then = first(alloc, &mut arena);
+    let failed = !first(alloc, &mut arena, 6);
+    let then = first(alloc, &mut arena, 6);
     let mut again = opened(alloc, arena.close())?;
-    Ok(failed && then && again.used() == 6 && first(alloc, &mut again))
+    Ok(failed && then && again.used() == 6 && first(alloc, &mut again, 6))
 }
 
 /// Each call of the arena's device fails in turn: six blocks, their lines, a sync, the head, and a sync.
@@ -119,6 +119,26 @@ fn each_fails(rt: HostRuntime) -> Result<(), Fail> {
     let alloc = rt.alloc();
     for call in 5..15 {
         assert!(rt; loses_nothing(alloc, arena(alloc, vec![in alloc; call]?)?)?);
+    }
+    Ok(())
+}
+
+/// Whether the second archive fails after the first, and then goes through, and both are held once the arena is opened again.
+fn loses_neither(alloc: Global, mut arena: Arena<MemDisk>) -> Result<bool, Fail> {
+    let before = first(alloc, &mut arena, 6);
+    let failed = !second(alloc, &mut arena);
+    let then = second(alloc, &mut arena);
+    let mut again = opened(alloc, arena.close())?;
+    let held = second(alloc, &mut again) && first(alloc, &mut again, 11);
+    Ok(before && failed && then && held)
+}
+
+/// Each call of the second archive fails in turn: a read of the leaf that is held, five blocks, their lines, a sync, the head, and a sync.
+#[test]
+fn each_fails_later(rt: HostRuntime) -> Result<(), Fail> {
+    let alloc = rt.alloc();
+    for call in 15..25 {
+        assert!(rt; loses_neither(alloc, arena(alloc, vec![in alloc; call]?)?)?);
     }
     Ok(())
 }
@@ -137,7 +157,7 @@ fn full(rt: HostRuntime) -> Result<(), Fail> {
     let alloc = rt.alloc();
     let mut arena = arena(alloc, Vec::new(alloc))?;
     fill(&mut arena, 12)?;
-    assert!(rt; !first(alloc, &mut arena));
+    assert!(rt; !first(alloc, &mut arena, 6));
     assert!(rt; arena.used() == 14);
     Ok(())
 }

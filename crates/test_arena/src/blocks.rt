@@ -64,6 +64,20 @@ pub(crate) fn empty(alloc: Global) -> Result<Arena<MemDisk>, Fail> {
     opened(alloc, disk(alloc, HEAD, Vec::new(alloc))?)
 }
 
+/// An arena of 16 blocks whose one used place has these bytes, under the score of "hello". The calls of these numbers fail; it had 12.
+pub(crate) fn stored(alloc: Global, bytes: &[u8], fails: Vec<u64>) -> Result<Arena<MemDisk>, Fail>
+    requires { length bytes.now ≤ 8192 }
+{
+    let mut disk = disk(alloc, b"FSARENA1\0\0\0\x10\0\0\0\x01", fails)?;
+    write(
+        &mut disk,
+        1,
+        b"\xaa\xf4\xc6\x1d\xdc\xc5\xe8\xa2\xda\xbe\xde\x0f\x3b\x48\x2c\xd9\xae\xa9\x43\x4d\0\0\0\x05",
+    )?;
+    write(&mut disk, 2, bytes)?;
+    opened(alloc, disk)
+}
+
 /// Whether these bytes are held under the score and the kind.
 pub(crate) fn holds(
     alloc: Global,

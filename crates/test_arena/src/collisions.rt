@@ -1,5 +1,5 @@
 //! Blocks that don't hash to their scores, and two blocks of one score.
-use crate::blocks::{HELLO, disk, empty, opened, score, write};
+use crate::blocks::{HELLO, empty, score, stored};
 use fo_disk::MemDisk;
 use hex::decode_to_slice;
 use std::alloc::Global;
@@ -60,13 +60,6 @@ fn is_damaged(alloc: Global, mut arena: Arena<MemDisk>) -> Result<bool, Fail> {
 #[test]
 fn damaged(rt: HostRuntime) -> Result<(), Fail> {
     let alloc = rt.alloc();
-    let mut disk = disk(alloc, b"FSARENA1\0\0\0\x10\0\0\0\x01", Vec::new(alloc))?;
-    write(
-        &mut disk,
-        1,
-        b"\xaa\xf4\xc6\x1d\xdc\xc5\xe8\xa2\xda\xbe\xde\x0f\x3b\x48\x2c\xd9\xae\xa9\x43\x4d\0\0\0\x05",
-    )?;
-    write(&mut disk, 2, b"jello")?;
-    assert!(rt; is_damaged(alloc, opened(alloc, disk)?)?);
+    assert!(rt; is_damaged(alloc, stored(alloc, b"jello", Vec::new(alloc))?)?);
     Ok(())
 }

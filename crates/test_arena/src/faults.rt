@@ -1,9 +1,9 @@
 //! Each call of the device fails in turn.
-use crate::blocks::{HEAD, HELLO, disk, holds, opened, score};
+use crate::blocks::{HEAD, HELLO, disk, holds, opened, score, stored};
 use fo_disk::MemDisk;
 use std::alloc::Global;
 use std::test::Fail;
-use venti_store::Arena;
+use venti_store::{Arena, ArenaError};
 
 /// Puts a block and settles it.
 fn settles(arena: &mut Arena<MemDisk>, bytes: &[u8; 5]) -> bool {
@@ -39,5 +39,28 @@ fn each(rt: HostRuntime) -> Result<(), Fail> {
     for call in 5..15 {
         assert!(rt; loses_nothing(rt.alloc(), failing(rt.alloc(), call)?)?);
     }
+    Ok(())
+}
+
+/// Whether "hello" is refused once, as the device can't be read, and then got.
+fn gets_then(alloc: Global, mut arena: Arena<MemDisk>) -> Result<bool, Fail> {
+    let hello = score(HELLO)?;
+    let mut into = Vec::new(alloc);
+    let failed = matches!(arena.get(&hello, 0, &mut into), Err(ArenaError::ArenaRead));
+    Ok(failed && into.is_empty() && holds(alloc, &mut arena, &hello, 0, b"hello")?)
+}
+
+/// Whether "hello" is refused once, and then put, which takes no place more.
+fn puts_then(mut arena: Arena<MemDisk>) -> bool {
+    let failed = matches!(arena.put(0, b"hello"), Err(ArenaError::ArenaRead));
+    failed && arena.put(0, b"hello").is_ok() && arena.used() == 1
+}
+
+/// The read of a place fails, as its block is got and as it is put again.
+#[test]
+fn reads(rt: HostRuntime) -> Result<(), Fail> {
+    let alloc = rt.alloc();
+    assert!(rt; gets_then(alloc, stored(alloc, b"hello", vec![in alloc; 12]?)?)?);
+    assert!(rt; puts_then(stored(alloc, b"hello", vec![in alloc; 12]?)?));
     Ok(())
 }
