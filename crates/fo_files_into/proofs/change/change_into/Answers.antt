@@ -1,0 +1,284 @@
+use Rattle.std.proofs.Common.{◌+◌, ◌*◌, inl, inr, sym, subst, ◌∙◌, arith}
+use Rattle.fo_tree_read.proofs.Exits.{looks_none}
+use Rattle.fo_dir_change.specs.Changes.{Bears}
+use Rattle.fo_files_record.specs.Stays.{no_slot}
+use Rattle.fo_files_record.proofs.Rewriting.{rewrites_calm}
+use Rattle.fo_files_change.proofs.Records.{records_ready, records_rank, later_failed}
+use Rattle.fo_files_write.specs.Alters.{is_above, any_kind}
+use Rattle.fo_files_write.proofs.Steps.{alters_none}
+use Rattle.fo_files_ready.specs.Ready.{IsLeafOf}
+use Rattle.fo_files_ready.proofs.Steps.{leaf_looks, failed_since}
+use Rattle.fo_files_along.proofs.Pairs.{entries_looks}
+use Rattle.fo_files_into.proofs.Steps.{file_over, file_looks, leaf_bytes, leaf_written, must_fit, changed_as, uncut, use_kept, sized_kept}
+use Rattle.fo_files_into.proofs.change.change_into.Goals as goal
+
+pub read-requires-clause-silent : goal.read-requires-clause-silent
+read-requires-clause-silent g c =
+    λ h. c.requires.silent ((g.met.B.Blocks.keeps_all c.args.on.now c.ready_record.new.on c.ready_record.ensures.keeps).still_tells.0 h)
+
+pub read-requires-clause-rank : goal.read-requires-clause-rank
+read-requires-clause-rank g c =
+    records_rank c.args.at.dir.rank c.requires.dir.ranked c.requires.dir.least
+
+pub cut_given-requires-clause-silent : goal.cut_given-requires-clause-silent
+cut_given-requires-clause-silent g c =
+    λ h. c.requires.silent ((g.met.B.Blocks.keeps_all c.args.on.now c.read.new.on (g.met.B.Blocks.keeps_joins c.args.on.now c.ready_record.new.on c.read.new.on c.ready_record.ensures.keeps c.read.ensures.keeps)).still_tells.0 h)
+
+pub cut_given-requires-clause-file : goal.cut_given-requires-clause-file
+cut_given-requires-clause-file g c =
+    let s = g.B.Blocks.state c.args.on.now in
+    let f = g.B.Blocks.state c.ready_record.new.on in
+    let m = g.B.Blocks.state c.read.new.on in
+    let dir = c.args.at.dir in
+    let file = c.args.at.file in
+    let y = c.ready_record.ensures.stays in
+    let e = g.B.Blocks.state y.0 in
+    let first = g.met.B.Blocks.keeps_all c.args.on.now y.0 y.2 in
+    let second = g.met.B.Blocks.keeps_all y.0 c.ready_record.new.on y.3 in
+    let third = g.met.B.Blocks.keeps_all c.ready_record.new.on c.read.new.on c.read.ensures.keeps in
+    let file_f = file_over s e f dir file (IsLeafOf dir e) first second y.1 y.4 c.requires.file in
+    let file_m = file_looks f m file third c.read.ensures.looks file_f in
+    let entries_m = entries_looks f m file.at third c.read.ensures.looks (c.ready_record.ensures.entries file.at c.requires.entries) in
+    let own_m = leaf_looks f m dir c.in-Ok.leaf third c.read.ensures.looks c.in-Ok.ensures.ready.own in
+    file_m
+
+pub cut_given-requires-clause-pins : goal.cut_given-requires-clause-pins
+cut_given-requires-clause-pins g c =
+    let took = c.ready_record.ensures.pins in let same = c.read.ensures.pins in let enough = c.requires.pins in omega (arith, took, same, enough)
+
+pub cut_given-requires-clause-spare : goal.cut_given-requires-clause-spare
+cut_given-requires-clause-spare g c =
+    let took = c.ready_record.ensures.spare in let same = c.read.ensures.looks.room.0 in let enough = c.requires.spare in omega (arith, took, same, enough)
+
+pub cut_given-requires-clause-room : goal.cut_given-requires-clause-room
+cut_given-requires-clause-room g c =
+    let took = c.ready_record.ensures.room in let same = c.read.ensures.looks.room.1 in let enough = c.requires.room in omega (arith, took, same, enough)
+
+pub change_record-requires-clause-owned : goal.change_record-requires-clause-owned
+change_record-requires-clause-owned g c =
+    let s = g.B.Blocks.state c.args.on.now in
+    let f = g.B.Blocks.state c.ready_record.new.on in
+    let m = g.B.Blocks.state c.read.new.on in
+    let dir = c.args.at.dir in
+    let file = c.args.at.file in
+    let y = c.ready_record.ensures.stays in
+    let e = g.B.Blocks.state y.0 in
+    let first = g.met.B.Blocks.keeps_all c.args.on.now y.0 y.2 in
+    let second = g.met.B.Blocks.keeps_all y.0 c.ready_record.new.on y.3 in
+    let third = g.met.B.Blocks.keeps_all c.ready_record.new.on c.read.new.on c.read.ensures.keeps in
+    let file_f = file_over s e f dir file (IsLeafOf dir e) first second y.1 y.4 c.requires.file in
+    let file_m = file_looks f m file third c.read.ensures.looks file_f in
+    let entries_m = entries_looks f m file.at third c.read.ensures.looks (c.ready_record.ensures.entries file.at c.requires.entries) in
+    let own_m = leaf_looks f m dir c.in-Ok.leaf third c.read.ensures.looks c.in-Ok.ensures.ready.own in
+    let h = g.B.Blocks.state c.cut_given.new.on in
+    let fourth = g.met.B.Blocks.keeps_all c.read.new.on c.cut_given.new.on c.cut_given.ensures.keeps in
+    let own_h = leaf_written m h dir file c.in-Ok.leaf fourth entries_m c.cut_given.ensures.alters own_m in
+    let bytes = leaf_bytes m h dir file c.in-Ok.leaf entries_m c.cut_given.ensures.alters own_m ∙ (c.read.ensures.looks.known c.in-Ok.leaf c.in-Ok.ensures.ready.own.is_pinned).bytes in
+    (records_ready (33 + 2 * dir.number) c.in-Ok.leaf (λ x. c.requires.silent ((g.met.B.Blocks.keeps_all c.args.on.now c.cut_given.new.on (g.met.B.Blocks.keeps_joins c.args.on.now c.read.new.on c.cut_given.new.on (g.met.B.Blocks.keeps_joins c.args.on.now c.ready_record.new.on c.read.new.on c.ready_record.ensures.keeps c.read.ensures.keeps) c.cut_given.ensures.keeps)).still_tells.0 x)) (λ x. g.met.B.Blocks.covers_told c.cut_given.new.on c.in-Ok.leaf x) own_h).owned
+
+pub change_record-requires-clause-bytes : goal.change_record-requires-clause-bytes
+change_record-requires-clause-bytes g c =
+    let s = g.B.Blocks.state c.args.on.now in
+    let f = g.B.Blocks.state c.ready_record.new.on in
+    let m = g.B.Blocks.state c.read.new.on in
+    let dir = c.args.at.dir in
+    let file = c.args.at.file in
+    let y = c.ready_record.ensures.stays in
+    let e = g.B.Blocks.state y.0 in
+    let first = g.met.B.Blocks.keeps_all c.args.on.now y.0 y.2 in
+    let second = g.met.B.Blocks.keeps_all y.0 c.ready_record.new.on y.3 in
+    let third = g.met.B.Blocks.keeps_all c.ready_record.new.on c.read.new.on c.read.ensures.keeps in
+    let file_f = file_over s e f dir file (IsLeafOf dir e) first second y.1 y.4 c.requires.file in
+    let file_m = file_looks f m file third c.read.ensures.looks file_f in
+    let entries_m = entries_looks f m file.at third c.read.ensures.looks (c.ready_record.ensures.entries file.at c.requires.entries) in
+    let own_m = leaf_looks f m dir c.in-Ok.leaf third c.read.ensures.looks c.in-Ok.ensures.ready.own in
+    let h = g.B.Blocks.state c.cut_given.new.on in
+    let fourth = g.met.B.Blocks.keeps_all c.read.new.on c.cut_given.new.on c.cut_given.ensures.keeps in
+    let own_h = leaf_written m h dir file c.in-Ok.leaf fourth entries_m c.cut_given.ensures.alters own_m in
+    let bytes = leaf_bytes m h dir file c.in-Ok.leaf entries_m c.cut_given.ensures.alters own_m ∙ (c.read.ensures.looks.known c.in-Ok.leaf c.in-Ok.ensures.ready.own.is_pinned).bytes in
+    let read = c.in-Ok-read.ensures.bytes in
+    (read.0, read.1 ∙ sym (leaf_bytes m h dir file c.in-Ok.leaf entries_m c.cut_given.ensures.alters own_m))
+
+pub change_record-requires-clause-there : goal.change_record-requires-clause-there
+change_record-requires-clause-there g c =
+    let s = g.B.Blocks.state c.args.on.now in
+    let f = g.B.Blocks.state c.ready_record.new.on in
+    let m = g.B.Blocks.state c.read.new.on in
+    let dir = c.args.at.dir in
+    let file = c.args.at.file in
+    let y = c.ready_record.ensures.stays in
+    let e = g.B.Blocks.state y.0 in
+    let first = g.met.B.Blocks.keeps_all c.args.on.now y.0 y.2 in
+    let second = g.met.B.Blocks.keeps_all y.0 c.ready_record.new.on y.3 in
+    let third = g.met.B.Blocks.keeps_all c.ready_record.new.on c.read.new.on c.read.ensures.keeps in
+    let file_f = file_over s e f dir file (IsLeafOf dir e) first second y.1 y.4 c.requires.file in
+    let file_m = file_looks f m file third c.read.ensures.looks file_f in
+    let entries_m = entries_looks f m file.at third c.read.ensures.looks (c.ready_record.ensures.entries file.at c.requires.entries) in
+    let own_m = leaf_looks f m dir c.in-Ok.leaf third c.read.ensures.looks c.in-Ok.ensures.ready.own in
+    let h = g.B.Blocks.state c.cut_given.new.on in
+    let fourth = g.met.B.Blocks.keeps_all c.read.new.on c.cut_given.new.on c.cut_given.ensures.keeps in
+    let own_h = leaf_written m h dir file c.in-Ok.leaf fourth entries_m c.cut_given.ensures.alters own_m in
+    let bytes = leaf_bytes m h dir file c.in-Ok.leaf entries_m c.cut_given.ensures.alters own_m ∙ (c.read.ensures.looks.known c.in-Ok.leaf c.in-Ok.ensures.ready.own.is_pinned).bytes in
+    subst (λ xs. Bears c.args.name.now xs) (sym bytes) c.in-Ok.ensures.ready.place.bears
+
+pub returns-in-Err-clause-left : goal.returns-in-Err-clause-left
+returns-in-Err-clause-left g c =
+    let y = c.in-Err.ensures.nothing in
+    let u = g.B.Blocks.state c.ready_record.new.on in
+    let file = c.args.at.file in
+    inl (record { owned = y.0; readied = y.1; moved = y.2; looked = c.ready_record.new.on; looks = looks_none u; alters = alters_none is_above u file.at file.slot (32 + 2 * file.number); stays = λ generation size has. has })
+
+pub returns-in-Err-read-clause-left : goal.returns-in-Err-read-clause-left
+returns-in-Err-read-clause-left g c =
+    let y = c.ready_record.ensures.stays in
+    let u = g.B.Blocks.state c.read.new.on in
+    let file = c.args.at.file in
+    inr (
+      c.ready_record.new.on,
+      c.in-Ok.leaf,
+      c.in-Ok.ensures.steps,
+      record {
+        leaves = record { owned = y.0; readied = y.1; moved = y.4; looked = c.read.new.on; looks = c.read.ensures.looks; alters = alters_none any_kind u file.at file.slot (32 + 2 * file.number); stays = λ generation size has. has };
+        cuts = uncut _ g.B.Blocks.state c.read.new.on file c.args.given;
+      },
+    )
+
+pub returns-in-Err-cut_given-clause-left : goal.returns-in-Err-cut_given-clause-left
+returns-in-Err-cut_given-clause-left g c =
+    let y = c.ready_record.ensures.stays in
+    inr (
+      c.ready_record.new.on,
+      c.in-Ok.leaf,
+      c.in-Ok.ensures.steps,
+      record {
+        leaves = record { owned = y.0; readied = y.1; moved = y.4; looked = c.read.new.on; looks = c.read.ensures.looks; alters = c.cut_given.ensures.alters; stays = c.in-Err-cut_given.ensures.stays };
+        cuts = c.cut_given.ensures.cuts;
+      },
+    )
+
+pub returns-clause-edits : goal.returns-clause-edits
+returns-clause-edits g c =
+    let s = g.B.Blocks.state c.args.on.now in
+    let f = g.B.Blocks.state c.ready_record.new.on in
+    let m = g.B.Blocks.state c.read.new.on in
+    let dir = c.args.at.dir in
+    let file = c.args.at.file in
+    let y = c.ready_record.ensures.stays in
+    let e = g.B.Blocks.state y.0 in
+    let first = g.met.B.Blocks.keeps_all c.args.on.now y.0 y.2 in
+    let second = g.met.B.Blocks.keeps_all y.0 c.ready_record.new.on y.3 in
+    let third = g.met.B.Blocks.keeps_all c.ready_record.new.on c.read.new.on c.read.ensures.keeps in
+    let file_f = file_over s e f dir file (IsLeafOf dir e) first second y.1 y.4 c.requires.file in
+    let file_m = file_looks f m file third c.read.ensures.looks file_f in
+    let entries_m = entries_looks f m file.at third c.read.ensures.looks (c.ready_record.ensures.entries file.at c.requires.entries) in
+    let own_m = leaf_looks f m dir c.in-Ok.leaf third c.read.ensures.looks c.in-Ok.ensures.ready.own in
+    let h = g.B.Blocks.state c.cut_given.new.on in
+    let fourth = g.met.B.Blocks.keeps_all c.read.new.on c.cut_given.new.on c.cut_given.ensures.keeps in
+    let own_h = leaf_written m h dir file c.in-Ok.leaf fourth entries_m c.cut_given.ensures.alters own_m in
+    let bytes = leaf_bytes m h dir file c.in-Ok.leaf entries_m c.cut_given.ensures.alters own_m ∙ (c.read.ensures.looks.known c.in-Ok.leaf c.in-Ok.ensures.ready.own.is_pinned).bytes in
+    let fits = must_fit c.change_record.result c.args.name.now c.args.named.now ((h.now c.in-Ok.leaf).bytes) ((f.now c.in-Ok.leaf).bytes) bytes (λ no. (c.change_record.ensures.full no).0) c.in-Ok.ensures.ready.place.fits in
+    let u = g.B.Blocks.state c.change_record.new.on in
+    record {
+      leaf = c.in-Ok.leaf;
+      owned = y.0;
+      readied = y.1;
+      ready = c.ready_record.new.on;
+      moved = y.4;
+      steps = c.in-Ok.ensures.steps;
+      fits = c.in-Ok.ensures.ready;
+      looked = c.read.new.on;
+      looks = c.read.ensures.looks;
+      cut = c.cut_given.new.on;
+      cuts = c.cut_given.ensures.cuts;
+      alters = c.cut_given.ensures.alters;
+      uses = use_kept m h u file (c.change_record.ensures.slots file.at file.slot) c.cut_given.ensures.uses;
+      sized = sized_kept h u file c.args.given (c.change_record.ensures.slots file.at file.slot) c.in-Ok-cut_given.ensures.sized;
+      changed = changed_as c.args.name.now c.args.named.now _ _ _ bytes (c.change_record.ensures.changed fits);
+      stays = rewrites_calm c.in-Ok.leaf no_slot (c.change_record.ensures.calm fits) c.change_record.ensures.bytes c.change_record.ensures.slots;
+    }
+
+pub returns-clause-spare : goal.returns-clause-spare
+returns-clause-spare g c =
+    let s = g.B.Blocks.state c.args.on.now in
+    let f = g.B.Blocks.state c.ready_record.new.on in
+    let m = g.B.Blocks.state c.read.new.on in
+    let dir = c.args.at.dir in
+    let file = c.args.at.file in
+    let y = c.ready_record.ensures.stays in
+    let e = g.B.Blocks.state y.0 in
+    let first = g.met.B.Blocks.keeps_all c.args.on.now y.0 y.2 in
+    let second = g.met.B.Blocks.keeps_all y.0 c.ready_record.new.on y.3 in
+    let third = g.met.B.Blocks.keeps_all c.ready_record.new.on c.read.new.on c.read.ensures.keeps in
+    let file_f = file_over s e f dir file (IsLeafOf dir e) first second y.1 y.4 c.requires.file in
+    let file_m = file_looks f m file third c.read.ensures.looks file_f in
+    let entries_m = entries_looks f m file.at third c.read.ensures.looks (c.ready_record.ensures.entries file.at c.requires.entries) in
+    let own_m = leaf_looks f m dir c.in-Ok.leaf third c.read.ensures.looks c.in-Ok.ensures.ready.own in
+    let h = g.B.Blocks.state c.cut_given.new.on in
+    let fourth = g.met.B.Blocks.keeps_all c.read.new.on c.cut_given.new.on c.cut_given.ensures.keeps in
+    let own_h = leaf_written m h dir file c.in-Ok.leaf fourth entries_m c.cut_given.ensures.alters own_m in
+    let bytes = leaf_bytes m h dir file c.in-Ok.leaf entries_m c.cut_given.ensures.alters own_m ∙ (c.read.ensures.looks.known c.in-Ok.leaf c.in-Ok.ensures.ready.own.is_pinned).bytes in
+    let fits = must_fit c.change_record.result c.args.name.now c.args.named.now ((h.now c.in-Ok.leaf).bytes) ((f.now c.in-Ok.leaf).bytes) bytes (λ no. (c.change_record.ensures.full no).0) c.in-Ok.ensures.ready.place.fits in
+    let a = c.ready_record.ensures.spare in let b = c.read.ensures.looks.room.0 in let w = c.cut_given.ensures.spare in let last = (c.change_record.ensures.calm fits).left.0 in omega (arith, a, b, w, last)
+
+pub returns-clause-usable : goal.returns-clause-usable
+returns-clause-usable g c =
+    let s = g.B.Blocks.state c.args.on.now in
+    let f = g.B.Blocks.state c.ready_record.new.on in
+    let m = g.B.Blocks.state c.read.new.on in
+    let dir = c.args.at.dir in
+    let file = c.args.at.file in
+    let y = c.ready_record.ensures.stays in
+    let e = g.B.Blocks.state y.0 in
+    let first = g.met.B.Blocks.keeps_all c.args.on.now y.0 y.2 in
+    let second = g.met.B.Blocks.keeps_all y.0 c.ready_record.new.on y.3 in
+    let third = g.met.B.Blocks.keeps_all c.ready_record.new.on c.read.new.on c.read.ensures.keeps in
+    let file_f = file_over s e f dir file (IsLeafOf dir e) first second y.1 y.4 c.requires.file in
+    let file_m = file_looks f m file third c.read.ensures.looks file_f in
+    let entries_m = entries_looks f m file.at third c.read.ensures.looks (c.ready_record.ensures.entries file.at c.requires.entries) in
+    let own_m = leaf_looks f m dir c.in-Ok.leaf third c.read.ensures.looks c.in-Ok.ensures.ready.own in
+    let h = g.B.Blocks.state c.cut_given.new.on in
+    let fourth = g.met.B.Blocks.keeps_all c.read.new.on c.cut_given.new.on c.cut_given.ensures.keeps in
+    let own_h = leaf_written m h dir file c.in-Ok.leaf fourth entries_m c.cut_given.ensures.alters own_m in
+    let bytes = leaf_bytes m h dir file c.in-Ok.leaf entries_m c.cut_given.ensures.alters own_m ∙ (c.read.ensures.looks.known c.in-Ok.leaf c.in-Ok.ensures.ready.own.is_pinned).bytes in
+    let fits = must_fit c.change_record.result c.args.name.now c.args.named.now ((h.now c.in-Ok.leaf).bytes) ((f.now c.in-Ok.leaf).bytes) bytes (λ no. (c.change_record.ensures.full no).0) c.in-Ok.ensures.ready.place.fits in
+    let a = y.1.usable in let b = y.4.left.0 in let d = y.4.left.2 in let i = c.read.ensures.looks.usable.0 in let j = c.read.ensures.looks.room.0 in let w = c.cut_given.ensures.alters.usable in let last = (c.change_record.ensures.calm fits).left in let p = last.0 in let q = last.2 in omega (arith, a, b, d, i, j, w, p, q)
+
+pub returns-in-Err-clause-usable : goal.returns-in-Err-clause-usable
+returns-in-Err-clause-usable g c =
+    let y = c.ready_record.ensures.stays in let a = y.1.usable in let b = y.4.left.0 in let d = y.4.left.2 in omega (arith, a, b, d)
+
+pub returns-in-Err-read-clause-usable : goal.returns-in-Err-read-clause-usable
+returns-in-Err-read-clause-usable g c =
+    let y = c.ready_record.ensures.stays in let a = y.1.usable in let b = y.4.left.0 in let d = y.4.left.2 in let i = c.read.ensures.looks.usable.0 in let j = c.read.ensures.looks.room.0 in omega (arith, a, b, d, i, j)
+
+pub returns-in-Err-cut_given-clause-usable : goal.returns-in-Err-cut_given-clause-usable
+returns-in-Err-cut_given-clause-usable g c =
+    let y = c.ready_record.ensures.stays in let a = y.1.usable in let b = y.4.left.0 in let d = y.4.left.2 in let i = c.read.ensures.looks.usable.0 in let j = c.read.ensures.looks.room.0 in let w = c.cut_given.ensures.alters.usable in omega (arith, a, b, d, i, j, w)
+
+pub returns-in-Err-read-clause-spare : goal.returns-in-Err-read-clause-spare
+returns-in-Err-read-clause-spare g c =
+    let a = c.ready_record.ensures.spare in let b = c.read.ensures.looks.room.0 in omega (arith, a, b)
+
+pub returns-in-Err-cut_given-clause-spare : goal.returns-in-Err-cut_given-clause-spare
+returns-in-Err-cut_given-clause-spare g c =
+    let a = c.ready_record.ensures.spare in let b = c.read.ensures.looks.room.0 in let w = c.cut_given.ensures.spare in omega (arith, a, b, w)
+
+pub returns-in-Err-read-clause-cause : goal.returns-in-Err-read-clause-cause
+returns-in-Err-read-clause-cause g c =
+    later_failed (g.B.Blocks.state c.args.on.now) (g.B.Blocks.state c.ready_record.new.on) (g.B.Blocks.state c.read.new.on) (g.met.B.Blocks.keeps_all c.args.on.now c.ready_record.new.on c.ready_record.ensures.keeps) c.in-Err-read.why c.in-Err-read.ensures.cause
+
+pub returns-in-Err-cut_given-clause-cause : goal.returns-in-Err-cut_given-clause-cause
+returns-in-Err-cut_given-clause-cause g c =
+    failed_since (g.B.Blocks.state c.args.on.now) (g.B.Blocks.state c.read.new.on) (g.B.Blocks.state c.cut_given.new.on) (g.met.B.Blocks.keeps_all c.args.on.now c.read.new.on (g.met.B.Blocks.keeps_joins c.args.on.now c.ready_record.new.on c.read.new.on c.ready_record.ensures.keeps c.read.ensures.keeps)) (g.met.B.Blocks.keeps_all c.read.new.on c.cut_given.new.on c.cut_given.ensures.keeps) c.in-Err-cut_given.why c.in-Err-cut_given.ensures.cause
+
+pub returns-in-Err-read-clause-keeps : goal.returns-in-Err-read-clause-keeps
+returns-in-Err-read-clause-keeps g c =
+    g.met.B.Blocks.keeps_joins c.args.on.now c.ready_record.new.on c.read.new.on c.ready_record.ensures.keeps c.read.ensures.keeps
+
+pub returns-in-Err-cut_given-clause-keeps : goal.returns-in-Err-cut_given-clause-keeps
+returns-in-Err-cut_given-clause-keeps g c =
+    g.met.B.Blocks.keeps_joins c.args.on.now c.read.new.on c.cut_given.new.on (g.met.B.Blocks.keeps_joins c.args.on.now c.ready_record.new.on c.read.new.on c.ready_record.ensures.keeps c.read.ensures.keeps) c.cut_given.ensures.keeps
+
+pub returns-clause-keeps : goal.returns-clause-keeps
+returns-clause-keeps g c =
+    g.met.B.Blocks.keeps_joins c.args.on.now c.cut_given.new.on c.change_record.new.on (g.met.B.Blocks.keeps_joins c.args.on.now c.read.new.on c.cut_given.new.on (g.met.B.Blocks.keeps_joins c.args.on.now c.ready_record.new.on c.read.new.on c.ready_record.ensures.keeps c.read.ensures.keeps) c.cut_given.ensures.keeps) c.change_record.ensures.keeps
