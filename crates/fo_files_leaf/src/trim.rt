@@ -1,5 +1,5 @@
 //! What stands behind the end of a source of records is cleared.
-ghost use Rattle.std.specs.Prelude.{◌≡◌, ◌≢◌, ◌⊎◌, ◌+◌, ◌*◌, ◌<◌, ◌≤◌, ℕ, true, false, IfErr, OnOk};
+ghost use Rattle.std.specs.Prelude.{◌≡◌, ◌≢◌, ◌⊎◌, ◌+◌, ◌*◌, ◌^◌, ◌<◌, ◌≤◌, ℕ, true, false, IfErr, OnOk};
 ghost use Rattle.fo_base.specs.Cause.{Rose};
 ghost use Rattle.fo_ports.specs.Causes.{Caused};
 ghost use Rattle.fo_ports.specs.State.{none};
@@ -35,6 +35,7 @@ fn cut_behind<B: Blocks>(
     ensures alters { Alters at (λ k. k ≡ slot) (λ t. t ≡ source.old.ways.tree.tag) (IsAbove source.old.ways.tree.tag false) none (B.state on.old) (B.state on.new) }
     ensures pins { (B.state on.new).pins_left ≡ (B.state on.old).pins_left }
     ensures spare { (B.state on.old).spare ≤ (B.state on.new).spare + 4 }
+    ensures few { (B.state on.old).spare ≤ (B.state on.new).spare + source.old.ways.tree.depth }
     ensures room { (B.state on.old).room ≤ (B.state on.new).room + 1636 }
     ensures cause { IfErr result (Caused ⊥ (λ b. ⊥) (Rose (B.state on.old).faults (B.state on.new).faults) ⊥) }
     ensures keeps { B.keeps on.old on.new }
@@ -49,7 +50,8 @@ fn cut_behind<B: Blocks>(
     }
 }
 
-/// Clears what stands behind the end of a source of records that has to grow to have a leaf.
+/// Clears what stands behind the end of a source of records that has to grow to have a leaf. It takes a block a level of pointers: at most two
+/// where the leaf is one of the first 409^2.
 pub fn trim_records<B: Blocks>(alloc: Global, on: &mut B, wanted: LeafOf) -> Result<(), BlockError>
     requires holder { IsHolder (B.state on.old) wanted.at wanted.slot }
     requires wanted { IsWanted wanted }
@@ -62,6 +64,7 @@ pub fn trim_records<B: Blocks>(alloc: Global, on: &mut B, wanted: LeafOf) -> Res
     ensures alters { Alters wanted.at (λ k. k ≡ wanted.slot) (λ t. t ≡ wanted.tag) (IsAbove wanted.tag wanted.is_dir) none (B.state on.old) (B.state on.new) }
     ensures pins { (B.state on.old).pins_left ≤ (B.state on.new).pins_left + 20 }
     ensures spare { (B.state on.old).spare ≤ (B.state on.new).spare + 4 }
+    ensures few { wanted.leaf < 409 ^ 2 → (B.state on.old).spare ≤ (B.state on.new).spare + 2 }
     ensures room { (B.state on.old).room ≤ (B.state on.new).room + 1636 }
     ensures cause { IfErr result (Caused ⊥ (λ b. (B.state on.old).is_block b ⊎ (b ≡ 1)) (Rose (B.state on.old).faults (B.state on.new).faults) (Rose (B.state on.old).arena_faults (B.state on.new).arena_faults)) }
     ensures keeps { B.keeps on.old on.new }

@@ -9,7 +9,7 @@ ghost use Rattle.fo_files_record.specs.Leaf.{IsRecordsAt, IsEntriesAt};
 ghost use Rattle.fo_files_change.specs.Records.{AltersRecords, records_of};
 ghost use Rattle.fo_files_ready.specs.Ready.{IsLeafOf};
 
-use crate::own::own_few;
+use crate::own::{MOST_ADDED, own_few};
 use fo_files_dir::DirAt;
 use fo_files_leaf::{LeafOf, trim_records};
 use fo_ports::{BlockError, Blocks};
@@ -59,6 +59,7 @@ pub(crate) fn leaf_at<B: Blocks>(
     ensures nothing { OnErr result (Looks (B.state on.old) (B.state on.new)) }
     ensures alters { AltersRecords dir (B.state on.old) (B.state on.new) }
     ensures spare { (B.state on.old).spare ≤ (B.state on.new).spare + 6 }
+    ensures fewer { may_add ≡ false → (B.state on.old).spare ≤ (B.state on.new).spare + 5 }
     ensures pins { (B.state on.old).pins_left ≤ (B.state on.new).pins_left + 20 }
     ensures room { (B.state on.new).room ≡ (B.state on.old).room }
     ensures cause { IfErr result (Caused ⊥ (λ b. (B.state on.old).is_block b ⊎ (b ≡ 1)) (Rose (B.state on.old).faults (B.state on.new).faults) (Rose (B.state on.old).arena_faults (B.state on.new).arena_faults)) }
@@ -82,6 +83,7 @@ fn trim_for<B: Blocks>(alloc: Global, on: &mut B, dir: DirAt, i: u32) -> Result<
     requires room { 1636 ≤ (B.state on.old).room }
     ensures alters { AltersRecords dir (B.state on.old) (B.state on.new) }
     ensures spare { (B.state on.old).spare ≤ (B.state on.new).spare + 4 }
+    ensures few { i < 409 ^ 2 → (B.state on.old).spare ≤ (B.state on.new).spare + 2 }
     ensures pins { (B.state on.old).pins_left ≤ (B.state on.new).pins_left + 20 }
     ensures room { (B.state on.old).room ≤ (B.state on.new).room + 1636 }
     ensures cause { IfErr result (Caused ⊥ (λ b. (B.state on.old).is_block b ⊎ (b ≡ 1)) (Rose (B.state on.old).faults (B.state on.new).faults) (Rose (B.state on.old).arena_faults (B.state on.new).arena_faults)) }
@@ -96,23 +98,19 @@ fn trim_for<B: Blocks>(alloc: Global, on: &mut B, dir: DirAt, i: u32) -> Result<
     }
 }
 
-/// Makes leaf `i` of a directory's records ready, or the one behind the last, for which the records are trimmed.
-pub(crate) fn spare_leaf<B: Blocks>(
-    alloc: Global,
-    on: &mut B,
-    dir: DirAt,
-    i: u32,
-) -> Result<u32, BlockError>
+/// Makes leaf `i` of a directory's records ready, one of the first 409^2, or the one behind the last, for which the records are trimmed.
+fn added_leaf<B: Blocks>(alloc: Global, on: &mut B, dir: DirAt, i: u32) -> Result<u32, BlockError>
     requires silent { (B.state on.old).tells → ⊥ }
     requires dir { IsDirAt (B.state on.old) dir }
+    requires few { i < 409 ^ 2 }
     requires pins { 40 ≤ (B.state on.old).pins_left }
-    requires spare { 10 ≤ (B.state on.old).spare }
+    requires spare { 8 ≤ (B.state on.old).spare }
     requires room { 1636 ≤ (B.state on.old).room }
     ensures own { IfOk result (IsLeafOf dir (B.state on.new)) }
     ensures leaf { IfOk result (IsRecordsAt (B.state on.new)) }
     ensures readied { IfOk result (λ leaf. (n m : B) × AltersRecords dir (B.state on.old) (B.state n) × Readied (B.state n) (B.state m) (B.state on.new) (records_of dir i) leaf) }
     ensures alters { AltersRecords dir (B.state on.old) (B.state on.new) }
-    ensures spare { (B.state on.old).spare ≤ (B.state on.new).spare + 10 }
+    ensures spare { (B.state on.old).spare ≤ (B.state on.new).spare + 8 }
     ensures pins { (B.state on.old).pins_left ≤ (B.state on.new).pins_left + 40 }
     ensures room { (B.state on.old).room ≤ (B.state on.new).room + 1636 }
     ensures cause { IfErr result (Caused ⊥ (λ b. (B.state on.old).is_block b ⊎ (b ≡ 1)) (Rose (B.state on.old).faults (B.state on.new).faults) (Rose (B.state on.old).arena_faults (B.state on.new).arena_faults)) }
@@ -125,5 +123,57 @@ pub(crate) fn spare_leaf<B: Blocks>(
     match leaf_at(alloc, on, dir, i, true) {
         Ok(leaf) => Ok(leaf),
         Err(why) => Err(why),
+    }
+}
+
+/// Makes leaf `i` of a directory's records ready, which is there.
+fn present_leaf<B: Blocks>(alloc: Global, on: &mut B, dir: DirAt, i: u32) -> Result<u32, BlockError>
+    requires silent { (B.state on.old).tells → ⊥ }
+    requires dir { IsDirAt (B.state on.old) dir }
+    requires pins { 40 ≤ (B.state on.old).pins_left }
+    requires spare { 8 ≤ (B.state on.old).spare }
+    requires room { 1636 ≤ (B.state on.old).room }
+    ensures own { IfOk result (IsLeafOf dir (B.state on.new)) }
+    ensures leaf { IfOk result (IsRecordsAt (B.state on.new)) }
+    ensures readied { IfOk result (λ leaf. (n m : B) × AltersRecords dir (B.state on.old) (B.state n) × Readied (B.state n) (B.state m) (B.state on.new) (records_of dir i) leaf) }
+    ensures alters { AltersRecords dir (B.state on.old) (B.state on.new) }
+    ensures spare { (B.state on.old).spare ≤ (B.state on.new).spare + 8 }
+    ensures pins { (B.state on.old).pins_left ≤ (B.state on.new).pins_left + 40 }
+    ensures room { (B.state on.old).room ≤ (B.state on.new).room + 1636 }
+    ensures cause { IfErr result (Caused ⊥ (λ b. (B.state on.old).is_block b ⊎ (b ≡ 1)) (Rose (B.state on.old).faults (B.state on.new).faults) (Rose (B.state on.old).arena_faults (B.state on.new).arena_faults)) }
+    ensures keeps { B.keeps on.old on.new }
+{
+    match leaf_at(alloc, on, dir, i, false) {
+        Ok(leaf) => Ok(leaf),
+        Err(why) => Err(why),
+    }
+}
+
+/// Makes leaf `i` of a directory's records ready, or the one behind the last, for which the records are trimmed.
+pub(crate) fn spare_leaf<B: Blocks>(
+    alloc: Global,
+    on: &mut B,
+    dir: DirAt,
+    i: u32,
+) -> Result<u32, BlockError>
+    requires silent { (B.state on.old).tells → ⊥ }
+    requires dir { IsDirAt (B.state on.old) dir }
+    requires pins { 40 ≤ (B.state on.old).pins_left }
+    requires spare { 8 ≤ (B.state on.old).spare }
+    requires room { 1636 ≤ (B.state on.old).room }
+    ensures own { IfOk result (IsLeafOf dir (B.state on.new)) }
+    ensures leaf { IfOk result (IsRecordsAt (B.state on.new)) }
+    ensures readied { IfOk result (λ leaf. (n m : B) × AltersRecords dir (B.state on.old) (B.state n) × Readied (B.state n) (B.state m) (B.state on.new) (records_of dir i) leaf) }
+    ensures alters { AltersRecords dir (B.state on.old) (B.state on.new) }
+    ensures spare { (B.state on.old).spare ≤ (B.state on.new).spare + 8 }
+    ensures pins { (B.state on.old).pins_left ≤ (B.state on.new).pins_left + 40 }
+    ensures room { (B.state on.old).room ≤ (B.state on.new).room + 1636 }
+    ensures cause { IfErr result (Caused ⊥ (λ b. (B.state on.old).is_block b ⊎ (b ≡ 1)) (Rose (B.state on.old).faults (B.state on.new).faults) (Rose (B.state on.old).arena_faults (B.state on.new).arena_faults)) }
+    ensures keeps { B.keeps on.old on.new }
+{
+    if i < MOST_ADDED {
+        added_leaf(alloc, on, dir, i)
+    } else {
+        present_leaf(alloc, on, dir, i)
     }
 }

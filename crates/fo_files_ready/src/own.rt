@@ -14,11 +14,12 @@ use std::alloc::Global;
 
 /// How many leaves two levels of pointers lead to. A leaf without room for one more record has 17 at least, so no directory of up to 2^20 names
 /// has to grow to as many.
-const MOST_ADDED: u32 = 409 * 409;
+pub(crate) const MOST_ADDED: u32 = 409 * 409;
 
 /// Whether a source of so many bytes has a leaf, or may get it and is small.
 fn is_few(size: u64, leaf: u32, may_add: bool) -> bool
     ensures few { result ≡ true → most_to_own size leaf ≤ 6 }
+    ensures fewer { result ≡ true → may_add ≡ false → most_to_own size leaf ≤ 5 }
     ensures has { result ≡ true → may_add ≡ false → 8192 * (leaf + 1) ≤ size }
 {
     if BLOCK as u64 * (leaf as u64 + 1) <= size {
@@ -46,6 +47,7 @@ pub(crate) fn own_few<B: Blocks>(
     ensures nothing { OnErr result (Looks (B.state on.old) (B.state on.new)) }
     ensures alters { Alters wanted.at (λ k. k ≡ wanted.slot) (λ t. t ≡ wanted.tag) (IsAbove wanted.tag wanted.is_dir) none (B.state on.old) (B.state on.new) }
     ensures spare { (B.state on.old).spare ≤ (B.state on.new).spare + 6 }
+    ensures fewer { may_add ≡ false → (B.state on.old).spare ≤ (B.state on.new).spare + 5 }
     ensures pins { (B.state on.old).pins_left ≤ (B.state on.new).pins_left + 20 }
     ensures room { (B.state on.new).room ≡ (B.state on.old).room }
     ensures cause { IfErr result (Caused ⊥ (λ b. (B.state on.old).is_block b ⊎ (b ≡ 1)) (Rose (B.state on.old).faults (B.state on.new).faults) (Rose (B.state on.old).arena_faults (B.state on.new).arena_faults)) }

@@ -41,7 +41,7 @@ pub fn ready_record<B: Blocks>(
     requires entries { IsEntriesAt (B.state on.old) entries }
     requires spelled { RecordHolds named.now }
     requires pins { 60 ≤ (B.state on.old).pins_left }
-    requires spare { 16 ≤ (B.state on.old).spare }
+    requires spare { 13 ≤ (B.state on.old).spare }
     requires room { 1637 ≤ (B.state on.old).room }
     ensures ready { IfOk result (λ leaf. IsReadyFor (B.state on.new) dir leaf name.now named.now) }
     ensures steps { IfOk result (λ leaf. ((a m : B) × Stands (B.state on.old) (B.state a) (B.state m) (B.state on.new) dir i leaf) ⊎ ((a m n b c e : B) × (from : ℕ) × Goes (B.state on.old) (B.state a) (B.state m) (B.state n) (B.state b) (B.state c) (B.state e) (B.state on.new) dir i spare from leaf name.now)) }
@@ -49,7 +49,7 @@ pub fn ready_record<B: Blocks>(
     ensures nothing { OnErr result ((m : B) × AltersRecords dir (B.state on.old) (B.state m) × Rewrites (λ b. ⊥) no_slot (B.state m) (B.state on.new)) }
     ensures dir { IsDirAt (B.state on.new) dir }
     ensures entries { (e : ℕ) → IsEntriesAt (B.state on.old) e → IsEntriesAt (B.state on.new) e }
-    ensures spare { (B.state on.old).spare ≤ (B.state on.new).spare + 16 }
+    ensures spare { (B.state on.old).spare ≤ (B.state on.new).spare + 13 }
     ensures pins { (B.state on.old).pins_left ≤ (B.state on.new).pins_left + 60 }
     ensures room { (B.state on.old).room ≤ (B.state on.new).room + 1637 }
     ensures cause { IfErr result (Caused ⊥ (λ b. (B.state on.old).is_block b ⊎ (b ≡ 1)) (Rose (B.state on.old).faults (B.state on.new).faults) (Rose (B.state on.old).arena_faults (B.state on.new).arena_faults)) }
@@ -90,7 +90,7 @@ fn move_to<B: Blocks>(
     requires bytes { IsLeaf (((B.state on.old).now from).bytes) }
     requires spelled { RecordHolds named.now }
     requires pins { 40 ≤ (B.state on.old).pins_left }
-    requires spare { 10 ≤ (B.state on.old).spare }
+    requires spare { 8 ≤ (B.state on.old).spare }
     requires room { 1637 ≤ (B.state on.old).room }
     ensures ready { IfOk result (λ leaf. IsReadyFor (B.state on.new) dir leaf name.now named.now) }
     ensures steps { IfOk result (λ leaf. (n b c e : B) × AltersRecords dir (B.state on.old) (B.state n) × Readied (B.state n) (B.state b) (B.state c) (records_of dir spare) leaf × Looks (B.state c) (B.state e)
@@ -98,7 +98,7 @@ fn move_to<B: Blocks>(
         × Rewrites (λ x. (x ≡ from) ⊎ (x ≡ leaf)) no_slot (B.state e) (B.state on.new)) }
     ensures stays { (m : B) × AltersRecords dir (B.state on.old) (B.state m) × B.keeps on.old m × B.keeps m on.new × Rewrites (IsLeafOf dir (B.state m)) no_slot (B.state m) (B.state on.new) }
     ensures nothing { OnErr result ((m : B) × AltersRecords dir (B.state on.old) (B.state m) × Rewrites (λ b. ⊥) no_slot (B.state m) (B.state on.new)) }
-    ensures spare { (B.state on.old).spare ≤ (B.state on.new).spare + 10 }
+    ensures spare { (B.state on.old).spare ≤ (B.state on.new).spare + 8 }
     ensures pins { (B.state on.old).pins_left ≤ (B.state on.new).pins_left + 40 }
     ensures room { (B.state on.old).room ≤ (B.state on.new).room + 1637 }
     ensures cause { IfErr result (Caused ⊥ (λ b. (B.state on.old).is_block b ⊎ (b ≡ 1)) (Rose (B.state on.old).faults (B.state on.new).faults) (Rose (B.state on.old).arena_faults (B.state on.new).arena_faults)) }

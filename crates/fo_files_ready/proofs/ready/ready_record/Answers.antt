@@ -253,7 +253,7 @@ returns-in-Ok-move_to-clause-keeps g c =
 
 pub returns-in-Ok-move_to-clause-spare : goal.returns-in-Ok-move_to-clause-spare
 returns-in-Ok-move_to-clause-spare g c =
-    let took = c.leaf_at.ensures.spare in let same = c.has_place.ensures.looks.room.0 in let last = c.move_to.ensures.spare in omega (arith, took, same, last)
+    let took = c.leaf_at.ensures.fewer refl in let same = c.has_place.ensures.looks.room.0 in let last = c.move_to.ensures.spare in omega (arith, took, same, last)
 
 pub returns-in-Ok-move_to-clause-pins : goal.returns-in-Ok-move_to-clause-pins
 returns-in-Ok-move_to-clause-pins g c =
@@ -319,7 +319,7 @@ returns-in-Err-move_to-clause-keeps g c =
 
 pub returns-in-Err-move_to-clause-spare : goal.returns-in-Err-move_to-clause-spare
 returns-in-Err-move_to-clause-spare g c =
-    let took = c.leaf_at.ensures.spare in let same = c.has_place.ensures.looks.room.0 in let last = c.move_to.ensures.spare in omega (arith, took, same, last)
+    let took = c.leaf_at.ensures.fewer refl in let same = c.has_place.ensures.looks.room.0 in let last = c.move_to.ensures.spare in omega (arith, took, same, last)
 
 pub returns-in-Err-move_to-clause-pins : goal.returns-in-Err-move_to-clause-pins
 returns-in-Err-move_to-clause-pins g c =

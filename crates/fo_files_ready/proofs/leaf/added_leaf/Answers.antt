@@ -1,7 +1,7 @@
 use Rattle.fo_files_leaf.proofs.Altering.{alters_joins}
 use Rattle.fo_files_change.proofs.Records.{dir_readied}
 use Rattle.fo_files_ready.proofs.Steps.{failed_since}
-use Rattle.fo_files_ready.proofs.leaf.spare_leaf.Goals as goal
+use Rattle.fo_files_ready.proofs.leaf.added_leaf.Goals as goal
 
 pub leaf_at-requires-clause-silent : goal.leaf_at-requires-clause-silent
 leaf_at-requires-clause-silent g c = λ h. c.requires.silent ((g.met.B.Blocks.keeps_all c.args.on.now c.trim_for.new.on c.trim_for.ensures.keeps).still_tells.0 h)
