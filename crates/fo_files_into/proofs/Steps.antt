@@ -68,7 +68,7 @@ changed_as name named now was new e h = subst (λ xs. HasChanged name named xs n
 
 -- ---- what is taken
 
-pub took_into : (most s f g h : ℕ) → s ≤ f + 16 → g ≡ f → g ≤ h + (most + 4) → s ≤ h + (most + 20)
+pub took_into : (most s f g h : ℕ) → s ≤ f + 13 → g ≡ f → g ≤ h + (most + 4) → s ≤ h + (most + 17)
 took_into most s f g h first same second = omega (arith, first, same, second)
 
 -- ---- a length that may be given

@@ -96,11 +96,11 @@ pub fn change_into<B: Blocks>(
     requires spelled { RecordHolds named.now }
     requires within { IfSome given (λ n. n ≤ 2 ^ 40) }
     requires pins { 75 ≤ (B.state on.old).pins_left }
-    requires spare { 25 ≤ (B.state on.old).spare }
+    requires spare { 22 ≤ (B.state on.old).spare }
     requires room { 4910 ≤ (B.state on.old).room }
     ensures edits { OnOk result (Edits B B.state on.old on.new at.dir at.file i spare name.now named.now given) }
     ensures left { OnErr result (UnchangedBy B B.state on.old on.new at.dir at.file i spare name.now given) }
-    ensures spare { (B.state on.old).spare ≤ (B.state on.new).spare + 25 }
+    ensures spare { (B.state on.old).spare ≤ (B.state on.new).spare + 22 }
     ensures usable { (B.state on.old).usable + (B.state on.new).spare ≤ (B.state on.new).usable + (B.state on.old).spare }
     ensures cause { IfErr result (Caused ⊥ (λ b. (B.state on.old).is_block b ⊎ (b ≡ 1)) (Rose (B.state on.old).faults (B.state on.new).faults) (Rose (B.state on.old).arena_faults (B.state on.new).arena_faults)) }
     ensures keeps { B.keeps on.old on.new }

@@ -40,11 +40,11 @@ pub fn write_into<B: Blocks>(
     requires some { 0 < length piece.now }
     requires within { offset + length piece.now ≤ 2 ^ 40 }
     requires pins { most_of (length piece.now) + 75 ≤ (B.state on.old).pins_left }
-    requires spare { most_of (length piece.now) + 20 ≤ (B.state on.old).spare }
+    requires spare { most_of (length piece.now) + 17 ≤ (B.state on.old).spare }
     requires room { 3274 ≤ (B.state on.old).room }
     ensures puts { OnOk result (Puts B B.state on.old on.new at.dir at.file i spare named.now offset (length piece.now)) }
     ensures left { OnErr result (LeftBy B B.state on.old on.new at.dir at.file i spare named.now.name) }
-    ensures spare { (B.state on.old).spare ≤ (B.state on.new).spare + (most_of (length piece.now) + 20) }
+    ensures spare { (B.state on.old).spare ≤ (B.state on.new).spare + (most_of (length piece.now) + 17) }
     ensures usable { (B.state on.old).usable + (B.state on.new).spare ≤ (B.state on.new).usable + (B.state on.old).spare }
     ensures cause { IfErr result (Caused ⊥ (λ b. (B.state on.old).is_block b ⊎ (b ≡ 1)) (Rose (B.state on.old).faults (B.state on.new).faults) (Rose (B.state on.old).arena_faults (B.state on.new).arena_faults)) }
     ensures keeps { B.keeps on.old on.new }

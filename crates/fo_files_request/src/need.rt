@@ -28,7 +28,7 @@ fn sizes_for(steps: usize, n: u64) -> Option<Sizes>
     ensures pins { IfSome result (λ s. s.pins ≡ 20 * steps + n / 8192 + n / 2 ^ 21 + 91) }
 {
     let leaves = n / 8192 + n / (1 << 21);
-    // the way 5 blocks a directory, the record's leaf 16, the data the leaves and 19: 5 * steps + 35, at most the need
+    // the way 5 blocks a directory, the record's leaf 13, the data the leaves and 19: 5 * steps + 32, at most the need
     let blocks = 6 * (steps as u64 - 1) + 40 + leaves;
     // the plan 20 pins a directory and 1, the record's leaf 60, the data the leaves and 30
     let pins = 20 * steps as u64 + leaves + 91;
