@@ -4,3 +4,4 @@ pub mod Puts
 pub mod Blocks
 pub mod Supers
 pub mod Turns
+pub mod Tops

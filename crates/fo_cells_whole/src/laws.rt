@@ -1,4 +1,5 @@
 //! The laws. Each function does nothing: its contract is the law, so that the law is proved with the crate.
+ghost use Rattle.fo_cells_whole.specs.Tops.{NoneIsRefused};
 ghost use Rattle.fo_cells_whole.specs.Whole.{OpeningWhole, WholeIsWithin, BytesWhole, WaitWhole, LaterWhole, EndWhole, RemoveWhole, ClearingWhole, SameWhole, FillWhole, LinkWhole, ComesWhole, LevelsWhole, NewBlockWhole, CopyWhole, IndexWhole, AsideWhole, CloseEarlierWhole, CloseNowWhole, PastDoneWhole, DoneWhole, TryWhole, CountWhole, OverruleWhole, RaiseWhole, SnapshotWhole, AbandonWhole};
 
 use fo_cells_puts::Among;
@@ -61,4 +62,9 @@ pub fn supers_keep_whole<M: Makes>(_made: &M)
 pub fn snapshots_keep_whole()
     ensures begun { SnapshotWhole }
     ensures abandoned { AbandonWhole }
+{}
+
+/// The invariant holds of no empty list of tops, of which anything else that it says would be true.
+pub fn no_tops_are_refused()
+    ensures { NoneIsRefused }
 {}
