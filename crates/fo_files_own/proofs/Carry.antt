@@ -23,17 +23,18 @@ may_put_on r all same pin bytes is = record {
   current = ap (λ (l : Label). l.epoch) same ∙ is.current ∙ sym all.same_high;
   kind_is = ⊎_elim (λ h. inl (h.0, ap (λ (l : Label). l.kind) same ∙ h.1)) (λ h. inr (h.0, ap (λ (l : Label). l.kind) same ∙ h.1)) is.kind_is;
   whole = ap (λ (xs : List ℕ). length xs) bytes ∙ is.whole;
+  long = is.long;
 }
 
 pub root_bytes_on : {s u : State} (root : ℕ) (bytes : List ℕ) → (u.now root).bytes ≡ (s.now root).bytes → HasRoot s root bytes → HasRoot u root bytes
 root_bytes_on root bytes same has = record { head = has.head ∙ sym (ap (λ (xs : List ℕ). take 16 xs) same); own = has.own ∙ sym (ap (λ (xs : List ℕ). drop 104 xs) same) }
 
 -- of a root block it is asked that what was made ready is for it
-pub has_ready_on : {s u : State} (at : OwnAt) (named : Record) (r : ReadyOwn) → ((root : ℕ) → at ≡ place.Root root → r.at ≡ root) → (u.now r.at).bytes ≡ (s.now r.at).bytes → HasReady s at named r → HasReady u at named r
-has_ready_on {s = s} {u = u} (place.Root root) named r is same has =
+pub has_ready_on : (s u : State) (at : OwnAt) (named : Record) (r : ReadyOwn) → ((root : ℕ) → at ≡ place.Root root → r.at ≡ root) → (u.now r.at).bytes ≡ (s.now r.at).bytes → HasReady s at named r → HasReady u at named r
+has_ready_on s u (place.Root root) named r is same has =
     let e = is root refl in
     record { old = has.old; had = root_bytes_on root has.old (subst (λ b. (u.now b).bytes ≡ (s.now b).bytes) e same) has.had; own = has.own }
-has_ready_on {u = u} (place.Below b) named r is same has = subst (λ xs. HasOwnLeaf named xs r.bytes) (sym same) has
+has_ready_on s u (place.Below b) named r is same has = subst (λ xs. HasOwnLeaf named xs r.bytes) (sym same) has
 
 -- ---- over single steps
 

@@ -1,1 +1,3 @@
 pub mod Carry
+pub mod Placed
+pub mod Stays

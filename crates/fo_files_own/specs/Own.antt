@@ -49,7 +49,7 @@ removals_for (place.Below b) = 1637
 
 -- ---- the bytes made ready
 
--- What is made ready may be put: into a data block that is whole, pinned, live and of the current epoch, a leaf of records, or a root block from byte
+-- What is made ready may be put, a whole block: into a data block that is whole, pinned, live and of the current epoch, a leaf of records, or a root block from byte
 -- 104 on.
 pub record MayPutOwn (s : State) (r : ReadyOwn) : Type 0 where
   pub is_one : s.is_block r.at
@@ -58,6 +58,7 @@ pub record MayPutOwn (s : State) (r : ReadyOwn) : Type 0 where
   pub current : (s.label r.at).epoch ≡ s.high
   pub kind_is : ((r.from ≡ 0) × ((s.label r.at).kind ≡ Data 0)) ⊎ ((r.from ≡ 104) × ((s.label r.at).kind ≡ Root))
   pub whole : length ((s.now r.at).bytes) ≡ 8192
+  pub long : length r.bytes ≡ 8192
 
 -- it is for this root block; for a leaf of this directory's records
 abbrev pub IsOfRoot : ℕ → ReadyOwn → Type 0

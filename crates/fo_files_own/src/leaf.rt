@@ -68,18 +68,15 @@ pub(crate) fn ready_below<B: Blocks>(
     ensures keeps { B.keeps on.old on.new }
 {
     let name = named.name.as_slice();
-    let Below {
-        dir,
-        entries,
-        leaf,
-        spare,
-    } = at;
-    let leaf = match ready_record(alloc, on, dir, entries, leaf, spare, name, named) {
+    let ready = ready_record(
+        alloc, on, at.dir, at.entries, at.leaf, at.spare, name, named,
+    );
+    let leaf = match ready {
         Ok(leaf) => leaf,
         Err(why) => return Err(why),
     };
     let mut bytes = [0; BLOCK];
-    match read(on, leaf, dir.rank - RECORDS_BELOW, &mut bytes) {
+    match read(on, leaf, at.dir.rank - RECORDS_BELOW, &mut bytes) {
         Ok(()) => Ok(with_record(leaf, &bytes, named)),
         Err(why) => Err(why),
     }

@@ -46,13 +46,7 @@ pub fn ready_own<B: Blocks>(
     ensures keeps { B.keeps on.old on.new }
 {
     match at {
-        OwnAt::Root(root) => match ready_root(alloc, on, root, named) {
-            Ok(ready) => Ok(ready),
-            Err(why) => Err(why),
-        },
-        OwnAt::Below(below) => match ready_below(alloc, on, below, named) {
-            Ok(ready) => Ok(ready),
-            Err(why) => Err(why),
-        },
+        OwnAt::Root(root) => ready_root(alloc, on, root, named),
+        OwnAt::Below(below) => ready_below(alloc, on, below, named),
     }
 }

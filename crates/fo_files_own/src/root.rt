@@ -9,8 +9,8 @@ ghost use Rattle.fo_files_record.specs.Own.{HasOwn, IsRootAt};
 ghost use Rattle.fo_files_own.specs.Own.{HasOwnRoot, IsLive, IsOfRoot, MayPutOwn};
 
 use crate::at::ReadyOwn;
+use crate::rewritten::rewritten;
 use fo_base::BLOCK;
-use fo_files_record::rewritten;
 use fo_image::{Kind, Record};
 use fo_ports::{BlockError, Blocks};
 use std::alloc::{AllocError, Global};
@@ -22,7 +22,7 @@ const OWN: u32 = 104;
 const ROOT_PLACE: u32 = 2144;
 
 /// A copy of a record.
-fn copied(alloc: Global, named: &Record) -> Result<Record, AllocError>
+pub fn copied(alloc: Global, named: &Record) -> Result<Record, AllocError>
     ensures { IfOk result (λ r. r ≡ named.now) }
 {
     Ok(Record {
@@ -69,13 +69,15 @@ pub(crate) fn ready_root<B: Blocks>(
     root: u32,
     named: &Record,
 ) -> Result<ReadyOwn, BlockError>
+    requires silent { (B.state on.old).tells → ⊥ }
     requires root { IsRootAt (B.state on.old) root × IsLive (B.state on.old) root }
     requires spelled { RootRecordHolds named.now }
     ensures ready { IfOk result (λ r. MayPutOwn (B.state on.new) r × IsOfRoot root r × HasOwnRoot (B.state on.new) root named.now r.bytes) }
     ensures looks { Looks (B.state on.old) (B.state on.new) }
     ensures root { IsRootAt (B.state on.new) root × IsLive (B.state on.new) root }
     ensures pins { (B.state on.new).pins_left ≡ (B.state on.old).pins_left }
-    ensures cause { IfErr result (Caused ⊥ (B.state on.old).is_block (Rose (B.state on.old).faults (B.state on.new).faults) ⊥) }
+    ensures spare { ((B.state on.new).spare ≡ (B.state on.old).spare) × ((B.state on.new).room ≡ (B.state on.old).room) }
+    ensures cause { IfErr result (Caused ⊥ (λ b. (B.state on.old).is_block b ⊎ (b ≡ 1)) (Rose (B.state on.old).faults (B.state on.new).faults) (Rose (B.state on.old).arena_faults (B.state on.new).arena_faults)) }
     ensures keeps { B.keeps on.old on.new }
 {
     let mut block = [0; BLOCK];

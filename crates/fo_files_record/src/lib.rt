@@ -19,6 +19,6 @@ mod put;
 mod take;
 
 pub use leaf::read;
-pub use own::{put_own_record, rewritten};
+pub use own::put_own_record;
 pub use put::change_in;
 pub use take::take_out;
