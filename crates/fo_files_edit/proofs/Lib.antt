@@ -1,0 +1,3 @@
+pub mod Refusing
+pub mod Edited
+pub mod Roots

@@ -1,0 +1,20 @@
+use Rattle.std.proofs.Common.{◌-◌, sym, ap, subst, ◌∙◌, arith}
+use Rattle.fo_files_at.specs.declared.at.Step.{Step}
+use Rattle.fo_files_at.specs.Held.{FileHolds}
+use Rattle.fo_files_along.proofs.Ways.{step_at}
+use Rattle.fo_files_edit.proofs.found.name_is_free.Goals as goal
+
+pub has_name-requires-clause-holds : goal.has_name-requires-clause-holds
+has_name-requires-clause-holds g c =
+    let s = g.B.Blocks.state c.args.on.now in
+    let count = c.len-depth.ensures in
+    let h = step_at s c.args.root c.args.at.now.trail c.args.way.now (c.len-depth.result - 1) c.index-step.result.now c.requires.way (let some = c.if-depth-eq0.false in omega (arith, count, some)) in
+    subst (λ (x : Step). FileHolds s x.dir) (sym c.index-step.ensures) h.1.holds
+
+pub has_name-requires-clause-high : goal.has_name-requires-clause-high
+has_name-requires-clause-high g c =
+    let s = g.B.Blocks.state c.args.on.now in
+    let count = c.len-depth.ensures in
+    let h = step_at s c.args.root c.args.at.now.trail c.args.way.now (c.len-depth.result - 1) c.index-step.result.now c.requires.way (let some = c.if-depth-eq0.false in omega (arith, count, some)) in
+    let high = h.1.high in
+    let ranked = ap (λ (x : Step). x.dir.rank) c.index-step.ensures ∙ h.1.ranked in omega (arith, high, ranked)
