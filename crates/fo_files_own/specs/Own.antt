@@ -1,5 +1,5 @@
 -- A directory's own record, and the block that has it.
-use Rattle.std.specs.Prelude.{◌≡◌, ◌⊎◌, ◌≤◌, ℕ, List, length}
+use Rattle.std.specs.Prelude.{◌≡◌, ◌⊎◌, ℕ, List, length}
 use Rattle.fo_image.specs.declared.record.Record.{Record}
 use Rattle.fo_image.specs.declared.types.Kind.TheVariants.{Data, Root}
 use Rattle.fo_image.specs.declared.types.State.TheVariants.{Live}

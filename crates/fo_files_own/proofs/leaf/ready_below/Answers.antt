@@ -1,4 +1,4 @@
-use Rattle.std.proofs.Common.{◌≡◌, ℕ, List, length, inl, inr, sym, subst, ◌∙◌, arith}
+use Rattle.std.proofs.Common.{ℕ, List, inl, inr, sym, subst, ◌∙◌, arith}
 use Rattle.fo_dir_put.proofs.Leaves.{leaf_long}
 use Rattle.fo_files_record.specs.Stays.{no_slot}
 use Rattle.fo_files_record.proofs.Rewriting.{rewrites_looks, rewrites_joins}
@@ -9,8 +9,8 @@ use Rattle.fo_files_own.specs.Own.{WasReadied}
 use Rattle.fo_files_own.proofs.Placed.{leaf_ready}
 use Rattle.fo_files_own.proofs.leaf.ready_below.Goals as goal
 
-pub ready_record-requires-clause-spare : goal.ready_record-requires-clause-spare
-ready_record-requires-clause-spare g c = let enough = c.requires.spare in omega (arith, enough)
+pub ready_record-ready-requires-clause-spare : goal.ready_record-ready-requires-clause-spare
+ready_record-ready-requires-clause-spare g c = let enough = c.requires.spare in omega (arith, enough)
 
 pub returns-in-Err-clause-spare : goal.returns-in-Err-clause-spare
 returns-in-Err-clause-spare g c = let took = c.ready_record-ready.ensures.spare in omega (arith, took)

@@ -1,8 +1,6 @@
-use Rattle.std.proofs.Common.{◌≡◌, ◌+◌, ◌≤◌, ℕ, sym, subst, arith}
+use Rattle.std.proofs.Common.{◌+◌, ◌≤◌, sym, subst}
 use Rattle.std.specs.Prelude.{IfOk, OnErr}
-use Rattle.fo_image.specs.declared.record.Record.{Record}
 use Rattle.fo_files_own.specs.declared.at.OwnAt.{OwnAt}
-use Rattle.fo_files_own.specs.declared.at.ReadyOwn.{ReadyOwn}
 use Rattle.fo_files_own.specs.Own.{AltersOwn, HasReady, IsBlockOf, IsOwnAt, LeavesOwn, MayOwn, MayPutOwn, StepsTo, blocks_for, pins_for, removals_for}
 use Rattle.fo_files_own.proofs.Stays.{dir_own, entries_own, file_own, for_err, for_ok, no_more, own_at}
 use Rattle.fo_files_own.proofs.ready.ready_own.Goals as goal
