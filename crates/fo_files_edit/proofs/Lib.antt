@@ -1,3 +1,4 @@
 pub mod Refusing
 pub mod Edited
 pub mod Roots
+pub mod Carry

@@ -1,5 +1,5 @@
 -- What a change asks for, and what is refused of it.
-use Rattle.std.specs.Prelude.{◌≡◌, ◌≢◌, ◌⊎◌, ◌+◌, ◌*◌, ◌^◌, ◌<◌, ◌≤◌, ℕ, Bool, true, false, ◌&&◌, ◌||◌, nat_lt, List, length, Some, None, IfSome, is_some, is_none, if◌then◌else◌}
+use Rattle.std.specs.Prelude.{◌≡◌, ◌≢◌, ◌⊎◌, ◌^◌, ◌<◌, ◌≤◌, ℕ, Bool, true, false, ◌&&◌, ◌||◌, List, length, Some, None, IfSome, is_none}
 use Rattle.fo_world.specs.declared.error.FileError.{FileError}
 use Rattle.fo_world.specs.declared.error.FileError.TheVariants as error
 use Rattle.fo_world.specs.declared.place.Change.{Change}
@@ -85,8 +85,3 @@ pub record FoundOther (s : State) (root : ℕ) (at : Place) (what : Change) (hal
   pub new_is : new.file ≡ with_edited what who now way.file
   pub name_is : name ≡ way.file.named.name
   pub is_way : IsWay s root at.trail new
-
--- How many blocks a change takes at most, of a file below so many directories: five for each of these, 13 for the leaf with its record; where a name
--- is given, 13 for that with the record of its directory, where this isn't the root; and nine for a length.
-abbrev pub edit_need : ℕ → Change → ℕ
-edit_need steps what = 5 * steps + 13 + (if is_some what.name && nat_lt 1 steps then 13 else 0) + (if is_some what.length then 9 else 0)
