@@ -10,7 +10,7 @@ use fo_reserving::reserve;
 use fo_settling::settle;
 
 impl<D: Disk, A: Disk> Blocks for Devices<D, A> {
-    ghost use Rattle.std.specs.Prelude.{◌≡◌, ◌≤◌, ℕ, List, Some, None, length, MatchResult, OnOk, OnErr, IfErr};
+    ghost use Rattle.std.specs.Prelude.{◌≡◌, ◌≤◌, ℕ, List, [], Some, None, length, MatchResult, OnOk, OnErr, IfErr};
     ghost use Rattle.fo_base.specs.Cause.{Rose};
     ghost use Rattle.fo_crash.specs.Images.{SameImage};
     ghost use Rattle.fo_crash.specs.Steps.{AddsNothing};
@@ -19,7 +19,7 @@ impl<D: Disk, A: Disk> Blocks for Devices<D, A> {
     ghost use Rattle.fo_ports.specs.State.{AddsNoWait, Calm, Rests, none};
     ghost use Rattle.fo_ports.specs.declared.error.BlockError.TheVariants.{Full, Memory};
     ghost use Rattle.fo_closing.specs.Rest.{AtRest};
-    ghost use Rattle.fo_reserving.specs.Steps.{ClosesAtRest, GivesAll};
+    ghost use Rattle.fo_reserving.specs.Steps.{AreFew, ClosesAtRest, GivesAll};
     ghost use Rattle.venti_store.specs.Arena.{Keeps, lines_of};
     ghost use Rattle.fo_devices.specs.Fetched.{FetchLacks, FetchRefuses, Fetched, FetchedHeld};
     ghost use Rattle.fo_mind.specs.MindParts.{parts};
@@ -91,14 +91,16 @@ impl<D: Disk, A: Disk> Blocks for Devices<D, A> {
         self.cache.retire(at, epoch, after);
     }
 
-    /// As the trait says, and which blocks are closed, what `Full` leaves, and what is given up where memory is wanting (`fo_reserving`).
+    /// As the trait says, and which blocks are closed, what `Full` leaves, how much is left to be written, and what is given up where
+    /// memory is wanting (`fo_reserving`).
     fn reserve(&mut self, blocks: u32, pins: u32, removals: u32) -> Result<(), BlockError>
         ensures room { OnOk result ((blocks ≤ (state_of_devices (seen (parts self.new.cache.mind (D.state self.new.cache.main).holds (D.faults self.new.cache.main)) (D.size self.new.cache.main) self.new.arena.shelf (A.state self.new.arena.device) (A.faults self.new.arena.device))).spare) × (pins ≤ (state_of_devices (seen (parts self.new.cache.mind (D.state self.new.cache.main).holds (D.faults self.new.cache.main)) (D.size self.new.cache.main) self.new.arena.shelf (A.state self.new.arena.device) (A.faults self.new.arena.device))).pins_left) × (removals ≤ (state_of_devices (seen (parts self.new.cache.mind (D.state self.new.cache.main).holds (D.faults self.new.cache.main)) (D.size self.new.cache.main) self.new.arena.shelf (A.state self.new.arena.device) (A.faults self.new.arena.device))).room)) }
         ensures rests { Rests (state_of_devices (seen (parts self.old.cache.mind (D.state self.old.cache.main).holds (D.faults self.old.cache.main)) (D.size self.old.cache.main) self.old.arena.shelf (A.state self.old.arena.device) (A.faults self.old.arena.device))) (state_of_devices (seen (parts self.new.cache.mind (D.state self.new.cache.main).holds (D.faults self.new.cache.main)) (D.size self.new.cache.main) self.new.arena.shelf (A.state self.new.arena.device) (A.faults self.new.arena.device))) }
-        ensures cause { IfErr result (Caused (IsFull (state_of_devices (seen (parts self.new.cache.mind (D.state self.new.cache.main).holds (D.faults self.new.cache.main)) (D.size self.new.cache.main) self.new.arena.shelf (A.state self.new.arena.device) (A.faults self.new.arena.device))) blocks) (λ b. (state_of_devices (seen (parts self.old.cache.mind (D.state self.old.cache.main).holds (D.faults self.old.cache.main)) (D.size self.old.cache.main) self.old.arena.shelf (A.state self.old.arena.device) (A.faults self.old.arena.device))).tells → ⊥) (Rose (state_of_devices (seen (parts self.old.cache.mind (D.state self.old.cache.main).holds (D.faults self.old.cache.main)) (D.size self.old.cache.main) self.old.arena.shelf (A.state self.old.arena.device) (A.faults self.old.arena.device))).faults (state_of_devices (seen (parts self.new.cache.mind (D.state self.new.cache.main).holds (D.faults self.new.cache.main)) (D.size self.new.cache.main) self.new.arena.shelf (A.state self.new.arena.device) (A.faults self.new.arena.device))).faults) ⊥) }
+        ensures cause { IfErr result (Caused (IsFull (state_of_devices (seen (parts self.new.cache.mind (D.state self.new.cache.main).holds (D.faults self.new.cache.main)) (D.size self.new.cache.main) self.new.arena.shelf (A.state self.new.arena.device) (A.faults self.new.arena.device))) blocks) (λ b. ⊥) (Rose (state_of_devices (seen (parts self.old.cache.mind (D.state self.old.cache.main).holds (D.faults self.old.cache.main)) (D.size self.old.cache.main) self.old.arena.shelf (A.state self.old.arena.device) (A.faults self.old.arena.device))).faults (state_of_devices (seen (parts self.new.cache.mind (D.state self.new.cache.main).holds (D.faults self.new.cache.main)) (D.size self.new.cache.main) self.new.arena.shelf (A.state self.new.arena.device) (A.faults self.new.arena.device))).faults) ⊥) }
         ensures keeps { DevicesKeep (seen (parts self.old.cache.mind (D.state self.old.cache.main).holds (D.faults self.old.cache.main)) (D.size self.old.cache.main) self.old.arena.shelf (A.state self.old.arena.device) (A.faults self.old.arena.device)) (seen (parts self.new.cache.mind (D.state self.new.cache.main).holds (D.faults self.new.cache.main)) (D.size self.new.cache.main) self.new.arena.shelf (A.state self.new.arena.device) (A.faults self.new.arena.device)) }
         ensures closes { ClosesAtRest (parts self.old.cache.mind (D.state self.old.cache.main).holds (D.faults self.old.cache.main)) (parts self.new.cache.mind (D.state self.new.cache.main).holds (D.faults self.new.cache.main)) }
         ensures full { IfErr result (λ e. e ≡ Full → IsQuiet (parts self.new.cache.mind (D.state self.new.cache.main).holds (D.faults self.new.cache.main)).turns × AtRest (parts self.new.cache.mind (D.state self.new.cache.main).holds (D.faults self.new.cache.main))) }
+        ensures few { OnOk result (AreFew (parts self.new.cache.mind [] 0).turns (parts self.new.cache.mind [] 0).region.first) }
         ensures wanting { IfErr result (λ e. e ≡ Memory → GivesAll (parts self.new.cache.mind (D.state self.new.cache.main).holds (D.faults self.new.cache.main))) }
     {
         reserve(&mut self.cache, blocks, pins, removals)

@@ -45,3 +45,6 @@ returns-clause-covers g c = λ told. absurd told
 
 pub returns-clause-keeps : goal.returns-clause-keeps
 returns-clause-keeps g c = record { parts = c.remove_slot.ensures.keeps; same_size = ap g.D.Disk.size c.remove_slot.ensures.device; same_shelf = refl; same_stored = refl; more_faults = omega arith }
+
+pub returns-clause-later : goal.returns-clause-later
+returns-clause-later g c = c.remove_slot.ensures.later
