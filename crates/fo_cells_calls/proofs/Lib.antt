@@ -2,3 +2,4 @@ pub mod Images
 pub mod Looking
 pub mod Filling
 pub mod Reading
+pub mod Leaving

@@ -1,22 +1,23 @@
 -- Each method of `Blocks`, as a step of a cache: what it adds to the images.
 use Rattle.fo_image.specs.declared.types.Pointer.TheVariants.{Local}
-use Rattle.std.specs.Prelude.{◌≡◌, ◌≢◌, ◌⊎◌, ◌<◌, ◌≤◌, ℕ, List}
+use Rattle.std.specs.Prelude.{◌≡◌, ◌≢◌, ◌⊎◌, ◌↔◌, ◌<◌, ◌≤◌, ℕ, false, List}
+use Rattle.std.specs.List.{Contains}
 use Rattle.fo_image.specs.declared.types.Label.{Label}
 use Rattle.fo_crash.specs.declared.slot.Slot.{Slot}
 use Rattle.fo_crash.specs.declared.place.Place.{Place}
-use Rattle.fo_crash.specs.Images.{Content, SameContent, Reaches, to_block, Image, target}
-use Rattle.fo_crash.specs.Steps.{AddsNothing, AddsSlot, AddsBytes, AddsBlock, AddsSuper, Brings, Fills, HasBytes, HasSuper, IsSure, IsOneOf, AllAre, PutsBlock, cleared}
+use Rattle.fo_crash.specs.Images.{Content, SameContent, SameImage, Reaches, to_block, Image, target}
+use Rattle.fo_crash.specs.Steps.{AddsNothing, AddsSlot, AddsBytes, AddsBlock, AddsSuper, Brings, Fills, HasBytes, HasSuper, IsSure, IsOneOf, AllAre, PutsBlock, Passes, cleared}
 use Rattle.fo_image.specs.declared.types.Kind.TheVariants.{Dir}
 use Rattle.fo_image.specs.declared.types.State.TheVariants.{Live}
 use Rattle.fo_crash.specs.Places.{super_place, IsPlaced, OnePlace, RanksFall}
 use Rattle.fo_crash.specs.Names.{SameUse}
-use Rattle.fo_cells.specs.Known.{Known, IsWait, IsClear, Stands}
+use Rattle.fo_cells.specs.Known.{Known, Top, IsWait, IsClear, IsLeft, Stands}
 use Rattle.fo_cells.specs.Writes.{Writes, WritesLabels, Syncs, Ends, Puts, Gives, Relabels, Fires}
 use Rattle.fo_cells.specs.Calls.{PutsInto, Awaits, WaitsMore, IsSetLeaf, TriesSuper}
 use Rattle.fo_cells.specs.Safe.{IsLive, IsCurrent, MayWait, MayClear, IsSet}
-use Rattle.fo_cells.specs.Laws.{Safe, KeepsTop, NoWait}
+use Rattle.fo_cells.specs.Laws.{Safe, IsQuiet, KeepsTop, NoWait}
 use Rattle.fo_cells_calls.specs.State.{Rest, Looked, Reads, OthersWait, RaisesLimit, state_of}
-use Rattle.fo_ports.specs.State.{Looks, WasCleared, State, IsPairUsed}
+use Rattle.fo_ports.specs.State.{Looks, AddsNoWait, KeepsOrder, WasCleared, State, IsPairUsed, none}
 
 -- `get`
 abbrev pub GetLooks : Known → Rest → Rest → Type 0
@@ -66,6 +67,45 @@ ClosingRests old new x y = (y.tells → x.tells) → (b : ℕ) (l : Label) → R
 -- `settle`, answered Ok: the clause `all`
 abbrev pub SettleLeaves : Known → Rest → Type 0
 SettleLeaves k x = ((b : ℕ) → IsSet k b) → AllAre (state_of k x).now (state_of k x).may_leave
+
+-- WHAT LEAVES BLOCKS AS THEY ARE: memory, images, labels, which blocks are newborn, waits, and slots that wait. (Counts, marks and what is to
+-- be closed are no part of what is known of blocks.)
+pub record LeavesKnown (old new : State) : Type 0 where
+  pub now : SameImage new.now old.now
+  pub images : AddsNothing old.may_leave new.may_leave
+  pub labels : (b : ℕ) → new.label b ≡ old.label b
+  pub newborn : (b : ℕ) → new.newborn b ↔ old.newborn b
+  pub no_wait : AddsNoWait none old new
+  pub waits : (a on j : ℕ) → old.waits a on j → new.waits a on j
+  pub order : KeepsOrder none old new
+
+-- `number_taken` and `fetch` change nothing that is known of blocks; what stood stands.
+abbrev pub TakenLeaves : Known → Known → Rest → Rest → Type 0
+TakenLeaves old new x y = (y.tells ↔ x.tells) → new ≡ old → LeavesKnown (state_of old x) (state_of new y) × ((b : ℕ) (p : Place) → (state_of old x).stands b p → (state_of new y).stands b p)
+
+-- `retire`: tops become fewer, where the root was made and is queued alone; what hangs from what is left of them stands where it stood.
+abbrev pub RetireLeaves : Known → Known → Rest → Rest → Type 0
+RetireLeaves old new x y = (y.tells ↔ x.tells) → (high : ℕ) (doubts : List Content) → new ≡ record old { tops = new.tops } → ((t : Top) → Contains new.tops t → Contains old.tops t) → Safe old high doubts → LeavesKnown (state_of old x) (state_of new y) × ((t b : ℕ) (p : Place) → ((r : Place) × Stands new t r) → Reaches old.memory (to_block t) b → (state_of old x).stands b p → (state_of new y).stands b p)
+
+-- MOMENTS: what is known at each of a row of steps of the device, none of which adds an image, or changes tops.
+pub data Turns (first : Known) : Known → Type 0 where
+  begun : (now : Known) → now ≡ first → Turns first now
+  more : (k now : Known) → Turns first k → IsQuiet k now → now.tops ≡ k.tops → ((b : ℕ) → k.newborn b ≡ false → now.newborn b ≡ false) → Turns first now
+
+-- Of each moment within, each image is one of the device after some of these steps; what came before stays.
+pub record Passed (old new : Known) (x y : Rest) : Type 0 where
+  pub tells : y.tells → x.tells
+  pub later : x.moments ≤ y.moments
+  pub before : (n : ℕ) (image : Image) → n ≤ x.moments → y.left n image → x.left n image
+  pub within : (n : ℕ) (image : Image) → x.moments < n → n ≤ y.moments → y.left n image → x.tells × ((k : Known) × (labels : ℕ → Label) × Turns old k × IsLeft k image labels)
+  pub all : Turns old new
+  -- these are tops at their places, which were settled whole
+  pub tops : (t : ℕ) → x.tops t → (p : Place) × Contains old.tops (record { at = t; place = p }) × (old.newborn t ≡ false)
+
+-- `passes` and `images` of `Rests` and `Looks`: over any number of writes, syncs, ends of waits, clearings and closings, each image of a moment
+-- that passed is one of those of before, as far as tops lead.
+abbrev pub MomentsPass : Known → Known → Rest → Rest → Type 0
+MomentsPass old new x y = (high : ℕ) (doubts : List Content) → Safe old high doubts → Passed old new x y → Passes x.tops (state_of old x).may_leave x.moments y.moments x.left y.left × AddsNothing (state_of old x).may_leave (state_of new y).may_leave × Safe new high doubts
 
 -- LAWS of the trait that hold of what is read off a cache
 pub record TraitLaws (s : State) : Type 0 where

@@ -1,7 +1,7 @@
 //! Laws of the calls. Each function does nothing: its contract is the law, so that the law is proved with the crate.
 ghost use Rattle.fo_cells.specs.Known.{Known};
 ghost use Rattle.fo_cells_calls.specs.State.{Rest};
-ghost use Rattle.fo_cells_calls.specs.Laws.{GetLooks, PutBytesAdds, PutSlotAdds, RemoveSlotAdds, RemoveSlotWaits, WaitForAdds, GivesAdds, NumberAdds, WriteRests, DeviceRests, ClearingRests, ClosingRests, SettleLeaves, LawsHold};
+ghost use Rattle.fo_cells_calls.specs.Laws.{GetLooks, PutBytesAdds, PutSlotAdds, RemoveSlotAdds, RemoveSlotWaits, WaitForAdds, GivesAdds, NumberAdds, TakenLeaves, RetireLeaves, MomentsPass, WriteRests, DeviceRests, ClearingRests, ClosingRests, SettleLeaves, LawsHold};
 
 /// What a cache knows of its blocks, and what it keeps elsewhere.
 pub trait Cells {
@@ -38,6 +38,17 @@ pub fn gives<C: Cells>(_old: &C, _new: &C)
 /// `number`.
 pub fn numbers<C: Cells>(_old: &C, _new: &C)
     ensures number { NumberAdds (C.known _old.now) (C.known _new.now) (C.rest _old.now) (C.rest _new.now) }
+{}
+
+/// `number_taken`, `fetch`, `retire`.
+pub fn leaves<C: Cells>(_old: &C, _new: &C)
+    ensures taken { TakenLeaves (C.known _old.now) (C.known _new.now) (C.rest _old.now) (C.rest _new.now) }
+    ensures retired { RetireLeaves (C.known _old.now) (C.known _new.now) (C.rest _old.now) (C.rest _new.now) }
+{}
+
+/// The moments of `reserve`, `settle`, flushing and closing.
+pub fn moments_pass<C: Cells>(_old: &C, _new: &C)
+    ensures { MomentsPass (C.known _old.now) (C.known _new.now) (C.rest _old.now) (C.rest _new.now) }
 {}
 
 /// The steps of `reserve`, `settle`, flushing and closing.
