@@ -1,4 +1,4 @@
-use Rattle.std.proofs.Common.{◌+◌, ◌-◌, length, inl, inr, sym, ap, subst, ◌∙◌, arith}
+use Rattle.std.proofs.Common.{◌+◌, length, inl, inr, sym, ap, subst, ◌∙◌, arith}
 use Rattle.fo_files_ready.proofs.Steps.{failed_since}
 use Rattle.fo_files_along.proofs.Ways.{file_holds, steps_long}
 use Rattle.fo_files_own.specs.Own.{IsOwnAt, MayOwn}
