@@ -1,4 +1,7 @@
 //! How often each block of the main device is read.
+ghost use Rattle.std.proofs.Common.{inr, refl};
+ghost use Rattle.fo_disk.specs.MemoryLaws as law;
+
 use crate::made::sound;
 use crate::wide::wide;
 use fo_check_image::check;
@@ -22,11 +25,11 @@ impl Disk for Counting {
 
     ghost faults = { λ d. ⟦<MemDisk as Disk>⟧.faults d.disk };
 
-    ghost is_content = { λ d. ⟦<MemDisk as Disk>⟧.is_content d.disk };
+    ghost is_content = { λ d. inr (law.is_content d.disk) };
 
-    ghost is_newest = { λ d. ⟦<MemDisk as Disk>⟧.is_newest d.disk };
+    ghost is_newest = { λ d. record { newest = (refl, law.is_content d.disk) } };
 
-    ghost has_flags = { λ d. ⟦<MemDisk as Disk>⟧.has_flags d.disk };
+    ghost has_flags = { λ d. law.has_flags d.disk };
 
     fn blocks(&mut self) -> Result<u64, Failed> {
         self.disk.blocks()
