@@ -17,7 +17,7 @@ fn is_of_active(view: View) -> bool
 }
 
 /// Whether a name is given, and another than this.
-pub(crate) fn is_renamed(name: &Option<Bytes>, old: &[u8]) -> bool
+pub fn is_renamed(name: &Option<Bytes>, old: &[u8]) -> bool
     ensures { result ≡ is_some (new_name name.now old.now) }
 {
     match name {

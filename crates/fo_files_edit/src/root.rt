@@ -14,7 +14,7 @@ use fo_ports::{BlockError, Blocks};
 use std::alloc::{AllocError, Global};
 
 /// A copy of a record as a root block has it: of the name `/`, and with no number, pair or generation.
-fn root_record(alloc: Global, named: &Record) -> Result<Record, AllocError>
+pub fn root_record(alloc: Global, named: &Record) -> Result<Record, AllocError>
     ensures { IfOk result (λ r. r ≡ as_root named.now) }
 {
     Ok(Record {
