@@ -37,7 +37,7 @@ MayOwn (place.Below b) named = RecordHolds named
 -- what making ready may take
 abbrev pub blocks_for : OwnAt → ℕ
 blocks_for (place.Root root) = 0
-blocks_for (place.Below b) = 16
+blocks_for (place.Below b) = 13
 
 abbrev pub pins_for : OwnAt → ℕ
 pins_for (place.Root root) = 0

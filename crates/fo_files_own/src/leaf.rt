@@ -55,13 +55,13 @@ pub(crate) fn ready_below<B: Blocks>(
     requires entries { IsEntriesAt (B.state on.old) at.entries }
     requires spelled { RecordHolds named.now }
     requires pins { 60 ≤ (B.state on.old).pins_left }
-    requires spare { 16 ≤ (B.state on.old).spare }
+    requires spare { 13 ≤ (B.state on.old).spare }
     requires room { 1637 ≤ (B.state on.old).room }
     ensures ready { IfOk result (λ r. MayPutOwn (B.state on.new) r × IsOfLeaf (B.state on.new) at.dir r × HasOwnLeaf named.now (((B.state on.new).now r.at).bytes) r.bytes) }
     ensures steps { IfOk result (λ r. WasReadied B B.state on.old on.new at named.now.name r.at) }
     ensures stays { (m : B) × AltersRecords at.dir (B.state on.old) (B.state m) × B.keeps on.old m × B.keeps m on.new × Rewrites (IsLeafOf at.dir (B.state m)) no_slot (B.state m) (B.state on.new) }
     ensures left { OnErr result (LeavesBelow B B.state on.old on.new at named.now.name) }
-    ensures spare { (B.state on.old).spare ≤ (B.state on.new).spare + 16 }
+    ensures spare { (B.state on.old).spare ≤ (B.state on.new).spare + 13 }
     ensures pins { (B.state on.old).pins_left ≤ (B.state on.new).pins_left + 60 }
     ensures room { (B.state on.old).room ≤ (B.state on.new).room + 1637 }
     ensures cause { IfErr result (Caused ⊥ (λ b. (B.state on.old).is_block b ⊎ (b ≡ 1)) (Rose (B.state on.old).faults (B.state on.new).faults) (Rose (B.state on.old).arena_faults (B.state on.new).arena_faults)) }
