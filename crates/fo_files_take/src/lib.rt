@@ -1,0 +1,18 @@
+//! A file is taken out of its directory, over any blocks of a device that tells nothing.
+//!
+//! `remove_file` looks first: refusals by what the tree has, and by limits, come there, and the leaf for the directory's own record where that
+//! outgrows its leaf is looked for. Then it reserves what it needs. The way to the file is planned and owned, and the directory's own record made
+//! ready, with the new time, user and version; then the file's record goes, with the entries of its pair, and last the own record is put. Nothing is
+//! refused once the record went.
+//!
+//! NOT PROVED YET: code, contracts and specs stand.
+//!
+//! Not said: that a directory which goes has no names, since nothing is known of what such a device has; and what holds of images. A removal follows
+//! no entry where a directory's entries have something behind their end.
+#![tactic(auto)]
+
+mod look;
+mod remove;
+mod take;
+
+pub use remove::remove_file;
