@@ -25,13 +25,13 @@ own_along-requires-clause-spare g c =
     let long = steps_long (g.B.Blocks.state c.args.on.now) c.args.root c.args.trail.now c.args.found.now.way c.requires.found.way in
     let some = c.requires.short.0 in let enough = c.requires.spare in omega (arith, long, some, enough)
 
-pub leaf_above-requires-clause-within : goal.leaf_above-requires-clause-within
-leaf_above-requires-clause-within g c =
+pub leaf_above-requires : goal.leaf_above-requires
+leaf_above-requires g c =
     let long = steps_long (g.B.Blocks.state c.args.on.now) c.args.root c.args.trail.now c.args.found.now.way c.requires.found.way in
     omega (arith, long)
 
-pub leaf_at-requires-clause-within : goal.leaf_at-requires-clause-within
-leaf_at-requires-clause-within g c =
+pub leaf_at-requires : goal.leaf_at-requires
+leaf_at-requires g c =
     let long = steps_long (g.B.Blocks.state c.args.on.now) c.args.root c.args.trail.now c.args.found.now.way c.requires.found.way in
     let some = c.requires.short.0 in omega (arith, long, some)
 
@@ -41,14 +41,14 @@ take_from-requires-clause-silent g c = λ h. c.requires.silent ((g.met.B.Blocks.
 pub take_from-requires-clause-own : goal.take_from-requires-clause-own
 take_from-requires-clause-own g c =
     let s = g.B.Blocks.state c.own_along.new.on in
-    subst (λ (x : OwnAt). IsOwnAt s x × IsApartFrom c.in-Ok.stand.dir x) (sym c.own_at.ensures)
+    subst (λ (x : OwnAt). IsOwnAt s x × IsApartFrom c.in-Ok.stand.dir x) (sym c.own_at-own.ensures)
     (own_place s c.in-Ok.stand.dir c.in-Ok.stand.above c.leaf_above.result c.args.found.now.spare c.in-Ok.ensures.dir c.in-Ok.ensures.above)
 
 pub take_from-requires-clause-changed : goal.take_from-requires-clause-changed
 take_from-requires-clause-changed g c =
     let w = c.in-Ok.ensures.owned in
     let o = w.1 c.args.root c.args.trail.now c.requires.found.way in
-    subst (λ (x : OwnAt). MayOwn x c.args.found.now.own) (sym c.own_at.ensures)
+    subst (λ (x : OwnAt). MayOwn x c.args.found.now.own) (sym c.own_at-own.ensures)
     (own_may c.in-Ok.stand.dir.at c.in-Ok.stand.above (length c.args.trail.now - 1) c.leaf_above.result c.args.found.now.spare _ c.args.found.now.own c.requires.found.holds (λ none. c.requires.found.of_root (one (length c.args.trail.now) c.requires.short.0 none)) o.1.above_is)
   where
     one : (n : ℕ) → 0 < n → n - 1 ≡ 0 → n ≡ 1
@@ -76,15 +76,15 @@ returns-in-Ok-take_from-clause-takes g c =
     let w = c.in-Ok.ensures.owned in
     let o = w.1 c.args.root c.args.trail.now f.way in
     let dir = c.in-Ok.stand.dir in
-    let leaf : c.leaf_at.result ≡ f.last.leaf = c.leaf_at.ensures.is f.last ∙ ap (λ x. x.leaf) (sym f.last_is) in
+    let leaf : c.leaf_at.result ≡ f.last.leaf = c.leaf_at.ensures f.last ∙ ap (λ x. x.leaf) (sym f.last_is) in
     record {
       looked = w.0;
       looks = o.0;
       owned = c.own_along.new.on;
       owns = record { dir = dir; file = c.in-Ok.stand.file; above = c.in-Ok.stand.above; along = o.1; last = f.last; last_is = f.last_is; leaf = c.leaf_above.result; spare = c.args.found.now.spare };
-      takes = subst (λ (x : OwnAt). TakesFrom _ g.B.Blocks.state c.own_along.new.on c.take_from.new.on dir x _ c.in-Ok.stand.file.at f.last.leaf c.args.found.now.way.file.named.slot c.args.found.now.way.file.named.name c.args.found.now.way.file.dir) c.own_at.ensures
-          (subst (λ r. TakesFrom _ g.B.Blocks.state c.own_along.new.on c.take_from.new.on dir c.own_at.result r c.in-Ok.stand.file.at f.last.leaf c.args.found.now.way.file.named.slot c.args.found.now.way.file.named.name c.args.found.now.way.file.dir) f.own_is
-          (subst (λ i. TakesFrom _ g.B.Blocks.state c.own_along.new.on c.take_from.new.on dir c.own_at.result c.args.found.now.own c.in-Ok.stand.file.at i c.args.found.now.way.file.named.slot c.args.found.now.way.file.named.name c.args.found.now.way.file.dir) leaf (subst (λ n. TakesFrom _ g.B.Blocks.state c.own_along.new.on c.take_from.new.on dir c.own_at.result c.args.found.now.own c.in-Ok.stand.file.at c.leaf_at.result c.args.found.now.way.file.named.slot n c.args.found.now.way.file.dir) c.as_slice-name.ensures c.in-Ok-take_from.ensures.takes)));
+      takes = subst (λ (x : OwnAt). TakesFrom _ g.B.Blocks.state c.own_along.new.on c.take_from.new.on dir x _ c.in-Ok.stand.file.at f.last.leaf c.args.found.now.way.file.named.slot c.args.found.now.way.file.named.name c.args.found.now.way.file.dir) c.own_at-own.ensures
+          (subst (λ r. TakesFrom _ g.B.Blocks.state c.own_along.new.on c.take_from.new.on dir c.own_at-own.result r c.in-Ok.stand.file.at f.last.leaf c.args.found.now.way.file.named.slot c.args.found.now.way.file.named.name c.args.found.now.way.file.dir) f.own_is
+          (subst (λ i. TakesFrom _ g.B.Blocks.state c.own_along.new.on c.take_from.new.on dir c.own_at-own.result c.args.found.now.own c.in-Ok.stand.file.at i c.args.found.now.way.file.named.slot c.args.found.now.way.file.named.name c.args.found.now.way.file.dir) leaf (subst (λ n. TakesFrom _ g.B.Blocks.state c.own_along.new.on c.take_from.new.on dir c.own_at-own.result c.args.found.now.own c.in-Ok.stand.file.at c.leaf_at.result c.args.found.now.way.file.named.slot n c.args.found.now.way.file.dir) c.as_slice-name.ensures c.in-Ok-take_from.ensures.takes)));
     }
 
 pub returns-in-Err-take_from-clause-left : goal.returns-in-Err-take_from-clause-left
@@ -100,7 +100,7 @@ returns-in-Err-take_from-clause-left g c =
       owned = c.own_along.new.on;
       owns = record { dir = dir; file = c.in-Ok.stand.file; above = c.in-Ok.stand.above; along = o.1; last = f.last; last_is = f.last_is; leaf = c.leaf_above.result; spare = c.args.found.now.spare };
       left = subst (λ n. LeavesFrom _ g.B.Blocks.state c.own_along.new.on c.take_from.new.on dir (own_of dir.at c.in-Ok.stand.above c.leaf_above.result c.args.found.now.spare) n) (ap (λ r. r.name) f.own_is)
-          (subst (λ (x : OwnAt). LeavesFrom _ g.B.Blocks.state c.own_along.new.on c.take_from.new.on dir x c.args.found.now.own.name) c.own_at.ensures c.in-Err-take_from.ensures.left);
+          (subst (λ (x : OwnAt). LeavesFrom _ g.B.Blocks.state c.own_along.new.on c.take_from.new.on dir x c.args.found.now.own.name) c.own_at-own.ensures c.in-Err-take_from.ensures.left);
     })
 
 pub returns-in-Err-clause-taken : goal.returns-in-Err-clause-taken
