@@ -1,9 +1,8 @@
-use Rattle.std.proofs.Common.{inl, sym, subst}
+use Rattle.std.proofs.Common.{sym, subst}
 use Rattle.fo_looks.proofs.Looks.{looks_joins}
 use Rattle.fo_files_at.specs.Way.{IsWay}
 use Rattle.fo_files_at.proofs.Ways.{way_stays}
 use Rattle.fo_files_along.proofs.Ways.{file_holds}
-use Rattle.fo_files_look.proofs.Telling.{cause_since}
 use Rattle.fo_files_take.proofs.Refusing.{refused_wider}
 use Rattle.fo_files_take.proofs.look.look_for_removal.Goals as goal
 

@@ -1,5 +1,6 @@
 use Rattle.std.proofs.Common.{◌≡◌, ◌-◌, ◌<◌, ℕ, length, inl, inr, sym, ap, subst, ◌∙◌, arith}
 use Rattle.fo_files_ready.proofs.Steps.{failed_since}
+use Rattle.fo_files_along.specs.Along.{touched}
 use Rattle.fo_files_along.proofs.Ways.{steps_long}
 use Rattle.fo_files_own.specs.declared.at.OwnAt.{OwnAt}
 use Rattle.fo_files_own.specs.Own.{IsOwnAt, MayOwn}
@@ -76,13 +77,13 @@ returns-in-Ok-take_from-clause-takes g c =
     let w = c.in-Ok.ensures.owned in
     let o = w.1 c.args.root c.args.trail.now f.way in
     let dir = c.in-Ok.stand.dir in
-    let leaf : c.leaf_at.result ≡ f.last.leaf = c.leaf_at.ensures f.last ∙ ap (λ x. x.leaf) (sym f.last_is) in
+    let leaf : c.leaf_at.result ≡ f.last.leaf = c.leaf_at.ensures.is f.last ∙ ap (λ x. x.leaf) (sym f.last_is) in
     record {
       looked = w.0;
       looks = o.0;
       owned = c.own_along.new.on;
       owns = record { dir = dir; file = c.in-Ok.stand.file; above = c.in-Ok.stand.above; along = o.1; last = f.last; last_is = f.last_is; leaf = c.leaf_above.result; spare = c.args.found.now.spare };
-      takes = subst (λ (x : OwnAt). TakesFrom _ g.B.Blocks.state c.own_along.new.on c.take_from.new.on dir x _ c.in-Ok.stand.file.at f.last.leaf c.args.found.now.way.file.named.slot c.args.found.now.way.file.named.name c.args.found.now.way.file.dir) c.own_at-own.ensures
+      takes = subst (λ (x : OwnAt). TakesFrom _ g.B.Blocks.state c.own_along.new.on c.take_from.new.on dir x (touched c.args.who.now c.args.now f.last.dir.named) c.in-Ok.stand.file.at f.last.leaf c.args.found.now.way.file.named.slot c.args.found.now.way.file.named.name c.args.found.now.way.file.dir) c.own_at-own.ensures
           (subst (λ r. TakesFrom _ g.B.Blocks.state c.own_along.new.on c.take_from.new.on dir c.own_at-own.result r c.in-Ok.stand.file.at f.last.leaf c.args.found.now.way.file.named.slot c.args.found.now.way.file.named.name c.args.found.now.way.file.dir) f.own_is
           (subst (λ i. TakesFrom _ g.B.Blocks.state c.own_along.new.on c.take_from.new.on dir c.own_at-own.result c.args.found.now.own c.in-Ok.stand.file.at i c.args.found.now.way.file.named.slot c.args.found.now.way.file.named.name c.args.found.now.way.file.dir) leaf (subst (λ n. TakesFrom _ g.B.Blocks.state c.own_along.new.on c.take_from.new.on dir c.own_at-own.result c.args.found.now.own c.in-Ok.stand.file.at c.leaf_at.result c.args.found.now.way.file.named.slot n c.args.found.now.way.file.dir) c.as_slice-name.ensures c.in-Ok-take_from.ensures.takes)));
     }
