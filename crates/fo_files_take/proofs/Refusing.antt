@@ -1,9 +1,8 @@
 -- Why a removal is refused.
-use Rattle.std.proofs.Common.{◌≡◌, ℕ, Bool, true, false}
+use Rattle.std.proofs.Common.{Bool}
 use Rattle.fo_world.specs.declared.error.FileError.{FileError}
 use Rattle.fo_world.specs.declared.error.FileError.TheVariants as error
 use Rattle.fo_world.specs.declared.place.View.{View}
-use Rattle.fo_world.specs.Step.{is_active}
 use Rattle.fo_files_along.specs.Along.{IsBlocks}
 use Rattle.fo_files_take.specs.Take.{IsRefused}
 

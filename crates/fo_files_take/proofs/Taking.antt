@@ -1,5 +1,5 @@
 -- A file goes, and its directory's own record changes.
-use Rattle.std.proofs.Common.{◌≡◌, ◌≢◌, ◌⊎◌, ◌+◌, ◌-◌, ◌*◌, ◌≤◌, ◌<◌, ℕ, List, length, false, inl, inr, ⊎_elim, refl, sym, ap, subst, ◌∙◌, arith}
+use Rattle.std.proofs.Common.{◌≡◌, ◌≢◌, ◌⊎◌, ◌+◌, ◌*◌, ◌≤◌, ℕ, List, length, false, inl, inr, ⊎_elim, refl, sym, ap, subst, ◌∙◌, arith}
 use Rattle.fo_image.specs.declared.record.Record.{Record}
 use Rattle.std.specs.Prelude.{Option, Some, None, MatchOption}
 use Rattle.fo_image.specs.Record.{RecordHolds, RootRecordHolds}

@@ -1,5 +1,5 @@
 -- A file is taken out of its directory.
-use Rattle.std.specs.Prelude.{◌≡◌, ◌≢◌, ◌⊎◌, ◌+◌, ◌-◌, ℕ, Bool, true, false, List, length, get_or, Option, Some, None}
+use Rattle.std.specs.Prelude.{◌≡◌, ◌≢◌, ◌⊎◌, ◌-◌, ℕ, Bool, true, false, List, length, get_or, Option, Some, None}
 use Rattle.fo_image.specs.declared.record.Record.{Record}
 use Rattle.fo_image.specs.Record.{RecordHolds, RootRecordHolds}
 use Rattle.fo_ports.specs.State.{State, Calm, Looks, Rests}
@@ -17,7 +17,6 @@ use Rattle.fo_files_record.specs.Stays.{Rewrites, no_slot}
 use Rattle.fo_files_record.specs.Takes.{TakesOut}
 use Rattle.fo_files_change.specs.Records.{AltersRecords, records_of}
 use Rattle.fo_files_along.specs.Along.{GoesAlong, touched}
-use Rattle.fo_files_own.specs.declared.at.Below.{Below}
 use Rattle.fo_files_own.specs.declared.at.OwnAt.{OwnAt}
 use Rattle.fo_files_own.specs.declared.at.OwnAt.TheVariants as place
 use Rattle.fo_files_own.specs.declared.at.ReadyOwn.{ReadyOwn}

@@ -5,10 +5,13 @@
 //! ready, with the new time, user and version; then the file's record goes, with the entries of its pair, and last the own record is put. Nothing is
 //! refused once the record went.
 //!
-//! NOT PROVED YET: code, contracts and specs stand.
+//! Proved: it is granted only in the active tree, where the system isn't halted, of a file that was found; then the record that was found is gone with
+//! its pair, and the directory's own record has the new time, user and version (`Removes`). One that is refused leaves each record as it was, in its
+//! bytes, though the own record may have moved to another leaf. Each refusal has its cause, and full comes only where, with all settled, fewer blocks
+//! are usable than a removal may need (`give` of `fo_world`); at most that many are taken.
 //!
-//! Not said: that a directory which goes has no names, since nothing is known of what such a device has; and what holds of images. A removal follows
-//! no entry where a directory's entries have something behind their end.
+//! Not said: that a directory which goes has no names, or that a file which is told to be gone is none of the tree's, since nothing is known of what
+//! such a device has; and what holds of images. A removal follows no entry where a directory's entries have something behind their end.
 #![tactic(auto)]
 
 mod look;
