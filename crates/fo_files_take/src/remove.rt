@@ -22,7 +22,7 @@ use fo_ports::{BlockError, Blocks};
 use fo_world::{FileError, Place};
 use std::alloc::Global;
 
-/// How many blocks a removal takes at most, of a file with so many directories above: the way 5 a directory, the own record 16, and the leaf of the
+/// How many blocks a removal takes at most, of a file with so many directories above: the way 5 a directory, the own record 13, and the leaf of the
 /// record that goes 10, at most what is allowed to give.
 fn blocks_for(steps: usize) -> u32
     requires { (0 < steps) × (steps ≤ 65) }
