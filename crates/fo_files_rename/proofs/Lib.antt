@@ -1,0 +1,4 @@
+pub mod Owning
+pub mod Carried
+pub mod Causes
+pub mod Finding

@@ -1,0 +1,29 @@
+use Rattle.std.proofs.Common.{◌-◌, ◌<◌, length, sym, ap, subst, ◌∙◌, arith}
+use Rattle.fo_files_at.specs.declared.at.Step.{Step}
+use Rattle.fo_files_at.specs.Held.{FileHolds}
+use Rattle.fo_files_along.proofs.Ways.{step_at}
+use Rattle.fo_files_rename.proofs.Owning.{step_named}
+use Rattle.fo_files_rename.proofs.own.own_spare.Goals as goal
+
+pub record_len-was-requires : goal.record_len-was-requires
+record_len-was-requires g c =
+    let count = c.len-depth.ensures in
+    step_named (g.B.Blocks.state c.args.on.now) c.args.root c.args.trail.now c.args.way.now (c.len-depth.result - 1) c.index-dir.result.now c.requires.way (let some = c.if-depth-lt2.false in omega (arith, count, some)) c.index-dir.ensures
+
+pub record_len-len-requires : goal.record_len-len-requires
+record_len-len-requires g c = c.requires.holds (let count = c.len-depth.ensures in let some = c.if-depth-lt2.false in omega (arith, count, some))
+
+pub spare_for-requires-clause-holds : goal.spare_for-requires-clause-holds
+spare_for-requires-clause-holds g c =
+    let s = g.B.Blocks.state c.args.on.now in
+    let count = c.len-depth.ensures in
+    let h = step_at s c.args.root c.args.trail.now c.args.way.now (c.len-depth.result - 2) c.index-above.result.now c.requires.way (let some = c.if-depth-lt2.false in omega (arith, count, some)) in
+    subst (λ (x : Step). FileHolds s x.dir) (sym c.index-above.ensures) h.1.holds
+
+pub spare_for-requires-clause-high : goal.spare_for-requires-clause-high
+spare_for-requires-clause-high g c =
+    let s = g.B.Blocks.state c.args.on.now in
+    let count = c.len-depth.ensures in
+    let h = step_at s c.args.root c.args.trail.now c.args.way.now (c.len-depth.result - 2) c.index-above.result.now c.requires.way (let some = c.if-depth-lt2.false in omega (arith, count, some)) in
+    let high = h.1.high in
+    let ranked = ap (λ (x : Step). x.dir.rank) c.index-above.ensures ∙ h.1.ranked in omega (arith, high, ranked)
