@@ -1,5 +1,5 @@
 -- What was made ready stays so while the file changes.
-use Rattle.std.proofs.Common.{◌≡◌, ◌≢◌, ◌⊎◌, ◌+◌, ◌*◌, ◌≤◌, ℕ, false, List, length, Option, inl, inr, ⊎_elim, refl, sym, ap, subst, ◌∙◌, arith}
+use Rattle.std.proofs.Common.{◌≡◌, ◌≢◌, ◌⊎◌, ◌+◌, ◌*◌, ◌≤◌, ℕ, false, List, length, Option, inl, inr, ⊎_elim, sym, ap, subst, ◌∙◌, arith}
 use Rattle.fo_image.specs.declared.types.Kind.{Kind}
 use Rattle.fo_image.specs.declared.types.Kind.TheVariants.{Data, Dir, Root as RootKind}
 use Rattle.fo_image.specs.declared.types.Label.{Label}

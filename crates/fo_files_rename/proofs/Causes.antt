@@ -7,7 +7,7 @@ use Rattle.fo_ports.specs.Causes.{Caused}
 use Rattle.fo_ports.specs.State.{State, KeepsAll}
 use Rattle.fo_world.specs.declared.error.FileError.{FileError}
 use Rattle.fo_world.specs.declared.error.FileError.TheVariants as error
-use Rattle.fo_world.specs.Answers.{HasCause, IsBelow}
+use Rattle.fo_world.specs.Answers.{HasCause}
 use Rattle.fo_files_look.specs.Told.{faults_of}
 
 below_more : (n need most : ℕ) → need ≤ most → n < need → n < most

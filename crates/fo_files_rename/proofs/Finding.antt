@@ -1,5 +1,5 @@
 -- What is asked of a file that was found.
-use Rattle.std.proofs.Common.{◌≡◌, ◌+◌, ◌*◌, ◌≤◌, ℕ, Bool, true, false, List, [], ◌∷◌, length, Option, Some, None, refl, sym, ap, subst, ◌∙◌, arith}
+use Rattle.std.proofs.Common.{◌≡◌, ◌+◌, ◌*◌, ◌≤◌, ℕ, Bool, true, false, List, [], ◌∷◌, length, Option, refl, sym, ap, subst, ◌∙◌, arith}
 use Rattle.std.specs.Prelude.{IfSome, is_some, Result, Ok, Err, IfErr, OnOk, OnErr}
 use Rattle.fo_world.specs.declared.place.Place.{Place}
 use Rattle.fo_world.specs.Step.{most_need, new_name}
@@ -44,3 +44,7 @@ map_err (Err e) P Q f h = f h
 pub map_why : {T E : Type 0} (r : Result T E) (P Q : E → Type 0) → ((e : E) → P e → Q e) → IfErr r P → IfErr r Q
 map_why (Ok x) P Q f h = tt
 map_why (Err e) P Q f h = f e h
+
+pub always_ok : {T E : Type 0} (r : Result T E) (P : Type 0) → P → OnOk r P
+always_ok (Ok x) P h = h
+always_ok (Err e) P h = tt

@@ -1,5 +1,5 @@
 -- The own record of the directory of a file.
-use Rattle.std.proofs.Common.{◌≡◌, ◌-◌, ◌<◌, ◌≤◌, ◌≢◌, ℕ, List, length, get_or, Option, Some, None, refl, sym, ap, subst, ◌∙◌, arith}
+use Rattle.std.proofs.Common.{◌≡◌, ◌-◌, ◌<◌, ◌≢◌, ℕ, List, length, get_or, Option, Some, None, refl, sym, ap, subst, ◌∙◌, arith}
 use Rattle.std.specs.Prelude.{MatchOption}
 use Rattle.fo_image.specs.declared.record.Record.{Record}
 use Rattle.fo_image.specs.Record.{RecordHolds, RootRecordHolds}

@@ -7,7 +7,7 @@ ghost use Rattle.fo_world.specs.Step.{most_need};
 ghost use Rattle.fo_files_at.specs.Way.{IsWay};
 ghost use Rattle.fo_files_look.specs.Told.{faults_of, MayLook};
 ghost use Rattle.fo_files_along.specs.Along.{HasRoom, IsBlocks};
-ghost use Rattle.fo_files_edit.specs.Asks.{WhyRefused};
+ghost use Rattle.fo_files_edit.specs.Asks.{FoundSame, WhyRefused};
 ghost use Rattle.fo_files_rename.specs.Change as of;
 ghost use Rattle.fo_files_rename.specs.Change.{ChangesFile, ChangesFound, KeepsFile, LeavesFile, LeavesFound, LeavesName, OwnsName};
 
@@ -176,6 +176,7 @@ pub fn change_file<B: Blocks>(
     requires root { length at.now.trail ≡ 0 → what.now.name ≡ None }
     ensures changes { OnOk result (KeepsFile B B.state on.old on.new root at.now what.now ⊎ ChangesFile B B.state on.old on.new root at.now what.now halted who.now now) }
     ensures left { OnErr result (Looks (B.state on.old) (B.state on.new) ⊎ LeavesFile B B.state on.old on.new root at.now what.now halted who.now now) }
+    ensures awake { OnOk result ((halted ≡ false) ⊎ FoundSame (B.state on.new) root at.now what.now) }
     ensures refused { IfErr result (WhyRefused B B.state root at.now what.now halted) }
     ensures taken { (B.state on.old).usable ≤ (B.state on.new).usable + most_need at.now }
     ensures cause { Refuses (faults_of (B.state on.old)) (faults_of (B.state on.new)) ⊥ (HasRoom (B.state on.new)) (most_need at.now) result }

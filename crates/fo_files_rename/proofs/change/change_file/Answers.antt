@@ -1,4 +1,4 @@
-use Rattle.std.proofs.Common.{◌+◌, length, inl, inr, subst, arith}
+use Rattle.std.proofs.Common.{inl, inr, subst, arith}
 use Rattle.std.specs.Prelude.{Option, IfSome}
 use Rattle.fo_world.specs.Step.{most_need}
 use Rattle.fo_files_along.specs.Along.{HasRoom}
@@ -6,7 +6,7 @@ use Rattle.fo_files_along.proofs.Refusing.{cause_later, look_cause}
 use Rattle.fo_files_edit.specs.declared.found.Found.{Found}
 use Rattle.fo_files_edit.specs.Asks.{FoundOther}
 use Rattle.fo_files_edit.proofs.Refusing.{unfound}
-use Rattle.fo_files_rename.proofs.Finding.{map_ok, map_err, map_why}
+use Rattle.fo_files_rename.proofs.Finding.{always_ok, map_ok, map_err, map_why}
 use Rattle.fo_files_rename.proofs.change.change_file.Goals as goal
 
 pub found_at-requires-clause-asks : goal.found_at-requires-clause-asks
@@ -74,3 +74,9 @@ returns-in-Ok-Some-clause-cause g c =
 
 pub returns-in-Ok-Some-clause-keeps : goal.returns-in-Ok-Some-clause-keeps
 returns-in-Ok-Some-clause-keeps g c = g.met.B.Blocks.keeps_joins c.args.on.now c.found_at.new.on c.change_found.new.on c.found_at.ensures.looks.1 c.change_found.ensures.keeps
+
+pub returns-in-Ok-Some-clause-awake : goal.returns-in-Ok-Some-clause-awake
+returns-in-Ok-Some-clause-awake g c = always_ok c.change_found.result _ (inl (subst (λ (o : Option Found). IfSome o (λ f. FoundOther (g.B.Blocks.state c.found_at.new.on) c.args.root c.args.at.now c.args.what.now c.args.halted c.args.who.now c.args.now f.way f.name)) c.in-Ok-Some.field-0-is c.in-Ok-Some.ensures.other).awake)
+
+pub returns-in-Ok-None-clause-awake : goal.returns-in-Ok-None-clause-awake
+returns-in-Ok-None-clause-awake g c = inr (c.in-Ok-None.ensures.same c.in-Ok-None.field-0-is)

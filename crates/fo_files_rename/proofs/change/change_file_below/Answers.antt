@@ -1,4 +1,4 @@
-use Rattle.std.proofs.Common.{◌+◌, ◌*◌, ◌^◌, ◌≤◌, length, true, false, inl, inr, ⊎_elim, sym, subst, arith}
+use Rattle.std.proofs.Common.{◌+◌, ◌*◌, ◌^◌, ◌≤◌, length, true, false, inl, inr, ⊎_elim, subst, arith}
 use Rattle.fo_files_edit.specs.Edit.{EditsFile, IsLeft}
 use Rattle.fo_files_rename.specs.Change.{LeavesName, OwnsName}
 use Rattle.fo_files_rename.proofs.Causes.{cause_more}

@@ -1,4 +1,4 @@
-use Rattle.std.proofs.Common.{◌+◌, ◌*◌, ◌≤◌, [], length, inl, inr, refl, sym, subst, arith}
+use Rattle.std.proofs.Common.{◌+◌, ◌*◌, ◌≤◌, length, inl, inr, refl, sym, subst, arith}
 use Rattle.fo_world.specs.Step.{most_need}
 use Rattle.fo_files_at.specs.Way.{IsWay}
 use Rattle.fo_files_rename.specs.Change.{ChangesFound, LeavesFound}

@@ -1,4 +1,4 @@
-use Rattle.std.proofs.Common.{◌≡◌, length, arith}
+use Rattle.std.proofs.Common.{arith}
 use Rattle.fo_files_rename.proofs.Owning.{own_below, own_root}
 use Rattle.fo_files_rename.proofs.own.own_record.Goals as goal
 

@@ -1,4 +1,4 @@
-use Rattle.std.proofs.Common.{◌-◌, ◌<◌, length, sym, ap, subst, ◌∙◌, arith}
+use Rattle.std.proofs.Common.{◌-◌, sym, ap, subst, ◌∙◌, arith}
 use Rattle.fo_files_at.specs.declared.at.Step.{Step}
 use Rattle.fo_files_at.specs.Held.{FileHolds}
 use Rattle.fo_files_along.proofs.Ways.{step_at}

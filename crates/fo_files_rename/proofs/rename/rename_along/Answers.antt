@@ -1,4 +1,4 @@
-use Rattle.std.proofs.Common.{◌-◌, length, inl, inr, sym, subst, ◌∙◌, arith}
+use Rattle.std.proofs.Common.{length, inl, inr, sym, subst, arith}
 use Rattle.fo_tree_read.proofs.Exits.{looks_none}
 use Rattle.fo_files_ready.proofs.Steps.{failed_since}
 use Rattle.fo_files_own.specs.Own.{IsOwnAt, MayOwn}
