@@ -3,8 +3,8 @@ use Rattle.std.specs.Prelude.{refl, ◌+◌, ◌≤◌, ℕ, Bool}
 use Rattle.std.proofs.Common.{◌∙◌, arith}
 use Rattle.fo_ports.specs.State.{State, KeepsAll}
 use Rattle.fo_world.specs.Answers.{NotFewer}
-use Rattle.fo_files_along.specs.Along.{HasRoom}
-use Rattle.fo_files_look.specs.Told.{faults_of}
+use Rattle.fo_files_take.specs.of_files_along.Along.{HasRoom}
+use Rattle.fo_files_take.specs.of_files_look.Told.{faults_of}
 use Rattle.fo_files.specs.Kept.{AllSettled, Keeps, Takes}
 
 pub keeps_at_once : (s : State) (halted : Bool) {blocks : Type 0} → blocks → Keeps blocks s s halted halted

@@ -1,9 +1,9 @@
 //! Files over blocks.
 use fo_base::Bytes;
 use fo_files_create::create_file;
-use fo_files_look::file_error;
 use fo_files_rename::change_file;
 use fo_files_request::write_file;
+use fo_files_take::files_look::file_error;
 use fo_files_take::remove_file;
 use fo_files_views as views;
 use fo_ports::Blocks;
@@ -50,8 +50,8 @@ impl<B: Blocks> FileOps for Files<B> {
     ghost use Rattle.fo_world.specs.Step as step;
     ghost use Rattle.fo_world.specs.Step.{below, create_need, depth_of, give, is_active, most_need, write_need};
     ghost use Rattle.fo_world.specs.Tree.{comes_before, last};
-    ghost use Rattle.fo_files_along.specs.Along.{HasRoom};
-    ghost use Rattle.fo_files_look.specs.Told.{above, faults_of, name_given, IsRead, IsTold};
+    ghost use Rattle.fo_files_take.specs.of_files_along.Along.{HasRoom};
+    ghost use Rattle.fo_files_take.specs.of_files_look.Told.{above, faults_of, name_given, IsRead, IsTold};
     ghost use Rattle.fo_files_views.specs.Aside.{Says, SaysOrWants};
     ghost use Rattle.fo_files.specs.Kept.{untold, AllSettled, Keeps, RefusesAs, Takes};
     ghost use Rattle.fo_files.specs.Laws as law;

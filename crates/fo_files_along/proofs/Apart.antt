@@ -1,11 +1,11 @@
 -- The directories of a plan have numbers that differ.
 use Rattle.std.proofs.Common.{◌≡◌, ◌+◌, ◌*◌, ◌<◌, ℕ, zero, suc, List, [], ◌∷◌, length, get_or, sym, ap, subst, ◌∙◌, arith}
 use Rattle.fo_ports.specs.State.{State}
-use Rattle.fo_files_at.specs.declared.at.Step.{Step}
-use Rattle.fo_files_at.specs.declared.file.File.{File}
-use Rattle.fo_files_way.specs.declared.plan.Level.{Level}
-use Rattle.fo_files_way.specs.declared.plan.Plan.{Plan}
-use Rattle.fo_files_way.specs.Plan.{AreLevels}
+use Rattle.fo_files_plan.specs.of_files_at.declared.at.Step.{Step}
+use Rattle.fo_files_plan.specs.of_files_at.declared.file.File.{File}
+use Rattle.fo_files_plan.specs.of_files_way.declared.plan.Level.{Level}
+use Rattle.fo_files_plan.specs.of_files_way.declared.plan.Plan.{Plan}
+use Rattle.fo_files_plan.specs.of_files_way.Plan.{AreLevels}
 use Rattle.fo_files_plan.specs.Along.{AreLeavesOf, IsAlong}
 use Rattle.fo_files_along.specs.Along.{AreApart}
 

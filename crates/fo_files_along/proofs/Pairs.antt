@@ -3,8 +3,8 @@ use Rattle.std.proofs.Common.{◌≡◌, ◌≢◌, ◌+◌, ◌-◌, ◌<◌, �
 use Rattle.std.specs.Prelude.{MatchOption}
 use Rattle.fo_image.specs.declared.types.Label.{Label}
 use Rattle.fo_ports.specs.State.{State, KeepsAll, Looks}
-use Rattle.fo_files_at.specs.declared.at.Step.{Step}
-use Rattle.fo_files_at.specs.declared.at.Way.{Way}
+use Rattle.fo_files_plan.specs.of_files_at.declared.at.Step.{Step}
+use Rattle.fo_files_plan.specs.of_files_at.declared.at.Way.{Way}
 use Rattle.fo_files_dir.specs.declared.dir.DirAt.{DirAt}
 use Rattle.fo_files_dir.specs.Dir.{IsDirAt}
 use Rattle.fo_files_record.specs.Leaf.{IsEntriesAt}

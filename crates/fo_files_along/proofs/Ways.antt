@@ -4,12 +4,12 @@ use Rattle.fo_image.specs.declared.record.Record.{Record}
 use Rattle.fo_image.specs.Record.{RecordHolds}
 use Rattle.fo_ports.specs.State.{State}
 use Rattle.fo_world.specs.Limits.{IsUser}
-use Rattle.fo_files_at.specs.declared.at.Step.{Step}
-use Rattle.fo_files_at.specs.declared.at.Way.{Way}
-use Rattle.fo_files_at.specs.declared.file.File.{File}
-use Rattle.fo_files_at.specs.Held.{FileHolds}
-use Rattle.fo_files_at.specs.Way.{Follows, IsStep, IsWay, first_of}
-use Rattle.fo_files_at.proofs.Ways.{end_holds}
+use Rattle.fo_files_plan.specs.of_files_at.declared.at.Step.{Step}
+use Rattle.fo_files_plan.specs.of_files_at.declared.at.Way.{Way}
+use Rattle.fo_files_plan.specs.of_files_at.declared.file.File.{File}
+use Rattle.fo_files_plan.specs.of_files_at.Held.{FileHolds}
+use Rattle.fo_files_plan.specs.of_files_at.Way.{Follows, IsStep, IsWay, first_of}
+use Rattle.fo_files_plan.proofs.of_files_at.Ways.{end_holds}
 use Rattle.fo_files_plan.proofs.Trails.{step_in, steps_count}
 use Rattle.fo_files_along.specs.Along.{touched}
 

@@ -4,15 +4,15 @@ use Rattle.fo_image.specs.declared.record.Record.{Record}
 use Rattle.fo_ports.specs.State.{State, IsSettled}
 use Rattle.fo_world.specs.declared.error.FileError.{FileError}
 use Rattle.fo_world.specs.declared.error.FileError.TheVariants as error
-use Rattle.fo_files_at.specs.declared.file.File.{File}
-use Rattle.fo_files_at.specs.declared.at.Step.{Step}
-use Rattle.fo_files_at.specs.declared.at.Way.{Way}
-use Rattle.fo_files_at.specs.Way.{IsWay}
+use Rattle.fo_files_plan.specs.of_files_at.declared.file.File.{File}
+use Rattle.fo_files_plan.specs.of_files_at.declared.at.Step.{Step}
+use Rattle.fo_files_plan.specs.of_files_at.declared.at.Way.{Way}
+use Rattle.fo_files_plan.specs.of_files_at.Way.{IsWay}
 use Rattle.fo_files_dir.specs.declared.dir.DirAt.{DirAt}
 use Rattle.fo_files_dir.specs.declared.dir.FileAt.{FileAt}
-use Rattle.fo_files_way.specs.declared.plan.Level.{Level}
-use Rattle.fo_files_way.specs.Owns.{Owns, IsTag, IsIn, IsAboveLeaves, AreLinked}
-use Rattle.fo_files_way.specs.Plan.{IsFirstSlot}
+use Rattle.fo_files_plan.specs.of_files_way.declared.plan.Level.{Level}
+use Rattle.fo_files_plan.specs.of_files_way.Owns.{Owns, IsTag, IsIn, IsAboveLeaves, AreLinked}
+use Rattle.fo_files_plan.specs.of_files_way.Plan.{IsFirstSlot}
 use Rattle.fo_files_plan.specs.Along.{AreLeavesOf}
 
 -- all is settled, no removal is queued, and so many blocks are usable

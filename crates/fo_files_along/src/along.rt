@@ -3,16 +3,16 @@ ghost use Rattle.std.specs.Prelude.{◌≡◌, ◌≢◌, ◌⊎◌, ◌+◌, �
 ghost use Rattle.fo_base.specs.Cause.{Rose};
 ghost use Rattle.fo_ports.specs.Causes.{Caused};
 ghost use Rattle.fo_ports.specs.State.{Looks};
-ghost use Rattle.fo_files_at.specs.Way.{IsWay};
-ghost use Rattle.fo_files_at.specs.Held.{FileHolds};
+ghost use Rattle.fo_files_plan.specs.of_files_at.Way.{IsWay};
+ghost use Rattle.fo_files_plan.specs.of_files_at.Held.{FileHolds};
 ghost use Rattle.fo_files_dir.specs.Dir.{IsDirAt, IsFileAt};
 ghost use Rattle.fo_files_record.specs.Leaf.{IsEntriesAt};
 ghost use Rattle.fo_files_record.specs.Own.{IsRootAt};
 ghost use Rattle.fo_files_plan.specs.Owned.{AreOwned};
 ghost use Rattle.fo_files_along.specs.Along.{IsApart, OwnsWay, IsStepOf, IsAboveOf, GoesAlong, GoesToDir};
 
-use fo_files_at::Way;
 use fo_files_dir::{DirAt, FileAt};
+use fo_files_plan::files_at::Way;
 use fo_files_plan::{dir_at, file_at, own_way, plan_along};
 use fo_ports::{BlockError, Blocks};
 use std::alloc::Global;

@@ -18,3 +18,7 @@ mod room;
 pub use along::{DirStand, Stand, own_along, own_dir_along};
 pub use record::{spare_for, touch};
 pub use room::reserve_room;
+
+// Passed on, so that a crate above names this one alone.
+pub use fo_files_look as files_look;
+pub use fo_files_plan::files_at;

@@ -3,12 +3,12 @@ ghost use Rattle.std.specs.Prelude.{◌≡◌, ◌≤◌, ℕ, IfErr};
 ghost use Rattle.fo_base.specs.Cause.{Rose};
 ghost use Rattle.fo_ports.specs.Causes.{Caused};
 ghost use Rattle.fo_ports.specs.State.{Looks};
-ghost use Rattle.fo_files_at.specs.Held.{FileHolds};
+ghost use Rattle.fo_files_plan.specs.of_files_at.Held.{FileHolds};
 ghost use Rattle.fo_files_along.specs.Along.{touched};
 
 use fo_base::Bytes;
 use fo_dir_list::leaf_for;
-use fo_files_at::{RECORDS_BELOW, Step, records_of};
+use fo_files_plan::files_at::{RECORDS_BELOW, Step, records_of};
 use fo_image::Record;
 use fo_ports::{BlockError, Blocks};
 use std::alloc::Global;

@@ -1,3 +1,4 @@
 pub mod Joining
 pub mod Roots
 pub mod Ways
+pub use Rattle.fo_tree.proofs as of_tree

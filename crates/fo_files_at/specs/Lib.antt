@@ -1,2 +1,3 @@
 pub mod Held
 pub mod Way
+pub use Rattle.fo_tree.specs as of_tree

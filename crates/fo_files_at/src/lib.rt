@@ -21,3 +21,6 @@ pub use file::{
 };
 pub use laws::way_ends;
 pub use root::root_file;
+
+// Passed on, so that a crate above names this one alone.
+pub use fo_tree as tree;

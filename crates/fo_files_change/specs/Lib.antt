@@ -1,1 +1,2 @@
 pub mod Records
+pub use Rattle.fo_files_leaf.specs as of_files_leaf

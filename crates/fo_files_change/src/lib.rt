@@ -16,3 +16,6 @@ mod take;
 pub use leaf::records_leaf;
 pub use put::change_at;
 pub use take::take_file;
+
+// Passed on, so that a crate above names this one alone.
+pub use fo_files_leaf as files_leaf;

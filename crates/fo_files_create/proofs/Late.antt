@@ -5,7 +5,7 @@ use Rattle.fo_ports.specs.State.{State, Numbers, IsSettled}
 use Rattle.fo_world.specs.declared.error.FileError.{FileError}
 use Rattle.fo_world.specs.declared.error.FileError.TheVariants as error
 use Rattle.fo_world.specs.declared.place.Place.{Place}
-use Rattle.fo_files_along.specs.Along.{IsBlocks}
+use Rattle.fo_files_create_look.specs.of_files_along.Along.{IsBlocks}
 use Rattle.fo_files_create_look.specs.Refused.{IsRefused, MayMake}
 use Rattle.fo_files_create.specs.Create.{IsLate}
 

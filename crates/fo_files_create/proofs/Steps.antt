@@ -9,11 +9,11 @@ use Rattle.fo_image.specs.Record.{RecordHolds, RootRecordHolds}
 use Rattle.fo_ports.specs.State.{State, KeepsAll, KeepsNumbers, none}
 use Rattle.fo_files_dir.specs.declared.dir.DirAt.{DirAt}
 use Rattle.fo_files_dir.specs.Dir.{IsDirAt}
-use Rattle.fo_files_leaf.specs.Alters.{MayPut}
+use Rattle.fo_files_new.specs.of_files_leaf.Alters.{MayPut}
 use Rattle.fo_files_record.specs.Leaf.{IsEntriesAt}
 use Rattle.fo_files_record.specs.Own.{IsRootAt}
-use Rattle.fo_files_ready.specs.Ready.{IsLeafOf as IsRecordsOf}
-use Rattle.fo_files_ready.proofs.Steps.{leaf_kept}
+use Rattle.fo_files_own.specs.of_files_ready.Ready.{IsLeafOf as IsRecordsOf}
+use Rattle.fo_files_own.proofs.of_files_ready.Steps.{leaf_kept}
 use Rattle.fo_files_new.specs.declared.pair.Leaves.{Leaves}
 use Rattle.fo_files_new.specs.New.{AltersDir, AreOwn, IsAboveOf, IsLeafOf}
 use Rattle.fo_files_own.specs.declared.at.OwnAt.{OwnAt}
@@ -21,9 +21,9 @@ use Rattle.fo_files_own.specs.declared.at.OwnAt.TheVariants.{Root, Below}
 use Rattle.fo_files_own.specs.declared.at.ReadyOwn.{ReadyOwn}
 use Rattle.fo_files_own.specs.Own.{AltersOwn, IsBlockOf, IsOwnAt, MayOwn, MayPutOwn}
 use Rattle.fo_files_own.proofs.Carry.{ready_alters}
-use Rattle.fo_files_at.specs.declared.at.Step.{Step}
-use Rattle.fo_files_at.proofs.Ways.{way_stays}
-use Rattle.fo_files_along.specs.Along.{IsAboveOf as IsAboveStep}
+use Rattle.fo_files_create_look.specs.of_files_at.declared.at.Step.{Step}
+use Rattle.fo_files_create_look.proofs.of_files_at.Ways.{way_stays}
+use Rattle.fo_files_create_look.specs.of_files_along.Along.{IsAboveOf as IsAboveStep}
 use Rattle.fo_files_create_look.specs.declared.found.Found.{Found}
 use Rattle.fo_files_create_look.specs.Found.{IsFound}
 use Rattle.fo_files_create.specs.Create.{IsApartFrom, last_leaf, own_of}

@@ -7,16 +7,16 @@ use Rattle.fo_world.specs.declared.error.FileError.{FileError}
 use Rattle.fo_world.specs.declared.error.FileError.TheVariants as error
 use Rattle.fo_world.specs.declared.place.Place.{Place}
 use Rattle.fo_world.specs.declared.place.Info.{Info}
-use Rattle.fo_files_at.specs.declared.at.Step.{Step}
-use Rattle.fo_files_at.specs.declared.at.Way.{Way}
+use Rattle.fo_files_create_look.specs.of_files_at.declared.at.Step.{Step}
+use Rattle.fo_files_create_look.specs.of_files_at.declared.at.Way.{Way}
 use Rattle.fo_files_dir.specs.declared.dir.DirAt.{DirAt}
 use Rattle.fo_files_new.specs.declared.pair.Leaves.{Leaves}
 use Rattle.fo_files_new.specs.New.{AltersDir, IsLeafOf, IsNew}
 use Rattle.fo_files_own.specs.declared.at.OwnAt.{OwnAt}
 use Rattle.fo_files_own.specs.declared.at.OwnAt.TheVariants as place
 use Rattle.fo_files_own.specs.Own.{ChangesOwn, LeavesOwn, StepsTo}
-use Rattle.fo_files_spot.specs.declared.spot.Spot.{Spot}
-use Rattle.fo_files_along.specs.Along.{GoesToDir}
+use Rattle.fo_files_create_look.specs.of_files_spot.declared.spot.Spot.{Spot}
+use Rattle.fo_files_create_look.specs.of_files_along.Along.{GoesToDir}
 use Rattle.fo_files_create_look.specs.declared.found.Found.{Found}
 use Rattle.fo_files_create_look.specs.Found.{IsFound}
 

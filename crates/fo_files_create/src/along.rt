@@ -5,13 +5,13 @@ ghost use Rattle.fo_image.specs.Record.{RecordHolds, RootRecordHolds};
 ghost use Rattle.fo_ports.specs.Causes.{Caused};
 ghost use Rattle.fo_world.specs.Step.{need};
 ghost use Rattle.fo_dir_add.specs.Adds.{IsNumbered};
-ghost use Rattle.fo_files_at.specs.Way.{IsWay};
+ghost use Rattle.fo_files_create_look.specs.of_files_at.Way.{IsWay};
 ghost use Rattle.fo_files_create.specs.Create.{LeavesAlong, MakesAlong, last_leaf};
 
 use crate::make::{own_at, put_new};
-use fo_files_along::own_dir_along;
-use fo_files_at::Way;
-use fo_files_spot::Spot;
+use fo_files_create_look::files_along::own_dir_along;
+use fo_files_create_look::files_at::Way;
+use fo_files_create_look::files_spot::Spot;
 use fo_image::Record;
 use fo_ports::{BlockError, Blocks};
 use std::alloc::Global;

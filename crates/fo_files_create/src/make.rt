@@ -8,11 +8,11 @@ ghost use Rattle.fo_files_dir.specs.Dir.{IsDirAt};
 ghost use Rattle.fo_files_own.specs.Own.{IsOwnAt, MayOwn};
 ghost use Rattle.fo_files_create.specs.Create.{IsApartFrom, LeavesNew, MakesNew, own_of};
 
-use fo_files_along::DirStand;
+use fo_files_create_look::files_along::DirStand;
+use fo_files_create_look::files_spot::Spot;
 use fo_files_dir::DirAt;
 use fo_files_new::new_file;
 use fo_files_own::{Below, OwnAt, put_own, ready_own};
-use fo_files_spot::Spot;
 use fo_image::Record;
 use fo_ports::{BlockError, Blocks};
 use std::alloc::Global;

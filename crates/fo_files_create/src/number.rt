@@ -2,10 +2,10 @@
 ghost use Rattle.std.specs.Prelude.{◌≡◌, ◌^◌, ◌<◌, IfOk, IfErr};
 ghost use Rattle.fo_ports.specs.State.{Numbers};
 ghost use Rattle.fo_world.specs.Answers.{Refuses};
-ghost use Rattle.fo_files_look.specs.Told.{faults_of};
+ghost use Rattle.fo_files_create_look.specs.of_files_look.Told.{faults_of};
 ghost use Rattle.fo_files_create.specs.Create.{IsLate, numbered};
 
-use fo_files_look::file_error;
+use fo_files_create_look::files_look::file_error;
 use fo_image::Record;
 use fo_ports::Blocks;
 use fo_world::FileError;

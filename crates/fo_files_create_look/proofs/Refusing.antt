@@ -7,11 +7,11 @@ use Rattle.fo_ports.specs.Causes.{Caused}
 use Rattle.fo_world.specs.declared.error.FileError.{FileError}
 use Rattle.fo_world.specs.declared.error.FileError.TheVariants as error
 use Rattle.fo_world.specs.declared.place.Place.{Place}
-use Rattle.fo_files_look.specs.Told.{file_error}
+use Rattle.fo_files_along.specs.of_files_look.Told.{file_error}
 use Rattle.fo_ports.specs.State.{State, KeepsAll}
 use Rattle.fo_world.specs.Step.{is_active}
-use Rattle.fo_files_at.specs.declared.file.File.{File}
-use Rattle.fo_files_at.proofs.Ways.{way_stays}
+use Rattle.fo_files_along.specs.of_files_at.declared.file.File.{File}
+use Rattle.fo_files_along.proofs.of_files_at.Ways.{way_stays}
 use Rattle.fo_files_create_look.specs.Refused.{IsAt, IsLimit, IsRefused}
 
 -- what blocks refuse of a look is no refusal by what the tree has

@@ -4,8 +4,8 @@ use Rattle.fo_image.specs.declared.record.Record.{Record}
 use Rattle.fo_image.specs.Record.{RecordHolds, RootRecordHolds}
 use Rattle.fo_ports.specs.State.{State}
 use Rattle.fo_dir_read.specs.Names.{leaf_count}
-use Rattle.fo_files_at.specs.declared.at.Way.{Way}
-use Rattle.fo_files_at.specs.Way.{IsWay}
+use Rattle.fo_files_along.specs.of_files_at.declared.at.Way.{Way}
+use Rattle.fo_files_along.specs.of_files_at.Way.{IsWay}
 use Rattle.fo_files_along.specs.Along.{with_touched}
 use Rattle.fo_files_create_look.specs.declared.found.Found.{Found}
 

@@ -8,9 +8,9 @@ use Rattle.fo_world.specs.declared.error.FileError.TheVariants as error
 use Rattle.fo_world.specs.declared.place.Place.{Place}
 use Rattle.fo_world.specs.Step.{is_active, is_dir_mode}
 use Rattle.fo_dir_read.specs.Names.{leaf_count}
-use Rattle.fo_files_at.specs.declared.at.Way.{Way}
-use Rattle.fo_files_at.specs.declared.file.File.{File}
-use Rattle.fo_files_at.specs.Way.{IsWay}
+use Rattle.fo_files_along.specs.of_files_at.declared.at.Way.{Way}
+use Rattle.fo_files_along.specs.of_files_at.declared.file.File.{File}
+use Rattle.fo_files_along.specs.of_files_at.Way.{IsWay}
 
 -- A file with this mode may be made at a place: in the active tree, where the system isn't halted, and a directory at a depth up to 64.
 pub record MayMake (at : Place) (mode : ℕ) (halted : Bool) : Type 0 where

@@ -16,3 +16,8 @@ mod names;
 mod place;
 
 pub use found::{Found, look_for_new};
+
+// Passed on, so that a crate above names this one alone.
+pub use fo_files_along as files_along;
+pub use fo_files_along::{files_at, files_look};
+pub use fo_files_spot as files_spot;

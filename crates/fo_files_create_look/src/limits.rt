@@ -7,13 +7,13 @@ ghost use Rattle.fo_ports.specs.Causes.{Caused};
 ghost use Rattle.fo_ports.specs.State.{Looks};
 ghost use Rattle.fo_world.specs.Answers.{Refuses};
 ghost use Rattle.fo_world.specs.Step.{is_active};
-ghost use Rattle.fo_files_at.specs.Held.{FileHolds};
-ghost use Rattle.fo_files_look.specs.Told.{faults_of};
+ghost use Rattle.fo_files_along.specs.of_files_at.Held.{FileHolds};
+ghost use Rattle.fo_files_along.specs.of_files_look.Told.{faults_of};
 ghost use Rattle.fo_files_create_look.specs.Refused.{IsAt, IsLimit, IsRefused, MayMake};
 
 use fo_dir_read::lookup;
-use fo_files_at::{File, RECORDS_BELOW, records_of};
-use fo_files_look::file_error;
+use fo_files_along::files_at::{File, RECORDS_BELOW, records_of};
+use fo_files_along::files_look::file_error;
 use fo_files_spot::is_full;
 use fo_image::Record;
 use fo_ports::{BlockError, Blocks};

@@ -7,8 +7,8 @@ ghost use Rattle.fo_files_along.specs.Along.{touched, with_touched};
 ghost use Rattle.fo_files_create_look.specs.Named as of;
 
 use fo_base::Bytes;
+use fo_files_along::files_at::{File, Way};
 use fo_files_along::touch;
-use fo_files_at::{File, Way};
 use fo_image::{Record, is_record, record_len};
 use fo_world::FileError;
 use std::alloc::Global;

@@ -11,7 +11,7 @@ use Rattle.fo_tree_down.specs.Clear.{last_leaf}
 use Rattle.fo_tree_link.specs.Link.{entry_of}
 use Rattle.fo_tree_trim.proofs.Along.{Aside}
 use Rattle.fo_tree_append.proofs.Joining.{rises_changes}
-use Rattle.fo_tree_shorten.specs.Shorten.{EntryAt, Links}
+use Rattle.fo_files_write.specs.of_tree_shorten.Shorten.{EntryAt, Links}
 use Rattle.fo_tree_set.specs.Set.{CutsSettled, MayTrim, ShortensBy, LengthensBy, SetsBy}
 use Rattle.fo_tree_set.proofs.Lengths.{shape_trims}
 use Rattle.fo_files_write.specs.Alters.{Alters, any_kind}

@@ -7,7 +7,7 @@ use Rattle.fo_ports.specs.State.{State, Looks}
 use Rattle.fo_tree_read.specs.declared.tree.Tree.{Tree}
 use Rattle.fo_tree_look.specs.declared.ways.Kept.{Kept}
 use Rattle.fo_tree_open.specs.Open.{IsFit}
-use Rattle.fo_tree_shorten.specs.Shorten.{EntryAt}
+use Rattle.fo_files_write.specs.of_tree_shorten.Shorten.{EntryAt}
 use Rattle.fo_tree_set.specs.Set.{SetsBy}
 use Rattle.fo_files_dir.specs.declared.dir.FileAt.{FileAt}
 use Rattle.fo_files_cut.specs.declared.error.CutError.{CutError}

@@ -18,3 +18,6 @@ mod open;
 
 pub use cut::cut_data;
 pub use error::CutError;
+
+// Passed on, so that a crate above names this one alone.
+pub use fo_files_write as files_write;

@@ -7,12 +7,12 @@ use Rattle.fo_ports.specs.State.{State, Looks, none}
 use Rattle.fo_ports.specs.Sources.{Made}
 use Rattle.fo_files_dir.specs.declared.dir.DirAt.{DirAt}
 use Rattle.fo_files_dir.specs.declared.dir.FileAt.{FileAt}
-use Rattle.fo_files_leaf.specs.Alters.{MayPut}
-use Rattle.fo_files_leaf.specs.Leaf.{IsAbove}
+use Rattle.fo_files_into.specs.of_files_leaf.Alters.{MayPut}
+use Rattle.fo_files_into.specs.of_files_leaf.Leaf.{IsAbove}
 use Rattle.fo_files_record.specs.Stays.{Rewrites, no_slot}
-use Rattle.fo_files_change.specs.Records.{AltersRecords}
-use Rattle.fo_files_write.specs.Alters.{Alters, MayChange, any_kind}
-use Rattle.fo_files_ready.specs.Ready.{IsLeafOf}
+use Rattle.fo_files_into.specs.of_files_change.Records.{AltersRecords}
+use Rattle.fo_files_into.specs.of_files_write.Alters.{Alters, MayChange, any_kind}
+use Rattle.fo_files_into.specs.of_files_ready.Ready.{IsLeafOf}
 use Rattle.fo_files_into.specs.Into.{Edits}
 
 -- a block keeps its label, its pin and its bytes

@@ -5,7 +5,7 @@ use Rattle.fo_image.specs.declared.record.Record.{Record}
 use Rattle.fo_image.specs.Record.{RecordHolds}
 use Rattle.fo_world.specs.declared.place.Change.{Change}
 use Rattle.fo_world.specs.Limits.{IsName, IsUser}
-use Rattle.fo_files_along.proofs.Ways.{touched_holds}
+use Rattle.fo_files_into.proofs.of_files_along.Ways.{touched_holds}
 use Rattle.fo_files_edit.specs.Fields.{with_mode, with_mtime, with_gid, with_name, with_length, touched_file, edited}
 
 mode_holds : (mode : Option ℕ) (r : Record) → RecordHolds r → RecordHolds (with_mode mode r)

@@ -6,12 +6,12 @@ use lib.Utf8.{encode}
 use Rattle.fo_image.specs.declared.record.Record.{Record}
 use Rattle.fo_image.specs.Record.{RecordHolds, RootRecordHolds, IsTextWithin}
 use Rattle.fo_ports.specs.State.{State}
-use Rattle.fo_files_at.specs.declared.at.Step.{Step}
+use Rattle.fo_files_into.specs.of_files_at.declared.at.Step.{Step}
 use Rattle.fo_files_dir.specs.declared.dir.DirAt.{DirAt}
 use Rattle.fo_files_dir.specs.Dir.{IsDirAt}
 use Rattle.fo_files_record.specs.Leaf.{IsEntriesAt}
 use Rattle.fo_files_record.specs.Own.{IsRootAt}
-use Rattle.fo_files_along.specs.Along.{IsAboveOf}
+use Rattle.fo_files_into.specs.of_files_along.Along.{IsAboveOf}
 use Rattle.fo_files_edit.specs.Edit.{as_root}
 
 -- above the root directory there is none

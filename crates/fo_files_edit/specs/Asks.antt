@@ -8,9 +8,9 @@ use Rattle.fo_world.specs.declared.place.View.{View}
 use Rattle.fo_world.specs.Limits.{IsName, IsUser}
 use Rattle.fo_world.specs.Step.{is_active, new_name}
 use Rattle.fo_ports.specs.State.{State}
-use Rattle.fo_files_at.specs.declared.at.Way.{Way}
-use Rattle.fo_files_at.specs.Way.{IsWay}
-use Rattle.fo_files_along.specs.Along.{IsBlocks}
+use Rattle.fo_files_into.specs.of_files_at.declared.at.Way.{Way}
+use Rattle.fo_files_into.specs.of_files_at.Way.{IsWay}
+use Rattle.fo_files_into.specs.of_files_along.Along.{IsBlocks}
 use Rattle.fo_files_edit.specs.Fields.{with_edited}
 
 -- A change keeps within the limits, and gives no name to a root (`IsChange` of fo_world, over devices that may not be honest).

@@ -2,10 +2,10 @@
 use Rattle.std.specs.Prelude.{◌⊎◌, ℕ, List, [], Option, codes}
 use Rattle.fo_image.specs.declared.record.Record.{Record}
 use Rattle.fo_ports.specs.State.{State, Looks}
-use Rattle.fo_files_at.specs.declared.at.Way.{Way}
+use Rattle.fo_files_into.specs.of_files_at.declared.at.Way.{Way}
 use Rattle.fo_files_dir.specs.declared.dir.DirAt.{DirAt}
 use Rattle.fo_files_record.specs.Own.{PutsOwn}
-use Rattle.fo_files_along.specs.Along.{GoesToDir}
+use Rattle.fo_files_into.specs.of_files_along.Along.{GoesToDir}
 use Rattle.fo_files_into.specs.Into.{OwnsFile, Edits, UnchangedBy}
 
 -- The way was owned, and then the file at its end changed: it got the length that is given, where one is, and then the record that the way has, in the

@@ -2,8 +2,8 @@
 use Rattle.std.specs.Prelude.{◌+◌, ◌-◌, ◌^◌, ℕ, Bool, List, nat_le, if◌then◌else◌, Option, Some, None}
 use Rattle.fo_image.specs.declared.record.Record.{Record}
 use Rattle.fo_world.specs.declared.place.Change.{Change}
-use Rattle.fo_files_at.specs.declared.file.File.{File}
-use Rattle.fo_files_along.specs.Along.{touched}
+use Rattle.fo_files_into.specs.of_files_at.declared.file.File.{File}
+use Rattle.fo_files_into.specs.of_files_along.Along.{touched}
 
 -- A mode with the directory bit (DMDIR, bit 31) of another: a change leaves that as it is.
 abbrev pub kept_mode : ℕ → ℕ → ℕ

@@ -6,7 +6,7 @@ ghost use Rattle.fo_files_edit.specs.Asks as of;
 ghost use Rattle.fo_files_edit.specs.Asks.{IsRefused, IsTold};
 
 use fo_base::Bytes;
-use fo_files_at::DATA_LIMIT;
+use fo_files_into::files_at::DATA_LIMIT;
 use fo_world::{Change, FileError, View};
 
 /// Whether a view is that of the active tree.

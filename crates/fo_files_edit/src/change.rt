@@ -2,16 +2,16 @@
 ghost use Rattle.std.specs.Prelude.{◌≡◌, ◌⊎◌, ◌+◌, ◌*◌, ◌^◌, ◌<◌, ◌≤◌, ℕ, [], length, IfSome, IfErr, OnOk, OnErr};
 ghost use Rattle.fo_ports.specs.State.{Rests};
 ghost use Rattle.fo_world.specs.Answers.{Refuses, HadRoom};
-ghost use Rattle.fo_files_at.specs.Way.{IsWay};
-ghost use Rattle.fo_files_look.specs.Told.{faults_of};
-ghost use Rattle.fo_files_along.specs.Along.{HasRoom, IsBlocks};
+ghost use Rattle.fo_files_into.specs.of_files_at.Way.{IsWay};
+ghost use Rattle.fo_files_into.specs.of_files_look.Told.{faults_of};
+ghost use Rattle.fo_files_into.specs.of_files_along.Along.{HasRoom, IsBlocks};
 ghost use Rattle.fo_files_edit.specs.Edit.{EditsFile, IsLeft, EditsRoot, RootLeft};
 
 use crate::edit::edit_along;
 use crate::found::Found;
 use crate::root::edit_root;
-use fo_files_along::reserve_room;
-use fo_files_look::file_error;
+use fo_files_into::files_along::reserve_room;
+use fo_files_into::files_look::file_error;
 use fo_ports::Blocks;
 use fo_world::FileError;
 use std::alloc::Global;

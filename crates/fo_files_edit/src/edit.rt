@@ -2,12 +2,12 @@
 ghost use Rattle.std.specs.Prelude.{◌≡◌, ◌⊎◌, ◌+◌, ◌*◌, ◌^◌, ◌<◌, ◌≤◌, ℕ, length, IfSome, IfErr, OnOk, OnErr};
 ghost use Rattle.fo_base.specs.Cause.{Rose};
 ghost use Rattle.fo_ports.specs.Causes.{Caused};
-ghost use Rattle.fo_files_at.specs.Way.{IsWay};
+ghost use Rattle.fo_files_into.specs.of_files_at.Way.{IsWay};
 ghost use Rattle.fo_files_edit.specs.Edit.{EditsFile, IsLeft};
 
 use crate::found::Found;
-use fo_files_along::own_along;
 use fo_files_into::change_into;
+use fo_files_into::files_along::own_along;
 use fo_ports::{BlockError, Blocks};
 use std::alloc::Global;
 

@@ -4,7 +4,7 @@ ghost use Rattle.fo_world.specs.declared.error.FileError.TheVariants.{Memory};
 ghost use Rattle.fo_files_edit.specs.Fields as is;
 
 use fo_base::Bytes;
-use fo_files_along::touch;
+use fo_files_into::files_along::touch;
 use fo_image::Record;
 use fo_world::{Change, FileError};
 use std::alloc::Global;

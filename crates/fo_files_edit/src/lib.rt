@@ -22,3 +22,7 @@ pub use asks::is_renamed;
 pub use change::{change_below, change_root};
 pub use found::{Found, found_at};
 pub use root::root_record;
+
+// Passed on, so that a crate above names this one alone.
+pub use fo_files_into as files_into;
+pub use fo_files_into::{files_along, files_at, files_look, files_write};

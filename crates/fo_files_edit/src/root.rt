@@ -2,12 +2,12 @@
 ghost use Rattle.std.specs.Prelude.{◌≡◌, ◌⊎◌, ◌+◌, ◌≤◌, ℕ, [], IfOk, IfErr, OnOk, OnErr};
 ghost use Rattle.fo_base.specs.Cause.{Rose};
 ghost use Rattle.fo_ports.specs.Causes.{Caused};
-ghost use Rattle.fo_files_at.specs.Way.{IsWay};
+ghost use Rattle.fo_files_into.specs.of_files_at.Way.{IsWay};
 ghost use Rattle.fo_files_edit.specs.Edit.{EditsRoot, RootLeft, as_root};
 
 use crate::found::Found;
 use fo_base::Bytes;
-use fo_files_along::own_dir_along;
+use fo_files_into::files_along::own_dir_along;
 use fo_files_record::put_own_record;
 use fo_image::Record;
 use fo_ports::{BlockError, Blocks};

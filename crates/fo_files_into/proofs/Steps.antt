@@ -7,16 +7,16 @@ use Rattle.fo_image.specs.declared.types.Kind.TheVariants.{Data, Dir}
 use Rattle.fo_ports.specs.State.{State, KeepsAll, Looks}
 use Rattle.fo_ports.specs.Sources.{Made}
 use Rattle.fo_dir_change.specs.Changes.{HasChanged, IsTooLong}
-use Rattle.fo_files_at.specs.declared.at.Step.{Step}
+use Rattle.fo_files_along.specs.of_files_at.declared.at.Step.{Step}
 use Rattle.fo_files_dir.specs.declared.dir.DirAt.{DirAt}
 use Rattle.fo_files_dir.specs.declared.dir.FileAt.{FileAt}
 use Rattle.fo_files_dir.specs.Dir.{IsFileAt}
 use Rattle.fo_files_dir.proofs.Dirs.{pair_keeps}
 use Rattle.fo_files_record.specs.Leaf.{IsEntriesAt}
 use Rattle.fo_files_record.specs.Stays.{Rewrites, no_slot}
-use Rattle.fo_files_change.specs.Records.{AltersRecords}
-use Rattle.fo_files_write.specs.Alters.{Alters, MayChange, any_kind}
-use Rattle.fo_files_write.specs.Data.{HasData}
+use Rattle.fo_files_ready.specs.of_files_change.Records.{AltersRecords}
+use Rattle.fo_files_cut.specs.of_files_write.Alters.{Alters, MayChange, any_kind}
+use Rattle.fo_files_cut.specs.of_files_write.Data.{HasData}
 use Rattle.fo_files_ready.specs.Ready.{IsLeafOf}
 use Rattle.fo_files_cut.specs.Cut.{KeepsUse}
 use Rattle.fo_files_into.specs.Into.{MayCut}

@@ -4,14 +4,14 @@ use Rattle.fo_image.specs.declared.record.Record.{Record}
 use Rattle.fo_image.specs.declared.types.Kind.{Kind}
 use Rattle.fo_ports.specs.State.{State, Looks}
 use Rattle.fo_dir_change.specs.Changes.{HasChanged}
-use Rattle.fo_files_at.specs.declared.at.Step.{Step}
-use Rattle.fo_files_at.specs.declared.at.Way.{Way}
+use Rattle.fo_files_along.specs.of_files_at.declared.at.Step.{Step}
+use Rattle.fo_files_along.specs.of_files_at.declared.at.Way.{Way}
 use Rattle.fo_files_dir.specs.declared.dir.DirAt.{DirAt}
 use Rattle.fo_files_dir.specs.declared.dir.FileAt.{FileAt}
 use Rattle.fo_files_record.specs.Stays.{Rewrites, no_slot}
-use Rattle.fo_files_change.specs.Records.{AltersRecords}
-use Rattle.fo_files_write.specs.Alters.{Alters, any_kind, is_above}
-use Rattle.fo_files_write.specs.Data.{HasData, PutsPiece}
+use Rattle.fo_files_ready.specs.of_files_change.Records.{AltersRecords}
+use Rattle.fo_files_cut.specs.of_files_write.Alters.{Alters, any_kind, is_above}
+use Rattle.fo_files_cut.specs.of_files_write.Data.{HasData, PutsPiece}
 use Rattle.fo_files_cut.specs.Cut.{KeepsUse, CutsBy}
 use Rattle.fo_files_along.specs.Along.{GoesAlong}
 use Rattle.fo_files_ready.specs.Ready.{IsLeafOf, IsReadyFor, Stands, Goes}

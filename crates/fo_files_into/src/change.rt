@@ -5,15 +5,15 @@ ghost use Rattle.fo_image.specs.Record.{RecordHolds};
 ghost use Rattle.fo_ports.specs.Causes.{Caused};
 ghost use Rattle.fo_files_dir.specs.Dir.{IsDirAt, IsFileAt};
 ghost use Rattle.fo_files_record.specs.Leaf.{IsEntriesAt};
-ghost use Rattle.fo_files_write.specs.Alters.{Alters, any_kind};
-ghost use Rattle.fo_files_write.specs.Data.{HasData};
+ghost use Rattle.fo_files_cut.specs.of_files_write.Alters.{Alters, any_kind};
+ghost use Rattle.fo_files_cut.specs.of_files_write.Data.{HasData};
 ghost use Rattle.fo_files_cut.specs.Cut.{KeepsUse, CutsBy};
 ghost use Rattle.fo_files_into.specs.Into.{MayCut, UnchangedBy, Edits};
 
 use fo_base::BLOCK;
 use fo_dir_change::change_record;
 use fo_files_along::Stand;
-use fo_files_at::RECORDS_BELOW;
+use fo_files_along::files_at::RECORDS_BELOW;
 use fo_files_cut::{CutError, cut_data};
 use fo_files_dir::FileAt;
 use fo_files_ready::ready_record;

@@ -13,3 +13,10 @@ mod write;
 
 pub use change::change_into;
 pub use write::write_into;
+
+// Passed on, so that a crate above names this one alone.
+pub use fo_files_along as files_along;
+pub use fo_files_along::{files_at, files_look};
+pub use fo_files_cut::files_write;
+pub use fo_files_ready as files_ready;
+pub use fo_files_ready::{files_change, files_leaf};

@@ -12,3 +12,6 @@
 mod tells;
 
 pub use tells::{file_error, find, info, next_name, parent, read};
+
+// Passed on, so that a crate above names this one alone.
+pub use fo_files_at as files_at;

@@ -20,10 +20,10 @@ use fo_base::Bytes;
 use fo_dir_list::next;
 use fo_dir_read::lookup;
 use fo_disk::DiskFault;
+use fo_files_at::tree::Source;
 use fo_files_at::{File, RECORDS_BELOW, Way, at_place, below, data_of, records_of, way_ends};
 use fo_image::Record;
 use fo_ports::{BlockError, Blocks, Bytes as _};
-use fo_tree::Source;
 use fo_world::{FileError, Info, Place};
 use std::alloc::Global;
 

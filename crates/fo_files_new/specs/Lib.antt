@@ -1,1 +1,2 @@
 pub mod New
+pub use Rattle.fo_files_leaf.specs as of_files_leaf

@@ -16,3 +16,6 @@ mod pair;
 
 pub use new::new_file;
 pub use pair::{Leaves, ready_both};
+
+// Passed on, so that a crate above names this one alone.
+pub use fo_files_leaf as files_leaf;

@@ -4,7 +4,7 @@ use Rattle.fo_image.specs.declared.types.Label.{Label}
 use Rattle.fo_image.specs.declared.record.Record.{Record}
 use Rattle.fo_ports.specs.State.{State, KeepsAll, Looks}
 use Rattle.fo_ports.specs.Sources.{Made}
-use Rattle.fo_files_leaf.specs.Alters.{Alters, MayPut}
+use Rattle.fo_files_ready.specs.of_files_leaf.Alters.{Alters, MayPut}
 use Rattle.fo_files_record.specs.Own.{HasRoot}
 use Rattle.fo_files_record.specs.Stays.{Rewrites}
 use Rattle.fo_files_own.specs.declared.at.OwnAt.{OwnAt}

@@ -12,7 +12,7 @@ use Rattle.fo_files_dir.specs.Dir.{IsDirAt}
 use Rattle.fo_files_record.specs.Leaf.{IsEntriesAt}
 use Rattle.fo_files_record.specs.Own.{HasOwn, HasRoot, IsRootAt}
 use Rattle.fo_files_record.specs.Stays.{Rewrites, no_slot}
-use Rattle.fo_files_change.specs.Records.{AltersRecords}
+use Rattle.fo_files_ready.specs.of_files_change.Records.{AltersRecords}
 use Rattle.fo_files_ready.specs.Ready.{IsLeafOf, Stands, Goes}
 use Rattle.fo_files_own.specs.declared.at.OwnAt.{OwnAt}
 use Rattle.fo_files_own.specs.declared.at.OwnAt.TheVariants as place

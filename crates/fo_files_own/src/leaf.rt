@@ -8,7 +8,7 @@ ghost use Rattle.fo_dir_change.specs.Changes.{HasChanged};
 ghost use Rattle.fo_files_dir.specs.Dir.{IsDirAt};
 ghost use Rattle.fo_files_record.specs.Leaf.{IsEntriesAt};
 ghost use Rattle.fo_files_record.specs.Stays.{Rewrites, no_slot};
-ghost use Rattle.fo_files_change.specs.Records.{AltersRecords};
+ghost use Rattle.fo_files_ready.specs.of_files_change.Records.{AltersRecords};
 ghost use Rattle.fo_files_ready.specs.Ready.{HasPlace, IsLeafOf};
 ghost use Rattle.fo_files_own.specs.Own.{HasOwnLeaf, IsOfLeaf, LeavesBelow, MayPutOwn, WasReadied};
 

@@ -21,3 +21,7 @@ pub use at::{Below, OwnAt, ReadyOwn};
 pub use put::put_own;
 pub use ready::ready_own;
 pub use root::copied;
+
+// Passed on, so that a crate above names this one alone.
+pub use fo_files_ready as files_ready;
+pub use fo_files_ready::{files_change, files_leaf};

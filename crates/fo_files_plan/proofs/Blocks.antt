@@ -9,7 +9,7 @@ use Rattle.fo_image.specs.declared.types.Score.{Score}
 use Rattle.fo_image.specs.Format.{kind_code}
 use Rattle.fo_crash.specs.Images.{target}
 use Rattle.fo_ports.specs.State.{State, KeepsAll}
-use Rattle.fo_tree.specs.declared.source.Source.{Source}
+use Rattle.fo_files_way.specs.of_tree.declared.source.Source.{Source}
 use Rattle.fo_tree_read.specs.declared.tree.Tree.{Tree}
 use Rattle.fo_tree_read.specs.Tree.{kind_down, below, score_in, block_at, address_of}
 use Rattle.fo_tree_look.specs.declared.ways.Kept.{Kept}

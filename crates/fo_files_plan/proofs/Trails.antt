@@ -9,12 +9,12 @@ use Rattle.fo_ports.specs.declared.error.BlockError.{BlockError}
 use Rattle.fo_ports.specs.declared.error.BlockError.TheVariants.{Full, Damaged, Fault, Arena, Memory}
 use Rattle.fo_ports.specs.Causes.{Caused}
 use Rattle.fo_looks.proofs.Looks.{rose_later}
-use Rattle.fo_files_at.specs.declared.at.Step.{Step}
-use Rattle.fo_files_at.specs.declared.at.Way.{Way}
-use Rattle.fo_files_at.specs.declared.file.File.{File}
-use Rattle.fo_files_at.specs.Held.{FileHolds}
-use Rattle.fo_files_at.specs.Way.{Follows, IsStep, IsWay, first_of}
-use Rattle.fo_files_at.proofs.Ways.{first_up}
+use Rattle.fo_files_way.specs.of_files_at.declared.at.Step.{Step}
+use Rattle.fo_files_way.specs.of_files_at.declared.at.Way.{Way}
+use Rattle.fo_files_way.specs.of_files_at.declared.file.File.{File}
+use Rattle.fo_files_way.specs.of_files_at.Held.{FileHolds}
+use Rattle.fo_files_way.specs.of_files_at.Way.{Follows, IsStep, IsWay, first_of}
+use Rattle.fo_files_way.proofs.of_files_at.Ways.{first_up}
 use Rattle.fo_files_way.specs.declared.plan.Level.{Level}
 use Rattle.fo_files_way.specs.declared.plan.Plan.{Plan}
 use Rattle.fo_files_way.specs.Plan.{MayOwnAll, AreBlocks, IsPlanned, IsEntries, AddsWanted, most_for_levels}

@@ -1,9 +1,9 @@
 -- A plan that goes along a way.
 use Rattle.std.specs.Prelude.{◌≡◌, ◌+◌, ◌*◌, ◌≤◌, ℕ, List, [], ◌∷◌, length, slice_index}
 use Rattle.fo_ports.specs.State.{State}
-use Rattle.fo_files_at.specs.declared.at.Step.{Step}
-use Rattle.fo_files_at.specs.declared.file.File.{File}
-use Rattle.fo_files_at.specs.Way.{first_of}
+use Rattle.fo_files_way.specs.of_files_at.declared.at.Step.{Step}
+use Rattle.fo_files_way.specs.of_files_at.declared.file.File.{File}
+use Rattle.fo_files_way.specs.of_files_at.Way.{first_of}
 use Rattle.fo_files_way.specs.declared.add.Wanted.{Wanted}
 use Rattle.fo_files_way.specs.declared.plan.Level.{Level}
 use Rattle.fo_files_way.specs.declared.plan.Plan.{Plan}

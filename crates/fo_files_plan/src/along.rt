@@ -3,11 +3,11 @@ ghost use Rattle.std.specs.Prelude.{◌≡◌, ◌⊎◌, ◌+◌, ◌*◌, ◌�
 ghost use Rattle.fo_base.specs.Cause.{Rose};
 ghost use Rattle.fo_ports.specs.Causes.{Caused};
 ghost use Rattle.fo_ports.specs.State.{Looks};
-ghost use Rattle.fo_files_at.specs.declared.at.Step.{Step};
-ghost use Rattle.fo_files_at.specs.Way.{IsWay, IsStep, first_of};
+ghost use Rattle.fo_files_way.specs.of_files_at.declared.at.Step.{Step};
+ghost use Rattle.fo_files_way.specs.of_files_at.Way.{IsWay, IsStep, first_of};
 ghost use Rattle.fo_files_plan.specs.Along.{IsAlong};
 
-use fo_files_at::{File, Step, Way};
+use fo_files_way::files_at::{File, Step, Way};
 use fo_files_way::{Plan, add_entries};
 use fo_ports::{BlockError, Blocks};
 use std::alloc::Global;

@@ -1,12 +1,12 @@
 //! Where the pair of a file on a way stands.
 ghost use Rattle.std.specs.Prelude.{◌≡◌, ◌+◌, ◌%◌, ◌<◌, ◌≤◌, ℕ, length, slice_index};
-ghost use Rattle.fo_files_at.specs.Held.{FileHolds};
+ghost use Rattle.fo_files_way.specs.of_files_at.Held.{FileHolds};
 ghost use Rattle.fo_files_way.specs.Plan.{IsFirstSlot};
 ghost use Rattle.fo_files_dir.specs.Dir.{IsDirAt, IsFileAt};
 ghost use Rattle.fo_files_plan.specs.Owned.{AreOwned};
 
-use fo_files_at::{File, PAIRS};
 use fo_files_dir::{DirAt, FileAt};
+use fo_files_way::files_at::{File, PAIRS};
 use fo_ports::Blocks;
 
 /// The slot of a file's first entry in block `k` of a way.

@@ -18,3 +18,7 @@ mod own;
 pub use along::plan_along;
 pub use dir::{dir_at, file_at};
 pub use own::own_way;
+
+// Passed on, so that a crate above names this one alone.
+pub use fo_files_way as files_way;
+pub use fo_files_way::files_at;

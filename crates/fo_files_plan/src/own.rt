@@ -1,7 +1,7 @@
 //! A way that was planned is owned.
 ghost use Rattle.std.specs.Prelude.{◌≡◌, ◌+◌, ◌<◌, ◌≤◌, ℕ, length, slice_index};
 ghost use Rattle.fo_ports.specs.Sources.{most_to_own};
-ghost use Rattle.fo_tree_shorten.specs.Shorten.{EntryAt};
+ghost use Rattle.fo_files_way.specs.of_tree_shorten.Shorten.{EntryAt};
 ghost use Rattle.fo_files_way.specs.Plan.{IsLeafReady, IsPlanned, AreBlocks, most_for_levels};
 ghost use Rattle.fo_files_way.specs.Owns.{Owns, IsTag, IsIn, IsAboveLeaves, AreCarried, AreLinked, IsOwned};
 ghost use Rattle.fo_files_plan.specs.Owned.{AreOwned};

@@ -1,2 +1,4 @@
 pub mod Places
 pub mod Steps
+pub use Rattle.fo_files_change.proofs as of_files_change
+pub use Rattle.fo_files_change.proofs.of_files_leaf

@@ -14,10 +14,10 @@ use Rattle.fo_tree_open.specs.Open.{HasEntry}
 use Rattle.fo_files_dir.specs.declared.dir.DirAt.{DirAt}
 use Rattle.fo_files_dir.specs.Dir.{IsDirAt, IsPairAt}
 use Rattle.fo_files_dir.proofs.Dirs.{pair_keeps}
-use Rattle.fo_files_leaf.specs.declared.open.LeafOf.{LeafOf}
-use Rattle.fo_files_leaf.specs.Alters.{Alters, MayPut}
-use Rattle.fo_files_leaf.specs.Leaf.{IsHolder, IsWanted, IsAbove, IsOwnLeaf}
-use Rattle.fo_files_leaf.proofs.Altering.{alters_looks, alters_same, alters_joins}
+use Rattle.fo_files_change.specs.of_files_leaf.declared.open.LeafOf.{LeafOf}
+use Rattle.fo_files_change.specs.of_files_leaf.Alters.{Alters, MayPut}
+use Rattle.fo_files_change.specs.of_files_leaf.Leaf.{IsHolder, IsWanted, IsAbove, IsOwnLeaf}
+use Rattle.fo_files_change.proofs.of_files_leaf.Altering.{alters_looks, alters_same, alters_joins}
 use Rattle.fo_files_record.specs.Leaf.{IsEntriesAt}
 use Rattle.fo_files_record.specs.Stays.{Rewrites, no_slot}
 use Rattle.fo_files_record.proofs.Owned.{entries_stay}

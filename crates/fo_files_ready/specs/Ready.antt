@@ -5,7 +5,7 @@ use Rattle.fo_meta.specs.Leaf.{IsLeaf}
 use Rattle.fo_ports.specs.State.{State, Looks}
 use Rattle.fo_dir_change.specs.Changes.{Bears, BearsNot, IsTooLong}
 use Rattle.fo_files_dir.specs.declared.dir.DirAt.{DirAt}
-use Rattle.fo_files_leaf.specs.Leaf.{IsOwnLeaf, Readied}
+use Rattle.fo_files_change.specs.of_files_leaf.Leaf.{IsOwnLeaf, Readied}
 use Rattle.fo_files_record.specs.Leaf.{IsRecordsAt}
 use Rattle.fo_files_record.specs.Stays.{Rewrites, no_slot}
 use Rattle.fo_files_move.specs.Moves.{HasMoved}

@@ -4,14 +4,14 @@ ghost use Rattle.fo_base.specs.Cause.{Rose};
 ghost use Rattle.fo_ports.specs.Causes.{Caused};
 ghost use Rattle.fo_ports.specs.State.{Looks};
 ghost use Rattle.fo_files_dir.specs.Dir.{IsDirAt};
-ghost use Rattle.fo_files_leaf.specs.Leaf.{Readied};
+ghost use Rattle.fo_files_change.specs.of_files_leaf.Leaf.{Readied};
 ghost use Rattle.fo_files_record.specs.Leaf.{IsRecordsAt, IsEntriesAt};
 ghost use Rattle.fo_files_change.specs.Records.{AltersRecords, records_of};
 ghost use Rattle.fo_files_ready.specs.Ready.{IsLeafOf};
 
 use crate::own::{MOST_ADDED, own_few};
+use fo_files_change::files_leaf::{LeafOf, trim_records};
 use fo_files_dir::DirAt;
-use fo_files_leaf::{LeafOf, trim_records};
 use fo_ports::{BlockError, Blocks};
 use std::alloc::Global;
 

@@ -16,3 +16,7 @@ mod place;
 mod ready;
 
 pub use ready::ready_record;
+
+// Passed on, so that a crate above names this one alone.
+pub use fo_files_change as files_change;
+pub use fo_files_change::files_leaf;

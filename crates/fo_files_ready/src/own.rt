@@ -4,11 +4,11 @@ ghost use Rattle.fo_base.specs.Cause.{Rose};
 ghost use Rattle.fo_ports.specs.Causes.{Caused};
 ghost use Rattle.fo_ports.specs.Sources.{most_to_own};
 ghost use Rattle.fo_ports.specs.State.{Looks, none};
-ghost use Rattle.fo_files_leaf.specs.Alters.{Alters};
-ghost use Rattle.fo_files_leaf.specs.Leaf.{IsHolder, IsWanted, IsAbove, IsOwnLeaf, Readied};
+ghost use Rattle.fo_files_change.specs.of_files_leaf.Alters.{Alters};
+ghost use Rattle.fo_files_change.specs.of_files_leaf.Leaf.{IsHolder, IsWanted, IsAbove, IsOwnLeaf, Readied};
 
 use fo_base::BLOCK;
-use fo_files_leaf::{LeafOf, may_grow, own_grown, source_for};
+use fo_files_change::files_leaf::{LeafOf, may_grow, own_grown, source_for};
 use fo_ports::{BlockError, Blocks};
 use std::alloc::Global;
 

@@ -7,7 +7,7 @@ ghost use Rattle.fo_ports.specs.Causes.{Caused};
 ghost use Rattle.fo_ports.specs.State.{Looks};
 ghost use Rattle.fo_dir_move.specs.Moves.{HasLeaves};
 ghost use Rattle.fo_files_dir.specs.Dir.{IsDirAt};
-ghost use Rattle.fo_files_leaf.specs.Leaf.{Readied};
+ghost use Rattle.fo_files_change.specs.of_files_leaf.Leaf.{Readied};
 ghost use Rattle.fo_files_move.specs.Moves.{HasMoved};
 ghost use Rattle.fo_files_record.specs.Leaf.{IsRecordsAt, IsEntriesAt};
 ghost use Rattle.fo_files_record.specs.Stays.{Rewrites, no_slot};

@@ -7,18 +7,18 @@ use Rattle.fo_image.specs.declared.record.Record.{Record}
 use Rattle.fo_ports.specs.State.{State, KeepsAll, none}
 use Rattle.fo_files_dir.specs.declared.dir.DirAt.{DirAt}
 use Rattle.fo_files_dir.specs.declared.dir.FileAt.{FileAt}
-use Rattle.fo_files_leaf.specs.Alters.{MayPut}
-use Rattle.fo_files_leaf.specs.Leaf.{IsAbove}
+use Rattle.fo_files_own.specs.of_files_leaf.Alters.{MayPut}
+use Rattle.fo_files_own.specs.of_files_leaf.Leaf.{IsAbove}
 use Rattle.fo_files_record.specs.Leaf.{IsEntriesAt}
-use Rattle.fo_files_write.specs.Alters.{MayChange, any_kind}
-use Rattle.fo_files_ready.specs.Ready.{IsLeafOf}
-use Rattle.fo_files_ready.proofs.Steps.{leaf_kept}
+use Rattle.fo_files_edit.specs.of_files_write.Alters.{MayChange, any_kind}
+use Rattle.fo_files_own.specs.of_files_ready.Ready.{IsLeafOf}
+use Rattle.fo_files_own.proofs.of_files_ready.Steps.{leaf_kept}
 use Rattle.fo_files_own.specs.declared.at.OwnAt.{OwnAt}
 use Rattle.fo_files_own.specs.declared.at.OwnAt.TheVariants.{Root, Below}
 use Rattle.fo_files_own.specs.declared.at.ReadyOwn.{ReadyOwn}
 use Rattle.fo_files_own.specs.Own.{AltersOwn, HasReady, IsBlockOf, IsOwnAt, MayPutOwn, blocks_for}
 use Rattle.fo_files_own.proofs.Carry.{has_ready_on, may_put_on}
-use Rattle.fo_files_into.specs.Into.{Edits}
+use Rattle.fo_files_edit.specs.of_files_into.Into.{Edits}
 use Rattle.fo_files_edit.proofs.Carry.{Same, same_joins, same_records, same_rewrites, same_edits}
 use Rattle.fo_files_rename.specs.Rename.{IsApartFrom, IsBeside}
 

@@ -8,7 +8,7 @@ use Rattle.fo_ports.specs.State.{State, KeepsAll}
 use Rattle.fo_world.specs.declared.error.FileError.{FileError}
 use Rattle.fo_world.specs.declared.error.FileError.TheVariants as error
 use Rattle.fo_world.specs.Answers.{HasCause}
-use Rattle.fo_files_look.specs.Told.{faults_of}
+use Rattle.fo_files_edit.specs.of_files_look.Told.{faults_of}
 
 below_more : (n need most : ℕ) → need ≤ most → n < need → n < most
 below_more n need most less below = omega (arith, less, below)

@@ -5,16 +5,16 @@ use Rattle.fo_image.specs.declared.record.Record.{Record}
 use Rattle.fo_image.specs.Record.{RecordHolds, RootRecordHolds}
 use Rattle.fo_ports.specs.State.{State}
 use Rattle.fo_world.specs.Limits.{IsUser}
-use Rattle.fo_files_at.specs.declared.at.Step.{Step}
-use Rattle.fo_files_at.specs.declared.at.Way.{Way}
-use Rattle.fo_files_at.specs.Way.{IsWay}
+use Rattle.fo_files_edit.specs.of_files_at.declared.at.Step.{Step}
+use Rattle.fo_files_edit.specs.of_files_at.declared.at.Way.{Way}
+use Rattle.fo_files_edit.specs.of_files_at.Way.{IsWay}
 use Rattle.fo_files_dir.specs.declared.dir.DirAt.{DirAt}
 use Rattle.fo_files_dir.specs.Dir.{IsDirAt}
 use Rattle.fo_files_record.specs.Leaf.{IsEntriesAt}
 use Rattle.fo_files_record.specs.Own.{IsRootAt}
 use Rattle.fo_files_own.specs.Own.{IsOwnAt, MayOwn}
-use Rattle.fo_files_along.specs.Along.{IsAboveOf, touched}
-use Rattle.fo_files_along.proofs.Ways.{step_at, steps_long, touched_holds}
+use Rattle.fo_files_edit.specs.of_files_along.Along.{IsAboveOf, touched}
+use Rattle.fo_files_edit.proofs.of_files_along.Ways.{step_at, steps_long, touched_holds}
 use Rattle.fo_files_edit.specs.Edit.{as_root}
 use Rattle.fo_files_edit.proofs.Roots.{root_holds}
 use Rattle.fo_files_rename.specs.Rename.{IsApartFrom, IsOwnOf, MayStand, own_of}

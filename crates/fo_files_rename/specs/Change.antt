@@ -5,7 +5,7 @@ use Rattle.fo_ports.specs.State.{State, Looks, Rests}
 use Rattle.fo_world.specs.declared.place.Change.{Change}
 use Rattle.fo_world.specs.declared.place.Place.{Place}
 use Rattle.fo_world.specs.Step.{new_name}
-use Rattle.fo_files_at.specs.declared.at.Way.{Way}
+use Rattle.fo_files_edit.specs.of_files_at.declared.at.Way.{Way}
 use Rattle.fo_files_edit.specs.Asks.{FoundSame, FoundOther}
 use Rattle.fo_files_edit.specs.Edit.{EditsFile, IsLeft, EditsRoot, RootLeft}
 use Rattle.fo_files_rename.specs.Rename.{IsOwnOf, LeavesAlong, RenamesAlong}

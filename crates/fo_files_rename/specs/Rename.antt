@@ -3,15 +3,15 @@ use Rattle.std.specs.Prelude.{◌≡◌, ◌≢◌, ◌⊎◌, ◌+◌, ◌-◌,
 use Rattle.fo_image.specs.declared.record.Record.{Record}
 use Rattle.fo_image.specs.Record.{RecordHolds, RootRecordHolds}
 use Rattle.fo_ports.specs.State.{State, Looks, Calm}
-use Rattle.fo_files_at.specs.declared.at.Step.{Step}
-use Rattle.fo_files_at.specs.declared.at.Way.{Way}
+use Rattle.fo_files_edit.specs.of_files_at.declared.at.Step.{Step}
+use Rattle.fo_files_edit.specs.of_files_at.declared.at.Way.{Way}
 use Rattle.fo_files_dir.specs.declared.dir.DirAt.{DirAt}
 use Rattle.fo_files_dir.specs.declared.dir.FileAt.{FileAt}
 use Rattle.fo_files_own.specs.declared.at.OwnAt.{OwnAt}
 use Rattle.fo_files_own.specs.declared.at.OwnAt.TheVariants as place
 use Rattle.fo_files_own.specs.Own.{ChangesOwn, LeavesOwn, StepsTo}
-use Rattle.fo_files_along.specs.Along.{touched}
-use Rattle.fo_files_into.specs.Into.{OwnsFile, Edits, UnchangedBy}
+use Rattle.fo_files_edit.specs.of_files_along.Along.{touched}
+use Rattle.fo_files_edit.specs.of_files_into.Into.{OwnsFile, Edits, UnchangedBy}
 use Rattle.fo_files_edit.specs.Edit.{as_root}
 
 -- The own record of the directory of the last of these steps, after somebody changed a name in it at a moment: of the root directory as a root block

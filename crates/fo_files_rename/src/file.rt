@@ -8,9 +8,9 @@ ghost use Rattle.fo_files_record.specs.Leaf.{IsEntriesAt};
 ghost use Rattle.fo_files_own.specs.Own.{IsOwnAt, MayOwn};
 ghost use Rattle.fo_files_rename.specs.Rename.{IsApartFrom, IsBeside, LeavesFile, RenamesFile};
 
-use fo_files_along::Stand;
 use fo_files_dir::FileAt;
-use fo_files_into::change_into;
+use fo_files_edit::files_along::Stand;
+use fo_files_edit::files_into::change_into;
 use fo_files_own::{OwnAt, put_own, ready_own};
 use fo_image::Record;
 use fo_ports::{BlockError, Blocks};

@@ -5,8 +5,8 @@ use Rattle.fo_world.specs.declared.error.FileError.TheVariants as error
 use Rattle.fo_world.specs.declared.place.View.{View}
 use Rattle.fo_world.specs.Answers.{HasCause}
 use Rattle.fo_ports.specs.State.{State}
-use Rattle.fo_files_look.specs.Told.{faults_of}
-use Rattle.fo_files_along.specs.Along.{IsBlocks}
+use Rattle.fo_files_into.specs.of_files_look.Told.{faults_of}
+use Rattle.fo_files_into.specs.of_files_along.Along.{IsBlocks}
 use Rattle.fo_files_request.specs.declared.found.Bar.{Bar}
 use Rattle.fo_files_request.specs.declared.found.Bar.TheVariants.{Empty, ReadOnly, TooBig, Halted}
 use Rattle.fo_files_request.specs.Limits.{IsBar, IsTold}

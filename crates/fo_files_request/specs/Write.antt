@@ -5,10 +5,10 @@ use Rattle.fo_world.specs.declared.error.FileError.{FileError}
 use Rattle.fo_world.specs.declared.error.FileError.TheVariants as error
 use Rattle.fo_world.specs.declared.place.View.{View}
 use Rattle.fo_world.specs.Step.{is_active}
-use Rattle.fo_files_at.specs.declared.at.Way.{Way}
-use Rattle.fo_files_at.specs.Way.{IsWay}
+use Rattle.fo_files_into.specs.of_files_at.declared.at.Way.{Way}
+use Rattle.fo_files_into.specs.of_files_at.Way.{IsWay}
 use Rattle.fo_files_into.specs.Into.{OwnsFile, Puts, LeftBy}
-use Rattle.fo_files_along.specs.Along.{with_touched}
+use Rattle.fo_files_into.specs.of_files_along.Along.{with_touched}
 
 -- Why a write of n bytes at an offset is refused where no device is to blame, and in which order: a directory was found; or a file was, and then by the
 -- view, the limit, and where the system is halted. Nothing is said of a file that is gone; want of memory and of room, faults and damage have their

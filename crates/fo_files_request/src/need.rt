@@ -3,10 +3,10 @@ ghost use Rattle.std.specs.Prelude.{◌≡◌, ◌⊎◌, ◌+◌, ◌-◌, ◌*
 ghost use Rattle.fo_ports.specs.State.{Looks, Rests};
 ghost use Rattle.fo_world.specs.Answers.{Refuses};
 ghost use Rattle.fo_world.specs.Step.{need};
-ghost use Rattle.fo_files_look.specs.Told.{faults_of};
-ghost use Rattle.fo_files_along.specs.Along.{HasRoom, IsBlocks};
+ghost use Rattle.fo_files_into.specs.of_files_look.Told.{faults_of};
+ghost use Rattle.fo_files_into.specs.of_files_along.Along.{HasRoom, IsBlocks};
 
-use fo_files_along::reserve_room;
+use fo_files_into::files_along::reserve_room;
 use fo_ports::Blocks;
 use fo_world::FileError;
 

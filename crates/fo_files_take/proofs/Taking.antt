@@ -12,11 +12,11 @@ use Rattle.fo_ports.specs.Sources.{Made}
 use Rattle.fo_tree_open.specs.Open.{HasEntry}
 use Rattle.fo_files_dir.specs.declared.dir.DirAt.{DirAt}
 use Rattle.fo_files_dir.specs.Dir.{IsDirAt}
-use Rattle.fo_files_leaf.specs.Alters.{MayPut}
-use Rattle.fo_files_leaf.specs.Leaf.{IsAbove}
+use Rattle.fo_files_own.specs.of_files_leaf.Alters.{MayPut}
+use Rattle.fo_files_own.specs.of_files_leaf.Leaf.{IsAbove}
 use Rattle.fo_files_record.specs.Stays.{Rewrites, no_slot}
-use Rattle.fo_files_change.specs.Records.{AltersRecords}
-use Rattle.fo_files_ready.proofs.Steps.{leaf_kept}
+use Rattle.fo_files_own.specs.of_files_change.Records.{AltersRecords}
+use Rattle.fo_files_own.proofs.of_files_ready.Steps.{leaf_kept}
 use Rattle.fo_files_along.specs.Along.{touched}
 use Rattle.fo_files_along.proofs.Ways.{touched_holds}
 use Rattle.fo_files_own.specs.declared.at.OwnAt.{OwnAt}

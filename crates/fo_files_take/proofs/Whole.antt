@@ -3,7 +3,7 @@ use Rattle.std.proofs.Common.{◌≡◌, ◌⊎◌, ℕ, List, sym, subst}
 use Rattle.std.specs.Prelude.{Result, Ok, Err, OnOk, OnErr}
 use Rattle.fo_ports.specs.State.{State, Looks, Rests}
 use Rattle.fo_world.specs.declared.error.FileError.{FileError}
-use Rattle.fo_files_at.specs.Way.{IsWay}
+use Rattle.fo_files_along.specs.of_files_at.Way.{IsWay}
 use Rattle.fo_files_along.proofs.Both.{on_ok, on_err}
 use Rattle.fo_files_take.specs.declared.look.Found.{Found}
 use Rattle.fo_files_take.specs.Take.{IsFound, IsLeft, Refused, Removes, TakesFile}

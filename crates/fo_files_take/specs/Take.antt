@@ -7,15 +7,15 @@ use Rattle.fo_world.specs.declared.error.FileError.{FileError}
 use Rattle.fo_world.specs.declared.error.FileError.TheVariants as error
 use Rattle.fo_world.specs.declared.place.View.{View}
 use Rattle.fo_world.specs.Step.{is_active}
-use Rattle.fo_files_at.specs.declared.at.Step.{Step}
-use Rattle.fo_files_at.specs.declared.at.Way.{Way}
-use Rattle.fo_files_at.specs.Way.{IsWay}
+use Rattle.fo_files_along.specs.of_files_at.declared.at.Step.{Step}
+use Rattle.fo_files_along.specs.of_files_at.declared.at.Way.{Way}
+use Rattle.fo_files_along.specs.of_files_at.Way.{IsWay}
 use Rattle.fo_files_dir.specs.declared.dir.DirAt.{DirAt}
 use Rattle.fo_files_dir.specs.declared.dir.FileAt.{FileAt}
-use Rattle.fo_files_leaf.specs.Leaf.{Readied}
+use Rattle.fo_files_own.specs.of_files_leaf.Leaf.{Readied}
 use Rattle.fo_files_record.specs.Stays.{Rewrites, no_slot}
 use Rattle.fo_files_record.specs.Takes.{TakesOut}
-use Rattle.fo_files_change.specs.Records.{AltersRecords, records_of}
+use Rattle.fo_files_own.specs.of_files_change.Records.{AltersRecords, records_of}
 use Rattle.fo_files_along.specs.Along.{GoesAlong, touched}
 use Rattle.fo_files_own.specs.declared.at.OwnAt.{OwnAt}
 use Rattle.fo_files_own.specs.declared.at.OwnAt.TheVariants as place

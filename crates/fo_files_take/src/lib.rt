@@ -19,3 +19,7 @@ mod remove;
 mod take;
 
 pub use remove::remove_file;
+
+// Passed on, so that a crate above names this one alone.
+pub use fo_files_along as files_along;
+pub use fo_files_along::files_look;

@@ -8,8 +8,8 @@ ghost use Rattle.fo_files_own.specs.Own.{IsOwnAt, MayOwn};
 ghost use Rattle.fo_files_take.specs.Take.{IsApartFrom, LeavesFrom, TakesFrom, own_of};
 
 use fo_files_along::Stand;
-use fo_files_change::take_file;
 use fo_files_dir::DirAt;
+use fo_files_own::files_change::take_file;
 use fo_files_own::{Below, OwnAt, put_own, ready_own};
 use fo_image::Record;
 use fo_ports::{BlockError, Blocks};

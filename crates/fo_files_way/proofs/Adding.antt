@@ -19,8 +19,8 @@ use Rattle.fo_tree_trim.proofs.Least.{few_for}
 use Rattle.fo_tree_leaf.proofs.Owning.{most_within}
 use Rattle.fo_files_way.specs.declared.add.Wanted.{Wanted}
 use Rattle.fo_looks.proofs.Looks.{ready_looks, rose_later}
-use Rattle.fo_tree.specs.declared.source.Source.{Source}
-use Rattle.fo_tree.specs.Laws.{keeps_prepared}
+use Rattle.fo_files_at.specs.of_tree.declared.source.Source.{Source}
+use Rattle.fo_files_at.specs.of_tree.Laws.{keeps_prepared}
 use Rattle.fo_tree_look.proofs.Shown.{over_looks}
 use Rattle.fo_tree_open.specs.Open.{HasEntry}
 use Rattle.std.specs.Prelude.{Result, Ok, Err, IfOk}

@@ -5,3 +5,6 @@ pub mod Joining
 pub mod Next
 pub mod Going
 pub mod Adding
+pub use Rattle.fo_files_at.proofs as of_files_at
+pub use Rattle.fo_files_at.proofs.of_tree
+pub use Rattle.fo_tree_shorten.proofs as of_tree_shorten

@@ -10,8 +10,8 @@ use Rattle.fo_crash.specs.declared.slot.Slot.TheVariants.{Entry as Head}
 use Rattle.fo_crash.specs.Images.{SameContent}
 use Rattle.fo_ports.specs.State.{State, KeepsAll}
 use Rattle.fo_ports.specs.Sources.{Made, IsReady, StaysReady}
-use Rattle.fo_tree.specs.declared.source.Source.{Source}
-use Rattle.fo_tree.specs.Laws.{keeps_over, keeps_prepared}
+use Rattle.fo_files_at.specs.of_tree.declared.source.Source.{Source}
+use Rattle.fo_files_at.specs.of_tree.Laws.{keeps_over, keeps_prepared}
 use Rattle.fo_tree_read.specs.Tree.{kind_at}
 use Rattle.fo_tree_look.specs.Source.{address_here}
 use Rattle.fo_tree_link.specs.Link.{entry_of}

@@ -11,13 +11,13 @@ use Rattle.fo_crash.specs.Names.{SameUse}
 use Rattle.fo_ports.specs.Blocks.{cost, dropped, ends, blank}
 use Rattle.fo_ports.specs.State.{State, KeepsAll}
 use Rattle.fo_ports.specs.Sources.{Form, Made, Touched, Changes, Owned, Grows, MayZero, IsCut, IsReady, StaysReady, StaysMarked, IsPlain}
-use Rattle.fo_tree.specs.declared.source.Source.{Source}
+use Rattle.fo_files_at.specs.of_tree.declared.source.Source.{Source}
 use Rattle.fo_tree_read.specs.Tree.{kind_at}
 use Rattle.fo_tree_look.specs.Source.{HasBlock, Over, Prepared, address_here, held_here, form_of, leaves_of}
 use Rattle.fo_tree_link.specs.Link.{entry_of}
 use Rattle.fo_tree_link.specs.Change.{SameSource}
-use Rattle.fo_tree.proofs.Relinking.{same_source}
-use Rattle.fo_tree.specs.Laws.{keeps_prepared}
+use Rattle.fo_files_at.proofs.of_tree.Relinking.{same_source}
+use Rattle.fo_files_at.specs.of_tree.Laws.{keeps_prepared}
 use Rattle.fo_tree_down.proofs.Join.{local_cases}
 use Rattle.fo_tree_shorten.specs.Shorten.{EntryAt, Links}
 use Rattle.fo_tree_shorten.proofs.Entries.{entry_owned, entry_put}

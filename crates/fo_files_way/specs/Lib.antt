@@ -1,2 +1,5 @@
 pub mod Plan
 pub mod Owns
+pub use Rattle.fo_files_at.specs as of_files_at
+pub use Rattle.fo_files_at.specs.of_tree
+pub use Rattle.fo_tree_shorten.specs as of_tree_shorten

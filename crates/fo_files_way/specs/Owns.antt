@@ -4,7 +4,7 @@ use Rattle.fo_image.specs.declared.types.Label.{Label}
 use Rattle.fo_crash.specs.Images.{Image, SameContent}
 use Rattle.fo_ports.specs.State.{State, KeepsNumbers, AddsNoWait, none}
 use Rattle.fo_ports.specs.Sources.{Made, StaysMarked}
-use Rattle.fo_tree.specs.declared.source.Source.{Source}
+use Rattle.fo_files_at.specs.of_tree.declared.source.Source.{Source}
 use Rattle.fo_tree_read.specs.Tree.{kind_at}
 use Rattle.fo_tree_look.specs.Source.{address_here, form_of}
 use Rattle.fo_tree_shorten.specs.Shorten.{EntryAt}

@@ -5,7 +5,7 @@ use Rattle.fo_image.specs.declared.types.Kind.TheVariants.{Dir, Root}
 use Rattle.fo_crash.specs.declared.slot.Slot.TheVariants.{Entry as Head}
 use Rattle.fo_ports.specs.State.{State}
 use Rattle.fo_ports.specs.Sources.{IsPlain, most_to_own}
-use Rattle.fo_tree.specs.declared.source.Source.{Source}
+use Rattle.fo_files_at.specs.of_tree.declared.source.Source.{Source}
 use Rattle.fo_tree_look.specs.Source.{Over, Prepared, address_here, form_of}
 use Rattle.fo_tree_open.specs.Open.{HasEntry}
 use Rattle.fo_tree_link.specs.Link.{entry_of}

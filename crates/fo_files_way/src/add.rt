@@ -13,9 +13,9 @@ ghost use Rattle.fo_files_way.specs.Plan.{IsEntryIn, IsWanted, IsLeafReady, IsHe
 use crate::plan::{Level, Plan};
 use fo_base::BLOCK;
 use fo_crash::Slot;
+use fo_files_at::tree::Source;
 use fo_image::Entry;
 use fo_ports::{BlockError, Blocks};
-use fo_tree::Source;
 use std::alloc::Global;
 
 /// Which leaf is to be owned, of a source whose entry stands in a slot of block `above` of a plan: one of entries or of records, of this tag,

@@ -6,9 +6,9 @@ ghost use Rattle.fo_tree_look.specs.Source.{Over, Prepared, IsPrepared, address_
 ghost use Rattle.fo_tree_open.specs.Open.{IsFit, tree_of};
 ghost use Rattle.fo_tree_link.specs.Link.{entry_of};
 
+use fo_files_at::tree::Source;
 use fo_image::Entry;
 use fo_ports::Blocks;
-use fo_tree::Source;
 
 /// Where leaf `i` of a source is prepared, its top is, and the block in which the leaf stands: pinned, live, and with a label of the source's
 /// kind and tag.

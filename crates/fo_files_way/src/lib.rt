@@ -24,3 +24,8 @@ pub use laws::{opened_entry, prepared_blocks};
 pub use own::own_linked;
 pub use plan::{Level, Plan};
 pub use way::{add_entries, add_records};
+
+// Passed on, so that a crate above names this one alone.
+pub use fo_files_at as files_at;
+pub use fo_files_at::tree;
+pub use fo_tree_shorten as tree_shorten;

@@ -5,8 +5,8 @@ ghost use Rattle.fo_tree_shorten.specs.Shorten.{EntryAt};
 ghost use Rattle.fo_files_way.specs.Plan.{IsLeafReady};
 ghost use Rattle.fo_files_way.specs.Owns.{OwnsOne};
 
+use fo_files_at::tree::Source;
 use fo_ports::{Blocks, Bytes};
-use fo_tree::Source;
 
 /// Owns leaf `i` of a source whose entry stands in slot `j` of block `at`, and puts the source's entry there. Gives the leaf's address.
 pub fn own_linked<B: Blocks>(source: &mut Source, on: &mut B, i: u32, at: u32, j: u32) -> u32

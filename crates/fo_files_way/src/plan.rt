@@ -6,8 +6,8 @@ ghost use Rattle.fo_files_way.specs.Plan.{IsLeafReady, MayOwnAll, most_for_level
 ghost use Rattle.fo_files_way.specs.Owns.{Owns, IsTag, IsIn, IsAboveLeaves, AreCarried, AreLinked, AreCurrent, IsOwned};
 
 use crate::own::own_linked;
+use fo_files_at::tree::Source;
 use fo_ports::Blocks;
-use fo_tree::Source;
 use std::collections::VecDeque;
 
 /// A leaf that is to be owned, of this source. The source's entry stands in a slot of block `above` of the plan.

@@ -18,3 +18,6 @@ mod open;
 mod put;
 
 pub use data::write_data;
+
+// Passed on, so that a crate above names this one alone.
+pub use fo_tree_shorten as tree_shorten;

@@ -8,7 +8,7 @@ use Rattle.fo_ports.specs.Sources.{Form, Made, depth_for}
 use Rattle.fo_tree_read.specs.declared.tree.Tree.{Tree}
 use Rattle.fo_tree_read.specs.Tree.{kind_at}
 use Rattle.fo_tree_look.specs.Source.{HasBlock, form_of}
-use Rattle.fo_tree_grow.proofs.Empty.{has_none}
+use Rattle.fo_tree_append.proofs.of_tree_grow.Empty.{has_none}
 use Rattle.fo_tree_link.specs.Change.{SameSource}
 use Rattle.fo_tree_append.proofs.Seeing.{depth_more}
 

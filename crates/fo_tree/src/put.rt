@@ -8,9 +8,9 @@ ghost use Rattle.fo_tree.specs.Writes.{Writes};
 use crate::source::{at_top, ended};
 use fo_ports::Blocks;
 use fo_tree_append::put_past;
+use fo_tree_append::tree_write::put_within;
 use fo_tree_look::Ways;
 use fo_tree_read::Tree;
-use fo_tree_write::put_within;
 
 /// Puts a piece in the place of the bytes from the offset on, with zeros between the end and it, and gives the source's tree then.
 pub(crate) fn put<B: Blocks>(ways: &Ways, on: &mut B, offset: u64, piece: &[u8]) -> Tree

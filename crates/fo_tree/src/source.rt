@@ -1,8 +1,8 @@
 //! A source of bytes as a tree of blocks.
 ghost use Rattle.std.specs.Prelude.{◌≡◌, ◌+◌, ◌*◌, ◌^◌, ◌≤◌, max};
 ghost use Rattle.fo_ports.specs.Sources.{depth_for};
-ghost use Rattle.fo_tree_lift.specs.Owns.{with_leaf};
-ghost use Rattle.fo_tree_write.specs.Write.{at_top};
+ghost use Rattle.fo_tree_append.specs.of_tree_lift.Owns.{with_leaf};
+ghost use Rattle.fo_tree_append.specs.of_tree_write.Write.{at_top};
 ghost use Rattle.fo_tree_append.specs.Append.{ended};
 
 use fo_base::BLOCK;

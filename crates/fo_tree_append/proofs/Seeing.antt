@@ -14,9 +14,9 @@ use Rattle.fo_tree_down.specs.Clear.{EndsClear}
 use Rattle.fo_tree_down.proofs.Join.{local_cases}
 use Rattle.fo_tree_raise.specs.Levels.{grown}
 use Rattle.fo_tree_raise.proofs.Adding.{adds_nothing}
-use Rattle.fo_tree_grow.specs.Grow.{shaped}
-use Rattle.fo_tree_grow.proofs.Sizing.{room_for, has_sized, has_back}
-use Rattle.fo_tree_grow.proofs.Empty.{least_for}
+use Rattle.fo_tree_lift.specs.of_tree_grow.Grow.{shaped}
+use Rattle.fo_tree_lift.proofs.of_tree_grow.Sizing.{room_for, has_sized, has_back}
+use Rattle.fo_tree_lift.proofs.of_tree_grow.Empty.{least_for}
 use Rattle.fo_tree_clear.specs.Put.{byte_here}
 use Rattle.fo_tree_clear.specs.Steps.{IsStep}
 use Rattle.fo_tree_clear.proofs.Stepping.{cases_made}

@@ -9,9 +9,9 @@ use Rattle.fo_tree_look.specs.Source.{HasBlock, Over, Prepared, address_here, he
 use Rattle.fo_tree_down.specs.Way.{OnWay}
 use Rattle.fo_tree_down.specs.Clear.{EndsClear}
 use Rattle.fo_tree_down.proofs.Beside.{on_way_block}
-use Rattle.fo_tree_grow.specs.Grow.{shaped, sized}
-use Rattle.fo_tree_grow.proofs.Sizing.{room_for, sized_block, has_sized, has_back, over_sized, prepared_sized, clear_sized, address_sized, held_sized}
-use Rattle.fo_tree_grow.proofs.Empty.{few_for, has_none, over_shaped, prepared_any, clear_none, address_none, held_none}
+use Rattle.fo_tree_lift.specs.of_tree_grow.Grow.{shaped, sized}
+use Rattle.fo_tree_lift.proofs.of_tree_grow.Sizing.{room_for, sized_block, has_sized, has_back, over_sized, prepared_sized, clear_sized, address_sized, held_sized}
+use Rattle.fo_tree_lift.proofs.of_tree_grow.Empty.{few_for, has_none, over_shaped, prepared_any, clear_none, address_none, held_none}
 use Rattle.fo_tree_clear.specs.Put.{byte_here}
 
 -- a way of the tree with another size

@@ -18,3 +18,9 @@ mod raise;
 
 pub use past::put_past;
 pub use piece::put_piece;
+
+// Passed on, so that a crate above names this one alone.
+pub use fo_tree_clear as tree_clear;
+pub use fo_tree_lift as tree_lift;
+pub use fo_tree_lift::tree_grow;
+pub use fo_tree_write as tree_write;

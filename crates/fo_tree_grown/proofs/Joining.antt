@@ -21,8 +21,8 @@ use Rattle.fo_tree_down.proofs.Next.{local_seen}
 use Rattle.fo_tree_down.proofs.Beside.{index_last, index_within, way_block, on_way_block}
 use Rattle.fo_tree_down.proofs.Stilling.{index_one}
 use Rattle.fo_tree_raise.proofs.Clear.{way_part, way_past}
-use Rattle.fo_tree_grow.specs.Grow.{sized}
-use Rattle.fo_tree_grow.proofs.Sizing.{sized_block}
+use Rattle.fo_tree_lift.specs.of_tree_grow.Grow.{sized}
+use Rattle.fo_tree_lift.proofs.of_tree_grow.Sizing.{sized_block}
 use Rattle.fo_tree_clear.specs.Steps.{Steps, IsStep}
 use Rattle.fo_tree_clear.proofs.Stepping.{Follows, steps_join, steps_changes}
 use Rattle.fo_tree_clear.proofs.Descending.{steps_down}

@@ -14,8 +14,8 @@ use fo_image::{Pointer, least_depth};
 use fo_ports::Blocks;
 use fo_tree_clear::clear_tail;
 use fo_tree_down::Current;
-use fo_tree_grow::own_next;
 use fo_tree_lift::own_raised;
+use fo_tree_lift::tree_grow::own_next;
 use fo_tree_look::Kept;
 use fo_tree_read::Tree;
 

@@ -4,3 +4,4 @@ pub mod Above
 pub mod Having
 pub mod Ending
 pub mod Choosing
+pub use Rattle.fo_tree_grow.proofs as of_tree_grow

@@ -1,2 +1,3 @@
 pub mod Lift
 pub mod Owns
+pub use Rattle.fo_tree_grow.specs as of_tree_grow

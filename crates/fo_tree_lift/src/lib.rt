@@ -15,3 +15,6 @@ mod own;
 pub use leaf::own_leaf;
 pub use levels::lift;
 pub use own::own_raised;
+
+// Passed on, so that a crate above names this one alone.
+pub use fo_tree_grow as tree_grow;

@@ -23,7 +23,7 @@ use Rattle.fo_tree_read.specs.declared.tree.Tree.{Tree}
 use Rattle.fo_tree_look.specs.declared.ways.Kept.{Kept}
 use Rattle.fo_tree_look.specs.Source.{WayReady, Ready, leaves_of}
 use Rattle.fo_tree_down.specs.Way.{with_top}
-use Rattle.fo_tree_clear.specs.Put.{byte_here}
+use Rattle.fo_tree_append.specs.of_tree_clear.Put.{byte_here}
 use Rattle.fo_tree_link.specs.Link.{entry_of}
 use Rattle.fo_tree_append.specs.Grown.{GrownTo}
 use Rattle.fo_tree_set.specs.Set.{MayTrim, SameForm}

@@ -10,7 +10,7 @@ ghost use Rattle.fo_tree_append.specs.Grown.{GrownTo};
 use crate::raise::raise_to;
 use fo_image::Pointer;
 use fo_ports::Blocks;
-use fo_tree_clear::clear_tail;
+use fo_tree_append::tree_clear::clear_tail;
 use fo_tree_look::Kept;
 use fo_tree_read::Tree;
 

@@ -9,7 +9,7 @@ ghost use Rattle.fo_tree_append.specs.Grown.{RaisedTo};
 
 use fo_image::{Pointer, least_depth};
 use fo_ports::Blocks;
-use fo_tree_lift::lift;
+use fo_tree_append::tree_lift::lift;
 use fo_tree_look::Kept;
 use fo_tree_read::Tree;
 

@@ -6,7 +6,7 @@ ghost use Rattle.fo_files_record.specs.Leaf.{IsEntriesAt};
 
 use fo_files_change::take_file;
 use fo_files_dir::{DirAt, FileAt};
-use fo_files_leaf::{LeafOf, ready_leaf};
+use fo_files_new::files_leaf::{LeafOf, ready_leaf};
 use fo_files_new::new_file;
 use fo_files_write::write_data;
 use fo_image::Record;

@@ -6,9 +6,9 @@ ghost use Rattle.fo_files_dir.specs.Dir.{IsFileAt};
 ghost use Rattle.test_tree_set.specs.Steps.{blank_data};
 
 use fo_crash::Slot;
+use fo_files_cut::files_write::write_data;
 use fo_files_cut::{CutError, cut_data};
 use fo_files_dir::FileAt;
-use fo_files_write::write_data;
 use fo_image::{Entry, Kind, Pointer};
 use fo_ports::{BlockError, Blocks};
 use fo_tree_look::Ways;

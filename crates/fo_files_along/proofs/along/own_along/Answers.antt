@@ -1,5 +1,5 @@
 use Rattle.std.proofs.Common.{◌≡◌, ◌+◌, ◌-◌, length, subst, arith}
-use Rattle.fo_files_at.proofs.Ways.{file_stays, way_stays}
+use Rattle.fo_files_plan.proofs.of_files_at.Ways.{file_stays, way_stays}
 use Rattle.fo_files_plan.proofs.Trails.{steps_count}
 use Rattle.fo_files_along.specs.Along.{IsStepOf, IsFileOf, IsAboveOf}
 use Rattle.fo_files_along.proofs.Pairs.{entries_at, above_stands, numbers_differ}

@@ -1,5 +1,5 @@
 use Rattle.std.proofs.Common.{◌∙◌, arith}
-use Rattle.fo_files_at.proofs.Ways.{way_stays}
+use Rattle.fo_files_plan.proofs.of_files_at.Ways.{way_stays}
 use Rattle.fo_files_along.proofs.Apart.{apart}
 use Rattle.fo_files_along.proofs.along.own_blocks.Goals as goal
 

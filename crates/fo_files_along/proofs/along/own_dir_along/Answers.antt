@@ -1,5 +1,5 @@
 use Rattle.std.proofs.Common.{◌≡◌, length, inl, subst, arith}
-use Rattle.fo_files_at.proofs.Ways.{file_stays, way_stays, end_rank}
+use Rattle.fo_files_plan.proofs.of_files_at.Ways.{file_stays, way_stays, end_rank}
 use Rattle.fo_files_plan.proofs.Trails.{steps_count}
 use Rattle.fo_files_along.specs.Along.{IsDirOf, IsAboveOf}
 use Rattle.fo_files_along.proofs.Pairs.{above_stands, end_differs}

@@ -1,6 +1,6 @@
 use Rattle.std.proofs.Common.{sym, ap, subst, ◌∙◌, arith}
-use Rattle.fo_files_at.specs.declared.at.Step.{Step}
-use Rattle.fo_files_at.specs.Held.{FileHolds}
+use Rattle.fo_files_plan.specs.of_files_at.declared.at.Step.{Step}
+use Rattle.fo_files_plan.specs.of_files_at.Held.{FileHolds}
 use Rattle.fo_files_plan.proofs.Trails.{step_in}
 use Rattle.fo_files_along.proofs.along.step_at.Goals as goal
 

@@ -1,6 +1,6 @@
 use Rattle.std.proofs.Common.{◌+◌, length, inl, inr, sym, ap, subst, ◌∙◌, arith}
-use Rattle.fo_files_ready.proofs.Steps.{failed_since}
-use Rattle.fo_files_along.proofs.Ways.{file_holds, steps_long}
+use Rattle.fo_files_own.proofs.of_files_ready.Steps.{failed_since}
+use Rattle.fo_files_create_look.proofs.of_files_along.Ways.{file_holds, steps_long}
 use Rattle.fo_files_own.specs.Own.{IsOwnAt, MayOwn}
 use Rattle.fo_files_create.specs.Create.{IsApartFrom, LeavesNew, MakesNew, last_leaf}
 use Rattle.fo_files_create.proofs.Steps.{above_of_root, own_may, own_stands, own_with}

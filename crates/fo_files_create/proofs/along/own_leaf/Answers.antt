@@ -1,5 +1,5 @@
 use Rattle.std.proofs.Common.{◌-◌, ◌<◌, length, get_or, ap, subst, ◌∙◌, arith}
-use Rattle.fo_files_at.specs.declared.at.Step.{Step}
+use Rattle.fo_files_create_look.specs.of_files_at.declared.at.Step.{Step}
 use Rattle.fo_files_create.proofs.Steps.{last_leaf_is}
 use Rattle.fo_files_create.proofs.along.own_leaf.Goals as goal
 

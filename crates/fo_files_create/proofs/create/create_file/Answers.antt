@@ -1,8 +1,8 @@
 use Rattle.std.proofs.Common.{◌+◌, ◌^◌, ◌<◌, inl, inr, ap, subst, ◌∙◌, arith}
 use Rattle.fo_world.specs.Step.{below, create_need, info_of, new_node}
-use Rattle.fo_files_along.specs.Along.{HasRoom}
-use Rattle.fo_files_along.proofs.Refusing.{cause_later, look_cause}
-use Rattle.fo_files_along.proofs.Whole.{settled_looks}
+use Rattle.fo_files_create_look.specs.of_files_along.Along.{HasRoom}
+use Rattle.fo_files_create_look.proofs.of_files_along.Refusing.{cause_later, look_cause}
+use Rattle.fo_files_create_look.proofs.of_files_along.Whole.{settled_looks}
 use Rattle.fo_files_create_look.specs.Named.{new_record}
 use Rattle.fo_files_create.specs.Create.{IsLate, numbered, told_of}
 use Rattle.fo_files_create.proofs.Late.{late_refused, look_refused}

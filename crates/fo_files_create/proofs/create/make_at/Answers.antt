@@ -4,12 +4,12 @@ use Rattle.fo_image.specs.Record.{RecordHolds}
 use Rattle.fo_tree_read.proofs.Exits.{looks_none}
 use Rattle.fo_world.specs.Answers.{HasCause}
 use Rattle.fo_world.specs.Step.{need}
-use Rattle.fo_files_at.proofs.Ways.{way_stays}
-use Rattle.fo_files_look.specs.Told.{faults_of}
-use Rattle.fo_files_along.specs.Along.{HasRoom, IsBlocks}
-use Rattle.fo_files_along.proofs.Refusing.{blocks_are, blocks_cause}
+use Rattle.fo_files_create_look.proofs.of_files_at.Ways.{way_stays}
+use Rattle.fo_files_create_look.specs.of_files_look.Told.{faults_of}
+use Rattle.fo_files_create_look.specs.of_files_along.Along.{HasRoom, IsBlocks}
+use Rattle.fo_files_create_look.proofs.of_files_along.Refusing.{blocks_are, blocks_cause}
 use Rattle.fo_dir_add.specs.Adds.{IsNumbered}
-use Rattle.fo_files_at.specs.declared.file.File.{File}
+use Rattle.fo_files_create_look.specs.of_files_at.declared.file.File.{File}
 use Rattle.fo_files_create.specs.Create.{MakesAlong, numbered}
 use Rattle.fo_files_create.proofs.Telling.{number_holds, told_same}
 use Rattle.fo_files_create.proofs.create.make_at.Goals as goal

@@ -1,8 +1,8 @@
 use Rattle.std.proofs.Common.{◌+◌, ◌^◌, ◌<◌, inl, ap, subst, ◌∙◌, arith}
 use Rattle.fo_tree_read.proofs.Exits.{looks_none}
 use Rattle.fo_world.specs.Step.{below, create_need}
-use Rattle.fo_files_along.specs.Along.{HasRoom}
-use Rattle.fo_files_along.proofs.Refusing.{cause_later, look_cause}
+use Rattle.fo_files_create_look.specs.of_files_along.Along.{HasRoom}
+use Rattle.fo_files_create_look.proofs.of_files_along.Refusing.{cause_later, look_cause}
 use Rattle.fo_files_create.specs.Create.{MakesAlong, numbered, told_of}
 use Rattle.fo_files_create.proofs.Late.{blocks_late, settled_numbers}
 use Rattle.fo_files_create.proofs.Steps.{found_on}

@@ -2,8 +2,8 @@ use Rattle.std.proofs.Common.{◌+◌, ◌≤◌, length, inl, inr, sym, ap, sub
 use Rattle.fo_tree_read.proofs.Exits.{looks_none}
 use Rattle.fo_world.specs.Answers.{HasCause}
 use Rattle.fo_world.specs.Step.{need}
-use Rattle.fo_files_look.specs.Told.{faults_of}
-use Rattle.fo_files_along.specs.Along.{HasRoom}
+use Rattle.fo_files_create_look.specs.of_files_look.Told.{faults_of}
+use Rattle.fo_files_create_look.specs.of_files_along.Along.{HasRoom}
 use Rattle.fo_files_create_look.specs.Found.{IsFound}
 use Rattle.fo_files_create.specs.Create.{LeavesAlong, MakesAlong, numbered, told_of}
 use Rattle.fo_files_create.proofs.create.make_numbered.Goals as goal

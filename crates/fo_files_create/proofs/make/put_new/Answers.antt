@@ -1,5 +1,5 @@
 use Rattle.std.proofs.Common.{◌+◌, inl, inr, ap, ◌∙◌, arith}
-use Rattle.fo_files_ready.proofs.Steps.{failed_since}
+use Rattle.fo_files_own.proofs.of_files_ready.Steps.{failed_since}
 use Rattle.fo_files_own.proofs.Carry.{few_blocks, few_pins, few_removals, has_ready_on, may_put_on}
 use Rattle.fo_files_create.proofs.Steps.{block_on, label_comes, of_root, own_numbers, own_usable, ready_comes}
 use Rattle.fo_files_create.proofs.make.put_new.Goals as goal

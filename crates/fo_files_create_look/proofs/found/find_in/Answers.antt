@@ -1,6 +1,6 @@
 use Rattle.fo_looks.proofs.Looks.{looks_joins}
-use Rattle.fo_files_at.proofs.Ways.{way_stays}
-use Rattle.fo_files_look.proofs.Telling.{cause_since}
+use Rattle.fo_files_along.proofs.of_files_at.Ways.{way_stays}
+use Rattle.fo_files_along.proofs.of_files_look.Telling.{cause_since}
 use Rattle.fo_files_create_look.proofs.found.find_in.Goals as goal
 
 pub find_place-requires-clause-way : goal.find_place-requires-clause-way

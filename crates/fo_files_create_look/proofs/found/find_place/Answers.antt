@@ -1,4 +1,4 @@
-use Rattle.fo_files_at.proofs.Ways.{way_stays}
+use Rattle.fo_files_along.proofs.of_files_at.Ways.{way_stays}
 use Rattle.fo_files_create_look.proofs.found.find_place.Goals as goal
 
 pub found_at-requires-clause-way : goal.found_at-requires-clause-way

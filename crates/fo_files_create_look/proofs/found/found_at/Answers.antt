@@ -1,6 +1,6 @@
 use Rattle.std.proofs.Common.{refl, sym, ap, subst}
 use Rattle.fo_image.specs.Record.{RootRecordHolds}
-use Rattle.fo_files_at.specs.declared.file.File.{File}
+use Rattle.fo_files_along.specs.of_files_at.declared.file.File.{File}
 use Rattle.fo_files_along.specs.Along.{touched}
 use Rattle.fo_files_along.proofs.Ways.{file_holds, touched_holds, way_named}
 use Rattle.fo_files_create_look.proofs.Ways.{touched_root, user_of}

@@ -1,6 +1,6 @@
 use Rattle.std.proofs.Common.{true, subst}
 use Rattle.fo_looks.proofs.Looks.{looks_joins}
-use Rattle.fo_files_look.proofs.Telling.{cause_since}
+use Rattle.fo_files_along.proofs.of_files_look.Telling.{cause_since}
 use Rattle.fo_files_create_look.specs.Refused.{IsRefused}
 use Rattle.fo_files_create_look.proofs.Refusing.{at_on}
 use Rattle.fo_files_create_look.proofs.limits.may_make.Goals as goal

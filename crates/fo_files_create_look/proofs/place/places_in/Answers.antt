@@ -1,7 +1,7 @@
 use Rattle.std.specs.Prelude.{Err}
 use Rattle.fo_looks.proofs.Looks.{looks_joins}
-use Rattle.fo_files_at.proofs.Joining.{refused_since}
-use Rattle.fo_files_at.proofs.Ways.{way_stays}
+use Rattle.fo_files_along.proofs.of_files_at.Joining.{refused_since}
+use Rattle.fo_files_along.proofs.of_files_at.Ways.{way_stays}
 use Rattle.fo_files_along.proofs.Ways.{file_holds}
 use Rattle.fo_files_create_look.proofs.place.places_in.Goals as goal
 

@@ -1,6 +1,6 @@
 use Rattle.std.proofs.Common.{◌-◌, ◌<◌, ◌≤◌, length, get_or, sym, ap, subst, ◌∙◌, arith}
-use Rattle.fo_files_at.specs.declared.at.Step.{Step}
-use Rattle.fo_files_at.specs.Held.{FileHolds}
+use Rattle.fo_files_along.specs.of_files_at.declared.at.Step.{Step}
+use Rattle.fo_files_along.specs.of_files_at.Held.{FileHolds}
 use Rattle.fo_files_along.proofs.Ways.{file_holds, step_at}
 use Rattle.fo_files_create_look.proofs.place.spare_of.Goals as goal
 

@@ -1,7 +1,7 @@
 use Rattle.std.proofs.Common.{length, inl, inr, subst, arith}
 use Rattle.fo_files_into.specs.Into.{Edits, UnchangedBy}
-use Rattle.fo_files_ready.proofs.Steps.{failed_since}
-use Rattle.fo_files_along.proofs.Ways.{steps_long, file_holds}
+use Rattle.fo_files_into.proofs.of_files_ready.Steps.{failed_since}
+use Rattle.fo_files_into.proofs.of_files_along.Ways.{steps_long, file_holds}
 use Rattle.fo_files_into.proofs.Steps.{last_step}
 use Rattle.fo_files_edit.proofs.edit.edit_along.Goals as goal
 

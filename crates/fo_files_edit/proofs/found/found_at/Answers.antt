@@ -1,6 +1,6 @@
 use Rattle.std.proofs.Common.{inl, inr, sym, ◌∙◌}
 use Rattle.fo_looks.proofs.Looks.{looks_joins}
-use Rattle.fo_files_at.proofs.Ways.{way_stays}
+use Rattle.fo_files_into.proofs.of_files_at.Ways.{way_stays}
 use Rattle.fo_files_edit.specs.Asks.{changes_nothing}
 use Rattle.fo_files_edit.proofs.Refusing.{not_true, not_false}
 use Rattle.fo_files_edit.proofs.found.found_at.Goals as goal

@@ -1,8 +1,8 @@
 use Rattle.std.proofs.Common.{sym, ap, subst}
-use Rattle.fo_files_at.specs.declared.at.Way.{Way}
-use Rattle.fo_files_at.specs.Way.{IsWay}
-use Rattle.fo_files_at.proofs.Ways.{way_stays}
-use Rattle.fo_files_along.proofs.Ways.{file_holds, way_named}
+use Rattle.fo_files_into.specs.of_files_at.declared.at.Way.{Way}
+use Rattle.fo_files_into.specs.of_files_at.Way.{IsWay}
+use Rattle.fo_files_into.proofs.of_files_at.Ways.{way_stays}
+use Rattle.fo_files_into.proofs.of_files_along.Ways.{file_holds, way_named}
 use Rattle.fo_files_edit.specs.Fields.{edited}
 use Rattle.fo_files_edit.proofs.Edited.{edited_holds, edited_number}
 use Rattle.fo_files_edit.proofs.found.ready_way.Goals as goal

@@ -1,7 +1,7 @@
 use Rattle.std.proofs.Common.{◌-◌, sym, ap, subst, ◌∙◌, arith}
-use Rattle.fo_files_at.specs.declared.at.Step.{Step}
-use Rattle.fo_files_at.specs.Held.{FileHolds}
-use Rattle.fo_files_along.proofs.Ways.{file_holds, step_at}
+use Rattle.fo_files_into.specs.of_files_at.declared.at.Step.{Step}
+use Rattle.fo_files_into.specs.of_files_at.Held.{FileHolds}
+use Rattle.fo_files_into.proofs.of_files_along.Ways.{file_holds, step_at}
 use Rattle.fo_files_edit.proofs.found.spare_of.Goals as goal
 
 pub record_len-len-requires : goal.record_len-len-requires

@@ -1,11 +1,11 @@
 use Rattle.std.proofs.Common.{◌≤◌, length, sym, subst}
 use Rattle.std.specs.Prelude.{Option, IfSome}
-use Rattle.fo_files_at.specs.declared.at.Way.{Way}
-use Rattle.fo_files_at.specs.Way.{IsWay}
-use Rattle.fo_files_along.proofs.Refusing.{blocks_are}
+use Rattle.fo_files_into.specs.of_files_at.declared.at.Way.{Way}
+use Rattle.fo_files_into.specs.of_files_at.Way.{IsWay}
+use Rattle.fo_files_into.proofs.of_files_along.Refusing.{blocks_are}
 use Rattle.fo_files_edit.specs.Asks.{IsUnfound}
 use Rattle.fo_files_edit.proofs.Refusing.{unfound}
-use Rattle.fo_files_look.specs.Told.{file_error}
+use Rattle.fo_files_into.specs.of_files_look.Told.{file_error}
 use Rattle.fo_files_edit.proofs.found.way_at.Goals as goal
 
 pub returns-in-Ok-Some-clause-way : goal.returns-in-Ok-Some-clause-way

@@ -3,7 +3,7 @@ use Rattle.fo_image.specs.declared.record.Record.{Record}
 use Rattle.fo_image.specs.Record.{RootRecordHolds}
 use Rattle.fo_tree_read.proofs.Exits.{looks_none}
 use Rattle.fo_files_record.specs.Own.{PutsOwn}
-use Rattle.fo_files_along.proofs.Ways.{file_holds, steps_long}
+use Rattle.fo_files_into.proofs.of_files_along.Ways.{file_holds, steps_long}
 use Rattle.fo_files_edit.specs.Edit.{as_root}
 use Rattle.fo_files_edit.proofs.Roots.{root_stands, root_holds}
 use Rattle.fo_files_edit.proofs.root.edit_root.Goals as goal

@@ -3,9 +3,9 @@ use Rattle.fo_tree_read.proofs.Exits.{looks_none}
 use Rattle.fo_dir_change.specs.Changes.{Bears}
 use Rattle.fo_files_record.specs.Stays.{no_slot}
 use Rattle.fo_files_record.proofs.Rewriting.{rewrites_calm}
-use Rattle.fo_files_change.proofs.Records.{records_ready, records_rank, later_failed}
-use Rattle.fo_files_write.specs.Alters.{is_above, any_kind}
-use Rattle.fo_files_write.proofs.Steps.{alters_none}
+use Rattle.fo_files_ready.proofs.of_files_change.Records.{records_ready, records_rank, later_failed}
+use Rattle.fo_files_cut.specs.of_files_write.Alters.{is_above, any_kind}
+use Rattle.fo_files_cut.proofs.of_files_write.Steps.{alters_none}
 use Rattle.fo_files_ready.specs.Ready.{IsLeafOf}
 use Rattle.fo_files_ready.proofs.Steps.{leaf_looks, failed_since}
 use Rattle.fo_files_along.proofs.Pairs.{entries_looks}

@@ -1,10 +1,10 @@
 use Rattle.std.proofs.Common.{◌≡◌, ◌+◌, ◌<◌, ◌++◌, [], ◌∷◌, take, drop, length, get_or, sym, ap, subst, ◌∙◌, arith}
 use Rattle.std.proofs.lemmas.List.{take_more}
 use Rattle.fo_looks.proofs.Looks.{looks_joins}
-use Rattle.fo_files_at.specs.declared.at.Step.{Step}
-use Rattle.fo_files_at.specs.declared.file.File.{File}
-use Rattle.fo_files_at.specs.Way.{IsStep, first_of}
-use Rattle.fo_files_at.proofs.Ways.{step_stays}
+use Rattle.fo_files_way.specs.of_files_at.declared.at.Step.{Step}
+use Rattle.fo_files_way.specs.of_files_at.declared.file.File.{File}
+use Rattle.fo_files_way.specs.of_files_at.Way.{IsStep, first_of}
+use Rattle.fo_files_way.proofs.of_files_at.Ways.{step_stays}
 use Rattle.fo_files_plan.specs.Along.{IsAlong}
 use Rattle.fo_files_plan.proofs.Trails.{step_in, first_here, slice_end, caused_since}
 use Rattle.fo_files_plan.proofs.along.add_steps.Goals as goal

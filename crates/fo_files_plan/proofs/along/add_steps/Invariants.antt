@@ -1,6 +1,6 @@
 use Rattle.std.proofs.Common.{◌+◌, ◌*◌, ◌≤◌, take, drop}
 use Rattle.fo_ports.specs.State.{Looks}
-use Rattle.fo_files_at.specs.Way.{first_of}
+use Rattle.fo_files_way.specs.of_files_at.Way.{first_of}
 use Rattle.fo_files_plan.specs.Along.{IsAlong}
 use Rattle.fo_files_plan.proofs.along.add_steps.Given as goal
 

@@ -1,4 +1,4 @@
-use Rattle.fo_files_leaf.proofs.Altering.{alters_joins}
+use Rattle.fo_files_change.proofs.of_files_leaf.Altering.{alters_joins}
 use Rattle.fo_files_change.proofs.Records.{dir_readied}
 use Rattle.fo_files_ready.proofs.Steps.{failed_since}
 use Rattle.fo_files_ready.proofs.leaf.added_leaf.Goals as goal

@@ -1,6 +1,6 @@
 use Rattle.std.proofs.Common.{subst}
-use Rattle.fo_files_leaf.specs.declared.open.LeafOf.{LeafOf}
-use Rattle.fo_files_leaf.specs.Leaf.{Readied}
+use Rattle.fo_files_change.specs.of_files_leaf.declared.open.LeafOf.{LeafOf}
+use Rattle.fo_files_change.specs.of_files_leaf.Leaf.{Readied}
 use Rattle.fo_files_change.proofs.Records.{records_ready}
 use Rattle.fo_files_ready.proofs.Steps.{wanted_holder, wanted_is, wanted_alters, wanted_own, unchanged}
 use Rattle.fo_files_ready.proofs.leaf.leaf_at.Goals as goal

@@ -1,8 +1,8 @@
 use Rattle.std.proofs.Common.{◌≡◌}
 use Rattle.fo_ports.specs.State.{none}
-use Rattle.fo_files_leaf.specs.Leaf.{IsAbove}
-use Rattle.fo_files_leaf.proofs.Altering.{alters_looks}
-use Rattle.fo_files_leaf.proofs.Readying.{entry_at, readied_alters}
+use Rattle.fo_files_change.specs.of_files_leaf.Leaf.{IsAbove}
+use Rattle.fo_files_change.proofs.of_files_leaf.Altering.{alters_looks}
+use Rattle.fo_files_change.proofs.of_files_leaf.Readying.{entry_at, readied_alters}
 use Rattle.fo_files_ready.proofs.own.own_few.Goals as goal
 
 pub own_grown-requires-clause-entry : goal.own_grown-requires-clause-entry

@@ -1,5 +1,5 @@
 use Rattle.std.proofs.Common.{inl, inr, refl, arith}
-use Rattle.fo_files_leaf.proofs.Altering.{alters_joins}
+use Rattle.fo_files_change.proofs.of_files_leaf.Altering.{alters_joins}
 use Rattle.fo_files_record.specs.Stays.{no_slot}
 use Rattle.fo_files_record.proofs.Rewriting.{rewrites_same}
 use Rattle.fo_files_change.proofs.Records.{dir_readied, entries_readied, later_failed}

@@ -1,8 +1,8 @@
 use Rattle.std.proofs.Common.{inl, inr, subst, arith}
 use Rattle.std.specs.Prelude.{Option, IfSome}
 use Rattle.fo_world.specs.Step.{most_need}
-use Rattle.fo_files_along.specs.Along.{HasRoom}
-use Rattle.fo_files_along.proofs.Refusing.{cause_later, look_cause}
+use Rattle.fo_files_edit.specs.of_files_along.Along.{HasRoom}
+use Rattle.fo_files_edit.proofs.of_files_along.Refusing.{cause_later, look_cause}
 use Rattle.fo_files_edit.specs.declared.found.Found.{Found}
 use Rattle.fo_files_edit.specs.Asks.{FoundOther}
 use Rattle.fo_files_edit.proofs.Refusing.{unfound}

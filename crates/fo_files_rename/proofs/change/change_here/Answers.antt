@@ -1,6 +1,6 @@
 use Rattle.std.proofs.Common.{◌+◌, ◌*◌, ◌≤◌, length, inl, inr, refl, sym, subst, arith}
 use Rattle.fo_world.specs.Step.{most_need}
-use Rattle.fo_files_at.specs.Way.{IsWay}
+use Rattle.fo_files_edit.specs.of_files_at.Way.{IsWay}
 use Rattle.fo_files_rename.specs.Change.{ChangesFound, LeavesFound}
 use Rattle.fo_files_rename.proofs.Causes.{cause_more}
 use Rattle.fo_files_rename.proofs.Finding.{most_of, no_trail, some_need}

@@ -1,7 +1,7 @@
 use Rattle.std.proofs.Common.{◌+◌, ◌*◌, length, inl, inr, arith}
-use Rattle.fo_files_at.proofs.Ways.{way_stays}
-use Rattle.fo_files_along.proofs.Refusing.{cause_later, look_cause}
-use Rattle.fo_files_along.specs.Along.{HasRoom}
+use Rattle.fo_files_edit.proofs.of_files_at.Ways.{way_stays}
+use Rattle.fo_files_edit.proofs.of_files_along.Refusing.{cause_later, look_cause}
+use Rattle.fo_files_edit.specs.of_files_along.Along.{HasRoom}
 use Rattle.fo_files_rename.proofs.Owning.{own_stands}
 use Rattle.fo_files_rename.proofs.Finding.{map_ok, map_err, map_why}
 use Rattle.fo_files_rename.proofs.change.rename_found.Goals as goal

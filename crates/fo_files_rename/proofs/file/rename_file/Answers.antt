@@ -1,5 +1,5 @@
 use Rattle.std.proofs.Common.{inl, inr, arith}
-use Rattle.fo_files_ready.proofs.Steps.{failed_since}
+use Rattle.fo_files_own.proofs.of_files_ready.Steps.{failed_since}
 use Rattle.fo_files_own.proofs.Carry.{few_pins, few_removals}
 use Rattle.fo_files_rename.proofs.Carried.{beside_still, block_still, few, may_still, own_away, own_usable, ready_still, same_ready}
 use Rattle.fo_files_rename.proofs.file.rename_file.Goals as goal

@@ -1,5 +1,5 @@
 use Rattle.std.proofs.Common.{arith}
-use Rattle.fo_files_along.proofs.Ways.{steps_long}
+use Rattle.fo_files_edit.proofs.of_files_along.Ways.{steps_long}
 use Rattle.fo_files_rename.proofs.Owning.{own_holds}
 use Rattle.fo_files_rename.proofs.own.own_for.Goals as goal
 

@@ -1,7 +1,7 @@
 use Rattle.std.proofs.Common.{◌-◌, sym, ap, subst, ◌∙◌, arith}
-use Rattle.fo_files_at.specs.declared.at.Step.{Step}
-use Rattle.fo_files_at.specs.Held.{FileHolds}
-use Rattle.fo_files_along.proofs.Ways.{step_at}
+use Rattle.fo_files_edit.specs.of_files_at.declared.at.Step.{Step}
+use Rattle.fo_files_edit.specs.of_files_at.Held.{FileHolds}
+use Rattle.fo_files_edit.proofs.of_files_along.Ways.{step_at}
 use Rattle.fo_files_rename.proofs.Owning.{step_named}
 use Rattle.fo_files_rename.proofs.own.own_spare.Goals as goal
 

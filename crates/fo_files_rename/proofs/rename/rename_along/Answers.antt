@@ -1,9 +1,9 @@
 use Rattle.std.proofs.Common.{length, inl, inr, sym, subst, arith}
 use Rattle.fo_tree_read.proofs.Exits.{looks_none}
-use Rattle.fo_files_ready.proofs.Steps.{failed_since}
+use Rattle.fo_files_own.proofs.of_files_ready.Steps.{failed_since}
 use Rattle.fo_files_own.specs.Own.{IsOwnAt, MayOwn}
-use Rattle.fo_files_along.proofs.Ways.{file_holds, steps_long}
-use Rattle.fo_files_into.proofs.Steps.{last_step}
+use Rattle.fo_files_edit.proofs.of_files_along.Ways.{file_holds, steps_long}
+use Rattle.fo_files_edit.proofs.of_files_into.Steps.{last_step}
 use Rattle.fo_files_rename.specs.Rename.{IsApartFrom, LeavesFile, RenamesFile}
 use Rattle.fo_files_rename.proofs.Owning.{may_own, places_at}
 use Rattle.fo_files_rename.proofs.Causes.{failed_here}

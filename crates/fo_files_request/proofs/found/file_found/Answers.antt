@@ -1,6 +1,6 @@
 use Rattle.fo_looks.proofs.Looks.{looks_joins}
-use Rattle.fo_files_at.proofs.Ways.{way_stays}
-use Rattle.fo_files_along.proofs.Refusing.{cause_later}
+use Rattle.fo_files_into.proofs.of_files_at.Ways.{way_stays}
+use Rattle.fo_files_into.proofs.of_files_along.Refusing.{cause_later}
 use Rattle.fo_files_request.proofs.found.file_found.Goals as goal
 
 pub ready_way-requires-clause-silent : goal.ready_way-requires-clause-silent

@@ -1,9 +1,9 @@
 use Rattle.std.proofs.Common.{refl, sym, ap, subst, ◌∙◌}
-use Rattle.fo_files_at.specs.declared.at.Way.{Way}
-use Rattle.fo_files_at.specs.Way.{IsWay}
-use Rattle.fo_files_at.proofs.Ways.{way_stays}
-use Rattle.fo_files_along.specs.Along.{touched}
-use Rattle.fo_files_along.proofs.Ways.{file_holds, touched_holds, way_named}
+use Rattle.fo_files_into.specs.of_files_at.declared.at.Way.{Way}
+use Rattle.fo_files_into.specs.of_files_at.Way.{IsWay}
+use Rattle.fo_files_into.proofs.of_files_at.Ways.{way_stays}
+use Rattle.fo_files_into.specs.of_files_along.Along.{touched}
+use Rattle.fo_files_into.proofs.of_files_along.Ways.{file_holds, touched_holds, way_named}
 use Rattle.fo_files_request.proofs.found.ready_way.Goals as goal
 
 pub record_len-was-requires : goal.record_len-was-requires

@@ -1,7 +1,7 @@
 use Rattle.std.proofs.Common.{inr, subst}
 use Rattle.std.specs.Prelude.{Option, IfSome}
-use Rattle.fo_files_at.specs.declared.at.Way.{Way}
-use Rattle.fo_files_at.specs.Way.{IsWay}
+use Rattle.fo_files_into.specs.of_files_at.declared.at.Way.{Way}
+use Rattle.fo_files_into.specs.of_files_at.Way.{IsWay}
 use Rattle.fo_files_request.proofs.found.way_to_file.Goals as goal
 
 pub returns-then-way-clause-refused : goal.returns-then-way-clause-refused

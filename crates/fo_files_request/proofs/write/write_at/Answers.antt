@@ -1,11 +1,11 @@
 use Rattle.std.proofs.Common.{◌-◌, length, inl, ◌∙◌, arith}
 use Rattle.fo_tree_read.proofs.Exits.{looks_none}
 use Rattle.fo_world.specs.Step.{need}
-use Rattle.fo_files_along.specs.Along.{HasRoom}
-use Rattle.fo_files_along.proofs.Both.{on_ok, on_err, if_err, had_room}
-use Rattle.fo_files_along.proofs.Refusing.{look_cause, cause_later}
+use Rattle.fo_files_into.specs.of_files_along.Along.{HasRoom}
+use Rattle.fo_files_into.proofs.of_files_along.Both.{on_ok, on_err, if_err, had_room}
+use Rattle.fo_files_into.proofs.of_files_along.Refusing.{look_cause, cause_later}
 use Rattle.fo_files_request.proofs.Refusing.{blocks_refused}
-use Rattle.fo_files_along.proofs.Whole.{settled_looks}
+use Rattle.fo_files_into.proofs.of_files_along.Whole.{settled_looks}
 use Rattle.fo_files_request.proofs.write.write_at.Goals as goal
 
 pub write_found-requires-clause-silent : goal.write_found-requires-clause-silent

@@ -2,11 +2,11 @@ use Rattle.std.proofs.Common.{◌+◌, ◌-◌, ◌≤◌, length, inl, sym, ap,
 use Rattle.fo_tree_read.proofs.Exits.{looks_none}
 use Rattle.fo_world.specs.Answers.{HasCause}
 use Rattle.fo_world.specs.Step.{need, write_need}
-use Rattle.fo_files_look.specs.Told.{faults_of}
-use Rattle.fo_files_along.specs.Along.{HasRoom}
+use Rattle.fo_files_into.specs.of_files_look.Told.{faults_of}
+use Rattle.fo_files_into.specs.of_files_along.Along.{HasRoom}
 use Rattle.fo_files_request.specs.Write.{WhyRefused, Writes, Refused}
-use Rattle.fo_files_at.specs.Way.{IsWay}
-use Rattle.fo_files_along.proofs.Refusing.{look_cause}
+use Rattle.fo_files_into.specs.of_files_at.Way.{IsWay}
+use Rattle.fo_files_into.proofs.of_files_along.Refusing.{look_cause}
 use Rattle.fo_files_request.proofs.Whole.{need_is}
 use Rattle.fo_files_request.proofs.write.write_file.Goals as goal
 

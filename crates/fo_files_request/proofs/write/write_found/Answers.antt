@@ -2,10 +2,10 @@ use Rattle.std.proofs.Common.{◌-◌, length, inl, sym, subst, arith}
 use Rattle.fo_tree_read.proofs.Exits.{looks_none}
 use Rattle.fo_world.specs.Answers.{HasCause}
 use Rattle.fo_world.specs.Step.{need}
-use Rattle.fo_files_at.proofs.Ways.{way_stays}
-use Rattle.fo_files_look.specs.Told.{faults_of}
-use Rattle.fo_files_along.specs.Along.{HasRoom, IsBlocks}
-use Rattle.fo_files_along.proofs.Refusing.{blocks_are, blocks_cause}
+use Rattle.fo_files_into.proofs.of_files_at.Ways.{way_stays}
+use Rattle.fo_files_into.specs.of_files_look.Told.{faults_of}
+use Rattle.fo_files_into.specs.of_files_along.Along.{HasRoom, IsBlocks}
+use Rattle.fo_files_into.proofs.of_files_along.Refusing.{blocks_are, blocks_cause}
 use Rattle.fo_files_request.proofs.write.write_found.Goals as goal
 
 pub write_along-requires-clause-silent : goal.write_along-requires-clause-silent

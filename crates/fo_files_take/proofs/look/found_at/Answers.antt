@@ -1,8 +1,8 @@
 use Rattle.std.proofs.Common.{◌-◌, length, sym, subst, arith}
 use Rattle.fo_image.specs.declared.record.Record.{Record}
 use Rattle.fo_image.specs.Record.{RecordHolds, RootRecordHolds}
-use Rattle.fo_files_at.specs.declared.at.Step.{Step}
-use Rattle.fo_files_at.proofs.Ways.{way_stays}
+use Rattle.fo_files_along.specs.of_files_at.declared.at.Step.{Step}
+use Rattle.fo_files_along.proofs.of_files_at.Ways.{way_stays}
 use Rattle.fo_files_along.proofs.Ways.{step_at, steps_long, touched_holds}
 use Rattle.fo_files_take.proofs.Taking.{touched_root}
 use Rattle.fo_files_take.proofs.look.found_at.Goals as goal

@@ -1,7 +1,7 @@
 use Rattle.std.proofs.Common.{sym, subst}
 use Rattle.fo_looks.proofs.Looks.{looks_joins}
-use Rattle.fo_files_at.specs.Way.{IsWay}
-use Rattle.fo_files_at.proofs.Ways.{way_stays}
+use Rattle.fo_files_along.specs.of_files_at.Way.{IsWay}
+use Rattle.fo_files_along.proofs.of_files_at.Ways.{way_stays}
 use Rattle.fo_files_along.proofs.Ways.{file_holds}
 use Rattle.fo_files_take.proofs.Refusing.{refused_wider}
 use Rattle.fo_files_take.proofs.look.look_for_removal.Goals as goal

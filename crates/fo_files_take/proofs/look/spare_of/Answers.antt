@@ -1,7 +1,7 @@
 use Rattle.std.proofs.Common.{◌-◌, ◌<◌, ◌≤◌, length, get_or, sym, ap, subst, ◌∙◌, arith}
 use Rattle.fo_image.specs.Record.{RecordHolds}
-use Rattle.fo_files_at.specs.declared.at.Step.{Step}
-use Rattle.fo_files_at.specs.Held.{FileHolds}
+use Rattle.fo_files_along.specs.of_files_at.declared.at.Step.{Step}
+use Rattle.fo_files_along.specs.of_files_at.Held.{FileHolds}
 use Rattle.fo_files_along.proofs.Ways.{step_at}
 use Rattle.fo_files_take.proofs.look.spare_of.Goals as goal
 

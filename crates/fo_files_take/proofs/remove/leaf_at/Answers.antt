@@ -1,6 +1,6 @@
 use Rattle.std.proofs.Common.{ap, ◌∙◌}
 use Rattle.std.proofs.lemmas.List.{get_or_default}
-use Rattle.fo_files_at.specs.declared.at.Step.{Step}
+use Rattle.fo_files_along.specs.of_files_at.declared.at.Step.{Step}
 use Rattle.fo_files_take.proofs.remove.leaf_at.Goals as goal
 
 pub returns : goal.returns

@@ -2,7 +2,7 @@ use Rattle.std.proofs.Common.{◌+◌, ◌-◌, ◌<◌, ◌≤◌, length, inl,
 use Rattle.fo_tree_read.proofs.Exits.{looks_none}
 use Rattle.fo_world.specs.Answers.{HadRoom, Refuses}
 use Rattle.fo_world.specs.Step.{depth_of, give}
-use Rattle.fo_files_look.specs.Told.{faults_of}
+use Rattle.fo_files_along.specs.of_files_look.Told.{faults_of}
 use Rattle.fo_files_along.specs.Along.{HasRoom}
 use Rattle.fo_files_along.proofs.Both.{if_err, had_room}
 use Rattle.fo_files_along.proofs.Refusing.{look_cause, cause_later}

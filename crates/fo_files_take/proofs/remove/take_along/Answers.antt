@@ -1,5 +1,5 @@
 use Rattle.std.proofs.Common.{◌≡◌, ◌-◌, ◌<◌, ℕ, length, inl, inr, sym, ap, subst, ◌∙◌, arith}
-use Rattle.fo_files_ready.proofs.Steps.{failed_since}
+use Rattle.fo_files_own.proofs.of_files_ready.Steps.{failed_since}
 use Rattle.fo_files_along.specs.Along.{touched}
 use Rattle.fo_files_along.proofs.Ways.{steps_long}
 use Rattle.fo_files_own.specs.declared.at.OwnAt.{OwnAt}

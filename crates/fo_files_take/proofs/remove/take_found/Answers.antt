@@ -2,8 +2,8 @@ use Rattle.std.proofs.Common.{◌-◌, length, inl, inr, sym, subst, arith}
 use Rattle.fo_tree_read.proofs.Exits.{looks_none}
 use Rattle.fo_world.specs.Answers.{HasCause}
 use Rattle.fo_world.specs.Step.{give}
-use Rattle.fo_files_at.proofs.Ways.{way_stays}
-use Rattle.fo_files_look.specs.Told.{faults_of}
+use Rattle.fo_files_along.proofs.of_files_at.Ways.{way_stays}
+use Rattle.fo_files_along.specs.of_files_look.Told.{faults_of}
 use Rattle.fo_files_along.specs.Along.{HasRoom, IsBlocks}
 use Rattle.fo_files_along.proofs.Refusing.{blocks_are, blocks_cause}
 use Rattle.fo_files_take.proofs.remove.take_found.Goals as goal

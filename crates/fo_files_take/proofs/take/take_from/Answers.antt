@@ -1,7 +1,7 @@
 use Rattle.std.proofs.Common.{◌≡◌, ◌+◌, ◌*◌, ◌≤◌, ℕ, inl, inr, ap, ◌∙◌, arith}
 use Rattle.fo_image.specs.declared.types.Kind.TheVariants.{Data}
 use Rattle.fo_tree_read.specs.Tree.{kind_at}
-use Rattle.fo_files_ready.proofs.Steps.{failed_since}
+use Rattle.fo_files_own.proofs.of_files_ready.Steps.{failed_since}
 use Rattle.fo_files_own.proofs.Carry.{few_blocks, few_pins, few_removals, has_ready_on}
 use Rattle.fo_files_take.proofs.Taking.{bytes_over, label_over, may_over, of_over, pin_over, root_of, took, took_own}
 use Rattle.fo_files_take.proofs.take.take_from.Goals as goal

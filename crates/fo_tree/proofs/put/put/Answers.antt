@@ -3,7 +3,7 @@ use Rattle.fo_ports.specs.Sources.{most_for}
 use Rattle.fo_tree_read.specs.declared.tree.Tree.{Tree}
 use Rattle.fo_tree_look.specs.declared.ways.Kept.{Kept}
 use Rattle.fo_tree_look.specs.Source.{Over}
-use Rattle.fo_tree_write.specs.Write.{at_top}
+use Rattle.fo_tree_append.specs.of_tree_write.Write.{at_top}
 use Rattle.fo_tree_append.specs.Append.{ended}
 use Rattle.fo_tree.specs.Writes.{Writes}
 use Rattle.fo_tree.proofs.put.put.Goals as goal

@@ -1,6 +1,6 @@
 use Rattle.std.proofs.Common.{sym}
 use Rattle.fo_ports.specs.Sources.{depth_for}
-use Rattle.fo_tree_grow.proofs.Empty.{least_for}
+use Rattle.fo_tree_append.proofs.of_tree_grow.Empty.{least_for}
 use Rattle.fo_tree.proofs.source.depth_of.Goals as goal
 
 pub returns : goal.returns

@@ -4,7 +4,7 @@ use Rattle.fo_crash.specs.Places.{super_place, root_place}
 use Rattle.fo_ports.specs.Sources.{depth_for}
 use Rattle.fo_tree_read.specs.declared.tree.Tree.{Tree}
 use Rattle.fo_tree_look.specs.Source.{HasBlock, IsPlainTree}
-use Rattle.fo_tree_grow.proofs.Empty.{few_for}
+use Rattle.fo_tree_lift.proofs.of_tree_grow.Empty.{few_for}
 use Rattle.fo_tree_clear.specs.Steps.{Steps}
 use Rattle.fo_tree_write.specs.Write.{at_top, Wrote}
 use Rattle.fo_tree_write.proofs.Writing.{most_is}

@@ -1,6 +1,6 @@
 use Rattle.std.proofs.Common.{sym, ap}
 use Rattle.fo_ports.specs.Sources.{depth_for}
-use Rattle.fo_tree_grow.proofs.Empty.{least_for}
+use Rattle.fo_tree_lift.proofs.of_tree_grow.Empty.{least_for}
 use Rattle.fo_tree_append.proofs.raise.with_end.Goals as goal
 
 pub returns : goal.returns

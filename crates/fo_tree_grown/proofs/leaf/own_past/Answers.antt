@@ -14,9 +14,9 @@ use Rattle.fo_image.specs.declared.types.Pointer.TheVariants.{Local}
 use Rattle.fo_ports.specs.State.{none}
 use Rattle.fo_ports.specs.Sources.{Made}
 use Rattle.fo_tree_lift.specs.Lift.{InSteadOf}
-use Rattle.fo_tree_grow.specs.Grow.{sized, shaped}
-use Rattle.fo_tree_grow.proofs.Empty.{least_for}
-use Rattle.fo_tree_grow.proofs.Sizing.{room_for}
+use Rattle.fo_tree_lift.specs.of_tree_grow.Grow.{sized, shaped}
+use Rattle.fo_tree_lift.proofs.of_tree_grow.Empty.{least_for}
+use Rattle.fo_tree_lift.proofs.of_tree_grow.Sizing.{room_for}
 use Rattle.fo_tree_lift.specs.Owns.{with_leaf}
 use Rattle.fo_tree_lift.proofs.Choosing.{max_right, leaf_next, leaf_past, most_past, ends_past, changes_wide}
 use Rattle.fo_tree_clear.proofs.Putting.{changes_wider}

@@ -7,8 +7,8 @@ use Rattle.fo_tree_look.specs.Source.{HasBlock, Over, IsPlainTree, IsTopCurrent}
 use Rattle.fo_tree_down.specs.Way.{with_top}
 use Rattle.fo_tree_down.specs.Clear.{EndsClear}
 use Rattle.fo_tree_down.proofs.Beside.{on_way_block}
-use Rattle.fo_tree_clear.specs.Put.{byte_here}
-use Rattle.fo_tree_clear.proofs.Stepping.{steps_none}
+use Rattle.fo_tree_append.specs.of_tree_clear.Put.{byte_here}
+use Rattle.fo_tree_append.proofs.of_tree_clear.Stepping.{steps_none}
 use Rattle.fo_tree_append.specs.Append.{ended}
 use Rattle.fo_tree_append.specs.Grown.{RaisedTo}
 use Rattle.fo_tree_append.proofs.Rising.{ThenAdds, rises, steps_wider, top_since}

@@ -4,8 +4,8 @@ use Rattle.fo_image.specs.declared.types.Kind.TheVariants.{Data}
 use Rattle.fo_ports.specs.Sources.{depth_for}
 use Rattle.fo_tree_read.specs.declared.tree.Tree.{Tree}
 use Rattle.fo_tree_read.specs.Tree.{kind_at}
-use Rattle.fo_tree_grow.proofs.Empty.{least_for, few_for}
-use Rattle.fo_tree_lift.proofs.Lifting.{top_ready}
+use Rattle.fo_tree_append.proofs.of_tree_grow.Empty.{least_for, few_for}
+use Rattle.fo_tree_append.proofs.of_tree_lift.Lifting.{top_ready}
 use Rattle.fo_tree_append.specs.Append.{ended}
 use Rattle.fo_tree_append.specs.Grown.{RaisedTo}
 use Rattle.fo_tree_append.proofs.Seeing.{depth_more, raised_none, raised_more}

@@ -4,7 +4,7 @@ use Rattle.fo_ports.specs.Sources.{ComesFor, Owned}
 use Rattle.fo_tree_read.specs.declared.tree.Tree.{Tree}
 use Rattle.fo_tree_look.specs.declared.ways.Kept.{Kept}
 use Rattle.fo_tree_look.specs.Source.{Over, form_of, leaves_of}
-use Rattle.fo_tree_lift.specs.Owns.{with_leaf}
+use Rattle.fo_tree_append.specs.of_tree_lift.Owns.{with_leaf}
 use Rattle.fo_tree.proofs.calls.SourceBytes.own_leaf.Goals as goal
 
 pub returns-clause-owned : goal.returns-clause-owned
