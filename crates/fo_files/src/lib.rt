@@ -12,3 +12,7 @@
 mod files;
 
 pub use files::Files;
+
+// Passed on, so that a crate above names this one alone.
+pub use fo_files_take::files_along;
+pub use fo_files_take::files_look;
