@@ -14,5 +14,4 @@ mod files;
 pub use files::Files;
 
 // Passed on, so that a crate above names this one alone.
-pub use fo_files_take::files_along;
-pub use fo_files_take::files_look;
+pub use fo_files_take::{files_along, files_look};
