@@ -13,6 +13,7 @@ use Rattle.venti_store.specs.Settling.{Run, IsRun, Goes, Waits, Ends}
 use Rattle.venti_store.specs.Names.{name_cmp}
 use Rattle.venti_store.specs.declared.shelf.Shelf.{Shelf}
 use Rattle.venti_store.specs.declared.waiting.Waiting.{Waiting}
+use Rattle.venti_store.specs.declared.recent.Recalled.{Recalled}
 use Rattle.venti_store.specs.Arena.{Settled}
 use Rattle.venti_store.proofs.Settled.{recovers}
 
@@ -33,7 +34,7 @@ pub record InMemory (size : ℕ) (lines : List ArenaLine) (waiting : List (List 
   pub apart : (one other : ℕ) → one < other → other < length lines → name_of (line_at lines one) ≢ name_of (line_at lines other)
 
 module _ {size : ℕ} {lines : List ArenaLine} {waiting : List (List ℕ)} (m : InMemory size lines waiting) where
-  is_run : {stored : List (List ℕ)} {synced : ℕ} {s : DiskState} (moments : List Content) → KeepsIn size lines waiting stored synced s → IsRun (record { size = size; synced = synced; settled = settled_count lines waiting; lines = lines; stored = stored; before = moments })
+  is_run : {stored : List (List ℕ)} {recalled : List Recalled} {synced : ℕ} {s : DiskState} (moments : List Content) → KeepsIn size lines waiting recalled stored synced s → IsRun (record { size = size; synced = synced; settled = settled_count lines waiting; lines = lines; stored = stored; before = moments })
   is_run moments k = record {
     least = m.least;
     most = m.most;
@@ -45,7 +46,7 @@ module _ {size : ℕ} {lines : List ArenaLine} {waiting : List (List ℕ)} (m : 
   }
 
   -- a run begins
-  pub begins : {stored : List (List ℕ)} {synced device : ℕ} {s : DiskState} → KeepsIn size lines waiting stored synced s → IsNewest device s.holds s.moments
+  pub begins : {stored : List (List ℕ)} {recalled : List Recalled} {synced device : ℕ} {s : DiskState} → KeepsIn size lines waiting recalled stored synced s → IsNewest device s.holds s.moments
       → Goes (record { size = size; synced = synced; settled = settled_count lines waiting; lines = lines; stored = stored; before = s.moments }) s
   begins {s = s} k newest = record {
     is_run = is_run s.moments k;
@@ -56,7 +57,7 @@ module _ {size : ℕ} {lines : List ArenaLine} {waiting : List (List ℕ)} (m : 
     due = k.due;
   }
 
-  pub run_waits : {stored : List (List ℕ)} {synced : ℕ} {s : DiskState} (moments : List Content) → KeepsIn size lines waiting stored synced s
+  pub run_waits : {stored : List (List ℕ)} {recalled : List Recalled} {synced : ℕ} {s : DiskState} (moments : List Content) → KeepsIn size lines waiting recalled stored synced s
       → Waits (record { size = size; synced = synced; settled = settled_count lines waiting; lines = lines; stored = stored; before = moments }) waiting
   run_waits {stored} moments k = record {
     all = omega (arith, m.few);
@@ -64,13 +65,13 @@ module _ {size : ℕ} {lines : List ArenaLine} {waiting : List (List ℕ)} (m : 
   }
 
   -- it ends, with all that waited still waiting, or with none
-  pub still_keeps : {stored : List (List ℕ)} {synced : ℕ} {s now : DiskState} {before : List Content} → KeepsIn size lines waiting stored synced s
-      → Goes (record { size = size; synced = synced; settled = settled_count lines waiting; lines = lines; stored = stored; before = before }) now → KeepsIn size lines waiting stored synced now
-  still_keeps k g = record { told = g.told; some = g.some; count = k.count; lens = k.lens; wait = k.wait; order = k.order; fits = g.fits; due = g.due }
+  pub still_keeps : {stored : List (List ℕ)} {recalled : List Recalled} {synced : ℕ} {s now : DiskState} {before : List Content} → KeepsIn size lines waiting recalled stored synced s
+      → Goes (record { size = size; synced = synced; settled = settled_count lines waiting; lines = lines; stored = stored; before = before }) now → KeepsIn size lines waiting recalled stored synced now
+  still_keeps k g = record { told = g.told; some = g.some; count = k.count; lens = k.lens; wait = k.wait; order = k.order; fits = g.fits; due = g.due; recalls = k.recalls }
 
-  pub now_keeps : {stored none : List (List ℕ)} {synced : ℕ} {s now : DiskState} {before : List Content} → KeepsIn size lines waiting stored synced s → none ≡ []
-      → Goes (record { size = size; synced = synced; settled = length lines; lines = lines; stored = stored; before = before }) now → KeepsIn size lines none stored synced now
-  now_keeps {stored} {none} {synced} {s} {now} k is g = subst (λ (ws : List (List ℕ)). KeepsIn size lines ws stored synced now) (sym is) (record {
+  pub now_keeps : {stored none : List (List ℕ)} {recalled : List Recalled} {synced : ℕ} {s now : DiskState} {before : List Content} → KeepsIn size lines waiting recalled stored synced s → none ≡ []
+      → Goes (record { size = size; synced = synced; settled = length lines; lines = lines; stored = stored; before = before }) now → KeepsIn size lines none recalled stored synced now
+  now_keeps {stored} {none} {recalled} {synced} {s} {now} k is g = subst (λ (ws : List (List ℕ)). KeepsIn size lines ws recalled stored synced now) (sym is) (record {
     told = g.told;
     some = g.some;
     count = k.count;
@@ -79,6 +80,7 @@ module _ {size : ℕ} {lines : List ArenaLine} {waiting : List (List ℕ)} (m : 
     order = omega (arith, k.order);
     fits = subst (λ (n : ℕ). AllFit size synced n lines stored now.holds) (let e : length lines ≡ length lines - 0 = omega arith in e) g.fits;
     due = subst (λ (n : ℕ). AreDue size n (length lines) now) (let e : length lines ≡ length lines - 0 = omega arith in e) g.due;
+    recalls = k.recalls;
   })
     where
       all_dropped : (xs : List (List ℕ)) (n : ℕ) → length xs ≤ n → drop n xs ≡ []
@@ -120,9 +122,9 @@ pub head_since : {E : Type 0} (run : Run) (s : DiskState) (result : Result Unit 
 head_since run s (Ok u) e = e.since
 head_since run s (Err f) g = g.since
 
-pub head_keeps : {E : Type 0} {size synced : ℕ} {lines : List ArenaLine} {waiting stored : List (List ℕ)} {s : DiskState} (now : DiskState) (before : List Content) (result : Result Unit E) → InMemory size lines waiting → waiting ≡ [] → KeepsIn size lines waiting stored synced s
+pub head_keeps : {E : Type 0} {size synced : ℕ} {lines : List ArenaLine} {waiting stored : List (List ℕ)} {s : DiskState} {recalled : List Recalled} (now : DiskState) (before : List Content) (result : Result Unit E) → InMemory size lines waiting → waiting ≡ [] → KeepsIn size lines waiting recalled stored synced s
     → MatchResult result (λ _. Ends (record { size = size; synced = synced; settled = settled_count lines waiting; lines = lines; stored = stored; before = before }) now) (λ _. Goes (record { size = size; synced = synced; settled = settled_count lines waiting; lines = lines; stored = stored; before = before }) now)
-    → MatchResult result (λ _. KeepsIn size lines waiting stored (length stored) now × Settled lines stored now.holds) (λ _. KeepsIn size lines waiting stored synced now)
+    → MatchResult result (λ _. KeepsIn size lines waiting recalled stored (length stored) now × Settled lines stored now.holds) (λ _. KeepsIn size lines waiting recalled stored synced now)
 head_keeps {E} {size} {synced} {lines} {waiting} {stored} {s} now before (Ok u) m none k e =
     let same : settled_count lines waiting ≡ length lines = omega (arith, ap length none) in
     let all : length stored ≡ length lines = k.count in (
@@ -135,6 +137,7 @@ head_keeps {E} {size} {synced} {lines} {waiting} {stored} {s} now before (Ok u) 
         order = omega (arith, same, all);
         fits = subst (λ (n : ℕ). AllFit size n (settled_count lines waiting) lines stored now.holds) (sym all) (subst (λ (n : ℕ). AllFit size (length lines) n lines stored now.holds) (sym same) e.fits);
         due = λ at lt flag. inl (e.quiet.each at (omega (arith, lt, e.told)));
+        recalls = k.recalls;
       },
       settled (is_run m before k) e,
     )

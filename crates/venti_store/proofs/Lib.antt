@@ -7,4 +7,5 @@ mod Synced
 mod Keeping
 pub mod Puts
 mod Openings
+mod Recents
 pub mod Empty

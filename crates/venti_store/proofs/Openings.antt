@@ -12,8 +12,9 @@ use Rattle.fo_image.specs.Place.{line_block, line_byte, stored_block}
 use Rattle.fo_sound.specs.Device.{Shows}
 use Rattle.fo_sound.specs.Image.{block_of}
 use Rattle.venti_store.specs.Held.{no_line, line_at, stored_at, name_of, line_bytes, HasLine, IsIndexed, IsArenaOf}
-use Rattle.venti_store.specs.Kept.{waits, settled_count, Fits, KeepsIn}
+use Rattle.venti_store.specs.Kept.{waits, settled_count, Fits, AreRecalled, KeepsIn}
 use Rattle.venti_store.specs.Opening.{Opens, OpenRefuses, HeadRefuses, UsedIs, TakesLine, IsTaken, LineRefuses, ReadLines, AreLines, LinesRefuse}
+use Rattle.venti_store.specs.declared.recent.Recalled.{Recalled}
 use Rattle.venti_store.specs.declared.index.Index.{Index}
 use Rattle.venti_store.specs.declared.shelf.Shelf.{Shelf}
 use Rattle.venti_store.specs.declared.error.ArenaWhy.{ArenaWhy}
@@ -93,7 +94,7 @@ stored_is vault place [] k lt = absurd (omega (arith, lt))
 stored_is vault place (line ∷ lines) Rattle.std.proofs.Common.zero lt = ap (λ (n : ℕ). take line.len (block_of vault (stored_block n))) (let e : place ≡ place + 0 = omega arith in e)
 stored_is vault place (line ∷ lines) (Rattle.std.proofs.Common.suc k) lt = stored_is vault (place + 1) lines k (omega (arith, lt)) ∙ ap (λ (n : ℕ). take (line_at lines k).len (block_of vault (stored_block n))) (let e : place + 1 + k ≡ place + Rattle.std.proofs.Common.suc k = omega arith in e)
 
-module _ {size device : ℕ} {lines : List ArenaLine} {waiting : List (List ℕ)} (s : DiskState) {vault : List Block} (shows : Shows s.holds vault) (content : IsContent device s.holds) (indexed : IsIndexed (length lines) lines vault) (none : waiting ≡ []) (size_is : size ≡ length vault) where
+module _ {size device : ℕ} {lines : List ArenaLine} {waiting : List (List ℕ)} (s : DiskState) {vault : List Block} (shows : Shows s.holds vault) (content : IsContent device s.holds) (indexed : IsIndexed (length lines) lines vault) (none : waiting ≡ []) {recalled : List Recalled} (nothing : recalled ≡ []) (size_is : size ≡ length vault) where
   stored : List (List ℕ)
   stored = stored_from vault 0 lines
 
@@ -140,7 +141,7 @@ module _ {size device : ℕ} {lines : List ArenaLine} {waiting : List (List ℕ)
   arena : IsArenaOf (length lines) lines stored vault
   arena = record { indexed = indexed; bytes = λ place used. bytes place used }
 
-  keeps : KeepsIn size lines waiting stored (length stored) s
+  keeps : KeepsIn size lines waiting recalled stored (length stored) s
   keeps = record {
     told = told ∙ sym size_is;
     some = λ at lt. let is = one at lt in omega (arith, is);
@@ -154,6 +155,7 @@ module _ {size device : ℕ} {lines : List ArenaLine} {waiting : List (List ℕ)
     order = omega (arith, count, all);
     fits = λ at block lt has. subst (λ (n : ℕ). Fits size n (settled_count lines waiting) lines stored at block) (sym count) (subst (λ (n : ℕ). Fits size (length lines) n lines stored at block) (sym all) (fits at block lt has));
     due = λ at lt flag. inl (one at lt);
+    recalls = subst (AreRecalled lines stored) (sym nothing) (λ k d lt. absurd (omega (arith, lt)));
   }
     where
       all_dropped : (xs : List (List ℕ)) (n : ℕ) → length xs ≤ n → drop n xs ≡ []
@@ -163,15 +165,15 @@ module _ {size device : ℕ} {lines : List ArenaLine} {waiting : List (List ℕ)
           nil [] is = refl
           nil (y ∷ ys) is = absurd (omega (arith, is))
 
-  pub kept : (stored : List (List ℕ)) × IsArenaOf (length lines) lines stored vault × KeepsIn size lines waiting stored (length stored) s
+  pub kept : (stored : List (List ℕ)) × IsArenaOf (length lines) lines stored vault × KeepsIn size lines waiting recalled stored (length stored) s
   kept = (stored, arena, keeps)
 
-pub opens : (s : Shelf) {device : ℕ} (d : DiskState) {vault : List Block} → Shows d.holds vault → (d.holds ≡ []) ⊎ IsContent device d.holds → IsIndexed (length s.index.lines.items) s.index.lines.items vault → s.pending.items ≡ [] → device ≡ s.blocks → Opens vault s d
-opens s {device} d {vault} shows content indexed none size_is = ⊎_elim
+pub opens : (s : Shelf) {device : ℕ} (d : DiskState) {vault : List Block} → Shows d.holds vault → (d.holds ≡ []) ⊎ IsContent device d.holds → IsIndexed (length s.index.lines.items) s.index.lines.items vault → s.pending.items ≡ [] → s.recent.blocks.items ≡ [] → device ≡ s.blocks → Opens vault s d
+opens s {device} d {vault} shows content indexed none nothing size_is = ⊎_elim
     (λ nil. absurd (omega (arith, ap length (sym nil ∙ shows.quiet), length-map vault (λ (b : Block). b ∷ []), shows.some)))
     (λ is.
     let size : s.blocks ≡ length vault = sym size_is ∙ sym is.count ∙ ap length shows.quiet ∙ length-map vault (λ (b : Block). b ∷ []) in
-    let k = kept d shows is indexed (ap waits none) size in record { stored = k.0; is = k.1; keeps = k.2 })
+    let k = kept d shows is indexed (ap waits none) nothing size in record { stored = k.0; is = k.1; keeps = k.2 })
     content
 
 -- ---- the ways out of an opening

@@ -4,6 +4,7 @@ use Rattle.std.specs.Prelude.{Some, Result, Ok, Err, IfOk}
 use Rattle.std.specs.BTreeMap.{get}
 use Rattle.std.specs.List.{Contains}
 use Rattle.std.proofs.lemmas.Bool.{cases_eq}
+use Rattle.std.proofs.lemmas.List.Elements.{All-weaker}
 use Rattle.std.proofs.lemmas.Bool.Decides.{Decides-eqb}
 use Rattle.std.proofs.lemmas.Slice.Eq.{slice_eq-Decides}
 use Rattle.std.specs.Cmp.Lexicographic.{pointwise}
@@ -18,27 +19,28 @@ use Rattle.venti_store.specs.Held.{no_line, line_at, name_of, stored_at, HasLine
 use Rattle.venti_store.specs.Kept.{waits, settled_count, AllFit, AreDue, KeepsIn}
 use Rattle.venti_store.specs.declared.shelf.Shelf.{Shelf}
 use Rattle.venti_store.specs.declared.waiting.Waiting.{Waiting}
+use Rattle.venti_store.specs.declared.recent.Recalled.{Recalled}
 use Rattle.venti_store.specs.declared.error.ArenaError.{ArenaError}
 use Rattle.venti_store.specs.declared.error.ArenaError.TheVariants as why
-use Rattle.venti_store.specs.Arena.{Keeps, IsAtHand, LookRefuses, PutRefuses, RefusesHeld, AppendRefuses, IsCollision}
+use Rattle.venti_store.specs.Arena.{Keeps, line_for, IsAtHand, IsInMemory, LookRefuses, PutRefuses, RefusesHeld, AppendRefuses, IsCollision}
 use Rattle.venti_store.specs.Names.{name_cmp}
 use Rattle.venti_store.proofs.Keeping.{InMemory, in_memory, begins}
 use Rattle.venti_store.proofs.Settled.{stored_within}
 
 -- the bytes of a place that waits
-pub read_waiting : {size : ℕ} {lines : List ArenaLine} {waiting stored : List (List ℕ)} {synced : ℕ} {s : DiskState} (place : ℕ) → KeepsIn size lines waiting stored synced s → settled_count lines waiting ≤ place → get_or waiting (place - settled_count lines waiting) [] ≡ stored_at stored place
+pub read_waiting : {size : ℕ} {lines : List ArenaLine} {waiting stored : List (List ℕ)} {recalled : List Recalled} {synced : ℕ} {s : DiskState} (place : ℕ) → KeepsIn size lines waiting recalled stored synced s → settled_count lines waiting ≤ place → get_or waiting (place - settled_count lines waiting) [] ≡ stored_at stored place
 read_waiting {lines = lines} {waiting = waiting} {stored = stored} place k le =
     ap (λ (ws : List (List ℕ)). get_or ws (place - settled_count lines waiting) []) k.wait
     ∙ get_or-drop (settled_count lines waiting) stored (place - settled_count lines waiting) []
     ∙ ap (λ (n : ℕ). get_or stored n []) (let e : settled_count lines waiting + (place - settled_count lines waiting) ≡ place = omega (arith, le) in e)
 
 -- the bytes of a place that is settled
-pub read_settled : {size : ℕ} {lines : List ArenaLine} {waiting stored : List (List ℕ)} {synced : ℕ} {s : DiskState} (place : ℕ) (block : Block) → InMemory size lines waiting → KeepsIn size lines waiting stored synced s → place < settled_count lines waiting → Contains (versions_of s.holds (stored_block place)) block
+pub read_settled : {size : ℕ} {lines : List ArenaLine} {waiting stored : List (List ℕ)} {recalled : List Recalled} {synced : ℕ} {s : DiskState} (place : ℕ) (block : Block) → InMemory size lines waiting → KeepsIn size lines waiting recalled stored synced s → place < settled_count lines waiting → Contains (versions_of s.holds (stored_block place)) block
     → take (line_at lines place).len block ≡ stored_at stored place
 read_settled {size} {lines} {waiting} place block m k lt has = sym ((k.fits (stored_block place) block (stored_within size place (omega (arith, lt, m.places))) has).bytes place lt refl)
 
 -- a block is told where the device tells what it holds
-pub stored_told : {size : ℕ} {lines : List ArenaLine} {waiting stored : List (List ℕ)} {synced : ℕ} {s : DiskState} (place : ℕ) → InMemory size lines waiting → KeepsIn size lines waiting stored synced s → place < length lines → stored_block place < length s.holds
+pub stored_told : {size : ℕ} {lines : List ArenaLine} {waiting stored : List (List ℕ)} {recalled : List Recalled} {synced : ℕ} {s : DiskState} (place : ℕ) → InMemory size lines waiting → KeepsIn size lines waiting recalled stored synced s → place < length lines → stored_block place < length s.holds
 stored_told {size} {lines} place m k lt = let within = stored_within size place (omega (arith, lt, m.places)) in omega (arith, within, k.told)
 
 -- one block more
@@ -61,7 +63,7 @@ module _ {lines now : List ArenaLine} {waiting after : List (List ℕ)} {line : 
   line_new : line_at now (length lines) ≡ line
   line_new = ap (λ (ls : List ArenaLine). line_at ls (length lines)) a.line_is ∙ get_or_push lines line no_line (length lines) refl
 
-  module _ {size : ℕ} {stored : List (List ℕ)} {synced : ℕ} {s : DiskState} (k : KeepsIn size lines waiting stored synced s) where
+  module _ {size : ℕ} {stored : List (List ℕ)} {recalled : List Recalled} {synced : ℕ} {s : DiskState} (k : KeepsIn size lines waiting recalled stored synced s) where
     stored_before : (place : ℕ) → place < length lines → stored_at (stored ++ bytes ∷ []) place ≡ stored_at stored place
     stored_before place lt = get_or_append_left stored (bytes ∷ []) [] place (omega (arith, lt, k.count))
 
@@ -81,7 +83,7 @@ module _ {lines now : List ArenaLine} {waiting after : List (List ℕ)} {line : 
         (λ due. inr (⊎_elim (λ zero. inl zero) (λ (place, from, to, which). inr (place, from, omega (arith, to, more), which)) due))
         (k.due at lt flag)
 
-    pub added_keeps : KeepsIn size now after (stored ++ bytes ∷ []) synced s
+    pub added_keeps : KeepsIn size now after recalled (stored ++ bytes ∷ []) synced s
     added_keeps = record {
       told = k.told;
       some = k.some;
@@ -96,6 +98,8 @@ module _ {lines now : List ArenaLine} {waiting after : List (List ℕ)} {line : 
       order = omega (arith, k.order, same_count);
       fits = subst (λ (n : ℕ). AllFit size synced n now (stored ++ bytes ∷ []) s.holds) (sym same_count) fits_now;
       due = subst (λ (n : ℕ). AreDue size n (length now) s) (sym same_count) due_now;
+      recalls = All-weaker (λ (r : Recalled). (r.place < length lines) × (r.bytes.items ≡ stored_at stored r.place)) (λ (r : Recalled). (r.place < length now) × (r.bytes.items ≡ stored_at (stored ++ bytes ∷ []) r.place))
+          (λ r h. (omega (arith, h.0, more), h.1 ∙ sym (stored_before r.place h.0))) recalled k.recalls;
     }
 
 -- what was only read keeps what it kept
@@ -103,9 +107,10 @@ pub kept_keeps : {s t : Shelf} {stored : List (List ℕ)} {synced : ℕ} {old ne
 kept_keeps {s} {t} {stored} {synced} {old} {new} same kept k =
     subst (λ (x : Shelf). Keeps x stored synced new) (sym same) (subst (λ (d : DiskState). Keeps s stored synced d) (sym kept) k)
 
-pub same_keeps : {size other : ℕ} {lines now : List ArenaLine} {waiting after stored : List (List ℕ)} {synced : ℕ} {s : DiskState} → other ≡ size → now ≡ lines → after ≡ waiting → KeepsIn size lines waiting stored synced s → KeepsIn other now after stored synced s
-same_keeps {size} {other} {lines} {now} {waiting} {after} {stored} {synced} {s} size_is lines_is waiting_is k =
-    subst (λ (n : ℕ). KeepsIn n now after stored synced s) (sym size_is) (subst (λ (ls : List ArenaLine). KeepsIn size ls after stored synced s) (sym lines_is) (subst (λ (ws : List (List ℕ)). KeepsIn size lines ws stored synced s) (sym waiting_is) k))
+pub same_keeps : {size other : ℕ} {lines now : List ArenaLine} {waiting after stored : List (List ℕ)} {recalled recent : List Recalled} {synced : ℕ} {s : DiskState} → other ≡ size → now ≡ lines → after ≡ waiting → recent ≡ recalled → KeepsIn size lines waiting recalled stored synced s → KeepsIn other now after recent stored synced s
+same_keeps {size} {other} {lines} {now} {waiting} {after} {stored} {recalled} {recent} {synced} {s} size_is lines_is waiting_is recent_is k =
+    subst (λ (n : ℕ). KeepsIn n now after recent stored synced s) (sym size_is) (subst (λ (ls : List ArenaLine). KeepsIn size ls after recent stored synced s) (sym lines_is) (subst (λ (ws : List (List ℕ)). KeepsIn size lines ws recent stored synced s) (sym waiting_is)
+    (subst (λ (rs : List Recalled). KeepsIn size lines waiting rs stored synced s) (sym recent_is) k)))
 
 pub stays_since : (s : Shelf) {stored : List (List ℕ)} {synced size : ℕ} {d : DiskState} → Keeps s stored synced d → IsNewest size d.holds d.moments → Since d.moments d.moments (Recovers synced s.index.lines.items stored)
 stays_since s k newest = (begins (in_memory s) k newest).since
@@ -196,18 +201,33 @@ one_place s {score} {kind} {one} {other} h o =
     let e : Some one ≡ Some other = sym (s.index.found one h.used) ∙ ap (get name_cmp s.index.places) (here ∙ sym there) ∙ s.index.found other o.used in
     cc
 
--- a place at hand waits
-pub hand_waits : (s : Shelf) {score : List ℕ} {kind place : ℕ} → IsAtHand s score kind → score ≢ sha1 [] → HasName s.index.lines.items score kind place → settled_count s.index.lines.items (waits s.pending.items) ≤ place
-hand_waits s {score} {kind} {place} hand some named = ⊎_elim
+-- a place at hand is in memory
+pub hand_is : (s : Shelf) {score : List ℕ} {kind place : ℕ} → IsAtHand s score kind → score ≢ sha1 [] → HasName s.index.lines.items score kind place → IsInMemory s place
+hand_is s {score} {kind} {place} hand some named = ⊎_elim
     (λ empty. absurd (some empty))
-    (λ (other, has, le). let same : other ≡ place = one_place s has named in omega (arith, le, same))
+    (λ (other, has, is). let same : other ≡ place = one_place s has named in subst (IsInMemory s) same is)
     hand
 
 pub hand_at : (s : Shelf) {score other : List ℕ} (kind : ℕ) → score ≡ other → IsAtHand s score kind → IsAtHand s other kind
 hand_at s kind is hand = subst (λ (x : List ℕ). IsAtHand s x kind) is hand
 
+-- ---- what is held at a place
+
+pub held_bytes : (s : Shelf) (stored : List (List ℕ)) {score : List ℕ} {kind place : ℕ} {bytes : List ℕ} → score ≢ sha1 [] → HasName s.index.lines.items score kind place → IsHeld s.index.lines.items stored score kind bytes → bytes ≡ stored_at stored place
+held_bytes s stored some named held = ⊎_elim
+    (λ (empty, is). absurd (some empty))
+    (λ (other, at, has, is). is ∙ ap (stored_at stored) (one_place s has named))
+    held
+
 -- the block that was added last
-pub added_at_hand : (s : Shelf) {lines : List ArenaLine} {waiting : List (List ℕ)} {line : ArenaLine} {bytes : List ℕ} → Added lines s.index.lines.items waiting (waits s.pending.items) line bytes → IsAtHand s line.score.0 line.kind
-added_at_hand s {lines} {waiting} {line} a =
-    let here = line_new a in
-    inr (length lines, record { used = omega (arith, more a); score_is = ap (λ (l : ArenaLine). l.score.0) here; kind_is = ap (λ (l : ArenaLine). l.kind) here }, omega (arith, same_count a))
+pub name_last : (lines now : List ArenaLine) (kind : ℕ) (bytes score : List ℕ) → score ≡ sha1 bytes → now ≡ lines ++ line_for kind bytes ∷ [] → HasName now score kind (length lines)
+name_last lines now kind bytes score hashed is =
+    let here : line_at now (length lines) ≡ line_for kind bytes = ap (λ (ls : List ArenaLine). line_at ls (length lines)) is ∙ get_or_push lines (line_for kind bytes) no_line (length lines) refl in record {
+      used = omega (arith, ap length is, length_push lines (line_for kind bytes));
+      score_is = ap (λ (l : ArenaLine). l.score.0) here ∙ sym hashed;
+      kind_is = ap (λ (l : ArenaLine). l.kind) here;
+    }
+
+pub held_last : (lines now : List ArenaLine) (stored : List (List ℕ)) (kind : ℕ) (bytes block score : List ℕ) → ¬ IsNamed lines score kind → score ≡ sha1 bytes → now ≡ lines ++ line_for kind bytes ∷ [] → length stored ≡ length lines → block ≡ bytes → IsHeld now (stored ++ bytes ∷ []) score kind block
+held_last lines now stored kind bytes block score fresh hashed is count block_is =
+    inr (λ empty. fresh (inl empty), length lines, name_last lines now kind bytes score hashed is, block_is ∙ sym (get_or_push stored bytes [] (length lines) count))

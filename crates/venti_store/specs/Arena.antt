@@ -1,5 +1,6 @@
 -- What an open arena keeps, and what its calls do.
-use Rattle.std.specs.Prelude.{◌≡◌, ◌≢◌, ◌⊎◌, ℕ, ◌+◌, ◌-◌, ◌/◌, ◌<◌, ◌≤◌, List, [], ◌∷◌, ◌++◌, length, Result, IfErr}
+use Rattle.std.specs.Prelude.{◌≡◌, ◌≢◌, ◌⊎◌, ℕ, ◌+◌, ◌-◌, ◌/◌, ◌<◌, ◌≤◌, List, [], ◌∷◌, ◌++◌, length, map, not, ◌==◌, Result, IfErr}
+use Rattle.std.specs.List.{Contains, filter}
 use Rattle.fo_base.specs.Cause.{Rose}
 use Rattle.fo_disk.specs.Disk.{Block, Content, DiskState, IsImage, IsQuiet}
 use Rattle.fo_image.specs.declared.types.ArenaLine.{ArenaLine}
@@ -7,7 +8,9 @@ use Rattle.fo_image.specs.Format.{IsScore}
 use Rattle.fo_image.specs.Place.{arena_places, stored_block}
 use Rattle.sha1.specs.Sha1.{sha1}
 use Rattle.venti_store.specs.Held.{stored_at, HasName, IsNamed, IsHeld, IsArenaOf}
+use Rattle.venti_store.specs.Recent.{latest}
 use Rattle.venti_store.specs.Kept.{waits, settled_count, KeepsIn}
+use Rattle.venti_store.specs.declared.recent.Recalled.{Recalled}
 use Rattle.venti_store.specs.declared.shelf.Shelf.{Shelf}
 use Rattle.venti_store.specs.declared.error.ArenaError.{ArenaError}
 use Rattle.venti_store.specs.declared.error.ArenaError.TheVariants as why
@@ -18,7 +21,7 @@ lines_of shelf = shelf.index.lines.items
 
 -- The device tells what it holds, and the used places have these bytes, of which the first `synced` were held when a sync last answered Ok.
 abbrev pub Keeps : Shelf → List (List ℕ) → ℕ → DiskState → Type 0
-Keeps shelf stored synced s = KeepsIn shelf.blocks shelf.index.lines.items (waits shelf.pending.items) stored synced s
+Keeps shelf stored synced s = KeepsIn shelf.blocks shelf.index.lines.items (waits shelf.pending.items) shelf.recent.blocks.items stored synced s
 
 -- The device is quiet, and each image of it is an arena of just these used places.
 pub record Settled (lines : List ArenaLine) (stored : List (List ℕ)) (holds : Content) : Type 0 where
@@ -49,14 +52,31 @@ settle_calls shelf =
 abbrev pub TakesNone : ℕ → List ArenaLine → ℕ → List ℕ → Type 0
 TakesNone blocks lines kind bytes = IsNamed lines (sha1 bytes) kind ⊎ (¬ IsScore (sha1 bytes)) ⊎ (length lines ≡ arena_places blocks)
 
--- Nothing changed, in memory or on the device: nothing was written, and no more waits to be.
+-- Nothing was written, and no more waits to be: at most other blocks are at hand.
 pub record IsUntouched (old new : Shelf) (before now : DiskState) : Type 0 where
-  pub shelf : new ≡ old
+  pub index : new.index ≡ old.index
+  pub pending : new.pending ≡ old.pending
   pub state : now ≡ before
 
--- The bytes are in memory: those of the empty block, and of a block that waits to be settled.
+-- the places of the blocks that were put last, and stay in memory: the latest last
+abbrev pub recent_of : Shelf → List ℕ
+recent_of shelf = map (λ (r : Recalled). r.place) shelf.recent.blocks.items
+
+abbrev pub without : ℕ → List ℕ → List ℕ
+without place places = filter (λ (p : ℕ). not (p == place)) places
+
+-- The block that was put is the latest. The others stay in their order, but the oldest of more than sixteen. The empty block has no place.
+pub record IsLatest (score : List ℕ) (kind : ℕ) (old new : Shelf) : Type 0 where
+  pub empty : score ≡ sha1 [] → recent_of new ≡ recent_of old
+  pub other : score ≢ sha1 [] → (place : ℕ) × HasName (lines_of new) score kind place × (recent_of new ≡ latest 16 (without place (recent_of old) ++ place ∷ []))
+
+-- The bytes of this place are in memory: the block waits to be settled, or is one of those that were put last.
+abbrev pub IsInMemory : Shelf → ℕ → Type 0
+IsInMemory shelf place = (settled_count (lines_of shelf) (waits shelf.pending.items) ≤ place) ⊎ Contains (recent_of shelf) place
+
+-- The bytes are in memory: those of the empty block are always.
 abbrev pub IsAtHand : Shelf → List ℕ → ℕ → Type 0
-IsAtHand shelf score kind = (score ≡ sha1 []) ⊎ ((place : ℕ) × HasName (lines_of shelf) score kind place × (settled_count (lines_of shelf) (waits shelf.pending.items) ≤ place))
+IsAtHand shelf score kind = (score ≡ sha1 []) ⊎ ((place : ℕ) × HasName (lines_of shelf) score kind place × IsInMemory shelf place)
 
 -- This block of the device is that of a place with this score and kind.
 abbrev pub IsPlaceOf : List ArenaLine → List ℕ → ℕ → ℕ → Type 0

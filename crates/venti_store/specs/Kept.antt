@@ -1,6 +1,6 @@
 -- What an open arena knows of a device that tells what it holds.
 use Rattle.std.specs.Prelude.{◌≡◌, ◌⊎◌, ℕ, ◌-◌, ◌<◌, ◌≤◌, true, false, List, length, map, drop, slice_index_or}
-use Rattle.std.specs.List.{Contains}
+use Rattle.std.specs.List.{All, Contains}
 use Rattle.fo_disk.specs.Disk.{Block, Content, DiskState, versions_of, IsSettled}
 use Rattle.fo_disk.specs.declared.disk.DiskFault.{DiskFault}
 use Rattle.fo_disk.specs.declared.disk.DiskFault.TheVariants.{Read, Write, Sync}
@@ -9,6 +9,7 @@ use Rattle.fo_image.specs.Format.{SpellsArenaHead}
 use Rattle.fo_image.specs.Place.{line_block, stored_block}
 use Rattle.venti_store.specs.Held.{line_at, stored_at, HasLine, HasBytes}
 use Rattle.venti_store.specs.declared.waiting.Waiting.{Waiting}
+use Rattle.venti_store.specs.declared.recent.Recalled.{Recalled}
 
 -- the bytes of the blocks that were put and are not settled yet
 abbrev pub waits : List Waiting → List (List ℕ)
@@ -42,9 +43,13 @@ IsDue settled used at = (at ≡ 0) ⊎ ((place : ℕ) × (settled ≤ place) × 
 abbrev pub AreDue : ℕ → ℕ → ℕ → DiskState → Type 0
 AreDue size settled used s = (at : ℕ) → at < size → slice_index_or s.unsure at false ≡ true → IsSettled s.holds at ⊎ IsDue settled used at
 
+-- What is recalled are bytes of used places.
+abbrev pub AreRecalled : List ArenaLine → List (List ℕ) → List Recalled → Type 0
+AreRecalled lines stored recalled = All (λ (r : Recalled). (r.place < length lines) × (r.bytes.items ≡ stored_at stored r.place)) recalled
+
 -- The device tells what it holds, and the used places have these bytes, of which the first `synced` were held when a sync last
--- answered Ok. Blocks that wait in memory are the last ones.
-pub record KeepsIn (size : ℕ) (lines : List ArenaLine) (waiting stored : List (List ℕ)) (synced : ℕ) (s : DiskState) : Type 0 where
+-- answered Ok. Blocks that wait in memory are the last ones, and what is recalled is theirs.
+pub record KeepsIn (size : ℕ) (lines : List ArenaLine) (waiting : List (List ℕ)) (recalled : List Recalled) (stored : List (List ℕ)) (synced : ℕ) (s : DiskState) : Type 0 where
   pub told : length s.holds ≡ size
   pub some : (at : ℕ) → at < size → 0 < length (versions_of s.holds at)
   pub count : length stored ≡ length lines
@@ -53,6 +58,7 @@ pub record KeepsIn (size : ℕ) (lines : List ArenaLine) (waiting stored : List 
   pub order : synced ≤ settled_count lines waiting
   pub fits : AllFit size synced (settled_count lines waiting) lines stored s.holds
   pub due : AreDue size (settled_count lines waiting) (length lines) s
+  pub recalls : AreRecalled lines stored recalled
 
 -- a write or a sync
 abbrev pub IsLater : DiskFault → Type 0

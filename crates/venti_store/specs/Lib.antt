@@ -1,4 +1,5 @@
 pub mod Held
+pub mod Recent
 pub mod Kept
 pub mod Arena
 pub mod Names

@@ -27,7 +27,7 @@ impl<A: Disk> Arena<A> {
     ghost use Rattle.fo_image.specs.Place.{arena_places};
     ghost use Rattle.venti_store.specs.Held.{Recovers};
     ghost use Rattle.venti_store.specs.Kept.{IsLater};
-    ghost use Rattle.venti_store.specs.Arena.{lines_of, Keeps, Settled, settle_calls};
+    ghost use Rattle.venti_store.specs.Arena.{lines_of, recent_of, Keeps, Settled, settle_calls};
     ghost use Rattle.venti_store.specs.Opening.{Opens, OpenRefuses, OpenBlames};
 
     /// Opens the arena of a device. A refusal hands the device back.
@@ -83,6 +83,7 @@ impl<A: Disk> Arena<A> {
             → Since (A.state self.old.device).moments (A.state self.new.device).moments (Recovers synced (lines_of self.old.shelf) stored) }
         ensures blocks { self.new.shelf.blocks ≡ self.old.shelf.blocks }
         ensures index { self.new.shelf.index ≡ self.old.shelf.index }
+        ensures recent { self.new.shelf.recent ≡ self.old.shelf.recent }
         ensures none { OnOk result (self.new.shelf.pending.items ≡ []) }
         ensures calls { A.calls self.new.device ≤ A.calls self.old.device + settle_calls self.old.shelf }
         ensures cause { HasCause (A.faults self.old.device) (A.faults self.new.device) result }
@@ -103,6 +104,7 @@ impl<A: Disk> Arena<A> {
     pub fn sync(&mut self) -> Result<(), DiskFault>
         // What is held stays, whatever is answered. Where it is Ok, the device is quiet and holds just that.
         ensures lines { lines_of self.new.shelf ≡ lines_of self.old.shelf }
+        ensures recent { recent_of self.new.shelf ≡ recent_of self.old.shelf }
         ensures keeps { (stored : List (List ℕ)) (synced : ℕ) → Keeps self.old.shelf stored synced (A.state self.old.device)
             → MatchResult result (λ _. Keeps self.new.shelf stored (length stored) (A.state self.new.device) × Settled (lines_of self.new.shelf) stored (A.state self.new.device).holds)
             (λ _. Keeps self.new.shelf stored synced (A.state self.new.device)) }

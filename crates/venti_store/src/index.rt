@@ -1,6 +1,7 @@
 //! The index of an arena in memory: the lines of the used places, and the place of each score and kind.
-ghost use Rattle.std.specs.Prelude.{◌≡◌, ◌+◌, ◌<◌, ◌^◌, ◌∷◌, ◌++◌, [], ℕ, Some, None, length, OnOk, OnErr, IfSome, IfNone};
+ghost use Rattle.std.specs.Prelude.{◌≡◌, ◌≢◌, true, false, ◌+◌, ◌<◌, ◌^◌, ◌∷◌, ◌++◌, [], ℕ, Some, None, length, OnOk, OnErr, IfSome, IfNone};
 ghost use Rattle.std.specs.BTreeMap.{get};
+ghost use Rattle.sha1.specs.Sha1.{sha1};
 ghost use Rattle.fo_image.specs.Format.{ArenaLineHolds};
 ghost use Rattle.venti_store.specs.Held.{Name, line_at, name_of, HasName};
 ghost use Rattle.venti_store.specs.Names.{name_cmp};
@@ -9,6 +10,20 @@ use fo_base::Memory;
 use fo_image::{ArenaLine, Score};
 use std::alloc::Global;
 use std::collections::BTreeMap;
+
+/// The score of the empty block.
+const EMPTY: [u8; 20] = [
+    0xda, 0x39, 0xa3, 0xee, 0x5e, 0x6b, 0x4b, 0x0d, 0x32, 0x55, 0xbf, 0xef, 0x95, 0x60, 0x18, 0x90,
+    0xaf, 0xd8, 0x07, 0x09,
+];
+
+/// Whether a score is that of the empty block.
+pub(crate) fn is_empty(score: &Score) -> bool
+    ensures yes { result ≡ true → score.now.0 ≡ sha1 [] }
+    ensures no { result ≡ false → score.now.0 ≢ sha1 [] }
+{
+    score.0 == EMPTY
+}
 
 /// The lines of the used places in their order, and the place of each score and kind.
 #[derive(Drop)]

@@ -11,6 +11,7 @@ ghost use Rattle.venti_store.specs.Opening.{ReadLines, OpenRefuses, UsedIs, Head
 
 use crate::error::ArenaWhy;
 use crate::index::Index;
+use crate::recent::Recent;
 use crate::shelf::Shelf;
 use fo_base::LINES;
 use fo_disk::{BLOCK, Disk, Failed};
@@ -132,7 +133,7 @@ fn read_index<A: Disk>(alloc: Global, device: &mut A, used: u32) -> Result<Index
 pub(crate) fn read_shelf<A: Disk>(alloc: Global, device: &mut A) -> Result<Shelf, ArenaWhy>
     ensures answer { (vault : List Block) → Shows (A.state device.old).holds vault → MatchResult result (λ s. IsIndexed (length (lines_of s)) (lines_of s) vault) (OpenRefuses vault) }
     ensures size { IfOk result (λ s. A.size device.new ≡ s.blocks) }
-    ensures none { IfOk result (λ s. s.pending.items ≡ []) }
+    ensures none { IfOk result (λ s. (s.pending.items ≡ []) × (s.recent.blocks.items ≡ [])) }
     ensures calls { MatchResult result (λ s. A.calls device.new ≤ A.calls device.old + 2 + (length (lines_of s) + 340) / 341)
         (λ _. A.calls device.new ≤ A.calls device.old + 2 + (arena_places (A.size device.new) + 340) / 341) }
     ensures kept { A.state device.new ≡ A.state device.old }
@@ -141,9 +142,13 @@ pub(crate) fn read_shelf<A: Disk>(alloc: Global, device: &mut A) -> Result<Shelf
     let blocks = count(device)?;
     let used = read_head(device, blocks)?;
     let index = read_index(alloc, device, used)?;
+    let Ok(recent) = Recent::new(alloc) else {
+        return Err(ArenaWhy::Memory);
+    };
     Ok(Shelf {
         blocks,
         index,
         pending: Vec::new(alloc),
+        recent,
     })
 }

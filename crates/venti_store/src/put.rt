@@ -1,29 +1,13 @@
 //! The calls that put and get blocks.
-ghost use Rattle.std.specs.Prelude.{◌≡◌, ◌≢◌, true, false, []};
-ghost use Rattle.sha1.specs.Sha1.{sha1};
-
+use crate::index::is_empty;
 use crate::read::{compare, copy_of, read_stored};
 use crate::{Arena, ArenaError};
 use fo_disk::{Disk, DiskFault};
 use fo_image::{ArenaLine, Score, is_score, stored_block};
 use sha1::Sha1;
 
-/// The score of the empty block.
-const EMPTY: [u8; 20] = [
-    0xda, 0x39, 0xa3, 0xee, 0x5e, 0x6b, 0x4b, 0x0d, 0x32, 0x55, 0xbf, 0xef, 0x95, 0x60, 0x18, 0x90,
-    0xaf, 0xd8, 0x07, 0x09,
-];
-
 /// How many blocks may wait in memory.
 const MOST_WAITING: usize = 512;
-
-/// Whether a score is that of the empty block.
-fn is_empty(score: &Score) -> bool
-    ensures yes { result ≡ true → score.now.0 ≡ sha1 [] }
-    ensures no { result ≡ false → score.now.0 ≢ sha1 [] }
-{
-    score.0 == EMPTY
-}
 
 impl<A: Disk> Arena<A> {
     ghost use Rattle.std.specs.Prelude.{◌≡◌, ◌+◌, ◌<◌, ◌≤◌, ◌++◌, ◌∷◌, ℕ, List, [], true, length, MatchResult, MatchOption, OnOk, OnErr, IfOk, IfErr, IfSome, IfNone};
@@ -33,14 +17,14 @@ impl<A: Disk> Arena<A> {
     ghost use Rattle.sha1.specs.Sha1.{sha1};
     ghost use Rattle.venti_store.specs.Held.{stored_at, HasName, IsNamed, IsHeld, Recovers};
     ghost use Rattle.venti_store.specs.Kept.{waits, settled_count};
-    ghost use Rattle.venti_store.specs.Arena.{lines_of, Keeps, IsAtHand, settle_calls, IsPlaceOf, line_for, PutsLine, PutsBytes, TakesNone, IsUntouched, LookRefuses, GetRefuses, PutRefuses, RefusesHeld, AppendRefuses, IsReadOrMemory, IsWriteOrSync, HasCauses};
+    ghost use Rattle.venti_store.specs.Arena.{lines_of, Keeps, IsAtHand, IsInMemory, IsLatest, recent_of, settle_calls, IsPlaceOf, line_for, PutsLine, PutsBytes, TakesNone, IsUntouched, LookRefuses, GetRefuses, PutRefuses, RefusesHeld, AppendRefuses, IsReadOrMemory, IsWriteOrSync, HasCauses};
 
-    /// The bytes of a place in use.
+    /// The bytes of a place in use, which are not recalled.
     fn read_place(&mut self, place: u32) -> Result<Vec<u8>, ArenaError>
         requires { place < length (lines_of self.old.shelf) }
         ensures read { (stored : List (List ℕ)) (synced : ℕ) → Keeps self.old.shelf stored synced (A.state self.old.device) → IfOk result (λ v. v.items ≡ stored_at stored place) }
         ensures short { IfOk result (λ v. length v.items ≤ 8192) }
-        ensures at_hand { settled_count (lines_of self.old.shelf) (waits self.old.shelf.pending.items) ≤ place → A.calls self.new.device ≡ A.calls self.old.device }
+        ensures waits { settled_count (lines_of self.old.shelf) (waits self.old.shelf.pending.items) ≤ place → A.calls self.new.device ≡ A.calls self.old.device }
         ensures calls { A.calls self.new.device ≤ A.calls self.old.device + 1 }
         ensures shelf { self.new.shelf ≡ self.old.shelf }
         ensures kept { A.state self.new.device ≡ A.state self.old.device }
@@ -55,6 +39,25 @@ impl<A: Disk> Arena<A> {
         }
         let len = shelf.index.lines[place as usize].len;
         read_stored(self.alloc, &mut self.device, place, len)
+    }
+
+    /// The bytes of a place in use.
+    fn bytes_of(&mut self, place: u32) -> Result<Vec<u8>, ArenaError>
+        requires { place < length (lines_of self.old.shelf) }
+        ensures read { (stored : List (List ℕ)) (synced : ℕ) → Keeps self.old.shelf stored synced (A.state self.old.device) → IfOk result (λ v. v.items ≡ stored_at stored place) }
+        ensures short { IfOk result (λ v. length v.items ≤ 8192) }
+        ensures at_hand { IsInMemory self.old.shelf place → A.calls self.new.device ≡ A.calls self.old.device }
+        ensures calls { A.calls self.new.device ≤ A.calls self.old.device + 1 }
+        ensures shelf { self.new.shelf ≡ self.old.shelf }
+        ensures kept { A.state self.new.device ≡ A.state self.old.device }
+        ensures cause { HasCauses (A.faults self.old.device) (A.faults self.new.device) result }
+        ensures fault { IfErr result IsReadOrMemory }
+    {
+        let recent = &self.shelf.recent;
+        if let Some(i) = recent.find(place) {
+            return copy_of(self.alloc, &recent.blocks[i].bytes);
+        }
+        self.read_place(place)
     }
 
     /// The bytes that are held under a score and a kind, which hash to the score.
@@ -76,7 +79,7 @@ impl<A: Disk> Arena<A> {
         let Some(place) = self.shelf.index.place(score, kind) else {
             return Ok(None);
         };
-        let bytes = self.read_place(place)?;
+        let bytes = self.bytes_of(place)?;
         let digest = Sha1::digest(&bytes);
         if score.0 == digest {
             return Ok(Some(bytes));
@@ -92,6 +95,7 @@ impl<A: Disk> Arena<A> {
         ensures calls { A.calls self.new.device ≤ A.calls self.old.device + settle_calls self.old.shelf }
         ensures blocks { self.new.shelf.blocks ≡ self.old.shelf.blocks }
         ensures index { self.new.shelf.index ≡ self.old.shelf.index }
+        ensures recent { self.new.shelf.recent ≡ self.old.shelf.recent }
         ensures cause { HasCauses (A.faults self.old.device) (A.faults self.new.device) result }
         ensures fault { IfErr result IsWriteOrSync }
     {
@@ -113,7 +117,7 @@ impl<A: Disk> Arena<A> {
         requires length { length bytes.now ≤ 8192 }
         requires fresh { ¬ IsNamed (lines_of self.old.shelf) score.0 kind }
         ensures added { OnOk result (lines_of self.new.shelf ≡ lines_of self.old.shelf ++ line_for kind bytes.now ∷ []) }
-        ensures at_hand { OnOk result (IsAtHand self.new.shelf score.0 kind) }
+        ensures recent { self.new.shelf.recent ≡ self.old.shelf.recent }
         ensures same { OnErr result (lines_of self.new.shelf ≡ lines_of self.old.shelf) }
         ensures refused { IfErr result (AppendRefuses self.old.shelf.blocks (lines_of self.old.shelf)) }
         ensures full { length (lines_of self.old.shelf) ≡ arena_places self.old.shelf.blocks
@@ -160,14 +164,15 @@ impl<A: Disk> Arena<A> {
         ensures moments { (stored : List (List ℕ)) (synced : ℕ) → Keeps self.old.shelf stored synced (A.state self.old.device)
             → Since (A.state self.old.device).moments (A.state self.new.device).moments (Recovers synced (lines_of self.old.shelf) stored) }
 
-        // Only a block that is not held is written, and only where a place is left for it. Else nothing changes, in memory or on the
-        // device, and one block is read at most.
+        // Only a block that is not held is written, and only where a place is left for it. Else nothing is written or waits
+        // to be, and one block is read at most.
         ensures unwritten { TakesNone self.old.shelf.blocks (lines_of self.old.shelf) kind bytes.now
             → IsUntouched self.old.shelf self.new.shelf (A.state self.old.device) (A.state self.new.device) × (A.calls self.new.device ≤ A.calls self.old.device + 1) }
 
-        // A block that is put at a new place is at hand. One that was at hand costs no call of the device, and any other no more than
-        // to settle those that wait.
-        ensures added { OnOk result (¬ IsNamed (lines_of self.old.shelf) (sha1 bytes.now) kind → IsAtHand self.new.shelf (sha1 bytes.now) kind) }
+        // A block that is put is at hand then, held before or not: it is the latest of the last sixteen. One that was at hand costs no
+        // call of the device, and any other no more than to settle those that wait.
+        ensures put { OnOk result (IsAtHand self.new.shelf (sha1 bytes.now) kind) }
+        ensures recent { MatchResult result (λ _. IsLatest (sha1 bytes.now) kind self.old.shelf self.new.shelf) (λ _. recent_of self.new.shelf ≡ recent_of self.old.shelf) }
         ensures at_hand { IsAtHand self.old.shelf (sha1 bytes.now) kind → A.calls self.new.device ≡ A.calls self.old.device }
 
         ensures calls { A.calls self.new.device ≤ A.calls self.old.device + settle_calls self.old.shelf }
@@ -195,7 +200,8 @@ impl<A: Disk> Arena<A> {
             → Since (A.state self.old.device).moments (A.state self.new.device).moments (Recovers synced (lines_of self.old.shelf) stored) }
         ensures unwritten { TakesNone self.old.shelf.blocks (lines_of self.old.shelf) kind bytes.now
             → IsUntouched self.old.shelf self.new.shelf (A.state self.old.device) (A.state self.new.device) × (A.calls self.new.device ≤ A.calls self.old.device + 1) }
-        ensures added { OnOk result (¬ IsNamed (lines_of self.old.shelf) (sha1 bytes.now) kind → IsAtHand self.new.shelf (sha1 bytes.now) kind) }
+        ensures put { OnOk result (IsAtHand self.new.shelf (sha1 bytes.now) kind) }
+        ensures recent { MatchResult result (λ _. IsLatest (sha1 bytes.now) kind self.old.shelf self.new.shelf) (λ _. recent_of self.new.shelf ≡ recent_of self.old.shelf) }
         ensures at_hand { IsAtHand self.old.shelf (sha1 bytes.now) kind → A.calls self.new.device ≡ A.calls self.old.device }
         ensures calls { A.calls self.new.device ≤ A.calls self.old.device + settle_calls self.old.shelf }
         ensures blocks { self.new.shelf.blocks ≡ self.old.shelf.blocks }
@@ -206,11 +212,14 @@ impl<A: Disk> Arena<A> {
         }
         match self.look(&score, kind)? {
             Some(held) => {
-                compare(self.alloc, held, bytes)?;
+                let block = compare(self.alloc, held, bytes)?;
+                self.shelf.remember(&score, kind, block);
                 Ok(())
             }
             None => {
+                let block = copy_of(self.alloc, bytes)?;
                 self.append(score, kind, bytes)?;
+                self.shelf.remember(&score, kind, block);
                 Ok(())
             }
         }

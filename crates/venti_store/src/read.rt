@@ -49,12 +49,12 @@ pub(crate) fn read_stored<A: Disk>(
     }
 }
 
-/// Refuses bytes that are not those of the held block, with both.
-pub(crate) fn compare(alloc: Global, held: Vec<u8>, bytes: &[u8]) -> Result<(), ArenaError>
-    ensures { MatchResult result (λ _. held.items ≡ bytes.now) (IsCollision held.items bytes.now) }
+/// The held block, where these are its bytes. Other ones are refused, with both.
+pub(crate) fn compare(alloc: Global, held: Vec<u8>, bytes: &[u8]) -> Result<Vec<u8>, ArenaError>
+    ensures { MatchResult result (λ v. (v.items ≡ held.items) × (held.items ≡ bytes.now)) (IsCollision held.items bytes.now) }
 {
     if held.as_slice() == bytes {
-        return Ok(());
+        return Ok(held);
     }
     let other = copy_of(alloc, bytes)?;
     Err(ArenaError::Collision(held, other))

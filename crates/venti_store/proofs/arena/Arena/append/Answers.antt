@@ -1,8 +1,9 @@
-use Rattle.std.proofs.Common.{refl, arith}
+use Rattle.std.proofs.Common.{refl, ap, arith}
 use Rattle.std.proofs.lemmas.Result.{err_from_is_err_and}
 use Rattle.venti_store.specs.Kept.{waits}
+use Rattle.venti_store.specs.declared.recent.Recent.{Recent}
 use Rattle.venti_store.proofs.Keeping.{in_memory}
-use Rattle.venti_store.proofs.Puts.{Added, added_keeps, added_at_hand, same_keeps, stays_since}
+use Rattle.venti_store.proofs.Puts.{Added, added_keeps, same_keeps, stays_since}
 use Rattle.venti_store.proofs.arena.Arena.append.Goals as goal
 
 pub returns-then-places-used-clause-moments : goal.returns-then-places-used-clause-moments
@@ -22,18 +23,7 @@ returns-in-Ok-clause-keeps g c stored synced k =
       len = omega arith;
       few = (in_memory t).few;
     } in
-    same_keeps c.in-Ok.ensures.blocks refl refl (added_keeps a (c.in_ok-make_room.ensures.keeps stored synced k))
+    same_keeps c.in-Ok.ensures.blocks refl refl (ap (λ (r : Recent). r.blocks.items) c.in-Ok.ensures.recent) (added_keeps a (c.in_ok-make_room.ensures.keeps stored synced k))
 
 pub returns-in-Err-clause-keeps : goal.returns-in-Err-clause-keeps
-returns-in-Err-clause-keeps g c stored synced k = same_keeps c.in-Err.ensures.blocks c.in-Err.ensures.same_lines c.in-Err.ensures.same_bytes (c.in_ok-make_room.ensures.keeps stored synced k)
-
-pub returns-in-Ok-clause-at_hand : goal.returns-in-Ok-clause-at_hand
-returns-in-Ok-clause-at_hand g c =
-    let t = c.make_room.new.self.shelf in
-    let a : Added t.index.lines.items c.add.new.self.index.lines.items (waits t.pending.items) (waits c.add.new.self.pending.items) _ c.args.bytes.now = record {
-      line_is = c.in-Ok.ensures.line;
-      bytes_is = c.in-Ok.ensures.bytes;
-      len = omega arith;
-      few = (in_memory t).few;
-    } in
-    added_at_hand c.add.new.self a
+returns-in-Err-clause-keeps g c stored synced k = same_keeps c.in-Err.ensures.blocks c.in-Err.ensures.same_lines c.in-Err.ensures.same_bytes (ap (λ (r : Recent). r.blocks.items) c.in-Err.ensures.recent) (c.in_ok-make_room.ensures.keeps stored synced k)

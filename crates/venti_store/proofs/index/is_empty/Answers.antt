@@ -1,7 +1,7 @@
 use Rattle.std.proofs.Common.{◌∙◌, sym}
 use Rattle.venti_store.proofs.Empty.{empty_score}
 use Rattle.venti_store.proofs.Puts.{differ, same}
-use Rattle.venti_store.proofs.put.is_empty.Goals as goal
+use Rattle.venti_store.proofs.index.is_empty.Goals as goal
 
 pub returns-clause-yes : goal.returns-clause-yes
 returns-clause-yes c equal = same _ _ c.eq.result c.eq.ensures equal ∙ sym empty_score
