@@ -51,6 +51,13 @@ pub(crate) fn disk(alloc: Global, head: &[u8], fails: Vec<u64>) -> Result<MemDis
     Ok(disk)
 }
 
+/// An empty arena of 32 blocks, whose disk had 5 calls.
+pub(crate) fn wide(alloc: Global) -> Result<Arena<MemDisk>, Fail> {
+    let mut disk = MemDisk::new(alloc, 32, Vec::new(alloc))?;
+    write(&mut disk, 0, b"FSARENA1\0\0\0\x20\0\0\0\0")?;
+    opened(alloc, disk)
+}
+
 /// The arena on this disk.
 pub(crate) fn opened(alloc: Global, disk: MemDisk) -> Result<Arena<MemDisk>, Fail> {
     match Arena::open(alloc, disk) {

@@ -1,5 +1,5 @@
 //! What is put is held.
-use crate::blocks::{HELLO, empty, holds, opened, score};
+use crate::blocks::{HELLO, empty, holds, opened, score, wide};
 use fo_disk::MemDisk;
 use fo_image::Score;
 use std::alloc::Global;
@@ -76,11 +76,50 @@ fn at_hand(rt: HostRuntime) -> Result<(), Fail> {
     Ok(())
 }
 
+/// A block that was held before its arena was opened, and is put again, is read once: by the put, which compares it.
+#[test]
+fn held_at_hand(rt: HostRuntime) -> Result<(), Fail> {
+    let alloc = rt.alloc();
+    let mut arena = empty(alloc)?;
+    arena.put(0, b"hello")?;
+    arena.sync()?;
+    let mut arena = opened(alloc, arena.close())?;
+    arena.put(0, b"hello")?;
+    assert!(rt; holds(alloc, &mut arena, &score(HELLO)?, 0, b"hello")?);
+    assert_eq!(rt; arena.close().calls(), 14);
+    Ok(())
+}
+
 /// Puts so many blocks of one byte.
 fn fill(arena: &mut Arena<MemDisk>, blocks: u8) -> Result<(), Fail> {
     for byte in 0..blocks {
         arena.put(0, &[byte])?;
     }
+    Ok(())
+}
+
+/// How many calls the disk had once seventeen blocks were put, of which the first was put again before the last, and all were settled,
+/// and this one was got.
+fn calls_to_get(alloc: Global, score: &Score, byte: u8) -> Result<u64, Fail> {
+    let mut arena = wide(alloc)?;
+    fill(&mut arena, 16)?;
+    arena.put(0, &[0])?;
+    arena.put(0, &[16])?;
+    arena.sync()?;
+    if !holds(alloc, &mut arena, score, 0, &[byte])? {
+        return Ok(0);
+    }
+    Ok(arena.close().calls())
+}
+
+/// The last sixteen blocks that were put are got from memory, in the order of their last puts.
+#[test]
+fn recent(rt: HostRuntime) -> Result<(), Fail> {
+    let alloc = rt.alloc();
+    let first = score("5ba93c9db0cff93f52b521d7420e43f6eda2784f")?;
+    assert_eq!(rt; calls_to_get(alloc, &first, 0)?, 26);
+    let second = score("bf8b4530d8d246dd74ac53a13471bba17941dff7")?;
+    assert_eq!(rt; calls_to_get(alloc, &second, 1)?, 27);
     Ok(())
 }
 
