@@ -22,7 +22,6 @@ use Rattle.fo_ports.specs.State.{StaysKnown}
 use Rattle.fo_ports.specs.declared.error.BlockError.{BlockError}
 use Rattle.fo_ports.specs.declared.error.BlockError.TheVariants.{Full, Damaged, Fault, Arena, Memory}
 use Rattle.fo_slots.specs.Read.{read}
-use Rattle.fo_waits.specs.declared.listed.Clearing.{Clearing}
 use Rattle.fo_waits.specs.Listed.{Clears}
 use Rattle.fo_mind.specs.Laws.{keeps_joins}
 use Rattle.fo_mind.specs.Parts.{IsBlock, Parts, bytes_at, bytes_of, content_at, label_at, least_limit, memory, one_content, state_of}
@@ -230,10 +229,6 @@ finished_of was n s t p q first labels fits turning h is c = record {
 
     certain : q.doubt ≡ None
     certain = ap (λ (z : Parts). z.doubt) c.rest
-
-pub settled_last : {T E : Type 0} (m q : Parts) (r : Result T E) → ((b j : ℕ) → Clears m.clears b j → ⊥) → q.clears ≡ m.clears → OnOk r (IsQuiet q.turns) → OnOk r (q.doubt ≡ None) → OnOk r (Settled q)
-settled_last m q (Ok x) none same quiet certain = record { quiet = quiet; none = λ b j h. none b j (subst (λ (cs : List Clearing). Clears cs b j) same h); certain = certain }
-settled_last m q (Err e) none same quiet certain = tt
 
 -- ---- the number that is saved
 

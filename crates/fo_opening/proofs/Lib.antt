@@ -1,3 +1,4 @@
 pub mod Finishing
 pub mod Loading
 pub mod Refusing
+pub mod Stepping

@@ -1,3 +1,4 @@
+pub mod Ending
 pub mod Finished
 pub mod Loads
 pub mod Opens

@@ -1,0 +1,26 @@
+use Rattle.std.proofs.Common.{◌∙◌, [], arith}
+use Rattle.fo_mind.specs.MindParts.{parts}
+use Rattle.fo_cache.proofs.Settling.{then}
+use Rattle.fo_opening.proofs.Stepping.{pinned_turned}
+use Rattle.fo_opening.proofs.turns.take_turns.Goals as goal
+
+pub take_turn-requires : goal.take_turn-requires
+take_turn-requires g c = record { free = λ b h. c.requires.free b (pinned_turned (g.D.Disk.state c.args.cache.now.main) (g.D.Disk.state c.loop.cache.main) (parts c.args.cache.now.mind [] 0) (parts c.loop.cache.mind [] 0) c.loop.invariant.settles b h) }
+
+pub returns-in_err-take_turn-clause-settles : goal.returns-in_err-take_turn-clause-settles
+returns-in_err-take_turn-clause-settles g c =
+    then (g.D.Disk.state c.args.cache.now.main) (g.D.Disk.state c.loop.cache.main) (g.D.Disk.state c.take_turn.new.cache.main) (parts c.args.cache.now.mind [] 0) (parts c.loop.cache.mind [] 0) (parts c.take_turn.new.cache.mind [] 0) c.loop.invariant.settles c.take_turn.ensures.settles
+
+pub returns-clause-settles : goal.returns-clause-settles
+returns-clause-settles g c =
+    then (g.D.Disk.state c.args.cache.now.main) (g.D.Disk.state c.loop.cache.main) (g.D.Disk.state c.take_turn.new.cache.main) (parts c.args.cache.now.mind [] 0) (parts c.loop.cache.mind [] 0) (parts c.take_turn.new.cache.mind [] 0) c.loop.invariant.settles c.take_turn.ensures.settles
+
+pub loop-preserved : goal.loop-preserved
+loop-preserved g c =
+    let was = c.loop.invariant in
+    let now = c.take_turn.ensures in
+    record {
+      settles = then (g.D.Disk.state c.args.cache.now.main) (g.D.Disk.state c.loop.cache.main) (g.D.Disk.state c.take_turn.new.cache.main) (parts c.args.cache.now.mind [] 0) (parts c.loop.cache.mind [] 0) (parts c.take_turn.new.cache.mind [] 0) was.settles now.settles;
+      size = now.size ∙ was.size;
+      later = let x = was.later in let y = now.later in omega (arith, x, y);
+    }

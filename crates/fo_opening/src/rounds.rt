@@ -1,0 +1,106 @@
+//! Turns and clearings follow one another while nothing is pinned, until neither is left.
+ghost use Rattle.std.specs.Prelude.{◌≡◌, ◌<◌, ◌≤◌, ℕ, [], true, false, length, None, OnOk, IfOk, IfErr};
+ghost use Rattle.fo_base.specs.Cause.{Rose};
+ghost use Rattle.fo_order.specs.Turns.{IsQuiet};
+ghost use Rattle.fo_ports.specs.Causes.{Caused};
+ghost use Rattle.fo_ports.specs.declared.error.BlockError.TheVariants.{Memory as Wanting};
+ghost use Rattle.fo_waits.specs.Listed.{Clears};
+ghost use Rattle.fo_mind.specs.MindParts.{parts};
+ghost use Rattle.fo_mind.specs.Parts.{IsPinned};
+ghost use Rattle.fo_cache.specs.Supers.{IsFault};
+ghost use Rattle.fo_opening.specs.Ending.{Ending, SomeWaits};
+ghost use Rattle.fo_opening.specs.Finished.{Settled};
+
+use crate::turns::take_turns;
+use fo_cache::Cache;
+use fo_disk::Disk;
+use fo_ports::BlockError;
+
+// Takes all turns, with nothing in doubt.
+fn settle_sure<D: Disk>(cache: &mut Cache<D>) -> Result<(), BlockError>
+    requires free { (b : ℕ) → IsPinned (parts cache.old.mind [] 0).held b → ⊥ }
+    ensures quiet { OnOk result (IsQuiet (parts cache.new.mind [] 0).turns) }
+    ensures certain { OnOk result ((parts cache.new.mind [] 0).doubt ≡ None) }
+    ensures clears { (parts cache.new.mind [] 0).clears ≡ (parts cache.old.mind [] 0).clears }
+    ensures ending { Ending (D.state cache.old.main) (D.state cache.new.main) (D.faults cache.old.main) (D.faults cache.new.main) (parts cache.old.mind [] 0) (parts cache.new.mind [] 0) }
+    ensures size { D.size cache.new.main ≡ D.size cache.old.main }
+    ensures cause { IfErr result (Caused ⊥ (λ b. ⊥) (Rose (D.faults cache.old.main) (D.faults cache.new.main)) ⊥) }
+    ensures failed { IfErr result IsFault }
+    ensures later { D.faults cache.old.main ≤ D.faults cache.new.main }
+{
+    cache.settle_doubt()?;
+    take_turns(cache)
+}
+
+// Clears the next slot whose leaf is settled, and answers whether there was none.
+fn clear_next<D: Disk>(cache: &mut Cache<D>) -> Result<bool, BlockError>
+    ensures ending { Ending (D.state cache.old.main) (D.state cache.new.main) (D.faults cache.old.main) (D.faults cache.new.main) (parts cache.old.mind [] 0) (parts cache.new.mind [] 0) }
+    ensures less { IfOk result (λ b. b ≡ false → length (parts cache.new.mind [] 0).clears < length (parts cache.old.mind [] 0).clears) }
+    ensures fewer { IfOk result (λ b. length (parts cache.new.mind [] 0).clears ≤ length (parts cache.old.mind [] 0).clears) }
+    ensures device { cache.new.main ≡ cache.old.main }
+    ensures cause { IfErr result (λ e. e ≡ Wanting) }
+    ensures waits { IfErr result (λ e. SomeWaits (parts cache.old.mind [] 0)) }
+{
+    let Some((at, i)) = cache.next_due() else {
+        return Ok(true);
+    };
+    cache.clear_due(at, i)?;
+    Ok(false)
+}
+
+// Clears each slot whose leaf is settled.
+fn clear_all<D: Disk>(cache: &mut Cache<D>) -> Result<(), BlockError>
+    ensures ending { Ending (D.state cache.old.main) (D.state cache.new.main) (D.faults cache.old.main) (D.faults cache.new.main) (parts cache.old.mind [] 0) (parts cache.new.mind [] 0) }
+    ensures fewer { OnOk result (length (parts cache.new.mind [] 0).clears ≤ length (parts cache.old.mind [] 0).clears) }
+    ensures device { cache.new.main ≡ cache.old.main }
+    ensures cause { IfErr result (λ e. e ≡ Wanting) }
+    ensures waits { IfErr result (λ e. SomeWaits (parts cache.old.mind [] 0)) }
+{
+    while !clear_next(cache)? {}
+    Ok(())
+}
+
+// Clears a slot that waits, and each other whose leaf is settled.
+fn clear_from<D: Disk>(cache: &mut Cache<D>, at: u32, i: u32) -> Result<(), BlockError>
+    requires waits { Clears (parts cache.old.mind [] 0).clears at i }
+    ensures ending { Ending (D.state cache.old.main) (D.state cache.new.main) (D.faults cache.old.main) (D.faults cache.new.main) (parts cache.old.mind [] 0) (parts cache.new.mind [] 0) }
+    ensures less { OnOk result (length (parts cache.new.mind [] 0).clears < length (parts cache.old.mind [] 0).clears) }
+    ensures device { cache.new.main ≡ cache.old.main }
+    ensures cause { IfErr result (λ e. e ≡ Wanting) }
+{
+    cache.clear_due(at, i)?;
+    clear_all(cache)
+}
+
+// Takes all turns, and then clears the slots whose leaves are settled; true where none was left, so that all is settled.
+fn settle_round<D: Disk>(cache: &mut Cache<D>) -> Result<bool, BlockError>
+    requires free { (b : ℕ) → IsPinned (parts cache.old.mind [] 0).held b → ⊥ }
+    ensures settled { IfOk result (λ b. b ≡ true → Settled (parts cache.new.mind [] 0)) }
+    ensures less { IfOk result (λ b. b ≡ false → length (parts cache.new.mind [] 0).clears < length (parts cache.old.mind [] 0).clears) }
+    ensures ending { Ending (D.state cache.old.main) (D.state cache.new.main) (D.faults cache.old.main) (D.faults cache.new.main) (parts cache.old.mind [] 0) (parts cache.new.mind [] 0) }
+    ensures size { D.size cache.new.main ≡ D.size cache.old.main }
+    ensures cause { IfErr result (Caused ⊥ (λ b. ⊥) (Rose (D.faults cache.old.main) (D.faults cache.new.main)) ⊥) }
+    ensures memory { IfErr result (λ e. e ≡ Wanting → SomeWaits (parts cache.old.mind [] 0)) }
+    ensures later { D.faults cache.old.main ≤ D.faults cache.new.main }
+{
+    settle_sure(cache)?;
+    let Some((at, i)) = cache.next_due() else {
+        return Ok(true);
+    };
+    clear_from(cache, at, i)?;
+    Ok(false)
+}
+
+/// Takes turns and clears slots until neither is left, where nothing is pinned. It wants memory only where a slot waits.
+pub(crate) fn settle_all<D: Disk>(cache: &mut Cache<D>) -> Result<(), BlockError>
+    requires free { (b : ℕ) → IsPinned (parts cache.old.mind [] 0).held b → ⊥ }
+    ensures settled { OnOk result (Settled (parts cache.new.mind [] 0)) }
+    ensures ending { Ending (D.state cache.old.main) (D.state cache.new.main) (D.faults cache.old.main) (D.faults cache.new.main) (parts cache.old.mind [] 0) (parts cache.new.mind [] 0) }
+    ensures size { D.size cache.new.main ≡ D.size cache.old.main }
+    ensures cause { IfErr result (Caused ⊥ (λ b. ⊥) (Rose (D.faults cache.old.main) (D.faults cache.new.main)) ⊥) }
+    ensures memory { IfErr result (λ e. e ≡ Wanting → SomeWaits (parts cache.old.mind [] 0)) }
+    ensures later { D.faults cache.old.main ≤ D.faults cache.new.main }
+{
+    while !settle_round(cache)? {}
+    Ok(())
+}
