@@ -1,8 +1,8 @@
 -- The entries of a message.
-use Rattle.std.proofs.Common.{◌≡◌, ℕ, true, false, List, [], ◌∷◌, ◌++◌, Ok, Err, refl, sym, ap, ◌∙◌}
+use Rattle.std.proofs.Common.{◌≡◌, ℕ, Bool, false, List, [], ◌∷◌, ◌++◌, Ok, Err, refl, sym, ap, subst, ◌∙◌}
 use Rattle.std.specs.declared.option.Option.{Option}
-use Rattle.std.specs.Prelude.{Result, ⊤, MatchResult}
-use Rattle.std.proofs.lemmas.List.{append-nil}
+use Rattle.std.proofs.lemmas.List.{append-nil, append_assoc}
+use Rattle.fo_links.specs.Links.{GainsEnd}
 use Rattle.nine_wire.specs.declared.message.Request.{Request}
 use Rattle.nine_wire.specs.declared.message.Request.TheVariants as request
 use Rattle.nine_wire.specs.declared.message.Reply.{Reply}
@@ -10,7 +10,7 @@ use Rattle.nine_wire.specs.Message.{request_message, reply_message, spelling}
 use Rattle.nine_wire.specs.Stands.{Stands}
 use Rattle.fo_world.specs.World.{Faults}
 use Rattle.fo_links.specs.Clocks.{Readings, IsRead}
-use Rattle.fo_talk.specs.Conversation.{Goes, Position, Standing, Entry, Asked, Replied, asked, Drops, LetsGo, Makes, Chain, Answers, said, limit_with, limit_after}
+use Rattle.fo_talk.specs.Conversation.{Goes, Position, Standing, Entry, Asked, Rest, Replied, Rested, asked, rested, Drops, LetsGo, Makes, Chain, Answers, said, spelled, limit_with, limit_after}
 use Rattle.fo_talk.specs.Conversation as talk
 use Rattle.fo_talk.specs.Answering.{Clears, Asks, Answered, Put, is_version, next_limit}
 use Rattle.fo_talk.specs.declared.service.Stop.{Stop}
@@ -54,29 +54,54 @@ asks_of goes from clock clock' mid s' g f' now tag r reply cleared read went =
     let own : Entry = asked now tag r reply g f' in
     record {
       entries = cleared.entries ++ own ∷ [];
-      makes = record { drops = cleared.entries; gone = cleared.gone; now = now; reply = reply; before = g; after = f'; made_is = refl };
-      chain = chain_then goes from _ _ cleared.entries (own ∷ []) cleared.chain (chain_one goes clock clock' mid s' g f' (Asked now tag r) (Replied tag reply) read went);
+      makes = record { drops = cleared.entries; gone = cleared.gone; now = now; reply = reply; before = g; after = f'; rests = []; rests_if = refl; made_is = refl };
+      chain = chain_then goes from _ _ cleared.entries (own ∷ []) cleared.chain (chain_one goes clock clock' mid s' g f' (Asked now tag r) (Replied tag reply) read.says read.left went);
       says = gone_says r cleared.entries (own ∷ []) cleared.gone ∙ append-nil (spelling tag (reply_message reply));
       limits = λ limit. gone_leaves r cleared.entries (own ∷ []) limit cleared.gone ∙ limit_is limit now tag r reply;
     }
 
-next_is : (result : Result ℕ Stop) (m n : ℕ) → n ≡ m → MatchResult result (λ next. next ≡ m) (λ _. ⊤) → MatchResult result (λ next. next ≡ n) (λ _. ⊤)
-next_is (Ok next) m n same e = e ∙ sym same
-next_is (Err e) m n same h = h
+rest_says : (es : List Entry) (before after : Faults) → said (es ++ rested before after ∷ []) ≡ said es
+rest_says [] before after = refl
+rest_says (e ∷ es) before after = ap (λ (bytes : List ℕ). spelled e.outcome ++ bytes) (rest_says es before after)
 
-pub answered_of : {S : Type 0} (goes : Goes S) (limit tag : ℕ) (r : Request) (reply : Reply) (from to : Position S) (held held' : Option (List ℕ)) (result : Result ℕ Stop)
-    → Asks goes from tag r reply to → Put held held' (spelling tag (reply_message reply)) result → MatchResult result (λ next. next ≡ next_limit limit (is_version r) reply) (λ _. ⊤)
-    → Answered goes (record { limit = limit; position = from }) tag r to held held' result
-answered_of goes limit tag r reply from to held held' result asks put next = record {
-  entries = asks.entries;
-  makes = asks.makes;
-  chain = asks.chain;
-  put = rw asks.says put;
-  limit = next_is result (next_limit limit (is_version r) reply) (limit_after limit asks.entries) (asks.limits limit) next;
-}
+rest_leaves : (limit : ℕ) (es : List Entry) (before after : Faults) → limit_after limit (es ++ rested before after ∷ []) ≡ limit_after limit es
+rest_leaves limit [] before after = refl
+rest_leaves limit (e ∷ es) before after = rest_leaves (limit_with limit e.event e.outcome) es before after
+
+-- the reply was not put out whole
+pub answered_early : {S : Type 0} (goes : Goes S) (limit tag : ℕ) (r : Request) (reply : Reply) (from to : Position S) (held held' : Option (List ℕ)) (why : Stop)
+    → Asks goes from tag r reply to → Put held held' (spelling tag (reply_message reply)) (Err why) → Answered goes (record { limit = limit; position = from }) tag r to held held' (Err why)
+answered_early goes limit tag r reply from to held held' why asks put = record { entries = asks.entries; makes = asks.makes; chain = asks.chain; put = subst (λ (bytes : List ℕ). Put held held' bytes (Err why)) (sym asks.says) put; limit = tt }
+
+-- the reply was put out, and the machine rested
+pub answered_of : {S : Type 0} (goes : Goes S) (limit tag next : ℕ) (r : Request) (reply : Reply) (from : Position S) (clock : Readings) (s s' : S) (f f' : Faults) (held held' : Option (List ℕ))
+    → Asks goes from tag r reply (record { clock = clock; state = s; faults = f }) → GainsEnd (spelling tag (reply_message reply)) held held' → next ≡ next_limit limit (is_version r) reply → goes s Rest Rested f f' s'
+    → Answered goes (record { limit = limit; position = from }) tag r (record { clock = clock; state = s'; faults = f' }) held held' (Ok next)
+answered_of goes limit tag next r reply from clock s s' f f' held held' asks put is went =
+    let last : Entry = rested f f' in
+    let m = asks.makes in
+    let own : Entry = asked m.now tag r m.reply m.before m.after in
+    let none : m.drops ++ own ∷ [] ≡ asks.entries = sym (m.made_is ∙ ap (λ (es : List Entry). m.drops ++ own ∷ es) m.rests_if) in
+    record {
+      entries = asks.entries ++ last ∷ [];
+      makes = record {
+        drops = m.drops;
+        gone = m.gone;
+        now = m.now;
+        reply = m.reply;
+        before = m.before;
+        after = m.after;
+        rests = last ∷ [];
+        rests_if = (f, f', refl);
+        made_is = ap (λ (es : List Entry). es ++ last ∷ []) (sym none) ∙ append_assoc m.drops (own ∷ []) (last ∷ []);
+      };
+      chain = chain_then goes from _ _ asks.entries (last ∷ []) asks.chain (chain_one goes clock clock s s' f f' Rest Rested tt refl went);
+      put = rw (rest_says asks.entries f f' ∙ asks.says) put;
+      limit = is ∙ sym (rest_leaves limit asks.entries f f' ∙ asks.limits limit);
+    }
 
 -- the message stands there, and what was made of it
-pub answers_of : {S : Type 0} (goes : Goes S) (from : Standing S) (bytes : List ℕ) (tag : ℕ) (r : Request) (used next : ℕ) (to : Position S) (entries : List Entry)
-    → Stands from.limit bytes tag (request_message r) used → Makes tag r entries → Chain goes from.position entries to → next ≡ limit_after from.limit entries
-    → Answers goes from bytes (record { tag = tag; request = r; used = used; entries = entries }) (record { limit = next; position = to })
-answers_of goes from bytes tag r used next to entries stands makes chain limit = record { stands = stands; makes = makes; chain = chain; limit = limit }
+pub answers_of : {S : Type 0} (goes : Goes S) (from : Standing S) (bytes : List ℕ) (tag : ℕ) (r : Request) (used next : ℕ) (is_put : Bool) (to : Position S) (entries : List Entry)
+    → Stands from.limit bytes tag (request_message r) used → Makes tag r is_put entries → Chain goes from.position entries to → next ≡ limit_after from.limit entries
+    → Answers goes from bytes (record { tag = tag; request = r; used = used; entries = entries }) is_put (record { limit = next; position = to })
+answers_of goes from bytes tag r used next is_put to entries stands makes chain limit = record { stands = stands; makes = makes; chain = chain; limit = limit }

@@ -1,5 +1,5 @@
 -- What a service keeps from message to message, and what that comes to at each end.
-use Rattle.std.proofs.Common.{inl, inr, ◌≡◌, ℕ, ◌+◌, List, [], ◌∷◌, ◌++◌, length, take, drop, Some, None, IfSome, refl, sym, ap, subst, ◌∙◌, append_assoc, arith}
+use Rattle.std.proofs.Common.{inl, inr, ◌≡◌, ℕ, true, false, ◌+◌, List, [], ◌∷◌, ◌++◌, length, take, drop, Some, None, IfSome, refl, sym, ap, subst, ◌∙◌, append_assoc, arith}
 use Rattle.std.specs.declared.option.Option.{Option}
 use Rattle.std.proofs.lemmas.List.{append-nil, length-append, length-drop}
 use Rattle.nine_wire.specs.Message.{request_message}
@@ -61,7 +61,7 @@ going_fills goes first now left0 left left' held0 held room room' waiting waitin
 }
 
 pub going_answers : {S : Type 0} (goes : Goes S) (first now now' : Standing S) (left0 left held0 held held' : Option (List ℕ)) (waiting : List ℕ) (place : ℕ) (x : Exchange)
-    → Going goes first now left0 left held0 held waiting place → Answers goes now waiting x now' → GainsEnd (said x.entries) held held'
+    → Going goes first now left0 left held0 held waiting place → Answers goes now waiting x true now' → GainsEnd (said x.entries) held held'
     → Going goes first now' left0 left held0 held' (drop x.used waiting) (place + x.used)
 going_answers goes first now now' left0 left held0 held held' waiting place x g a gained = record {
   received = g.received;
@@ -91,12 +91,12 @@ ends_early goes first now (Some all) (Some rest) held0 held waiting place g =
     let t = all_talks goes first now all rest held0 held waiting place g in
     record { limit = now.limit; stops = record { before = now; talk = record { exchanges = g.exchanges; rest = waiting ++ rest; talks = t.0 }; next = inl refl; told = g.told } }
 
-answers_more : {S : Type 0} (goes : Goes S) (now now' : Standing S) (waiting rest : List ℕ) (x : Exchange) → Answers goes now waiting x now' → Answers goes now (waiting ++ rest) x now'
+answers_more : {S : Type 0} (goes : Goes S) (now now' : Standing S) (waiting rest : List ℕ) (x : Exchange) → Answers goes now waiting x false now' → Answers goes now (waiting ++ rest) x false now'
 answers_more goes now now' waiting rest x a = record { stands = stands_more now.limit waiting rest x.tag (request_message x.request) x.used a.stands; makes = a.makes; chain = a.chain; limit = a.limit }
 
 -- a message was answered, and nothing was put
 pub ends_unput : {S : Type 0} (goes : Goes S) (first now now' : Standing S) (left0 left held0 held : Option (List ℕ)) (waiting : List ℕ) (place : ℕ) (x : Exchange)
-    → Going goes first now left0 left held0 held waiting place → Answers goes now waiting x now' → IfSome left0 (λ bytes. Stopped goes first bytes left held0 held now'.position end.Memory)
+    → Going goes first now left0 left held0 held waiting place → Answers goes now waiting x false now' → IfSome left0 (λ bytes. Stopped goes first bytes left held0 held now'.position end.Memory)
 ends_unput goes first now now' None left held0 held waiting place x g a = tt
 ends_unput goes first now now' (Some all) None held0 held waiting place x g a = let h = g.input in absurd cc
 ends_unput goes first now now' (Some all) (Some rest) held0 held waiting place x g a =
@@ -108,7 +108,7 @@ ends_unput goes first now now' (Some all) (Some rest) held0 held waiting place x
 
 -- a front of the reply was put
 pub ends_unsaid : {S : Type 0} (goes : Goes S) (first now now' : Standing S) (left0 left held0 held held' : Option (List ℕ)) (waiting : List ℕ) (place n : ℕ) (x : Exchange)
-    → Going goes first now left0 left held0 held waiting place → Answers goes now waiting x now' → GainsEnd (take n (said x.entries)) held held'
+    → Going goes first now left0 left held0 held waiting place → Answers goes now waiting x false now' → GainsEnd (take n (said x.entries)) held held'
     → IfSome left0 (λ bytes. Stopped goes first bytes left held0 held' now'.position end.WriteFault)
 ends_unsaid goes first now now' None left held0 held held' waiting place n x g a gained = tt
 ends_unsaid goes first now now' (Some all) None held0 held held' waiting place n x g a gained = let h = g.input in absurd cc

@@ -1,4 +1,5 @@
 pub mod Buffer
+pub mod Later
 pub mod Talking
 pub mod Front
 pub mod Letting

@@ -1,5 +1,5 @@
 -- How a conversation goes on.
-use Rattle.std.proofs.Common.{◌≡◌, ℕ, List, [], ◌∷◌, ◌++◌, drop, refl, sym, ap, ◌∙◌, append_assoc}
+use Rattle.std.proofs.Common.{◌≡◌, ℕ, true, List, [], ◌∷◌, ◌++◌, drop, refl, sym, ap, ◌∙◌, append_assoc}
 use Rattle.std.proofs.lemmas.List.{append-nil, drop-append-le}
 use Rattle.nine_wire.specs.Message.{request_message}
 use Rattle.nine_wire.proofs.Laws.{stands_more}
@@ -17,7 +17,7 @@ talks_more goes from to bytes rest more (x ∷ xs) t =
       rw same (talks_more goes t.0 to (drop x.used bytes) rest more xs t.2),
     )
 
-pub talks_then : {S : Type 0} (goes : Goes S) (from mid to : Standing S) (bytes rest : List ℕ) (xs : List Exchange) (x : Exchange) → Talks goes from bytes xs rest mid → Answers goes mid rest x to → Talks goes from bytes (xs ++ x ∷ []) (drop x.used rest) to
+pub talks_then : {S : Type 0} (goes : Goes S) (from mid to : Standing S) (bytes rest : List ℕ) (xs : List Exchange) (x : Exchange) → Talks goes from bytes xs rest mid → Answers goes mid rest x true to → Talks goes from bytes (xs ++ x ∷ []) (drop x.used rest) to
 unfolding Talks
 talks_then goes from mid to bytes rest [] x t a =
     let same : rest ≡ bytes = t.0 in

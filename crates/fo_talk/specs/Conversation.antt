@@ -20,11 +20,8 @@ pub data Event : Type 0 where
   Asked : (now : ℕ) → (tag : ℕ) → (request : Request) → Event
   -- at this moment the least fid is let go, as by a Tclunk
   Drop : (now : ℕ) → Event
-
--- when it happens
-abbrev pub time_of : Event → ℕ
-time_of (Asked now tag request) = now
-time_of (Drop now) = now
+  -- a reply was put out, and the next message isn't read yet
+  Rest : Event
 
 -- what becomes of an event
 pub data Outcome : Type 0 where
@@ -32,6 +29,8 @@ pub data Outcome : Type 0 where
   Replied : (tag : ℕ) → (reply : Reply) → Outcome
   -- whether there was a fid, and the Rerror by which the Tclunk would be refused
   LetGo : (more : Bool) → (reply : Option Reply) → Outcome
+  -- the system did what it does between two messages
+  Rested : Outcome
 
 -- an event with what became of it, and how often each device had failed before it and after it
 pub record Entry : Type 0 where
@@ -55,6 +54,9 @@ asked now tag r reply before after = record { event = Asked now tag r; outcome =
 abbrev pub let_go : ℕ → Bool → Option Reply → Faults → Faults → Entry
 let_go now more reply before after = record { event = Drop now; outcome = LetGo more reply; before = before; after = after }
 
+abbrev pub rested : Faults → Faults → Entry
+rested before after = record { event = Rest; outcome = Rested; before = before; after = after }
+
 -- Fids are let go, one after another, until there is none.
 pub data Drops : List Entry → Type 0 where
   last : (now : ℕ) → (before after : Faults) → Drops (let_go now false None before after ∷ [])
@@ -65,22 +67,30 @@ abbrev pub LetsGo : Request → List Entry → Type 0
 LetsGo (request.Version msize version) entries = Drops entries
 LetsGo _ entries = entries ≡ []
 
--- Which entries a message makes: those before it, and its own.
-pub record Makes (tag : ℕ) (r : Request) (made : List Entry) : Type 0 where
+-- one rest where a reply was put out, and none where it was not
+abbrev pub RestsIf : Bool → List Entry → Type 0
+RestsIf true entries = (before : Faults) × (after : Faults) × (entries ≡ rested before after ∷ [])
+RestsIf false entries = entries ≡ []
+
+-- Which entries a message makes, by whether its reply was put out: those before it, its own, and the rest behind it.
+pub record Makes (tag : ℕ) (r : Request) (is_put : Bool) (made : List Entry) : Type 0 where
   pub drops : List Entry
   pub gone : LetsGo r drops
   pub now : ℕ
   pub reply : Reply
   pub before : Faults
   pub after : Faults
-  pub made_is : made ≡ drops ++ asked now tag r reply before after ∷ []
+  pub rests : List Entry
+  pub rests_if : RestsIf is_put rests
+  pub made_is : made ≡ drops ++ asked now tag r reply before after ∷ rests
 
 -- ---- what is said
 
--- that a fid is let go isn't told the client
+-- that a fid is let go isn't told the client, and neither is a rest
 abbrev pub spelled : Outcome → List ℕ
 spelled (Replied tag r) = spelling tag (reply_message r)
 spelled (LetGo there r) = []
+spelled Rested = []
 
 -- the replies, one after another
 abbrev pub said : List Entry → List ℕ
@@ -116,13 +126,25 @@ pub record Position (S : Type 0) : Type 0 where
   pub state : S
   pub faults : Faults
 
--- The entries follow one another, each from the state and the counts that the one before it left, and each at a reading of the
--- clock of its own.
+-- the moment of an event is what the clock says next; a rest has none
+abbrev pub SaysTime : Readings → Event → Type 0
+SaysTime coming (Asked now tag request) = SaysNext coming now
+SaysTime coming (Drop now) = SaysNext coming now
+SaysTime coming Rest = Unit {0}
+
+-- the readings that an event leaves: it takes one, but for a rest
+abbrev pub later_by : Readings → Event → Readings
+later_by coming (Asked now tag request) = later coming
+later_by coming (Drop now) = later coming
+later_by coming Rest = coming
+
+-- The entries follow one another, each from the state and the counts that the one before it left, and each but a rest at a reading of
+-- the clock of its own.
 unfoldable pub Chain : {S : Type 0} → Goes S → Position S → List Entry → Position S → Type 0
 Chain goes from [] to = to ≡ from
 Chain {S} goes from (e ∷ es) to =
-    (e.before ≡ from.faults) × SaysNext from.clock (time_of e.event)
-    × ((mid : S) × goes from.state e.event e.outcome e.before e.after mid × Chain goes (record { clock = later from.clock; state = mid; faults = e.after }) es to)
+    (e.before ≡ from.faults) × SaysTime from.clock e.event
+    × ((mid : S) × goes from.state e.event e.outcome e.before e.after mid × Chain goes (record { clock = later_by from.clock e.event; state = mid; faults = e.after }) es to)
 
 -- All fids are let go, which leads from here to there.
 pub record LetsAllGo {S : Type 0} (goes : Goes S) (from to : Position S) : Type 0 where
@@ -135,19 +157,19 @@ pub record Standing (S : Type 0) : Type 0 where
   pub limit : ℕ
   pub position : Position S
 
--- A message stands at the front of the bytes, and its entries lead from one standing to another.
-pub record Answers {S : Type 0} (goes : Goes S) (from : Standing S) (bytes : List ℕ) (x : Exchange) (to : Standing S) : Type 0 where
+-- A message stands at the front of the bytes, and its entries, by whether its reply was put out, lead from one standing to another.
+pub record Answers {S : Type 0} (goes : Goes S) (from : Standing S) (bytes : List ℕ) (x : Exchange) (is_put : Bool) (to : Standing S) : Type 0 where
   pub stands : Stands from.limit bytes x.tag (request_message x.request) x.used
-  pub makes : Makes x.tag x.request x.entries
+  pub makes : Makes x.tag x.request is_put x.entries
   pub chain : Chain goes from.position x.entries to.position
   pub limit : to.limit ≡ limit_after from.limit x.entries
 
--- The messages of the bytes are answered one after another, as far as these exchanges go, and `rest`
--- are the bytes behind them.
+-- The messages of the bytes are answered one after another and their replies put out, as far as these exchanges go, and `rest` are
+-- the bytes behind them.
 unfoldable pub Talks : {S : Type 0} → Goes S → Standing S → List ℕ → List Exchange → List ℕ → Standing S → Type 0
 Talks goes from bytes [] rest to = (rest ≡ bytes) × (to ≡ from)
 Talks {S} goes from bytes (x ∷ xs) rest to =
-    (mid : Standing S) × Answers goes from bytes x mid × Talks goes mid (drop x.used bytes) xs rest to
+    (mid : Standing S) × Answers goes from bytes x true mid × Talks goes mid (drop x.used bytes) xs rest to
 
 -- ---- bytes at which a conversation stops
 

@@ -1,5 +1,5 @@
 -- How a conversation ends, what was said until then, and where the system stands.
-use Rattle.std.specs.Prelude.{◌≡◌, ◌⊎◌, ℕ, ◌+◌, List, [], ◌++◌, length, take, Some, Option}
+use Rattle.std.specs.Prelude.{◌≡◌, ◌⊎◌, ℕ, ◌+◌, List, [], ◌++◌, length, take, Some, Option, false}
 use Rattle.fo_links.specs.Links.{LosesFront, GainsEnd}
 use Rattle.fo_talk.specs.Conversation.{Goes, Position, Standing, Exchange, Answers, Talks, LetsAllGo, said, output, NoMessage, IsBad}
 use Rattle.fo_talk.specs.declared.end.LinkEnd.{LinkEnd}
@@ -36,12 +36,12 @@ pub record EndsUnread {S : Type 0} (goes : Goes S) (first : Standing S) (bytes :
   pub none : NoMessage last.limit talk.rest
   pub told : GainsEnd (output talk.exchanges) held held'
 
--- Messages were answered, and of the reply to the next one a front of it was put.
+-- Messages were answered, and of the reply to the next one a front of it was put; no rest comes behind it.
 pub record EndsUnsaid {S : Type 0} (goes : Goes S) (first : Standing S) (bytes : List ℕ) (held held' : Option (List ℕ)) (last : Standing S) : Type 0 where
   pub before : Standing S
   pub talk : Conversation goes first bytes before
   pub next : Exchange
-  pub answers : Answers goes before talk.rest next last
+  pub answers : Answers goes before talk.rest next false last
   pub put : ℕ
   pub told : GainsEnd (output talk.exchanges ++ take put (said next.entries)) held held'
 
@@ -49,7 +49,7 @@ pub record EndsUnsaid {S : Type 0} (goes : Goes S) (first : Standing S) (bytes :
 pub record EndsEarly {S : Type 0} (goes : Goes S) (first : Standing S) (bytes : List ℕ) (held held' : Option (List ℕ)) (last : Standing S) : Type 0 where
   pub before : Standing S
   pub talk : Conversation goes first bytes before
-  pub next : (last ≡ before) ⊎ ((x : Exchange) × Answers goes before talk.rest x last)
+  pub next : (last ≡ before) ⊎ ((x : Exchange) × Answers goes before talk.rest x false last)
   pub told : GainsEnd (output talk.exchanges) held held'
 
 -- What was said to these bytes, and where the conversation stands at its last message, by how it ended.

@@ -1,6 +1,7 @@
 //! The loop that answers the messages of a stream.
 ghost use Rattle.std.specs.Prelude.{◌≡◌, ℕ, ◌<◌, ◌≤◌, ◌^◌, IfSome, IfOk, Err};
 ghost use Rattle.fo_base.specs.Cause.{Rose};
+ghost use Rattle.fo_world.specs.Answers.{NotFewer};
 ghost use Rattle.nine_wire.specs.Message.{RequestFits};
 ghost use Rattle.fo_talk.specs.declared.service.Stop.TheVariants as stops;
 ghost use Rattle.fo_talk.specs.declared.end.LinkEnd.TheVariants as ends;
@@ -46,7 +47,7 @@ fn next_limit(limit: u32, asked: bool, reply: &Reply) -> u32
     }
 }
 
-/// Answers one message, and gives the limit after it.
+/// Answers one message, and gives the limit after it. Once the reply was put out, the machine rests.
 fn answer_one<K: Sink, C: Clock, M: Machine>(
     tag: u16,
     request: Request,
@@ -61,7 +62,8 @@ fn answer_one<K: Sink, C: Clock, M: Machine>(
     ensures answered { Answered M.goes (record { limit = limit; position = record { clock = C.coming clock.old; state = machine.old; faults = M.faults machine.old } })
         tag request (record { clock = C.coming clock.new; state = machine.new; faults = M.faults machine.new }) (K.held out.old) (K.held out.new) result }
     ensures small { IfOk result (λ limit. limit ≤ largest_message) }
-    ensures later { K.faults out.old ≤ K.faults out.new }
+    ensures later { NotFewer (M.faults machine.old) (M.faults machine.new) }
+    ensures output_later { K.faults out.old ≤ K.faults out.new }
     ensures output { result ≡ Err Stop.Output → Rose (K.faults out.old) (K.faults out.new) }
 {
     let asked = is_version(&request);
@@ -69,7 +71,10 @@ fn answer_one<K: Sink, C: Clock, M: Machine>(
     bytes.clear();
     write_msg(tag, &reply, bytes)?;
     match out.put(bytes.as_slice()) {
-        Ok(()) => Ok(next_limit(limit, asked, &reply)),
+        Ok(()) => {
+            machine.rest();
+            Ok(next_limit(limit, asked, &reply))
+        }
         Err(_) => Err(Stop::Output),
     }
 }
@@ -99,6 +104,7 @@ fn converse<S: Source, K: Sink, C: Clock, M: Machine>(
     ensures output { result ≡ LinkEnd.WriteFault → Rose (K.faults out.old) (K.faults out.new) }
     ensures input_later { S.faults input.old ≤ S.faults input.new }
     ensures output_later { K.faults out.old ≤ K.faults out.new }
+    ensures later { NotFewer (M.faults machine.old) (M.faults machine.new) }
 {
     let Ok(mut inbox) = Inbox::new(alloc) else {
         return LinkEnd::Memory;
@@ -138,15 +144,16 @@ pub fn serve<S: Source, K: Sink, C: Clock, M: Machine>(
     machine: &mut M,
 ) -> LinkEnd
     // What was said to a source that tells its bytes, by how it ended, and where the machine stands. Each request is asked, and each
-    // fid is let go, at a reading of the clock of its own.
+    // fid is let go, at a reading of the clock of its own; behind each reply that was put out whole the machine rests once.
     ensures talk { IfSome (S.left input.old) (λ bytes. Ends M.goes (record { limit = largest_message; position = record { clock = C.coming clock.old; state = machine.old; faults = M.faults machine.old } })
         bytes (S.left input.new) (K.held out.old) (K.held out.new) (record { clock = C.coming clock.new; state = machine.new; faults = M.faults machine.new }) result) }
 
-    // A fault is the end only where that count rose in this call.
+    // A fault is the end only where that count rose in this call, and no count falls.
     ensures input { result ≡ LinkEnd.ReadFault → Rose (S.faults input.old) (S.faults input.new) }
     ensures output { result ≡ LinkEnd.WriteFault → Rose (K.faults out.old) (K.faults out.new) }
     ensures input_later { S.faults input.old ≤ S.faults input.new }
     ensures output_later { K.faults out.old ≤ K.faults out.new }
+    ensures later { NotFewer (M.faults machine.old) (M.faults machine.new) }
 {
     let end = converse(alloc, input, out, clock, machine);
     let_all_go(clock, machine);

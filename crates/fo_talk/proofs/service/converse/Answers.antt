@@ -7,6 +7,8 @@ use Rattle.nine_wire.proofs.Laws.{stands_long}
 use Rattle.nine_wire.proofs.Sizes.{request_fits}
 use Rattle.nine_wire.specs.Version.{largest_message}
 use Rattle.fo_talk.proofs.Entries.{answers_of}
+use Rattle.fo_world.specs.Answers.{not_fewer}
+use Rattle.fo_talk.proofs.Later.{not_fewer_then}
 use Rattle.fo_talk.proofs.Front.{no_message, part_room, still_bad}
 use Rattle.fo_talk.proofs.Going.{going_starts, going_fills, going_answers, ends_early, ends_unput, ends_unsaid, ends_unread, ends_bad, ends_at}
 use Rattle.fo_talk.proofs.service.converse.Goals as goal
@@ -19,6 +21,7 @@ messages-init g c = record {
   going = rw c.in-Ok.ensures (going_starts _ _ _ _);
   bound = rw c.in-Ok.ensures (omega arith);
   small = omega arith;
+  later = not_fewer _;
   input_later = omega arith;
   output_later = omega arith;
 }
@@ -27,25 +30,26 @@ pub returns-in-Err-Output-clause-talk : goal.returns-in-Err-Output-clause-talk
 returns-in-Err-Output-clause-talk g c =
     let a = rw c.in-Err-Output.field-0-is at c.in-Err-Output.ensures.answered in
     let found : Stands c.messages.limit c.messages.inbox c.in-Ok-Msg.tag (request_message c.in-Ok-Msg.request) c.in-Ok-Msg.used = rw (← c.waiting.ensures) (rw c.in-Ok-Msg.field-0-is at c.in-Ok-Msg.ensures.found) in
-    let answers = answers_of _ _ _ _ _ _ _ _ a.entries found a.makes a.chain refl in
+    let answers = answers_of _ _ _ _ _ _ _ _ _ a.entries found a.makes a.chain refl in
     ends_unsaid _ _ _ _ _ _ _ _ _ _ _ a.put.0 _ c.messages.invariant.going answers a.put.1
 
 pub returns-in-Err-Memory-clause-talk : goal.returns-in-Err-Memory-clause-talk
 returns-in-Err-Memory-clause-talk g c =
     let a = rw c.in-Err-Memory.field-0-is at c.in-Err-Memory.ensures.answered in
     let found : Stands c.messages.limit c.messages.inbox c.in-Ok-Msg.tag (request_message c.in-Ok-Msg.request) c.in-Ok-Msg.used = rw (← c.waiting.ensures) (rw c.in-Ok-Msg.field-0-is at c.in-Ok-Msg.ensures.found) in
-    let answers = answers_of _ _ _ _ _ _ _ _ a.entries found a.makes a.chain refl in
+    let answers = answers_of _ _ _ _ _ _ _ _ _ a.entries found a.makes a.chain refl in
     rw a.put (ends_unput _ _ _ _ _ _ _ _ _ _ _ c.messages.invariant.going answers)
 
 pub messages-preserved-in-Ok-Msg : goal.messages-preserved-in-Ok-Msg
 messages-preserved-in-Ok-Msg g c =
     let a = c.in-Ok-answer_one.ensures.answered in
     let found : Stands c.messages.limit c.messages.inbox c.in-Ok-Msg.tag (request_message c.in-Ok-Msg.request) c.in-Ok-Msg.used = rw (← c.waiting.ensures) (rw c.in-Ok-Msg.field-0-is at c.in-Ok-Msg.ensures.found) in
-    let answers = answers_of _ _ _ _ _ _ _ _ a.entries found a.makes a.chain a.limit in
+    let answers = answers_of _ _ _ _ _ _ _ _ _ a.entries found a.makes a.chain a.limit in
     record {
       going = rw c.consume.ensures (going_answers _ _ _ _ _ _ _ _ _ _ _ _ c.messages.invariant.going answers a.put);
       bound = omega (arith, c.messages.invariant.bound, found.within, ap length c.consume.ensures, length-drop c.in-Ok-Msg.used c.messages.inbox);
       small = c.in-Ok-answer_one.ensures.small;
+      later = not_fewer_then _ _ _ c.messages.invariant.later c.in-Ok-answer_one.ensures.later;
       input_later = omega arith;
       output_later = omega arith;
     }
@@ -66,6 +70,7 @@ messages-preserved g c =
       going = going_fills _ _ _ _ _ _ _ _ _ _ _ _ _ _ c.messages.invariant.going filled;
       bound = omega (arith, c.messages.invariant.bound, filled.fewer, filled.count, ap length filled.gained, length-append c.messages.inbox filled.came);
       small = c.messages.invariant.small;
+      later = c.messages.invariant.later;
       input_later = omega arith;
       output_later = omega arith;
     }
@@ -99,3 +104,9 @@ pub answer_one-requires-clause-fits : goal.answer_one-requires-clause-fits
 answer_one-requires-clause-fits g c =
     let found : Stands c.messages.limit c.messages.inbox c.in-Ok-Msg.tag (request_message c.in-Ok-Msg.request) c.in-Ok-Msg.used = rw (← c.waiting.ensures) (rw c.in-Ok-Msg.field-0-is at c.in-Ok-Msg.ensures.found) in
     request_fits c.in-Ok-Msg.tag c.in-Ok-Msg.request found.fits
+
+pub returns-in-Err-Output-clause-later : goal.returns-in-Err-Output-clause-later
+returns-in-Err-Output-clause-later g c = not_fewer_then _ _ _ c.messages.invariant.later c.in-Err-Output.ensures.later
+
+pub returns-in-Err-Memory-clause-later : goal.returns-in-Err-Memory-clause-later
+returns-in-Err-Memory-clause-later g c = not_fewer_then _ _ _ c.messages.invariant.later c.in-Err-Memory.ensures.later
