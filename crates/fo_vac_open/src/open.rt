@@ -11,13 +11,7 @@ use fo_disk::{BLOCK, Disk};
 use fo_image::Score;
 use fo_vacput::{VacRoot, VacTop, VacTopError, grow, read_vac_root, read_vac_top};
 use std::alloc::Global;
-use venti_store::{Arena, ArenaError};
-
-/// The kind of the root of an archive.
-const ROOT: u8 = 16;
-
-/// The kind of a top block.
-const TOP: u8 = 17;
+use venti_store::{Arena, ArenaError, ROOT, TOP};
 
 /// The root that is held under this score.
 fn read_root<A: Disk>(
