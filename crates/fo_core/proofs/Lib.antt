@@ -1,0 +1,3 @@
+pub mod Fewer
+mod Happening
+mod Ending

@@ -1,0 +1,4 @@
+pub mod Moment
+pub mod Opened
+pub mod Goes
+pub mod Ended
