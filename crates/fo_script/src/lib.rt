@@ -4,11 +4,10 @@
 //! that is none of `fo_lines` are bad input at the place where that line begins; all lines before it were answered, and their answers put
 //! out. Every event has the moment of the last line `t`, 0 before the first.
 //!
-//! - `t SECONDS` is put out nothing.
+//! - `t SECONDS` sets that moment, and has no answer.
 //! - `s N HEX` is answered `s N HEX`, the reply under the message's tag. The bytes are exactly one message, of no more bytes than the
-//!   session allows, or else the line is bad. Before a Tversion all fids of the session are let go. A session allows as many bytes as the
-//!   largest message has until it agrees to 9P2000, and then the msize of that; as many again where its last Tversion was answered
-//!   otherwise, and once its last fid was let go.
+//!   session allows, or else the line is bad. Before a Tversion all fids of the session are let go. A session that agreed to 9P2000 allows
+//!   the msize of that reply, until `h` or another Tversion; one that did not allows as many bytes as the largest message has.
 //! - `h N` lets all fids of the session go, and is answered `h N`.
 //! - `f` and `u` are one flushing or one unlinking turn. A turn whose answer has no word (a slot was cleared, a block passed over, a
 //!   removal given up) is followed by the next one at once.

@@ -23,6 +23,19 @@ const ATTACH: &str = "s 0 1900000068010000000000ffffffff0600676c656e64610000\n";
 
 const ATTACHED: &str = "s 0 1400000069010080000000000000000000000000\n";
 
+/// Tversion, Tattach and Tclunk of session 1, and the replies, where the tree's root was changed once.
+const VERSION_1: &str = "s 1 13000000640100180001000600395032303030\n";
+
+const AGREED_1: &str = "s 1 13000000650100180001000600395032303030\n";
+
+const ATTACH_1: &str = "s 1 1900000068010000000000ffffffff0600676c656e64610000\n";
+
+const ATTACHED_1: &str = "s 1 1400000069010080010000000000000000000000\n";
+
+const CLUNK_1: &str = "s 1 0b00000078010001000000\n";
+
+const CLUNKED_1: &str = "s 1 07000000790100\n";
+
 /// The answer to a line that is not built.
 const NOT_BUILT: &str = "not built yet\n";
 
@@ -75,7 +88,7 @@ fn nothing_is_built_of_these(rt: HostRuntime) -> Result<(), Fail> {
     says(&rt, alloc, &[], &[], ScriptEnd::End)
 }
 
-/// A session's fids go before its Tversion, and by `h`: an attach under the same fid is not refused then.
+/// A session's fids go before its Tversion: an attach under the same fid is not refused then.
 #[test]
 fn fids_go(rt: HostRuntime) -> Result<(), Fail> {
     says(
@@ -86,6 +99,29 @@ fn fids_go(rt: HostRuntime) -> Result<(), Fail> {
         ],
         &[
             AGREED, ATTACHED, AGREED, ATTACHED, "h 0\n", "h 15\n", AGREED, ATTACHED,
+        ],
+        ScriptEnd::End,
+    )
+}
+
+/// A file that session 0 made to be removed when it is clunked is found by session 1, until the fids of session 0 go.
+#[test]
+fn fids_go_by_h(rt: HostRuntime) -> Result<(), Fail> {
+    let made = "s 0 1300000072010000000000010067a401000041\n";
+    let created = "s 0 180000007301000000000000010000000000000000000100\n";
+    let find = "s 1 140000006e010000000000010000000100010067\n";
+    let found = "s 1 160000006f0100010000000000000100000000000000\n";
+    let gone = "s 1 1c0000006b0100130066696c6520646f6573206e6f74206578697374\n";
+    says(
+        &rt,
+        rt.alloc(),
+        &[
+            VERSION, ATTACH, made, VERSION_1, ATTACH_1, find, CLUNK_1, "h 1\n", VERSION_1,
+            ATTACH_1, find, CLUNK_1, "h 0\n", find,
+        ],
+        &[
+            AGREED, ATTACHED, created, AGREED_1, ATTACHED_1, found, CLUNKED_1, "h 1\n", AGREED_1,
+            ATTACHED_1, found, CLUNKED_1, "h 0\n", gone,
         ],
         ScriptEnd::End,
     )
