@@ -6,4 +6,4 @@ returns-clause-gives g c =
     let e = c.finish.ensures in
     rw (c.failure-failed.ensures, c.close-main.ensures.main, c.close-main.ensures.arena)
     (rw (← c.into_blocks-devices.ensures)
-    (gives _ _ _ _ _ c.finish.result e.ends e.bytes e.finished e.cause e.size e.later))
+    (gives _ _ _ c.finish.result e.ends e.bytes _ _ e.finished e.settled e.quiet e.cause e.memory e.size e.count e.header e.later))
