@@ -4,7 +4,6 @@ use Rattle.fo_base.specs.Cause.{Rose}
 use Rattle.fo_disk.specs.Disk.{Block, DiskState, IsContent}
 use Rattle.fo_disk.specs.Disk.{Content as Holds}
 use Rattle.fo_image.specs.declared.types.Super.{Super}
-use Rattle.fo_image.specs.declared.types.ArenaLine.{ArenaLine}
 use Rattle.fo_image.specs.declared.record.RootBlock.{RootBlock}
 use Rattle.fo_sound.specs.Device.{Shows}
 use Rattle.fo_sound.specs.Sizes.{IsMainSize}

@@ -1,5 +1,5 @@
 -- What is opened after a check that passed: no refusal but a fault or want of memory can come of a sound image.
-use Rattle.std.proofs.Common.{◌≡◌, ◌⊎◌, inl, inr, ⊎_elim, ℕ, ◌+◌, ◌*◌, ◌%◌, ◌-◌, ◌/◌, ◌<◌, ◌≤◌, true, false, cond, List, [], ◌∷◌, length, drop, take, map, replicate, get_or, refl, sym, ap, ◌∙◌, subst, arith}
+use Rattle.std.proofs.Common.{◌≡◌, ◌⊎◌, inl, inr, ⊎_elim, ℕ, ◌+◌, ◌*◌, ◌%◌, ◌-◌, ◌/◌, ◌<◌, ◌≤◌, true, cond, List, [], ◌∷◌, length, drop, take, map, replicate, get_or, refl, sym, ap, ◌∙◌, subst, arith}
 use Rattle.std.specs.List.{Contains, list_all, range_with_len}
 use Rattle.std.specs.Prelude.{◌==◌}
 use Rattle.std.proofs.lemmas.Bool.{cases_lt, le-ltb, lt-ltb}
@@ -22,12 +22,12 @@ use Rattle.fo_image.proofs.Padding.{zeros-from_all}
 use Rattle.fo_labels.specs.Region.{Region, label_of}
 use Rattle.fo_labels.specs.Spelled.{SpellsLabels, label_at, part_at}
 use Rattle.fo_sound.specs.Device.{Shows}
-use Rattle.fo_sound.specs.Image.{HasLabel, IsDataBlock, block_of, is_zero, label_bytes}
+use Rattle.fo_sound.specs.Image.{HasLabel, IsDataBlock, block_of, label_bytes}
 use Rattle.fo_sound.specs.Sound.{HasActiveRoot, IsFormatted, root_label}
 use Rattle.fo_sound.specs.Sound.{HasTable as HasLabels}
 use Rattle.fo_sound.proofs.Labels.{free_spelled}
 use Rattle.fo_mind.specs.Parts.{count_of}
-use Rattle.fo_opening.specs.Opens.{HasTable, IsRead}
+use Rattle.fo_opening.specs.Opens.{IsRead}
 use Rattle.fo_opening.specs.Refuses.{IsNoHeader, IsNoRoot, IsNoSuper, IsNoTable}
 
 -- ---- what is read of a quiet device is what its image has
