@@ -7,15 +7,17 @@ use Rattle.fo_links.specs.Links.{LosesFront, GainsEnd, IsAtEnd}
 use Rattle.fo_events.specs.Row.{Goes}
 use Rattle.fo_script.specs.Filling.{FilledSome}
 use Rattle.fo_script.specs.declared.end.ScriptEnd.TheVariants as end
-use Rattle.fo_script.specs.declared.line.Stop.{Stop}
-use Rattle.fo_script.specs.declared.line.Stop.TheVariants as stop
+use Rattle.fo_script_line.specs.declared.line.Stop.{Stop}
+use Rattle.fo_script_line.specs.declared.line.Stop.TheVariants as stop
 use Rattle.fo_lines.specs.Line.{Spells}
-use Rattle.fo_script.specs.Says.{said}
-use Rattle.fo_script.specs.Sessions.{AllLetGo}
-use Rattle.fo_script.specs.Script.{Standing, Step, Answers, Runs, output, line_end, longest_line}
+use Rattle.fo_script_line.specs.Says.{said}
+use Rattle.fo_script_line.specs.Sessions.{AllLetGo}
+use Rattle.fo_script_line.specs.Line.{Standing, longest_line}
+use Rattle.fo_script.specs.Script.{Step, Answers, Runs, output, line_end}
 use Rattle.fo_script.specs.Ending.{IsBad, Stops, Ends}
 use Rattle.fo_script.specs.declared.end.ScriptEnd.{ScriptEnd}
-use Rattle.fo_script.specs.Answering.{Answered, DidLine, end_of, end_at}
+use Rattle.fo_script_line.specs.Answering.{Answered, DidLine}
+use Rattle.fo_script.specs.Ending.{end_of, end_at}
 use Rattle.fo_script.proofs.Newlines.{end_within, end_more, end_behind, line_more, line_length}
 use Rattle.fo_script.proofs.Running.{runs_more, runs_then, output_then, step_of, answers_of}
 

@@ -2,9 +2,10 @@
 use Rattle.std.proofs.Common.{◌≡◌, ℕ, ◌≤◌, suc, List, [], ◌∷◌, ◌++◌, length, take, drop, Some, refl, sym, ap, ◌∙◌, append_assoc, arith}
 use Rattle.std.proofs.lemmas.List.{append-nil, drop-append-le}
 use Rattle.fo_events.specs.Row.{Goes}
-use Rattle.fo_script.specs.Says.{said}
-use Rattle.fo_script.specs.Script.{Standing, Step, Answers, Runs, output, line_end}
-use Rattle.fo_script.specs.Answering.{DidLine}
+use Rattle.fo_script_line.specs.Says.{said}
+use Rattle.fo_script_line.specs.Line.{Standing}
+use Rattle.fo_script.specs.Script.{Step, Answers, Runs, output, line_end}
+use Rattle.fo_script_line.specs.Answering.{DidLine}
 use Rattle.fo_script.proofs.Newlines.{end_within, line_more, line_length}
 
 pub runs_more : {S : Type 0} (goes : Goes S) (from to : Standing S) (bytes rest more : List ℕ) (xs : List Step) → Runs goes from bytes xs rest to → Runs goes from (bytes ++ more) xs (rest ++ more) to

@@ -1,17 +1,16 @@
 -- How a script ends, what was put out until then, and where the server stands.
-use Rattle.std.specs.Prelude.{◌≡◌, ◌⊎◌, ◌≤◌, ℕ, ◌+◌, List, [], ◌++◌, length, take, None, Some, Option}
+use Rattle.std.specs.Prelude.{◌≡◌, ◌⊎◌, ◌≤◌, ℕ, ◌+◌, List, [], ◌++◌, length, take, None, Some, Option, ◌∷◌}
 use Rattle.fo_links.specs.Links.{LosesFront, GainsEnd}
 use Rattle.fo_lines.specs.declared.line.Line.{Line}
-use Rattle.fo_lines.specs.declared.line.Line.TheVariants as line
-use Rattle.fo_events.specs.Row.{Goes, Entry, Chain}
+use Rattle.fo_events.specs.Row.{Goes}
 use Rattle.fo_script.specs.declared.end.ScriptEnd.{ScriptEnd}
+use Rattle.fo_script_line.specs.Says.{said}
+use Rattle.fo_script_line.specs.Sessions.{AllLetGo}
+use Rattle.fo_script_line.specs.Line.{Standing, MayTake, longest_line, IsSpent}
+use Rattle.fo_script.specs.Script.{IsLine, Step, Answers, Runs, output, line_end}
+use Rattle.fo_script_line.specs.declared.line.Stop.{Stop}
 use Rattle.fo_script.specs.declared.end.ScriptEnd.TheVariants as end
-use Rattle.fo_script.specs.declared.turns.Stage.{Stage}
-use Rattle.fo_script.specs.declared.turns.Stage.TheVariants as stage
-use Rattle.fo_script.specs.Says.{said}
-use Rattle.fo_script.specs.Sessions.{AllLetGo}
-use Rattle.fo_script.specs.Turns.{Unanswered}
-use Rattle.fo_script.specs.Script.{Standing, IsLine, MayTake, Step, Answers, Runs, output, line_end, longest_line}
+use Rattle.fo_script_line.specs.declared.line.Stop.TheVariants as stop
 
 -- ---- bytes at which a script stops
 
@@ -25,22 +24,6 @@ pub record IsBad (limits : List ℕ) (bytes : List ℕ) : Type 0 where
 pub record IsPart (bytes : List ℕ) : Type 0 where
   pub none : line_end bytes ≡ None
   pub short : length bytes ≤ longest_line
-
--- the turn that a line begins with, where it takes turns
-abbrev pub first_turn : Line → Option Stage
-first_turn line.Flush = Some stage.Flush
-first_turn line.Unlink = Some stage.Unlink
-first_turn line.FlushAll = Some stage.Flushing
-first_turn _ = None
-
--- A line took as many turns as one may, and no answer came of them.
-pub record IsSpent {S : Type 0} (goes : Goes S) (from : Standing S) (line : Line) (to : Standing S) : Type 0 where
-  pub first : Stage
-  pub takes : first_turn line ≡ Some first
-  pub entries : List Entry
-  pub unanswered : Unanswered first entries
-  pub chain : Chain goes from.state entries to.state
-  pub now : to.now ≡ from.now
 
 -- ---- the ends
 
@@ -116,3 +99,17 @@ pub record Ends {S : Type 0} (goes : Goes S) (first : Standing S) (bytes : List 
   pub last : Standing S
   pub stops : Stops goes first bytes left' held held' last how
   pub gone : AllLetGo goes last.now 16 last.state to
+
+-- ---- where the loop stops
+
+-- the end of a script whose line at this place was not answered
+abbrev pub end_of : Stop → ℕ → ScriptEnd
+end_of stop.Bad place = end.BadLine place
+end_of stop.Memory place = end.Memory
+end_of stop.Spent place = end.Spent
+end_of stop.Output place = end.WriteFault
+
+-- the end where the input ended and these bytes wait behind so many
+abbrev pub end_at : List ℕ → ℕ → ScriptEnd
+end_at [] place = end.End
+end_at (b ∷ bytes) place = end.BadLine place

@@ -4,9 +4,9 @@ ghost use Rattle.fo_base.specs.Cause.{HasCause};
 ghost use Rattle.fo_links.specs.Links.{Taken};
 ghost use Rattle.fo_script.specs.Filling.{Filled};
 
-use crate::line::LONGEST_LINE;
 use fo_base::Memory;
 use fo_links::{Failed, Source};
+use fo_script_line::LONGEST_LINE;
 use std::alloc::Global;
 use std::marker::Model;
 

@@ -4,15 +4,15 @@ ghost use Rattle.fo_base.specs.Cause.{Rose};
 ghost use Rattle.fo_world.specs.Answers.{NotFewer};
 ghost use Rattle.fo_script.specs.declared.end.ScriptEnd.TheVariants as ends;
 ghost use Rattle.fo_script.specs.Script.{line_end, starts};
-ghost use Rattle.fo_script.specs.Answering.{end_at, end_of, standing};
+ghost use Rattle.fo_script.specs.Ending.{end_at, end_of};
+ghost use Rattle.fo_script_line.specs.Answering.{standing};
 ghost use Rattle.fo_script.specs.Ending.{Ends, Stops};
 
 use crate::end::ScriptEnd;
 use crate::inbox::Inbox;
-use crate::line::{Kept, LONGEST_LINE, Stop, answer_line};
-use crate::sessions::let_everyone_go;
 use fo_events::Turner;
 use fo_links::{Sink, Source};
+use fo_script_line::{Kept, LONGEST_LINE, Stop, answer_line, let_everyone_go};
 use nine_wire::LARGEST_MESSAGE;
 use std::alloc::Global;
 

@@ -1,8 +1,8 @@
 use Rattle.std.proofs.Common.{◌≡◌, ◌+◌, List, ◌++◌, ℕ, Some, None, Err, subst, take, length, arith, ap, sym, ◌∙◌}
 use Rattle.std.proofs.lemmas.List.{length-drop, length-append, nil_from_length, append-nil}
 use Rattle.fo_script.specs.Script.{line_end}
-use Rattle.fo_script.specs.Answering.{Answered, standing}
-use Rattle.fo_script.proofs.Letting.{not_fewer_then, not_fewer_same}
+use Rattle.fo_script_line.specs.Answering.{Answered, standing}
+use Rattle.fo_script_line.proofs.Letting.{not_fewer_then, not_fewer_same}
 use Rattle.fo_script.proofs.Newlines.{end_within, end_none, seen_stays}
 use Rattle.fo_script.proofs.Going.{going_starts, going_fills, going_answers, ends_early, ends_stopped, ends_unread, ends_long, ends_at}
 use Rattle.fo_script.proofs.script.answer_lines.Goals as goal

@@ -1,7 +1,7 @@
 use Rattle.std.proofs.Common.{◌≡◌, ◌≤◌, ◌+◌, ◌*◌, length, take, None}
 use Rattle.fo_world.specs.Answers.{NotFewer}
 use Rattle.fo_script.specs.Script.{line_end}
-use Rattle.fo_script.specs.Answering.{standing}
+use Rattle.fo_script_line.specs.Answering.{standing}
 use Rattle.fo_script.proofs.Going.{Going}
 use Rattle.fo_script.proofs.script.answer_lines.Given as goal
 

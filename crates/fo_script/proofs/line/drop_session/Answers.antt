@@ -1,7 +1,0 @@
-use Rattle.std.proofs.Common.{ap}
-use Rattle.fo_script.specs.declared.line.Kept.{Kept}
-use Rattle.fo_script.proofs.Doing.{done_drops}
-use Rattle.fo_script.proofs.line.drop_session.Goals as goal
-
-pub returns-clause-drops : goal.returns-clause-drops
-returns-clause-drops g c = done_drops _ _ _ _ c.let_all_go.ensures.gone (ap (λ (k : Kept). k.moment) c.allow.ensures) (ap (λ (k : Kept). k.limits) c.allow.ensures)

@@ -1,0 +1,3 @@
+pub mod Letting
+pub mod Turning
+pub mod Doing

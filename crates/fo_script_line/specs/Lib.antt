@@ -1,0 +1,6 @@
+pub mod Number
+pub mod Says
+pub mod Turns
+pub mod Sessions
+pub mod Line
+pub mod Answering
