@@ -1,3 +1,2 @@
 pub mod Causes
-pub mod Fewer
-pub mod Runs
+pub mod Serving

@@ -1,11 +1,13 @@
--- How a run ends, and what was said until then.
-use Rattle.std.specs.Prelude.{◌≡◌, ℕ, List, Option}
-use Rattle.fo_talk.specs.Conversation.{Goes, Position, Standing}
-use Rattle.fo_talk.specs.Ending.{Ends}
+-- How a run ends.
+use Rattle.std.specs.Prelude.{ℕ, Option, Some, None}
 use Rattle.fo_talk.specs.declared.end.LinkEnd.{LinkEnd}
 use Rattle.fo_talk.specs.declared.end.LinkEnd.TheVariants as ends
+use Rattle.fo_script.specs.declared.end.ScriptEnd.{ScriptEnd}
+use Rattle.fo_script.specs.declared.end.ScriptEnd.TheVariants as script
 use Rattle.fo_tools.specs.declared.end.ToolEnd.{ToolEnd}
 use Rattle.fo_tools.specs.declared.end.ToolEnd.TheVariants as tool
+use Rattle.fo_world.specs.declared.error.FileError.{FileError}
+use Rattle.fo_world.specs.declared.error.FileError.TheVariants as error
 use Rattle.fo_top.specs.declared.why.Why.{Why}
 use Rattle.fo_top.specs.declared.why.Why.TheVariants as why
 
@@ -17,7 +19,16 @@ why_of ends.ReadFault = why.Input
 why_of ends.WriteFault = why.Output
 why_of ends.Memory = why.Memory
 
--- the end of a run of a tool that ended so
+-- the end of a run whose script ended so
+abbrev pub script_why : ScriptEnd → Why
+script_why script.End = why.Ended
+script_why (script.BadLine n) = why.BadInput n
+script_why script.ReadFault = why.Input
+script_why script.WriteFault = why.Output
+script_why script.Spent = why.Spent
+script_why script.Memory = why.Memory
+
+-- the end of a run of a tool that ended so, and of one that could not open its devices
 abbrev pub tool_why : ToolEnd → Why
 tool_why tool.Ended = why.Ended
 tool_why tool.NotFossil = why.NotFossil
@@ -32,18 +43,22 @@ tool_why tool.Memory = why.Memory
 tool_why tool.NotArena = why.NotArena
 tool_why tool.NotBuilt = why.NotBuilt
 
--- The run ended as a conversation does, and not as a tool or for its words.
-pub record IsTalked (end : Why) : Type 0 where
-  pub link : LinkEnd
-  pub end_is : end ≡ why_of link
+-- why the last settling failed: a fault of the main device, or want of memory
+abbrev pub failed_why : FileError → Why
+failed_why error.MainRead = why.MainRead
+failed_why error.MainWrite = why.MainWrite
+failed_why error.MainSync = why.MainWrite
+failed_why _ = why.Memory
 
--- What a run over these bytes has said, by how it ended: that of its one conversation, at whose end the
--- system stands somewhere.
-pub record Runs {S : Type 0} (goes : Goes S) (first : Standing S) (bytes : List ℕ) (left' held held' : Option (List ℕ)) (end : Why) : Type 0 where
-  pub link : LinkEnd
-  pub end_is : end ≡ why_of link
-  pub last : Position S
-  pub talk : Ends goes first bytes left' held held' last link
+-- why the last settling failed, if it did
+abbrev pub finish_why : Option FileError → Why
+finish_why None = why.Ended
+finish_why (Some e) = failed_why e
+
+-- the first cause: what ended the requests, but for the end of their input; else why the last settling failed, if it did
+abbrev pub first_why : Why → Option FileError → Why
+first_why why.Ended failed = finish_why failed
+first_why how failed = how
 
 -- the status of each end
 abbrev pub status_of : Why → ℕ
@@ -61,4 +76,5 @@ status_of why.Size = 10
 status_of why.Memory = 11
 status_of (why.BadInput n) = 13
 status_of why.NotArena = 14
+status_of why.Spent = 15
 status_of why.NotBuilt = 16

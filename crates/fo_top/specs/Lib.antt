@@ -1,5 +1,5 @@
 pub mod Ending
-pub mod System
+pub mod Served
 pub mod Texts
 pub mod Tools
 pub mod Words

@@ -27,4 +27,5 @@ text_of why.Size = codes "size of a device out of range"
 text_of why.Memory = codes "no memory"
 text_of (why.BadInput place) = bad_input place
 text_of why.NotArena = codes "not an arena"
+text_of why.Spent = codes "turns spent"
 text_of why.NotBuilt = codes "image not built yet"

@@ -3,10 +3,12 @@ ghost use Rattle.std.specs.Prelude.{◌≡◌, map};
 ghost use Rattle.std.specs.String.{string_bytes};
 ghost use Rattle.fo_top.specs.Words.{named, command_of};
 
-/// What the words of the program ask for: `9p` serves one connection, `flfmt` formats both devices, `flchk` checks them.
+/// What the words of the program ask for: `9p` serves one connection, `turns` runs a script, `flfmt` formats both devices, `flchk`
+/// checks them.
 #[derive(Clone, Copy, Debug, PartialEq, Eq)]
 pub enum Command {
     Serve,
+    Turns,
     Format,
     Check,
 }
@@ -17,6 +19,9 @@ fn named(word: &[u8]) -> Option<Command>
 {
     if word == b"9p".as_slice() {
         return Some(Command::Serve);
+    }
+    if word == b"turns".as_slice() {
+        return Some(Command::Turns);
     }
     if word == b"flfmt".as_slice() {
         return Some(Command::Format);

@@ -1,10 +1,13 @@
 //! How a run ends.
 ghost use Rattle.std.specs.Prelude.{◌≡◌};
+ghost use Rattle.fo_top.specs.Ending.{failed_why, finish_why, first_why};
 
 use crate::text::{bad_input, fixed, unsound};
 use arrayvec::ArrayString;
+use fo_script::ScriptEnd;
 use fo_talk::LinkEnd;
 use fo_tools::ToolEnd;
+use fo_world::FileError;
 
 /// How a run ended.
 #[derive(Clone, Copy, Debug, PartialEq, Eq)]
@@ -35,6 +38,8 @@ pub enum Why {
     BadInput(u64),
     /// Block 0 of the arena is not of its format.
     NotArena,
+    /// A script went on past the turns that a run has.
+    Spent,
     /// The image has a part that is not built yet.
     NotBuilt,
 }
@@ -51,6 +56,23 @@ impl From<LinkEnd> for Why {
             LinkEnd::ReadFault => Why::Input,
             LinkEnd::WriteFault => Why::Output,
             LinkEnd::Memory => Why::Memory,
+        }
+    }
+}
+
+impl From<ScriptEnd> for Why {
+    ghost use Rattle.fo_top.specs.Ending.{script_why};
+
+    ghost from_gives = { λ end why. why ≡ script_why end };
+
+    fn from(end: ScriptEnd) -> Why {
+        match end {
+            ScriptEnd::End => Why::Ended,
+            ScriptEnd::BadLine(place) => Why::BadInput(place),
+            ScriptEnd::ReadFault => Why::Input,
+            ScriptEnd::WriteFault => Why::Output,
+            ScriptEnd::Spent => Why::Spent,
+            ScriptEnd::Memory => Why::Memory,
         }
     }
 }
@@ -78,6 +100,37 @@ impl From<ToolEnd> for Why {
     }
 }
 
+/// Why the last settling failed.
+fn failed_why(failed: &FileError) -> Why
+    ensures { result ≡ failed_why failed.now }
+{
+    match failed {
+        FileError::MainRead => Why::MainRead,
+        FileError::MainWrite | FileError::MainSync => Why::MainWrite,
+        _ => Why::Memory,
+    }
+}
+
+/// Why the last settling failed, if it did.
+fn finish_why(failed: &Option<FileError>) -> Why
+    ensures { result ≡ finish_why failed.now }
+{
+    match failed {
+        None => Why::Ended,
+        Some(failed) => failed_why(failed),
+    }
+}
+
+/// The first cause: what ended the requests, but for the end of their input; else why the last settling failed, if it did.
+pub(crate) fn first_why(how: Why, failed: Option<FileError>) -> Why
+    ensures { result ≡ first_why how failed }
+{
+    match how {
+        Why::Ended => finish_why(&failed),
+        _ => how,
+    }
+}
+
 impl Why {
     ghost use Rattle.fo_top.specs.Ending.{status_of};
     ghost use Rattle.fo_top.specs.Texts.{text_of};
@@ -101,6 +154,7 @@ impl Why {
             Why::Memory => 11,
             Why::BadInput(_) => 13,
             Why::NotArena => 14,
+            Why::Spent => 15,
             Why::NotBuilt => 16,
         }
     }
@@ -124,6 +178,7 @@ impl Why {
             Why::Memory => fixed("no memory"),
             Why::BadInput(place) => bad_input(place),
             Why::NotArena => fixed("not an arena"),
+            Why::Spent => fixed("turns spent"),
             Why::NotBuilt => fixed("image not built yet"),
         }
     }

@@ -4,7 +4,7 @@ use Rattle.fo_top.proofs.top.check_all.Goals as goal
 pub returns-clause-checks : goal.returns-clause-checks
 returns-clause-checks g c = record {
   how = c.flchk.result;
-  end_is = c.from.ensures;
+  end_is = c.from-why.ensures;
   sized = c.flchk.ensures.sized;
   asked = c.flchk.ensures.asked;
   prints = c.flchk.ensures.prints;
@@ -15,7 +15,7 @@ returns-clause-checks g c = record {
 }
 
 pub returns-clause-causes : goal.returns-clause-causes
-returns-clause-causes g c = tool_causes _ _ c.flchk.result _ c.from.ensures c.flchk.ensures.causes
+returns-clause-causes g c = tool_causes _ _ c.flchk.result _ c.from-why.ensures c.flchk.ensures.causes
 
-pub returns-clause-served : goal.returns-clause-served
-returns-clause-served g c = λ e. tool_serves c.flchk.result _ c.from.ensures e
+pub returns-clause-used : goal.returns-clause-used
+returns-clause-used g c = λ e. tool_serves c.flchk.result _ c.from-why.ensures e

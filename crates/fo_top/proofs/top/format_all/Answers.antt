@@ -4,7 +4,7 @@ use Rattle.fo_top.proofs.top.format_all.Goals as goal
 pub returns-clause-formats : goal.returns-clause-formats
 returns-clause-formats g c = record {
   how = c.flfmt.result;
-  end_is = c.from.ensures;
+  end_is = c.from-why.ensures;
   time = c.now.result;
   now = c.now.ensures.says;
   prints = c.flfmt.ensures.prints;
@@ -16,7 +16,7 @@ returns-clause-formats g c = record {
 }
 
 pub returns-clause-causes : goal.returns-clause-causes
-returns-clause-causes g c = tool_causes _ _ c.flfmt.result _ c.from.ensures c.flfmt.ensures.causes
+returns-clause-causes g c = tool_causes _ _ c.flfmt.result _ c.from-why.ensures c.flfmt.ensures.causes
 
-pub returns-clause-served : goal.returns-clause-served
-returns-clause-served g c = λ e. tool_serves c.flfmt.result _ c.from.ensures e
+pub returns-clause-used : goal.returns-clause-used
+returns-clause-used g c = λ e. tool_serves c.flfmt.result _ c.from-why.ensures e
