@@ -12,10 +12,7 @@ use fo_image::Score;
 use fo_vac_dir::Folder;
 use fo_vac_open::{Archived, VacError, open_archive};
 use std::alloc::Global;
-use venti_store::Arena;
-
-/// The kind of a top block.
-const TOP: u8 = 17;
+use venti_store::{Arena, TOP};
 
 /// An archive that is open: its score, its root and its top block, and its root directory.
 #[derive(Drop)]
