@@ -6,13 +6,19 @@
 #![tactic(auto)]
 
 #[cfg(test)]
+mod disks;
+#[cfg(test)]
 mod images;
+#[cfg(test)]
+mod kept;
 #[cfg(test)]
 mod links;
 #[cfg(test)]
 mod messages;
 #[cfg(test)]
 mod runs;
+#[cfg(test)]
+mod scripts;
 #[cfg(test)]
 mod talk;
 #[cfg(test)]

@@ -4,7 +4,8 @@ use std::alloc::Global;
 use std::test::Fail;
 
 // A Tversion of 65560 bytes and 9P2000, a Tattach of glenda with fid 0, a Tstat of it, a Tcreate of `f` in it for reading and writing
-// and with ORCLOSE, a Twalk from it to `f`, a Tflush, and what is replied to each but the walk.
+// and with ORCLOSE, the same without ORCLOSE, a Twrite of `hi` to it, a Tclunk of it, a Twalk with fid 1 from the root to `f`, a Topen
+// and a Tread of that, a Tflush, and what is replied to each, to the walk after one write.
 const V: &str = "1300000064ffff180001000600395032303030";
 
 const T: &str = "1900000068010000000000ffffffff0600676c656e64610000";
@@ -13,7 +14,17 @@ const S: &str = "0b0000007c020000000000";
 
 const C: &str = "13000000720200000000000100668001000042";
 
+const M: &str = "13000000720200000000000100668001000002";
+
+const D: &str = "19000000760400000000000000000000000000020000006869";
+
+const K: &str = "0b00000078020000000000";
+
 const W: &str = "140000006e030000000000010000000100010066";
+
+const O: &str = "0c0000007005000100000000";
+
+const R: &str = "170000007406000100000000000000000000000a000000";
 
 const F: &str = "090000006c01000000";
 
@@ -26,6 +37,16 @@ const RS: &str =
 
 const RC: &str = "180000007302000000000000010000000000000000000100";
 
+const RD: &str = "0b00000077040002000000";
+
+const RK: &str = "07000000790200";
+
+const RW: &str = "160000006f0300010000010000000100000000000000";
+
+const RO: &str = "180000007105000001000000010000000000000000000100";
+
+const RR: &str = "0d000000750600020000006869";
+
 const RF: &str = "070000006d0100";
 
 // What a word stands for in hexadecimal: the name of one above, or itself.
@@ -35,12 +56,22 @@ fn hex_of(word: &str) -> &str {
         "T" => T,
         "S" => S,
         "C" => C,
+        "M" => M,
+        "D" => D,
+        "K" => K,
         "W" => W,
+        "O" => O,
+        "R" => R,
         "F" => F,
         "RV" => RV,
         "RT" => RT,
         "RS" => RS,
         "RC" => RC,
+        "RD" => RD,
+        "RK" => RK,
+        "RW" => RW,
+        "RO" => RO,
+        "RR" => RR,
         "RF" => RF,
         _ => word,
     }

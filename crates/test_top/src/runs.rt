@@ -1,101 +1,51 @@
-//! Whole runs over sources, sinks and devices in memory.
-ghost use Rattle.std.specs.Prelude.{◌<◌};
+//! Whole runs of `9p` over formatted devices, and of the tools.
 
+use crate::disks::{after, formatted, ran, ran_at, zeros};
 use crate::messages::bytes;
-use fo_disk::MemDisk;
-use fo_links::{MemClock, MemSink, MemSource, SetClock};
-use fo_top::{Done, Why, run};
-use std::alloc::{AllocError, Global};
+use fo_links::{MemClock, SetClock};
+use fo_top::{Done, Why};
+use std::alloc::Global;
 use std::process::Abort;
 use std::test::Fail;
 
-fn words(alloc: Global, list: &[&str]) -> Result<Vec<String>, AllocError> {
-    let mut words = Vec::new(alloc);
-    for word in list {
-        words.push(String::from_str(alloc, word)?)?;
-    }
-    Ok(words)
-}
-
-// A device of zero blocks that never fails.
-fn disk(alloc: Global, blocks: u32) -> Result<MemDisk, Fail> {
-    Ok(MemDisk::new(alloc, blocks, Vec::new(alloc))?)
-}
-
-// Runs `9p` over these bytes, which come at most `step` at a time.
-fn says(
-    rt: &impl Abort,
-    alloc: Global,
-    input: &str,
-    step: usize,
-    output: &str,
-    why: Why,
-) -> Result<(), Fail>
-    requires { 0 < step }
-{
-    let words = words(alloc, &["9p", "main", "arena"])?;
-    let input = MemSource::new(bytes(alloc, input)?, step, Vec::new(alloc));
-    let out = MemSink::new(Vec::new(alloc));
-    let (main, arena) = (disk(alloc, 64)?, disk(alloc, 16)?);
-    let done = run(
-        alloc,
-        words.as_slice(),
-        main,
-        arena,
-        input,
-        out,
-        SetClock::new(7),
-    );
-    assert_eq!(rt; done.why, why);
-    assert_eq!(rt; done.out.bytes(), bytes(alloc, output)?.as_slice());
-    assert_eq!(rt; (done.main.calls(), done.arena.calls()), (0, 0));
+// Runs `9p` over devices that were just formatted and over these bytes.
+fn says(alloc: Global, input: &str, output: &str, why: Why) -> Result<(), Fail> {
+    let disks = formatted(alloc, Vec::new(alloc))?;
+    let done = ran(alloc, "9p", disks, bytes(alloc, input)?)?;
+    after(done, why, bytes(alloc, output)?.as_slice())?;
     Ok(())
 }
 
-// Runs a tool over these devices: how it ended, what it printed, and the devices.
-fn tool(
-    rt: &impl Abort,
-    alloc: Global,
-    name: &str,
-    devices: (MemDisk, MemDisk),
-    why: Why,
-    line: &str,
-) -> Result<(MemDisk, MemDisk), Fail> {
-    let words = words(alloc, &[name, "main", "arena"])?;
-    let input = MemSource::new(bytes(alloc, "V")?, 9, Vec::new(alloc));
-    let (main, arena) = devices;
-    let out = MemSink::new(Vec::new(alloc));
-    let done = run(
+// Devices are formatted, `9p` answers over them, byte by byte, and they are checked.
+fn works(alloc: Global) -> Result<(), Fail> {
+    let done = ran(
         alloc,
-        words.as_slice(),
-        main,
-        arena,
-        input,
-        out,
+        "flfmt",
+        zeros(alloc, 64, 16, Vec::new(alloc))?,
+        Vec::new(alloc),
+    )?;
+    let disks = after(done, Why::Ended, b"formatted 64 blocks 61 data\n")?;
+    let done = ran_at(
+        alloc,
+        "9p",
+        disks,
+        bytes(alloc, "V T")?,
+        1,
         SetClock::new(7),
-    );
-    let Done {
-        why: ended,
-        main,
-        arena,
-        out,
-        ..
-    } = done;
-    assert_eq!(rt; ended, why);
-    assert_eq!(rt; out.bytes(), line.as_bytes());
-    Ok((main, arena))
+    )?;
+    let disks = after(done, Why::Ended, bytes(alloc, "RV RT")?.as_slice())?;
+    let done = ran(alloc, "flchk", disks, Vec::new(alloc))?;
+    after(
+        done,
+        Why::Ended,
+        b"sound 64 blocks 1 used 0 leaked 0 snapshots\n",
+    )?;
+    Ok(())
 }
 
 #[test]
 fn ample(rt: HostRuntime) -> Result<(), Fail> {
-    let alloc = rt.alloc();
-    says(&rt, alloc, "V T S", 1, "RV RT RS", Why::Ended)?;
-    let formatted = "formatted 64 blocks 61 data\n";
-    let sound = "sound 64 blocks 1 used 0 leaked 0 snapshots\n";
-    let devices = (disk(alloc, 64)?, disk(alloc, 16)?);
-    let devices = tool(&rt, alloc, "flfmt", devices, Why::Ended, formatted)?;
-    tool(&rt, alloc, "flchk", devices, Why::Ended, sound)?;
-    Ok(())
+    works(rt.alloc())
 }
 
 #[test]
@@ -176,46 +126,42 @@ fn rows(rt: HostRuntime) -> Result<(), Fail> {
             Why::BadInput(19),
         ),
     ] {
-        says(&rt, rt.alloc(), input, 9, output, why)?;
+        says(rt.alloc(), input, output, why)?;
     }
     Ok(())
 }
 
-// The end of a run over no device and no input, and what is printed of it.
-fn ends(rt: &impl Abort, alloc: Global, name: &str, why: Why, text: &str) -> Result<(), Fail> {
-    let words = words(alloc, &[name, "main", "arena"])?;
-    let (main, arena) = (disk(alloc, 0)?, disk(alloc, 16)?);
-    let done = run(
-        alloc,
-        words.as_slice(),
-        main,
-        arena,
-        MemSource::new(Vec::new(alloc), 9, Vec::new(alloc)),
-        MemSink::new(Vec::new(alloc)),
-        SetClock::new(7),
-    );
-    assert_eq!(rt; done.why, why);
+// The end of a command that refuses devices of so many blocks of zeros, and what is printed of it. Nothing is said.
+fn ends(
+    rt: &impl Abort,
+    alloc: Global,
+    name: &str,
+    blocks: (u32, u32),
+    why: Why,
+    text: &str,
+) -> Result<(), Fail> {
+    let disks = zeros(alloc, blocks.0, blocks.1, Vec::new(alloc))?;
+    let done = ran(alloc, name, disks, bytes(alloc, "V T")?)?;
     assert_eq!(rt; done.why.text().as_str(), text);
+    after(done, why, b"")?;
     Ok(())
 }
 
 #[test]
 fn texts(rt: HostRuntime) -> Result<(), Fail> {
-    let alloc = rt.alloc();
-    ends(
-        &rt,
-        alloc,
-        "flfmt",
-        Why::Size,
-        "size of a device out of range",
-    )?;
-    ends(
-        &rt,
-        alloc,
-        "9P",
-        Why::Usage,
-        "usage: fossil command main arena [options]",
-    )?;
+    let size = "size of a device out of range";
+    let usage = "usage: fossil command main arena [options]";
+    let none = "not a fossil image";
+    for (name, blocks, why, text) in [
+        ("flfmt", (0, 16), Why::Size, size),
+        ("9P", (64, 16), Why::Usage, usage),
+        ("9p", (63, 16), Why::Size, size),
+        ("turns", (64, 15), Why::Size, size),
+        ("9p", (64, 16), Why::NotFossil, none),
+        ("turns", (64, 16), Why::NotFossil, none),
+    ] {
+        ends(&rt, rt.alloc(), name, blocks, why, text)?;
+    }
     let place = Why::BadInput(18_446_744_073_709_551_615);
     assert_eq!(rt;
         place.text().as_str(),
@@ -223,6 +169,7 @@ fn texts(rt: HostRuntime) -> Result<(), Fail> {
     );
     let rule = Why::Unsound { rule: 2, block: 3 };
     assert_eq!(rt; rule.text().as_str(), "unsound S2 at block 3");
+    assert_eq!(rt; Why::Spent.text().as_str(), "turns spent");
     Ok(())
 }
 
@@ -230,22 +177,11 @@ fn texts(rt: HostRuntime) -> Result<(), Fail> {
 #[test]
 fn moments(rt: HostRuntime) -> Result<(), Fail> {
     let alloc = rt.alloc();
-    let words = words(alloc, &["9p", "main", "arena"])?;
-    let (main, arena) = (disk(alloc, 64)?, disk(alloc, 16)?);
-    let done = run(
-        alloc,
-        words.as_slice(),
-        main,
-        arena,
-        MemSource::new(bytes(alloc, "V T C S")?, 9, Vec::new(alloc)),
-        MemSink::new(Vec::new(alloc)),
-        MemClock::new(vec![in alloc; 3, 4, 5, 600, 7]?),
-    );
+    let disks = formatted(alloc, Vec::new(alloc))?;
+    let clock = MemClock::new(vec![in alloc; 3, 4, 5, 600, 7]?);
+    let done = ran_at(alloc, "9p", disks, bytes(alloc, "V T C S")?, 9, clock)?;
     let stat =
-        "4a0000007d020041003f00000000000000000000000001000000000000008001000058020000580200000000000000000000010066 0600676c656e6461 030061646d 0600676c656e6461";
-    assert_eq!(rt;
-        done.out.bytes().get(63..),
-        Some(bytes(alloc, stat)?.as_slice())
-    );
+        "RV RT RC 4a0000007d020041003f00000000000000000000000001000000000000008001000058020000580200000000000000000000010066 0600676c656e6461 030061646d 0600676c656e6461";
+    after(done, Why::Ended, bytes(alloc, stat)?.as_slice())?;
     Ok(())
 }

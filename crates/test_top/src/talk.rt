@@ -9,12 +9,13 @@ use std::alloc::Global;
 use std::process::Abort;
 use std::test::Fail;
 
-/// Counts its fids, those that were let go, and how often none was left to let go.
+/// Counts its fids, those that were let go, how often none was left to let go, and its rests.
 #[derive(Drop)]
 struct Counter {
     fids: u32,
     gone: u32,
     emptied: u32,
+    rests: u32,
 }
 
 impl Machine for Counter {
@@ -53,10 +54,14 @@ impl Machine for Counter {
         self.gone = self.gone.saturating_add(1);
         (true, None)
     }
+
+    fn rest(&mut self) {
+        self.rests = self.rests.saturating_add(1);
+    }
 }
 
 // Talks over these bytes, which come at most `step` at a time: what is said, how it ends, how many
-// fids are let go, and how often none was left.
+// fids are let go, how often none was left, and how many rests there are: one behind each reply.
 fn says(
     rt: &impl Abort,
     alloc: Global,
@@ -64,7 +69,7 @@ fn says(
     step: usize,
     output: &str,
     end: LinkEnd,
-    counts: (u32, u32),
+    counts: (u32, u32, u32),
 ) -> Result<(), Fail>
     requires { 0 < step }
 {
@@ -74,6 +79,7 @@ fn says(
         fids: 0,
         gone: 0,
         emptied: 0,
+        rests: 0,
     };
     let mut clock = SetClock::new(7);
     let ended = serve(alloc, &mut input, &mut out, &mut clock, &mut counter);
@@ -82,6 +88,7 @@ fn says(
     assert_eq!(rt; counter.fids, 0);
     assert_eq!(rt; counter.gone, counts.0);
     assert_eq!(rt; counter.emptied, counts.1);
+    assert_eq!(rt; counter.rests, counts.2);
     Ok(())
 }
 
@@ -94,7 +101,7 @@ fn ample(rt: HostRuntime) -> Result<(), Fail> {
         1,
         "RV RT RF",
         LinkEnd::End,
-        (1, 2),
+        (1, 2, 3),
     )
 }
 
@@ -102,30 +109,30 @@ fn ample(rt: HostRuntime) -> Result<(), Fail> {
 fn rows(rt: HostRuntime) -> Result<(), Fail> {
     for (input, output, end, counts) in [
         // no message
-        ("", "", LinkEnd::End, (0, 1)),
+        ("", "", LinkEnd::End, (0, 1, 0)),
         // no fid goes before another message than Tversion
-        ("T T F", "RT RT RF", LinkEnd::End, (2, 1)),
+        ("T T F", "RT RT RF", LinkEnd::End, (2, 1, 3)),
         // all fids go before a Tversion
-        ("V T T V T", "RV RT RT RV RT", LinkEnd::End, (3, 3)),
+        ("V T T V T", "RV RT RT RV RT", LinkEnd::End, (3, 3, 5)),
         // input that ends inside a message
         (
             "1300000064ffff1800010006003950323030",
             "",
             LinkEnd::BadMessage(0),
-            (0, 1),
+            (0, 1, 0),
         ),
         // the same behind messages
-        ("V T 190000", "RV RT", LinkEnd::BadMessage(44), (1, 2)),
+        ("V T 190000", "RV RT", LinkEnd::BadMessage(44), (1, 2, 2)),
         // a type that no message has
-        ("V 070000006a0100", "RV", LinkEnd::BadMessage(19), (0, 2)),
+        ("V 070000006a0100", "RV", LinkEnd::BadMessage(19), (0, 2, 1)),
         // a size below 7
-        ("V 06000000", "RV", LinkEnd::BadMessage(19), (0, 2)),
+        ("V 06000000", "RV", LinkEnd::BadMessage(19), (0, 2, 1)),
         // a size above the msize
         (
             "1300000064ffff000100000600395032303030 01010000",
             "1300000065ffff000100000600395032303030",
             LinkEnd::BadMessage(19),
-            (0, 2),
+            (0, 2, 1),
         ),
     ] {
         says(&rt, rt.alloc(), input, 9, output, end, counts)?;
@@ -165,6 +172,8 @@ impl Machine for Diary {
         self.enter(now);
         (false, None)
     }
+
+    fn rest(&mut self) {}
 }
 
 /// A clock that moves is read once for each request, and once for each fid or none that is let go.
