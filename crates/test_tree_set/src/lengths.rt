@@ -100,6 +100,48 @@ fn two_levels(rt: HostRuntime) -> Result<(), Fail> {
     Ok(())
 }
 
+/// From three levels to none.
+#[test]
+fn three_levels(rt: HostRuntime) -> Result<(), Fail> {
+    let steps = [
+        Step::Put(5, 6),
+        Step::Put(1370365952, 7),
+        Step::Cut(10),
+        Step::Cut(1370365953),
+    ];
+    assert_eq!(rt;
+        shows(rt.alloc(), &steps[..2], &[(5, 6), (1370365952, 7)])?,
+        Some(3)
+    );
+    assert_eq!(rt; shows(rt.alloc(), &steps[..3], &[(5, 6), (9, 0)])?, Some(0));
+    assert_eq!(rt;
+        shows(rt.alloc(), &steps, &[(5, 6), (1370365952, 0)])?,
+        Some(3)
+    );
+    Ok(())
+}
+
+/// From four levels to none.
+#[test]
+fn four_levels(rt: HostRuntime) -> Result<(), Fail> {
+    let steps = [
+        Step::Put(5, 6),
+        Step::Put(560479674368, 7),
+        Step::Cut(10),
+        Step::Cut(560479674369),
+    ];
+    assert_eq!(rt;
+        shows(rt.alloc(), &steps[..2], &[(5, 6), (560479674368, 7)])?,
+        Some(4)
+    );
+    assert_eq!(rt; shows(rt.alloc(), &steps[..3], &[(5, 6), (9, 0)])?, Some(0));
+    assert_eq!(rt;
+        shows(rt.alloc(), &steps, &[(5, 6), (560479674368, 0)])?,
+        Some(4)
+    );
+    Ok(())
+}
+
 /// All bytes are lost, and the longest file has none.
 #[test]
 fn emptied(rt: HostRuntime) -> Result<(), Fail> {
