@@ -1,0 +1,89 @@
+//! What the images of a crash show.
+ghost use Rattle.std.specs.Prelude.{◌≤◌};
+
+use crate::script::{FIRST, SECOND, STEPS};
+use fo_world::FileError;
+use std::alloc::Global;
+use test_requests::disks::{Disks, Left, On, checked, closed, opened};
+use test_requests::requests::{found, has_bytes, is_refused};
+
+/// Whether the file with this number has the bytes that were written, or none where that may be.
+fn has_hello(alloc: Global, files: &mut On, number: u64, long: u64, may_lack: bool) -> bool {
+    match u32::try_from(number) {
+        Ok(number) => {
+            (long == 5 && has_bytes(alloc, files, &[number], b"hello"))
+                || (may_lack && long == 0 && has_bytes(alloc, files, &[number], b""))
+        }
+        Err(_) => false,
+    }
+}
+
+/// Whether the file of a name has the bytes that were written; where it may lack, it may be empty, and where it may be gone, absent.
+fn has_file(alloc: Global, files: &mut On, name: &[u8], may_lack: bool, may_be_gone: bool) -> bool {
+    match found(alloc, files, &[], name) {
+        Ok((number, long)) => has_hello(alloc, files, number, long, may_lack),
+        Err(FileError::Absent) => may_be_gone,
+        Err(_) => false,
+    }
+}
+
+/// Whether the files are as they may be once so many steps were granted: the first as it was written once that is settled, and so the second, until
+/// its removal is settled, too, and it is absent.
+fn fits(alloc: Global, files: &mut On, steps: u32) -> bool {
+    let first = has_file(alloc, files, b"f", steps < FIRST, steps < FIRST);
+    let second = if steps < STEPS {
+        has_file(alloc, files, b"g", steps < SECOND, true)
+    } else {
+        is_refused(found(alloc, files, &[], b"g"), b"file does not exist")
+    };
+    first && second
+}
+
+/// Whether the disks are sound, and open to files as they may be once so many steps were granted.
+pub fn are_sound(alloc: Global, disks: Disks, steps: u32) -> bool {
+    let mut disks = disks;
+    let sound = checked(alloc, &mut disks).is_some();
+    match opened(alloc, disks) {
+        Some(mut files) => {
+            let fit = fits(alloc, &mut files, steps);
+            closed(files).is_some() && sound && fit
+        }
+        None => false,
+    }
+}
+
+/// Whether an image is right: that of the newest versions in this range.
+fn is_right(alloc: Global, left: &Left, from: u32, to: u32, steps: u32) -> bool
+    requires { to ≤ 64 }
+{
+    match left.image(from, to) {
+        Ok(disks) => are_sound(alloc, disks, steps),
+        Err(_) => false,
+    }
+}
+
+/// How many images have the newest version of a block that has more than one, and the oldest of all others, where all are right.
+fn of_each(alloc: Global, left: &Left, steps: u32) -> Option<u32> {
+    let mut images: u32 = 0;
+    for at in 0..64 {
+        if 1 < left.versions(at) {
+            if !is_right(alloc, left, at, at + 1, steps) {
+                return None;
+            }
+            images = images.saturating_add(1);
+        }
+    }
+    Some(images)
+}
+
+/// How many images there are, where all are right: that of the oldest versions, that of the newest, and those that differ in a block.
+pub fn images(alloc: Global, left: &Left, steps: u32) -> Option<u32> {
+    if is_right(alloc, left, 0, 0, steps) && is_right(alloc, left, 0, 64, steps) {
+        match of_each(alloc, left, steps) {
+            Some(images) => Some(images.saturating_add(2)),
+            None => None,
+        }
+    } else {
+        None
+    }
+}

@@ -1,0 +1,17 @@
+//! The power is cut at each moment of a run, and each call of a device fails once: files over formatted disks in memory (`test_requests`).
+//!
+//! The run makes a file, writes "hello", settles, does the same with a second file, removes that, and settles again. A disk in memory keeps all
+//! versions that a crash may leave, and a call that is listed to fail lands all the same: so a run that ends there leaves what a crash at that moment
+//! may leave. Of each moment these images are opened and checked: that of all oldest versions, that of all newest ones, and for each block that of
+//! its newest among the oldest of all others. Until it is settled a file may be absent or empty; from then on it has its bytes; and the second file is
+//! absent once its removal is settled.
+#![tactic(auto)]
+
+#[cfg(test)]
+mod faults;
+#[cfg(test)]
+mod images;
+#[cfg(test)]
+mod moments;
+#[cfg(test)]
+mod script;
