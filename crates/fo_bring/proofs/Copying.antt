@@ -9,6 +9,7 @@ use Rattle.fo_image.specs.Field.{zeros}
 use Rattle.fo_meta.specs.Leaf.{IsLeaf}
 use Rattle.fo_ports.specs.Blocks.{AreZeros, IsFormed, IsRanked, Reads, ReadsSlots, slot_count}
 use Rattle.fo_slots.specs.Read.{blanked, read}
+use Rattle.std.specs.Prelude.{IfSome}
 use Rattle.std.specs.Option.{option_map}
 use Rattle.fo_buffers.specs.declared.block.Buffer.{Buffer}
 use Rattle.fo_buffers.specs.Held.{block_in}
@@ -41,14 +42,6 @@ formed_again (Data (suc l)) rank bytes reads long none ranked = (long, none)
 formed_again (Dir l) rank bytes reads long none ranked = (long, none)
 formed_again Root rank bytes reads long none ranked = (long, (ranked.0, ranked.1, ranked.2, ranked.3 ∙ sym reads.before, ranked.4 ∙ sym reads.behind))
 
-pub gets : (kind : Kind) (rank : ℕ) (bytes into : List ℕ) → ReadsSlots kind (read kind bytes) bytes → Reads kind (read kind bytes) bytes → IsFormed kind rank bytes → into ≡ bytes → Gets kind rank bytes into
-gets kind rank bytes into slots reads formed is = record {
-  reads = subst (λ (b : List ℕ). Reads kind (read kind bytes) b) (sym is) reads;
-  slots = subst (λ (b : List ℕ). ReadsSlots kind (read kind bytes) b) (sym is) slots;
-  formed = subst (λ (b : List ℕ). IsFormed kind rank b) (sym is) formed;
-  same = is;
-}
-
 -- what the bytes of a held block say of it
 pub ranks_of : (kind : Kind) (rank : ℕ) (o : Option Buffer) (bytes : List ℕ) → Some bytes ≡ option_map block_in o → RanksIn kind rank o → IsRanked kind rank (read kind bytes).bytes
 ranks_of kind rank (Some x) bytes same ranked = let it : x.block ≡ bytes = cc in subst (λ (b : List ℕ). IsRanked kind rank (read kind b).bytes) it ranked
@@ -57,3 +50,11 @@ ranks_of kind rank None bytes same ranked = absurd ranked
 pub good_held : (first count : ℕ) (kind : Kind) (o : Option Buffer) (bytes : List ℕ) → Some bytes ≡ option_map block_in o → GoodIn first count kind o → Good first count kind bytes
 good_held first count kind (Some x) bytes e good = let same : x.block ≡ bytes = cc in subst (Good first count kind) same good
 good_held first count kind None bytes e good = absurd good
+
+pub good_lent : (first count : ℕ) (kind : Kind) (o : Option Buffer) (bytes : List ℕ) → Some bytes ≡ option_map block_in o → ((x : Buffer) → o ≡ Some x → Good first count kind x.block) → Good first count kind bytes
+good_lent first count kind (Some x) bytes e good = let same : x.block ≡ bytes = cc in subst (Good first count kind) same (good x refl)
+good_lent first count kind None bytes e good = absurd (cc)
+
+pub if_some : {T : Type 0} {P Q : T → Type 0} (o : Option T) → ((x : T) → P x → Q x) → IfSome o P → IfSome o Q
+if_some (Some x) f p = f x p
+if_some None f p = p

@@ -1,16 +1,54 @@
 //! A block is copied out.
-ghost use Rattle.std.specs.Prelude.{◌≡◌, ◌↔◌, true, false, length, nat_eq, IsTrue};
+ghost use Rattle.std.specs.Prelude.{◌≡◌, ◌↔◌, true, false, length, nat_eq, Some, IsSome, IfSome, IsTrue};
 ghost use Rattle.std.specs.Map.{lookup};
 ghost use Rattle.fo_buffers.specs.Held.{held_at};
+ghost use Rattle.fo_buffers.specs.declared.block.Buffer.{Buffer};
 ghost use Rattle.fo_ports.specs.Blocks.{IsRanked, ReadsSlots};
 ghost use Rattle.fo_slots.specs.Read.{read};
-ghost use Rattle.fo_bring.specs.Blocks.{HasZeros, Gets};
+ghost use Rattle.fo_bring.specs.Blocks.{HasZeros, Gets, Good};
 ghost use Rattle.fo_bring.specs.Holds.{GoodIn, GetsIn, GetsGood, GetsClean, RanksIn};
 
 use crate::good::is_good;
 use fo_buffers::Buffers;
 use fo_image::Kind;
 use fo_slots::{is_formed, read_is_read};
+
+// The bytes of a block of this kind and rank, where they are of the format.
+fn if_formed<'a>(bytes: &'a [u8], kind: Kind, rank: u32) -> Option<&'a [u8]>
+    requires long { length bytes.now ≡ 8192 }
+    requires slots { ReadsSlots kind (read kind bytes.now) bytes.now }
+    requires zeros { HasZeros kind bytes.now }
+    ensures long { IfSome result (λ b. length b.now ≡ 8192) }
+    ensures lent { IfSome result (λ b. Gets kind rank bytes.now b.now) }
+    ensures again { IsRanked kind rank (read kind bytes.now).bytes → IsSome result }
+{
+    read_is_read();
+    if is_formed(kind, rank, bytes) {
+        Some(bytes)
+    } else {
+        None
+    }
+}
+
+/// Lends the bytes of a held block of this kind and rank, where they are of the format.
+pub fn lend_held<'a>(
+    buffers: &'a Buffers,
+    first: u32,
+    count: u32,
+    kind: Kind,
+    rank: u32,
+    at: u32,
+) -> Option<&'a [u8]>
+    requires { (x : Buffer) → held_at buffers.now at ≡ Some x → Good first count kind x.block }
+    ensures long { IfSome result (λ b. length b.now ≡ 8192) }
+    ensures lent { IfSome result (λ b. GetsIn kind rank (held_at buffers.now at) b.now) }
+    ensures again { RanksIn kind rank (held_at buffers.now at) → IsSome result }
+{
+    match buffers.bytes(at) {
+        Some(bytes) => if_formed(bytes, kind, rank),
+        None => None,
+    }
+}
 
 /// Copies the bytes of a block of this kind and rank, where they are of the format.
 fn copy_formed(bytes: &[u8], kind: Kind, rank: u32, into: &mut [u8]) -> bool
@@ -22,12 +60,13 @@ fn copy_formed(bytes: &[u8], kind: Kind, rank: u32, into: &mut [u8]) -> bool
     ensures again { IsRanked kind rank (read kind bytes.now).bytes → result ≡ true }
     ensures nothing { result ≡ false → into.new ≡ into.old }
 {
-    read_is_read();
-    if !is_formed(kind, rank, bytes) {
-        return false;
+    match if_formed(bytes, kind, rank) {
+        Some(bytes) => {
+            into.copy_from_slice(bytes);
+            true
+        }
+        None => false,
     }
-    into.copy_from_slice(bytes);
-    true
 }
 
 /// Copies out a held block of this kind and rank, where its bytes are of the format.

@@ -1,5 +1,5 @@
 -- What calls on blocks see of a slot that waited, and was cleared.
-use Rattle.std.proofs.Common.{◌≡◌, ◌≢◌, ◌⊎◌, ◌↔◌, inl, inr, ⊎_elim, ℕ, ◌+◌, ◌/◌, ◌<◌, ◌≤◌, true, List, length, Some, refl, sym, ap, ◌∙◌, subst, arith}
+use Rattle.std.proofs.Common.{◌≡◌, ◌≢◌, ◌⊎◌, ◌↔◌, inl, inr, ⊎_elim, ℕ, ◌/◌, ◌<◌, List, length, sym, ap, ◌∙◌, subst, arith}
 use Rattle.std.proofs.lemmas.Bool.{cases_eq}
 use Rattle.fo_image.specs.declared.types.Pointer.TheVariants.{Local}
 use Rattle.fo_crash.specs.declared.slot.Slot.{Slot}
@@ -7,14 +7,13 @@ use Rattle.fo_crash.specs.Images.{target}
 use Rattle.fo_crash.specs.Steps.{cleared}
 use Rattle.fo_ports.specs.State.{KeepsSlot, Rests, StaysKnown, WasCleared}
 use Rattle.fo_facts.specs.declared.fact.Fact.{Fact}
-use Rattle.fo_facts.specs.Known.{fact_at}
 use Rattle.fo_waits.specs.declared.listed.Clearing.{Clearing}
 use Rattle.fo_waits.specs.declared.listed.Wait.{Wait}
 use Rattle.fo_waits.specs.Ended.{TakesOut}
 use Rattle.fo_waits.specs.Listed.{Awaits, Clears}
 use Rattle.fo_mind.specs.Due.{ClearedDue}
 use Rattle.fo_mind.specs.Frames.{SameMarks}
-use Rattle.fo_mind.specs.Parts.{CacheKeeps, IsHeld, Parts, memory, state_of}
+use Rattle.fo_mind.specs.Parts.{IsHeld, Parts, memory, state_of}
 use Rattle.fo_mind.specs.Sound.{Holding, Placed}
 use Rattle.fo_mind.proofs.Cleared.{cleared_nowhere}
 use Rattle.fo_put.proofs.Placing.{SlotResult, slot_result}

@@ -1,5 +1,5 @@
 -- Which slots wait to be cleared.
-use Rattle.std.proofs.Common.{◌≡◌, ◌⊎◌, inl, inr, ⊎_elim, ℕ, ◌&&◌, Bool, true, false, not, Option, Some, None, sym, ap, ◌∙◌, refl}
+use Rattle.std.proofs.Common.{◌≡◌, inl, inr, ⊎_elim, ℕ, ◌&&◌, Bool, true, false, not, Option, Some, None, sym, ap, ◌∙◌, refl}
 use Rattle.std.specs.Option.{IfSome}
 use Rattle.fo_order.specs.Turns.{flag_at}
 use Rattle.fo_facts.specs.Known.{fact_at}

@@ -1,5 +1,5 @@
 -- Steps of a settling, one after another.
-use Rattle.std.proofs.Common.{◌≡◌, ◌≢◌, ◌⊎◌, inl, inr, ⊎_elim, ℕ, ◌≤◌, Bool, true, false, cond, nat_eq, List, [], length, Result, Ok, Err, Option, None, refl, sym, ap, ◌∙◌, subst, arith, eq-eqb}
+use Rattle.std.proofs.Common.{◌≡◌, ◌≢◌, inl, inr, ⊎_elim, ℕ, ◌≤◌, Bool, true, false, cond, nat_eq, List, [], Result, Ok, Err, Option, None, refl, sym, ap, ◌∙◌, subst, arith, eq-eqb}
 use Rattle.std.specs.Map.{lookup}
 use Rattle.std.specs.Result.{OnOk, OnErr}
 use Rattle.fo_disk.specs.Disk.{DiskState, latest_of, versions_of}
@@ -16,7 +16,7 @@ use Rattle.fo_ports.specs.declared.error.BlockError.{BlockError}
 use Rattle.fo_ports.specs.State.{IsChanging, IsClosing, KeepsSlot, Rests, StaysKnown}
 use Rattle.fo_slots.specs.Read.{read}
 use Rattle.fo_mind.specs.Laws.{keeps_joins}
-use Rattle.fo_mind.specs.Parts.{CacheKeeps, IsBlock, IsPinned, Parts, bytes_of, label_at, memory, one_content, content_at, state_of}
+use Rattle.fo_mind.specs.Parts.{CacheKeeps, IsBlock, Parts, bytes_of, label_at, memory, one_content, content_at, state_of}
 use Rattle.fo_mind.specs.Sealed.{SealsPinned}
 use Rattle.fo_mind.specs.Turning.{KeepsTurn}
 use Rattle.fo_cache.specs.Easing.{Eases}

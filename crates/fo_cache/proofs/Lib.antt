@@ -4,6 +4,7 @@ pub mod Delaying
 pub mod Easing
 pub mod Firsts
 pub mod Fitting
+pub mod Headers
 pub mod Labelling
 pub mod Lessening
 pub mod Numbering

@@ -1,5 +1,6 @@
 //! A cache with its device.
-ghost use Rattle.std.specs.Prelude.{◌≤◌, []};
+ghost use Rattle.std.specs.Prelude.{◌<◌, ◌≤◌, [], length};
+ghost use Rattle.fo_disk.specs.Disk.{IsSettled};
 ghost use Rattle.fo_mind.specs.MindParts.{parts};
 ghost use Rattle.fo_mind.specs.Parts.{count_of};
 ghost use Rattle.fo_cache.specs.Fits.{Fits, FitsLabels, FitsOne, fits_prop, labels_prop, one_prop};
@@ -16,6 +17,7 @@ pub struct Cache<D: Disk> {
     ghost spelled: { FitsLabels (parts mind (D.state main).holds 0) (D.state main).unsure } by { labels_prop (parts mind (D.state main).holds 0) (D.state main).unsure },
     ghost fits: { Fits (parts mind (D.state main).holds 0) (D.state main).unsure } by { fits_prop (parts mind (D.state main).holds 0) (D.state main).unsure },
     ghost first: { FitsOne (parts mind [] 0).one_bytes (parts mind [] 0).doubt (D.state main).holds } by { one_prop (parts mind [] 0).one_bytes (parts mind [] 0).doubt (D.state main).holds },
+    ghost header: { 0 < length (D.state main).holds → IsSettled (D.state main).holds 0 },
 }
 
 impl<D: Disk> Cache<D> {

@@ -40,6 +40,23 @@ impl<D: Disk> Cache<D> {
         self.mind.get(&mut self.main, at, kind, rank, into)
     }
 
+    /// Brings a block of this kind into memory and pins it while pins are left, and copies nothing (`Mind::pin`).
+    pub fn pin(&mut self, at: u32, kind: Kind, rank: u32) -> Result<(), BlockError>
+        requires block { IsBlock (parts self.old.mind [] 0) at }
+        ensures kind { OnOk result ((label_at (parts self.old.mind [] 0).region at).kind ≡ kind) }
+        ensures pinned { OnOk result (0 < (parts self.old.mind [] 0).pins → IsPinned (parts self.new.mind [] 0).held at) }
+        ensures again { IsPinned (parts self.old.mind [] 0).held at → (label_at (parts self.old.mind [] 0).region at).kind ≡ kind → IsOk result }
+        ensures no_pin { IsPinned (parts self.old.mind [] 0).held at → (label_at (parts self.old.mind [] 0).region at).kind ≡ kind → (parts self.new.mind [] 0).pins ≡ (parts self.old.mind [] 0).pins }
+        ensures pins { (parts self.old.mind [] 0).pins ≤ (parts self.new.mind [] 0).pins + 1 }
+        ensures looks { Looks (state_of (parts self.old.mind (D.state self.old.main).holds (D.faults self.old.main))) (state_of (parts self.new.mind (D.state self.new.main).holds (D.faults self.new.main))) }
+        ensures keeps { CacheKeeps (parts self.old.mind (D.state self.old.main).holds (D.faults self.old.main)) (parts self.new.mind (D.state self.new.main).holds (D.faults self.new.main)) }
+        ensures size { D.size self.new.main ≡ D.size self.old.main }
+        ensures state { D.state self.new.main ≡ D.state self.old.main }
+        ensures cause { IfErr result (Caused ⊥ (λ b. b ≡ at) (Rose (D.faults self.old.main) (D.faults self.new.main)) ⊥) }
+    {
+        self.mind.pin(&mut self.main, at, kind, rank)
+    }
+
     /// Gives out a block of zeros, for a place of this kind, tag and rank.
     pub fn new_block(&mut self, kind: Kind, tag: u32, rank: u32) -> u32
         requires spare { 0 < (parts self.old.mind [] 0).spare }

@@ -14,6 +14,7 @@ impl<D: Disk> Cache<D> {
     ghost use Rattle.fo_mind.specs.Sealed.{SealsPinned};
     ghost use Rattle.fo_mind.specs.Turning.{HasTurn, KeepsTurn};
     ghost use Rattle.fo_cache.specs.Easing.{ClearsDue, Eases};
+    ghost use Rattle.fo_cache.specs.Work.{calls_left};
 
     /// A slot that waits for a leaf that is settled, and None exactly where none does.
     pub fn next_due(&self) -> Option<(u32, u32)>
@@ -39,6 +40,7 @@ impl<D: Disk> Cache<D> {
         ensures cleared { (disk : Holds) (faults : ℕ) → ClearedDue at i (parts self.old.mind disk faults) (parts self.new.mind disk faults) }
         ensures eases { Eases (parts self.old.mind (D.state self.old.main).holds (D.faults self.old.main)) (parts self.new.mind (D.state self.new.main).holds (D.faults self.new.main)) }
         ensures fewer { length (parts self.new.mind [] 0).clears < length (parts self.old.mind [] 0).clears }
+        ensures left { calls_left (parts self.new.mind [] 0) ≤ calls_left (parts self.old.mind [] 0) }
         ensures device { self.new.main ≡ self.old.main }
     {
         self.mind.clear_due(at, i);
@@ -52,6 +54,7 @@ impl<D: Disk> Cache<D> {
         ensures cleared { OnOk result ((disk : Holds) (faults : ℕ) → ClearsDue at i (parts self.old.mind disk faults) (parts self.new.mind disk faults)) }
         ensures kept { OnErr result (KeepsTurn (parts self.old.mind [] 0) (parts self.new.mind [] 0)) }
         ensures fewer { OnOk result (length (parts self.new.mind [] 0).clears < length (parts self.old.mind [] 0).clears) }
+        ensures left { calls_left (parts self.new.mind [] 0) ≤ calls_left (parts self.old.mind [] 0) }
         ensures device { self.new.main ≡ self.old.main }
         ensures cause { IfErr result (λ e. e ≡ Wanting) }
     {

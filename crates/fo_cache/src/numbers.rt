@@ -21,7 +21,7 @@ fn raised(numbers: u32) -> u32
 }
 
 impl<D: Disk> Cache<D> {
-    ghost use Rattle.std.specs.Prelude.{◌≡◌, ◌≢◌, ◌^◌, ◌<◌, ◌≤◌, ℕ, [], true, None, OnOk, IfOk, IfErr, MatchOption};
+    ghost use Rattle.std.specs.Prelude.{◌≡◌, ◌≢◌, ◌*◌, ◌^◌, ◌<◌, ◌≤◌, ℕ, [], true, None, OnOk, IfOk, IfErr, MatchOption};
     ghost use Rattle.fo_base.specs.Cause.{Rose};
     ghost use Rattle.fo_crash.specs.Images.{SameContent};
     ghost use Rattle.fo_ports.specs.Causes.{Caused};
@@ -31,6 +31,7 @@ impl<D: Disk> Cache<D> {
     ghost use Rattle.fo_cache.specs.Easing.{Eases};
     ghost use Rattle.fo_cache.specs.Numbering.{Renumbers};
     ghost use Rattle.fo_cache.specs.Supers.{IsFault};
+    ghost use Rattle.fo_cache.specs.Work.{AtMost, in_doubt, work};
 
     /// Grants the next file number, which is below the limit of each super block that the device may have; None where it would be 2^30.
     /// Where none says so many, another super block is written and settled. It stays granted until it is taken.
@@ -100,6 +101,8 @@ impl<D: Disk> Cache<D> {
     pub fn settle_doubt(&mut self) -> Result<(), BlockError>
         ensures eases { Eases (parts self.old.mind (D.state self.old.main).holds (D.faults self.old.main)) (parts self.new.mind (D.state self.new.main).holds (D.faults self.new.main)) }
         ensures certain { OnOk result ((parts self.new.mind [] 0).doubt ≡ None) }
+        ensures calls { AtMost (2 * in_doubt (parts self.old.mind [] 0).doubt) (D.calls self.old.main) (D.calls self.new.main) }
+        ensures turns { work (parts self.new.mind [] 0).turns ≤ work (parts self.old.mind [] 0).turns }
         ensures renumbers { Renumbers (D.state self.old.main) (D.state self.new.main) (parts self.old.mind [] 0) (parts self.new.mind [] 0) }
         ensures size { D.size self.new.main ≡ D.size self.old.main }
         ensures cause { IfErr result (Caused ⊥ (λ b. ⊥) (Rose (D.faults self.old.main) (D.faults self.new.main)) ⊥) }

@@ -7,7 +7,7 @@ use fo_order::Turn;
 use fo_ports::BlockError;
 
 impl<D: Disk> Cache<D> {
-    ghost use Rattle.std.specs.Prelude.{◌≡◌, ◌<◌, ◌≤◌, ℕ, [], true, false, OnOk, IfOk, IfErr};
+    ghost use Rattle.std.specs.Prelude.{◌≡◌, ◌+◌, ◌<◌, ◌≤◌, ℕ, [], true, false, OnOk, IfOk, IfErr};
     ghost use Rattle.fo_base.specs.Cause.{Rose};
     ghost use Rattle.fo_order.specs.Turns.{IsDue, IsNext, IsQuiet};
     ghost use Rattle.fo_ports.specs.Causes.{Caused};
@@ -15,7 +15,7 @@ impl<D: Disk> Cache<D> {
     ghost use Rattle.fo_mind.specs.MindParts.{parts};
     ghost use Rattle.fo_mind.specs.Parts.{CacheKeeps, IsPinned, label_at, state_of};
     ghost use Rattle.fo_cache.specs.Settling.{Settles};
-    ghost use Rattle.fo_cache.specs.Work.{work};
+    ghost use Rattle.fo_cache.specs.Work.{AtMost, work};
 
     /// Writes and settles blocks in their turns, until nothing is to be written and all is settled. Where a write or a sync fails, or
     /// memory is wanting for the next turn of a pinned block, it ends; what was written until then stays so.
@@ -27,6 +27,7 @@ impl<D: Disk> Cache<D> {
         ensures blocks { (b : ℕ) → (label_at (parts self.new.mind [] 0).region b ≡ label_at (parts self.old.mind [] 0).region b) × (IsPinned (parts self.old.mind [] 0).held b → IsPinned (parts self.new.mind [] 0).held b) × ((fact_at (parts self.old.mind [] 0).facts b).sealed ≡ true → (fact_at (parts self.new.mind [] 0).facts b).sealed ≡ true) }
         ensures room { ((parts self.new.mind [] 0).spare ≡ (parts self.old.mind [] 0).spare) × ((parts self.new.mind [] 0).pins ≡ (parts self.old.mind [] 0).pins) × ((parts self.new.mind [] 0).room ≡ (parts self.old.mind [] 0).room) }
         ensures keeps { CacheKeeps (parts self.old.mind (D.state self.old.main).holds (D.faults self.old.main)) (parts self.new.mind (D.state self.new.main).holds (D.faults self.new.main)) }
+        ensures calls { AtMost (work (parts self.old.mind [] 0).turns) (D.calls self.old.main) (D.calls self.new.main) }
         ensures size { D.size self.new.main ≡ D.size self.old.main }
         ensures cause { IfErr result (Caused ⊥ (λ b. ⊥) (Rose (D.faults self.old.main) (D.faults self.new.main)) ⊥) }
         ensures later { D.faults self.old.main ≤ D.faults self.new.main }
@@ -38,6 +39,7 @@ impl<D: Disk> Cache<D> {
     fn take_turns(&mut self) -> Result<(), BlockError>
         ensures quiet { OnOk result (IsQuiet (parts self.new.mind [] 0).turns) }
         ensures settles { Settles (D.state self.old.main) (D.state self.new.main) (parts self.old.mind [] 0) (parts self.new.mind [] 0) }
+        ensures calls { AtMost (work (parts self.old.mind [] 0).turns) (D.calls self.old.main) (D.calls self.new.main) }
         ensures size { D.size self.new.main ≡ D.size self.old.main }
         ensures cause { IfErr result (Caused ⊥ (λ b. ⊥) (Rose (D.faults self.old.main) (D.faults self.new.main)) ⊥) }
         ensures later { D.faults self.old.main ≤ D.faults self.new.main }
@@ -51,6 +53,8 @@ impl<D: Disk> Cache<D> {
         ensures idle { IfOk result (λ b. b ≡ true → IsQuiet (parts self.new.mind [] 0).turns) }
         ensures settles { Settles (D.state self.old.main) (D.state self.new.main) (parts self.old.mind [] 0) (parts self.new.mind [] 0) }
         ensures less { IfOk result (λ b. b ≡ false → work (parts self.new.mind [] 0).turns < work (parts self.old.mind [] 0).turns) }
+        ensures calls { AtMost (work (parts self.old.mind [] 0).turns) (D.calls self.old.main) (D.calls self.new.main) }
+        ensures spent { OnOk result (D.calls self.new.main + work (parts self.new.mind [] 0).turns ≤ D.calls self.old.main + work (parts self.old.mind [] 0).turns) }
         ensures size { D.size self.new.main ≡ D.size self.old.main }
         ensures cause { IfErr result (Caused ⊥ (λ b. ⊥) (Rose (D.faults self.old.main) (D.faults self.new.main)) ⊥) }
         ensures later { D.faults self.old.main ≤ D.faults self.new.main }
@@ -68,6 +72,8 @@ impl<D: Disk> Cache<D> {
         ensures idle { IfOk result (λ b. b ≡ false) }
         ensures settles { Settles (D.state self.old.main) (D.state self.new.main) (parts self.old.mind [] 0) (parts self.new.mind [] 0) }
         ensures less { OnOk result (work (parts self.new.mind [] 0).turns < work (parts self.old.mind [] 0).turns) }
+        ensures calls { AtMost (work (parts self.old.mind [] 0).turns) (D.calls self.old.main) (D.calls self.new.main) }
+        ensures spent { OnOk result (D.calls self.new.main + work (parts self.new.mind [] 0).turns ≤ D.calls self.old.main + work (parts self.old.mind [] 0).turns) }
         ensures size { D.size self.new.main ≡ D.size self.old.main }
         ensures cause { IfErr result (Caused ⊥ (λ b. ⊥) (Rose (D.faults self.old.main) (D.faults self.new.main)) ⊥) }
         ensures later { D.faults self.old.main ≤ D.faults self.new.main }
@@ -87,6 +93,8 @@ impl<D: Disk> Cache<D> {
         ensures idle { IfOk result (λ b. b ≡ false) }
         ensures settles { Settles (D.state self.old.main) (D.state self.new.main) (parts self.old.mind [] 0) (parts self.new.mind [] 0) }
         ensures less { OnOk result (work (parts self.new.mind [] 0).turns < work (parts self.old.mind [] 0).turns) }
+        ensures calls { AtMost (work (parts self.old.mind [] 0).turns) (D.calls self.old.main) (D.calls self.new.main) }
+        ensures spent { OnOk result (D.calls self.new.main + work (parts self.new.mind [] 0).turns ≤ D.calls self.old.main + work (parts self.old.mind [] 0).turns) }
         ensures size { D.size self.new.main ≡ D.size self.old.main }
         ensures cause { IfErr result (Caused ⊥ (λ b. ⊥) (Rose (D.faults self.old.main) (D.faults self.new.main)) ⊥) }
         ensures later { D.faults self.old.main ≤ D.faults self.new.main }

@@ -19,11 +19,13 @@ impl<D: Disk> Cache<D> {
     ghost use Rattle.fo_mind.specs.Parts.{IsBlock, label_at};
     ghost use Rattle.fo_cache.specs.Settling.{Rested};
     ghost use Rattle.fo_cache.specs.Supers.{Counts, Doubted, IsFault, Overruled};
+    ghost use Rattle.fo_cache.specs.Work.{AtMost};
 
     // Writes block 1 as memory has it.
     fn write_one(&mut self) -> Result<(), Failed>
         ensures wrote { IsWrite 1 (parts self.old.mind [] 0).one_bytes result (D.state self.old.main) (D.state self.new.main) }
         ensures mind { self.new.mind ≡ self.old.mind }
+        ensures calls { AtMost 1 (D.calls self.old.main) (D.calls self.new.main) }
         ensures size { D.size self.new.main ≡ D.size self.old.main }
         ensures cause { HasCause (D.faults self.old.main) (D.faults self.new.main) result }
     {
@@ -36,6 +38,7 @@ impl<D: Disk> Cache<D> {
         requires length { length bytes.now ≡ 8192 }
         ensures wrote { IsWrite 1 bytes.now result (D.state self.old.main) (D.state self.new.main) }
         ensures mind { self.new.mind ≡ self.old.mind }
+        ensures calls { AtMost 1 (D.calls self.old.main) (D.calls self.new.main) }
         ensures size { D.size self.new.main ≡ D.size self.old.main }
         ensures cause { HasCause (D.faults self.old.main) (D.faults self.new.main) result }
     {
@@ -87,6 +90,7 @@ impl<D: Disk> Cache<D> {
         ensures nothing { OnErr result (parts self.new.mind [] 0 ≡ parts self.old.mind [] 0) }
         ensures others { (k : ℕ) → k ≢ 1 → Rested (versions_of (D.state self.old.main).holds k) (versions_of (D.state self.new.main).holds k) }
         ensures count { length (D.state self.new.main).holds ≡ length (D.state self.old.main).holds }
+        ensures calls { AtMost 2 (D.calls self.old.main) (D.calls self.new.main) }
         ensures size { D.size self.new.main ≡ D.size self.old.main }
         ensures cause { IfErr result (Caused ⊥ (λ b. ⊥) (Rose (D.faults self.old.main) (D.faults self.new.main)) ⊥) }
         ensures failed { IfErr result IsFault }
@@ -118,6 +122,7 @@ impl<D: Disk> Cache<D> {
         ensures doubted { OnErr result (Doubted one (parts self.old.mind [] 0) (parts self.new.mind [] 0)) }
         ensures others { (k : ℕ) → k ≢ 1 → Rested (versions_of (D.state self.old.main).holds k) (versions_of (D.state self.new.main).holds k) }
         ensures count { length (D.state self.new.main).holds ≡ length (D.state self.old.main).holds }
+        ensures calls { AtMost 2 (D.calls self.old.main) (D.calls self.new.main) }
         ensures size { D.size self.new.main ≡ D.size self.old.main }
         ensures cause { IfErr result (Caused ⊥ (λ b. ⊥) (Rose (D.faults self.old.main) (D.faults self.new.main)) ⊥) }
         ensures failed { IfErr result IsFault }

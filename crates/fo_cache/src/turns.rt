@@ -13,6 +13,7 @@ impl<D: Disk> Cache<D> {
     ghost use Rattle.fo_mind.specs.MindParts.{parts};
     ghost use Rattle.fo_mind.specs.Parts.{IsPinned, bytes_at};
     ghost use Rattle.fo_mind.specs.Turning.{HasTurn, KeepsTurn, Synced};
+    ghost use Rattle.fo_cache.specs.Work.{AtMost};
     ghost use Rattle.fo_cache.specs.Written.{IsWritten};
 
     /// What is to be done next.
@@ -40,6 +41,7 @@ impl<D: Disk> Cache<D> {
         ensures wrote { IsWritten at result (D.state self.old.main) (D.state self.new.main) (parts self.old.mind [] 0) (parts self.new.mind [] 0) }
         ensures others { (k : ℕ) → k ≢ at → versions_of (D.state self.new.main).holds k ≡ versions_of (D.state self.old.main).holds k }
         ensures size { D.size self.new.main ≡ D.size self.old.main }
+        ensures calls { AtMost 1 (D.calls self.old.main) (D.calls self.new.main) }
         ensures cause { HasCause (D.faults self.old.main) (D.faults self.new.main) result }
     {
         if self.mind.is_block(at) {
@@ -55,6 +57,7 @@ impl<D: Disk> Cache<D> {
         ensures wrote { IsWritten at result (D.state self.old.main) (D.state self.new.main) (parts self.old.mind [] 0) (parts self.new.mind [] 0) }
         ensures others { (k : ℕ) → k ≢ at → versions_of (D.state self.new.main).holds k ≡ versions_of (D.state self.old.main).holds k }
         ensures size { D.size self.new.main ≡ D.size self.old.main }
+        ensures calls { AtMost 1 (D.calls self.old.main) (D.calls self.new.main) }
         ensures cause { HasCause (D.faults self.old.main) (D.faults self.new.main) result }
     {
         let mut block = [0; BLOCK];
@@ -73,6 +76,7 @@ impl<D: Disk> Cache<D> {
         ensures last { OnOk result (at < length (D.state self.old.main).holds → latest_of (versions_of (D.state self.new.main).holds at) ≡ bytes_at (parts self.old.mind [] 0).held (D.state self.old.main).holds at) }
         ensures others { (k : ℕ) → k ≢ at → versions_of (D.state self.new.main).holds k ≡ versions_of (D.state self.old.main).holds k }
         ensures size { D.size self.new.main ≡ D.size self.old.main }
+        ensures calls { AtMost 1 (D.calls self.old.main) (D.calls self.new.main) }
         ensures cause { HasCause (D.faults self.old.main) (D.faults self.new.main) result }
     {
         let wrote = self.main.write(at, self.mind.bytes_of(at));
@@ -88,6 +92,7 @@ impl<D: Disk> Cache<D> {
         ensures each { OnOk result ((b : ℕ) → (parts self.old.mind [] 0).region.first ≤ b → b < length (D.state self.new.main).holds → (flag_at (parts self.old.mind [] 0).turns b).tried ≡ Written → IsSettled (D.state self.new.main).holds b) }
         ensures state { IsSync result (D.state self.old.main) (D.state self.new.main) }
         ensures size { D.size self.new.main ≡ D.size self.old.main }
+        ensures calls { AtMost 1 (D.calls self.old.main) (D.calls self.new.main) }
         ensures cause { HasCause (D.faults self.old.main) (D.faults self.new.main) result }
     {
         let synced = self.main.sync();

@@ -43,9 +43,12 @@ pub struct Rooted<D: Disk, K: Knows> {
 impl<D: Disk, K: Knows> Rooted<D, K> {
     ghost use Rattle.fo_base.specs.Cause.{HasCause};
     ghost use Rattle.fo_disk.specs.Disk.{IsSync};
+    ghost use Rattle.std.specs.Prelude.{is_err, not};
 
-    /// Settles what was written. The invariant is kept, whatever the device answers.
+    /// Settles what was written. The invariant is kept, whatever the device answers, and so are the tops; only an answer Ok is noted as one.
     pub fn settle(&mut self) -> Result<(), Failed>
+        ensures tops { self.new.tops.items ≡ self.old.tops.items }
+        ensures mind { K.mind self.new.known ≡ noted_sync (not (is_err result)) (K.mind self.old.known) }
         ensures state { IsSync result (D.state self.old.main) (D.state self.new.main) }
         ensures cause { HasCause (D.faults self.old.main) (D.faults self.new.main) result }
     {

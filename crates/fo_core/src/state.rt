@@ -3,26 +3,42 @@ ghost use Rattle.std.specs.Prelude.{◌≡◌};
 ghost use Rattle.fo_core.specs.Ended.{failure_of};
 
 use crate::moment::Stands;
+use fo_base::Memory;
 use fo_buffers::Block;
 use fo_disk::Disk;
+use fo_ending::end;
 use fo_events::{Event, Outcome, Turner};
 use fo_files::Files;
 use fo_files::files_look::file_error;
 use fo_ports::BlockError;
 use fo_sessions::Sessions;
 use fo_starting::devices::Devices;
-use fo_starting::opens::finish;
 use fo_starting::{Unopened, open_devices};
 use fo_turning::usable;
 use fo_world::FileError;
 use std::alloc::Global;
 
-/// The sessions of all clients over files, and the block of memory in which the end spells the super block.
+/// Two blocks of memory in which the end spells the super block.
+#[derive(Drop)]
+struct Spares {
+    first: Block,
+    second: Block,
+}
+
+impl Spares {
+    fn new(alloc: Global) -> Result<Spares, Memory> {
+        let first = Block::new(alloc)?;
+        let second = Block::new(alloc)?;
+        Ok(Spares { first, second })
+    }
+}
+
+/// The sessions of all clients over files, and what the end needs of memory.
 #[derive(Drop)]
 pub struct System<F> {
     pub(crate) sessions: Sessions,
     pub(crate) files: F,
-    spare: Block,
+    spares: Spares,
 }
 
 /// The system over two devices that are open.
@@ -47,14 +63,16 @@ fn failure(answer: Result<(), BlockError>) -> Option<FileError>
 }
 
 impl<D: Disk, A: Disk> State<D, A> {
-    ghost use Rattle.std.specs.Prelude.{◌≡◌, ◌≤◌, ◌<◌, ℕ, List, length, IfOk, IfErr, MatchResult};
+    ghost use Rattle.std.specs.Prelude.{◌≡◌, ◌+◌, ◌≤◌, ◌<◌, ℕ, List, length, IfOk, IfErr, MatchResult};
     ghost use Rattle.fo_disk.specs.Disk.{Block, IsSettled};
     ghost use Rattle.fo_sound.specs.Device.{Shows};
+    ghost use Rattle.fo_ports.specs.State.{IsClosing};
+    ghost use Rattle.fo_cache.specs.Work.{AtMost, calls_left};
     ghost use Rattle.fo_check.specs.Answer.{Blames, IsOutside};
     ghost use Rattle.fo_check_image.specs.Answer.{AreBytes, Reports, Refuses};
     ghost use Rattle.fo_check_image.specs.declared.report.Report.{Report};
     ghost use Rattle.fo_events.specs.Row.{MayHappen};
-    ghost use Rattle.fo_core.specs.Moment.{Moment, blocks, counts};
+    ghost use Rattle.fo_core.specs.Moment.{Moment, blocks, cache, counts};
     ghost use Rattle.fo_core.specs.Opened.{IsOpened};
     ghost use Rattle.fo_core.specs.Goes.{Goes};
     ghost use Rattle.fo_core.specs.Ended.{Gives};
@@ -77,14 +95,14 @@ impl<D: Disk, A: Disk> State<D, A> {
             (λ r. (D.faults main ≤ D.faults r.main) × (A.faults arena ≤ A.faults r.arena)) }
         ensures cause { IfErr result (λ r. Blames (D.faults main) (D.faults r.main) (A.faults arena) (A.faults r.arena) r.why) }
     {
-        let Ok(spare) = Block::new(alloc) else {
+        let Ok(spares) = Spares::new(alloc) else {
             return Err(Unopened::wanting(main, arena));
         };
         match open_devices(alloc, main, arena) {
             Ok(devices) => Ok(System {
                 sessions: Sessions::new(alloc),
                 files: Files::new(alloc, devices, false),
-                spare,
+                spares,
             }),
             Err(refused) => Err(refused),
         }
@@ -117,15 +135,18 @@ impl<D: Disk, A: Disk> State<D, A> {
         usable(&self.files.on.cache)
     }
 
-    /// Ends the system: settles all, writes the next file number, and gives both devices back. Where that fails, what was settled until then
-    /// stays so.
+    /// Ends the system: settles all, writes the next file number, closes what was removed, and gives both devices back. It takes time in what
+    /// is queued to be closed. Where it fails, what was settled until then stays so. Where nothing may be closed, the main device is called at
+    /// most twice for each dirty block, and five times beside that (`calls_left` of `fo_cache`).
     pub fn finish(self) -> Finished<D, A>
         ensures gives { Gives (⟦<State<D, A> as Stands>⟧.moment self) result.failed (D.size result.main) (D.state result.main) (D.faults result.main) (A.state result.arena) (A.faults result.arena) }
+        ensures calls { (IsClosing (blocks (⟦<State<D, A> as Stands>⟧.moment self)) → ⊥) → AtMost (calls_left (cache (⟦<State<D, A> as Stands>⟧.moment self)) + 2) (D.calls self.files.on.cache.main) (D.calls result.main) }
         ensures arena { result.arena ≡ self.files.on.arena.device }
     {
-        let System { files, spare, .. } = self;
+        let System { files, spares, .. } = self;
+        let Spares { first, second } = spares;
         let mut devices = files.into_blocks();
-        let failed = failure(finish(&mut devices.cache, spare));
+        let failed = failure(end(&mut devices.cache, first, second));
         let (main, arena) = devices.close();
         Finished {
             failed,

@@ -35,6 +35,14 @@ impl<D: Disk, A: Disk> Blocks for Devices<D, A> {
         self.cache.get(at, kind, rank, into)
     }
 
+    fn pin(&mut self, at: u32, kind: Kind, rank: u32) -> Result<(), BlockError> {
+        self.cache.pin(at, kind, rank)
+    }
+
+    fn lend(&self, at: u32, kind: Kind, rank: u32) -> Option<&[u8]> {
+        self.cache.mind.lend(at, kind, rank)
+    }
+
     fn slot(&self, at: u32, i: u32) -> Slot {
         self.cache.mind.slot(at, i)
     }

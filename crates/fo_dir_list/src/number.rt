@@ -2,6 +2,7 @@
 ghost use Rattle.std.specs.Prelude.{◌≡◌, ◌+◌, ◌*◌, ◌<◌, ◌≤◌, ◌++◌, ℕ, List, length, drop, find, IfOk, IfErr, IfSome, Option, Some, None, MatchOption};
 ghost use Rattle.fo_base.specs.Cause.{Rose};
 ghost use Rattle.fo_image.specs.declared.record.Record.{Record};
+ghost use Rattle.fo_image.specs.declared.types.Kind.TheVariants.{Data};
 ghost use Rattle.fo_image.specs.Record.{RecordHolds, record_len};
 ghost use Rattle.fo_meta.specs.Leaf.{HasSpelling, SpellsLeaf, IsLeaf, BeginsRecord, record_bytes};
 ghost use Rattle.fo_ports.specs.declared.error.BlockError.TheVariants.{Memory};
@@ -9,10 +10,11 @@ ghost use Rattle.fo_ports.specs.Causes.{Caused};
 ghost use Rattle.fo_ports.specs.State.{Looks};
 ghost use Rattle.fo_ports.specs.Sources.{SameLeaves, depth_for};
 ghost use Rattle.fo_dir_read.specs.Names.{OfRecords, leaf_count};
+ghost use Rattle.fo_dir_read.specs.Pinned.{IsPinned};
 ghost use Rattle.fo_dir_list.specs.Numbered.{FirstStands, FindsNumber, LacksNumberBelow, IsNumbered, has_number};
 
 use fo_base::BLOCK;
-use fo_dir_read::{Found, count_of, get_leaf};
+use fo_dir_read::{Found, copy_leaf, count_of, pin_leaf};
 use fo_image::{Kind, Record, read_record, u16_at, u32_at};
 use fo_ports::{BlockError, Blocks, Bytes};
 use std::alloc::Global;
@@ -59,6 +61,34 @@ fn find_in(alloc: Global, leaf: &[u8], number: u32) -> Result<Option<Record>, Bl
     }
 }
 
+/// The first record of this number in a leaf that stands in this block, if it has one; the leaf is copied.
+fn copied_in<B: Blocks, S: Bytes<B>>(
+    alloc: Global,
+    records: &S,
+    on: &mut B,
+    rank: u32,
+    at: u32,
+    number: u32,
+) -> Result<Option<Record>, BlockError>
+    requires over { S.is_over records.now on.old }
+    requires form { OfRecords (S.form records.now) rank }
+    requires shows { (B.state on.old).tells → (i : ℕ) × ((S.leaves records.now on.old).at i ≡ Some at) }
+    requires block { (B.state on.old).is_block at }
+    ensures found { IfOk result (λ found. (B.state on.old).tells → (i : ℕ) → (S.leaves records.now on.old).at i ≡ Some at → FindsNumber (B.state on.new).now (S.leaves records.now on.new) number i found) }
+    ensures holds { IfOk result (λ found. IfSome found RecordHolds) }
+    ensures numbered { IfOk result (λ found. IfSome found (λ r. r.number ≡ number)) }
+    ensures over { S.is_over records.now on.new }
+    ensures same { SameLeaves (B.state on.old).tells (S.leaves records.now on.old) (S.leaves records.now on.new) }
+    ensures again { IsPinned (B.state on.old) (Data 0) at → (B.state on.old).pins_left ≤ (B.state on.new).pins_left }
+    ensures looks { Looks (B.state on.old) (B.state on.new) }
+    ensures keeps { B.keeps on.old on.new }
+    ensures cause { IfErr result (Caused ⊥ (λ b. ((B.state on.old).tells → ⊥) × (B.state on.old).is_block b) (Rose (B.state on.old).faults (B.state on.new).faults) ⊥) }
+{
+    let mut leaf = [0; BLOCK];
+    copy_leaf(records, on, Kind::Data(0), rank, at, &mut leaf)?;
+    find_in(alloc, &leaf, number)
+}
+
 /// The first record of this number in leaf `i`, if one has it.
 fn look_in<B: Blocks, S: Bytes<B>>(
     alloc: Global,
@@ -80,10 +110,12 @@ fn look_in<B: Blocks, S: Bytes<B>>(
     ensures keeps { B.keeps on.old on.new }
     ensures cause { IfErr result (Caused ⊥ (λ b. ((B.state on.old).tells → ⊥) × (B.state on.old).is_block b) (Rose (B.state on.old).faults (B.state on.new).faults) ⊥) }
 {
-    let mut leaf = [0; BLOCK];
-    match get_leaf(records, on, Kind::Data(0), rank, i, &mut leaf)? {
-        None => Ok(None),
-        Some(_) => find_in(alloc, &leaf, number),
+    let Some(at) = pin_leaf(records, on, Kind::Data(0), rank, i)? else {
+        return Ok(None);
+    };
+    match on.lend(at, Kind::Data(0), rank) {
+        Some(leaf) => find_in(alloc, leaf, number),
+        None => copied_in(alloc, records, on, rank, at, number),
     }
 }
 

@@ -1,5 +1,5 @@
 -- Why a look at a leaf was refused.
-use Rattle.std.proofs.Common.{◌≡◌, ◌⊎◌, ◌+◌, ◌*◌, ◌<◌, ◌≤◌, ℕ, Bool, true, false, List, [], ◌∷◌, find, Option, Some, None, MatchOption, IfSome, refl, inl, inr, ⊎_elim, sym, ◌∙◌, subst, arith}
+use Rattle.std.proofs.Common.{◌≡◌, ◌⊎◌, ◌+◌, ◌*◌, ◌<◌, ◌≤◌, ℕ, Bool, true, false, List, [], ◌∷◌, find, Option, Some, None, MatchOption, IfSome, Result, Ok, Err, IfOk, IfErr, refl, inl, inr, ⊎_elim, sym, ◌∙◌, subst, arith}
 use Rattle.std.specs.List.{list_any, AllByRecursion}
 use Rattle.std.proofs.lemmas.Slice.Eq.{bytes_eq-Decides}
 use Rattle.fo_image.specs.declared.record.Record.{Record}
@@ -91,3 +91,31 @@ caused_later a b c all Memory cause = cause
 -- the pins of one more leaf
 pub pins_more : (i most before between after : ℕ) → before ≤ between + i * most → between ≤ after + most → before ≤ after + (i + 1) * most
 pins_more i most before between after first second = omega (arith, first, second)
+
+-- so has that of a result
+pub any_caused_later : {T : Type 0} (a b c : State) → KeepsAll a b → (r : Result T BlockError) → IfErr r (Caused ⊥ (λ x. (b.tells → ⊥) × b.is_block x) (Rose b.faults c.faults) ⊥) → IfErr r (Caused ⊥ (λ x. (a.tells → ⊥) × a.is_block x) (Rose a.faults c.faults) ⊥)
+any_caused_later a b c all (Ok x) cause = cause
+any_caused_later a b c all (Err why) cause = caused_later a b c all why cause
+
+-- a look at a block that stands, where the device tells
+looked : (a b : State) (at : ℕ) → a.is_block at → (a.tells → (p : Place) × a.stands at p) → (why : BlockError)
+    → Caused ⊥ (λ x. (x ≡ at) × (a.tells → (p : Place) → a.stands at p → ⊥)) (Rose a.faults b.faults) ⊥ why → Caused ⊥ (λ x. (a.tells → ⊥) × a.is_block x) (Rose a.faults b.faults) ⊥ why
+looked a b at block stands Full cause = cause
+looked a b at block stands (Damaged x) cause = (λ told. let s = stands told in cause.1 told s.0 s.1, subst a.is_block (sym cause.0) block)
+looked a b at block stands (Fault which) cause = cause
+looked a b at block stands (Arena which) cause = cause
+looked a b at block stands Memory cause = cause
+
+pub any_looked : {T : Type 0} (a b : State) (at : ℕ) → a.is_block at → (a.tells → (p : Place) × a.stands at p) → (r : Result T BlockError)
+    → IfErr r (Caused ⊥ (λ x. (x ≡ at) × (a.tells → (p : Place) → a.stands at p → ⊥)) (Rose a.faults b.faults) ⊥) → IfErr r (Caused ⊥ (λ x. (a.tells → ⊥) × a.is_block x) (Rose a.faults b.faults) ⊥)
+any_looked a b at block stands (Ok x) cause = cause
+any_looked a b at block stands (Err why) cause = looked a b at block stands why cause
+
+-- the pins of a leaf that is pinned and then copied: that takes none but where none was left for it
+pub pins_behind : (before between after depth : ℕ) {Held : Type 0} → before ≤ between + (depth + 1) → Held ⊎ (before ≤ depth) → (Held → between ≤ after) → before ≤ after + (depth + 1)
+pins_behind before between after depth first held again = ⊎_elim (λ h. let le = again h in omega (arith, first, le)) (λ few. omega (arith, few)) held
+
+-- what follows of each answer
+pub each_ok : {T E : Type 0} {P Q : T → Type 0} (r : Result T E) → ((x : T) → P x → Q x) → IfOk r P → IfOk r Q
+each_ok (Ok x) f h = f x h
+each_ok (Err e) f h = h

@@ -55,6 +55,14 @@ entry_leads s b j e leaf within reads names is =
       block = λ below leads. names j below within (ap target here ∙ leads);
     }
 
+-- and so do both of a pair
+pub pair_leads : (s : State) (b k : ℕ) (first second : Entry) (leaf : List ℕ) → ReadsSlots (Dir 0) (s.now b) leaf → ((i below : ℕ) → i < 204 → target ((s.now b).slot i) ≡ Local below → s.is_block below)
+    → ((e : Entry) → SpellsEntry e (take 40 (drop (40 * (2 * (k % 102))) leaf)) → first ≡ e) → ((e : Entry) → SpellsEntry e (take 40 (drop (40 * (2 * (k % 102) + 1)) leaf)) → second ≡ e) → LeadsWithin s first × LeadsWithin s second
+pair_leads s b k first second leaf reads names one two = (
+  entry_leads s b (2 * (k % 102)) first leaf (omega arith) reads names one,
+  entry_leads s b (2 * (k % 102) + 1) second leaf (omega arith) reads names two,
+)
+
 pub taken_more : {s : State} {b p : ℕ} → TakenBelow s b p → PairTaken s b p → TakenBelow s b (p + 1)
 taken_more {s = s} {b = b} {p = p} below taken = record { each = λ q lt. ⊎_elim (λ before. below.each q before) (λ here. subst (λ k. PairTaken s b k) (sym here) taken) (last q lt) }
   where

@@ -1,5 +1,5 @@
 //! The pairs of entries of a directory.
-ghost use Rattle.std.specs.Prelude.{◌≡◌, ◌+◌, ◌*◌, ◌^◌, ◌<◌, ◌≤◌, ◌↔◌, ℕ, true, false, length, take, drop, IfOk, OnOk, IfErr, IfSome, IsTrue, Option, Some, None, MatchOption};
+ghost use Rattle.std.specs.Prelude.{◌≡◌, ◌+◌, ◌*◌, ◌/◌, ◌^◌, ◌<◌, ◌≤◌, ◌↔◌, ℕ, true, false, length, take, drop, IfOk, OnOk, IfErr, IfSome, IsTrue, Option, Some, None, MatchOption};
 ghost use Rattle.fo_base.specs.Cause.{Rose};
 ghost use Rattle.fo_image.specs.declared.types.Entry.{Entry};
 ghost use Rattle.fo_image.specs.declared.types.Kind.TheVariants.{Dir};
@@ -12,8 +12,9 @@ ghost use Rattle.fo_ports.specs.State.{Looks};
 ghost use Rattle.fo_ports.specs.Sources.{SameLeaves, depth_for};
 ghost use Rattle.fo_dir_read.specs.Names.{leaf_count};
 ghost use Rattle.fo_dir_read.specs.Pairs.{OfEntries, IsTaken, PairTaken, FreeIn, FreeAt, IsFree, AreTaken, IsPair, LeadsWithin};
+ghost use Rattle.fo_dir_read.specs.Pinned.{IsPinned};
 
-use crate::leaves::{count_of, get_leaf};
+use crate::leaves::{copy_leaf, count_of, pin_leaf};
 use fo_base::BLOCK;
 use fo_image::{Entry, Kind, Pointer, read_entry};
 use fo_ports::{BlockError, Blocks, Bytes};
@@ -97,6 +98,31 @@ fn free_in<B: Blocks>(on: &B, at: u32, leaf: &[u8]) -> Option<u32>
     None
 }
 
+/// The least free pair of a leaf that stands in this block, where it has one; the leaf is copied.
+fn copied_free<B: Blocks, S: Bytes<B>>(
+    entries: &S,
+    on: &mut B,
+    rank: u32,
+    at: u32,
+) -> Result<Option<u32>, BlockError>
+    requires over { S.is_over entries.now on.old }
+    requires form { OfEntries (S.form entries.now) rank }
+    requires shows { (B.state on.old).tells → (i : ℕ) × ((S.leaves entries.now on.old).at i ≡ Some at) }
+    requires block { (B.state on.old).is_block at }
+    ensures free { IfOk result (λ p. FreeIn (B.state on.new) at p) }
+    ensures shows { (B.state on.old).tells → (i : ℕ) → (S.leaves entries.now on.old).at i ≡ Some at → (S.leaves entries.now on.new).at i ≡ Some at }
+    ensures over { S.is_over entries.now on.new }
+    ensures same { SameLeaves (B.state on.old).tells (S.leaves entries.now on.old) (S.leaves entries.now on.new) }
+    ensures again { IsPinned (B.state on.old) (Dir 0) at → (B.state on.old).pins_left ≤ (B.state on.new).pins_left }
+    ensures looks { Looks (B.state on.old) (B.state on.new) }
+    ensures keeps { B.keeps on.old on.new }
+    ensures cause { IfErr result (Caused ⊥ (λ b. ((B.state on.old).tells → ⊥) × (B.state on.old).is_block b) (Rose (B.state on.old).faults (B.state on.new).faults) ⊥) }
+{
+    let mut leaf = [0; BLOCK];
+    copy_leaf(entries, on, Kind::Dir(0), rank, at, &mut leaf)?;
+    Ok(free_in(on, at, &leaf))
+}
+
 /// The least free pair of leaf `i`, where it has one.
 fn free_at<B: Blocks, S: Bytes<B>>(
     entries: &mut S,
@@ -115,10 +141,12 @@ fn free_at<B: Blocks, S: Bytes<B>>(
     ensures keeps { B.keeps on.old on.new }
     ensures cause { IfErr result (Caused ⊥ (λ b. ((B.state on.old).tells → ⊥) × (B.state on.old).is_block b) (Rose (B.state on.old).faults (B.state on.new).faults) ⊥) }
 {
-    let mut leaf = [0; BLOCK];
-    match get_leaf(entries, on, Kind::Dir(0), rank, i, &mut leaf)? {
-        None => Ok(Some(0)),
-        Some(at) => Ok(free_in(on, at, &leaf)),
+    let Some(at) = pin_leaf(entries, on, Kind::Dir(0), rank, i)? else {
+        return Ok(Some(0));
+    };
+    match on.lend(at, Kind::Dir(0), rank) {
+        Some(leaf) => Ok(free_in(on, at, leaf)),
+        None => copied_free(entries, on, rank, at),
     }
 }
 
@@ -150,6 +178,44 @@ pub fn free_pair<B: Blocks, S: Bytes<B>>(
     Ok(PAIRS * count)
 }
 
+/// The two entries of pair `p` of a leaf.
+fn pair_in(leaf: &[u8], p: u32) -> (Entry, Entry)
+    requires length { length leaf.now ≡ 8192 }
+    requires within { p < 102 }
+    ensures first { (e : Entry) → SpellsEntry e (take 40 (drop (40 * (2 * p)) leaf.now)) → result.0 ≡ e }
+    ensures second { (e : Entry) → SpellsEntry e (take 40 (drop (40 * (2 * p + 1)) leaf.now)) → result.1 ≡ e }
+    ensures holds { EntryHolds result.0 × EntryHolds result.1 }
+{
+    (entry_in(leaf, 2 * p), entry_in(leaf, 2 * p + 1))
+}
+
+/// The two entries of pair `k`, whose leaf stands in this block; the leaf is copied.
+fn copied_pair<B: Blocks, S: Bytes<B>>(
+    entries: &S,
+    on: &mut B,
+    rank: u32,
+    at: u32,
+    k: u32,
+) -> Result<(Entry, Entry), BlockError>
+    requires over { S.is_over entries.now on.old }
+    requires form { OfEntries (S.form entries.now) rank }
+    requires shows { (B.state on.old).tells → (S.leaves entries.now on.old).at (k / 102) ≡ Some at }
+    requires block { (B.state on.old).is_block at }
+    ensures pair { IfOk result (λ two. (B.state on.old).tells → IsPair (B.state on.new).now (S.leaves entries.now on.new) k two.0 two.1) }
+    ensures holds { IfOk result (λ two. EntryHolds two.0 × EntryHolds two.1) }
+    ensures leads { IfOk result (λ two. LeadsWithin (B.state on.new) two.0 × LeadsWithin (B.state on.new) two.1) }
+    ensures over { S.is_over entries.now on.new }
+    ensures same { SameLeaves (B.state on.old).tells (S.leaves entries.now on.old) (S.leaves entries.now on.new) }
+    ensures again { IsPinned (B.state on.old) (Dir 0) at → (B.state on.old).pins_left ≤ (B.state on.new).pins_left }
+    ensures looks { Looks (B.state on.old) (B.state on.new) }
+    ensures keeps { B.keeps on.old on.new }
+    ensures cause { IfErr result (Caused ⊥ (λ b. ((B.state on.old).tells → ⊥) × (B.state on.old).is_block b) (Rose (B.state on.old).faults (B.state on.new).faults) ⊥) }
+{
+    let mut leaf = [0; BLOCK];
+    copy_leaf(entries, on, Kind::Dir(0), rank, at, &mut leaf)?;
+    Ok(pair_in(&leaf, k % PAIRS))
+}
+
 /// The two entries of pair `k`, which name nothing where no leaf stands.
 pub fn pair<B: Blocks, S: Bytes<B>>(
     entries: &mut S,
@@ -169,12 +235,11 @@ pub fn pair<B: Blocks, S: Bytes<B>>(
     ensures keeps { B.keeps on.old on.new }
     ensures cause { IfErr result (Caused ⊥ (λ b. ((B.state on.old).tells → ⊥) × (B.state on.old).is_block b) (Rose (B.state on.old).faults (B.state on.new).faults) ⊥) }
 {
-    let mut leaf = [0; BLOCK];
-    match get_leaf(entries, on, Kind::Dir(0), rank, k / PAIRS, &mut leaf)? {
-        None => Ok((NONE, NONE)),
-        Some(_) => {
-            let j = 2 * (k % PAIRS);
-            Ok((entry_in(&leaf, j), entry_in(&leaf, j + 1)))
-        }
+    let Some(at) = pin_leaf(entries, on, Kind::Dir(0), rank, k / PAIRS)? else {
+        return Ok((NONE, NONE));
+    };
+    match on.lend(at, Kind::Dir(0), rank) {
+        Some(leaf) => Ok(pair_in(leaf, k % PAIRS)),
+        None => copied_pair(entries, on, rank, at, k),
     }
 }

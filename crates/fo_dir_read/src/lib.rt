@@ -1,7 +1,8 @@
 //! A directory is looked at, over any blocks and any source of bytes.
 //!
 //! A directory has two sources: one of records, whose leaves are those of `fo_meta`, and one of entries, a *pair* for each name.
-//! `lookup` finds the record of a name, `pair` the two entries of a pair, and `free_pair` the least pair that may be taken.
+//! `lookup` finds the record of a name, `pair` the two entries of a pair, and `free_pair` the least pair that may be taken. A leaf is
+//! pinned (`pin_leaf`) and looked at where the blocks lend it; where they don't, it is copied (`copy_leaf`).
 //!
 //! Proved, over any blocks and any source: the calls only look, take at most the pins that reading each leaf takes, and refuse by their
 //! causes alone; a damaged block is answered only where the device doesn't tell what it holds. Where it tells, `lookup` gives the
@@ -16,5 +17,5 @@ mod leaves;
 mod records;
 
 pub use entries::{entry_from, free_pair, pair};
-pub use leaves::{count_of, get_leaf};
+pub use leaves::{copy_leaf, count_of, get_leaf, pin_leaf};
 pub use records::{Found, lookup};

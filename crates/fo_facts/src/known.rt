@@ -4,6 +4,7 @@ ghost use Rattle.fo_facts.specs.Counts.{owes, is_made};
 ghost use Rattle.fo_facts.specs.Known.{fact_at, no_fact, noted, come_as, instead_of, linked_as, made_fact, origin_over, owing_as, owing_no_more, written_as};
 
 use crate::fact::{Fact, SETTLED};
+use crate::packed::Packed;
 use fo_base::Memory;
 use std::alloc::Global;
 use std::marker::Model;
@@ -12,7 +13,7 @@ use std::marker::Model;
 /// and are not linked yet.
 #[derive(Drop)]
 pub struct Facts {
-    items: Vec<Fact>,
+    items: Vec<Packed>,
     owed: usize,
     made: usize,
 }
@@ -20,11 +21,11 @@ pub struct Facts {
 impl Model for Facts {
     ghost use Rattle.std.specs.Prelude.{List};
     ghost use Rattle.fo_facts.specs.declared.fact.Fact.{Fact};
-    ghost use Rattle.fo_facts.specs.Counted.{IsCounted};
+    ghost use Rattle.fo_facts.specs.Counted.{IsCounted, facts_of};
 
     ghost Value = { List Fact };
 
-    ghost view = { λ a. a.items.items };
+    ghost view = { λ a. facts_of a.items.items };
 
     ghost invariant = { IsCounted };
 }
@@ -35,7 +36,7 @@ impl Facts {
         ensures { IfOk result (λ f. f ≡ replicate count no_fact) }
     {
         Ok(Facts {
-            items: vec![in alloc; SETTLED; count as usize]?,
+            items: vec![in alloc; Packed::of(SETTLED); count as usize]?,
             owed: 0,
             made: 0,
         })
@@ -52,7 +53,10 @@ impl Facts {
     pub fn get(&self, at: u32) -> Fact
         ensures { result ≡ fact_at self.now at }
     {
-        self.items.get(at as usize).copied().unwrap_or(SETTLED)
+        match self.items.get(at as usize) {
+            Some(packed) => packed.fact(),
+            None => SETTLED,
+        }
     }
 
     /// For how many blocks a unit of room is kept.
@@ -79,7 +83,7 @@ impl Facts {
         let was = self.get(at);
         self.owed = counted(self.owed, was.owes, fact.owes);
         self.made = counted(self.made, !was.linked, !fact.linked);
-        self.items[at as usize] = fact;
+        self.items[at as usize] = Packed::of(fact);
     }
 
     /// A block was given out, to come in the place of `origin`.

@@ -11,6 +11,7 @@
 
 mod fact;
 mod known;
+mod packed;
 
 pub use fact::Fact;
 pub use known::Facts;

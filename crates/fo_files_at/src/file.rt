@@ -1,8 +1,12 @@
 //! A file as its directory has it, and its sources.
-ghost use Rattle.std.specs.Prelude.{◌≡◌, ◌+◌, ◌-◌, ◌^◌, ◌<◌, ◌≤◌, ℕ, true, false, IfOk, IfErr, IfSome, MatchOption};
+ghost use Rattle.std.specs.Prelude.{◌≡◌, ◌+◌, ◌-◌, ◌^◌, ◌<◌, ◌≤◌, ℕ, true, false, length, IfOk, IfErr, IfSome, MatchOption};
 ghost use Rattle.fo_base.specs.Cause.{Rose};
+ghost use Rattle.fo_image.specs.declared.types.Kind.TheVariants.{Dir};
+ghost use Rattle.fo_image.specs.declared.types.Pointer.TheVariants.{Local};
 ghost use Rattle.fo_image.specs.Format.{EntryHolds};
 ghost use Rattle.fo_image.specs.Record.{RecordHolds};
+ghost use Rattle.fo_crash.specs.Images.{target};
+ghost use Rattle.fo_ports.specs.Blocks.{ReadsSlots};
 ghost use Rattle.fo_ports.specs.declared.error.BlockError.TheVariants.{Damaged};
 ghost use Rattle.fo_ports.specs.Causes.{Caused};
 ghost use Rattle.fo_ports.specs.State.{Looks};
@@ -174,8 +178,26 @@ fn pair_at<B: Blocks>(
     }
 }
 
-/// The pair whose first entry is entry `j` of a leaf of entries.
-fn pair_in<B: Blocks>(on: &mut B, leaf: u32, rank: u32, j: u32) -> Result<Pair, BlockError>
+/// The pair whose first entry is entry `j` of a leaf of entries that was read.
+fn pair_from<B: Blocks>(on: &B, block: &[u8], leaf: u32, j: u32) -> Pair
+    requires length { length block.now ≡ 8192 }
+    requires within { j < 203 }
+    requires reads { ReadsSlots (Dir 0) ((B.state on.now).now leaf) block.now }
+    requires names { (i below : ℕ) → i < 204 → target (((B.state on.now).now leaf).slot i) ≡ Local below → (B.state on.now).is_block below }
+    ensures first { EntryHolds result.first × LeadsWithin (B.state on.now) result.first }
+    ensures second { EntryHolds result.second × LeadsWithin (B.state on.now) result.second }
+    ensures stands { result.leaf ≡ leaf }
+{
+    let _ = on;
+    Pair {
+        first: entry_from(block, 40 * j as usize),
+        second: entry_from(block, 40 * (j + 1) as usize),
+        leaf,
+    }
+}
+
+/// The pair whose first entry is entry `j` of a leaf of entries, which is copied.
+fn copied_pair<B: Blocks>(on: &mut B, leaf: u32, rank: u32, j: u32) -> Result<Pair, BlockError>
     requires block { (B.state on.old).is_block leaf }
     requires within { j < 203 }
     requires silent { (B.state on.old).tells → ⊥ }
@@ -187,12 +209,29 @@ fn pair_in<B: Blocks>(on: &mut B, leaf: u32, rank: u32, j: u32) -> Result<Pair, 
 {
     let mut block = [0; BLOCK];
     match on.get(leaf, Kind::Dir(0), rank, &mut block) {
-        Ok(()) => Ok(Pair {
-            first: entry_from(&block, 40 * j as usize),
-            second: entry_from(&block, 40 * (j + 1) as usize),
-            leaf,
-        }),
+        Ok(()) => Ok(pair_from(on, &block, leaf, j)),
         Err(why) => Err(why),
+    }
+}
+
+/// The pair whose first entry is entry `j` of a leaf of entries.
+fn pair_in<B: Blocks>(on: &mut B, leaf: u32, rank: u32, j: u32) -> Result<Pair, BlockError>
+    requires block { (B.state on.old).is_block leaf }
+    requires within { j < 203 }
+    requires silent { (B.state on.old).tells → ⊥ }
+    ensures first { IfOk result (λ p. EntryHolds p.first × LeadsWithin (B.state on.new) p.first) }
+    ensures second { IfOk result (λ p. EntryHolds p.second × LeadsWithin (B.state on.new) p.second) }
+    ensures stands { IfOk result (λ p. p.leaf ≡ leaf) }
+    ensures looks { Looks (B.state on.old) (B.state on.new) × B.keeps on.old on.new }
+    ensures cause { IfErr result (Caused ⊥ (λ b. (B.state on.old).is_block b) (Rose (B.state on.old).faults (B.state on.new).faults) ⊥) }
+{
+    match on.pin(leaf, Kind::Dir(0), rank) {
+        Ok(()) => {}
+        Err(why) => return Err(why),
+    }
+    match on.lend(leaf, Kind::Dir(0), rank) {
+        Some(block) => Ok(pair_from(on, block, leaf, j)),
+        None => copied_pair(on, leaf, rank, j),
     }
 }
 

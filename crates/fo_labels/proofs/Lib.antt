@@ -1,3 +1,4 @@
+pub mod Grouping
 pub mod Leaves
 pub mod RegionLaws
 pub mod Spelling

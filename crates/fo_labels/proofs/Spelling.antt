@@ -1,12 +1,12 @@
 -- Labels are spelled one after the other.
-use Rattle.std.proofs.Common.{◌≡◌, ◌≢◌, ⊎_elim, ℕ, ◌+◌, ◌-◌, ◌*◌, ◌/◌, ◌%◌, ◌<◌, ◌≤◌, Bool, true, false, cond, nat_lt, List, length, length-drop, take, drop, replicate, refl, sym, ◌∙◌, ap, subst, arith}
+use Rattle.std.proofs.Common.{◌≡◌, ⊎_elim, ℕ, ◌+◌, ◌-◌, ◌*◌, ◌%◌, ◌<◌, ◌≤◌, Bool, true, false, cond, nat_lt, List, length, length-drop, take, drop, replicate, refl, sym, ◌∙◌, ap, subst, arith}
 use Rattle.std.proofs.lemmas.Bool.{cases_lt, cases_eq, lt-ltb}
 use Rattle.std.proofs.lemmas.List.{drop-take, drop-replicate, get_or_past, length-take-le}
 use Rattle.std.proofs.lemmas.Slice.{between-put_mid, take-put_mid_below, drop-put_mid}
 use borrow.Rule.Slice.PartMut.{put_mid, same_len_mid}
 use Rattle.fo_image.specs.declared.types.Label.{Label}
 use Rattle.fo_image.specs.Format.{LabelHolds, SpellsLabel}
-use Rattle.fo_image.specs.Place.{label_block, label_byte}
+use Rattle.fo_image.specs.Place.{label_byte}
 use Rattle.fo_image.specs.Usable.{free_label}
 use Rattle.fo_labels.specs.Region.{Region, label_of}
 use Rattle.fo_labels.specs.Spelled.{AreLabels, PutsLabel, SpellsLabels, StartsLabels, label_at, part_at}

@@ -1,6 +1,6 @@
 -- The least usable block and the number of them, from what the labels keep beside themselves.
-use Rattle.std.proofs.Common.{◌≡◌, ℕ, ◌+◌, ◌-◌, ◌^◌, ◌<◌, ◌≤◌, Bool, true, false, cond, ◌||◌, eqb, ltb, leb, Some, None, List, [], ◌∷◌, length, map, set, get_or, count_by, replicate, refl, sym, ap, ◌∙◌, zero, suc, not, ⊎_elim, arith}
-use Rattle.std.proofs.lemmas.List.{length-map, length-set, length-set}
+use Rattle.std.proofs.Common.{◌≡◌, ℕ, ◌+◌, ◌-◌, ◌<◌, ◌≤◌, Bool, true, false, cond, ltb, Some, None, List, [], ◌∷◌, length, set, get_or, count_by, replicate, refl, sym, ap, not, ⊎_elim, arith}
+use Rattle.std.proofs.lemmas.List.{length-set, length-set}
 use Rattle.std.proofs.lemmas.List.Folds.{sum_by-replicate}
 use Rattle.std.specs.List.{position, position_or_len}
 use Rattle.std.specs.Option.{option_map}
@@ -8,31 +8,9 @@ use Rattle.std.proofs.lemmas.List.Sums.{sum_by-set, get_or-le-sum_by, count_by-l
 use Rattle.std.proofs.lemmas.List.Quantifiers.{position-Some}
 use Rattle.std.proofs.lemmas.Bool.{cases_lt}
 use Rattle.std.proofs.lemmas.Bool.Decides.{nat_tests}
-use Rattle.fo_image.specs.declared.types.State.{State}
-use Rattle.fo_image.specs.declared.types.State.TheVariants.{Free, Live, Closed}
 use Rattle.fo_image.specs.declared.types.Label.{Label}
-use Rattle.fo_labels.specs.Floor.{floor, floor_in}
-use Rattle.fo_image.specs.Usable.{is_usable, is_usable_in, free_label}
+use Rattle.fo_image.specs.Usable.{is_usable, free_label}
 use Rattle.fo_labels.specs.Region.{Region, IsUsableBlock, least_usable, usable_count}
-
-above_epochs : (low : ℕ) → low < 2 ^ 32 → leb (2 ^ 32) low ≡ false
-above_epochs low small = grind (arith, nat_tests)
-
-closed_floor : (b c : Bool) (closing low : ℕ) → leb closing low ≡ c → leb (cond b 0 closing) low ≡ b || c
-closed_floor true c closing low is = grind (arith, nat_tests)
-closed_floor false c closing low is = is
-
-floor_usable : (s : State) (l : Label) (low : ℕ) → low < 2 ^ 32 → leb (floor_in s l) low ≡ is_usable_in s low l
-floor_usable Free l low small = grind (arith, nat_tests)
-floor_usable Live l low small = above_epochs low small
-floor_usable Closed l low small = closed_floor (eqb l.closing l.epoch) (leb l.closing low) l.closing low refl
-
-first_floor : (low : ℕ) (ls : List Label) → low < 2 ^ 32 → position_or_len (λ x. leb x low) (map floor ls) ≡ position_or_len (is_usable low) ls
-first_floor low [] small = refl
-first_floor low (l ∷ ls) small = rw (floor_usable l.state l low small, first_floor low ls small) refl
-
-pub position-floors : (low : ℕ) (ls : List Label) → low < 2 ^ 32 → position (λ x. leb x low) (map floor ls) ≡ position (is_usable low) ls
-position-floors low ls small = rw (first_floor low ls small, length-map ls floor) refl
 
 -- where none passes, none is counted
 none-counted : {X : Type 0} (p : X → Bool) → (xs : List X) → position_or_len p xs ≡ length xs → count_by p xs ≡ 0
@@ -51,9 +29,8 @@ pub record NoneUsable (low : ℕ) (r : Region) : Type 0 where
   pub none : None ≡ least_usable low r
   pub counted : usable_count low r ≡ 0
 
-pub none-usable : (low : ℕ) (r : Region) → low < 2 ^ 32 → None ≡ position (λ x. leb x low) (map floor r.labels) → NoneUsable low r
-none-usable low r small none =
-    let e = none ∙ position-floors low r.labels small in
+pub none-usable : (low : ℕ) (r : Region) → None ≡ position (is_usable low) r.labels → NoneUsable low r
+none-usable low r e =
     ⊎_elim
     (λ (h : position_or_len (is_usable low) r.labels < length r.labels).
     let found : ltb (position_or_len (is_usable low) r.labels) (length r.labels) ≡ true = grind (arith, nat_tests) in
@@ -79,9 +56,8 @@ pub record SomeUsable (low : ℕ) (r : Region) (place : ℕ) : Type 0 where
   pub block : IsUsableBlock low r (r.first + place)
   pub given : (l : Label) → is_usable low l ≡ false → count_by (is_usable low) (set r.labels place l) + 1 ≡ usable_count low r
 
-pub some-usable : (low place : ℕ) (r : Region) → low < 2 ^ 32 → Some place ≡ position (λ x. leb x low) (map floor r.labels) → SomeUsable low r place
-some-usable low place r small some =
-    let e = some ∙ position-floors low r.labels small in
+pub some-usable : (low place : ℕ) (r : Region) → Some place ≡ position (is_usable low) r.labels → SomeUsable low r place
+some-usable low place r e =
     let found = position-Some (is_usable low) r.labels place free_label (sym e) in
     let least = get_or-le-sum_by (λ l. cond (is_usable low l) 1 0) r.labels place free_label found.0 in
     let same : r.first + place - r.first ≡ place = omega arith in
@@ -114,9 +90,5 @@ count-set p ls i was is y d inside at w j =
     }
 
 -- all labels are free
-pub floors-free : (n : ℕ) → replicate n 0 ≡ map floor (replicate n free_label)
-floors-free zero = refl
-floors-free (suc n) = ap (λ xs. 0 ∷ xs) (floors-free n)
-
 pub count-free : (n : ℕ) → n ≡ count_by (is_usable 0) (replicate n free_label)
 count-free n = rw (sum_by-replicate (λ l. cond (is_usable 0 l) 1 0) n free_label) (omega arith)

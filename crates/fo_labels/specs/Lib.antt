@@ -1,4 +1,5 @@
 pub mod Floor
+pub mod Groups
 pub mod Indexed
 pub mod Mins
 pub mod Minima

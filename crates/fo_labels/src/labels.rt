@@ -1,12 +1,13 @@
 //! The labels of the data blocks.
 ghost use Rattle.std.specs.Prelude.{◌≡◌, ◌+◌, ◌-◌, ◌^◌, ◌<◌, ◌≤◌, length, count_by, slice_set, replicate, ◌↔◌, IfOk, IfSome, IsNone, MatchOption, if◌then◌else◌};
+ghost use Rattle.std.specs.List.{position};
 ghost use Rattle.fo_image.specs.declared.types.State.TheVariants.{Live};
 ghost use Rattle.fo_image.specs.Format.{LabelHolds};
-ghost use Rattle.fo_labels.specs.Floor.{floor};
 ghost use Rattle.fo_image.specs.Usable.{free_label, live_label, is_usable};
 ghost use Rattle.fo_labels.specs.Region.{IsDataBlock, IsUsableBlock, closed_label, label_of, relabeled, least_usable, usable_count};
 ghost use Rattle.fo_labels.specs.Spelled.{label_at};
 
+use crate::groups::{GROUP, groups_for, least_floor, part};
 use crate::index::Minima;
 use fo_base::Memory;
 use fo_image::{Kind, Label, State, is_usable};
@@ -28,6 +29,7 @@ const FREE: Label = Label {
 pub struct Labels {
     first: u32,
     labels: Vec<Label>,
+    // of each group of labels, from which settled low epoch on one of its blocks is usable
     floors: Minima,
     low: u32,
     usable: u32,
@@ -52,7 +54,7 @@ impl Labels {
     {
         let len = count.saturating_sub(first);
         let labels = vec![in alloc; FREE; len as usize]?;
-        let floors = Minima::new(alloc, len)?;
+        let floors = Minima::new(alloc, groups_for(len))?;
         Ok(Labels {
             first,
             labels,
@@ -88,7 +90,7 @@ impl Labels {
         ensures usable { IfSome result (λ at. usable_count settled_low self.new + 1 ≡ usable_count settled_low self.old) }
     {
         let first = self.first;
-        let Some(place) = self.floors.first_within(settled_low) else {
+        let Some(place) = self.first_usable(settled_low) else {
             return None;
         };
         let label = Label {
@@ -166,6 +168,15 @@ impl Labels {
         }
     }
 
+    // The first place with a usable label.
+    fn first_usable(&self, low: u32) -> Option<usize>
+        ensures { result ≡ position (is_usable low) self.now.labels }
+    {
+        let group = self.floors.first_within(low)?;
+        let place = place_within(part(&self.labels, group), low)?;
+        Some(GROUP * group + place)
+    }
+
     // The label at a place of the list, which starts at the first data block.
     fn put(&mut self, place: usize, label: Label)
         requires { place < length self.old.labels }
@@ -174,27 +185,24 @@ impl Labels {
         let was = one_if_usable(&self.labels[place], self.low);
         let is = one_if_usable(&label, self.low);
         self.usable = self.usable - was + is;
-        self.floors.set(place, floor(&label));
         self.labels[place] = label;
+        let group = place / GROUP;
+        let least = least_floor(part(&self.labels, group));
+        self.floors.set(group, least);
     }
+}
+
+// The first place with a usable label.
+fn place_within(labels: &[Label], low: u32) -> Option<usize>
+    ensures { result ≡ position (is_usable low) labels.now }
+{
+    labels.iter().position(|label| is_usable(label, low))
 }
 
 fn one_if_usable(label: &Label, low: u32) -> u32
     ensures { result ≡ (if is_usable low label.now then 1 else 0) }
 {
     if is_usable(label, low) { 1 } else { 0 }
-}
-
-// The least settled low epoch from which on a block with this label is usable, and 2^32 for a live one.
-fn floor(label: &Label) -> u64
-    ensures { result ≡ floor label.now }
-{
-    match label.state {
-        State::Free => 0,
-        State::Live => 1 << 32,
-        State::Closed if label.closing == label.epoch => 0,
-        State::Closed => u64::from(label.closing),
-    }
 }
 
 fn count_usable(labels: &[Label], low: u32) -> u32

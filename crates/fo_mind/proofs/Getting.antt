@@ -211,3 +211,12 @@ not_none None e p = cc
 pub none_clash : {A : Type 0} (o : Option Buffer) → None ≡ option_map block_in o → is_some o ≡ true → A
 none_clash (Some x) e t = cc
 none_clash None e t = cc
+
+-- ---- what is lent
+
+pub lent_good : {low first count : ℕ} {region : Region} {held : Held} (at : ℕ) (kind : Kind) → Holding low first count region held → (label_at region at).kind ≡ kind → (x : Buffer) → held_at held at ≡ Some x → Good first count kind x.block
+lent_good {low} {first} {count} {region} {held} at kind holding is_kind x is = subst (λ (k : Kind). Good first count k x.block) is_kind (holding.good at x is)
+
+pub lent_some : (kind : Kind) (rank : ℕ) (o : Option Buffer) (bytes : List ℕ) → GetsIn kind rank o bytes → is_some o ≡ true
+lent_some kind rank (Some x) bytes gets = refl
+lent_some kind rank None bytes gets = absurd gets

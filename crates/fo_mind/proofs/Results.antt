@@ -1,5 +1,6 @@
 -- What is said of results.
 use Rattle.std.proofs.Common.{◌≡◌, ℕ, Result, Ok, Err, refl, subst, sym}
+use Rattle.std.specs.Prelude.{Option, Some, None, IfSome}
 use Rattle.std.specs.Result.{OnOk, IfErr}
 use Rattle.fo_ports.specs.Causes.{Caused}
 use Rattle.fo_ports.specs.declared.error.BlockError.{BlockError}
@@ -24,3 +25,12 @@ both P {a} {a2} {b} {b2} ea eb p = subst (λ x. P x b2) (sym ea) (subst (λ y. P
 
 pub three : {A B C : Type 0} (P : A → B → C → Type 0) {a a2 : A} {b b2 : B} {c c2 : C} → a2 ≡ a → b2 ≡ b → c2 ≡ c → P a b c → P a2 b2 c2
 three P {a} {a2} {b} {b2} {c} {c2} ea eb ec p = subst (λ x. P x b2 c2) (sym ea) (subst (λ y. P a y c2) (sym eb) (subst (λ z. P a b z) (sym ec) p))
+
+-- what is lent, if anything
+pub any_some : {T P : Type 0} (o : Option T) → P → IfSome o (λ x. P)
+any_some (Some x) p = p
+any_some None p = tt
+
+pub both_some : {T : Type 0} {P Q R : T → Type 0} (o : Option T) → ((x : T) → P x → Q x → R x) → IfSome o P → IfSome o Q → IfSome o R
+both_some (Some x) f p q = f x p q
+both_some None f p q = p

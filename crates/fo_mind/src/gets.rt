@@ -1,5 +1,5 @@
 //! Blocks are got.
-ghost use Rattle.std.specs.Prelude.{◌≡◌, ◌+◌, ◌<◌, ◌≤◌, ◌↔◌, ℕ, true, false, None, length, is_some, IsTrue, IsOk, OnOk, OnErr, IfErr};
+ghost use Rattle.std.specs.Prelude.{◌≡◌, ◌⊎◌, ◌+◌, ◌<◌, ◌≤◌, ◌↔◌, ℕ, true, false, None, length, is_some, IsSome, IfSome, IsTrue, IsOk, OnOk, OnErr, IfErr};
 ghost use Rattle.fo_base.specs.Cause.{Rose};
 ghost use Rattle.fo_disk.specs.Disk.{Content as Holds};
 ghost use Rattle.fo_buffers.specs.Held.{held_at};
@@ -16,7 +16,7 @@ ghost use Rattle.fo_mind.specs.Frames.{Brings};
 ghost use Rattle.fo_mind.specs.MindParts.{parts};
 
 use crate::mind::Mind;
-use fo_bring::{bring, copy_held, glance};
+use fo_bring::{bring, copy_held, glance, lend_held};
 use fo_disk::Disk;
 use fo_image::{Kind, Label, is_usable};
 use fo_ports::BlockError;
@@ -28,6 +28,22 @@ fn is_kind(kind: Kind, other: Kind) -> bool
 }
 
 impl Mind {
+    // Whether a block may be got: its label is of this kind, and it is pinned or in use.
+    fn may_get(&self, at: u32, kind: Kind) -> bool
+        requires block { IsData self.now.first self.now.count at }
+        ensures kind { result ≡ true → (label_at self.now.labels at).kind ≡ kind }
+        ensures used { result ≡ true → IsPinned self.now.buffers at ⊎ (is_usable self.now.one.low (label_at self.now.labels at) ≡ false) }
+        ensures pinned { IsPinned self.now.buffers at → (label_at self.now.labels at).kind ≡ kind → result ≡ true }
+    {
+        if !is_kind(self.label(at).kind, kind) {
+            return false;
+        }
+        if self.is_pinned(at) {
+            return true;
+        }
+        !is_usable(&self.label(at), self.one.low)
+    }
+
     /// The label of a data block.
     pub fn label(&self, at: u32) -> Label
         requires { IsData self.now.first self.now.count at }
@@ -61,7 +77,7 @@ impl Mind {
     }
 
     // Pins a held block.
-    fn pin(&mut self, at: u32, rank: u32)
+    fn pin_held(&mut self, at: u32, rank: u32)
         requires block { IsData self.old.first self.old.count at }
         requires left { 0 < self.old.pins }
         requires held { is_some (held_at self.old.buffers at) ≡ true }
@@ -132,7 +148,7 @@ impl Mind {
         ensures cause { IfErr result (Caused ⊥ (λ b. b ≡ at) (Rose (D.faults main.old) (D.faults main.new)) ⊥) }
     {
         if self.buffers.is_held(at) {
-            self.pin(at, rank);
+            self.pin_held(at, rank);
             return Ok(());
         }
         self.bring_in(main, at, kind, rank)
@@ -191,6 +207,7 @@ impl Mind {
         requires block { IsData self.old.first self.old.count at }
         requires length { length into.old ≡ 8192 }
         requires kind { (label_at self.old.labels at).kind ≡ kind }
+        requires kept { is_usable self.old.one.low (label_at self.old.labels at) ≡ false }
         requires within { self.old.count ≤ D.size main.old }
         ensures got { OnOk result (Got self.new.first self.new.count kind rank (parts self.new (D.state main.new).holds (D.faults main.new)) at into.new) }
         ensures source { OnOk result (IsFrom (D.state main.old).holds at self.old.buffers into.new) }
@@ -203,9 +220,6 @@ impl Mind {
         ensures state { D.state main.new ≡ D.state main.old }
         ensures cause { IfErr result (Caused ⊥ (λ b. b ≡ at) (Rose (D.faults main.old) (D.faults main.new)) ⊥) }
     {
-        if is_usable(&self.label(at), self.one.low) {
-            return Err(BlockError::Damaged(at));
-        }
         if self.pins == 0 {
             return self.scan(main, at, kind, rank, into);
         }
@@ -241,7 +255,7 @@ impl Mind {
         ensures state { D.state main.new ≡ D.state main.old }
         ensures cause { IfErr result (Caused ⊥ (λ b. b ≡ at) (Rose (D.faults main.old) (D.faults main.new)) ⊥) }
     {
-        if !is_kind(self.label(at).kind, kind) {
+        if !self.may_get(at, kind) {
             return Err(BlockError::Damaged(at));
         }
         if self.is_pinned(at) {
@@ -280,5 +294,76 @@ impl Mind {
         ensures cause { IfErr result (Caused ⊥ (λ b. b ≡ at) (Rose (D.faults main.old) (D.faults main.new)) ⊥) }
     {
         self.obtain(main, at, kind, rank, into)
+    }
+
+    /// Lends the bytes of a block of this kind and rank, as it was last put, where it is held and they are of the format.
+    pub fn lend(&self, at: u32, kind: Kind, rank: u32) -> Option<&[u8]>
+        requires block { IsData self.now.first self.now.count at }
+        ensures long { IfSome result (λ b. length b.now ≡ 8192) }
+        ensures got { IfSome result (λ b. (disk : Holds) (faults : ℕ) → Got self.now.first self.now.count kind rank (parts self.now disk faults) at b.now) }
+        ensures kind { IfSome result (λ b. (label_at self.now.labels at).kind ≡ kind) }
+        ensures again { (label_at self.now.labels at).kind ≡ kind → RanksIn kind rank (held_at self.now.buffers at) → IsSome result }
+    {
+        if is_kind(self.label(at).kind, kind) {
+            return lend_held(&self.buffers, self.first, self.count, kind, rank, at);
+        }
+        None
+    }
+
+    // Brings a block of this kind into memory, and pins it while pins are left.
+    fn pin_while_left<D: Disk>(
+        &mut self,
+        main: &mut D,
+        at: u32,
+        kind: Kind,
+        rank: u32,
+    ) -> Result<(), BlockError>
+        requires block { IsData self.old.first self.old.count at }
+        requires within { self.old.count ≤ D.size main.old }
+        ensures kind { OnOk result ((label_at self.old.labels at).kind ≡ kind) }
+        ensures pinned { OnOk result (0 < self.old.pins → IsPinned self.new.buffers at) }
+        ensures again { IsPinned self.old.buffers at → (label_at self.old.labels at).kind ≡ kind → IsOk result }
+        ensures no_pin { IsPinned self.old.buffers at → (label_at self.old.labels at).kind ≡ kind → self.new.pins ≡ self.old.pins }
+        ensures pins { self.old.pins ≤ self.new.pins + 1 }
+        ensures brings { Brings at (parts self.old (D.state main.old).holds (D.faults main.old)) (parts self.new (D.state main.new).holds (D.faults main.new)) }
+        ensures comes { ComesFrom (D.state main.old).holds at self.old.buffers self.new.buffers }
+        ensures size { D.size main.new ≡ D.size main.old }
+        ensures state { D.state main.new ≡ D.state main.old }
+        ensures cause { IfErr result (Caused ⊥ (λ b. b ≡ at) (Rose (D.faults main.old) (D.faults main.new)) ⊥) }
+    {
+        if !self.may_get(at, kind) {
+            return Err(BlockError::Damaged(at));
+        }
+        if self.is_pinned(at) || self.pins == 0 {
+            return Ok(());
+        }
+        self.hold(main, at, kind, rank)
+    }
+
+    /// Brings a block of this kind into memory and pins it while pins are left, as `get` does, and copies nothing. What is pinned
+    /// stays so, and where no pin is left nothing is done.
+    pub fn pin<D: Disk>(
+        &mut self,
+        main: &mut D,
+        at: u32,
+        kind: Kind,
+        rank: u32,
+    ) -> Result<(), BlockError>
+        requires block { IsData self.old.first self.old.count at }
+        requires within { self.old.count ≤ D.size main.old }
+        ensures kind { OnOk result ((label_at self.old.labels at).kind ≡ kind) }
+        ensures pinned { OnOk result (0 < self.old.pins → IsPinned self.new.buffers at) }
+        ensures again { IsPinned self.old.buffers at → (label_at self.old.labels at).kind ≡ kind → IsOk result }
+        ensures no_pin { IsPinned self.old.buffers at → (label_at self.old.labels at).kind ≡ kind → self.new.pins ≡ self.old.pins }
+        ensures pins { self.old.pins ≤ self.new.pins + 1 }
+        ensures brings { Brings at (parts self.old (D.state main.old).holds (D.faults main.old)) (parts self.new (D.state main.new).holds (D.faults main.new)) }
+        ensures comes { ComesFrom (D.state main.old).holds at self.old.buffers self.new.buffers }
+        ensures looks { Looks (state_of (parts self.old (D.state main.old).holds (D.faults main.old))) (state_of (parts self.new (D.state main.new).holds (D.faults main.new))) }
+        ensures keeps { CacheKeeps (parts self.old (D.state main.old).holds (D.faults main.old)) (parts self.new (D.state main.new).holds (D.faults main.new)) }
+        ensures size { D.size main.new ≡ D.size main.old }
+        ensures state { D.state main.new ≡ D.state main.old }
+        ensures cause { IfErr result (Caused ⊥ (λ b. b ≡ at) (Rose (D.faults main.old) (D.faults main.new)) ⊥) }
+    {
+        self.pin_while_left(main, at, kind, rank)
     }
 }

@@ -8,7 +8,8 @@
 //! Proved: `get` gives the bytes that are held, else those that are clean, else one of the versions of the device, of the format that is
 //! asked for, and changes nothing that calls on blocks see; a pinned block is had again without fail; a block is damaged only where its
 //! label is of another kind, it may be given out, or its bytes aren't good; a fault comes only where the device's count rose. With no
-//! pin left `get` needs no room, and may want memory. `new_block` and `copy` give out the least usable block, and `put_bytes` puts
+//! pin left `get` needs no room, and may want memory. `pin` brings and pins a block as `get` does and copies nothing; with no pin left it
+//! does nothing. `lend` lends the bytes that are held, of the format that is asked for, and so what `get` would copy. `new_block` and `copy` give out the least usable block, and `put_bytes` puts
 //! bytes beside the slots of a pinned one, each with the clauses of `Blocks`; neither wants memory. A slot, a label and what waits are
 //! as memory has them. What calls see keeps the laws of `Blocks`. What is to be written next has its bytes in memory, or is a block of
 //! labels; what a write or a sync does to each field is said by its answer alone, and only `keep_turn_of` may want memory for it.

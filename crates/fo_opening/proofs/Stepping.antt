@@ -3,7 +3,7 @@ use Rattle.std.proofs.Common.{◌≡◌, ◌≢◌, inl, inr, ⊎_elim, ℕ, ◌
 use Rattle.std.specs.Option.{option_map, option_map_or}
 use Rattle.std.specs.Result.{IfErr, OnOk, OnErr}
 use Rattle.std.proofs.lemmas.Bool.{cases_eq, cases_lt}
-use Rattle.fo_disk.specs.Disk.{DiskState, IsSettled, Versions, versions_of}
+use Rattle.fo_disk.specs.Disk.{DiskState, IsQuiet, IsSettled, Versions, newest, versions_of}
 use Rattle.fo_disk.specs.Disk.{Content as Holds}
 use Rattle.fo_image.specs.declared.types.Super.{Super}
 use Rattle.fo_buffers.specs.declared.block.Buffer.{Buffer}
@@ -22,6 +22,7 @@ use Rattle.fo_cache.specs.Fits.{Fits}
 use Rattle.fo_cache.specs.Numbering.{Renumbers}
 use Rattle.fo_cache.specs.Settling.{Rested, Settles}
 use Rattle.fo_cache.specs.Supers.{Counts, Doubted, IsFault}
+use Rattle.fo_cache.specs.Work.{calls_left}
 use Rattle.fo_cache.proofs.Clearing.{recalled_is}
 use Rattle.fo_cache.proofs.Easing.{eases_none}
 use Rattle.fo_cache.proofs.Settling.{join}
@@ -193,27 +194,34 @@ waited k w = (w.0, w.1, k.order w.0 w.1 w.2)
 pub waited_let : (p m : Parts) → Lets p m → SomeWaits m → SomeWaits p
 waited_let p m l w = (w.0, w.1, subst (λ (z : Parts). Clears z.clears w.0 w.1) l.rest w.2)
 
+-- pins are no work
+pub let_left : (p q : Parts) → Lets p q → calls_left q ≡ calls_left p
+let_left p q l = ap calls_left l.rest
+
 -- ---- the device is quiet
 
-pub header_settled : (old new : Versions) → Rested old new → length old ≡ 1 → length new ≡ 1
-header_settled old new (inl e) one = ap length e ∙ one
-header_settled (v ∷ []) new (inr e) one = ap length e
-header_settled [] new (inr e) one = absurd (omega (arith, one))
-header_settled (v ∷ w ∷ vs) new (inr e) one = absurd (omega (arith, one))
+one_newest : (old : Versions) → length old ≡ 1 → newest old ≡ old
+one_newest [] one = absurd (omega (arith, one))
+one_newest (v ∷ []) one = refl
+one_newest (v ∷ w ∷ vs) one = let more : length (v ∷ w ∷ vs) ≡ 1 = one in absurd (omega (arith, more))
 
--- each block from 1 on has one version
-pub quiet_of : (one was : Super) (s t : DiskState) (p q : Parts) → Counts one s t p q → length t.holds ≡ length s.holds → Finished was t q → Fits (record q { disk = t.holds }) t.unsure → (b : ℕ) → 1 ≤ b → b < length t.holds → IsSettled t.holds b
-quiet_of one was s t p q c count done fits b le lt = ⊎_elim
-    (λ e. subst (λ n. IsSettled t.holds n) (sym e) (ap length (c.settled (omega (arith, e, lt, count)))))
-    (λ ne. ⊎_elim
-    (λ before. (done.labels b (omega (arith, le, ne)) before lt).0)
-    (λ from. (fits.each b from lt).settled (done.settled.quiet.settled b))
-    (cases_lt b q.region.first))
-    (cases_eq b 1)
+-- block 0 is as it was
+pub header_kept : (h k : Holds) → (0 < length h → IsSettled h 0) → Rested (versions_of h 0) (versions_of k 0) → versions_of k 0 ≡ versions_of h 0
+header_kept h k one (inl same) = same
+header_kept [] k one (inr last) = last
+header_kept (v ∷ vs) k one (inr last) = last ∙ one_newest v (one (omega arith))
 
-pub quiet_all : {T E : Type 0} (h k : Holds) (r : Result T E) → Rested (versions_of h 0) (versions_of k 0) → OnOk r ((b : ℕ) → 1 ≤ b → b < length k → IsSettled k b) → OnOk r (IsSettled h 0 → (b : ℕ) → b < length k → IsSettled k b)
-quiet_all h k (Err e) rested each = tt
-quiet_all h k (Ok x) rested each = λ zero b lt. ⊎_elim
-    (λ e. subst (λ n. IsSettled k n) (sym e) (header_settled (versions_of h 0) (versions_of k 0) rested zero))
-    (λ ne. each b (omega (arith, ne)) lt)
-    (cases_eq b 0)
+-- each block has one version
+pub quiet_of : (one was : Super) (s t : DiskState) (p q : Parts) → Counts one s t p q → length t.holds ≡ length s.holds → Finished was t q → Fits (record q { disk = t.holds }) t.unsure → (0 < length t.holds → IsSettled t.holds 0) → IsQuiet t.holds
+quiet_of one was s t p q c count done fits header = record {
+  each = λ b lt. ⊎_elim (λ e. subst (λ n. IsSettled t.holds n) (sym e) (header (omega (arith, lt)))) (λ some. behind b (omega (arith, some)) lt) (cases_eq b 0);
+}
+  where
+    behind : (b : ℕ) → 1 ≤ b → b < length t.holds → IsSettled t.holds b
+    behind b le lt = ⊎_elim
+        (λ e. subst (λ n. IsSettled t.holds n) (sym e) (ap length (c.settled (omega (arith, e, lt, count)))))
+        (λ ne. ⊎_elim
+        (λ before. (done.labels b (omega (arith, le, ne)) before lt).0)
+        (λ from. (fits.each b from lt).settled (done.settled.quiet.settled b))
+        (cases_lt b q.region.first))
+        (cases_eq b 1)

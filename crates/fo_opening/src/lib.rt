@@ -6,9 +6,9 @@
 //! Proved: what is opened has the labels and the super block that were read, each of which spells what it has to (`Opens`), and holds
 //! nothing; each refusal has its reason, in what was read (`Refuses`), and gives the device back. Over any device a size is refused exactly
 //! where it is out of range, and a fault comes only where the device's count rose. Where `finish` answers Ok, nothing has a turn, nothing is
-//! in doubt, no slot waits, and block 1 says the next file number; each block from 1 on has one version, as far as the device tells, and so
-//! has block 0, if it had: whatever is answered, its versions are those of before, or the last of them. `finish` wants memory only where a
-//! slot waits to be cleared.
+//! in doubt, no slot waits, and block 1 says the next file number; each block has one version, as far as the device tells. Whatever it
+//! answers, block 0 is as it was. It calls the device two or three times at most for each dirty block and each slot that waits, and five
+//! times beside that (`calls_left` of `fo_cache`). It wants memory only where a slot waits to be cleared.
 //!
 //! Not proved here: what is said of crash images, places and moments.
 #![tactic(auto)]

@@ -1,5 +1,5 @@
 //! Turns and clearings follow one another while nothing is pinned, until neither is left.
-ghost use Rattle.std.specs.Prelude.{◌≡◌, ◌<◌, ◌≤◌, ℕ, [], true, false, length, None, OnOk, IfOk, IfErr};
+ghost use Rattle.std.specs.Prelude.{◌≡◌, ◌+◌, ◌<◌, ◌≤◌, ℕ, [], true, false, length, None, OnOk, IfOk, IfErr};
 ghost use Rattle.fo_base.specs.Cause.{Rose};
 ghost use Rattle.fo_order.specs.Turns.{IsQuiet};
 ghost use Rattle.fo_ports.specs.Causes.{Caused};
@@ -8,6 +8,7 @@ ghost use Rattle.fo_waits.specs.Listed.{Clears};
 ghost use Rattle.fo_mind.specs.MindParts.{parts};
 ghost use Rattle.fo_mind.specs.Parts.{IsPinned};
 ghost use Rattle.fo_cache.specs.Supers.{IsFault};
+ghost use Rattle.fo_cache.specs.Work.{AtMost, calls_left};
 ghost use Rattle.fo_opening.specs.Ending.{Ending, SomeWaits};
 ghost use Rattle.fo_opening.specs.Finished.{Settled};
 
@@ -23,6 +24,8 @@ fn settle_sure<D: Disk>(cache: &mut Cache<D>) -> Result<(), BlockError>
     ensures certain { OnOk result ((parts cache.new.mind [] 0).doubt ≡ None) }
     ensures clears { (parts cache.new.mind [] 0).clears ≡ (parts cache.old.mind [] 0).clears }
     ensures ending { Ending (D.state cache.old.main) (D.state cache.new.main) (D.faults cache.old.main) (D.faults cache.new.main) (parts cache.old.mind [] 0) (parts cache.new.mind [] 0) }
+    ensures calls { AtMost (calls_left (parts cache.old.mind [] 0)) (D.calls cache.old.main) (D.calls cache.new.main) }
+    ensures spent { OnOk result (D.calls cache.new.main + calls_left (parts cache.new.mind [] 0) ≤ D.calls cache.old.main + calls_left (parts cache.old.mind [] 0)) }
     ensures size { D.size cache.new.main ≡ D.size cache.old.main }
     ensures cause { IfErr result (Caused ⊥ (λ b. ⊥) (Rose (D.faults cache.old.main) (D.faults cache.new.main)) ⊥) }
     ensures failed { IfErr result IsFault }
@@ -37,6 +40,7 @@ fn clear_next<D: Disk>(cache: &mut Cache<D>) -> Result<bool, BlockError>
     ensures ending { Ending (D.state cache.old.main) (D.state cache.new.main) (D.faults cache.old.main) (D.faults cache.new.main) (parts cache.old.mind [] 0) (parts cache.new.mind [] 0) }
     ensures less { IfOk result (λ b. b ≡ false → length (parts cache.new.mind [] 0).clears < length (parts cache.old.mind [] 0).clears) }
     ensures fewer { IfOk result (λ b. length (parts cache.new.mind [] 0).clears ≤ length (parts cache.old.mind [] 0).clears) }
+    ensures left { calls_left (parts cache.new.mind [] 0) ≤ calls_left (parts cache.old.mind [] 0) }
     ensures device { cache.new.main ≡ cache.old.main }
     ensures cause { IfErr result (λ e. e ≡ Wanting) }
     ensures waits { IfErr result (λ e. SomeWaits (parts cache.old.mind [] 0)) }
@@ -52,6 +56,7 @@ fn clear_next<D: Disk>(cache: &mut Cache<D>) -> Result<bool, BlockError>
 fn clear_all<D: Disk>(cache: &mut Cache<D>) -> Result<(), BlockError>
     ensures ending { Ending (D.state cache.old.main) (D.state cache.new.main) (D.faults cache.old.main) (D.faults cache.new.main) (parts cache.old.mind [] 0) (parts cache.new.mind [] 0) }
     ensures fewer { OnOk result (length (parts cache.new.mind [] 0).clears ≤ length (parts cache.old.mind [] 0).clears) }
+    ensures left { calls_left (parts cache.new.mind [] 0) ≤ calls_left (parts cache.old.mind [] 0) }
     ensures device { cache.new.main ≡ cache.old.main }
     ensures cause { IfErr result (λ e. e ≡ Wanting) }
     ensures waits { IfErr result (λ e. SomeWaits (parts cache.old.mind [] 0)) }
@@ -65,6 +70,7 @@ fn clear_from<D: Disk>(cache: &mut Cache<D>, at: u32, i: u32) -> Result<(), Bloc
     requires waits { Clears (parts cache.old.mind [] 0).clears at i }
     ensures ending { Ending (D.state cache.old.main) (D.state cache.new.main) (D.faults cache.old.main) (D.faults cache.new.main) (parts cache.old.mind [] 0) (parts cache.new.mind [] 0) }
     ensures less { OnOk result (length (parts cache.new.mind [] 0).clears < length (parts cache.old.mind [] 0).clears) }
+    ensures left { calls_left (parts cache.new.mind [] 0) ≤ calls_left (parts cache.old.mind [] 0) }
     ensures device { cache.new.main ≡ cache.old.main }
     ensures cause { IfErr result (λ e. e ≡ Wanting) }
 {
@@ -78,6 +84,8 @@ fn settle_round<D: Disk>(cache: &mut Cache<D>) -> Result<bool, BlockError>
     ensures settled { IfOk result (λ b. b ≡ true → Settled (parts cache.new.mind [] 0)) }
     ensures less { IfOk result (λ b. b ≡ false → length (parts cache.new.mind [] 0).clears < length (parts cache.old.mind [] 0).clears) }
     ensures ending { Ending (D.state cache.old.main) (D.state cache.new.main) (D.faults cache.old.main) (D.faults cache.new.main) (parts cache.old.mind [] 0) (parts cache.new.mind [] 0) }
+    ensures calls { AtMost (calls_left (parts cache.old.mind [] 0)) (D.calls cache.old.main) (D.calls cache.new.main) }
+    ensures spent { OnOk result (D.calls cache.new.main + calls_left (parts cache.new.mind [] 0) ≤ D.calls cache.old.main + calls_left (parts cache.old.mind [] 0)) }
     ensures size { D.size cache.new.main ≡ D.size cache.old.main }
     ensures cause { IfErr result (Caused ⊥ (λ b. ⊥) (Rose (D.faults cache.old.main) (D.faults cache.new.main)) ⊥) }
     ensures memory { IfErr result (λ e. e ≡ Wanting → SomeWaits (parts cache.old.mind [] 0)) }
@@ -96,6 +104,7 @@ pub(crate) fn settle_all<D: Disk>(cache: &mut Cache<D>) -> Result<(), BlockError
     requires free { (b : ℕ) → IsPinned (parts cache.old.mind [] 0).held b → ⊥ }
     ensures settled { OnOk result (Settled (parts cache.new.mind [] 0)) }
     ensures ending { Ending (D.state cache.old.main) (D.state cache.new.main) (D.faults cache.old.main) (D.faults cache.new.main) (parts cache.old.mind [] 0) (parts cache.new.mind [] 0) }
+    ensures calls { AtMost (calls_left (parts cache.old.mind [] 0)) (D.calls cache.old.main) (D.calls cache.new.main) }
     ensures size { D.size cache.new.main ≡ D.size cache.old.main }
     ensures cause { IfErr result (Caused ⊥ (λ b. ⊥) (Rose (D.faults cache.old.main) (D.faults cache.new.main)) ⊥) }
     ensures memory { IfErr result (λ e. e ≡ Wanting → SomeWaits (parts cache.old.mind [] 0)) }

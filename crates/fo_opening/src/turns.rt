@@ -1,5 +1,5 @@
 //! Turns are taken while nothing is pinned, which wants no memory.
-ghost use Rattle.std.specs.Prelude.{◌≡◌, ◌<◌, ◌≤◌, ℕ, [], true, false, OnOk, IfOk, IfErr};
+ghost use Rattle.std.specs.Prelude.{◌≡◌, ◌+◌, ◌<◌, ◌≤◌, ℕ, [], true, false, OnOk, IfOk, IfErr};
 ghost use Rattle.fo_base.specs.Cause.{Rose};
 ghost use Rattle.fo_order.specs.Turns.{IsDue, IsNext, IsQuiet};
 ghost use Rattle.fo_ports.specs.Causes.{Caused};
@@ -7,7 +7,7 @@ ghost use Rattle.fo_mind.specs.MindParts.{parts};
 ghost use Rattle.fo_mind.specs.Parts.{IsPinned};
 ghost use Rattle.fo_cache.specs.Settling.{Settles};
 ghost use Rattle.fo_cache.specs.Supers.{IsFault};
-ghost use Rattle.fo_cache.specs.Work.{work};
+ghost use Rattle.fo_cache.specs.Work.{AtMost, work};
 
 use fo_cache::Cache;
 use fo_disk::{Disk, DiskFault};
@@ -21,6 +21,8 @@ fn write_next<D: Disk>(cache: &mut Cache<D>, at: u32) -> Result<bool, BlockError
     ensures idle { IfOk result (λ b. b ≡ false) }
     ensures settles { Settles (D.state cache.old.main) (D.state cache.new.main) (parts cache.old.mind [] 0) (parts cache.new.mind [] 0) }
     ensures less { OnOk result (work (parts cache.new.mind [] 0).turns < work (parts cache.old.mind [] 0).turns) }
+    ensures calls { AtMost (work (parts cache.old.mind [] 0).turns) (D.calls cache.old.main) (D.calls cache.new.main) }
+    ensures spent { OnOk result (D.calls cache.new.main + work (parts cache.new.mind [] 0).turns ≤ D.calls cache.old.main + work (parts cache.old.mind [] 0).turns) }
     ensures size { D.size cache.new.main ≡ D.size cache.old.main }
     ensures cause { IfErr result (Caused ⊥ (λ b. ⊥) (Rose (D.faults cache.old.main) (D.faults cache.new.main)) ⊥) }
     ensures failed { IfErr result IsFault }
@@ -38,6 +40,8 @@ fn sync_next<D: Disk>(cache: &mut Cache<D>) -> Result<bool, BlockError>
     ensures idle { IfOk result (λ b. b ≡ false) }
     ensures settles { Settles (D.state cache.old.main) (D.state cache.new.main) (parts cache.old.mind [] 0) (parts cache.new.mind [] 0) }
     ensures less { OnOk result (work (parts cache.new.mind [] 0).turns < work (parts cache.old.mind [] 0).turns) }
+    ensures calls { AtMost (work (parts cache.old.mind [] 0).turns) (D.calls cache.old.main) (D.calls cache.new.main) }
+    ensures spent { OnOk result (D.calls cache.new.main + work (parts cache.new.mind [] 0).turns ≤ D.calls cache.old.main + work (parts cache.old.mind [] 0).turns) }
     ensures size { D.size cache.new.main ≡ D.size cache.old.main }
     ensures cause { IfErr result (Caused ⊥ (λ b. ⊥) (Rose (D.faults cache.old.main) (D.faults cache.new.main)) ⊥) }
     ensures failed { IfErr result IsFault }
@@ -55,6 +59,8 @@ fn take_turn<D: Disk>(cache: &mut Cache<D>) -> Result<bool, BlockError>
     ensures idle { IfOk result (λ b. b ≡ true → IsQuiet (parts cache.new.mind [] 0).turns) }
     ensures settles { Settles (D.state cache.old.main) (D.state cache.new.main) (parts cache.old.mind [] 0) (parts cache.new.mind [] 0) }
     ensures less { IfOk result (λ b. b ≡ false → work (parts cache.new.mind [] 0).turns < work (parts cache.old.mind [] 0).turns) }
+    ensures calls { AtMost (work (parts cache.old.mind [] 0).turns) (D.calls cache.old.main) (D.calls cache.new.main) }
+    ensures spent { OnOk result (D.calls cache.new.main + work (parts cache.new.mind [] 0).turns ≤ D.calls cache.old.main + work (parts cache.old.mind [] 0).turns) }
     ensures size { D.size cache.new.main ≡ D.size cache.old.main }
     ensures cause { IfErr result (Caused ⊥ (λ b. ⊥) (Rose (D.faults cache.old.main) (D.faults cache.new.main)) ⊥) }
     ensures failed { IfErr result IsFault }
@@ -72,6 +78,7 @@ pub(crate) fn take_turns<D: Disk>(cache: &mut Cache<D>) -> Result<(), BlockError
     requires free { (b : ℕ) → IsPinned (parts cache.old.mind [] 0).held b → ⊥ }
     ensures quiet { OnOk result (IsQuiet (parts cache.new.mind [] 0).turns) }
     ensures settles { Settles (D.state cache.old.main) (D.state cache.new.main) (parts cache.old.mind [] 0) (parts cache.new.mind [] 0) }
+    ensures calls { AtMost (work (parts cache.old.mind [] 0).turns) (D.calls cache.old.main) (D.calls cache.new.main) }
     ensures size { D.size cache.new.main ≡ D.size cache.old.main }
     ensures cause { IfErr result (Caused ⊥ (λ b. ⊥) (Rose (D.faults cache.old.main) (D.faults cache.new.main)) ⊥) }
     ensures failed { IfErr result IsFault }

@@ -54,6 +54,27 @@ pub trait Blocks {
         ensures cause { IfErr result (Caused ⊥ (λ b. (b ≡ at) × ((state self.old).tells → (p : Place) → (state self.old).stands at p → ⊥)) (Rose (state self.old).faults (state self.new).faults) ⊥) }
         ensures keeps { keeps self.old self.new };
 
+    /// Brings a block of this kind into memory and pins it while pins are left, as `get` does, and copies nothing: `lend` lends it then.
+    fn pin(&mut self, at: u32, kind: Kind, rank: u32) -> Result<(), BlockError>
+        requires block { (state self.old).is_block at }
+        requires place { (state self.old).tells → (p : Place) → (state self.old).stands at p → (p.kind ≡ kind) × (p.rank ≡ rank) }
+        ensures kind { OnOk result (((state self.old).label at).kind ≡ kind) }
+        ensures pinned { OnOk result (0 < (state self.old).pins_left → (state self.new).pinned at) }
+        ensures again { (state self.old).pinned at → ((state self.old).label at).kind ≡ kind → IsOk result }
+        ensures no_pin { (state self.old).pinned at → ((state self.old).label at).kind ≡ kind → (state self.new).pins_left ≡ (state self.old).pins_left }
+        ensures pins { (state self.old).pins_left ≤ (state self.new).pins_left + 1 }
+        ensures looks { Looks (state self.old) (state self.new) }
+        ensures cause { IfErr result (Caused ⊥ (λ b. (b ≡ at) × ((state self.old).tells → (p : Place) → (state self.old).stands at p → ⊥)) (Rose (state self.old).faults (state self.new).faults) ⊥) }
+        ensures keeps { keeps self.old self.new };
+
+    /// Lends the bytes of a block of this kind and rank, as it was last put, where they are at hand. None tells nothing: who needs the
+    /// block gets it.
+    fn lend(&self, at: u32, kind: Kind, rank: u32) -> Option<&[u8]>
+        requires block { (state self.now).is_block at }
+        ensures bytes { IfSome result (λ b. (length b.now ≡ 8192) × Reads kind ((state self.now).now at) b.now × ReadsSlots kind ((state self.now).now at) b.now) }
+        ensures formed { IfSome result (λ b. IsFormed kind rank b.now × (((state self.now).label at).kind ≡ kind)) }
+        ensures names { IfSome result (λ b. (i below : ℕ) → i < slot_count kind → target (((state self.now).now at).slot i) ≡ Local below → (state self.now).is_block below) };
+
     /// A slot of a pinned block.
     fn slot(&self, at: u32, i: u32) -> Slot
         requires pinned { (state self.now).pinned at }

@@ -26,6 +26,19 @@ impl Blocks for PlainBlocks {
         Ok(())
     }
 
+    fn pin(&mut self, at: u32, kind: Kind, rank: u32) -> Result<(), BlockError> {
+        let _ = (kind, rank);
+        if self.made <= at {
+            return Err(BlockError::Damaged(at));
+        }
+        Ok(())
+    }
+
+    fn lend(&self, at: u32, kind: Kind, rank: u32) -> Option<&[u8]> {
+        let _ = (at, kind, rank);
+        None
+    }
+
     fn slot(&self, at: u32, i: u32) -> Slot {
         let block = &self.blocks[at as usize];
         block.slots[i as usize]

@@ -6,7 +6,8 @@
 //! Proved: where it answers Ok, nothing has a turn, no slot waits, what is dirty is newborn, and what
 //! is pinned is newborn or sealed; whatever it answers, what isn't doomed
 //! stays (`Rests`), pinned blocks are what they were but for slots that waited, labels, pins, seals and room stay, and no removal is lost.
-//! It is refused where the device failed, or for want of memory. Then what was settled until then stays so.
+//! It is refused where the device failed, or for want of memory. Then what was settled until then stays so. The device is called at most
+//! twice for each dirty block, three times for each slot that waits, and three times beside that (`calls_left` of `fo_cache`).
 //!
 //! Not proved here: what is said of crash images, places and moments.
 #![tactic(auto)]

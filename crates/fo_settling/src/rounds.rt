@@ -1,5 +1,5 @@
 //! Turns and clearings, until neither is left.
-ghost use Rattle.std.specs.Prelude.{◌≡◌, ◌⊎◌, ◌<◌, ◌≤◌, ℕ, [], true, false, length, OnOk, IfOk, IfErr};
+ghost use Rattle.std.specs.Prelude.{◌≡◌, ◌⊎◌, ◌+◌, ◌<◌, ◌≤◌, ℕ, [], true, false, length, OnOk, IfOk, IfErr};
 ghost use Rattle.fo_base.specs.Cause.{Rose};
 ghost use Rattle.fo_crash.specs.Steps.{AllAre};
 ghost use Rattle.fo_order.specs.Turns.{IsQuiet};
@@ -11,6 +11,7 @@ ghost use Rattle.fo_waits.specs.Listed.{Clears};
 ghost use Rattle.fo_mind.specs.MindParts.{parts};
 ghost use Rattle.fo_mind.specs.Parts.{CacheKeeps, IsNewborn, IsPinned, state_of};
 ghost use Rattle.fo_cache.specs.Easing.{Eases};
+ghost use Rattle.fo_cache.specs.Work.{AtMost, calls_left};
 ghost use Rattle.fo_settling.specs.Clearings.{Clearings};
 
 use fo_cache::Cache;
@@ -23,6 +24,7 @@ fn clear_next<D: Disk>(cache: &mut Cache<D>) -> Result<bool, BlockError>
     ensures clears { Clearings (parts cache.old.mind (D.state cache.old.main).holds (D.faults cache.old.main)) (parts cache.new.mind (D.state cache.new.main).holds (D.faults cache.new.main)) }
     ensures less { IfOk result (λ b. b ≡ false → length (parts cache.new.mind [] 0).clears < length (parts cache.old.mind [] 0).clears) }
     ensures same { IfOk result (λ b. b ≡ true → cache.new ≡ cache.old) }
+    ensures left { calls_left (parts cache.new.mind [] 0) ≤ calls_left (parts cache.old.mind [] 0) }
     ensures device { cache.new.main ≡ cache.old.main }
     ensures cause { IfErr result (λ e. e ≡ Wanting) }
 {
@@ -38,6 +40,7 @@ fn clear_all<D: Disk>(cache: &mut Cache<D>) -> Result<(), BlockError>
     ensures eases { Eases (parts cache.old.mind (D.state cache.old.main).holds (D.faults cache.old.main)) (parts cache.new.mind (D.state cache.new.main).holds (D.faults cache.new.main)) }
     ensures clears { Clearings (parts cache.old.mind (D.state cache.old.main).holds (D.faults cache.old.main)) (parts cache.new.mind (D.state cache.new.main).holds (D.faults cache.new.main)) }
     ensures fewer { OnOk result (length (parts cache.new.mind [] 0).clears ≤ length (parts cache.old.mind [] 0).clears) }
+    ensures left { calls_left (parts cache.new.mind [] 0) ≤ calls_left (parts cache.old.mind [] 0) }
     ensures device { cache.new.main ≡ cache.old.main }
     ensures cause { IfErr result (λ e. e ≡ Wanting) }
 {
@@ -51,6 +54,8 @@ fn settle_round<D: Disk>(cache: &mut Cache<D>) -> Result<bool, BlockError>
     ensures clears { Clearings (parts cache.old.mind (D.state cache.old.main).holds (D.faults cache.old.main)) (parts cache.new.mind (D.state cache.new.main).holds (D.faults cache.new.main)) }
     ensures done { IfOk result (λ b. b ≡ true → IsQuiet (parts cache.new.mind [] 0).turns × ((b j : ℕ) → Clears (parts cache.new.mind [] 0).clears b j → ⊥)) }
     ensures less { IfOk result (λ b. b ≡ false → length (parts cache.new.mind [] 0).clears < length (parts cache.old.mind [] 0).clears) }
+    ensures calls { AtMost (calls_left (parts cache.old.mind [] 0)) (D.calls cache.old.main) (D.calls cache.new.main) }
+    ensures spent { OnOk result (D.calls cache.new.main + calls_left (parts cache.new.mind [] 0) ≤ D.calls cache.old.main + calls_left (parts cache.old.mind [] 0)) }
     ensures size { D.size cache.new.main ≡ D.size cache.old.main }
     ensures later { D.faults cache.old.main ≤ D.faults cache.new.main }
     ensures cause { IfErr result (Caused ⊥ (λ b. ⊥) (Rose (D.faults cache.old.main) (D.faults cache.new.main)) ⊥) }
@@ -69,6 +74,7 @@ fn settle_rounds<D: Disk>(cache: &mut Cache<D>) -> Result<(), BlockError>
     ensures eases { Eases (parts cache.old.mind (D.state cache.old.main).holds (D.faults cache.old.main)) (parts cache.new.mind (D.state cache.new.main).holds (D.faults cache.new.main)) }
     ensures clears { Clearings (parts cache.old.mind (D.state cache.old.main).holds (D.faults cache.old.main)) (parts cache.new.mind (D.state cache.new.main).holds (D.faults cache.new.main)) }
     ensures done { OnOk result (IsQuiet (parts cache.new.mind [] 0).turns × ((b j : ℕ) → Clears (parts cache.new.mind [] 0).clears b j → ⊥)) }
+    ensures calls { AtMost (calls_left (parts cache.old.mind [] 0)) (D.calls cache.old.main) (D.calls cache.new.main) }
     ensures size { D.size cache.new.main ≡ D.size cache.old.main }
     ensures later { D.faults cache.old.main ≤ D.faults cache.new.main }
     ensures cause { IfErr result (Caused ⊥ (λ b. ⊥) (Rose (D.faults cache.old.main) (D.faults cache.new.main)) ⊥) }
@@ -93,6 +99,7 @@ pub fn settle<D: Disk>(cache: &mut Cache<D>) -> Result<(), BlockError>
     ensures blocks { (b : ℕ) → ((state_of (parts cache.new.mind (D.state cache.new.main).holds (D.faults cache.new.main))).label b ≡ (state_of (parts cache.old.mind (D.state cache.old.main).holds (D.faults cache.old.main))).label b) × ((state_of (parts cache.old.mind (D.state cache.old.main).holds (D.faults cache.old.main))).pinned b → (state_of (parts cache.new.mind (D.state cache.new.main).holds (D.faults cache.new.main))).pinned b) × ((state_of (parts cache.old.mind (D.state cache.old.main).holds (D.faults cache.old.main))).sealed b → (state_of (parts cache.new.mind (D.state cache.new.main).holds (D.faults cache.new.main))).sealed b) }
     ensures room { ((state_of (parts cache.new.mind (D.state cache.new.main).holds (D.faults cache.new.main))).spare ≡ (state_of (parts cache.old.mind (D.state cache.old.main).holds (D.faults cache.old.main))).spare) × ((state_of (parts cache.new.mind (D.state cache.new.main).holds (D.faults cache.new.main))).pins_left ≡ (state_of (parts cache.old.mind (D.state cache.old.main).holds (D.faults cache.old.main))).pins_left) × ((state_of (parts cache.new.mind (D.state cache.new.main).holds (D.faults cache.new.main))).room ≡ (state_of (parts cache.old.mind (D.state cache.old.main).holds (D.faults cache.old.main))).room) }
     ensures keeps { CacheKeeps (parts cache.old.mind (D.state cache.old.main).holds (D.faults cache.old.main)) (parts cache.new.mind (D.state cache.new.main).holds (D.faults cache.new.main)) }
+    ensures calls { AtMost (calls_left (parts cache.old.mind [] 0)) (D.calls cache.old.main) (D.calls cache.new.main) }
     ensures size { D.size cache.new.main ≡ D.size cache.old.main }
     ensures cause { IfErr result (Caused ⊥ (λ b. ⊥) (Rose (D.faults cache.old.main) (D.faults cache.new.main)) ⊥) }
     ensures later { D.faults cache.old.main ≤ D.faults cache.new.main }
@@ -108,6 +115,7 @@ fn settle_all<D: Disk>(cache: &mut Cache<D>) -> Result<(), BlockError>
     ensures quiet { OnOk result (IsQuiet (parts cache.new.mind [] 0).turns) }
     ensures no_wait { OnOk result ((parts cache.new.mind [] 0).waits ≡ []) }
     ensures pinned { OnOk result ((b : ℕ) → IsPinned (parts cache.new.mind [] 0).held b → IsNewborn (parts cache.new.mind [] 0).facts b ⊎ ((fact_at (parts cache.new.mind [] 0).facts b).sealed ≡ true)) }
+    ensures calls { AtMost (calls_left (parts cache.old.mind [] 0)) (D.calls cache.old.main) (D.calls cache.new.main) }
     ensures size { D.size cache.new.main ≡ D.size cache.old.main }
     ensures later { D.faults cache.old.main ≤ D.faults cache.new.main }
     ensures cause { IfErr result (Caused ⊥ (λ b. ⊥) (Rose (D.faults cache.old.main) (D.faults cache.new.main)) ⊥) }

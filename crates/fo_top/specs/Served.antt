@@ -57,8 +57,8 @@ pub record Begins (before : Pair) (first : Moment) : Type 0 where
 
 -- ---- the end
 
--- What stood at this last moment was ended, and the devices are given back: all is settled, or that failed by a fault of the main device or
--- for want of memory. The end of the run is the first cause.
+-- What stood at this last moment was ended, and the devices are given back: all is settled, no removal is queued and the main device is
+-- quiet, or that failed by a fault of the main device or for want of memory. The end of the run is the first cause.
 pub record Finishes (last : Moment) (how : Why) (after : Pair) (end : Why) : Type 0 where
   pub failed : Option FileError
   pub end_is : end ≡ first_why how failed

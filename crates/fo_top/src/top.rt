@@ -119,7 +119,7 @@ fn act<D: Disk, A: Disk, S: Source, K: Sink, C: Clock>(
 
 /// Runs the program over two devices (fossil(4) of the Plan 9 manual). `9p` opens both and answers one connection, messages in and
 /// replies out (section 5 of the manual); `turns` opens both and runs a script; `flfmt` formats both and `flchk` checks them, and each
-/// prints a line. What was opened is settled at the end, whatever ended the messages or the script.
+/// prints a line. What was opened is settled at the end, and what was removed closed, whatever ended the messages or the script.
 ///
 /// A main device that is opened is quiet, as far as it tells: a device in a file tells nothing, and one in memory is handed in quiet.
 pub fn run<D: Disk, A: Disk, S: Source, K: Sink, C: Clock + Drop>(

@@ -1,5 +1,5 @@
 //! One step down from a block of pointers.
-ghost use Rattle.std.specs.Prelude.{◌≡◌, ◌⊎◌, ◌+◌, ◌*◌, ◌<◌, ◌≤◌, ℕ, Bool, length, take, drop, Some, None, IfOk, OnOk, IfErr};
+ghost use Rattle.std.specs.Prelude.{◌≡◌, ◌⊎◌, ◌+◌, ◌*◌, ◌<◌, ◌≤◌, ℕ, Bool, length, take, drop, Some, None, IfOk, IfSome, OnOk, IfErr};
 ghost use Rattle.fo_base.specs.Cause.{Rose};
 ghost use Rattle.fo_image.specs.declared.types.Pointer.{Pointer};
 ghost use Rattle.fo_image.specs.declared.types.Pointer.TheVariants.{Local};
@@ -33,8 +33,22 @@ pub(crate) fn kind_number(dir: bool, level: u8) -> u8
     if dir { 8 + level } else { level }
 }
 
-/// The pointer in slot `i` of a block of pointers.
-pub(crate) fn pointer_below<B: Blocks>(
+/// The pointer in slot `i` of a block of pointers that can be lent.
+fn lent_below<B: Blocks>(on: &B, at: u32, kind: Kind, rank: u32, i: u32) -> Option<Pointer>
+    requires block { (B.state on.now).is_block at }
+    requires inner { IsInner kind }
+    requires slot { i < 409 }
+    ensures found { IfSome result (λ p. p ≡ target (((B.state on.now).now at).slot i)) }
+    ensures block { IfSome result (λ p. (b : ℕ) → p ≡ Local b → (B.state on.now).is_block b) }
+{
+    match on.lend(at, kind, rank) {
+        Some(block) => Some(pointer_in(block, i as usize)),
+        None => None,
+    }
+}
+
+/// The pointer in slot `i` of a block of pointers, which is copied.
+fn copied_below<B: Blocks>(
     on: &mut B,
     at: u32,
     kind: Kind,
@@ -57,6 +71,34 @@ pub(crate) fn pointer_below<B: Blocks>(
     let mut block = [0; BLOCK];
     on.get(at, kind, rank, &mut block)?;
     Ok(pointer_in(&block, i as usize))
+}
+
+/// The pointer in slot `i` of a block of pointers. It stands at a place of this kind and rank after a look, too.
+pub(crate) fn pointer_below<B: Blocks>(
+    on: &mut B,
+    at: u32,
+    kind: Kind,
+    rank: u32,
+    i: u32,
+) -> Result<Pointer, BlockError>
+    requires block { (B.state on.old).is_block at }
+    requires inner { IsInner kind }
+    requires told { (b : B) → B.keeps on.old b → Looks (B.state on.old) (B.state b) → (B.state b).tells → StandsAs (B.state b) kind rank at }
+    requires slot { i < 409 }
+    ensures found { IfOk result (λ p. p ≡ target (((B.state on.new).now at).slot i)) }
+    ensures block { IfOk result (λ p. (b : ℕ) → p ≡ Local b → (B.state on.new).is_block b) }
+    ensures got { OnOk result ((0 < (B.state on.old).pins_left) ⊎ (B.state on.old).pinned at → IsGot (B.state on.new) kind at) }
+    ensures pins { (B.state on.old).pins_left ≤ (B.state on.new).pins_left + 1 }
+    ensures again { IsGot (B.state on.old) kind at → (B.state on.old).pins_left ≤ (B.state on.new).pins_left }
+    ensures looks { Looks (B.state on.old) (B.state on.new) }
+    ensures keeps { B.keeps on.old on.new }
+    ensures cause { IfErr result (Failed (B.state on.old) (B.state on.new)) }
+{
+    on.pin(at, kind, rank)?;
+    match lent_below(on, at, kind, rank, i) {
+        Some(pointer) => Ok(pointer),
+        None => copied_below(on, at, kind, rank, i),
+    }
 }
 
 /// The pointer in slot `i` of a block of pointers that is held.

@@ -1,5 +1,5 @@
 //! Bytes of one leaf are copied.
-ghost use Rattle.std.specs.Prelude.{◌≡◌, ◌⊎◌, ◌+◌, ◌*◌, ◌/◌, ◌%◌, ◌^◌, ◌<◌, ◌≤◌, ℕ, List, Some, None, length, slice_index, OnOk, IfErr, false};
+ghost use Rattle.std.specs.Prelude.{◌≡◌, ◌⊎◌, ◌+◌, ◌*◌, ◌/◌, ◌%◌, ◌^◌, ◌<◌, ◌≤◌, ℕ, List, Some, None, length, slice_index, OnOk, IfErr, true, false};
 ghost use Rattle.fo_base.specs.Cause.{Rose};
 ghost use Rattle.fo_image.specs.declared.types.Kind.TheVariants.{Data};
 ghost use Rattle.fo_image.specs.declared.types.Pointer.TheVariants.{Local};
@@ -18,8 +18,29 @@ use fo_ports::{BlockError, Blocks};
 /// How many bytes a leaf has.
 pub(crate) const LEAF: u64 = BLOCK as u64;
 
-/// Copies bytes of a leaf that stands on the device.
-fn copy_local<B: Blocks>(
+/// Copies bytes of a leaf where it can be lent, and says whether it could.
+fn copy_lent<B: Blocks>(
+    on: &B,
+    at: u32,
+    kind: Kind,
+    rank: u32,
+    from: usize,
+    into: &mut [u8],
+) -> bool
+    requires block { (B.state on.now).is_block at }
+    requires part { from + length into.old ≤ 8192 }
+    ensures given { result ≡ true → kind ≡ Data 0 → (i : ℕ) → i < length into.old → slice_index into.new i ≡ slice_index (((B.state on.now).now at).bytes) (from + i) }
+    ensures length { length into.new ≡ length into.old }
+{
+    let Some(block) = on.lend(at, kind, rank) else {
+        return false;
+    };
+    into.copy_from_slice(&block[from..from + into.len()]);
+    true
+}
+
+/// Copies bytes of a leaf that stands on the device, by a copy of the whole.
+fn copy_whole<B: Blocks>(
     on: &mut B,
     at: u32,
     kind: Kind,
@@ -42,6 +63,33 @@ fn copy_local<B: Blocks>(
     on.get(at, kind, rank, &mut block)?;
     into.copy_from_slice(&block[from..from + into.len()]);
     Ok(())
+}
+
+/// Copies bytes of a leaf that stands on the device. It stands at a place of this kind and rank after a look, too.
+fn copy_local<B: Blocks>(
+    on: &mut B,
+    at: u32,
+    kind: Kind,
+    rank: u32,
+    from: usize,
+    into: &mut [u8],
+) -> Result<(), BlockError>
+    requires block { (B.state on.old).is_block at }
+    requires told { (b : B) → B.keeps on.old b → Looks (B.state on.old) (B.state b) → (B.state b).tells → StandsAs (B.state b) kind rank at }
+    requires part { from + length into.old ≤ 8192 }
+    ensures given { OnOk result (kind ≡ Data 0 → (i : ℕ) → i < length into.old → slice_index into.new i ≡ slice_index (((B.state on.new).now at).bytes) (from + i)) }
+    ensures got { OnOk result ((0 < (B.state on.old).pins_left) ⊎ (B.state on.old).pinned at → IsGot (B.state on.new) kind at) }
+    ensures pins { (B.state on.old).pins_left ≤ (B.state on.new).pins_left + 1 }
+    ensures again { IsGot (B.state on.old) kind at → (B.state on.old).pins_left ≤ (B.state on.new).pins_left }
+    ensures looks { Looks (B.state on.old) (B.state on.new) }
+    ensures keeps { B.keeps on.old on.new }
+    ensures cause { IfErr result (Failed (B.state on.old) (B.state on.new)) }
+{
+    on.pin(at, kind, rank)?;
+    if copy_lent(on, at, kind, rank, from, into) {
+        return Ok(());
+    }
+    copy_whole(on, at, kind, rank, from, into)
 }
 
 /// Copies bytes of a leaf that is held under its score.

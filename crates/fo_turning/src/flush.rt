@@ -1,5 +1,5 @@
 //! Flushing turns.
-ghost use Rattle.std.specs.Prelude.{◌≡◌, ◌≢◌, ◌↔◌, ◌<◌, ◌≤◌, ℕ, [], true, length, None, Ok, OnOk, OnErr, IfOk, IfErr};
+ghost use Rattle.std.specs.Prelude.{◌≡◌, ◌≢◌, ◌↔◌, ◌+◌, ◌<◌, ◌≤◌, ℕ, [], true, length, None, Ok, OnOk, OnErr, IfOk, IfErr};
 ghost use Rattle.fo_base.specs.Cause.{Rose};
 ghost use Rattle.fo_disk.specs.Disk.{IsSettled, IsSync, versions_of};
 ghost use Rattle.fo_disk.specs.declared.disk.Failed.{Failed};
@@ -14,6 +14,7 @@ ghost use Rattle.fo_mind.specs.Turning.{HasTurn, Missed, Synced};
 ghost use Rattle.fo_cache.specs.Easing.{Eases};
 ghost use Rattle.fo_cache.specs.Settling.{Settles};
 ghost use Rattle.fo_cache.specs.Supers.{Overruled};
+ghost use Rattle.fo_cache.specs.Work.{AtMost, in_doubt};
 ghost use Rattle.fo_turning.specs.declared.flush.Flushed.TheVariants.{Wrote, Synced as SyncedIs, Idle};
 ghost use Rattle.fo_turning.specs.Flushes.{AtIdle, Does, Lands, Misses, Overrules, Syncs, Writes};
 
@@ -58,6 +59,7 @@ fn settle_first<D: Disk>(cache: &mut Cache<D>) -> Result<(), BlockError>
     ensures overruled { OnOk result (Overruled (D.state cache.old.main) (D.state cache.new.main) (parts cache.old.mind [] 0) (parts cache.new.mind [] 0)) }
     ensures nothing { OnErr result (parts cache.new.mind [] 0 ≡ parts cache.old.mind [] 0) }
     ensures eases { Eases (parts cache.old.mind (D.state cache.old.main).holds (D.faults cache.old.main)) (parts cache.new.mind (D.state cache.new.main).holds (D.faults cache.new.main)) }
+    ensures calls { AtMost 2 (D.calls cache.old.main) (D.calls cache.new.main) }
     ensures size { D.size cache.new.main ≡ D.size cache.old.main }
     ensures cause { IfErr result (Caused ⊥ (λ b. ⊥) (Rose (D.faults cache.old.main) (D.faults cache.new.main)) ⊥) }
     ensures later { D.faults cache.old.main ≤ D.faults cache.new.main }
@@ -71,6 +73,7 @@ fn write_first<D: Disk>(cache: &mut Cache<D>) -> Result<Flushed, BlockError>
     ensures does { IfOk result (λ f. (f ≡ Wrote 1) × Overrules (D.state cache.old.main) (D.state cache.new.main) (parts cache.old.mind [] 0) (parts cache.new.mind [] 0)) }
     ensures nothing { OnErr result (parts cache.new.mind [] 0 ≡ parts cache.old.mind [] 0) }
     ensures eases { Eases (parts cache.old.mind (D.state cache.old.main).holds (D.faults cache.old.main)) (parts cache.new.mind (D.state cache.new.main).holds (D.faults cache.new.main)) }
+    ensures calls { AtMost 2 (D.calls cache.old.main) (D.calls cache.new.main) }
     ensures size { D.size cache.new.main ≡ D.size cache.old.main }
     ensures cause { IfErr result (Caused ⊥ (λ b. ⊥) (Rose (D.faults cache.old.main) (D.faults cache.new.main)) ⊥) }
     ensures later { D.faults cache.old.main ≤ D.faults cache.new.main }
@@ -89,6 +92,7 @@ fn write_ready<D: Disk>(cache: &mut Cache<D>, at: u32) -> Result<Flushed, BlockE
     ensures missed { OnErr result (Missed at (parts cache.old.mind [] 0) (parts cache.new.mind [] 0)) }
     ensures settles { Settles (D.state cache.old.main) (D.state cache.new.main) (parts cache.old.mind [] 0) (parts cache.new.mind [] 0) }
     ensures others { (k : ℕ) → k ≢ at → versions_of (D.state cache.new.main).holds k ≡ versions_of (D.state cache.old.main).holds k }
+    ensures calls { AtMost 1 (D.calls cache.old.main) (D.calls cache.new.main) }
     ensures size { D.size cache.new.main ≡ D.size cache.old.main }
     ensures cause { IfErr result (Caused ⊥ (λ b. ⊥) (Rose (D.faults cache.old.main) (D.faults cache.new.main)) ⊥) }
     ensures later { D.faults cache.old.main ≤ D.faults cache.new.main }
@@ -105,6 +109,7 @@ fn write_next<D: Disk>(cache: &mut Cache<D>, at: u32) -> Result<Flushed, BlockEr
     ensures does { IfOk result (λ f. (f ≡ Wrote at) × Writes at (D.state cache.old.main) (D.state cache.new.main) (parts cache.old.mind [] 0) (parts cache.new.mind [] 0)) }
     ensures settles { Settles (D.state cache.old.main) (D.state cache.new.main) (parts cache.old.mind [] 0) (parts cache.new.mind [] 0) }
     ensures misses { OnErr result (Misses (parts cache.old.mind [] 0) (parts cache.new.mind [] 0)) }
+    ensures calls { AtMost 1 (D.calls cache.old.main) (D.calls cache.new.main) }
     ensures size { D.size cache.new.main ≡ D.size cache.old.main }
     ensures cause { IfErr result (Caused ⊥ (λ b. ⊥) (Rose (D.faults cache.old.main) (D.faults cache.new.main)) ⊥) }
     ensures later { D.faults cache.old.main ≤ D.faults cache.new.main }
@@ -122,6 +127,7 @@ fn sync_next<D: Disk>(cache: &mut Cache<D>) -> Result<(), BlockError>
     ensures state { OnOk result (IsSync {E = Failed} (Ok tt) (D.state cache.old.main) (D.state cache.new.main)) }
     ensures nothing { OnErr result (parts cache.new.mind [] 0 ≡ parts cache.old.mind [] 0) }
     ensures eases { Eases (parts cache.old.mind (D.state cache.old.main).holds (D.faults cache.old.main)) (parts cache.new.mind (D.state cache.new.main).holds (D.faults cache.new.main)) }
+    ensures calls { AtMost 1 (D.calls cache.old.main) (D.calls cache.new.main) }
     ensures size { D.size cache.new.main ≡ D.size cache.old.main }
     ensures cause { IfErr result (Caused ⊥ (λ b. ⊥) (Rose (D.faults cache.old.main) (D.faults cache.new.main)) ⊥) }
     ensures later { D.faults cache.old.main ≤ D.faults cache.new.main }
@@ -138,6 +144,7 @@ fn sync_written<D: Disk>(cache: &mut Cache<D>) -> Result<Flushed, BlockError>
     ensures does { IfOk result (λ f. (f ≡ SyncedIs) × Syncs (D.state cache.old.main) (D.state cache.new.main) (parts cache.old.mind [] 0) (parts cache.new.mind [] 0)) }
     ensures nothing { OnErr result (parts cache.new.mind [] 0 ≡ parts cache.old.mind [] 0) }
     ensures eases { Eases (parts cache.old.mind (D.state cache.old.main).holds (D.faults cache.old.main)) (parts cache.new.mind (D.state cache.new.main).holds (D.faults cache.new.main)) }
+    ensures calls { AtMost 1 (D.calls cache.old.main) (D.calls cache.new.main) }
     ensures size { D.size cache.new.main ≡ D.size cache.old.main }
     ensures cause { IfErr result (Caused ⊥ (λ b. ⊥) (Rose (D.faults cache.old.main) (D.faults cache.new.main)) ⊥) }
     ensures later { D.faults cache.old.main ≤ D.faults cache.new.main }
@@ -154,6 +161,7 @@ fn take_turn<D: Disk>(cache: &mut Cache<D>) -> Result<Flushed, BlockError>
     ensures idle { AtIdle (parts cache.old.mind [] 0) → result ≡ Ok Idle }
     ensures eases { Eases (parts cache.old.mind (D.state cache.old.main).holds (D.faults cache.old.main)) (parts cache.new.mind (D.state cache.new.main).holds (D.faults cache.new.main)) }
     ensures misses { OnErr result (Misses (parts cache.old.mind [] 0) (parts cache.new.mind [] 0)) }
+    ensures calls { AtMost (1 + in_doubt (parts cache.old.mind [] 0).doubt) (D.calls cache.old.main) (D.calls cache.new.main) }
     ensures size { D.size cache.new.main ≡ D.size cache.old.main }
     ensures cause { IfErr result (Caused ⊥ (λ b. ⊥) (Rose (D.faults cache.old.main) (D.faults cache.new.main)) ⊥) }
     ensures later { D.faults cache.old.main ≤ D.faults cache.new.main }
@@ -168,15 +176,16 @@ fn take_turn<D: Disk>(cache: &mut Cache<D>) -> Result<Flushed, BlockError>
     }
 }
 
-/// Takes one step of a settling, and answers which: a write, a sync, or a slot that is cleared. What a sync settled is given up where it
-/// may be. It may want memory: for the turn of a pinned block or of one in which a slot is cleared, and for the list of what is settled;
-/// then it did nothing.
+/// Takes one step of a settling, and answers which: a write, a sync, or a slot that is cleared. The device is called once at most, and
+/// twice where block 1 is in doubt. What a sync settled is given up where it may be. It may want memory: for the turn of a pinned block or
+/// of one in which a slot is cleared, and for the list of what is settled; then it did nothing.
 pub fn flush_turn<D: Disk>(cache: &mut Cache<D>) -> Result<Flushed, BlockError>
     ensures does { IfOk result (λ f. Does f (D.state cache.old.main) (D.state cache.new.main) (parts cache.old.mind [] 0) (parts cache.new.mind [] 0)) }
     ensures idle { (result ≡ Ok Idle) ↔ AtIdle (parts cache.old.mind [] 0) }
     ensures still { AtIdle (parts cache.old.mind [] 0) → parts cache.new.mind [] 0 ≡ parts cache.old.mind [] 0 }
     ensures eases { Eases (parts cache.old.mind (D.state cache.old.main).holds (D.faults cache.old.main)) (parts cache.new.mind (D.state cache.new.main).holds (D.faults cache.new.main)) }
     ensures misses { OnErr result (Misses (parts cache.old.mind [] 0) (parts cache.new.mind [] 0)) }
+    ensures calls { AtMost (1 + in_doubt (parts cache.old.mind [] 0).doubt) (D.calls cache.old.main) (D.calls cache.new.main) }
     ensures size { D.size cache.new.main ≡ D.size cache.old.main }
     ensures cause { IfErr result (Caused ⊥ (λ b. ⊥) (Rose (D.faults cache.old.main) (D.faults cache.new.main)) ⊥) }
     ensures later { D.faults cache.old.main ≤ D.faults cache.new.main }

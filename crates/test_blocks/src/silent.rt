@@ -381,6 +381,16 @@ impl CarelessBlocks {
         copy_formed(&block, kind, rank, into)
     }
 
+    /// Whether a block was given out with a label of this kind.
+    pub(crate) fn has_kind(&self, at: u32, kind: Kind) -> bool
+        ensures { IsTrue result ↔ (IsMade self.now.blocks.items at × ((block_at self.now.blocks.items at).label.kind ≡ kind)) }
+    {
+        if at <= 1 || self.blocks.len() <= at as usize {
+            return false;
+        }
+        is_kind(self.block(at).label.kind, kind)
+    }
+
     /// Gives out a block.
     pub(crate) fn make(&mut self, block: Block) -> u32
         requires spare { length self.old.blocks.items < self.old.count }

@@ -19,6 +19,19 @@ impl Blocks for CarelessBlocks {
         Err(BlockError::Damaged(at))
     }
 
+    fn pin(&mut self, at: u32, kind: Kind, rank: u32) -> Result<(), BlockError> {
+        let _ = rank;
+        if self.has_kind(at, kind) {
+            return Ok(());
+        }
+        Err(BlockError::Damaged(at))
+    }
+
+    fn lend(&self, at: u32, kind: Kind, rank: u32) -> Option<&[u8]> {
+        let _ = (at, kind, rank);
+        None
+    }
+
     fn slot(&self, at: u32, i: u32) -> Slot {
         self.slot_in(at, i)
     }

@@ -59,6 +59,26 @@ fn ends(rt: HostRuntime) -> Result<(), Fail> {
     keeps(rt.alloc(), "V T M D 06000000", "RV RT RC RD", bad)
 }
 
+// Writes a file and removes it in a run that ends at once, and checks the devices: what left the tree was closed. Used are the root block, a
+// leaf of entries and one of records.
+fn closes(alloc: Global, input: &str, why: Why) -> Result<(), Fail> {
+    let disks = formatted(alloc, Vec::new(alloc))?;
+    let output = bytes(alloc, "RV RT RC RD 070000007b0200")?;
+    let disks = says(alloc, "9p", disks, input, output.as_slice(), why)?;
+    let line = b"sound 64 blocks 3 used 0 leaked 0 snapshots\n";
+    says(alloc, "flchk", disks, "", line, Why::Ended)?;
+    Ok(())
+}
+
+/// A file that is removed last leaks no block, whether the input ends or is bad.
+#[test]
+fn removed(rt: HostRuntime) -> Result<(), Fail> {
+    let alloc = rt.alloc();
+    closes(alloc, "V T M D 0b0000007a020000000000", Why::Ended)?;
+    let bad = Why::BadInput(99);
+    closes(alloc, "V T M D 0b0000007a020000000000 06000000", bad)
+}
+
 // How a run that writes a file ends over a main device that fails at these calls, and how many calls that had.
 fn ended(alloc: Global, fails: Vec<u64>) -> Result<(Why, u64), Fail> {
     let disks = formatted(alloc, fails)?;

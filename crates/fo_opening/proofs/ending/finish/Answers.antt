@@ -8,7 +8,7 @@ use Rattle.fo_cache.specs.Settling.{Rested}
 use Rattle.fo_opening.specs.Ending.{SomeWaits}
 use Rattle.fo_opening.specs.Finished.{Finished}
 use Rattle.fo_opening.proofs.Finishing.{bytes_ended, caused_later, ends_let, ends_on}
-use Rattle.fo_opening.proofs.Stepping.{bytes_none, ending_on, fault_only, quiet_all, waited_let}
+use Rattle.fo_opening.proofs.Stepping.{bytes_none, ending_on, fault_only, header_kept, let_left, waited_let}
 use Rattle.fo_opening.proofs.ending.finish.Goals as goal
 
 pub settle_all-requires : goal.settle_all-requires
@@ -31,7 +31,9 @@ returns-in_err-settle_all-clause-bytes g c =
 
 pub returns-in_err-settle_all-clause-header : goal.returns-in_err-settle_all-clause-header
 returns-in_err-settle_all-clause-header g c =
-    subst (λ (s : DiskState). Rested (versions_of s.holds 0) (versions_of (g.D.Disk.state c.settle_all.new.cache.main).holds 0)) (ap g.D.Disk.state c.unpin_all.ensures.device) c.settle_all.ensures.ending.header
+    let old = c.args.cache.now in
+    header_kept (g.D.Disk.state old.main).holds (g.D.Disk.state c.settle_all.new.cache.main).holds old.header
+    (subst (λ (s : DiskState). Rested (versions_of s.holds 0) (versions_of (g.D.Disk.state c.settle_all.new.cache.main).holds 0)) (ap g.D.Disk.state c.unpin_all.ensures.device) c.settle_all.ensures.ending.header)
 
 pub returns-in_err-settle_all-clause-count : goal.returns-in_err-settle_all-clause-count
 returns-in_err-settle_all-clause-count g c = c.settle_all.ensures.ending.count ∙ ap (λ m. length (g.D.Disk.state m).holds) c.unpin_all.ensures.device
@@ -46,17 +48,11 @@ returns-clause-finished g c =
     let new = c.save_number.new.cache in
     subst (λ (o : Super). OnOk c.save_number.result (Finished o (g.D.Disk.state new.main) (parts new.mind [] 0))) c.one-one.ensures c.save_number.ensures.finished
 
-pub returns-clause-quiet : goal.returns-clause-quiet
-returns-clause-quiet g c =
-    let old = c.args.cache.now in
-    let new = c.save_number.new.cache in
-    quiet_all (g.D.Disk.state old.main).holds (g.D.Disk.state new.main).holds c.save_number.result
-    (subst (λ (s : DiskState). Rested (versions_of s.holds 0) (versions_of (g.D.Disk.state new.main).holds 0)) (ap g.D.Disk.state c.unpin_all.ensures.device) (ending_on c.settle_all.ensures.ending c.save_number.ensures.ending).header)
-    c.save_number.ensures.quiet
-
 pub returns-clause-header : goal.returns-clause-header
 returns-clause-header g c =
-    subst (λ (s : DiskState). Rested (versions_of s.holds 0) (versions_of (g.D.Disk.state c.save_number.new.cache.main).holds 0)) (ap g.D.Disk.state c.unpin_all.ensures.device) (ending_on c.settle_all.ensures.ending c.save_number.ensures.ending).header
+    let old = c.args.cache.now in
+    header_kept (g.D.Disk.state old.main).holds (g.D.Disk.state c.save_number.new.cache.main).holds old.header
+    (subst (λ (s : DiskState). Rested (versions_of s.holds 0) (versions_of (g.D.Disk.state c.save_number.new.cache.main).holds 0)) (ap g.D.Disk.state c.unpin_all.ensures.device) (ending_on c.settle_all.ensures.ending c.save_number.ensures.ending).header)
 
 pub returns-clause-count : goal.returns-clause-count
 returns-clause-count g c = c.save_number.ensures.ending.count ∙ c.settle_all.ensures.ending.count ∙ ap (λ m. length (g.D.Disk.state m).holds) c.unpin_all.ensures.device
@@ -87,3 +83,18 @@ returns-clause-cause g c =
 
 pub returns-clause-memory : goal.returns-clause-memory
 returns-clause-memory g c = fault_only (SomeWaits (parts c.args.cache.now.mind [] 0)) c.save_number.result c.save_number.ensures.failed
+
+pub returns-in_err-settle_all-clause-calls : goal.returns-in_err-settle_all-clause-calls
+returns-in_err-settle_all-clause-calls g c =
+    let left = let_left (parts c.args.cache.now.mind [] 0) (parts c.unpin_all.new.cache.mind [] 0) c.unpin_all.ensures.lets in
+    let same = ap g.D.Disk.calls c.unpin_all.ensures.device in
+    let e = c.settle_all.ensures.calls in
+    omega (arith, left, same, e)
+
+pub returns-clause-calls : goal.returns-clause-calls
+returns-clause-calls g c =
+    let left = let_left (parts c.args.cache.now.mind [] 0) (parts c.unpin_all.new.cache.mind [] 0) c.unpin_all.ensures.lets in
+    let same = ap g.D.Disk.calls c.unpin_all.ensures.device in
+    let e = c.settle_all.ensures.calls in
+    let f = c.save_number.ensures.calls in
+    omega (arith, left, same, e, f)

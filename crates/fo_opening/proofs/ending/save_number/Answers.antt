@@ -29,7 +29,7 @@ returns-clause-quiet g c =
     (finished_of c.args.one c.saved_number-numbers.result (g.D.Disk.state old.main) (g.D.Disk.state new.main) (parts old.mind [] 0) (parts new.mind [] 0) new.first new.spelled new.fits new.mind.turning c.requires.settled
     (c.saved_number-numbers.ensures ∙ ap (λ k. saved_number k old.mind.granted) c.next.ensures)
     counts)
-    new.fits
+    new.fits new.header
 
 pub returns-clause-ending : goal.returns-clause-ending
 returns-clause-ending g c =

@@ -4,7 +4,7 @@ use Rattle.fo_opening.proofs.Stepping.{ending_none, ending_on, waited, waits_any
 use Rattle.fo_opening.proofs.rounds.clear_all.Goals as goal
 
 pub loop-init : goal.loop-init
-loop-init g c = let old = c.args.cache.now in record { ending = ending_none (g.D.Disk.state old.main) (g.D.Disk.faults old.main) (parts old.mind [] 0); fewer = omega arith; device = refl }
+loop-init g c = let old = c.args.cache.now in record { ending = ending_none (g.D.Disk.state old.main) (g.D.Disk.faults old.main) (parts old.mind [] 0); fewer = omega arith; left = omega arith; device = refl }
 
 pub loop-preserved : goal.loop-preserved
 loop-preserved g c =
@@ -13,6 +13,7 @@ loop-preserved g c =
     record {
       ending = ending_on c.loop.invariant.ending c.clear_next.ensures.ending;
       fewer = omega (arith, l, was);
+      left = let x = c.loop.invariant.left in let y = c.clear_next.ensures.left in omega (arith, x, y);
       device = c.clear_next.ensures.device ∙ c.loop.invariant.device;
     }
 
@@ -24,3 +25,9 @@ returns-in_err-clear_next-clause-waits g c = waits_any c.from_residual.result (w
 
 pub returns-clause-ending : goal.returns-clause-ending
 returns-clause-ending g c = ending_on c.loop.invariant.ending c.clear_next.ensures.ending
+
+pub returns-in_err-clear_next-clause-left : goal.returns-in_err-clear_next-clause-left
+returns-in_err-clear_next-clause-left g c = let x = c.loop.invariant.left in let y = c.clear_next.ensures.left in omega (arith, x, y)
+
+pub returns-clause-left : goal.returns-clause-left
+returns-clause-left g c = let x = c.loop.invariant.left in let y = c.clear_next.ensures.left in omega (arith, x, y)

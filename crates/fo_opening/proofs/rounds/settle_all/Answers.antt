@@ -8,7 +8,7 @@ pub settle_round-requires : goal.settle_round-requires
 settle_round-requires g c = record { free = free_after c.loop.invariant.ending c.requires.free }
 
 pub loop-init : goal.loop-init
-loop-init g c = let old = c.args.cache.now in record { ending = ending_none (g.D.Disk.state old.main) (g.D.Disk.faults old.main) (parts old.mind [] 0); size = refl; later = omega arith }
+loop-init g c = let old = c.args.cache.now in record { ending = ending_none (g.D.Disk.state old.main) (g.D.Disk.faults old.main) (parts old.mind [] 0); size = refl; spent = omega arith; later = omega arith }
 
 pub loop-preserved : goal.loop-preserved
 loop-preserved g c =
@@ -17,6 +17,7 @@ loop-preserved g c =
     record {
       ending = ending_on c.loop.invariant.ending c.settle_round.ensures.ending;
       size = c.settle_round.ensures.size ∙ c.loop.invariant.size;
+      spent = let x = c.loop.invariant.spent in let y = c.in_ok-settle_round.ensures.spent in omega (arith, x, y);
       later = omega (arith, a, b);
     }
 
@@ -30,3 +31,15 @@ returns-in_err-settle_round-clause-memory g c =
 
 pub returns-clause-ending : goal.returns-clause-ending
 returns-clause-ending g c = ending_on c.loop.invariant.ending c.settle_round.ensures.ending
+
+pub returns-in_err-settle_round-clause-calls : goal.returns-in_err-settle_round-clause-calls
+returns-in_err-settle_round-clause-calls g c =
+    let x = c.loop.invariant.spent in
+    let y = c.settle_round.ensures.calls in
+    omega (arith, x, y)
+
+pub returns-clause-calls : goal.returns-clause-calls
+returns-clause-calls g c =
+    let x = c.loop.invariant.spent in
+    let y = c.in_ok-settle_round.ensures.spent in
+    omega (arith, x, y)

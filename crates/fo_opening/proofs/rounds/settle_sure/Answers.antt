@@ -1,7 +1,8 @@
-use Rattle.std.proofs.Common.{[], ap, ◌∙◌, subst}
+use Rattle.std.proofs.Common.{[], ap, ◌∙◌, subst, arith}
 use Rattle.fo_mind.specs.MindParts.{parts}
 use Rattle.fo_mind.specs.Parts.{IsPinned, Parts}
-use Rattle.fo_mind.proofs.Results.{any_ok}
+use Rattle.fo_mind.proofs.Results.{any_ok, on_ok}
+use Rattle.fo_cache.proofs.Lessening.{certain_left, turned_left}
 use Rattle.fo_opening.proofs.Finishing.{caused_later}
 use Rattle.fo_opening.proofs.Stepping.{ending_on, ending_renumbered, ending_turned}
 use Rattle.fo_opening.proofs.rounds.settle_sure.Goals as goal
@@ -33,3 +34,17 @@ returns-clause-cause g c =
     let mid = c.settle_doubt.new.self in
     let new = c.take_turns.new.cache in
     caused_later (g.D.Disk.faults old.main) (g.D.Disk.faults mid.main) (g.D.Disk.faults new.main) c.take_turns.result c.settle_doubt.ensures.later c.take_turns.ensures.cause
+
+pub returns-in_err-settle_doubt-clause-calls : goal.returns-in_err-settle_doubt-clause-calls
+returns-in_err-settle_doubt-clause-calls g c = let x = c.settle_doubt.ensures.calls in omega (arith, x)
+
+pub returns-clause-calls : goal.returns-clause-calls
+returns-clause-calls g c =
+    let x = certain_left (g.D.Disk.state c.args.cache.now.main) (g.D.Disk.state c.settle_doubt.new.self.main) (parts c.args.cache.now.mind [] 0) (parts c.settle_doubt.new.self.mind [] 0) _ _ c.settle_doubt.ensures.renumbers c.in_ok-settle_doubt.ensures.certain c.settle_doubt.ensures.turns c.settle_doubt.ensures.calls in
+    let y = c.take_turns.ensures.calls in
+    omega (arith, x, y)
+
+pub returns-clause-spent : goal.returns-clause-spent
+returns-clause-spent g c =
+    let x = certain_left (g.D.Disk.state c.args.cache.now.main) (g.D.Disk.state c.settle_doubt.new.self.main) (parts c.args.cache.now.mind [] 0) (parts c.settle_doubt.new.self.mind [] 0) _ _ c.settle_doubt.ensures.renumbers c.in_ok-settle_doubt.ensures.certain c.settle_doubt.ensures.turns c.settle_doubt.ensures.calls in
+    on_ok c.take_turns.result (λ quiet. let y = turned_left (g.D.Disk.state c.settle_doubt.new.self.main) (g.D.Disk.state c.take_turns.new.cache.main) (parts c.settle_doubt.new.self.mind [] 0) (parts c.take_turns.new.cache.mind [] 0) _ _ c.take_turns.ensures.settles quiet c.take_turns.ensures.calls in omega (arith, x, y)) c.take_turns.ensures.quiet

@@ -1,6 +1,6 @@
-use Rattle.std.proofs.Common.{[]}
+use Rattle.std.proofs.Common.{[], arith}
 use Rattle.fo_mind.specs.MindParts.{parts}
-use Rattle.fo_cache.proofs.Lessening.{synced_less}
+use Rattle.fo_cache.proofs.Lessening.{due_work, synced_less}
 use Rattle.fo_cache.proofs.Settling.{sync_settles}
 use Rattle.fo_opening.proofs.turns.sync_next.Goals as goal
 
@@ -20,3 +20,21 @@ returns-clause-settles g c =
 
 pub returns-clause-less : goal.returns-clause-less
 returns-clause-less g c = synced_less (parts c.args.cache.now.mind [] 0) (parts c.sync_turn.new.self.mind [] 0) c.requires.due c.in-Ok.ensures.synced
+
+pub returns-in_default-clause-calls : goal.returns-in_default-clause-calls
+returns-in_default-clause-calls g c =
+    let e = c.sync_turn.ensures.calls in
+    let some = due_work (parts c.args.cache.now.mind [] 0) c.requires.due in
+    omega (arith, e, some)
+
+pub returns-clause-calls : goal.returns-clause-calls
+returns-clause-calls g c =
+    let e = c.sync_turn.ensures.calls in
+    let some = due_work (parts c.args.cache.now.mind [] 0) c.requires.due in
+    omega (arith, e, some)
+
+pub returns-clause-spent : goal.returns-clause-spent
+returns-clause-spent g c =
+    let e = c.sync_turn.ensures.calls in
+    let less = returns-clause-less g c in
+    omega (arith, e, less)

@@ -22,5 +22,18 @@ loop-preserved g c =
     record {
       settles = then (g.D.Disk.state c.args.cache.now.main) (g.D.Disk.state c.loop.cache.main) (g.D.Disk.state c.take_turn.new.cache.main) (parts c.args.cache.now.mind [] 0) (parts c.loop.cache.mind [] 0) (parts c.take_turn.new.cache.mind [] 0) was.settles now.settles;
       size = now.size ∙ was.size;
+      spent = let x = was.spent in let y = c.in_ok-take_turn.ensures.spent in omega (arith, x, y);
       later = let x = was.later in let y = now.later in omega (arith, x, y);
     }
+
+pub returns-in_err-take_turn-clause-calls : goal.returns-in_err-take_turn-clause-calls
+returns-in_err-take_turn-clause-calls g c =
+    let x = c.loop.invariant.spent in
+    let y = c.take_turn.ensures.calls in
+    omega (arith, x, y)
+
+pub returns-clause-calls : goal.returns-clause-calls
+returns-clause-calls g c =
+    let x = c.loop.invariant.spent in
+    let y = c.in_ok-take_turn.ensures.spent in
+    omega (arith, x, y)

@@ -1,4 +1,5 @@
-use Rattle.std.proofs.Common.{[], refl}
+use Rattle.std.proofs.Common.{◌<◌, [], length, refl, sym, subst}
+use Rattle.fo_disk.specs.Disk.{DiskState, IsSettled}
 use Rattle.fo_mind.specs.MindParts.{parts}
 use Rattle.fo_cache.proofs.Outcomes.{quiet_is_memory}
 use Rattle.fo_reserving.proofs.Joining.{closes_row}
@@ -32,6 +33,10 @@ invariant_of-cache-clause-first g c =
     let p = parts old.mind [] 0 in
     let q = parts new.mind [] 0 in
     one_closed p q (g.D.Disk.state old.main) (g.D.Disk.state new.main) e.state (g.D.Disk.faults old.main) (g.D.Disk.faults new.main) e.leaves c.requires.quiet e.rest (first_same p q old.mind.placed new.mind.placed e.count) old.first
+
+pub invariant_of-cache-clause-header : goal.invariant_of-cache-clause-header
+invariant_of-cache-clause-header g c =
+    subst (λ (x : DiskState). 0 < length x.holds → IsSettled x.holds 0) (sym c.close_until.ensures.state) c.args.cache.now.header
 
 pub returns-clause-leaves : goal.returns-clause-leaves
 returns-clause-leaves g c =

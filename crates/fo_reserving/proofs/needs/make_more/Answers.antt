@@ -1,5 +1,6 @@
-use Rattle.std.proofs.Common.{[], ap, arith}
+use Rattle.std.proofs.Common.{◌≡◌, [], ⊎_elim, sym, ap, ◌∙◌, arith}
 use Rattle.fo_mind.specs.MindParts.{parts}
+use Rattle.fo_mind.specs.Parts.{Parts}
 use Rattle.fo_reserving.proofs.Calming.{rest_few}
 use Rattle.fo_reserving.proofs.Joining.{reserves_on}
 use Rattle.fo_reserving.proofs.Rooming.{caused_result}
@@ -22,3 +23,11 @@ returns-clause-cause g c =
 
 pub returns-then-made-clause-few : goal.returns-then-made-clause-few
 returns-then-made-clause-few g c = c.make.ensures.few_stay (rest_few (parts c.close_more.new.cache.mind [] 0) c.in_default.ensures.rest)
+
+pub make_last-requires : goal.make_last-requires
+make_last-requires g c =
+    let closed = c.in_default.ensures in
+    let f = c.in-Ok.ensures.few c.if-made.false in
+    let lt = f.0 in
+    let none = ⊎_elim (λ le. absurd (omega (arith, le, lt))) (λ (e : (parts c.close_more.new.cache.mind [] 0).removals ≡ []). e) closed.over in
+    record { closed = (ap (λ (p : Parts). p.removals) f.1 ∙ none, ap (λ (p : Parts). p.clears) f.1 ∙ closed.rest.none) }

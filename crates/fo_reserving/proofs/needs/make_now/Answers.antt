@@ -24,3 +24,6 @@ returns-clause-cause g c =
 
 pub returns-then-made-clause-few : goal.returns-then-made-clause-few
 returns-then-made-clause-few g c = c.make.ensures.few_stay c.in_default.ensures.few
+
+pub returns-then-made-clause-room : goal.returns-then-made-clause-room
+returns-then-made-clause-room g c = c.in-Ok.ensures.made c.if-made.true

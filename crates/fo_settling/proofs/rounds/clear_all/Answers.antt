@@ -17,6 +17,7 @@ loop-preserved g c =
       eases = eases_on c.loop.invariant.eases c.clear_next.ensures.eases;
       clears = clearings_on c.loop.invariant.clears c.clear_next.ensures.clears;
       fewer = omega (arith, l, was);
+      left = let x = c.loop.invariant.left in let y = c.clear_next.ensures.left in omega (arith, x, y);
       device = c.clear_next.ensures.device ∙ c.loop.invariant.device;
     }
 
@@ -25,3 +26,9 @@ returns-in_err-clear_next-clause-clears g c = clearings_on c.loop.invariant.clea
 
 pub returns-clause-clears : goal.returns-clause-clears
 returns-clause-clears g c = clearings_on c.loop.invariant.clears c.clear_next.ensures.clears
+
+pub returns-in_err-clear_next-clause-left : goal.returns-in_err-clear_next-clause-left
+returns-in_err-clear_next-clause-left g c = let x = c.loop.invariant.left in let y = c.clear_next.ensures.left in omega (arith, x, y)
+
+pub returns-clause-left : goal.returns-clause-left
+returns-clause-left g c = let x = c.loop.invariant.left in let y = c.clear_next.ensures.left in omega (arith, x, y)

@@ -1,8 +1,9 @@
-use Rattle.std.proofs.Common.{[], sym, ap, ◌∙◌, subst}
+use Rattle.std.proofs.Common.{[], sym, ap, ◌∙◌, subst, arith}
 use Rattle.fo_order.specs.Turns.{IsQuiet}
 use Rattle.fo_waits.specs.Listed.{Clears}
 use Rattle.fo_mind.specs.Parts.{IsPinned, Parts}
 use Rattle.fo_cache.proofs.Easing.{eases_on}
+use Rattle.fo_cache.proofs.Lessening.{certain_left}
 use Rattle.fo_mind.specs.MindParts.{parts}
 use Rattle.fo_settling.proofs.Clearing.{clearings_of, clearings_on, lasts_on, lasts_renumbered, lasts_sealed, lasts_waited}
 use Rattle.fo_settling.proofs.Waiting.{newborn_or_sealed}
@@ -50,3 +51,20 @@ returns-clause-clears g c =
     clearings_on (clearings_on (clearings_of (lasts_renumbered (g.D.Disk.state old.main) (g.D.Disk.state mid.main) (parts old.mind [] 0) (parts mid.mind [] 0) (g.D.Disk.faults old.main) (g.D.Disk.faults mid.main) old.mind.placed c.settle_doubt.ensures.renumbers)) c.settle_rounds.ensures.clears) (clearings_of (lasts_on
     (lasts_waited (parts done.mind [] 0) (parts over.mind [] 0) (g.D.Disk.state done.main).holds (g.D.Disk.state over.main).holds (g.D.Disk.faults done.main) (g.D.Disk.faults over.main) (ap (λ m. (g.D.Disk.state m).holds) c.waits_over.ensures.device) c.waits_over.ensures.over)
     (lasts_sealed (parts over.mind [] 0) (parts end.mind [] 0) (g.D.Disk.state over.main).holds (g.D.Disk.state end.main).holds (g.D.Disk.faults over.main) (g.D.Disk.faults end.main) (ap (λ m. (g.D.Disk.state m).holds) c.seal_pinned.ensures.device) c.seal_pinned.ensures.sealed)))
+
+pub returns-in_err-settle_doubt-clause-calls : goal.returns-in_err-settle_doubt-clause-calls
+returns-in_err-settle_doubt-clause-calls g c = let x = c.settle_doubt.ensures.calls in omega (arith, x)
+
+pub returns-in_err-settle_rounds-clause-calls : goal.returns-in_err-settle_rounds-clause-calls
+returns-in_err-settle_rounds-clause-calls g c =
+    let x = certain_left (g.D.Disk.state c.args.cache.now.main) (g.D.Disk.state c.settle_doubt.new.self.main) (parts c.args.cache.now.mind [] 0) (parts c.settle_doubt.new.self.mind [] 0) _ _ c.settle_doubt.ensures.renumbers c.in_ok-settle_doubt.ensures.certain c.settle_doubt.ensures.turns c.settle_doubt.ensures.calls in
+    let y = c.settle_rounds.ensures.calls in
+    omega (arith, x, y)
+
+pub returns-clause-calls : goal.returns-clause-calls
+returns-clause-calls g c =
+    let x = certain_left (g.D.Disk.state c.args.cache.now.main) (g.D.Disk.state c.settle_doubt.new.self.main) (parts c.args.cache.now.mind [] 0) (parts c.settle_doubt.new.self.mind [] 0) _ _ c.settle_doubt.ensures.renumbers c.in_ok-settle_doubt.ensures.certain c.settle_doubt.ensures.turns c.settle_doubt.ensures.calls in
+    let y = c.settle_rounds.ensures.calls in
+    let over = ap g.D.Disk.calls c.waits_over.ensures.device in
+    let sealed = ap g.D.Disk.calls c.seal_pinned.ensures.device in
+    omega (arith, x, y, over, sealed)

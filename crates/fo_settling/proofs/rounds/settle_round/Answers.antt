@@ -1,6 +1,7 @@
-use Rattle.std.proofs.Common.{[], ap}
+use Rattle.std.proofs.Common.{[], ap, arith}
 use Rattle.fo_mind.specs.MindParts.{parts}
 use Rattle.fo_cache.proofs.Easing.{eases_on}
+use Rattle.fo_cache.proofs.Lessening.{turned_left}
 use Rattle.fo_settling.proofs.Clearing.{clearings_of, clearings_on, clearings_one, lasts_on, lasts_room, lasts_turned}
 use Rattle.fo_settling.proofs.Waiting.{eases_turns, none_waits}
 use Rattle.fo_settling.proofs.rounds.settle_round.Goals as goal
@@ -39,3 +40,41 @@ returns-in_err-clear_all-clause-clears g c = clearings_on (clearings_on (clearin
 
 pub returns-clause-clears : goal.returns-clause-clears
 returns-clause-clears g c = clearings_on (clearings_on (clearings_of (lasts_turned (g.D.Disk.state c.args.cache.now.main) (g.D.Disk.state c.settle_turns.new.self.main) (parts c.args.cache.now.mind [] 0) (parts c.settle_turns.new.self.mind [] 0) (g.D.Disk.faults c.args.cache.now.main) (g.D.Disk.faults c.settle_turns.new.self.main) c.settle_turns.ensures.settles)) (clearings_one c.in-Some.at c.in-Some.i (parts c.settle_turns.new.self.mind [] 0) (parts c.clear_due.new.self.mind [] 0) (g.D.Disk.state c.settle_turns.new.self.main).holds (g.D.Disk.state c.clear_due.new.self.main).holds (g.D.Disk.faults c.settle_turns.new.self.main) (g.D.Disk.faults c.clear_due.new.self.main) (ap (λ m. (g.D.Disk.state m).holds) c.clear_due.ensures.device) (ap (λ m. g.D.Disk.faults m) c.clear_due.ensures.device) c.settle_turns.new.self.mind.rests (c.in_ok-clear_due.ensures.cleared (g.D.Disk.state c.settle_turns.new.self.main).holds (g.D.Disk.faults c.settle_turns.new.self.main)) c.in-Some.ensures.0)) c.clear_all.ensures.clears
+
+pub returns-in_err-settle_turns-clause-calls : goal.returns-in_err-settle_turns-clause-calls
+returns-in_err-settle_turns-clause-calls g c = let x = c.settle_turns.ensures.calls in omega (arith, x)
+
+pub returns-in_default-clause-calls : goal.returns-in_default-clause-calls
+returns-in_default-clause-calls g c = let x = c.settle_turns.ensures.calls in omega (arith, x)
+
+pub returns-in_default-clause-spent : goal.returns-in_default-clause-spent
+returns-in_default-clause-spent g c = turned_left (g.D.Disk.state c.args.cache.now.main) (g.D.Disk.state c.settle_turns.new.self.main) (parts c.args.cache.now.mind [] 0) (parts c.settle_turns.new.self.mind [] 0) _ _ c.settle_turns.ensures.settles c.in_ok-settle_turns.ensures.quiet c.settle_turns.ensures.calls
+
+pub returns-in_err-clear_due-clause-calls : goal.returns-in_err-clear_due-clause-calls
+returns-in_err-clear_due-clause-calls g c =
+    let x = c.settle_turns.ensures.calls in
+    let same = ap g.D.Disk.calls c.clear_due.ensures.device in
+    omega (arith, x, same)
+
+pub returns-in_err-clear_all-clause-calls : goal.returns-in_err-clear_all-clause-calls
+returns-in_err-clear_all-clause-calls g c =
+    let x = c.settle_turns.ensures.calls in
+    let same = ap g.D.Disk.calls c.clear_due.ensures.device in
+    let still = ap g.D.Disk.calls c.clear_all.ensures.device in
+    omega (arith, x, same, still)
+
+pub returns-clause-calls : goal.returns-clause-calls
+returns-clause-calls g c =
+    let x = c.settle_turns.ensures.calls in
+    let same = ap g.D.Disk.calls c.clear_due.ensures.device in
+    let still = ap g.D.Disk.calls c.clear_all.ensures.device in
+    omega (arith, x, same, still)
+
+pub returns-clause-spent : goal.returns-clause-spent
+returns-clause-spent g c =
+    let x = turned_left (g.D.Disk.state c.args.cache.now.main) (g.D.Disk.state c.settle_turns.new.self.main) (parts c.args.cache.now.mind [] 0) (parts c.settle_turns.new.self.mind [] 0) _ _ c.settle_turns.ensures.settles c.in_ok-settle_turns.ensures.quiet c.settle_turns.ensures.calls in
+    let due = c.clear_due.ensures.left in
+    let all = c.clear_all.ensures.left in
+    let same = ap g.D.Disk.calls c.clear_due.ensures.device in
+    let still = ap g.D.Disk.calls c.clear_all.ensures.device in
+    omega (arith, x, due, all, same, still)

@@ -17,6 +17,7 @@ loop-preserved g c =
       eases = eases_on c.loop.invariant.eases c.settle_round.ensures.eases;
       clears = clearings_on c.loop.invariant.clears c.settle_round.ensures.clears;
       size = c.settle_round.ensures.size ∙ c.loop.invariant.size;
+      spent = let x = c.loop.invariant.spent in let y = c.in_ok-settle_round.ensures.spent in omega (arith, x, y);
       later = omega (arith, a, b);
     }
 
@@ -25,3 +26,18 @@ returns-in_err-settle_round-clause-clears g c = clearings_on c.loop.invariant.cl
 
 pub returns-clause-clears : goal.returns-clause-clears
 returns-clause-clears g c = clearings_on c.loop.invariant.clears c.settle_round.ensures.clears
+
+pub returns-in_err-settle_round-clause-calls : goal.returns-in_err-settle_round-clause-calls
+returns-in_err-settle_round-clause-calls g c =
+    let x = c.loop.invariant.spent in
+    let y = c.settle_round.ensures.calls in
+    omega (arith, x, y)
+
+pub returns-clause-calls : goal.returns-clause-calls
+returns-clause-calls g c =
+    let x = c.loop.invariant.spent in
+    let y = c.in_ok-settle_round.ensures.spent in
+    omega (arith, x, y)
+
+pub returns-clause-done : goal.returns-clause-done
+returns-clause-done g c = c.in_ok-settle_round.ensures.done c.if-not-branch.false

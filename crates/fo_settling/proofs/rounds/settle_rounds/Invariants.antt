@@ -1,6 +1,7 @@
-use Rattle.std.proofs.Common.{◌≡◌, ◌≤◌, length}
+use Rattle.std.proofs.Common.{◌≡◌, ◌+◌, ◌≤◌, [], length}
 use Rattle.fo_mind.specs.MindParts.{parts}
 use Rattle.fo_cache.specs.Easing.{Eases}
+use Rattle.fo_cache.specs.Work.{calls_left}
 use Rattle.fo_settling.specs.Clearings.{Clearings}
 use Rattle.fo_settling.proofs.rounds.settle_rounds.Given as goal
 
@@ -9,6 +10,7 @@ invariant-loop g l = record {
   eases : Eases (parts l.fn.cache.mind (g.D.Disk.state l.fn.cache.main).holds (g.D.Disk.faults l.fn.cache.main)) (parts l.cache.mind (g.D.Disk.state l.cache.main).holds (g.D.Disk.faults l.cache.main));
   clears : Clearings (parts l.fn.cache.mind (g.D.Disk.state l.fn.cache.main).holds (g.D.Disk.faults l.fn.cache.main)) (parts l.cache.mind (g.D.Disk.state l.cache.main).holds (g.D.Disk.faults l.cache.main));
   size : g.D.Disk.size l.cache.main ≡ g.D.Disk.size l.fn.cache.main;
+  spent : g.D.Disk.calls l.cache.main + calls_left (parts l.cache.mind [] 0) ≤ g.D.Disk.calls l.fn.cache.main + calls_left (parts l.fn.cache.mind [] 0);
   later : g.D.Disk.faults l.fn.cache.main ≤ g.D.Disk.faults l.cache.main;
 }
 

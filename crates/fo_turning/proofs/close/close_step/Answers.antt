@@ -1,5 +1,5 @@
-use Rattle.std.proofs.Common.{◌≤◌, [], refl, sym, subst}
-use Rattle.fo_disk.specs.Disk.{DiskState}
+use Rattle.std.proofs.Common.{◌<◌, ◌≤◌, [], length, refl, sym, subst}
+use Rattle.fo_disk.specs.Disk.{DiskState, IsSettled}
 use Rattle.fo_unlink.specs.Pending.{Pending}
 use Rattle.fo_mind.specs.MindParts.{parts}
 use Rattle.fo_mind.specs.Parts.{count_of}
@@ -68,6 +68,7 @@ invariant_of-cache-2 g c =
       spelled = subst (λ (x : DiskState). FitsLabels (parts new x.holds 0) x.unsure) (sym same) (k.fitting.labels s.unsure cache.spelled);
       fits = subst (λ (x : DiskState). Fits (parts new x.holds 0) x.unsure) (sym same) (k.fitting.fits s.unsure cache.fits);
       first = subst (λ (x : DiskState). FitsOne (parts new [] 0).one_bytes (parts new [] 0).doubt x.holds) (sym same) (one_like p q s.holds k.fitting.one_bytes k.fitting.doubt cache.first);
+      header = subst (λ (x : DiskState). 0 < length x.holds → IsSettled x.holds 0) (sym same) cache.header;
     }
 
 pub invariant_of-cache : goal.invariant_of-cache
@@ -86,6 +87,7 @@ invariant_of-cache g c =
       spelled = subst (λ (x : DiskState). FitsLabels (parts new x.holds 0) x.unsure) (sym same) (k.fitting.labels s.unsure cache.spelled);
       fits = subst (λ (x : DiskState). Fits (parts new x.holds 0) x.unsure) (sym same) (k.fitting.fits s.unsure cache.fits);
       first = subst (λ (x : DiskState). FitsOne (parts new [] 0).one_bytes (parts new [] 0).doubt x.holds) (sym same) (one_like p q s.holds k.fitting.one_bytes k.fitting.doubt cache.first);
+      header = subst (λ (x : DiskState). 0 < length x.holds → IsSettled x.holds 0) (sym same) cache.header;
     }
 
 pub returns-in_err-answer-clause-yields : goal.returns-in_err-answer-clause-yields

@@ -1,13 +1,17 @@
-use Rattle.std.proofs.Common.{[], sym, ap, ◌∙◌, subst}
+use Rattle.std.proofs.Common.{◌≡◌, ℕ, List, [], true, Option, None, Some, Result, Ok, Err, sym, ap, ◌∙◌, subst, arith}
+use Rattle.std.specs.Option.{is_some}
 use Rattle.std.specs.Result.{IfErr}
 use Rattle.fo_base.specs.Cause.{Rose}
 use Rattle.fo_ports.specs.Causes.{Caused}
+use Rattle.fo_ports.specs.declared.error.BlockError.{BlockError}
+use Rattle.fo_ports.specs.declared.error.BlockError.TheVariants.{Memory as Wanting}
 use Rattle.fo_waits.specs.Listed.{Clears}
 use Rattle.fo_mind.specs.MindParts.{parts}
 use Rattle.fo_mind.specs.Parts.{Parts}
 use Rattle.fo_order.specs.Turns.{IsQuiet}
 use Rattle.fo_settling.proofs.Waiting.{eases_turns}
-use Rattle.fo_turning.proofs.Flushing.{any_err, certain, does_moved, does_sync, eases_moved, misses_quiet, misses_same, on_err}
+use Rattle.fo_cache.specs.Work.{in_doubt}
+use Rattle.fo_turning.proofs.Flushing.{any_err, certain, doubted, does_first, does_moved, does_sync, eases_moved, misses_quiet, misses_same, on_err}
 use Rattle.fo_turning.proofs.flush.take_turn.Goals as goal
 
 pub returns-then-is_doubted-clause-misses : goal.returns-then-is_doubted-clause-misses
@@ -80,3 +84,44 @@ pub returns-in-Idle-clause-misses : goal.returns-in-Idle-clause-misses
 returns-in-Idle-clause-misses g c =
     let cache = c.args.cache.now in
     any_err c.clear_next.result (misses_quiet (parts cache.mind [] 0) (parts c.clear_next.new.cache.mind [] 0) c.in-Idle.ensures.turn (certain cache.mind.doubt (sym c.is_doubted.ensures ∙ c.if-is_doubted.false)))
+
+counts_one : (o : Option (List ℕ)) → is_some o ≡ true → in_doubt o ≡ 1
+counts_one None e = absurd cc
+counts_one (Some tried) e = omega arith
+
+pub returns-then-is_doubted-clause-calls : goal.returns-then-is_doubted-clause-calls
+returns-then-is_doubted-clause-calls g c =
+    let e = c.write_first.ensures.calls in
+    let one = counts_one c.args.cache.now.mind.doubt (sym c.is_doubted.ensures ∙ c.if-is_doubted.true) in
+    omega (arith, e, one)
+
+pub returns-in-Write-clause-calls : goal.returns-in-Write-clause-calls
+returns-in-Write-clause-calls g c =
+    let e = c.write_next.ensures.calls in
+    let same = ap g.D.Disk.calls c.next_turn.ensures.device in
+    omega (arith, e, same)
+
+pub returns-in-Sync-clause-calls : goal.returns-in-Sync-clause-calls
+returns-in-Sync-clause-calls g c =
+    let e = c.sync_written.ensures.calls in
+    let same = ap g.D.Disk.calls c.next_turn.ensures.device in
+    omega (arith, e, same)
+
+pub returns-in-Idle-clause-calls : goal.returns-in-Idle-clause-calls
+returns-in-Idle-clause-calls g c =
+    let first = ap g.D.Disk.calls c.next_turn.ensures.device in
+    let same = ap g.D.Disk.calls c.clear_next.ensures.device in
+    omega (arith, first, same)
+
+pub returns-then-is_doubted-clause-does : goal.returns-then-is_doubted-clause-does
+returns-then-is_doubted-clause-does g c =
+    let old = c.args.cache.now in
+    let new = c.write_first.new.cache in
+    does_first (g.D.Disk.state old.main) (g.D.Disk.state new.main) (parts old.mind [] 0) (parts new.mind [] 0) c.write_first.result (doubted old.mind.doubt (sym c.is_doubted.ensures ∙ c.if-is_doubted.true)) c.write_first.ensures.does
+
+wanting : {T : Type 0} (fault : Type 0) (r : Result T BlockError) → IfErr r (λ e. e ≡ Wanting) → IfErr r (Caused ⊥ (λ b. ⊥) fault ⊥)
+wanting fault (Ok x) h = tt
+wanting fault (Err e) h = subst (Caused ⊥ (λ b. ⊥) fault ⊥) (sym h) tt
+
+pub returns-in-Idle-clause-cause : goal.returns-in-Idle-clause-cause
+returns-in-Idle-clause-cause g c = wanting (Rose (g.D.Disk.faults c.args.cache.now.main) (g.D.Disk.faults c.clear_next.new.cache.main)) c.clear_next.result c.clear_next.ensures.cause

@@ -1,4 +1,4 @@
-use Rattle.std.proofs.Common.{[], refl, sym, subst}
+use Rattle.std.proofs.Common.{[], refl, ap, arith}
 use Rattle.fo_cache.proofs.Easing.{eases_on}
 use Rattle.fo_order.specs.declared.marks.Mark.{Mark}
 use Rattle.fo_mind.specs.MindParts.{parts}
@@ -25,3 +25,9 @@ returns-clause-does g c =
 
 pub returns-clause-eases : goal.returns-clause-eases
 returns-clause-eases g c = eases_on c.settle_first.ensures.eases c.release_written.ensures.eases
+
+pub returns-clause-calls : goal.returns-clause-calls
+returns-clause-calls g c =
+    let e = c.settle_first.ensures.calls in
+    let same = ap g.D.Disk.calls c.release_written.ensures.device in
+    omega (arith, e, same)

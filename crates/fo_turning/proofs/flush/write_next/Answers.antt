@@ -1,4 +1,4 @@
-use Rattle.std.proofs.Common.{◌≡◌, ◌≢◌, ℕ, [], sym, ap, subst}
+use Rattle.std.proofs.Common.{◌≡◌, ◌≢◌, ℕ, [], sym, ap, subst, arith}
 use Rattle.fo_disk.specs.Disk.{DiskState, versions_of}
 use Rattle.fo_mind.specs.MindParts.{parts}
 use Rattle.fo_cache.specs.Settling.{Settles}
@@ -58,3 +58,12 @@ returns-clause-does g c =
           (subst (λ (s : DiskState). (k : ℕ) → k ≢ c.args.at → versions_of t.holds k ≡ versions_of s.holds k) same c.write_ready.ensures.others),
     ))
     c.write_ready.ensures.lands
+
+pub returns-in_default-clause-calls : goal.returns-in_default-clause-calls
+returns-in_default-clause-calls g c = let same = ap g.D.Disk.calls c.keep_turn_of.ensures.device in omega (arith, same)
+
+pub returns-clause-calls : goal.returns-clause-calls
+returns-clause-calls g c =
+    let e = c.write_ready.ensures.calls in
+    let same = ap g.D.Disk.calls c.keep_turn_of.ensures.device in
+    omega (arith, e, same)

@@ -4,6 +4,7 @@ use Rattle.fo_mind.specs.MindParts.{parts}
 use Rattle.fo_mind.specs.Parts.{count_of}
 use Rattle.fo_cache.proofs.Clearing.{eases_due, fewer_due}
 use Rattle.fo_cache.proofs.Firsts.{one_like}
+use Rattle.fo_cache.proofs.Lessening.{due_left}
 use Rattle.fo_cache.proofs.Placing.{fit_due}
 use Rattle.fo_cache.proofs.cache.Cache.clear_now.Goals as goal
 
@@ -63,3 +64,12 @@ returns-clause-fewer g c =
     let self = c.args.self.now in
     let some = self.mind.standing.still c.args.at c.args.i c.requires.waits in
     fewer_due (parts self.mind [] 0) (parts c.clear_due.new.self [] 0) self.mind.first self.mind.count c.args.at c.args.i self.mind.placed self.mind.holding some c.requires.waits (c.clear_due.ensures [] 0)
+
+pub returns-clause-left : goal.returns-clause-left
+returns-clause-left g c =
+    let self = c.args.self.now in
+    let p = parts self.mind [] 0 in
+    let q = parts c.clear_due.new.self [] 0 in
+    let some = self.mind.standing.still c.args.at c.args.i c.requires.waits in
+    let due = c.clear_due.ensures [] 0 in
+    due_left p q c.args.at c.args.i due (fit_due p q self.mind.placed self.mind.holding some due).doubt (fewer_due p q self.mind.first self.mind.count c.args.at c.args.i self.mind.placed self.mind.holding some c.requires.waits due)

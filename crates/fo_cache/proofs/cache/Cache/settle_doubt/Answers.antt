@@ -1,6 +1,10 @@
-use Rattle.std.proofs.Common.{[]}
+use Rattle.std.proofs.Common.{◌≡◌, ℕ, List, [], true, Option, None, Some, sym, ◌∙◌, arith}
+use Rattle.std.specs.Option.{is_some}
 use Rattle.fo_mind.specs.MindParts.{parts}
+use Rattle.fo_cache.specs.Work.{in_doubt}
 use Rattle.fo_cache.proofs.Easing.{eases_doubt, eases_none}
+use Rattle.fo_cache.proofs.Lessening.{overruled_work}
+use Rattle.fo_cache.proofs.Numbering.{settled_step}
 use Rattle.fo_cache.proofs.cache.Cache.settle_doubt.Goals as goal
 
 pub returns-then-not-is_doubted-clause-eases : goal.returns-then-not-is_doubted-clause-eases
@@ -19,3 +23,40 @@ returns-clause-eases g c =
     let n = c.settle_one.new.self in
     let e = c.settle_one.ensures in
     eases_doubt (g.D.Disk.state self.main) (g.D.Disk.state n.main) (parts self.mind [] 0) (parts n.mind [] 0) (g.D.Disk.faults self.main) (g.D.Disk.faults n.main) c.settle_one.result e.others e.overruled e.nothing e.later
+
+doubted : (o : Option (List ℕ)) → is_some o ≡ true → in_doubt o ≡ 1
+doubted None e = absurd cc
+doubted (Some tried) e = omega arith
+
+pub returns-in_err-settle_one-clause-calls : goal.returns-in_err-settle_one-clause-calls
+returns-in_err-settle_one-clause-calls g c =
+    let e = c.settle_one.ensures.calls in
+    let one = doubted c.args.self.now.mind.doubt (sym c.is_doubted.ensures ∙ c.if-not-is_doubted.false) in
+    omega (arith, e, one)
+
+pub returns-clause-calls : goal.returns-clause-calls
+returns-clause-calls g c =
+    let e = c.settle_one.ensures.calls in
+    let one = doubted c.args.self.now.mind.doubt (sym c.is_doubted.ensures ∙ c.if-not-is_doubted.false) in
+    omega (arith, e, one)
+
+pub returns-in_err-settle_one-clause-turns : goal.returns-in_err-settle_one-clause-turns
+returns-in_err-settle_one-clause-turns g c =
+    let self = c.args.self.now in
+    let n = c.settle_one.new.self in
+    let e = c.settle_one.ensures in
+    overruled_work (g.D.Disk.state self.main) (g.D.Disk.state n.main) (parts self.mind [] 0) (parts n.mind [] 0) c.settle_one.result e.overruled e.nothing
+
+pub returns-clause-turns : goal.returns-clause-turns
+returns-clause-turns g c =
+    let self = c.args.self.now in
+    let n = c.settle_one.new.self in
+    let e = c.settle_one.ensures in
+    overruled_work (g.D.Disk.state self.main) (g.D.Disk.state n.main) (parts self.mind [] 0) (parts n.mind [] 0) c.settle_one.result e.overruled e.nothing
+
+pub returns-clause-renumbers : goal.returns-clause-renumbers
+returns-clause-renumbers g c =
+    let self = c.args.self.now in
+    let n = c.settle_one.new.self in
+    let e = c.settle_one.ensures in
+    settled_step (g.D.Disk.state self.main) (g.D.Disk.state n.main) (parts self.mind [] 0) (parts n.mind [] 0) e.others e.count c.settle_one.result e.overruled e.nothing

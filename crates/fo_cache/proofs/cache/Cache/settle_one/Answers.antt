@@ -1,4 +1,4 @@
-use Rattle.std.proofs.Common.{[], length, sym, ap, ◌∙◌, subst}
+use Rattle.std.proofs.Common.{[], length, sym, ap, ◌∙◌, subst, arith}
 use Rattle.fo_disk.specs.Disk.{DiskState, versions_of}
 use Rattle.fo_mind.specs.MindParts.{parts}
 use Rattle.fo_mind.specs.Turning.{Synced}
@@ -42,3 +42,19 @@ returns-clause-count g c =
     let m = g.D.Disk.state c.write_one.new.self.main in
     let t = g.D.Disk.state c.sync_turn.new.self.main in
     ap (λ d. length (g.D.Disk.state d).holds) c.overrule.ensures.device ∙ count_tried s m t c.write_one.result c.sync_turn.result c.write_one.ensures.wrote c.sync_turn.ensures.state
+
+pub returns-in_default-clause-calls : goal.returns-in_default-clause-calls
+returns-in_default-clause-calls g c = let e = c.write_one.ensures.calls in omega (arith, e)
+
+pub returns-in_default-sync_turn-clause-calls : goal.returns-in_default-sync_turn-clause-calls
+returns-in_default-sync_turn-clause-calls g c =
+    let e = c.write_one.ensures.calls in
+    let f = c.sync_turn.ensures.calls in
+    omega (arith, e, f)
+
+pub returns-clause-calls : goal.returns-clause-calls
+returns-clause-calls g c =
+    let e = c.write_one.ensures.calls in
+    let f = c.sync_turn.ensures.calls in
+    let same = ap g.D.Disk.calls c.overrule.ensures.device in
+    omega (arith, e, f, same)

@@ -1,4 +1,4 @@
-use Rattle.std.proofs.Common.{◌≡◌, ◌<◌, Bool, true, false, Result, Ok, Err, OnOk, IfOk, IfErr, sym, ◌∙◌, subst}
+use Rattle.std.proofs.Common.{◌≡◌, ◌<◌, ◌≤◌, ℕ, Bool, true, false, Result, Ok, Err, OnOk, IfOk, IfErr, sym, ap, ◌∙◌, subst, arith}
 use Rattle.fo_base.specs.Cause.{Rose}
 use Rattle.fo_order.specs.Turns.{IsQuiet}
 use Rattle.fo_ports.specs.Causes.{Caused}
@@ -26,3 +26,34 @@ returns-in-Write-clause-less g c = less_ok c.write_next.result (λ h. subst (λ 
 
 pub returns-in-Write-clause-cause : goal.returns-in-Write-clause-cause
 returns-in-Write-clause-cause g c = subst (λ (m : _). IfErr c.write_next.result (Caused ⊥ (λ b. ⊥) (Rose (g.D.Disk.faults m) (g.D.Disk.faults c.write_next.new.self.main)) ⊥)) c.next_turn.ensures.device c.write_next.ensures.cause
+
+-- what was left before
+spent_ok : {E T : Type 0} (r : Result T E) (n before after : ℕ) → before ≡ after → OnOk r (n ≤ before) → OnOk r (n ≤ after)
+spent_ok (Ok x) n before after e h = omega (arith, e, h)
+spent_ok (Err x) n before after e h = tt
+
+pub returns-in-Write-clause-calls : goal.returns-in-Write-clause-calls
+returns-in-Write-clause-calls g c =
+    let e = c.write_next.ensures.calls in
+    let same = ap g.D.Disk.calls c.next_turn.ensures.device in
+    let left = ap (λ (p : Parts). work p.turns) c.next_turn.ensures.same in
+    omega (arith, e, same, left)
+
+pub returns-in-Write-clause-spent : goal.returns-in-Write-clause-spent
+returns-in-Write-clause-spent g c =
+    let same = ap g.D.Disk.calls c.next_turn.ensures.device in
+    let left = ap (λ (p : Parts). work p.turns) c.next_turn.ensures.same in
+    spent_ok c.write_next.result _ _ _ (omega (arith, same, left)) c.write_next.ensures.spent
+
+pub returns-in-Sync-clause-calls : goal.returns-in-Sync-clause-calls
+returns-in-Sync-clause-calls g c =
+    let e = c.sync_next.ensures.calls in
+    let same = ap g.D.Disk.calls c.next_turn.ensures.device in
+    let left = ap (λ (p : Parts). work p.turns) c.next_turn.ensures.same in
+    omega (arith, e, same, left)
+
+pub returns-in-Sync-clause-spent : goal.returns-in-Sync-clause-spent
+returns-in-Sync-clause-spent g c =
+    let same = ap g.D.Disk.calls c.next_turn.ensures.device in
+    let left = ap (λ (p : Parts). work p.turns) c.next_turn.ensures.same in
+    spent_ok c.sync_next.result _ _ _ (omega (arith, same, left)) c.sync_next.ensures.spent

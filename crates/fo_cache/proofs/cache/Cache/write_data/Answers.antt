@@ -6,6 +6,7 @@ use Rattle.fo_cache.proofs.Outcomes.{fits_answered, if_err, if_ok, last_written,
 use Rattle.fo_mind.proofs.Landing.{within_count}
 use Rattle.fo_cache.proofs.Labelling.{labels_answered}
 use Rattle.fo_cache.proofs.Firsts.{one_answered}
+use Rattle.fo_cache.proofs.Headers.{header_wrote}
 use Rattle.fo_cache.proofs.cache.Cache.write_data.Goals as goal
 
 pub bytes_of-requires : goal.bytes_of-requires
@@ -64,3 +65,12 @@ invariant_of-self-clause-first g c =
     let r = c.write-wrote.result in
     one_answered (parts self.mind [] 0) (parts c.wrote.new.self [] 0) c.args.at s (g.D.Disk.state c.write-wrote.new.self) r c.write-wrote.ensures.state ((self.mind.turning.each c.args.at).begins c.requires.turn)
     (if_ok r c.is_ok-ok.ensures.value (λ e. c.wrote.ensures.landed e [] 0)) (if_err r c.is_ok-ok.ensures.value (λ e. c.wrote.ensures.missed e [] 0)) self.first
+
+pub invariant_of-self-clause-header : goal.invariant_of-self-clause-header
+invariant_of-self-clause-header g c =
+    let self = c.args.self.now in
+    let two = (self.mind.turning.each c.args.at).begins c.requires.turn in
+    header_wrote (g.D.Disk.state self.main) (g.D.Disk.state c.write-wrote.new.self) c.args.at (omega (arith, two)) c.write-wrote.result c.write-wrote.ensures.state self.header
+
+pub returns-clause-calls : goal.returns-clause-calls
+returns-clause-calls g c = let e = c.write-wrote.ensures.calls in omega (arith, e)

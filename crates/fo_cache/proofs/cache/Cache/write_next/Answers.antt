@@ -1,8 +1,8 @@
-use Rattle.std.proofs.Common.{[], sym, ap, subst}
+use Rattle.std.proofs.Common.{[], sym, ap, subst, arith}
 use Rattle.fo_disk.specs.Disk.{DiskState}
 use Rattle.fo_mind.specs.MindParts.{parts}
 use Rattle.fo_cache.specs.Settling.{Settles}
-use Rattle.fo_cache.proofs.Lessening.{next_kept, written_less}
+use Rattle.fo_cache.proofs.Lessening.{next_kept, written_less, next_work}
 use Rattle.fo_cache.proofs.Settling.{room_settles, then, wrote_settles}
 use Rattle.fo_cache.proofs.cache.Cache.write_next.Goals as goal
 
@@ -37,3 +37,27 @@ returns-clause-settles g c =
 
 pub returns-clause-less : goal.returns-clause-less
 returns-clause-less g c = written_less (parts c.args.self.now.mind [] 0) (parts c.keep_turn_of.new.self.mind [] 0) (parts c.write_turn.new.self.mind [] 0) c.args.at c.keep_turn_of.ensures.kept c.requires.next c.in-Ok-write_turn.ensures.wrote.landed
+
+pub returns-in_default-clause-calls : goal.returns-in_default-clause-calls
+returns-in_default-clause-calls g c = let same = ap g.D.Disk.calls c.keep_turn_of.ensures.device in omega (arith, same)
+
+pub returns-in_default-write_turn-clause-calls : goal.returns-in_default-write_turn-clause-calls
+returns-in_default-write_turn-clause-calls g c =
+    let e = c.write_turn.ensures.calls in
+    let same = ap g.D.Disk.calls c.keep_turn_of.ensures.device in
+    let some = next_work (parts c.args.self.now.mind [] 0) c.args.at c.requires.next in
+    omega (arith, e, same, some)
+
+pub returns-clause-calls : goal.returns-clause-calls
+returns-clause-calls g c =
+    let e = c.write_turn.ensures.calls in
+    let same = ap g.D.Disk.calls c.keep_turn_of.ensures.device in
+    let some = next_work (parts c.args.self.now.mind [] 0) c.args.at c.requires.next in
+    omega (arith, e, same, some)
+
+pub returns-clause-spent : goal.returns-clause-spent
+returns-clause-spent g c =
+    let e = c.write_turn.ensures.calls in
+    let same = ap g.D.Disk.calls c.keep_turn_of.ensures.device in
+    let less = returns-clause-less g c in
+    omega (arith, e, same, less)

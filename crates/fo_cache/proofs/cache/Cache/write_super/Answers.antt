@@ -69,3 +69,24 @@ returns-clause-count g c =
     let m = g.D.Disk.state c.write_trial.new.self.main in
     let t = g.D.Disk.state c.sync_turn.new.self.main in
     ap (λ d. length (g.D.Disk.state d).holds) c.accept.ensures.device ∙ count_tried o m t c.write_trial.result c.sync_turn.result c.write_trial.ensures.wrote c.sync_turn.ensures.state ∙ ap (λ d. length (g.D.Disk.state d).holds) c.try_one.ensures.device
+
+pub returns-in_default-clause-calls : goal.returns-in_default-clause-calls
+returns-in_default-clause-calls g c =
+    let e = c.write_trial.ensures.calls in
+    let same = ap g.D.Disk.calls c.try_one.ensures.device in
+    omega (arith, e, same)
+
+pub returns-in_default-sync_turn-clause-calls : goal.returns-in_default-sync_turn-clause-calls
+returns-in_default-sync_turn-clause-calls g c =
+    let e = c.write_trial.ensures.calls in
+    let f = c.sync_turn.ensures.calls in
+    let same = ap g.D.Disk.calls c.try_one.ensures.device in
+    omega (arith, e, f, same)
+
+pub returns-clause-calls : goal.returns-clause-calls
+returns-clause-calls g c =
+    let e = c.write_trial.ensures.calls in
+    let f = c.sync_turn.ensures.calls in
+    let first = ap g.D.Disk.calls c.try_one.ensures.device in
+    let last = ap g.D.Disk.calls c.accept.ensures.device in
+    omega (arith, e, f, first, last)

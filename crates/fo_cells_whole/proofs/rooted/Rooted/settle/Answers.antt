@@ -11,6 +11,11 @@ twice : (b : Bool) → b ≡ not (not b)
 twice true = refl
 twice false = refl
 
+pub returns-clause-mind : goal.returns-clause-mind
+returns-clause-mind g c =
+    let ok : c.is_ok.result ≡ not (is_err c.settle-answer.result) = twice c.is_ok.result ∙ ap not (sym c.is_ok.ensures.negation) in
+    c.note_sync.ensures.mind ∙ ap (λ (v : Bool). noted_sync v (g.K.Knows.mind c.args.self.now.known)) ok
+
 pub invariant_of-self : goal.invariant_of-self
 invariant_of-self g c =
     let was = c.args.self.now in

@@ -1,7 +1,6 @@
-use Rattle.std.proofs.Common.{◌<◌, length, sym, arith}
-use Rattle.std.proofs.lemmas.List.{map-set}
+use Rattle.std.proofs.Common.{◌<◌, length, arith}
 use Rattle.fo_image.specs.Usable.{is_usable}
-use Rattle.fo_labels.specs.Floor.{floor}
+use Rattle.fo_labels.proofs.Grouping.{floors-set}
 use Rattle.fo_labels.proofs.Usable.{count-set}
 use Rattle.fo_labels.proofs.labels.Labels.put.Goals as goal
 
@@ -18,7 +17,7 @@ invariant_of-self c =
     let inside : c.args.place < length s.labels.items = rw (← c.self.view_is) at c.requires in
     let n = count-set (is_usable s.low) s.labels.items c.args.place _ _ c.args.label c.index.result.now inside c.index.ensures c.one_if_usable-was.ensures c.one_if_usable-is.ensures in
     record {
-      floors = rw (c.set.ensures, c.self.invariant.floors, c.floor.ensures) (sym (map-set floor s.labels.items c.args.place c.args.label));
+      floors = rw c.set.ensures (floors-set s.labels.items s.floors c.args.place c.least_floor-least.result c.args.label c.self.invariant.floors (rw (c.part.ensures, c.deref.ensures.value) at c.least_floor-least.ensures));
       counted = rw c.self.invariant.counted n.has;
       fits = c.self.invariant.fits;
     }

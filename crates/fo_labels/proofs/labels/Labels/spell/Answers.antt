@@ -1,4 +1,4 @@
-use Rattle.std.proofs.Common.{◌≡◌, ◌-◌, ◌*◌, ◌∙◌, length, sym, ap, refl, subst, arith}
+use Rattle.std.proofs.Common.{◌-◌, ◌*◌, ◌∙◌, sym, ap, refl, subst, arith}
 use Rattle.fo_image.specs.Format.{LabelHolds}
 use Rattle.fo_labels.specs.Spelled.{label_at}
 use Rattle.fo_labels.proofs.Spelling.{all_spelled, label_holds, none_yet, one_more}

@@ -4,8 +4,8 @@ use Rattle.fo_mind.proofs.Results.{on_ok, damaged}
 use Rattle.fo_mind.proofs.Coming.{comes_at_once}
 use Rattle.fo_mind.proofs.mind.Mind.obtain.Goals as goal
 
-pub returns-then-not-is_kind-clause-brings : goal.returns-then-not-is_kind-clause-brings
-returns-then-not-is_kind-clause-brings g c = nothing_brought _ c.args.at
+pub returns-then-not-may_get-clause-brings : goal.returns-then-not-may_get-clause-brings
+returns-then-not-may_get-clause-brings g c = nothing_brought _ c.args.at
 
 pub returns-then-is_pinned-clause-got : goal.returns-then-is_pinned-clause-got
 returns-then-is_pinned-clause-got g c = on_ok c.copy_out.result (λ f. f _ _) c.copy_out.ensures.got
@@ -24,8 +24,8 @@ returns-then-is_pinned-clause-brings g c = nothing_brought _ c.args.at
 pub returns-then-is_pinned-clause-cause : goal.returns-then-is_pinned-clause-cause
 returns-then-is_pinned-clause-cause g c = damaged _ _ _ c.args.at c.copy_out.result c.copy_out.ensures.cause
 
-pub returns-then-not-is_kind-clause-comes : goal.returns-then-not-is_kind-clause-comes
-returns-then-not-is_kind-clause-comes g c = comes_at_once (g.D.Disk.state c.args.main.now).holds c.args.at c.args.self.now.buffers
+pub returns-then-not-may_get-clause-comes : goal.returns-then-not-may_get-clause-comes
+returns-then-not-may_get-clause-comes g c = comes_at_once (g.D.Disk.state c.args.main.now).holds c.args.at c.args.self.now.buffers
 
 pub returns-then-is_pinned-clause-comes : goal.returns-then-is_pinned-clause-comes
 returns-then-is_pinned-clause-comes g c = comes_at_once (g.D.Disk.state c.args.main.now).holds c.args.at c.args.self.now.buffers

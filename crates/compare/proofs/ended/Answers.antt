@@ -1,0 +1,4 @@
+use Rattle.compare.proofs.ended.Goals as goal
+
+pub invariant_of-game-clause-placed : goal.invariant_of-game-clause-placed
+invariant_of-game-clause-placed c = c.args._game.files.on.cache.mind.placed

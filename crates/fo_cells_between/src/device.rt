@@ -1,0 +1,40 @@
+//! The calls of a device while a snapshot begins: no image is added, and what holds is kept, whatever the device answers.
+ghost use Rattle.std.specs.Prelude.{◌≡◌, ◌<◌, ℕ, Bool, true, false, length, is_err, not};
+ghost use Rattle.fo_base.specs.Cause.{HasCause};
+ghost use Rattle.fo_disk.specs.Disk.{IsWrite, IsSync};
+ghost use Rattle.fo_disk.specs.Disk.{Content as Holds};
+ghost use Rattle.fo_image.specs.declared.types.State.TheVariants.{Closed};
+ghost use Rattle.fo_crash.specs.Images.{SameContent};
+ghost use Rattle.fo_crash.specs.Steps.{AddsNothing};
+ghost use Rattle.fo_cells.specs.Device.{MayWrite, MayWriteLabels, known, wrote};
+ghost use Rattle.fo_cells.specs.Safe.{IsCurrent};
+ghost use Rattle.fo_cells_epochs.specs.Epochs.{NamesSet};
+ghost use Rattle.fo_cells_all.specs.All.{Kept, Format, kept_write, kept_sync};
+ghost use Rattle.fo_cells_steps.specs.Calls.{images};
+ghost use Rattle.fo_cells_between.specs.Between.{HoldsBetween};
+
+use fo_disk::{Disk, Failed};
+
+/// Writes a dirty block that has a buffer: a data block, as the new root, that is current and names only what is settled; block 1 with what
+/// memory has; or a block of labels.
+pub fn write_between<D: Disk>(disk: &mut D, at: u32, bytes: &[u8]) -> Result<(), Failed>
+    requires block { at < D.size disk.old }
+    requires length { length bytes.now ≡ 8192 }
+    ensures block_kept { (root next : ℕ) (first c : Kept) (f : Format) (before : Holds) (is_complete : Bool) → at < length (D.state disk.old).holds → MayWrite c.mind (D.state disk.old).holds at bytes.now is_complete → NamesSet at (c.mind.read at bytes.now) (known c.mind (D.state disk.old).holds) (known (wrote at (not (is_err result)) is_complete c.mind) (D.state disk.new).holds) → IsCurrent (known c.mind (D.state disk.old).holds) c.high at → (at ≡ 1 → SameContent (c.mind.read at bytes.now) (c.mind.memory 1)) → c.buffering.held at ≡ true → c.flags.dirty at ≡ true → ((c.mind.label at).state ≡ Closed → is_complete ≡ true) → HoldsBetween root next first before c f (D.state disk.old).unsure (D.state disk.old).holds → AddsNothing (images c (D.state disk.old).holds) (images (kept_write at (not (is_err result)) is_complete c) (D.state disk.new).holds) × HoldsBetween root next first before (kept_write at (not (is_err result)) is_complete c) f (D.state disk.new).unsure (D.state disk.new).holds }
+    ensures labels_kept { (root next : ℕ) (first c : Kept) (f : Format) (before : Holds) → at < length (D.state disk.old).holds → MayWriteLabels c.mind at bytes.now → c.mind.read at bytes.now ≡ c.mind.memory at → c.buffering.held at ≡ true → c.flags.dirty at ≡ true → HoldsBetween root next first before c f (D.state disk.old).unsure (D.state disk.old).holds → AddsNothing (images c (D.state disk.old).holds) (images (kept_write at (not (is_err result)) true c) (D.state disk.new).holds) × HoldsBetween root next first before (kept_write at (not (is_err result)) true c) f (D.state disk.new).unsure (D.state disk.new).holds }
+    ensures state { IsWrite at bytes.now result (D.state disk.old) (D.state disk.new) }
+    ensures size { D.size disk.new ≡ D.size disk.old }
+    ensures cause { HasCause (D.faults disk.old) (D.faults disk.new) result }
+{
+    disk.write(at, bytes)
+}
+
+/// Settles what was written. It fails only where the device fails, and then nothing counts as settled.
+pub fn settle_between<D: Disk>(disk: &mut D) -> Result<(), Failed>
+    ensures kept { (root next : ℕ) (first c : Kept) (f : Format) (before : Holds) → HoldsBetween root next first before c f (D.state disk.old).unsure (D.state disk.old).holds → AddsNothing (images c (D.state disk.old).holds) (images (kept_sync result c) (D.state disk.new).holds) × HoldsBetween root next first before (kept_sync result c) f (D.state disk.new).unsure (D.state disk.new).holds }
+    ensures state { IsSync result (D.state disk.old) (D.state disk.new) }
+    ensures size { D.size disk.new ≡ D.size disk.old }
+    ensures cause { HasCause (D.faults disk.old) (D.faults disk.new) result }
+{
+    disk.sync()
+}

@@ -1,0 +1,4 @@
+pub mod Alone
+pub mod Opened
+pub mod Some
+pub mod Formatted
