@@ -44,12 +44,7 @@ fn keeps(
 }
 
 /// The same with no turn, so that the end alone closes what left the tree, and with turns.
-fn holds(
-    alloc: Global,
-    made: u32,
-    conversation: &Conversation,
-    used: u32,
-) -> Result<(), Failure> {
+fn holds(alloc: Global, made: u32, conversation: &Conversation, used: u32) -> Result<(), Failure> {
     keeps(alloc, made, Turns::Never, conversation, used)?;
     keeps(alloc, made, Turns::Between, conversation, used)
 }
