@@ -1,9 +1,11 @@
 -- The snapshot is given up: the whole holds again.
-use Rattle.std.proofs.Common.{◌≡◌, ◌≢◌, inl, inr, ⊎_elim, ℕ, ◌≤◌, Bool, List, [], ◌∷◌, map, refl, sym, ◌∙◌, ap, subst, arith}
+use Rattle.std.proofs.Common.{◌≡◌, ◌≢◌, inl, inr, ◌⊎◌, ⊎_elim, ℕ, ◌≤◌, Bool, false, List, [], ◌∷◌, map, refl, sym, ◌∙◌, ap, subst, arith}
 use Rattle.std.proofs.lemmas.Bool.{cases_eq}
 use Rattle.std.specs.List.{Contains}
 use Rattle.fo_disk.specs.Disk.{Content as Holds}
+use Rattle.fo_image.specs.declared.types.Label.{Label}
 use Rattle.fo_image.specs.declared.types.Pointer.TheVariants.{Local}
+use Rattle.fo_image.specs.Usable.{is_usable}
 use Rattle.fo_crash.specs.declared.slot.Slot.{Slot}
 use Rattle.fo_crash.specs.declared.place.Place.{Place}
 use Rattle.fo_crash.specs.Images.{Content, Reaches, target, to_block}
@@ -13,15 +15,20 @@ use Rattle.fo_crash.proofs.Reach.{reaches_on}
 use Rattle.fo_cells.specs.Known.{Known, Top, MaySlot, Remains, Stands}
 use Rattle.fo_cells.specs.Safe.{super_top}
 use Rattle.fo_cells.specs.Device.{Mind, known}
-use Rattle.fo_cells.proofs.Standing.{seen_is, stands_top, stands_below, among_cases}
+use Rattle.fo_cells.proofs.Standing.{seen_is, stands_top, stands_below, among_cases, first_among}
+use Rattle.fo_cells_out.specs.Removals.{IsCovered}
 use Rattle.fo_cells_out.specs.Parents.{view}
 use Rattle.fo_cells_out.proofs.Steps.{view_stands}
-use Rattle.fo_cells_epochs.specs.Epochs.{Root, HasEpochs, root_top}
+use Rattle.fo_cells_out.proofs.Asked.{walk_keeps}
+use Rattle.fo_cells_epochs.specs.Epochs.{Root, HasEpochs, root_top, tree_of}
 use Rattle.fo_cells_epochs.proofs.Epochs.{with_doubt}
-use Rattle.fo_cells_epochs.proofs.Trees.{active_among, root_among}
+use Rattle.fo_cells_epochs.proofs.Trees.{active_among, root_among, tree_stands}
+use Rattle.fo_cells_lost.specs.Lost.{IsLost, KeepsKept}
+use Rattle.fo_cells_lost.proofs.Lost.{tree_stays}
 use Rattle.fo_cells_all.specs.All.{Kept, Format, HoldsBeside}
 use Rattle.fo_cells_steps.specs.Division.{division}
-use Rattle.fo_cells_steps.specs.Calls.{images}
+use Rattle.fo_cells_steps.specs.Calls.{SameEpoch, images}
+use Rattle.fo_cells_steps.proofs.Moving.{listed_from}
 use Rattle.fo_cells_held.specs.Held.{OnlyLiveDirty}
 use Rattle.fo_cells_turns.specs.Opening.{none_made, no_origins}
 use Rattle.fo_cells_snapshot.specs.Abandon.{AbandonsQueue, Abandons}
@@ -140,3 +147,43 @@ module _ {root next : ℕ} {first c d : Kept} {f : Format} {unsure : List Bool} 
 
   pub dropped_between : AddsNothing (images c holds) (images d holds) × HoldsWhole d f none_made no_origins unsure holds
   dropped_between = (adds, abandon_whole abandons h.begins.nowhere (ap (λ (m : Mind). m.low) x.mind ∙ h.low) young h.begins.whole)
+
+  -- NO BLOCK IS LOST: the new root waits, and all else hangs where it hung
+  epoch_same : SameEpoch first (record d { doubts = first.doubts })
+  epoch_same = record { high = x.high; doubts = refl; roots = x.roots; past = x.past }
+
+  covered_now : (b : ℕ) → (division first none_made).Covered b ⊎ IsCovered (record { blocks = next ∷ []; after = 1 } ∷ []) b → (division d none_made).Covered b
+  covered_now b is = listed_from {c = first} {d = record d { doubts = first.doubts }} (record { blocks = next ∷ []; after = 1 } ∷ []) epoch_same x.queue b is
+
+  abbrev Both : ℕ → Type 0
+  Both a = Reaches c.mind.memory (to_block 1) a × Reaches first.mind.memory (to_block 1) a
+
+  both_on : (a j z : ℕ) → Both a → target ((first.mind.memory a).slot j) ≡ Local z → Both z
+  both_on a j z r e = (reaches_on j r.0 (ap target (h.memory a j (λ is. h.begins.fresh.0 (subst (λ v. Reaches first.mind.memory (to_block 1) v) is r.1))) ∙ e), reaches_on j r.1 e)
+
+  within_now : (b : ℕ) → (division first none_made).Within b → Reaches c.mind.memory (to_block 1) b
+  within_now b w = (walk_keeps first.mind.memory Both both_on w.path (to_block 1) b (λ a e. (record { path = []; leads = e }, record { path = []; leads = e })) w.leads).0
+
+  kept_now : KeepsKept First E first.roots
+  kept_now = record {
+    slots = λ a i. ⊎_elim
+        (λ is. inr (λ r p among st. h.begins.nowhere p (subst (λ v. Stands First v p) is (tree_stands h.begins.whole.made.all.epochs.trees r among a p st))))
+        (λ ne. inl (h.memory a i ne))
+        (cases_eq a next);
+  }
+
+  pub dropped_loses : (b : ℕ) → IsLost (known d.mind holds) (division d none_made) d.roots b → IsLost First (division first none_made) first.roots b
+  dropped_loses b lost = record {
+    taken =
+        let ne : b ≢ next = λ e. lost.outside.2 (covered_now b (inr (inl (subst (λ v. Contains (next ∷ []) v) (sym e) (first_among next []))))) in
+        let now : is_usable c.mind.low (c.mind.label b) ≡ false = subst (λ (k : Known). is_usable k.low (k.label b) ≡ false) now_is lost.taken in
+        subst (λ n. is_usable n (first.mind.label b) ≡ false) h.low (subst (λ (y : Label). is_usable c.mind.low y ≡ false) (h.label b ne) now);
+    outside = (
+      λ w. lost.outside.0 (subst (λ (m : Mind). Reaches m.memory (to_block 1) b) (sym x.mind) (within_now b w)),
+      λ m. m,
+      λ is. lost.outside.2 (covered_now b (inl is)),
+    );
+    unkept = λ r q among st. lost.unkept r q
+        (subst (λ (rs : List Root). Contains rs r) (sym x.roots) among)
+        (subst (λ (k : Known). Stands (tree_of k r) b q) (sym now_is) (tree_stays h.begins.whole.made.all.epochs.safe h.begins.whole.made.all.epochs.trees kept_now r among b q st));
+  }

@@ -14,7 +14,9 @@ use Rattle.fo_cells_out.specs.Removals.{IsCovered}
 use Rattle.fo_cells_held.specs.Room.{HasRoom, Used}
 use Rattle.fo_cells_epochs.specs.Epochs.{IsLabelSet, kept_root, root_top}
 use Rattle.fo_cells_begin.specs.Begin.{ended, old_root}
+use Rattle.fo_cells_lost.specs.Lost.{IsLost}
 use Rattle.fo_cells_all.specs.All.{Kept, Format, HoldsBeside}
+use Rattle.fo_cells_steps.specs.Division.{division}
 use Rattle.fo_cells_steps.specs.Calls.{Beside, images}
 use Rattle.fo_cells_blocks.specs.Giving.{GivesOne, AddsThis}
 use Rattle.fo_cells_supers.specs.Supers.{SameTrees}
@@ -118,3 +120,7 @@ pub record DropsRoot (next : ℕ) (first c d : Kept) (holds : Holds) : Type 0 wh
 
 abbrev pub DropRootKeeps : Type 0
 DropRootKeeps = (root next : ℕ) (first c d : Kept) (f : Format) (unsure : List Bool) (before holds : Holds) → DropsRoot next first c d holds → HoldsBetween root next first before c f unsure holds → AddsNothing (images c holds) (images d holds) × HoldsWhole d f none_made no_origins unsure holds
+
+-- No block is lost by it.
+abbrev pub DropRootLoses : Type 0
+DropRootLoses = (root next : ℕ) (first c d : Kept) (f : Format) (unsure : List Bool) (before holds : Holds) → DropsRoot next first c d holds → HoldsBetween root next first before c f unsure holds → (b : ℕ) → IsLost (known d.mind holds) (division d none_made) d.roots b → IsLost (known first.mind before) (division first none_made) first.roots b

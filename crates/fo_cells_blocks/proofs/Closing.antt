@@ -48,10 +48,7 @@ pub closed_beside : {b epoch : ℕ} {c d : Kept} {f : Format} {x : Used} {unsure
 closed_beside {b} {epoch} {c} {d} {f} {x} {unsure} {holds} s le high here others h = record {
   flags = record {
     clean = λ a lt off. ap (λ (r : ℕ → Block → Content). r a (latest_of (versions_of holds a))) s.read ∙ h.flags.clean a lt (s.still a off) ∙ ap (λ (m : Image). m a) (sym s.memory);
-    settled = λ a lt unwritten sound. h.flags.settled a lt (sym (s.wrote a) ∙ unwritten) (⊎_elim
-        (λ same. sym same ∙ sound)
-        (λ q. absurd (not_both (s.unknown q.1) (ap (λ y. d.flags.failed y) (sym q.0) ∙ sound)))
-        (s.failed a));
+    settled = λ a lt unwritten sound. h.flags.settled a lt (sym (s.wrote a) ∙ unwritten) (sym (s.failed a) ∙ sound);
     sure = λ a e. h.flags.sure a (sym (s.wrote a) ∙ e);
     some = h.flags.some;
   };
@@ -77,10 +74,7 @@ closed_beside {b} {epoch} {c} {d} {f} {x} {unsure} {holds} s le high here others
           record {
             clean = y.1;
             unwritten = s.wrote a ∙ u.0.unwritten;
-            sound = ⊎_elim
-                (λ same. same ∙ u.0.sound)
-                (λ q. absurd (not_both q.1 (ap (λ v. d.flags.dirty v) (sym q.0) ∙ y.1)))
-                (s.failed a);
+            sound = s.failed a ∙ u.0.sound;
           },
           at_b a s.newborn ∙ u.1,
         );
@@ -116,13 +110,13 @@ closed_beside {b} {epoch} {c} {d} {f} {x} {unsure} {holds} s le high here others
         let same : epoch ≡ (c.mind.label a).epoch = ⊎_elim (λ few. omega (arith, up, low, few)) (λ own. own ∙ ap (λ v. (c.mind.label v).epoch) (sym e)) le in
         record {
           epoch = subst (λ (y : Label). d.high ≤ y.epoch) (sym l) (subst (λ n. n ≤ (c.mind.label a).epoch) (sym high) up);
-          state = inr (ap (λ (y : Label). y.state) l, ap (λ (y : Label). y.closing) l ∙ same ∙ ap (λ (y : Label). y.epoch) (sym l), ap (λ v. d.flags.failed v) e ∙ s.unknown (ap (λ v. d.flags.dirty v) (sym e) ∙ on));
+          state = inr (ap (λ (y : Label). y.state) l, ap (λ (y : Label). y.closing) l ∙ same ∙ ap (λ (y : Label). y.epoch) (sym l), s.failed a ∙ ap (λ v. c.flags.failed v) e ∙ s.unknown (ap (λ v. d.flags.dirty v) (sym e) ∙ on));
         })
         (λ ne. record {
           epoch = subst (λ (y : Label). d.high ≤ y.epoch) (sym (others a ne)) (subst (λ n. n ≤ (c.mind.label a).epoch) (sym high) was.epoch);
           state = ⊎_elim
               (λ live. inl (ap (λ (y : Label). y.state) (others a ne) ∙ live))
-              (λ q. inr (ap (λ (y : Label). y.state) (others a ne) ∙ q.0, ap (λ (y : Label). y.closing) (others a ne) ∙ q.1 ∙ ap (λ (y : Label). y.epoch) (sym (others a ne)), ⊎_elim (λ same. same ∙ q.2) (λ k. absurd (ne k.0)) (s.failed a)))
+              (λ q. inr (ap (λ (y : Label). y.state) (others a ne) ∙ q.0, ap (λ (y : Label). y.closing) (others a ne) ∙ q.1 ∙ ap (λ (y : Label). y.epoch) (sym (others a ne)), s.failed a ∙ q.2))
               was.state;
         })
         (cases_eq a b)

@@ -17,8 +17,8 @@ use Rattle.fo_cells_all.specs.All.{Kept, Format}
 use Rattle.fo_cells_steps.specs.Division.{HoldsMade}
 use Rattle.fo_cells_steps.specs.Calls.{images}
 
--- WHAT A CLOSING DOES BESIDE: the block of the label is dirty then. What is closed while it is dirty stays dirty and counts as failed: nothing
--- is known of its versions, its bytes are kept, and it is not written again before its address is given out.
+-- WHAT A CLOSING DOES BESIDE: the block of the label is dirty then. What is closed is dirty only where its last write failed, so that it may have
+-- several versions: it stays dirty, and its bytes are kept.
 pub record ClosesBeside (b epoch : ℕ) (c d : Kept) (f : Format) (x : Used) : Type 0 where
   pub read : d.mind.read ≡ c.mind.read
   pub memory : d.mind.memory ≡ c.mind.memory
@@ -32,8 +32,8 @@ pub record ClosesBeside (b epoch : ℕ) (c d : Kept) (f : Format) (x : Used) : T
   pub dirty : (a : ℕ) → d.flags.dirty a ≡ true → (c.flags.dirty a ≡ true) ⊎ (f.is_data a ≡ false)
   pub still : (a : ℕ) → d.flags.dirty a ≡ false → c.flags.dirty a ≡ false
   pub wrote : (a : ℕ) → d.flags.wrote a ≡ c.flags.wrote a
-  pub failed : (a : ℕ) → (d.flags.failed a ≡ c.flags.failed a) ⊎ ((a ≡ b) × (d.flags.dirty b ≡ true))
-  pub unknown : d.flags.dirty b ≡ true → d.flags.failed b ≡ true
+  pub failed : (a : ℕ) → d.flags.failed a ≡ c.flags.failed a
+  pub unknown : d.flags.dirty b ≡ true → c.flags.failed b ≡ true
   pub begun : (c.mind.label b).epoch ≤ epoch
   pub held : (a : ℕ) → d.buffering.held a ≡ false → (c.buffering.held a ≡ false) × (d.flags.dirty a ≡ false)
   pub clean : (a : ℕ) (bytes : Block) → Contains d.buffering.clean (a, bytes) → Contains c.buffering.clean (a, bytes) × (d.buffering.held a ≡ false)

@@ -1,9 +1,9 @@
 -- Calls that leave what is known of blocks, and moments that pass.
-use Rattle.std.proofs.Common.{◌≡◌, ◌↔◌, inl, inr, ⊎_elim, ℕ, false, List, refl, sym, ◌∙◌, ap, subst}
+use Rattle.std.proofs.Common.{◌≡◌, ◌↔◌, ℕ, false, List, refl, sym, ◌∙◌, subst}
 use Rattle.std.specs.List.{Contains}
 use Rattle.fo_crash.specs.declared.place.Place.{Place}
-use Rattle.fo_crash.specs.Images.{Content, Image, Reaches, to_block}
-use Rattle.fo_crash.specs.Steps.{AddsNothing, IsOneOf, Passes}
+use Rattle.fo_crash.specs.Images.{Content, Reaches, to_block}
+use Rattle.fo_crash.specs.Steps.{AddsNothing, Passes}
 use Rattle.fo_crash.proofs.Sure.{same_content}
 use Rattle.fo_cells.specs.Known.{Known, Top, Remains, Stands}
 use Rattle.fo_cells.specs.Laws.{Safe}
@@ -13,7 +13,6 @@ use Rattle.fo_cells.proofs.Removing.{shown_from}
 use Rattle.fo_cells.proofs.Super.{memory_remains}
 use Rattle.fo_cells_calls.specs.State.{Rest, state_of}
 use Rattle.fo_cells_calls.specs.Laws.{LeavesKnown, Turns, Passed}
-use Rattle.fo_ports.specs.State.{none}
 
 abbrev with_tops : Known → List Top → Known
 with_tops k ts = record k { tops = ts }

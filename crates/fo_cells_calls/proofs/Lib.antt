@@ -3,3 +3,4 @@ pub mod Looking
 pub mod Filling
 pub mod Reading
 pub mod Leaving
+pub mod Trying

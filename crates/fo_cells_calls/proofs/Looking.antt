@@ -35,5 +35,6 @@ looks {k} x y safe l = record {
   dirty = l.dirty;
   room = l.room;
   usable = l.usable;
+  no_removal = record { each = l.removes };
   numbers = record { next = l.numbers.0; grants = l.numbers.1 };
 }

@@ -1,13 +1,14 @@
 -- Laws of the trait, read off what a cache knows.
-use Rattle.std.proofs.Common.{inl, inr, ⊎_elim, ℕ, List, [], refl, sym, subst}
+use Rattle.std.proofs.Common.{◌≡◌, ◌≢◌, inl, inr, ⊎_elim, ℕ, true, List, [], refl, sym, subst}
 use Rattle.std.specs.List.{Contains}
+use Rattle.fo_image.specs.Usable.{is_usable}
 use Rattle.fo_crash.specs.declared.place.Place.{Place}
 use Rattle.fo_crash.specs.Images.{Content, Reaches, to_block}
 use Rattle.fo_crash.specs.Steps.{IsSure}
 use Rattle.fo_crash.proofs.Sure.{same_if}
 use Rattle.fo_cells.specs.Known.{Known, Remains, Stands}
 use Rattle.fo_cells.specs.Safe.{IsSafe, super_top}
-use Rattle.fo_cells.proofs.Standing.{seen_born, among_cases, stands_top}
+use Rattle.fo_cells.proofs.Standing.{seen_born, among_cases, stands_top, not_both}
 use Rattle.fo_cells.proofs.Known.{placed, ranked, sure}
 use Rattle.fo_cells.proofs.Removing.{shown_from}
 use Rattle.fo_cells.proofs.Safe.{set_sure, old_sure, safe_super, memory_falls}
@@ -62,3 +63,7 @@ laws_hold k x doubts h = record {
   waits_in_use = λ a on j w. w.1;
   clears_entries = λ at j c. h.waits at j c.0 c.1;
 }
+
+-- what may be given out stands nowhere
+pub usable_nowhere : {k : Known} {high b : ℕ} {p : Place} {doubt : Content → Type 0} → IsSafe k high doubt → b ≢ 1 → is_usable k.low (k.label b) ≡ true → Stands k b p → ⊥
+usable_nowhere {b = b} {p = p} safe ne usable st = not_both usable (safe.kept.labelled b p ne st).2

@@ -1,6 +1,6 @@
 -- Each method of `Blocks`, as a step of a cache: what it adds to the images.
 use Rattle.fo_image.specs.declared.types.Pointer.TheVariants.{Local}
-use Rattle.std.specs.Prelude.{◌≡◌, ◌≢◌, ◌⊎◌, ◌↔◌, ◌<◌, ◌≤◌, ℕ, false, List}
+use Rattle.std.specs.Prelude.{◌≡◌, ◌≢◌, ◌⊎◌, ◌↔◌, ◌<◌, ◌≤◌, ℕ, true, false, List}
 use Rattle.std.specs.List.{Contains}
 use Rattle.fo_image.specs.declared.types.Label.{Label}
 use Rattle.fo_crash.specs.declared.slot.Slot.{Slot}
@@ -8,12 +8,13 @@ use Rattle.fo_crash.specs.declared.place.Place.{Place}
 use Rattle.fo_crash.specs.Images.{Content, SameContent, SameImage, Reaches, to_block, Image, target}
 use Rattle.fo_crash.specs.Steps.{AddsNothing, AddsSlot, AddsBytes, AddsBlock, AddsSuper, Brings, Fills, HasBytes, HasSuper, IsSure, IsOneOf, AllAre, PutsBlock, Passes, cleared}
 use Rattle.fo_image.specs.declared.types.Kind.TheVariants.{Dir}
+use Rattle.fo_image.specs.Usable.{is_usable}
 use Rattle.fo_image.specs.declared.types.State.TheVariants.{Live}
 use Rattle.fo_crash.specs.Places.{super_place, IsPlaced, OnePlace, RanksFall}
 use Rattle.fo_crash.specs.Names.{SameUse}
 use Rattle.fo_cells.specs.Known.{Known, Top, IsWait, IsClear, IsLeft, Stands}
 use Rattle.fo_cells.specs.Writes.{Writes, WritesLabels, Syncs, Ends, Puts, Gives, Relabels, Fires}
-use Rattle.fo_cells.specs.Calls.{PutsInto, Awaits, WaitsMore, IsSetLeaf, TriesSuper}
+use Rattle.fo_cells.specs.Calls.{PutsInto, Awaits, WaitsMore, IsSetLeaf, TriesSuper, SameButSuper}
 use Rattle.fo_cells.specs.Safe.{IsLive, IsCurrent, MayWait, MayClear, IsSet}
 use Rattle.fo_cells.specs.Laws.{Safe, IsQuiet, KeepsTop, NoWait}
 use Rattle.fo_cells_calls.specs.State.{Rest, Looked, Reads, OthersWait, RaisesLimit, state_of}
@@ -46,6 +47,10 @@ WaitForAdds old new x y = (y.tells → x.tells) → (doubts : List Content) → 
 -- `new_block` and `copy`: the member `images` of `Gives`
 abbrev pub GivesAdds : Known → Known → Rest → Rest → Type 0
 GivesAdds old new x y = (y.tells → x.tells) → (at : ℕ) (c : Content) (p : Place) → Gives at c p old new → at ≢ 1 → ((t : ℕ) → x.tops t → (r : Place) × Stands old t r) → PutsBlock at c (state_of old x).now (state_of new y).now × AddsBlock (state_of old x).tops at c (state_of old x).may_leave (state_of new y).may_leave
+
+-- A block that may be given out stands nowhere.
+abbrev pub UsableIsNowhere : Known → Type 0
+UsableIsNowhere k = (high b : ℕ) (p : Place) (doubts : List Content) → Safe k high doubts → b ≢ 1 → is_usable k.low (k.label b) ≡ true → Stands k b p → ⊥
 
 -- `number`
 abbrev pub NumberAdds : Known → Known → Rest → Rest → Type 0
@@ -106,6 +111,26 @@ pub record Passed (old new : Known) (x y : Rest) : Type 0 where
 -- that passed is one of those of before, as far as tops lead.
 abbrev pub MomentsPass : Known → Known → Rest → Rest → Type 0
 MomentsPass old new x y = (high : ℕ) (doubts : List Content) → Safe old high doubts → Passed old new x y → Passes x.tops (state_of old x).may_leave x.moments y.moments x.left y.left × AddsNothing (state_of old x).may_leave (state_of new y).may_leave × Safe new high doubts
+
+-- THE MOMENTS OF `number`: block 1 is settled as it is (`first`), then another super block is tried (`trial`), and it counts, or stays in doubt.
+-- Each image of a moment within is one of the device after some of these steps. From the trial on no other block loses a version: what was
+-- written before was settled with block 1.
+pub record NumberPassed (d : Content) (old new : Known) (x y : Rest) : Type 0 where
+  pub still : x.tells → y.tells
+  pub later : x.moments ≤ y.moments
+  pub before : (n : ℕ) (image : Image) → n ≤ x.moments → y.left n image → x.left n image
+  pub first : Known
+  pub trial : Known
+  pub settled : Turns old first
+  pub tries : TriesSuper d first trial
+  pub within : (n : ℕ) (image : Image) → x.moments < n → n ≤ y.moments → y.left n image → x.tells × ((k : Known) × (labels : ℕ → Label) × (Turns old k ⊎ Turns trial k) × IsLeft k image labels)
+  pub others : SameButSuper new trial
+  pub ends : (new.memory 1 ≡ d) ⊎ Contains (new.versions 1) d
+  pub tops : (t : ℕ) → x.tops t → (p : Place) × Contains old.tops (record { at = t; place = p }) × (old.newborn t ≡ false)
+
+-- `passes` of `number`: each image of a moment that passed is one of those of before or of those of after, as far as tops lead.
+abbrev pub NumberPasses : Known → Known → Rest → Rest → Type 0
+NumberPasses old new x y = (d : Content) (high : ℕ) (doubts : List Content) → Safe old high doubts → NumberPassed d old new x y → Passes x.tops (λ image. (state_of old x).may_leave image ⊎ (state_of new y).may_leave image) x.moments y.moments x.left y.left
 
 -- LAWS of the trait that hold of what is read off a cache
 pub record TraitLaws (s : State) : Type 0 where

@@ -1,6 +1,6 @@
 -- The state of `Blocks`, read off what a cache knows.
 use Rattle.std.specs.List.{Contains}
-use Rattle.std.specs.Prelude.{◌≡◌, ◌↔◌, ◌<◌, ◌≤◌, ℕ, List, Option, false, ◌≢◌, true}
+use Rattle.std.specs.Prelude.{◌≡◌, ◌↔◌, ◌<◌, ◌≤◌, ℕ, Bool, List, Option, false, ◌≢◌, true}
 use Rattle.fo_image.specs.declared.types.Label.{Label}
 use Rattle.fo_image.specs.declared.types.Score.{Score}
 use Rattle.fo_crash.specs.declared.place.Place.{Place}
@@ -39,6 +39,7 @@ pub record Rest : Type 1 where
   pub label_block : ℕ → ℕ
   pub dirty : ℕ → Type 0
   pub queued : ℕ
+  pub removes : ℕ → ℕ → Bool → Type 0
   pub covered : ℕ → Type 0
   pub faults : ℕ
   pub arena_faults : ℕ
@@ -77,6 +78,7 @@ state_of k x = record {
   label_block = x.label_block;
   dirty = x.dirty;
   queued = x.queued;
+  removes = x.removes;
   waits = λ a on j. IsWait k.waits a on j × IsPairUsed k.memory on j;
   clearing = λ b j. (leaf : ℕ) × IsClear k.clears b j leaf;
   covered = x.covered;
@@ -100,6 +102,7 @@ pub record Looked (k : Known) (x y : Rest) : Type 0 where
   pub dirty : (b : ℕ) → y.dirty b → x.dirty b
   pub room : (y.spare ≡ x.spare) × (y.room ≡ x.room)
   pub usable : (y.usable ≡ x.usable) × (y.queued ≡ x.queued)
+  pub removes : (b e : ℕ) (whole : Bool) → y.removes b e whole → x.removes b e whole
   pub numbers : (y.next ≡ x.next) × (x.grants → y.grants)
 
 -- No other slot waits less than before.

@@ -1,7 +1,7 @@
 //! Laws of the calls. Each function does nothing: its contract is the law, so that the law is proved with the crate.
 ghost use Rattle.fo_cells.specs.Known.{Known};
 ghost use Rattle.fo_cells_calls.specs.State.{Rest};
-ghost use Rattle.fo_cells_calls.specs.Laws.{GetLooks, PutBytesAdds, PutSlotAdds, RemoveSlotAdds, RemoveSlotWaits, WaitForAdds, GivesAdds, NumberAdds, TakenLeaves, RetireLeaves, MomentsPass, WriteRests, DeviceRests, ClearingRests, ClosingRests, SettleLeaves, LawsHold};
+ghost use Rattle.fo_cells_calls.specs.Laws.{GetLooks, PutBytesAdds, PutSlotAdds, RemoveSlotAdds, RemoveSlotWaits, WaitForAdds, UsableIsNowhere, GivesAdds, NumberAdds, NumberPasses, TakenLeaves, RetireLeaves, MomentsPass, WriteRests, DeviceRests, ClearingRests, ClosingRests, SettleLeaves, LawsHold};
 
 /// What a cache knows of its blocks, and what it keeps elsewhere.
 pub trait Cells {
@@ -30,14 +30,16 @@ pub fn removes<C: Cells>(_old: &C, _new: &C)
     ensures waits { RemoveSlotWaits (C.known _old.now) (C.known _new.now) (C.rest _old.now) (C.rest _new.now) }
 {}
 
-/// `new_block`, `copy`.
+/// `new_block`, `copy`: what may be given out stands nowhere.
 pub fn gives<C: Cells>(_old: &C, _new: &C)
+    ensures nowhere { UsableIsNowhere (C.known _old.now) }
     ensures block { GivesAdds (C.known _old.now) (C.known _new.now) (C.rest _old.now) (C.rest _new.now) }
 {}
 
-/// `number`.
+/// `number`: what it adds, and its moments.
 pub fn numbers<C: Cells>(_old: &C, _new: &C)
     ensures number { NumberAdds (C.known _old.now) (C.known _new.now) (C.rest _old.now) (C.rest _new.now) }
+    ensures passes { NumberPasses (C.known _old.now) (C.known _new.now) (C.rest _old.now) (C.rest _new.now) }
 {}
 
 /// `number_taken`, `fetch`, `retire`.

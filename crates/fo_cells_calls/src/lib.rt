@@ -8,7 +8,7 @@
 //! that super block; writes, syncs, clearings and closings add none, and where a slot is cleared each image that is left would, with it
 //! cleared, be one of before; all is settled where each block is; a number that is taken, a fetch and a root that is retired leave all that is
 //! known of blocks. Over any number of steps of the device each image of a moment that passed is one of those of before, as far as tops
-//! lead (`moments_pass`). Not here: what the frames say of counts, pins and coverings; several slots cleared in one call; places that
+//! lead (`moments_pass`), and over `number` one of those of before or of after (`numbers`). What may be given out stands nowhere. Not here: what the frames say of counts, pins and coverings; several slots cleared in one call; places that
 //! blocks keep over a flush.
 #![tactic(auto)]
 

@@ -3,3 +3,4 @@ pub mod Versions
 pub mod Closed
 pub mod Opening
 pub mod Shown
+pub mod Passing

@@ -12,11 +12,12 @@ use Rattle.fo_world.specs.Fits.{WorldFits}
 use Rattle.fo_sound.specs.Sizes.{HasSizes, IsArena}
 use Rattle.fo_sound.specs.Sound.{IsBuilt}
 use Rattle.fo_sound.specs.Sound as built
-use Rattle.fo_sound.specs.Fresh.{IsFresh}
+use Rattle.fo_sound.specs.Fresh.{IsFresh, fresh_super}
 use Rattle.fo_good.specs.Trees.{IsDir}
 use Rattle.fo_good.specs.Sound.{Kept, IsSound, IsSoundTree}
 use Rattle.fo_good.specs.Reading.{stat_in}
 use Rattle.fo_good.specs.Opened.{OpensAs, fresh_world}
+use Rattle.fo_good.specs.Lost.{IsLostIn}
 use Rattle.fo_good.specs.Touched.{no_file}
 use Rattle.fo_good.specs.Good.{Good, ShowsAll}
 
@@ -29,6 +30,10 @@ FreshIsSound = (device vault : List Block) (time : ℕ) → HasSizes device vaul
 -- And as no other.
 abbrev pub FreshIsEmpty : Type 0
 FreshIsEmpty = (device vault : List Block) (time : ℕ) (w : World) → IsFresh time device → OpensAs device vault w → w ≡ fresh_world time
+
+-- No block of them is lost.
+abbrev pub FreshLosesNone : Type 0
+FreshLosesNone = (arena : Arena) (device : List Block) (image : Image) (time at : ℕ) → IsFresh time device → IsLostIn device arena image (fresh_super (length device)) at → ⊥
 
 -- ---- images without files and snapshots
 

@@ -1,10 +1,11 @@
 //! Laws of sound and good images. Each function does nothing: its contract is the law, so that the law is proved with the crate.
-ghost use Rattle.fo_good_laws.specs.Laws.{FreshIsSound, FreshIsEmpty, BuiltIsSound, SoundIsBuilt, WorldsFit, NamesEnd, OpenedIsGood, GoodShowsAll};
+ghost use Rattle.fo_good_laws.specs.Laws.{FreshIsSound, FreshIsEmpty, FreshLosesNone, BuiltIsSound, SoundIsBuilt, WorldsFit, NamesEnd, OpenedIsGood, GoodShowsAll};
 
-/// Devices that were just formatted are sound, and are opened as the empty world of that moment, and as no other.
+/// Devices that were just formatted are sound, and are opened as the empty world of that moment, and as no other. No block of them is lost.
 pub fn fresh_images_are_sound()
     ensures sound { FreshIsSound }
     ensures empty { FreshIsEmpty }
+    ensures lost { FreshLosesNone }
 {}
 
 /// Where no file and no snapshot is there, an image is sound exactly where it is by the smaller definition, which knows no files.
