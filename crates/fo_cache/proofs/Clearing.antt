@@ -1,11 +1,12 @@
 -- What calls on blocks see of a slot that waited, and was cleared.
-use Rattle.std.proofs.Common.{◌≡◌, ◌≢◌, ◌⊎◌, ◌↔◌, inl, inr, ⊎_elim, ℕ, ◌/◌, ◌<◌, List, length, sym, ap, ◌∙◌, subst, arith}
+use Rattle.std.proofs.Common.{◌≡◌, ◌≢◌, ◌⊎◌, ◌↔◌, inl, inr, ⊎_elim, ℕ, ◌/◌, ◌<◌, Bool, List, length, sym, ap, ◌∙◌, subst, arith}
 use Rattle.std.proofs.lemmas.Bool.{cases_eq}
 use Rattle.fo_image.specs.declared.types.Pointer.TheVariants.{Local}
 use Rattle.fo_crash.specs.declared.slot.Slot.{Slot}
 use Rattle.fo_crash.specs.Images.{target}
 use Rattle.fo_crash.specs.Steps.{cleared}
-use Rattle.fo_ports.specs.State.{KeepsSlot, Rests, StaysKnown, WasCleared}
+use Rattle.fo_buffers.specs.Held.{held_at}
+use Rattle.fo_ports.specs.State.{KeepsSlot, MayRemove, Rests, StaysKnown, WasCleared}
 use Rattle.fo_facts.specs.declared.fact.Fact.{Fact}
 use Rattle.fo_waits.specs.declared.listed.Clearing.{Clearing}
 use Rattle.fo_waits.specs.declared.listed.Wait.{Wait}
@@ -13,7 +14,8 @@ use Rattle.fo_waits.specs.Ended.{TakesOut}
 use Rattle.fo_waits.specs.Listed.{Awaits, Clears}
 use Rattle.fo_mind.specs.Due.{ClearedDue}
 use Rattle.fo_mind.specs.Frames.{SameMarks}
-use Rattle.fo_mind.specs.Parts.{IsHeld, Parts, memory, state_of}
+use Rattle.fo_mind.specs.Laws.{some_held}
+use Rattle.fo_mind.specs.Parts.{IsBlock, IsHeld, Parts, Removes, memory, state_of}
 use Rattle.fo_mind.specs.Sound.{Holding, Placed}
 use Rattle.fo_mind.proofs.Cleared.{cleared_nowhere}
 use Rattle.fo_put.proofs.Placing.{SlotResult, slot_result}
@@ -97,6 +99,23 @@ module _ (p s : Parts) (first count at i : ℕ) (placed : Placed p.region p.turn
   known_due : (b : ℕ) → StaysKnown (state_of p) (state_of s) b
   known_due b = record { bytes = result.now.bytes b; slots = keeps_slot b }
 
+  -- what is queued with it is what the slot led to
+  removes_due : (b e : ℕ) (whole : Bool) → Removes s.removals b e whole → MayRemove (state_of p) b e whole
+  removes_due b e whole h = ⊎_elim
+      (λ c. inl (h.0, c, h.2, h.3, h.4))
+      (λ o. inr (at, i, here, waits, o.0 ∙ ap Local h.2, sym h.3 ∙ o.1))
+      (result.whole nowhere h.0 h.1)
+    where
+      here : IsBlock p at
+      here =
+          let x = some_held (held_at p.held at) some in
+          let b = holding.block at x.0 x.1 in
+          let lo = b.0 in
+          let hi = b.1 in
+          let f = placed.is_first in
+          let n = placed.is_count in
+          (omega (arith, lo, f), omega (arith, hi, n))
+
   rests_due : Rests (state_of p) (state_of s)
   rests_due = record {
     blocks = λ tells. absurd tells;
@@ -105,7 +124,7 @@ module _ (p s : Parts) (first count at i : ℕ) (placed : Placed p.region p.turn
     fills = λ tells. absurd tells;
     order = λ b j h. out.only b j (subst (λ (cs : List Clearing). Clears cs b j) result.clears h);
     no_wait = record { each = λ a on j none w. z.ended.ends.only a on (j / 2) (subst (λ (l : List Wait). Awaits l a on j) result.waits w) };
-    dirty = λ b d. ⊎_elim (λ old. inl old) (λ e. inr (inl (i, subst (λ n. Clears p.clears n i) (sym e) waits))) (result.frame.dirty b d);
+    dirty = λ b d. ⊎_elim (λ old. inl old) (λ e. inr (inl (i, subst (λ n. Clears p.clears n i) (sym e) waits, subst (λ n. Clears s.clears n i → ⊥) (sym e) was_cleared.1))) (result.frame.dirty b d);
     closes = λ tells. absurd tells;
     leaves = λ tells. absurd tells;
     apart = λ b. (λ h. sym (marks.apart b) ∙ (same_apart b).0 h, λ h. (same_apart b).1 (marks.apart b ∙ h));
@@ -114,6 +133,8 @@ module _ (p s : Parts) (first count at i : ℕ) (placed : Placed p.region p.turn
       λ h. (same_instead b x).1 (marks.apart b ∙ h.0, marks.origin b ∙ h.1),
     );
     newborn = λ b h. sym (marks.linked b) ∙ result.frame.stays.newborn b (λ none. none) h;
+    newborns = λ b h. result.calm nowhere b (marks.linked b ∙ h);
+    removes = removes_due;
     kept = λ b is was now. known_due b;
     labels = λ b. inl (result.frame.stays.labels b (λ none. none));
     queues = λ more. inr (at, i, waits);

@@ -1,5 +1,5 @@
 -- Each turn leaves less to do.
-use Rattle.std.proofs.Common.{◌≡◌, ⊎_elim, ℕ, zero, suc, ◌+◌, ◌-◌, ◌*◌, ◌<◌, ◌≤◌, Bool, true, false, cond, List, [], ◌∷◌, length, set, count_by, None, Result, Ok, Err, refl, ap, ◌∙◌, arith}
+use Rattle.std.proofs.Common.{◌≡◌, ◌≢◌, ⊎_elim, ℕ, zero, suc, ◌+◌, ◌-◌, ◌*◌, ◌<◌, ◌≤◌, Bool, true, false, cond, List, [], ◌∷◌, length, set, count_by, None, Result, Ok, Err, refl, ap, ◌∙◌, arith}
 use Rattle.std.proofs.lemmas.List.Sums.{sum_by-cons}
 use Rattle.std.specs.Result.{OnOk, OnErr}
 use Rattle.fo_image.specs.declared.types.Pointer.{Pointer}
@@ -23,6 +23,7 @@ use Rattle.fo_mind.specs.Due.{ClearedDue}
 use Rattle.fo_mind.specs.Parts.{Parts, memory}
 use Rattle.fo_mind.specs.Turning.{KeepsTurn, Landed, Synced}
 use Rattle.fo_mind.proofs.Cleared.{cleared_nowhere}
+use Rattle.fo_mind.proofs.Giving.{change_other}
 use Rattle.fo_cache.specs.Numbering.{Renumbers}
 use Rattle.fo_cache.specs.Settling.{Settles}
 use Rattle.fo_cache.specs.Supers.{Overruled}
@@ -78,10 +79,6 @@ quiet_work t quiet =
     let written = ap length quiet.none in
     omega (arith, dirty, written)
 
--- room for a turn is no work
-pub roomed_left : (p q : Parts) → KeepsTurn p q → calls_left q ≡ calls_left p
-roomed_left p q k = ap calls_left k.rest
-
 -- a super block that was in doubt is overruled, or nothing changed
 pub overruled_work : {T E : Type 0} (s t : DiskState) (p q : Parts) (r : Result T E) → OnOk r (Overruled s t p q) → OnErr r (q ≡ p) → work q.turns ≤ work p.turns
 overruled_work s t p q (Ok x) o n =
@@ -136,8 +133,12 @@ unreached : (held : Held) (region : Region) (facts : List Fact) (to : Pointer) �
 unreached held region facts to none _ (top b e) = none b e
 unreached held region facts to none _ (below a x j b r l h e) = unreached held region facts to none a r
 
+-- so nobody else takes a turn
+same_joins : (held : Held) (region : Region) (facts facts' : List Fact) (to : Pointer) (t u : Turns) → ((b : ℕ) → to ≡ Local b → ⊥) → JoinsBelow held region to facts facts' t u → (b : ℕ) → flag_at u b ≡ flag_at t b
+same_joins held region facts facts' to t u none j b = ⊎_elim (λ same. same) (λ l. absurd (unreached held region facts to none b (j.only b l.0))) (j.joins.flags b)
+
 none_joins : (held : Held) (region : Region) (facts facts' : List Fact) (to : Pointer) (t u : Turns) → ((b : ℕ) → to ≡ Local b → ⊥) → JoinsBelow held region to facts facts' t u → count_by is_dirty u.flags ≡ count_by is_dirty t.flags
-none_joins held region facts facts' to t u none j = same_count t.flags u.flags j.joins.flag_count (λ b. ⊎_elim (λ same. same) (λ l. absurd (unreached held region facts to none b (j.only b l.0))) (j.joins.flags b))
+none_joins held region facts facts' to t u none j = same_count t.flags u.flags j.joins.flag_count (same_joins held region facts facts' to t u none j)
 
 -- its block alone has a turn more
 pub due_left : (p s : Parts) (at i : ℕ) → ClearedDue at i p s → s.doubt ≡ p.doubt → length s.clears < length p.clears → calls_left s ≤ calls_left p
@@ -152,6 +153,24 @@ due_left p s at i z doubt fewer =
     after : (b : Bool) → (fact_at z.slotted.hung.facts at).linked ≡ b → count_by is_dirty s.turns.flags ≡ count_by is_dirty z.slotted.hung.turns.flags
     after true e = none_joins z.slotted.hung.held z.slotted.hung.region z.slotted.hung.facts s.facts (target (cleared ((memory p at).slot i))) z.slotted.hung.turns s.turns (cleared_nowhere ((memory p at).slot i)) (z.slotted.follows.linked e)
     after false e = ap (λ (t : Turns). count_by is_dirty t.flags) (z.slotted.follows.stays e).1
+
+turned_other : (facts : List Fact) (t : Turns) (at b : ℕ) → b ≢ at → flag_at (turned facts t at) b ≡ flag_at t b
+turned_other facts t at b ne = by (takes_turn facts t at)
+  where
+    by : (due : Bool) → flag_at (cond due (changed t at (fact_at facts at).rank) t) b ≡ flag_at t b
+    by true = change_other t at (fact_at facts at).rank b ne
+    by false = refl
+
+pub due_others : (p s : Parts) (at i : ℕ) → ClearedDue at i p s → (b : ℕ) → b ≢ at → flag_at s.turns b ≡ flag_at p.turns b
+due_others p s at i z b ne = after (fact_at z.slotted.hung.facts at).linked refl
+    ∙ ap (λ (y : Parts). flag_at y.turns b) z.slotted.hangs.rest
+    ∙ ap (λ (t : Turns). flag_at t b) z.slotted.refilled.turns
+    ∙ turned_other z.recalled.facts z.recalled.turns at b ne
+    ∙ ap (λ (y : Parts). flag_at y.turns b) (recalled_is z)
+  where
+    after : (l : Bool) → (fact_at z.slotted.hung.facts at).linked ≡ l → flag_at s.turns b ≡ flag_at z.slotted.hung.turns b
+    after true e = same_joins z.slotted.hung.held z.slotted.hung.region z.slotted.hung.facts s.facts (target (cleared ((memory p at).slot i))) z.slotted.hung.turns s.turns (cleared_nowhere ((memory p at).slot i)) (z.slotted.follows.linked e) b
+    after false e = ap (λ (t : Turns). flag_at t b) (z.slotted.follows.stays e).1
 
 -- ---- what is called, and what is left then
 

@@ -24,7 +24,7 @@ use Rattle.fo_cache.specs.Numbering.{Renumbers}
 use Rattle.fo_cache.specs.Settling.{Rested}
 use Rattle.fo_cache.specs.Supers.{Counts, Doubted, Overruled}
 use Rattle.fo_cache.proofs.Fitting.{newest_alone}
-use Rattle.fo_cache.proofs.Settling.{join}
+use Rattle.fo_cache.proofs.Settling.{join, over_synced}
 
 -- ---- the super block that says more
 
@@ -40,13 +40,14 @@ certain_limit one doubt none = ap (least_limit one) none
 -- ---- steps
 
 pub no_step : (s : DiskState) (p : Parts) → Renumbers s s p p
-no_step s p = record { others = λ k ne. inl refl; count = refl; turn = λ b. refl; rank = λ b. refl; turn_room = refl; one = refl; numbers = omega arith; rest = refl }
+no_step s p = record { others = λ k ne. inl refl; count = refl; turn = λ b. refl; over = λ b e. e; rank = λ b. refl; turn_room = refl; one = refl; numbers = omega arith; rest = refl }
 
 pub then : (s m t : DiskState) (p n q : Parts) → Renumbers s m p n → Renumbers m t n q → Renumbers s t p q
 then s m t p n q h k = record {
   others = λ b ne. join (versions_of s.holds b) (versions_of m.holds b) (versions_of t.holds b) (h.others b ne) (k.others b ne);
   count = k.count ∙ h.count;
   turn = λ b. k.turn b ∙ h.turn b;
+  over = λ b e. k.over b (h.over b e);
   rank = λ b. k.rank b ∙ h.rank b;
   turn_room = k.turn_room ∙ h.turn_room;
   one = k.one ∙ ap (λ (x : Super). record x { numbers = q.one.numbers }) h.one;
@@ -55,7 +56,7 @@ then s m t p n q h k = record {
 }
 
 pub granted : (s : DiskState) (p q : Parts) → q ≡ record p { granted = true } → Renumbers s s p q
-granted s p q is = subst (λ (z : Parts). Renumbers s s p z) (sym is) (record { others = λ k ne. inl refl; count = refl; turn = λ b. refl; rank = λ b. refl; turn_room = refl; one = refl; numbers = omega arith; rest = refl })
+granted s p q is = subst (λ (z : Parts). Renumbers s s p z) (sym is) (record { others = λ k ne. inl refl; count = refl; turn = λ b. refl; over = λ b e. e; rank = λ b. refl; turn_room = refl; one = refl; numbers = omega arith; rest = refl })
 
 module _ (p q : Parts) (is : q ≡ record p { granted = true }) (holds : Holds) (unsure : List Bool) where
   pub fits_granted : Fits (record p { disk = holds }) unsure → Fits (record q { disk = holds }) unsure
@@ -73,6 +74,7 @@ module _ (s t : DiskState) (p q : Parts) (others : (k : ℕ) → k ≢ 1 → Res
     others = others;
     count = count;
     turn = λ b. ap (λ f. f.dirty) (y.each b);
+    over = over_synced p.turns turns y;
     rank = λ b. ap (λ f. f.rank) (y.each b);
     turn_room = y.room;
     one = same;
@@ -82,11 +84,11 @@ module _ (s t : DiskState) (p q : Parts) (others : (k : ℕ) → k ≢ 1 → Res
 
   pub settled_step : {T : Type 0} (r : Result T BlockError) → OnOk r (Overruled s t p q) → OnErr r (q ≡ p) → Renumbers s t p q
   settled_step (Ok x) o e = synced_step q.turns p.one p.one_bytes None o.turns refl (omega arith) o.rest
-  settled_step (Err x) o e = subst (λ (z : Parts). Renumbers s t p z) (sym e) (record { others = others; count = count; turn = λ b. refl; rank = λ b. refl; turn_room = refl; one = refl; numbers = omega arith; rest = refl })
+  settled_step (Err x) o e = subst (λ (z : Parts). Renumbers s t p z) (sym e) (record { others = others; count = count; turn = λ b. refl; over = λ b e. e; rank = λ b. refl; turn_room = refl; one = refl; numbers = omega arith; rest = refl })
 
   pub raised_step : {T : Type 0} (n : ℕ) (r : Result T BlockError) → p.one.numbers ≤ n → OnOk r (Counts (record p.one { numbers = n }) s t p q) → OnErr r (Doubted (record p.one { numbers = n }) p q) → Renumbers s t p q
   raised_step n (Ok x) more c d = synced_step q.turns (record p.one { numbers = n }) q.one_bytes None c.turns refl more c.rest
-  raised_step n (Err x) more c d = subst (λ (z : Parts). Renumbers s t p z) (sym d.rest) (record { others = others; count = count; turn = λ b. refl; rank = λ b. refl; turn_room = refl; one = refl; numbers = omega arith; rest = refl })
+  raised_step n (Err x) more c d = subst (λ (z : Parts). Renumbers s t p z) (sym d.rest) (record { others = others; count = count; turn = λ b. refl; over = λ b e. e; rank = λ b. refl; turn_room = refl; one = refl; numbers = omega arith; rest = refl })
 
 -- ---- what calls on blocks see
 
@@ -135,6 +137,7 @@ module _ (s t : DiskState) (p q : Parts) (f g : ℕ) (k : Renumbers s t p q) whe
     dirty = λ b d. ⊎_elim (λ turn. inl (sym (k.turn b) ∙ turn)) (λ changed. inr changed) d;
     room = (refl, refl, refl, refl);
     usable = (ap (λ (x : Super). usable_count x.low p.region) k.one, refl);
+    no_removal = record { each = λ x e w h. h };
   }
 
   pub numbers : Numbers (state_of P) (state_of (record q { disk = t.holds; faults = g }))

@@ -101,8 +101,10 @@ module _ (s t : DiskState) (p q : Parts) (f g : ℕ) (k : Settles s t p q) where
     apart = λ b. (λ h. sym (apart_same b) ∙ h, λ h. apart_same b ∙ h);
     instead = λ b x. (λ h. (sym (apart_same b) ∙ h.0, sym (origin_same b) ∙ h.1), λ h. (apart_same b ∙ h.0, origin_same b ∙ h.1));
     newborn = λ b h. sym (linked_same b) ∙ h;
+    newborns = λ b h. linked_same b ∙ h;
     kept = λ b is _ _. block_known b is;
     labels = λ b. inl refl;
+    removes = λ r e w h. inl h;
     queues = λ some. inl some;
     usable = omega arith;
     settled = λ was. (record { settled = record { each = λ image h. absurd h }; clean = λ b d. (linked_same b ∙ (was.clean b (dirty_was b d)).0, λ tells. absurd tells); empty = was.empty; cleared = was.cleared }, refl);

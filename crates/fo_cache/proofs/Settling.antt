@@ -1,5 +1,5 @@
 -- What turns leave of memory and of the device.
-use Rattle.std.proofs.Common.{◌≡◌, ◌≢◌, inl, inr, ⊎_elim, ℕ, ◌<◌, ◌≤◌, Bool, true, false, cond, nat_eq, List, [], ◌∷◌, length, get_or, Option, Some, None, Result, Ok, Err, refl, sym, ap, ◌∙◌, subst, arith, set, get_or-set_same}
+use Rattle.std.proofs.Common.{◌≡◌, ◌≢◌, inl, inr, ⊎_elim, ℕ, ◌<◌, ◌≤◌, ◌&&◌, Bool, true, false, not, cond, nat_eq, List, [], ◌∷◌, length, get_or, Option, Some, None, Result, Ok, Err, refl, sym, ap, ◌∙◌, subst, arith, set, get_or-set_same}
 use Rattle.std.specs.Map.{lookup}
 use Rattle.std.specs.Option.{option_map, option_map_or}
 use Rattle.std.specs.Result.{OnOk, OnErr}
@@ -11,14 +11,18 @@ use Rattle.fo_disk.specs.declared.disk.Failed.{Failed}
 use Rattle.fo_buffers.specs.declared.block.Buffer.{Buffer}
 use Rattle.fo_buffers.specs.Held.{Held, held_at, settled}
 use Rattle.fo_order.specs.declared.marks.Flags.{Flags}
+use Rattle.fo_order.specs.declared.marks.Tried.{Tried}
+use Rattle.fo_order.specs.declared.marks.Tried.TheVariants.{Settled, Written, Failed as Unwritten}
+use Rattle.fo_order.specs.Flags.{settled_tried}
 use Rattle.fo_order.specs.Keeps.{Turns}
-use Rattle.fo_order.specs.Turns.{flag_at}
+use Rattle.fo_order.specs.Turns.{IsSynced, flag_at}
 use Rattle.fo_labels.specs.Region.{Region}
 use Rattle.fo_facts.specs.declared.fact.Fact.{Fact}
 use Rattle.fo_facts.specs.Known.{fact_at, no_fact, written_as}
+use Rattle.fo_mind.specs.Due.{is_over}
 use Rattle.fo_mind.specs.Parts.{Parts, bytes_at, bytes_of}
 use Rattle.fo_mind.specs.Sound.{Placed}
-use Rattle.fo_mind.specs.Turning.{KeepsTurn, Landed, Missed, Synced, Turning, is_changed, is_pinned_at}
+use Rattle.fo_mind.specs.Turning.{KeepsTurn, Landed, Missed, Synced, Turning, is_changed, is_pinned_at, is_settled}
 use Rattle.fo_mind.proofs.Landing.{within_count}
 use Rattle.fo_mind.proofs.Turning.{landed_here, landed_other, missed_here, missed_other, other_written, settles_of}
 use Rattle.fo_mind.proofs.Turning.{Settles as Lands}
@@ -30,6 +34,27 @@ use Rattle.fo_cache.proofs.Labelling.{count_kept, versions_kept}
 
 never : {A : Type 0} → true ≡ false → A
 never e = cc
+
+-- ---- what is settled stays so
+
+pub over_same : (t u : Turns) (b : ℕ) → flag_at u b ≡ flag_at t b → is_over t b ≡ true → is_over u b ≡ true
+over_same t u b e h = ap (λ (f : Flags). not f.dirty && is_settled f.tried) e ∙ h
+
+pub over_synced : (t u : Turns) → IsSynced t u → (b : ℕ) → is_over t b ≡ true → is_over u b ≡ true
+over_synced t u y b h = ap (λ (f : Flags). not f.dirty && is_settled f.tried) (y.each b) ∙ by (flag_at t b).dirty (flag_at t b).tried h
+  where
+    by : (d : Bool) (tried : Tried) → (not d && is_settled tried) ≡ true → (not d && is_settled (settled_tried tried)) ≡ true
+    by true tried e = e
+    by false Settled e = e
+    by false Written e = never (sym e)
+    by false Unwritten e = e
+
+-- what is settled has no turn, so another block has
+others_over : (p q : Parts) (at : ℕ) → (flag_at p.turns at).dirty ≡ true → ((b : ℕ) → b ≢ at → flag_at q.turns b ≡ flag_at p.turns b) → (b : ℕ) → is_over p.turns b ≡ true → is_over q.turns b ≡ true
+others_over p q at dirty other b h = ⊎_elim
+    (λ e. never (sym h ∙ ap (λ n. is_over p.turns n) e ∙ ap (λ d. not d && is_settled (flag_at p.turns at).tried) dirty))
+    (λ ne. over_same p.turns q.turns b (other b ne) h)
+    (cases_eq b at)
 
 -- ---- one step after another
 
@@ -52,6 +77,7 @@ same_settles s p = record {
   lasts = λ b. refl;
   fresh = λ b e. e;
   turn = λ b e. e;
+  over = λ b e. e;
   rank = λ b. refl;
   turn_room = omega arith;
   bytes = λ b le. refl;
@@ -69,6 +95,7 @@ then s t u p m q a b = record {
   lasts = λ k. b.lasts k ∙ a.lasts k;
   fresh = λ k e. a.fresh k (b.fresh k e);
   turn = λ k e. a.turn k (b.turn k e);
+  over = λ k e. b.over k (a.over k e);
   rank = λ k. b.rank k ∙ a.rank k;
   turn_room = let x = a.turn_room in let y = b.turn_room in omega (arith, x, y);
   bytes = λ k le. b.bytes k (subst (λ (x : Region). x.first ≤ k) (sym (ap (λ (z : Parts). z.region) a.rest)) le) ∙ a.bytes k le;
@@ -92,6 +119,7 @@ room_settles s p q k = subst (λ (z : Parts). Settles s s p z) (sym k.rest) (rec
   lasts = λ b. refl;
   fresh = λ b e. e;
   turn = λ b e. e;
+  over = λ b e. e;
   rank = λ b. refl;
   turn_room = k.more;
   bytes = λ b le. refl;
@@ -159,6 +187,7 @@ module _ (s t : DiskState) (p q : Parts) (at : ℕ) {bytes : List ℕ} (lt : at 
         (λ same. subst (λ n. (flag_at p.turns n).dirty ≡ true) (sym same) dirty)
         (λ ne. sym (ap (λ (f : Flags). f.dirty) (other b ne)) ∙ e)
         (cases_eq b at);
+    over = others_over p q at dirty other;
     rank = λ b. ⊎_elim
         (λ same. subst (λ n. (flag_at q.turns n).rank ≡ (flag_at p.turns n).rank) (sym same) (ap (λ (x : Turns). (flag_at x at).rank) l.turns ∙ ap (λ (f : Flags). f.rank) (landed_here p.turns at within)))
         (λ ne. ap (λ (f : Flags). f.rank) (other b ne))
@@ -194,6 +223,7 @@ module _ (s t : DiskState) (p q : Parts) (at : ℕ) {bytes : List ℕ} (lt : at 
         (λ same. subst (λ n. (flag_at p.turns n).dirty ≡ true) (sym same) dirty)
         (λ ne. sym (ap (λ (f : Flags). f.dirty) (other b ne)) ∙ e)
         (cases_eq b at);
+    over = others_over p q at dirty other;
     rank = λ b. ⊎_elim
         (λ same. subst (λ n. (flag_at q.turns n).rank ≡ (flag_at p.turns n).rank) (sym same) (ap (λ (x : Turns). (flag_at x at).rank) m.turns ∙ ap (λ (f : Flags). f.rank) (missed_here p.turns at within)))
         (λ ne. ap (λ (f : Flags). f.rank) (other b ne))
@@ -236,6 +266,7 @@ module _ (s t : DiskState) (p q : Parts) where
     lasts = λ b. ap (λ (z : List Fact). lasting (fact_at z b)) facts;
     fresh = λ b e. sym (ap (λ (z : List Fact). (fact_at z b).fresh) facts) ∙ e;
     turn = λ b e. sym (ap (λ (f : Flags). f.dirty) (c.turns.each b)) ∙ e;
+    over = over_synced p.turns q.turns c.turns;
     rank = λ b. ap (λ (f : Flags). f.rank) (c.turns.each b);
     turn_room = let e = c.turns.room in omega (arith, e);
     bytes = λ b le. ap (λ (h : Held). bytes_at h t.holds b) same ∙ ap (bytes_of (held_at p.held b) (lookup (nat_eq b) p.held.clean)) (last b le);
@@ -276,6 +307,7 @@ module _ (s t : DiskState) (p q : Parts) where
     lasts = λ b. ap (λ (z : Parts). lasting (fact_at z.facts b)) n;
     fresh = λ b e. sym (ap (λ (z : Parts). (fact_at z.facts b).fresh) n) ∙ e;
     turn = λ b e. sym (ap (λ (z : Parts). (flag_at z.turns b).dirty) n) ∙ e;
+    over = λ b e. ap (λ (z : Parts). is_over z.turns b) n ∙ e;
     rank = λ b. ap (λ (z : Parts). (flag_at z.turns b).rank) n;
     turn_room = let e = ap (λ (z : Parts). z.turns.room) n in omega (arith, e);
     bytes = λ b le. ap (λ (z : Parts). bytes_at z.held t.holds b) n ∙ ap (λ (h : Content). bytes_at p.held h b) y.holds;

@@ -2,9 +2,7 @@
 use Rattle.std.specs.Prelude.{◌≡◌, ◌≤◌, ℕ, true, length}
 use Rattle.fo_ports.specs.State.{Rests, StaysKnown}
 use Rattle.fo_facts.specs.Known.{fact_at}
-use Rattle.fo_mind.specs.Due.{ClearedDue}
 use Rattle.fo_mind.specs.Parts.{CacheKeeps, IsPinned, Parts, label_at, state_of}
-use Rattle.fo_mind.specs.Turning.{KeepsTurn}
 
 -- What isn't doomed stays; pinned blocks are what they were, but for slots that waited; labels, pins and seals stay, and so does room; and
 -- no removal is lost.
@@ -15,9 +13,3 @@ pub record Eases (p q : Parts) : Type 0 where
   pub room : (q.spare ≡ p.spare) × (q.pins ≡ p.pins) × (q.room ≡ p.room)
   pub queued : length p.removals ≤ length q.removals
   pub keeps : CacheKeeps p q
-
--- A slot that waited was cleared, after room for a turn was made; what left with it was queued, and no more.
-pub record ClearsDue (at i : ℕ) (p q : Parts) : Type 0 where
-  pub roomy : Parts
-  pub kept : KeepsTurn p roomy
-  pub cleared : ClearedDue at i roomy q

@@ -1,3 +1,4 @@
+pub mod Called
 pub mod Easing
 pub mod Fits
 pub mod Numbering

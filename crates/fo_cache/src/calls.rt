@@ -104,6 +104,7 @@ impl<D: Disk> Cache<D> {
     /// Puts bytes into a pinned block, none of which spells a slot.
     pub fn put_bytes(&mut self, at: u32, from: u32, bytes: &[u8])
         requires pinned { IsPinned (parts self.old.mind [] 0).held at }
+        requires current { (label_at (parts self.old.mind [] 0).region at).epoch ≡ (parts self.old.mind [] 0).one.high }
         requires within { from + length bytes.now ≤ 8192 }
         requires place { MayPut (label_at (parts self.old.mind [] 0).region at).kind from (from + length bytes.now) }
         ensures now { PutsBytes at (put_at from bytes.now ((memory (parts self.old.mind (D.state self.old.main).holds (D.faults self.old.main)) at).bytes)) (memory (parts self.old.mind (D.state self.old.main).holds (D.faults self.old.main))) (memory (parts self.new.mind (D.state self.new.main).holds (D.faults self.new.main))) }

@@ -11,13 +11,19 @@ impl<D: Disk> Cache<D> {
     ghost use Rattle.fo_image.specs.Field.{Four, number_at};
     ghost use Rattle.fo_cache.specs.Fits.{MayBeOne};
     ghost use Rattle.fo_labels.specs.Spelled.{SpellsLabels};
-    ghost use Rattle.fo_order.specs.Turns.{IsQuiet};
+    ghost use Rattle.fo_order.specs.Turns.{IsQuiet, flag_at};
     ghost use Rattle.fo_mind.specs.MindParts.{parts};
-    ghost use Rattle.fo_mind.specs.Parts.{bytes_at};
+    ghost use Rattle.fo_mind.specs.Parts.{bytes_at, label_at};
+    ghost use Rattle.fo_mind.specs.Sound.{IsCurrent};
 
     /// Where all is settled, the device has of each block that is in the tree of memory one version, which is memory's.
     pub fn quiet_is_memory(&self)
         ensures { IsQuiet (parts self.now.mind [] 0).turns → (b : ℕ) → (parts self.now.mind [] 0).region.first ≤ b → b < length (D.state self.now.main).holds → (fact_at (parts self.now.mind [] 0).facts b).linked ≡ true → versions_of (D.state self.now.main).holds b ≡ bytes_at (parts self.now.mind [] 0).held (D.state self.now.main).holds b ∷ [] }
+    {}
+
+    /// A data block that has a turn, and so may be written, is live and of the high epoch.
+    pub fn turns_are_current(&self)
+        ensures { (b : ℕ) → (parts self.now.mind [] 0).region.first ≤ b → (flag_at (parts self.now.mind [] 0).turns b).dirty ≡ true → IsCurrent (parts self.now.mind [] 0).one.high (label_at (parts self.now.mind [] 0).region b) }
     {}
 
     /// Where all is settled, the device has of each block of the label table one version, with the labels that memory has.

@@ -10,7 +10,8 @@
 //! last write answered Ok, and one that fails changes nothing. Turns are taken until none is left, whatever memory has, and this
 //! ends; memory keeps its bytes and pins, and blocks that had no turn are not written. Where all is settled, the device has one
 //! version of each block of the tree and of the label table: memory's. A turn calls the device once at most, and all turns together twice
-//! for each dirty block, and once for what was written before (`work`). A slot that is cleared adds no more than three calls (`calls_left`).
+//! for each dirty block, and once for what was written before (`work`), each block being written once (`Makes`). A slot that is cleared adds
+//! no more than three calls (`calls_left`).
 //!
 //! Another super block is written and settled before it counts; where that fails it is in doubt, until block 1 is settled again as
 //! memory has it. The next file number is granted only below the limit of each super block that the device may have; where none says so

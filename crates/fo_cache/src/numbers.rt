@@ -28,6 +28,7 @@ impl<D: Disk> Cache<D> {
     ghost use Rattle.fo_ports.specs.State.{Numbers};
     ghost use Rattle.fo_mind.specs.MindParts.{parts};
     ghost use Rattle.fo_mind.specs.Parts.{CacheKeeps, least_limit, memory, state_of};
+    ghost use Rattle.fo_cache.specs.Called.{Makes, at_only, no_more};
     ghost use Rattle.fo_cache.specs.Easing.{Eases};
     ghost use Rattle.fo_cache.specs.Numbering.{Renumbers};
     ghost use Rattle.fo_cache.specs.Supers.{IsFault};
@@ -102,6 +103,7 @@ impl<D: Disk> Cache<D> {
         ensures eases { Eases (parts self.old.mind (D.state self.old.main).holds (D.faults self.old.main)) (parts self.new.mind (D.state self.new.main).holds (D.faults self.new.main)) }
         ensures certain { OnOk result ((parts self.new.mind [] 0).doubt ≡ None) }
         ensures calls { AtMost (2 * in_doubt (parts self.old.mind [] 0).doubt) (D.calls self.old.main) (D.calls self.new.main) }
+        ensures made { Makes (D.state self.old.main) (D.state self.new.main) (D.calls self.old.main) (D.calls self.new.main) (2 * in_doubt (parts self.old.mind [] 0).doubt) 0 (at_only 1 (in_doubt (parts self.old.mind [] 0).doubt)) no_more }
         ensures turns { work (parts self.new.mind [] 0).turns ≤ work (parts self.old.mind [] 0).turns }
         ensures renumbers { Renumbers (D.state self.old.main) (D.state self.new.main) (parts self.old.mind [] 0) (parts self.new.mind [] 0) }
         ensures size { D.size self.new.main ≡ D.size self.old.main }

@@ -4,11 +4,11 @@ use fo_base::Memory;
 use fo_disk::Disk;
 
 impl<D: Disk> Cache<D> {
-    ghost use Rattle.std.specs.Prelude.{◌≡◌, ◌+◌, ◌<◌, ◌≤◌, ℕ, [], true, false, Ok, OnOk, OnErr, IfOk};
+    ghost use Rattle.std.specs.Prelude.{◌≡◌, ◌⊎◌, ◌+◌, ◌<◌, ◌≤◌, ℕ, Bool, [], true, false, Ok, OnOk, OnErr, IfOk};
     ghost use Rattle.fo_image.specs.declared.types.Kind.TheVariants.{Dir};
     ghost use Rattle.fo_labels.specs.Region.{usable_count};
     ghost use Rattle.fo_crash.specs.Images.{SameImage};
-    ghost use Rattle.fo_ports.specs.State.{AddsNoWait, Calm, Frame, KeepsCovered, KeepsOrder, Stays, Uses, WaitsForPairs, none};
+    ghost use Rattle.fo_ports.specs.State.{AddsNoRemoval, AddsNoWait, Calm, Frame, KeepsCovered, KeepsOrder, Stays, Uses, WaitsForPairs, none};
     ghost use Rattle.fo_mind.specs.MindParts.{parts};
     ghost use Rattle.fo_mind.specs.Parts.{CacheKeeps, IsPinned, label_at, memory, state_of};
     ghost use Rattle.fo_mind.specs.Roomed.{Grown, Roomed};
@@ -39,6 +39,7 @@ impl<D: Disk> Cache<D> {
         ensures covered { KeepsCovered (state_of (parts self.old.mind (D.state self.old.main).holds (D.faults self.old.main))) (state_of (parts self.new.mind (D.state self.new.main).holds (D.faults self.new.main))) }
         ensures no_wait { AddsNoWait none (state_of (parts self.old.mind (D.state self.old.main).holds (D.faults self.old.main))) (state_of (parts self.new.mind (D.state self.new.main).holds (D.faults self.new.main))) }
         ensures queued { (state_of (parts self.new.mind (D.state self.new.main).holds (D.faults self.new.main))).queued ≡ (state_of (parts self.old.mind (D.state self.old.main).holds (D.faults self.old.main))).queued }
+        ensures no_removal { AddsNoRemoval (state_of (parts self.old.mind (D.state self.old.main).holds (D.faults self.old.main))) (state_of (parts self.new.mind (D.state self.new.main).holds (D.faults self.new.main))) }
         ensures dirty { (b : ℕ) → (state_of (parts self.new.mind (D.state self.new.main).holds (D.faults self.new.main))).dirty b → (state_of (parts self.old.mind (D.state self.old.main).holds (D.faults self.old.main))).dirty b }
         ensures keeps { CacheKeeps (parts self.old.mind (D.state self.old.main).holds (D.faults self.old.main)) (parts self.new.mind (D.state self.new.main).holds (D.faults self.new.main)) }
         ensures device { self.new.main ≡ self.old.main }
@@ -54,6 +55,7 @@ impl<D: Disk> Cache<D> {
         ensures order { KeepsOrder none (state_of (parts self.old.mind (D.state self.old.main).holds (D.faults self.old.main))) (state_of (parts self.new.mind (D.state self.new.main).holds (D.faults self.new.main))) }
         ensures no_wait { AddsNoWait none (state_of (parts self.old.mind (D.state self.old.main).holds (D.faults self.old.main))) (state_of (parts self.new.mind (D.state self.new.main).holds (D.faults self.new.main))) }
         ensures queues { (state_of (parts self.new.mind [] 0)).queued ≡ (state_of (parts self.old.mind [] 0)).queued + 1 }
+        ensures removals { (b e : ℕ) (whole : Bool) → (state_of (parts self.new.mind (D.state self.new.main).holds (D.faults self.new.main))).removes b e whole → (state_of (parts self.old.mind (D.state self.old.main).holds (D.faults self.old.main))).removes b e whole ⊎ ((b ≡ at) × (e ≡ epoch) × (whole ≡ false)) }
         ensures keeps { CacheKeeps (parts self.old.mind (D.state self.old.main).holds (D.faults self.old.main)) (parts self.new.mind (D.state self.new.main).holds (D.faults self.new.main)) }
         ensures device { self.new.main ≡ self.old.main }
     {

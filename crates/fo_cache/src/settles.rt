@@ -14,11 +14,13 @@ impl<D: Disk> Cache<D> {
     ghost use Rattle.fo_ports.specs.State.{Rests, StaysKnown};
     ghost use Rattle.fo_mind.specs.MindParts.{parts};
     ghost use Rattle.fo_mind.specs.Parts.{CacheKeeps, IsPinned, label_at, state_of};
+    ghost use Rattle.fo_cache.specs.Called.{Makes, no_more, turns_of};
     ghost use Rattle.fo_cache.specs.Settling.{Settles};
     ghost use Rattle.fo_cache.specs.Work.{AtMost, work};
 
     /// Writes and settles blocks in their turns, until nothing is to be written and all is settled. Where a write or a sync fails, or
-    /// memory is wanting for the next turn of a pinned block, it ends; what was written until then stays so.
+    /// memory is wanting for the next turn of a pinned block, it ends; what was written until then stays so. Each block that has a turn is
+    /// written once at most, and no other.
     pub fn settle_turns(&mut self) -> Result<(), BlockError>
         ensures quiet { OnOk result (IsQuiet (parts self.new.mind [] 0).turns) }
         ensures settles { Settles (D.state self.old.main) (D.state self.new.main) (parts self.old.mind [] 0) (parts self.new.mind [] 0) }
@@ -28,6 +30,7 @@ impl<D: Disk> Cache<D> {
         ensures room { ((parts self.new.mind [] 0).spare ≡ (parts self.old.mind [] 0).spare) × ((parts self.new.mind [] 0).pins ≡ (parts self.old.mind [] 0).pins) × ((parts self.new.mind [] 0).room ≡ (parts self.old.mind [] 0).room) }
         ensures keeps { CacheKeeps (parts self.old.mind (D.state self.old.main).holds (D.faults self.old.main)) (parts self.new.mind (D.state self.new.main).holds (D.faults self.new.main)) }
         ensures calls { AtMost (work (parts self.old.mind [] 0).turns) (D.calls self.old.main) (D.calls self.new.main) }
+        ensures made { Makes (D.state self.old.main) (D.state self.new.main) (D.calls self.old.main) (D.calls self.new.main) (work (parts self.old.mind [] 0).turns) 0 (turns_of (parts self.old.mind [] 0).turns) no_more }
         ensures size { D.size self.new.main ≡ D.size self.old.main }
         ensures cause { IfErr result (Caused ⊥ (λ b. ⊥) (Rose (D.faults self.old.main) (D.faults self.new.main)) ⊥) }
         ensures later { D.faults self.old.main ≤ D.faults self.new.main }
@@ -40,6 +43,7 @@ impl<D: Disk> Cache<D> {
         ensures quiet { OnOk result (IsQuiet (parts self.new.mind [] 0).turns) }
         ensures settles { Settles (D.state self.old.main) (D.state self.new.main) (parts self.old.mind [] 0) (parts self.new.mind [] 0) }
         ensures calls { AtMost (work (parts self.old.mind [] 0).turns) (D.calls self.old.main) (D.calls self.new.main) }
+        ensures made { Makes (D.state self.old.main) (D.state self.new.main) (D.calls self.old.main) (D.calls self.new.main) (work (parts self.old.mind [] 0).turns) 0 (turns_of (parts self.old.mind [] 0).turns) no_more }
         ensures size { D.size self.new.main ≡ D.size self.old.main }
         ensures cause { IfErr result (Caused ⊥ (λ b. ⊥) (Rose (D.faults self.old.main) (D.faults self.new.main)) ⊥) }
         ensures later { D.faults self.old.main ≤ D.faults self.new.main }
@@ -55,6 +59,8 @@ impl<D: Disk> Cache<D> {
         ensures less { IfOk result (λ b. b ≡ false → work (parts self.new.mind [] 0).turns < work (parts self.old.mind [] 0).turns) }
         ensures calls { AtMost (work (parts self.old.mind [] 0).turns) (D.calls self.old.main) (D.calls self.new.main) }
         ensures spent { OnOk result (D.calls self.new.main + work (parts self.new.mind [] 0).turns ≤ D.calls self.old.main + work (parts self.old.mind [] 0).turns) }
+        ensures made { Makes (D.state self.old.main) (D.state self.new.main) (D.calls self.old.main) (D.calls self.new.main) (work (parts self.old.mind [] 0).turns) 0 (turns_of (parts self.old.mind [] 0).turns) no_more }
+        ensures makes { OnOk result (Makes (D.state self.old.main) (D.state self.new.main) (D.calls self.old.main) (D.calls self.new.main) (work (parts self.old.mind [] 0).turns) (work (parts self.new.mind [] 0).turns) (turns_of (parts self.old.mind [] 0).turns) (turns_of (parts self.new.mind [] 0).turns)) }
         ensures size { D.size self.new.main ≡ D.size self.old.main }
         ensures cause { IfErr result (Caused ⊥ (λ b. ⊥) (Rose (D.faults self.old.main) (D.faults self.new.main)) ⊥) }
         ensures later { D.faults self.old.main ≤ D.faults self.new.main }
@@ -74,6 +80,8 @@ impl<D: Disk> Cache<D> {
         ensures less { OnOk result (work (parts self.new.mind [] 0).turns < work (parts self.old.mind [] 0).turns) }
         ensures calls { AtMost (work (parts self.old.mind [] 0).turns) (D.calls self.old.main) (D.calls self.new.main) }
         ensures spent { OnOk result (D.calls self.new.main + work (parts self.new.mind [] 0).turns ≤ D.calls self.old.main + work (parts self.old.mind [] 0).turns) }
+        ensures made { Makes (D.state self.old.main) (D.state self.new.main) (D.calls self.old.main) (D.calls self.new.main) (work (parts self.old.mind [] 0).turns) 0 (turns_of (parts self.old.mind [] 0).turns) no_more }
+        ensures makes { OnOk result (Makes (D.state self.old.main) (D.state self.new.main) (D.calls self.old.main) (D.calls self.new.main) (work (parts self.old.mind [] 0).turns) (work (parts self.new.mind [] 0).turns) (turns_of (parts self.old.mind [] 0).turns) (turns_of (parts self.new.mind [] 0).turns)) }
         ensures size { D.size self.new.main ≡ D.size self.old.main }
         ensures cause { IfErr result (Caused ⊥ (λ b. ⊥) (Rose (D.faults self.old.main) (D.faults self.new.main)) ⊥) }
         ensures later { D.faults self.old.main ≤ D.faults self.new.main }
@@ -95,6 +103,8 @@ impl<D: Disk> Cache<D> {
         ensures less { OnOk result (work (parts self.new.mind [] 0).turns < work (parts self.old.mind [] 0).turns) }
         ensures calls { AtMost (work (parts self.old.mind [] 0).turns) (D.calls self.old.main) (D.calls self.new.main) }
         ensures spent { OnOk result (D.calls self.new.main + work (parts self.new.mind [] 0).turns ≤ D.calls self.old.main + work (parts self.old.mind [] 0).turns) }
+        ensures made { Makes (D.state self.old.main) (D.state self.new.main) (D.calls self.old.main) (D.calls self.new.main) (work (parts self.old.mind [] 0).turns) 0 (turns_of (parts self.old.mind [] 0).turns) no_more }
+        ensures makes { OnOk result (Makes (D.state self.old.main) (D.state self.new.main) (D.calls self.old.main) (D.calls self.new.main) (work (parts self.old.mind [] 0).turns) (work (parts self.new.mind [] 0).turns) (turns_of (parts self.old.mind [] 0).turns) (turns_of (parts self.new.mind [] 0).turns)) }
         ensures size { D.size self.new.main ≡ D.size self.old.main }
         ensures cause { IfErr result (Caused ⊥ (λ b. ⊥) (Rose (D.faults self.old.main) (D.faults self.new.main)) ⊥) }
         ensures later { D.faults self.old.main ≤ D.faults self.new.main }

@@ -11,7 +11,7 @@ impl<D: Disk> Cache<D> {
     ghost use Rattle.fo_crash.specs.Names.{SameUse};
     ghost use Rattle.fo_crash.specs.Steps.{PutsSlot, Through, cleared};
     ghost use Rattle.fo_ports.specs.Blocks.{SlotFits, cost, slot_count};
-    ghost use Rattle.fo_ports.specs.State.{AddsNoWait, Frame, Hangs, KeepsOrder, QueuesOne, none};
+    ghost use Rattle.fo_ports.specs.State.{AddsNoWait, AddsRemovals, Frame, Hangs, KeepsOrder, QueuesOne, none};
     ghost use Rattle.fo_waits.specs.Listed.{Awaits, Clears};
     ghost use Rattle.fo_mind.specs.MindParts.{parts};
     ghost use Rattle.fo_mind.specs.Parts.{CacheKeeps, IsBlock, IsDirty, IsNewborn, IsPinned, label_at, memory, state_of};
@@ -21,6 +21,7 @@ impl<D: Disk> Cache<D> {
     /// Puts a slot of a pinned block (`put_slot` of `fo_put`).
     pub fn put_slot(&mut self, at: u32, i: u32, slot: Slot)
         requires pinned { IsPinned (parts self.old.mind [] 0).held at }
+        requires current { (label_at (parts self.old.mind [] 0).region at).epoch ≡ (parts self.old.mind [] 0).one.high }
         requires spelled { (i < slot_count (label_at (parts self.old.mind [] 0).region at).kind) × SlotFits (label_at (parts self.old.mind [] 0).region at).kind i slot }
         requires same_use { (a : ℕ) → Awaits (parts self.old.mind [] 0).waits a at i → SameUse slot ((memory (parts self.old.mind (D.state self.old.main).holds (D.faults self.old.main)) at).slot i) }
         requires leads { (b : ℕ) → target slot ≡ Local b → IsBlock (parts self.old.mind [] 0) b × (b ≢ at) }
@@ -31,6 +32,7 @@ impl<D: Disk> Cache<D> {
         ensures order { KeepsOrder none (state_of (parts self.old.mind (D.state self.old.main).holds (D.faults self.old.main))) (state_of (parts self.new.mind (D.state self.new.main).holds (D.faults self.new.main))) }
         ensures no_wait { AddsNoWait none (state_of (parts self.old.mind (D.state self.old.main).holds (D.faults self.old.main))) (state_of (parts self.new.mind (D.state self.new.main).holds (D.faults self.new.main))) }
         ensures queues { Queues ((memory (parts self.old.mind (D.state self.old.main).holds (D.faults self.old.main)) at).slot i) slot (state_of (parts self.old.mind [] 0)).queued (state_of (parts self.new.mind [] 0)).queued }
+        ensures removals { AddsRemovals ((memory (parts self.old.mind (D.state self.old.main).holds (D.faults self.old.main)) at).slot i) (state_of (parts self.old.mind (D.state self.old.main).holds (D.faults self.old.main))) (state_of (parts self.new.mind (D.state self.new.main).holds (D.faults self.new.main))) }
         ensures links { ((state_of (parts self.old.mind (D.state self.old.main).holds (D.faults self.old.main))).newborn at → ⊥) → (b : ℕ) → Through (state_of (parts self.old.mind (D.state self.old.main).holds (D.faults self.old.main))).newborn (state_of (parts self.old.mind (D.state self.old.main).holds (D.faults self.old.main))).now slot b → (state_of (parts self.new.mind (D.state self.new.main).holds (D.faults self.new.main))).newborn b → ⊥ }
         ensures keeps { CacheKeeps (parts self.old.mind (D.state self.old.main).holds (D.faults self.old.main)) (parts self.new.mind (D.state self.new.main).holds (D.faults self.new.main)) }
         ensures device { self.new.main ≡ self.old.main }
@@ -53,6 +55,7 @@ impl<D: Disk> Cache<D> {
         ensures order { (b j : ℕ) → (Clears (parts self.new.mind [] 0).clears b j → Clears (parts self.old.mind [] 0).clears b j ⊎ ((b ≡ at) × (j ≡ i))) × (Clears (parts self.old.mind [] 0).clears b j → Clears (parts self.new.mind [] 0).clears b j) }
         ensures no_wait { AddsNoWait none (state_of (parts self.old.mind (D.state self.old.main).holds (D.faults self.old.main))) (state_of (parts self.new.mind (D.state self.new.main).holds (D.faults self.new.main))) }
         ensures queues { ((state_of (parts self.old.mind (D.state self.old.main).holds (D.faults self.old.main))).queued ≤ (state_of (parts self.new.mind (D.state self.new.main).holds (D.faults self.new.main))).queued) × ((c : ℕ) → target ((memory (parts self.old.mind (D.state self.old.main).holds (D.faults self.old.main)) at).slot i) ≡ Local c → Clears (parts self.new.mind [] 0).clears at i ⊎ QueuesOne (state_of (parts self.old.mind (D.state self.old.main).holds (D.faults self.old.main))) (state_of (parts self.new.mind (D.state self.new.main).holds (D.faults self.new.main)))) }
+        ensures removals { AddsRemovals ((memory (parts self.old.mind (D.state self.old.main).holds (D.faults self.old.main)) at).slot i) (state_of (parts self.old.mind (D.state self.old.main).holds (D.faults self.old.main))) (state_of (parts self.new.mind (D.state self.new.main).holds (D.faults self.new.main))) }
         ensures keeps { CacheKeeps (parts self.old.mind (D.state self.old.main).holds (D.faults self.old.main)) (parts self.new.mind (D.state self.new.main).holds (D.faults self.new.main)) }
         ensures later { IfSome after (λ leaf. IsDirty (parts self.old.mind [] 0).turns (parts self.old.mind [] 0).held leaf → (IsNewborn (parts self.old.mind [] 0).facts leaf → ⊥) → Clears (parts self.new.mind [] 0).clears at i) }
         ensures is { ClearsOrWaits at i after (parts self.old.mind (D.state self.old.main).holds (D.faults self.old.main)) (parts self.new.mind (D.state self.new.main).holds (D.faults self.new.main)) }

@@ -17,6 +17,7 @@ impl<D: Disk> Cache<D> {
     ghost use Rattle.fo_image.specs.Usable.{is_usable};
     ghost use Rattle.fo_facts.specs.Known.{fact_at};
     ghost use Rattle.fo_mind.specs.Parts.{IsBlock, label_at};
+    ghost use Rattle.fo_cache.specs.Called.{Makes, at_only, no_more};
     ghost use Rattle.fo_cache.specs.Settling.{Rested};
     ghost use Rattle.fo_cache.specs.Supers.{Counts, Doubted, IsFault, Overruled};
     ghost use Rattle.fo_cache.specs.Work.{AtMost};
@@ -91,6 +92,7 @@ impl<D: Disk> Cache<D> {
         ensures others { (k : ℕ) → k ≢ 1 → Rested (versions_of (D.state self.old.main).holds k) (versions_of (D.state self.new.main).holds k) }
         ensures count { length (D.state self.new.main).holds ≡ length (D.state self.old.main).holds }
         ensures calls { AtMost 2 (D.calls self.old.main) (D.calls self.new.main) }
+        ensures made { Makes (D.state self.old.main) (D.state self.new.main) (D.calls self.old.main) (D.calls self.new.main) 2 0 (at_only 1 1) no_more }
         ensures size { D.size self.new.main ≡ D.size self.old.main }
         ensures cause { IfErr result (Caused ⊥ (λ b. ⊥) (Rose (D.faults self.old.main) (D.faults self.new.main)) ⊥) }
         ensures failed { IfErr result IsFault }

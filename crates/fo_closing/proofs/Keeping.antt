@@ -192,3 +192,28 @@ root_in_closed {low} {root} {facts} r at l is ne root_in = record {
   linked = root_in.linked;
   kept = ap (is_usable low) (label_other r at l root is (λ e. ne (sym e))) ∙ root_in.kept;
 }
+
+-- ---- with room for one turn more
+
+abbrev pub roomier : Turns → Turns
+roomier t = record t { room = t.room + 1 }
+
+pub placed_roomier : {r : Region} {t : Turns} {facts : List Fact} {first count : ℕ} → Placed r t facts first count → Placed r (roomier t) facts first count
+placed_roomier placed = record {
+  is_first = placed.is_first;
+  is_count = placed.is_count;
+  is_place = placed.is_place;
+  begins = placed.begins;
+  small = placed.small;
+  flag_count = placed.flag_count;
+  fact_count = placed.fact_count;
+}
+
+pub owing_roomier : {h : Held} {t : Turns} {facts : List Fact} → Owing h t facts → Owing h (roomier t) facts
+owing_roomier owing = record { each = owing.each }
+
+pub turning_roomier : {first : ℕ} {h : Held} {t : Turns} {facts : List Fact} → Turning first h t facts → Turning first h (roomier t) facts
+turning_roomier turning = record { each = λ b. let e = turning.each b in record { begins = e.begins; held = e.held; turn = e.turn; unheld = e.unheld } }
+
+pub roomy_roomier : {h : Held} {t : Turns} {r : Region} {facts : List Fact} {low spare pins more : ℕ} → Roomy h t r facts low spare pins more → Roomy h (roomier t) r facts low spare pins more
+roomy_roomier roomy = let t = roomy.turn_room in record { buffer_room = roomy.buffer_room; turn_room = omega (arith, t); usable = roomy.usable }

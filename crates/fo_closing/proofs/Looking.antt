@@ -1,7 +1,9 @@
 -- What is looked at.
-use Rattle.std.proofs.Common.{◌≡◌, ℕ, zero, suc, Bool, true, false, List, replicate, nat_eq, Option, Some, None, is_some, refl, sym, ap, ◌∙◌, subst}
+use Rattle.std.proofs.Common.{◌≡◌, ◌<◌, ℕ, zero, suc, Bool, true, false, List, length, replicate, nat_eq, Option, Some, None, is_some, refl, sym, ap, ◌∙◌, subst}
+use Rattle.std.specs.List.{Contains}
 use Rattle.std.specs.Map.{lookup}
 use Rattle.std.specs.Option.{MatchOption}
+use Rattle.fo_disk.specs.Disk.{versions_of}
 use Rattle.fo_disk.specs.Disk.{Content as Holds}
 use Rattle.fo_image.specs.declared.types.Kind.{Kind}
 use Rattle.fo_buffers.specs.declared.block.Buffer.{Buffer}
@@ -9,7 +11,7 @@ use Rattle.fo_buffers.specs.Held.{Held, held_at}
 use Rattle.fo_ports.specs.Blocks.{AreZeros}
 use Rattle.fo_bring.specs.Blocks.{Good}
 use Rattle.fo_bring.specs.Holds.{IsFrom, IsFromIn, Seen}
-use Rattle.fo_closing.specs.Known.{CopiesGood, IsBad, IsSeen, IsShown, seen_in}
+use Rattle.fo_closing.specs.Known.{CopiesGood, IsBad, IsSeen, IsShown, IsUnseen, seen_in}
 
 never : {A : Type 0} → false ≡ true → A
 never e = cc
@@ -59,3 +61,20 @@ module _ {disk : Holds} {at first count : ℕ} {kind : Kind} {old new : Held} (s
 
   pub bad_shown : shown ≡ false → IsBad disk first count old kind at
   bad_shown e = record { bytes = s.bytes; from = s.from; bad = copies.1 e }
+
+-- what is read of what is neither held nor clean
+pub from_read : (disk : Holds) {at : ℕ} {h : Held} {bytes : List ℕ} → IsUnseen h at → (at < length disk → Contains (versions_of disk at) bytes) → IsFrom disk at h bytes
+from_read disk {at} {h} {bytes} u found = subst (λ (x : Option Buffer). IsFromIn disk at x (lookup (nat_eq at) h.clean) bytes) (sym u.unheld) (by (lookup (nat_eq at) h.clean) u.unclean)
+  where
+    by : (o : Option (List ℕ)) → is_some o ≡ false → IsFromIn disk at None o bytes
+    by (Some x) e = never (sym e)
+    by None e = found
+
+pub good_read : {disk : Holds} {at first count : ℕ} {kind : Kind} {h : Held} {bytes into : List ℕ} {shown : Bool} → IsFrom disk at h bytes → CopiesGood first count kind bytes shown into → shown ≡ true → IsShown disk first count h kind at into
+good_read {disk} {at} {first} {count} {kind} {h} from copies e = let g = copies.0 e in record {
+  from = subst (IsFrom disk at h) (sym g.1) from;
+  good = subst (Good first count kind) (sym g.1) g.0;
+}
+
+pub bad_read : {disk : Holds} {at first count : ℕ} {kind : Kind} {h : Held} {bytes into : List ℕ} {shown : Bool} → IsFrom disk at h bytes → CopiesGood first count kind bytes shown into → shown ≡ false → IsBad disk first count h kind at
+bad_read {bytes = bytes} from copies e = record { bytes = bytes; from = from; bad = copies.1 e }

@@ -11,7 +11,7 @@ use Rattle.fo_buffers.specs.Held.{Held, cut, held_at, is_pinned, unlisted}
 use Rattle.fo_bring.proofs.Buffering.{cut_other, cut_same}
 use Rattle.fo_bring.specs.Holds.{StaysClean}
 use Rattle.fo_order.specs.Keeps.{Turns}
-use Rattle.fo_order.specs.Turns.{flag_at}
+use Rattle.fo_order.specs.Turns.{IsQuiet, flag_at}
 use Rattle.fo_order.specs.declared.marks.Flags.{Flags}
 use Rattle.fo_labels.specs.Region.{Region}
 use Rattle.fo_waits.specs.declared.listed.Clearing.{Clearing}
@@ -19,9 +19,9 @@ use Rattle.fo_waits.specs.Listed.{Clears}
 use Rattle.fo_unlink.specs.declared.removal.Removal.{Removal}
 use Rattle.fo_mind.specs.Parts.{Parts, count_of}
 use Rattle.fo_mind.specs.Sound.{Placed}
-use Rattle.fo_mind.specs.Turning.{Turning, is_changed}
+use Rattle.fo_mind.specs.Turning.{KeepsTurn, Turning, is_changed}
 use Rattle.fo_mind.proofs.Giving.{change_other}
-use Rattle.fo_closing.specs.Closed.{Closed, MayClose}
+use Rattle.fo_closing.specs.Closed.{Closed, MayClose, with_turn}
 use Rattle.fo_closing.specs.Known.{IsBad, IsClosable, IsKnown, IsPart, IsShown, Looked}
 use Rattle.fo_closing.specs.Rest.{AtRest}
 
@@ -76,6 +76,56 @@ looked_more {disk} {p} {q} {s} l more = record {
       ∙ ap (λ n. record p { held = s.held; turns = record p.turns { room = n }; faults = q.faults }) (sym (ap (λ (x : Parts). x.turns.room) more))
       ∙ ap (λ n. record p { held = s.held; turns = record p.turns { room = s.turns.room }; faults = n }) (sym (ap (λ (x : Parts). x.faults) more));
 }
+
+-- and with room for so many more
+pub looked_turned : {disk : Holds} {p q s : Parts} → Looked disk p q → KeepsTurn q s → Looked disk p s
+looked_turned {disk} {p} {q} {s} l k = record {
+  held = λ b. ap (λ (x : Parts). held_at x.held b) k.rest ∙ l.held b;
+  clean = subst (λ (h : Held). StaysClean disk p.held h) (sym (ap (λ (x : Parts). x.held) k.rest)) l.clean;
+  room = ap (λ (x : Parts). x.held.room) k.rest ∙ l.room;
+  turns = let a = l.turns in let b = k.more in omega (arith, a, b);
+  faults = let a = l.faults in let b = ap (λ (x : Parts). x.faults) k.rest in omega (arith, a, b);
+  rest =
+      k.rest
+      ∙ ap (λ (x : Parts). record x { turns = record x.turns { room = s.turns.room } }) l.rest
+      ∙ ap (λ (h : Held). record p { held = h; turns = record p.turns { room = s.turns.room }; faults = q.faults }) (sym (ap (λ (x : Parts). x.held) k.rest))
+      ∙ ap (λ n. record p { held = s.held; turns = record p.turns { room = s.turns.room }; faults = n }) (sym (ap (λ (x : Parts). x.faults) k.rest));
+}
+
+pub rest_turned : {p mid : Parts} → KeepsTurn p mid → AtRest p → AtRest mid
+rest_turned k rest = subst AtRest (sym k.rest) (record {
+  clean = rest.clean;
+  settled = rest.settled;
+  free = rest.free;
+  none = rest.none;
+  sure = rest.sure;
+})
+
+pub placed_turned : {p mid : Parts} {first count : ℕ} → KeepsTurn p mid → Placed p.region p.turns p.facts first count → Placed mid.region mid.turns mid.facts first count
+placed_turned {p} {mid} {first} {count} k placed = subst (λ (x : Parts). Placed x.region x.turns x.facts first count) (sym k.rest) (record {
+  is_first = placed.is_first;
+  is_count = placed.is_count;
+  is_place = placed.is_place;
+  begins = placed.begins;
+  small = placed.small;
+  flag_count = placed.flag_count;
+  fact_count = placed.fact_count;
+})
+
+pub closable_turned : {p mid : Parts} {r : Removal} {kind : Kind} {at : ℕ} → KeepsTurn p mid → IsClosable p r kind at → IsClosable mid r kind at
+closable_turned {p} {mid} {r} {kind} {at} k may = subst (λ (x : Parts). IsClosable x r kind at) (sym k.rest) may
+
+-- nothing changed
+pub turns_stay : (p : Parts) → KeepsTurn p p
+turns_stay p = record { more = omega arith; rest = refl }
+
+-- room for one turn
+pub one_turn : (p : Parts) → KeepsTurn p (with_turn p)
+one_turn p = record { more = omega arith; rest = refl }
+
+-- all stays quiet
+pub quiet_looked : {disk : Holds} {p q : Parts} → Looked disk p q → IsQuiet p.turns → IsQuiet q.turns
+quiet_looked {disk} {p} {q} l quiet = subst (λ (x : Parts). IsQuiet x.turns) (sym l.rest) (record { clean = quiet.clean; settled = quiet.settled; none = quiet.none })
 
 pub looked_same : {disk : Holds} {p q s : Parts} → Looked disk p q → s ≡ q → Looked disk p s
 looked_same {disk} {p} l e = subst (Looked disk p) (sym e) l

@@ -5,6 +5,7 @@ use Rattle.fo_unlink.specs.declared.removal.Removal.{Removal}
 use Rattle.fo_unlink.specs.Pending.{Pending, way_level}
 use Rattle.fo_unlink.specs.Steps.{ClosesNext}
 use Rattle.fo_mind.specs.Parts.{Parts}
+use Rattle.fo_mind.specs.Turning.{KeepsTurn}
 use Rattle.fo_closing.specs.declared.turn.Closing.{Closing}
 use Rattle.fo_closing.specs.declared.turn.Closing.TheVariants.{Closed as ClosedIs, Reads, Stays, GivenUp, Empty}
 use Rattle.fo_closing.specs.Turned.{Decided, Goes, Turned, Went}
@@ -16,6 +17,13 @@ went_closes (Stays b) first p new {block} {q} {r} {at} next d = subst (λ n. Wen
 went_closes (Reads b) first p new next d = absurd d
 went_closes GivenUp first p new next d = absurd d
 went_closes Empty first p new next d = absurd d
+
+-- and with the turn that it took
+pub went_turned : (out : Closing) (first : Removal) (p mid new : Parts) {block : List ℕ} {q r : Pending} {at : ℕ} → ClosesNext true q block r at → KeepsTurn (record p { removals = r.removals }) mid → Decided out first (way_level r.way) at mid new → (m : Parts) × KeepsTurn p m × Went out first block m new q r
+went_turned out first p mid new {block} {q} {r} {at} next k d = (m, record { more = k.more; rest = refl }, went_closes out first m new next (subst (λ (x : Parts). Decided out first (way_level r.way) at x new) k.rest d))
+  where
+    m : Parts
+    m = record p { turns = record p.turns { room = mid.turns.room } }
 
 pub turned_of : (out : Closing) {disk : Holds} {old new : Parts} {q r : Pending} → Goes disk out old new q r → Turned disk out old new q r
 turned_of (ClosedIs b) g = g

@@ -6,13 +6,13 @@ use Rattle.fo_image.specs.Place.{label_block}
 use Rattle.fo_image.specs.Usable.{is_usable}
 use Rattle.fo_buffers.specs.Held.{cut, held_at, unlisted}
 use Rattle.fo_order.specs.declared.marks.Tried.TheVariants.{Settled}
-use Rattle.fo_order.specs.Turns.{changed, flag_at}
+use Rattle.fo_order.specs.Turns.{IsQuiet, changed, flag_at}
 use Rattle.fo_labels.specs.Region.{closed_label, relabeled, usable_count}
 use Rattle.fo_facts.specs.Known.{fact_at}
 use Rattle.fo_waits.specs.declared.listed.Wait.{Wait}
 use Rattle.fo_waits.specs.Listed.{Clears}
 use Rattle.fo_mind.specs.Parts.{IsBlock, Parts, label_at}
-use Rattle.fo_mind.specs.Turning.{is_changed, is_pinned_at}
+use Rattle.fo_mind.specs.Turning.{HasTurn, is_changed, is_pinned_at}
 
 -- A block may be closed at this epoch: its label is live, and not of a later epoch; it isn't the root; it was linked, and is settled with
 -- what memory has of it; nobody has it pinned, and none of its slots waits.
@@ -44,3 +44,12 @@ pub record Closed (at epoch : ℕ) (old new : Parts) : Type 0 where
   pub turns : new.turns ≡ changed old.turns (label_block at) 0
   pub waits : new.waits ≡ filter (is_apart at) old.waits
   pub rest : new ≡ record old { region = new.region; held = new.held; turns = new.turns; waits = new.waits }
+
+-- with room for one turn more
+abbrev pub with_turn : Parts → Parts
+with_turn p = record p { turns = record p.turns { room = p.turns.room + 1 } }
+
+-- There is room for a turn, or, where all is to be quiet, it is.
+abbrev pub MayTurn : Bool → Parts → Type 0
+MayTurn true p = IsQuiet p.turns
+MayTurn false p = HasTurn p

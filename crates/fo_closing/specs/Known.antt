@@ -1,5 +1,5 @@
 -- Which blocks belong to a removal, and what is known of their content.
-use Rattle.std.specs.Prelude.{◌≡◌, ◌≢◌, ◌⊎◌, ◌-◌, ◌^◌, ◌<◌, ◌≤◌, ℕ, Bool, true, false, List, nat_eq, Option, Some, None}
+use Rattle.std.specs.Prelude.{◌≡◌, ◌≢◌, ◌⊎◌, ◌-◌, ◌^◌, ◌<◌, ◌≤◌, ℕ, Bool, true, false, List, nat_eq, Option, Some, None, is_some}
 use Rattle.std.specs.Map.{lookup}
 use Rattle.fo_disk.specs.Disk.{Content as Holds}
 use Rattle.fo_image.specs.declared.types.Kind.{Kind}
@@ -8,6 +8,8 @@ use Rattle.fo_image.specs.declared.types.State.TheVariants.{Live}
 use Rattle.fo_buffers.specs.declared.block.Buffer.{Buffer}
 use Rattle.fo_buffers.specs.Held.{Held, held_at}
 use Rattle.fo_ports.specs.Blocks.{AreZeros}
+use Rattle.fo_ports.specs.declared.error.BlockError.{BlockError}
+use Rattle.fo_ports.specs.declared.error.BlockError.TheVariants.{Full, Damaged, Fault, Arena, Memory}
 use Rattle.fo_facts.specs.declared.fact.Fact.{Fact}
 use Rattle.fo_facts.specs.Known.{fact_at}
 use Rattle.fo_bring.specs.Blocks.{Good, IsData}
@@ -90,3 +92,16 @@ pub record Looked (disk : Holds) (old new : Parts) : Type 0 where
   pub turns : old.turns.room ≤ new.turns.room
   pub faults : old.faults ≤ new.faults
   pub rest : new ≡ record old { held = new.held; turns = record old.turns { room = new.turns.room }; faults = new.faults }
+
+-- neither held nor clean
+pub record IsUnseen (h : Held) (at : ℕ) : Type 0 where
+  pub unheld : held_at h at ≡ None
+  pub unclean : is_some (lookup (nat_eq at) h.clean) ≡ false
+
+-- a fault of the main device
+abbrev pub IsFault : BlockError → Type 0
+IsFault Full = ⊥
+IsFault (Damaged at) = ⊥
+IsFault (Fault which) = Unit {0}
+IsFault (Arena which) = ⊥
+IsFault Memory = ⊥

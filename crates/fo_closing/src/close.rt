@@ -5,7 +5,8 @@ ghost use Rattle.std.specs.Vec.{vec_len, vec_capacity};
 ghost use Rattle.fo_disk.specs.Disk.{Content as Holds};
 ghost use Rattle.fo_mind.specs.MindParts.{parts};
 ghost use Rattle.fo_mind.specs.Turning.{HasTurn};
-ghost use Rattle.fo_closing.specs.Closed.{Closed, MayClose, is_apart};
+ghost use Rattle.fo_order.specs.Turns.{IsQuiet};
+ghost use Rattle.fo_closing.specs.Closed.{Closed, MayClose, is_apart, with_turn};
 
 use fo_base::Memory;
 use fo_image::label_place;
@@ -44,5 +45,19 @@ pub fn close(mind: &mut Mind, at: u32, epoch: u32)
     mind.labels.close(at, epoch);
     mind.buffers.forget(at);
     mind.order.change(label_place(at).0, 0);
+    drop_waits(&mut mind.waits, at);
+}
+
+/// Closes a block at this epoch, where all is quiet, so that no room is wanted: the turn of the block of its label is the one that an
+/// order has beside its room.
+pub fn close_first(mind: &mut Mind, at: u32, epoch: u32)
+    requires may { MayClose (parts mind.old [] 0) at epoch }
+    requires quiet { IsQuiet mind.old.order }
+    ensures closed { (disk : Holds) (faults : ℕ) → Closed at epoch (with_turn (parts mind.old disk faults)) (parts mind.new disk faults) }
+    ensures queue { mind.new.queue ≡ mind.old.queue }
+{
+    mind.labels.close(at, epoch);
+    mind.buffers.forget(at);
+    mind.order.change_first(label_place(at).0, 0);
     drop_waits(&mut mind.waits, at);
 }

@@ -12,7 +12,8 @@
 //!
 //! Proved: each turn does what it answers (`Turned`): which block, at which epoch, after what, and what of each field changes; turns are
 //! taken until so many blocks are usable or no removal is left, and this ends. A turn fails only where the device fails, which changes
-//! nothing, or memory is wanting.
+//! nothing, or memory is wanting for the turn of a block of labels. Where all is quiet a turn wants no memory (`close_quiet`): it takes the
+//! one turn that an order has beside its room.
 //!
 //! Not proved here: what is said of crash images, places and moments.
 #![tactic(auto)]
@@ -25,5 +26,5 @@ mod turn;
 mod until;
 
 pub use sure::is_sure;
-pub use turn::{Closing, close_next};
+pub use turn::{Closing, close_next, close_quiet};
 pub use until::close_until;

@@ -8,9 +8,10 @@ ghost use Rattle.fo_ports.specs.Causes.{Caused};
 ghost use Rattle.fo_bring.specs.Blocks.{Good};
 ghost use Rattle.fo_bring.specs.Holds.{Seen, StaysClean};
 ghost use Rattle.fo_mind.specs.MindParts.{parts};
-ghost use Rattle.fo_closing.specs.Known.{CopiesGood, IsBad, IsKnown, IsSeen, IsShown, IsWanted, Looked, seen_in};
+ghost use Rattle.fo_closing.specs.Known.{CopiesGood, IsBad, IsFault, IsKnown, IsSeen, IsShown, IsUnseen, IsWanted, Looked, seen_in};
 
 use crate::belongs::{at_level, is_part};
+use fo_base::BLOCK;
 use fo_bring::is_good;
 use fo_buffers::{Buffers, Unread};
 use fo_disk::{Disk, DiskFault};
@@ -58,6 +59,8 @@ fn see<D: Disk>(
 fn see_in<D: Disk>(main: &mut D, mind: &mut Mind, at: u32) -> Result<(), BlockError>
     requires block { at < D.size main.old }
     ensures seen { OnOk result (IsSeen (D.state main.old).holds at mind.old.buffers mind.new.buffers) }
+    ensures unseen { OnErr result (IsUnseen mind.old.buffers at) }
+    ensures same { OnErr result (mind.new.buffers ≡ mind.old.buffers) }
     ensures looked { Looked (D.state main.old).holds (parts mind.old (D.state main.old).holds (D.faults main.old)) (parts mind.new (D.state main.new).holds (D.faults main.new)) }
     ensures queue { mind.new.queue ≡ mind.old.queue }
     ensures size { D.size main.new ≡ D.size main.old }
@@ -108,6 +111,34 @@ fn copy_seen(
     }
 }
 
+// Copies the content of a block out that is neither held nor clean, where it is good for this kind. Nothing is held of it, and no memory
+// is wanted.
+fn show_read<D: Disk>(
+    main: &mut D,
+    mind: &Mind,
+    kind: Kind,
+    at: u32,
+    into: &mut [u8],
+) -> Result<bool, BlockError>
+    requires block { at < D.size main.old }
+    requires length { length into.old ≡ 8192 }
+    requires unseen { IsUnseen mind.now.buffers at }
+    ensures good { IfOk result (λ b. b ≡ true → IsShown (D.state main.old).holds mind.now.first mind.now.count mind.now.buffers kind at into.new) }
+    ensures bad { IfOk result (λ b. b ≡ false → IsBad (D.state main.old).holds mind.now.first mind.now.count mind.now.buffers kind at × (into.new ≡ into.old)) }
+    ensures len { length into.new ≡ 8192 }
+    ensures size { D.size main.new ≡ D.size main.old }
+    ensures state { D.state main.new ≡ D.state main.old }
+    ensures failed { IfErr result IsFault }
+    ensures cause { IfErr result (Caused ⊥ (λ b. ⊥) (Rose (D.faults main.old) (D.faults main.new)) ⊥) }
+    ensures later { D.faults main.old ≤ D.faults main.new }
+{
+    let mut bytes = [0; BLOCK];
+    let Ok(()) = main.read(at, &mut bytes) else {
+        return Err(BlockError::Fault(DiskFault::Read));
+    };
+    Ok(copy_good(&bytes, mind.first, mind.count, kind, into))
+}
+
 // Copies the content of a block out, where it is good for this kind.
 fn show<D: Disk>(
     main: &mut D,
@@ -125,10 +156,13 @@ fn show<D: Disk>(
     ensures queue { mind.new.queue ≡ mind.old.queue }
     ensures size { D.size main.new ≡ D.size main.old }
     ensures state { D.state main.new ≡ D.state main.old }
+    ensures failed { IfErr result IsFault }
     ensures cause { IfErr result (Caused ⊥ (λ b. ⊥) (Rose (D.faults main.old) (D.faults main.new)) ⊥) }
 {
-    if let Err(e) = see_in(main, mind, at) {
-        return Err(e);
+    match see_in(main, mind, at) {
+        Ok(()) => {}
+        Err(BlockError::Memory) => return show_read(main, mind, kind, at, into),
+        Err(e) => return Err(e),
     }
     let shown = copy_seen(&mind.buffers, mind.first, mind.count, kind, at, into);
     Ok(shown)
@@ -153,6 +187,7 @@ fn show_part<D: Disk>(
     ensures queue { mind.new.queue ≡ mind.old.queue }
     ensures size { D.size main.new ≡ D.size main.old }
     ensures state { D.state main.new ≡ D.state main.old }
+    ensures failed { IfErr result IsFault }
     ensures cause { IfErr result (Caused ⊥ (λ b. ⊥) (Rose (D.faults main.old) (D.faults main.new)) ⊥) }
 {
     if !is_part(mind, r, kind, at) {
@@ -180,6 +215,7 @@ pub fn show_wanted<D: Disk>(
     ensures queue { mind.new.queue ≡ mind.old.queue }
     ensures size { D.size main.new ≡ D.size main.old }
     ensures state { D.state main.new ≡ D.state main.old }
+    ensures failed { IfErr result IsFault }
     ensures cause { IfErr result (Caused ⊥ (λ b. ⊥) (Rose (D.faults main.old) (D.faults main.new)) ⊥) }
 {
     let Some(at) = mind.queue.wanted() else {

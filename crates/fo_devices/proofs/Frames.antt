@@ -1,10 +1,10 @@
 -- What calls keep of two states they keep with any counts of the arena's faults.
 use Rattle.std.specs.Prelude.{◌≡◌, ℕ, Result, Ok, Err, IfErr}
-use Rattle.std.proofs.Common.{subst}
+use Rattle.std.proofs.Common.{inl, inr, subst, ⊎_elim}
 use Rattle.fo_image.specs.declared.types.Label.{Label}
 use Rattle.fo_crash.specs.declared.slot.Slot.{Slot}
 use Rattle.fo_crash.specs.Images.{Content}
-use Rattle.fo_ports.specs.State.{AddsNoWait, Calm, Frame, Gives, Hangs, IsSettled, IsUnlinked, KeepsCovered, KeepsNumbers, KeepsOrder, Looks, Numbers, Rests, State, Stays, StaysKnown, StaysUndoomed, Uses, WaitsForPairs, none}
+use Rattle.fo_ports.specs.State.{AddsNoRemoval, AddsNoWait, AddsRemovals, Calm, Frame, Gives, Hangs, IsSettled, IsShut, IsUnlinked, KeepsCovered, KeepsNumbers, KeepsOrder, Looks, Numbers, Rests, State, Stays, StaysKnown, StaysUndoomed, Uses, WaitsForPairs, none}
 use Rattle.fo_ports.specs.Causes.{Caused, IsFull}
 use Rattle.fo_ports.specs.declared.error.BlockError.{BlockError}
 use Rattle.fo_ports.specs.declared.error.BlockError.TheVariants.{Arena, Damaged, Fault, Full, Memory}
@@ -16,6 +16,28 @@ module _ (s t : State) (a b : ℕ) where
 
   pub no_wait : (but : ℕ → Type 0) → AddsNoWait but s t → AddsNoWait but (beside s a) (beside t b)
   no_wait but h = record { each = h.each }
+
+  pub no_removal : AddsNoRemoval s t → AddsNoRemoval (beside s a) (beside t b)
+  no_removal h = record { each = h.each }
+
+  pub removals : (slot : Slot) → AddsRemovals slot s t → AddsRemovals slot (beside s a) (beside t b)
+  removals slot h = record { each = h.each }
+
+  pub shut : (x : ℕ) → IsShut s t x → IsShut (beside s a) (beside t b) x
+  shut x h = record {
+    closing = h.closing;
+    removal = h.removal;
+    epoch = h.epoch;
+    whole = h.whole;
+    may = h.may;
+    alone = h.alone;
+    live = h.live;
+    is = h.is;
+    tag = h.tag;
+    begun = h.begun;
+    other = h.other;
+    linked = h.linked;
+  }
 
   pub order : (made : ℕ → Type 0) → KeepsOrder made s t → KeepsOrder made (beside s a) (beside t b)
   order made h = record { clearing = h.clearing; goes_on = h.goes_on }
@@ -33,7 +55,7 @@ module _ (s t : State) (a b : ℕ) where
   frame here put removals h = record { stays = stays none put h.stays; dirty = h.dirty; uses = uses 0 removals h.uses; numbers = numbers h.numbers }
 
   pub calm : (here : ℕ → Type 0) (removals : ℕ) → Calm here removals s t → Calm here removals (beside s a) (beside t b)
-  calm here removals h = record { frame = frame here none removals h.frame; order = order none h.order; covered = covered h.covered; newborn = h.newborn; queued = h.queued }
+  calm here removals h = record { frame = frame here none removals h.frame; order = order none h.order; covered = covered h.covered; newborn = h.newborn; queued = h.queued; no_removal = no_removal h.no_removal }
 
   pub gives : (at : ℕ) (c : Content) (l : Label) → Gives at c l s t → Gives at c l (beside s a) (beside t b)
   gives at c l h = record {
@@ -51,6 +73,7 @@ module _ (s t : State) (a b : ℕ) where
     dirty = h.dirty;
     uses = uses 1 0 h.uses;
     queued = h.queued;
+    no_removal = no_removal h.no_removal;
     numbers = numbers h.numbers;
   }
 
@@ -68,6 +91,7 @@ module _ (s t : State) (a b : ℕ) where
     dirty = h.dirty;
     room = h.room;
     usable = h.usable;
+    no_removal = no_removal h.no_removal;
     numbers = numbers h.numbers;
   }
 
@@ -86,6 +110,7 @@ module _ (s t : State) (a b : ℕ) where
     dirty = h.dirty;
     room = h.room;
     usable = h.usable;
+    no_removal = no_removal h.no_removal;
   }
 
   pub hangs : (at i : ℕ) (slot : Slot) → Hangs at i slot s t → Hangs at i slot (beside s a) (beside t b)
@@ -135,8 +160,10 @@ rests s t a b h = record {
   apart = h.apart;
   instead = h.instead;
   newborn = h.newborn;
+  newborns = h.newborns;
   kept = λ x is old new. known s t a b x (h.kept x is old new);
-  labels = h.labels;
+  labels = λ x. ⊎_elim (λ same. inl same) (λ is. inr (shut s t a b x is)) (h.labels x);
+  removes = h.removes;
   queues = h.queues;
   usable = h.usable;
   settled = λ was. let now = h.settled (settled_before s a was) in (settled t b now.0, now.1);

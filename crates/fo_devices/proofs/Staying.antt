@@ -38,6 +38,7 @@ module _ (s : State) (a b : ℕ) where
     covered = record { covered = λ x. (λ h. h, λ h. h) };
     newborn = λ x h. h;
     queued = refl;
+    no_removal = record { each = λ x e w h. h };
   }
 
   pub no_wait_same : AddsNoWait none (beside s a) (beside s b)

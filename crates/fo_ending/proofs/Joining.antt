@@ -1,5 +1,5 @@
 -- What the steps of an end leave together.
-use Rattle.std.proofs.Common.{◌≡◌, ⊎_elim, ℕ, ◌<◌, ◌≤◌, List, [], ◌∷◌, length, Result, Ok, Err, refl, ap, ◌∙◌, subst, arith}
+use Rattle.std.proofs.Common.{◌≡◌, ◌⊎◌, inl, inr, ⊎_elim, ℕ, ◌<◌, ◌≤◌, List, [], ◌∷◌, length, Result, Ok, Err, refl, ap, ◌∙◌, subst, arith}
 use Rattle.std.specs.Result.{IfErr, OnOk}
 use Rattle.fo_base.specs.Cause.{Rose}
 use Rattle.fo_disk.specs.Disk.{DiskState}
@@ -15,7 +15,10 @@ use Rattle.fo_waits.specs.Listed.{Clears}
 use Rattle.fo_mind.specs.Laws.{keeps_joins}
 use Rattle.fo_mind.specs.Parts.{CacheKeeps, IsBlock, Parts, state_of}
 use Rattle.fo_cache.proofs.Easing.{eases_none, rests_joins}
-use Rattle.fo_reserving.specs.Steps.{Reserves}
+use Rattle.fo_settling.specs.Clearings.{Clearings, ClearsBy, Due}
+use Rattle.fo_settling.proofs.Clearing.{waits_of}
+use Rattle.fo_reserving.specs.Steps.{ClosesAtRest, Reserves}
+use Rattle.fo_reserving.proofs.Following.{closes_by}
 use Rattle.fo_reserving.proofs.Joining.{reserves_none}
 use Rattle.fo_opening.specs.Finished.{Ends, Finished, saved}
 use Rattle.fo_opening.proofs.Finishing.{caused_later, ends_eased}
@@ -45,6 +48,10 @@ pub on_ok : {P Q : Type 0} (r : Result Unit BlockError) → OnOk r P → (P → 
 on_ok (Ok u) p f = f p
 on_ok (Err e) p f = tt
 
+pub failed_first : (P : BlockError → Type 0) (r s : Result Unit BlockError) → IfErr r P → IfErr s P → IfErr (first_of r s) P
+failed_first P (Ok u) s x y = y
+failed_first P (Err e) s x y = x
+
 -- ---- nothing is queued after an end where nothing may be closed before it
 
 none_of : (rs : List Removal) → (0 < length rs → ⊥) → rs ≡ []
@@ -59,6 +66,17 @@ none_closing p removals clears c = ⊎_elim
 
 pub still_empty : (p q : Parts) → Rests (state_of p) (state_of q) → p.removals ≡ [] → p.clears ≡ [] → q.removals ≡ []
 still_empty p q r removals clears = none_of q.removals (λ some. none_closing p removals clears (r.queues some))
+
+-- ---- which slots are cleared
+
+-- nothing is queued where none is
+queued_by : (p q : Parts) (ds : List Due) → ClearsBy ds p q → length p.removals ≤ length q.removals → (q.removals ≡ p.removals) ⊎ ((length p.removals ≤ length q.removals) × ((b : ℕ) × (j : ℕ) × Clears p.clears b j))
+queued_by p q [] by le = inl by.removals
+queued_by p q (d ∷ ds) by le = inr (le, (d.at, d.slot, subst (λ (cs : List Clearing). Clears cs d.at d.slot) by.0.clears (waits_of d.before.clears d.at d.slot by.1.due.0 by.1.due.1)))
+
+-- no block is closed by a settling
+pub closes_finished : (p q : Parts) → Ends p q → Clearings p q → ClosesAtRest p q
+closes_finished p q e c = closes_by p q [] (record { label = e.labels; queued = queued_by p q c.dues c.clears e.queued; clears = c; order = e.rests.order; keeps = e.keeps })
 
 -- ---- the super block
 

@@ -1,2 +1,3 @@
+pub mod Dirtied
 pub mod Free
 pub mod Looks

@@ -153,6 +153,7 @@ module _ (p : Parts) (first count at : ℕ) (kind : Kind) (tag rank : ℕ) (byte
     dirty = dirty_was;
     uses = record { spare = less; usable = fewer; room = omega arith; pins = refl; moments = refl; left = λ k image h. h };
     queued = refl;
+    no_removal = record { each = λ x e w h. h };
     numbers = record { next = refl; grants = λ h. h };
   }
 

@@ -1,4 +1,5 @@
 pub mod Blanks
+pub mod Changing
 pub mod Cleared
 pub mod Coming
 pub mod Ending

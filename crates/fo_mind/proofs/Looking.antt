@@ -81,6 +81,7 @@ module _ (p q : Parts) (at : ℕ) (b : Brings at p q) where
         dirty = dirty_was;
         room = (refl, refl);
         usable = (refl, refl);
+        no_removal = record { each = λ x e w h. h };
         numbers = record { next = refl; grants = λ h. h };
       }
 

@@ -1,10 +1,8 @@
 -- A slot that waited waits no more, and room is kept for the next turn of its block.
-use Rattle.std.proofs.Common.{◌≡◌, ◌↔◌, ℕ, ◌+◌, ◌*◌, ◌<◌, ◌≤◌, ◌&&◌, Bool, true, false, not, cond, List, [], ◌∷◌, length, set, count_by, Option, Some, None, refl, sym, ap, ◌∙◌, subst, arith, inl, inr, ⊎_elim}
+use Rattle.std.proofs.Common.{◌≡◌, ℕ, ◌+◌, ◌<◌, ◌≤◌, Bool, true, false, cond, List, [], ◌∷◌, length, set, count_by, Option, Some, None, refl, sym, ap, ◌∙◌, subst, arith, inl, inr, ⊎_elim}
 use Rattle.std.specs.Option.{MatchOption}
-use Rattle.std.proofs.lemmas.Bool.{and_parts}
 use Rattle.std.proofs.lemmas.List.{get_or-set_same}
 use Rattle.fo_buffers.specs.Held.{Held, held_at}
-use Rattle.fo_order.specs.declared.marks.Flags.{Flags}
 use Rattle.fo_order.specs.Keeps.{Turns}
 use Rattle.fo_order.specs.Turns.{flag_at}
 use Rattle.fo_labels.specs.Region.{Region}
@@ -65,8 +63,9 @@ module _ (facts new : List Fact) (t : Turns) (at : ℕ) (lt : at < length facts)
   owed_one : count_by owes new ≤ count_by owes facts + 1
   owed_one = due_case (λ fs. count_by owes fs ≤ count_by owes facts + 1) (omega arith) (owed_more facts at (owing_as (fact_at facts at).rank (fact_at facts at)) lt)
 
-  pub roomy_due : {held : Held} {region : Region} {low spare pins more less : ℕ} → count_by owes facts + (2 * spare + pins + more) < t.room → less ≤ more → Roomy held t region facts low spare pins more → Roomy held t region new low spare pins less
-  roomy_due some le roomy = let o = owed_one in record { buffer_room = roomy.buffer_room; turn_room = omega (arith, some, le, o); usable = roomy.usable }
+  -- a unit that was kept is kept for it
+  pub roomy_due : {held : Held} {region : Region} {low spare pins more less : ℕ} → less < more → Roomy held t region facts low spare pins more → Roomy held t region new low spare pins less
+  roomy_due le roomy = let o = owed_one in let some = roomy.turn_room in record { buffer_room = roomy.buffer_room; turn_room = omega (arith, some, le, o); usable = roomy.usable }
 
   pub making_due : {spare more links removals : ℕ} → Making facts spare more links removals → Making new spare more links removals
   making_due {spare} {more} {links} {removals} making = due_case (λ fs. Making fs spare more links removals) making

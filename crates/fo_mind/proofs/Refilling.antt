@@ -273,6 +273,7 @@ module _ (p : Parts) (first count at : ℕ) (bytes : List ℕ) (g : Held) (t : T
     covered = record { covered = λ b. (λ h. h, λ h. h) };
     newborn = λ b h. marks.linked b ∙ h;
     queued = refl;
+    no_removal = record { each = λ x e w h. h };
   }
 
 -- ---- bytes

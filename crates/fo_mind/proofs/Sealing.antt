@@ -1,5 +1,5 @@
 -- Blocks are sealed.
-use Rattle.std.proofs.Common.{◌≡◌, ◌≢◌, ◌⊎◌, inl, inr, ⊎_elim, ℕ, zero, suc, ◌+◌, ◌<◌, ◌≤◌, ◌||◌, Bool, true, false, not, cond, List, [], ◌∷◌, drop, length, set, slice_index_or, count_by, refl, sym, ap, ◌∙◌, subst, arith}
+use Rattle.std.proofs.Common.{◌≡◌, ◌⊎◌, inl, inr, ⊎_elim, ℕ, zero, suc, ◌+◌, ◌<◌, ◌≤◌, ◌||◌, Bool, true, false, cond, List, [], ◌∷◌, drop, length, set, slice_index_or, refl, sym, ap, ◌∙◌, subst, arith}
 use Rattle.std.specs.List.{Contains}
 use Rattle.std.proofs.lemmas.Bool.{cases_eq}
 use Rattle.std.proofs.lemmas.List.{get_or_past, get_or-set_same, get_or-set_other, length-set}
@@ -8,7 +8,6 @@ use Rattle.lru.proofs.Splits.{Contains-cons}
 use Rattle.fo_facts.specs.declared.fact.Fact.{Fact}
 use Rattle.fo_facts.specs.Counts.{is_made, owes}
 use Rattle.fo_facts.specs.Known.{fact_at, no_fact}
-use Rattle.fo_raising.specs.Raised.{KeepsCounts}
 use Rattle.fo_mind.specs.Sealed.{IsSealedIn, Seals}
 
 abbrev pub sealed_fact : Fact → Fact

@@ -1,9 +1,11 @@
 -- What changes of counts leave.
-use Rattle.std.proofs.Common.{◌≡◌, ℕ, ◌+◌, inl, Bool, List, refl, arith}
+use Rattle.std.proofs.Common.{◌≡◌, ◌⊎◌, ℕ, ◌+◌, inl, inr, ⊎_elim, Bool, List, [], ◌∷◌, ◌++◌, refl, sym, ap, ◌∙◌, subst, arith}
+use Rattle.std.specs.List.{Contains}
+use Rattle.std.proofs.lemmas.List.Elements.{Contains-push_cases}
 use Rattle.fo_unlink.specs.declared.removal.Removal.{Removal}
 use Rattle.fo_crash.specs.Images.{SameImage}
-use Rattle.fo_ports.specs.State.{AddsNoWait, Frame, KeepsCovered, KeepsOrder, Stays, Uses, none}
-use Rattle.fo_mind.specs.Parts.{Parts, CacheKeeps, memory, state_of}
+use Rattle.fo_ports.specs.State.{AddsNoRemoval, AddsNoWait, Frame, KeepsCovered, KeepsOrder, Stays, Uses, none}
+use Rattle.fo_mind.specs.Parts.{Parts, CacheKeeps, Removes, memory, state_of}
 use Rattle.fo_mind.proofs.Looking.{same_content}
 
 -- only these differ
@@ -51,3 +53,13 @@ frame_counts p room removals used = record {
   uses = record { spare = omega arith; usable = omega arith; room = used; pins = refl; moments = refl; left = λ k image h. h };
   numbers = record { next = refl; grants = λ h. h };
 }
+
+pub no_removal_counts : (p : Parts) (next : ℕ) (granted : Bool) → AddsNoRemoval (state_of p) (state_of (but_counts p next granted p.room p.removals))
+no_removal_counts p next granted = record { each = λ b e w h. h }
+
+-- one removal more is queued
+pub removes_one : (rs new : List Removal) (r : Removal) → new ≡ rs ++ r ∷ [] → (b e : ℕ) (whole : Bool) → Removes new b e whole → Removes rs b e whole ⊎ ((b ≡ r.at) × (e ≡ r.epoch) × (whole ≡ r.whole))
+removes_one rs new r is b e whole h = ⊎_elim
+    (λ was. inl (h.0, was, h.2, h.3, h.4))
+    (λ one. inr (sym h.2 ∙ ap (λ (x : Removal). x.at) (sym one), sym h.3 ∙ ap (λ (x : Removal). x.epoch) (sym one), sym h.4 ∙ ap (λ (x : Removal). x.whole) (sym one)))
+    (Contains-push_cases rs r h.0 (subst (λ (l : List Removal). Contains l h.0) is h.1))

@@ -100,6 +100,7 @@ module _ (p : Parts) (at on room : ℕ) (bytes : List ℕ) (new : List Wait) (us
     covered = record { covered = λ b. (λ h. h, λ h. h) };
     newborn = λ b h. h;
     queued = refl;
+    no_removal = record { each = λ x e w h. h };
   }
 
   pub keeps_pairs : CacheKeeps p q

@@ -1,7 +1,6 @@
 -- Slots that wait, and may be cleared since their leaves are settled.
-use Rattle.std.specs.Prelude.{◌≡◌, ◌+◌, ◌<◌, ◌&&◌, ℕ, Bool, true, false, not, cond, List, [], ◌∷◌, length, Option, None, Some}
+use Rattle.std.specs.Prelude.{◌≡◌, ◌+◌, ◌&&◌, ℕ, Bool, true, not, cond, List, [], ◌∷◌, Option, None, Some}
 use Rattle.fo_crash.specs.Steps.{cleared}
-use Rattle.fo_order.specs.declared.marks.Flags.{Flags}
 use Rattle.fo_order.specs.Keeps.{Turns}
 use Rattle.fo_order.specs.Turns.{flag_at}
 use Rattle.fo_waits.specs.declared.listed.Clearing.{Clearing}

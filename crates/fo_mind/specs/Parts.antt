@@ -1,6 +1,7 @@
 -- What a cache keeps, as plain values, and what the calls on blocks see of it.
 use Rattle.std.specs.Prelude.{◌≡◌, ◌⊎◌, ◌+◌, ◌≤◌, ℕ, Bool, true, false, cond, nat_eq, nat_lt, List, length, min, Option, Some, None, is_some}
 use Rattle.std.specs.Option.{option_map_or}
+use Rattle.std.specs.List.{Contains}
 use Rattle.std.specs.Map.{lookup}
 use Rattle.fo_disk.specs.Disk.{versions_of, latest_of}
 use Rattle.fo_disk.specs.Disk.{Content as Holds}
@@ -113,6 +114,10 @@ IsHeld held b = is_some (held_at held b) ≡ true
 abbrev pub IsDirty : Turns → Held → ℕ → Type 0
 IsDirty turns held b = ((flag_at turns b).dirty ≡ true) ⊎ (option_map_or is_dirty (held_at held b) false ≡ true)
 
+-- A removal of this block is queued, to be closed at this epoch, with what hangs below it or alone.
+abbrev pub Removes : List Removal → ℕ → ℕ → Bool → Type 0
+Removes removals b e whole = (r : Removal) × Contains removals r × (r.at ≡ b) × (r.epoch ≡ e) × (r.whole ≡ whole)
+
 -- One version, no change, and no slot that waits; block 1, which has no turn, isn't in doubt.
 abbrev pub IsSure : Parts → ℕ → Type 0
 IsSure p b = ((flag_at p.turns b).tried ≡ Settled) × (IsDirty p.turns p.held b → ⊥) × ((j : ℕ) → Clears p.clears b j → ⊥) × (b ≡ 1 → p.doubt ≡ None)
@@ -162,6 +167,7 @@ state_of p = record {
   label_block = label_block;
   dirty = IsDirty p.turns p.held;
   queued = length p.removals;
+  removes = Removes p.removals;
   waits = Awaits p.waits;
   clearing = Clears p.clears;
   covered = λ b. ⊥;

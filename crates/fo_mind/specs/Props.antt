@@ -28,7 +28,7 @@ use Rattle.fo_waits.specs.declared.listed.Wait.{Wait}
 use Rattle.fo_waits.specs.declared.listed.Clearing.{Clearing}
 use Rattle.fo_bring.specs.Blocks.{HasZeros}
 use Rattle.fo_mind.specs.Turning.{TurnsAt, Turning}
-use Rattle.fo_mind.specs.Sound.{Placed, Rooted, Labelled, Holding, Waiting, Clearable, Standing, RootIn, Owing, Roomy, Making}
+use Rattle.fo_mind.specs.Sound.{Placed, Rooted, Labelled, Holding, Changing, Waiting, Clearable, Standing, RootIn, Owing, Roomy, Making}
 
 holds_prop : (p : Pointer) → IsProp (PointerHolds p)
 holds_prop Nil = Prim.hlevel props
@@ -106,6 +106,9 @@ labelled_prop region = Prim.hlevel (props, state_prop)
 
 pub holding_prop : (low first count : ℕ) (region : Region) (held : Held) → IsProp (Holding low first count region held)
 holding_prop low first count region held = Prim.hlevel (props, slot_prop, spells_prop, zeros_prop)
+
+pub changing_prop : (high : ℕ) (region : Region) (held : Held) → IsProp (Changing high region held)
+changing_prop high region held = Prim.hlevel props
 
 pub clearable_prop : (region : Region) (low high : ℕ) (clears : List Clearing) → IsProp (Clearable region low high clears)
 clearable_prop region low high clears = Prim.hlevel props

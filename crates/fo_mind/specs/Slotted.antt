@@ -1,5 +1,5 @@
 -- What a put of a slot does to the fields of a cache, step by step.
-use Rattle.std.specs.Prelude.{◌≡◌, ◌+◌, ◌-◌, ℕ, Bool, true, false, List, length, count_by, Some}
+use Rattle.std.specs.Prelude.{◌≡◌, ◌+◌, ◌-◌, ℕ, Bool, true, false, List, [], length, count_by, Some}
 use Rattle.std.specs.Bool.{OnTrue, OnFalse}
 use Rattle.std.specs.Option.{option_map}
 use Rattle.fo_image.specs.declared.types.Kind.{Kind}
@@ -36,8 +36,8 @@ pub record Follows (put : Put) (cost : ℕ) (old new : Parts) : Type 0 where
   pub room : new.room + cost ≡ old.room
   pub rest : new ≡ record old { turns = new.turns; facts = new.facts; room = new.room; removals = new.removals; walk = new.walk }
 
--- A slot of a held block was put, at this cost in room: into a copy of its bytes, which became the block's; then into what is known of
--- addresses; and what follows from it was done.
+-- A slot of a held block was put, at this cost in room, while no walk was begun: into a copy of its bytes, which became the block's; then
+-- into what is known of addresses; and what follows from it was done.
 pub record Slotted (at i cost : ℕ) (slot : Slot) (old new : Parts) : Type 0 where
   pub was : List ℕ
   pub bytes : List ℕ
@@ -47,6 +47,7 @@ pub record Slotted (at i cost : ℕ) (slot : Slot) (old new : Parts) : Type 0 wh
   pub led : Slot
   pub filled : Parts
   pub hung : Parts
+  pub idle : old.walk.pairs ≡ []
   pub copied : Some was ≡ option_map block_in (held_at old.held at)
   pub is_kind : kind ≡ (label_at old.region at).kind
   pub is_fact : fact ≡ fact_at old.facts at

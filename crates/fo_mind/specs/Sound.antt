@@ -2,6 +2,8 @@
 use Rattle.std.specs.Prelude.{◌≡◌, ◌||◌, ◌+◌, ◌-◌, ◌*◌, ◌^◌, ◌<◌, ◌≤◌, ℕ, true, false, List, length, count_by, Some}
 use Rattle.std.specs.Option.{option_map_or}
 use Rattle.fo_image.specs.declared.types.Kind.TheVariants.{Dir}
+use Rattle.fo_image.specs.declared.types.Label.{Label}
+use Rattle.fo_image.specs.declared.types.State.TheVariants.{Live}
 use Rattle.fo_image.specs.declared.types.Super.{Super}
 use Rattle.fo_image.specs.Format.{IsEpoch, LabelHolds}
 use Rattle.fo_image.specs.Place.{first_data}
@@ -47,6 +49,16 @@ pub record Holding (low first count : ℕ) (region : Region) (held : Held) : Typ
   pub block : (b : ℕ) (x : Buffer) → held_at held b ≡ Some x → IsData first count b
   pub good : (b : ℕ) (x : Buffer) → held_at held b ≡ Some x → Good first count (label_at region b).kind x.block
   pub kept : (b : ℕ) (x : Buffer) → held_at held b ≡ Some x → is_usable low (label_at region b) ≡ false
+
+-- A label is live, and of the high epoch: only a data block with such a label may be written.
+pub record IsCurrent (high : ℕ) (l : Label) : Type 0 where
+  pub live : l.state ≡ Live
+  pub epoch : l.epoch ≡ high
+
+-- What is held of the high epoch is live, and only what is of the high epoch is changed.
+pub record Changing (high : ℕ) (region : Region) (held : Held) : Type 0 where
+  pub live : (b : ℕ) (x : Buffer) → held_at held b ≡ Some x → (label_at region b).epoch ≡ high → (label_at region b).state ≡ Live
+  pub changed : (b : ℕ) (x : Buffer) → held_at held b ≡ Some x → x.dirty ≡ true → (label_at region b).epoch ≡ high
 
 -- What is waited for is an entry of a leaf of entries that is held, and in use.
 pub record Waiting (region : Region) (held : Held) (waits : List Wait) : Type 0 where

@@ -10,11 +10,11 @@ ghost use Rattle.fo_waits.specs.Listed.{Clears, ClearsAfter};
 ghost use Rattle.fo_mind.specs.Due.{ClearedDue, IsDueSlot, Recalled, is_over, next_of};
 ghost use Rattle.fo_facts.specs.Known.{fact_at, owing_as};
 ghost use Rattle.fo_mind.specs.Changes.{takes_turn};
-ghost use Rattle.fo_mind.specs.Turning.{HasTurn};
 ghost use Rattle.fo_waits.specs.Ended.{EndsFirst, is_other};
 ghost use Rattle.fo_mind.specs.Ended.{Delayed, Ended};
 ghost use Rattle.fo_mind.specs.MindParts.{parts};
 ghost use Rattle.fo_mind.specs.Parts.{IsPinned, label_at};
+ghost use Rattle.fo_mind.specs.Sound.{Making};
 
 use crate::mind::Mind;
 use crate::pins::is_settled;
@@ -44,15 +44,6 @@ fn next_in(clears: &[Clearing], order: &Order) -> Option<(u32, u32)>
         }
     }
     None
-}
-
-// One more, which is no more than this.
-fn one_more(room: u32, most: u32) -> u32
-    requires { room < most }
-    ensures { result ≡ room + 1 }
-{
-    let _most = most;
-    room + 1
 }
 
 // Room is kept for the next turn of a block, where it has none and is in the tree.
@@ -103,30 +94,30 @@ impl Mind {
         next_in(&self.clears, &self.order)
     }
 
-    // A slot waits no more: the unit of room that was kept for it is free, and room is kept for the next turn of its block.
+    // A slot waits no more. The turn that was kept for it is kept for the next turn of its block, and the removal is free; so as a model there
+    // is one unit of room more, which is paid from that.
     fn recall(&mut self, at: u32, i: u32)
         requires waits { Clears self.old.clears.items at i }
-        requires room { HasTurn (parts self.old [] 0) }
-        ensures recalled { (disk : Holds) (faults : ℕ) → Recalled at i (parts self.old disk faults) (parts self.new disk faults) }
+        ensures recalled { (disk : Holds) (faults : ℕ) → Recalled at i (parts self.old disk faults) (record (parts self.new disk faults) { room = self.new.room + 1 }) }
+        ensures room { self.new.room ≡ self.old.room }
+        ensures making { Making self.new.facts self.new.spare (self.new.room + length self.new.clears.items + 1) self.new.links self.new.queue.room }
         ensures owed { takes_turn self.new.facts self.new.order at ≡ true → (fact_at self.new.facts at).owes ≡ true }
     {
-        let most = self.queue.room();
         take_out(&mut self.clears, at, i);
-        self.room = one_more(self.room, most);
         owe_due(&mut self.facts, &self.order, at);
     }
 
-    /// A slot that waits is cleared, whether its block is pinned or not, with the unit of room that was kept for it. The waits for its
-    /// pair end first, and what left with it is queued.
+    /// A slot that waits for a settled leaf is cleared, whether its block is pinned or not, with the unit of room that was kept for it: no memory
+    /// is wanted. The waits for its pair end first, and what left with it is queued.
     pub fn clear_due(&mut self, at: u32, i: u32)
         requires waits { Clears self.old.clears.items at i }
-        requires room { HasTurn (parts self.old [] 0) }
+        requires due { IsDueSlot self.old.order self.old.clears.items at i }
         ensures { (disk : Holds) (faults : ℕ) → ClearedDue at i (parts self.old disk faults) (parts self.new disk faults) }
     {
         let slot = self.slot_held(at, i).cleared();
         self.end_waits(at, i);
         self.recall(at, i);
-        self.change_held(at, i, slot, 1);
+        self.change_held(at, i, slot, 0, 1);
     }
 
     /// No block waits for an entry any more.

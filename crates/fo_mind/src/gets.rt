@@ -3,6 +3,7 @@ ghost use Rattle.std.specs.Prelude.{◌≡◌, ◌⊎◌, ◌+◌, ◌<◌, ◌�
 ghost use Rattle.fo_base.specs.Cause.{Rose};
 ghost use Rattle.fo_disk.specs.Disk.{Content as Holds};
 ghost use Rattle.fo_buffers.specs.Held.{held_at};
+ghost use Rattle.fo_image.specs.declared.types.State.TheVariants.{Live};
 ghost use Rattle.fo_image.specs.Usable.{is_usable};
 ghost use Rattle.fo_ports.specs.Blocks.{IsRanked};
 ghost use Rattle.fo_ports.specs.Causes.{Caused};
@@ -18,7 +19,7 @@ ghost use Rattle.fo_mind.specs.MindParts.{parts};
 use crate::mind::Mind;
 use fo_bring::{bring, copy_held, glance, lend_held};
 use fo_disk::Disk;
-use fo_image::{Kind, Label, is_usable};
+use fo_image::{Kind, Label, State, is_usable};
 use fo_ports::BlockError;
 
 fn is_kind(kind: Kind, other: Kind) -> bool
@@ -27,21 +28,30 @@ fn is_kind(kind: Kind, other: Kind) -> bool
     kind == other
 }
 
+// Whether a label of this epoch is not live, so that its block is no more to be put into.
+fn is_gone(label: &Label, high: u32) -> bool
+    ensures { result ≡ false → label.now.epoch ≡ high → label.now.state ≡ Live }
+{
+    label.epoch == high && label.state != State::Live
+}
+
 impl Mind {
-    // Whether a block may be got: its label is of this kind, and it is pinned or in use.
+    // Whether a block may be got: its label is of this kind, and it is pinned, or in use, and live where it is of the high epoch.
     fn may_get(&self, at: u32, kind: Kind) -> bool
         requires block { IsData self.now.first self.now.count at }
         ensures kind { result ≡ true → (label_at self.now.labels at).kind ≡ kind }
         ensures used { result ≡ true → IsPinned self.now.buffers at ⊎ (is_usable self.now.one.low (label_at self.now.labels at) ≡ false) }
+        ensures live { result ≡ true → IsPinned self.now.buffers at ⊎ ((label_at self.now.labels at).epoch ≡ self.now.one.high → (label_at self.now.labels at).state ≡ Live) }
         ensures pinned { IsPinned self.now.buffers at → (label_at self.now.labels at).kind ≡ kind → result ≡ true }
     {
-        if !is_kind(self.label(at).kind, kind) {
+        let label = self.label(at);
+        if !is_kind(label.kind, kind) {
             return false;
         }
         if self.is_pinned(at) {
             return true;
         }
-        !is_usable(&self.label(at), self.one.low)
+        !is_usable(&label, self.one.low) && !is_gone(&label, self.one.high)
     }
 
     /// The label of a data block.
@@ -106,6 +116,7 @@ impl Mind {
         requires left { 0 < self.old.pins }
         requires within { self.old.count ≤ D.size main.old }
         requires kept { is_usable self.old.one.low (label_at self.old.labels at) ≡ false }
+        requires live { (label_at self.old.labels at).epoch ≡ self.old.one.high → (label_at self.old.labels at).state ≡ Live }
         requires none { held_at self.old.buffers at ≡ None }
         ensures here { OnOk result (IsPinned self.new.buffers at) }
         ensures source { OnOk result (IsSource (D.state main.old).holds at self.old.buffers (held_at self.new.buffers at)) }
@@ -135,6 +146,7 @@ impl Mind {
         requires block { IsData self.old.first self.old.count at }
         requires kind { (label_at self.old.labels at).kind ≡ kind }
         requires kept { is_usable self.old.one.low (label_at self.old.labels at) ≡ false }
+        requires live { (label_at self.old.labels at).epoch ≡ self.old.one.high → (label_at self.old.labels at).state ≡ Live }
         requires left { 0 < self.old.pins }
         requires within { self.old.count ≤ D.size main.old }
         ensures here { OnOk result (IsPinned self.new.buffers at) }
@@ -208,6 +220,7 @@ impl Mind {
         requires length { length into.old ≡ 8192 }
         requires kind { (label_at self.old.labels at).kind ≡ kind }
         requires kept { is_usable self.old.one.low (label_at self.old.labels at) ≡ false }
+        requires live { (label_at self.old.labels at).epoch ≡ self.old.one.high → (label_at self.old.labels at).state ≡ Live }
         requires within { self.old.count ≤ D.size main.old }
         ensures got { OnOk result (Got self.new.first self.new.count kind rank (parts self.new (D.state main.new).holds (D.faults main.new)) at into.new) }
         ensures source { OnOk result (IsFrom (D.state main.old).holds at self.old.buffers into.new) }
@@ -265,7 +278,8 @@ impl Mind {
     }
 
     /// Copies a block of this kind and rank, as it was last put, and pins it while pins are left. A pinned block is had again without
-    /// fail, where it is of the format that the rank asks for. A block that is neither pinned nor in use any more is damaged.
+    /// fail, where it is of the format that the rank asks for. A block that isn't pinned is damaged where it isn't in use any more, and
+    /// where it is of the high epoch and not live.
     pub fn get<D: Disk>(
         &mut self,
         main: &mut D,

@@ -7,16 +7,17 @@
 //!
 //! Proved: `get` gives the bytes that are held, else those that are clean, else one of the versions of the device, of the format that is
 //! asked for, and changes nothing that calls on blocks see; a pinned block is had again without fail; a block is damaged only where its
-//! label is of another kind, it may be given out, or its bytes aren't good; a fault comes only where the device's count rose. With no
-//! pin left `get` needs no room, and may want memory. `pin` brings and pins a block as `get` does and copies nothing; with no pin left it
-//! does nothing. `lend` lends the bytes that are held, of the format that is asked for, and so what `get` would copy. `new_block` and `copy` give out the least usable block, and `put_bytes` puts
-//! bytes beside the slots of a pinned one, each with the clauses of `Blocks`; neither wants memory. A slot, a label and what waits are
-//! as memory has them. What calls see keeps the laws of `Blocks`. What is to be written next has its bytes in memory, or is a block of
-//! labels; what a write or a sync does to each field is said by its answer alone, and only `keep_turn_of` may want memory for it.
-//! A slot of a pinned block changes in exact steps (`Slotted`): its bytes, who is apart, who comes into the tree, what is queued; no memory
-//! is wanted, since room is kept for whoever was made or may be. What calls see of it is said by `fo_put`.
-//! Another super block is tried, in doubt, and then counts or is overruled. Memory has the bytes of the one that counts, and the next file
-//! number is up to the limit of both, and below it while it is granted.
+//! label is of another kind, it may be given out, it is of the high epoch and not live, or its bytes aren't good; a fault comes only where
+//! the device's count rose. With no pin left `get` needs no room, and may want memory. `pin` brings and pins a block as `get` does and
+//! copies nothing; with no pin left it does nothing. Only blocks that are live and of the high epoch are changed, and have a turn. `lend`
+//! lends the bytes that are held, of the format that is asked for, and so what `get` would copy. `new_block` and `copy` give out the least
+//! usable block, and `put_bytes` puts bytes beside the slots of a pinned one, each with the clauses of `Blocks`; neither wants memory. A
+//! slot, a label and what waits are as memory has them. What calls see keeps the laws of `Blocks`. What is to be written next has its bytes
+//! in memory, or is a block of labels; what a write or a sync does to each field is said by its answer alone, and only `keep_turn_of` may
+//! want memory for it. A slot of a pinned block changes in exact steps (`Slotted`): its bytes, who is apart, who comes into the tree, what
+//! is queued; no memory is wanted, since room is kept for whoever was made or may be. What calls see of it is said by `fo_put`. Another
+//! super block is tried, in doubt, and then counts or is overruled. Memory has the bytes of the one that counts, and the next file number
+//! is up to the limit of both, and below it while it is granted.
 //!
 //! Not proved here: what is said of crash images, places and moments.
 #![tactic(auto)]

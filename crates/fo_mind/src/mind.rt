@@ -2,10 +2,10 @@
 ghost use Rattle.std.specs.Prelude.{◌≡◌, ◌+◌, ◌*◌, ◌<◌, ◌≤◌, true, length};
 ghost use Rattle.std.specs.Vec.{vec_len, vec_capacity};
 ghost use Rattle.fo_mind.specs.Parts.{least_limit};
-ghost use Rattle.fo_mind.specs.Sound.{Placed, Rooted, Labelled, Holding, Waiting, Clearable, Standing, RootIn, Owing, Roomy, Making};
+ghost use Rattle.fo_mind.specs.Sound.{Placed, Rooted, Labelled, Holding, Changing, Waiting, Clearable, Standing, RootIn, Owing, Roomy, Making};
 ghost use Rattle.fo_mind.specs.Turning.{Turning};
 ghost use Rattle.fo_image.specs.Format.{SpellsSuper};
-ghost use Rattle.fo_mind.specs.Props.{super_prop, placed_prop, rooted_prop, labelled_prop, holding_prop, waiting_prop, clearable_prop, standing_prop, root_in_prop, owing_prop, roomy_prop, making_prop, turning_prop};
+ghost use Rattle.fo_mind.specs.Props.{super_prop, placed_prop, rooted_prop, labelled_prop, holding_prop, changing_prop, waiting_prop, clearable_prop, standing_prop, root_in_prop, owing_prop, roomy_prop, making_prop, turning_prop};
 
 use fo_buffers::{Block, Buffers};
 use fo_facts::Facts;
@@ -46,6 +46,7 @@ pub struct Mind {
     ghost spelled: { SpellsSuper one one_bytes } by { super_prop one one_bytes },
     ghost labelled: { Labelled labels } by { labelled_prop labels },
     ghost holding: { Holding one.low first count labels buffers } by { holding_prop one.low first count labels buffers },
+    ghost changing: { Changing one.high labels buffers } by { changing_prop one.high labels buffers },
     ghost waiting: { Waiting labels buffers waits.items } by { waiting_prop labels buffers waits.items },
     ghost clearable: { Clearable labels one.low one.high clears.items } by { clearable_prop labels one.low one.high clears.items },
     ghost standing: { Standing buffers facts clears.items } by { standing_prop buffers facts clears.items },

@@ -47,10 +47,12 @@ impl Mind {
     // A held block gets these bytes. Where it takes a turn, room was kept for that.
     pub(crate) fn refill(&mut self, at: u32, bytes: &[u8])
         requires held { IsHeld self.old.buffers at }
+        requires current { (label_at self.old.labels at).epoch ≡ self.old.one.high }
         requires owed { takes_turn self.old.facts self.old.order at ≡ true → (fact_at self.old.facts at).owes ≡ true }
         requires good { Good self.old.first self.old.count (label_at self.old.labels at).kind bytes.now }
         requires used { (a k : ℕ) → Listed self.old.waits.items a at k → is_active ((read (label_at self.old.labels at).kind bytes.now).slot (2 * k)) ≡ true }
-        ensures { (disk : Holds) (faults : ℕ) → Refilled at bytes.now (parts self.old disk faults) (parts self.new disk faults) }
+        ensures is { (disk : Holds) (faults : ℕ) → Refilled at bytes.now (parts self.old disk faults) (parts self.new disk faults) }
+        ensures queue { self.new.queue ≡ self.old.queue }
     {
         self.buffers.write(at, 0, bytes);
         take_turn(&mut self.order, &mut self.facts, at);
@@ -59,6 +61,7 @@ impl Mind {
     /// Puts bytes into a pinned block, none of which spells a slot.
     pub fn put_bytes(&mut self, at: u32, from: u32, bytes: &[u8])
         requires pinned { IsPinned self.old.buffers at }
+        requires current { (label_at self.old.labels at).epoch ≡ self.old.one.high }
         requires within { from + length bytes.now ≤ 8192 }
         requires place { MayPut (label_at self.old.labels at).kind from (from + length bytes.now) }
         ensures now { (disk : Holds) (faults : ℕ) → PutsBytes at (put_at from bytes.now ((memory (parts self.old disk faults) at).bytes)) (memory (parts self.old disk faults)) (memory (parts self.new disk faults)) }

@@ -1,5 +1,5 @@
 //! Slots are put.
-ghost use Rattle.std.specs.Prelude.{◌≡◌, ◌≢◌, ◌+◌, ◌-◌, ◌*◌, ◌<◌, ◌≤◌, ℕ, [], true, false};
+ghost use Rattle.std.specs.Prelude.{◌≡◌, ◌≢◌, ◌+◌, ◌-◌, ◌*◌, ◌<◌, ◌≤◌, ℕ, [], true, false, length};
 ghost use Rattle.fo_disk.specs.Disk.{Content as Holds};
 ghost use Rattle.fo_image.specs.declared.types.Pointer.TheVariants.{Local};
 ghost use Rattle.fo_image.specs.Format.{KindHolds};
@@ -13,6 +13,7 @@ ghost use Rattle.fo_mind.specs.MindParts.{parts};
 ghost use Rattle.fo_mind.specs.Changes.{takes_turn};
 ghost use Rattle.fo_mind.specs.Parts.{IsHeld, IsPinned, label_at, memory};
 ghost use Rattle.fo_mind.specs.Slotted.{Follows, Hung, Slotted};
+ghost use Rattle.fo_mind.specs.Sound.{Making};
 
 use crate::mind::Mind;
 use crate::news::copied;
@@ -52,14 +53,14 @@ fn link_put(
     links.link(buffers, labels, order, facts, to);
 }
 
-// How many removals may be queued: what a put costs, and one for each block that was linked.
-fn budget(price: u32, before: usize, after: usize, room: u32) -> u32
+// How many removals may be queued: what a put costs, paid now or kept for it before, and one for each block that was linked.
+fn budget(paid: u32, kept: u32, before: usize, after: usize, room: u32) -> u32
     requires fewer { after ≤ before }
-    requires room { price + (before - after) ≤ room }
-    ensures { result ≡ price + (before - after) }
+    requires room { paid + kept + (before - after) ≤ room }
+    ensures { result ≡ paid + kept + (before - after) }
 {
     let _room = room;
-    price + (before - after) as u32
+    paid + kept + (before - after) as u32
 }
 
 impl Mind {
@@ -67,19 +68,22 @@ impl Mind {
     fn hang(&mut self, at: u32, to: Pointer, raised: bool)
         requires at { IsData self.old.first self.old.count at }
         requires to { (b : ℕ) → to ≡ Local b → IsData self.old.first self.old.count b × (b ≢ at) }
-        ensures { (disk : Holds) (faults : ℕ) → Hung at to raised (parts self.old disk faults) (parts self.new disk faults) }
+        ensures is { (disk : Holds) (faults : ℕ) → Hung at to raised (parts self.old disk faults) (parts self.new disk faults) }
+        ensures queue { self.new.queue ≡ self.old.queue }
     {
         note_put(&mut self.facts, at, to, raised);
     }
 
-    // Links what comes into the tree with a slot that was put, and queues what leaves.
-    fn follow(&mut self, put: &Put, price: u32)
+    // Links what comes into the tree with a slot that was put, and queues what leaves. So much of the price is paid from the room; the rest
+    // was kept for it, beside that room.
+    fn follow(&mut self, put: &Put, paid: u32, kept: u32)
         requires kind { KindHolds put.now.kind }
         requires old { SlotFits put.now.kind put.now.i put.now.old }
         requires new { SlotFits put.now.kind put.now.i put.now.new }
-        requires ends { ends (target put.now.old) (target put.now.new) ≤ price }
-        requires room { price ≤ self.old.room }
-        ensures { (disk : Holds) (faults : ℕ) → Follows put.now price (parts self.old disk faults) (parts self.new disk faults) }
+        requires ends { ends (target put.now.old) (target put.now.new) ≤ paid + kept }
+        requires room { paid ≤ self.old.room }
+        requires making { Making self.old.facts self.old.spare (self.old.room + length self.old.clears.items + kept) self.old.links self.old.queue.room }
+        ensures { (disk : Holds) (faults : ℕ) → Follows put.now (paid + kept) (record (parts self.old disk faults) { room = self.old.room + kept }) (parts self.new disk faults) }
     {
         let to = put.new.target();
         let before = self.facts.made();
@@ -93,7 +97,7 @@ impl Mind {
             to,
         );
         let after = self.facts.made();
-        let most = budget(price, before, after, self.queue.room());
+        let most = budget(paid, kept, before, after, self.queue.room());
         take_put(
             &mut self.walk,
             &mut self.queue,
@@ -103,12 +107,13 @@ impl Mind {
             put,
             most,
         );
-        self.room -= price;
+        self.room -= paid;
     }
 
     /// A slot of a pinned block changes, at this price in room.
     pub fn change_slot(&mut self, at: u32, i: u32, slot: Slot, price: u32)
         requires pinned { IsPinned self.old.buffers at }
+        requires current { (label_at self.old.labels at).epoch ≡ self.old.one.high }
         requires spelled { (i < slot_count (label_at self.old.labels at).kind) × SlotFits (label_at self.old.labels at).kind i slot }
         requires used { (a k : ℕ) → Listed self.old.waits.items a at k → i ≡ 2 * k → is_active slot ≡ true }
         requires leads { (b : ℕ) → target slot ≡ Local b → IsData self.old.first self.old.count b × (b ≢ at) }
@@ -116,19 +121,22 @@ impl Mind {
         requires room { price ≤ self.old.room }
         ensures { (disk : Holds) (faults : ℕ) → Slotted at i price slot (parts self.old disk faults) (parts self.new disk faults) }
     {
-        self.change_held(at, i, slot, price);
+        self.change_held(at, i, slot, price, 0);
     }
 
-    // A slot of a held block changes, at this price in room. Where the block takes a turn, room was kept for that.
-    pub(crate) fn change_held(&mut self, at: u32, i: u32, slot: Slot, price: u32)
+    // A slot of a held block changes, at a price in room, part of which was kept for it beside the room. Where the block takes a turn, room was
+    // kept for that.
+    pub(crate) fn change_held(&mut self, at: u32, i: u32, slot: Slot, paid: u32, kept: u32)
         requires held { IsHeld self.old.buffers at }
+        requires current { (label_at self.old.labels at).epoch ≡ self.old.one.high }
         requires owed { takes_turn self.old.facts self.old.order at ≡ true → (fact_at self.old.facts at).owes ≡ true }
         requires spelled { (i < slot_count (label_at self.old.labels at).kind) × SlotFits (label_at self.old.labels at).kind i slot }
         requires used { (a k : ℕ) → Listed self.old.waits.items a at k → i ≡ 2 * k → is_active slot ≡ true }
         requires leads { (b : ℕ) → target slot ≡ Local b → IsData self.old.first self.old.count b × (b ≢ at) }
-        requires ends { ends (target ((memory (parts self.old [] 0) at).slot i)) (target slot) ≤ price }
-        requires room { price ≤ self.old.room }
-        ensures { (disk : Holds) (faults : ℕ) → Slotted at i price slot (parts self.old disk faults) (parts self.new disk faults) }
+        requires ends { ends (target ((memory (parts self.old [] 0) at).slot i)) (target slot) ≤ paid + kept }
+        requires room { paid ≤ self.old.room }
+        requires making { Making self.old.facts self.old.spare (self.old.room + length self.old.clears.items + kept) self.old.links self.old.queue.room }
+        ensures { (disk : Holds) (faults : ℕ) → Slotted at i (paid + kept) slot (record (parts self.old disk faults) { room = self.old.room + kept }) (parts self.new disk faults) }
     {
         let label = self.label(at);
         let old = self.slot_held(at, i);
@@ -146,6 +154,6 @@ impl Mind {
             old,
             new: slot,
         };
-        self.follow(&put, price);
+        self.follow(&put, paid, kept);
     }
 }

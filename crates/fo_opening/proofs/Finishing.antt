@@ -181,8 +181,10 @@ module _ (s t : DiskState) (p : Parts) (f g : ℕ) {first count : ℕ} (placed :
         apart = λ b. (λ h. h, λ h. h);
         instead = λ b x. (λ h. h, λ h. h);
         newborn = λ b h. h;
+        newborns = λ b h. h;
         kept = λ b is was now. known b is;
         labels = λ b. inl refl;
+        removes = λ r e w h. inl h;
         queues = λ some. inl some;
         usable = let e = usable_same in omega (arith, e);
         settled = λ was. (record { settled = record { each = λ image h. absurd h }; clean = λ b d. ((was.clean b (dirty_was b d)).0, λ tells. absurd tells); empty = was.empty; cleared = was.cleared }, usable_same);

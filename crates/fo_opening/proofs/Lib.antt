@@ -1,4 +1,5 @@
 pub mod Finishing
+pub mod Lasting
 pub mod Loading
 pub mod Refusing
 pub mod Stepping

@@ -1,7 +1,7 @@
 -- Steps of an end.
 use Rattle.std.proofs.Common.{◌≡◌, ◌≢◌, inl, inr, ⊎_elim, ℕ, ◌<◌, ◌≤◌, Bool, true, false, List, [], ◌∷◌, length, Option, Some, None, Result, Ok, Err, refl, sym, ap, ◌∙◌, subst, arith}
 use Rattle.std.specs.Option.{option_map, option_map_or}
-use Rattle.std.specs.Result.{IfErr, OnOk, OnErr}
+use Rattle.std.specs.Result.{OnOk, OnErr}
 use Rattle.std.proofs.lemmas.Bool.{cases_eq, cases_lt}
 use Rattle.fo_disk.specs.Disk.{DiskState, IsQuiet, IsSettled, Versions, newest, versions_of}
 use Rattle.fo_disk.specs.Disk.{Content as Holds}
@@ -10,25 +10,25 @@ use Rattle.fo_buffers.specs.declared.block.Buffer.{Buffer}
 use Rattle.fo_buffers.specs.Held.{Held, held_at, is_pinned, settled, updated, with_bytes}
 use Rattle.fo_order.specs.Turns.{flag_at}
 use Rattle.fo_ports.specs.declared.error.BlockError.{BlockError}
-use Rattle.fo_ports.specs.declared.error.BlockError.TheVariants.{Full, Damaged, Fault, Arena, Memory}
 use Rattle.fo_waits.specs.declared.listed.Clearing.{Clearing}
 use Rattle.fo_waits.specs.Listed.{Clears}
+use Rattle.fo_mind.specs.Due.{ClearedDue}
 use Rattle.fo_mind.specs.Parts.{IsPinned, Parts}
 use Rattle.fo_mind.specs.Sound.{Holding, Placed, Standing}
-use Rattle.fo_mind.specs.Turning.{KeepsTurn, Turning}
+use Rattle.fo_mind.specs.Turning.{Turning}
 use Rattle.fo_mind.proofs.Refilling.{Refills, refills_of}
-use Rattle.fo_cache.specs.Easing.{ClearsDue, Eases}
+use Rattle.fo_cache.specs.Easing.{Eases}
 use Rattle.fo_cache.specs.Fits.{Fits}
 use Rattle.fo_cache.specs.Numbering.{Renumbers}
 use Rattle.fo_cache.specs.Settling.{Rested, Settles}
-use Rattle.fo_cache.specs.Supers.{Counts, Doubted, IsFault}
+use Rattle.fo_cache.specs.Supers.{Counts, Doubted}
 use Rattle.fo_cache.specs.Work.{calls_left}
 use Rattle.fo_cache.proofs.Clearing.{recalled_is}
 use Rattle.fo_cache.proofs.Easing.{eases_none}
 use Rattle.fo_cache.proofs.Settling.{join}
 use Rattle.fo_settling.proofs.Waiting.{eases_turns}
 use Rattle.fo_reserving.specs.Steps.{Lets}
-use Rattle.fo_opening.specs.Ending.{Ending, SomeWaits}
+use Rattle.fo_opening.specs.Ending.{Ending}
 use Rattle.fo_opening.specs.Finished.{Finished, KeepsBytes}
 use Rattle.fo_opening.proofs.Finishing.{bytes_on, bytes_renumbered, bytes_super, bytes_turned, ends_eased, ends_on, ends_super}
 
@@ -134,20 +134,16 @@ module _ (at i : ℕ) (s t : DiskState) (f g : ℕ) (p q : Parts) (waits : Clear
     count = ap (λ (x : DiskState). length x.holds) same;
   }
 
-  -- memory was wanting
-  pub ending_roomed : KeepsTurn p q → Ending s t f g p q
-  ending_roomed k = beside (λ b h. subst (λ (z : Parts). IsPinned z.held b) k.rest h) (λ b j h. subst (λ (z : Parts). Clears z.clears b j) k.rest h)
+  module _ {low first count : ℕ} (holding : Holding low first count p.region p.held) (standing : Standing p.held p.facts p.clears) (c : ClearedDue at i p q) where
+    was : c.recalled.held ≡ p.held
+    was = ap (λ (z : Parts). z.held) (recalled_is c)
 
-  module _ {low first count : ℕ} (holding : Holding low first count p.region p.held) (standing : Standing p.held p.facts p.clears) (c : ClearsDue at i p q) where
-    was : c.cleared.recalled.held ≡ p.held
-    was = ap (λ (z : Parts). z.held) (recalled_is c.cleared) ∙ ap (λ (z : Parts). z.held) c.kept.rest
+    now : q.held ≡ c.slotted.filled.held
+    now = ap (λ (z : Parts). z.held) c.slotted.follows.rest ∙ ap (λ (z : Parts). z.held) c.slotted.hangs.rest
 
-    now : q.held ≡ c.cleared.slotted.filled.held
-    now = ap (λ (z : Parts). z.held) c.cleared.slotted.follows.rest ∙ ap (λ (z : Parts). z.held) c.cleared.slotted.hangs.rest
-
-    filled : Refills at c.cleared.slotted.bytes p.held q.held
-    filled = refills_of {region = p.region} at c.cleared.slotted.bytes p.held q.held holding (standing.still at i waits) c.cleared.slotted.long
-        (now ∙ c.cleared.slotted.refilled.held ∙ ap (λ (z : Held). updated z at (with_bytes 0 c.cleared.slotted.bytes)) was)
+    filled : Refills at c.slotted.bytes p.held q.held
+    filled = refills_of {region = p.region} at c.slotted.bytes p.held q.held holding (standing.still at i waits) c.slotted.long
+        (now ∙ c.slotted.refilled.held ∙ ap (λ (z : Held). updated z at (with_bytes 0 c.slotted.bytes)) was)
 
     pinned : (b : ℕ) → IsPinned q.held b → IsPinned p.held b
     pinned b h = ⊎_elim
@@ -157,42 +153,14 @@ module _ (at i : ℕ) (s t : DiskState) (f g : ℕ) (p q : Parts) (waits : Clear
 
     order : (b j : ℕ) → Clears q.clears b j → Clears p.clears b j
     order b j h =
-        let z = c.cleared in
+        let z = c in
         let slotted = subst (λ (x : Parts). Clears x.clears b j) z.slotted.refilled.rest (subst (λ (x : Parts). Clears x.clears b j) z.slotted.hangs.rest (subst (λ (x : Parts). Clears x.clears b j) z.slotted.follows.rest h)) in
-        subst (λ (x : Parts). Clears x.clears b j) c.kept.rest (subst (λ (x : Parts). Clears x.clears b j) z.ended.rest (z.recalls.out.only b j slotted))
+        subst (λ (x : Parts). Clears x.clears b j) z.ended.rest (z.recalls.out.only b j slotted)
 
     pub ending_cleared : Ending s t f g p q
     ending_cleared = beside pinned order
 
 -- ---- refusals
-
--- only the device failed
-pub fault_only : {T : Type 0} (P : Type 0) (r : Result T BlockError) → IfErr r IsFault → IfErr r (λ e. e ≡ Memory → P)
-fault_only P (Ok x) f = tt
-fault_only P (Err Full) f = absurd f
-fault_only P (Err (Damaged at)) f = absurd f
-fault_only P (Err (Fault which)) f = λ e. absurd (clash e)
-  where
-    clash : Fault which ≡ Memory → ⊥
-    clash h = cc
-fault_only P (Err (Arena which)) f = absurd f
-fault_only P (Err Memory) f = absurd f
-
--- a slot waits, whatever was answered
-pub waits_any : {T P : Type 0} (r : Result T BlockError) → P → IfErr r (λ e. P)
-waits_any (Ok x) w = tt
-waits_any (Err e) w = w
-
-pub wanting_any : {T P : Type 0} (r : Result T BlockError) → P → IfErr r (λ e. e ≡ Memory → P)
-wanting_any (Ok x) w = tt
-wanting_any (Err e) w = λ is. w
-
--- a slot waited before
-pub waited : {s t : DiskState} {f g : ℕ} {p q : Parts} → Ending s t f g p q → SomeWaits q → SomeWaits p
-waited k w = (w.0, w.1, k.order w.0 w.1 w.2)
-
-pub waited_let : (p m : Parts) → Lets p m → SomeWaits m → SomeWaits p
-waited_let p m l w = (w.0, w.1, subst (λ (z : Parts). Clears z.clears w.0 w.1) l.rest w.2)
 
 -- pins are no work
 pub let_left : (p q : Parts) → Lets p q → calls_left q ≡ calls_left p

@@ -6,10 +6,6 @@ use Rattle.fo_mind.specs.Parts.{IsPinned, Parts}
 use Rattle.fo_cache.specs.Settling.{Rested}
 use Rattle.fo_opening.specs.Finished.{Ends, KeepsBytes}
 
--- A slot waits to be cleared.
-abbrev pub SomeWaits : Parts → Type 0
-SomeWaits p = (b : ℕ) × (j : ℕ) × Clears p.clears b j
-
 -- What stays whatever is answered (`Ends`); memory's bytes, where no slot waits; nothing is pinned and no slot waits that didn't; and of
 -- block 0 the device has the versions that it had, or the last of them.
 pub record Ending (s t : DiskState) (f g : ℕ) (p q : Parts) : Type 0 where

@@ -8,7 +8,7 @@
 //! where it is out of range, and a fault comes only where the device's count rose. Where `finish` answers Ok, nothing has a turn, nothing is
 //! in doubt, no slot waits, and block 1 says the next file number; each block has one version, as far as the device tells. Whatever it
 //! answers, block 0 is as it was. It calls the device two or three times at most for each dirty block and each slot that waits, and five
-//! times beside that (`calls_left` of `fo_cache`). It wants memory only where a slot waits to be cleared.
+//! times beside that (`calls_left` of `fo_cache`). It wants no memory: it fails by a fault of the device alone.
 //!
 //! Not proved here: what is said of crash images, places and moments.
 #![tactic(auto)]
@@ -24,3 +24,4 @@ mod turns;
 pub use ending::finish;
 pub use error::{Refused, Why};
 pub use opening::open;
+pub use turns::take_turns;

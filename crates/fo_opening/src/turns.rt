@@ -74,7 +74,7 @@ fn take_turn<D: Disk>(cache: &mut Cache<D>) -> Result<bool, BlockError>
 }
 
 /// Takes turns until none is left, where nothing is pinned. It fails only where the device does.
-pub(crate) fn take_turns<D: Disk>(cache: &mut Cache<D>) -> Result<(), BlockError>
+pub fn take_turns<D: Disk>(cache: &mut Cache<D>) -> Result<(), BlockError>
     requires free { (b : ℕ) → IsPinned (parts cache.old.mind [] 0).held b → ⊥ }
     ensures quiet { OnOk result (IsQuiet (parts cache.new.mind [] 0).turns) }
     ensures settles { Settles (D.state cache.old.main) (D.state cache.new.main) (parts cache.old.mind [] 0) (parts cache.new.mind [] 0) }

@@ -1,14 +1,14 @@
 -- What holds of flags over each call.
-use Rattle.std.proofs.Common.{◌≡◌, ◌⊎◌, ◌+◌, ◌<◌, ◌≤◌, min, ℕ, zero, suc, Bool, true, false, cond, List, [], ◌∷◌, ◌++◌, length, map, set, slice_index_or, count_by, Contains, sym, ap, subst, inl, inr, ◌∙◌, arith}
+use Rattle.std.proofs.Common.{◌≡◌, ◌⊎◌, ◌+◌, ◌<◌, ◌≤◌, min, ℕ, zero, suc, Bool, true, false, cond, List, [], ◌∷◌, ◌++◌, length, map, set, slice_index_or, count_by, Contains, refl, sym, ap, subst, inl, inr, ◌∙◌, arith}
 use Rattle.std.proofs.lemmas.List.Elements.{Contains-append_left, Contains-push, Contains-push_cases}
 use Rattle.std.proofs.lemmas.List.{map-append, get_or-set_same, get_or-set_other}
-use Rattle.std.proofs.lemmas.List.Sums.{sum_by-set}
+use Rattle.std.proofs.lemmas.List.Sums.{sum_by-cons, sum_by-set}
 use Rattle.std.proofs.lemmas.Bool.{cases_eq, cases_lt}
 use Rattle.fo_order.specs.declared.marks.Flags.{Flags}
 use Rattle.fo_order.specs.declared.marks.Mark.{Mark}
 use Rattle.fo_order.specs.declared.marks.Tried.TheVariants.{Written, Failed}
 use Rattle.fo_order.specs.Flags.{flag, quiet, flags_of, is_dirty, settled}
-use Rattle.fo_order.specs.Marks.{mark_rank, Known}
+use Rattle.fo_order.specs.Marks.{IsFalling, mark, mark_rank, Known}
 use Rattle.fo_order.proofs.Falling.{any_default}
 
 -- written blocks are settled one by one
@@ -16,6 +16,7 @@ pub record Settling (old now : List Flags) (written : List Mark) : Type 0 where
   pub alike : (q : ℕ) → settled (flag now q) ≡ settled (flag old q)
   pub known : Known now written
   pub count : count_by is_dirty now ≡ count_by is_dirty old
+  pub long : length now ≡ length old
 
 pub never : {A : Type 0} → false ≡ true → A
 never e = absurd (clash e)
@@ -57,6 +58,25 @@ counted_down flags at rank dirty =
     let number : Bool → ℕ = λ b. cond b 1 0 in
     let one = ap number dirty in
     omega (arith, e, one)
+
+-- where none is dirty
+pub count_none : (flags : List Flags) → ((q : ℕ) → (flag flags q).dirty ≡ false) → count_by is_dirty flags ≡ 0
+count_none [] clean = refl
+count_none (f ∷ flags) clean =
+    let number : Bool → ℕ = λ b. cond b 1 0 in
+    let none = ap number (clean 0) in
+    let rest = count_none flags (λ q. clean (suc q)) in
+    let all : count_by is_dirty (f ∷ flags) ≡ cond {A = ℕ} f.dirty 1 0 + count_by is_dirty flags = sum_by-cons (λ (x : Flags). cond (is_dirty x) 1 0) f flags in
+    omega (arith, all, none, rest)
+
+falls_one : (m : Mark) (i j : ℕ) → i ≤ j → j < 1 → (slice_index_or (m ∷ []) j (mark 0 0)).rank ≤ (slice_index_or (m ∷ []) i (mark 0 0)).rank
+falls_one m zero zero le lt = omega arith
+falls_one m (suc i) zero le lt = absurd (omega (arith, le))
+falls_one m i (suc j) le lt = absurd (omega (arith, lt))
+
+-- a list of one mark
+pub first_mark : (marks : List Mark) (m : Mark) → marks ≡ m ∷ [] → Contains marks m × IsFalling marks
+first_mark marks m is = subst (λ (l : List Mark). Contains l m × IsFalling l) (sym is) ((0, omega arith, refl), record { each = falls_one m })
 
 module _ (written new : List Mark) (m : Mark) (is : new ≡ written ++ m ∷ []) where
   pushed : (f : Mark → ℕ) → map f new ≡ map f written ++ f m ∷ []

@@ -1,3 +1,4 @@
 pub mod Falling
 pub mod Keeping
+pub mod Tabling
 pub mod Turning

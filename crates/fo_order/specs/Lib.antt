@@ -2,4 +2,5 @@ pub mod Flags
 pub mod Inside
 pub mod Keeps
 pub mod Marks
+pub mod Table
 pub mod Turns

@@ -13,6 +13,7 @@
 
 mod marks;
 mod order;
+mod table;
 
 pub use marks::{Flags, Mark, Tried};
 pub use order::{Order, Turn};

@@ -5,6 +5,8 @@ ghost use Rattle.fo_order.specs.declared.marks.Mark.{Mark};
 ghost use Rattle.fo_order.specs.Flags.{flag, is_current, is_dirty, settled, settled_tried};
 ghost use Rattle.fo_order.specs.Marks.{IsFalling, mark, Marked, Known, IsPlace, IsTop, TopIsCurrent};
 
+use crate::table::FlagTable;
+
 /// What came of the last write of a block since it was settled.
 #[derive(Clone, Copy, Debug, PartialEq, Eq)]
 pub enum Tried {
@@ -64,13 +66,14 @@ fn place_of(marks: &[Mark], rank: u32) -> usize
 }
 
 /// Whether a mark says what the flags say.
-fn is_current(flags: &[Flags], mark: Mark) -> bool
+fn is_current(flags: &FlagTable, mark: Mark) -> bool
     ensures { result ≡ is_current flags.now mark }
 {
-    match flags.get(mark.at as usize) {
-        Some(flag) => flag.dirty && flag.rank == mark.rank,
-        None => false,
+    if flags.len() <= mark.at as usize {
+        return false;
     }
+    let flag = flags.get(mark.at);
+    flag.dirty && flag.rank == mark.rank
 }
 
 /// The mark at the end.
@@ -84,7 +87,7 @@ pub(crate) fn top(marks: &[Mark]) -> Option<Mark>
 }
 
 /// Takes away the marks at the end that the flags no longer say.
-pub(crate) fn drop_stale(flags: &[Flags], marks: &mut Vec<Mark>)
+pub(crate) fn drop_stale(flags: &FlagTable, marks: &mut Vec<Mark>)
     requires falls { IsFalling marks.old.items }
     requires marked { Marked flags.now marks.old.items }
     ensures falls { IsFalling marks.new.items }
@@ -102,10 +105,11 @@ pub(crate) fn drop_stale(flags: &[Flags], marks: &mut Vec<Mark>)
 }
 
 /// Settles each block that was written.
-pub(crate) fn settle_all(flags: &mut [Flags], written: &mut Vec<Mark>)
+pub(crate) fn settle_all(flags: &mut FlagTable, written: &mut Vec<Mark>)
     requires { Known flags.old written.old.items }
     ensures each { (q : ℕ) → flag flags.new q ≡ settled (flag flags.old q) }
     ensures count { count_by is_dirty flags.new ≡ count_by is_dirty flags.old }
+    ensures long { length flags.new ≡ length flags.old }
     ensures none { written.new.items ≡ [] }
     ensures len { vec_len written.new ≡ 0 }
     ensures capacity { vec_capacity written.new ≡ vec_capacity written.old }
@@ -116,16 +120,17 @@ pub(crate) fn settle_all(flags: &mut [Flags], written: &mut Vec<Mark>)
 }
 
 // A block that was written is settled.
-fn settle_flag(flags: &mut [Flags], at: u32)
+fn settle_flag(flags: &mut FlagTable, at: u32)
     ensures { flags.new ≡ slice_set flags.old at (settled (flag flags.old at)) }
 {
     if (at as usize) < flags.len() {
-        let was = flags[at as usize];
-        flags[at as usize] = Flags {
+        let was = flags.get(at);
+        let now = Flags {
             dirty: was.dirty,
             tried: settled_tried(was.tried),
             rank: was.rank,
         };
+        flags.set(at, now);
     }
 }
 

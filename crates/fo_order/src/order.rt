@@ -2,9 +2,10 @@
 ghost use Rattle.std.specs.Bool.{OnTrue, OnFalse};
 ghost use Rattle.std.specs.Prelude.{◌≡◌, ◌+◌, ◌-◌, ◌<◌, ◌≤◌, true, false, [], length, replicate, max, count_by, IfOk, OnOk, OnErr};
 ghost use Rattle.fo_order.specs.Flags.{quiet, flags_of, is_dirty};
-ghost use Rattle.fo_order.specs.Turns.{flag_at, noted, is_ranked, changed, wrote, forgotten, IsSynced, IsTurn};
+ghost use Rattle.fo_order.specs.Turns.{flag_at, noted, is_ranked, changed, wrote, forgotten, IsQuiet, IsSynced, IsTurn};
 
 use crate::marks::{Flags, Mark, Tried, add_mark, drop_stale, settle_all, top};
+use crate::table::FlagTable;
 use fo_base::Memory;
 use std::alloc::Global;
 use std::marker::Model;
@@ -21,10 +22,10 @@ pub enum Turn {
 }
 
 /// The order of writing, and the flags of blocks. The dirty blocks have marks in a list by falling ranks, so that the next one stands
-/// at its end; marks that flags no longer say are dropped there.
+/// at its end; marks that flags no longer say are dropped there. Each list holds one mark more than the room asks.
 #[derive(Drop)]
 pub struct Order {
-    flags: Vec<Flags>,
+    flags: FlagTable,
     dirty: Vec<Mark>,
     written: Vec<Mark>,
     least: u32,
@@ -49,15 +50,10 @@ impl Order {
     pub fn new(alloc: Global, count: u32) -> Result<Order, Memory>
         ensures { IfOk result (λ o. o ≡ record { flags = replicate count quiet; written = []; room = 0 }) }
     {
-        let quiet = Flags {
-            dirty: false,
-            tried: Tried::Settled,
-            rank: 0,
-        };
         Ok(Order {
-            flags: vec![in alloc; quiet; count as usize]?,
-            dirty: Vec::new(alloc),
-            written: Vec::new(alloc),
+            flags: FlagTable::new(alloc, count as usize)?,
+            dirty: Vec::with_capacity(alloc, 1)?,
+            written: Vec::with_capacity(alloc, 1)?,
             least: u32::MAX,
             count: 0,
             room: 0,
@@ -70,10 +66,13 @@ impl Order {
         ensures err { OnErr result (self.new ≡ self.old) }
     {
         let room = self.room.max(room);
-        let Some(writes) = self.count.checked_add(room) else {
+        let Some(marks) = room.checked_add(1) else {
             return Err(Memory);
         };
-        self.dirty.reserve(room)?;
+        let Some(writes) = self.count.checked_add(marks) else {
+            return Err(Memory);
+        };
+        self.dirty.reserve(marks)?;
         self.written.reserve(writes)?;
         self.room = room;
         Ok(())
@@ -98,7 +97,7 @@ impl Order {
         requires { at < length self.now.flags }
         ensures { result ≡ flag_at self.now at }
     {
-        self.flags[at as usize]
+        self.flags.get(at)
     }
 
     /// How many blocks are dirty.
@@ -132,7 +131,7 @@ impl Order {
         requires { at < length self.now.flags }
         ensures { result ≡ is_ranked rank (flag_at self.now at) }
     {
-        let was = self.flags[at as usize];
+        let was = self.flags.get(at);
         was.dirty && was.rank == rank
     }
 
@@ -142,15 +141,34 @@ impl Order {
         requires room { 0 < self.old.room }
         ensures { self.new ≡ record (noted self.old at (flags_of true (flag_at self.old at).tried rank)) { room = self.old.room - 1 } }
     {
-        let was = self.flags[at as usize];
-        self.flags[at as usize] = Flags {
+        let was = self.flags.get(at);
+        let now = Flags {
             dirty: true,
             tried: was.tried,
             rank,
         };
+        self.flags.set(at, now);
         add_mark(&mut self.dirty, at, rank);
         self.count += usize::from(!was.dirty);
         self.room -= 1;
+    }
+
+    /// A block is changed where all is settled. It takes the one mark that is kept beside the room, which stays as it was.
+    pub fn change_first(&mut self, at: u32, rank: u32)
+        requires block { at < length self.old.flags }
+        requires quiet { IsQuiet self.old }
+        ensures { self.new ≡ changed (record self.old { room = self.old.room + 1 }) at rank }
+    {
+        let was = self.flags.get(at);
+        let now = Flags {
+            dirty: true,
+            tried: was.tried,
+            rank,
+        };
+        self.flags.set(at, now);
+        self.dirty.clear();
+        self.dirty.push_reserved(Mark { at, rank });
+        self.count = 1;
     }
 
     /// A write of a dirty block was answered: Ok or not.
@@ -159,20 +177,22 @@ impl Order {
         ensures is { self.new ≡ wrote self.old at ok }
         ensures fewer { ok ≡ true → count_by is_dirty self.new.flags + 1 ≡ count_by is_dirty self.old.flags }
     {
-        let was = self.flags[at as usize];
+        let was = self.flags.get(at);
         if !ok {
-            self.flags[at as usize] = Flags {
+            let now = Flags {
                 dirty: true,
                 tried: Tried::Failed,
                 rank: was.rank,
             };
+            self.flags.set(at, now);
             return;
         }
-        self.flags[at as usize] = Flags {
+        let now = Flags {
             dirty: false,
             tried: Tried::Written,
             rank: was.rank,
         };
+        self.flags.set(at, now);
         self.written.push_reserved(Mark { at, rank: was.rank });
         self.least = self.least.min(was.rank);
         self.count -= 1;
@@ -191,15 +211,16 @@ impl Order {
         requires { at < length self.old.flags }
         ensures { self.new ≡ forgotten self.old at }
     {
-        let was = self.flags[at as usize];
+        let was = self.flags.get(at);
         if was.tried == Tried::Failed {
             return;
         }
-        self.flags[at as usize] = Flags {
+        let now = Flags {
             dirty: false,
             tried: was.tried,
             rank: u32::MAX,
         };
+        self.flags.set(at, now);
         self.count -= usize::from(was.dirty);
     }
 

@@ -1,6 +1,6 @@
 -- Sources of bytes over blocks: what is read through leaves, and what the calls on a source do to the blocks.
-use Rattle.std.specs.Prelude.{◌≡◌, ◌≢◌, ◌⊎◌, ◌+◌, ◌-◌, ◌*◌, ◌/◌, ◌%◌, ◌^◌, ◌<◌, ◌≤◌, ◌↔◌, ℕ, Bool, true, false, cond, nat_le, List, length, map, take, slice_index, Option, Some, None, MatchOption}
-use Rattle.std.specs.List.{range_with_len}
+use Rattle.std.specs.Prelude.{◌≡◌, ◌≢◌, ◌⊎◌, ◌+◌, ◌-◌, ◌*◌, ◌/◌, ◌%◌, ◌^◌, ◌<◌, ◌≤◌, ◌↔◌, ℕ, Bool, true, false, cond, nat_le, List, ◌++◌, length, map, take, slice_index, Option, Some, None, MatchOption}
+use Rattle.std.specs.List.{Contains, range_with_len}
 use Rattle.fo_image.specs.declared.types.Kind.{Kind}
 use Rattle.fo_image.specs.declared.types.Score.{Score}
 use Rattle.fo_image.specs.declared.types.Kind.TheVariants.{Data, Dir, Root}
@@ -136,6 +136,33 @@ KeepsBytes leaves size old new at = ((new at).bytes ≡ (old at).bytes) ⊎ ((i 
 -- A block was given out: it was not live, and is.
 abbrev pub Made : (old new : State) → ℕ → Type 0
 Made old new b = ((old.label b).state ≢ Live) × ((new.label b).state ≡ Live)
+
+-- All was settled in between, or blocks were closed: a slot of this block that waited was cleared, or the block has the label of one that was
+-- live and isn't.
+abbrev pub IsRested : (old new : State) → ℕ → Type 0
+IsRested old new b = ((j : ℕ) × old.clearing b j × (new.clearing b j → ⊥)) ⊎ ((x : ℕ) × ((old.label x).state ≡ Live) × ((new.label x).state ≢ Live) × (b ≡ old.label_block x))
+
+-- Beside what settling and closing left to be written, the blocks that are dirty now and weren't are among these. So are each block that was
+-- given out, with the block of its label, and each in which a slot begins to wait.
+pub record DirtiesIn (blocks : List ℕ) (old new : State) : Type 0 where
+  pub dirty : (b : ℕ) → new.dirty b → old.dirty b ⊎ (Contains blocks b ⊎ IsRested old new b)
+  pub made : (b : ℕ) → Made old new b → Contains blocks b × Contains blocks (new.label_block b)
+  pub clearing : (b j : ℕ) → new.clearing b j → old.clearing b j ⊎ Contains blocks b
+  pub places : (b : ℕ) → new.label_block b ≡ old.label_block b
+
+-- They are among so many at most, with these.
+pub record Dirties (most : ℕ) (counted : ℕ → Type 0) (old new : State) : Type 0 where
+  pub blocks : List ℕ
+  pub few : length blocks ≤ most
+  pub within : DirtiesIn blocks old new
+  pub each : (b : ℕ) → counted b → Contains blocks b
+
+-- Beside these blocks so many more at most, with this one.
+pub record AddsDirty (most : ℕ) (blocks : List ℕ) (at : ℕ) (old new : State) : Type 0 where
+  pub more : List ℕ
+  pub few : length more ≤ most
+  pub within : DirtiesIn (more ++ blocks) old new
+  pub here : Contains (more ++ blocks) at
 
 -- A block that was given out, or one of these that is of the current epoch and has a label of this tag.
 abbrev pub Touched : (old new : State) → (tag : ℕ) → (ℕ → Type 0) → ℕ → Type 0

@@ -1,8 +1,8 @@
 -- What blocks are at one moment, and what each kind of call leaves as it was.
-use Rattle.std.specs.Prelude.{◌≡◌, ◌≢◌, ◌⊎◌, ◌↔◌, ◌+◌, ◌-◌, ◌*◌, ◌^◌, ◌<◌, ◌≤◌, ℕ, List, Option, true}
+use Rattle.std.specs.Prelude.{◌≡◌, ◌≢◌, ◌⊎◌, ◌↔◌, ◌+◌, ◌-◌, ◌*◌, ◌^◌, ◌<◌, ◌≤◌, ℕ, Bool, false, List, Option, true}
 use Rattle.fo_image.specs.declared.types.Score.{Score}
 use Rattle.fo_image.specs.declared.types.Label.{Label}
-use Rattle.fo_image.specs.declared.types.State.TheVariants.{Live}
+use Rattle.fo_image.specs.declared.types.State.TheVariants.{Closed, Live}
 use Rattle.fo_image.specs.declared.types.Pointer.{Pointer}
 use Rattle.fo_image.specs.declared.types.Pointer.TheVariants.{Local}
 use Rattle.fo_image.specs.Usable.{is_usable}
@@ -65,8 +65,9 @@ pub record State : Type 1 where
   -- the block that holds the label of a data block; and which of data blocks and blocks of labels are to be written
   pub label_block : ℕ → ℕ
   pub dirty : ℕ → Type 0
-  -- how many removals are queued
+  -- how many removals are queued; and of which block, to be closed at which epoch, with what hangs below it or alone
   pub queued : ℕ
+  pub removes : ℕ → ℕ → Bool → Type 0
   -- what is put into this leaf from now on is in an image only with this entry in use as memory has it
   pub waits : ℕ → ℕ → ℕ → Type 0
   -- this slot is cleared when the leaf that it waits for is settled
@@ -115,6 +116,14 @@ pub record Stays (made put : ℕ → Type 0) (old new : State) : Type 0 where
 pub record AddsNoWait (but : ℕ → Type 0) (old new : State) : Type 0 where
   pub each : (a on j : ℕ) → (but a → ⊥) → new.waits a on j → old.waits a on j
 
+-- No removal is queued that wasn't.
+pub record AddsNoRemoval (old new : State) : Type 0 where
+  pub each : (b e : ℕ) (whole : Bool) → new.removes b e whole → old.removes b e whole
+
+-- Removals that are queued now and weren't are of blocks to which this slot leads through what memory has, and of this epoch.
+pub record AddsRemovals (slot : Slot) (old new : State) : Type 0 where
+  pub each : (b e : ℕ) (whole : Bool) → new.removes b e whole → old.removes b e whole ⊎ ((e ≡ old.high) × Reaches new.now slot b)
+
 -- No slot begins to wait to be cleared, and one that waits goes on to.
 pub record KeepsOrder (made : ℕ → Type 0) (old new : State) : Type 0 where
   pub clearing : (b j : ℕ) → new.clearing b j → (made b → ⊥) × old.clearing b j
@@ -152,6 +161,7 @@ pub record Calm (here : ℕ → Type 0) (removals : ℕ) (old new : State) : Typ
   pub covered : KeepsCovered old new
   pub newborn : (b : ℕ) → old.newborn b → new.newborn b
   pub queued : new.queued ≡ old.queued
+  pub no_removal : AddsNoRemoval old new
 
 -- A block was given out with this content and label, for a place: by its label it was usable, it hung nowhere, no image leads to it, it is
 -- pinned, and fresh.
@@ -170,6 +180,7 @@ pub record Gives (at : ℕ) (c : Content) (l : Label) (old new : State) : Type 0
   pub dirty : (b : ℕ) → new.dirty b → old.dirty b ⊎ ((b ≡ at) ⊎ (b ≡ new.label_block at))
   pub uses : Uses 1 0 old new
   pub queued : new.queued ≡ old.queued
+  pub no_removal : AddsNoRemoval old new
   pub numbers : KeepsNumbers old new
 
 -- A call only looks: what memory is known to have stays, no image is added, and marks stay.
@@ -186,6 +197,7 @@ pub record Looks (old new : State) : Type 0 where
   pub dirty : (b : ℕ) → new.dirty b → old.dirty b
   pub room : (new.spare ≡ old.spare) × (new.room ≡ old.room)
   pub usable : (new.usable ≡ old.usable) × (new.queued ≡ old.queued)
+  pub no_removal : AddsNoRemoval old new
   pub numbers : KeepsNumbers old new
 
 -- A call for a file number leaves all but block 1 as it is.
@@ -203,6 +215,7 @@ pub record Numbers (old new : State) : Type 0 where
   pub dirty : (b : ℕ) → new.dirty b → old.dirty b
   pub room : (new.spare ≡ old.spare) × (new.pins_left ≡ old.pins_left) × (new.room ≡ old.room) × (new.next ≡ old.next)
   pub usable : (new.usable ≡ old.usable) × (new.queued ≡ old.queued)
+  pub no_removal : AddsNoRemoval old new
 
 -- A block hangs from one that was made and put into no slot yet, and, as far as the device tells, not from block 1.
 pub record IsUnlinked (s : State) (b : ℕ) : Type 0 where
@@ -256,10 +269,32 @@ pub record IsSettled (s : State) : Type 0 where
 abbrev pub IsClosing : State → Type 0
 IsClosing s = (0 < s.queued) ⊎ ((at : ℕ) × (j : ℕ) × s.clearing at j)
 
+-- A removal of this block is queued, to be closed at this epoch; or a slot waits to be cleared that leads there.
+abbrev pub MayRemove : State → ℕ → ℕ → Bool → Type 0
+MayRemove s r e whole = s.removes r e whole ⊎ ((at : ℕ) × (j : ℕ) × s.is_block at × s.clearing at j × (target ((s.now at).slot j) ≡ Local r) × (e ≡ s.high))
+
+-- A live block was closed, and else its label stays: at the epoch of a removal that was queued, or came with a slot that waited. It is of the
+-- tag of the block with which that removal begins, and is that block where it goes alone; of no later epoch; not the root; and it wasn't
+-- newborn.
+pub record IsShut (old new : State) (b : ℕ) : Type 0 where
+  pub closing : IsClosing old
+  pub removal : ℕ
+  pub epoch : ℕ
+  pub whole : Bool
+  pub may : MayRemove old removal epoch whole
+  pub alone : whole ≡ false → b ≡ removal
+  pub live : (old.label b).state ≡ Live
+  pub is : new.label b ≡ record (old.label b) { state = Closed; closing = epoch }
+  pub tag : (old.label b).tag ≡ (old.label removal).tag
+  pub begun : (old.label b).epoch ≤ epoch
+  pub other : b ≢ old.root
+  pub linked : old.newborn b → ⊥
+
 -- Flushing, settling and closing: no image is added, slots that waited may be cleared, and blocks that were doomed may be closed. What
 -- hung from a slot that was cleared, through blocks of pointers, and hangs from block 1 no more is to be closed, until it is closed.
--- What was settled stays so, and then no block is closed. Over any device a label stays, or is that of a live block that is closed now,
--- where a removal was queued or a slot waited; and a block that was to be changed on the device, and still is, is what memory had.
+-- What was settled stays so, and then no block is closed. Over any device a label stays, or its block is closed by a removal that was queued,
+-- or comes with a slot that waited; no other removal is queued; a block is dirty that wasn't only where a slot of it was cleared, or a label in
+-- it changed; and a block that was to be changed on the device, and still is, is what memory had.
 pub record Rests (old new : State) : Type 0 where
   pub blocks : old.tells → (b : ℕ) → (IsDoomed old b → ⊥) → StaysUndoomed old new b
   pub images : AddsNothing old.may_leave new.may_leave
@@ -267,14 +302,16 @@ pub record Rests (old new : State) : Type 0 where
   pub fills : old.tells → Fills (WasCleared old new) old.now old.may_leave new.may_leave
   pub order : (b j : ℕ) → new.clearing b j → old.clearing b j
   pub no_wait : AddsNoWait none old new
-  pub dirty : (b : ℕ) → new.dirty b → old.dirty b ⊎ (((j : ℕ) × old.clearing b j) ⊎ ((x : ℕ) × (new.label x ≢ old.label x) × (b ≡ old.label_block x)))
+  pub dirty : (b : ℕ) → new.dirty b → old.dirty b ⊎ (((j : ℕ) × old.clearing b j × (new.clearing b j → ⊥)) ⊎ ((x : ℕ) × (new.label x ≢ old.label x) × (b ≡ old.label_block x)))
   pub closes : old.tells → (b : ℕ) → old.covered b → new.covered b ⊎ ((new.label b).state ≢ Live)
   pub leaves : old.tells → (at j b : ℕ) → WasCleared old new at j → Through (IsPointers old) old.now ((old.now at).slot j) b → Reaches old.now (to_block 1) b → (Reaches new.now (to_block 1) b → ⊥) → new.covered b ⊎ ((new.label b).state ≢ Live)
   pub apart : (b : ℕ) → new.apart b ↔ old.apart b
   pub instead : (b x : ℕ) → new.instead b x ↔ old.instead b x
   pub newborn : (b : ℕ) → new.newborn b → old.newborn b
+  pub newborns : (b : ℕ) → old.newborn b → new.newborn b
   pub kept : (b : ℕ) → old.is_block b → IsChanging old b → IsChanging new b → StaysKnown old new b
-  pub labels : (b : ℕ) → (new.label b ≡ old.label b) ⊎ (IsClosing old × ((old.label b).state ≡ Live) × ((new.label b).state ≢ Live))
+  pub labels : (b : ℕ) → (new.label b ≡ old.label b) ⊎ IsShut old new b
+  pub removes : (r e : ℕ) (whole : Bool) → new.removes r e whole → MayRemove old r e whole
   pub queues : 0 < new.queued → IsClosing old
   pub usable : old.usable ≤ new.usable
   pub settled : IsSettled old → IsSettled new × (new.usable ≡ old.usable)

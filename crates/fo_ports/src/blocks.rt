@@ -1,5 +1,5 @@
 //! The calls on blocks.
-ghost use Rattle.std.specs.Prelude.{◌≡◌, ◌≢◌, ◌⊎◌, ◌↔◌, ◌+◌, ◌-◌, ◌*◌, ◌%◌, ◌^◌, ◌<◌, ◌≤◌, ℕ, List, length, IfOk, IfErr, OnOk, OnErr, IsOk, Option, Some, None, IfSome, MatchOption, IsTrue, false};
+ghost use Rattle.std.specs.Prelude.{◌≡◌, ◌≢◌, ◌⊎◌, ◌↔◌, ◌+◌, ◌-◌, ◌*◌, ◌%◌, ◌^◌, ◌<◌, ◌≤◌, ℕ, Bool, List, length, IfOk, IfErr, OnOk, OnErr, IsOk, Option, Some, None, IfSome, MatchOption, IsTrue, false};
 ghost use Rattle.fo_base.specs.Cause.{Rose};
 ghost use Rattle.fo_image.specs.declared.types.State.TheVariants.{Live};
 ghost use Rattle.fo_image.specs.declared.types.Kind.TheVariants.{Dir, Root};
@@ -12,7 +12,7 @@ ghost use Rattle.fo_crash.specs.Names.{SameUse};
 ghost use Rattle.fo_crash.specs.Places.{place, super_place, root_place, IsPlaced, OnePlace, RanksFall};
 ghost use Rattle.fo_crash.specs.Spots.{FewSlots, OneSpot};
 ghost use Rattle.fo_ports.specs.Blocks.{slot_count, IsLevel, IsFormed, IsRanked, blank, SlotFits, Reads, ReadsSlots, MayPut, put_at, zeros, dropped, ends, cost, OnChain};
-ghost use Rattle.fo_ports.specs.State.{State, KeepsAll, none, Stays, KeepsOrder, KeepsCovered, Uses, KeepsNumbers, Frame, Calm, Gives, Looks, Numbers, Rests, StaysKnown, IsUnlinked, QueuesOne, MayPutSlot, MayRemoveSlot, Hangs, IsDoomed, IsPointers, IsPairUsed, MayClearLater, AddsNoWait, WaitsForPairs, WaitsInUse};
+ghost use Rattle.fo_ports.specs.State.{State, KeepsAll, none, Stays, KeepsOrder, KeepsCovered, Uses, KeepsNumbers, Frame, Calm, Gives, Looks, Numbers, Rests, StaysKnown, IsUnlinked, QueuesOne, MayPutSlot, MayRemoveSlot, Hangs, IsDoomed, IsPointers, IsPairUsed, MayClearLater, AddsNoWait, AddsNoRemoval, AddsRemovals, WaitsForPairs, WaitsInUse};
 ghost use Rattle.fo_ports.specs.Causes.{Caused, IsFull};
 
 use crate::error::BlockError;
@@ -117,6 +117,7 @@ pub trait Blocks {
         ensures order { KeepsOrder none (state self.old) (state self.new) × KeepsCovered (state self.old) (state self.new) }
         ensures no_wait { AddsNoWait none (state self.old) (state self.new) }
         ensures queued { (state self.new).queued ≡ (state self.old).queued }
+        ensures no_removal { AddsNoRemoval (state self.old) (state self.new) }
         ensures dirty { (b : ℕ) → (state self.new).dirty b → (state self.old).dirty b }
         ensures keeps { keeps self.old self.new };
 
@@ -173,6 +174,7 @@ pub trait Blocks {
         ensures order { KeepsOrder none (state self.old) (state self.new) }
         ensures no_wait { AddsNoWait none (state self.old) (state self.new) }
         ensures queues { ((state self.old).queued ≤ (state self.new).queued) × (ends (target (((state self.old).now at).slot i)) (target slot) ≡ 1 → QueuesOne (state self.old) (state self.new)) }
+        ensures removals { AddsRemovals (((state self.old).now at).slot i) (state self.old) (state self.new) }
         ensures links { ((state self.old).newborn at → ⊥) → (b : ℕ) → Through (state self.old).newborn (state self.old).now slot b → (state self.new).newborn b → ⊥ }
         ensures covers { (state self.old).tells → Covers (IsPointers (state self.old)) (((state self.old).now at).slot i) (state self.old).now (state self.new).now (state self.old).covered (state self.new).covered }
         ensures keeps { keeps self.old self.new };
@@ -196,6 +198,7 @@ pub trait Blocks {
         ensures no_wait { AddsNoWait none (state self.old) (state self.new) }
         ensures later { IfSome after (λ leaf. (state self.old).dirty leaf → ((state self.old).newborn leaf → ⊥) → (state self.new).clearing at i) }
         ensures queues { ((state self.old).queued ≤ (state self.new).queued) × ((c : ℕ) → target (((state self.old).now at).slot i) ≡ Local c → (state self.new).clearing at i ⊎ QueuesOne (state self.old) (state self.new)) }
+        ensures removals { AddsRemovals (((state self.old).now at).slot i) (state self.old) (state self.new) }
         ensures covers { (state self.old).tells → Covers (IsPointers (state self.old)) (((state self.old).now at).slot i) (state self.old).now (state self.new).now (state self.old).covered (state self.new).covered }
         ensures keeps { keeps self.old self.new };
 
@@ -228,6 +231,7 @@ pub trait Blocks {
         ensures order { KeepsOrder none (state self.old) (state self.new) }
         ensures no_wait { AddsNoWait none (state self.old) (state self.new) }
         ensures queues { ((state self.old).queued ≤ (state self.new).queued) × QueuesOne (state self.old) (state self.new) }
+        ensures removals { (b e : ℕ) (whole : Bool) → (state self.new).removes b e whole → (state self.old).removes b e whole ⊎ ((b ≡ at) × (e ≡ epoch) × (whole ≡ false)) }
         ensures covers { ((state self.old).tells → (state self.new).covered at) × ((b : ℕ) → ((state self.old).covered b → (state self.new).covered b) × ((state self.new).covered b → (state self.old).covered b ⊎ (b ≡ at))) }
         ensures keeps { keeps self.old self.new };
 

@@ -9,8 +9,8 @@ ghost use Rattle.fo_image.specs.declared.types.Pointer.TheVariants.{Nil, Local};
 ghost use Rattle.fo_crash.specs.declared.place.Place.{Place};
 ghost use Rattle.fo_crash.specs.Images.{Reaches, to_block};
 ghost use Rattle.fo_ports.specs.Causes.{Caused};
-ghost use Rattle.fo_ports.specs.State.{Looks};
-ghost use Rattle.fo_ports.specs.Sources.{Form, Leaves, is_dir, source_bytes, Lacks, depth_for, most_for, most_to_own, IsEnough, Finds, AreLocal, ComesFor, IsReady, StaysReady, Changes, SameLeaves, Grows, IsPlain, Owned, MayZero, Undisturbed};
+ghost use Rattle.fo_ports.specs.State.{Looks, none};
+ghost use Rattle.fo_ports.specs.Sources.{Dirties, Form, Leaves, is_dir, source_bytes, Lacks, depth_for, most_for, most_to_own, IsEnough, Finds, AreLocal, ComesFor, IsReady, StaysReady, Changes, SameLeaves, Grows, IsPlain, Owned, MayZero, Undisturbed};
 
 use crate::blocks::Blocks;
 use crate::error::BlockError;
@@ -121,6 +121,7 @@ pub trait Bytes<B: Blocks> {
         ensures over { is_over self.new on.new × (form self.new ≡ form self.old) }
         ensures grows { Grows (B.state on.old) (B.state on.new) (leaves self.old on.old) (leaves self.new on.new) }
         ensures spare { (B.state on.old).spare ≤ (B.state on.new).spare + most_for (max (size self.old) (offset + length piece.now)) (length piece.now) }
+        ensures dirties { Dirties (2 * most_for (max (size self.old) (offset + length piece.now)) (length piece.now)) none (B.state on.old) (B.state on.new) }
         ensures room { (B.state on.new).room ≡ (B.state on.old).room }
         ensures trimmed { (B.state on.old).tells ⊎ ((size self.old ≤ 8192 * (offset / 8192 + 1)) × (offset + length piece.now ≤ 8192 * (offset / 8192 + 1))) → is_trimmed self.old on.old → is_trimmed self.new on.new }
         ensures comes { (B.state on.old).tells → (from : Pointer) → ComesFor (B.state on.old) (top self.old) from → ComesFor (B.state on.new) (top self.new) from }
@@ -143,6 +144,7 @@ pub trait Bytes<B: Blocks> {
         ensures over { is_over self.new on.new × (form self.new ≡ form self.old) }
         ensures grows { Grows (B.state on.old) (B.state on.new) (leaves self.old on.old) (leaves self.new on.new) }
         ensures spare { ((B.state on.old).spare ≤ (B.state on.new).spare + most_to_own (size self.old) i) × ((leaves self.old on.old).current → (B.state on.old).spare + 1 ≤ (B.state on.new).spare + most_to_own (size self.old) i) }
+        ensures dirties { Dirties (2 * most_to_own (size self.old) i) (λ b. b ≡ result) (B.state on.old) (B.state on.new) }
         ensures current { (leaves self.new on.new).current }
         ensures room { (B.state on.new).room ≡ (B.state on.old).room }
         ensures trimmed { (B.state on.old).tells ⊎ (size self.old ≤ 8192 * (i + 1)) → is_trimmed self.old on.old → is_trimmed self.new on.new }

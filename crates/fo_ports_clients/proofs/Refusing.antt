@@ -10,7 +10,10 @@ use Rattle.fo_image.specs.declared.types.Pointer.TheVariants.{Nil, Local, Score 
 use Rattle.fo_crash.specs.Images.{Reaches, target, to_block}
 use Rattle.fo_ports.specs.Blocks.{dropped, ends, zeros}
 use Rattle.fo_ports.specs.State.{State}
-use Rattle.fo_ports_clients.specs.Refused.{LinksOnce, RaisesOnce, KeepsFirst, KeepsOutClosed, KeepsInTree, LetsNoneGo, CutsInTree}
+use Rattle.fo_crash.specs.declared.slot.Slot.{Slot}
+use Rattle.fo_crash.specs.declared.slot.Slot.TheVariants.{Pointer as To, Entry as Head, Prev}
+use Rattle.fo_crash.specs.Steps.{cleared}
+use Rattle.fo_ports_clients.specs.Refused.{LinksOnce, RaisesOnce, KeepsFirst, KeepsOutClosed, KeepsInTree, LetsNoneGo, KeepsCopies, CutsInTree}
 use Rattle.fo_ports_clients.proofs.Leaf.{nil_reaches}
 
 pub once : (s : State) → ((b : ℕ) → s.apart b → Reaches s.now (to_block 1) b → ⊥) → LinksOnce s
@@ -70,6 +73,22 @@ pub made : (s : State) → LetsNoneGo s
 made s = record {
   put = λ at i c slot leads free other may. ⊎_elim other free (may.keeps c leads);
   cleared = λ at i c leads free may. free (may.keeps c leads);
+}
+
+cleared_nil : (s : Slot) → target (cleared s) ≡ Nil
+cleared_nil (To p) = refl
+cleared_nil (Head e) = refl
+cleared_nil (Prev epoch at) = refl
+
+pub copies : (s : State) → KeepsCopies s
+copies s = record {
+  put = λ at i y x slot comes below stays alone may. ⊎_elim stays alone (may.leaves.each y x comes below);
+  cleared = λ at i y x comes below may.
+      let none = cleared_nil ((s.now at).slot i) in
+      ⊎_elim
+      (λ r. nil_reaches (cleared ((s.now at).slot i)) x none r)
+      (λ r. nil_reaches (cleared ((s.now at).slot i)) y none r)
+      (may.leaves.each y x comes below);
 }
 
 -- a slot that led to a block and leads to none takes a removal to put

@@ -35,6 +35,11 @@ pub record LetsNoneGo (s : State) : Type 0 where
   pub put : (at i c : ℕ) (slot : Slot) → target ((s.now at).slot i) ≡ Local c → (Reaches s.now (to_block 1) c → ⊥) → target slot ≢ Local c → MayPutSlot s at i slot → ⊥
   pub cleared : (at i c : ℕ) → target ((s.now at).slot i) ≡ Local c → (Reaches s.now (to_block 1) c → ⊥) → MayRemoveSlot s at i → ⊥
 
+-- Nothing leaves that a made block is to come in the place of, unless it comes with the slot that is put.
+pub record KeepsCopies (s : State) : Type 0 where
+  pub put : (at i y x : ℕ) (slot : Slot) → s.instead y x → Reaches s.now ((s.now at).slot i) x → (Reaches s.now slot x → ⊥) → (Reaches s.now slot y → ⊥) → MayPutSlot s at i slot → ⊥
+  pub cleared : (at i y x : ℕ) → s.instead y x → Reaches s.now ((s.now at).slot i) x → MayRemoveSlot s at i → ⊥
+
 -- Nothing is cut in a block that doesn't hang from block 1: no slot of it that leads to a block is led to none or cleared, no source
 -- loses levels there, and no entry is led from a block to another.
 pub record CutsInTree (s : State) : Type 0 where

@@ -88,6 +88,7 @@ bytes_calm p {new} {at} {bytes} up = record {
   covered = record { covered = λ b. (back b, forth b) };
   newborn = λ b h. h;
   queued = refl;
+  no_removal = record { each = λ x e w h. h };
 }
   where
     taken : (b : ℕ) → (block_at new b).taken ≡ (block_at p.blocks b).taken

@@ -232,6 +232,7 @@ module _ (p : Plain) (new : List PlainBlock) (spare : ℕ) {block : PlainBlock} 
     dirty = λ b h. absurd h;
     uses = record { spare = spent; usable = let long = up.as_long in omega (arith, room, long); room = omega arith; pins = refl; moments = refl; left = λ k image h. h };
     queued = refl;
+    no_removal = record { each = λ x e w h. h };
     numbers = record { next = refl; grants = λ h. h };
   }
 

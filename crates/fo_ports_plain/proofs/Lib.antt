@@ -23,3 +23,4 @@ pub mod BeginEpoch
 pub mod Retired
 pub mod Rooted
 pub mod Forgotten
+pub mod Passing

@@ -112,6 +112,7 @@ module _ (p : Plain) (w : Wait) (at on room : ℕ) (is_at : w.at ≡ at) (is_on 
     covered = record { covered = λ b. (λ h. h, λ h. h) };
     newborn = λ b h. h;
     queued = refl;
+    no_removal = record { each = λ x e w h. h };
   }
 
 -- what is left of the waits is for what is in use

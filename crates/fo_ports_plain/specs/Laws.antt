@@ -1,5 +1,5 @@
 -- Why blocks in memory keep the laws.
-use Rattle.std.specs.Prelude.{◌≡◌, ◌≢◌, ◌⊎◌, ◌+◌, ◌-◌, ◌*◌, ◌/◌, ◌^◌, ◌<◌, ◌≤◌, ℕ, Bool, true, false, cond, nat_lt, nat_eq, ◌&&◌, List, [], length, refl}
+use Rattle.std.specs.Prelude.{◌≡◌, ◌≢◌, ◌⊎◌, ◌+◌, ◌-◌, ◌*◌, ◌/◌, ◌^◌, ◌<◌, ◌≤◌, ℕ, Bool, true, false, cond, nat_lt, nat_eq, ◌&&◌, List, [], ◌∷◌, length, refl}
 use Rattle.std.proofs.Common.{inl, inr, ⊎_elim, sym, ◌∙◌, ap, subst, arith}
 use Rattle.std.proofs.Math.Nat.{le_refl}
 use Rattle.std.proofs.lemmas.Grind.{common_steps}
@@ -23,7 +23,8 @@ use Rattle.fo_ports.specs.State.{KeepsAll, IsPairUsed, WaitsInUse}
 use Rattle.fo_ports_plain.specs.declared.block.PlainBlock.{PlainBlock}
 use Rattle.fo_ports_plain.specs.Plain.{block_at, slot_of, memory, is_live, label_of, label_at, is_active, Stands, IsTop}
 use Rattle.fo_ports_plain.specs.Sound.{Sound, Formed, Waiting, Queue, leads_to}
-use Rattle.fo_ports_plain.specs.Meaning.{Plain, state_of, PlainKeeps}
+use Rattle.fo_ports_plain.specs.declared.moment.Moment.{Moment}
+use Rattle.fo_ports_plain.specs.Meaning.{Plain, Shows, state_of, PlainKeeps}
 use Rattle.fo_ports_plain.specs.Trails as trails
 use Rattle.fo_ports_plain.specs.Formed.{formed_out}
 
@@ -33,8 +34,13 @@ S p = Sound p.blocks p.made p.high p.root
 pub present : (p : Plain) → (state_of p).tells → (state_of p).may_leave (state_of p).now
 present p t = record { each = λ at. record { bytes = refl; slots = λ i. refl } }
 
+-- of the moment that goes on nothing is said
+pub shows_before : (seen : List Moment) (k : ℕ) (image : Image) → Shows seen k image → k < 2 * length seen
+shows_before [] k image h = absurd h
+shows_before (m ∷ seen) k image h = ⊎_elim (λ here. let is = here.0 in omega (arith, is)) (λ earlier. let lt = shows_before seen k image earlier in omega (arith, lt)) h
+
 pub shown : (p : Plain) (image : Image) → (state_of p).left (state_of p).moments image → IsOneOf (state_of p).tops (state_of p).may_leave image
-shown p image h = absurd h
+shown p image h = absurd (let lt = shows_before p.seen (2 * length p.seen) image h in omega (arith, lt))
 
 pub told : (p : Plain) (image : Image) → (state_of p).may_leave image → (state_of p).tells
 told p image is = tt

@@ -2,6 +2,7 @@ pub mod Plain
 pub mod Spell
 pub mod Sound
 pub mod Meaning
+pub mod Moments
 pub mod Moves
 pub mod Props
 pub mod Parts

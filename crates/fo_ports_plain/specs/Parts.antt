@@ -7,6 +7,7 @@ parts s = record {
   blocks = s.blocks.items;
   held = s.held.items;
   waits = s.waits.items;
+  seen = s.seen.items;
   made = s.made;
   high = s.high;
   root = s.root;

@@ -158,6 +158,7 @@ impl Blocks for PlainBlocks {
 
     fn settle(&mut self) -> Result<(), BlockError> {
         self.waits.clear();
+        self.pass();
         Ok(())
     }
 

@@ -4,11 +4,12 @@ use fo_crash::{Place, Slot};
 use fo_image::Pointer;
 
 impl PlainBlocks {
-    ghost use Rattle.std.specs.Prelude.{◌≡◌, ◌≢◌, ◌+◌, ◌-◌, ◌^◌, ◌<◌};
+    ghost use Rattle.std.specs.Prelude.{◌≡◌, ◌≢◌, ◌+◌, ◌-◌, ◌*◌, ◌^◌, ◌<◌, length, IfSome, None};
     ghost use Rattle.fo_crash.specs.declared.place.Place.{Place};
     ghost use Rattle.fo_ports_plain.specs.Plain.{IsMade, Stands};
     ghost use Rattle.fo_ports_plain.specs.Epochs.{Begins, Forgets};
     ghost use Rattle.fo_ports_plain.specs.Meaning.{state_of};
+    ghost use Rattle.fo_ports_plain.specs.Moments.{WasLeft, IsKept};
     ghost use Rattle.fo_ports_plain.specs.Parts.{parts};
 
     /// Begins an epoch, as a snapshot does: a new root block, of the next epoch, leads where the root block led, and comes after it. The
@@ -38,6 +39,30 @@ impl PlainBlocks {
     {
         let block = self.blocks[at as usize].forgotten();
         self.set(at, block);
+    }
+
+    /// Keeps what the device has at the next moments, so many of them.
+    pub fn watch(&mut self, count: u32)
+        ensures { parts self.new ≡ parts self.old }
+    {
+        self.watched = count;
+    }
+
+    /// How many moments were kept.
+    pub fn moments(&self) -> usize
+        ensures { result ≡ length (parts self.now).seen }
+    {
+        self.seen.len()
+    }
+
+    /// What a crash could have left of a block at a moment that was kept: 0 is the last one.
+    pub fn left(&self, moment: usize, at: u32) -> Option<&[u8]>
+        ensures is { IfSome result (λ bytes. WasLeft (state_of (parts self.now)) (2 * (length (parts self.now).seen - (moment + 1)) + 1) at bytes.now) }
+        ensures none { result ≡ None → IsKept (parts self.now).seen moment at → ⊥ }
+    {
+        let kept = self.seen.get(moment)?;
+        let block = kept.blocks.get(at as usize)?;
+        Some(&block.bytes)
     }
 
     /// The place at which a block stands.

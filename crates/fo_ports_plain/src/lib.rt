@@ -1,7 +1,7 @@
 //! Blocks in memory alone, which keep every clause and law of `Blocks`: for tests, and for clients that stand on it.
 //!
-//! Every image that a crash may leave is what memory has. So all is settled, sure and sealed at once, no slot waits to be cleared, and no
-//! moment passes. Blocks that a call takes out of the tree, and root blocks that are retired, are marked, and never closed nor given out
+//! Every image that a crash may leave is what memory has. So all is settled, sure and sealed at once, and no slot waits to be cleared.
+//! Moments pass where all is settled, as many as were asked for: of each what a crash could have left is kept. Blocks that a call takes out of the tree, and root blocks that are retired, are marked, and never closed nor given out
 //! again.
 //!
 //! Its main words (specs/): `state_of`, what the device is as the calls see it; `Sound`, what stays true of its blocks: each slot that
@@ -18,6 +18,7 @@ mod device;
 mod held;
 mod home;
 mod links;
+mod moment;
 mod moves;
 mod plain;
 mod spell;

@@ -2,6 +2,7 @@
 use crate::block::{PlainBlock, depth, ends, index_below, index_in, is_inner, leads_elsewhere};
 use crate::home::Home;
 use crate::links::{Joint, hang, put_link, set_block};
+use crate::moment::Moment;
 use crate::plain::PlainBlocks;
 use crate::wait::{Wait, end_pair, used_pairs};
 use fo_base::POINTERS;
@@ -22,6 +23,7 @@ impl PlainBlocks {
     ghost use Rattle.fo_ports_plain.specs.Plain.{block_at, slot_of, index_below, is_active, pair_of, IsMade, Updates};
     ghost use Rattle.fo_ports_plain.specs.Sound.{Well};
     ghost use Rattle.fo_ports_plain.specs.Moves.{IsFree, Linking, MayLink, KeepsUse, EndsWaits, Takes, CountsOne};
+    ghost use Rattle.fo_ports_plain.specs.Moments.{MayPass};
     ghost use Rattle.fo_ports_plain.specs.Parts.{parts};
 
     /// Puts a block in place of another.
@@ -234,6 +236,22 @@ impl PlainBlocks {
         let old = &self.blocks[at as usize].slots[i as usize];
         let levels = depth(old).saturating_sub(depth(slot));
         POINTERS as u32 * levels + ends(&old.target(), &slot.target())
+    }
+
+    /// A moment passes, where moments are still to be kept and there is memory for it.
+    pub(crate) fn pass(&mut self)
+        ensures seen { MayPass self.old.blocks.items self.old.seen.items self.new.seen.items }
+        ensures rest { parts self.new ≡ record (parts self.old) { seen = self.new.seen.items } }
+    {
+        if self.watched == 0 {
+            return;
+        }
+        let copy = Vec::from_slice(*self.blocks.allocator(), &self.blocks);
+        if let Ok(blocks) = copy {
+            if self.seen.insert(0, Moment { blocks }).is_ok() {
+                self.watched -= 1;
+            }
+        }
     }
 
     /// Ends all waits, since all is settled, and makes room for so many removals and waits.

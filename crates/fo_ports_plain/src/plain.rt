@@ -16,18 +16,22 @@ ghost use Rattle.fo_ports_plain.specs.Props.{sound_prop, waiting_prop};
 use crate::block::{PlainBlock, blank_block, no_bytes, no_entry, no_slots, nowhere};
 use crate::held::HeldBlock;
 use crate::home::Home;
+use crate::moment::Moment;
 use crate::wait::Wait;
 use fo_base::{BLOCK, Memory};
 use fo_crash::{Place, Slot};
 use fo_image::{Kind, Pointer, Record, RootBlock, Score, Text, write_root};
 use std::alloc::Global;
 
-/// A device of blocks in memory, which are settled at once. Blocks that are taken out of the tree are not given out again.
+/// A device of blocks in memory, which are settled at once. Blocks that are taken out of the tree are not given out again. `seen`: what it
+/// had at moments that passed, the last one first. `watched`: how many moments are still to be kept.
 #[derive(Drop)]
 pub struct PlainBlocks {
     pub(crate) blocks: Vec<PlainBlock>,
     pub(crate) held: Vec<HeldBlock>,
     pub(crate) waits: Vec<Wait>,
+    pub(crate) seen: Vec<Moment>,
+    pub(crate) watched: u32,
     pub(crate) made: u32,
     pub(crate) high: u32,
     pub(crate) root: u32,
@@ -64,6 +68,8 @@ impl PlainBlocks {
             blocks,
             held: Vec::new(alloc),
             waits: Vec::new(alloc),
+            seen: Vec::new(alloc),
+            watched: 0,
             made: 3,
             high: 1,
             root: 2,

@@ -4,3 +4,4 @@ pub mod Puts
 pub mod Looks
 pub mod Values
 pub mod Grows
+pub mod Dirtied

@@ -69,6 +69,7 @@ looks_joins {a = a} {b = b} all first second = record {
   dirty = λ x d. first.dirty x (second.dirty x d);
   room = (second.room.0 ∙ first.room.0, second.room.1 ∙ first.room.1);
   usable = (second.usable.0 ∙ first.usable.0, second.usable.1 ∙ first.usable.1);
+  no_removal = record { each = λ x e w h. first.no_removal.each x e w (second.no_removal.each x e w h) };
   numbers = record { next = second.numbers.next ∙ first.numbers.next; grants = λ h. second.numbers.grants (first.numbers.grants h) };
 }
 

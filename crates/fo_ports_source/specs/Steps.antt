@@ -1,12 +1,12 @@
 -- What the calls of a plain source do to the blocks.
-use Rattle.std.specs.Prelude.{◌≡◌, ◌≢◌, ◌⊎◌, ◌↔◌, ◌+◌, ◌/◌, ◌<◌, ℕ, List, length, Option, Some, None, MatchOption}
+use Rattle.std.specs.Prelude.{◌≡◌, ◌≢◌, ◌⊎◌, ◌↔◌, ◌+◌, ◌*◌, ◌/◌, ◌<◌, ℕ, List, length, Option, Some, None, MatchOption}
 use Rattle.fo_image.specs.declared.types.Kind.{Kind}
 use Rattle.fo_crash.specs.declared.place.Place.{Place}
 use Rattle.fo_crash.specs.Images.{Image, SameContent, Reaches, to_block}
 use Rattle.fo_ports.specs.State.{State, KeepsAll, KeepsNumbers, AddsNoWait, IsRooted, none}
 use Rattle.fo_ports.specs.Blocks.{put_at}
-use Rattle.fo_ports.specs.Sources.{Form, IsHung, Made, Touched, IsMade, StaysMarked, EndsWithin, IsCut}
-use Rattle.fo_ports_source.specs.Source.{leaf_of, HasLeaf, Prepared}
+use Rattle.fo_ports.specs.Sources.{Form, IsHung, Made, Touched, IsMade, StaysMarked, EndsWithin, IsCut, Dirties}
+use Rattle.fo_ports_source.specs.Source.{leaf_of, HasLeaf, Prepared, Spent}
 
 -- As `Undone` of the trait, and the slots stay but for those of blocks that were given out.
 pub record Behind (touched : ℕ → Type 0) (old new : State) (image : Image) : Type 0 where
@@ -76,3 +76,9 @@ pub record Longer (form : Form) (size : ℕ) (leaves new_leaves : List (Option �
 -- the leaf within which a plain source ends
 abbrev pub IsEnd : Form → ℕ → List (Option ℕ) → ℕ → Type 0
 IsEnd form size leaves b = EndsWithin form size (size / 8192) × (leaf_of leaves (size / 8192) ≡ Some b)
+
+-- A walk over these bytes has put into so many leaves, and left two blocks at most for each to be written: the leaf, and that of its label.
+pub record DirtiesFor (len offset done : ℕ) (old new : State) : Type 0 where
+  pub leaves : ℕ
+  pub spent : Spent len offset done leaves 0
+  pub is : Dirties (2 * leaves) none old new

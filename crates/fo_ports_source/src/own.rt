@@ -3,7 +3,7 @@ ghost use Rattle.std.specs.Prelude.{◌≡◌, ◌⊎◌, ◌+◌, ◌<◌, ◌�
 ghost use Rattle.fo_image.specs.declared.types.Kind.TheVariants.{Data, Dir};
 ghost use Rattle.fo_crash.specs.Images.{SameContent};
 ghost use Rattle.fo_ports.specs.Blocks.{blank};
-ghost use Rattle.fo_ports.specs.Sources.{Made};
+ghost use Rattle.fo_ports.specs.Sources.{Made, Dirties};
 ghost use Rattle.fo_ports_source.specs.Source.{IsLeaf, IsHeld, IsOwn, IsCurrent};
 ghost use Rattle.fo_ports_source.specs.Steps.{Steps};
 
@@ -28,6 +28,7 @@ pub(crate) fn own_block<B: Blocks>(
     ensures steps { Steps tag (λ x. leaf ≡ Some x) (λ b. ⊥) (B.state on.old) (B.state on.new) }
     ensures keeps { B.keeps on.old on.new }
     ensures only { (b : ℕ) → Made (B.state on.old) (B.state on.new) b → b ≡ result }
+    ensures dirties { Dirties 2 (λ b. b ≡ result) (B.state on.old) (B.state on.new) }
     ensures spare { ((B.state on.old).spare ≤ (B.state on.new).spare + 1) × (IsCurrent (B.state on.old) leaf → (B.state on.old).spare ≤ (B.state on.new).spare) }
 {
     match leaf {
@@ -46,6 +47,7 @@ fn new_leaf<B: Blocks>(on: &mut B, kind: Kind, tag: u32, rank: u32) -> u32
     ensures steps { Steps tag (λ x. ⊥) (λ b. ⊥) (B.state on.old) (B.state on.new) }
     ensures keeps { B.keeps on.old on.new }
     ensures only { (b : ℕ) → Made (B.state on.old) (B.state on.new) b → b ≡ result }
+    ensures dirties { Dirties 2 (λ b. b ≡ result) (B.state on.old) (B.state on.new) }
     ensures spare { (B.state on.old).spare ≤ (B.state on.new).spare + 1 }
 {
     on.new_block(kind, tag, rank)
@@ -62,6 +64,7 @@ fn own_copy<B: Blocks>(on: &mut B, at: u32, kind: Kind, tag: u32, rank: u32) -> 
     ensures steps { Steps tag (λ x. x ≡ at) (λ b. ⊥) (B.state on.old) (B.state on.new) }
     ensures keeps { B.keeps on.old on.new }
     ensures only { (b : ℕ) → Made (B.state on.old) (B.state on.new) b → b ≡ result }
+    ensures dirties { Dirties 2 (λ b. b ≡ result) (B.state on.old) (B.state on.new) }
     ensures spare { ((B.state on.old).spare ≤ (B.state on.new).spare + 1) × (((B.state on.old).label at).epoch ≡ (B.state on.old).high → (B.state on.old).spare ≤ (B.state on.new).spare) }
 {
     let _ = (kind, tag, rank);

@@ -3,10 +3,10 @@ ghost use Rattle.std.specs.Prelude.{◌≡◌, ◌≢◌, ◌⊎◌, ◌+◌, �
 ghost use Rattle.fo_base.specs.Cause.{Rose};
 ghost use Rattle.fo_image.specs.declared.types.Kind.TheVariants.{Data};
 ghost use Rattle.fo_crash.specs.Images.{SameContent};
-ghost use Rattle.fo_ports.specs.State.{Looks};
+ghost use Rattle.fo_ports.specs.State.{Looks, none};
 ghost use Rattle.fo_ports.specs.Blocks.{blank};
 ghost use Rattle.fo_ports.specs.Causes.{Caused};
-ghost use Rattle.fo_ports.specs.Sources.{Made, Finds, Owned};
+ghost use Rattle.fo_ports.specs.Sources.{Made, Dirties, Finds, Owned};
 ghost use Rattle.fo_ports_source.specs.Source.{HasLeaf, IsCurrent, leaf_of, byte_of, leaves_for, Over, IsHeld, IsOwn, Prepared, Puts, IsEmpty, form_of, leaves_of};
 ghost use Rattle.fo_ports_source.specs.Steps.{Steps, Grew, PutsOwn, Longer, IsEnd};
 
@@ -68,6 +68,7 @@ impl PlainSource {
         ensures steps { Steps self.old.tag (HasLeaf self.old.leaves.items) (λ b. ⊥) (B.state on.old) (B.state on.new) }
         ensures grew { Grew self.old.kind self.old.tag self.old.size self.old.leaves.items self.new.leaves.items (B.state on.old) (B.state on.new) }
         ensures keeps { B.keeps on.old on.new }
+        ensures dirties { Dirties 2 (λ b. b ≡ result) (B.state on.old) (B.state on.new) }
         ensures spare { ((B.state on.old).spare ≤ (B.state on.new).spare + 1) × (IsCurrent (B.state on.old) (leaf_of self.old.leaves.items i) → (B.state on.old).spare ≤ (B.state on.new).spare) }
     {
         let at = own_block(on, self.leaves[i], self.kind, self.tag, self.rank);
@@ -91,6 +92,7 @@ impl PlainSource {
         ensures leaves { self.new.leaves.items ≡ slice_set self.old.leaves.items (place / 8192) (Some result) }
         ensures into { (at : ℕ) → leaf_of self.old.leaves.items (place / 8192) ≡ Some at → PutsOwn (B.state on.old) (B.state on.new) at result (place % 8192) piece.now }
         ensures steps { Steps self.old.tag (HasLeaf self.old.leaves.items) (λ b. leaf_of self.old.leaves.items (place / 8192) ≡ Some b) (B.state on.old) (B.state on.new) }
+        ensures dirties { Dirties 2 (λ b. b ≡ result) (B.state on.old) (B.state on.new) }
         ensures spare { ((B.state on.old).spare ≤ (B.state on.new).spare + 1) × (IsCurrent (B.state on.old) (leaf_of self.old.leaves.items (place / 8192)) → (B.state on.old).spare ≤ (B.state on.new).spare) }
     {
         let at = self.own(on, (place / LEAF) as usize);
@@ -122,6 +124,7 @@ impl PlainSource {
         ensures steps { Steps self.old.tag (HasLeaf self.old.leaves.items) (IsEnd (form_of self.old.kind self.old.tag self.old.rank self.old.leaves.items) self.old.size self.old.leaves.items) (B.state on.old) (B.state on.new) }
         ensures grew { Grew self.old.kind self.old.tag end self.old.leaves.items self.new.leaves.items (B.state on.old) (B.state on.new) }
         ensures keeps { B.keeps on.old on.new }
+        ensures dirties { Dirties 2 none (B.state on.old) (B.state on.new) }
         ensures spare { ((B.state on.old).spare ≤ (B.state on.new).spare + 1) × (IsCurrent (B.state on.old) (leaf_of self.old.leaves.items (self.old.size / 8192)) → (B.state on.old).spare ≤ (B.state on.new).spare) }
     {
         let from = self.size;
@@ -146,6 +149,7 @@ impl PlainSource {
         ensures grew { Grew self.old.kind self.old.tag (8192 * (i + 1)) self.old.leaves.items self.new.leaves.items (B.state on.old) (B.state on.new) }
         ensures current { ((B.state on.new).label result).epoch ≡ (B.state on.new).high }
         ensures keeps { B.keeps on.old on.new }
+        ensures dirties { Dirties 4 (λ b. b ≡ result) (B.state on.old) (B.state on.new) }
         ensures spare { ((B.state on.old).spare ≤ (B.state on.new).spare + 2) × (IsCurrent (B.state on.old) (leaf_of self.old.leaves.items (self.old.size / 8192)) → (B.state on.old).spare ≤ (B.state on.new).spare + 1) }
     {
         self.grow(on, LEAF * (i as u64 + 1));
@@ -164,6 +168,7 @@ impl PlainSource {
         ensures over { Over (B.state on.new) self.new.kind self.new.tag self.new.rank self.new.size self.new.leaves.items }
         ensures grew { Grew self.old.kind self.old.tag self.old.size self.old.leaves.items self.new.leaves.items (B.state on.old) (B.state on.new) }
         ensures keeps { B.keeps on.old on.new }
+        ensures dirties { Dirties (2 * leaves_for (length piece.now)) none (B.state on.old) (B.state on.new) }
         ensures spare { (B.state on.old).spare ≤ (B.state on.new).spare + leaves_for (length piece.now) }
     {
         let mut done = 0;

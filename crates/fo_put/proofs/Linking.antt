@@ -1,21 +1,19 @@
 -- What hangs from a slot that is put into the tree is newborn no more.
-use Rattle.std.proofs.Common.{◌≡◌, ◌≢◌, ⊎_elim, ℕ, ◌≤◌, ◌++◌, Bool, true, false, List, [], ◌∷◌, Some, refl, sym, ap, ◌∙◌, subst}
+use Rattle.std.proofs.Common.{◌≡◌, ◌≢◌, ℕ, ◌≤◌, ◌++◌, Bool, true, false, List, [], ◌∷◌, Some, refl, sym, ap, ◌∙◌, subst}
 use Rattle.fo_image.specs.declared.types.Label.{Label}
 use Rattle.fo_image.specs.declared.types.Pointer.{Pointer}
 use Rattle.fo_image.specs.declared.types.Pointer.TheVariants.{Nil, Local, Score as Stored}
-use Rattle.fo_buffers.specs.declared.block.Buffer.{Buffer}
 use Rattle.fo_buffers.specs.Held.{held_at}
 use Rattle.fo_crash.specs.declared.slot.Slot.{Slot}
 use Rattle.fo_crash.specs.Images.{Content, local, target, walk}
 use Rattle.fo_crash.specs.Steps.{Through}
 use Rattle.fo_labels.specs.Region.{Region, label_of}
 use Rattle.fo_slots.specs.Read.{read}
-use Rattle.fo_facts.specs.declared.fact.Fact.{Fact}
 use Rattle.fo_facts.specs.Known.{fact_at}
-use Rattle.fo_linking.specs.Joined.{IsLinked, JoinsBelow}
+use Rattle.fo_linking.specs.Joined.{JoinsBelow}
 use Rattle.fo_mind.specs.Frames.{SameMarks}
 use Rattle.fo_mind.specs.Laws.{held_content, some_held}
-use Rattle.fo_mind.specs.Parts.{Parts, IsHeld, IsNewborn, label_at, memory}
+use Rattle.fo_mind.specs.Parts.{Parts, IsHeld, IsNewborn, memory}
 use Rattle.fo_mind.specs.Slotted.{Slotted}
 use Rattle.fo_mind.specs.Sound.{Holding, Placed, Standing}
 use Rattle.fo_mind.proofs.Giving.{data_label}

@@ -1,6 +1,7 @@
 -- What calls on blocks see of a slot that is put.
-use Rattle.std.proofs.Common.{◌≡◌, ◌≢◌, ◌⊎◌, inl, inr, ⊎_elim, ℕ, ◌+◌, ◌<◌, ◌++◌, Bool, true, false, cond, nat_eq, List, length, Option, Some, None, refl, sym, ap, ◌∙◌, subst, arith}
+use Rattle.std.proofs.Common.{◌≡◌, ◌≢◌, ◌⊎◌, inl, inr, ⊎_elim, ℕ, ◌+◌, ◌<◌, ◌++◌, Bool, true, false, cond, nat_eq, List, [], length, Option, Some, None, refl, sym, ap, ◌∙◌, subst, arith}
 use Rattle.std.specs.Bool.{OnTrue, OnFalse}
+use Rattle.std.specs.List.{Contains}
 use Rattle.std.specs.Option.{option_map, option_map_or}
 use Rattle.std.specs.Map.{lookup}
 use Rattle.std.proofs.lemmas.Bool.{OnTrue_at, OnFalse_at, cases_eq}
@@ -14,10 +15,10 @@ use Rattle.fo_buffers.specs.Held.{Held, block_in, held_at, is_pinned}
 use Rattle.fo_order.specs.Keeps.{Turns}
 use Rattle.fo_order.specs.Turns.{flag_at}
 use Rattle.fo_crash.specs.declared.slot.Slot.{Slot}
-use Rattle.fo_crash.specs.Images.{Content, target, kind_below}
+use Rattle.fo_crash.specs.Images.{Content, Image, Reaches, target, kind_below}
 use Rattle.fo_crash.specs.Steps.{PutsSlot}
 use Rattle.fo_ports.specs.Blocks.{cost, ends}
-use Rattle.fo_ports.specs.State.{AddsNoWait, Frame, Hangs, IsRaised, KeepsOrder, none}
+use Rattle.fo_ports.specs.State.{AddsNoWait, AddsRemovals, Frame, Hangs, IsRaised, KeepsOrder, none}
 use Rattle.fo_slots.specs.Read.{PutsInto, read}
 use Rattle.fo_facts.specs.declared.fact.Fact.{Fact}
 use Rattle.fo_facts.specs.Known.{fact_at, origin_over}
@@ -37,6 +38,7 @@ use Rattle.fo_mind.proofs.Joining.{dirty_joins, field_joins}
 use Rattle.fo_mind.proofs.Making.{unlike}
 use Rattle.fo_mind.proofs.Refilling.{Refills, dirty_was, flags_turned, marks_turned, pinned_refilled, refills_of, within_facts}
 use Rattle.fo_put.specs.Queued.{Queues}
+use Rattle.fo_put.proofs.Reaching.{takes_alone, takes_reached, unreached}
 
 some_in : {x y : ℕ} → Some x ≡ Some y → x ≡ y
 some_in e = cc
@@ -274,6 +276,47 @@ queues_of p r s {at} {i} {cost} {kind} {led} {slot} is_led same f =
           omega (arith, a, b, all, k, one);
     }
 
+-- what a put of a slot began with, where its block was refilled and hung
+module _ (p r s : Parts) {at i cost : ℕ} {kind : Kind} {led slot : Slot} (idle : p.walk.pairs ≡ []) (walk : r.walk ≡ p.walk) (removals : r.removals ≡ p.removals) (high : r.one.high ≡ p.one.high)
+    (is_led : led ≡ (memory p at).slot i) (f : Follows (record { at = at; kind = kind; i = i; old = led; new = slot }) cost r s) where
+  none_begun : r.walk.pairs ≡ []
+  none_begun = ap (λ (w : Walking). w.pairs) walk ∙ idle
+
+  same_memory : memory s ≡ memory r
+  same_memory = ap (λ (y : Parts). memory y) f.rest
+
+  removes_of : AddsRemovals ((memory p at).slot i) (state_of p) (state_of s)
+  removes_of = record {
+    each = λ b e whole h. ⊎_elim
+        (λ was. inl (h.0, subst (λ (rs : List Removal). Contains rs h.0) removals was, h.2, h.3, h.4))
+        (λ new. inr (
+          sym h.3 ∙ new.1 ∙ high,
+          subst (λ n. Reaches (memory s) ((memory p at).slot i) n) h.2
+              (subst (λ (x : Slot). Reaches (memory s) x h.0.at) is_led
+              (subst (λ (now : Image). Reaches now led h.0.at) (sym same_memory) new.0)),
+        ))
+        (takes_reached none_begun f.takes h.0 h.1);
+  }
+
+  whole_of : ((b : ℕ) → target slot ≡ Local b → ⊥) → (x : Removal) → Contains s.removals x → Contains p.removals x ⊎ ((target ((memory p at).slot i) ≡ Local x.at) × (x.epoch ≡ p.one.high))
+  whole_of nowhere x c = ⊎_elim
+      (λ was. inl (subst (λ (rs : List Removal). Contains rs x) removals was))
+      (λ new. inr (ap target (sym is_led) ∙ new.0, new.1 ∙ high))
+      (takes_alone none_begun f.takes nowhere x c)
+
+-- where nothing is put, nothing comes into the tree
+calm_of : (r s : Parts) {at i cost : ℕ} {kind : Kind} {led slot : Slot} → ((b : ℕ) → target slot ≡ Local b → ⊥) → Follows (record { at = at; kind = kind; i = i; old = led; new = slot }) cost r s → (b : ℕ) → IsNewborn r.facts b → IsNewborn s.facts b
+calm_of r s {at} {i} {cost} {kind} {led} {slot} nowhere f b newborn = by (fact_at r.facts at).linked refl
+  where
+    by : (k : Bool) → (fact_at r.facts at).linked ≡ k → IsNewborn s.facts b
+    by true e =
+        let l = f.linked e in
+        ⊎_elim
+        (λ same. ap (λ (x : Fact). x.linked) same ∙ newborn)
+        (λ h. absurd (unreached r.held r.region r.facts (target slot) nowhere b (l.only b h.0)))
+        (l.joins.facts b)
+    by false e = ap (λ (fs : List Fact). (fact_at fs b).linked) (f.stays e).0 ∙ newborn
+
 -- ---- all of it
 
 pub record SlotResult (at i cost : ℕ) (slot : Slot) (p s : Parts) : Type 0 where
@@ -284,6 +327,10 @@ pub record SlotResult (at i cost : ℕ) (slot : Slot) (p s : Parts) : Type 0 whe
   pub no_wait : AddsNoWait none (state_of p) (state_of s)
   pub keeps : CacheKeeps p s
   pub queues : Queues ((memory p at).slot i) slot (length p.removals) (length s.removals)
+  -- what is queued was, or is what the walk gives; where nothing is put, that is what the slot led to, and nothing comes into the tree
+  pub removes : AddsRemovals ((memory p at).slot i) (state_of p) (state_of s)
+  pub whole : ((b : ℕ) → target slot ≡ Local b → ⊥) → (r : Removal) → Contains s.removals r → Contains p.removals r ⊎ ((target ((memory p at).slot i) ≡ Local r.at) × (r.epoch ≡ p.one.high))
+  pub calm : ((b : ℕ) → target slot ≡ Local b → ⊥) → (b : ℕ) → IsNewborn p.facts b → IsNewborn s.facts b
   pub waits : s.waits ≡ p.waits
   pub clears : s.clears ≡ p.clears
 
@@ -320,6 +367,8 @@ slot_result {p} {s} {first} {count} {at} {i} {cost} {slot} placed holding some l
     let apart_at : target slot ≢ Local at = λ e. leads at e refl in
     let removals : r.removals ≡ p.removals = ap (λ (y : Parts). y.removals) z.hangs.rest ∙ ap (λ (y : Parts). y.removals) z.refilled.rest in
     let queues = queues_of p r s z.is_led removals z.follows in
+    let walk : r.walk ≡ p.walk = ap (λ (y : Parts). y.walk) z.hangs.rest ∙ ap (λ (y : Parts). y.walk) z.refilled.rest in
+    let high : r.one.high ≡ p.one.high = ap (λ (y : Parts). y.one.high) z.hangs.rest ∙ ap (λ (y : Parts). y.one.high) z.refilled.rest in
     let all = rest_of z.refilled z.hangs z.follows in
     record {
       now = subst (λ (y : Parts). PutsSlot at i slot (memory p) (memory y)) (sym all) (slot_put p first count at i cost slot z.bytes z.raised q.held s.turns s.facts s.room s.removals s.walk placed holding x puts seen raises raises_not back used apart_at);
@@ -329,6 +378,9 @@ slot_result {p} {s} {first} {count} {at} {i} {cost} {slot} placed holding some l
       no_wait = subst (λ (y : Parts). AddsNoWait none (state_of p) (state_of y)) (sym all) (no_wait_slot p first count at i cost slot z.bytes z.raised q.held s.turns s.facts s.room s.removals s.walk placed holding x puts seen raises raises_not back used apart_at);
       keeps = subst (CacheKeeps p) (sym all) (record { first = refl; count = refl; high = refl; low = refl; root = refl; faults = omega arith });
       queues = queues;
+      removes = removes_of p r s z.idle walk removals high z.is_led z.follows;
+      whole = whole_of p r s z.idle walk removals high z.is_led z.follows;
+      calm = λ nowhere b newborn. calm_of r s nowhere z.follows b ((z.hangs.marked.others b).0 ∙ marks.linked b ∙ newborn);
       waits = ap (λ (y : Parts). y.waits) all;
       clears = ap (λ (y : Parts). y.clears) all;
     }

@@ -1,16 +1,13 @@
 -- A slot is cleared, or waits to be.
-use Rattle.std.proofs.Common.{◌≡◌, ◌≢◌, ◌⊎◌, inl, inr, ⊎_elim, ℕ, zero, suc, ◌+◌, ◌-◌, ◌*◌, ◌/◌, ◌<◌, ◌≤◌, List, [], ◌∷◌, ◌++◌, length, refl, sym, ap, ◌∙◌, subst, arith}
-use Rattle.fo_image.specs.declared.types.Kind.{Kind}
-use Rattle.fo_image.specs.declared.types.Kind.TheVariants.{Data, Dir, Root}
+use Rattle.std.proofs.Common.{◌≡◌, ◌≢◌, ◌⊎◌, inl, inr, ⊎_elim, ℕ, zero, suc, ◌+◌, ◌-◌, ◌*◌, ◌/◌, ◌<◌, List, [], ◌∷◌, ◌++◌, length, refl, sym, ap, ◌∙◌, subst, arith}
 use Rattle.fo_image.specs.declared.types.Pointer.{Pointer}
 use Rattle.fo_image.specs.declared.types.Pointer.TheVariants.{Nil, Local, Score as Stored}
 use Rattle.fo_crash.specs.declared.slot.Slot.{Slot}
-use Rattle.fo_crash.specs.declared.slot.Slot.TheVariants.{Pointer as To, Entry as Head, Prev}
 use Rattle.fo_crash.specs.Images.{SameImage, target}
 use Rattle.fo_crash.specs.Names.{SameUse}
 use Rattle.fo_crash.specs.Steps.{PutsSlot, cleared}
-use Rattle.fo_ports.specs.Blocks.{IsEntry, IsPointer, IsPrev, SlotFits, ends, slot_count}
-use Rattle.fo_ports.specs.State.{AddsNoWait, Frame, Hangs, IsSecondOf, none}
+use Rattle.fo_ports.specs.Blocks.{SlotFits, ends, slot_count}
+use Rattle.fo_ports.specs.State.{AddsNoWait, AddsRemovals, Frame, Hangs, IsSecondOf, none}
 use Rattle.fo_waits.specs.declared.listed.Clearing.{Clearing}
 use Rattle.fo_waits.specs.declared.listed.Wait.{Wait}
 use Rattle.fo_waits.specs.Ended.{EndsFirst}
@@ -18,7 +15,7 @@ use Rattle.fo_waits.specs.Listed.{Awaits, Clears, Listed, is_active}
 use Rattle.fo_mind.specs.Parts.{Parts, CacheKeeps, IsHeld, IsPinned, label_at, memory, state_of}
 use Rattle.fo_mind.specs.Ended.{Delayed}
 use Rattle.fo_mind.specs.Laws.{held_pinned}
-use Rattle.fo_mind.proofs.Cleared.{cleared_fits, cleared_nowhere, ends_one}
+use Rattle.fo_mind.proofs.Cleared.{cleared_fits, cleared_nowhere}
 use Rattle.fo_mind.proofs.Ending.{clears_push}
 use Rattle.fo_mind.specs.Slotted.{Slotted}
 use Rattle.fo_mind.specs.Sound.{Holding, Placed, Waiting}
@@ -47,6 +44,7 @@ pub record RemoveResult (at i : ℕ) (p s : Parts) : Type 0 where
   pub no_wait : AddsNoWait none (state_of p) (state_of s)
   pub keeps : CacheKeeps p s
   pub queues : Queues ((memory p at).slot i) (cleared ((memory p at).slot i)) (length p.removals) (length s.removals)
+  pub removes : AddsRemovals ((memory p at).slot i) (state_of p) (state_of s)
   pub clears : s.clears ≡ p.clears
 
 rest_cases : (r : ℕ) → r < 2 → (r ≡ 0) ⊎ (r ≡ 1)
@@ -105,6 +103,7 @@ module _ (p : Parts) (first count at i : ℕ) (new : List Wait) (placed : Placed
     no_wait = record { each = λ a on j _ w. ended.only a on (j / 2) (subst (λ (l : List Wait). Awaits l a on j) ws w) };
     keeps = record { first = r.keeps.first; count = r.keeps.count; high = r.keeps.high; low = r.keeps.low; root = r.keeps.root; faults = r.keeps.faults };
     queues = r.queues;
+    removes = record { each = λ b e w h. r.removes.each b e w h };
     clears = cs;
   }
     where
@@ -128,6 +127,7 @@ pub record DelayResult (at i : ℕ) (p s : Parts) : Type 0 where
   pub hangs : Hangs at i (cleared ((memory p at).slot i)) (state_of p) (state_of s)
   pub order : (b j : ℕ) → (Clears s.clears b j → Clears p.clears b j ⊎ ((b ≡ at) × (j ≡ i))) × (Clears p.clears b j → Clears s.clears b j)
   pub no_wait : AddsNoWait none (state_of p) (state_of s)
+  pub removes : AddsRemovals ((memory p at).slot i) (state_of p) (state_of s)
   pub keeps : CacheKeeps p s
 
 delayed_at_rest : (p : Parts) (at i after room : ℕ) → room + 1 ≡ p.room → DelayResult at i p (record p { room = room; clears = p.clears ++ (record { at = at; slot = i; after = after }) ∷ [] })
@@ -164,6 +164,7 @@ delayed_at_rest p at i after room used = record {
     clears_still p.clears (record { at = at; slot = i; after = after }) b j,
   );
   no_wait = record { each = λ a on j _ w. w };
+  removes = record { each = λ b e w h. inl h };
   keeps = record { first = refl; count = refl; high = refl; low = refl; root = refl; faults = omega arith };
 }
 

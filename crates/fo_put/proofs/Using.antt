@@ -1,12 +1,11 @@
 -- Who waits for an entry, where its slot is put.
 use Rattle.std.proofs.Common.{◌≡◌, ℕ, ◌*◌, ◌/◌, ◌<◌, ◌≤◌, Bool, true, false, Option, Some, sym, ap, ◌∙◌, subst, arith}
 use Rattle.std.specs.Option.{option_map_or}
-use Rattle.fo_image.specs.declared.types.Pointer.TheVariants.{Local}
 use Rattle.fo_buffers.specs.declared.block.Buffer.{Buffer}
 use Rattle.fo_buffers.specs.Held.{held_at}
 use Rattle.fo_crash.specs.declared.slot.Slot.{Slot}
 use Rattle.fo_crash.specs.declared.slot.Slot.TheVariants.{Pointer as To, Entry as Head, Prev}
-use Rattle.fo_crash.specs.Images.{Content, target}
+use Rattle.fo_crash.specs.Images.{Content}
 use Rattle.fo_crash.specs.Names.{SameUse}
 use Rattle.fo_crash.specs.Steps.{cleared}
 use Rattle.fo_slots.specs.Read.{read}

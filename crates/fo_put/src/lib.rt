@@ -6,7 +6,8 @@
 //!
 //! Proved: memory changes by the slot alone; what is put is apart no more, and a block that is raised over it comes in its place; one block
 //! is dirty that wasn't; the room used is the trait's cost; a slot that led to a block and leads to none queues one removal more, whatever
-//! is known of its block. What hangs from a slot that is put into the tree, by newborn blocks, is newborn no more. A slot that is cleared
+//! is known of its block. What is queued is to be closed at the epoch of the active tree, and the slot that was there leads to it, through
+//! what memory has. What hangs from a slot that is put into the tree, by newborn blocks, is newborn no more. A slot that is cleared
 //! ends the waits for its pair; or it waits itself to be cleared, where the leaf that it is to wait for isn't settled.
 //!
 //! Not proved here: what is said of crash images, places and moments, and that what is queued is all that left the tree: that is as far as

@@ -6,7 +6,7 @@ ghost use Rattle.fo_image.specs.declared.types.Pointer.TheVariants.{Local};
 ghost use Rattle.fo_crash.specs.Images.{SameImage, target};
 ghost use Rattle.fo_crash.specs.Steps.{PutsSlot, cleared};
 ghost use Rattle.fo_ports.specs.Blocks.{slot_count};
-ghost use Rattle.fo_ports.specs.State.{AddsNoWait, Frame, Hangs, QueuesOne, none};
+ghost use Rattle.fo_ports.specs.State.{AddsNoWait, AddsRemovals, Frame, Hangs, QueuesOne, none};
 ghost use Rattle.fo_waits.specs.Listed.{Clears};
 ghost use Rattle.fo_mind.specs.Due.{is_over};
 ghost use Rattle.fo_mind.specs.MindParts.{parts};
@@ -18,6 +18,7 @@ use fo_mind::Mind;
 // Clears a slot of a pinned block at once.
 fn clear_slot(mind: &mut Mind, at: u32, i: u32)
     requires pinned { IsPinned (parts mind.old [] 0).held at }
+    requires current { (label_at (parts mind.old [] 0).region at).epoch ≡ (parts mind.old [] 0).one.high }
     requires slots { i < slot_count (label_at (parts mind.old [] 0).region at).kind }
     requires room { 0 < (parts mind.old [] 0).room }
     ensures { (disk : Holds) (faults : ℕ) → Removed at i (parts mind.old disk faults) (parts mind.new disk faults) }
@@ -56,6 +57,7 @@ pub fn remove_slot(mind: &mut Mind, at: u32, i: u32, after: Option<u32>)
     ensures order { (b j : ℕ) → (Clears (parts mind.new [] 0).clears b j → Clears (parts mind.old [] 0).clears b j ⊎ ((b ≡ at) × (j ≡ i))) × (Clears (parts mind.old [] 0).clears b j → Clears (parts mind.new [] 0).clears b j) }
     ensures no_wait { (disk : Holds) (faults : ℕ) → AddsNoWait none (state_of (parts mind.old disk faults)) (state_of (parts mind.new disk faults)) }
     ensures queues { (disk : Holds) (faults : ℕ) → ((state_of (parts mind.old disk faults)).queued ≤ (state_of (parts mind.new disk faults)).queued) × ((c : ℕ) → target ((memory (parts mind.old disk faults) at).slot i) ≡ Local c → (state_of (parts mind.new disk faults)).clearing at i ⊎ QueuesOne (state_of (parts mind.old disk faults)) (state_of (parts mind.new disk faults))) }
+    ensures removals { (disk : Holds) (faults : ℕ) → AddsRemovals ((memory (parts mind.old disk faults) at).slot i) (state_of (parts mind.old disk faults)) (state_of (parts mind.new disk faults)) }
     ensures keeps { (disk : Holds) (faults : ℕ) → CacheKeeps (parts mind.old disk faults) (parts mind.new disk faults) }
     ensures is { (disk : Holds) (faults : ℕ) → ClearsOrWaits at i after (parts mind.old disk faults) (parts mind.new disk faults) }
 {

@@ -1,5 +1,5 @@
 -- All comes to rest.
-use Rattle.std.proofs.Common.{◌≡◌, ◌↔◌, inl, inr, ⊎_elim, ℕ, ◌+◌, ◌*◌, ◌<◌, ◌≤◌, Bool, true, false, IsTrue, List, [], ◌∷◌, length, count_by, None, Result, Ok, Err, refl, sym, ap, ◌∙◌, subst, arith}
+use Rattle.std.proofs.Common.{◌≡◌, ◌↔◌, inl, inr, ⊎_elim, ℕ, ◌+◌, ◌<◌, ◌≤◌, Bool, true, false, IsTrue, List, [], ◌∷◌, length, count_by, None, Result, Ok, Err, refl, sym, ap, ◌∙◌, subst, arith}
 use Rattle.std.specs.Result.{OnOk}
 use Rattle.std.proofs.lemmas.Bool.{cases_lt}
 use Rattle.fo_order.specs.Flags.{is_dirty}
@@ -8,8 +8,7 @@ use Rattle.fo_disk.specs.Disk.{Content as Holds}
 use Rattle.fo_order.specs.Turns.{IsQuiet}
 use Rattle.fo_ports.specs.State.{IsClosing, IsSettled}
 use Rattle.fo_waits.specs.declared.listed.Clearing.{Clearing}
-use Rattle.fo_waits.specs.declared.listed.Wait.{Wait}
-use Rattle.fo_waits.specs.Listed.{Awaits, Clears}
+use Rattle.fo_waits.specs.Listed.{Clears}
 use Rattle.fo_mind.specs.Parts.{IsPinned, Parts, state_of}
 use Rattle.fo_mind.specs.Turning.{Turning}
 use Rattle.fo_closing.specs.Rest.{AtRest}

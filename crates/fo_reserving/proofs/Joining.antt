@@ -8,11 +8,12 @@ use Rattle.fo_waits.specs.Listed.{Clears}
 use Rattle.fo_mind.specs.Laws.{keeps_joins}
 use Rattle.fo_mind.specs.Parts.{CacheKeeps, IsBlock, Parts, label_at, state_of}
 use Rattle.fo_cache.specs.Easing.{Eases}
-use Rattle.fo_cache.proofs.Easing.{eases_none, rests_joins}
+use Rattle.fo_cache.proofs.Easing.{eases_none, rests_joins, shut_dead}
 use Rattle.fo_labels.specs.Region.{Region}
 use Rattle.fo_settling.specs.Clearings.{Clearings, Lasts}
 use Rattle.fo_settling.proofs.Clearing.{clearings_none, clearings_of, clearings_on, lasts_none}
 use Rattle.fo_reserving.specs.Steps.{ClosesAtRest, ClosesBy, IsRow, KeepsLabels, Reserves, Row}
+use Rattle.fo_reserving.proofs.Following.{closes_by}
 
 -- ---- labels that stay
 
@@ -48,13 +49,13 @@ rows_on p m q [] ss a b = first_on p m q ss a b
 rows_on p m q (r ∷ rs) ss a b = (a.0, a.1, rows_on r.after m q rs ss a.2 b)
 
 pub closes_on : {p m q : Parts} → ClosesAtRest p m → ClosesAtRest m q → ClosesAtRest p q
-closes_on {p} {m} {q} a b = record { rows = a.rows ++ b.rows; closes = rows_on p m q a.rows b.rows a.closes b.closes }
+closes_on {p} {m} {q} a b = closes_by p q (a.rows ++ b.rows) (rows_on p m q a.rows b.rows a.closes b.closes)
 
 pub labels_none : (p : Parts) → KeepsLabels p p
 labels_none p = record { label = λ x. refl; queued = inl refl; clears = clearings_none p; order = λ b j h. h; keeps = record { first = refl; count = refl; high = refl; low = refl; root = refl; faults = omega arith } }
 
 pub closes_row : (r : Row) → IsRow r → ClosesAtRest r.before r.after
-closes_row r is = record { rows = r ∷ []; closes = (labels_none r.before, is, labels_none r.after) }
+closes_row r is = closes_by r.before r.after (r ∷ []) (labels_none r.before, is, labels_none r.after)
 
 -- ---- steps
 
@@ -64,7 +65,7 @@ reserves_on {p} {m} {q} a b = record {
   keeps = keeps_joins p m q a.keeps b.keeps;
   apart = λ x ne is. ⊎_elim
       (λ same. a.apart x (λ e. ne (same ∙ e)) is)
-      (λ shut. second x (λ e. shut.2 (ap (λ (l : Label). l.state) e ∙ shut.1)) is)
+      (λ shut. second x (λ e. shut_dead (state_of m) (state_of q) x shut (ap (λ (l : Label). l.state) e ∙ shut.live)) is)
       (b.rests.labels x);
   closes = closes_on a.closes b.closes;
 }
@@ -86,7 +87,7 @@ reserves_of p q rests keeps same queued clears = record {
   rests = rests;
   keeps = keeps;
   apart = λ x ne is. ne (same x);
-  closes = record { rows = []; closes = record { label = same; queued = queued; clears = clears; order = rests.order; keeps = keeps } };
+  closes = closes_by p q [] (record { label = same; queued = queued; clears = clears; order = rests.order; keeps = keeps });
 }
 
 -- one that clears no slot

@@ -223,8 +223,10 @@ module _ (p q : Parts) (disk : Holds) (faults : ℕ) {first count : ℕ} (placed
     apart = λ b. (λ h. sym (apart_same b) ∙ h, λ h. apart_same b ∙ h);
     instead = λ b x. (λ h. (sym (apart_same b) ∙ h.0, sym (origin_same b) ∙ h.1), λ h. (apart_same b ∙ h.0, origin_same b ∙ h.1));
     newborn = λ b h. sym (linked_same b) ∙ h;
+    newborns = λ b h. linked_same b ∙ h;
     kept = λ b is was now. known b is was;
     labels = λ b. inl refl;
+    removes = λ r e w h. inl h;
     queues = λ some. inl some;
     usable = omega arith;
     settled = λ was. (record { settled = record { each = λ image h. absurd h }; clean = λ b d. (linked_same b ∙ (was.clean b (dirty_was b d)).0, λ tells. absurd tells); empty = was.empty; cleared = was.cleared }, refl);
@@ -264,6 +266,7 @@ module _ (p q : Parts) (disk : Holds) (faults : ℕ) {first count : ℕ} (placed
       high = refl;
       removals = refl;
       clears = refl;
+      over = λ b e. e;
       linked = linked_same;
       held = λ b. ⊎_elim (λ same. inl (sym (freed_blocks (held_at q.held b)) ∙ ap (option_map block_in) same ∙ freed_blocks (held_at p.held b))) (λ gone. inr gone.0) (l.held b);
       count = refl;

@@ -46,8 +46,10 @@ module _ (p : Parts) (a b links spare pins room : ℕ) (walk : Walking) where
     apart = λ b. (λ h. h, λ h. h);
     instead = λ b x. (λ h. h, λ h. h);
     newborn = λ b h. h;
+    newborns = λ b h. h;
     kept = λ b is was now. known b;
     labels = λ b. inl refl;
+    removes = λ r e w h. inl h;
     queues = λ some. inl some;
     usable = omega arith;
     settled = λ was. (record { settled = record { each = λ image h. absurd h }; clean = λ b d. ((was.clean b d).0, λ tells. absurd tells); empty = was.empty; cleared = was.cleared }, refl);
@@ -56,7 +58,7 @@ module _ (p : Parts) (a b links spare pins room : ℕ) (walk : Walking) where
 
   reserves_room : Reserves p Q
   reserves_room = reserves_lasting p Q rests (record { first = refl; count = refl; high = refl; low = refl; root = refl; faults = omega arith })
-      (record { region = refl; high = refl; removals = refl; clears = refl; linked = λ b. refl; held = λ b. inl refl; count = refl; bytes = λ b le lt. refl })
+      (record { region = refl; high = refl; removals = refl; clears = refl; over = λ b e. e; linked = λ b. refl; held = λ b. inl refl; count = refl; bytes = λ b le lt. refl })
 
 -- as much room in its parts, and so many blocks, pins and removals
 grown_so : (p q : Parts) → Grown p (record q { spare = p.spare; pins = p.pins; room = p.room }) → q ≡ record p { held = record p.held { room = q.held.room }; turns = record p.turns { room = q.turns.room }; walk = q.walk; links = q.links; spare = q.spare; pins = q.pins; room = q.room }

@@ -21,7 +21,7 @@ use Rattle.fo_order.specs.declared.marks.Flags.{Flags}
 use Rattle.fo_order.specs.declared.marks.Tried.TheVariants.{Settled, Written}
 use Rattle.fo_order.specs.Keeps.{Turns}
 use Rattle.fo_order.specs.Turns.{IsQuiet, changed, flag_at}
-use Rattle.fo_ports.specs.State.{IsChanging, Rests, StaysKnown}
+use Rattle.fo_ports.specs.State.{IsChanging, IsShut, Rests, StaysKnown}
 use Rattle.fo_slots.specs.Read.{read}
 use Rattle.fo_facts.specs.declared.fact.Fact.{Fact}
 use Rattle.fo_facts.specs.Known.{fact_at}
@@ -41,7 +41,7 @@ use Rattle.fo_closing.specs.declared.turn.Closing.TheVariants.{Closed as ClosedI
 use Rattle.fo_closing.specs.Closed.{Closed}
 use Rattle.fo_closing.specs.Closings.{Closings, Taken, Takes}
 use Rattle.fo_closing.specs.Known.{Looked}
-use Rattle.fo_closing.specs.Leaves.{Leaves, Shuts}
+use Rattle.fo_closing.specs.Leaves.{Leaves, ShutBy, Shuts}
 use Rattle.fo_closing.specs.Rest.{AtRest}
 use Rattle.fo_closing.specs.Turned.{Goes, Turned}
 use Rattle.fo_reserving.specs.Steps.{ClosesAtRest, Reserves}
@@ -60,6 +60,10 @@ live_shut e f = absurd (clash (sym e ∙ f))
   where
     clash : Live ≡ Shut → ⊥
     clash h = cc
+
+-- a block that was closed by a removal was live, and isn't now
+shuts_of : {removals : List Removal} {p q : Parts} {b : ℕ} → ShutBy removals p q b → Shuts (label_at p.region b) (label_at q.region b)
+shuts_of y = (y.live, ap (λ (l : Label). l.state) y.is)
 
 -- ---- what each turn keeps
 
@@ -200,7 +204,7 @@ module _ (p q : Parts) (disk : Holds) (f g : ℕ) (l : Leaves disk (record p { d
       same : (b a : ℕ) → (flag_at q.turns b).dirty ≡ false → label_block a ≡ b → label_at q.region a ≡ label_at p.region a
       same b a clean here = ⊎_elim
           (λ e. e)
-          (λ y. never (sym clean ∙ sym (ap (λ n. (flag_at q.turns n).dirty) here) ∙ l.turn a y.0))
+          (λ y. never (sym clean ∙ sym (ap (λ n. (flag_at q.turns n).dirty) here) ∙ l.turn a (shuts_of y)))
           (l.label a)
 
       respelled : (b : ℕ) (bytes : List ℕ) → (flag_at q.turns b).dirty ≡ false → SpellsLabels p.region b bytes → SpellsLabels q.region b bytes
@@ -222,7 +226,7 @@ module _ (p q : Parts) (disk : Holds) (f g : ℕ) (l : Leaves disk (record p { d
     label_changed : (b : ℕ) → Shuts (label_at p.region b) (label_at q.region b) → label_at q.region b ≢ label_at p.region b
     label_changed b s e = live_shut (ap (λ (z : Label). z.state) e ∙ s.0) s.1
 
-    dirty_shut : (b : ℕ) → IsDirty q.turns q.held b → IsDirty p.turns p.held b ⊎ (((j : ℕ) × Clears p.clears b j) ⊎ ((y : ℕ) × (label_at q.region y ≢ label_at p.region y) × (b ≡ label_block y)))
+    dirty_shut : (b : ℕ) → IsDirty q.turns q.held b → IsDirty p.turns p.held b ⊎ (((j : ℕ) × Clears p.clears b j × (Clears p.clears b j → ⊥)) ⊎ ((y : ℕ) × (label_at q.region y ≢ label_at p.region y) × (b ≡ label_block y)))
     dirty_shut b d = ⊎_elim
         (λ turn. ⊎_elim (λ was. inl (inl was)) (λ y. inr (inr (y.0, label_changed y.0 y.1, y.2))) (l.dirty b turn))
         (λ now. ⊎_elim (λ same. inl (inr (sym (ap is_changed same) ∙ now))) (λ gone. never (sym (ap is_changed gone.0) ∙ now)) (l.held b))
@@ -259,6 +263,22 @@ module _ (p q : Parts) (disk : Holds) (f g : ℕ) (l : Leaves disk (record p { d
         changed : is_changed (held_at q.held b) ≡ true → StaysKnown (state_of P) (state_of Q) b
         changed now = record { bytes = ap (λ (z : Content). z.bytes) (same now); slots = λ j. inl (ap (λ (z : Content). z.slot j) (same now), λ h. h) }
 
+    shut : (b : ℕ) → ShutBy p.removals P (record q { disk = disk; faults = g }) b → IsShut (state_of P) (state_of Q) b
+    shut b y = record {
+      closing = inl some;
+      removal = y.removal.at;
+      epoch = y.removal.epoch;
+      whole = y.removal.whole;
+      may = inl (y.removal, y.queued, refl, refl, refl);
+      alone = y.alone;
+      live = y.live;
+      is = y.is;
+      tag = y.tag;
+      begun = y.begun;
+      other = y.other;
+      linked = λ h. never (sym h ∙ y.linked);
+    }
+
     rests_shut : Rests (state_of P) (state_of Q)
     rests_shut = record {
       blocks = λ tells. absurd tells;
@@ -273,8 +293,10 @@ module _ (p q : Parts) (disk : Holds) (f g : ℕ) (l : Leaves disk (record p { d
       apart = λ b. (λ h. h, λ h. h);
       instead = λ b y. (λ h. h, λ h. h);
       newborn = λ b h. h;
+      newborns = λ b h. h;
       kept = λ b is was now. known b is now;
-      labels = λ b. ⊎_elim (λ same. inl same) (λ y. inr (inl y.1, y.0.0, λ live. live_shut live y.0.1)) (l.label b);
+      labels = λ b. ⊎_elim (λ same. inl same) (λ y. inr (shut b y)) (l.label b);
+      removes = λ r e w h. inl (h.0, l.only h.0 h.1, h.2, h.3, h.4);
       queues = λ more. inl some;
       usable = l.usable;
       settled = λ was. absurd (let e = was.empty in omega (arith, e, some));
@@ -284,7 +306,7 @@ module _ (p q : Parts) (disk : Holds) (f g : ℕ) (l : Leaves disk (record p { d
     apart_shut : (b : ℕ) → label_at q.region b ≢ label_at p.region b → IsBlock p (label_block b) → ⊥
     apart_shut b ne is = ⊎_elim
         (λ same. ne same)
-        (λ y. never (sym (rest.clean (label_block b) (let lo = is.0 in omega (arith, lo, first))) ∙ l.turn b y.0))
+        (λ y. never (sym (rest.clean (label_block b) (let lo = is.0 in omega (arith, lo, first))) ∙ l.turn b (shuts_of y)))
         (l.label b)
 
     pub reserves_shut : Reserves P (record q { disk = disk; faults = g })

@@ -13,10 +13,11 @@ use Rattle.fo_order.specs.Turns.{IsQuiet, flag_at}
 use Rattle.fo_ports.specs.Causes.{IsFull}
 use Rattle.fo_ports.specs.State.{Rests}
 use Rattle.fo_unlink.specs.Pending.{Pending}
-use Rattle.fo_waits.specs.Listed.{Clears}
+use Rattle.fo_waits.specs.Listed.{Clears, ClearsAfter}
+use Rattle.fo_mind.specs.Due.{is_over}
 use Rattle.fo_mind.specs.Parts.{CacheKeeps, IsBlock, IsNewborn, IsPinned, Parts, bytes_at, label_at, state_of}
 use Rattle.fo_mind.specs.Turning.{is_changed, is_pinned_at, may_release}
-use Rattle.fo_settling.specs.Clearings.{Clearings}
+use Rattle.fo_settling.specs.Clearings.{Clearings, IsCleared}
 use Rattle.fo_closing.specs.Closings.{Closings}
 use Rattle.fo_closing.specs.Rest.{AtRest}
 
@@ -66,7 +67,7 @@ pub record Row : Type 0 where
   pub left : Pending
 
 -- They were taken where all is settled and at rest, and nothing is held but what is newborn; over the device as it was then, which has
--- memory's bytes of each block of the tree, and the queue of memory.
+-- memory's bytes of each block of the tree, and the queue of memory. After them all is at rest.
 pub record IsRow (r : Row) : Type 0 where
   pub quiet : IsQuiet r.before.turns
   pub rest : AtRest r.before
@@ -75,15 +76,23 @@ pub record IsRow (r : Row) : Type 0 where
   pub queue : r.queue.removals ≡ r.before.removals
   pub left : r.left.removals ≡ r.after.removals
   pub closes : Closings r.before.disk r.before r.after r.queue r.left
+  pub rested : AtRest r.after
 
 -- Labels change and removals leave the queue by these turns of closing, and by nothing else.
 abbrev pub ClosesBy : List Row → Parts → Parts → Type 0
 ClosesBy [] p q = KeepsLabels p q
 ClosesBy (r ∷ rs) p q = KeepsLabels p r.before × IsRow r × ClosesBy rs r.after q
 
+-- Each slot that waited waits still, or it waited for a leaf that is settled and has no turn at the end, if that is a data block; but it may
+-- have one again where a slot of its own was cleared.
+abbrev pub AfterData : Parts → Parts → Type 0
+AfterData p q = (b j : ℕ) → Clears p.clears b j → Clears q.clears b j ⊎ ((leaf : ℕ) × ClearsAfter p.clears b j leaf × (p.region.first ≤ leaf → (is_over q.turns leaf ≡ true) ⊎ IsCleared p q leaf))
+
+-- Blocks are closed by these rows alone. Whatever the states in between, the leaves of slots that were cleared are settled at the end.
 pub record ClosesAtRest (p q : Parts) : Type 0 where
   pub rows : List Row
   pub closes : ClosesBy rows p q
+  pub after : AfterData p q
 
 -- What steps of a reservation leave, in the words of calls on blocks; labels that changed have their places in blocks of labels; and which
 -- blocks are closed.

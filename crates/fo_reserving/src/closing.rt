@@ -7,6 +7,7 @@ ghost use Rattle.fo_order.specs.Turns.{IsQuiet};
 ghost use Rattle.fo_ports.specs.Causes.{Caused};
 ghost use Rattle.fo_mind.specs.MindParts.{parts};
 ghost use Rattle.fo_mind.specs.Parts.{IsNewborn};
+ghost use Rattle.fo_closing.specs.Leaves.{Leaves};
 ghost use Rattle.fo_closing.specs.Rest.{AtRest};
 ghost use Rattle.fo_reserving.specs.Steps.{Reserves};
 
@@ -15,16 +16,18 @@ use fo_closing::close_until;
 use fo_disk::Disk;
 use fo_ports::BlockError;
 
-// Closes blocks, where a removal is queued.
-fn close_queued<D: Disk>(cache: &mut Cache<D>, blocks: u32) -> Result<(), BlockError>
+/// Closes blocks that left the tree, where a removal is queued, until so many are usable or none is left. Nothing is written.
+pub fn close_queued<D: Disk>(cache: &mut Cache<D>, blocks: u32) -> Result<(), BlockError>
     requires some { 0 < length (parts cache.old.mind [] 0).removals }
     requires quiet { IsQuiet (parts cache.old.mind [] 0).turns }
     requires rest { AtRest (parts cache.old.mind [] 0) }
     requires held { (b : ℕ) → is_some (held_at (parts cache.old.mind [] 0).held b) ≡ true → IsNewborn (parts cache.old.mind [] 0).facts b }
     ensures over { OnOk result ((blocks ≤ usable_count (parts cache.new.mind [] 0).one.low (parts cache.new.mind [] 0).region) ⊎ ((parts cache.new.mind [] 0).removals ≡ [])) }
     ensures rest { AtRest (parts cache.new.mind [] 0) }
+    ensures shuts { Leaves (D.state cache.old.main).holds (parts cache.old.mind (D.state cache.old.main).holds (D.faults cache.old.main)) (parts cache.new.mind (D.state cache.new.main).holds (D.faults cache.new.main)) }
     ensures leaves { Reserves (parts cache.old.mind (D.state cache.old.main).holds (D.faults cache.old.main)) (parts cache.new.mind (D.state cache.new.main).holds (D.faults cache.new.main)) }
     ensures size { D.size cache.new.main ≡ D.size cache.old.main }
+    ensures state { D.state cache.new.main ≡ D.state cache.old.main }
     ensures cause { IfErr result (Caused ⊥ (λ b. ⊥) (Rose (D.faults cache.old.main) (D.faults cache.new.main)) ⊥) }
     ensures later { D.faults cache.old.main ≤ D.faults cache.new.main }
 {

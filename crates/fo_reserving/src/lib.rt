@@ -9,9 +9,11 @@
 //!
 //! Proved: where it answers Ok there is room, and nothing is pinned; whatever it answers, what isn't doomed stays (`Rests`), with what
 //! every call keeps. Labels change, and removals leave the queue, by turns of closing alone, taken at rest over the queue as it was
-//! (`ClosesAtRest`); where a slot waited, a settling may have queued more. It is refused where the device failed, for want of memory, when
+//! (`ClosesAtRest`); where a slot waited, a settling may have queued more, and its leaf is settled then. It is refused where
+//! the device failed, for want of memory, when
 //! nothing is pinned and nothing is held that may be given up, and with `Full` only where too few blocks are usable, all is settled for
-//! certain, no removal is queued and no slot waits. `unpin_all` leaves nothing pinned, and `release_all` no block that may be given up.
+//! certain, no removal is queued and no slot waits. `unpin_all` leaves nothing pinned, `give_up_all` beside that no block that may be given
+//! up, and `close_queued` no removal, or so many usable blocks.
 //!
 //! Not proved here: what is said of crash images, places and moments; which removals a settling queues; what the blocks hold that turns of
 //! closing look at; how much is held between two settlings.
@@ -22,5 +24,6 @@ mod needs;
 mod pins;
 mod rest;
 
+pub use closing::close_queued;
 pub use needs::reserve;
-pub use pins::{release_all, unpin_all};
+pub use pins::{give_up_all, unpin_all};

@@ -82,6 +82,7 @@ pub fn release_all<D: Disk>(cache: &mut Cache<D>)
 /// Ends all pins, and gives each block up that may be. It goes over all addresses.
 pub fn give_up_all<D: Disk>(cache: &mut Cache<D>)
     ensures all { GivesAll (parts cache.new.mind [] 0) }
+    ensures lets { Lets (parts cache.old.mind [] 0) (parts cache.new.mind [] 0) }
     ensures leaves { Reserves (parts cache.old.mind (D.state cache.old.main).holds (D.faults cache.old.main)) (parts cache.new.mind (D.state cache.new.main).holds (D.faults cache.new.main)) }
     ensures device { cache.new.main ≡ cache.old.main }
 {

@@ -1,1 +1,2 @@
 pub mod Clearings
+pub mod Costs

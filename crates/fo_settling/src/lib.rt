@@ -5,9 +5,12 @@
 //!
 //! Proved: where it answers Ok, nothing has a turn, no slot waits, what is dirty is newborn, and what
 //! is pinned is newborn or sealed; whatever it answers, what isn't doomed
-//! stays (`Rests`), pinned blocks are what they were but for slots that waited, labels, pins, seals and room stay, and no removal is lost.
+//! stays (`Rests`), pinned blocks are what they were but for slots that waited, labels, pins, seals and room stay, and no removal is lost;
+//! and of each slot that was cleared the leaf is settled at the end (`Clearings`), but where a slot of that leaf was cleared, too.
 //! It is refused where the device failed, or for want of memory. Then what was settled until then stays so. The device is called at most
-//! twice for each dirty block, three times for each slot that waits, and three times beside that (`calls_left` of `fo_cache`).
+//! twice for each dirty block, three times for each slot that waits, and three times beside that (`calls_left` of `fo_cache`). Where slots
+//! wait only for leaves of which no slot waits, it is called at most four times for each block that is dirty or of which a slot waits, and four
+//! times beside that, and each such block is written at most twice (`Costs`).
 //!
 //! Not proved here: what is said of crash images, places and moments.
 #![tactic(auto)]

@@ -4,9 +4,10 @@ use Rattle.std.specs.List.{Contains}
 use Rattle.std.specs.Option.{option_map_or}
 use Rattle.std.proofs.lemmas.Bool.{cases_eq}
 use Rattle.lru.proofs.CallerLemmas.{Contains-remove_entry}
-use Rattle.lru.proofs.Splits.{Contains-cons, Contains-nil}
+use Rattle.lru.proofs.Splits.{Contains-cons, Contains-head, Contains-nil, Contains-tail}
 use Rattle.fo_disk.specs.Disk.{Block, Versions, latest_of, versions_of}
 use Rattle.fo_disk.specs.Disk.{Content as Holds}
+use Rattle.fo_image.specs.declared.types.Kind.{Kind}
 use Rattle.fo_image.specs.declared.types.Label.{Label}
 use Rattle.fo_image.specs.declared.types.State.TheVariants.{Closed as Shut, Live}
 use Rattle.fo_image.specs.Place.{label_block}
@@ -17,11 +18,12 @@ use Rattle.fo_labels.specs.Region.{IsDataBlock, Region, closed_label, usable_cou
 use Rattle.fo_order.specs.declared.marks.Flags.{Flags}
 use Rattle.fo_order.specs.Keeps.{Turns}
 use Rattle.fo_order.specs.Turns.{changed, flag_at}
-use Rattle.fo_ports.specs.State.{IsChanging}
+use Rattle.fo_ports.specs.State.{IsChanging, IsShut}
 use Rattle.fo_facts.specs.Known.{fact_at}
 use Rattle.fo_unlink.specs.declared.removal.Removal.{Removal}
 use Rattle.fo_unlink.specs.declared.way.Frame.{Frame}
-use Rattle.fo_unlink.specs.Pending.{Pending, remaining}
+use Rattle.fo_unlink.specs.Pending.{Pending, first_removal, remaining}
+use Rattle.fo_unlink.specs.Steps.{ClosesNext}
 use Rattle.fo_waits.specs.declared.listed.Clearing.{Clearing}
 use Rattle.fo_waits.specs.declared.listed.Wait.{Wait}
 use Rattle.fo_waits.specs.Listed.{Awaits, Clears}
@@ -35,7 +37,7 @@ use Rattle.fo_closing.proofs.Keeping.{listed_apart}
 use Rattle.fo_closing.specs.declared.turn.Closing.{Closing}
 use Rattle.fo_closing.specs.declared.turn.Closing.TheVariants.{Closed as ClosedIs, Reads, Stays, GivenUp as IsGivenUp, Empty as IsEmpty}
 use Rattle.fo_closing.specs.Closed.{Closed}
-use Rattle.fo_closing.specs.Known.{Looked}
+use Rattle.fo_closing.specs.Known.{IsClosable, Looked}
 use Rattle.fo_closing.specs.Rest.{AtRest}
 use Rattle.fo_closing.specs.Turned.{Turned}
 use Rattle.fo_cache.specs.Fits.{Fits, FitsLabels}
@@ -120,6 +122,12 @@ fitting_queue holds p rs = record {
   fits = λ unsure fits. record { each = fits.each };
   labels = λ unsure fits. record { each = fits.each };
 }
+
+-- A block goes by this removal, which is queued: it is of the tag of the block with which that begins, and is that block where it goes alone.
+pub record GoesBy (removals : List Removal) (region : Region) (w : Removal) (at : ℕ) : Type 0 where
+  pub queued : Contains removals w
+  pub alone : w.whole ≡ false → at ≡ w.at
+  pub tag : (label_at region at).tag ≡ (label_at region w.at).tag
 
 -- a block was closed, and nothing of it is clean
 module _ (holds : Holds) (p q r : Parts) {at epoch first count : ℕ} (placed : Placed p.region p.turns p.facts first count) (c : Closed at epoch p q) (f : Forgets at q r) where
@@ -216,8 +224,8 @@ module _ (holds : Holds) (p q r : Parts) {at epoch first count : ℕ} (placed : 
   beyond b ne = ap (λ (t : Turns). (flag_at t b).dirty) turns ∙ ap (λ (f : Flags). f.dirty) (change_other p.turns (label_block at) 0 b ne)
 
   -- where a removal was queued, whatever is left of it
-  pub yields_closed : (rs : List Removal) → 0 < length rs → length p.removals ≤ length rs → Turning first p.held p.turns p.facts → Standing p.held p.facts p.clears → Yields (record p { removals = rs }) r
-  yields_closed rs some fewer turning standing = record {
+  pub yields_closed : (rs : List Removal) (w : Removal) → w.epoch ≡ epoch → GoesBy rs p.region w at → ((x : Removal) → Contains p.removals x → Contains rs x) → 0 < length rs → length p.removals ≤ length rs → Turning first p.held p.turns p.facts → Standing p.held p.facts p.clears → Yields (record p { removals = rs }) r
+  yields_closed rs w at_epoch goes only some fewer turning standing = record {
     rests = record {
       blocks = λ tells. absurd tells;
       images = record { each = λ image h. absurd h };
@@ -234,6 +242,7 @@ module _ (holds : Holds) (p q r : Parts) {at epoch first count : ℕ} (placed : 
       apart = λ b. let e = ap (λ f. f.apart) (facts b) in (λ h. sym e ∙ h, λ h. e ∙ h);
       instead = λ b x. let e = ap (λ f. f.apart) (facts b) in let o = ap (λ f. f.origin) (facts b) in (λ h. (sym e ∙ h.0, sym o ∙ h.1), λ h. (e ∙ h.0, o ∙ h.1));
       newborn = λ b h. sym (ap (λ f. f.linked) (facts b)) ∙ h;
+      newborns = λ b h. ap (λ f. f.linked) (facts b) ∙ h;
       kept = λ b block was now. ⊎_elim
           (λ e. absurd (not_changing b e was))
           (λ ne.
@@ -241,9 +250,10 @@ module _ (holds : Holds) (p q r : Parts) {at epoch first count : ℕ} (placed : 
           known_of (record p { removals = rs }) r b clears (same_memory (record p { removals = rs }) r b h.0 h.0 (label_then b ne) one one_bytes h.1 (others b ne ∙ h.1) refl))
           (cases_eq b at);
       labels = λ b. ⊎_elim
-          (λ e. inr (inl some, subst (λ n. (label_at p.region n).state ≡ Live) (sym e) c.may.live, λ live. live_shut (sym live ∙ ap (λ n. (label_at r.region n).state) e ∙ ap (λ (l : Label). l.state) label_now)))
+          (λ e. inr (subst (IsShut (state_of (record p { removals = rs })) (state_of r)) (sym e) shut))
           (λ ne. inl (label_then b ne))
           (cases_eq b at);
+      removes = λ b e whole h. inl (h.0, only h.0 (subst (λ (xs : List Removal). Contains xs h.0) removals h.1), h.2, h.3, h.4);
       queues = λ h. inl some;
       usable = let u = c.usable in let e = same_usable in omega (arith, u, e);
       settled = λ was. absurd (let e = was.empty in omega (arith, e, some));
@@ -272,6 +282,25 @@ module _ (holds : Holds) (p q r : Parts) {at epoch first count : ℕ} (placed : 
       granted : r.granted ≡ p.granted
       granted = ap (λ (z : Parts). z.granted) f.rest ∙ ap (λ (z : Parts). z.granted) c.rest
 
+      removals : r.removals ≡ p.removals
+      removals = ap (λ (z : Parts). z.removals) f.rest ∙ ap (λ (z : Parts). z.removals) c.rest
+
+      shut : IsShut (state_of (record p { removals = rs })) (state_of r) at
+      shut = record {
+        closing = inl some;
+        removal = w.at;
+        epoch = epoch;
+        whole = w.whole;
+        may = inl (w, goes.queued, refl, at_epoch, refl);
+        alone = goes.alone;
+        live = c.may.live;
+        is = label_now;
+        tag = goes.tag;
+        begun = c.may.begun;
+        other = c.may.other;
+        linked = λ h. never (sym c.may.linked ∙ h);
+      }
+
       same_usable : usable_count r.one.low r.region ≡ usable_count p.one.low q.region
       same_usable = ap (λ (x : Region). usable_count r.one.low x) region ∙ ap (λ o. usable_count o.low q.region) one
 
@@ -297,6 +326,7 @@ still_looked p q turning standing is_first l = record {
   clears = ap (λ (z : Parts). z.clears) l.rest;
   waits = ap (λ (z : Parts). z.waits) l.rest;
   removals = let e = ap (λ (z : Parts). length z.removals) l.rest in omega (arith, e);
+  only = λ r h. subst (λ (rs : List Removal). Contains rs r) (ap (λ (z : Parts). z.removals) l.rest) h;
   next = ap (λ (z : Parts). z.next) l.rest;
   granted = ap (λ (z : Parts). z.granted) l.rest;
   dirty = λ b d. ⊎_elim
@@ -309,8 +339,8 @@ still_looked p q turning standing is_first l = record {
   faults = l.faults;
 }
 
-pub still_queue : (p : Parts) (rs : List Removal) → length rs ≤ length p.removals → Still p (record p { removals = rs })
-still_queue p rs fewer = record {
+pub still_queue : (p : Parts) (rs : List Removal) → length rs ≤ length p.removals → ((r : Removal) → Contains rs r → Contains p.removals r) → Still p (record p { removals = rs })
+still_queue p rs fewer only = record {
   region = refl;
   one = refl;
   apart = λ b. refl;
@@ -319,6 +349,7 @@ still_queue p rs fewer = record {
   clears = refl;
   waits = refl;
   removals = fewer;
+  only = only;
   next = refl;
   granted = refl;
   dirty = λ b d. d;
@@ -340,6 +371,30 @@ some_left : (rs : List Removal) (r : Removal) → slice_get rs 0 ≡ Some r → 
 some_left [] r e = cc
 some_left (x ∷ rs) r e = omega (arith)
 
+drop_only : (rs : List Removal) (r : Removal) → Contains (drop 1 rs) r → Contains rs r
+drop_only [] r h = h
+drop_only (x ∷ rs) r h = Contains-tail x rs r h
+
+-- what is left was queued
+left_only : (rs : List Removal) (way : List Frame) (r : Removal) → Contains (remaining rs way) r → Contains rs r
+left_only rs [] r h = drop_only rs r h
+left_only rs (f ∷ fs) r h = h
+
+first_queued : (rs : List Removal) (r : Removal) → slice_get rs 0 ≡ Some r → Contains rs r
+first_queued [] r e = absurd cc
+first_queued (x ∷ rs) r e = let same : x ≡ r = cc in subst (Contains (x ∷ rs)) same (Contains-head x rs)
+
+same_removals : {xs ys : List Removal} → xs ≡ ys → (r : Removal) → Contains xs r → Contains ys r
+same_removals e r h = subst (λ (rs : List Removal). Contains rs r) e h
+
+-- what a step closes goes by the first removal
+goes_by : (m : Parts) (u v : Pending) (block : List ℕ) (w : Removal) (kind : Kind) (b : ℕ) → m.removals ≡ u.removals → first_removal u ≡ Some w → ClosesNext true u block v b → IsClosable m w kind b → GoesBy m.removals m.region w b
+goes_by m u v block w kind b same first n may = record {
+  queued = same_removals (sym same) w (first_queued u.removals w first);
+  alone = let e : n.first ≡ w = (let x : Some n.first ≡ Some w = sym n.goes_on.first ∙ first in cc) in λ h. n.alone (ap (λ (x : Removal). x.whole) e ∙ h) ∙ ap (λ (x : Removal). x.at) e;
+  tag = may.part.tag;
+}
+
 -- what a step leaves
 pub record Carries (p q : Parts) (holds : Holds) : Type 0 where
   pub fitting : Fitting p q holds
@@ -352,13 +407,13 @@ module _ (holds : Holds) (p : Parts) {first count : ℕ} (placed : Placed p.regi
   pub looks : (q : Parts) → Looked holds p q → Carries p q holds
   looks q l = record { fitting = fitting_looked holds p q turning placed.is_first l; yields = yields_still p q (still_looked p q turning standing placed.is_first l) }
 
-  pub queues : (q : Parts) (rs : List Removal) → length rs ≤ length p.removals → q ≡ record p { removals = rs } → Carries p q holds
-  queues q rs fewer is = subst (λ (z : Parts). Carries p z holds) (sym is) (record { fitting = fitting_queue holds p rs; yields = yields_still p (record p { removals = rs }) (still_queue p rs fewer) })
+  pub queues : (q : Parts) (rs : List Removal) → length rs ≤ length p.removals → ((x : Removal) → Contains rs x → Contains p.removals x) → q ≡ record p { removals = rs } → Carries p q holds
+  queues q rs fewer only is = subst (λ (z : Parts). Carries p z holds) (sym is) (record { fitting = fitting_queue holds p rs; yields = yields_still p (record p { removals = rs }) (still_queue p rs fewer only) })
 
-  pub shuts : (rs : List Removal) (q r : Parts) {at epoch : ℕ} → 0 < length p.removals → length rs ≤ length p.removals → Closed at epoch (record p { removals = rs }) q → Forgets at q r → Carries p r holds
-  shuts rs q r some fewer c f = record {
+  pub shuts : (rs : List Removal) (q r : Parts) (w : Removal) {at : ℕ} → GoesBy p.removals p.region w at → ((x : Removal) → Contains rs x → Contains p.removals x) → 0 < length p.removals → length rs ≤ length p.removals → Closed at w.epoch (record p { removals = rs }) q → Forgets at q r → Carries p r holds
+  shuts rs q r w goes only some fewer c f = record {
     fitting = fitting_on (fitting_queue holds p rs) (fitting_closed holds (record p { removals = rs }) q r placed c f);
-    yields = yields_closed holds (record p { removals = rs }) q r placed c f p.removals some fewer turning standing;
+    yields = yields_closed holds (record p { removals = rs }) q r placed c f p.removals w refl goes only some fewer turning standing;
   }
 
 module _ (holds : Holds) (p : Parts) (u v : Pending) {first count : ℕ} (placed : Placed p.region p.turns p.facts first count) (turning : Turning first p.held p.turns p.facts) (standing : Standing p.held p.facts p.clears) (same : p.removals ≡ u.removals) where
@@ -368,6 +423,10 @@ module _ (holds : Holds) (p : Parts) (u v : Pending) {first count : ℕ} (placed
   mid : (m : Parts) → Looked holds p m → m.removals ≡ u.removals
   mid m l = ap (λ (z : Parts). z.removals) l.rest ∙ same
 
+  -- what a queue has left was queued
+  left : (m : Parts) → Looked holds p m → (x : Removal) → Contains (remaining u.removals v.way) x → Contains m.removals x
+  left m l x h = same_removals (sym (mid m l)) x (left_only u.removals v.way x h)
+
   pub carries : (answer : Closing) (closed q : Parts) → Turned holds answer p closed u v → Forgotten answer closed q → Carries p q holds
   carries (ClosedIs b) closed q t f =
       let m = t.mid in
@@ -376,26 +435,28 @@ module _ (holds : Holds) (p : Parts) (u v : Pending) {first count : ℕ} (placed
       let n = some_left u.removals t.first t.is_first in
       let w = fewer_left u.removals v.way in
       let e = ap length t.went.0.removals in
-      after m l (shuts holds m (placed_looked p m l placed) (turning_looked p m l turning) (standing_looked p m l standing) v.removals closed q (omega (arith, k, n)) (omega (arith, k, w, e)) t.went.2 f)
+      let only : (x : Removal) → Contains v.removals x → Contains m.removals x = λ x h. left m l x (same_removals t.went.0.removals x h) in
+      let goes = goes_by m u v t.block t.first _ b (mid m l) t.is_first t.went.0 t.went.1 in
+      after m l (shuts holds m (placed_looked p m l placed) (turning_looked p m l turning) (standing_looked p m l standing) v.removals closed q t.first goes only (omega (arith, k, n)) (omega (arith, k, w, e)) t.went.2 f)
   carries (Stays b) closed q t f =
       let m = t.mid in
       let l = t.looked in
       let k = ap length (mid m l) in
       let w = fewer_left u.removals v.way in
       let e = ap length t.went.0.removals in
-      after m l (queues holds m (placed_looked p m l placed) (turning_looked p m l turning) (standing_looked p m l standing) q v.removals (omega (arith, k, w, e)) (f ∙ t.went.2))
+      after m l (queues holds m (placed_looked p m l placed) (turning_looked p m l turning) (standing_looked p m l standing) q v.removals (omega (arith, k, w, e)) (λ x h. left m l x (same_removals t.went.0.removals x h)) (f ∙ t.went.2))
   carries (Reads b) closed q t f =
       let m = t.mid in
       let l = t.looked in
       let k = ap length (mid m l) in
       let e = ap length t.went.0.removals in
-      after m l (queues holds m (placed_looked p m l placed) (turning_looked p m l turning) (standing_looked p m l standing) q v.removals (omega (arith, k, e)) (f ∙ t.went.1))
+      after m l (queues holds m (placed_looked p m l placed) (turning_looked p m l turning) (standing_looked p m l standing) q v.removals (omega (arith, k, e)) (λ x h. same_removals (sym (mid m l)) x (same_removals t.went.0.removals x h)) (f ∙ t.went.1))
   carries IsGivenUp closed q t f =
       let k = ap length same in
       let n = drop_length u.removals in
       let e = ap (λ (x : Pending). length x.removals) t.is in
-      queues holds p placed turning standing q v.removals (omega (arith, k, n, e)) (f ∙ t.rest)
-  carries IsEmpty closed q t f = queues holds p placed turning standing q p.removals (omega arith) (f ∙ t.2)
+      queues holds p placed turning standing q v.removals (omega (arith, k, n, e)) (λ x h. same_removals (sym same) x (drop_only u.removals x (same_removals (ap (λ (z : Pending). z.removals) t.is) x h))) (f ∙ t.rest)
+  carries IsEmpty closed q t f = queues holds p placed turning standing q p.removals (omega arith) (λ x h. h) (f ∙ t.2)
 
 -- ---- at rest
 

@@ -11,14 +11,14 @@ use Rattle.fo_order.specs.Keeps.{Turns}
 use Rattle.fo_order.specs.Turns.{IsDue, IsNext, IsQuiet, flag_at}
 use Rattle.fo_labels.specs.Region.{Region}
 use Rattle.fo_ports.specs.declared.error.BlockError.{BlockError}
-use Rattle.fo_mind.specs.Parts.{Parts}
-use Rattle.fo_mind.specs.Sound.{Placed}
+use Rattle.fo_mind.specs.Parts.{Parts, label_at}
+use Rattle.fo_mind.specs.Sound.{IsCurrent, Placed}
 use Rattle.fo_mind.specs.Turning.{KeepsTurn, Missed, Turning}
 use Rattle.fo_mind.proofs.Landing.{within_count}
 use Rattle.fo_mind.proofs.Turning.{missed_here, missed_other}
 use Rattle.fo_cache.specs.Easing.{Eases}
 use Rattle.fo_cache.specs.Settling.{Settles}
-use Rattle.fo_cache.proofs.Easing.{eases_none, eases_on}
+use Rattle.fo_cache.proofs.Easing.{eases_none}
 use Rattle.fo_cache.proofs.Lessening.{next_kept}
 use Rattle.fo_cache.proofs.Outcomes.{last_written}
 use Rattle.fo_cache.proofs.Settling.{wrote_settles}
@@ -89,16 +89,13 @@ misses_missed m q at within l = record {
 pub misses_wrote : (p m q : Parts) (at : ℕ) {first count : ℕ} → Placed m.region m.turns m.facts first count → IsNext p.turns at → KeepsTurn p m → Missed at m q → Misses p q
 misses_wrote p m q at placed next kept l = misses_on p m q (misses_kept p m kept) (misses_missed m q at (within_count at placed (next_kept p m at kept next)).1 l)
 
--- where nothing had a turn and nothing was in doubt
-pub misses_quiet : (p q : Parts) → IsQuiet p.turns → p.doubt ≡ None → Misses p q
-misses_quiet p q quiet certain = record { dirty = λ b d. never (sym d ∙ quiet.clean b); unsettled = λ b s. quiet.settled b; doubt = λ ne. absurd (ne certain) }
-
 -- ---- what a turn did
 
 pub writes_of : (s t : DiskState) (p m q : Parts) (at : ℕ) {first count : ℕ} → Placed m.region m.turns m.facts first count → Turning first m.held m.turns m.facts → IsNext p.turns at → KeepsTurn p m → Lands at s t m q
     → ((k : ℕ) → k ≢ at → versions_of t.holds k ≡ versions_of s.holds k) → Writes at s t p q
 writes_of s t p m q at {first} placed turning next kept lands others = record {
   next = next;
+  current = subst (λ (z : Parts). z.region.first ≤ at → IsCurrent z.one.high (label_at z.region at)) (kept.rest) lands.current;
   roomy = m;
   kept = kept;
   lands = lands;

@@ -1,5 +1,6 @@
 -- Blocks are pinned no more.
 use Rattle.std.proofs.Common.{◌≡◌, ◌≢◌, inl, inr, ⊎_elim, ℕ, zero, suc, ◌≤◌, ◌<◌, Bool, true, false, cond, List, length, set, Option, Some, None, refl, sym, ap, ◌∙◌, subst, arith, length-set}
+use Rattle.std.specs.List.{Contains}
 use Rattle.std.specs.Option.{option_map_or}
 use Rattle.std.proofs.lemmas.Bool.{cases_eq, cases_lt}
 use Rattle.std.proofs.lemmas.List.{get_or-set_same, get_or-set_other, get_or_past}
@@ -10,6 +11,7 @@ use Rattle.fo_order.specs.Turns.{flag_at}
 use Rattle.fo_facts.specs.declared.fact.Fact.{Fact}
 use Rattle.fo_facts.specs.Known.{fact_at, no_fact}
 use Rattle.fo_ports.specs.State.{IsChanging}
+use Rattle.fo_unlink.specs.declared.removal.Removal.{Removal}
 use Rattle.fo_waits.specs.Listed.{Clears}
 use Rattle.fo_closing.proofs.Clearing.{none_clears}
 use Rattle.fo_mind.specs.Laws.{pinned_held}
@@ -84,6 +86,7 @@ still_none p = record {
   clears = refl;
   waits = refl;
   removals = omega arith;
+  only = λ r h. h;
   next = refl;
   granted = refl;
   dirty = λ b d. d;
@@ -128,6 +131,7 @@ module _ (p q : Parts) (at : ℕ) {first : ℕ} (u : Unpinned at p q) (turning :
     clears = ap (λ (z : Parts). z.clears) u.rest;
     waits = ap (λ (z : Parts). z.waits) u.rest;
     removals = let e = ap (λ (z : Parts). length z.removals) u.rest in omega (arith, e);
+    only = λ r h. subst (λ (rs : List Removal). Contains rs r) (ap (λ (z : Parts). z.removals) u.rest) h;
     next = ap (λ (z : Parts). z.next) u.rest;
     granted = ap (λ (z : Parts). z.granted) u.rest;
     dirty = λ b d. ⊎_elim (λ turn. inl (sym (ap (λ (z : Parts). (flag_at z.turns b).dirty) u.rest) ∙ turn)) (λ c. inr (sym (held_dirty b) ∙ c)) d;
@@ -193,6 +197,7 @@ module _ (p q : Parts) (at : ℕ) {first : ℕ} (turning : Turning first p.held 
       clears = ap (λ (z : Parts). z.clears) r.rest;
       waits = ap (λ (z : Parts). z.waits) r.rest;
       removals = let e = ap (λ (z : Parts). length z.removals) r.rest in omega (arith, e);
+      only = λ x h. subst (λ (rs : List Removal). Contains rs x) (ap (λ (z : Parts). z.removals) r.rest) h;
       next = ap (λ (z : Parts). z.next) r.rest;
       granted = ap (λ (z : Parts). z.granted) r.rest;
       dirty = λ b d. ⊎_elim (λ turn. inl (sym (ap (λ (z : Parts). (flag_at z.turns b).dirty) r.rest) ∙ turn)) (λ k. inr (held_less b k)) d;

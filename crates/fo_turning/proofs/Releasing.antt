@@ -20,7 +20,7 @@ use Rattle.fo_waits.specs.declared.listed.Clearing.{Clearing}
 use Rattle.fo_waits.specs.declared.listed.Wait.{Wait}
 use Rattle.fo_bring.specs.Blocks.{IsData}
 use Rattle.fo_mind.specs.Laws.{pinned_held}
-use Rattle.fo_mind.specs.Parts.{IsBlock, IsPinned, Parts, bytes_at, count_of, label_at, state_of}
+use Rattle.fo_mind.specs.Parts.{IsBlock, IsPinned, Parts, bytes_at, label_at}
 use Rattle.fo_mind.specs.Sound.{Holding, Placed, Standing}
 use Rattle.fo_mind.specs.Turning.{Released, Synced, Turning, is_changed, is_settled, may_release}
 use Rattle.fo_mind.proofs.Releasing.{Cuts, MayBe, cuts_of, may_be}

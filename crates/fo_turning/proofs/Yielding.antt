@@ -1,10 +1,10 @@
 -- What turns leave, in the words of calls on blocks.
 use Rattle.std.proofs.Common.{◌≡◌, inl, ⊎_elim, ℕ, ◌≤◌, Bool, true, false, cond, nat_eq, List, length, Option, Some, None, is_some, refl, sym, ap, ◌∙◌, subst, arith}
+use Rattle.std.specs.List.{Contains}
 use Rattle.std.specs.Map.{lookup}
 use Rattle.std.specs.Option.{option_map_or}
 use Rattle.fo_disk.specs.Disk.{latest_of, versions_of}
 use Rattle.fo_image.specs.declared.types.Label.{Label}
-use Rattle.fo_image.specs.declared.types.State.TheVariants.{Live}
 use Rattle.fo_image.specs.Place.{label_block}
 use Rattle.fo_buffers.specs.declared.block.Buffer.{Buffer}
 use Rattle.fo_buffers.specs.Held.{held_at, is_dirty}
@@ -13,6 +13,7 @@ use Rattle.fo_labels.specs.Region.{Region}
 use Rattle.fo_ports.specs.State.{IsChanging, StaysKnown}
 use Rattle.fo_slots.specs.Read.{read}
 use Rattle.fo_facts.specs.Known.{fact_at}
+use Rattle.fo_unlink.specs.declared.removal.Removal.{Removal}
 use Rattle.fo_waits.specs.declared.listed.Clearing.{Clearing}
 use Rattle.fo_waits.specs.declared.listed.Wait.{Wait}
 use Rattle.fo_waits.specs.Listed.{Awaits, Clears}
@@ -20,7 +21,7 @@ use Rattle.fo_mind.specs.Laws.{keeps_joins}
 use Rattle.fo_mind.specs.Parts.{IsBlock, IsDirty, Parts, bytes_of, label_at, memory, one_content, content_at, state_of}
 use Rattle.fo_mind.specs.Sound.{Standing}
 use Rattle.fo_mind.specs.Turning.{Turning}
-use Rattle.fo_cache.proofs.Easing.{rests_joins}
+use Rattle.fo_cache.proofs.Easing.{rests_joins, shut_dead}
 use Rattle.fo_turning.specs.Freed.{Yields}
 
 never : {A : Type 0} → true ≡ false → A
@@ -34,7 +35,7 @@ yields_on {p} {m} {q} a b = record {
   keeps = keeps_joins p m q a.keeps b.keeps;
   far = λ x ne is. ⊎_elim
       (λ same. a.far x (λ e. ne (same ∙ e)) is)
-      (λ c. b.far x (λ e. c.2 (subst (λ (l : Label). l.state ≡ Live) (sym e) c.1)) (block_still (label_block x) is))
+      (λ c. b.far x (λ e. shut_dead (state_of m) (state_of q) x c (ap (λ (l : Label). l.state) e ∙ c.live)) (block_still (label_block x) is))
       (b.rests.labels x);
 }
   where
@@ -98,6 +99,7 @@ pub record Still (p q : Parts) : Type 0 where
   pub clears : q.clears ≡ p.clears
   pub waits : q.waits ≡ p.waits
   pub removals : length q.removals ≤ length p.removals
+  pub only : (r : Removal) → Contains q.removals r → Contains p.removals r
   pub next : q.next ≡ p.next
   pub granted : q.granted ≡ p.granted
   pub dirty : (b : ℕ) → IsDirty q.turns q.held b → IsDirty p.turns p.held b
@@ -119,6 +121,8 @@ yields_still p q s = record {
     apart = λ b. (λ h. sym (s.apart b) ∙ h, λ h. s.apart b ∙ h);
     instead = λ b x. (λ h. (sym (s.apart b) ∙ h.0, sym (s.origin b) ∙ h.1), λ h. (s.apart b ∙ h.0, s.origin b ∙ h.1));
     newborn = λ b h. sym (s.linked b) ∙ h;
+    newborns = λ b h. s.linked b ∙ h;
+    removes = λ r e w h. inl (h.0, s.only h.0 h.1, h.2, h.3, h.4);
     kept = λ b is was now. known_of p q b s.clears (s.known b is was now);
     labels = λ b. inl (ap (λ (r : Region). label_at r b) s.region);
     queues = λ some. inl (let n = s.removals in omega (arith, n, some));

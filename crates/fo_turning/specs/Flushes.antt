@@ -10,7 +10,8 @@ use Rattle.fo_order.specs.declared.marks.Tried.TheVariants.{Settled, Written}
 use Rattle.fo_order.specs.Marks.{mark_at}
 use Rattle.fo_order.specs.Turns.{IsDue, IsNext, IsQuiet, flag_at}
 use Rattle.fo_waits.specs.Listed.{Clears}
-use Rattle.fo_mind.specs.Parts.{Parts, bytes_at}
+use Rattle.fo_mind.specs.Parts.{Parts, bytes_at, label_at}
+use Rattle.fo_mind.specs.Sound.{IsCurrent}
 use Rattle.fo_mind.specs.Turning.{KeepsTurn, Synced, may_release}
 use Rattle.fo_cache.specs.Supers.{Overruled}
 use Rattle.fo_cache.specs.Written.{IsWritten}
@@ -27,10 +28,11 @@ pub record AtIdle (p : Parts) : Type 0 where
 abbrev pub Lands : ℕ → DiskState → DiskState → Parts → Parts → Type 0
 Lands at s t p q = IsWritten {E = Failed} at (Ok tt) s t p q
 
--- The block was written that was next: one of least rank of those that are dirty. What memory has of it is the last that the device has,
--- and no other block was written. Room for its next turn may have been made.
+-- The block was written that was next: one of least rank of those that are dirty. A data block's label is live, and of the high epoch. What
+-- memory has of the block is the last that the device has, and no other block was written. Room for its next turn may have been made.
 pub record Writes (at : ℕ) (s t : DiskState) (p q : Parts) : Type 0 where
   pub next : IsNext p.turns at
+  pub current : p.region.first ≤ at → IsCurrent p.one.high (label_at p.region at)
   pub roomy : Parts
   pub kept : KeepsTurn p roomy
   pub lands : Lands at s t roomy q

@@ -1,12 +1,11 @@
 //! Flushing turns.
-ghost use Rattle.std.specs.Prelude.{◌≡◌, ◌≢◌, ◌↔◌, ◌+◌, ◌<◌, ◌≤◌, ℕ, [], true, length, None, Ok, OnOk, OnErr, IfOk, IfErr};
+ghost use Rattle.std.specs.Prelude.{◌≡◌, ◌≢◌, ◌↔◌, ◌+◌, ◌<◌, ◌≤◌, ℕ, [], true, length, None, Ok, IsOk, OnOk, OnErr, IfOk, IfErr};
 ghost use Rattle.fo_base.specs.Cause.{Rose};
 ghost use Rattle.fo_disk.specs.Disk.{IsSettled, IsSync, versions_of};
 ghost use Rattle.fo_disk.specs.declared.disk.Failed.{Failed};
 ghost use Rattle.fo_order.specs.declared.marks.Tried.TheVariants.{Written};
 ghost use Rattle.fo_order.specs.Turns.{IsDue, IsNext, IsQuiet, flag_at};
 ghost use Rattle.fo_ports.specs.Causes.{Caused};
-ghost use Rattle.fo_ports.specs.declared.error.BlockError.TheVariants.{Memory as Wanting};
 ghost use Rattle.fo_waits.specs.Listed.{Clears};
 ghost use Rattle.fo_mind.specs.MindParts.{parts};
 ghost use Rattle.fo_mind.specs.Parts.{IsPinned};
@@ -38,20 +37,19 @@ pub enum Flushed {
 }
 
 // Clears the next slot whose leaf is settled, where nothing else is to be done.
-fn clear_next<D: Disk>(cache: &mut Cache<D>) -> Result<Flushed, BlockError>
+fn clear_next<D: Disk>(cache: &mut Cache<D>) -> Flushed
     requires quiet { IsQuiet (parts cache.old.mind [] 0).turns }
     requires certain { (parts cache.old.mind [] 0).doubt ≡ None }
-    ensures does { IfOk result (λ f. Does f (D.state cache.old.main) (D.state cache.new.main) (parts cache.old.mind [] 0) (parts cache.new.mind [] 0)) }
-    ensures idle { ((b j : ℕ) → Clears (parts cache.old.mind [] 0).clears b j → ⊥) → result ≡ Ok Idle }
+    ensures does { Does result (D.state cache.old.main) (D.state cache.new.main) (parts cache.old.mind [] 0) (parts cache.new.mind [] 0) }
+    ensures idle { ((b j : ℕ) → Clears (parts cache.old.mind [] 0).clears b j → ⊥) → result ≡ Idle }
     ensures eases { Eases (parts cache.old.mind (D.state cache.old.main).holds (D.faults cache.old.main)) (parts cache.new.mind (D.state cache.new.main).holds (D.faults cache.new.main)) }
     ensures device { cache.new.main ≡ cache.old.main }
-    ensures cause { IfErr result (λ e. e ≡ Wanting) }
 {
     let Some((at, i)) = cache.next_due() else {
-        return Ok(Flushed::Idle);
+        return Flushed::Idle;
     };
-    cache.clear_due(at, i)?;
-    Ok(Flushed::Cleared)
+    cache.clear_due(at, i);
+    Flushed::Cleared
 }
 
 // Writes block 1 as memory has it, and settles it with all that was written.
@@ -161,6 +159,7 @@ fn take_turn<D: Disk>(cache: &mut Cache<D>) -> Result<Flushed, BlockError>
     ensures idle { AtIdle (parts cache.old.mind [] 0) → result ≡ Ok Idle }
     ensures eases { Eases (parts cache.old.mind (D.state cache.old.main).holds (D.faults cache.old.main)) (parts cache.new.mind (D.state cache.new.main).holds (D.faults cache.new.main)) }
     ensures misses { OnErr result (Misses (parts cache.old.mind [] 0) (parts cache.new.mind [] 0)) }
+    ensures sure { IsQuiet (parts cache.old.mind [] 0).turns → (parts cache.old.mind [] 0).doubt ≡ None → IsOk result }
     ensures calls { AtMost (1 + in_doubt (parts cache.old.mind [] 0).doubt) (D.calls cache.old.main) (D.calls cache.new.main) }
     ensures size { D.size cache.new.main ≡ D.size cache.old.main }
     ensures cause { IfErr result (Caused ⊥ (λ b. ⊥) (Rose (D.faults cache.old.main) (D.faults cache.new.main)) ⊥) }
@@ -172,19 +171,20 @@ fn take_turn<D: Disk>(cache: &mut Cache<D>) -> Result<Flushed, BlockError>
     match cache.next_turn() {
         Turn::Write(at) => write_next(cache, at),
         Turn::Sync => sync_written(cache),
-        Turn::Idle => clear_next(cache),
+        Turn::Idle => Ok(clear_next(cache)),
     }
 }
 
 /// Takes one step of a settling, and answers which: a write, a sync, or a slot that is cleared. The device is called once at most, and
-/// twice where block 1 is in doubt. What a sync settled is given up where it may be. It may want memory: for the turn of a pinned block or
-/// of one in which a slot is cleared, and for the list of what is settled; then it did nothing.
+/// twice where block 1 is in doubt. What a sync settled is given up where it may be. It may want memory, for the turn of a pinned block and for
+/// the list of what is settled; then it did nothing. Where nothing is to be written or settled it doesn't fail.
 pub fn flush_turn<D: Disk>(cache: &mut Cache<D>) -> Result<Flushed, BlockError>
     ensures does { IfOk result (λ f. Does f (D.state cache.old.main) (D.state cache.new.main) (parts cache.old.mind [] 0) (parts cache.new.mind [] 0)) }
     ensures idle { (result ≡ Ok Idle) ↔ AtIdle (parts cache.old.mind [] 0) }
     ensures still { AtIdle (parts cache.old.mind [] 0) → parts cache.new.mind [] 0 ≡ parts cache.old.mind [] 0 }
     ensures eases { Eases (parts cache.old.mind (D.state cache.old.main).holds (D.faults cache.old.main)) (parts cache.new.mind (D.state cache.new.main).holds (D.faults cache.new.main)) }
     ensures misses { OnErr result (Misses (parts cache.old.mind [] 0) (parts cache.new.mind [] 0)) }
+    ensures sure { IsQuiet (parts cache.old.mind [] 0).turns → (parts cache.old.mind [] 0).doubt ≡ None → IsOk result }
     ensures calls { AtMost (1 + in_doubt (parts cache.old.mind [] 0).doubt) (D.calls cache.old.main) (D.calls cache.new.main) }
     ensures size { D.size cache.new.main ≡ D.size cache.old.main }
     ensures cause { IfErr result (Caused ⊥ (λ b. ⊥) (Rose (D.faults cache.old.main) (D.faults cache.new.main)) ⊥) }

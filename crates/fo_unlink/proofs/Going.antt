@@ -77,8 +77,8 @@ covered tree r rs f fs =
 
 -- ---- the answer
 
-pub goes : (settled : Bool) (old mid new : Pending) (block : List ℕ) (r : Removal) (rs : List Removal) (at level : ℕ) (result : Step) → old.removals ≡ r ∷ rs → settled ≡ true → mid.removals ≡ old.removals → mid.room ≡ old.room → mid.asked ≡ false → level < reads_left old → ((tree : Tree) → IsContent tree old block → left tree old ≡ before tree r rs level at mid.way) → (level ≡ 0 → (result ≡ Closes at) × (new ≡ closed mid)) → (0 < level → (result ≡ Reads at) × (new ≡ entered mid at level)) → Answers settled old block new result
-goes settled old mid new block r rs at level result removals is same room unasked nearer left leaf inner =
+pub goes : (settled : Bool) (old mid new : Pending) (block : List ℕ) (r : Removal) (rs : List Removal) (at level : ℕ) (result : Step) → old.removals ≡ r ∷ rs → (r.whole ≡ false → at ≡ r.at) → settled ≡ true → mid.removals ≡ old.removals → mid.room ≡ old.room → mid.asked ≡ false → level < reads_left old → ((tree : Tree) → IsContent tree old block → left tree old ≡ before tree r rs level at mid.way) → (level ≡ 0 → (result ≡ Closes at) × (new ≡ closed mid)) → (0 < level → (result ≡ Reads at) × (new ≡ entered mid at level)) → Answers settled old block new result
+goes settled old mid new block r rs at level result removals alone is same room unasked nearer left leaf inner =
     let first : first_removal old ≡ Some r = rw removals refl in
     let all : mid.removals ≡ r ∷ rs = same ∙ removals in
     ⊎_elim
@@ -90,6 +90,7 @@ goes settled old mid new block r rs at level result removals is same room unaske
       goes_on = record { first = first; settled_is = is; room = room };
       removals = ap (λ xs. remaining xs mid.way) same;
       unasked = unasked;
+      alone = alone;
       next = λ tree content. rw all (left tree content ∙ ap (λ n. before tree r rs n at mid.way) none ∙ after-close tree r rs at mid.way);
     })
     (λ (h : 1 ≤ level).
@@ -126,13 +127,30 @@ reads_none : (b : Bool) → reads_of b [] ≡ 5
 reads_none true = refl
 reads_none false = refl
 
+whole_alone : (b : Bool) → b ≡ true → b ≡ false → ⊥
+whole_alone true p e = cc
+whole_alone false p e = cc
+
+-- a removal that begins above the leaves takes what hangs below its block
+pub begins_whole : (r : Removal) → 0 < start_level r → r.whole ≡ true
+begins_whole r lt = by r.whole refl
+  where
+    by : (b : Bool) → r.whole ≡ b → r.whole ≡ true
+    by true e = e
+    by false e = absurd (let z : start_level r ≡ 0 = ap (λ b. cond {A = ℕ} b (level_of r.kind) 0) e in omega (arith, lt, z))
+
+-- some block is on the way
+pub way_some : (way : List Frame) (f : Frame) → Some f ≡ slice_get way 0 → 0 < length way
+way_some [] f is = absurd (cc)
+way_some (g ∷ gs) f is = omega arith
+
 pub begins : (settled : Bool) (old new : Pending) (block : List ℕ) (r : Removal) (level : ℕ) (result : Step) → Some r ≡ first_removal old → settled ≡ true → None ≡ slice_get old.way 0 → level ≡ start_level r → level ≤ 4 → (level ≡ 0 → (result ≡ Closes r.at) × (new ≡ closed (unasked old))) → (0 < level → (result ≡ Reads r.at) × (new ≡ entered (unasked old) r.at level)) → Answers settled old block new result
 begins settled old new block r level result first is none start small leaf inner =
     let rs = drop 1 old.removals in
     let all = head_is old.removals r first in
     let empty = none_is old.way none in
     let reads : reads_left old ≡ 5 = rw empty (reads_none old.asked) in
-    goes settled old (unasked old) new block r rs r.at level result all is refl refl refl (omega arith)
+    goes settled old (unasked old) new block r rs r.at level result all (λ e. refl) is refl refl refl (omega arith)
     (λ tree content. rw (all, empty, start) (before-begin tree r rs))
     leaf inner
 
@@ -152,14 +170,14 @@ reads-again settled old block r f first is top unasked small =
       covered = λ tree. rw (all, way) (covered tree r rs f fs);
     }
 
-pub goes-down : (settled : Bool) (old mid new : Pending) (block : List ℕ) (r : Removal) (f : Frame) (slot at : ℕ) (result : Step) → Some r ≡ first_removal old → settled ≡ true → Some f ≡ slice_get old.way 0 → old.asked ≡ true → 1 ≤ f.level → IsNextTarget block f.done (Some (slot, at)) → mid ≡ record old { way = record f { done = slot + 1 } ∷ drop 1 old.way; asked = false } → (f.level - 1 ≡ 0 → (result ≡ Closes at) × (new ≡ closed mid)) → (0 < f.level - 1 → (result ≡ Reads at) × (new ≡ entered mid at (f.level - 1))) → Answers settled old block new result
-goes-down settled old mid new block r f slot at result first is top asked some next middle leaf inner =
+pub goes-down : (settled : Bool) (old mid new : Pending) (block : List ℕ) (r : Removal) (f : Frame) (slot at : ℕ) (result : Step) → Some r ≡ first_removal old → r.whole ≡ true → settled ≡ true → Some f ≡ slice_get old.way 0 → old.asked ≡ true → 1 ≤ f.level → IsNextTarget block f.done (Some (slot, at)) → mid ≡ record old { way = record f { done = slot + 1 } ∷ drop 1 old.way; asked = false } → (f.level - 1 ≡ 0 → (result ≡ Closes at) × (new ≡ closed mid)) → (0 < f.level - 1 → (result ≡ Reads at) × (new ≡ entered mid at (f.level - 1))) → Answers settled old block new result
+goes-down settled old mid new block r f slot at result first whole is top asked some next middle leaf inner =
     let rs = drop 1 old.removals in
     let fs = drop 1 old.way in
     let all = head_is old.removals r first in
     let way = head_is old.way f top in
     let reads : reads_left old ≡ f.level = rw (way, asked) refl in
-    goes settled old mid new block r rs at (f.level - 1) result all is (ap (λ (q : Pending). q.removals) middle) (ap (λ (q : Pending). q.room) middle) (ap (λ (q : Pending). q.asked) middle) (omega arith)
+    goes settled old mid new block r rs at (f.level - 1) result all (λ e. absurd (whole_alone r.whole whole e)) is (ap (λ (q : Pending). q.removals) middle) (ap (λ (q : Pending). q.room) middle) (ap (λ (q : Pending). q.asked) middle) (omega arith)
     (λ tree content.
     let holds = content.content f.at (rw (way, asked) refl) in
     let then = ap (λ (q : Pending). q.way) middle in

@@ -12,12 +12,13 @@ pub record GoesOn (settled : Bool) (old new : Pending) (r : Removal) : Type 0 wh
   pub settled_is : settled ≡ true
   pub room : new.room ≡ old.room
 
--- The block is the next one of all that is left, at the epoch of the first removal.
+-- The block is the next one of all that is left, at the epoch of the first removal; and the block with which that begins, where it goes alone.
 pub record ClosesNext (settled : Bool) (old : Pending) (block : List ℕ) (new : Pending) (b : ℕ) : Type 0 where
   pub first : Removal
   pub goes_on : GoesOn settled old new first
   pub removals : new.removals ≡ remaining old.removals new.way
   pub unasked : new.asked ≡ false
+  pub alone : first.whole ≡ false → b ≡ first.at
   pub next : (tree : Tree) → IsContent tree old block → left tree old ≡ (b, first.epoch) ∷ left tree new
 
 -- The content of a block that is still to be closed is needed. Nothing changes in what is left, and a block is closed after

@@ -196,6 +196,7 @@ impl Queue {
     fn enter(&mut self, at: u32, level: u8) -> Step
         requires first { 0 < length self.old.removals }
         requires room { level + length self.old.way ≤ 4 }
+        requires whole { 0 < level → (r : Removal) → first_removal self.old ≡ Some r → r.whole ≡ true }
         ensures leaf { level ≡ 0 → (result ≡ Closes at) × (self.new ≡ closed self.old) }
         ensures inner { 0 < level → (result ≡ Reads at) × (self.new ≡ entered self.old at level) }
     {

@@ -4,7 +4,7 @@ use Rattle.std.specs.List.{filter}
 use Rattle.std.proofs.lemmas.Bool.{eqb-true}
 use Rattle.fo_waits.specs.declared.listed.Clearing.{Clearing}
 use Rattle.fo_waits.specs.Ended.{TakesOut, is_another}
-use Rattle.fo_waits.specs.Listed.{Clears}
+use Rattle.fo_waits.specs.Listed.{Clears, ClearsAfter}
 
 bool_cases : (b : Bool) → (b ≡ true) ⊎ (b ≡ false)
 bool_cases true = inl refl
@@ -45,6 +45,22 @@ only at i (c ∷ cs) b j h = ⊎_elim
     (λ (goes : is_another at i c ≡ false). let r = only at i cs b j (subst (λ t. Clears (cond t (c ∷ filter (is_another at i) cs) (filter (is_another at i) cs)) b j) goes h) in (inr r.0, r.1))
     (bool_cases (is_another at i c))
 
+leaves : (at i : ℕ) (cs : List Clearing) (b j leaf : ℕ) → ClearsAfter cs b j leaf → ((b ≡ at) × (j ≡ i)) ⊎ ClearsAfter (filter (is_another at i) cs) b j leaf
+leaves at i [] b j leaf h = absurd h
+leaves at i (c ∷ cs) b j leaf h = ⊎_elim
+    (λ (stays : is_another at i c ≡ true). rw stays (⊎_elim (λ here. inr (inl here)) (λ rest. ⊎_elim (λ p. inl p) (λ l. inr (inr l)) (leaves at i cs b j leaf rest)) h))
+    (λ (goes : is_another at i c ≡ false). rw goes (⊎_elim (λ here. let d = gone at i c goes in inl (sym here.0 ∙ d.0, sym here.1 ∙ d.1)) (λ rest. leaves at i cs b j leaf rest) h))
+    (bool_cases (is_another at i c))
+
+same_leaves : (at i : ℕ) (cs : List Clearing) (b j leaf : ℕ) → ClearsAfter (filter (is_another at i) cs) b j leaf → ClearsAfter cs b j leaf
+same_leaves at i [] b j leaf h = absurd h
+same_leaves at i (c ∷ cs) b j leaf h = ⊎_elim
+    (λ (stays : is_another at i c ≡ true).
+    let l : ClearsAfter (c ∷ filter (is_another at i) cs) b j leaf = subst (λ t. ClearsAfter (cond t (c ∷ filter (is_another at i) cs) (filter (is_another at i) cs)) b j leaf) stays h in
+    ⊎_elim (λ here. inl here) (λ rest. inr (same_leaves at i cs b j leaf rest)) l)
+    (λ (goes : is_another at i c ≡ false). inr (same_leaves at i cs b j leaf (subst (λ t. ClearsAfter (cond t (c ∷ filter (is_another at i) cs) (filter (is_another at i) cs)) b j leaf) goes h)))
+    (bool_cases (is_another at i c))
+
 shorter : (at i : ℕ) (cs : List Clearing) → length (filter (is_another at i) cs) ≤ length cs
 shorter at i [] = omega arith
 shorter at i (c ∷ cs) = let le = shorter at i cs in by (is_another at i c) le
@@ -72,6 +88,8 @@ pub takes_out : (at i : ℕ) (old new : List Clearing) → new ≡ filter (is_an
 takes_out at i old new is = subst (TakesOut at i old) (sym is) (record {
   still = still at i old;
   only = λ b j h. (only at i old b j h).0;
+  leaves = leaves at i old;
+  same_leaves = same_leaves at i old;
   over = λ h. (only at i old at i h).1 refl refl;
   fewer = fewer at i old;
 })

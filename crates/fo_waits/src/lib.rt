@@ -5,7 +5,7 @@
 //!
 //! Proved: who waits for the pairs of a leaf is listed, just where the first entry of a pair is in use and waits for no clearing; when the
 //! first entry of a pair is cleared the waits for that pair go, and no others; whether a slot waits, and whether anybody waits for a leaf. A slot that is
-//! taken out of the list waits no more, and all others do still.
+//! taken out of the list waits no more, and all others do still, for the leaves that they waited for.
 //! Want of memory may be answered by `grow_lists` alone.
 #![tactic(auto)]
 

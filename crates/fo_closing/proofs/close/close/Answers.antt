@@ -6,8 +6,9 @@ use Rattle.fo_labels.specs.Region.{IsDataBlock, Region, closed_label, label_of, 
 use Rattle.fo_image.specs.declared.types.Label.{Label}
 use Rattle.fo_waits.specs.declared.listed.Wait.{Wait}
 use Rattle.fo_mind.specs.Parts.{label_at}
-use Rattle.fo_mind.specs.Sound.{Placed, Labelled, Holding, Waiting, Clearable, Owing, Roomy, RootIn, Standing}
+use Rattle.fo_mind.specs.Sound.{Placed, Labelled, Holding, Changing, Waiting, Clearable, Owing, Roomy, RootIn, Standing}
 use Rattle.fo_mind.specs.Turning.{Turning}
+use Rattle.fo_mind.proofs.Changing.{changing_gone, changing_relabeled}
 use Rattle.fo_mind.proofs.Giving.{data_label, labelled_given}
 use Rattle.fo_mind.proofs.Releasing.{holding_cut, owing_cut, turning_cut}
 use Rattle.fo_mind.proofs.Results.{both, three}
@@ -160,3 +161,11 @@ invariant_of-mind-clause-root_in c =
     let m = c.args.mind.now in
     let is : IsDataBlock m.labels c.args.at = record { from = c.requires.may.block.0; to = c.requires.may.block.1 } in
     subst (λ (r : Region). RootIn m.one.low r m.facts m.one.active) (sym c.close.ensures) (root_in_closed m.labels c.args.at (closed_label (label_of m.labels c.args.at) c.args.epoch) is c.requires.may.other m.root_in)
+
+pub invariant_of-mind-clause-changing : goal.invariant_of-mind-clause-changing
+invariant_of-mind-clause-changing c =
+    let m = c.args.mind.now in
+    let is : IsDataBlock m.labels c.args.at = record { from = c.requires.may.block.0; to = c.requires.may.block.1 } in
+    let k = cuts c.args.at m.buffers in
+    both (λ (r : Region) (h : Held). Changing m.one.high r h) c.close.ensures c.forget.ensures
+    (changing_relabeled m.labels c.args.at (closed_label (label_of m.labels c.args.at) c.args.epoch) is k.here (changing_gone k.others k.here m.changing))

@@ -1,4 +1,5 @@
 use Rattle.std.proofs.Common.{sym, ◌∙◌}
+use Rattle.fo_mind.proofs.Changing.{changing_same}
 use Rattle.fo_mind.proofs.Keeping.{holding_same, owing_same, roomy_same, waiting_same}
 use Rattle.fo_mind.proofs.Results.{on_ok}
 use Rattle.fo_mind.proofs.Standing.{standing_same}
@@ -37,3 +38,6 @@ returns-clause-seen g c =
 
 pub invariant_of-mind-clause-standing : goal.invariant_of-mind-clause-standing
 invariant_of-mind-clause-standing g c = standing_same c.see.ensures.held c.args.mind.now.standing
+
+pub invariant_of-mind-clause-changing : goal.invariant_of-mind-clause-changing
+invariant_of-mind-clause-changing g c = changing_same c.see.ensures.held c.args.mind.now.changing

@@ -1,71 +1,29 @@
-use Rattle.std.proofs.Common.{◌<◌, [], length, refl, sym, ap, subst}
-use Rattle.fo_disk.specs.Disk.{DiskState, IsSettled}
+use Rattle.std.proofs.Common.{refl, ◌∙◌, arith, rules}
 use Rattle.fo_mind.specs.MindParts.{parts}
-use Rattle.fo_mind.specs.Parts.{Parts}
-use Rattle.fo_cache.proofs.Outcomes.{quiet_is_memory}
-use Rattle.fo_reserving.proofs.Joining.{closes_row}
-use Rattle.fo_reserving.proofs.Shutting.{first_same, fits_closed, labels_closed, one_closed, reserves_closed, shutting_closings}
-use Rattle.fo_ending.proofs.Draining.{bytes_closed, none_left}
+use Rattle.fo_ending.proofs.Stepping.{steps_none, steps_on}
 use Rattle.fo_ending.proofs.drain.close_all.Goals as goal
 
-pub invariant_of-cache-clause-fits : goal.invariant_of-cache-clause-fits
-invariant_of-cache-clause-fits g c =
+pub loop-init : goal.loop-init
+loop-init g c =
     let old = c.args.cache.now in
-    let new = c.close_until.new in
-    let e = c.close_until.ensures in
-    let p = parts old.mind [] 0 in
-    let q = parts new.mind [] 0 in
-    fits_closed p q (g.D.Disk.state old.main) (g.D.Disk.state new.main) e.state (g.D.Disk.faults old.main) (g.D.Disk.faults new.main) e.leaves c.requires.quiet e.rest (first_same p q old.mind.placed new.mind.placed e.count) c.requires.held new.mind.standing old.fits
+    record { may = c.requires.may; steps = steps_none (parts old.mind (g.D.Disk.state old.main).holds (g.D.Disk.faults old.main)); size = refl; later = omega arith }
 
-pub invariant_of-cache-clause-spelled : goal.invariant_of-cache-clause-spelled
-invariant_of-cache-clause-spelled g c =
-    let old = c.args.cache.now in
-    let new = c.close_until.new in
-    let e = c.close_until.ensures in
-    let p = parts old.mind [] 0 in
-    let q = parts new.mind [] 0 in
-    labels_closed p q (g.D.Disk.state old.main) (g.D.Disk.state new.main) e.state (g.D.Disk.faults old.main) (g.D.Disk.faults new.main) e.leaves c.requires.quiet e.rest (first_same p q old.mind.placed new.mind.placed e.count)
-    (shutting_closings p q (g.D.Disk.state old.main).holds (g.D.Disk.state new.main).holds (g.D.Disk.faults old.main) (g.D.Disk.faults new.main) old.mind.queue new.mind.queue e.closes) old.spelled
+pub loop-preserved : goal.loop-preserved
+loop-preserved g c =
+    let was = c.loop.invariant in
+    let now = c.close_some.ensures in
+    record {
+      may = c.in_ok-close_some.ensures.again (search rules);
+      steps = steps_on was.steps now.steps;
+      size = now.size ∙ was.size;
+      later = let x = was.later in let y = now.later in omega (arith, x, y);
+    }
 
-pub invariant_of-cache-clause-first : goal.invariant_of-cache-clause-first
-invariant_of-cache-clause-first g c =
-    let old = c.args.cache.now in
-    let new = c.close_until.new in
-    let e = c.close_until.ensures in
-    let p = parts old.mind [] 0 in
-    let q = parts new.mind [] 0 in
-    one_closed p q (g.D.Disk.state old.main) (g.D.Disk.state new.main) e.state (g.D.Disk.faults old.main) (g.D.Disk.faults new.main) e.leaves c.requires.quiet e.rest (first_same p q old.mind.placed new.mind.placed e.count) old.first
+pub returns-in_err-close_some-clause-steps : goal.returns-in_err-close_some-clause-steps
+returns-in_err-close_some-clause-steps g c = steps_on c.loop.invariant.steps c.close_some.ensures.steps
 
-pub invariant_of-cache-clause-header : goal.invariant_of-cache-clause-header
-invariant_of-cache-clause-header g c =
-    subst (λ (x : DiskState). 0 < length x.holds → IsSettled x.holds 0) (sym c.close_until.ensures.state) c.args.cache.now.header
+pub returns-clause-steps : goal.returns-clause-steps
+returns-clause-steps g c = steps_on c.loop.invariant.steps c.close_some.ensures.steps
 
 pub returns-clause-empty : goal.returns-clause-empty
-returns-clause-empty g c = none_left c.close_until.result (parts c.close_until.new.mind [] 0) c.close_until.new.mind.queue c.close_until.new.mind.placed refl c.close_until.ensures.over
-
-pub returns-clause-one : goal.returns-clause-one
-returns-clause-one g c = ap (λ (z : Parts). z.one) c.close_until.ensures.leaves.rest
-
-pub returns-clause-bytes : goal.returns-clause-bytes
-returns-clause-bytes g c =
-    let old = c.args.cache.now in
-    let new = c.close_until.new in
-    let e = c.close_until.ensures in
-    let p = parts old.mind [] 0 in
-    let q = parts new.mind [] 0 in
-    let first = first_same p q old.mind.placed new.mind.placed e.count in
-    bytes_closed p q (g.D.Disk.state old.main) (g.D.Disk.state new.main) e.state (g.D.Disk.faults old.main) (g.D.Disk.faults new.main) e.leaves c.requires.held new.mind.standing first old.fits
-    (fits_closed p q (g.D.Disk.state old.main) (g.D.Disk.state new.main) e.state (g.D.Disk.faults old.main) (g.D.Disk.faults new.main) e.leaves c.requires.quiet e.rest first c.requires.held new.mind.standing old.fits)
-
-pub returns-clause-leaves : goal.returns-clause-leaves
-returns-clause-leaves g c =
-    let old = c.args.cache.now in
-    let new = c.close_until.new in
-    let e = c.close_until.ensures in
-    let p = parts old.mind [] 0 in
-    let q = parts new.mind [] 0 in
-    reserves_closed p q (g.D.Disk.state old.main) (g.D.Disk.state new.main) e.state (g.D.Disk.faults old.main) (g.D.Disk.faults new.main) e.leaves c.requires.quiet e.rest (first_same p q old.mind.placed new.mind.placed e.count)
-    (shutting_closings p q (g.D.Disk.state old.main).holds (g.D.Disk.state new.main).holds (g.D.Disk.faults old.main) (g.D.Disk.faults new.main) old.mind.queue new.mind.queue e.closes) c.requires.some c.requires.rest.none e.count
-    (closes_row
-    (record { before = parts old.mind (g.D.Disk.state old.main).holds (g.D.Disk.faults old.main); after = parts new.mind (g.D.Disk.state new.main).holds (g.D.Disk.faults new.main); queue = old.mind.queue; left = new.mind.queue })
-    (record { quiet = c.requires.quiet; rest = record { clean = c.requires.rest.clean; settled = c.requires.rest.settled; free = c.requires.rest.free; none = c.requires.rest.none; sure = c.requires.rest.sure }; held = c.requires.held; memory = quiet_is_memory {p = parts old.mind (g.D.Disk.state old.main).holds (g.D.Disk.faults old.main)} {unsure = (g.D.Disk.state old.main).unsure} old.mind.turning (record { each = old.fits.each }) c.requires.quiet; queue = refl; left = refl; closes = e.closes }))
+returns-clause-empty g c = c.in_ok-close_some.ensures.over (search rules)

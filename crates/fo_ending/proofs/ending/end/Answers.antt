@@ -1,17 +1,11 @@
-use Rattle.std.proofs.Common.{◌<◌, [], length, sym, inr, ◌∙◌, arith}
-use Rattle.std.proofs.lemmas.Result.{err_from_is_err_and}
+use Rattle.std.proofs.Common.{◌<◌, [], length, sym, ◌∙◌, arith}
 use Rattle.fo_mind.specs.MindParts.{parts}
 use Rattle.fo_reserving.proofs.Calming.{none_left}
+use Rattle.fo_reserving.proofs.Joining.{closes_on}
 use Rattle.fo_opening.proofs.Finishing.{caused_later}
-use Rattle.fo_opening.proofs.Stepping.{wanting_any}
 use Rattle.fo_ending.proofs.Draining.{same_on}
-use Rattle.fo_ending.proofs.Joining.{ended_drained, ended_once, finished_again, on_ok}
+use Rattle.fo_ending.proofs.Joining.{closes_finished, ended_drained, ended_once, finished_again, on_ok}
 use Rattle.fo_ending.proofs.ending.end.Goals as goal
-
-pub returns-in_err-finish-clause-memory : goal.returns-in_err-finish-clause-memory
-returns-in_err-finish-clause-memory g c =
-    let x = err_from_is_err_and c.from_residual.result c.from_residual.ensures.1 in
-    rw (x.1, x.2) (λ is. inr (c.in_err-finish.ensures.memory is))
 
 pub returns-then-queued-eq0-clause-ended : goal.returns-then-queued-eq0-clause-ended
 returns-then-queued-eq0-clause-ended g c =
@@ -36,6 +30,24 @@ returns-clause-finished g c =
     let mid = c.finish.new.cache in
     let new = c.close_and_finish.new.cache in
     on_ok c.close_and_finish.result c.close_and_finish.ensures.finished (λ f. finished_again c.args.cache.now.mind.one (parts mid.mind [] 0) (parts new.mind [] 0) (g.D.Disk.state new.main) c.in_ok-finish.ensures.finished.says f)
+
+pub returns-in_err-finish-clause-closes : goal.returns-in_err-finish-clause-closes
+returns-in_err-finish-clause-closes g c =
+    let old = c.args.cache.now in
+    let mid = c.finish.new.cache in
+    closes_finished (parts old.mind (g.D.Disk.state old.main).holds (g.D.Disk.faults old.main)) (parts mid.mind (g.D.Disk.state mid.main).holds (g.D.Disk.faults mid.main)) c.finish.ensures.ends c.finish.ensures.clears
+
+pub returns-then-queued-eq0-clause-closes : goal.returns-then-queued-eq0-clause-closes
+returns-then-queued-eq0-clause-closes g c =
+    let old = c.args.cache.now in
+    let mid = c.finish.new.cache in
+    closes_finished (parts old.mind (g.D.Disk.state old.main).holds (g.D.Disk.faults old.main)) (parts mid.mind (g.D.Disk.state mid.main).holds (g.D.Disk.faults mid.main)) c.finish.ensures.ends c.finish.ensures.clears
+
+pub returns-clause-closes : goal.returns-clause-closes
+returns-clause-closes g c =
+    let old = c.args.cache.now in
+    let mid = c.finish.new.cache in
+    closes_on (closes_finished (parts old.mind (g.D.Disk.state old.main).holds (g.D.Disk.faults old.main)) (parts mid.mind (g.D.Disk.state mid.main).holds (g.D.Disk.faults mid.main)) c.finish.ensures.ends c.finish.ensures.clears) c.close_and_finish.ensures.closes
 
 pub returns-clause-bytes : goal.returns-clause-bytes
 returns-clause-bytes g c = λ none.
@@ -62,10 +74,3 @@ returns-clause-calls g c = λ none.
 pub returns-clause-cause : goal.returns-clause-cause
 returns-clause-cause g c =
     caused_later _ _ _ c.close_and_finish.result c.finish.ensures.later c.close_and_finish.ensures.cause
-
-pub returns-clause-memory : goal.returns-clause-memory
-returns-clause-memory g c =
-    let e = c.queued.ensures in
-    let n = c.if-queued-eq0.false in
-    let some : 0 < length c.finish.new.cache.mind.queue.removals = omega (arith, e, n) in
-    wanting_any c.close_and_finish.result (c.finish.ensures.ends.rests.queues some)

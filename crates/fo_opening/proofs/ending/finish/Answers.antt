@@ -5,10 +5,11 @@ use Rattle.fo_disk.specs.Disk.{DiskState, versions_of}
 use Rattle.fo_image.specs.declared.types.Super.{Super}
 use Rattle.fo_mind.specs.MindParts.{parts}
 use Rattle.fo_cache.specs.Settling.{Rested}
-use Rattle.fo_opening.specs.Ending.{SomeWaits}
 use Rattle.fo_opening.specs.Finished.{Finished}
+use Rattle.fo_settling.proofs.Clearing.{clearings_of, clearings_on}
 use Rattle.fo_opening.proofs.Finishing.{bytes_ended, caused_later, ends_let, ends_on}
-use Rattle.fo_opening.proofs.Stepping.{bytes_none, ending_on, fault_only, header_kept, let_left, waited_let}
+use Rattle.fo_opening.proofs.Lasting.{lasts_let}
+use Rattle.fo_opening.proofs.Stepping.{bytes_none, ending_on, header_kept, let_left}
 use Rattle.fo_opening.proofs.ending.finish.Goals as goal
 
 pub settle_all-requires : goal.settle_all-requires
@@ -20,6 +21,13 @@ returns-in_err-settle_all-clause-ends g c =
     let mid = c.unpin_all.new.cache in
     let e = c.unpin_all.ensures in
     ends_on (ends_let (parts old.mind [] 0) (parts mid.mind [] 0) (g.D.Disk.state old.main).holds (g.D.Disk.state mid.main).holds (g.D.Disk.faults old.main) (g.D.Disk.faults mid.main) e.lets e.leaves) c.settle_all.ensures.ending.ends
+
+pub returns-in_err-settle_all-clause-clears : goal.returns-in_err-settle_all-clause-clears
+returns-in_err-settle_all-clause-clears g c =
+    let old = c.args.cache.now in
+    let mid = c.unpin_all.new.cache in
+    let e = c.unpin_all.ensures in
+    clearings_on (clearings_of (lasts_let (parts old.mind [] 0) (parts mid.mind [] 0) (g.D.Disk.state old.main) (g.D.Disk.state mid.main) (g.D.Disk.faults old.main) (g.D.Disk.faults mid.main) (ap g.D.Disk.state e.device) old.fits mid.fits e.lets)) c.settle_all.ensures.clears
 
 pub returns-in_err-settle_all-clause-bytes : goal.returns-in_err-settle_all-clause-bytes
 returns-in_err-settle_all-clause-bytes g c =
@@ -38,10 +46,10 @@ returns-in_err-settle_all-clause-header g c =
 pub returns-in_err-settle_all-clause-count : goal.returns-in_err-settle_all-clause-count
 returns-in_err-settle_all-clause-count g c = c.settle_all.ensures.ending.count ∙ ap (λ m. length (g.D.Disk.state m).holds) c.unpin_all.ensures.device
 
-pub returns-in_err-settle_all-clause-memory : goal.returns-in_err-settle_all-clause-memory
-returns-in_err-settle_all-clause-memory g c =
+pub returns-in_err-settle_all-clause-failed : goal.returns-in_err-settle_all-clause-failed
+returns-in_err-settle_all-clause-failed g c =
     let x = err_from_is_err_and c.from_residual.result c.from_residual.ensures.1 in
-    rw (x.1, x.2) (λ is. waited_let (parts c.args.cache.now.mind [] 0) (parts c.unpin_all.new.cache.mind [] 0) c.unpin_all.ensures.lets (c.in_err-settle_all.ensures.memory is))
+    rw (x.1, x.2) c.in_err-settle_all.ensures.failed
 
 pub returns-clause-finished : goal.returns-clause-finished
 returns-clause-finished g c =
@@ -64,6 +72,13 @@ returns-clause-ends g c =
     let e = c.unpin_all.ensures in
     ends_on (ends_on (ends_let (parts old.mind [] 0) (parts mid.mind [] 0) (g.D.Disk.state old.main).holds (g.D.Disk.state mid.main).holds (g.D.Disk.faults old.main) (g.D.Disk.faults mid.main) e.lets e.leaves) c.settle_all.ensures.ending.ends) c.save_number.ensures.ending.ends
 
+pub returns-clause-clears : goal.returns-clause-clears
+returns-clause-clears g c =
+    let old = c.args.cache.now in
+    let mid = c.unpin_all.new.cache in
+    let e = c.unpin_all.ensures in
+    clearings_on (clearings_on (clearings_of (lasts_let (parts old.mind [] 0) (parts mid.mind [] 0) (g.D.Disk.state old.main) (g.D.Disk.state mid.main) (g.D.Disk.faults old.main) (g.D.Disk.faults mid.main) (ap g.D.Disk.state e.device) old.fits mid.fits e.lets)) c.settle_all.ensures.clears) (clearings_of c.save_number.ensures.lasts)
+
 pub returns-clause-bytes : goal.returns-clause-bytes
 returns-clause-bytes g c =
     let old = c.args.cache.now in
@@ -80,9 +95,6 @@ returns-clause-cause g c =
     let same = ap g.D.Disk.faults c.unpin_all.ensures.device in
     let later = c.settle_all.ensures.later in
     caused_later (g.D.Disk.faults old.main) (g.D.Disk.faults mid.main) (g.D.Disk.faults new.main) c.save_number.result (omega (arith, same, later)) c.save_number.ensures.cause
-
-pub returns-clause-memory : goal.returns-clause-memory
-returns-clause-memory g c = fault_only (SomeWaits (parts c.args.cache.now.mind [] 0)) c.save_number.result c.save_number.ensures.failed
 
 pub returns-in_err-settle_all-clause-calls : goal.returns-in_err-settle_all-clause-calls
 returns-in_err-settle_all-clause-calls g c =

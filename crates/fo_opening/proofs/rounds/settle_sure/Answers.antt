@@ -3,6 +3,7 @@ use Rattle.fo_mind.specs.MindParts.{parts}
 use Rattle.fo_mind.specs.Parts.{IsPinned, Parts}
 use Rattle.fo_mind.proofs.Results.{any_ok, on_ok}
 use Rattle.fo_cache.proofs.Lessening.{certain_left, turned_left}
+use Rattle.fo_settling.proofs.Clearing.{lasts_on, lasts_renumbered, lasts_turned}
 use Rattle.fo_opening.proofs.Finishing.{caused_later}
 use Rattle.fo_opening.proofs.Stepping.{ending_on, ending_renumbered, ending_turned}
 use Rattle.fo_opening.proofs.rounds.settle_sure.Goals as goal
@@ -16,6 +17,12 @@ returns-in_err-settle_doubt-clause-ending g c =
     let mid = c.settle_doubt.new.self in
     ending_renumbered (g.D.Disk.state old.main) (g.D.Disk.state mid.main) (g.D.Disk.faults old.main) (g.D.Disk.faults mid.main) (parts old.mind [] 0) (parts mid.mind [] 0) old.mind.placed c.settle_doubt.ensures.renumbers c.settle_doubt.ensures.eases
 
+pub returns-in_err-settle_doubt-clause-lasts : goal.returns-in_err-settle_doubt-clause-lasts
+returns-in_err-settle_doubt-clause-lasts g c =
+    let old = c.args.cache.now in
+    let mid = c.settle_doubt.new.self in
+    lasts_renumbered (g.D.Disk.state old.main) (g.D.Disk.state mid.main) (parts old.mind [] 0) (parts mid.mind [] 0) (g.D.Disk.faults old.main) (g.D.Disk.faults mid.main) old.mind.placed c.settle_doubt.ensures.renumbers
+
 pub returns-clause-certain : goal.returns-clause-certain
 returns-clause-certain g c = any_ok c.take_turns.result (ap (λ (z : Parts). z.doubt) c.take_turns.ensures.settles.rest ∙ c.in_ok-settle_doubt.ensures.certain)
 
@@ -27,6 +34,15 @@ returns-clause-ending g c =
     ending_on
     (ending_renumbered (g.D.Disk.state old.main) (g.D.Disk.state mid.main) (g.D.Disk.faults old.main) (g.D.Disk.faults mid.main) (parts old.mind [] 0) (parts mid.mind [] 0) old.mind.placed c.settle_doubt.ensures.renumbers c.settle_doubt.ensures.eases)
     (ending_turned (g.D.Disk.state mid.main) (g.D.Disk.state new.main) (g.D.Disk.faults mid.main) (g.D.Disk.faults new.main) (parts mid.mind [] 0) (parts new.mind [] 0) mid.mind.turning c.take_turns.ensures.settles c.take_turns.ensures.later)
+
+pub returns-clause-lasts : goal.returns-clause-lasts
+returns-clause-lasts g c =
+    let old = c.args.cache.now in
+    let mid = c.settle_doubt.new.self in
+    let new = c.take_turns.new.cache in
+    lasts_on
+    (lasts_renumbered (g.D.Disk.state old.main) (g.D.Disk.state mid.main) (parts old.mind [] 0) (parts mid.mind [] 0) (g.D.Disk.faults old.main) (g.D.Disk.faults mid.main) old.mind.placed c.settle_doubt.ensures.renumbers)
+    (lasts_turned (g.D.Disk.state mid.main) (g.D.Disk.state new.main) (parts mid.mind [] 0) (parts new.mind [] 0) (g.D.Disk.faults mid.main) (g.D.Disk.faults new.main) c.take_turns.ensures.settles)
 
 pub returns-clause-cause : goal.returns-clause-cause
 returns-clause-cause g c =

@@ -1,4 +1,4 @@
-use Rattle.std.proofs.Common.{◌≡◌, ◌+◌, ◌<◌, ◌≤◌, ℕ, Bool, true, false, Result, Ok, Err, OnOk, IfOk, IfErr, sym, ap, ◌∙◌, subst, arith}
+use Rattle.std.proofs.Common.{◌≡◌, ◌<◌, ◌≤◌, ℕ, Bool, true, false, Result, Ok, Err, OnOk, IfOk, IfErr, sym, ap, ◌∙◌, subst, arith}
 use Rattle.fo_base.specs.Cause.{Rose}
 use Rattle.fo_order.specs.Turns.{IsQuiet}
 use Rattle.fo_ports.specs.Causes.{Caused}

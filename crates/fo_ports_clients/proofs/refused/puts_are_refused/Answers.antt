@@ -1,4 +1,4 @@
-use Rattle.fo_ports_clients.proofs.Refusing.{once, raised, first, closed, tree, made, cut}
+use Rattle.fo_ports_clients.proofs.Refusing.{once, raised, first, closed, tree, made, copies, cut}
 use Rattle.fo_ports_clients.proofs.refused.puts_are_refused.Goals as goal
 
 pub returns-clause-once : goal.returns-clause-once
@@ -20,6 +20,9 @@ returns-clause-tree g c = tree (g.B.Blocks.state c.args.on.now)
 
 pub returns-clause-made : goal.returns-clause-made
 returns-clause-made g c = made (g.B.Blocks.state c.args.on.now)
+
+pub returns-clause-copies : goal.returns-clause-copies
+returns-clause-copies g c = copies (g.B.Blocks.state c.args.on.now)
 
 pub returns-clause-cut : goal.returns-clause-cut
 returns-clause-cut g c = cut (g.B.Blocks.state c.args.on.now)

@@ -7,6 +7,7 @@ use Rattle.fo_ports.specs.Blocks.{blank, IsLevel}
 use Rattle.fo_ports.proofs.Lengths.{length_zero_bytes}
 use Rattle.fo_ports_source.specs.Source.{HasLabel}
 use Rattle.fo_ports_source.proofs.Steps.{given_out}
+use Rattle.fo_ports_source.proofs.Dirtied.{dirties_given}
 use Rattle.fo_ports_source.proofs.own.new_leaf.Goals as goal
 
 pub new_block-requires-clause-level : goal.new_block-requires-clause-level
@@ -56,3 +57,6 @@ returns-clause-steps g c =
       placed = λ told. g.met.B.Blocks.placed c.args.on.now (g.B.Blocks.state c.args.on.now).now (g.met.B.Blocks.present c.args.on.now told);
       falls = λ told. g.met.B.Blocks.ranked c.args.on.now (g.B.Blocks.state c.args.on.now).now (g.met.B.Blocks.present c.args.on.now told);
     })
+
+pub returns-clause-dirties : goal.returns-clause-dirties
+returns-clause-dirties g c = dirties_given (g.met.B.Blocks.keeps_all c.args.on.now c.new_block.new.self c.new_block.ensures.keeps) c.new_block.ensures.gives

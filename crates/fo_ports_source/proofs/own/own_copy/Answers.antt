@@ -5,6 +5,7 @@ use Rattle.fo_crash.specs.Places.{place}
 use Rattle.fo_crash.proofs.Reach.{reaches_itself}
 use Rattle.fo_ports_source.specs.Source.{HasLabel}
 use Rattle.fo_ports_source.proofs.Steps.{given_out, steps_none}
+use Rattle.fo_ports_source.proofs.Dirtied.{dirties_given, dirties_here}
 use Rattle.fo_ports_source.proofs.own.own_copy.Goals as goal
 
 pub copy-requires-clause-in_tree : goal.copy-requires-clause-in_tree
@@ -63,3 +64,9 @@ returns-else-is_current-clause-own g c =
       held = record { labelled = labelled; is_pinned = e.gives.is.1; long = ap length e.gives.memory.here.bytes ∙ c.requires.held.long };
       current = current;
     }
+
+pub returns-then-is_current-clause-dirties : goal.returns-then-is_current-clause-dirties
+returns-then-is_current-clause-dirties g c = dirties_here (g.B.Blocks.state c.args.on.now) c.args.at
+
+pub returns-else-is_current-clause-dirties : goal.returns-else-is_current-clause-dirties
+returns-else-is_current-clause-dirties g c = dirties_given (g.met.B.Blocks.keeps_all c.args.on.now c.copy.new.self c.copy.ensures.keeps) c.copy.ensures.gives

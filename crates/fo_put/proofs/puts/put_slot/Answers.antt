@@ -55,6 +55,11 @@ returns-clause-queues c = λ disk faults.
     let mind = c.args.mind.now in
     (slot_seen {p = parts mind disk faults} {s = parts c.change_slot.new.self disk faults} mind.placed mind.holding c.requires.pinned (λ b to. (c.requires.leads b to).1) c.cost-price.ensures.is (c.slot-old.ensures disk faults) (c.change_slot.ensures disk faults)).seen.queues
 
+pub returns-clause-removals : goal.returns-clause-removals
+returns-clause-removals c = λ disk faults.
+    let mind = c.args.mind.now in
+    (slot_seen {p = parts mind disk faults} {s = parts c.change_slot.new.self disk faults} mind.placed mind.holding c.requires.pinned (λ b to. (c.requires.leads b to).1) c.cost-price.ensures.is (c.slot-old.ensures disk faults) (c.change_slot.ensures disk faults)).seen.removes
+
 pub returns-clause-keeps : goal.returns-clause-keeps
 returns-clause-keeps c = λ disk faults.
     let mind = c.args.mind.now in

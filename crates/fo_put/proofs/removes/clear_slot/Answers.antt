@@ -1,4 +1,4 @@
-use Rattle.std.proofs.Common.{◌<◌, [], sym, ap, ◌∙◌, subst, arith}
+use Rattle.std.proofs.Common.{◌≡◌, ◌<◌, [], sym, ap, ◌∙◌, subst, arith}
 use Rattle.fo_crash.specs.declared.slot.Slot.{Slot}
 use Rattle.fo_crash.specs.Images.{target}
 use Rattle.fo_crash.specs.Steps.{cleared}
@@ -12,6 +12,9 @@ use Rattle.fo_put.proofs.removes.clear_slot.Goals as goal
 
 pub change_slot-requires-clause-pinned : goal.change_slot-requires-clause-pinned
 change_slot-requires-clause-pinned c = subst (λ (p : Parts). IsPinned p.held c.args.at) (sym (c.end_waits.ensures [] 0).rest) c.requires.pinned
+
+pub change_slot-requires-clause-current : goal.change_slot-requires-clause-current
+change_slot-requires-clause-current c = subst (λ (p : Parts). (label_at p.region c.args.at).epoch ≡ p.one.high) (sym (c.end_waits.ensures [] 0).rest) c.requires.current
 
 pub change_slot-requires-clause-spelled : goal.change_slot-requires-clause-spelled
 change_slot-requires-clause-spelled c =

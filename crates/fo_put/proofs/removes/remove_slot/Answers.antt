@@ -1,4 +1,4 @@
-use Rattle.std.proofs.Common.{◌≡◌, ◌≤◌, inl, inr, ℕ, [], List, Some, None, length, sym, ap, ◌∙◌, subst, arith}
+use Rattle.std.proofs.Common.{◌≡◌, inl, inr, ℕ, [], List, Some, None, length, sym, ap, ◌∙◌, subst, arith}
 use Rattle.fo_waits.specs.declared.listed.Clearing.{Clearing}
 use Rattle.fo_waits.specs.Listed.{Clears}
 use Rattle.fo_mind.specs.Laws.{held_pinned}
@@ -30,6 +30,11 @@ pub returns-in-None-clause-no_wait : goal.returns-in-None-clause-no_wait
 returns-in-None-clause-no_wait c = λ disk faults.
     let mind = c.args.mind.now in
     (remove_result {p = parts mind disk faults} {s = parts c.clear_slot.new.mind disk faults} mind.placed mind.holding mind.waiting (held_pinned mind.buffers c.args.at c.requires.pinned) (c.clear_slot.ensures disk faults)).no_wait
+
+pub returns-in-None-clause-removals : goal.returns-in-None-clause-removals
+returns-in-None-clause-removals c = λ disk faults.
+    let mind = c.args.mind.now in
+    (remove_result {p = parts mind disk faults} {s = parts c.clear_slot.new.mind disk faults} mind.placed mind.holding mind.waiting (held_pinned mind.buffers c.args.at c.requires.pinned) (c.clear_slot.ensures disk faults)).removes
 
 pub returns-in-None-clause-keeps : goal.returns-in-None-clause-keeps
 returns-in-None-clause-keeps c = λ disk faults.
@@ -71,6 +76,11 @@ pub returns-in-Some-clause-no_wait : goal.returns-in-Some-clause-no_wait
 returns-in-Some-clause-no_wait c = λ disk faults.
     let mind = c.args.mind.now in
     (delay_result {p = parts mind disk faults} {s = parts c.clear_later.new.self disk faults} (c.clear_later.ensures disk faults)).no_wait
+
+pub returns-in-Some-clause-removals : goal.returns-in-Some-clause-removals
+returns-in-Some-clause-removals c = λ disk faults.
+    let mind = c.args.mind.now in
+    (delay_result {p = parts mind disk faults} {s = parts c.clear_later.new.self disk faults} (c.clear_later.ensures disk faults)).removes
 
 pub returns-in-Some-clause-keeps : goal.returns-in-Some-clause-keeps
 returns-in-Some-clause-keeps c = λ disk faults.

@@ -49,4 +49,4 @@ returns-clause-leaves g c =
     (shutting_closings p q (g.D.Disk.state old.main).holds (g.D.Disk.state new.main).holds (g.D.Disk.faults old.main) (g.D.Disk.faults new.main) old.mind.queue new.mind.queue e.closes) c.requires.some c.requires.rest.none e.count
     (closes_row
     (record { before = parts old.mind (g.D.Disk.state old.main).holds (g.D.Disk.faults old.main); after = parts new.mind (g.D.Disk.state new.main).holds (g.D.Disk.faults new.main); queue = old.mind.queue; left = new.mind.queue })
-    (record { quiet = c.requires.quiet; rest = record { clean = c.requires.rest.clean; settled = c.requires.rest.settled; free = c.requires.rest.free; none = c.requires.rest.none; sure = c.requires.rest.sure }; held = c.requires.held; memory = quiet_is_memory {p = parts old.mind (g.D.Disk.state old.main).holds (g.D.Disk.faults old.main)} {unsure = (g.D.Disk.state old.main).unsure} old.mind.turning (record { each = old.fits.each }) c.requires.quiet; queue = refl; left = refl; closes = e.closes }))
+    (record { quiet = c.requires.quiet; rest = record { clean = c.requires.rest.clean; settled = c.requires.rest.settled; free = c.requires.rest.free; none = c.requires.rest.none; sure = c.requires.rest.sure }; held = c.requires.held; memory = quiet_is_memory {p = parts old.mind (g.D.Disk.state old.main).holds (g.D.Disk.faults old.main)} {unsure = (g.D.Disk.state old.main).unsure} old.mind.turning (record { each = old.fits.each }) c.requires.quiet; queue = refl; left = refl; closes = e.closes; rested = record { clean = e.rest.clean; settled = e.rest.settled; free = e.rest.free; none = e.rest.none; sure = e.rest.sure } }))

@@ -1,4 +1,4 @@
-use Rattle.std.proofs.Common.{◌≡◌, [], ⊎_elim, sym, ap, ◌∙◌, arith}
+use Rattle.std.proofs.Common.{◌≡◌, [], ⊎_elim, ap, ◌∙◌, arith}
 use Rattle.fo_mind.specs.MindParts.{parts}
 use Rattle.fo_mind.specs.Parts.{Parts}
 use Rattle.fo_reserving.proofs.Calming.{rest_few}

@@ -1,4 +1,3 @@
-use Rattle.std.proofs.Common.{arith}
 use Rattle.fo_reserving.proofs.Joining.{reserves_on}
 use Rattle.fo_reserving.proofs.Rooming.{caused_result}
 use Rattle.fo_reserving.proofs.needs.make_whole.Goals as goal

@@ -1,4 +1,4 @@
-use Rattle.std.proofs.Common.{inr, ◌<◌, List, [], length, sym, ◌∙◌, subst}
+use Rattle.std.proofs.Common.{inr, ◌<◌, List, length, sym, ◌∙◌, subst}
 use Rattle.fo_waits.specs.declared.listed.Clearing.{Clearing}
 use Rattle.fo_mind.specs.MindParts.{parts}
 use Rattle.fo_mind.proofs.Results.{on_ok}

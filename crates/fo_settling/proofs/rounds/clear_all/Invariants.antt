@@ -3,12 +3,14 @@ use Rattle.fo_mind.specs.MindParts.{parts}
 use Rattle.fo_cache.specs.Easing.{Eases}
 use Rattle.fo_cache.specs.Work.{calls_left}
 use Rattle.fo_settling.specs.Clearings.{Clearings}
+use Rattle.fo_settling.specs.Costs.{Touches}
 use Rattle.fo_settling.proofs.rounds.clear_all.Given as goal
 
 abbrev pub invariant-loop : goal.invariant-loop
 invariant-loop g l = record {
   eases : Eases (parts l.fn.cache.mind (g.D.Disk.state l.fn.cache.main).holds (g.D.Disk.faults l.fn.cache.main)) (parts l.cache.mind (g.D.Disk.state l.cache.main).holds (g.D.Disk.faults l.cache.main));
   clears : Clearings (parts l.fn.cache.mind (g.D.Disk.state l.fn.cache.main).holds (g.D.Disk.faults l.fn.cache.main)) (parts l.cache.mind (g.D.Disk.state l.cache.main).holds (g.D.Disk.faults l.cache.main));
+  touches : Touches (parts l.fn.cache.mind [] 0) (parts l.cache.mind [] 0);
   fewer : length l.cache.mind.clears.items ≤ length l.fn.cache.mind.clears.items;
   left : calls_left (parts l.cache.mind [] 0) ≤ calls_left (parts l.fn.cache.mind [] 0);
   device : l.cache.main ≡ l.fn.cache.main;

@@ -6,6 +6,8 @@ use Rattle.fo_cache.proofs.Easing.{eases_on}
 use Rattle.fo_cache.proofs.Lessening.{certain_left}
 use Rattle.fo_mind.specs.MindParts.{parts}
 use Rattle.fo_settling.proofs.Clearing.{clearings_of, clearings_on, lasts_on, lasts_renumbered, lasts_sealed, lasts_waited}
+use Rattle.fo_settling.specs.Costs.{Costs}
+use Rattle.fo_settling.proofs.Costing.{costs_doubted, costs_of}
 use Rattle.fo_settling.proofs.Waiting.{newborn_or_sealed}
 use Rattle.fo_settling.proofs.rounds.settle_all.Goals as goal
 
@@ -68,3 +70,20 @@ returns-clause-calls g c =
     let over = ap g.D.Disk.calls c.waits_over.ensures.device in
     let sealed = ap g.D.Disk.calls c.seal_pinned.ensures.device in
     omega (arith, x, y, over, sealed)
+
+pub returns-in_err-settle_doubt-clause-costs : goal.returns-in_err-settle_doubt-clause-costs
+returns-in_err-settle_doubt-clause-costs g c = costs_doubted (parts c.args.cache.now.mind [] 0) c.settle_doubt.ensures.made
+
+pub returns-in_err-settle_rounds-clause-costs : goal.returns-in_err-settle_rounds-clause-costs
+returns-in_err-settle_rounds-clause-costs g c =
+    let d = c.settle_doubt.ensures in
+    costs_of (parts c.args.cache.now.mind [] 0) (parts c.settle_doubt.new.self.mind [] 0) d.made d.renumbers d.turns c.settle_rounds.ensures.made
+
+pub returns-clause-costs : goal.returns-clause-costs
+returns-clause-costs g c =
+    let old = c.args.cache.now in
+    let p = parts old.mind [] 0 in
+    let d = c.settle_doubt.ensures in
+    let device = c.seal_pinned.ensures.device ∙ c.waits_over.ensures.device in
+    subst (λ (z : _). Costs (g.D.Disk.state old.main) (g.D.Disk.state z) (g.D.Disk.calls old.main) (g.D.Disk.calls z) p) (sym device)
+    (costs_of p (parts c.settle_doubt.new.self.mind [] 0) d.made d.renumbers d.turns c.settle_rounds.ensures.made)

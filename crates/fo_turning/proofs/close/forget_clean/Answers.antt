@@ -1,4 +1,5 @@
 use Rattle.std.proofs.Common.{refl}
+use Rattle.fo_mind.proofs.Changing.{changing_same}
 use Rattle.fo_mind.proofs.Keeping.{holding_same, owing_same, roomy_same, waiting_same}
 use Rattle.fo_mind.proofs.Standing.{standing_same}
 use Rattle.fo_mind.proofs.Turning.{same_held}
@@ -24,3 +25,6 @@ invariant_of-mind-clause-standing c = standing_same c.forget_all.ensures.held c.
 
 pub returns-clause-forgets : goal.returns-clause-forgets
 returns-clause-forgets c = record { held = c.forget_all.ensures.held; clean = c.forget_all.ensures.clean; gone = c.forget_all.ensures.gone; room = c.forget_all.ensures.room; rest = refl }
+
+pub invariant_of-mind-clause-changing : goal.invariant_of-mind-clause-changing
+invariant_of-mind-clause-changing c = changing_same c.forget_all.ensures.held c.args.mind.now.changing

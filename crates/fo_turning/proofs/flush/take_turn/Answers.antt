@@ -1,17 +1,15 @@
-use Rattle.std.proofs.Common.{◌≡◌, ℕ, List, [], true, Option, None, Some, Result, Ok, Err, sym, ap, ◌∙◌, subst, arith}
+use Rattle.std.proofs.Common.{◌≡◌, ℕ, List, [], true, Option, None, Some, Ok, sym, ap, ◌∙◌, subst, arith}
 use Rattle.std.specs.Option.{is_some}
 use Rattle.std.specs.Result.{IfErr}
 use Rattle.fo_base.specs.Cause.{Rose}
 use Rattle.fo_ports.specs.Causes.{Caused}
-use Rattle.fo_ports.specs.declared.error.BlockError.{BlockError}
-use Rattle.fo_ports.specs.declared.error.BlockError.TheVariants.{Memory as Wanting}
 use Rattle.fo_waits.specs.Listed.{Clears}
 use Rattle.fo_mind.specs.MindParts.{parts}
 use Rattle.fo_mind.specs.Parts.{Parts}
 use Rattle.fo_order.specs.Turns.{IsQuiet}
 use Rattle.fo_settling.proofs.Waiting.{eases_turns}
 use Rattle.fo_cache.specs.Work.{in_doubt}
-use Rattle.fo_turning.proofs.Flushing.{any_err, certain, doubted, does_first, does_moved, does_sync, eases_moved, misses_quiet, misses_same, on_err}
+use Rattle.fo_turning.proofs.Flushing.{certain, doubted, does_first, does_moved, does_sync, eases_moved, misses_same, not_due, not_quiet, on_err}
 use Rattle.fo_turning.proofs.flush.take_turn.Goals as goal
 
 pub returns-then-is_doubted-clause-misses : goal.returns-then-is_doubted-clause-misses
@@ -68,10 +66,10 @@ returns-in-Idle-clause-does g c =
     let cache = c.args.cache.now in
     let mid = c.next_turn.new.self in
     let new = c.clear_next.new.cache in
-    does_moved g.D.Disk.state cache.main mid.main new.main (parts cache.mind [] 0) (parts mid.mind [] 0) (parts new.mind [] 0) c.clear_next.result c.next_turn.ensures.same c.next_turn.ensures.device c.clear_next.ensures.does
+    does_moved g.D.Disk.state cache.main mid.main new.main (parts cache.mind [] 0) (parts mid.mind [] 0) (parts new.mind [] 0) (Ok c.clear_next.result) c.next_turn.ensures.same c.next_turn.ensures.device c.clear_next.ensures.does
 
 pub returns-in-Idle-clause-idle : goal.returns-in-Idle-clause-idle
-returns-in-Idle-clause-idle g c = λ at. c.clear_next.ensures.idle (λ b j h. at.none b j (subst (λ (p : Parts). Clears p.clears b j) c.next_turn.ensures.same h))
+returns-in-Idle-clause-idle g c = λ at. ap (λ f. Ok f) (c.clear_next.ensures.idle (λ b j h. at.none b j (subst (λ (p : Parts). Clears p.clears b j) c.next_turn.ensures.same h)))
 
 pub returns-in-Idle-clause-eases : goal.returns-in-Idle-clause-eases
 returns-in-Idle-clause-eases g c =
@@ -79,11 +77,6 @@ returns-in-Idle-clause-eases g c =
     let mid = c.next_turn.new.self in
     let new = c.clear_next.new.cache in
     eases_moved (λ m. (g.D.Disk.state m).holds) g.D.Disk.faults cache.main mid.main new.main (parts cache.mind [] 0) (parts mid.mind [] 0) (parts new.mind [] 0) c.next_turn.ensures.same c.next_turn.ensures.device c.clear_next.ensures.eases
-
-pub returns-in-Idle-clause-misses : goal.returns-in-Idle-clause-misses
-returns-in-Idle-clause-misses g c =
-    let cache = c.args.cache.now in
-    any_err c.clear_next.result (misses_quiet (parts cache.mind [] 0) (parts c.clear_next.new.cache.mind [] 0) c.in-Idle.ensures.turn (certain cache.mind.doubt (sym c.is_doubted.ensures ∙ c.if-is_doubted.false)))
 
 counts_one : (o : Option (List ℕ)) → is_some o ≡ true → in_doubt o ≡ 1
 counts_one None e = absurd cc
@@ -119,9 +112,15 @@ returns-then-is_doubted-clause-does g c =
     let new = c.write_first.new.cache in
     does_first (g.D.Disk.state old.main) (g.D.Disk.state new.main) (parts old.mind [] 0) (parts new.mind [] 0) c.write_first.result (doubted old.mind.doubt (sym c.is_doubted.ensures ∙ c.if-is_doubted.true)) c.write_first.ensures.does
 
-wanting : {T : Type 0} (fault : Type 0) (r : Result T BlockError) → IfErr r (λ e. e ≡ Wanting) → IfErr r (Caused ⊥ (λ b. ⊥) fault ⊥)
-wanting fault (Ok x) h = tt
-wanting fault (Err e) h = subst (Caused ⊥ (λ b. ⊥) fault ⊥) (sym h) tt
+clash_doubt : {A : Type 0} (o : Option (List ℕ)) → is_some o ≡ true → o ≡ None → A
+clash_doubt None e none = absurd cc
+clash_doubt (Some tried) e none = absurd cc
 
-pub returns-in-Idle-clause-cause : goal.returns-in-Idle-clause-cause
-returns-in-Idle-clause-cause g c = wanting (Rose (g.D.Disk.faults c.args.cache.now.main) (g.D.Disk.faults c.clear_next.new.cache.main)) c.clear_next.result c.clear_next.ensures.cause
+pub returns-then-is_doubted-clause-sure : goal.returns-then-is_doubted-clause-sure
+returns-then-is_doubted-clause-sure g c = λ quiet none. clash_doubt c.args.cache.now.mind.doubt (sym c.is_doubted.ensures ∙ c.if-is_doubted.true) none
+
+pub returns-in-Write-clause-sure : goal.returns-in-Write-clause-sure
+returns-in-Write-clause-sure g c = λ quiet none. absurd (not_quiet c.args.cache.now.mind.order c.in-Write.at c.in-Write.ensures.turn quiet)
+
+pub returns-in-Sync-clause-sure : goal.returns-in-Sync-clause-sure
+returns-in-Sync-clause-sure g c = λ quiet none. absurd (not_due c.args.cache.now.mind.order c.in-Sync.ensures.turn quiet)

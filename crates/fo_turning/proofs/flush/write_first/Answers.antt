@@ -1,9 +1,6 @@
 use Rattle.std.proofs.Common.{[], refl, ap, arith}
 use Rattle.fo_cache.proofs.Easing.{eases_on}
-use Rattle.fo_order.specs.declared.marks.Mark.{Mark}
 use Rattle.fo_mind.specs.MindParts.{parts}
-use Rattle.fo_cache.specs.Supers.{Overruled}
-use Rattle.fo_turning.specs.Flushes.{Overrules}
 use Rattle.fo_turning.proofs.Releasing.{moved_overruled, releases_moved}
 use Rattle.fo_turning.proofs.flush.write_first.Goals as goal
 

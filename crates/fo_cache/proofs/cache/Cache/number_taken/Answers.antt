@@ -1,7 +1,7 @@
 use Rattle.std.proofs.Common.{◌≤◌, [], length, sym, ap, subst}
 use Rattle.fo_labels.specs.Region.{Region}
 use Rattle.fo_mind.specs.MindParts.{parts}
-use Rattle.fo_mind.specs.Parts.{IsDirty, Parts, count_of}
+use Rattle.fo_mind.specs.Parts.{IsDirty, Parts, Removes, count_of}
 use Rattle.fo_cache.proofs.Firsts.{one_like}
 use Rattle.fo_cache.proofs.Placing.{fit_beside}
 use Rattle.fo_cache.proofs.cache.Cache.number_taken.Goals as goal
@@ -65,6 +65,9 @@ returns-clause-keeps g c = let self = c.args.self.now in c.number_taken.ensures.
 
 pub returns-clause-queued : goal.returns-clause-queued
 returns-clause-queued g c = ap (λ (z : Parts). length z.removals) (c.number_taken.ensures.rest [] 0)
+
+pub returns-clause-no_removal : goal.returns-clause-no_removal
+returns-clause-no_removal g c = record { each = λ b e whole h. subst (λ (z : Parts). Removes z.removals b e whole) (c.number_taken.ensures.rest [] 0) h }
 
 pub returns-clause-dirty : goal.returns-clause-dirty
 returns-clause-dirty g c = λ b d. subst (λ (z : Parts). IsDirty z.turns z.held b) (c.number_taken.ensures.rest [] 0) d

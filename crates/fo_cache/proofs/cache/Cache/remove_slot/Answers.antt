@@ -58,6 +58,9 @@ returns-clause-no_wait g c = let self = c.args.self.now in c.remove_slot.ensures
 pub returns-clause-queues : goal.returns-clause-queues
 returns-clause-queues g c = let self = c.args.self.now in c.remove_slot.ensures.queues (g.D.Disk.state self.main).holds (g.D.Disk.faults self.main)
 
+pub returns-clause-removals : goal.returns-clause-removals
+returns-clause-removals g c = let self = c.args.self.now in c.remove_slot.ensures.removals (g.D.Disk.state self.main).holds (g.D.Disk.faults self.main)
+
 pub returns-clause-keeps : goal.returns-clause-keeps
 returns-clause-keeps g c = let self = c.args.self.now in c.remove_slot.ensures.keeps (g.D.Disk.state self.main).holds (g.D.Disk.faults self.main)
 

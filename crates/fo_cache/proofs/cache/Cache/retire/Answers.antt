@@ -55,6 +55,9 @@ returns-clause-order g c = let self = c.args.self.now in c.retire.ensures.order 
 pub returns-clause-no_wait : goal.returns-clause-no_wait
 returns-clause-no_wait g c = let self = c.args.self.now in c.retire.ensures.no_wait (g.D.Disk.state self.main).holds (g.D.Disk.faults self.main)
 
+pub returns-clause-removals : goal.returns-clause-removals
+returns-clause-removals g c = let self = c.args.self.now in c.retire.ensures.removals (g.D.Disk.state self.main).holds (g.D.Disk.faults self.main)
+
 pub returns-clause-keeps : goal.returns-clause-keeps
 returns-clause-keeps g c = let self = c.args.self.now in c.retire.ensures.keeps (g.D.Disk.state self.main).holds (g.D.Disk.faults self.main)
 

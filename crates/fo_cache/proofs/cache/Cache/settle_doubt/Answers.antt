@@ -1,7 +1,9 @@
-use Rattle.std.proofs.Common.{◌≡◌, ℕ, List, [], true, Option, None, Some, sym, ◌∙◌, arith}
+use Rattle.std.proofs.Common.{◌≡◌, ◌*◌, ℕ, List, [], true, Option, None, Some, sym, ◌∙◌, subst, arith}
 use Rattle.std.specs.Option.{is_some}
 use Rattle.fo_mind.specs.MindParts.{parts}
+use Rattle.fo_cache.specs.Called.{Makes, at_only, no_more}
 use Rattle.fo_cache.specs.Work.{in_doubt}
+use Rattle.fo_cache.proofs.Called.{makes_end, makes_none}
 use Rattle.fo_cache.proofs.Easing.{eases_doubt, eases_none}
 use Rattle.fo_cache.proofs.Lessening.{overruled_work}
 use Rattle.fo_cache.proofs.Numbering.{settled_step}
@@ -60,3 +62,22 @@ returns-clause-renumbers g c =
     let n = c.settle_one.new.self in
     let e = c.settle_one.ensures in
     settled_step (g.D.Disk.state self.main) (g.D.Disk.state n.main) (parts self.mind [] 0) (parts n.mind [] 0) e.others e.count c.settle_one.result e.overruled e.nothing
+
+pub returns-then-not-is_doubted-clause-made : goal.returns-then-not-is_doubted-clause-made
+returns-then-not-is_doubted-clause-made g c =
+    let self = c.args.self.now in
+    makes_end (makes_none (g.D.Disk.state self.main) (g.D.Disk.calls self.main) (2 * in_doubt self.mind.doubt) (at_only 1 (in_doubt self.mind.doubt)))
+
+pub returns-in_err-settle_one-clause-made : goal.returns-in_err-settle_one-clause-made
+returns-in_err-settle_one-clause-made g c =
+    let self = c.args.self.now in
+    let n = c.settle_one.new.self in
+    let one = doubted self.mind.doubt (sym c.is_doubted.ensures ∙ c.if-not-is_doubted.false) in
+    subst (λ k. Makes (g.D.Disk.state self.main) (g.D.Disk.state n.main) (g.D.Disk.calls self.main) (g.D.Disk.calls n.main) (2 * k) 0 (at_only 1 k) no_more) (sym one) c.settle_one.ensures.made
+
+pub returns-clause-made : goal.returns-clause-made
+returns-clause-made g c =
+    let self = c.args.self.now in
+    let n = c.settle_one.new.self in
+    let one = doubted self.mind.doubt (sym c.is_doubted.ensures ∙ c.if-not-is_doubted.false) in
+    subst (λ k. Makes (g.D.Disk.state self.main) (g.D.Disk.state n.main) (g.D.Disk.calls self.main) (g.D.Disk.calls n.main) (2 * k) 0 (at_only 1 k) no_more) (sym one) c.settle_one.ensures.made

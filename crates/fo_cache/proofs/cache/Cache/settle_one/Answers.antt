@@ -2,8 +2,10 @@ use Rattle.std.proofs.Common.{[], length, sym, ap, ◌∙◌, subst, arith}
 use Rattle.fo_disk.specs.Disk.{DiskState, versions_of}
 use Rattle.fo_mind.specs.MindParts.{parts}
 use Rattle.fo_mind.specs.Turning.{Synced}
+use Rattle.fo_cache.specs.Called.{Makes, at_only, no_more}
 use Rattle.fo_cache.specs.Settling.{Rested}
 use Rattle.fo_cache.specs.Supers.{Overruled}
+use Rattle.fo_cache.proofs.Called.{makes_first, makes_half}
 use Rattle.fo_cache.proofs.Trials.{count_tried, others_rested, overruled}
 use Rattle.fo_cache.proofs.Firsts.{memory_alone}
 use Rattle.fo_cache.proofs.cache.Cache.settle_one.Goals as goal
@@ -58,3 +60,26 @@ returns-clause-calls g c =
     let f = c.sync_turn.ensures.calls in
     let same = ap g.D.Disk.calls c.overrule.ensures.device in
     omega (arith, e, f, same)
+
+pub returns-in_default-clause-made : goal.returns-in_default-clause-made
+returns-in_default-clause-made g c =
+    let self = c.args.self.now in
+    let mid = c.write_one.new.self in
+    makes_half (g.D.Disk.state self.main) (g.D.Disk.state mid.main) (g.D.Disk.calls self.main) (g.D.Disk.calls mid.main) self.mind.one_bytes c.write_one.result c.write_one.ensures.wrote c.write_one.ensures.calls
+
+pub returns-in_default-sync_turn-clause-made : goal.returns-in_default-sync_turn-clause-made
+returns-in_default-sync_turn-clause-made g c =
+    let self = c.args.self.now in
+    let mid = c.write_one.new.self in
+    let end = c.sync_turn.new.self in
+    makes_first (g.D.Disk.state self.main) (g.D.Disk.state mid.main) (g.D.Disk.state end.main) (g.D.Disk.calls self.main) (g.D.Disk.calls mid.main) (g.D.Disk.calls end.main) self.mind.one_bytes c.write_one.result c.sync_turn.result c.write_one.ensures.wrote c.sync_turn.ensures.state c.write_one.ensures.calls c.sync_turn.ensures.calls
+
+pub returns-clause-made : goal.returns-clause-made
+returns-clause-made g c =
+    let self = c.args.self.now in
+    let mid = c.write_one.new.self in
+    let end = c.sync_turn.new.self in
+    let s = g.D.Disk.state self.main in
+    let before = g.D.Disk.calls self.main in
+    subst (λ (d : _). Makes s (g.D.Disk.state d) before (g.D.Disk.calls d) 2 0 (at_only 1 1) no_more) (sym c.overrule.ensures.device)
+    (makes_first s (g.D.Disk.state mid.main) (g.D.Disk.state end.main) before (g.D.Disk.calls mid.main) (g.D.Disk.calls end.main) self.mind.one_bytes c.write_one.result c.sync_turn.result c.write_one.ensures.wrote c.sync_turn.ensures.state c.write_one.ensures.calls c.sync_turn.ensures.calls)

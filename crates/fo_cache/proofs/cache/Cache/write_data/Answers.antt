@@ -3,6 +3,7 @@ use Rattle.fo_labels.specs.Region.{Region}
 use Rattle.fo_mind.specs.MindParts.{parts}
 use Rattle.fo_mind.specs.Parts.{count_of}
 use Rattle.fo_cache.proofs.Outcomes.{fits_answered, if_err, if_ok, last_written, others_written, region_answered, turn_held, turn_within}
+use Rattle.fo_mind.proofs.Changing.{turn_current}
 use Rattle.fo_mind.proofs.Landing.{within_count}
 use Rattle.fo_cache.proofs.Labelling.{labels_answered}
 use Rattle.fo_cache.proofs.Firsts.{one_answered}
@@ -31,10 +32,12 @@ invariant_of-self-clause-sized g c =
 
 pub returns-clause-wrote : goal.returns-clause-wrote
 returns-clause-wrote g c =
+    let self = c.args.self.now in
     let r = c.write-wrote.result in
     record {
       bytes = c.bytes_of.result.now;
       held = λ le. c.bytes_of.ensures.value;
+      current = λ le. turn_current self.mind.facts self.mind.changing self.mind.turning (subst (λ n. n ≤ c.args.at) self.mind.placed.is_first le) c.requires.turn;
       labels = λ lt. let le = c.requires.data in absurd (omega (arith, lt, le));
       device = c.write-wrote.ensures.state;
       landed = if_ok r c.is_ok-ok.ensures.value (λ e. c.wrote.ensures.landed e [] 0);

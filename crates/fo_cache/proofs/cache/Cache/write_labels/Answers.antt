@@ -64,6 +64,7 @@ returns-clause-wrote g c =
     record {
       bytes = c.spell_labels.new.into;
       held = λ le. let lt = c.requires.table in absurd (omega (arith, lt, le));
+      current = λ le. let lt = c.requires.table in absurd (omega (arith, lt, le));
       labels = λ lt. c.spell_labels.ensures;
       device = c.write-wrote.ensures.state;
       landed = if_ok r c.is_ok.ensures.value (λ e. c.wrote.ensures.landed e [] 0);

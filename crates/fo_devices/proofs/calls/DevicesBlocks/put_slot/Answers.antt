@@ -4,7 +4,7 @@ use Rattle.fo_crash.specs.Images.{target}
 use Rattle.fo_ports.specs.Blocks.{cost}
 use Rattle.std.proofs.Common.{◌≡◌, refl, ap, inl, arith}
 use Rattle.fo_ports.specs.State.{none}
-use Rattle.fo_devices.proofs.Frames.{frame, hangs, no_wait, order}
+use Rattle.fo_devices.proofs.Frames.{frame, hangs, no_wait, order, removals}
 use Rattle.fo_mind.specs.MindParts.{parts}
 use Rattle.fo_mind.specs.Parts.{state_of}
 use Rattle.fo_devices.proofs.calls.DevicesBlocks.put_slot.Goals as goal
@@ -53,6 +53,15 @@ returns-clause-queues g c = (c.put_slot.ensures.queues.more, λ e. inl (c.put_sl
 
 pub returns-clause-covers : goal.returns-clause-covers
 returns-clause-covers g c = λ told. absurd told
+
+pub returns-clause-removals : goal.returns-clause-removals
+returns-clause-removals g c =
+    let old = c.args.self.now.cache in
+    let new = c.put_slot.new.self in
+    let s = state_of (parts old.mind (g.D.Disk.state old.main).holds (g.D.Disk.faults old.main)) in
+    let t = state_of (parts new.mind (g.D.Disk.state new.main).holds (g.D.Disk.faults new.main)) in
+    let f = g.A.Disk.faults c.args.self.now.arena.device in
+    removals s t f f ((s.now c.args.at).slot c.args.i) c.put_slot.ensures.removals
 
 pub returns-clause-keeps : goal.returns-clause-keeps
 returns-clause-keeps g c = record { parts = c.put_slot.ensures.keeps; same_size = ap g.D.Disk.size c.put_slot.ensures.device; same_shelf = refl; same_stored = refl; more_faults = omega arith }

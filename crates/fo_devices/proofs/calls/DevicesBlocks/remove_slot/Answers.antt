@@ -1,7 +1,7 @@
 use Rattle.fo_crash.specs.Steps.{cleared}
 use Rattle.std.proofs.Common.{◌≡◌, refl, ap, inl, inr, ⊎_elim, arith}
 use Rattle.fo_ports.specs.State.{none}
-use Rattle.fo_devices.proofs.Frames.{frame, hangs, no_wait}
+use Rattle.fo_devices.proofs.Frames.{frame, hangs, no_wait, removals}
 use Rattle.fo_devices.proofs.Staying.{in_each}
 use Rattle.fo_mind.specs.MindParts.{parts}
 use Rattle.fo_mind.specs.Parts.{state_of}
@@ -42,6 +42,15 @@ returns-clause-no_wait g c =
 
 pub returns-clause-covers : goal.returns-clause-covers
 returns-clause-covers g c = λ told. absurd told
+
+pub returns-clause-removals : goal.returns-clause-removals
+returns-clause-removals g c =
+    let old = c.args.self.now.cache in
+    let new = c.remove_slot.new.self in
+    let s = state_of (parts old.mind (g.D.Disk.state old.main).holds (g.D.Disk.faults old.main)) in
+    let t = state_of (parts new.mind (g.D.Disk.state new.main).holds (g.D.Disk.faults new.main)) in
+    let f = g.A.Disk.faults c.args.self.now.arena.device in
+    removals s t f f ((s.now c.args.at).slot c.args.i) c.remove_slot.ensures.removals
 
 pub returns-clause-keeps : goal.returns-clause-keeps
 returns-clause-keeps g c = record { parts = c.remove_slot.ensures.keeps; same_size = ap g.D.Disk.size c.remove_slot.ensures.device; same_shelf = refl; same_stored = refl; more_faults = omega arith }

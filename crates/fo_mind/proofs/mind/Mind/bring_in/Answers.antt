@@ -8,6 +8,7 @@ use Rattle.fo_mind.proofs.Turning.{turning_brought}
 use Rattle.fo_facts.specs.Known.{fact_at, owing_as}
 use Rattle.fo_mind.proofs.Making.{making_noted}
 use Rattle.fo_mind.proofs.Standing.{links_set, root_set, standing_brought}
+use Rattle.fo_mind.proofs.Changing.{changing_brought}
 use Rattle.fo_mind.proofs.mind.Mind.bring_in.Goals as goal
 
 pub invariant_of-self-clause-placed : goal.invariant_of-self-clause-placed
@@ -91,3 +92,7 @@ invariant_of-self-clause-root_in g c =
     let b = c.requires.block.1 in
     let lt : c.args.at < length self.facts = omega (arith, b, n) in
     root_set self.facts c.owe.new.self c.args.at (owing_as c.args.rank (fact_at self.facts c.args.at)) lt c.owe.ensures refl self.root_in
+
+pub invariant_of-self-clause-changing : goal.invariant_of-self-clause-changing
+invariant_of-self-clause-changing g c =
+    changing_brought c.requires.live c.bring.ensures.others (may_bring c.bring.result c.bring.ensures.ok c.bring.ensures.err) c.args.self.now.changing

@@ -1,6 +1,5 @@
-use Rattle.std.proofs.Common.{◌≡◌, ◌<◌, ◌+◌, ◌*◌, [], length, count_by, refl, sym, ap, ◌∙◌, subst, arith}
+use Rattle.std.proofs.Common.{◌≡◌, ◌<◌, ◌+◌, [], refl, sym, ap, ◌∙◌, subst}
 use Rattle.fo_image.specs.declared.types.Kind.{Kind}
-use Rattle.fo_image.specs.declared.types.Kind.TheVariants.{Dir}
 use Rattle.fo_crash.specs.declared.slot.Slot.{Slot}
 use Rattle.fo_crash.specs.Images.{target}
 use Rattle.fo_crash.specs.Steps.{cleared}
@@ -9,7 +8,6 @@ use Rattle.fo_waits.specs.Listed.{Clears, Listed}
 use Rattle.fo_mind.specs.MindParts.{parts}
 use Rattle.fo_mind.specs.Parts.{IsHeld, Parts, label_at, memory}
 use Rattle.fo_mind.specs.Slotted.{Slotted}
-use Rattle.fo_mind.specs.Turning.{HasTurn}
 use Rattle.fo_mind.proofs.Cleared.{cleared_fits, cleared_nowhere, ends_one}
 use Rattle.fo_mind.proofs.Slotting.{fits_old}
 use Rattle.fo_mind.proofs.mind.Mind.clear_due.Goals as goal
@@ -22,11 +20,8 @@ slot_held-requires-clause-slots c =
     let self = c.args.self.now in
     subst (λ (k : Kind). c.args.i < slot_count k) (sym (self.clearable.each c.args.at c.args.i c.requires.waits).0) (self.clearable.within c.args.at c.args.i c.requires.waits)
 
-pub recall-requires-clause-waits : goal.recall-requires-clause-waits
-recall-requires-clause-waits c = subst (λ (p : Parts). Clears p.clears c.args.at c.args.i) (sym (c.end_waits.ensures [] 0).rest) c.requires.waits
-
-pub recall-requires-clause-room : goal.recall-requires-clause-room
-recall-requires-clause-room c = subst (λ (p : Parts). HasTurn p) (sym (c.end_waits.ensures [] 0).rest) c.requires.room
+pub recall-requires : goal.recall-requires
+recall-requires c = record { waits = subst (λ (p : Parts). Clears p.clears c.args.at c.args.i) (sym (c.end_waits.ensures [] 0).rest) c.requires.waits }
 
 pub change_held-requires-clause-held : goal.change_held-requires-clause-held
 change_held-requires-clause-held c =
@@ -57,17 +52,21 @@ change_held-requires-clause-leads c = λ b to. absurd (cleared_nowhere c.slot_he
 pub change_held-requires-clause-ends : goal.change_held-requires-clause-ends
 change_held-requires-clause-ends c = ends_one ((memory (parts c.recall.new.self [] 0) c.args.at).slot c.args.i) c.cleared-slot.result
 
-pub change_held-requires-clause-room : goal.change_held-requires-clause-room
-change_held-requires-clause-room c =
-    let r = (c.recall.ensures.recalled [] 0).room in
-    omega (arith, r)
+pub change_held-requires-clause-making : goal.change_held-requires-clause-making
+change_held-requires-clause-making c = c.recall.ensures.making
 
 pub returns : goal.returns
 returns c = λ disk faults.
     record {
       unwaited = parts c.end_waits.new.self disk faults;
-      recalled = parts c.recall.new.self disk faults;
+      recalled = record (parts c.recall.new.self disk faults) { room = c.recall.new.self.room + 1 };
       ended = c.end_waits.ensures disk faults;
       recalls = c.recall.ensures.recalled disk faults;
-      slotted = subst (λ (s : Slot). Slotted c.args.at c.args.i 1 s (parts c.recall.new.self disk faults) (parts c.change_held.new.self disk faults)) (c.cleared-slot.ensures ∙ ap cleared (c.slot_held.ensures disk faults)) (c.change_held.ensures disk faults);
+      slotted = subst (λ (s : Slot). Slotted c.args.at c.args.i 1 s (record (parts c.recall.new.self disk faults) { room = c.recall.new.self.room + 1 }) (parts c.change_held.new.self disk faults)) (c.cleared-slot.ensures ∙ ap cleared (c.slot_held.ensures disk faults)) (c.change_held.ensures disk faults);
     }
+
+pub change_held-requires-clause-current : goal.change_held-requires-clause-current
+change_held-requires-clause-current c =
+    let current = (c.args.self.now.clearable.each c.args.at c.args.i c.requires.waits).1 in
+    subst (λ (q : Parts). (label_at q.region c.args.at).epoch ≡ q.one.high) (sym (c.recall.ensures.recalled [] 0).rest)
+    (subst (λ (q : Parts). (label_at q.region c.args.at).epoch ≡ q.one.high) (sym (c.end_waits.ensures [] 0).rest) current)

@@ -26,7 +26,7 @@ budget-most-requires-clause-fewer c =
 
 pub budget-most-requires-clause-room : goal.budget-most-requires-clause-room
 budget-most-requires-clause-room c =
-    let m = c.args.self.now.making.left in
+    let m = c.requires.making.left in
     let a = c.made-before.ensures.is in
     let b = c.made-after.ensures.is in
     let r = c.requires.room in
@@ -47,7 +47,7 @@ take_put-requires-clause-some c =
 
 pub take_put-requires-clause-room : goal.take_put-requires-clause-room
 take_put-requires-clause-room c =
-    let m = c.args.self.now.making.left in
+    let m = c.requires.making.left in
     let a = c.made-before.ensures.is in
     let b = c.made-after.ensures.is in
     let r = c.requires.room in
@@ -71,9 +71,9 @@ invariant_of-self-clause-making c =
     let e = c.budget-most.ensures in
     let r = c.requires.room in
     let pushed = c.take_put.ensures.pushed in
-    let is : c.budget-most.result ≡ c.args.price + (count_by is_made self.facts - count_by is_made c.link_put.new.facts) = omega (arith, a, b, e) in
-    subst (λ k. Making c.link_put.new.facts self.spare (self.room - c.args.price + length self.clears.items) k c.take_put.new.queue.room) (sym c.link_put.ensures.same)
-    (making_joins c.link_put.ensures.joins c.args.price (omega (arith, r)) is pushed.1 pushed.2 self.making)
+    let is : c.budget-most.result ≡ c.args.paid + c.args.kept + (count_by is_made self.facts - count_by is_made c.link_put.new.facts) = omega (arith, a, b, e) in
+    subst (λ k. Making c.link_put.new.facts self.spare (self.room - c.args.paid + length self.clears.items) k c.take_put.new.queue.room) (sym c.link_put.ensures.same)
+    (making_joins c.link_put.ensures.joins (c.args.paid + c.args.kept) (omega (arith, r)) is pushed.1 pushed.2 c.requires.making)
 
 pub invariant_of-self-clause-turning : goal.invariant_of-self-clause-turning
 invariant_of-self-clause-turning c = let self = c.args.self.now in turning_joins c.link_put.ensures.joins self.placed.begins self.holding self.turning
@@ -84,7 +84,7 @@ invariant_of-self-clause-rests c = ap (λ (ps : List Pair). length ps) c.take_pu
 pub returns : goal.returns
 returns c = λ disk faults.
     let self = c.args.self.now in
-    let p = parts self disk faults in
+    let p = record (parts self disk faults) { room = self.room + c.args.kept } in
     let a = c.made-before.ensures.is in
     let b = c.made-after.ensures.is in
     let e = c.budget-most.ensures in
@@ -97,7 +97,7 @@ returns c = λ disk faults.
       budget_is = omega (arith, a, b, e);
       takes = c.take_put.ensures.takes (memory p) (shows_memory p self.first self.count self.placed self.holding);
       room = omega (arith, r);
-      rest = ap (λ k. record p { turns = c.link_put.new.order; facts = c.link_put.new.facts; room = self.room - c.args.price; removals = c.take_put.new.queue.removals; walk = c.take_put.new.walk; links = k }) c.link_put.ensures.same;
+      rest = ap (λ k. record p { turns = c.link_put.new.order; facts = c.link_put.new.facts; room = self.room - c.args.paid; removals = c.take_put.new.queue.removals; walk = c.take_put.new.walk; links = k }) c.link_put.ensures.same;
     }
 
 pub invariant_of-self-clause-root_in : goal.invariant_of-self-clause-root_in

@@ -16,6 +16,8 @@ use Rattle.fo_mind.proofs.Standing.{root_given, standing_given}
 use Rattle.fo_mind.specs.Turning.{Turning}
 use Rattle.fo_mind.proofs.Turning.{turning_given}
 use Rattle.fo_mind.proofs.Making.{making_given}
+use Rattle.fo_mind.proofs.Changing.{changing_given}
+use Rattle.fo_mind.specs.Sound.{Changing}
 use Rattle.fo_mind.proofs.mind.Mind.give.Goals as goal
 
 pub alloc_in-at-requires-clause-label : goal.alloc_in-at-requires-clause-label
@@ -171,3 +173,11 @@ invariant_of-self-clause-root_in c =
     let u = c.alloc_in-at.ensures.usable in
     let l = live_label c.args.kind c.args.tag self.one.high in
     both (λ (r : Region) (fs : List Fact). RootIn self.one.low r fs self.one.active) c.alloc_in-at.ensures.is c.give.ensures (root_given self.labels self.facts at l (made_fact c.args.origin c.args.rank) u.block u.usable self.root_in)
+
+pub invariant_of-self-clause-changing : goal.invariant_of-self-clause-changing
+invariant_of-self-clause-changing c =
+    let self = c.args.self.now in
+    let at = c.alloc_in-at.result in
+    let u = c.alloc_in-at.ensures.usable in
+    let l = live_label c.args.kind c.args.tag self.one.high in
+    both (λ (r : Region) (h : Held). Changing self.one.high r h) c.alloc_in-at.ensures.is c.make.ensures (changing_given self.labels at l u.block refl refl c.args.bytes.now self.buffers self.changing)

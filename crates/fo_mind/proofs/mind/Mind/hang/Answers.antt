@@ -30,8 +30,8 @@ invariant_of-self-clause-making c = making_hung c.note_put.ensures.counts c.args
 pub invariant_of-self-clause-turning : goal.invariant_of-self-clause-turning
 invariant_of-self-clause-turning c = turning_hung c.note_put.ensures.counts c.args.self.now.turning
 
-pub returns : goal.returns
-returns c = λ disk faults. record { marked = c.note_put.ensures.marked; counts = c.note_put.ensures.counts; rest = refl }
+pub returns-clause-is : goal.returns-clause-is
+returns-clause-is c = λ disk faults. record { marked = c.note_put.ensures.marked; counts = c.note_put.ensures.counts; rest = refl }
 
 pub invariant_of-self-clause-root_in : goal.invariant_of-self-clause-root_in
 invariant_of-self-clause-root_in c = root_like (λ b. (c.note_put.ensures.counts.each b).1) c.args.self.now.root_in

@@ -10,6 +10,7 @@ use Rattle.fo_mind.proofs.Results.{both}
 use Rattle.fo_mind.proofs.Turning.{turning_landed}
 use Rattle.fo_mind.proofs.Making.{making_noted, or_left}
 use Rattle.fo_mind.proofs.Standing.{links_set, root_set, standing_settles}
+use Rattle.fo_mind.proofs.Changing.{changing_settles}
 use Rattle.fo_mind.proofs.mind.Mind.landed.Goals as goal
 
 pub write-requires : goal.write-requires
@@ -83,3 +84,8 @@ invariant_of-self-clause-root_in c =
     let self = c.args.self.now in
     let w = within_count c.args.at self.placed c.requires.turn in
     root_set self.facts c.write.new.self c.args.at (written_as c.is_pinned-pinned.result (fact_at self.facts c.args.at)) w.0 c.write.ensures refl self.root_in
+
+pub invariant_of-self-clause-changing : goal.invariant_of-self-clause-changing
+invariant_of-self-clause-changing c =
+    let self = c.args.self.now in
+    changing_settles (settles_landed self.facts c.args.at self.buffers c.settle_linked.new.buffers (ap (λ (f : Fact). f.linked) c.get-fact.ensures) c.settle_linked.ensures) self.changing

@@ -3,6 +3,7 @@ use Rattle.fo_takeout.specs.Walking.{Walking}
 use Rattle.fo_unlink.specs.Pending.{Pending}
 use Rattle.fo_mind.specs.MindParts.{parts}
 use Rattle.fo_mind.proofs.Growing.{holding_grown, making_grown, owing_grown, placed_grown, roomy_grown, standing_grown, turning_grown, waiting_grown}
+use Rattle.fo_mind.proofs.Changing.{changing_grown}
 use Rattle.fo_mind.proofs.mind.Mind.make_parts.Goals as goal
 
 pub invariant_of-self-clause-placed : goal.invariant_of-self-clause-placed
@@ -42,3 +43,6 @@ returns-clause-grown c = λ disk faults.
 
 pub invariant_of-self-clause-standing : goal.invariant_of-self-clause-standing
 invariant_of-self-clause-standing c = standing_grown c.grow.ensures.buffers c.args.self.now.standing
+
+pub invariant_of-self-clause-changing : goal.invariant_of-self-clause-changing
+invariant_of-self-clause-changing c = changing_grown c.grow.ensures.buffers c.args.self.now.changing

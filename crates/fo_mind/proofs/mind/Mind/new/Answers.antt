@@ -16,6 +16,8 @@ use Rattle.fo_mind.proofs.Starting.{clearable_opened, holding_opened, owing_open
 use Rattle.fo_mind.specs.Turning.{Turning}
 use Rattle.fo_mind.proofs.Turning.{turning_opened}
 use Rattle.fo_mind.proofs.Standing.{root_opened, standing_opened}
+use Rattle.fo_mind.proofs.Changing.{changing_opened}
+use Rattle.fo_mind.specs.Sound.{Changing}
 use Rattle.fo_mind.proofs.mind.Mind.new.Goals as goal
 
 pub invariant_of-result-clause-placed : goal.invariant_of-result-clause-placed
@@ -100,3 +102,6 @@ invariant_of-result-clause-standing c = standing_opened c.in_ok-buffers.buffers 
 
 pub invariant_of-result-clause-root_in : goal.invariant_of-result-clause-root_in
 invariant_of-result-clause-root_in c = root_opened (c.first-first.result + c.len.result) c.in_ok-facts.facts c.in_ok-facts.ensures c.requires.live
+
+pub invariant_of-result-clause-changing : goal.invariant_of-result-clause-changing
+invariant_of-result-clause-changing c = subst (λ (h : Held). Changing c.args.one.high c.args.labels h) (sym c.in_ok-buffers.ensures) (changing_opened c.args.one.high c.args.labels)

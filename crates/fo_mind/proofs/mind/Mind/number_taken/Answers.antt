@@ -1,6 +1,6 @@
 use Rattle.std.proofs.Common.{◌+◌, false}
 use Rattle.fo_mind.specs.MindParts.{parts}
-use Rattle.fo_mind.proofs.Still.{covered_counts, image_counts, keeps_counts, no_wait_counts, order_counts, stays_counts, uses_none}
+use Rattle.fo_mind.proofs.Still.{covered_counts, image_counts, keeps_counts, no_removal_counts, no_wait_counts, order_counts, stays_counts, uses_none}
 use Rattle.fo_mind.proofs.mind.Mind.number_taken.Goals as goal
 
 pub returns-clause-now : goal.returns-clause-now
@@ -23,3 +23,6 @@ returns-clause-keeps c = λ disk faults. let p = parts c.args.self.now disk faul
 
 pub returns-clause-uses : goal.returns-clause-uses
 returns-clause-uses c = λ disk faults. let p = parts c.args.self.now disk faults in uses_none p (p.next + 1) false
+
+pub returns-clause-no_removal : goal.returns-clause-no_removal
+returns-clause-no_removal c = λ disk faults. let p = parts c.args.self.now disk faults in no_removal_counts p (p.next + 1) false

@@ -8,6 +8,7 @@ use Rattle.fo_facts.specs.Known.{fact_at, owing_as}
 use Rattle.fo_mind.proofs.Making.{making_noted}
 use Rattle.fo_buffers.specs.Held.{pinned_as}
 use Rattle.fo_mind.proofs.Standing.{links_set, root_set, standing_here}
+use Rattle.fo_mind.proofs.Changing.{changing_kept}
 use Rattle.fo_mind.proofs.mind.Mind.pin_held.Goals as goal
 
 pub invariant_of-self-clause-placed : goal.invariant_of-self-clause-placed
@@ -97,3 +98,9 @@ invariant_of-self-clause-root_in c =
     let b = c.requires.block.1 in
     let lt : c.args.at < length self.facts = omega (arith, b, n) in
     root_set self.facts c.owe.new.self c.args.at (owing_as c.args.rank (fact_at self.facts c.args.at)) lt c.owe.ensures refl self.root_in
+
+pub invariant_of-self-clause-changing : goal.invariant_of-self-clause-changing
+invariant_of-self-clause-changing c =
+    let self = c.args.self.now in
+    let p = pins_of c.args.at self.buffers c.pin.new.self c.requires.held c.pin.ensures.free c.pin.ensures.same in
+    changing_kept p.others p.was (pinned_as true p.was) p.held p.here (λ d. d) self.changing

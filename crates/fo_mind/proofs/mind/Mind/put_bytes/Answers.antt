@@ -52,7 +52,7 @@ returns-clause-now c = λ disk faults.
     let good = bytes_good self.first self.count kind (held_at self.buffers c.args.at) c.copied-block.result c.copied-block.ensures (good_held c.args.at kind self.holding refl some) in
     let same = subst (λ (z : Label). (i : ℕ) → (read z.kind c.put_bytes_into.new.into).slot i ≡ (read z.kind c.copied-block.result).slot i) c.label-label.ensures c.put_bytes_into.ensures.same in
     let long = ap length c.put_bytes_into.ensures.is ∙ length_put_at c.args.from c.args.bytes.now c.copied-block.result (subst (λ n. c.args.from + length c.args.bytes.now ≤ n) (sym good.long) c.requires.within) ∙ good.long in
-    (put_result (parts self disk faults) (parts c.refill.new.self disk faults) self.first self.count c.args.at c.args.from c.args.bytes.now c.copied-block.result c.put_bytes_into.new.into self.placed self.holding c.requires.pinned c.copied-block.ensures long c.put_bytes_into.ensures.is c.requires.place same (c.refill.ensures disk faults)).0
+    (put_result (parts self disk faults) (parts c.refill.new.self disk faults) self.first self.count c.args.at c.args.from c.args.bytes.now c.copied-block.result c.put_bytes_into.new.into self.placed self.holding c.requires.pinned c.copied-block.ensures long c.put_bytes_into.ensures.is c.requires.place same (c.refill.ensures.is disk faults)).0
 
 pub returns-clause-calm : goal.returns-clause-calm
 returns-clause-calm c = λ disk faults.
@@ -62,10 +62,10 @@ returns-clause-calm c = λ disk faults.
     let good = bytes_good self.first self.count kind (held_at self.buffers c.args.at) c.copied-block.result c.copied-block.ensures (good_held c.args.at kind self.holding refl some) in
     let same = subst (λ (z : Label). (i : ℕ) → (read z.kind c.put_bytes_into.new.into).slot i ≡ (read z.kind c.copied-block.result).slot i) c.label-label.ensures c.put_bytes_into.ensures.same in
     let long = ap length c.put_bytes_into.ensures.is ∙ length_put_at c.args.from c.args.bytes.now c.copied-block.result (subst (λ n. c.args.from + length c.args.bytes.now ≤ n) (sym good.long) c.requires.within) ∙ good.long in
-    (put_result (parts self disk faults) (parts c.refill.new.self disk faults) self.first self.count c.args.at c.args.from c.args.bytes.now c.copied-block.result c.put_bytes_into.new.into self.placed self.holding c.requires.pinned c.copied-block.ensures long c.put_bytes_into.ensures.is c.requires.place same (c.refill.ensures disk faults)).1
+    (put_result (parts self disk faults) (parts c.refill.new.self disk faults) self.first self.count c.args.at c.args.from c.args.bytes.now c.copied-block.result c.put_bytes_into.new.into self.placed self.holding c.requires.pinned c.copied-block.ensures long c.put_bytes_into.ensures.is c.requires.place same (c.refill.ensures.is disk faults)).1
 
 pub returns-clause-no_wait : goal.returns-clause-no_wait
-returns-clause-no_wait c = λ disk faults. no_wait_put (c.refill.ensures disk faults)
+returns-clause-no_wait c = λ disk faults. no_wait_put (c.refill.ensures.is disk faults)
 
 same_bytes : {a b : List ℕ} (o : Option Buffer) → Some a ≡ option_map block_in o → Some b ≡ option_map block_in o → a ≡ b
 same_bytes o e f = some_same (e ∙ sym f)
@@ -77,10 +77,13 @@ pub returns-clause-refilled : goal.returns-clause-refilled
 returns-clause-refilled c = λ was is disk faults.
     let self = c.args.self.now in
     let same = same_bytes (held_at self.buffers c.args.at) c.copied-block.ensures is in
-    subst (λ (b : List ℕ). Refilled c.args.at b (parts self disk faults) (parts c.refill.new.self disk faults)) (c.put_bytes_into.ensures.is ∙ ap (put_at c.args.from c.args.bytes.now) same) (c.refill.ensures disk faults)
+    subst (λ (b : List ℕ). Refilled c.args.at b (parts self disk faults) (parts c.refill.new.self disk faults)) (c.put_bytes_into.ensures.is ∙ ap (put_at c.args.from c.args.bytes.now) same) (c.refill.ensures.is disk faults)
 
 pub refill-requires-clause-held : goal.refill-requires-clause-held
 refill-requires-clause-held c = is_held (held_at c.args.self.now.buffers c.args.at) c.requires.pinned
 
 pub refill-requires-clause-owed : goal.refill-requires-clause-owed
 refill-requires-clause-owed c = let self = c.args.self.now in owed_pinned self.facts c.args.at c.requires.pinned self.owing
+
+pub refill-requires-clause-current : goal.refill-requires-clause-current
+refill-requires-clause-current c = c.requires.current

@@ -1,5 +1,4 @@
-use Rattle.std.proofs.Common.{◌<◌, ◌≤◌, ◌+◌, length, refl, arith}
-use Rattle.fo_mind.specs.MindParts.{parts}
+use Rattle.std.proofs.Common.{refl, arith}
 use Rattle.fo_mind.proofs.Ending.{clearable_fewer}
 use Rattle.fo_mind.proofs.Making.{making_fewer}
 use Rattle.fo_mind.proofs.Recalling.{making_due, marks_due, owing_due, placed_due, roomy_due, turning_due}
@@ -40,16 +39,14 @@ invariant_of-self-clause-roomy c =
     let self = c.args.self.now in
     let w = within_facts c.args.at self.placed self.holding (self.standing.still c.args.at c.args.i c.requires.waits) in
     let f = c.take_out.ensures.out.fewer c.requires.waits in
-    let r = c.one_more-self.ensures in
-    roomy_due self.facts c.owe_due.new.facts self.order c.args.at w.0 c.owe_due.ensures.is c.requires.room (omega (arith, f, r)) self.roomy
+    roomy_due self.facts c.owe_due.new.facts self.order c.args.at w.0 c.owe_due.ensures.is (omega (arith, f)) self.roomy
 
 pub invariant_of-self-clause-making : goal.invariant_of-self-clause-making
 invariant_of-self-clause-making c =
     let self = c.args.self.now in
     let w = within_facts c.args.at self.placed self.holding (self.standing.still c.args.at c.args.i c.requires.waits) in
     let f = c.take_out.ensures.out.fewer c.requires.waits in
-    let r = c.one_more-self.ensures in
-    making_due self.facts c.owe_due.new.facts self.order c.args.at w.0 c.owe_due.ensures.is (making_fewer (omega (arith, f, r)) self.making)
+    making_due self.facts c.owe_due.new.facts self.order c.args.at w.0 c.owe_due.ensures.is (making_fewer (omega (arith, f)) self.making)
 
 pub invariant_of-self-clause-turning : goal.invariant_of-self-clause-turning
 invariant_of-self-clause-turning c =
@@ -61,8 +58,7 @@ pub invariant_of-self-clause-awaits : goal.invariant_of-self-clause-awaits
 invariant_of-self-clause-awaits c =
     let a = c.args.self.now.awaits in
     let f = c.take_out.ensures.out.fewer c.requires.waits in
-    let r = c.one_more-self.ensures in
-    omega (arith, a, f, r)
+    omega (arith, a, f)
 
 pub invariant_of-self-clause-clears_more : goal.invariant_of-self-clause-clears_more
 invariant_of-self-clause-clears_more c =
@@ -72,11 +68,17 @@ invariant_of-self-clause-clears_more c =
     let o = self.clears.ok.0 in
     let n = c.take_out.new.clears.ok.0 in
     let k = c.take_out.ensures.capacity in
-    let r = c.one_more-self.ensures in
-    omega (arith, a, f, o, n, k, r)
+    omega (arith, a, f, o, n, k)
 
 pub returns-clause-recalled : goal.returns-clause-recalled
 returns-clause-recalled c = λ disk faults.
     let self = c.args.self.now in
     let w = within_facts c.args.at self.placed self.holding (self.standing.still c.args.at c.args.i c.requires.waits) in
-    record { out = c.take_out.ensures.out; marks = marks_due self.facts c.owe_due.new.facts self.order c.args.at w.0 c.owe_due.ensures.is; room = c.one_more-self.ensures; rest = refl }
+    record { out = c.take_out.ensures.out; marks = marks_due self.facts c.owe_due.new.facts self.order c.args.at w.0 c.owe_due.ensures.is; room = refl; rest = refl }
+
+pub returns-clause-making : goal.returns-clause-making
+returns-clause-making c =
+    let self = c.args.self.now in
+    let w = within_facts c.args.at self.placed self.holding (self.standing.still c.args.at c.args.i c.requires.waits) in
+    let f = c.take_out.ensures.out.fewer c.requires.waits in
+    making_due self.facts c.owe_due.new.facts self.order c.args.at w.0 c.owe_due.ensures.is (making_fewer (omega (arith, f)) self.making)

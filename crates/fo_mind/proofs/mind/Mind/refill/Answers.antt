@@ -9,6 +9,7 @@ use Rattle.fo_mind.specs.Turning.{Turning}
 use Rattle.fo_mind.proofs.Standing.{root_marks, standing_here}
 use Rattle.fo_mind.proofs.Turning.{turning_refilled}
 use Rattle.fo_mind.proofs.Making.{making_turned}
+use Rattle.fo_mind.proofs.Changing.{changing_refilled}
 use Rattle.fo_mind.proofs.mind.Mind.refill.Goals as goal
 
 pub take_turn-requires-clause-flags : goal.take_turn-requires-clause-flags
@@ -54,8 +55,8 @@ invariant_of-self-clause-roomy c =
     both (λ (t : Turns) (fs : List Fact). Roomy c.write.new.self t self.labels fs self.one.low self.spare self.pins (self.room + length self.clears.items)) c.take_turn.ensures.turns c.take_turn.ensures.items
     (roomy_turned self.facts self.order c.args.at w.0 w.1 c.requires.owed (roomy_refilled r self.roomy))
 
-pub returns : goal.returns
-returns c = λ disk faults. record { held = c.write.ensures; turns = c.take_turn.ensures.turns; facts = c.take_turn.ensures.items; rest = refl }
+pub returns-clause-is : goal.returns-clause-is
+returns-clause-is c = λ disk faults. record { held = c.write.ensures; turns = c.take_turn.ensures.turns; facts = c.take_turn.ensures.items; rest = refl }
 
 pub invariant_of-self-clause-turning : goal.invariant_of-self-clause-turning
 invariant_of-self-clause-turning c =
@@ -83,3 +84,8 @@ invariant_of-self-clause-root_in c =
     let self = c.args.self.now in
     let w = within_facts c.args.at self.placed self.holding c.requires.held in
     root_marks (subst (SameMarks self.facts) (sym c.take_turn.ensures.items) (marks_turned self.facts self.order c.args.at w.0 w.1)) self.root_in
+
+pub invariant_of-self-clause-changing : goal.invariant_of-self-clause-changing
+invariant_of-self-clause-changing c =
+    let self = c.args.self.now in
+    changing_refilled (refills_of c.args.at c.args.bytes.now self.buffers c.write.new.self self.holding c.requires.held c.requires.good.long c.write.ensures) c.requires.current self.changing

@@ -4,6 +4,7 @@ use Rattle.fo_mind.specs.MindParts.{parts}
 use Rattle.fo_mind.proofs.Keeping.{roomy_same}
 use Rattle.fo_mind.proofs.Releasing.{cuts_of, given_up, holding_cut, if_free, may_be, owing_cut, turning_cut, waiting_cut}
 use Rattle.fo_mind.proofs.Standing.{standing_cut}
+use Rattle.fo_mind.proofs.Changing.{changing_gone}
 use Rattle.fo_mind.proofs.mind.Mind.release.Goals as goal
 
 clash : {A : Type 0} {b : _} → b ≡ true → b ≡ false → A
@@ -62,3 +63,11 @@ invariant_of-self-clause-standing c =
     let r = given_up (parts self [] 0) c.args.at c.release.new.self m c.release.ensures.is c.release.ensures.alone in
     let k = cuts_of c.args.at self.buffers c.release.new.self r.was.block r.is in
     standing_cut k.others m.linked m.uncleared self.standing
+
+pub invariant_of-self-clause-changing : goal.invariant_of-self-clause-changing
+invariant_of-self-clause-changing c =
+    let self = c.args.self.now in
+    let m = may_be (parts self [] 0) c.args.at (sym c.may_release.ensures ∙ c.if-may_release.true) in
+    let r = given_up (parts self [] 0) c.args.at c.release.new.self m c.release.ensures.is c.release.ensures.alone in
+    let k = cuts_of c.args.at self.buffers c.release.new.self r.was.block r.is in
+    changing_gone k.others k.here self.changing

@@ -1,6 +1,7 @@
-use Rattle.std.proofs.Common.{◌-◌, arith, ap}
+use Rattle.std.proofs.Common.{◌-◌, false, arith, ap}
+use Rattle.fo_image.specs.declared.types.Kind.TheVariants.{Root}
 use Rattle.fo_mind.specs.MindParts.{parts}
-use Rattle.fo_mind.proofs.Still.{frame_counts, image_counts, keeps_counts, no_wait_counts, order_counts}
+use Rattle.fo_mind.proofs.Still.{frame_counts, image_counts, keeps_counts, no_wait_counts, order_counts, removes_one}
 use Rattle.fo_unlink.specs.Pending.{Pending}
 use Rattle.fo_mind.proofs.Making.{making_fewer}
 use Rattle.fo_mind.proofs.Keeping.{roomy_fewer}
@@ -30,3 +31,7 @@ invariant_of-self-clause-making c =
     let some = c.requires.room in
     let m = c.args.self.now.making.left in
     making_fewer (omega (arith, room, some, m)) c.args.self.now.making
+
+pub returns-clause-removals : goal.returns-clause-removals
+returns-clause-removals c = λ disk faults b e whole h.
+    removes_one c.args.self.now.queue.removals c.push.new.self.removals (record { at = c.args.at; kind = Root; whole = false; epoch = c.args.epoch; after = c.args.after }) (ap (λ (q : Pending). q.removals) c.push.ensures.queued) b e whole h

@@ -8,6 +8,7 @@ use Rattle.fo_mind.proofs.Results.{on_ok, damaged}
 use Rattle.fo_mind.proofs.Coming.{comes_at_once, comes_same}
 use Rattle.fo_mind.proofs.Turning.{same_held}
 use Rattle.fo_mind.proofs.Standing.{standing_same}
+use Rattle.fo_mind.proofs.Changing.{changing_same}
 use Rattle.fo_mind.proofs.mind.Mind.scan.Goals as goal
 
 pub returns-then-is_held-clause-got : goal.returns-then-is_held-clause-got
@@ -63,3 +64,6 @@ invariant_of-self-clause-turning g c = same_held c.glance.ensures.held c.args.se
 
 pub invariant_of-self-clause-standing : goal.invariant_of-self-clause-standing
 invariant_of-self-clause-standing g c = standing_same c.glance.ensures.held c.args.self.now.standing
+
+pub invariant_of-self-clause-changing : goal.invariant_of-self-clause-changing
+invariant_of-self-clause-changing g c = changing_same c.glance.ensures.held c.args.self.now.changing

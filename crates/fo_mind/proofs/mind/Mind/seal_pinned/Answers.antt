@@ -1,5 +1,4 @@
 use Rattle.std.proofs.Common.{refl}
-use Rattle.fo_buffers.specs.Held.{IsPinned}
 use Rattle.fo_mind.proofs.Joining.{making_hung, owing_hung, placed_hung, roomy_hung, turning_hung}
 use Rattle.fo_mind.proofs.Standing.{root_like, standing_like}
 use Rattle.fo_mind.proofs.mind.Mind.seal_pinned.Goals as goal

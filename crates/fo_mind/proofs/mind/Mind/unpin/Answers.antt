@@ -7,6 +7,8 @@ use Rattle.fo_mind.specs.Turning.{Turning, unpinned_fact}
 use Rattle.fo_mind.proofs.Standing.{links_set, root_set, standing_here}
 use Rattle.fo_mind.proofs.Unpinning.{holding_unpins, owing_unpins, placed_unpins, roomy_unpins, turning_unpins, unpins_of, waiting_unpins}
 use Rattle.fo_mind.proofs.Making.{making_unpinned}
+use Rattle.fo_mind.proofs.Changing.{changing_kept}
+use Rattle.fo_mind.specs.Sound.{Changing}
 use Rattle.fo_mind.proofs.mind.Mind.unpin.Goals as goal
 
 pub owe_unlinked-requires : goal.owe_unlinked-requires
@@ -103,3 +105,12 @@ invariant_of-self-2-clause-root_in c =
 
 pub invariant_of-self-clause-standing : goal.invariant_of-self-clause-standing
 invariant_of-self-clause-standing c = let self = c.args.self.now in subst (λ (h : Held). Standing h self.facts self.clears.items) (sym c.in_default.ensures.0) self.standing
+
+pub invariant_of-self-2-clause-changing : goal.invariant_of-self-2-clause-changing
+invariant_of-self-2-clause-changing c =
+    let self = c.args.self.now in
+    let p = unpins_of c.in-Some.at self.buffers c.unpin.new.self c.in-Some.ensures.0 c.in-Some.ensures.1 in
+    changing_kept p.others p.was (pinned_as false p.was) p.held p.here (λ d. d) self.changing
+
+pub invariant_of-self-clause-changing : goal.invariant_of-self-clause-changing
+invariant_of-self-clause-changing c = let self = c.args.self.now in subst (λ (h : Held). Changing self.one.high self.labels h) (sym c.in_default.ensures.0) self.changing

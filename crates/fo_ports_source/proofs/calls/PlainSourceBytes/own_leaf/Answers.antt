@@ -6,6 +6,7 @@ use Rattle.fo_ports_source.proofs.Leaves.{prepared_same, prepared_raised}
 use Rattle.fo_ports_source.proofs.Grows.{OwnsLeaf, leaf_is, owned_here}
 use Rattle.fo_ports_source.proofs.Steps.{steps_changes, steps_wider}
 use Rattle.fo_ports_source.proofs.Values.{values_resized}
+use Rattle.fo_ports_source.proofs.Dirtied.{dirties_owned, dirties_grown}
 use Rattle.fo_ports_source.proofs.calls.PlainSourceBytes.own_leaf.Given as given
 use Rattle.fo_ports_source.proofs.calls.PlainSourceBytes.own_leaf.Goals as goal
 
@@ -88,3 +89,9 @@ returns-else-self-i-clause-current g c =
     let first : c.args.i ≡ 0 = omega (arith, same, short) in
     inr (record { at = c.own.result; is = subst (λ j. leaf_of c.own.new.self.leaves.items j ≡ Some c.own.result) first (leaf_is (owns g c)); current = c.own.ensures.own.current }))
     (cases_lt 8192 c.own.new.self.size)
+
+pub returns-then-self-i-clause-dirties : goal.returns-then-self-i-clause-dirties
+returns-then-self-i-clause-dirties g c = dirties_grown c.args.self.now.size c.args.i (omega arith) c.own_next.ensures.dirties
+
+pub returns-else-self-i-clause-dirties : goal.returns-else-self-i-clause-dirties
+returns-else-self-i-clause-dirties g c = dirties_owned c.args.self.now.size c.args.i c.own.ensures.dirties

@@ -4,6 +4,7 @@ use Rattle.fo_ports_source.specs.Source.{leaf_of, byte_of}
 use Rattle.fo_ports_source.proofs.Leaves.{prepared_same, prepared_raised}
 use Rattle.fo_ports_source.proofs.Steps.{steps_changes}
 use Rattle.fo_ports_source.proofs.Values.{values_written}
+use Rattle.fo_ports_source.proofs.Dirtied.{dirties_written}
 use Rattle.fo_ports_source.proofs.calls.PlainSourceBytes.write.Goals as goal
 
 pub returns-clause-bytes : goal.returns-clause-bytes
@@ -22,3 +23,6 @@ returns-clause-grows g c = record {
 
 pub returns-clause-changes : goal.returns-clause-changes
 returns-clause-changes g c = (steps_changes c.put.ensures.grew.steps, c.put.ensures.keeps)
+
+pub returns-clause-dirties : goal.returns-clause-dirties
+returns-clause-dirties g c = dirties_written (max c.args.self.now.size (c.args.offset + length c.args.piece.now)) (length c.args.piece.now) c.put.ensures.dirties

@@ -4,6 +4,7 @@ use Rattle.fo_ports.specs.Sources.{EndsWithin}
 use Rattle.fo_ports_source.specs.Source.{form_of, leaf_of, byte_of}
 use Rattle.fo_ports_source.proofs.Steps.{steps_wider}
 use Rattle.fo_ports_source.proofs.Grows.{part_zero, puts_zeros, longer_put}
+use Rattle.fo_ports_source.proofs.Dirtied.{dirties_few, dirties_still}
 use Rattle.fo_ports_source.proofs.source.PlainSource.grow.Given as given
 use Rattle.fo_ports_source.proofs.source.PlainSource.grow.Goals as goal
 
@@ -35,3 +36,9 @@ returns-then-ends_within-clause-bytes g c = λ told.
 
 pub returns-then-ends_within-clause-steps : goal.returns-then-ends_within-clause-steps
 returns-then-ends_within-clause-steps g c = steps_wider (λ b h. h) (λ b h. (ends g c, h)) c.put_part.ensures.steps
+
+pub returns-then-ends_within-clause-dirties : goal.returns-then-ends_within-clause-dirties
+returns-then-ends_within-clause-dirties g c = dirties_few (omega arith) c.put_part.ensures.dirties
+
+pub returns-else-ends_within-clause-dirties : goal.returns-else-ends_within-clause-dirties
+returns-else-ends_within-clause-dirties g c = dirties_still 2 (g.B.Blocks.state c.args.on.now)

@@ -4,6 +4,7 @@ use Rattle.fo_ports.specs.State.{KeepsAll}
 use Rattle.fo_ports_source.specs.Source.{leaf_of}
 use Rattle.fo_ports_source.proofs.Leaves.{grew_joins, grew_same, prepared_same, prepared_raised}
 use Rattle.fo_ports_source.proofs.Grows.{OwnsLeaf, owns_same, next_steps, owned_next}
+use Rattle.fo_ports_source.proofs.Dirtied.{dirties_then}
 use Rattle.fo_ports_source.proofs.source.PlainSource.own_next.Given as given
 use Rattle.fo_ports_source.proofs.source.PlainSource.own_next.Goals as goal
 
@@ -42,3 +43,6 @@ returns-clause-steps g c = next_steps c.requires.over c.requires.longer (live g 
 
 pub returns-clause-grew : goal.returns-clause-grew
 returns-clause-grew g c = grew_joins (all g c) c.grow.ensures.grew (grew_same c.grow.ensures.same.0 c.grow.ensures.same.1 c.grow.ensures.same.3 c.own.ensures.grew)
+
+pub returns-clause-dirties : goal.returns-clause-dirties
+returns-clause-dirties g c = dirties_then c.grow.ensures.dirties c.own.ensures.dirties

@@ -11,6 +11,7 @@ use Rattle.fo_ports_source.specs.SourceLaws.{only_place}
 use Rattle.fo_ports_source.proofs.Steps.{bytes_put, steps_joins, steps_wider}
 use Rattle.fo_ports_source.proofs.Leaves.{leaf_was, PutsOne, put_puts, put_over, put_grew, grew_joins, grew_same}
 use Rattle.fo_ports_source.proofs.Puts.{puts_after}
+use Rattle.fo_ports_source.proofs.Dirtied.{dirties_after}
 use Rattle.fo_ports_source.proofs.source.PlainSource.put_part.Given as given
 use Rattle.fo_ports_source.proofs.source.PlainSource.put_part.Goals as goal
 
@@ -95,3 +96,6 @@ returns-clause-grew g c =
     let mid = c.own-at.new.on in
     let new = c.put_bytes.new.self in
     grew_joins (g.met.B.Blocks.keeps_all on new (g.met.B.Blocks.keeps_joins on mid new c.own-at.ensures.keeps c.put_bytes.ensures.keeps)) c.own-at.ensures.grew (grew_same c.own-at.ensures.same.0 c.own-at.ensures.same.1 c.own-at.ensures.same.3 (put_grew (one g c)))
+
+pub returns-clause-dirties : goal.returns-clause-dirties
+returns-clause-dirties g c = dirties_after (g.met.B.Blocks.keeps_all c.own-at.new.on c.put_bytes.new.self c.put_bytes.ensures.keeps) c.own-at.ensures.dirties c.put_bytes.ensures.calm

@@ -1,6 +1,6 @@
-use Rattle.std.proofs.Common.{false, refl, arith}
+use Rattle.std.proofs.Common.{false, refl, sym, arith}
 use Rattle.fo_unlink.specs.Pending.{Pending}
-use Rattle.fo_unlink.proofs.Going.{begins, reads-again, goes-down, levels-first, start_level-le}
+use Rattle.fo_unlink.proofs.Going.{begins, reads-again, goes-down, levels-first, start_level-le, way_some}
 use Rattle.fo_unlink.proofs.Working as working
 use Rattle.fo_unlink.proofs.queue.Queue.advance.Goals as goal
 
@@ -29,7 +29,7 @@ returns-in-Some-next_target-clause-answer c =
     let m : Pending = record { removals = s.removals.items; way = c.push.new.self; asked = false; room = s.room } in
     let first = rw (← c.self.view_is) at c.in-Some.ensures in
     let levels = levels-first s.way c.in-Some-innermost.frame c.self.invariant.levels c.in-Some-innermost.ensures in
-    rw (← c.self.view_is) (goes-down c.args.settled o m c.enter-in-Some-next_target.new.self c.args.block.now c.in-Some.first c.in-Some-innermost.frame c.in-Some-next_target.slot c.in-Some-next_target.at c.enter-in-Some-next_target.result first c.if-not-settled.false c.in-Some-innermost.ensures c.if-not-asked.false levels.0 c.in-Some-next_target.ensures (rw (c.push.ensures, c.pop.ensures) refl) c.enter-in-Some-next_target.ensures.leaf c.enter-in-Some-next_target.ensures.inner)
+    rw (← c.self.view_is) (goes-down c.args.settled o m c.enter-in-Some-next_target.new.self c.args.block.now c.in-Some.first c.in-Some-innermost.frame c.in-Some-next_target.slot c.in-Some-next_target.at c.enter-in-Some-next_target.result first (c.self.invariant.whole (way_some s.way c.in-Some-innermost.frame c.in-Some-innermost.ensures) c.in-Some.first (sym first)) c.if-not-settled.false c.in-Some-innermost.ensures c.if-not-asked.false levels.0 c.in-Some-next_target.ensures (rw (c.push.ensures, c.pop.ensures) refl) c.enter-in-Some-next_target.ensures.leaf c.enter-in-Some-next_target.ensures.inner)
 
 pub returns-in_default-innermost-clause-lowers : goal.returns-in_default-innermost-clause-lowers
 returns-in_default-innermost-clause-lowers c =

@@ -4,9 +4,10 @@ use Rattle.fo_unlink.specs.Work.{work}
 use Rattle.fo_mind.specs.MindParts.{parts}
 use Rattle.fo_mind.specs.Parts.{Parts, count_of}
 use Rattle.fo_closing.specs.Turned.{Went}
+use Rattle.fo_closing.proofs.Resting.{looked_turned}
 use Rattle.fo_closing.proofs.Taking.{count_turned}
 use Rattle.fo_closing.proofs.Turning.{none_left, turned_of}
-use Rattle.fo_closing.proofs.turn.close_next.Goals as goal
+use Rattle.fo_closing.proofs.turn.take.Goals as goal
 
 never : {A : Type 0} → false ≡ true → A
 never e = cc
@@ -26,18 +27,18 @@ returns-then-not-is_sure-clause-turned g c = record {
 
 pub returns-clause-turned : goal.returns-clause-turned
 returns-clause-turned g c =
-    let q = c.args.mind.now.queue in
     let holds = (g.D.Disk.state c.prepare.new.main).holds in
     let faults = g.D.Disk.faults c.prepare.new.main in
+    let w = c.go_on.ensures.went holds faults in
     turned_of c.go_on.result (record {
       first = c.in-Some.first;
       block = c.prepare.new.block;
-      mid = parts c.prepare.new.mind holds faults;
+      mid = w.0;
       is_first = sym c.first.ensures ∙ c.in-Some.is;
       sure = c.is_sure.ensures.0 c.if-not-is_sure.false;
       known = c.in_default-prepare.ensures.known;
-      looked = c.prepare.ensures.looked;
-      went = subst (λ (r : Pending). Went c.go_on.result c.in-Some.first c.prepare.new.block (parts c.prepare.new.mind holds faults) (parts c.go_on.new.mind holds faults) r c.go_on.new.mind.queue) c.prepare.ensures.queue (c.go_on.ensures.went holds faults);
+      looked = looked_turned c.prepare.ensures.looked w.1;
+      went = subst (λ (r : Pending). Went c.go_on.result c.in-Some.first c.prepare.new.block w.0 (parts c.go_on.new.mind holds faults) r c.go_on.new.mind.queue) c.prepare.ensures.queue w.2;
       less = subst (λ (r : Pending). work c.go_on.new.mind.queue < work r) c.prepare.ensures.queue c.go_on.ensures.less;
     })
 

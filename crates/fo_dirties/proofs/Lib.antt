@@ -1,0 +1,3 @@
+pub mod Adding
+pub mod Putting
+pub use Rattle.fo_looks.proofs.Dirtied

@@ -1,0 +1,75 @@
+use Rattle.std.proofs.Common.{◌<◌, [], length, refl, sym, subst}
+use Rattle.fo_disk.specs.Disk.{DiskState, IsSettled}
+use Rattle.fo_mind.specs.MindParts.{parts}
+use Rattle.fo_cache.proofs.Outcomes.{quiet_is_memory}
+use Rattle.fo_reserving.proofs.Joining.{closes_row}
+use Rattle.fo_reserving.proofs.Shutting.{first_same, fits_closed, labels_closed, one_closed, reserves_closed, shutting_closings}
+use Rattle.fo_ending.proofs.Stepping.{calm_closed, live_less, steps_closed}
+use Rattle.fo_ending.proofs.drain.close_first.Goals as goal
+
+pub close_one-requires-clause-rest : goal.close_one-requires-clause-rest
+close_one-requires-clause-rest g c = c.requires.may.calm.rest
+
+pub close_one-requires-clause-quiet : goal.close_one-requires-clause-quiet
+close_one-requires-clause-quiet g c = c.requires.may.quiet
+
+pub invariant_of-cache-clause-fits : goal.invariant_of-cache-clause-fits
+invariant_of-cache-clause-fits g c =
+    let old = c.args.cache.now in
+    let new = c.close_one.new in
+    let e = c.close_one.ensures in
+    let p = parts old.mind [] 0 in
+    let q = parts new.mind [] 0 in
+    fits_closed p q (g.D.Disk.state old.main) (g.D.Disk.state new.main) e.state (g.D.Disk.faults old.main) (g.D.Disk.faults new.main) e.leaves c.requires.may.quiet e.rest (first_same p q old.mind.placed new.mind.placed e.count) c.requires.may.calm.held new.mind.standing old.fits
+
+pub invariant_of-cache-clause-spelled : goal.invariant_of-cache-clause-spelled
+invariant_of-cache-clause-spelled g c =
+    let old = c.args.cache.now in
+    let new = c.close_one.new in
+    let e = c.close_one.ensures in
+    let p = parts old.mind [] 0 in
+    let q = parts new.mind [] 0 in
+    labels_closed p q (g.D.Disk.state old.main) (g.D.Disk.state new.main) e.state (g.D.Disk.faults old.main) (g.D.Disk.faults new.main) e.leaves c.requires.may.quiet e.rest (first_same p q old.mind.placed new.mind.placed e.count)
+    (shutting_closings p q (g.D.Disk.state old.main).holds (g.D.Disk.state new.main).holds (g.D.Disk.faults old.main) (g.D.Disk.faults new.main) old.mind.queue new.mind.queue e.closes) old.spelled
+
+pub invariant_of-cache-clause-first : goal.invariant_of-cache-clause-first
+invariant_of-cache-clause-first g c =
+    let old = c.args.cache.now in
+    let new = c.close_one.new in
+    let e = c.close_one.ensures in
+    let p = parts old.mind [] 0 in
+    let q = parts new.mind [] 0 in
+    one_closed p q (g.D.Disk.state old.main) (g.D.Disk.state new.main) e.state (g.D.Disk.faults old.main) (g.D.Disk.faults new.main) e.leaves c.requires.may.quiet e.rest (first_same p q old.mind.placed new.mind.placed e.count) old.first
+
+pub invariant_of-cache-clause-header : goal.invariant_of-cache-clause-header
+invariant_of-cache-clause-header g c =
+    subst (λ (x : DiskState). 0 < length x.holds → IsSettled x.holds 0) (sym c.close_one.ensures.state) c.args.cache.now.header
+
+pub returns-clause-calm : goal.returns-clause-calm
+returns-clause-calm g c =
+    let old = c.args.cache.now in
+    let new = c.close_one.new in
+    calm_closed (parts old.mind [] 0) (parts new.mind [] 0) (g.D.Disk.state old.main).holds (g.D.Disk.state new.main).holds (g.D.Disk.faults old.main) (g.D.Disk.faults new.main) c.close_one.ensures.leaves c.requires.may.calm.held c.close_one.ensures.rest
+
+pub returns-clause-fewer : goal.returns-clause-fewer
+returns-clause-fewer g c =
+    let old = c.args.cache.now in
+    let new = c.close_one.new in
+    live_less (parts old.mind [] 0) (parts new.mind [] 0) (g.D.Disk.state old.main).holds (g.D.Disk.state new.main).holds (g.D.Disk.faults old.main) (g.D.Disk.faults new.main) c.close_one.ensures.leaves c.close_one.ensures.count
+
+pub returns-clause-steps : goal.returns-clause-steps
+returns-clause-steps g c =
+    let old = c.args.cache.now in
+    let new = c.close_one.new in
+    let e = c.close_one.ensures in
+    let p = parts old.mind [] 0 in
+    let q = parts new.mind [] 0 in
+    let rest = c.requires.may.calm.rest in
+    let quiet = c.requires.may.quiet in
+    steps_closed p q (g.D.Disk.state old.main) (g.D.Disk.state new.main) e.state (g.D.Disk.faults old.main) (g.D.Disk.faults new.main) e.leaves c.requires.may.calm.held new.mind.standing old.fits
+    (fits_closed p q (g.D.Disk.state old.main) (g.D.Disk.state new.main) e.state (g.D.Disk.faults old.main) (g.D.Disk.faults new.main) e.leaves quiet e.rest (first_same p q old.mind.placed new.mind.placed e.count) c.requires.may.calm.held new.mind.standing old.fits)
+    (reserves_closed p q (g.D.Disk.state old.main) (g.D.Disk.state new.main) e.state (g.D.Disk.faults old.main) (g.D.Disk.faults new.main) e.leaves quiet e.rest (first_same p q old.mind.placed new.mind.placed e.count)
+    (shutting_closings p q (g.D.Disk.state old.main).holds (g.D.Disk.state new.main).holds (g.D.Disk.faults old.main) (g.D.Disk.faults new.main) old.mind.queue new.mind.queue e.closes) c.requires.may.some rest.none e.count
+    (closes_row
+    (record { before = parts old.mind (g.D.Disk.state old.main).holds (g.D.Disk.faults old.main); after = parts new.mind (g.D.Disk.state new.main).holds (g.D.Disk.faults new.main); queue = old.mind.queue; left = new.mind.queue })
+    (record { quiet = quiet; rest = record { clean = rest.clean; settled = rest.settled; free = rest.free; none = rest.none; sure = rest.sure }; held = c.requires.may.calm.held; memory = quiet_is_memory {p = parts old.mind (g.D.Disk.state old.main).holds (g.D.Disk.faults old.main)} {unsure = (g.D.Disk.state old.main).unsure} old.mind.turning (record { each = old.fits.each }) quiet; queue = refl; left = refl; closes = e.closes; rested = record { clean = e.rest.clean; settled = e.rest.settled; free = e.rest.free; none = e.rest.none; sure = e.rest.sure } })))
