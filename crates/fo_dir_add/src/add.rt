@@ -1,5 +1,5 @@
 //! A record and its pair.
-ghost use Rattle.std.specs.Prelude.{◌≡◌, ◌≢◌, ◌⊎◌, ◌+◌, ◌*◌, ◌<◌, ℕ, List, true, false};
+ghost use Rattle.std.specs.Prelude.{◌≡◌, ◌≢◌, ◌⊎◌, ◌+◌, ◌*◌, ◌<◌, ℕ, List, true, false, ◌∷◌, []};
 ghost use Rattle.fo_image.specs.Record.{RecordHolds};
 ghost use Rattle.fo_crash.specs.declared.slot.Slot.TheVariants.{Entry as Head};
 ghost use Rattle.fo_meta.specs.Leaf.{IsLeaf};
@@ -12,6 +12,7 @@ ghost use Rattle.fo_dir_put.specs.There.{IsThere};
 ghost use Rattle.fo_crash.specs.Images.{Reaches, to_block};
 ghost use Rattle.fo_ports.specs.State.{AddsNoWait, IsDoomed};
 ghost use Rattle.fo_dir_add.specs.Adds.{HasAdded, IsFullFor, IsAlone, AddsAlone};
+ghost use Rattle.fo_ports.specs.Sources.{DirtiesIn};
 
 use fo_dir_put::add_name;
 use fo_image::{Entry, Record};
@@ -53,6 +54,7 @@ pub fn add_record<B: Blocks>(
     ensures calm { result ≡ true → StaysCalm (B.state on.old) (B.state on.new) }
     ensures waits { result ≡ true → (B.state on.new).waits leaf entries (2 * p) × (B.state on.new).waits leaf entries (2 * p + 1) × AddsNoWait (λ a. a ≡ leaf) (B.state on.old) (B.state on.new) }
     ensures room { result ≡ true → (B.state on.new).room + 1 ≡ (B.state on.old).room }
+    ensures dirties { DirtiesIn (leaf ∷ entries ∷ []) (B.state on.old) (B.state on.new) }
     ensures keeps { B.keeps on.old on.new }
 {
     match insert(bytes, named) {

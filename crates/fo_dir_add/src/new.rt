@@ -1,5 +1,5 @@
 //! A record of a new file, which gets its pair here.
-ghost use Rattle.std.specs.Prelude.{◌≡◌, ◌≢◌, ◌⊎◌, ◌+◌, ◌*◌, ◌%◌, ◌^◌, ◌<◌, ℕ, List, true, false};
+ghost use Rattle.std.specs.Prelude.{◌≡◌, ◌≢◌, ◌⊎◌, ◌+◌, ◌*◌, ◌%◌, ◌^◌, ◌<◌, ℕ, List, true, false, ◌∷◌, []};
 ghost use Rattle.fo_image.specs.declared.types.Entry.{Entry};
 ghost use Rattle.fo_image.specs.declared.record.Record.{Record};
 ghost use Rattle.fo_image.specs.Record.{RecordHolds};
@@ -13,6 +13,7 @@ ghost use Rattle.fo_dir_put.specs.Differ.{AllDiffer};
 ghost use Rattle.fo_dir_put.specs.Paired.{AllPaired, HasBoth};
 ghost use Rattle.fo_dir_put.specs.Puts.{IsOwnedEntries, IsOwnedRecords, IsInPlace, IsNewEntry, IsTakenEntry, StaysCalm};
 ghost use Rattle.fo_dir_add.specs.Adds.{HasAdded, IsFullFor, IsAlone, AddsAlone, IsNumbered, IsRaised};
+ghost use Rattle.fo_ports.specs.Sources.{DirtiesIn};
 
 use crate::add::add_record;
 use fo_dir_put::{is_free, next_generation};
@@ -107,6 +108,7 @@ pub fn add_new<B: Blocks>(
     ensures calm { result ≡ Outcome.Added → StaysCalm (B.state on.old) (B.state on.new) }
     ensures waits { result ≡ Outcome.Added → (B.state on.new).waits leaf entries (2 * p) × (B.state on.new).waits leaf entries (2 * p + 1) × AddsNoWait (λ a. a ≡ leaf) (B.state on.old) (B.state on.new) }
     ensures room { result ≡ Outcome.Added → (B.state on.new).room + 1 ≡ (B.state on.old).room }
+    ensures dirties { DirtiesIn (leaf ∷ entries ∷ []) (B.state on.old) (B.state on.new) }
     ensures keeps { B.keeps on.old on.new }
 {
     if !is_free(on, entries, p) {

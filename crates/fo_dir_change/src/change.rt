@@ -1,5 +1,5 @@
 //! A record changes in its leaf.
-ghost use Rattle.std.specs.Prelude.{◌≡◌, ◌≢◌, ℕ, List, true, false};
+ghost use Rattle.std.specs.Prelude.{◌≡◌, ◌≢◌, ℕ, List, true, false, ◌∷◌, []};
 ghost use Rattle.std.specs.List.{Contains};
 ghost use Rattle.fo_image.specs.Record.{RecordHolds};
 ghost use Rattle.fo_meta.specs.Leaf.{IsLeaf};
@@ -8,6 +8,7 @@ ghost use Rattle.fo_dir_put.specs.Differ.{AllDiffer};
 ghost use Rattle.fo_dir_put.specs.Paired.{AllPaired};
 ghost use Rattle.fo_dir_put.specs.Puts.{IsOwnedRecords, StaysCalm};
 ghost use Rattle.fo_dir_change.specs.Changes.{Bears, HasChanged, IsTooLong, IsSameFile, MayBear, BearsAlone};
+ghost use Rattle.fo_ports.specs.Sources.{DirtiesIn};
 
 use fo_dir_put::change_leaf;
 use fo_image::Record;
@@ -38,6 +39,7 @@ pub fn change_record<B: Blocks>(
     ensures others { result ≡ true → LeavesRest leaf (B.state on.old).may_leave (B.state on.new).may_leave }
     ensures calm { result ≡ true → StaysCalm (B.state on.old) (B.state on.new) }
     ensures room { (B.state on.new).room ≡ (B.state on.old).room }
+    ensures dirties { DirtiesIn (leaf ∷ []) (B.state on.old) (B.state on.new) }
     ensures keeps { B.keeps on.old on.new }
 {
     match replace(bytes, name, named) {

@@ -1,11 +1,12 @@
 //! A record is taken out.
-ghost use Rattle.std.specs.Prelude.{◌≡◌, ◌≢◌, ℕ, List, true, false};
+ghost use Rattle.std.specs.Prelude.{◌≡◌, ◌≢◌, ℕ, List, true, false, ◌∷◌, []};
 ghost use Rattle.fo_meta.specs.Leaf.{IsLeaf};
 ghost use Rattle.fo_dir_put.specs.Names.{AllFit, AllApart, LeavesRest};
 ghost use Rattle.fo_dir_put.specs.Differ.{AllDiffer};
 ghost use Rattle.fo_dir_put.specs.Paired.{AllPaired};
 ghost use Rattle.fo_dir_put.specs.Puts.{IsOwnedRecords, QueuesNone, StaysCalm};
 ghost use Rattle.fo_dir_change.specs.Changes.{Bears, BearsNot, HasTaken};
+ghost use Rattle.fo_ports.specs.Sources.{DirtiesIn};
 
 use fo_dir_put::change_leaf;
 use fo_meta::remove;
@@ -28,6 +29,7 @@ pub fn take_record<B: Blocks>(on: &mut B, leaf: u32, name: &[u8], bytes: &mut [u
     ensures calm { result ≡ true → StaysCalm (B.state on.old) (B.state on.new) }
     ensures queues { result ≡ true → QueuesNone (B.state on.old) (B.state on.new) }
     ensures room { (B.state on.new).room ≡ (B.state on.old).room }
+    ensures dirties { DirtiesIn (leaf ∷ []) (B.state on.old) (B.state on.new) }
     ensures keeps { B.keeps on.old on.new }
 {
     if !remove(bytes, name) {

@@ -1,5 +1,5 @@
 //! A record moves to another leaf.
-ghost use Rattle.std.specs.Prelude.{◌≡◌, ◌≢◌, ◌+◌, ◌<◌, ℕ, List, IfErr, OnOk, OnErr};
+ghost use Rattle.std.specs.Prelude.{◌≡◌, ◌≢◌, ◌+◌, ◌<◌, ℕ, List, IfErr, OnOk, OnErr, ◌∷◌, []};
 ghost use Rattle.fo_base.specs.Cause.{Rose};
 ghost use Rattle.fo_crash.specs.Images.{Reaches, to_block};
 ghost use Rattle.fo_crash.specs.Steps.{AddsNothing, AllAre};
@@ -11,6 +11,7 @@ ghost use Rattle.fo_dir_put.specs.Names.{AllFit, AllApart};
 ghost use Rattle.fo_dir_put.specs.Differ.{AreDistinct, AllDiffer};
 ghost use Rattle.fo_dir_put.specs.Paired.{AllPaired};
 ghost use Rattle.fo_dir_move.specs.Moves.{MaySettle, AreReady, KeepsEntries, HasLeaves, MayMove, MovesKeys, MovesAlone, MovesPaired, IsSettledBut};
+ghost use Rattle.fo_ports.specs.Sources.{DirtiesIn};
 
 use fo_dir_put::{change_leaf, put_record};
 use fo_ports::{BlockError, Blocks};
@@ -68,6 +69,7 @@ pub fn move_name<B: Blocks>(
     ensures settled { OnOk result (IsSettledBut to (B.state on.new)) }
     ensures room { (B.state on.new).room + 1 ≡ (B.state on.old).room }
     ensures cause { IfErr result (Caused ⊥ (λ b. ⊥) (Rose (B.state on.old).faults (B.state on.new).faults) ⊥) }
+    ensures dirties { DirtiesIn (from ∷ to ∷ []) (B.state on.old) (B.state on.new) }
     ensures keeps { B.keeps on.old on.new }
 {
     change_leaf(on, from, without);

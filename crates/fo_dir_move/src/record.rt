@@ -1,5 +1,5 @@
 //! A record whose leaves are at hand moves.
-ghost use Rattle.std.specs.Prelude.{◌≡◌, ◌≢◌, ◌⊎◌, ◌+◌, ◌/◌, ◌<◌, ℕ, List, true, false, IfOk, IfErr, OnErr};
+ghost use Rattle.std.specs.Prelude.{◌≡◌, ◌≢◌, ◌⊎◌, ◌+◌, ◌/◌, ◌<◌, ℕ, List, true, false, IfOk, IfErr, OnErr, ◌∷◌, []};
 ghost use Rattle.std.specs.List.{Contains};
 ghost use Rattle.fo_base.specs.Cause.{Rose};
 ghost use Rattle.fo_image.specs.Record.{RecordHolds};
@@ -12,6 +12,7 @@ ghost use Rattle.fo_dir_add.specs.Adds.{HasAdded, IsFullFor};
 ghost use Rattle.fo_dir_change.specs.Changes.{HasTaken, IsFirstOf};
 ghost use Rattle.fo_dir_move.specs.Moves.{MaySettle, AreReady, HasLeaves, MovesAlone, IsSettledBut};
 ghost use Rattle.fo_dir_move.specs.Record.{IsBacked};
+ghost use Rattle.fo_ports.specs.Sources.{DirtiesIn};
 
 use crate::moves::move_name;
 use fo_base::BLOCK;
@@ -60,6 +61,7 @@ pub fn move_record<B: Blocks>(
     ensures settled { IfOk result (λ fits. fits ≡ true → IsSettledBut to (B.state on.new)) }
     ensures room { IfOk result (λ fits. fits ≡ true → (B.state on.new).room + 1 ≡ (B.state on.old).room) × OnErr result ((B.state on.new).room + 1 ≡ (B.state on.old).room) }
     ensures cause { IfErr result (Caused ⊥ (λ b. ⊥) (Rose (B.state on.old).faults (B.state on.new).faults) ⊥) }
+    ensures dirties { DirtiesIn (from ∷ to ∷ []) (B.state on.old) (B.state on.new) }
     ensures keeps { B.keeps on.old on.new }
 {
     match insert(to_bytes, named) {

@@ -1,5 +1,5 @@
 //! A name is added, and its entry cleared.
-ghost use Rattle.std.specs.Prelude.{◌≡◌, ◌≢◌, ◌⊎◌, ◌+◌, ◌*◌, ◌/◌, ◌<◌, ◌≤◌, ℕ, List, true};
+ghost use Rattle.std.specs.Prelude.{◌≡◌, ◌≢◌, ◌⊎◌, ◌+◌, ◌*◌, ◌/◌, ◌<◌, ◌≤◌, ℕ, List, true, ◌∷◌, []};
 ghost use Rattle.fo_image.specs.declared.types.Pointer.TheVariants.{Local};
 ghost use Rattle.fo_crash.specs.Images.{Reaches, target, to_block};
 ghost use Rattle.fo_crash.specs.Steps.{Covers, HasBytes, cleared};
@@ -10,6 +10,7 @@ ghost use Rattle.fo_dir_put.specs.Differ.{AllDiffer, MayName};
 ghost use Rattle.fo_dir_put.specs.Paired.{AllPaired, AddsPaired, IsUnnamed};
 ghost use Rattle.fo_dir_put.specs.Puts.{IsOwnedEntries, IsOwnedRecords, IsInPlace, IsUnused, IsNewEntry, MayClear, StaysCalm, PutsName, ClearsAlone};
 ghost use Rattle.fo_dir_put.specs.There.{IsThere};
+ghost use Rattle.fo_ports.specs.Sources.{DirtiesIn};
 
 use crate::pair::put_pair;
 use crate::record::put_record;
@@ -46,6 +47,7 @@ pub fn add_name<B: Blocks>(
     ensures calm { StaysCalm (B.state on.old) (B.state on.new) }
     ensures waits { (B.state on.new).waits leaf entries (2 * p) × (B.state on.new).waits leaf entries (2 * p + 1) × AddsNoWait (λ a. a ≡ leaf) (B.state on.old) (B.state on.new) }
     ensures room { (B.state on.new).room + 1 ≡ (B.state on.old).room }
+    ensures dirties { DirtiesIn (leaf ∷ entries ∷ []) (B.state on.old) (B.state on.new) }
     ensures keeps { B.keeps on.old on.new }
 {
     put_pair(on, entries, p, first, second);
@@ -72,6 +74,7 @@ pub fn clear_entry<B: Blocks>(on: &mut B, leaf: u32, entries: u32, j: u32)
     ensures dirty { (b : ℕ) → (B.state on.new).dirty b → (B.state on.old).dirty b ⊎ (b ≡ entries) }
     ensures queues { ((B.state on.old).queued ≤ (B.state on.new).queued) × ((c : ℕ) → target (((B.state on.old).now entries).slot j) ≡ Local c → (B.state on.new).clearing entries j ⊎ QueuesOne (B.state on.old) (B.state on.new)) }
     ensures room { (B.state on.new).room + 1 ≡ (B.state on.old).room }
+    ensures dirties { DirtiesIn (entries ∷ []) (B.state on.old) (B.state on.new) }
     ensures keeps { B.keeps on.old on.new }
 {
     on.remove_slot(entries, j, Some(leaf));

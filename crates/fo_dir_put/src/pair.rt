@@ -1,11 +1,12 @@
 //! The entries of a pair.
-ghost use Rattle.std.specs.Prelude.{◌≡◌, ◌+◌, ◌*◌, ◌<◌, ◌≤◌, ℕ};
+ghost use Rattle.std.specs.Prelude.{◌≡◌, ◌+◌, ◌*◌, ◌<◌, ◌≤◌, ℕ, ◌∷◌, []};
 ghost use Rattle.fo_crash.specs.declared.slot.Slot.TheVariants.{Entry as Head};
 ghost use Rattle.fo_crash.specs.Steps.{AddsSlot, PutsSlot};
 ghost use Rattle.fo_ports.specs.State.{AddsNoWait, none};
 ghost use Rattle.fo_dir_put.specs.Names.{AllFit, ShowsBytes};
 ghost use Rattle.fo_dir_put.specs.Paired.{AllPaired};
 ghost use Rattle.fo_dir_put.specs.Puts.{IsOwnedEntries, IsUnused, IsNewEntry, StaysCalm, PutsPair};
+ghost use Rattle.fo_ports.specs.Sources.{DirtiesIn};
 
 use fo_crash::Slot;
 use fo_image::Entry;
@@ -23,6 +24,7 @@ fn put_entry<B: Blocks>(on: &mut B, entries: u32, j: u32, entry: Entry)
     ensures calm { StaysCalm (B.state on.old) (B.state on.new) }
     ensures no_wait { AddsNoWait none (B.state on.old) (B.state on.new) }
     ensures room { (B.state on.new).room ≡ (B.state on.old).room }
+    ensures dirties { DirtiesIn (entries ∷ []) (B.state on.old) (B.state on.new) }
     ensures keeps { B.keeps on.old on.new }
 {
     on.put_slot(entries, j, Slot::Entry(entry));
@@ -42,6 +44,7 @@ pub fn put_pair<B: Blocks>(on: &mut B, entries: u32, p: u32, first: Entry, secon
     ensures calm { StaysCalm (B.state on.old) (B.state on.new) }
     ensures no_wait { AddsNoWait none (B.state on.old) (B.state on.new) }
     ensures room { (B.state on.new).room ≡ (B.state on.old).room }
+    ensures dirties { DirtiesIn (entries ∷ []) (B.state on.old) (B.state on.new) }
     ensures keeps { B.keeps on.old on.new }
 {
     put_entry(on, entries, 2 * p + 1, second);

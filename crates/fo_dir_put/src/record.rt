@@ -1,5 +1,5 @@
 //! The records of a leaf.
-ghost use Rattle.std.specs.Prelude.{◌≡◌, ◌≢◌, ◌+◌, ◌<◌, ◌≤◌, ℕ, List, length};
+ghost use Rattle.std.specs.Prelude.{◌≡◌, ◌≢◌, ◌+◌, ◌<◌, ◌≤◌, ℕ, List, length, ◌∷◌, []};
 ghost use Rattle.fo_image.specs.declared.types.Kind.TheVariants.{Data};
 ghost use Rattle.fo_crash.specs.declared.place.Place.{Place};
 ghost use Rattle.fo_crash.specs.Images.{Reaches, to_block};
@@ -11,6 +11,7 @@ ghost use Rattle.fo_dir_put.specs.Differ.{AllDiffer, MayName};
 ghost use Rattle.fo_dir_put.specs.Paired.{AllPaired, AllStood, ArePaired};
 ghost use Rattle.fo_dir_put.specs.Puts.{IsHeldEntries, IsOwnedRecords, IsInPlace, StaysCalm, QueuesNone};
 ghost use Rattle.fo_dir_put.specs.There.{IsThere};
+ghost use Rattle.fo_ports.specs.Sources.{DirtiesIn};
 
 use fo_ports::Blocks;
 
@@ -31,6 +32,7 @@ pub fn put_record<B: Blocks>(on: &mut B, leaf: u32, entries: u32, bytes: &[u8])
     ensures calm { StaysCalm (B.state on.old) (B.state on.new) }
     ensures waits { WaitsForPairs leaf entries (B.state on.old) (B.state on.new) × AddsNoWait (λ a. a ≡ leaf) (B.state on.old) (B.state on.new) }
     ensures room { (B.state on.new).room + 1 ≡ (B.state on.old).room }
+    ensures dirties { DirtiesIn (leaf ∷ []) (B.state on.old) (B.state on.new) }
     ensures keeps { B.keeps on.old on.new }
 {
     on.wait_for(leaf, entries);
@@ -50,6 +52,7 @@ pub fn change_leaf<B: Blocks>(on: &mut B, leaf: u32, bytes: &[u8])
     ensures calm { StaysCalm (B.state on.old) (B.state on.new) }
     ensures queues { QueuesNone (B.state on.old) (B.state on.new) }
     ensures room { (B.state on.new).room ≡ (B.state on.old).room }
+    ensures dirties { DirtiesIn (leaf ∷ []) (B.state on.old) (B.state on.new) }
     ensures keeps { B.keeps on.old on.new }
 {
     on.put_bytes(leaf, 0, bytes);

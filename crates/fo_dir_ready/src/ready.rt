@@ -7,7 +7,7 @@ ghost use Rattle.fo_ports.specs.Causes.{Caused};
 ghost use Rattle.fo_ports.specs.State.{Looks};
 ghost use Rattle.fo_image.specs.declared.types.Pointer.{Pointer};
 ghost use Rattle.fo_image.specs.declared.types.Pointer.TheVariants.{Nil, Local};
-ghost use Rattle.fo_ports.specs.Sources.{ComesFor, Grows, SameLeaves, Lacks, most_to_own};
+ghost use Rattle.fo_ports.specs.Sources.{ComesFor, Grows, SameLeaves, Lacks, most_to_own, Dirties};
 ghost use Rattle.fo_dir_read.specs.Names.{OfRecords, AreRecords, leaf_count};
 ghost use Rattle.fo_dir_read.specs.Pairs.{OfEntries, IsPair, IsFree, AreTaken};
 ghost use Rattle.fo_dir_put.specs.Puts.{IsOwnedRecords, IsHeldEntries};
@@ -55,6 +55,7 @@ pub fn ready_records<B: Blocks, S: Bytes<B>>(
     ensures changes { IfOk result (λ leaf. (s : S) × (b : B) × S.is_over s b × B.keeps on.old b × B.keeps b on.new × Readies (S.form records.old) (S.size records.old) i leaf.at (B.state on.old) (B.state b) (B.state on.new) (S.leaves records.old on.old) (S.leaves s b) (S.leaves records.new on.new)) }
     ensures over { S.is_over records.new on.new × (S.form records.new ≡ S.form records.old) }
     ensures cause { IfErr result (Caused ⊥ (λ b. (((B.state on.old).tells → ⊥) × (B.state on.old).is_block b) ⊎ ((b ≡ 1) × ((B.state on.old).tells → Lacks (S.leaves records.old on.old).named (B.state on.old).held))) (Rose (B.state on.old).faults (B.state on.new).faults) (Rose (B.state on.old).arena_faults (B.state on.new).arena_faults)) }
+    ensures dirties { IfOk result (λ leaf. Dirties (2 * most_to_own (S.size records.old) i) (λ b. b ≡ leaf.at) (B.state on.old) (B.state on.new)) }
     ensures keeps { B.keeps on.old on.new }
 {
     match records.prepare(on, 8192 * i as u64, 8192) {
@@ -99,6 +100,7 @@ pub fn ready_entries<B: Blocks, S: Bytes<B>>(
     ensures changes { IfOk result (λ leaf. (s : S) × (b : B) × S.is_over s b × B.keeps on.old b × B.keeps b on.new × Readies (S.form entries.old) (S.size entries.old) i leaf.at (B.state on.old) (B.state b) (B.state on.new) (S.leaves entries.old on.old) (S.leaves s b) (S.leaves entries.new on.new)) }
     ensures over { S.is_over entries.new on.new × (S.form entries.new ≡ S.form entries.old) }
     ensures cause { IfErr result (Caused ⊥ (λ b. (((B.state on.old).tells → ⊥) × (B.state on.old).is_block b) ⊎ ((b ≡ 1) × ((B.state on.old).tells → Lacks (S.leaves entries.old on.old).named (B.state on.old).held))) (Rose (B.state on.old).faults (B.state on.new).faults) (Rose (B.state on.old).arena_faults (B.state on.new).arena_faults)) }
+    ensures dirties { IfOk result (λ leaf. Dirties (2 * most_to_own (S.size entries.old) i) (λ b. b ≡ leaf.at) (B.state on.old) (B.state on.new)) }
     ensures keeps { B.keeps on.old on.new }
 {
     match entries.prepare(on, 8192 * i as u64, 8192) {

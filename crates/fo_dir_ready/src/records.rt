@@ -3,7 +3,7 @@ ghost use Rattle.std.specs.Prelude.{◌≡◌, ◌≢◌, ◌⊎◌, ◌+◌, �
 ghost use Rattle.fo_image.specs.declared.record.Record.{Record};
 ghost use Rattle.fo_image.specs.declared.types.Pointer.{Pointer};
 ghost use Rattle.fo_image.specs.declared.types.Pointer.TheVariants.{Nil, Local};
-ghost use Rattle.fo_ports.specs.Sources.{ComesFor, Owned, Grows, Changes, MayZero, most_to_own};
+ghost use Rattle.fo_ports.specs.Sources.{ComesFor, Owned, Grows, Changes, MayZero, most_to_own, Dirties};
 ghost use Rattle.fo_dir_read.specs.Names.{OfRecords, AreRecords, leaf_count};
 ghost use Rattle.fo_dir_put.specs.Puts.{IsOwnedRecords};
 ghost use Rattle.fo_dir_ready.specs.Owning.{MayOwn};
@@ -30,6 +30,7 @@ pub fn own_records<B: Blocks, S: Bytes<B>>(records: &mut S, on: &mut B, rank: u3
     ensures comes { (B.state on.old).tells → (from : Pointer) → ComesFor (B.state on.old) (S.top records.old) from → ComesFor (B.state on.new) (S.top records.new) from }
     ensures only { (B.state on.old).tells → S.top records.new ≢ Nil → (y x : ℕ) → (B.state on.new).instead y x → (S.top records.new ≡ Local y) ⊎ ((B.state on.old).instead y x × (S.top records.old ≡ Local y → ⊥)) }
     ensures changes { Changes (S.form records.old).tag (S.leaves records.old on.old).owns (MayZero (S.form records.old) (S.size records.old) i (B.state on.old) (S.leaves records.old on.old)) (B.state on.old) (B.state on.new) }
+    ensures dirties { Dirties (2 * most_to_own (S.size records.old) i) (λ b. b ≡ result) (B.state on.old) (B.state on.new) }
     ensures keeps { B.keeps on.old on.new }
 {
     let _ = rank;

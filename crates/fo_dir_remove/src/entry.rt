@@ -1,5 +1,5 @@
 //! The second entry of a pair is cleared.
-ghost use Rattle.std.specs.Prelude.{◌≡◌, ◌≢◌, ◌⊎◌, ◌+◌, ◌*◌, ◌/◌, ◌<◌, ◌≤◌, ℕ};
+ghost use Rattle.std.specs.Prelude.{◌≡◌, ◌≢◌, ◌⊎◌, ◌+◌, ◌*◌, ◌/◌, ◌<◌, ◌≤◌, ℕ, ◌∷◌, []};
 ghost use Rattle.fo_image.specs.declared.types.Pointer.TheVariants.{Local};
 ghost use Rattle.fo_crash.specs.Images.{target};
 ghost use Rattle.fo_crash.specs.Steps.{Covers, cleared};
@@ -8,6 +8,7 @@ ghost use Rattle.fo_dir_put.specs.Names.{ShowsBytes};
 ghost use Rattle.fo_dir_put.specs.Paired.{AllPaired};
 ghost use Rattle.fo_dir_put.specs.Puts.{IsOwnedEntries, IsOwnedRecords, ClearsAlone};
 ghost use Rattle.fo_dir_remove.specs.Removes.{IsQuiet, IsGoing, NoneHas, IsGone};
+ghost use Rattle.fo_ports.specs.Sources.{DirtiesIn};
 
 use fo_dir_put::clear_entry;
 use fo_ports::Blocks;
@@ -28,6 +29,7 @@ fn clear_unnamed<B: Blocks>(on: &mut B, entries: u32, j: u32)
     ensures dirty { (b : ℕ) → (B.state on.new).dirty b → (B.state on.old).dirty b ⊎ (b ≡ entries) }
     ensures queues { ((B.state on.old).queued ≤ (B.state on.new).queued) × ((c : ℕ) → target (((B.state on.old).now entries).slot j) ≡ Local c → (B.state on.new).clearing entries j ⊎ QueuesOne (B.state on.old) (B.state on.new)) }
     ensures room { (B.state on.new).room + 1 ≡ (B.state on.old).room }
+    ensures dirties { DirtiesIn (entries ∷ []) (B.state on.old) (B.state on.new) }
     ensures keeps { B.keeps on.old on.new }
 {
     on.remove_slot(entries, j, None);
@@ -52,6 +54,7 @@ pub fn clear_second<B: Blocks>(on: &mut B, leaf: u32, entries: u32, p: u32)
     ensures dirty { (b : ℕ) → (B.state on.new).dirty b → (B.state on.old).dirty b ⊎ (b ≡ entries) }
     ensures queues { ((B.state on.old).queued ≤ (B.state on.new).queued) × ((c : ℕ) → target (((B.state on.old).now entries).slot (2 * p + 1)) ≡ Local c → (B.state on.new).clearing entries (2 * p + 1) ⊎ QueuesOne (B.state on.old) (B.state on.new)) }
     ensures room { (B.state on.new).room + 1 ≡ (B.state on.old).room }
+    ensures dirties { DirtiesIn (entries ∷ []) (B.state on.old) (B.state on.new) }
     ensures keeps { B.keeps on.old on.new }
 {
     if on.is_clearing(entries, 2 * p) {

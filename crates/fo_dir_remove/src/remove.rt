@@ -1,5 +1,5 @@
 //! A record goes, and then the first entry of its pair.
-ghost use Rattle.std.specs.Prelude.{◌≡◌, ◌≢◌, ◌⊎◌, ◌+◌, ◌*◌, ◌<◌, ◌≤◌, ℕ, List, true, false};
+ghost use Rattle.std.specs.Prelude.{◌≡◌, ◌≢◌, ◌⊎◌, ◌+◌, ◌*◌, ◌<◌, ◌≤◌, ℕ, List, true, false, ◌∷◌, []};
 ghost use Rattle.std.specs.List.{Contains};
 ghost use Rattle.fo_meta.specs.Leaf.{IsLeaf};
 ghost use Rattle.fo_image.specs.declared.types.Pointer.TheVariants.{Local};
@@ -12,6 +12,7 @@ ghost use Rattle.fo_dir_put.specs.Paired.{AllPaired};
 ghost use Rattle.fo_dir_put.specs.Puts.{IsOwnedEntries, IsOwnedRecords, MayClear, StaysCalm, ClearsAlone};
 ghost use Rattle.fo_dir_change.specs.Changes.{Bears, BearsNot, HasTaken};
 ghost use Rattle.fo_dir_remove.specs.Removes.{IsQuiet, IsGoing, IsGone, HasPairOf};
+ghost use Rattle.fo_ports.specs.Sources.{DirtiesIn};
 
 use fo_dir_change::take_record;
 use fo_dir_put::clear_entry;
@@ -49,6 +50,7 @@ pub fn remove_record<B: Blocks>(
     ensures later { result ≡ true → (B.state on.new).dirty leaf → ((B.state on.old).newborn leaf → ⊥) → (B.state on.new).clearing entries (2 * p) }
     ensures queues { result ≡ true → ((B.state on.old).queued ≤ (B.state on.new).queued) × ((c : ℕ) → target (((B.state on.old).now entries).slot (2 * p)) ≡ Local c → (B.state on.new).clearing entries (2 * p) ⊎ QueuesOne (B.state on.old) (B.state on.new)) }
     ensures room { result ≡ true → (B.state on.new).room + 1 ≡ (B.state on.old).room }
+    ensures dirties { DirtiesIn (leaf ∷ entries ∷ []) (B.state on.old) (B.state on.new) }
     ensures keeps { B.keeps on.old on.new }
 {
     if !take_record(on, leaf, name, bytes) {

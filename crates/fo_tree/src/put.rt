@@ -1,6 +1,7 @@
 //! A piece is put into a source.
-ghost use Rattle.std.specs.Prelude.{◌≡◌, ◌+◌, ◌<◌, ◌≤◌, ℕ, length, max};
-ghost use Rattle.fo_ports.specs.Sources.{most_for};
+ghost use Rattle.std.specs.Prelude.{◌≡◌, ◌+◌, ◌*◌, ◌<◌, ◌≤◌, ℕ, length, max};
+ghost use Rattle.fo_ports.specs.State.{none};
+ghost use Rattle.fo_ports.specs.Sources.{Dirties, most_for};
 ghost use Rattle.fo_tree_look.specs.Source.{Over, IsPlainTree, Prepared};
 ghost use Rattle.fo_tree_down.specs.Clear.{EndsClear};
 ghost use Rattle.fo_tree.specs.Writes.{Writes};
@@ -21,6 +22,7 @@ pub(crate) fn put<B: Blocks>(ways: &Ways, on: &mut B, offset: u64, piece: &[u8])
     requires spare { most_for (max ways.now.tree.size (offset + length piece.now)) (length piece.now) ≤ (B.state on.old).spare }
     requires clear { ways.now.tree.size < offset + length piece.now → EndsClear (B.state on.old) ways.now.tree ways.now.kept.items }
     ensures writes { Writes (B.state on.old) (B.state on.new) ways.now.tree result ways.now.kept.items ways.now.limit offset piece.now }
+    ensures dirties { Dirties (2 * most_for (max ways.now.tree.size (offset + length piece.now)) (length piece.now)) none (B.state on.old) (B.state on.new) }
     ensures keeps { B.keeps on.old on.new }
 {
     let end = offset + piece.len() as u64;

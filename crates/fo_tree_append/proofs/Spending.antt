@@ -39,7 +39,7 @@ above_least : (d k l : ℕ) → k ≤ l → above d k ≤ above d l
 above_least zero k l le = omega arith
 above_least (suc d) k l le = let up = above_least d (k / 409) (l / 409) (omega (arith, le)) in omega (arith, up, le)
 
-passed_least : (d k l : ℕ) → k ≤ l → passed d k ≤ passed d l
+pub passed_least : (d k l : ℕ) → k ≤ l → passed d k ≤ passed d l
 passed_least d k l le = let up = above_least d k l le in omega (arith, up, le)
 
 -- a leaf of a piece

@@ -1,5 +1,7 @@
 //! A piece is put leaf by leaf.
 ghost use Rattle.std.specs.Prelude.{◌≡◌, ◌≢◌, ◌⊎◌, ◌+◌, ◌-◌, ◌*◌, ◌/◌, ◌<◌, ◌≤◌, ℕ, length};
+ghost use Rattle.fo_ports.specs.State.{none};
+ghost use Rattle.fo_ports.specs.Sources.{Dirties};
 ghost use Rattle.fo_tree_read.specs.Reading.{passed};
 ghost use Rattle.fo_tree_look.specs.Source.{Over, HasBlock, IsPlainTree, Prepared};
 ghost use Rattle.fo_tree_down.specs.Way.{CurrentBut};
@@ -33,6 +35,7 @@ pub(crate) fn put_all<B: Blocks>(
     ensures steps { Steps tree.now.tag (λ b. OnLeaves (B.state on.old) tree.now (offset / 8192) ((offset + length piece.now - 1) / 8192) b) (λ b. OnLeaves (B.state on.old) tree.now (offset / 8192) ((offset + length piece.now - 1) / 8192) b) (B.state on.old) (B.state on.new) }
     ensures stays { (B.state on.old).tells → (b : ℕ) → HasBlock (B.state on.old) tree.now b → ((B.state on.old).label b).epoch ≡ (B.state on.old).high → HasBlock (B.state on.new) (at_top tree.now result) b }
     ensures spends { (c : ℕ) → CurrentBut (B.state on.old) tree.now c tree.now.depth (offset / 8192) → SpendsBut c (B.state on.new) (at_top tree.now result) (B.state on.old).spare offset (length piece.now) }
+    ensures dirties { Dirties (2 * (tree.now.depth + 1 + (passed tree.now.depth ((offset + length piece.now - 1) / 8192) - passed tree.now.depth (offset / 8192)))) none (B.state on.old) (B.state on.new) }
     ensures keeps { B.keeps on.old on.new }
 {
     let mut top = tree.top;

@@ -1,6 +1,7 @@
 //! A source is seen with a size past its end, with zeros behind that end.
-ghost use Rattle.std.specs.Prelude.{◌≡◌, ◌⊎◌, ◌<◌, ◌≤◌, ℕ};
-ghost use Rattle.fo_ports.specs.Sources.{depth_for};
+ghost use Rattle.std.specs.Prelude.{◌≡◌, ◌⊎◌, ◌+◌, ◌*◌, ◌<◌, ◌≤◌, ℕ};
+ghost use Rattle.fo_ports.specs.State.{none};
+ghost use Rattle.fo_ports.specs.Sources.{Dirties, depth_for};
 ghost use Rattle.fo_tree_look.specs.Source.{Over, IsPlainTree};
 ghost use Rattle.fo_tree_down.specs.Way.{with_top};
 ghost use Rattle.fo_tree_down.specs.Clear.{EndsClear};
@@ -24,6 +25,7 @@ pub(crate) fn grow_to<B: Blocks>(tree: &Tree, kept: &[Kept], on: &mut B, size: u
     requires spare { depth_for size < (B.state on.old).spare }
     ensures is { result ≡ ended tree.now size result.top }
     ensures grown { GrownTo (B.state on.old) (B.state on.new) tree.now result kept.now }
+    ensures dirties { Dirties (2 * (depth_for size + 1)) none (B.state on.old) (B.state on.new) }
     ensures keeps { B.keeps on.old on.new }
 {
     let cleared = clear_tail(tree, kept, on);

@@ -3,7 +3,8 @@ ghost use Rattle.std.specs.Prelude.{◌≡◌, ◌≢◌, ◌⊎◌, ◌+◌, �
 ghost use Rattle.fo_image.specs.declared.types.Pointer.{Pointer};
 ghost use Rattle.fo_image.specs.declared.types.Pointer.TheVariants.{Local};
 ghost use Rattle.fo_sparse.specs.Written.{written};
-ghost use Rattle.fo_ports.specs.Sources.{Changes, Grows, ComesFor, most_for};
+ghost use Rattle.fo_ports.specs.State.{none};
+ghost use Rattle.fo_ports.specs.Sources.{Changes, Dirties, Grows, ComesFor, most_for};
 ghost use Rattle.fo_tree_look.specs.Source.{Over, HasBlock, IsPlainTree, Prepared, leaves_of};
 ghost use Rattle.fo_tree_down.specs.Clear.{EndsClear};
 ghost use Rattle.fo_tree_append.specs.Append.{ended};
@@ -39,6 +40,7 @@ pub fn put_past<B: Blocks>(
     ensures clear { (B.state on.old).tells ⊎ (offset + length piece.now ≤ 8192 * (offset / 8192 + 1)) → EndsClear (B.state on.new) (ended tree.now (offset + length piece.now) result) kept.now }
     ensures changes { Changes tree.now.tag (HasBlock (B.state on.old) tree.now) (HasBlock (B.state on.old) tree.now) (B.state on.old) (B.state on.new) }
     ensures spare { (B.state on.old).spare ≤ (B.state on.new).spare + most_for (offset + length piece.now) (length piece.now) }
+    ensures dirties { Dirties (2 * most_for (offset + length piece.now) (length piece.now)) none (B.state on.old) (B.state on.new) }
     ensures room { (B.state on.new).room ≡ (B.state on.old).room }
     ensures keeps { B.keeps on.old on.new }
 {

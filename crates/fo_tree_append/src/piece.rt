@@ -3,7 +3,8 @@ ghost use Rattle.std.specs.Prelude.{◌≡◌, ◌≢◌, ◌⊎◌, ◌+◌, �
 ghost use Rattle.fo_image.specs.declared.types.Pointer.{Pointer};
 ghost use Rattle.fo_image.specs.declared.types.Pointer.TheVariants.{Local};
 ghost use Rattle.fo_sparse.specs.Written.{written};
-ghost use Rattle.fo_ports.specs.Sources.{Changes, Grows, ComesFor, most_for};
+ghost use Rattle.fo_ports.specs.State.{none};
+ghost use Rattle.fo_ports.specs.Sources.{Changes, Dirties, Grows, ComesFor, most_for};
 ghost use Rattle.fo_tree_look.specs.Source.{Over, HasBlock, IsPlainTree, Prepared, leaves_of};
 ghost use Rattle.fo_tree_down.specs.Clear.{EndsClear};
 ghost use Rattle.fo_tree_append.specs.Append.{with_piece, PutsPiece};
@@ -37,6 +38,7 @@ pub fn put_piece<B: Blocks>(
     ensures clear { (B.state on.old).tells ⊎ ((tree.now.size ≤ 8192 * (offset / 8192 + 1)) × (offset + length piece.now ≤ 8192 * (offset / 8192 + 1))) → EndsClear (B.state on.old) tree.now kept.now → EndsClear (B.state on.new) (with_piece tree.now offset (length piece.now) result) kept.now }
     ensures changes { Changes tree.now.tag (HasBlock (B.state on.old) tree.now) (HasBlock (B.state on.old) tree.now) (B.state on.old) (B.state on.new) }
     ensures spare { (B.state on.old).spare ≤ (B.state on.new).spare + most_for (max tree.now.size (offset + length piece.now)) (length piece.now) }
+    ensures dirties { Dirties (2 * most_for (max tree.now.size (offset + length piece.now)) (length piece.now)) none (B.state on.old) (B.state on.new) }
     ensures room { (B.state on.new).room ≡ (B.state on.old).room }
     ensures keeps { B.keeps on.old on.new }
 {
@@ -50,6 +52,7 @@ fn put_any<B: Blocks>(tree: &Tree, kept: &[Kept], on: &mut B, offset: u64, piece
     requires clear { tree.now.size < offset + length piece.now → EndsClear (B.state on.old) tree.now kept.now }
     requires spare { most_for (max tree.now.size (offset + length piece.now)) (length piece.now) ≤ (B.state on.old).spare }
     ensures puts { PutsPiece (B.state on.old) (B.state on.new) tree.now (with_piece tree.now offset (length piece.now) result) kept.now offset piece.now }
+    ensures dirties { Dirties (2 * most_for (max tree.now.size (offset + length piece.now)) (length piece.now)) none (B.state on.old) (B.state on.new) }
     ensures keeps { B.keeps on.old on.new }
 {
     if piece.is_empty() {

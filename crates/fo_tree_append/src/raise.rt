@@ -1,7 +1,8 @@
 //! A source is seen with a size past its end, with the levels for it.
-ghost use Rattle.std.specs.Prelude.{◌≡◌, ◌≢◌, ◌⊎◌, ◌+◌, ◌^◌, ◌<◌, ◌≤◌, ℕ, true, false};
+ghost use Rattle.std.specs.Prelude.{◌≡◌, ◌≢◌, ◌⊎◌, ◌+◌, ◌-◌, ◌*◌, ◌^◌, ◌<◌, ◌≤◌, ℕ, true, false};
 ghost use Rattle.fo_image.specs.declared.types.Pointer.TheVariants.{Nil};
-ghost use Rattle.fo_ports.specs.Sources.{depth_for};
+ghost use Rattle.fo_ports.specs.State.{none};
+ghost use Rattle.fo_ports.specs.Sources.{Dirties, depth_for};
 ghost use Rattle.fo_tree_look.specs.Source.{Over, IsPlainTree, IsTopCurrent};
 ghost use Rattle.fo_tree_down.specs.Clear.{EndsClear};
 ghost use Rattle.fo_tree_append.specs.Append.{ended};
@@ -22,6 +23,8 @@ pub(crate) fn raise_to<B: Blocks>(tree: &Tree, kept: &[Kept], on: &mut B, size: 
     requires spare { (IsTopCurrent (B.state on.old) tree.now × (depth_for size ≤ (B.state on.old).spare + tree.now.depth)) ⊎ (depth_for size < (B.state on.old).spare + tree.now.depth) }
     ensures is { result ≡ ended tree.now size result.top }
     ensures raised { RaisedTo (B.state on.old) (B.state on.new) tree.now result kept.now }
+    ensures dirties { Dirties (2 * (depth_for size - tree.now.depth + 1)) none (B.state on.old) (B.state on.new) }
+    ensures levels { IsTopCurrent (B.state on.old) tree.now → Dirties (2 * (depth_for size - tree.now.depth)) none (B.state on.old) (B.state on.new) }
     ensures keeps { B.keeps on.old on.new }
 {
     let depth = least_depth(size);

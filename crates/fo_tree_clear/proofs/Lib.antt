@@ -4,3 +4,4 @@ pub mod Leaf
 pub mod Zeros
 pub mod Stepping
 pub mod Descending
+pub mod Counting

@@ -1,10 +1,10 @@
 //! Bytes are put into a leaf.
-ghost use Rattle.std.specs.Prelude.{◌≡◌, ◌≢◌, ◌⊎◌, ◌+◌, ◌*◌, ◌<◌, ◌≤◌, ℕ, length};
+ghost use Rattle.std.specs.Prelude.{◌≡◌, ◌≢◌, ◌⊎◌, ◌+◌, ◌-◌, ◌*◌, ◌<◌, ◌≤◌, ℕ, List, length};
 ghost use Rattle.fo_image.specs.declared.types.Pointer.TheVariants.{Local};
-ghost use Rattle.fo_ports.specs.Sources.{Made, Changes, Grows};
+ghost use Rattle.fo_ports.specs.Sources.{Made, Changes, Dirties, Grows};
 ghost use Rattle.fo_tree_read.specs.Tree.{above};
 ghost use Rattle.fo_tree_look.specs.Source.{Over, HasBlock, IsPlainTree, WayReady, IsTopCurrent, form_of, leaves_of};
-ghost use Rattle.fo_tree_down.specs.Way.{OnWay, IsTopOf, WayCurrent, CurrentBut, with_top};
+ghost use Rattle.fo_tree_down.specs.Way.{OnWay, HasWay, AddsWay, IsTopOf, WayCurrent, CurrentBut, with_top};
 ghost use Rattle.fo_tree_down.specs.Clear.{EndsClear, last_leaf};
 ghost use Rattle.fo_tree_clear.specs.Put.{byte_here, Puts, IsInnerOr, LeafPut};
 ghost use Rattle.fo_tree_clear.specs.Steps.{Steps};
@@ -44,6 +44,8 @@ pub fn put_leaf<B: Blocks>(
     ensures stays { (B.state on.old).tells → (b : ℕ) → HasBlock (B.state on.old) tree.now b → ((B.state on.old).label b).epoch ≡ (B.state on.old).high → HasBlock (B.state on.new) (with_top tree.now result.top) b }
     ensures way { WayCurrent (B.state on.new) (with_top tree.now result.top) tree.now.depth i }
     ensures used { (j : ℕ) → WayCurrent (B.state on.old) tree.now tree.now.depth j → j ≤ i → i ≤ j + 1 → (B.state on.old).spare + (j + above tree.now.depth j) ≤ (B.state on.new).spare + (i + above tree.now.depth i) }
+    ensures dirties { Dirties (2 * (tree.now.depth + 1)) (λ b. OnWay (B.state on.new) (with_top tree.now result.top) tree.now.depth i b) (B.state on.old) (B.state on.new) }
+    ensures dirties_used { (blocks : List ℕ) (j : ℕ) → WayCurrent (B.state on.old) tree.now tree.now.depth j → HasWay blocks (B.state on.old) tree.now tree.now.depth j → j ≤ i → i ≤ j + 1 → AddsWay (2 * (i + above tree.now.depth i - (j + above tree.now.depth j))) blocks (B.state on.old) (B.state on.new) (with_top tree.now result.top) tree.now.depth i }
     ensures room { (B.state on.new).room ≡ (B.state on.old).room }
     ensures current { IsTopCurrent (B.state on.new) (with_top tree.now result.top) }
     ensures clear { (B.state on.old).tells ⊎ (i ≡ last_leaf tree.now.size) → EndsClear (B.state on.old) tree.now kept.now → EndsClear (B.state on.new) (with_top tree.now result.top) kept.now }

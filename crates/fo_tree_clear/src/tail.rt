@@ -1,7 +1,8 @@
 //! What stands behind the end of a source in its last leaf is cleared.
 ghost use Rattle.std.specs.Prelude.{◌≡◌, ◌≢◌, ◌⊎◌, ◌+◌, ◌-◌, ◌*◌, ◌/◌, ◌%◌, ◌<◌, ◌≤◌, ℕ, true, false, slice_index, MatchOption, None as Nothing};
 ghost use Rattle.fo_image.specs.declared.types.Pointer.TheVariants.{Nil};
-ghost use Rattle.fo_ports.specs.Sources.{Changes, EndsWithin, Grows, Owned};
+ghost use Rattle.fo_ports.specs.State.{none};
+ghost use Rattle.fo_ports.specs.Sources.{Changes, Dirties, EndsWithin, Grows, Owned};
 ghost use Rattle.fo_tree_read.specs.Tree.{block_at};
 ghost use Rattle.fo_tree_look.specs.Source.{Over, HasBlock, IsPlainTree, WayReady, IsTopCurrent, seen, form_of, leaves_of, address_here, held_here};
 ghost use Rattle.fo_tree_down.specs.Way.{IsTopOf, with_top};
@@ -36,6 +37,7 @@ pub fn clear_tail<B: Blocks>(tree: &Tree, kept: &[Kept], on: &mut B) -> Option<C
     ensures changes { Changes tree.now.tag (HasBlock (B.state on.old) tree.now) (IsInnerOrEnd (B.state on.old) tree.now) (B.state on.old) (B.state on.new) }
     ensures spare { (B.state on.old).spare ≤ (B.state on.new).spare + (tree.now.depth + 1) }
     ensures less { IsTopCurrent (B.state on.old) tree.now → (B.state on.old).spare ≤ (B.state on.new).spare + tree.now.depth }
+    ensures dirties { Dirties (2 * (tree.now.depth + 1)) none (B.state on.old) (B.state on.new) }
     ensures clear { EndsClear (B.state on.old) tree.now kept.now → EndsClear (B.state on.new) (top_after tree.now result) kept.now }
     ensures step { MatchOption result (Unit {0}) (λ c. EndsHere (B.state on.old) tree.now kept.now × IsStep (B.state on.old) (B.state on.new) tree.now kept.now (tree.now.size / 8192) c.top × (address_here (B.state on.old) tree.now (tree.now.size / 8192) ≡ Nothing → held_here (B.state on.old) tree.now kept.now (tree.now.size / 8192) ≡ Nothing → ⊥)) }
     ensures room { (B.state on.new).room ≡ (B.state on.old).room }
@@ -86,6 +88,7 @@ fn zero_tail<B: Blocks>(tree: &Tree, kept: &[Kept], on: &mut B) -> Current
     ensures changes { Changes tree.now.tag (HasBlock (B.state on.old) tree.now) (IsInnerOrEnd (B.state on.old) tree.now) (B.state on.old) (B.state on.new) }
     ensures spare { (B.state on.old).spare ≤ (B.state on.new).spare + (tree.now.depth + 1) }
     ensures less { IsTopCurrent (B.state on.old) tree.now → (B.state on.old).spare ≤ (B.state on.new).spare + tree.now.depth }
+    ensures dirties { Dirties (2 * (tree.now.depth + 1)) none (B.state on.old) (B.state on.new) }
     ensures clear { EndsClear (B.state on.old) tree.now kept.now → EndsClear (B.state on.new) (with_top tree.now result.top) kept.now }
     ensures step { IsStep (B.state on.old) (B.state on.new) tree.now kept.now (tree.now.size / 8192) result.top }
     ensures there { address_here (B.state on.old) tree.now (tree.now.size / 8192) ≡ Nothing → held_here (B.state on.old) tree.now kept.now (tree.now.size / 8192) ≡ Nothing → ⊥ }

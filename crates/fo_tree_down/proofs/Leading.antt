@@ -118,6 +118,14 @@ module _ (s m u : State) (t : Tree) (kept : List Kept) (top n above i result lev
       (λ e. inr (leads_to s u t kept top (suc n') j at (leads_on (suc n') j at le leads) ∙ sym (leads_to s m t kept top (suc n') j at leads) ∙ e))
       on
 
+  -- and was one of it
+  pub way_was : (n' j at b : ℕ) → n' ≤ n → Leads s m t kept top n' j at → OnWay u (with_top t top) n' j b → OnWay m (with_top t top) n' j b
+  way_was zero j at b le leads on = on
+  way_was (suc n') j at b le leads on = ⊎_elim
+      (λ above_on. inl (way_was n' (j / 409) leads.0.0 b (omega (arith, le)) leads.0.1 above_on))
+      (λ e. inr (leads_to s m t kept top (suc n') j at leads ∙ sym (leads_to s u t kept top (suc n') j at (leads_on (suc n') j at le leads)) ∙ e))
+      on
+
   -- what was given out is of the new way
   pub given_on : (j : ℕ) → Leads s m t kept top n (j / 409) above → target ((u.now above).slot (j % 409)) ≡ Local result → ((b : ℕ) → Made s m b → OnWay m (with_top t top) n (j / 409) b) → (b : ℕ) → Made s u b → OnWay u (with_top t top) (suc n) j b
   given_on j leads put given b made = ⊎_elim

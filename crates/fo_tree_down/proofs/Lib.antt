@@ -7,3 +7,4 @@ pub mod Sparing
 pub mod Stilling
 pub mod Telling
 pub mod Ending
+pub mod Dirtying

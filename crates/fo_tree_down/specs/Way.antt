@@ -1,5 +1,6 @@
 -- A whole way is made current, from the top down.
-use Rattle.std.specs.Prelude.{◌≡◌, ◌≢◌, ◌⊎◌, ◌↔◌, ◌+◌, ◌^◌, ◌≤◌, ◌-◌, ◌/◌, ◌%◌, ◌<◌, ℕ, zero, suc, List}
+use Rattle.std.specs.Prelude.{◌≡◌, ◌≢◌, ◌⊎◌, ◌↔◌, ◌+◌, ◌^◌, ◌≤◌, ◌-◌, ◌/◌, ◌%◌, ◌<◌, ℕ, zero, suc, List, ◌++◌, length}
+use Rattle.std.specs.List.{Contains}
 use Rattle.fo_image.specs.declared.types.Kind.{Kind}
 use Rattle.fo_image.specs.declared.types.Pointer.{Pointer}
 use Rattle.fo_image.specs.declared.types.Pointer.TheVariants.{Local}
@@ -7,7 +8,7 @@ use Rattle.fo_image.specs.declared.types.State.TheVariants.{Live}
 use Rattle.fo_crash.specs.declared.place.Place.{Place}
 use Rattle.fo_crash.specs.Images.{Image, Reaches, target, to_block}
 use Rattle.fo_ports.specs.State.{State, IsRooted, none, AddsNoWait, KeepsNumbers}
-use Rattle.fo_ports.specs.Sources.{IsHung, ComesFor, Made, Touched, IsMade, StaysMarked}
+use Rattle.fo_ports.specs.Sources.{IsHung, ComesFor, Made, DirtiesIn, Touched, IsMade, StaysMarked}
 use Rattle.fo_tree_read.specs.declared.tree.Tree.{Tree}
 use Rattle.fo_tree_read.specs.Tree.{kind_at, kind_down, below, block_at}
 use Rattle.fo_tree_look.specs.declared.ways.Kept.{Kept}
@@ -141,3 +142,14 @@ abbrev pub CurrentBut : State → Tree → (c n k : ℕ) → Type 0
 CurrentBut s t zero n k = WayCurrent s t n k
 CurrentBut s t (suc c) zero k = Unit {0}
 CurrentBut s t (suc c) (suc n) k = CurrentBut s t c n (k / 409)
+
+-- A list has all on the way to block k of those n steps below the top, and that block.
+abbrev pub HasWay : List ℕ → State → Tree → ℕ → ℕ → Type 0
+HasWay blocks s t n k = (b : ℕ) → OnWay s t n k b → Contains blocks b
+
+-- Beside these blocks so many more at most are left dirty, with all on the way to a block, and that block.
+pub record AddsWay (most : ℕ) (blocks : List ℕ) (s u : State) (t : Tree) (n k : ℕ) : Type 0 where
+  pub more : List ℕ
+  pub few : length more ≤ most
+  pub within : DirtiesIn (more ++ blocks) s u
+  pub way : HasWay (more ++ blocks) u t n k

@@ -7,7 +7,8 @@
 //! what was kept under a score, or zeros. Only blocks that were given out and current ones of the way differ, in memory and in every
 //! image; only blocks of the way are to be closed, and all are that leave the tree. A slot is put once, and what is current stays. The
 //! source with the new top stands over the blocks. What is clear behind its end stays so, where the way is the last one or the device
-//! tells. Not said: what it reads then.
+//! tells. No blocks are left dirty that weren't but those of the way and those of their labels; where a neighbour's way is counted, its
+//! blocks count once. Not said: what the source reads then.
 #![tactic(auto)]
 
 mod top;

@@ -3,7 +3,8 @@ ghost use Rattle.std.specs.Prelude.{◌≡◌, ◌⊎◌, ◌+◌, ◌-◌, ◌^
 ghost use Rattle.fo_image.specs.declared.types.Pointer.TheVariants.{Nil, Local, Score as Held};
 ghost use Rattle.fo_image.specs.Format.{kind_code};
 ghost use Rattle.fo_tree_read.specs.Tree.{Hangs, kind_at};
-ghost use Rattle.fo_ports.specs.Sources.{Made};
+ghost use Rattle.fo_ports.specs.State.{none};
+ghost use Rattle.fo_ports.specs.Sources.{Made, Dirties};
 ghost use Rattle.fo_tree_look.specs.Source.{IsTold, IsPlainTree, IsPrepared, IsKept, Ready, IsTopCurrent};
 ghost use Rattle.fo_tree_down.specs.Way.{Comes, IsTopOf};
 
@@ -25,7 +26,9 @@ pub(crate) fn own_top<B: Blocks>(tree: &Tree, kept: &[Kept], on: &mut B) -> u32
     ensures top { IsTopOf (B.state on.old) (B.state on.new) tree.now result }
     ensures stead { (x : ℕ) → Made (B.state on.old) (B.state on.new) result → (B.state on.new).instead result x → tree.now.top ≡ Local x }
     ensures spare { (B.state on.old).spare ≤ (B.state on.new).spare + 1 }
+    ensures dirties { Dirties 2 (λ b. b ≡ result) (B.state on.old) (B.state on.new) }
     ensures less { IsTopCurrent (B.state on.old) tree.now → (B.state on.old).spare ≤ (B.state on.new).spare }
+    ensures dirties_less { IsTopCurrent (B.state on.old) tree.now → Dirties 0 none (B.state on.old) (B.state on.new) }
     ensures same { (b : ℕ) → tree.now.top ≡ Local b → ((B.state on.old).label b).epoch ≡ (B.state on.old).high → result ≡ b }
     ensures keeps { B.keeps on.old on.new }
 {
@@ -48,7 +51,9 @@ fn own_local<B: Blocks>(tree: &Tree, kept: &[Kept], on: &mut B, at: u32) -> u32
     ensures top { IsTopOf (B.state on.old) (B.state on.new) tree.now result }
     ensures stead { (x : ℕ) → Made (B.state on.old) (B.state on.new) result → (B.state on.new).instead result x → tree.now.top ≡ Local x }
     ensures spare { (B.state on.old).spare ≤ (B.state on.new).spare + 1 }
+    ensures dirties { Dirties 2 (λ b. b ≡ result) (B.state on.old) (B.state on.new) }
     ensures less { ((B.state on.old).label at).epoch ≡ (B.state on.old).high → (B.state on.old).spare ≤ (B.state on.new).spare }
+    ensures dirties_less { ((B.state on.old).label at).epoch ≡ (B.state on.old).high → Dirties 0 none (B.state on.old) (B.state on.new) }
     ensures same { ((B.state on.old).label at).epoch ≡ (B.state on.old).high → result ≡ at }
     ensures keeps { B.keeps on.old on.new }
 {
@@ -67,6 +72,7 @@ fn new_top<B: Blocks>(tree: &Tree, kept: &[Kept], on: &mut B) -> u32
     ensures top { IsTopOf (B.state on.old) (B.state on.new) tree.now result }
     ensures stead { (x : ℕ) → Made (B.state on.old) (B.state on.new) result → (B.state on.new).instead result x → tree.now.top ≡ Local x }
     ensures spare { (B.state on.old).spare ≤ (B.state on.new).spare + 1 }
+    ensures dirties { Dirties 2 (λ b. b ≡ result) (B.state on.old) (B.state on.new) }
     ensures keeps { B.keeps on.old on.new }
 {
     let _ = kept;
@@ -86,6 +92,7 @@ fn kept_top<B: Blocks>(tree: &Tree, kept: &[Kept], on: &mut B, score: &Score) ->
     ensures top { IsTopOf (B.state on.old) (B.state on.new) tree.now result }
     ensures stead { (x : ℕ) → Made (B.state on.old) (B.state on.new) result → (B.state on.new).instead result x → tree.now.top ≡ Local x }
     ensures spare { (B.state on.old).spare ≤ (B.state on.new).spare + 1 }
+    ensures dirties { Dirties 2 (λ b. b ≡ result) (B.state on.old) (B.state on.new) }
     ensures keeps { B.keeps on.old on.new }
 {
     let kind = kind_at(tree.dir, tree.depth);

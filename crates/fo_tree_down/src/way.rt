@@ -1,11 +1,11 @@
 //! The way to a block is made current.
-ghost use Rattle.std.specs.Prelude.{◌≡◌, ◌≢◌, ◌⊎◌, ◌+◌, ◌-◌, ◌*◌, ◌/◌, ◌%◌, ◌^◌, ◌<◌, ◌≤◌, ℕ};
+ghost use Rattle.std.specs.Prelude.{◌≡◌, ◌≢◌, ◌⊎◌, ◌+◌, ◌-◌, ◌*◌, ◌/◌, ◌%◌, ◌^◌, ◌<◌, ◌≤◌, ℕ, List};
 ghost use Rattle.fo_image.specs.declared.types.Pointer.TheVariants.{Local};
-ghost use Rattle.fo_ports.specs.Sources.{Made, Changes};
+ghost use Rattle.fo_ports.specs.Sources.{Made, Changes, Dirties};
 ghost use Rattle.fo_tree_read.specs.Tree.{Hangs, kind_at, block_at, above};
 ghost use Rattle.fo_tree_look.specs.Source.{IsTold, Over, HasBlock, Prepared, WayReady, IsTopCurrent};
 ghost use Rattle.fo_tree_down.specs.Clear.{EndsClear, last_leaf};
-ghost use Rattle.fo_tree_down.specs.Way.{OnWay, Comes, Leads, IsTopOf, Replaces, StaysBeside, WayCurrent, CurrentBut, with_top};
+ghost use Rattle.fo_tree_down.specs.Way.{OnWay, Comes, Leads, IsTopOf, Replaces, StaysBeside, WayCurrent, CurrentBut, with_top, HasWay, AddsWay};
 
 use crate::top::own_top;
 use fo_ports::Blocks;
@@ -46,6 +46,8 @@ pub fn own_way<B: Blocks>(tree: &Tree, kept: &[Kept], on: &mut B, down: u8, k: u
     ensures spare { (B.state on.old).spare ≤ (B.state on.new).spare + (down + 1) }
     ensures less { IsTopCurrent (B.state on.old) tree.now → (B.state on.old).spare ≤ (B.state on.new).spare + down }
     ensures used { (j : ℕ) → WayCurrent (B.state on.old) tree.now down j → j ≤ k → k ≤ j + 1 → (B.state on.old).spare + (j + above down j) ≤ (B.state on.new).spare + (k + above down k) }
+    ensures dirties { Dirties (2 * (down + 1)) (λ b. OnWay (B.state on.new) (with_top tree.now result.top) down k b) (B.state on.old) (B.state on.new) }
+    ensures dirties_used { (blocks : List ℕ) (j : ℕ) → WayCurrent (B.state on.old) tree.now down j → HasWay blocks (B.state on.old) tree.now down j → j ≤ k → k ≤ j + 1 → AddsWay (2 * (k + above down k - (j + above down j))) blocks (B.state on.old) (B.state on.new) (with_top tree.now result.top) down k }
     ensures keeps { B.keeps on.old on.new }
 {
     own_near(tree, kept, on, down, k)
@@ -75,6 +77,8 @@ pub fn own_near<B: Blocks>(tree: &Tree, kept: &[Kept], on: &mut B, down: u8, k: 
     ensures spare { (B.state on.old).spare ≤ (B.state on.new).spare + (down + 1) }
     ensures less { IsTopCurrent (B.state on.old) tree.now → (B.state on.old).spare ≤ (B.state on.new).spare + down }
     ensures used { (j : ℕ) → WayCurrent (B.state on.old) tree.now down j → j ≤ k → k ≤ j + 1 → (B.state on.old).spare + (j + above down j) ≤ (B.state on.new).spare + (k + above down k) }
+    ensures dirties { Dirties (2 * (down + 1)) (λ b. OnWay (B.state on.new) (with_top tree.now result.top) down k b) (B.state on.old) (B.state on.new) }
+    ensures dirties_used { (blocks : List ℕ) (j : ℕ) → WayCurrent (B.state on.old) tree.now down j → HasWay blocks (B.state on.old) tree.now down j → j ≤ k → k ≤ j + 1 → AddsWay (2 * (k + above down k - (j + above down j))) blocks (B.state on.old) (B.state on.new) (with_top tree.now result.top) down k }
     ensures few { (c : ℕ) → CurrentBut (B.state on.old) tree.now c down k → (B.state on.old).spare ≤ (B.state on.new).spare + c }
     ensures keeps { B.keeps on.old on.new }
 {
@@ -96,6 +100,8 @@ pub fn own_down<B: Blocks>(tree: &Tree, kept: &[Kept], on: &mut B, down: u8, k: 
     ensures spare { (B.state on.old).spare ≤ (B.state on.new).spare + (down + 1) }
     ensures less { IsTopCurrent (B.state on.old) tree.now → (B.state on.old).spare ≤ (B.state on.new).spare + down }
     ensures used { (j : ℕ) → WayCurrent (B.state on.old) tree.now down j → j ≤ k → k ≤ j + 1 → (B.state on.old).spare + (j + above down j) ≤ (B.state on.new).spare + (k + above down k) }
+    ensures dirties { Dirties (2 * (down + 1)) (λ b. OnWay (B.state on.new) (with_top tree.now result.top) down k b) (B.state on.old) (B.state on.new) }
+    ensures dirties_used { (blocks : List ℕ) (j : ℕ) → WayCurrent (B.state on.old) tree.now down j → HasWay blocks (B.state on.old) tree.now down j → j ≤ k → k ≤ j + 1 → AddsWay (2 * (k + above down k - (j + above down j))) blocks (B.state on.old) (B.state on.new) (with_top tree.now result.top) down k }
     ensures few { (c : ℕ) → CurrentBut (B.state on.old) tree.now c down k → (B.state on.old).spare ≤ (B.state on.new).spare + c }
     ensures keeps { B.keeps on.old on.new }
 {

@@ -2,7 +2,8 @@
 //!
 //! Proved, over any blocks and any device: where the source's levels have room for the leaf, and nothing stands behind its end, the leaf
 //! is current, and the source ends with it. All that `Bytes` asks of an owned leaf holds (`Owned`), of what changes, of what was prepared,
-//! and of how many blocks it takes; the source stands over the blocks, and where the device tells it has its bytes, and zeros behind them.
+//! and of how many blocks it takes and leaves dirty; the source stands over the blocks, and where the device tells it has its bytes, and
+//! zeros behind them.
 #![tactic(auto)]
 
 mod first;

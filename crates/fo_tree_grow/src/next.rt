@@ -1,7 +1,7 @@
 //! A leaf past the end of a source is made current, where its levels have room for it.
 ghost use Rattle.std.specs.Prelude.{◌≡◌, ◌≢◌, ◌⊎◌, ◌+◌, ◌-◌, ◌*◌, ◌%◌, ◌<◌, ◌≤◌, ℕ};
 ghost use Rattle.fo_sparse.specs.Written.{resized};
-ghost use Rattle.fo_ports.specs.Sources.{Made, Changes, Grows, Owned, depth_for};
+ghost use Rattle.fo_ports.specs.Sources.{Made, Changes, Grows, Owned, Dirties, depth_for};
 ghost use Rattle.fo_tree_read.specs.Tree.{kind_at};
 ghost use Rattle.fo_tree_look.specs.Source.{Over, HasBlock, IsPlainTree, Prepared, WayReady, IsTopCurrent, form_of, leaves_of};
 ghost use Rattle.fo_tree_down.specs.Way.{OnWay, Descends, IsTopOf, with_top};
@@ -31,6 +31,7 @@ pub fn own_next<B: Blocks>(tree: &Tree, kept: &[Kept], on: &mut B, i: u32) -> Cu
     ensures grows { (limit : ℕ) → Grows (B.state on.old) (B.state on.new) (leaves_of (B.state on.old) tree.now kept.now limit) (leaves_of (B.state on.new) (with_top (sized tree.now (8192 * (i + 1))) result.top) kept.now limit) }
     ensures changes { Changes tree.now.tag (HasBlock (B.state on.old) tree.now) (λ b. HasBlock (B.state on.old) tree.now b × (((B.state on.old).label b).kind ≢ kind_at tree.now.dir 0)) (B.state on.old) (B.state on.new) }
     ensures spare { (B.state on.old).spare ≤ (B.state on.new).spare + (tree.now.depth + 1) }
+    ensures dirties { Dirties (2 * (tree.now.depth + 1)) (λ b. b ≡ result.at) (B.state on.old) (B.state on.new) }
     ensures less { IsTopCurrent (B.state on.old) tree.now → (B.state on.old).spare ≤ (B.state on.new).spare + tree.now.depth }
     ensures current { IsTopCurrent (B.state on.new) (with_top (sized tree.now (8192 * (i + 1))) result.top) }
     ensures clear { EndsClear (B.state on.new) (with_top (sized tree.now (8192 * (i + 1))) result.top) kept.now }

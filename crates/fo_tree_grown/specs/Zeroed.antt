@@ -2,7 +2,7 @@
 use Rattle.std.specs.Prelude.{◌≡◌, ◌⊎◌, ◌+◌, ◌*◌, ◌%◌, ◌≤◌, ℕ, List, max}
 use Rattle.fo_sparse.specs.Written.{resized}
 use Rattle.fo_ports.specs.State.{State}
-use Rattle.fo_ports.specs.Sources.{Changes, Grows, Owned, MayZero, most_to_own}
+use Rattle.fo_ports.specs.Sources.{Changes, Grows, Owned, Dirties, MayZero, most_to_own}
 use Rattle.fo_tree_read.specs.declared.tree.Tree.{Tree}
 use Rattle.fo_tree_look.specs.declared.ways.Kept.{Kept}
 use Rattle.fo_tree_look.specs.Source.{Over, HasBlock, IsPlainTree, IsTopCurrent, form_of, leaves_of}
@@ -19,6 +19,7 @@ pub record OwnsZeroed (s u : State) (t new : Tree) (kept : List Kept) (i top at 
   pub changes : (generation limit : ℕ) → Changes t.tag (HasBlock s t) (MayZero (form_of t generation limit) t.size i s (leaves_of s t kept limit)) s u
   pub most : s.spare ≤ u.spare + most_to_own t.size i
   pub less : IsTopCurrent s t → s.spare + 1 ≤ u.spare + most_to_own t.size i
+  pub dirties : Dirties (2 * most_to_own t.size i) (λ b. b ≡ at) s u
   pub current : IsTopCurrent u new
   pub clear : s.tells ⊎ (t.size ≤ 8192 * (i + 1)) → EndsClear s t kept → EndsClear u new kept
   pub room : u.room ≡ s.room

@@ -2,7 +2,7 @@
 ghost use Rattle.std.specs.Prelude.{◌≡◌, ◌≢◌, ◌⊎◌, ◌+◌, ◌*◌, ◌%◌, ◌^◌, ◌<◌, ◌≤◌, ℕ, true, false, max};
 ghost use Rattle.fo_sparse.specs.Written.{resized};
 ghost use Rattle.fo_crash.specs.Images.{Reaches, to_block};
-ghost use Rattle.fo_ports.specs.Sources.{Changes, Grows, Owned, MayZero, IsEnough, depth_for, most_to_own};
+ghost use Rattle.fo_ports.specs.Sources.{Changes, Grows, Owned, Dirties, MayZero, IsEnough, depth_for, most_to_own};
 ghost use Rattle.fo_tree_look.specs.Source.{Over, HasBlock, IsPlainTree, Prepared, IsTopCurrent, form_of, leaves_of};
 ghost use Rattle.fo_tree_down.specs.Way.{IsTopOf, with_top};
 ghost use Rattle.fo_tree_down.specs.Clear.{EndsClear};
@@ -34,6 +34,7 @@ pub fn own_leaf<B: Blocks>(tree: &Tree, kept: &[Kept], on: &mut B, i: u32) -> Cu
     ensures grows { (limit : ℕ) → Grows (B.state on.old) (B.state on.new) (leaves_of (B.state on.old) tree.now kept.now limit) (leaves_of (B.state on.new) (with_leaf tree.now i result.top) kept.now limit) }
     ensures changes { (generation limit : ℕ) → Changes tree.now.tag (HasBlock (B.state on.old) tree.now) (MayZero (form_of tree.now generation limit) tree.now.size i (B.state on.old) (leaves_of (B.state on.old) tree.now kept.now limit)) (B.state on.old) (B.state on.new) }
     ensures spare { ((B.state on.old).spare ≤ (B.state on.new).spare + most_to_own tree.now.size i) × (IsTopCurrent (B.state on.old) tree.now → (B.state on.old).spare + 1 ≤ (B.state on.new).spare + most_to_own tree.now.size i) }
+    ensures dirties { Dirties (2 * most_to_own tree.now.size i) (λ b. b ≡ result.at) (B.state on.old) (B.state on.new) }
     ensures current { IsTopCurrent (B.state on.new) (with_leaf tree.now i result.top) }
     ensures clear { (B.state on.old).tells ⊎ (tree.now.size ≤ 8192 * (i + 1)) → EndsClear (B.state on.old) tree.now kept.now → EndsClear (B.state on.new) (with_leaf tree.now i result.top) kept.now }
     ensures room { (B.state on.new).room ≡ (B.state on.old).room }

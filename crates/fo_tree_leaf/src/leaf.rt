@@ -1,6 +1,6 @@
 //! A leaf below the end of a source is made current.
 ghost use Rattle.std.specs.Prelude.{◌≡◌, ◌≢◌, ◌⊎◌, ◌+◌, ◌*◌, ◌≤◌, ℕ};
-ghost use Rattle.fo_ports.specs.Sources.{Made, Changes, Grows, Owned, most_to_own, IsEnough};
+ghost use Rattle.fo_ports.specs.Sources.{Made, Changes, Grows, Owned, Dirties, most_to_own, IsEnough};
 ghost use Rattle.fo_tree_read.specs.Tree.{kind_at};
 ghost use Rattle.fo_tree_look.specs.Source.{Over, HasBlock, Prepared, WayReady, IsTopCurrent, form_of, leaves_of};
 ghost use Rattle.fo_tree_down.specs.Clear.{EndsClear, last_leaf};
@@ -25,6 +25,7 @@ pub fn own_within<B: Blocks>(tree: &Tree, kept: &[Kept], on: &mut B, i: u32) -> 
     ensures still { (limit o n : ℕ) → Prepared (B.state on.old) tree.now kept.now limit o n → Prepared (B.state on.new) (with_top tree.now result.top) kept.now limit o n }
     ensures changes { Changes tree.now.tag (HasBlock (B.state on.old) tree.now) (λ b. HasBlock (B.state on.old) tree.now b × (((B.state on.old).label b).kind ≢ kind_at tree.now.dir 0)) (B.state on.old) (B.state on.new) }
     ensures spare { (B.state on.old).spare ≤ (B.state on.new).spare + most_to_own tree.now.size i }
+    ensures dirties { Dirties (2 * most_to_own tree.now.size i) (λ b. b ≡ result.at) (B.state on.old) (B.state on.new) }
     ensures less { IsTopCurrent (B.state on.old) tree.now → (B.state on.old).spare + 1 ≤ (B.state on.new).spare + most_to_own tree.now.size i }
     ensures current { IsTopCurrent (B.state on.new) (with_top tree.now result.top) }
     ensures clear { (B.state on.old).tells ⊎ (i ≡ last_leaf tree.now.size) → EndsClear (B.state on.old) tree.now kept.now → EndsClear (B.state on.new) (with_top tree.now result.top) kept.now }

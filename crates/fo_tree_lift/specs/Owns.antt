@@ -2,7 +2,7 @@
 use Rattle.std.specs.Prelude.{◌≡◌, ◌≢◌, ◌⊎◌, ◌+◌, ◌*◌, ◌%◌, ◌≤◌, ℕ, List, max}
 use Rattle.fo_sparse.specs.Written.{resized}
 use Rattle.fo_ports.specs.State.{State}
-use Rattle.fo_ports.specs.Sources.{Changes, Grows, Owned, depth_for, most_to_own}
+use Rattle.fo_ports.specs.Sources.{Changes, Grows, Owned, Dirties, depth_for, most_to_own}
 use Rattle.fo_tree_read.specs.declared.tree.Tree.{Tree}
 use Rattle.fo_tree_read.specs.Tree.{kind_at}
 use Rattle.fo_tree_look.specs.declared.ways.Kept.{Kept}
@@ -25,6 +25,7 @@ pub record OwnsLeaf (s u : State) (t new : Tree) (kept : List Kept) (i top at : 
   pub changes : Changes t.tag (HasBlock s t) (λ b. HasBlock s t b × ((s.label b).kind ≢ kind_at t.dir 0)) s u
   pub most : s.spare ≤ u.spare + most_to_own t.size i
   pub less : IsTopCurrent s t → s.spare + 1 ≤ u.spare + most_to_own t.size i
+  pub dirties : Dirties (2 * most_to_own t.size i) (λ b. b ≡ at) s u
   pub current : IsTopCurrent u new
   pub clear : s.tells ⊎ (t.size ≤ 8192 * (i + 1)) → EndsClear s t kept → EndsClear u new kept
   pub room : u.room ≡ s.room

@@ -3,7 +3,7 @@ ghost use Rattle.std.specs.Prelude.{◌≡◌, ◌≢◌, ◌⊎◌, ◌+◌, �
 ghost use Rattle.fo_sparse.specs.Written.{resized};
 ghost use Rattle.fo_image.specs.declared.types.Pointer.TheVariants.{Nil};
 ghost use Rattle.fo_crash.specs.Images.{Reaches, to_block};
-ghost use Rattle.fo_ports.specs.Sources.{Changes, Grows, Owned, IsEnough, depth_for, most_to_own};
+ghost use Rattle.fo_ports.specs.Sources.{Changes, Grows, Owned, Dirties, IsEnough, depth_for, most_to_own};
 ghost use Rattle.fo_tree_read.specs.Tree.{kind_at};
 ghost use Rattle.fo_tree_look.specs.Source.{Over, HasBlock, IsPlainTree, Prepared, IsTopCurrent, form_of, leaves_of};
 ghost use Rattle.fo_tree_down.specs.Way.{IsTopOf};
@@ -37,6 +37,7 @@ pub fn own_leaf<B: Blocks>(tree: &Tree, kept: &[Kept], on: &mut B, i: u32) -> Cu
     ensures grows { (limit : ℕ) → Grows (B.state on.old) (B.state on.new) (leaves_of (B.state on.old) tree.now kept.now limit) (leaves_of (B.state on.new) (with_leaf tree.now i result.top) kept.now limit) }
     ensures changes { Changes tree.now.tag (HasBlock (B.state on.old) tree.now) (λ b. HasBlock (B.state on.old) tree.now b × (((B.state on.old).label b).kind ≢ kind_at tree.now.dir 0)) (B.state on.old) (B.state on.new) }
     ensures spare { ((B.state on.old).spare ≤ (B.state on.new).spare + most_to_own tree.now.size i) × (IsTopCurrent (B.state on.old) tree.now → (B.state on.old).spare + 1 ≤ (B.state on.new).spare + most_to_own tree.now.size i) }
+    ensures dirties { Dirties (2 * most_to_own tree.now.size i) (λ b. b ≡ result.at) (B.state on.old) (B.state on.new) }
     ensures current { IsTopCurrent (B.state on.new) (with_leaf tree.now i result.top) }
     ensures clear { (B.state on.old).tells ⊎ (tree.now.size ≤ 8192 * (i + 1)) → EndsClear (B.state on.old) tree.now kept.now → EndsClear (B.state on.new) (with_leaf tree.now i result.top) kept.now }
     ensures room { (B.state on.new).room ≡ (B.state on.old).room }

@@ -1,8 +1,10 @@
 //! Levels are put above the top of a source, which may be an older one.
-ghost use Rattle.std.specs.Prelude.{◌≡◌, ◌⊎◌, ◌+◌, ◌<◌, ◌≤◌, ℕ, true};
+ghost use Rattle.std.specs.Prelude.{◌≡◌, ◌⊎◌, ◌+◌, ◌*◌, ◌<◌, ◌≤◌, ℕ, true};
 ghost use Rattle.fo_image.specs.declared.types.State.TheVariants.{Live};
 ghost use Rattle.fo_image.specs.declared.types.Pointer.TheVariants.{Local};
 ghost use Rattle.fo_crash.specs.Images.{Reaches, to_block};
+ghost use Rattle.fo_ports.specs.State.{none};
+ghost use Rattle.fo_ports.specs.Sources.{Dirties};
 ghost use Rattle.fo_tree_read.specs.Tree.{kind_at};
 ghost use Rattle.fo_tree_look.specs.Source.{Over, HasBlock, IsPrepared, Ready, IsTopCurrent};
 ghost use Rattle.fo_tree_down.specs.Way.{with_top};
@@ -27,7 +29,9 @@ pub fn lift<B: Blocks>(tree: &Tree, kept: &[Kept], on: &mut B, levels: u8) -> Po
     requires spare { (IsTopCurrent (B.state on.old) tree.now × (levels ≤ (B.state on.old).spare)) ⊎ (levels < (B.state on.old).spare) }
     ensures lifts { Lifts (B.state on.old) (B.state on.new) tree.now kept.now levels result }
     ensures spare { (B.state on.old).spare ≤ (B.state on.new).spare + (levels + 1) }
+    ensures dirties { Dirties (2 * (levels + 1)) none (B.state on.old) (B.state on.new) }
     ensures less { IsTopCurrent (B.state on.old) tree.now → (B.state on.old).spare ≤ (B.state on.new).spare + levels }
+    ensures dirties_less { IsTopCurrent (B.state on.old) tree.now → Dirties (2 * levels) none (B.state on.old) (B.state on.new) }
     ensures keeps { B.keeps on.old on.new }
 {
     match tree.top {
@@ -48,7 +52,9 @@ fn lift_local<B: Blocks>(tree: &Tree, kept: &[Kept], on: &mut B, levels: u8, at:
     requires spare { (((B.state on.old).label at).epoch ≡ (B.state on.old).high × (levels ≤ (B.state on.old).spare)) ⊎ (levels < (B.state on.old).spare) }
     ensures lifts { Lifts (B.state on.old) (B.state on.new) tree.now kept.now levels result }
     ensures spare { (B.state on.old).spare ≤ (B.state on.new).spare + (levels + 1) }
+    ensures dirties { Dirties (2 * (levels + 1)) none (B.state on.old) (B.state on.new) }
     ensures less { ((B.state on.old).label at).epoch ≡ (B.state on.old).high → (B.state on.old).spare ≤ (B.state on.new).spare + levels }
+    ensures dirties_less { ((B.state on.old).label at).epoch ≡ (B.state on.old).high → Dirties (2 * levels) none (B.state on.old) (B.state on.new) }
     ensures keeps { B.keeps on.old on.new }
 {
     if is_current(on, at) {
@@ -69,6 +75,7 @@ fn lift_top<B: Blocks>(tree: &Tree, kept: &[Kept], on: &mut B, levels: u8) -> Po
     requires spare { levels ≤ (B.state on.old).spare }
     ensures lifts { Lifts (B.state on.old) (B.state on.new) tree.now kept.now levels result }
     ensures spare { (B.state on.new).spare + levels ≡ (B.state on.old).spare }
+    ensures dirties { Dirties (2 * levels) none (B.state on.old) (B.state on.new) }
     ensures keeps { B.keeps on.old on.new }
 {
     let _ = kept;
@@ -87,6 +94,7 @@ fn lift_copy<B: Blocks>(tree: &Tree, kept: &[Kept], on: &mut B, levels: u8, at: 
     requires spare { levels < (B.state on.old).spare }
     ensures lifts { Lifts (B.state on.old) (B.state on.new) tree.now kept.now levels result }
     ensures spare { (B.state on.new).spare + (levels + 1) ≡ (B.state on.old).spare }
+    ensures dirties { Dirties (2 * (levels + 1)) none (B.state on.old) (B.state on.new) }
     ensures keeps { B.keeps on.old on.new }
 {
     let copy = copy_top(tree, kept, on, at);

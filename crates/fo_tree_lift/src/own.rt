@@ -1,10 +1,10 @@
 //! A leaf past the levels of a source is made current.
-ghost use Rattle.std.specs.Prelude.{◌≡◌, ◌≢◌, ◌⊎◌, ◌+◌, ◌*◌, ◌%◌, ◌<◌, ◌≤◌, ℕ, true};
+ghost use Rattle.std.specs.Prelude.{◌≡◌, ◌≢◌, ◌⊎◌, ◌+◌, ◌-◌, ◌*◌, ◌%◌, ◌<◌, ◌≤◌, ℕ, true};
 ghost use Rattle.fo_crash.specs.Images.{Reaches, to_block};
 ghost use Rattle.fo_sparse.specs.Written.{resized};
 ghost use Rattle.fo_ports.specs.State.{none};
 ghost use Rattle.fo_image.specs.declared.types.Pointer.TheVariants.{Local};
-ghost use Rattle.fo_ports.specs.Sources.{Made, Changes, Grows, Owned, depth_for};
+ghost use Rattle.fo_ports.specs.Sources.{Made, Changes, Grows, Owned, Dirties, depth_for};
 ghost use Rattle.fo_tree_look.specs.Source.{Over, HasBlock, IsPlainTree, Prepared, IsTopCurrent, form_of, leaves_of};
 ghost use Rattle.fo_tree_down.specs.Way.{IsTopOf, with_top};
 ghost use Rattle.fo_tree_down.specs.Clear.{EndsClear};
@@ -41,7 +41,9 @@ pub fn own_raised<B: Blocks>(tree: &Tree, kept: &[Kept], on: &mut B, i: u32) -> 
     ensures covers { (b : ℕ) → ((B.state on.old).covered b → ⊥) → (B.state on.new).covered b → ⊥ }
     ensures made { Made (B.state on.old) (B.state on.new) result.top }
     ensures spare { (B.state on.old).spare + tree.now.depth ≤ (B.state on.new).spare + (2 * depth_for (8192 * (i + 1)) + 1) }
+    ensures dirties { Dirties (2 * (2 * depth_for (8192 * (i + 1)) + 2 - tree.now.depth)) (λ b. b ≡ result.at) (B.state on.old) (B.state on.new) }
     ensures less { IsTopCurrent (B.state on.old) tree.now → (B.state on.old).spare + tree.now.depth ≤ (B.state on.new).spare + 2 * depth_for (8192 * (i + 1)) }
+    ensures dirties_less { IsTopCurrent (B.state on.old) tree.now → Dirties (2 * (2 * depth_for (8192 * (i + 1)) + 1 - tree.now.depth)) (λ b. b ≡ result.at) (B.state on.old) (B.state on.new) }
     ensures room { (B.state on.new).room ≡ (B.state on.old).room }
     ensures current { IsTopCurrent (B.state on.new) (with_top (shaped tree.now (depth_for (8192 * (i + 1))) (8192 * (i + 1))) result.top) }
     ensures clear { EndsClear (B.state on.new) (with_top (shaped tree.now (depth_for (8192 * (i + 1))) (8192 * (i + 1))) result.top) kept.now }

@@ -1,5 +1,6 @@
 //! A source is linked.
-ghost use Rattle.std.specs.Prelude.{◌≡◌, ◌≢◌, ◌⊎◌, ◌<◌, ◌≤◌, ℕ};
+ghost use Rattle.std.specs.Prelude.{◌≡◌, ◌≢◌, ◌⊎◌, ◌<◌, ◌≤◌, ℕ, List};
+ghost use Rattle.std.specs.List.{Contains};
 ghost use Rattle.fo_image.specs.declared.types.Kind.TheVariants.{Dir};
 ghost use Rattle.fo_image.specs.declared.types.Pointer.TheVariants.{Local};
 ghost use Rattle.fo_crash.specs.declared.slot.Slot.TheVariants.{Entry as Head};
@@ -8,7 +9,7 @@ ghost use Rattle.fo_crash.specs.Names.{SameUse};
 ghost use Rattle.fo_crash.specs.Steps.{PutsSlot, AddsSlot, Covers};
 ghost use Rattle.fo_ports.specs.Blocks.{cost, dropped, zeros};
 ghost use Rattle.fo_ports.specs.State.{Frame, Hangs, KeepsOrder, AddsNoWait, IsPointers, none};
-ghost use Rattle.fo_ports.specs.Sources.{StaysInPlace, StaysReady, ComesFor};
+ghost use Rattle.fo_ports.specs.Sources.{StaysInPlace, StaysReady, ComesFor, DirtiesIn};
 ghost use Rattle.fo_tree_look.specs.Source.{Over, HasBlock};
 ghost use Rattle.fo_tree_open.specs.Open.{HasEntry};
 ghost use Rattle.fo_tree_link.specs.Link.{entry_of, CanLink};
@@ -50,6 +51,7 @@ pub fn link<B: Blocks>(ways: &Ways, on: &mut B, at: u32, i: u32)
     ensures order { KeepsOrder none (B.state on.old) (B.state on.new) }
     ensures no_wait { AddsNoWait none (B.state on.old) (B.state on.new) }
     ensures covers { (B.state on.old).tells → Covers (IsPointers (B.state on.old)) (((B.state on.old).now at).slot i) (B.state on.old).now (B.state on.new).now (B.state on.old).covered (B.state on.new).covered }
+    ensures dirties { (first : B) (blocks : List ℕ) → DirtiesIn blocks (B.state first) (B.state on.old) → Contains blocks at → DirtiesIn blocks (B.state first) (B.state on.new) }
     ensures keeps { B.keeps on.old on.new }
 {
     let entry = entry_of(ways);

@@ -1,5 +1,7 @@
 -- A block that was given out is filled with what leads to no block.
+use Rattle.std.specs.Prelude.{◌||◌}
 use Rattle.std.specs.List.{list_all}
+use Rattle.std.specs.Str.{bytes_eq}
 use Rattle.std.proofs.Common.{◌≡◌, ◌≢◌, ◌⊎◌, ◌+◌, ◌==◌, ◌<◌, ℕ, zero, suc, Bool, true, false, cond, List, [], ◌++◌, length, take, drop, inl, inr, ⊎_elim, refl, sym, ap, ◌∙◌, subst, arith}
 use Rattle.std.proofs.lemmas.Bool.{cases_eq}
 use Rattle.std.proofs.lemmas.List.{drop_all, append-nil}
@@ -18,7 +20,8 @@ use Rattle.fo_crash.proofs.Updates.{slot_bytes, slot_other, bytes_other}
 use Rattle.fo_ports.specs.Blocks.{IsInner, SlotFits, slot_count, cost, dropped, blank, blank_slot, put_at}
 use Rattle.fo_ports.proofs.Lengths.{length_zero_bytes}
 use Rattle.fo_ports.specs.State.{State, KeepsAll, none, Gives, Frame, Calm, Hangs, KeepsOrder, AddsNoWait, IsPointers, MayPutSlot}
-use Rattle.fo_tree_read.specs.Tree.{score_of}
+use Rattle.fo_tree_read.specs.Tree.{is_none, score_of}
+use Rattle.fo_tree_read.specs.declared.empty.TheConstants.{EMPTY}
 use Rattle.fo_tree_own.specs.Step.{IsBare, Filled}
 
 -- ---- pointers that lead to no block
@@ -55,16 +58,20 @@ true_false : true ≡ false → ⊥
 true_false e = cc
 
 pub score_holds : (bytes : List ℕ) → PointerHolds (score_of bytes)
-score_holds bytes = by (list_all (λ b. b == 0) (take 16 bytes)) refl
+score_holds bytes = by (is_none bytes) refl
   where
-    by : (zeros : Bool) → list_all (λ b. b == 0) (take 16 bytes) ≡ zeros → PointerHolds (cond zeros Nil (Held (record { 0 = bytes })))
+    no_zeros : (a b : Bool) → a ≡ true → (a || b) ≡ false → ⊥
+    no_zeros true b is e = true_false e
+    no_zeros false b is e = true_false (sym is)
+
+    by : (nil : Bool) → is_none bytes ≡ nil → PointerHolds (cond nil Nil (Held (record { 0 = bytes })))
     by true e = tt
-    by false e = λ same. let f : list_all (λ b. b == 0) (take 16 bytes) ≡ true = ap (list_all (λ b. b == 0)) same in true_false (sym f ∙ e)
+    by false e = λ same. no_zeros (list_all (λ b. b == 0) (take 16 bytes)) (bytes_eq bytes EMPTY.0) (ap (list_all (λ b. b == 0)) same) e
 
 pub score_leads : (bytes : List ℕ) → IsNone (score_of bytes)
-score_leads bytes = by (list_all (λ b. b == 0) (take 16 bytes))
+score_leads bytes = by (is_none bytes)
   where
-    by : (zeros : Bool) → IsNone (cond zeros Nil (Held (record { 0 = bytes })))
+    by : (nil : Bool) → IsNone (cond nil Nil (Held (record { 0 = bytes })))
     by true b e = cc
     by false b e = cc
 

@@ -3,7 +3,7 @@ ghost use Rattle.std.specs.Prelude.{◌≡◌, ◌⊎◌, ◌+◌, ◌*◌, ◌^
 ghost use Rattle.fo_image.specs.declared.types.Pointer.{Pointer};
 ghost use Rattle.fo_image.specs.declared.types.Pointer.TheVariants.{Local};
 ghost use Rattle.fo_ports.specs.State.{none};
-ghost use Rattle.fo_ports.specs.Sources.{Made, Changes, ComesFor};
+ghost use Rattle.fo_ports.specs.Sources.{Made, Changes, ComesFor, Dirties};
 ghost use Rattle.fo_tree_read.specs.Tree.{block_at};
 ghost use Rattle.fo_tree_look.specs.declared.ways.Kept.{Kept};
 ghost use Rattle.fo_tree_look.specs.Source.{HasBlock, Prepared};
@@ -36,6 +36,7 @@ pub fn raise_levels<B: Blocks>(tree: &Tree, on: &mut B, levels: u8) -> Pointer
     ensures clear { (kept : List Kept) → 0 < tree.now.size → tree.now.size ≤ 8192 * 409 ^ tree.now.depth → EndsClear (B.state on.old) tree.now kept → EndsClear (B.state on.new) (grown tree.now levels result) kept }
     ensures ways { (kept : List Kept) → KeepsWays (B.state on.old) (B.state on.new) tree.now kept levels result }
     ensures spare { (B.state on.new).spare + levels ≡ (B.state on.old).spare }
+    ensures dirties { Dirties (2 * levels) none (B.state on.old) (B.state on.new) }
     ensures keeps { B.keeps on.old on.new }
 {
     if levels == 0 {

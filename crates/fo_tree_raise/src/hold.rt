@@ -1,7 +1,7 @@
 //! An older top of a source is copied, before a level is put above it.
 ghost use Rattle.std.specs.Prelude.{◌≡◌, ◌≢◌, ◌⊎◌, ◌+◌, ◌<◌, ◌≤◌, ℕ};
 ghost use Rattle.fo_image.specs.declared.types.Pointer.TheVariants.{Local};
-ghost use Rattle.fo_ports.specs.Sources.{Made, Changes};
+ghost use Rattle.fo_ports.specs.Sources.{Made, Changes, Dirties};
 ghost use Rattle.fo_tree_read.specs.Tree.{kind_at};
 ghost use Rattle.fo_tree_look.specs.Source.{Over, HasBlock, IsPrepared, Prepared, WayReady};
 ghost use Rattle.fo_tree_down.specs.Way.{OnWay, Comes, IsTopOf, with_top};
@@ -32,6 +32,7 @@ pub fn copy_top<B: Blocks>(tree: &Tree, kept: &[Kept], on: &mut B, at: u32) -> u
     ensures ways { (j b : ℕ) → WayReady (B.state on.old) tree.now kept.now tree.now.depth j → WayReady (B.state on.new) (with_top tree.now result) kept.now tree.now.depth j × (OnWay (B.state on.new) (with_top tree.now result) tree.now.depth j b → OnWay (B.state on.old) tree.now tree.now.depth j b ⊎ Made (B.state on.old) (B.state on.new) b) }
     ensures clear { EndsClear (B.state on.old) tree.now kept.now → EndsClear (B.state on.new) (with_top tree.now result) kept.now }
     ensures spare { (B.state on.new).spare + 1 ≡ (B.state on.old).spare }
+    ensures dirties { Dirties 2 (λ b. b ≡ result) (B.state on.old) (B.state on.new) }
     ensures keeps { B.keeps on.old on.new }
 {
     let _ = tree;

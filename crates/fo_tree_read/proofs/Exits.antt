@@ -1,6 +1,5 @@
 -- What a walk says at each of its exits.
-use Rattle.std.specs.List.{list_all}
-use Rattle.std.proofs.Common.{◌≡◌, ◌*◌, ◌==◌, ℕ, take, drop, Bool, true, false, cond, List, Option, Some, None, IfSome, Result, Ok, Err, IfErr, inr, refl, sym, ap, ◌∙◌, arith}
+use Rattle.std.proofs.Common.{◌≡◌, ◌*◌, ℕ, take, drop, Bool, true, false, cond, List, Option, Some, None, IfSome, Result, Ok, Err, IfErr, inr, refl, sym, ap, ◌∙◌, arith}
 use Rattle.fo_base.specs.Cause.{Rose}
 use Rattle.fo_image.specs.declared.types.Kind.{Kind}
 use Rattle.fo_image.specs.declared.types.Score.{Score}
@@ -12,7 +11,7 @@ use Rattle.fo_ports.specs.declared.error.BlockError.TheVariants.{Full, Damaged, 
 use Rattle.fo_ports.specs.Causes.{Caused}
 use Rattle.fo_ports.specs.State.{State, KeepsAll, Looks}
 use Rattle.fo_tree_read.specs.declared.tree.Tree.{Tree}
-use Rattle.fo_tree_read.specs.Tree.{score_of, score_in, below, address_of, Agrees, Got, Names, Refused}
+use Rattle.fo_tree_read.specs.Tree.{is_none, score_of, score_in, below, address_of, Agrees, Got, Names, Refused}
 use Rattle.fo_looks.proofs.Looks.{rose_later}
 
 pub looks_none : (a : State) → Looks a a
@@ -38,6 +37,7 @@ looks_none a = record {
   dirty = λ x d. d;
   room = (refl, refl);
   usable = (refl, refl);
+  no_removal = record { each = λ x e w h. h };
   numbers = record { next = refl; grants = λ h. h };
 }
 
@@ -52,7 +52,7 @@ score_none false bytes = refl
 
 held_none : (h : Option (List ℕ)) (i : ℕ) → None ≡ address_of (score_in h i)
 held_none None i = refl
-held_none (Some bytes) i = score_none (list_all (λ b. b == 0) (take 16 (take 20 (drop (20 * i) bytes)))) (take 20 (drop (20 * i) bytes))
+held_none (Some bytes) i = score_none (is_none (take 20 (drop (20 * i) bytes))) (take 20 (drop (20 * i) bytes))
 
 -- where no block stands on the device, none stands below
 pub none_below : (s : State) (kind : Kind) (q : Pointer) (i : ℕ) → None ≡ address_of q → None ≡ address_of (below s kind q i)
@@ -100,7 +100,7 @@ pub held_score_none : {p : Pointer} {score : Score} → p ≡ Held score → Non
 held_score_none e = sym (ap (λ (x : Pointer). address_of x) e)
 
 pub score_bytes_none : (bytes : List ℕ) → None ≡ address_of (score_of bytes)
-score_bytes_none bytes = score_none (list_all (λ b. b == 0) (take 16 bytes)) bytes
+score_bytes_none bytes = score_none (is_none bytes) bytes
 
 -- below a pointer to nothing there is nothing
 pub nil_agrees : {tells : Type 0} (s : State) (kind : Kind) (p q : Pointer) (i : ℕ) → Agrees tells p q → p ≡ Nil → Agrees tells Nil (below s kind q i)

@@ -1,6 +1,5 @@
 -- The way from the top of a source down to one of its blocks.
-use Rattle.std.specs.List.{list_all}
-use Rattle.std.proofs.Common.{◌≡◌, ◌⊎◌, ◌+◌, ◌-◌, ◌*◌, ◌/◌, ◌%◌, ◌<◌, ◌≤◌, ◌==◌, take, drop, ℕ, zero, suc, Bool, true, false, cond, List, Option, Some, None, inl, inr, ⊎_elim, refl, sym, ap, ◌∙◌, subst, arith}
+use Rattle.std.proofs.Common.{◌≡◌, ◌⊎◌, ◌+◌, ◌-◌, ◌*◌, ◌/◌, ◌%◌, ◌<◌, ◌≤◌, take, drop, ℕ, zero, suc, Bool, true, false, cond, List, Option, Some, None, inl, inr, ⊎_elim, refl, sym, ap, ◌∙◌, subst, arith}
 use Rattle.std.proofs.lemmas.Bool.{cases_eq}
 use Rattle.fo_image.specs.declared.types.Kind.{Kind}
 use Rattle.fo_image.specs.declared.types.Score.{Score}
@@ -16,7 +15,7 @@ use Rattle.fo_ports.specs.Blocks.{IsInner}
 use Rattle.fo_ports.specs.State.{State, KeepsAll, Looks}
 use Rattle.fo_looks.proofs.Looks.{rooted_looks}
 use Rattle.fo_tree_read.specs.declared.tree.Tree.{Tree}
-use Rattle.fo_tree_read.specs.Tree.{kind_at, kind_down, score_in, below, block_at, StandsAs, Hangs, Got, Way, above, IsNear, HasPins, IsFound, Names}
+use Rattle.fo_tree_read.specs.Tree.{kind_at, kind_down, is_none, score_in, below, block_at, StandsAs, Hangs, Got, Way, above, IsNear, HasPins, IsFound, Names}
 
 -- where a block leads whose content is known
 below_same : (a b : State) (kind : Kind) (p q : Pointer) (i : ℕ) → q ≡ p → ((score : Score) (k : ℕ) → b.held score k ≡ a.held score k) → ((at : ℕ) → p ≡ Local at → (j : ℕ) → (b.now at).slot j ≡ (a.now at).slot j) → below b kind q i ≡ below a kind p i
@@ -82,7 +81,7 @@ score_apart false bytes at e = cc
 
 pub held_apart : (h : Option (List ℕ)) (i at : ℕ) → score_in h i ≡ Local at → ⊥
 held_apart None i at e = cc
-held_apart (Some bytes) i at e = score_apart (list_all (λ b. b == 0) (take 16 (take 20 (drop (20 * i) bytes)))) (take 20 (drop (20 * i) bytes)) at e
+held_apart (Some bytes) i at e = score_apart (is_none (take 20 (drop (20 * i) bytes))) (take 20 (drop (20 * i) bytes)) at e
 
 place_down : (dir : Bool) (tag index rank level i : ℕ) (s : Slot) → place_below (place (kind_at dir (suc level)) tag index rank) i s ≡ place (kind_at dir level) tag (409 * index + i) (rank - 1)
 place_down true tag index rank level i s = refl

@@ -1,6 +1,7 @@
 -- The blocks of a source below its top, and what memory reads through them.
-use Rattle.std.specs.Prelude.{◌≡◌, ◌⊎◌, ◌+◌, ◌-◌, ◌*◌, ◌/◌, ◌%◌, ◌^◌, ◌<◌, ◌≤◌, ◌==◌, ℕ, zero, suc, Bool, cond, nat_lt, List, take, drop, Option, Some, None}
+use Rattle.std.specs.Prelude.{◌≡◌, ◌⊎◌, ◌+◌, ◌-◌, ◌*◌, ◌/◌, ◌%◌, ◌^◌, ◌<◌, ◌≤◌, ◌==◌, ◌||◌, ℕ, zero, suc, Bool, cond, nat_lt, List, take, drop, Option, Some, None}
 use Rattle.std.specs.List.{list_all}
+use Rattle.std.specs.Str.{bytes_eq}
 use Rattle.fo_base.specs.Cause.{Rose}
 use Rattle.fo_image.specs.declared.types.Kind.{Kind}
 use Rattle.fo_image.specs.declared.types.Kind.TheVariants.{Data, Dir}
@@ -16,6 +17,7 @@ use Rattle.fo_ports.specs.Causes.{Caused}
 use Rattle.fo_ports.specs.State.{State, IsRooted}
 use Rattle.fo_ports.specs.Sources.{Lacks, byte_at, source_bytes}
 use Rattle.fo_tree_read.specs.declared.tree.Tree.{Tree}
+use Rattle.fo_tree_read.specs.declared.empty.TheConstants.{EMPTY}
 
 -- the kind of a block of a source at this level
 abbrev pub kind_at : Bool → ℕ → Kind
@@ -25,9 +27,13 @@ kind_at dir level = cond dir (Dir level) (Data level)
 abbrev pub kind_down : Tree → ℕ → Kind
 kind_down t down = kind_at t.dir (t.depth - down)
 
--- the pointer that these bytes spell in a block that is held: a score, or none where they begin with sixteen zeros
+-- in a block that is held these bytes lead nowhere: they begin with sixteen zeros, or are the score of the empty block
+abbrev pub is_none : List ℕ → Bool
+is_none bytes = list_all (λ b. b == 0) (take 16 bytes) || bytes_eq bytes EMPTY.0
+
+-- the pointer that these bytes spell in a block that is held: a score, or none
 abbrev pub score_of : List ℕ → Pointer
-score_of bytes = cond (list_all (λ b. b == 0) (take 16 bytes)) Nil (Held (record { 0 = bytes }))
+score_of bytes = cond (is_none bytes) Nil (Held (record { 0 = bytes }))
 
 abbrev pub score_in : Option (List ℕ) → ℕ → Pointer
 score_in None i = Nil

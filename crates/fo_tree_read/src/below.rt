@@ -8,8 +8,9 @@ ghost use Rattle.fo_crash.specs.Images.{target};
 ghost use Rattle.fo_ports.specs.Blocks.{IsInner};
 ghost use Rattle.fo_ports.specs.Causes.{Caused};
 ghost use Rattle.fo_ports.specs.State.{Looks};
-ghost use Rattle.fo_tree_read.specs.Tree.{kind_at, address_of, score_of, score_in, StandsAs, IsGot, Failed};
+ghost use Rattle.fo_tree_read.specs.Tree.{kind_at, address_of, is_none, score_of, score_in, StandsAs, IsGot, Failed};
 
+use crate::empty::EMPTY;
 use fo_base::BLOCK;
 use fo_image::{Kind, Pointer, Score, is_zero, read_pointer, score_at};
 use fo_ports::{BlockError, Blocks};
@@ -130,14 +131,22 @@ fn pointer_in(block: &[u8], i: usize) -> Pointer
     read_pointer(&block[20 * i..20 * i + 20])
 }
 
-/// The pointer in slot `i` of a block of pointers that is held: a score, or nil.
+/// Whether a score leads nowhere in a block that is held: it begins with sixteen zeros, or is that of the empty block.
+fn is_none(score: &Score) -> bool
+    requires { length score.now.0 ≡ 20 }
+    ensures { result ≡ is_none score.now.0 }
+{
+    is_zero(&score.0[..16]) || score.0 == EMPTY.0
+}
+
+/// The pointer in slot `i` of a block of pointers that is held: a score, or nil, for which that of the empty block stands too.
 pub fn score_in(block: &[u8], i: usize) -> Pointer
     requires slot { i < 409 }
     requires length { length block.now ≡ 8192 }
     ensures { result ≡ score_of (take 20 (drop (20 * i) block.now)) }
 {
     let score = score_at(block, 20 * i);
-    if is_zero(&score.0[..16]) {
+    if is_none(&score) {
         Pointer::Nil
     } else {
         Pointer::Score(score)

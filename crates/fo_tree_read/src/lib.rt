@@ -11,9 +11,11 @@
 
 mod below;
 mod copy;
+mod empty;
 mod leaf;
 mod read;
 mod tree;
 
 pub use below::score_in;
+pub use empty::EMPTY;
 pub use tree::Tree;

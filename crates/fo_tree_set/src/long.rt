@@ -1,9 +1,11 @@
 //! A source gets a longer length.
-ghost use Rattle.std.specs.Prelude.{◌≡◌, ◌≢◌, ◌⊎◌, ◌+◌, ◌*◌, ◌%◌, ◌<◌, ◌≤◌, ℕ, false, IfOk, IfErr};
+ghost use Rattle.std.specs.Prelude.{◌≡◌, ◌≢◌, ◌⊎◌, ◌+◌, ◌*◌, ◌%◌, ◌<◌, ◌≤◌, ℕ, List, false, IfOk, IfErr};
+ghost use Rattle.std.specs.List.{Contains};
 ghost use Rattle.fo_base.specs.Cause.{Rose};
 ghost use Rattle.fo_sparse.specs.Written.{resized};
 ghost use Rattle.fo_ports.specs.Causes.{Caused};
-ghost use Rattle.fo_ports.specs.Sources.{depth_for};
+ghost use Rattle.fo_ports.specs.State.{none};
+ghost use Rattle.fo_ports.specs.Sources.{AddsDirty, Dirties, DirtiesIn, depth_for};
 ghost use Rattle.fo_tree_look.specs.Source.{Over, WayReady, leaves_of};
 ghost use Rattle.fo_tree_down.specs.Clear.{EndsClear, last_leaf};
 ghost use Rattle.fo_tree_link.specs.Change.{HangsInTree};
@@ -46,6 +48,7 @@ pub(crate) fn set_longer<B: Blocks>(
     ensures bytes { (B.state on.old).tells → (leaves_of (B.state on.new) ways.new.tree ways.new.kept.items ways.new.limit).bytes ≡ resized (leaves_of (B.state on.old) ways.old.tree ways.old.kept.items ways.old.limit).bytes ways.new.tree.size }
     ensures steps { LengthensBy B B.state on.old on.new ways.old.tree ways.new.tree ways.old.kept.items ways.old.generation at i len }
     ensures spare { (B.state on.old).spare ≤ (B.state on.new).spare + (ways.old.tree.depth + depth_for len + 1) }
+    ensures dirties { (first : B) (blocks : List ℕ) → DirtiesIn blocks (B.state first) (B.state on.old) → Contains blocks at → AddsDirty (2 * (ways.old.tree.depth + depth_for len + 1)) blocks at (B.state first) (B.state on.new) }
     ensures room { (B.state on.old).room ≤ (B.state on.new).room + (409 * ways.old.tree.depth + 1) }
     ensures pins { (B.state on.new).pins_left ≡ (B.state on.old).pins_left }
     ensures cause { IfErr result (Caused ⊥ (λ b. ⊥) (Rose (B.state on.old).faults (B.state on.new).faults) ⊥) }
@@ -79,6 +82,7 @@ fn lengthen<B: Blocks>(ways: &mut Ways, on: &mut B, at: u32, i: u32, len: u64)
     ensures bytes { (B.state on.old).tells → (leaves_of (B.state on.new) ways.new.tree ways.new.kept.items ways.new.limit).bytes ≡ resized (leaves_of (B.state on.old) ways.old.tree ways.old.kept.items ways.old.limit).bytes len }
     ensures grows { GrowsBy B B.state on.old on.new ways.old.tree ways.new.tree ways.old.kept.items ways.old.generation at i len }
     ensures spare { (B.state on.old).spare ≤ (B.state on.new).spare + (depth_for len + 1) }
+    ensures dirties { (first : B) (blocks : List ℕ) → DirtiesIn blocks (B.state first) (B.state on.old) → Contains blocks at → AddsDirty (2 * (depth_for len + 1)) blocks at (B.state first) (B.state on.new) }
     ensures room { (B.state on.old).room ≤ (B.state on.new).room + 1 }
     ensures pins { (B.state on.new).pins_left ≡ (B.state on.old).pins_left }
     ensures keeps { B.keeps on.old on.new }
@@ -100,6 +104,7 @@ fn grow_ways<B: Blocks>(ways: &mut Ways, on: &mut B, len: u64)
     ensures over { Over (B.state on.new) ways.new.tree ways.new.kept.items ways.new.limit }
     ensures clear { EndsClear (B.state on.new) ways.new.tree ways.new.kept.items }
     ensures bytes { (B.state on.old).tells → (leaves_of (B.state on.new) ways.new.tree ways.new.kept.items ways.new.limit).bytes ≡ resized (leaves_of (B.state on.old) ways.old.tree ways.old.kept.items ways.old.limit).bytes len }
+    ensures dirties { Dirties (2 * (depth_for len + 1)) none (B.state on.old) (B.state on.new) }
     ensures keeps { B.keeps on.old on.new }
 {
     let grown = grow_to(&ways.tree, &ways.kept, on, len);

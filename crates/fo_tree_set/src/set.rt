@@ -1,10 +1,11 @@
 //! A source gets a length.
-ghost use Rattle.std.specs.Prelude.{◌≡◌, ◌≢◌, ◌⊎◌, ◌+◌, ◌-◌, ◌*◌, ◌%◌, ◌<◌, ◌≤◌, ℕ, false, min, IfOk, IfErr, Err};
+ghost use Rattle.std.specs.Prelude.{◌≡◌, ◌≢◌, ◌⊎◌, ◌+◌, ◌-◌, ◌*◌, ◌%◌, ◌<◌, ◌≤◌, ℕ, List, false, min, IfOk, IfErr, Err};
+ghost use Rattle.std.specs.List.{Contains};
 ghost use Rattle.fo_base.specs.Cause.{Rose};
 ghost use Rattle.fo_image.specs.declared.types.Score.{Score};
 ghost use Rattle.fo_image.specs.declared.types.Pointer.TheVariants.{Score as Held};
 ghost use Rattle.fo_sparse.specs.Written.{resized};
-ghost use Rattle.fo_ports.specs.Sources.{depth_for};
+ghost use Rattle.fo_ports.specs.Sources.{AddsDirty, DirtiesIn, depth_for};
 ghost use Rattle.fo_tree_read.specs.Tree.{block_at};
 ghost use Rattle.fo_tree_look.specs.Source.{Over, WayReady, leaves_of};
 ghost use Rattle.fo_tree_down.specs.Clear.{EndsClear, last_leaf};
@@ -53,6 +54,7 @@ pub fn set_len<B: Blocks>(
     ensures bytes { (B.state on.old).tells → (leaves_of (B.state on.new) ways.new.tree ways.new.kept.items ways.new.limit).bytes ≡ resized (leaves_of (B.state on.old) ways.old.tree ways.old.kept.items ways.old.limit).bytes ways.new.tree.size }
     ensures steps { SetsBy B B.state on.old on.new ways.old.tree ways.new.tree ways.old.kept.items ways.old.generation at i len }
     ensures spare { (B.state on.old).spare ≤ (B.state on.new).spare + (ways.old.tree.depth + depth_for len + 1) }
+    ensures dirties { (first : B) (blocks : List ℕ) → DirtiesIn blocks (B.state first) (B.state on.old) → Contains blocks at → AddsDirty (2 * (ways.old.tree.depth + depth_for len + 1)) blocks at (B.state first) (B.state on.new) }
     ensures room { (B.state on.old).room ≤ (B.state on.new).room + (409 * (ways.old.tree.depth + depth_for len) + 1) }
     ensures pins { (B.state on.new).pins_left ≡ (B.state on.old).pins_left }
     ensures cause { IfErr result (LengthCaused (ways.old.limit < len) (Rose (B.state on.old).faults (B.state on.new).faults)) }

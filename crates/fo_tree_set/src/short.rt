@@ -1,10 +1,11 @@
 //! A source gets a shorter length.
-ghost use Rattle.std.specs.Prelude.{◌≡◌, ◌≢◌, ◌⊎◌, ◌+◌, ◌-◌, ◌*◌, ◌<◌, ◌≤◌, ℕ, take, false, IfOk, IfErr};
+ghost use Rattle.std.specs.Prelude.{◌≡◌, ◌≢◌, ◌⊎◌, ◌+◌, ◌-◌, ◌*◌, ◌<◌, ◌≤◌, ℕ, List, take, false, IfOk, IfErr};
+ghost use Rattle.std.specs.List.{Contains};
 ghost use Rattle.fo_base.specs.Cause.{Rose};
 ghost use Rattle.fo_image.specs.declared.types.Score.{Score};
 ghost use Rattle.fo_image.specs.declared.types.Pointer.TheVariants.{Score as Held};
 ghost use Rattle.fo_ports.specs.Causes.{Caused};
-ghost use Rattle.fo_ports.specs.Sources.{depth_for};
+ghost use Rattle.fo_ports.specs.Sources.{AddsDirty, DirtiesIn, depth_for};
 ghost use Rattle.fo_tree_read.specs.Tree.{block_at};
 ghost use Rattle.fo_tree_look.specs.Source.{Over, WayReady, leaves_of};
 ghost use Rattle.fo_tree_down.specs.Clear.{EndsClear, last_leaf};
@@ -45,6 +46,7 @@ pub(crate) fn set_shorter<B: Blocks>(
     ensures bytes { (B.state on.old).tells → (leaves_of (B.state on.new) ways.new.tree ways.new.kept.items ways.new.limit).bytes ≡ take len (leaves_of (B.state on.old) ways.old.tree ways.old.kept.items ways.old.limit).bytes }
     ensures steps { ShortensBy B B.state on.old on.new ways.old.tree ways.new.tree ways.old.kept.items ways.old.generation at i len }
     ensures spare { (B.state on.old).spare ≤ (B.state on.new).spare + depth_for len }
+    ensures dirties { (first : B) (blocks : List ℕ) → DirtiesIn blocks (B.state first) (B.state on.old) → Contains blocks at → AddsDirty (2 * depth_for len) blocks at (B.state first) (B.state on.new) }
     ensures room { (B.state on.old).room ≤ (B.state on.new).room + (409 * (ways.old.tree.depth + depth_for len) + 1) }
     ensures pins { (B.state on.new).pins_left ≡ (B.state on.old).pins_left }
     ensures cause { IfErr result (Caused ⊥ (λ b. ⊥) (Rose (B.state on.old).faults (B.state on.new).faults) ⊥) }

@@ -1,13 +1,15 @@
 //! A source is trimmed, with all settled before anything is cut.
-ghost use Rattle.std.specs.Prelude.{◌≡◌, ◌⊎◌, ◌+◌, ◌*◌, ◌<◌, ◌≤◌, ℕ, true, false, IfOk, IfErr};
+ghost use Rattle.std.specs.Prelude.{◌≡◌, ◌⊎◌, ◌+◌, ◌*◌, ◌<◌, ◌≤◌, ℕ, List, true, false, IfOk, IfErr};
+ghost use Rattle.std.specs.List.{Contains};
 ghost use Rattle.fo_base.specs.Cause.{Rose};
 ghost use Rattle.fo_crash.specs.Steps.{AllAre};
 ghost use Rattle.fo_ports.specs.Causes.{Caused};
+ghost use Rattle.fo_ports.specs.Sources.{AddsDirty, DirtiesIn};
 ghost use Rattle.fo_tree_look.specs.Source.{Over, WayReady, leaves_of};
 ghost use Rattle.fo_tree_down.specs.Clear.{EndsClear, last_leaf};
 ghost use Rattle.fo_tree_down.specs.Way.{with_top};
 ghost use Rattle.fo_tree_link.specs.Change.{HangsInTree};
-ghost use Rattle.fo_tree_trim.specs.Trim.{IsEndCurrent};
+ghost use Rattle.fo_tree_trim.specs.Trim.{AddsEnd, IsEndCurrent};
 ghost use Rattle.fo_tree_shorten.specs.Shorten.{EntryAt};
 ghost use Rattle.fo_tree_set.specs.Set.{Rested, TrimsBy, MayTrim};
 
@@ -40,6 +42,7 @@ pub(crate) fn trim_settled<B: Blocks>(
     ensures bytes { (B.state on.old).tells → (leaves_of (B.state on.new) ways.new.tree ways.new.kept.items ways.new.limit).bytes ≡ (leaves_of (B.state on.old) ways.old.tree ways.old.kept.items ways.old.limit).bytes }
     ensures trims { MayTrim B B.state on.old on.new ways.old.tree ways.new.tree ways.old.kept.items ways.old.generation at i }
     ensures spare { (B.state on.old).spare ≤ (B.state on.new).spare + ways.old.tree.depth }
+    ensures dirties { (first : B) (blocks : List ℕ) → DirtiesIn blocks (B.state first) (B.state on.old) → Contains blocks at → AddsDirty (2 * ways.old.tree.depth) blocks at (B.state first) (B.state on.new) }
     ensures room { (B.state on.old).room ≤ (B.state on.new).room + 409 * ways.old.tree.depth }
     ensures pins { (B.state on.new).pins_left ≡ (B.state on.old).pins_left }
     ensures cause { IfErr result (Caused ⊥ (λ b. ⊥) (Rose (B.state on.old).faults (B.state on.new).faults) ⊥) }
@@ -80,6 +83,7 @@ fn cut_end<B: Blocks>(ways: &mut Ways, on: &mut B, at: u32, i: u32) -> Result<()
     ensures bytes { (B.state on.old).tells → (leaves_of (B.state on.new) ways.new.tree ways.new.kept.items ways.new.limit).bytes ≡ (leaves_of (B.state on.old) ways.old.tree ways.old.kept.items ways.old.limit).bytes }
     ensures trims { TrimsBy B B.state on.old on.new ways.old.tree ways.new.tree ways.old.kept.items ways.old.generation at i }
     ensures spare { (B.state on.old).spare ≤ (B.state on.new).spare + ways.old.tree.depth }
+    ensures dirties { (first : B) (blocks : List ℕ) → DirtiesIn blocks (B.state first) (B.state on.old) → Contains blocks at → AddsDirty (2 * ways.old.tree.depth) blocks at (B.state first) (B.state on.new) }
     ensures room { (B.state on.old).room ≤ (B.state on.new).room + 409 * ways.old.tree.depth }
     ensures pins { (B.state on.new).pins_left ≡ (B.state on.old).pins_left }
     ensures cause { IfErr result (Caused ⊥ (λ b. ⊥) (Rose (B.state on.old).faults (B.state on.new).faults) ⊥) }
@@ -114,6 +118,7 @@ fn rest<B: Blocks>(ways: &mut Ways, on: &mut B, at: u32, i: u32) -> Result<(), B
     ensures settled { IfOk result (λ _. AllAre (B.state on.new).now (B.state on.new).may_leave) }
     ensures steps { (top : ℕ) × (ways.new.tree ≡ with_top ways.old.tree top) × ((own : B) × ((put : B) × Rested (B.state on.old) (B.state own) (B.state put) (B.state on.new) ways.old.tree ways.old.generation at i top)) }
     ensures spare { (B.state on.old).spare ≤ (B.state on.new).spare + ways.old.tree.depth }
+    ensures dirties { (first : B) (blocks : List ℕ) → DirtiesIn blocks (B.state first) (B.state on.old) → Contains blocks at → AddsEnd (2 * ways.old.tree.depth) blocks at ways.new.tree (B.state first) (B.state on.new) }
     ensures room { (B.state on.new).room ≡ (B.state on.old).room }
     ensures pins { (B.state on.new).pins_left ≡ (B.state on.old).pins_left }
     ensures cause { IfErr result (Caused ⊥ (λ b. ⊥) (Rose (B.state on.old).faults (B.state on.new).faults) ⊥) }

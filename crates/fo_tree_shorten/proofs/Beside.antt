@@ -13,10 +13,13 @@ use Rattle.fo_tree_read.specs.Tree.{kind_down, below, score_in, block_at}
 use Rattle.fo_tree_look.specs.declared.ways.Kept.{Kept}
 use Rattle.fo_tree_look.specs.Source.{HasBlock, Over, WayReady, address_here, held_here}
 use Rattle.fo_tree_look.proofs.Shown.{held_on}
+use Rattle.fo_tree_down.specs.Clear.{last_leaf}
 use Rattle.fo_tree_down.specs.Way.{IsCurrentAt, WayCurrent}
 use Rattle.fo_tree_down.proofs.Next.{local_seen, seen_local}
+use Rattle.fo_tree_trim.specs.Trim.{OnEnd}
 use Rattle.fo_tree_trim.proofs.Fronts.{bytes_same}
 use Rattle.fo_tree_trim.proofs.Holding.{Holds, holds_stays}
+use Rattle.fo_tree_trim.proofs.Knowing.{end_back}
 
 -- A slot was put into this block, and all else stays.
 pub record Beside (s u : State) (t : Tree) (at : ℕ) : Type 0 where
@@ -56,6 +59,12 @@ module _ {s u : State} {t : Tree} {at : ℕ} (x : Beside s u t at) where
         ap (λ (l : Label). l.epoch) (x.label c.1.0) ∙ c.1.2 ∙ sym x.all.same_high,
       ),
     )
+
+    -- what is above the last leaf was above it
+    pub end_on : WayReady s t kept t.depth (last_leaf t.size) → (b : ℕ) → OnEnd u t b → OnEnd s t b
+    end_on way b on = end_back {s = s} {u = u} t kept (record {
+      each = λ a j c pinned tag e. ap (λ (q : Slot). target q) (sym (x.slots a j (λ here. x.apart (subst (λ y. (s.label y).tag ≡ t.tag) here tag)))) ∙ e;
+    }) way b on
 
   -- where the device tells, all its blocks have its tag
   module _ (tagged : (b : ℕ) → HasBlock s t b → (s.label b).tag ≡ t.tag) where

@@ -1,8 +1,9 @@
 //! A source is trimmed.
-ghost use Rattle.std.specs.Prelude.{◌≡◌, ◌≢◌, ◌⊎◌, ◌+◌, ◌-◌, ◌*◌, ◌<◌, ◌≤◌, ℕ, true, false};
+ghost use Rattle.std.specs.Prelude.{◌≡◌, ◌≢◌, ◌⊎◌, ◌+◌, ◌-◌, ◌*◌, ◌<◌, ◌≤◌, ℕ, List, true, false};
+ghost use Rattle.std.specs.List.{Contains};
 ghost use Rattle.fo_crash.specs.Images.{Image, Reaches, to_block};
 ghost use Rattle.fo_crash.specs.Steps.{AllAre};
-ghost use Rattle.fo_ports.specs.Sources.{Changes};
+ghost use Rattle.fo_ports.specs.Sources.{AddsDirty, Changes, Dirties, DirtiesIn};
 ghost use Rattle.fo_tree_read.specs.Tree.{kind_at};
 ghost use Rattle.fo_tree_look.specs.Source.{Over, HasBlock, WayReady, IsTopCurrent, leaves_of};
 ghost use Rattle.fo_tree_down.specs.Clear.{EndsClear, last_leaf};
@@ -10,7 +11,7 @@ ghost use Rattle.fo_tree_down.specs.Way.{IsTopOf, with_top};
 ghost use Rattle.fo_tree_link.specs.Change.{HangsInTree};
 ghost use Rattle.fo_tree_trim.specs.Behind.{IsPast};
 ghost use Rattle.fo_tree_trim.specs.Cut.{CutSlot, Cuts, MayCut};
-ghost use Rattle.fo_tree_trim.specs.Trim.{IsEndCurrent, Shows};
+ghost use Rattle.fo_tree_trim.specs.Trim.{AddsEnd, IsEndCurrent, OnEnd, Shows};
 ghost use Rattle.fo_tree_shorten.specs.Shorten.{EntryAt, Readies, Trims};
 
 use fo_image::Pointer;
@@ -39,6 +40,7 @@ pub fn trim<B: Blocks>(ways: &mut Ways, on: &mut B, at: u32, i: u32)
     ensures steps { ((on.new ≡ on.old) × (ways.new.tree ≡ ways.old.tree)) ⊎ ((top : ℕ) × (ways.new.tree ≡ with_top ways.old.tree top) × ((own : B) × ((put : B) × Trims (B.state on.old) (B.state own) (B.state put) (B.state on.new) ways.old.tree ways.old.generation at i top))) }
     ensures spare { (B.state on.old).spare ≤ (B.state on.new).spare + ways.old.tree.depth }
     ensures less { IsTopCurrent (B.state on.old) ways.old.tree → (B.state on.old).spare ≤ (B.state on.new).spare + (ways.old.tree.depth - 1) }
+    ensures dirties { (first : B) (blocks : List ℕ) → DirtiesIn blocks (B.state first) (B.state on.old) → Contains blocks at → AddsDirty (2 * ways.old.tree.depth) blocks at (B.state first) (B.state on.new) }
     ensures room { (B.state on.old).room ≤ (B.state on.new).room + 409 * ways.old.tree.depth }
     ensures keeps { B.keeps on.old on.new }
 {
@@ -69,6 +71,7 @@ pub fn make_ready<B: Blocks>(ways: &mut Ways, on: &mut B, at: u32, i: u32)
     ensures steps { (top : ℕ) × (ways.new.tree ≡ with_top ways.old.tree top) × ((own : B) × Readies (B.state on.old) (B.state own) (B.state on.new) ways.old.tree ways.old.generation at i top) }
     ensures spare { (B.state on.old).spare ≤ (B.state on.new).spare + ways.old.tree.depth }
     ensures less { IsTopCurrent (B.state on.old) ways.old.tree → (B.state on.old).spare ≤ (B.state on.new).spare + (ways.old.tree.depth - 1) }
+    ensures dirties { (first : B) (blocks : List ℕ) → DirtiesIn blocks (B.state first) (B.state on.old) → Contains blocks at → AddsEnd (2 * ways.old.tree.depth) blocks at ways.new.tree (B.state first) (B.state on.new) }
     ensures room { (B.state on.new).room ≡ (B.state on.old).room }
     ensures keeps { B.keeps on.old on.new }
 {
@@ -95,6 +98,7 @@ pub fn cut<B: Blocks>(ways: &Ways, on: &mut B, at: u32, i: u32)
     ensures gone { (B.state on.old).tells → (b : ℕ) → IsPast (B.state on.old) ways.now.tree (last_leaf ways.now.tree.size) b → (Reaches (B.state on.new).now (to_block 1) b → ⊥) × (B.state on.new).covered b }
     ensures shows { (B.state on.old).tells → AllAre (B.state on.old).now (B.state on.old).may_leave → (image : Image) → (B.state on.new).may_leave image → Shows (B.state on.old) image ways.now.tree (last_leaf ways.now.tree.size) }
     ensures cuts { Cuts (CutSlot (B.state on.old) ways.now.tree (last_leaf ways.now.tree.size) (409 * ways.now.tree.depth)) (B.state on.old) (B.state on.new) }
+    ensures dirties { (first : B) (blocks : List ℕ) → DirtiesIn blocks (B.state first) (B.state on.old) → ((b : ℕ) → OnEnd (B.state on.old) ways.now.tree b → Contains blocks b) → DirtiesIn blocks (B.state first) (B.state on.new) }
     ensures room { (B.state on.old).room ≤ (B.state on.new).room + 409 * ways.now.tree.depth }
     ensures keeps { B.keeps on.old on.new }
 {
@@ -127,6 +131,7 @@ fn own_ways<B: Blocks>(ways: &mut Ways, on: &mut B)
     ensures changes { Changes ways.old.tree.tag (HasBlock (B.state on.old) ways.old.tree) (λ b. HasBlock (B.state on.old) ways.old.tree b × (((B.state on.old).label b).kind ≢ kind_at ways.old.tree.dir 0)) (B.state on.old) (B.state on.new) }
     ensures spare { (B.state on.old).spare ≤ (B.state on.new).spare + ways.old.tree.depth }
     ensures less { IsTopCurrent (B.state on.old) ways.old.tree → (B.state on.old).spare ≤ (B.state on.new).spare + (ways.old.tree.depth - 1) }
+    ensures dirties { Dirties (2 * ways.old.tree.depth) (OnEnd (B.state on.new) ways.new.tree) (B.state on.old) (B.state on.new) }
     ensures room { (B.state on.new).room ≡ (B.state on.old).room }
     ensures keeps { B.keeps on.old on.new }
 {
@@ -147,6 +152,7 @@ fn cut_ways<B: Blocks>(ways: &Ways, on: &mut B)
     ensures gone { (B.state on.old).tells → (b : ℕ) → IsPast (B.state on.old) ways.now.tree (last_leaf ways.now.tree.size) b → (Reaches (B.state on.new).now (to_block 1) b → ⊥) × (B.state on.new).covered b }
     ensures shows { (B.state on.old).tells → AllAre (B.state on.old).now (B.state on.old).may_leave → (image : Image) → (B.state on.new).may_leave image → Shows (B.state on.old) image ways.now.tree (last_leaf ways.now.tree.size) }
     ensures cuts { Cuts (CutSlot (B.state on.old) ways.now.tree (last_leaf ways.now.tree.size) (409 * ways.now.tree.depth)) (B.state on.old) (B.state on.new) }
+    ensures dirties { (first : B) (blocks : List ℕ) → DirtiesIn blocks (B.state first) (B.state on.old) → ((b : ℕ) → OnEnd (B.state on.old) ways.now.tree b → Contains blocks b) → DirtiesIn blocks (B.state first) (B.state on.new) }
     ensures room { (B.state on.old).room ≤ (B.state on.new).room + 409 * ways.now.tree.depth }
     ensures keeps { B.keeps on.old on.new }
 {

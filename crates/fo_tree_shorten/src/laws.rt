@@ -4,7 +4,7 @@ ghost use Rattle.fo_ports.specs.State.{Rests, StaysKnown, IsDoomed};
 ghost use Rattle.fo_tree_look.specs.Source.{Over, HasBlock, WayReady};
 ghost use Rattle.fo_tree_down.specs.Clear.{last_leaf};
 ghost use Rattle.fo_tree_link.specs.Change.{HangsInTree};
-ghost use Rattle.fo_tree_trim.specs.Trim.{IsEndCurrent};
+ghost use Rattle.fo_tree_trim.specs.Trim.{IsEndCurrent, OnEnd};
 ghost use Rattle.fo_tree_shorten.specs.Shorten.{EntryAt};
 
 use fo_ports::Blocks;
@@ -27,4 +27,5 @@ pub fn stays_settled<B: Blocks>(ways: &Ways, before: &B, after: &B, at: u32, i: 
     ensures linked { (B.state before.now).tells → HangsInTree (B.state after.now) ways.now.tree at i }
     ensures ready { WayReady (B.state before.now) ways.now.tree ways.now.kept.items ways.now.tree.depth (last_leaf ways.now.tree.size) → WayReady (B.state after.now) ways.now.tree ways.now.kept.items ways.now.tree.depth (last_leaf ways.now.tree.size) }
     ensures current { WayReady (B.state before.now) ways.now.tree ways.now.kept.items ways.now.tree.depth (last_leaf ways.now.tree.size) → IsEndCurrent (B.state before.now) ways.now.tree → IsEndCurrent (B.state after.now) ways.now.tree }
+    ensures end { WayReady (B.state before.now) ways.now.tree ways.now.kept.items ways.now.tree.depth (last_leaf ways.now.tree.size) → (b : ℕ) → OnEnd (B.state after.now) ways.now.tree b → OnEnd (B.state before.now) ways.now.tree b }
 {}

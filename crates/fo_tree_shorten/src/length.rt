@@ -1,9 +1,10 @@
 //! A source loses its last bytes.
-ghost use Rattle.std.specs.Prelude.{◌≡◌, ◌≢◌, ◌+◌, ◌-◌, ◌*◌, ◌<◌, ◌≤◌, ℕ, take, false};
+ghost use Rattle.std.specs.Prelude.{◌≡◌, ◌≢◌, ◌+◌, ◌-◌, ◌*◌, ◌<◌, ◌≤◌, ℕ, List, take, false};
+ghost use Rattle.std.specs.List.{Contains};
 ghost use Rattle.fo_image.specs.declared.types.Score.{Score};
 ghost use Rattle.fo_image.specs.declared.types.Pointer.TheVariants.{Nil, Local, Score as Held};
 ghost use Rattle.fo_crash.specs.Images.{Reaches, to_block};
-ghost use Rattle.fo_ports.specs.Sources.{depth_for};
+ghost use Rattle.fo_ports.specs.Sources.{DirtiesIn, depth_for};
 ghost use Rattle.fo_tree_read.specs.Tree.{block_at};
 ghost use Rattle.fo_tree_look.specs.Source.{Over, HasBlock, WayReady, leaves_of};
 ghost use Rattle.fo_tree_down.specs.Clear.{last_leaf};
@@ -39,6 +40,7 @@ pub fn shorten<B: Blocks>(ways: &mut Ways, on: &mut B, at: u32, i: u32, end: u64
     ensures bytes { (B.state on.old).tells → (leaves_of (B.state on.new) ways.new.tree ways.new.kept.items ways.new.limit).bytes ≡ take end (leaves_of (B.state on.old) ways.old.tree ways.old.kept.items ways.old.limit).bytes }
     ensures links { Links (B.state on.old) (B.state on.new) ways.new.tree ways.new.generation at i }
     ensures leaves { (B.state on.old).tells → (b : ℕ) → HasBlock (B.state on.old) ways.old.tree b → (Reaches (B.state on.new).now (to_block 1) b → ⊥) → (B.state on.new).covered b }
+    ensures dirties { (first : B) (blocks : List ℕ) → DirtiesIn blocks (B.state first) (B.state on.old) → Contains blocks at → DirtiesIn blocks (B.state first) (B.state on.new) }
     ensures room { (B.state on.old).room ≤ (B.state on.new).room + (409 * ways.old.tree.depth + 1) }
     ensures keeps { B.keeps on.old on.new }
 {

@@ -16,3 +16,5 @@ pub mod Least
 pub mod Lowering
 pub mod Fronts
 pub mod Holding
+pub mod Counting
+pub mod Knowing

@@ -1,17 +1,18 @@
 //! What stands behind the end of a source is cleared.
-ghost use Rattle.std.specs.Prelude.{◌≡◌, ◌⊎◌, ◌+◌, ◌-◌, ◌*◌, ◌/◌, ◌%◌, ◌^◌, ◌<◌, ◌≤◌, ℕ};
+ghost use Rattle.std.specs.Prelude.{◌≡◌, ◌⊎◌, ◌+◌, ◌-◌, ◌*◌, ◌/◌, ◌%◌, ◌^◌, ◌<◌, ◌≤◌, ℕ, List};
+ghost use Rattle.std.specs.List.{Contains};
 ghost use Rattle.fo_image.specs.declared.types.Pointer.TheVariants.{Nil};
 ghost use Rattle.fo_crash.specs.Images.{Image, Reaches, target, to_block};
 ghost use Rattle.fo_crash.specs.Steps.{AllAre};
 ghost use Rattle.fo_ports.specs.Blocks.{IsInner};
-ghost use Rattle.fo_ports.specs.Sources.{ComesFor, Grows};
+ghost use Rattle.fo_ports.specs.Sources.{ComesFor, DirtiesIn, Grows};
 ghost use Rattle.fo_ports.specs.State.{MayRemoveSlot};
 ghost use Rattle.fo_tree_look.specs.Source.{Over, WayReady, leaves_of};
 ghost use Rattle.fo_tree_down.specs.Clear.{EndsClear, last_leaf};
 ghost use Rattle.fo_tree_down.specs.Way.{IsWayIndex, WayCurrent};
 ghost use Rattle.fo_tree_trim.specs.Behind.{IsPast};
 ghost use Rattle.fo_tree_trim.specs.Cut.{CutsOne, CutSlot, Cuts, MayCut};
-ghost use Rattle.fo_tree_trim.specs.Trim.{LeavesStay, Shows, IsEndCurrent};
+ghost use Rattle.fo_tree_trim.specs.Trim.{LeavesStay, Shows, IsEndCurrent, OnEnd};
 
 use crate::clear::{LEAF, is_nil};
 use crate::here::{SLOTS, pointer_here};
@@ -38,6 +39,7 @@ pub fn cut_behind<B: Blocks>(tree: &Tree, kept: &[Kept], on: &mut B)
     ensures cuts { Cuts (CutSlot (B.state on.old) tree.now (last_leaf tree.now.size) (409 * tree.now.depth)) (B.state on.old) (B.state on.new) }
     ensures gone { (B.state on.old).tells → (b : ℕ) → IsPast (B.state on.old) tree.now (last_leaf tree.now.size) b → (Reaches (B.state on.new).now (to_block 1) b → ⊥) × (B.state on.new).covered b }
     ensures shows { (B.state on.old).tells → AllAre (B.state on.old).now (B.state on.old).may_leave → (image : Image) → (B.state on.new).may_leave image → Shows (B.state on.old) image tree.now (last_leaf tree.now.size) }
+    ensures dirties { (first : B) (blocks : List ℕ) → DirtiesIn blocks (B.state first) (B.state on.old) → ((b : ℕ) → OnEnd (B.state on.old) tree.now b → Contains blocks b) → DirtiesIn blocks (B.state first) (B.state on.new) }
     ensures room { (B.state on.old).room ≤ (B.state on.new).room + 409 * tree.now.depth }
     ensures keeps { B.keeps on.old on.new }
 {

@@ -1,12 +1,12 @@
 //! The blocks above the last leaf of a source are made current.
 ghost use Rattle.std.specs.Prelude.{◌≡◌, ◌≢◌, ◌⊎◌, ◌+◌, ◌-◌, ◌*◌, ◌/◌, ◌≤◌, ◌<◌, ℕ};
-ghost use Rattle.fo_ports.specs.Sources.{Changes, Grows};
+ghost use Rattle.fo_ports.specs.Sources.{Changes, Dirties, Grows};
 ghost use Rattle.fo_tree_read.specs.Tree.{kind_at};
 ghost use Rattle.fo_tree_look.specs.Source.{Over, HasBlock, WayReady, IsTopCurrent, leaves_of};
 ghost use Rattle.fo_tree_down.specs.Way.{IsTopOf, with_top};
 ghost use Rattle.fo_tree_down.specs.Clear.{last_leaf};
 ghost use Rattle.fo_tree_trim.specs.Behind.{IsPast};
-ghost use Rattle.fo_tree_trim.specs.Trim.{LeavesStay, IsEndCurrent};
+ghost use Rattle.fo_tree_trim.specs.Trim.{LeavesStay, IsEndCurrent, OnEnd};
 
 use crate::clear::LEAF;
 use crate::here::SLOTS;
@@ -33,6 +33,7 @@ pub fn own_end<B: Blocks>(tree: &Tree, kept: &[Kept], on: &mut B) -> u32
     ensures changes { Changes tree.now.tag (HasBlock (B.state on.old) tree.now) (λ b. HasBlock (B.state on.old) tree.now b × (((B.state on.old).label b).kind ≢ kind_at tree.now.dir 0)) (B.state on.old) (B.state on.new) }
     ensures spare { (B.state on.old).spare ≤ (B.state on.new).spare + tree.now.depth }
     ensures less { IsTopCurrent (B.state on.old) tree.now → (B.state on.old).spare ≤ (B.state on.new).spare + (tree.now.depth - 1) }
+    ensures dirties { Dirties (2 * tree.now.depth) (OnEnd (B.state on.new) (with_top tree.now result)) (B.state on.old) (B.state on.new) }
     ensures room { (B.state on.new).room ≡ (B.state on.old).room }
     ensures keeps { B.keeps on.old on.new }
 {

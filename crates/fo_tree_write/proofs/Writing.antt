@@ -53,7 +53,7 @@ slack_few (suc (suc (suc (suc zero)))) n few = omega arith
 slack_few (suc (suc (suc (suc (suc d))))) n few = absurd (omega (arith, few))
 
 -- the ways to all leaves that so many bytes touch, and two ways more
-most_passed : (d first last n : ℕ) → d ≤ 4 → first ≤ last → last ≤ first + (n / 8192 + 1) → 2 * d + 2 + passed d last ≤ passed d first + most d n
+pub most_passed : (d first last n : ℕ) → d ≤ 4 → first ≤ last → last ≤ first + (n / 8192 + 1) → 2 * d + 2 + passed d last ≤ passed d first + most d n
 most_passed d first last n few le more =
     let a = above_more d first last (n / 8192 + 1) le more in
     let b = slack_few d n few in
@@ -65,7 +65,7 @@ most_is d size n e = ap (λ x. n / 8192 + n / 2 ^ 21 + 3 * (x + 1)) e
 -- ---- blocks spent
 
 -- the leaf that was written last
-last_of : (offset done len : ℕ) → 0 < done → done ≤ len → (offset / 8192 ≤ (offset + done - 1) / 8192) × ((offset + done - 1) / 8192 ≤ offset / 8192 + (len / 8192 + 1))
+pub last_of : (offset done len : ℕ) → 0 < done → done ≤ len → (offset / 8192 ≤ (offset + done - 1) / 8192) × ((offset + done - 1) / 8192 ≤ offset / 8192 + (len / 8192 + 1))
 last_of offset done len some le = (omega (arith, some), omega (arith, some, le))
 
 pub enough_left : (u : State) (t : Tree) (before offset done len k : ℕ) → t.depth ≤ 4 → done < len → most t.depth len ≤ before → Spent u t before offset done → (c : ℕ) × CurrentBut u t c t.depth k × (c ≤ u.spare)

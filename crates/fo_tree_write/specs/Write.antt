@@ -1,14 +1,14 @@
 -- A piece is put into a source, leaf by leaf.
-use Rattle.std.specs.Prelude.{◌≡◌, ◌⊎◌, ◌+◌, ◌-◌, ◌*◌, ◌/◌, ◌<◌, ◌≤◌, ℕ, List, take}
+use Rattle.std.specs.Prelude.{◌≡◌, ◌⊎◌, ◌+◌, ◌-◌, ◌*◌, ◌/◌, ◌<◌, ◌≤◌, ℕ, List, length, take}
 use Rattle.fo_image.specs.declared.types.Pointer.{Pointer}
 use Rattle.fo_image.specs.declared.types.Pointer.TheVariants.{Local}
 use Rattle.fo_ports.specs.State.{State}
-use Rattle.fo_ports.specs.Sources.{Made, ComesFor}
+use Rattle.fo_ports.specs.Sources.{DirtiesIn, Made, ComesFor}
 use Rattle.fo_tree_read.specs.declared.tree.Tree.{Tree}
 use Rattle.fo_tree_read.specs.Reading.{passed}
 use Rattle.fo_tree_look.specs.declared.ways.Kept.{Kept}
 use Rattle.fo_tree_look.specs.Source.{HasBlock, Over, Prepared, WayReady}
-use Rattle.fo_tree_down.specs.Way.{OnWay, WayCurrent}
+use Rattle.fo_tree_down.specs.Way.{OnWay, HasWay, WayCurrent}
 use Rattle.fo_tree_down.specs.Clear.{EndsClear}
 use Rattle.fo_tree_clear.specs.Put.{byte_here, Puts}
 use Rattle.fo_tree_clear.specs.Steps.{Steps}
@@ -21,6 +21,13 @@ at_top t top = record t { top = top }
 -- before took one at most.
 pub record Spent (now : State) (t : Tree) (before offset done : ℕ) : Type 0 where
   pub is : ((done ≡ 0) × (before ≤ now.spare)) ⊎ ((0 < done) × WayCurrent now t t.depth ((offset + done - 1) / 8192) × (before + passed t.depth (offset / 8192) ≤ now.spare + (t.depth + 1) + passed t.depth ((offset + done - 1) / 8192)))
+
+-- So many blocks were left to be written: none yet; or all on the way to the leaf that was written last, which is current, are among them,
+-- and there are two at most for each block of the ways to it and those before.
+pub record Counted (old now : State) (t : Tree) (offset done : ℕ) : Type 0 where
+  pub blocks : List ℕ
+  pub within : DirtiesIn blocks old now
+  pub is : ((done ≡ 0) × (length blocks ≡ 0)) ⊎ ((0 < done) × WayCurrent now t t.depth ((offset + done - 1) / 8192) × HasWay blocks now t t.depth ((offset + done - 1) / 8192) × (length blocks + 2 * passed t.depth (offset / 8192) ≤ 2 * (t.depth + 1) + 2 * passed t.depth ((offset + done - 1) / 8192)))
 
 -- The first bytes of a piece were put, and the source has this top now.
 pub record Wrote (s u : State) (t : Tree) (top : Pointer) (kept : List Kept) (offset done : ℕ) (piece : List ℕ) : Type 0 where

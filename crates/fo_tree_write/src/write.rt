@@ -1,7 +1,8 @@
 //! A piece is put below the end.
 ghost use Rattle.std.specs.Prelude.{◌≡◌, ◌≢◌, ◌⊎◌, ◌+◌, ◌*◌, ◌/◌, ◌<◌, ◌≤◌, ℕ, length};
 ghost use Rattle.fo_sparse.specs.Written.{written};
-ghost use Rattle.fo_ports.specs.Sources.{Changes, Grows, most_for, ComesFor};
+ghost use Rattle.fo_ports.specs.State.{none};
+ghost use Rattle.fo_ports.specs.Sources.{Changes, Dirties, Grows, most_for, ComesFor};
 ghost use Rattle.fo_image.specs.declared.types.Pointer.{Pointer};
 ghost use Rattle.fo_image.specs.declared.types.Pointer.TheVariants.{Local};
 ghost use Rattle.fo_tree_down.specs.Clear.{EndsClear};
@@ -40,6 +41,7 @@ pub fn put_within<B: Blocks>(
     ensures clear { (B.state on.old).tells ⊎ (tree.now.size ≤ 8192 * (offset / 8192 + 1)) → EndsClear (B.state on.old) tree.now kept.now → EndsClear (B.state on.new) (at_top tree.now result) kept.now }
     ensures changes { Changes tree.now.tag (HasBlock (B.state on.old) tree.now) (HasBlock (B.state on.old) tree.now) (B.state on.old) (B.state on.new) }
     ensures spare { (B.state on.old).spare ≤ (B.state on.new).spare + most_for tree.now.size (length piece.now) }
+    ensures dirties { Dirties (2 * most_for tree.now.size (length piece.now)) none (B.state on.old) (B.state on.new) }
     ensures room { (B.state on.new).room ≡ (B.state on.old).room }
     ensures keeps { B.keeps on.old on.new }
 {

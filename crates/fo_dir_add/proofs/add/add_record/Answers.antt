@@ -7,6 +7,7 @@ use Rattle.fo_dir_put.specs.Paired.{AddsPaired}
 use Rattle.fo_dir_add.specs.Adds.{AddsAlone}
 use Rattle.fo_dir_add.proofs.Added.{adds_one, may_stand, may_name, adds_paired}
 use Rattle.fo_dir_add.proofs.add.add_record.Goals as goal
+use Rattle.fo_dirties.proofs.Putting.{dirties_at_once}
 
 pub returns-in-Ok-clause-added : goal.returns-in-Ok-clause-added
 returns-in-Ok-clause-added g c = λ yes'. record { each = λ rs s. subst (λ xs. SpellsLeaf (rs ++ c.args.named.now ∷ []) xs) (sym c.add_name.ensures.puts.here) (c.in-Ok.ensures.added rs (subst (λ xs. SpellsLeaf rs xs) (sym c.requires.bytes.1) s)) }
@@ -43,3 +44,6 @@ returns-in-Ok-clause-paired g c = λ n a e m slot same one two all.
     let now = c.in-Ok.ensures.added s.records s.spells in
     let adds = adds_paired n c.args.p e c.args.entries m c.args.first c.args.second s.records c.args.named.now _ _ s.spells now c.requires.within slot same one two in
     c.add_name.ensures.paired n a e (λ is. subst (λ xs. AddsPaired n c.args.p e c.args.entries c.args.first c.args.second c.insert.new.leaf xs) c.requires.bytes.1 adds) all
+
+pub returns-in-Err-clause-dirties : goal.returns-in-Err-clause-dirties
+returns-in-Err-clause-dirties g c = dirties_at_once (g.B.Blocks.state c.args.on.now) (c.args.leaf ∷ c.args.entries ∷ [])

@@ -1,8 +1,9 @@
-use Rattle.std.proofs.Common.{refl, subst}
+use Rattle.std.proofs.Common.{refl, subst, [], ◌∷◌}
 use Rattle.fo_meta.specs.Leaf.{SpellsLeaf}
 use Rattle.fo_dir_change.proofs.Without.{split_at}
 use Rattle.fo_dir_change.proofs.Changed.{changed_are, changed_stood, changed_stands, changed_name}
 use Rattle.fo_dir_change.proofs.change.change_record.Goals as goal
+use Rattle.fo_dirties.proofs.Putting.{dirties_at_once}
 
 pub returns-in-Ok-clause-fit : goal.returns-in-Ok-clause-fit
 returns-in-Ok-clause-fit g c = λ n entries f all.
@@ -36,3 +37,6 @@ returns-in-Ok-clause-paired g c = λ n a e f all.
 
 pub returns-in-Err-clause-keeps : goal.returns-in-Err-clause-keeps
 returns-in-Err-clause-keeps g c = g.met.B.Blocks.keeps_at_once c.args.on.now
+
+pub returns-in-Err-clause-dirties : goal.returns-in-Err-clause-dirties
+returns-in-Err-clause-dirties g c = dirties_at_once (g.B.Blocks.state c.args.on.now) (c.args.leaf ∷ [])

@@ -1,4 +1,4 @@
-use Rattle.std.proofs.Common.{Contains, sym, ◌∙◌, subst}
+use Rattle.std.proofs.Common.{Contains, sym, ◌∙◌, subst, [], ◌∷◌}
 use Rattle.fo_meta.specs.Leaf.{SpellsLeaf}
 use Rattle.fo_meta.proofs.Lists.{without-none}
 use Rattle.fo_crash.specs.Images.{Image}
@@ -6,6 +6,7 @@ use Rattle.fo_dir_put.specs.Differ.{AreDistinct}
 use Rattle.fo_dir_change.proofs.Without.{split_at, one_leaf}
 use Rattle.fo_dir_change.proofs.Changed.{kept_are, kept_stand, kept_stood, left_was, left_name}
 use Rattle.fo_dir_change.proofs.take.take_record.Goals as goal
+use Rattle.fo_dirties.proofs.Putting.{dirties_at_once}
 
 pub returns-then-not-remove-clause-hand : goal.returns-then-not-remove-clause-hand
 returns-then-not-remove-clause-hand g c =
@@ -47,3 +48,6 @@ returns-clause-paired g c = λ n a e all.
     let was = subst (λ xs. SpellsLeaf s.records xs) c.requires.bytes.1 s.spells in
     let back = left_was (split_at c.args.name.now s.records (sym r.0 ∙ c.if-not-remove.false)) was r.1 in
     c.change_leaf.ensures.paired n a e (λ is. kept_stood back n) all
+
+pub returns-then-not-remove-clause-dirties : goal.returns-then-not-remove-clause-dirties
+returns-then-not-remove-clause-dirties g c = dirties_at_once (g.B.Blocks.state c.args.on.now) (c.args.leaf ∷ [])

@@ -12,6 +12,8 @@ use Rattle.fo_dir_move.proofs.Settled.{ready_taken, settle_taken, fit_later, bac
 use Rattle.fo_dir_move.proofs.Aside.{kept_stands, moved_stands, settled_stands, back_stands, apart_settled}
 use Rattle.fo_dir_move.proofs.Alone.{moves_alone, ready_after, settled_but}
 use Rattle.fo_dir_move.proofs.moves.move_name.Goals as goal
+use Rattle.fo_dirties.proofs.Adding.{dirties_quiet, dirties_more, dirties_then, cons_of, none_of, all_of, first_of, next_of}
+use Rattle.fo_dirties.proofs.Dirtied.{dirties_rests}
 
 pub settle_between-requires-clause-ready : goal.settle_between-requires-clause-ready
 settle_between-requires-clause-ready g c =
@@ -186,3 +188,15 @@ returns-in-Err-clause-paired g c = λ n a e may all.
     let left = s.leaves.from_is ∙ k.puts.here in
     let slots : (j : ℕ) → (o.clearing c.args.entries j → ⊥) → ((u.now c.args.entries).slot j ≡ (o.now c.args.entries).slot j) × (u.clearing c.args.entries j → ⊥) = λ j free. let still = s.entries.each j (λ h. free (k.calm.order.clearing c.args.entries j h).1) in (still.0 ∙ k.puts.slots c.args.entries j, still.1) in
     c.put_record-in-Err.ensures.paired n a e (λ is. subst (λ xs. ArePaired n c.args.from e c.args.entries xs u) (sym c.requires.back.1) (paired_later {o = o} {m = u} (may.back is) left slots)) two
+
+pub returns-in-Ok-clause-dirties : goal.returns-in-Ok-clause-dirties
+returns-in-Ok-clause-dirties g c =
+    let all = g.met.B.Blocks.keeps_all c.change_leaf.new.on c.settle_between.new.on c.settle_between.ensures.keeps in
+    let settled = dirties_rests (g.B.Blocks.state c.change_leaf.new.on) (g.B.Blocks.state c.settle_between.new.on) all c.settle_between.ensures.rests in
+    dirties_then (dirties_more (cons_of first_of none_of) (dirties_quiet c.change_leaf.ensures.dirties settled)) c.put_record.ensures.dirties (cons_of (next_of first_of) none_of)
+
+pub returns-in-Err-clause-dirties : goal.returns-in-Err-clause-dirties
+returns-in-Err-clause-dirties g c =
+    let all = g.met.B.Blocks.keeps_all c.change_leaf.new.on c.settle_between.new.on c.settle_between.ensures.keeps in
+    let settled = dirties_rests (g.B.Blocks.state c.change_leaf.new.on) (g.B.Blocks.state c.settle_between.new.on) all c.settle_between.ensures.rests in
+    dirties_more (cons_of first_of none_of) (dirties_then (dirties_quiet c.change_leaf.ensures.dirties settled) c.put_record-in-Err.ensures.dirties all_of)

@@ -1,9 +1,10 @@
-use Rattle.std.proofs.Common.{refl, sym, subst}
+use Rattle.std.proofs.Common.{refl, sym, subst, [], ◌∷◌}
 use Rattle.fo_meta.specs.Leaf.{SpellsLeaf, without}
 use Rattle.fo_dir_put.specs.Differ.{AllDiffer}
 use Rattle.fo_dir_change.proofs.Without.{named_is}
 use Rattle.fo_dir_move.proofs.Whole.{found_splits, moves_keys, left_differ, with_differ, none_there, moves_paired}
 use Rattle.fo_dir_move.proofs.record.move_record.Goals as goal
+use Rattle.fo_dirties.proofs.Putting.{dirties_at_once}
 
 pub returns-in-Ok-move_name-clause-named : goal.returns-in-Ok-move_name-clause-named
 returns-in-Ok-move_name-clause-named g c = λ leaves in_from in_to differ.
@@ -88,3 +89,6 @@ returns-in-Err-move_name-clause-paired g c = λ n a e backed stays all.
     let left = subst (λ xs. SpellsLeaf (without xs s.records) c.without_name-left.result) c.as_slice.ensures (c.without_name-left.ensures.taken.each s.records s.spells) in
     let more = c.in-Ok.ensures.added ts.records ts.spells in
     c.move_name.ensures.paired n a e (moves_paired split is was were left more t n a c.args.from c.args.to e c.args.entries refl refl backed stays) all
+
+pub returns-in-Err-clause-dirties : goal.returns-in-Err-clause-dirties
+returns-in-Err-clause-dirties g c = dirties_at_once (g.B.Blocks.state c.args.on.now) (c.args.from ∷ c.args.to ∷ [])

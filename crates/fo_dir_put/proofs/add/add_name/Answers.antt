@@ -7,6 +7,7 @@ use Rattle.fo_dir_put.proofs.Aparts.{shows_apart, rest_shows, may_later}
 use Rattle.fo_dir_put.proofs.Named.{differ_shows, name_later}
 use Rattle.fo_dir_put.proofs.Paired.{adds_back}
 use Rattle.fo_dir_put.proofs.add.add_name.Goals as goal
+use Rattle.fo_dirties.proofs.Dirtied.{dirties_joins}
 
 pub put_record-requires-clause-owned : goal.put_record-requires-clause-owned
 put_record-requires-clause-owned g c = records_on (g.met.B.Blocks.keeps_all c.args.on.now c.put_pair.new.on c.put_pair.ensures.keeps) c.put_pair.ensures.calm (c.put_pair.ensures.puts.bytes c.args.leaf) c.requires.owned
@@ -61,3 +62,6 @@ returns-clause-waits g c =
     let waits = c.put_record.ensures.waits in
     let both = waits.0.each c.args.p c.args.first.generation used settled in
     (both.0, both.1, record { each = λ a on j other h. c.put_pair.ensures.no_wait.each a on j (λ n. n) (waits.1.each a on j other h) })
+
+pub returns-clause-dirties : goal.returns-clause-dirties
+returns-clause-dirties g c = dirties_joins c.put_pair.ensures.dirties c.put_record.ensures.dirties

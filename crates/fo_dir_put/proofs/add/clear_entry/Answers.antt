@@ -9,6 +9,7 @@ use Rattle.fo_ports.specs.Blocks.{slot_count}
 use Rattle.fo_dir_put.proofs.Clearing.{cleared_nil, clears_alone}
 use Rattle.fo_dir_put.proofs.Paired.{clear_paired}
 use Rattle.fo_dir_put.proofs.add.clear_entry.Goals as goal
+use Rattle.fo_dirties.proofs.Putting.{dirties_here}
 
 pub remove_slot-requires-clause-may : goal.remove_slot-requires-clause-may
 remove_slot-requires-clause-may g c = λ told.
@@ -51,3 +52,8 @@ returns-clause-dirty g c = c.remove_slot.ensures.frame.dirty
 
 pub returns-clause-queues : goal.returns-clause-queues
 returns-clause-queues g c = c.remove_slot.ensures.queues
+
+pub returns-clause-dirties : goal.returns-clause-dirties
+returns-clause-dirties g c =
+    let r = c.remove_slot.ensures in
+    dirties_here c.args.entries (g.met.B.Blocks.keeps_all c.args.on.now c.remove_slot.new.self r.keeps) r.frame.dirty (λ x. r.frame.stays.labels x (λ n. n)) (λ x j h. ⊎_elim (λ old. inl old) (λ is. inr is.0) ((r.order x j).0 h))

@@ -9,6 +9,7 @@ use Rattle.fo_dir_put.proofs.Nothing.{free_is_empty, never_drops, nil_cost, may_
 use Rattle.fo_dir_put.proofs.Calms.{slot_calm}
 use Rattle.fo_dir_put.proofs.Aparts.{slot_shows}
 use Rattle.fo_dir_put.proofs.pair.put_entry.Goals as goal
+use Rattle.fo_dirties.proofs.Putting.{dirties_frame}
 
 pub put_slot-requires-clause-may : goal.put_slot-requires-clause-may
 put_slot-requires-clause-may g c = λ told.
@@ -56,3 +57,6 @@ returns-clause-room g c =
 
 pub returns-clause-shows : goal.returns-clause-shows
 returns-clause-shows g c = slot_shows c.put_slot.ensures.images
+
+pub returns-clause-dirties : goal.returns-clause-dirties
+returns-clause-dirties g c = dirties_frame c.args.entries (g.met.B.Blocks.keeps_all c.args.on.now c.put_slot.new.self c.put_slot.ensures.keeps) c.put_slot.ensures.frame c.put_slot.ensures.order

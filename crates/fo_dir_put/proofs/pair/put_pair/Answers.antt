@@ -8,6 +8,7 @@ use Rattle.fo_dir_put.proofs.Calms.{calm_joins}
 use Rattle.fo_dir_put.specs.Paired.{AllPaired}
 use Rattle.fo_dir_put.proofs.Paired.{free_paired}
 use Rattle.fo_dir_put.proofs.pair.put_pair.Goals as goal
+use Rattle.fo_dirties.proofs.Adding.{dirties_then, all_of}
 
 differs : (p : ℕ) → 2 * p ≢ 2 * p + 1
 differs p e = omega (arith, e)
@@ -32,3 +33,6 @@ returns-clause-paired g c = λ n a e all.
 
 pub returns-clause-calm : goal.returns-clause-calm
 returns-clause-calm g c = calm_joins (g.met.B.Blocks.keeps_all c.args.on.now c.put_entry.new.on c.put_entry.ensures.keeps) c.put_entry.ensures.calm c.put_entry-2.ensures.calm
+
+pub returns-clause-dirties : goal.returns-clause-dirties
+returns-clause-dirties g c = dirties_then c.put_entry.ensures.dirties c.put_entry-2.ensures.dirties all_of

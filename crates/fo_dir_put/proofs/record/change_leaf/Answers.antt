@@ -14,6 +14,7 @@ use Rattle.fo_dir_put.specs.Paired.{AllPaired}
 use Rattle.fo_dir_put.proofs.Named.{differ_put}
 use Rattle.fo_dir_put.proofs.Paired.{bytes_paired, bytes_others}
 use Rattle.fo_dir_put.proofs.record.change_leaf.Goals as goal
+use Rattle.fo_dirties.proofs.Putting.{dirties_calm}
 
 pub put_bytes-requires-clause-within : goal.put_bytes-requires-clause-within
 put_bytes-requires-clause-within g c =
@@ -73,3 +74,6 @@ returns-clause-paired g c = λ n a e stood all.
 
 pub returns-clause-queues : goal.returns-clause-queues
 returns-clause-queues g c = record { queued = c.put_bytes.ensures.calm.queued; no_wait = c.put_bytes.ensures.no_wait; newborn = λ b h. c.put_bytes.ensures.calm.frame.stays.newborn b (λ n. n) h }
+
+pub returns-clause-dirties : goal.returns-clause-dirties
+returns-clause-dirties g c = dirties_calm c.args.leaf (g.met.B.Blocks.keeps_all c.args.on.now c.put_bytes.new.self c.put_bytes.ensures.keeps) c.put_bytes.ensures.calm

@@ -17,6 +17,8 @@ use Rattle.fo_dir_put.proofs.Named.{differ_put, differ_shows, name_later}
 use Rattle.fo_dir_put.proofs.Paired.{bytes_paired, bytes_others, still_paired, waits_back}
 use Rattle.fo_dir_put.proofs.Spared.{is_there}
 use Rattle.fo_dir_put.proofs.record.put_record.Goals as goal
+use Rattle.fo_dirties.proofs.Putting.{dirties_wait, dirties_calm}
+use Rattle.fo_dirties.proofs.Adding.{dirties_after}
 
 pub put_bytes-requires-clause-within : goal.put_bytes-requires-clause-within
 put_bytes-requires-clause-within g c =
@@ -123,3 +125,8 @@ returns-clause-waits g c =
       },
       record { each = λ a on j other h. waits.1.each a on j other (c.put_bytes.ensures.no_wait.each a on j (λ n. n) h) },
     )
+
+pub returns-clause-dirties : goal.returns-clause-dirties
+returns-clause-dirties g c =
+    dirties_after (dirties_wait (g.met.B.Blocks.keeps_all c.args.on.now c.wait_for.new.self c.wait_for.ensures.keeps) c.wait_for.ensures.calm)
+    (dirties_calm c.args.leaf (g.met.B.Blocks.keeps_all c.wait_for.new.self c.put_bytes.new.self c.put_bytes.ensures.keeps) c.put_bytes.ensures.calm)

@@ -1,12 +1,14 @@
-use Rattle.std.proofs.Common.{◌+◌, ◌*◌, ◌/◌, ◌<◌, sym, ap, ◌∙◌, subst}
+use Rattle.std.proofs.Common.{◌+◌, ◌*◌, ◌/◌, ◌<◌, sym, ap, ◌∙◌, subst, ◌≡◌}
 use Rattle.fo_crash.specs.Images.{target, to_block}
 use Rattle.fo_crash.proofs.Reach.{same_walk}
-use Rattle.fo_ports.specs.Sources.{Form, ComesFor, depth_for}
+use Rattle.fo_ports.specs.Sources.{Form, ComesFor, depth_for, Dirties, most_to_own}
 use Rattle.fo_dir_read.specs.Pairs.{OfEntries}
 use Rattle.fo_dir_ready.proofs.Rowed.{ends_before}
 use Rattle.fo_dir_ready.proofs.Paired.{entries_looked, pair_on, free_on, taken_on}
 use Rattle.fo_dir_ready.proofs.Later.{own_later, grows_later, readied, spare_later, comes_looked, only_later}
 use Rattle.fo_dir_ready.proofs.ready.ready_entries.Goals as goal
+use Rattle.fo_dirties.proofs.Putting.{dirties_looks}
+use Rattle.fo_dirties.proofs.Adding.{dirties_first}
 
 pub own_entries-at-requires-clause-form : goal.own_entries-at-requires-clause-form
 own_entries-at-requires-clause-form g c = subst (λ (f : Form). OfEntries f c.args.rank) (sym c.prepare.ensures.same.0) c.requires.form
@@ -76,3 +78,10 @@ returns-in-Ok-clause-changes g c =
     let s = c.prepare.new.self in
     let m = c.prepare.new.on in
     (s, m, k.over, k.looks.1, o.keeps, readied k.same.0 k.same.1 k.looks.0 k.same.2 o.owned_leaf o.grows o.changes)
+
+pub returns-in-Ok-clause-dirties : goal.returns-in-Ok-clause-dirties
+returns-in-Ok-clause-dirties g c =
+    let s = g.B.Blocks.state c.args.on.now in
+    let u = g.B.Blocks.state c.own_entries-at.new.on in
+    let looked = dirties_looks (g.met.B.Blocks.keeps_all c.args.on.now c.prepare.new.on c.prepare.ensures.looks.1) c.prepare.ensures.looks.0 in
+    subst (λ n. Dirties (2 * most_to_own n c.args.i) (λ b. b ≡ c.own_entries-at.result) s u) c.prepare.ensures.same.1 (dirties_first looked c.own_entries-at.ensures.dirties)

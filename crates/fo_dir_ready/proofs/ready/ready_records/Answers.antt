@@ -1,9 +1,11 @@
-use Rattle.std.proofs.Common.{◌<◌, ◌*◌, ◌+◌, ◌∙◌, sym, subst}
-use Rattle.fo_ports.specs.Sources.{Form, ComesFor}
+use Rattle.std.proofs.Common.{◌<◌, ◌*◌, ◌+◌, ◌∙◌, sym, subst, ◌≡◌}
+use Rattle.fo_ports.specs.Sources.{Form, ComesFor, Dirties, most_to_own}
 use Rattle.fo_dir_read.specs.Names.{OfRecords, AreRecords, leaf_count}
 use Rattle.fo_dir_read.proofs.Rows.{rows_on}
 use Rattle.fo_dir_ready.proofs.Later.{own_later, grows_later, readied, spare_later, comes_looked, only_later}
 use Rattle.fo_dir_ready.proofs.ready.ready_records.Goals as goal
+use Rattle.fo_dirties.proofs.Putting.{dirties_looks}
+use Rattle.fo_dirties.proofs.Adding.{dirties_first}
 
 pub own_records-at-requires-clause-form : goal.own_records-at-requires-clause-form
 own_records-at-requires-clause-form g c = subst (λ (f : Form). OfRecords f c.args.rank) (sym c.prepare.ensures.same.0) c.requires.form
@@ -57,3 +59,10 @@ returns-in-Ok-clause-changes g c =
     let s = c.prepare.new.self in
     let m = c.prepare.new.on in
     (s, m, k.over, k.looks.1, o.keeps, readied k.same.0 k.same.1 k.looks.0 k.same.2 o.owned_leaf o.grows o.changes)
+
+pub returns-in-Ok-clause-dirties : goal.returns-in-Ok-clause-dirties
+returns-in-Ok-clause-dirties g c =
+    let s = g.B.Blocks.state c.args.on.now in
+    let u = g.B.Blocks.state c.own_records-at.new.on in
+    let looked = dirties_looks (g.met.B.Blocks.keeps_all c.args.on.now c.prepare.new.on c.prepare.ensures.looks.1) c.prepare.ensures.looks.0 in
+    subst (λ n. Dirties (2 * most_to_own n c.args.i) (λ b. b ≡ c.own_records-at.result) s u) c.prepare.ensures.same.1 (dirties_first looked c.own_records-at.ensures.dirties)

@@ -7,6 +7,7 @@ use Rattle.fo_dir_put.proofs.Nothing.{may_remove}
 use Rattle.fo_dir_put.proofs.Clearing.{cleared_nil, clears_alone}
 use Rattle.fo_dir_remove.proofs.Unnamed.{none_paired}
 use Rattle.fo_dir_remove.proofs.entry.clear_unnamed.Goals as goal
+use Rattle.fo_dirties.proofs.Putting.{dirties_here}
 
 pub remove_slot-requires-clause-may : goal.remove_slot-requires-clause-may
 remove_slot-requires-clause-may g c = λ told.
@@ -29,3 +30,8 @@ returns-clause-alone g c =
     let within = subst (λ (k : Kind). c.args.j < slot_count k) (sym c.requires.entries.leaf_kind) c.requires.within in
     let nil = cleared_nil (s.label c.args.entries).kind c.args.j ((s.now c.args.entries).slot c.args.j) c.requires.entries.leaf_kind (g.met.B.Blocks.spelled c.args.on.now c.args.entries c.args.j c.requires.entries.is_pinned within) in
     clears_alone (g.met.B.Blocks.keeps_all c.args.on.now c.remove_slot.new.self c.remove_slot.ensures.keeps) c.remove_slot.ensures.frame c.remove_slot.ensures.hangs c.remove_slot.ensures.no_wait nil (⊎_elim (λ h. inl h.0) (λ h. inr h.0) c.remove_slot.ensures.now)
+
+pub returns-clause-dirties : goal.returns-clause-dirties
+returns-clause-dirties g c =
+    let r = c.remove_slot.ensures in
+    dirties_here c.args.entries (g.met.B.Blocks.keeps_all c.args.on.now c.remove_slot.new.self r.keeps) r.frame.dirty (λ x. r.frame.stays.labels x (λ n. n)) (λ x j h. ⊎_elim (λ old. inl old) (λ is. inr is.0) ((r.order x j).0 h))

@@ -20,6 +20,7 @@ use Rattle.fo_dir_remove.proofs.Goes.{calm_aside, calm_quiet, calm_clear, calm_e
 use Rattle.fo_dir_remove.proofs.Unnamed.{left_unnamed, is_gone}
 use Rattle.fo_dir_remove.proofs.remove.remove_record.Given as given
 use Rattle.fo_dir_remove.proofs.remove.remove_record.Goals as goal
+use Rattle.fo_dirties.proofs.Adding.{dirties_then, dirties_more, cons_of, none_of, first_of, next_of}
 
 -- where the device tells, one path leads to each block
 one_at : (g : given.Over) (b : _) → (g.B.Blocks.state b).tells → OnePath 1 (g.B.Blocks.state b).now
@@ -123,3 +124,10 @@ returns-clause-queues g c = λ yes'.
           (λ one. inr (subst (λ n. (n < u.queued) ⊎ (2 ^ 32 - 1 ≤ u.queued)) same one))
           (queues.1 x (subst (λ (t : Slot). target t ≡ Local x) (sym (c.take_record.ensures.slots c.args.entries (2 * c.args.p))) leads)),
     )
+
+pub returns-clause-dirties : goal.returns-clause-dirties
+returns-clause-dirties g c =
+    dirties_then (dirties_more (cons_of first_of none_of) c.take_record.ensures.dirties) c.clear_entry.ensures.dirties (cons_of (next_of first_of) none_of)
+
+pub returns-then-not-take_record-clause-dirties : goal.returns-then-not-take_record-clause-dirties
+returns-then-not-take_record-clause-dirties g c = dirties_more (cons_of first_of none_of) c.take_record.ensures.dirties

@@ -1,5 +1,6 @@
-use Rattle.std.proofs.Common.{◌≡◌, ◌+◌, ◌≤◌, ℕ, List, length, max, inl, inr, refl, sym, subst, ⊎_elim, arith}
-use Rattle.fo_ports.specs.Sources.{most_for}
+use Rattle.std.proofs.Common.{◌≡◌, ◌+◌, ◌*◌, ◌≤◌, ℕ, List, length, max, inl, inr, refl, sym, subst, ⊎_elim, arith}
+use Rattle.fo_ports.specs.State.{none}
+use Rattle.fo_ports.specs.Sources.{Dirties, most_for}
 use Rattle.fo_tree_read.specs.declared.tree.Tree.{Tree}
 use Rattle.fo_tree_look.specs.declared.ways.Kept.{Kept}
 use Rattle.fo_tree_look.specs.Source.{Over}
@@ -55,3 +56,21 @@ returns-else-end-ways-clause-writes g c =
       only = λ told y x h. e.only told y x h;
       changes = e.changes;
     }))
+
+pub returns-then-end-ways-clause-dirties : goal.returns-then-end-ways-clause-dirties
+returns-then-end-ways-clause-dirties g c =
+    let s = g.B.Blocks.state c.args.on.now in
+    let u = g.B.Blocks.state c.put_within-below.new.on in
+    let w = c.args.ways.now in
+    let n = length c.args.piece.now in
+    let same : w.tree.size ≡ max w.tree.size (c.args.offset + n) = omega (arith, c.if-end-ways.true) in
+    subst (λ (z : ℕ). Dirties (2 * most_for z n) none s u) same c.put_within-below.ensures.dirties
+
+pub returns-else-end-ways-clause-dirties : goal.returns-else-end-ways-clause-dirties
+returns-else-end-ways-clause-dirties g c =
+    let s = g.B.Blocks.state c.args.on.now in
+    let u = g.B.Blocks.state c.put_past-below.new.on in
+    let w = c.args.ways.now in
+    let n = length c.args.piece.now in
+    let same : c.args.offset + n ≡ max w.tree.size (c.args.offset + n) = omega (arith, c.if-end-ways.false) in
+    subst (λ (z : ℕ). Dirties (2 * most_for z n) none s u) same c.put_past-below.ensures.dirties

@@ -4,7 +4,8 @@ use Rattle.fo_crash.specs.Places.{super_place, root_place}
 use Rattle.fo_tree_look.specs.Source.{WayReady}
 use Rattle.fo_tree_down.specs.Way.{with_top}
 use Rattle.fo_tree_clear.specs.Put.{byte_here, Puts}
-use Rattle.fo_tree_write.specs.Write.{at_top}
+use Rattle.fo_tree_write.specs.Write.{at_top, Counted}
+use Rattle.fo_tree_write.proofs.Counting.{counted_none, counted_more, counted_end}
 use Rattle.fo_tree_write.proofs.Writing.{way_still, wrote_more, wrote_none}
 use Rattle.fo_tree_clear.proofs.Stepping.{steps_none}
 use Rattle.fo_tree_append.specs.Append.{OnLeaves}
@@ -113,6 +114,7 @@ loop-done-preserved g c =
         used = e.used;
         way = e.way;
       });
+      counted = counted_more {s = s} {u = u} {v = v} t {top = c.loop-done.top} {next = c.put_leaf-current.result.top} {offset = c.args.offset} {done = done} {n = n} (omega (arith, few, lt)) (omega (arith, few)) e.way e.dirties e.dirties_used i.counted;
       keeps = keeps;
     }
 
@@ -127,5 +129,14 @@ loop-done-init g c =
       spends = λ count but. spends_none count s t c.args.offset but;
       within = omega arith;
       wrote = wrote_none (g.B.Blocks.state on) c.args.tree.now c.args.kept.now c.args.offset c.args.piece.now (g.met.B.Blocks.keeps_all on on (g.met.B.Blocks.keeps_at_once on));
+      counted = counted_none s t c.args.offset;
       keeps = g.met.B.Blocks.keeps_at_once on;
     }
+
+pub returns-clause-dirties : goal.returns-clause-dirties
+returns-clause-dirties g c =
+    let s = g.B.Blocks.state c.args.on.now in
+    let u = g.B.Blocks.state c.loop-done.on in
+    let within = c.loop-done.invariant.within in
+    let whole : c.loop-done.done ≡ length c.args.piece.now = omega arith in
+    counted_end (subst (λ n. Counted s u (at_top c.args.tree.now c.loop-done.top) c.args.offset n) whole c.loop-done.invariant.counted)

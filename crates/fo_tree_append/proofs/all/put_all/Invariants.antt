@@ -2,7 +2,7 @@ use Rattle.std.proofs.Common.{◌≡◌, ◌+◌, ◌-◌, ◌/◌, ◌≤◌, �
 use Rattle.fo_tree_look.specs.Source.{HasBlock}
 use Rattle.fo_tree_down.specs.Way.{CurrentBut}
 use Rattle.fo_tree_clear.specs.Steps.{Steps}
-use Rattle.fo_tree_write.specs.Write.{at_top, Wrote}
+use Rattle.fo_tree_write.specs.Write.{at_top, Counted, Wrote}
 use Rattle.fo_tree_append.specs.Append.{OnLeaves, SpendsBut}
 use Rattle.fo_tree_append.proofs.all.put_all.Given as goal
 
@@ -13,6 +13,7 @@ invariant-loop-done g l = record {
   steps : Steps l.initial.tree.tag (λ b. OnLeaves (g.B.Blocks.state l.initial.on) l.initial.tree (l.offset / 8192) ((l.offset + length l.piece - 1) / 8192) b) (λ b. OnLeaves (g.B.Blocks.state l.initial.on) l.initial.tree (l.offset / 8192) ((l.offset + length l.piece - 1) / 8192) b) (g.B.Blocks.state l.initial.on) (g.B.Blocks.state l.on);
   stays : (g.B.Blocks.state l.initial.on).tells → (b : ℕ) → HasBlock (g.B.Blocks.state l.initial.on) l.initial.tree b → ((g.B.Blocks.state l.initial.on).label b).epoch ≡ (g.B.Blocks.state l.initial.on).high → HasBlock (g.B.Blocks.state l.on) (at_top l.initial.tree l.top) b;
   spends : (c : ℕ) → CurrentBut (g.B.Blocks.state l.initial.on) l.initial.tree c l.initial.tree.depth (l.offset / 8192) → SpendsBut c (g.B.Blocks.state l.on) (at_top l.initial.tree l.top) (g.B.Blocks.state l.initial.on).spare l.offset l.done;
+  counted : Counted (g.B.Blocks.state l.initial.on) (g.B.Blocks.state l.on) (at_top l.initial.tree l.top) l.offset l.done;
   keeps : g.B.Blocks.keeps l.initial.on l.on;
 }
 

@@ -1,9 +1,11 @@
-use Rattle.std.proofs.Common.{◌≡◌, ◌+◌, ◌-◌, ◌/◌, ℕ, length, ⊎_elim, refl, sym, ap, subst, arith}
+use Rattle.std.proofs.Common.{◌≡◌, ◌+◌, ◌-◌, ◌*◌, ◌/◌, ◌≤◌, ℕ, length, ⊎_elim, refl, sym, ap, subst, arith}
 use Rattle.std.proofs.lemmas.Bool.{cases_eq}
 use Rattle.fo_crash.specs.Places.{super_place, root_place}
-use Rattle.fo_ports.specs.Sources.{depth_for}
+use Rattle.fo_ports.specs.Sources.{depth_for, most_for}
 use Rattle.fo_tree_read.specs.declared.tree.Tree.{Tree}
+use Rattle.fo_tree_read.specs.Reading.{passed, most}
 use Rattle.fo_tree_look.specs.Source.{HasBlock, IsPlainTree}
+use Rattle.fo_tree_down.proofs.Dirtying.{dirties_both, dirties_most}
 use Rattle.fo_tree_lift.proofs.of_tree_grow.Empty.{few_for}
 use Rattle.fo_tree_clear.specs.Steps.{Steps}
 use Rattle.fo_tree_write.specs.Write.{at_top, Wrote}
@@ -11,6 +13,7 @@ use Rattle.fo_tree_write.proofs.Writing.{most_is}
 use Rattle.fo_tree_append.specs.Append.{OnLeaves}
 use Rattle.fo_tree_append.specs.Grown.{GrownTo}
 use Rattle.fo_tree_append.proofs.Behind.{Both, need_past, spent_past, changes_past, over_past, bytes_past, grows_past, comes_past, only_past, clear_past, room_past}
+use Rattle.fo_tree_append.proofs.Spending.{last_of, most_passed, passed_least}
 use Rattle.fo_tree_append.proofs.past.put_past.Given as given
 use Rattle.fo_tree_append.proofs.past.put_past.Goals as goal
 
@@ -123,3 +126,21 @@ returns-clause-spare g c =
     let same = most_is c.grow_to-grown.result.depth z n depth in
     let spent = spent_past s m u new (at_top new c.put_all.result) c.args.offset n refl (omega (arith, depth, few)) c.requires.some c.grow_to-grown.ensures.grown.spent c.put_all.ensures.spends in
     omega (arith, spent, same)
+
+pub returns-clause-dirties : goal.returns-clause-dirties
+returns-clause-dirties g c =
+    let z = c.args.offset + length c.args.piece.now in
+    let n = length c.args.piece.now in
+    let new = c.grow_to-grown.result in
+    let depth : c.grow_to-grown.result.depth ≡ depth_for z = ap (λ (x : Tree). x.depth) c.grow_to-grown.ensures.is in
+    let few = few_for z in
+    let same = most_is c.grow_to-grown.result.depth z n depth in
+    let last = last_of c.args.offset n c.requires.some in
+    let p = most_passed new.depth (c.args.offset / 8192) ((c.args.offset + n - 1) / 8192) n (omega (arith, depth, few)) last.0 last.1 in
+    let up = passed_least new.depth (c.args.offset / 8192) ((c.args.offset + n - 1) / 8192) last.0 in
+    dirties_most
+    (sum new.depth (depth_for z) (passed new.depth (c.args.offset / 8192)) (passed new.depth ((c.args.offset + n - 1) / 8192)) (most new.depth n) (most_for z n) depth same p up)
+    (dirties_both c.grow_to-grown.ensures.dirties c.put_all.ensures.dirties)
+  where
+    sum : (d e x y all most : ℕ) → d ≡ e → all ≡ most → 2 * d + 2 + y ≤ x + all → x ≤ y → 2 * (e + 1) + 2 * (d + 1 + (y - x)) ≤ 2 * most
+    sum d e x y all most depth same bound up = omega (arith, depth, same, bound, up)

@@ -1,7 +1,9 @@
-use Rattle.std.proofs.Common.{◌≡◌, ◌≢◌, ◌+◌, ◌<◌, ◌≤◌, length, max, inl, inr, ⊎_elim, sym, ◌∙◌, subst, arith}
+use Rattle.std.proofs.Common.{◌≡◌, ◌≢◌, ◌+◌, ◌*◌, ◌<◌, ◌≤◌, length, max, inl, inr, ⊎_elim, sym, ◌∙◌, subst, arith}
 use Rattle.std.proofs.lemmas.Bool.{eqb-true, eqb-false}
-use Rattle.fo_ports.specs.Sources.{most_for}
+use Rattle.fo_ports.specs.State.{none}
+use Rattle.fo_ports.specs.Sources.{Dirties, most_for}
 use Rattle.fo_tree_read.specs.declared.tree.Tree.{Tree}
+use Rattle.fo_tree_down.proofs.Dirtying.{dirties_same}
 use Rattle.fo_tree_append.specs.Append.{PutsPiece}
 use Rattle.fo_tree_append.proofs.Pieces.{tree_within, tree_past, puts_none}
 use Rattle.fo_tree_append.proofs.piece.put_any.Goals as goal
@@ -59,3 +61,22 @@ returns-else-end-tree-clause-puts g c =
       spent = subst (λ z. s.spare ≤ u.spare + most_for z n) (sym same) e.spare;
       room = e.room;
     })
+
+pub returns-then-is_empty-clause-dirties : goal.returns-then-is_empty-clause-dirties
+returns-then-is_empty-clause-dirties g c = dirties_same (g.B.Blocks.state c.args.on.now) (2 * most_for (max c.args.tree.now.size (c.args.offset + length c.args.piece.now)) (length c.args.piece.now))
+
+pub returns-then-end-tree-clause-dirties : goal.returns-then-end-tree-clause-dirties
+returns-then-end-tree-clause-dirties g c =
+    let s = g.B.Blocks.state c.args.on.now in
+    let u = g.B.Blocks.state c.put_within.new.on in
+    let le : c.args.offset + length c.args.piece.now ≤ c.args.tree.now.size = omega arith in
+    let same : max c.args.tree.now.size (c.args.offset + length c.args.piece.now) ≡ c.args.tree.now.size = omega (arith, le) in
+    subst (λ z. Dirties (2 * most_for z (length c.args.piece.now)) none s u) (sym same) c.put_within.ensures.dirties
+
+pub returns-else-end-tree-clause-dirties : goal.returns-else-end-tree-clause-dirties
+returns-else-end-tree-clause-dirties g c =
+    let s = g.B.Blocks.state c.args.on.now in
+    let u = g.B.Blocks.state c.put_past.new.on in
+    let past : c.args.tree.now.size < c.args.offset + length c.args.piece.now = omega arith in
+    let same : max c.args.tree.now.size (c.args.offset + length c.args.piece.now) ≡ c.args.offset + length c.args.piece.now = omega (arith, past) in
+    subst (λ z. Dirties (2 * most_for z (length c.args.piece.now)) none s u) (sym same) c.put_past.ensures.dirties

@@ -18,6 +18,7 @@ use Rattle.fo_tree_leaf.proofs.Owning.{top_current}
 use Rattle.fo_tree_clear.specs.Put.{IsInnerOr}
 use Rattle.fo_tree_down.proofs.Next.{on_way_last}
 use Rattle.fo_tree_clear.proofs.Same.{has_back, has_on, way_back, current_on}
+use Rattle.fo_tree_clear.proofs.Counting.{way_put, ways_put}
 use Rattle.fo_tree_clear.proofs.Descending.{steps_down, steps_put}
 use Rattle.fo_tree_clear.proofs.Putting.{BytesPut, same_slots, label_same, comes_on, only_on, over_put, prepared_put, clear_put, changes_put}
 use Rattle.fo_tree_clear.proofs.Leaf.{PieceCame, puts_end, leaf_put}
@@ -237,3 +238,9 @@ returns-clause-stead g c = λ x made h.
     let put = bytes_put g c in
     let top = c.own_near-current.result.top in
     c.own_near-current.ensures.stead x (made.0, ap (λ (l : Label). l.state) (sym (label_same put top)) ∙ made.1) (only_on put top x h)
+
+pub returns-clause-dirties : goal.returns-clause-dirties
+returns-clause-dirties g c = way_put (bytes_put g c) (with_top c.args.tree.now c.own_near-current.result.top) c.args.tree.now.depth c.args.i c.own_near-current.ensures.leads c.own_near-current.ensures.dirties
+
+pub returns-clause-dirties_used : goal.returns-clause-dirties_used
+returns-clause-dirties_used g c = λ blocks j now has le next. ways_put (bytes_put g c) (with_top c.args.tree.now c.own_near-current.result.top) c.args.tree.now.depth c.args.i c.own_near-current.ensures.leads (c.own_near-current.ensures.dirties_used blocks j now has le next)

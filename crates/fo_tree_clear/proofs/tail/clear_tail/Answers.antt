@@ -1,7 +1,8 @@
-use Rattle.std.proofs.Common.{◌≡◌, ◌-◌, ◌/◌, ◌%◌, inl, ⊎_elim, ◌∙◌, ap, subst, arith}
+use Rattle.std.proofs.Common.{◌≡◌, ◌+◌, ◌-◌, ◌*◌, ◌/◌, ◌%◌, inl, ⊎_elim, ◌∙◌, ap, subst, arith}
 use Rattle.std.proofs.lemmas.Bool.{cases_eq}
 use Rattle.fo_tree_read.specs.Tree.{block_at}
 use Rattle.fo_tree_look.specs.Source.{WayReady, HasBlock, seen}
+use Rattle.fo_tree_down.proofs.Dirtying.{dirties_same}
 use Rattle.fo_tree_clear.specs.Put.{IsInnerOrEnd}
 use Rattle.fo_tree_clear.proofs.Putting.{changes_none}
 use Rattle.fo_tree_clear.proofs.Zeros.{byte_past, byte_nil}
@@ -41,3 +42,6 @@ returns-else-ends_here-clause-changes g c =
     let s = g.B.Blocks.state c.args.on.now in
     let t = c.args.tree.now in
     changes_none t.tag (HasBlock s t) (IsInnerOrEnd s t) s
+
+pub returns-else-ends_here-clause-dirties : goal.returns-else-ends_here-clause-dirties
+returns-else-ends_here-clause-dirties g c = dirties_same (g.B.Blocks.state c.args.on.now) (2 * (c.args.tree.now.depth + 1))

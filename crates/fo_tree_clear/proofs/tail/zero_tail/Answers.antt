@@ -3,6 +3,7 @@ use Rattle.std.proofs.lemmas.List.{length-take, length-drop}
 use Rattle.fo_tree_look.specs.Source.{Over}
 use Rattle.fo_tree_look.proofs.Shown.{top_ready}
 use Rattle.fo_tree_down.specs.Way.{with_top}
+use Rattle.fo_tree_down.proofs.Dirtying.{dirties_counts}
 use Rattle.fo_tree_down.proofs.Sparing.{but_whole, but_more}
 use Rattle.fo_tree_clear.specs.Put.{IsInnerOrEnd}
 use Rattle.fo_tree_clear.proofs.Putting.{changes_wider}
@@ -74,3 +75,6 @@ returns-clause-step g c = record { steps = c.put_leaf.ensures.steps; ways = c.pu
 
 pub returns-clause-there : goal.returns-clause-there
 returns-clause-there g c = λ e f. there (tail g c c.requires.over.0 c.requires.over.1) e f
+
+pub returns-clause-dirties : goal.returns-clause-dirties
+returns-clause-dirties g c = dirties_counts (λ b h. absurd h) c.put_leaf.ensures.dirties

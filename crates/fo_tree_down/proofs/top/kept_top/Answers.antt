@@ -11,6 +11,7 @@ use Rattle.fo_tree_own.specs.Step.{Becomes}
 use Rattle.fo_tree_own.proofs.Link.{blank_leads, came, came_filled}
 use Rattle.fo_tree_own.proofs.Filling.{bare_gives}
 use Rattle.fo_tree_down.proofs.Topping.{comes_topped, top_topped, came_made, level_at, held_local}
+use Rattle.fo_tree_down.proofs.Dirtying.{dirties_made, dirties_filled}
 use Rattle.fo_tree_down.proofs.top.kept_top.Goals as goal
 
 pub new_block-made-requires-clause-level : goal.new_block-made-requires-clause-level
@@ -140,3 +141,10 @@ returns-clause-top g c =
 
 pub returns-clause-stead : goal.returns-clause-stead
 returns-clause-stead g c = λ x made h. absurd (c.new_block-made.ensures.instead x ((c.fill_kept.ensures.filled.instead c.new_block-made.result x).0 h))
+
+pub returns-clause-dirties : goal.returns-clause-dirties
+returns-clause-dirties g c =
+    let e = c.new_block-made.ensures in
+    let first = g.met.B.Blocks.keeps_all c.args.on.now c.new_block-made.new.self e.keeps in
+    let then = g.met.B.Blocks.keeps_all c.new_block-made.new.self c.fill_kept.new.on c.fill_kept.ensures.keeps in
+    dirties_filled c.new_block-made.result (dirties_made c.new_block-made.result first (came_made (came e.gives)) e.gives.dirty (λ b j h. (e.gives.order.clearing b j h).1)) then c.fill_kept.ensures.filled

@@ -9,6 +9,7 @@ use Rattle.fo_tree_read.specs.Tree.{kind_at}
 use Rattle.fo_tree_own.specs.Step.{Becomes}
 use Rattle.fo_tree_own.proofs.Link.{came}
 use Rattle.fo_tree_down.proofs.Topping.{comes_topped, top_topped, came_made, level_at, nil_local}
+use Rattle.fo_tree_down.proofs.Dirtying.{dirties_made}
 use Rattle.fo_tree_down.proofs.top.new_top.Goals as goal
 
 pub new_block-requires-clause-level : goal.new_block-requires-clause-level
@@ -82,3 +83,8 @@ returns-clause-top g c =
 
 pub returns-clause-stead : goal.returns-clause-stead
 returns-clause-stead g c = λ x made h. absurd (c.new_block.ensures.instead x h)
+
+pub returns-clause-dirties : goal.returns-clause-dirties
+returns-clause-dirties g c =
+    let e = c.new_block.ensures in
+    dirties_made c.new_block.result (g.met.B.Blocks.keeps_all c.args.on.now c.new_block.new.self e.keeps) (came_made (came e.gives)) e.gives.dirty (λ b j h. (e.gives.order.clearing b j h).1)

@@ -8,6 +8,7 @@ use Rattle.fo_tree_own.specs.Step.{Becomes}
 use Rattle.fo_tree_own.proofs.Link.{came}
 use Rattle.fo_tree_down.proofs.Topping.{comes_topped, top_topped, top_here, came_made, own_here, local_eq}
 use Rattle.fo_tree_down.proofs.Next.{comes_top}
+use Rattle.fo_tree_down.proofs.Dirtying.{dirties_same, dirties_kept, dirties_made}
 use Rattle.fo_tree_down.proofs.top.own_local.Goals as goal
 
 pub copy-requires-clause-in_tree : goal.copy-requires-clause-in_tree
@@ -104,3 +105,20 @@ returns-then-is_current-clause-stead g c = λ x made h. absurd (made.0 made.1)
 
 pub returns-else-is_current-clause-stead : goal.returns-else-is_current-clause-stead
 returns-else-is_current-clause-stead g c = λ x made h. c.requires.is ∙ ap (λ b. Local b) (sym ((c.copy.ensures.instead x).0 h))
+
+pub returns-then-is_current-clause-dirties : goal.returns-then-is_current-clause-dirties
+returns-then-is_current-clause-dirties g c = dirties_kept (g.B.Blocks.state c.args.on.now) c.args.at
+
+pub returns-then-is_current-clause-dirties_less : goal.returns-then-is_current-clause-dirties_less
+returns-then-is_current-clause-dirties_less g c = λ current. dirties_same (g.B.Blocks.state c.args.on.now) 0
+
+pub returns-else-is_current-clause-dirties : goal.returns-else-is_current-clause-dirties
+returns-else-is_current-clause-dirties g c =
+    let e = c.copy.ensures in
+    dirties_made c.copy.result (g.met.B.Blocks.keeps_all c.args.on.now c.copy.new.self e.keeps) (came_made (came e.gives)) e.gives.dirty (λ b j h. (e.gives.order.clearing b j h).1)
+
+pub returns-else-is_current-clause-dirties_less : goal.returns-else-is_current-clause-dirties_less
+returns-else-is_current-clause-dirties_less g c =
+    λ current.
+    let older = c.is_current.ensures.older c.if-is_current.false in
+    absurd (omega (arith, older, current))

@@ -51,3 +51,12 @@ returns-in-Local-clause-same g c = λ b is current.
 
 pub returns-in-Score-clause-same : goal.returns-in-Score-clause-same
 returns-in-Score-clause-same g c = λ b is current. absurd (held_local c.in-Score.score b (sym c.in-Score.is ∙ is))
+
+pub returns-in-Nil-clause-dirties_less : goal.returns-in-Nil-clause-dirties_less
+returns-in-Nil-clause-dirties_less g c = λ top. absurd (top_local c.in-Nil.is top)
+
+pub returns-in-Local-clause-dirties_less : goal.returns-in-Local-clause-dirties_less
+returns-in-Local-clause-dirties_less g c = λ top. c.own_local.ensures.dirties_less (top_epoch c.in-Local.is top)
+
+pub returns-in-Score-clause-dirties_less : goal.returns-in-Score-clause-dirties_less
+returns-in-Score-clause-dirties_less g c = λ top. absurd (top_held c.in-Score.is top)

@@ -1,17 +1,21 @@
+use Rattle.std.specs.List.{Contains}
 use Rattle.std.proofs.Common.{◌≡◌, ◌≢◌, ◌⊎◌, ◌+◌, ◌-◌, ◌*◌, ◌/◌, ◌%◌, ◌^◌, ◌<◌, ◌≤◌, ℕ, suc, inl, inr, ⊎_elim, refl, sym, ap, ◌∙◌, subst, arith}
 use Rattle.std.proofs.lemmas.Bool.{cases_eq}
+use Rattle.std.proofs.lemmas.List.Elements.{Contains-append_left, Contains-append_right}
 use Rattle.std.proofs.Math.Nat.{pow-succ'}
 use Rattle.fo_image.specs.declared.types.Pointer.TheVariants.{Local}
 use Rattle.fo_crash.specs.Images.{target}
 use Rattle.fo_crash.specs.Places.{super_place, root_place}
-use Rattle.fo_ports.specs.Sources.{Made}
+use Rattle.fo_ports.specs.Sources.{Made, Dirties}
 use Rattle.fo_tree_read.specs.Tree.{kind_down, below, block_at, above as hold}
 use Rattle.fo_tree_look.specs.Source.{seen, IsTold, WayReady}
 use Rattle.fo_tree_own.specs.Step.{IsOwn, CanOwn, Becomes, Links}
-use Rattle.fo_tree_down.specs.Way.{OnWay, Comes, Leads, IsTopOf, WayCurrent, CurrentBut, with_top}
+use Rattle.fo_tree_down.specs.Way.{OnWay, Comes, Leads, IsTopOf, WayCurrent, CurrentBut, HasWay, AddsWay, with_top}
 use Rattle.fo_tree_down.proofs.Sparing.{but_top, but_down}
 use Rattle.fo_tree_down.proofs.Next.{Says, local_seen, leads_next, current_below, leads_beside, above_own, can_next, was_below, comes_same, comes_new, not_current, replaces_same, replaces_new}
-use Rattle.fo_tree_down.proofs.Leading.{block_of, leads_on, beside_on, given_on, top_stays, way_top}
+use Rattle.fo_tree_down.proofs.Leading.{block_of, leads_to, leads_on, way_was, beside_on, given_on, top_stays, way_top}
+use Rattle.fo_tree_own.proofs.Link.{local_eq}
+use Rattle.fo_tree_down.proofs.Dirtying.{CameBelow, dirties_within, dirties_counts, ways_same, ways_came, adds_same, adds_came}
 use Rattle.fo_tree_down.proofs.way.+own_down.Goals as goal
 
 pub own_top-top-requires-clause-ready : goal.own_top-top-requires-clause-ready
@@ -512,3 +516,142 @@ returns-clause-stead g t' c = λ x made h.
     (λ same. c.own_down-above.ensures.stead x first (subst (λ b. (g.B.Blocks.state b).instead top x) same.1 h))
     (λ links. c.own_down-above.ensures.stead x first (links.instead top x h))
     step
+
+pub returns-then-down-eq0-clause-dirties : goal.returns-then-down-eq0-clause-dirties
+returns-then-down-eq0-clause-dirties g t' c =
+    let s = g.B.Blocks.state c.args.on.now in
+    let u = g.B.Blocks.state c.own_top-top.new.on in
+    let top = c.own_top-top.result in
+    subst (λ d. Dirties (2 * (d + 1)) (λ b. OnWay u (with_top c.args.tree.now top) d c.args.k b) s u) (sym c.if-down-eq0.true)
+    (dirties_counts (λ b on. sym (local_eq on)) c.own_top-top.ensures.dirties)
+
+pub returns-then-down-eq0-clause-dirties_used : goal.returns-then-down-eq0-clause-dirties_used
+returns-then-down-eq0-clause-dirties_used g t' c = λ blocks j way has le next.
+    let s = g.B.Blocks.state c.args.on.now in
+    let u = g.B.Blocks.state c.own_top-top.new.on in
+    let t = c.args.tree.now in
+    let k = c.args.k in
+    let top = c.own_top-top.result in
+    let zero = c.if-down-eq0.true in
+    let first : WayCurrent s t 0 j = subst (λ d. WayCurrent s t d j) zero way in
+    let same : top ≡ first.0 = c.own_top-top.ensures.same first.0 first.1 first.2 in
+    let here : Contains blocks first.0 = subst (λ d. HasWay blocks s t d j) zero has first.0 first.1 in
+    let none = c.own_top-top.ensures.dirties_less (way_top s t c.args.down j way) in
+    subst (λ d. AddsWay (2 * (k + hold d k - (j + hold d j))) blocks s u (with_top t top) d k) (sym zero) (record {
+      more = none.blocks;
+      few = let few = none.few in omega (arith, few);
+      within = dirties_within (λ b h. Contains-append_left none.blocks blocks b h) none.within;
+      way = λ b on. Contains-append_right none.blocks blocks b (subst (λ x. Contains blocks x) (sym same ∙ local_eq on) here);
+    })
+
+pub returns-clause-dirties : goal.returns-clause-dirties
+returns-clause-dirties g t' c =
+    let on = c.args.on.now in
+    let mid = c.own_down-above.new.on in
+    let s = g.B.Blocks.state on in
+    let m = g.B.Blocks.state mid in
+    let t = c.args.tree.now in
+    let kept = c.args.kept.now in
+    let n = c.args.down - 1 in
+    let k = c.args.k in
+    let is : c.args.down ≡ suc (c.args.down - 1) = omega arith in
+    let all = g.met.B.Blocks.keeps_all on mid c.own_down-above.ensures.keeps in
+    let down : suc (c.args.down - 1) ≤ t.depth = subst (λ d. d ≤ t.depth) is c.requires.down.0 in
+    let ready : WayReady s t kept (suc (c.args.down - 1)) k = subst (λ d. WayReady s t kept d k) is c.requires.ready in
+    let says : s.tells → Says s = λ told. record { placed = g.met.B.Blocks.placed on s.now (g.met.B.Blocks.present on told); one = g.met.B.Blocks.one_place on } in
+    let told : s.tells → (b : ℕ) → OnWay s t (suc (c.args.down - 1)) k b → IsTold s t.top b = subst (λ d. s.tells → (b : ℕ) → OnWay s t d k b → IsTold s t.top b) is c.requires.told in
+    let above = c.own_down-above.result.at in
+    let comes = c.own_down-above.ensures.comes in
+    let leads = c.own_down-above.ensures.leads in
+    let end = c.own_block-at.new.on in
+    let u = g.B.Blocks.state end in
+    let at = c.own_block-at.result in
+    let top = c.own_down-above.result.top in
+    let was = target ((m.now above).slot (k % 409)) in
+    let step : ((was ≡ Local at) × (end ≡ mid) × IsOwn m t (t.depth - suc n) (409 * (k / 409) + k % 409) at) ⊎ Links t (t.depth - suc n) (k / 409) above (k % 409) was at m u =
+    subst (λ d. ((was ≡ Local at) × (end ≡ mid) × IsOwn m t (t.depth - d) (409 * (k / 409) + k % 409) at) ⊎ Links t (t.depth - d) (k / 409) above (k % 409) was at m u) is c.own_block-at.ensures.step in
+    let here : block_at m (with_top t top) n (k / 409) ≡ Local above = leads_to s m t kept top n (k / 409) above leads in
+    subst (λ d. Dirties (2 * (d + 1)) (λ b. OnWay u (with_top t top) d k b) s u) (sym is)
+    (⊎_elim
+    (λ same. subst (λ x. Dirties (2 * (suc n + 1)) (λ b. OnWay (g.B.Blocks.state x) (with_top t top) (suc n) k b) s (g.B.Blocks.state x)) (sym same.1) (ways_same t top n k above at c.own_down-above.ensures.dirties here same.0))
+    (λ links.
+    let more = g.met.B.Blocks.keeps_all mid end c.own_block-at.ensures.keeps in
+    let own = block_of n (k / 409) above comes.own in
+    let active = (g.met.B.Blocks.active end).0 in
+    let below_was = was_below s m t kept n k above all c.requires.hangs down ready comes says told in
+    let lower : suc n ≤ t.depth = omega (arith, down) in
+    let came : CameBelow m u t top n k above at (t.depth - suc n) was = record {
+      all = more;
+      links = links;
+      first = here;
+      last = leads_to s u t kept top n (k / 409) above (leads_on s m u t kept top n above (k % 409) at (t.depth - suc n) (k / 409) lower own was below_was more links active n (k / 409) above (omega arith) leads);
+      same = λ b on. way_was s m u t kept top n above (k % 409) at (t.depth - suc n) (k / 409) lower own was below_was more links active n (k / 409) above b (omega arith) leads on;
+    } in
+    ways_came came c.own_down-above.ensures.dirties)
+    step)
+
+pub returns-clause-dirties_used : goal.returns-clause-dirties_used
+returns-clause-dirties_used g t' c = λ blocks j way has le next.
+    let on = c.args.on.now in
+    let mid = c.own_down-above.new.on in
+    let s = g.B.Blocks.state on in
+    let m = g.B.Blocks.state mid in
+    let t = c.args.tree.now in
+    let kept = c.args.kept.now in
+    let n = c.args.down - 1 in
+    let k = c.args.k in
+    let is : c.args.down ≡ suc (c.args.down - 1) = omega arith in
+    let all = g.met.B.Blocks.keeps_all on mid c.own_down-above.ensures.keeps in
+    let down : suc (c.args.down - 1) ≤ t.depth = subst (λ d. d ≤ t.depth) is c.requires.down.0 in
+    let ready : WayReady s t kept (suc (c.args.down - 1)) k = subst (λ d. WayReady s t kept d k) is c.requires.ready in
+    let says : s.tells → Says s = λ told. record { placed = g.met.B.Blocks.placed on s.now (g.met.B.Blocks.present on told); one = g.met.B.Blocks.one_place on } in
+    let told : s.tells → (b : ℕ) → OnWay s t (suc (c.args.down - 1)) k b → IsTold s t.top b = subst (λ d. s.tells → (b : ℕ) → OnWay s t d k b → IsTold s t.top b) is c.requires.told in
+    let above = c.own_down-above.result.at in
+    let comes = c.own_down-above.ensures.comes in
+    let leads = c.own_down-above.ensures.leads in
+    let end = c.own_block-at.new.on in
+    let u = g.B.Blocks.state end in
+    let at = c.own_block-at.result in
+    let top = c.own_down-above.result.top in
+    let was = target ((m.now above).slot (k % 409)) in
+    let step : ((was ≡ Local at) × (end ≡ mid) × IsOwn m t (t.depth - suc n) (409 * (k / 409) + k % 409) at) ⊎ Links t (t.depth - suc n) (k / 409) above (k % 409) was at m u =
+    subst (λ d. ((was ≡ Local at) × (end ≡ mid) × IsOwn m t (t.depth - d) (409 * (k / 409) + k % 409) at) ⊎ Links t (t.depth - d) (k / 409) above (k % 409) was at m u) is c.own_block-at.ensures.step in
+    let before : WayCurrent s t (suc n) j = subst (λ d. WayCurrent s t d j) is way in
+    let held : HasWay blocks s t (suc n) j = subst (λ d. HasWay blocks s t d j) is has in
+    let p = c.own_down-above.ensures.dirties_used blocks (j / 409) before.0 (λ b on. held b (inl on)) (omega (arith, le)) (omega (arith, next)) in
+    let here : block_at m (with_top t top) n (k / 409) ≡ Local above = leads_to s m t kept top n (k / 409) above leads in
+    let last = before.1 in
+    let was_last : j ≡ k → was ≡ Local last.0 = λ e. leads_next s m t kept n k above all c.requires.hangs down ready comes says told ∙ local_seen s kept t (suc n) k last.0 (ap (λ i. block_at s t (suc n) i) (sym e) ∙ last.1) in
+    subst (λ d. AddsWay (2 * (k + hold d k - (j + hold d j))) blocks s u (with_top t top) d k) (sym is)
+    (⊎_elim
+    (λ same. subst (λ z. AddsWay (2 * (k + hold (suc n) k - (j + hold (suc n) j))) blocks s (g.B.Blocks.state z) (with_top t top) (suc n) k) (sym same.1)
+    (adds_same t top n k above at j blocks le p here same.0 (λ e. subst (λ z. Contains blocks z) (local_eq (sym (was_last e) ∙ same.0)) (held last.0 (inr last.1)))))
+    (λ links.
+    let more = g.met.B.Blocks.keeps_all mid end c.own_block-at.ensures.keeps in
+    let own = block_of n (k / 409) above comes.own in
+    let active = (g.met.B.Blocks.active end).0 in
+    let below_was = was_below s m t kept n k above all c.requires.hangs down ready comes says told in
+    let lower : suc n ≤ t.depth = omega (arith, down) in
+    let came : CameBelow m u t top n k above at (t.depth - suc n) was = record {
+      all = more;
+      links = links;
+      first = here;
+      last = leads_to s u t kept top n (k / 409) above (leads_on s m u t kept top n above (k % 409) at (t.depth - suc n) (k / 409) lower own was below_was more links active n (k / 409) above (omega arith) leads);
+      same = λ b on. way_was s m u t kept top n above (k % 409) at (t.depth - suc n) (k / 409) lower own was below_was more links active n (k / 409) above b (omega arith) leads on;
+    } in
+    ⊎_elim
+    (λ e. absurd (not_current s m t kept n k above all c.requires.hangs down ready comes says told u at more
+    (λ image h. (
+      g.met.B.Blocks.placed on image h,
+      g.met.B.Blocks.ranked on image h,
+      g.met.B.Blocks.told on image h,
+      λ top is_top. ⊎_elim
+          (λ e. (super_place, subst (λ y. s.stands y super_place) (sym e) (g.met.B.Blocks.super_stands on (g.met.B.Blocks.told on image h))))
+          (λ ne. (root_place, g.met.B.Blocks.top_stands on top (g.met.B.Blocks.told on image h) is_top ne))
+          (cases_eq top 1),
+    ))
+    (g.met.B.Blocks.standing on)
+    links last.0 (was_last e) last.2))
+    (λ ne. adds_came j blocks came le ne p)
+    (cases_eq j k))
+    step)

@@ -1,10 +1,11 @@
 use Rattle.std.proofs.Common.{◌≡◌, ◌≢◌, ◌⊎◌, ◌+◌, ◌*◌, ◌≤◌, ℕ, inl, inr, ⊎_elim, refl, sym, ◌∙◌, ap, subst, arith}
-use Rattle.fo_ports.specs.Sources.{IsEnough, Owned, Changes, Grows, depth_for, most_to_own}
+use Rattle.fo_ports.specs.Sources.{IsEnough, Owned, Changes, Dirties, Grows, depth_for, most_to_own}
 use Rattle.fo_tree_read.specs.declared.tree.Tree.{Tree}
 use Rattle.fo_tree_read.specs.Tree.{kind_at}
 use Rattle.fo_tree_look.specs.Source.{Over, Prepared, IsTopCurrent, HasBlock, form_of, leaves_of}
 use Rattle.fo_tree_down.specs.Way.{IsTopOf, with_top}
 use Rattle.fo_tree_down.specs.Clear.{EndsClear, last_leaf}
+use Rattle.fo_tree_down.proofs.Dirtying.{dirties_most}
 use Rattle.fo_tree_leaf.proofs.Owning.{most_within}
 use Rattle.fo_tree_grow.specs.Grow.{shaped}
 use Rattle.fo_tree_grow.proofs.Growing.{changes_of, top_of_sized, owned_sized, bytes_none}
@@ -149,3 +150,13 @@ returns-clause-clear g c =
     (subst (λ (x : Tree). s.tells ⊎ (c.args.i ≡ last_leaf x.size) → EndsClear s x kept → EndsClear u (with_top x c.own_within.result.top) kept) (grown_end g c) c.own_within.ensures.clear)
     (inr (omega arith))
     (clear_none s (shaped t d z) c.requires.empty kept)
+
+pub returns-clause-dirties : goal.returns-clause-dirties
+returns-clause-dirties g c =
+    let s = g.B.Blocks.state c.args.on.now in
+    let u = g.B.Blocks.state c.own_within.new.on in
+    let z = 8192 * (c.args.i + 1) in
+    let at = c.own_within.result.at in
+    let most = most_within (8192 * (c.args.i + 1)) c.args.i (omega arith) in
+    let enough : 2 * most_to_own (8192 * (c.args.i + 1)) c.args.i ≤ 2 * (depth_for (8192 * (c.args.i + 1)) + 1) = omega (arith, most) in
+    dirties_most enough (subst (λ (x : Tree). Dirties (2 * most_to_own x.size c.args.i) (λ b. b ≡ at) s u) (grown_end g c) c.own_within.ensures.dirties)

@@ -1,10 +1,11 @@
 use Rattle.std.proofs.Common.{◌≡◌, ◌≢◌, ◌⊎◌, ◌+◌, ◌*◌, ◌^◌, ◌≤◌, ℕ, inl, inr, ⊎_elim, refl, sym, ◌∙◌, subst, arith}
-use Rattle.fo_ports.specs.Sources.{Made, IsEnough, Owned, Changes, Grows, most_to_own}
+use Rattle.fo_ports.specs.Sources.{Made, IsEnough, Owned, Changes, Dirties, Grows, most_to_own}
 use Rattle.fo_tree_read.specs.declared.tree.Tree.{Tree}
 use Rattle.fo_tree_read.specs.Tree.{kind_at}
 use Rattle.fo_tree_look.specs.Source.{Over, Prepared, WayReady, IsTopCurrent, HasBlock, form_of, leaves_of}
 use Rattle.fo_tree_down.specs.Way.{OnWay, Descends, IsTopOf, with_top}
 use Rattle.fo_tree_down.specs.Clear.{EndsClear, last_leaf}
+use Rattle.fo_tree_down.proofs.Dirtying.{dirties_most}
 use Rattle.fo_tree_leaf.proofs.Owning.{most_within}
 use Rattle.fo_tree_grow.specs.Grow.{sized}
 use Rattle.fo_tree_grow.proofs.Sizing.{room_for, has_back, has_sized, top_sized, over_sized, prepared_sized, address_sized, held_sized, clear_sized}
@@ -178,3 +179,14 @@ returns-clause-stays g c = λ told b has current.
     let z = 8192 * (c.args.i + 1) in
     (subst (λ (x : Tree). s.tells → (b : ℕ) → HasBlock s x b → (s.label b).epoch ≡ s.high → HasBlock u (with_top x c.own_within.result.top) b) c.with_size-grown.ensures c.own_within.ensures.stays)
     told b (has_sized s t z b has) current
+
+pub returns-clause-dirties : goal.returns-clause-dirties
+returns-clause-dirties g c =
+    let s = g.B.Blocks.state c.args.on.now in
+    let u = g.B.Blocks.state c.own_within.new.on in
+    let t = c.args.tree.now in
+    let at = c.own_within.result.at in
+    let most = most_within (8192 * (c.args.i + 1)) c.args.i (omega arith) in
+    let least = c.requires.levels in
+    let enough : 2 * most_to_own (8192 * (c.args.i + 1)) c.args.i ≤ 2 * (t.depth + 1) = omega (arith, most, least) in
+    dirties_most enough (subst (λ (x : Tree). Dirties (2 * most_to_own x.size c.args.i) (λ b. b ≡ at) s u) c.with_size-grown.ensures c.own_within.ensures.dirties)

@@ -13,6 +13,7 @@ returns-then-end_of-tree-clause-owns g c =
       grows = e.grows;
       changes = λ generation limit. changes_wider (λ b inner. inl inner) e.changes;
       most = e.spare.0;
+      dirties = e.dirties;
       less = e.spare.1;
       current = e.current;
       clear = e.clear;

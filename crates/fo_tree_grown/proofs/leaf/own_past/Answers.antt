@@ -1,10 +1,10 @@
-use Rattle.std.proofs.Common.{◌≡◌, ◌⊎◌, ◌+◌, ◌*◌, ◌%◌, ◌^◌, ◌<◌, ◌≤◌, ℕ, inl, ⊎_elim, sym, ap, ◌∙◌, subst, arith}
+use Rattle.std.proofs.Common.{◌≡◌, ◌≢◌, ◌⊎◌, ◌+◌, ◌-◌, ◌*◌, ◌%◌, ◌^◌, ◌<◌, ◌≤◌, ℕ, inl, ⊎_elim, sym, ap, ◌∙◌, subst, arith}
 use Rattle.std.proofs.lemmas.Bool.{cases_eq, cases_lt}
 use Rattle.fo_sparse.specs.Written.{resized}
 use Rattle.fo_image.specs.declared.types.State.TheVariants.{Live}
 use Rattle.fo_image.specs.Format.{IsDepth}
 use Rattle.fo_crash.specs.Places.{super_place, root_place}
-use Rattle.fo_ports.specs.Sources.{Changes, Grows, Owned, depth_for}
+use Rattle.fo_ports.specs.Sources.{Changes, Dirties, Grows, Owned, depth_for, most_to_own}
 use Rattle.fo_tree_read.specs.declared.tree.Tree.{Tree}
 use Rattle.fo_tree_read.specs.Tree.{kind_at}
 use Rattle.fo_tree_look.specs.Source.{Over, HasBlock, IsPlainTree, Prepared, IsTopCurrent, form_of, leaves_of}
@@ -19,6 +19,7 @@ use Rattle.fo_tree_lift.proofs.of_tree_grow.Empty.{least_for}
 use Rattle.fo_tree_lift.proofs.of_tree_grow.Sizing.{room_for}
 use Rattle.fo_tree_lift.specs.Owns.{with_leaf}
 use Rattle.fo_tree_lift.proofs.Choosing.{max_right, leaf_next, leaf_past, most_past, ends_past, changes_wide}
+use Rattle.fo_tree_down.proofs.Dirtying.{dirties_both, dirties_most}
 use Rattle.fo_tree_clear.proofs.Putting.{changes_wider}
 use Rattle.fo_tree_grown.specs.Zeroed.{OwnsZeroed}
 use Rattle.fo_tree_grown.proofs.Leaves.{owned_end}
@@ -63,6 +64,7 @@ returns-in-None-clause-owns g c =
       grows = e.grows;
       changes = λ generation limit. changes_wider (λ b inner. inl inner) e.changes;
       most = e.spare.0;
+      dirties = e.dirties;
       less = e.spare.1;
       current = e.current;
       clear = e.clear;
@@ -107,6 +109,7 @@ returns-then-least_depth-tree-clause-owns g c =
     let bytes_two = subst (λ (x : Tree). m.tells → IsPlainTree x ⊎ (x.size % 8192 ≡ 0) → (l : ℕ) → (leaves_of u (with_top (sized x z) r.top) kept l).bytes ≡ resized ((leaves_of m x kept l).bytes) z) here e.bytes in
     let descends_two = subst (λ (x : Tree). Descends (sized x z) (OnWay m (sized x z) x.depth i) 0 m u) here e.descends in
     let used = (subst (λ (x : Tree). IsTopCurrent m x → m.spare ≤ u.spare + x.depth) here e.less) f.top.1 in
+    let dirties_two : Dirties (2 * (t.depth + 1)) (λ b. b ≡ r.at) m u = subst (λ (x : Tree). Dirties (2 * (x.depth + 1)) (λ b. b ≡ r.at) m u) here e.dirties in
     let steps = f.step.1 in
     let past = most_past t.size i c.requires.past in
     let twice : Twice s m u t (with_top (sized t z) r.top) kept ctop r.top = record {
@@ -152,11 +155,25 @@ returns-then-least_depth-tree-clause-owns g c =
         standing = g.met.B.Blocks.standing on;
       }) generation l;
       most = let first = f.spare in omega (arith, past, levels, first, used);
+      dirties = let enough : 2 * (t.depth + 1) + 2 * (t.depth + 1) ≤ 2 * most_to_own t.size i = omega (arith, past, levels) in dirties_most enough (dirties_both f.dirties dirties_two);
       less = λ top. let first = f.less top in omega (arith, past, levels, first, used);
       current = subst (λ (x : Tree). IsTopCurrent u (with_top (sized x z) r.top)) here e.current;
       clear = λ which was. subst (λ (x : Tree). EndsClear u (with_top (sized x z) r.top) kept) here e.clear;
       room = e.room ∙ f.room;
     })
+
+-- a source that has other levels than it needs to end there has fewer
+deeper : (size z depth : ℕ) → z ≤ 2 ^ 47 → depth ≡ depth_for size → size < z → depth ≢ depth_for z → depth < depth_for z
+deeper size z depth small least lt other = ⊎_elim
+    (λ less. less)
+    (λ ge. ⊎_elim
+    (λ e. absurd (other e))
+    (λ ne.
+    let room = room_for z small in
+    let more = (least_for size (omega (arith, small, lt))).least (depth_for z) (omega (arith, ge, ne, least)) in
+    absurd (omega (arith, room, more, lt)))
+    (cases_eq depth (depth_for z)))
+    (cases_lt depth (depth_for z))
 
 pub own_raised-requires-clause-levels : goal.own_raised-requires-clause-levels
 own_raised-requires-clause-levels g c =
@@ -165,21 +182,9 @@ own_raised-requires-clause-levels g c =
     let over = c.requires.over.1 in
     let within = c.requires.over.2.end in
     let low = over.low in
-    let lt = c.requires.past in
-    let least = over.least in
-    let size_low = over.within in
-    let same : depth_for z ≡ c.least_depth.result = c.least_depth.ensures.only (depth_for z) (subst (λ n. IsDepth n (depth_for z)) (sym c.end_of.ensures) (least_for z (omega (arith, within, low)))) in
-    subst (λ (x : Tree). x.depth < depth_for z) (sym c.below_top-here.ensures)
-    (⊎_elim
-    (λ less. less)
-    (λ ge. ⊎_elim
-    (λ e. absurd (c.if-least_depth-tree.false (sym same ∙ sym e)))
-    (λ ne.
-    let room = room_for z (omega (arith, within, low)) in
-    let more = (least_for t.size (omega (arith, size_low, low))).least (depth_for z) (omega (arith, ge, ne, least)) in
-    absurd (omega (arith, room, more, lt)))
-    (cases_eq t.depth (depth_for z)))
-    (cases_lt t.depth (depth_for z)))
+    let small : z ≤ 2 ^ 47 = omega (arith, within, low) in
+    let same : depth_for z ≡ c.least_depth.result = c.least_depth.ensures.only (depth_for z) (subst (λ n. IsDepth n (depth_for z)) (sym c.end_of.ensures) (least_for z small)) in
+    subst (λ (x : Tree). x.depth < depth_for z) (sym c.below_top-here.ensures) (deeper t.size z t.depth small over.least c.requires.past (λ e. c.if-least_depth-tree.false (sym same ∙ sym e)))
 
 pub returns-else-least_depth-tree-clause-owns : goal.returns-else-least_depth-tree-clause-owns
 returns-else-least_depth-tree-clause-owns g c =
@@ -214,6 +219,11 @@ returns-else-least_depth-tree-clause-owns g c =
     let bytes_two = subst (λ (x : Tree). m.tells → IsPlainTree x ⊎ (x.size % 8192 ≡ 0) → (l : ℕ) → (leaves_of u (with_top (shaped x d z) r.top) kept l).bytes ≡ resized ((leaves_of m x kept l).bytes) z) here e.bytes in
     let instead_two = subst (λ (x : Tree). (b y : ℕ) → u.instead b y → m.instead b y ⊎ (Made m u b × InSteadOf m x y)) here e.instead in
     let used = (subst (λ (x : Tree). IsTopCurrent m x → m.spare + x.depth ≤ u.spare + 2 * d) here e.less) f.top.1 in
+    let dirties_two : Dirties (2 * (2 * d + 1 - t.depth)) (λ b. b ≡ r.at) m u = (subst (λ (x : Tree). IsTopCurrent m x → Dirties (2 * (2 * d + 1 - x.depth)) (λ b. b ≡ r.at) m u) here e.dirties_less) f.top.1 in
+    let low = over.low in
+    let small : z ≤ 2 ^ 47 = omega (arith, within, low) in
+    let same : depth_for z ≡ c.least_depth.result = c.least_depth.ensures.only (depth_for z) (subst (λ n. IsDepth n (depth_for z)) (sym c.end_of.ensures) (least_for z small)) in
+    let deep = deeper t.size z t.depth small over.least c.requires.past (λ e. c.if-least_depth-tree.false (sym same ∙ sym e)) in
     let steps = f.step.1 in
     let past = most_past t.size i c.requires.past in
     let twice : Twice s m u t (with_top (shaped t d z) r.top) kept ctop r.top = record {
@@ -262,6 +272,7 @@ returns-else-least_depth-tree-clause-owns g c =
         standing = g.met.B.Blocks.standing on;
       });
       most = let first = f.spare in omega (arith, past, first, used);
+      dirties = let enough : 2 * (t.depth + 1) + 2 * (2 * d + 1 - t.depth) ≤ 2 * most_to_own t.size i = omega (arith, past, deep) in dirties_most enough (dirties_both f.dirties dirties_two);
       less = λ top. let first = f.less top in omega (arith, past, first, used);
       current = subst (λ (x : Tree). IsTopCurrent u (with_top (shaped x d z) r.top)) here e.current;
       clear = λ which was. subst (λ (x : Tree). EndsClear u (with_top (shaped x d z) r.top) kept) here e.clear;

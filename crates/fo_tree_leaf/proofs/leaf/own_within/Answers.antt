@@ -1,7 +1,9 @@
-use Rattle.std.proofs.Common.{◌≡◌, ◌-◌, ◌*◌, ◌/◌, inl, inr, ⊎_elim, refl, subst, arith}
+use Rattle.std.proofs.Common.{◌≡◌, ◌+◌, ◌-◌, ◌*◌, ◌/◌, ◌≤◌, inl, inr, ⊎_elim, refl, subst, arith}
+use Rattle.fo_ports.specs.Sources.{most_to_own}
 use Rattle.fo_tree_look.specs.Source.{WayReady}
 use Rattle.fo_tree_look.proofs.Shown.{top_ready, held_on}
-use Rattle.fo_tree_down.specs.Way.{OnWay, Descends}
+use Rattle.fo_tree_down.specs.Way.{OnWay, Descends, with_top}
+use Rattle.fo_tree_down.proofs.Dirtying.{dirties_most, dirties_end}
 use Rattle.fo_tree_leaf.proofs.Owning.{LeafCame, owned, bytes_end, top_current, most_within}
 use Rattle.fo_tree_leaf.proofs.leaf.own_within.Goals as goal
 
@@ -117,3 +119,11 @@ returns-clause-descends g c =
 
 pub returns-clause-room : goal.returns-clause-room
 returns-clause-room g c = c.own_way.ensures.comes.descends.room
+
+pub returns-clause-dirties : goal.returns-clause-dirties
+returns-clause-dirties g c =
+    let t = c.args.tree.now in
+    let most = most_within c.args.tree.now.size c.args.i c.requires.within in
+    let least = c.requires.over.1.least in
+    let enough : 2 * (t.depth + 1) ≤ 2 * most_to_own t.size c.args.i = omega (arith, most, least) in
+    dirties_most enough (dirties_end (with_top t c.own_way.result.top) t.depth c.args.i c.own_way.result.at c.own_way.ensures.leads c.own_way.ensures.dirties)

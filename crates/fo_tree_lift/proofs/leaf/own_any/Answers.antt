@@ -26,6 +26,7 @@ returns-then-end_of-tree-clause-owns g c =
       grows = e.grows;
       changes = e.changes;
       most = e.spare;
+      dirties = e.dirties;
       less = e.less;
       current = e.current;
       clear = λ which. e.clear (⊎_elim (λ told. inl told) (λ ends. inr (omega (arith, ends, le))) which);

@@ -1,7 +1,9 @@
-use Rattle.std.proofs.Common.{◌+◌, ◌*◌, ◌∙◌, ap, subst, arith}
+use Rattle.std.proofs.Common.{◌+◌, ◌-◌, ◌*◌, ◌≤◌, ◌∙◌, ap, subst, arith}
 use Rattle.fo_sparse.specs.Written.{resized}
+use Rattle.fo_ports.specs.Sources.{depth_for, most_to_own}
 use Rattle.fo_tree_read.specs.declared.tree.Tree.{Tree}
 use Rattle.fo_tree_look.specs.Source.{leaves_of}
+use Rattle.fo_tree_down.proofs.Dirtying.{dirties_most}
 use Rattle.fo_tree_lift.specs.Owns.{OwnsLeaf}
 use Rattle.fo_tree_lift.proofs.Choosing.{max_right, leaf_past, leaf_next, most_past, ends_past, changes_wide}
 use Rattle.fo_tree_lift.proofs.leaf.own_more.Goals as goal
@@ -27,6 +29,7 @@ returns-then-has_levels-clause-owns g c =
       grows = e.grows;
       changes = e.changes;
       most = omega (arith, past, used, levels);
+      dirties = let enough : 2 * (t.depth + 1) ≤ 2 * most_to_own t.size i = omega (arith, past, levels) in dirties_most enough e.dirties;
       less = λ top. let less = e.less top in omega (arith, past, less, levels);
       current = e.current;
       clear = λ which was. e.clear;
@@ -53,6 +56,7 @@ returns-else-has_levels-clause-owns g c =
       grows = e.grows;
       changes = changes_wide e.changes;
       most = omega (arith, past, used);
+      dirties = let enough : 2 * (2 * depth_for (8192 * (i + 1)) + 2 - t.depth) ≤ 2 * most_to_own t.size i = omega (arith, past) in dirties_most enough e.dirties;
       less = λ top. let less = e.less top in omega (arith, past, less);
       current = e.current;
       clear = λ which was. e.clear;

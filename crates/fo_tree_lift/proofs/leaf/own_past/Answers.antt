@@ -1,7 +1,9 @@
-use Rattle.std.proofs.Common.{◌+◌, ◌*◌, ◌∙◌, ap, subst, arith}
+use Rattle.std.proofs.Common.{◌+◌, ◌*◌, ◌≤◌, ◌∙◌, ap, subst, arith}
 use Rattle.fo_sparse.specs.Written.{resized}
+use Rattle.fo_ports.specs.Sources.{depth_for, most_to_own}
 use Rattle.fo_tree_read.specs.declared.tree.Tree.{Tree}
 use Rattle.fo_tree_look.specs.Source.{leaves_of}
+use Rattle.fo_tree_down.proofs.Dirtying.{dirties_most}
 use Rattle.fo_tree_lift.specs.Owns.{OwnsLeaf}
 use Rattle.fo_tree_lift.proofs.Choosing.{max_right, leaf_past, most_past, none_current}
 use Rattle.fo_tree_lift.proofs.leaf.own_past.Goals as goal
@@ -26,6 +28,7 @@ returns-in-Nil-clause-owns g c =
       grows = e.grows;
       changes = e.changes;
       most = omega (arith, past, used);
+      dirties = let enough : 2 * (depth_for (8192 * (i + 1)) + 1) ≤ 2 * most_to_own t.size i = omega (arith, past) in dirties_most enough e.dirties;
       less = λ top. absurd (none_current s t c.in-Nil.is top);
       current = e.current;
       clear = λ which was. e.clear;

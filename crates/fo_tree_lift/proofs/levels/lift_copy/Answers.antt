@@ -1,4 +1,4 @@
-use Rattle.std.proofs.Common.{◌≡◌, ◌+◌, ◌-◌, ◌<◌, ◌≤◌, ◌^◌, inl, inr, ⊎_elim, sym, ap, ◌∙◌, subst, arith}
+use Rattle.std.proofs.Common.{◌≡◌, ◌+◌, ◌-◌, ◌*◌, ◌<◌, ◌≤◌, ◌^◌, inl, inr, ⊎_elim, sym, ap, ◌∙◌, subst, arith}
 use Rattle.fo_image.specs.declared.types.Pointer.{Pointer}
 use Rattle.fo_image.specs.declared.types.Pointer.TheVariants.{Local}
 use Rattle.fo_ports.specs.Sources.{Made, ComesFor}
@@ -6,6 +6,7 @@ use Rattle.fo_tree_read.specs.declared.tree.Tree.{Tree}
 use Rattle.fo_tree_look.specs.Source.{HasBlock}
 use Rattle.fo_tree_own.specs.Step.{Becomes}
 use Rattle.fo_tree_down.specs.Way.{with_top}
+use Rattle.fo_tree_down.proofs.Dirtying.{dirties_both, dirties_most}
 use Rattle.fo_tree_raise.specs.Raise.{CanRaise}
 use Rattle.fo_tree_raise.proofs.Bearing.{bears}
 use Rattle.fo_tree_lift.proofs.Join.{Follows, adds_join, made_first, made_second, made_either}
@@ -107,3 +108,8 @@ returns-clause-lifts g c =
       stays = λ told y has current. (last.owns (first.all.still_tells.1 told) some below y).1 (inr (copied_on first told y has current));
       leaves = λ told k few. leaf_copied first follows new levels told k (last.leaves (first.all.still_tells.1 told) some below k few);
     }
+
+pub returns-clause-dirties : goal.returns-clause-dirties
+returns-clause-dirties g c =
+    let enough : 2 + 2 * c.args.levels ≤ 2 * (c.args.levels + 1) = omega arith in
+    dirties_most enough (dirties_both c.copy_top-copy.ensures.dirties c.raise_levels.ensures.dirties)

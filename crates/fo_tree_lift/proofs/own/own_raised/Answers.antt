@@ -1,9 +1,10 @@
 use Rattle.std.proofs.Common.{◌≡◌, ◌⊎◌, ◌+◌, ◌-◌, ◌*◌, ◌/◌, ◌<◌, ◌≤◌, inl, inr, ⊎_elim, sym, ◌∙◌, ap, subst, arith}
 use Rattle.fo_sparse.specs.Written.{resized}
-use Rattle.fo_ports.specs.Sources.{Grows, Owned, depth_for}
+use Rattle.fo_ports.specs.Sources.{Dirties, Grows, Owned, depth_for}
 use Rattle.fo_tree_read.specs.declared.tree.Tree.{Tree}
 use Rattle.fo_tree_look.specs.Source.{Over, HasBlock, WayReady, IsTopCurrent, form_of, leaves_of}
 use Rattle.fo_tree_down.specs.Way.{with_top}
+use Rattle.fo_tree_down.proofs.Dirtying.{dirties_both, dirties_most, dirties_end}
 use Rattle.fo_tree_down.specs.Clear.{EndsClear, last_leaf}
 use Rattle.fo_tree_grow.specs.Grow.{shaped}
 use Rattle.fo_tree_grow.proofs.Empty.{least_for, few_for}
@@ -258,3 +259,21 @@ returns-clause-covers g c = λ b not h. covered_end (raised_last g c) (way_last 
 
 pub returns-clause-made : goal.returns-clause-made
 returns-clause-made g c = new_end (raised_last g c) (way_last g c)
+
+-- the way in the source with its levels
+way_dirties : (g : given.Over) (c : goal.After-own_way g) → Dirties (2 * (c.least_depth-depth.result + 1)) (λ b. b ≡ c.own_way.result.at) (g.B.Blocks.state c.lift-top.new.on) (g.B.Blocks.state c.own_way.new.on)
+way_dirties g c = dirties_end (with_top c.with_levels-grown.result c.own_way.result.top) c.least_depth-depth.result c.args.i c.own_way.result.at c.own_way.ensures.leads c.own_way.ensures.dirties
+
+pub returns-clause-dirties : goal.returns-clause-dirties
+returns-clause-dirties g c =
+    let same = levels_last g c in
+    let lt = c.requires.levels in
+    let enough : 2 * (c.least_depth-depth.result - c.args.tree.now.depth + 1) + 2 * (c.least_depth-depth.result + 1) ≤ 2 * (2 * depth_for (8192 * (c.args.i + 1)) + 2 - c.args.tree.now.depth) = omega (arith, same, lt) in
+    dirties_most enough (dirties_both c.lift-top.ensures.dirties (way_dirties g c))
+
+pub returns-clause-dirties_less : goal.returns-clause-dirties_less
+returns-clause-dirties_less g c = λ top.
+    let same = levels_last g c in
+    let lt = c.requires.levels in
+    let enough : 2 * (c.least_depth-depth.result - c.args.tree.now.depth) + 2 * (c.least_depth-depth.result + 1) ≤ 2 * (2 * depth_for (8192 * (c.args.i + 1)) + 1 - c.args.tree.now.depth) = omega (arith, same, lt) in
+    dirties_most enough (dirties_both (c.lift-top.ensures.dirties_less top) (way_dirties g c))

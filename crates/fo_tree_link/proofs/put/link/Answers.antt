@@ -1,4 +1,4 @@
-use Rattle.std.proofs.Common.{◌≡◌, ◌⊎◌, ◌<◌, ℕ, List, sym, subst}
+use Rattle.std.proofs.Common.{◌≡◌, ◌⊎◌, ◌<◌, ℕ, List, inl, sym, subst}
 use Rattle.fo_image.specs.declared.types.Entry.{Entry}
 use Rattle.fo_crash.specs.declared.slot.Slot.TheVariants.{Entry as Head}
 use Rattle.fo_crash.specs.Steps.{PutsSlot}
@@ -6,6 +6,7 @@ use Rattle.fo_ports.specs.Blocks.{cost, slot_count, SlotFits}
 use Rattle.fo_ports.specs.State.{Frame, Hangs, MayPutSlot}
 use Rattle.fo_crash.specs.Images.{target}
 use Rattle.fo_image.specs.declared.types.Pointer.TheVariants.{Local}
+use Rattle.fo_looks.proofs.Dirtied.{dirties_put}
 use Rattle.fo_tree_read.specs.declared.tree.Tree.{Tree}
 use Rattle.fo_tree_look.specs.declared.ways.Kept.{Kept}
 use Rattle.fo_tree_look.specs.Source.{Over}
@@ -109,3 +110,8 @@ pub returns-clause-frame : goal.returns-clause-frame
 returns-clause-frame g c =
     let p = c.put_slot.ensures in
     (was_put g c.args.on.now c.put_slot.new.self c.entry_of-entry.result c.entry_of-entry.ensures (linking g c.args.on.now c.requires.over c.requires.leaf c.requires.told) p.keeps p.now p.frame p.hangs).frame
+
+pub returns-clause-dirties : goal.returns-clause-dirties
+returns-clause-dirties g c = λ first blocks before here.
+    let p = c.put_slot.ensures in
+    dirties_put c.args.at (g.met.B.Blocks.keeps_all c.args.on.now c.put_slot.new.self p.keeps) before here (λ x d. p.frame.dirty x d) (λ x. p.frame.stays.labels x (λ h. h)) (λ x j h. inl (p.order.clearing x j h).1)

@@ -1,8 +1,9 @@
-use Rattle.std.proofs.Common.{◌≡◌, ◌-◌, ◌*◌, ◌^◌, ◌<◌, ◌≤◌, inl, inr, ⊎_elim, refl, sym, ap, ◌∙◌, subst, arith}
+use Rattle.std.proofs.Common.{◌≡◌, ◌+◌, ◌-◌, ◌*◌, ◌^◌, ◌<◌, ◌≤◌, inl, inr, ⊎_elim, refl, sym, ap, ◌∙◌, subst, arith}
 use Rattle.fo_image.specs.declared.types.Pointer.TheVariants.{Local}
-use Rattle.fo_ports.specs.Sources.{Made, ComesFor}
+use Rattle.fo_ports.specs.Sources.{Made, Dirties, ComesFor}
 use Rattle.fo_tree_read.specs.declared.tree.Tree.{Tree}
 use Rattle.fo_tree_look.specs.Source.{HasBlock, Prepared}
+use Rattle.fo_tree_down.proofs.Dirtying.{dirties_same, dirties_both, dirties_most, dirties_counts, dirties_made, made_only}
 use Rattle.fo_tree_down.proofs.Join.{local_cases}
 use Rattle.fo_tree_down.specs.Clear.{EndsClear}
 use Rattle.fo_tree_raise.specs.Raise.{CanRaise, Raises, SameBelow, Bears, raised}
@@ -366,3 +367,20 @@ returns-clause-ways g t' c = λ kept.
       step = subst (λ (x : Tree). Raises x top m u) c.with_levels-lower.ensures c.raise_once-top.ensures.raises;
       more = g.met.B.Blocks.keeps_all mid end c.raise_once-top.ensures.keeps;
     })
+
+pub returns-then-levels-eq0-clause-dirties : goal.returns-then-levels-eq0-clause-dirties
+returns-then-levels-eq0-clause-dirties g t' c = dirties_same (g.B.Blocks.state c.args.on.now) (2 * c.args.levels)
+
+pub returns-clause-dirties : goal.returns-clause-dirties
+returns-clause-dirties g t' c =
+    let mid = c.raise_levels-below.new.on in
+    let end = c.raise_once-top.new.on in
+    let m = g.B.Blocks.state mid in
+    let u = g.B.Blocks.state end in
+    let t = c.args.tree.now in
+    let top = c.raise_once-top.result in
+    let step : Raises (grown t (c.args.levels - 1) c.raise_levels-below.result) top m u = subst (λ (x : Tree). Raises x top m u) c.with_levels-lower.ensures c.raise_once-top.ensures.raises in
+    let one : Dirties 2 (λ b. b ≡ top) m u = dirties_made top (g.met.B.Blocks.keeps_all mid end c.raise_once-top.ensures.keeps) (made_only m u top step.labels) step.dirty (λ b j h. (step.clearing b j h).1) in
+    let some = c.if-levels-eq0.false in
+    let enough : 2 * (c.args.levels - 1) + 2 ≤ 2 * c.args.levels = omega (arith, some) in
+    dirties_most enough (dirties_both c.raise_levels-below.ensures.dirties (dirties_counts (λ b h. absurd h) one))

@@ -10,7 +10,8 @@ use Rattle.fo_tree_look.specs.Source.{IsPrepared, WayReady, Ready}
 use Rattle.fo_tree_own.specs.Step.{Becomes}
 use Rattle.fo_tree_own.proofs.Link.{Laws, came, local_eq}
 use Rattle.fo_tree_down.specs.Way.{Comes}
-use Rattle.fo_tree_down.proofs.Topping.{Topped, comes_topped, top_topped}
+use Rattle.fo_tree_down.proofs.Dirtying.{dirties_made}
+use Rattle.fo_tree_down.proofs.Topping.{Topped, comes_topped, top_topped, came_made}
 use Rattle.fo_tree_down.proofs.Join.{changes_of}
 use Rattle.fo_tree_down.proofs.Beside.{WentDown, last_leads, on_way_block}
 use Rattle.fo_tree_down.proofs.Stilling.{WasOwned, prepared_still, way_still, way_from}
@@ -186,3 +187,8 @@ returns-clause-changes g c = changes_of (λ b on. on_way_block (g.B.Blocks.state
 pub returns-clause-ways : goal.returns-clause-ways
 returns-clause-ways g c = λ j b way.
     let t = c.args.tree.now in (way_still (owned g c) t.depth j (omega arith) way, way_from (owned g c) t.depth j b (omega arith) way)
+
+pub returns-clause-dirties : goal.returns-clause-dirties
+returns-clause-dirties g c =
+    let e = c.copy.ensures in
+    dirties_made c.copy.result (g.met.B.Blocks.keeps_all c.args.on.now c.copy.new.self e.keeps) (came_made (came e.gives)) e.gives.dirty (λ b j h. (e.gives.order.clearing b j h).1)

@@ -1,11 +1,13 @@
-use Rattle.std.proofs.Common.{◌≡◌, ◌⊎◌, ◌+◌, ◌/◌, ◌<◌, ◌≤◌, ℕ, inl, inr, ⊎_elim, sym, subst, arith}
+use Rattle.std.proofs.Common.{◌≡◌, ◌⊎◌, ◌+◌, ◌-◌, ◌*◌, ◌/◌, ◌<◌, ◌≤◌, ℕ, inl, inr, ⊎_elim, sym, subst, arith}
 use Rattle.std.proofs.lemmas.Bool.{cases_eq}
 use Rattle.fo_crash.specs.Places.{super_place, root_place}
-use Rattle.fo_ports.specs.Sources.{depth_for}
+use Rattle.fo_ports.specs.State.{none}
+use Rattle.fo_ports.specs.Sources.{Dirties, depth_for}
 use Rattle.fo_tree_read.specs.declared.tree.Tree.{Tree}
 use Rattle.fo_tree_look.specs.Source.{HasBlock, Over, IsPlainTree, IsTopCurrent}
 use Rattle.fo_tree_down.specs.Way.{with_top}
 use Rattle.fo_tree_down.specs.Clear.{EndsClear}
+use Rattle.fo_tree_down.proofs.Dirtying.{dirties_both, dirties_most}
 use Rattle.fo_tree_down.proofs.Beside.{on_way_block}
 use Rattle.fo_tree_append.specs.of_tree_clear.Put.{byte_here}
 use Rattle.fo_tree_append.proofs.of_tree_clear.Stepping.{steps_none}
@@ -152,3 +154,22 @@ returns-in-Some-clause-grown g c =
       told = c.requires.over.1.told;
     } in
     grown_more zeroed raised (rises then)
+
+pub returns-in-None-clause-dirties : goal.returns-in-None-clause-dirties
+returns-in-None-clause-dirties g c =
+    let u = g.B.Blocks.state c.raise_to.new.on in
+    let n = depth_for c.args.size - c.args.tree.now.depth + 1 in
+    dirties_most (omega arith) (subst (λ b. Dirties (2 * n) none (g.B.Blocks.state b) u) c.in-None.ensures.cleared c.raise_to.ensures.dirties)
+
+pub returns-in-Some-clause-dirties : goal.returns-in-Some-clause-dirties
+returns-in-Some-clause-dirties g c =
+    let m = g.B.Blocks.state c.clear_tail-cleared.new.on in
+    let u = g.B.Blocks.state c.raise_to-in-Some.new.on in
+    let t = c.args.tree.now in
+    let f = c.in-Some.ensures in
+    let end = c.requires.over.2 in
+    let low = c.requires.over.1.low in
+    let least = c.requires.over.1.least in
+    let more = depth_more c.args.tree.now.size c.args.size (omega (arith, end, low)) c.requires.past in
+    let levels = subst (λ (x : Tree). IsTopCurrent m x → Dirties (2 * (depth_for c.args.size - x.depth)) none m u) c.below_top-here.ensures c.raise_to-in-Some.ensures.levels in
+    dirties_most (omega (arith, least, more)) (dirties_both f.dirties (levels f.top.1))

@@ -9,6 +9,7 @@ use Rattle.fo_tree_down.specs.Clear.{last_leaf}
 use Rattle.fo_tree_own.proofs.Link.{Laws}
 use Rattle.fo_tree_link.specs.Link.{CanLink, entry_of}
 use Rattle.fo_tree_link.proofs.Changed.{can_link}
+use Rattle.fo_tree_trim.proofs.Counting.{adds_beside}
 use Rattle.fo_tree_trim.proofs.Holding.{clear_on, holds_stays}
 use Rattle.fo_tree_append.proofs.Joining.{rises_changes}
 use Rattle.fo_tree_shorten.specs.Shorten.{Links}
@@ -219,3 +220,6 @@ returns-clause-pins g c = c.link.ensures.frame.uses.pins ∙ c.grow_ways.ensures
 
 pub returns-clause-keeps : goal.returns-clause-keeps
 returns-clause-keeps g c = g.met.B.Blocks.keeps_joins c.args.on.now c.grow_ways.new.on c.link.new.on c.grow_ways.ensures.keeps c.link.ensures.keeps
+
+pub returns-clause-dirties : goal.returns-clause-dirties
+returns-clause-dirties g c = λ before blocks counted here. adds_beside c.grow_ways.ensures.dirties counted here (λ list within has. c.link.ensures.dirties before list within has)

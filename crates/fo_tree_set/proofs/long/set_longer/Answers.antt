@@ -1,7 +1,8 @@
-use Rattle.std.proofs.Common.{◌≡◌, ◌≢◌, ◌%◌, ◌<◌, ◌≤◌, inl, inr, refl, sym, ◌∙◌, ap, subst, arith}
+use Rattle.std.proofs.Common.{◌≡◌, ◌≢◌, ◌++◌, ◌%◌, ◌<◌, ◌≤◌, inl, inr, refl, sym, ◌∙◌, ap, subst, arith}
 use Rattle.fo_sparse.specs.Written.{resized}
 use Rattle.fo_tree_read.specs.declared.tree.Tree.{Tree}
 use Rattle.fo_tree_look.specs.Source.{leaves_of}
+use Rattle.fo_tree_trim.proofs.Counting.{adds_joins, adds_most}
 use Rattle.fo_tree_shorten.specs.Shorten.{EntryAt}
 use Rattle.fo_tree_set.specs.Set.{GrowsBy}
 use Rattle.fo_tree_set.proofs.Lengths.{shape_trims, form_shape, form_joins, bytes_kept}
@@ -128,3 +129,11 @@ returns-in-Ok-clause-pins g c = c.lengthen.ensures.pins ∙ c.trim_settled.ensur
 
 pub returns-in-Ok-clause-keeps : goal.returns-in-Ok-clause-keeps
 returns-in-Ok-clause-keeps g c = g.met.B.Blocks.keeps_joins c.args.on.now c.trim_settled.new.on c.lengthen.new.on c.trim_settled.ensures.keeps c.lengthen.ensures.keeps
+
+pub returns-in-Ok-clause-dirties : goal.returns-in-Ok-clause-dirties
+returns-in-Ok-clause-dirties g c = λ before blocks counted here.
+    let p = c.trim_settled.ensures.dirties before blocks counted here in
+    adds_most (omega arith) (adds_joins p (c.lengthen.ensures.dirties before (p.more ++ blocks) p.within p.here))
+
+pub returns-in-Err-clause-dirties : goal.returns-in-Err-clause-dirties
+returns-in-Err-clause-dirties g c = λ before blocks counted here. adds_most (omega arith) (c.trim_settled.ensures.dirties before blocks counted here)

@@ -1,11 +1,13 @@
-use Rattle.std.proofs.Common.{◌≡◌, ◌-◌, ◌/◌, ◌<◌, Bool, true, false, inl, inr, ⊎_elim, sym, ap, ◌∙◌, subst, arith}
+use Rattle.std.proofs.Common.{◌≡◌, ◌+◌, ◌-◌, ◌*◌, ◌/◌, ◌<◌, Bool, true, false, inl, inr, ⊎_elim, sym, ap, ◌∙◌, subst, arith}
 use Rattle.std.proofs.lemmas.Bool.{cases_eq}
 use Rattle.fo_image.specs.declared.types.Kind.TheVariants.{Data}
-use Rattle.fo_ports.specs.Sources.{depth_for}
+use Rattle.fo_ports.specs.State.{none}
+use Rattle.fo_ports.specs.Sources.{Dirties, depth_for}
 use Rattle.fo_tree_read.specs.declared.tree.Tree.{Tree}
 use Rattle.fo_tree_read.specs.Tree.{kind_at}
 use Rattle.fo_tree_append.proofs.of_tree_grow.Empty.{least_for, few_for}
 use Rattle.fo_tree_append.proofs.of_tree_lift.Lifting.{top_ready}
+use Rattle.fo_tree_down.proofs.Dirtying.{dirties_same}
 use Rattle.fo_tree_append.specs.Append.{ended}
 use Rattle.fo_tree_append.specs.Grown.{RaisedTo}
 use Rattle.fo_tree_append.proofs.Seeing.{depth_more, raised_none, raised_more}
@@ -124,3 +126,27 @@ returns-clause-raised g c =
       depth = omega (arith, same, least, more, differs);
       all = g.met.B.Blocks.keeps_all c.args.on.now c.lift-top.new.on c.lift-top.ensures.keeps;
     }) c.lift-top.ensures.spare c.lift-top.ensures.less)
+
+pub returns-then-has_room-clause-dirties : goal.returns-then-has_room-clause-dirties
+returns-then-has_room-clause-dirties g c = dirties_same (g.B.Blocks.state c.args.on.now) (2 * (depth_for c.args.size - c.args.tree.now.depth + 1))
+
+pub returns-then-has_room-clause-levels : goal.returns-then-has_room-clause-levels
+returns-then-has_room-clause-levels g c = λ top. dirties_same (g.B.Blocks.state c.args.on.now) (2 * (depth_for c.args.size - c.args.tree.now.depth))
+
+pub returns-clause-dirties : goal.returns-clause-dirties
+returns-clause-dirties g c =
+    let s = g.B.Blocks.state c.args.on.now in
+    let m = g.B.Blocks.state c.lift-top.new.on in
+    let end = c.requires.over.2 in
+    let low = c.requires.over.1.low in
+    let same = sym (c.least_depth-depth.ensures.only (depth_for c.args.size) (least_for c.args.size (omega (arith, end, low)))) in
+    subst (λ d. Dirties (2 * (d - c.args.tree.now.depth + 1)) none s m) same c.lift-top.ensures.dirties
+
+pub returns-clause-levels : goal.returns-clause-levels
+returns-clause-levels g c = λ top.
+    let s = g.B.Blocks.state c.args.on.now in
+    let m = g.B.Blocks.state c.lift-top.new.on in
+    let end = c.requires.over.2 in
+    let low = c.requires.over.1.low in
+    let same = sym (c.least_depth-depth.ensures.only (depth_for c.args.size) (least_for c.args.size (omega (arith, end, low)))) in
+    subst (λ d. Dirties (2 * (d - c.args.tree.now.depth)) none s m) same (c.lift-top.ensures.dirties_less top)

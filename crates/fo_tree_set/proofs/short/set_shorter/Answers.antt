@@ -3,6 +3,7 @@ use Rattle.fo_tree_read.specs.declared.tree.Tree.{Tree}
 use Rattle.fo_ports.specs.Sources.{depth_for}
 use Rattle.fo_tree_look.specs.Source.{WayReady}
 use Rattle.fo_tree_down.specs.Clear.{last_leaf}
+use Rattle.fo_tree_trim.proofs.Counting.{adds_most}
 use Rattle.fo_tree_shorten.specs.Shorten.{EntryAt, Links}
 use Rattle.fo_tree_set.specs.Set.{MayTrim}
 use Rattle.fo_tree_set.proofs.Lengths.{SameShape, shape_trims, form_shape, form_joins, rose_since}
@@ -130,3 +131,8 @@ returns-clause-cause g c =
 
 pub returns-clause-keeps : goal.returns-clause-keeps
 returns-clause-keeps g c = g.met.B.Blocks.keeps_joins c.args.on.now c.shorten.new.on c.trim_settled.new.on c.shorten.ensures.keeps c.trim_settled.ensures.keeps
+
+pub returns-clause-dirties : goal.returns-clause-dirties
+returns-clause-dirties g c = λ before blocks counted here.
+    let level : c.shorten.new.ways.tree.depth ≡ depth_for c.args.len = ap (λ (t : Tree). t.depth) c.shorten.ensures.is.0 in
+    adds_most (omega (arith, level)) (c.trim_settled.ensures.dirties before blocks (c.shorten.ensures.dirties before blocks counted here) here)

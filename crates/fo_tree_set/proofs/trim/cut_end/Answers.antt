@@ -2,6 +2,7 @@ use Rattle.std.proofs.Common.{◌<◌, inl, inr, refl, sym, ◌∙◌, ap, subst
 use Rattle.fo_tree_read.specs.declared.tree.Tree.{Tree}
 use Rattle.fo_tree_look.specs.Source.{WayReady}
 use Rattle.fo_tree_down.specs.Clear.{last_leaf}
+use Rattle.fo_tree_trim.proofs.Counting.{ends_alone, ends_cut}
 use Rattle.fo_tree_shorten.specs.Shorten.{EntryAt}
 use Rattle.fo_tree_set.proofs.trim.cut_end.Goals as goal
 
@@ -70,3 +71,9 @@ returns-in-Ok-clause-pins g c = c.cut.ensures.cuts.pins ∙ c.rest.ensures.pins
 
 pub returns-in-Ok-clause-keeps : goal.returns-in-Ok-clause-keeps
 returns-in-Ok-clause-keeps g c = g.met.B.Blocks.keeps_joins c.args.on.now c.rest.new.on c.cut.new.on c.rest.ensures.keeps c.cut.ensures.keeps
+
+pub returns-in-Ok-clause-dirties : goal.returns-in-Ok-clause-dirties
+returns-in-Ok-clause-dirties g c = λ before blocks counted here. ends_cut (c.rest.ensures.dirties before blocks counted here) (λ list within has. c.cut.ensures.dirties before list within has)
+
+pub returns-in-Err-clause-dirties : goal.returns-in-Err-clause-dirties
+returns-in-Err-clause-dirties g c = λ before blocks counted here. ends_alone (c.rest.ensures.dirties before blocks counted here)

@@ -1,9 +1,12 @@
 use Rattle.std.proofs.Common.{◌≡◌, ◌⊎◌, ℕ, inr, ◌∙◌, ap, subst, arith}
 use Rattle.fo_ports.specs.State.{IsDoomed}
+use Rattle.fo_looks.proofs.Dirtied.{dirties_joins, dirties_rests}
 use Rattle.fo_tree_read.specs.declared.tree.Tree.{Tree}
 use Rattle.fo_tree_look.specs.Source.{HasBlock}
 use Rattle.fo_tree_down.specs.Clear.{last_leaf}
 use Rattle.fo_tree_own.proofs.Link.{Laws}
+use Rattle.fo_tree_trim.proofs.Counting.{ends_settled}
+use Rattle.fo_tree_trim.proofs.Knowing.{end_known}
 use Rattle.fo_tree_shorten.specs.Shorten.{EntryAt}
 use Rattle.fo_tree_shorten.proofs.Settling.{Settles, entry_settled, ready_settled, hangs_settled, over_settled}
 use Rattle.fo_tree_set.proofs.Resting.{undoomed, bytes_settled, current_after}
@@ -124,3 +127,15 @@ returns-clause-cause g c =
 
 pub returns-clause-keeps : goal.returns-clause-keeps
 returns-clause-keeps g c = g.met.B.Blocks.keeps_joins c.args.on.now c.make_ready.new.on c.settle.new.self c.make_ready.ensures.keeps c.settle.ensures.keeps
+
+pub returns-clause-dirties : goal.returns-clause-dirties
+returns-clause-dirties g c = λ before blocks counted here.
+    let mid = c.make_ready.new.on in
+    let end = c.settle.new.self in
+    let u = g.B.Blocks.state mid in
+    let v = g.B.Blocks.state end in
+    let w = c.make_ready.new.ways in
+    let q = c.settle.ensures in
+    ends_settled (c.make_ready.ensures.dirties before blocks counted here)
+    (λ list within. dirties_joins within (dirties_rests u v (g.met.B.Blocks.keeps_all mid end q.keeps) q.rests))
+    (end_known u v w.tree w.kept.items c.make_ready.ensures.ready q.known)

@@ -1,5 +1,6 @@
 use Rattle.std.proofs.Common.{inl, inr, refl, arith}
 use Rattle.fo_tree_trim.proofs.Above.{deep_size}
+use Rattle.fo_tree_trim.proofs.Counting.{adds_none}
 use Rattle.fo_tree_set.proofs.trim.trim_settled.Goals as goal
 
 pub cut_end-requires-clause-ready : goal.cut_end-requires-clause-ready
@@ -13,3 +14,6 @@ returns-clause-trims g c = inr c.cut_end.ensures.trims
 
 pub returns-then-is_clear-clause-trims : goal.returns-then-is_clear-clause-trims
 returns-then-is_clear-clause-trims g c = inl (refl, refl)
+
+pub returns-then-is_clear-clause-dirties : goal.returns-then-is_clear-clause-dirties
+returns-then-is_clear-clause-dirties g c = λ before blocks counted here. adds_none counted here

@@ -7,8 +7,9 @@ use Rattle.fo_tree_down.specs.Way.{with_top}
 use Rattle.fo_tree_own.proofs.Link.{Laws}
 use Rattle.fo_tree_link.specs.Link.{CanLink}
 use Rattle.fo_tree_link.proofs.Changed.{can_link}
+use Rattle.fo_tree_trim.proofs.Counting.{ends_beside}
 use Rattle.fo_tree_shorten.specs.Shorten.{Links}
-use Rattle.fo_tree_shorten.proofs.Beside.{Beside, ready_on, current_on, bytes_on}
+use Rattle.fo_tree_shorten.proofs.Beside.{Beside, ready_on, current_on, end_on, bytes_on}
 use Rattle.fo_tree_shorten.proofs.Entries.{entry_owned, entry_put, beside_put}
 use Rattle.fo_tree_shorten.proofs.Standing.{Labelled, not_both, tagged}
 use Rattle.fo_tree_shorten.proofs.behind.make_ready.Given as given
@@ -203,3 +204,22 @@ returns-clause-steps g c =
         },
       ),
     )
+
+pub returns-clause-dirties : goal.returns-clause-dirties
+returns-clause-dirties g c = λ before blocks counted here.
+    let first = c.args.on.now in
+    let mid = c.own_ways.new.on in
+    let put = c.link.new.on in
+    let m = g.B.Blocks.state mid in
+    let u = g.B.Blocks.state put in
+    let at = c.args.at in
+    let t = c.args.ways.now.tree in
+    let ways = c.own_ways.new.ways in
+    let new = ways.tree in
+    let own = c.own_ways.ensures in
+    let all = g.met.B.Blocks.keeps_all first mid own.keeps in
+    let more = g.met.B.Blocks.keeps_all mid put c.link.ensures.keeps in
+    let tag : new.tag ≡ t.tag = ap (λ (y : Tree). y.tag) own.top.1 in
+    let owned = entry_owned c.requires.entry own.changes all in
+    let beside : Beside m u new at = beside_put {new = new} owned tag more c.link.ensures.now c.link.ensures.frame in
+    ends_beside own.dirties counted here (λ list within has. c.link.ensures.dirties before list within has) (end_on beside ways.kept.items own.ready)

@@ -3,6 +3,7 @@ use Rattle.fo_tree_read.specs.declared.tree.Tree.{Tree}
 use Rattle.fo_tree_down.specs.Clear.{last_leaf}
 use Rattle.fo_tree_trim.specs.Cut.{CutSlot, Cuts}
 use Rattle.fo_tree_trim.proofs.Above.{deep_size}
+use Rattle.fo_tree_trim.proofs.Counting.{adds_none, ends_cut}
 use Rattle.fo_tree_shorten.proofs.behind.trim.Goals as goal
 
 pub make_ready-requires-clause-ready : goal.make_ready-requires-clause-ready
@@ -27,3 +28,9 @@ returns-clause-steps g c =
       k.1,
       (k.2.0, (c.make_ready.new.on, record { ready = k.2.1; cut = subst (λ (y : Tree). Cuts (CutSlot u y (last_leaf y.size) (409 * y.depth)) u v) k.1 c.cut.ensures.cuts })),
     )
+
+pub returns-then-is_clear-clause-dirties : goal.returns-then-is_clear-clause-dirties
+returns-then-is_clear-clause-dirties g c = λ before blocks counted here. adds_none counted here
+
+pub returns-clause-dirties : goal.returns-clause-dirties
+returns-clause-dirties g c = λ before blocks counted here. ends_cut (c.make_ready.ensures.dirties before blocks counted here) (λ list within has. c.cut.ensures.dirties before list within has)

@@ -2,6 +2,7 @@ use Rattle.std.proofs.Common.{◌≡◌, ◌-◌, ◌/◌, suc, subst, arith}
 use Rattle.fo_tree_look.specs.Source.{WayReady}
 use Rattle.fo_tree_down.specs.Clear.{last_leaf}
 use Rattle.fo_tree_own.proofs.Link.{Laws}
+use Rattle.fo_tree_trim.proofs.Knowing.{end_known}
 use Rattle.fo_tree_shorten.proofs.Settling.{Settles, entry_settled, ready_settled, current_settled, hangs_settled, over_settled}
 use Rattle.fo_tree_shorten.proofs.laws.stays_settled.Given as given
 use Rattle.fo_tree_shorten.proofs.laws.stays_settled.Goals as goal
@@ -133,3 +134,8 @@ returns-clause-current g c = λ way current deep.
     let level : t.depth ≡ suc (t.depth - 1) = omega (arith, deep) in
     let whole : WayReady s t ways.kept.items (suc (t.depth - 1)) (last_leaf t.size) = subst (λ d. WayReady s t ways.kept.items d (last_leaf t.size)) level way in
     current_settled x (t.depth - 1) (last_leaf t.size / 409) (omega arith) whole.0 (current deep)
+
+pub returns-clause-end : goal.returns-clause-end
+returns-clause-end g c = λ way b on.
+    let ways = c.args.ways.now in
+    end_known (g.B.Blocks.state c.args.before.now) (g.B.Blocks.state c.args.after.now) ways.tree ways.kept.items way c.requires.known b on

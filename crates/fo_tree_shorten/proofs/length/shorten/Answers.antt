@@ -98,3 +98,6 @@ returns-clause-leaves g c = λ told b has away.
     let first = c.args.on.now in
     let linked = linked_of g first told c.requires.over c.requires.entry c.requires.linked in
     (c.link.ensures.covers told).leaves b (through_own linked c.requires.data b has) ((c.requires.linked told).owned b has) away
+
+pub returns-clause-dirties : goal.returns-clause-dirties
+returns-clause-dirties g c = c.link.ensures.dirties

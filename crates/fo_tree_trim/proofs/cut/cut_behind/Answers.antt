@@ -5,6 +5,7 @@ use Rattle.fo_tree_down.specs.Clear.{last_leaf}
 use Rattle.fo_tree_down.proofs.Beside.{index_last}
 use Rattle.fo_tree_trim.proofs.Above.{deep_size}
 use Rattle.fo_tree_trim.proofs.Along.{Aside, clear_end, way_ready}
+use Rattle.fo_tree_trim.proofs.Counting.{cut_on_end, dirties_cuts}
 use Rattle.fo_tree_trim.proofs.Ending.{end_few, ends_clear}
 use Rattle.fo_tree_trim.proofs.Fronts.{bytes_same}
 use Rattle.fo_tree_trim.proofs.Gone.{past_gone}
@@ -335,3 +336,13 @@ returns-then-tree-eq0-clause-gone g c = λ told b p.
     let few = p.few in
     let behind = p.behind in
     absurd (omega (arith, few, one, behind))
+
+pub returns-clause-dirties : goal.returns-clause-dirties
+returns-clause-dirties g c = λ first blocks before has.
+    let flat = c.if-tree-eq0.false in
+    let deep : 0 < c.args.tree.now.depth = omega (arith, flat) in
+    let cuts = c.cut_slots.ensures.cuts in
+    dirties_cuts (g.met.B.Blocks.keeps_all c.args.on.now c.cut_slots.new.on c.cut_slots.ensures.keeps) before cuts (λ x j cut. has x (cut_on_end deep cut))
+
+pub returns-then-tree-eq0-clause-dirties : goal.returns-then-tree-eq0-clause-dirties
+returns-then-tree-eq0-clause-dirties g c = λ first blocks before has. before

@@ -110,3 +110,10 @@ returns-clause-behind g c = λ told.
       told = over.told told;
     } in
     past_on above
+
+pub returns-clause-dirties : goal.returns-clause-dirties
+returns-clause-dirties g c =
+    let q = c.own_way.ensures.dirties in
+    let few = q.few in
+    let deep = c.requires.deep in
+    record { blocks = q.blocks; few = omega (arith, few, deep); within = q.within; each = λ b on. q.each b on.1 }

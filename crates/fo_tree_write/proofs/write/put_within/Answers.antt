@@ -2,11 +2,14 @@ use Rattle.std.proofs.Common.{◌≡◌, ◌+◌, ◌-◌, ◌*◌, ◌/◌, ◌
 use Rattle.std.proofs.lemmas.Bool.{cases_eq}
 use Rattle.std.proofs.lemmas.List.{take_all}
 use Rattle.fo_crash.specs.Places.{super_place, root_place}
+use Rattle.fo_ports.specs.Sources.{Dirties}
+use Rattle.fo_ports.specs.State.{none}
 use Rattle.fo_tree_look.specs.Source.{WayReady}
 use Rattle.fo_tree_down.specs.Way.{with_top}
 use Rattle.fo_tree_clear.specs.Put.{byte_here, Puts}
 use Rattle.fo_tree_clear.proofs.Stepping.{steps_changes}
-use Rattle.fo_tree_write.specs.Write.{at_top, Spent}
+use Rattle.fo_tree_write.specs.Write.{at_top, Counted, Spent}
+use Rattle.fo_tree_write.proofs.Counting.{counted_none, counted_more, counted_most}
 use Rattle.fo_tree_write.proofs.Writing.{most_is, enough_left, spent_end, way_still, bytes_written, wrote_more, wrote_none}
 use Rattle.fo_tree_write.proofs.write.put_within.Goals as goal
 
@@ -92,6 +95,7 @@ loop-done-preserved g c =
         used = e.used;
         way = e.way;
       });
+      counted = counted_more {s = s} {u = u} {v = v} t {top = c.loop-done.top} {next = c.put_leaf-current.result.top} {offset = c.args.offset} {done = done} {n = n} (omega (arith, few, lt)) (omega (arith, few)) e.way e.dirties e.dirties_used i.counted;
       keeps = keeps;
     }
 
@@ -101,6 +105,7 @@ loop-done-init g c =
     record {
       within = omega arith;
       wrote = wrote_none (g.B.Blocks.state on) c.args.tree.now c.args.kept.now c.args.offset c.args.piece.now (g.met.B.Blocks.keeps_all on on (g.met.B.Blocks.keeps_at_once on));
+      counted = counted_none (g.B.Blocks.state on) c.args.tree.now c.args.offset;
       keeps = g.met.B.Blocks.keeps_at_once on;
     }
 
@@ -133,3 +138,14 @@ returns-clause-spare g c =
     let end = spent_end u (at_top t c.loop-done.top) (g.B.Blocks.state c.args.on.now).spare c.args.offset len c.requires.over.1.hangs.few spent in
     let same = most_is t.depth t.size len c.requires.over.1.least in
     omega (arith, end, same)
+
+pub returns-clause-dirties : goal.returns-clause-dirties
+returns-clause-dirties g c =
+    let s = g.B.Blocks.state c.args.on.now in
+    let t = c.args.tree.now in
+    let u = g.B.Blocks.state c.loop-done.on in
+    let len = length c.args.piece.now in
+    let within = c.loop-done.invariant.within in
+    let whole : c.loop-done.done ≡ length c.args.piece.now = omega arith in
+    let counted = subst (λ n. Counted s u (at_top t c.loop-done.top) c.args.offset n) whole c.loop-done.invariant.counted in
+    subst (λ n. Dirties (2 * n) none s u) (most_is t.depth t.size len c.requires.over.1.least) (counted_most c.requires.over.1.hangs.few counted)
