@@ -1,13 +1,14 @@
 -- What calls on files keep, said of the blocks before and after.
-use Rattle.std.specs.Prelude.{◌≡◌, ◌+◌, ◌^◌, ◌≤◌, ℕ, Bool, [], false, Result, MatchResult}
+use Rattle.std.specs.Prelude.{◌≡◌, ◌+◌, ◌^◌, ◌≤◌, ℕ, Bool, [], false, Result, MatchResult, ◌*◌}
 use Rattle.fo_crash.specs.Steps.{AllAre}
-use Rattle.fo_ports.specs.State.{State, IsSettled, IsUnlinked}
+use Rattle.fo_ports.specs.State.{State, IsSettled, IsUnlinked, none}
 use Rattle.fo_world.specs.declared.error.FileError.{FileError}
 use Rattle.fo_world.specs.declared.tree.Body.TheVariants.{Dir}
 use Rattle.fo_world.specs.Dated.{adm}
 use Rattle.fo_world.specs.Names.{no_names}
 use Rattle.fo_world.specs.World.{World}
 use Rattle.fo_files_views.specs.Aside.{SaysWhy}
+use Rattle.fo_ports.specs.Sources.{Dirties}
 
 -- The world of files of which nothing is told: an empty root.
 abbrev pub untold : World
@@ -33,15 +34,19 @@ pub record AllSettled (s : State) : Type 0 where
   pub clean : (b : ℕ) → s.dirty b → s.newborn b × (s.tells → IsUnlinked s b)
   pub cleared : (b j : ℕ) → s.clearing b j → ⊥
 
--- A call that only looks or settles: the blocks keep what they do, as many are usable, and what was settled stays so with the same room.
+-- A call that only looks or settles: the blocks keep what they do, as many are usable, what was settled stays so with the same room, and no
+-- block is left to be written but by settling.
 pub record Keeps (blocks : Type 0) (old new : State) (was_halted halted : Bool) : Type 0 where
   pub keeps : blocks
   pub usable : old.usable ≤ new.usable
   pub settled : IsSettled old → IsSettled new × (new.usable ≡ old.usable)
+  pub dirties : Dirties 0 none old new
   pub same_halted : halted ≡ was_halted
 
--- A call that may change files: the blocks keep what they do, and at most so many fewer are usable.
+-- A call that may change files: the blocks keep what they do, at most so many fewer are usable, and at most twice as many are left to be
+-- written, beside what settling left.
 pub record Takes (most : ℕ) (blocks : Type 0) (old new : State) (was_halted halted : Bool) : Type 0 where
   pub keeps : blocks
   pub taken : old.usable ≤ new.usable + most
+  pub dirties : Dirties (2 * most) none old new
   pub same_halted : halted ≡ was_halted

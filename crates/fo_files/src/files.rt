@@ -173,6 +173,7 @@ impl<B: Blocks> FileOps for Files<B> {
         views::read(self.alloc, &mut self.on, at, offset, into)
     }
 
+    #[tactic(auto, using(crate::proofs::Quiet::once_quiet))]
     fn write(
         &mut self,
         at: &Place,
@@ -208,6 +209,7 @@ impl<B: Blocks> FileOps for Files<B> {
         }
     }
 
+    #[tactic(auto, using(crate::proofs::Quiet::once_quiet))]
     fn create(
         &mut self,
         at: &Place,
@@ -251,6 +253,7 @@ impl<B: Blocks> FileOps for Files<B> {
         }
     }
 
+    #[tactic(auto, using(crate::proofs::Quiet::once_quiet))]
     fn remove(&mut self, at: &Place, who: &Bytes, now: u32) -> Result<(), FileError>
         requires below { IsBelowRoot at.now }
         requires who { IsUser who.now }
@@ -270,6 +273,7 @@ impl<B: Blocks> FileOps for Files<B> {
         }
     }
 
+    #[tactic(auto, using(crate::proofs::Quiet::once_quiet))]
     fn change(&mut self, at: &Place, what: &Change, who: &Bytes, now: u32) -> Result<(), FileError>
         requires name { IfSome what.now.name IsName }
         requires gid { IfSome what.now.gid IsUser }

@@ -1,3 +1,4 @@
+pub mod Standing
 pub mod Ways
 pub mod Refusing
 pub mod Pairs

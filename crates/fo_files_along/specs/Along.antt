@@ -1,5 +1,5 @@
 -- The way to a file was owned, and what requests on files say alike.
-use Rattle.std.specs.Prelude.{◌≡◌, ◌≢◌, ◌+◌, ◌-◌, ◌%◌, ◌^◌, ◌<◌, ℕ, List, length, get_or, slice_index, Option, MatchOption}
+use Rattle.std.specs.Prelude.{◌≡◌, ◌≢◌, ◌+◌, ◌-◌, ◌%◌, ◌^◌, ◌<◌, ℕ, List, length, get_or, slice_index, Option, MatchOption, ◌⊎◌}
 use Rattle.fo_image.specs.declared.record.Record.{Record}
 use Rattle.fo_ports.specs.State.{State, IsSettled}
 use Rattle.fo_world.specs.declared.error.FileError.{FileError}
@@ -100,3 +100,7 @@ pub record GoesToDir (c d : State) (root : ℕ) (trail : List ℕ) (way : Way) (
   pub owns : OwnsWay c d root trail way at
   pub dir_is : IsDirOf at (length trail) way.file dir
   pub above_is : IsAboveOf at way.steps.items (length trail) above
+
+-- one of the blocks in which the pair of a directory stands, and that of the directory above it
+abbrev pub HasPairIn : DirAt → Option DirAt → ℕ → Type 0
+HasPairIn dir above b = (b ≡ dir.at) ⊎ MatchOption above ⊥ (λ a. b ≡ a.at)

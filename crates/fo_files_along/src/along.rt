@@ -9,7 +9,9 @@ ghost use Rattle.fo_files_dir.specs.Dir.{IsDirAt, IsFileAt};
 ghost use Rattle.fo_files_record.specs.Leaf.{IsEntriesAt};
 ghost use Rattle.fo_files_record.specs.Own.{IsRootAt};
 ghost use Rattle.fo_files_plan.specs.Owned.{AreOwned};
-ghost use Rattle.fo_files_along.specs.Along.{IsApart, OwnsWay, IsStepOf, IsAboveOf, GoesAlong, GoesToDir};
+ghost use Rattle.fo_files_along.specs.Along.{IsApart, OwnsWay, IsStepOf, IsAboveOf, GoesAlong, GoesToDir, HasPairIn};
+ghost use Rattle.fo_ports.specs.Sources.{Dirties};
+ghost use Rattle.fo_files_plan.specs.of_files_way.Owns.{IsIn};
 
 use fo_files_dir::{DirAt, FileAt};
 use fo_files_plan::files_at::Way;
@@ -48,6 +50,7 @@ fn own_blocks<B: Blocks>(alloc: Global, on: &mut B, way: &Way) -> Result<Vec<u32
     ensures pins { (B.state on.old).pins_left ≤ (B.state on.new).pins_left + (20 * length way.now.steps.items + 1) }
     ensures room { (B.state on.new).room ≡ (B.state on.old).room }
     ensures cause { IfErr result (Caused ⊥ (λ b. (B.state on.old).is_block b ⊎ (b ≡ 1)) (Rose (B.state on.old).faults (B.state on.new).faults) (Rose (B.state on.old).arena_faults (B.state on.new).arena_faults)) }
+    ensures dirties { IfOk result (λ at. Dirties (10 * length way.now.steps.items + 1) (IsIn at.items) (B.state on.old) (B.state on.new)) }
     ensures keeps { B.keeps on.old on.new }
 {
     let plan = match plan_along(alloc, on, way) {
@@ -101,6 +104,7 @@ pub fn own_along<B: Blocks>(alloc: Global, on: &mut B, way: &Way) -> Result<Stan
     ensures pins { (B.state on.old).pins_left ≤ (B.state on.new).pins_left + (20 * length way.now.steps.items + 1) }
     ensures room { (B.state on.new).room ≡ (B.state on.old).room }
     ensures cause { IfErr result (Caused ⊥ (λ b. (B.state on.old).is_block b ⊎ (b ≡ 1)) (Rose (B.state on.old).faults (B.state on.new).faults) (Rose (B.state on.old).arena_faults (B.state on.new).arena_faults)) }
+    ensures dirties { IfOk result (λ at. Dirties (10 * length way.now.steps.items + 1) (λ b. (b ≡ at.file.at) ⊎ HasPairIn at.dir at.above b) (B.state on.old) (B.state on.new)) }
     ensures keeps { B.keeps on.old on.new }
 {
     let blocks = match own_blocks(alloc, on, way) {
@@ -147,6 +151,7 @@ pub fn own_dir_along<B: Blocks>(
     ensures pins { (B.state on.old).pins_left ≤ (B.state on.new).pins_left + (20 * length way.now.steps.items + 1) }
     ensures room { (B.state on.new).room ≡ (B.state on.old).room }
     ensures cause { IfErr result (Caused ⊥ (λ b. (B.state on.old).is_block b ⊎ (b ≡ 1)) (Rose (B.state on.old).faults (B.state on.new).faults) (Rose (B.state on.old).arena_faults (B.state on.new).arena_faults)) }
+    ensures dirties { IfOk result (λ at. Dirties (10 * length way.now.steps.items + 1) (HasPairIn at.dir at.above) (B.state on.old) (B.state on.new)) }
     ensures keeps { B.keeps on.old on.new }
 {
     if is_looped(way) {

@@ -1,5 +1,5 @@
 //! A leaf of a directory's records is made ready.
-ghost use Rattle.std.specs.Prelude.{◌≡◌, ◌⊎◌, ◌+◌, ◌*◌, ◌≤◌, ℕ, true, IfOk, IfErr, IfSome, OnOk, OnErr};
+ghost use Rattle.std.specs.Prelude.{◌≡◌, ◌⊎◌, ◌+◌, ◌*◌, ◌≤◌, ℕ, true, IfOk, IfErr, IfSome, OnOk, OnErr, ◌∷◌, []};
 ghost use Rattle.fo_base.specs.Cause.{Rose};
 ghost use Rattle.fo_ports.specs.Causes.{Caused};
 ghost use Rattle.fo_ports.specs.State.{Looks};
@@ -7,6 +7,7 @@ ghost use Rattle.fo_files_dir.specs.Dir.{IsDirAt};
 ghost use Rattle.fo_files_leaf.specs.Leaf.{Readied};
 ghost use Rattle.fo_files_record.specs.Leaf.{IsRecordsAt, IsEntriesAt};
 ghost use Rattle.fo_files_change.specs.Records.{AltersRecords, HasLeaf, records_of};
+ghost use Rattle.fo_ports.specs.Sources.{AddsDirty};
 
 use fo_base::BLOCK;
 use fo_crash::Slot;
@@ -66,6 +67,7 @@ pub fn records_leaf<B: Blocks>(
     ensures pins { (B.state on.old).pins_left ≤ (B.state on.new).pins_left + 20 }
     ensures room { (B.state on.new).room ≡ (B.state on.old).room }
     ensures cause { IfErr result (Caused ⊥ (λ b. (B.state on.old).is_block b ⊎ (b ≡ 1)) (Rose (B.state on.old).faults (B.state on.new).faults) (Rose (B.state on.old).arena_faults (B.state on.new).arena_faults)) }
+    ensures dirties { IfOk result (λ leaf. AddsDirty 20 (dir.at ∷ []) leaf (B.state on.old) (B.state on.new)) }
     ensures keeps { B.keeps on.old on.new }
 {
     let Some(tag) = records_tag(on, dir, i) else {

@@ -1,5 +1,5 @@
 //! A record changes.
-ghost use Rattle.std.specs.Prelude.{◌≡◌, ◌⊎◌, ◌+◌, ◌≤◌, ℕ, IfOk, OnOk, OnErr, IfErr};
+ghost use Rattle.std.specs.Prelude.{◌≡◌, ◌⊎◌, ◌+◌, ◌≤◌, ℕ, IfOk, OnOk, OnErr, IfErr, ◌∷◌, []};
 ghost use Rattle.fo_base.specs.Cause.{Rose};
 ghost use Rattle.fo_image.specs.Record.{RecordHolds};
 ghost use Rattle.fo_ports.specs.Causes.{Caused};
@@ -8,6 +8,7 @@ ghost use Rattle.fo_files_dir.specs.Dir.{IsDirAt};
 ghost use Rattle.fo_files_leaf.specs.Leaf.{Readied};
 ghost use Rattle.fo_files_record.specs.Leaf.{IsEntriesAt};
 ghost use Rattle.fo_files_change.specs.Records.{AltersRecords, ChangesIn, HasLeaf, records_of};
+ghost use Rattle.fo_ports.specs.Sources.{AddsDirty};
 
 use crate::leaf::{RECORDS_BELOW, records_leaf};
 use fo_files_dir::DirAt;
@@ -40,6 +41,7 @@ pub fn change_at<B: Blocks>(
     ensures pins { (B.state on.old).pins_left ≤ (B.state on.new).pins_left + 20 }
     ensures room { (B.state on.new).room ≡ (B.state on.old).room }
     ensures cause { IfErr result (Caused ⊥ (λ b. (B.state on.old).is_block b ⊎ (b ≡ 1)) (Rose (B.state on.old).faults (B.state on.new).faults) (Rose (B.state on.old).arena_faults (B.state on.new).arena_faults)) }
+    ensures dirties { AddsDirty 20 (dir.at ∷ []) dir.at (B.state on.old) (B.state on.new) }
     ensures keeps { B.keeps on.old on.new }
 {
     let leaf = match records_leaf(alloc, on, dir, i) {

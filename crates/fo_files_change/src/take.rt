@@ -1,5 +1,5 @@
 //! A record goes with its pair.
-ghost use Rattle.std.specs.Prelude.{◌≡◌, ◌⊎◌, ◌+◌, ◌≤◌, ℕ, IfErr, OnOk, OnErr};
+ghost use Rattle.std.specs.Prelude.{◌≡◌, ◌⊎◌, ◌+◌, ◌≤◌, ℕ, IfErr, OnOk, OnErr, ◌∷◌, []};
 ghost use Rattle.fo_base.specs.Cause.{Rose};
 ghost use Rattle.fo_ports.specs.Causes.{Caused};
 ghost use Rattle.fo_files_dir.specs.Dir.{IsDirAt};
@@ -8,6 +8,7 @@ ghost use Rattle.fo_files_record.specs.Leaf.{IsEntriesAt};
 ghost use Rattle.fo_files_record.specs.Stays.{Rewrites, no_slot};
 ghost use Rattle.fo_files_record.specs.Takes.{TakesOut};
 ghost use Rattle.fo_files_change.specs.Records.{AltersRecords, HasLeaf, records_of};
+ghost use Rattle.fo_ports.specs.Sources.{AddsDirty};
 
 use crate::leaf::{RECORDS_BELOW, records_leaf};
 use fo_files_dir::DirAt;
@@ -44,6 +45,7 @@ pub fn take_file<B: Blocks>(
     ensures pins { (B.state on.old).pins_left ≤ (B.state on.new).pins_left + 20 }
     ensures room { (B.state on.old).room ≤ (B.state on.new).room + 2 }
     ensures cause { IfErr result (Caused ⊥ (λ b. (B.state on.old).is_block b ⊎ (b ≡ 1)) (Rose (B.state on.old).faults (B.state on.new).faults) (Rose (B.state on.old).arena_faults (B.state on.new).arena_faults)) }
+    ensures dirties { AddsDirty 20 (dir.at ∷ entries ∷ []) dir.at (B.state on.old) (B.state on.new) }
     ensures keeps { B.keeps on.old on.new }
 {
     let leaf = match records_leaf(alloc, on, dir, i) {

@@ -1,3 +1,4 @@
+pub mod Counting
 pub mod Steps
 pub mod Telling
 pub mod Late

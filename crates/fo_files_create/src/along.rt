@@ -7,6 +7,8 @@ ghost use Rattle.fo_world.specs.Step.{need};
 ghost use Rattle.fo_dir_add.specs.Adds.{IsNumbered};
 ghost use Rattle.fo_files_create_look.specs.of_files_at.Way.{IsWay};
 ghost use Rattle.fo_files_create.specs.Create.{LeavesAlong, MakesAlong, last_leaf};
+ghost use Rattle.fo_ports.specs.Sources.{Dirties};
+ghost use Rattle.fo_ports.specs.State.{none};
 
 use crate::make::{own_at, put_new};
 use fo_files_create_look::files_along::own_dir_along;
@@ -55,6 +57,7 @@ pub(crate) fn make_along<B: Blocks>(
     ensures numbers { OnErr result ((B.state on.new).next ≡ (B.state on.old).next) }
     ensures taken { (B.state on.old).usable ≤ (B.state on.new).usable + need (length trail.now) 0 }
     ensures cause { IfErr result (Caused ⊥ (λ b. (B.state on.old).is_block b ⊎ (b ≡ 1)) (Rose (B.state on.old).faults (B.state on.new).faults) (Rose (B.state on.old).arena_faults (B.state on.new).arena_faults)) }
+    ensures dirties { Dirties (2 * need (length trail.now) 0) none (B.state on.old) (B.state on.new) }
     ensures keeps { B.keeps on.old on.new }
 {
     let _ = root;

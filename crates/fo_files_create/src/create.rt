@@ -5,13 +5,14 @@ ghost use Rattle.fo_world.specs.Answers.{HadRoom, Refuses};
 ghost use Rattle.fo_world.specs.Fits.{InfoFits};
 ghost use Rattle.fo_world.specs.Limits.{IsName, IsUser};
 ghost use Rattle.fo_world.specs.Step.{below, create_need, info_of, need, new_node};
-ghost use Rattle.fo_ports.specs.State.{Looks, Rests};
+ghost use Rattle.fo_ports.specs.State.{Looks, Rests, none};
 ghost use Rattle.fo_files_create_look.specs.of_files_look.Told.{faults_of, MayLook};
 ghost use Rattle.fo_files_create_look.specs.of_files_along.Along.{HasRoom, IsBlocks};
 ghost use Rattle.fo_files_create_look.specs.Found.{IsFound};
 ghost use Rattle.fo_files_create_look.specs.Named.{new_record};
 ghost use Rattle.fo_files_create_look.specs.Refused.{IsRefused, MayMake};
 ghost use Rattle.fo_files_create.specs.Create.{Creates, IsLate, IsLeft, LeavesAfter, LeavesAlong, MakesAlong, MakesFound, numbered, told_of};
+ghost use Rattle.fo_ports.specs.Sources.{Dirties};
 
 use crate::along::make_along;
 use crate::number::{granted, with_number};
@@ -24,8 +25,8 @@ use fo_ports::Blocks;
 use fo_world::{FileError, Info, Place};
 use std::alloc::Global;
 
-/// How many blocks making a file takes at most, in a directory of this depth: the way 5 a directory, the directory's own record 16, and the new
-/// file 24, which is 5 * depth + 40, at most the need.
+/// How many blocks making a file takes at most, in a directory of this depth: the way 5 a directory, the directory's own record 11, and the new
+/// file 24, which is 5 * depth + 35, at most the need.
 fn blocks_for(depth: usize) -> u32
     requires { depth ≤ 65 }
     ensures { result ≡ need depth 0 }
@@ -69,6 +70,7 @@ fn make_at<B: Blocks>(
     ensures room { HadRoom (HasRoom (B.state on.old)) (need (length trail.now) 0) result }
     ensures taken { (B.state on.old).usable ≤ (B.state on.new).usable + need (length trail.now) 0 }
     ensures cause { Refuses (faults_of (B.state on.old)) (faults_of (B.state on.new)) ⊥ (HasRoom (B.state on.new)) (need (length trail.now) 0) result }
+    ensures dirties { Dirties (2 * need (length trail.now) 0) none (B.state on.old) (B.state on.new) }
     ensures keeps { B.keeps on.old on.new }
 {
     let depth = trail.len();
@@ -113,6 +115,7 @@ fn make_numbered<B: Blocks>(
     ensures room { HadRoom (HasRoom (B.state on.old)) (create_need at.now) result }
     ensures taken { (B.state on.old).usable ≤ (B.state on.new).usable + create_need at.now }
     ensures cause { Refuses (faults_of (B.state on.old)) (faults_of (B.state on.new)) ⊥ (HasRoom (B.state on.new)) (create_need at.now) result }
+    ensures dirties { Dirties (2 * create_need at.now) none (B.state on.old) (B.state on.new) }
     ensures keeps { B.keeps on.old on.new }
 {
     match place_below(alloc, at, number) {
@@ -145,6 +148,7 @@ fn make_found<B: Blocks>(
     ensures room { HadRoom (HasRoom (B.state on.old)) (create_need at.now) result }
     ensures taken { (B.state on.old).usable ≤ (B.state on.new).usable + create_need at.now }
     ensures cause { Refuses (faults_of (B.state on.old)) (faults_of (B.state on.new)) ⊥ (HasRoom (B.state on.new)) (create_need at.now) result }
+    ensures dirties { Dirties (2 * create_need at.now) none (B.state on.old) (B.state on.new) }
     ensures keeps { B.keeps on.old on.new }
 {
     match granted(on) {
@@ -189,6 +193,7 @@ pub fn create_file<B: Blocks>(
     ensures room { HadRoom (HasRoom (B.state on.old)) (create_need at.now) result }
     ensures taken { (B.state on.old).usable ≤ (B.state on.new).usable + create_need at.now }
     ensures cause { Refuses (faults_of (B.state on.old)) (faults_of (B.state on.new)) ⊥ (HasRoom (B.state on.new)) (create_need at.now) result }
+    ensures dirties { Dirties (2 * create_need at.now) none (B.state on.old) (B.state on.new) }
     ensures keeps { B.keeps on.old on.new }
 {
     match look_for_new(alloc, on, root, at, name, mode, who, uid, gid, now, halted) {

@@ -1,12 +1,13 @@
 //! A new file comes into a directory, whose own record changes.
-ghost use Rattle.std.specs.Prelude.{◌≡◌, ◌⊎◌, ◌+◌, ◌^◌, ◌<◌, ◌≤◌, IfOk, IfErr, OnOk, OnErr};
+ghost use Rattle.std.specs.Prelude.{◌≡◌, ◌⊎◌, ◌+◌, ◌^◌, ◌<◌, ◌≤◌, IfOk, IfErr, OnOk, OnErr, ◌∷◌, [], ◌*◌};
 ghost use Rattle.fo_base.specs.Cause.{Rose};
 ghost use Rattle.fo_image.specs.Record.{RecordHolds};
 ghost use Rattle.fo_ports.specs.Causes.{Caused};
 ghost use Rattle.fo_dir_add.specs.Adds.{IsNumbered};
 ghost use Rattle.fo_files_dir.specs.Dir.{IsDirAt};
-ghost use Rattle.fo_files_own.specs.Own.{IsOwnAt, MayOwn};
+ghost use Rattle.fo_files_own.specs.Own.{IsOwnAt, MayOwn, block_of, blocks_for};
 ghost use Rattle.fo_files_create.specs.Create.{IsApartFrom, LeavesNew, MakesNew, own_of};
+ghost use Rattle.fo_ports.specs.Sources.{AddsDirty};
 
 use fo_files_create_look::files_along::DirStand;
 use fo_files_create_look::files_spot::Spot;
@@ -59,6 +60,7 @@ pub(crate) fn put_new<B: Blocks>(
     ensures numbers { OnErr result ((B.state on.new).next ≡ (B.state on.old).next) }
     ensures taken { (B.state on.old).usable ≤ (B.state on.new).usable + 40 }
     ensures cause { IfErr result (Caused ⊥ (λ b. (B.state on.old).is_block b ⊎ (b ≡ 1)) (Rose (B.state on.old).faults (B.state on.new).faults) (Rose (B.state on.old).arena_faults (B.state on.new).arena_faults)) }
+    ensures dirties { AddsDirty (2 * (24 + blocks_for own)) (dir.at ∷ block_of own ∷ []) dir.at (B.state on.old) (B.state on.new) }
     ensures keeps { B.keeps on.old on.new }
 {
     let ready = match ready_own(alloc, on, own, touched) {

@@ -1,5 +1,5 @@
 //! The data of a file gets a length.
-ghost use Rattle.std.specs.Prelude.{◌≡◌, ◌⊎◌, ◌+◌, ◌*◌, ◌%◌, ◌^◌, ◌<◌, ◌≤◌, ℕ, false, min, IfOk, IfErr, Err};
+ghost use Rattle.std.specs.Prelude.{◌≡◌, ◌⊎◌, ◌+◌, ◌*◌, ◌%◌, ◌^◌, ◌<◌, ◌≤◌, ℕ, false, min, IfOk, IfErr, Err, ◌∷◌, []};
 ghost use Rattle.fo_base.specs.Cause.{Rose};
 ghost use Rattle.fo_ports.specs.Causes.{Caused};
 ghost use Rattle.fo_ports.specs.State.{Looks};
@@ -12,6 +12,7 @@ ghost use Rattle.fo_files_write.specs.Alters.{Alters, any_kind};
 ghost use Rattle.fo_files_write.specs.Data.{HasData};
 ghost use Rattle.fo_files_cut.specs.declared.error.CutError.TheVariants.{TooBig};
 ghost use Rattle.fo_files_cut.specs.Cut.{IsData, KeepsUse, CutsBy, CutCaused};
+ghost use Rattle.fo_ports.specs.Sources.{AddsDirty};
 
 use crate::error::CutError;
 use crate::open::{FILE_LIMIT, opened};
@@ -44,6 +45,7 @@ pub fn cut_data<B: Blocks>(
     ensures spare { (B.state on.old).spare ≤ (B.state on.new).spare + 9 }
     ensures room { (B.state on.old).room ≤ (B.state on.new).room + 3273 }
     ensures pins { (B.state on.old).pins_left ≤ (B.state on.new).pins_left + 15 }
+    ensures dirties { AddsDirty 18 (file.at ∷ []) file.at (B.state on.old) (B.state on.new) }
     ensures keeps { B.keeps on.old on.new }
     ensures cause { IfErr result (CutCaused (2 ^ 40 < len) (λ b. ((b ≡ file.at) × (IsData (B.state on.old) file → ⊥)) ⊎ (IsData (B.state on.old) file × ((B.state on.old).is_block b ⊎ (b ≡ 1)))) (Rose (B.state on.old).faults (B.state on.new).faults) (Rose (B.state on.old).arena_faults (B.state on.new).arena_faults)) }
 {
@@ -85,6 +87,7 @@ fn set_data<B: Blocks>(
     ensures spare { (B.state on.old).spare ≤ (B.state on.new).spare + 9 }
     ensures room { (B.state on.old).room ≤ (B.state on.new).room + 3273 }
     ensures pins { (B.state on.old).pins_left ≤ (B.state on.new).pins_left + 15 }
+    ensures dirties { AddsDirty 18 (file.at ∷ []) file.at (B.state on.old) (B.state on.new) }
     ensures keeps { B.keeps on.old on.new }
     ensures cause { IfErr result (Caused ⊥ (λ b. (B.state on.old).is_block b ⊎ (b ≡ 1)) (Rose (B.state on.old).faults (B.state on.new).faults) (Rose (B.state on.old).arena_faults (B.state on.new).arena_faults)) }
 {
@@ -135,6 +138,7 @@ fn set_ready<B: Blocks>(
     ensures spare { (B.state on.old).spare ≤ (B.state on.new).spare + 9 }
     ensures room { (B.state on.old).room ≤ (B.state on.new).room + 3273 }
     ensures pins { (B.state on.new).pins_left ≡ (B.state on.old).pins_left }
+    ensures dirties { AddsDirty 18 (file.at ∷ []) file.at (B.state on.old) (B.state on.new) }
     ensures keeps { B.keeps on.old on.new }
     ensures cause { IfErr result (Caused ⊥ (λ b. ⊥) (Rose (B.state on.old).faults (B.state on.new).faults) ⊥) }
 {

@@ -1,11 +1,12 @@
 //! Room is reserved for a change that keeps the name, and the file is changed.
 ghost use Rattle.std.specs.Prelude.{◌≡◌, ◌⊎◌, ◌+◌, ◌*◌, ◌^◌, ◌<◌, ◌≤◌, ℕ, [], length, IfSome, IfErr, OnOk, OnErr};
-ghost use Rattle.fo_ports.specs.State.{Rests};
+ghost use Rattle.fo_ports.specs.State.{Rests, none};
 ghost use Rattle.fo_world.specs.Answers.{Refuses, HadRoom};
 ghost use Rattle.fo_files_into.specs.of_files_at.Way.{IsWay};
 ghost use Rattle.fo_files_into.specs.of_files_look.Told.{faults_of};
 ghost use Rattle.fo_files_into.specs.of_files_along.Along.{HasRoom, IsBlocks};
 ghost use Rattle.fo_files_edit.specs.Edit.{EditsFile, IsLeft, EditsRoot, RootLeft};
+ghost use Rattle.fo_ports.specs.Sources.{Dirties};
 
 use crate::edit::edit_along;
 use crate::found::Found;
@@ -38,6 +39,7 @@ pub fn change_below<B: Blocks>(
     ensures had { HadRoom (HasRoom (B.state on.old)) (5 * length trail.now + 22) result }
     ensures taken { (B.state on.old).usable ≤ (B.state on.new).usable + (5 * length trail.now + 22) }
     ensures cause { Refuses (faults_of (B.state on.old)) (faults_of (B.state on.new)) ⊥ (HasRoom (B.state on.new)) (5 * length trail.now + 22) result }
+    ensures dirties { Dirties (10 * length trail.now + 45) none (B.state on.old) (B.state on.new) }
     ensures keeps { B.keeps on.old on.new }
 {
     let steps = trail.len() as u32;
@@ -65,6 +67,7 @@ pub fn change_root<B: Blocks>(
     ensures blocks { IfErr result IsBlocks }
     ensures taken { (B.state on.old).usable ≤ (B.state on.new).usable }
     ensures cause { Refuses (faults_of (B.state on.old)) (faults_of (B.state on.new)) ⊥ (HasRoom (B.state on.new)) 0 result }
+    ensures dirties { Dirties 1 none (B.state on.old) (B.state on.new) }
     ensures keeps { B.keeps on.old on.new }
 {
     match reserve_room(on, 0, 1, 0) {

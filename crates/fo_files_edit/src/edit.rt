@@ -4,6 +4,8 @@ ghost use Rattle.fo_base.specs.Cause.{Rose};
 ghost use Rattle.fo_ports.specs.Causes.{Caused};
 ghost use Rattle.fo_files_into.specs.of_files_at.Way.{IsWay};
 ghost use Rattle.fo_files_edit.specs.Edit.{EditsFile, IsLeft};
+ghost use Rattle.fo_ports.specs.Sources.{Dirties};
+ghost use Rattle.fo_ports.specs.State.{none};
 
 use crate::found::Found;
 use fo_files_into::change_into;
@@ -33,6 +35,7 @@ pub(crate) fn edit_along<B: Blocks>(
     ensures taken { (B.state on.old).usable + (B.state on.new).spare ≤ (B.state on.new).usable + (B.state on.old).spare }
     ensures spare { (B.state on.old).spare ≤ (B.state on.new).spare + (5 * length trail.now + 22) }
     ensures cause { IfErr result (Caused ⊥ (λ b. (B.state on.old).is_block b ⊎ (b ≡ 1)) (Rose (B.state on.old).faults (B.state on.new).faults) (Rose (B.state on.old).arena_faults (B.state on.new).arena_faults)) }
+    ensures dirties { Dirties (10 * length trail.now + 45) none (B.state on.old) (B.state on.new) }
     ensures keeps { B.keeps on.old on.new }
 {
     let _ = root;

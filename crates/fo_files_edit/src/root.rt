@@ -4,6 +4,8 @@ ghost use Rattle.fo_base.specs.Cause.{Rose};
 ghost use Rattle.fo_ports.specs.Causes.{Caused};
 ghost use Rattle.fo_files_into.specs.of_files_at.Way.{IsWay};
 ghost use Rattle.fo_files_edit.specs.Edit.{EditsRoot, RootLeft, as_root};
+ghost use Rattle.fo_ports.specs.Sources.{Dirties};
+ghost use Rattle.fo_ports.specs.State.{none};
 
 use crate::found::Found;
 use fo_base::Bytes;
@@ -43,6 +45,7 @@ pub(crate) fn edit_root<B: Blocks>(
     ensures left { OnErr result (RootLeft B B.state on.old on.new root found.now.way) }
     ensures usable { (B.state on.old).usable ≤ (B.state on.new).usable }
     ensures cause { IfErr result (Caused ⊥ (λ b. (B.state on.old).is_block b ⊎ (b ≡ 1)) (Rose (B.state on.old).faults (B.state on.new).faults) (Rose (B.state on.old).arena_faults (B.state on.new).arena_faults)) }
+    ensures dirties { Dirties 1 none (B.state on.old) (B.state on.new) }
     ensures keeps { B.keeps on.old on.new }
 {
     if !found.way.file.dir {

@@ -1,5 +1,5 @@
 -- The steps of a change of a file.
-use Rattle.std.proofs.Common.{◌≡◌, ◌+◌, ◌-◌, ◌*◌, ◌≤◌, ℕ, Bool, true, false, List, length, get_or, Option, Some, None, inl, ⊎_elim, refl, sym, ap, subst, ◌∙◌, arith}
+use Rattle.std.proofs.Common.{◌≡◌, ◌+◌, ◌-◌, ◌*◌, ℕ, Bool, true, false, List, length, get_or, Option, Some, None, inl, ⊎_elim, refl, sym, ap, subst, ◌∙◌, arith}
 use Rattle.std.specs.Prelude.{IfSome}
 use Rattle.fo_image.specs.declared.record.Record.{Record}
 use Rattle.fo_image.specs.declared.types.Kind.{Kind}
@@ -65,11 +65,6 @@ must_fit false name named now was e full fits = absurd (fits (subst (λ xs. IsTo
 
 pub changed_as : (name : List ℕ) (named : Record) (now was new : List ℕ) → now ≡ was → HasChanged name named now new → HasChanged name named was new
 changed_as name named now was new e h = subst (λ xs. HasChanged name named xs new) e h
-
--- ---- what is taken
-
-pub took_into : (most s f g h : ℕ) → s ≤ f + 13 → g ≡ f → g ≤ h + (most + 4) → s ≤ h + (most + 17)
-took_into most s f g h first same second = omega (arith, first, same, second)
 
 -- ---- a length that may be given
 

@@ -1,5 +1,5 @@
 //! A file gets another length, and its record changes.
-ghost use Rattle.std.specs.Prelude.{◌≡◌, ◌⊎◌, ◌+◌, ◌*◌, ◌%◌, ◌^◌, ◌<◌, ◌≤◌, ℕ, length, IfSome, IfOk, IfErr, OnOk, OnErr};
+ghost use Rattle.std.specs.Prelude.{◌≡◌, ◌⊎◌, ◌+◌, ◌*◌, ◌%◌, ◌^◌, ◌<◌, ◌≤◌, ℕ, length, IfSome, IfOk, IfErr, OnOk, OnErr, ◌∷◌, []};
 ghost use Rattle.fo_base.specs.Cause.{Rose};
 ghost use Rattle.fo_image.specs.Record.{RecordHolds};
 ghost use Rattle.fo_ports.specs.Causes.{Caused};
@@ -9,6 +9,7 @@ ghost use Rattle.fo_files_cut.specs.of_files_write.Alters.{Alters, any_kind};
 ghost use Rattle.fo_files_cut.specs.of_files_write.Data.{HasData};
 ghost use Rattle.fo_files_cut.specs.Cut.{KeepsUse, CutsBy};
 ghost use Rattle.fo_files_into.specs.Into.{MayCut, UnchangedBy, Edits};
+ghost use Rattle.fo_ports.specs.Sources.{AddsDirty};
 
 use fo_base::BLOCK;
 use fo_dir_change::change_record;
@@ -37,6 +38,7 @@ fn cut<B: Blocks>(alloc: Global, on: &mut B, file: FileAt, n: u64) -> Result<(),
     ensures alters { Alters file.at file.slot (32 + 2 * file.number) any_kind (B.state on.old) (B.state on.new) }
     ensures spare { (B.state on.old).spare ≤ (B.state on.new).spare + 9 }
     ensures cause { IfErr result (Caused ⊥ (λ b. (B.state on.old).is_block b ⊎ (b ≡ 1)) (Rose (B.state on.old).faults (B.state on.new).faults) (Rose (B.state on.old).arena_faults (B.state on.new).arena_faults)) }
+    ensures dirties { AddsDirty 18 (file.at ∷ []) file.at (B.state on.old) (B.state on.new) }
     ensures keeps { B.keeps on.old on.new }
 {
     match cut_data(alloc, on, file, n) {
@@ -66,6 +68,7 @@ fn cut_given<B: Blocks>(
     ensures alters { Alters file.at file.slot (32 + 2 * file.number) any_kind (B.state on.old) (B.state on.new) }
     ensures spare { (B.state on.old).spare ≤ (B.state on.new).spare + 9 }
     ensures cause { IfErr result (Caused ⊥ (λ b. (B.state on.old).is_block b ⊎ (b ≡ 1)) (Rose (B.state on.old).faults (B.state on.new).faults) (Rose (B.state on.old).arena_faults (B.state on.new).arena_faults)) }
+    ensures dirties { AddsDirty 18 (file.at ∷ []) file.at (B.state on.old) (B.state on.new) }
     ensures keeps { B.keeps on.old on.new }
 {
     match given {
@@ -96,13 +99,14 @@ pub fn change_into<B: Blocks>(
     requires spelled { RecordHolds named.now }
     requires within { IfSome given (λ n. n ≤ 2 ^ 40) }
     requires pins { 75 ≤ (B.state on.old).pins_left }
-    requires spare { 22 ≤ (B.state on.old).spare }
+    requires spare { 20 ≤ (B.state on.old).spare }
     requires room { 4910 ≤ (B.state on.old).room }
     ensures edits { OnOk result (Edits B B.state on.old on.new at.dir at.file i spare name.now named.now given) }
     ensures left { OnErr result (UnchangedBy B B.state on.old on.new at.dir at.file i spare name.now given) }
-    ensures spare { (B.state on.old).spare ≤ (B.state on.new).spare + 22 }
+    ensures spare { (B.state on.old).spare ≤ (B.state on.new).spare + 20 }
     ensures usable { (B.state on.old).usable + (B.state on.new).spare ≤ (B.state on.new).usable + (B.state on.old).spare }
     ensures cause { IfErr result (Caused ⊥ (λ b. (B.state on.old).is_block b ⊎ (b ≡ 1)) (Rose (B.state on.old).faults (B.state on.new).faults) (Rose (B.state on.old).arena_faults (B.state on.new).arena_faults)) }
+    ensures dirties { AddsDirty 40 (at.dir.at ∷ at.file.at ∷ []) at.dir.at (B.state on.old) (B.state on.new) }
     ensures keeps { B.keeps on.old on.new }
 {
     let Stand { dir, file, .. } = at;

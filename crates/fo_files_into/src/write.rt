@@ -1,5 +1,5 @@
 //! A piece is put into a file, and its record.
-ghost use Rattle.std.specs.Prelude.{◌≡◌, ◌≢◌, ◌⊎◌, ◌+◌, ◌*◌, ◌/◌, ◌%◌, ◌^◌, ◌<◌, ◌≤◌, ℕ, List, length, IfErr, OnOk, OnErr};
+ghost use Rattle.std.specs.Prelude.{◌≡◌, ◌≢◌, ◌⊎◌, ◌+◌, ◌*◌, ◌/◌, ◌%◌, ◌^◌, ◌<◌, ◌≤◌, ℕ, List, length, IfErr, OnOk, OnErr, ◌∷◌, []};
 ghost use Rattle.fo_base.specs.Cause.{Rose};
 ghost use Rattle.fo_image.specs.Record.{RecordHolds};
 ghost use Rattle.fo_ports.specs.Causes.{Caused};
@@ -8,6 +8,7 @@ ghost use Rattle.fo_files_dir.specs.Dir.{IsDirAt, IsFileAt};
 ghost use Rattle.fo_files_record.specs.Leaf.{IsEntriesAt};
 ghost use Rattle.fo_files_cut.specs.of_files_write.Data.{most_of};
 ghost use Rattle.fo_files_into.specs.Into.{Puts, LeftBy};
+ghost use Rattle.fo_ports.specs.Sources.{AddsDirty};
 
 use fo_base::BLOCK;
 use fo_dir_change::change_record;
@@ -40,13 +41,14 @@ pub fn write_into<B: Blocks>(
     requires some { 0 < length piece.now }
     requires within { offset + length piece.now ≤ 2 ^ 40 }
     requires pins { most_of (length piece.now) + 75 ≤ (B.state on.old).pins_left }
-    requires spare { most_of (length piece.now) + 17 ≤ (B.state on.old).spare }
+    requires spare { most_of (length piece.now) + 15 ≤ (B.state on.old).spare }
     requires room { 3274 ≤ (B.state on.old).room }
     ensures puts { OnOk result (Puts B B.state on.old on.new at.dir at.file i spare named.now offset (length piece.now)) }
     ensures left { OnErr result (LeftBy B B.state on.old on.new at.dir at.file i spare named.now.name) }
-    ensures spare { (B.state on.old).spare ≤ (B.state on.new).spare + (most_of (length piece.now) + 17) }
+    ensures spare { (B.state on.old).spare ≤ (B.state on.new).spare + (most_of (length piece.now) + 15) }
     ensures usable { (B.state on.old).usable + (B.state on.new).spare ≤ (B.state on.new).usable + (B.state on.old).spare }
     ensures cause { IfErr result (Caused ⊥ (λ b. (B.state on.old).is_block b ⊎ (b ≡ 1)) (Rose (B.state on.old).faults (B.state on.new).faults) (Rose (B.state on.old).arena_faults (B.state on.new).arena_faults)) }
+    ensures dirties { AddsDirty (2 * (most_of (length piece.now) + 15)) (at.dir.at ∷ at.file.at ∷ []) at.dir.at (B.state on.old) (B.state on.new) }
     ensures keeps { B.keeps on.old on.new }
 {
     let Stand { dir, file, .. } = at;

@@ -1,3 +1,4 @@
+pub mod Levels
 pub mod Altering
 pub mod Prepared
 pub mod Stays

@@ -1,6 +1,6 @@
 //! A leaf is owned, and its source linked.
-ghost use Rattle.std.specs.Prelude.{◌≡◌, ◌+◌, ◌≤◌, ℕ};
-ghost use Rattle.fo_ports.specs.Sources.{most_to_own};
+ghost use Rattle.std.specs.Prelude.{◌≡◌, ◌+◌, ◌≤◌, ℕ, ◌∷◌, [], ◌*◌};
+ghost use Rattle.fo_ports.specs.Sources.{most_to_own, AddsDirty};
 ghost use Rattle.fo_tree_shorten.specs.Shorten.{EntryAt};
 ghost use Rattle.fo_files_leaf.specs.Leaf.{IsFor, MayGrow, OwnsLeaf};
 
@@ -17,6 +17,7 @@ pub fn own_grown<B: Blocks>(source: &mut Source, on: &mut B, i: u32, at: u32, j:
     requires spare { most_to_own source.old.ways.tree.size i ≤ (B.state on.old).spare }
     ensures owned { OwnsLeaf (B.state on.old) (B.state on.new) source.old source.new i at j result }
     ensures spare { (B.state on.old).spare ≤ (B.state on.new).spare + most_to_own source.old.ways.tree.size i }
+    ensures dirties { AddsDirty (2 * most_to_own source.old.ways.tree.size i) (at ∷ []) result (B.state on.old) (B.state on.new) }
     ensures keeps { B.keeps on.old on.new }
 {
     let leaf = source.own_leaf(on, i);

@@ -1,10 +1,11 @@
 //! A leaf is made ready.
-ghost use Rattle.std.specs.Prelude.{◌≡◌, ◌≢◌, ◌⊎◌, ◌+◌, ◌≤◌, ℕ, IfOk, OnOk, OnErr, IfErr};
+ghost use Rattle.std.specs.Prelude.{◌≡◌, ◌≢◌, ◌⊎◌, ◌+◌, ◌≤◌, ℕ, IfOk, OnOk, OnErr, IfErr, ◌∷◌, []};
 ghost use Rattle.fo_base.specs.Cause.{Rose};
 ghost use Rattle.fo_ports.specs.Causes.{Caused};
 ghost use Rattle.fo_ports.specs.State.{Looks, none};
 ghost use Rattle.fo_files_leaf.specs.Alters.{Alters};
 ghost use Rattle.fo_files_leaf.specs.Leaf.{IsHolder, IsWanted, IsAbove, IsOwnLeaf, Readied};
+ghost use Rattle.fo_ports.specs.Sources.{AddsDirty};
 
 use crate::open::{LeafOf, may_grow, source_for};
 use crate::own::own_grown;
@@ -29,6 +30,7 @@ pub fn ready_leaf<B: Blocks>(alloc: Global, on: &mut B, wanted: LeafOf) -> Resul
     ensures pins { (B.state on.old).pins_left ≤ (B.state on.new).pins_left + 20 }
     ensures room { (B.state on.new).room ≡ (B.state on.old).room }
     ensures cause { IfErr result (Caused ⊥ (λ b. (B.state on.old).is_block b ⊎ (b ≡ 1)) (Rose (B.state on.old).faults (B.state on.new).faults) (Rose (B.state on.old).arena_faults (B.state on.new).arena_faults)) }
+    ensures dirties { IfOk result (λ leaf. AddsDirty 20 (wanted.at ∷ []) leaf (B.state on.old) (B.state on.new)) }
     ensures keeps { B.keeps on.old on.new }
 {
     let mut source = match source_for(alloc, on, wanted) {

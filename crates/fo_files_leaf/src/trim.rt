@@ -1,5 +1,5 @@
 //! What stands behind the end of a source of records is cleared.
-ghost use Rattle.std.specs.Prelude.{◌≡◌, ◌≢◌, ◌⊎◌, ◌+◌, ◌*◌, ◌^◌, ◌<◌, ◌≤◌, ℕ, true, false, IfErr, OnOk};
+ghost use Rattle.std.specs.Prelude.{◌≡◌, ◌≢◌, ◌⊎◌, ◌+◌, ◌*◌, ◌^◌, ◌<◌, ◌≤◌, ℕ, true, false, IfErr, OnOk, ◌∷◌, []};
 ghost use Rattle.fo_base.specs.Cause.{Rose};
 ghost use Rattle.fo_ports.specs.Causes.{Caused};
 ghost use Rattle.fo_ports.specs.State.{none};
@@ -8,6 +8,7 @@ ghost use Rattle.fo_tree_down.specs.Clear.{EndsClear, last_leaf};
 ghost use Rattle.fo_tree_shorten.specs.Shorten.{EntryAt};
 ghost use Rattle.fo_files_leaf.specs.Alters.{Alters};
 ghost use Rattle.fo_files_leaf.specs.Leaf.{IsHolder, IsWanted, IsAbove, IsTrimmedFor};
+ghost use Rattle.fo_ports.specs.Sources.{AddsDirty};
 
 use crate::open::{LeafOf, may_grow, source_for};
 use fo_ports::{BlockError, Blocks};
@@ -38,6 +39,7 @@ fn cut_behind<B: Blocks>(
     ensures few { (B.state on.old).spare ≤ (B.state on.new).spare + source.old.ways.tree.depth }
     ensures room { (B.state on.old).room ≤ (B.state on.new).room + 1636 }
     ensures cause { IfErr result (Caused ⊥ (λ b. ⊥) (Rose (B.state on.old).faults (B.state on.new).faults) ⊥) }
+    ensures dirties { AddsDirty (2 * source.old.ways.tree.depth) (at ∷ []) at (B.state on.old) (B.state on.new) }
     ensures keeps { B.keeps on.old on.new }
 {
     make_ready(&mut source.ways, on, at, slot);
@@ -67,6 +69,8 @@ pub fn trim_records<B: Blocks>(alloc: Global, on: &mut B, wanted: LeafOf) -> Res
     ensures few { wanted.leaf < 409 ^ 2 → (B.state on.old).spare ≤ (B.state on.new).spare + 2 }
     ensures room { (B.state on.old).room ≤ (B.state on.new).room + 1636 }
     ensures cause { IfErr result (Caused ⊥ (λ b. (B.state on.old).is_block b ⊎ (b ≡ 1)) (Rose (B.state on.old).faults (B.state on.new).faults) (Rose (B.state on.old).arena_faults (B.state on.new).arena_faults)) }
+    ensures dirties { AddsDirty 8 (wanted.at ∷ []) wanted.at (B.state on.old) (B.state on.new) }
+    ensures dirties_few { wanted.leaf < 409 ^ 2 → AddsDirty 4 (wanted.at ∷ []) wanted.at (B.state on.old) (B.state on.new) }
     ensures keeps { B.keeps on.old on.new }
 {
     let mut source = match source_for(alloc, on, wanted) {

@@ -1,5 +1,5 @@
 //! A record moves between two owned leaves.
-ghost use Rattle.std.specs.Prelude.{◌≡◌, ◌≢◌, ◌⊎◌, ◌+◌, ◌%◌, ◌<◌, ◌≤◌, ℕ, true, false, length, IfOk, IfErr, OnOk, OnErr};
+ghost use Rattle.std.specs.Prelude.{◌≡◌, ◌≢◌, ◌⊎◌, ◌+◌, ◌%◌, ◌<◌, ◌≤◌, ℕ, true, false, length, IfOk, IfErr, OnOk, OnErr, [], ◌∷◌};
 ghost use Rattle.fo_base.specs.Cause.{Rose};
 ghost use Rattle.fo_image.specs.Record.{RecordHolds};
 ghost use Rattle.fo_meta.specs.Leaf.{IsLeaf};
@@ -11,6 +11,7 @@ ghost use Rattle.fo_dir_move.specs.Moves.{HasLeaves, IsSettledBut};
 ghost use Rattle.fo_files_record.specs.Leaf.{IsRecordsAt, IsEntriesAt};
 ghost use Rattle.fo_files_record.specs.Stays.{Rewrites, no_slot};
 ghost use Rattle.fo_files_move.specs.Moves.{HasMoved, LacksRoomFor};
+ghost use Rattle.fo_ports.specs.Sources.{DirtiesIn};
 
 use fo_base::BLOCK;
 use fo_dir_move::move_record;
@@ -70,6 +71,7 @@ fn both_read<B: Blocks>(
     ensures stays { Rewrites (λ b. ⊥) no_slot (B.state on.old) (B.state on.new) }
     ensures room { (B.state on.new).room ≡ (B.state on.old).room }
     ensures cause { IfErr result (Caused ⊥ (B.state on.old).is_block (Rose (B.state on.old).faults (B.state on.new).faults) ⊥) }
+    ensures dirties { DirtiesIn [] (B.state on.old) (B.state on.new) }
     ensures keeps { B.keeps on.old on.new }
 {
     match read(on, from, rank, from_bytes) {
@@ -95,6 +97,7 @@ fn placed<B: Blocks>(on: &mut B, from: u32, to: u32, entries: u32) -> Result<(),
     ensures stays { Rewrites (λ b. ⊥) no_slot (B.state on.old) (B.state on.new) }
     ensures room { (B.state on.new).room ≡ (B.state on.old).room }
     ensures cause { IfErr result (Caused ⊥ (B.state on.old).is_block (Rose (B.state on.old).faults (B.state on.new).faults) ⊥) }
+    ensures dirties { DirtiesIn [] (B.state on.old) (B.state on.new) }
     ensures keeps { B.keeps on.old on.new }
 {
     if on.sealed(from) && on.sealed(to) && on.sealed(entries) {
@@ -136,6 +139,7 @@ fn moved<B: Blocks>(
     ensures rewrites { Rewrites (λ b. (b ≡ from) ⊎ (b ≡ to)) no_slot (B.state on.old) (B.state on.new) }
     ensures room { (B.state on.old).room ≤ (B.state on.new).room + 1 }
     ensures cause { IfErr result (Caused ⊥ (B.state on.old).is_block (Rose (B.state on.old).faults (B.state on.new).faults) ⊥) }
+    ensures dirties { DirtiesIn (from ∷ to ∷ []) (B.state on.old) (B.state on.new) }
     ensures keeps { B.keeps on.old on.new }
 {
     match move_record(on, from, to, entries, named, from_bytes, to_bytes) {
@@ -174,6 +178,7 @@ fn fitted<B: Blocks>(
     ensures rewrites { Rewrites (λ b. (b ≡ from) ⊎ (b ≡ to)) no_slot (B.state on.old) (B.state on.new) }
     ensures room { (B.state on.old).room ≤ (B.state on.new).room + 1 }
     ensures cause { IfErr result (Caused ⊥ (B.state on.old).is_block (Rose (B.state on.old).faults (B.state on.new).faults) ⊥) }
+    ensures dirties { DirtiesIn (from ∷ to ∷ []) (B.state on.old) (B.state on.new) }
     ensures keeps { B.keeps on.old on.new }
 {
     if !has_room(to_bytes, named) {
@@ -213,6 +218,7 @@ pub fn move_between<B: Blocks>(
     ensures rewrites { Rewrites (λ b. (b ≡ from) ⊎ (b ≡ to)) no_slot (B.state on.old) (B.state on.new) }
     ensures room { (B.state on.old).room ≤ (B.state on.new).room + 1 }
     ensures cause { IfErr result (Caused ⊥ (B.state on.old).is_block (Rose (B.state on.old).faults (B.state on.new).faults) ⊥) }
+    ensures dirties { DirtiesIn (from ∷ to ∷ []) (B.state on.old) (B.state on.new) }
     ensures keeps { B.keeps on.old on.new }
 {
     if from == to {

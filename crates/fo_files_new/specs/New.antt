@@ -1,5 +1,5 @@
 -- A new file comes into a directory.
-use Rattle.std.specs.Prelude.{◌≡◌, ◌≢◌, ◌⊎◌, ◌+◌, ◌*◌, ◌/◌, ◌%◌, ◌^◌, ℕ, true, false}
+use Rattle.std.specs.Prelude.{◌≡◌, ◌≢◌, ◌⊎◌, ◌+◌, ◌*◌, ◌/◌, ◌%◌, ◌^◌, ℕ, true, false, ◌≤◌, ◌++◌, List, [], ◌∷◌, length}
 use Rattle.fo_image.specs.declared.types.Label.{Label}
 use Rattle.fo_image.specs.declared.record.Record.{Record}
 use Rattle.fo_image.specs.Record.{RecordHolds}
@@ -13,6 +13,8 @@ use Rattle.fo_files_leaf.specs.declared.open.LeafOf.{LeafOf}
 use Rattle.fo_files_leaf.specs.Alters.{Alters}
 use Rattle.fo_files_leaf.specs.Leaf.{IsAbove, IsOwnLeaf, Readied}
 use Rattle.fo_files_new.specs.declared.pair.Leaves.{Leaves}
+use Rattle.std.specs.List.{Contains}
+use Rattle.fo_ports.specs.Sources.{DirtiesIn}
 
 -- the slots of a directory's entries
 abbrev pub IsSlotOf : DirAt → ℕ → Type 0
@@ -98,3 +100,11 @@ pub record IsNew (s a b t c p m n u : State) (d : DirAt) (pair leaf : ℕ) (leav
   pub settled : AltersDir d none p m
   pub in_place : AreInPlace m leaves
   pub put : IsPut m n u d pair leaves named r
+
+-- Beside the block with a directory's entries so many more at most are left to be written, with these two leaves.
+pub record AddsLeaves (most : ℕ) (at : ℕ) (leaves : Leaves) (old new : State) : Type 0 where
+  pub more : List ℕ
+  pub few : length more ≤ most
+  pub within : DirtiesIn (more ++ at ∷ []) old new
+  pub entries : Contains (more ++ at ∷ []) leaves.entries
+  pub records : Contains (more ++ at ∷ []) leaves.records

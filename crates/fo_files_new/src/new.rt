@@ -1,11 +1,12 @@
 //! A new file.
-ghost use Rattle.std.specs.Prelude.{◌≡◌, ◌≢◌, ◌⊎◌, ◌+◌, ◌*◌, ◌^◌, ◌<◌, ◌≤◌, ℕ, IfOk, IfErr, OnOk, OnErr};
+ghost use Rattle.std.specs.Prelude.{◌≡◌, ◌≢◌, ◌⊎◌, ◌+◌, ◌*◌, ◌^◌, ◌<◌, ◌≤◌, ℕ, IfOk, IfErr, OnOk, OnErr, [], ◌∷◌};
 ghost use Rattle.fo_base.specs.Cause.{Rose};
 ghost use Rattle.fo_image.specs.Record.{RecordHolds};
 ghost use Rattle.fo_ports.specs.Causes.{Caused};
 ghost use Rattle.fo_ports.specs.State.{Looks, none};
 ghost use Rattle.fo_files_dir.specs.Dir.{IsDirAt};
 ghost use Rattle.fo_files_new.specs.New.{AltersDir, AreOwn, AreInPlace, IsLeafOf, IsPut, IsNew};
+ghost use Rattle.fo_ports.specs.Sources.{DirtiesIn, AddsDirty};
 
 use crate::pair::{Leaves, PAIRS, RECORDS_BELOW, ready_both};
 use fo_base::BLOCK;
@@ -26,6 +27,7 @@ fn settle_for<B: Blocks>(on: &mut B, dir: DirAt, leaves: Leaves) -> Result<(), B
     ensures alters { AltersDir dir none (B.state on.old) (B.state on.new) }
     ensures room { ((B.state on.new).spare ≡ (B.state on.old).spare) × ((B.state on.new).pins_left ≡ (B.state on.old).pins_left) × ((B.state on.new).room ≡ (B.state on.old).room) }
     ensures cause { IfErr result (Caused ⊥ (λ b. ⊥) (Rose (B.state on.old).faults (B.state on.new).faults) ⊥) }
+    ensures dirties { DirtiesIn [] (B.state on.old) (B.state on.new) }
     ensures keeps { B.keeps on.old on.new }
 {
     let entries = on.sealed(leaves.entries);
@@ -59,6 +61,7 @@ fn put_new<B: Blocks>(
     ensures left { ((B.state on.new).spare ≡ (B.state on.old).spare) × ((B.state on.old).pins_left ≤ (B.state on.new).pins_left + 1) }
     ensures room { (B.state on.old).room ≤ (B.state on.new).room + 1 }
     ensures cause { IfErr result (Caused ⊥ (λ b. (B.state on.old).is_block b) (Rose (B.state on.old).faults (B.state on.new).faults) ⊥) }
+    ensures dirties { DirtiesIn (leaves.records ∷ leaves.entries ∷ []) (B.state on.old) (B.state on.new) }
     ensures keeps { B.keeps on.old on.new }
 {
     let mut named = named;
@@ -109,6 +112,7 @@ pub fn new_file<B: Blocks>(
     ensures pins { (B.state on.old).pins_left ≤ (B.state on.new).pins_left + 61 }
     ensures room { (B.state on.old).room ≤ (B.state on.new).room + 1637 }
     ensures cause { IfErr result (Caused ⊥ (λ b. (B.state on.old).is_block b ⊎ (b ≡ 1)) (Rose (B.state on.old).faults (B.state on.new).faults) (Rose (B.state on.old).arena_faults (B.state on.new).arena_faults)) }
+    ensures dirties { AddsDirty 48 (dir.at ∷ []) dir.at (B.state on.old) (B.state on.new) }
     ensures keeps { B.keeps on.old on.new }
 {
     let leaves = match ready_both(alloc, on, dir, pair, leaf) {

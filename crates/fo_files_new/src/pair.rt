@@ -1,11 +1,12 @@
 //! The leaves of a directory that get a new file are made ready.
-ghost use Rattle.std.specs.Prelude.{◌≡◌, ◌≢◌, ◌⊎◌, ◌+◌, ◌*◌, ◌^◌, ◌<◌, ◌≤◌, ℕ, true, false, IfOk, IfErr, OnErr, MatchOption};
+ghost use Rattle.std.specs.Prelude.{◌≡◌, ◌≢◌, ◌⊎◌, ◌+◌, ◌*◌, ◌^◌, ◌<◌, ◌≤◌, ℕ, true, false, IfOk, IfErr, OnErr, MatchOption, ◌∷◌, []};
 ghost use Rattle.fo_base.specs.Cause.{Rose};
 ghost use Rattle.fo_ports.specs.Causes.{Caused};
 ghost use Rattle.fo_ports.specs.State.{none};
 ghost use Rattle.fo_files_dir.specs.Dir.{IsDirAt};
 ghost use Rattle.fo_files_leaf.specs.Leaf.{IsOwnLeaf, Readied};
-ghost use Rattle.fo_files_new.specs.New.{AltersDir, IsEntriesLeaf, IsRecordsLeaf, AreOwn, ReadiesBoth};
+ghost use Rattle.fo_files_new.specs.New.{AltersDir, IsEntriesLeaf, IsRecordsLeaf, AreOwn, ReadiesBoth, AddsLeaves};
+ghost use Rattle.fo_ports.specs.Sources.{AddsDirty};
 
 use fo_files_dir::DirAt;
 use fo_files_leaf::{LeafOf, ready_leaf, trim_records};
@@ -93,6 +94,8 @@ fn ready_entries<B: Blocks>(
     ensures pins { (B.state on.old).pins_left ≤ (B.state on.new).pins_left + 20 }
     ensures room { (B.state on.new).room ≡ (B.state on.old).room }
     ensures cause { IfErr result (Caused ⊥ (λ b. (B.state on.old).is_block b ⊎ (b ≡ 1)) (Rose (B.state on.old).faults (B.state on.new).faults) (Rose (B.state on.old).arena_faults (B.state on.new).arena_faults)) }
+    ensures dirties { IfOk result (λ leaf. AddsDirty 20 (dir.at ∷ []) leaf (B.state on.old) (B.state on.new)) }
+    ensures dirties_refused { OnErr result (AddsDirty 20 (dir.at ∷ []) dir.at (B.state on.old) (B.state on.new)) }
     ensures keeps { B.keeps on.old on.new }
 {
     let Some(wanted) = entries_leaf(dir, pair) else {
@@ -124,6 +127,8 @@ fn ready_records<B: Blocks>(
     ensures pins { (B.state on.old).pins_left ≤ (B.state on.new).pins_left + 40 }
     ensures room { (B.state on.old).room ≤ (B.state on.new).room + 1636 }
     ensures cause { IfErr result (Caused ⊥ (λ b. (B.state on.old).is_block b ⊎ (b ≡ 1)) (Rose (B.state on.old).faults (B.state on.new).faults) (Rose (B.state on.old).arena_faults (B.state on.new).arena_faults)) }
+    ensures dirties { IfOk result (λ leaf. AddsDirty 28 (dir.at ∷ []) leaf (B.state on.old) (B.state on.new)) }
+    ensures dirties_refused { OnErr result (AddsDirty 28 (dir.at ∷ []) dir.at (B.state on.old) (B.state on.new)) }
     ensures keeps { B.keeps on.old on.new }
 {
     let Some(wanted) = records_leaf(dir, leaf) else {
@@ -160,6 +165,8 @@ pub fn ready_both<B: Blocks>(
     ensures pins { (B.state on.old).pins_left ≤ (B.state on.new).pins_left + 60 }
     ensures room { (B.state on.old).room ≤ (B.state on.new).room + 1636 }
     ensures cause { IfErr result (Caused ⊥ (λ b. (B.state on.old).is_block b ⊎ (b ≡ 1)) (Rose (B.state on.old).faults (B.state on.new).faults) (Rose (B.state on.old).arena_faults (B.state on.new).arena_faults)) }
+    ensures dirties { IfOk result (λ leaves. AddsLeaves 48 dir.at leaves (B.state on.old) (B.state on.new)) }
+    ensures dirties_refused { OnErr result (AddsDirty 48 (dir.at ∷ []) dir.at (B.state on.old) (B.state on.new)) }
     ensures keeps { B.keeps on.old on.new }
 {
     let entries = match ready_entries(alloc, on, dir, pair) {

@@ -37,7 +37,7 @@ MayOwn (place.Below b) named = RecordHolds named
 -- what making ready may take
 abbrev pub blocks_for : OwnAt → ℕ
 blocks_for (place.Root root) = 0
-blocks_for (place.Below b) = 13
+blocks_for (place.Below b) = 11
 
 abbrev pub pins_for : OwnAt → ℕ
 pins_for (place.Root root) = 0
@@ -130,3 +130,8 @@ pub record ChangesRoot (s u : State) (root : ℕ) (named : Record) : Type 0 wher
 abbrev pub ChangesOwn : (s u : State) → OwnAt → Record → (block : ℕ) → Type 0
 ChangesOwn s u (place.Root root) named block = ChangesRoot s u root named
 ChangesOwn s u (place.Below b) named block = HasChanged named.name named ((s.now block).bytes) ((u.now block).bytes)
+
+-- the block that it is given to put into, which may be others then
+abbrev pub block_of : OwnAt → ℕ
+block_of (place.Root root) = root
+block_of (place.Below b) = b.dir.at

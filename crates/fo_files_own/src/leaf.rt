@@ -1,5 +1,5 @@
 //! A record in a leaf of the directory above is made ready.
-ghost use Rattle.std.specs.Prelude.{◌≡◌, ◌⊎◌, ◌+◌, ◌≤◌, ℕ, length, IfOk, IfErr, OnErr};
+ghost use Rattle.std.specs.Prelude.{◌≡◌, ◌⊎◌, ◌+◌, ◌≤◌, ℕ, length, IfOk, IfErr, OnErr, ◌∷◌, []};
 ghost use Rattle.fo_base.specs.Cause.{Rose};
 ghost use Rattle.fo_image.specs.Record.{RecordHolds};
 ghost use Rattle.fo_meta.specs.Leaf.{IsLeaf};
@@ -11,6 +11,7 @@ ghost use Rattle.fo_files_record.specs.Stays.{Rewrites, no_slot};
 ghost use Rattle.fo_files_ready.specs.of_files_change.Records.{AltersRecords};
 ghost use Rattle.fo_files_ready.specs.Ready.{HasPlace, IsLeafOf};
 ghost use Rattle.fo_files_own.specs.Own.{HasOwnLeaf, IsOfLeaf, LeavesBelow, MayPutOwn, WasReadied};
+ghost use Rattle.fo_ports.specs.Sources.{AddsDirty};
 
 use crate::at::{Below, ReadyOwn};
 use fo_base::BLOCK;
@@ -55,16 +56,18 @@ pub(crate) fn ready_below<B: Blocks>(
     requires entries { IsEntriesAt (B.state on.old) at.entries }
     requires spelled { RecordHolds named.now }
     requires pins { 60 ≤ (B.state on.old).pins_left }
-    requires spare { 13 ≤ (B.state on.old).spare }
+    requires spare { 11 ≤ (B.state on.old).spare }
     requires room { 1637 ≤ (B.state on.old).room }
     ensures ready { IfOk result (λ r. MayPutOwn (B.state on.new) r × IsOfLeaf (B.state on.new) at.dir r × HasOwnLeaf named.now (((B.state on.new).now r.at).bytes) r.bytes) }
     ensures steps { IfOk result (λ r. WasReadied B B.state on.old on.new at named.now.name r.at) }
     ensures stays { (m : B) × AltersRecords at.dir (B.state on.old) (B.state m) × B.keeps on.old m × B.keeps m on.new × Rewrites (IsLeafOf at.dir (B.state m)) no_slot (B.state m) (B.state on.new) }
     ensures left { OnErr result (LeavesBelow B B.state on.old on.new at named.now.name) }
-    ensures spare { (B.state on.old).spare ≤ (B.state on.new).spare + 13 }
+    ensures spare { (B.state on.old).spare ≤ (B.state on.new).spare + 11 }
     ensures pins { (B.state on.old).pins_left ≤ (B.state on.new).pins_left + 60 }
     ensures room { (B.state on.old).room ≤ (B.state on.new).room + 1637 }
     ensures cause { IfErr result (Caused ⊥ (λ b. (B.state on.old).is_block b ⊎ (b ≡ 1)) (Rose (B.state on.old).faults (B.state on.new).faults) (Rose (B.state on.old).arena_faults (B.state on.new).arena_faults)) }
+    ensures dirties { IfOk result (λ r. AddsDirty 22 (at.dir.at ∷ []) r.at (B.state on.old) (B.state on.new)) }
+    ensures dirties_refused { OnErr result (AddsDirty 22 (at.dir.at ∷ []) at.dir.at (B.state on.old) (B.state on.new)) }
     ensures keeps { B.keeps on.old on.new }
 {
     let name = named.name.as_slice();

@@ -6,7 +6,7 @@
 //!
 //! Proved: making ready is refused by faults, damage and want of memory alone, and leaves each record as it was, in its bytes, though one may have
 //! moved to another leaf. The bytes made ready are those that the block had with the new record in the place of the old one; a put changes that
-//! block alone, so the record that stood there is the new one if the block stayed as it was. At most 13 blocks are taken, 60 pins, and 1,637
+//! block alone, so the record that stood there is the new one if the block stayed as it was. At most 11 blocks are taken, 60 pins, and 1,637
 //! removals and waits; none for a root block. Not said: what holds of images.
 #![tactic(auto)]
 

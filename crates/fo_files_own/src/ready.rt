@@ -1,12 +1,13 @@
 //! A directory's own record is made ready.
-ghost use Rattle.std.specs.Prelude.{◌≡◌, ◌⊎◌, ◌+◌, ◌≤◌, ℕ, IfOk, IfErr, OnErr};
+ghost use Rattle.std.specs.Prelude.{◌≡◌, ◌⊎◌, ◌+◌, ◌≤◌, ℕ, IfOk, IfErr, OnErr, ◌∷◌, [], ◌*◌};
 ghost use Rattle.fo_base.specs.Cause.{Rose};
 ghost use Rattle.fo_ports.specs.Causes.{Caused};
 ghost use Rattle.fo_files_dir.specs.declared.dir.DirAt.{DirAt};
 ghost use Rattle.fo_files_dir.specs.declared.dir.FileAt.{FileAt};
 ghost use Rattle.fo_files_dir.specs.Dir.{IsDirAt, IsFileAt};
 ghost use Rattle.fo_files_record.specs.Leaf.{IsEntriesAt};
-ghost use Rattle.fo_files_own.specs.Own.{AltersOwn, HasReady, IsBlockOf, IsOwnAt, LeavesOwn, MayOwn, MayPutOwn, StepsTo, blocks_for, pins_for, removals_for};
+ghost use Rattle.fo_files_own.specs.Own.{AltersOwn, HasReady, IsBlockOf, IsOwnAt, LeavesOwn, MayOwn, MayPutOwn, StepsTo, blocks_for, pins_for, removals_for, block_of};
+ghost use Rattle.fo_ports.specs.Sources.{AddsDirty};
 
 use crate::at::{OwnAt, ReadyOwn};
 use crate::leaf::ready_below;
@@ -43,6 +44,8 @@ pub fn ready_own<B: Blocks>(
     ensures pins { (B.state on.old).pins_left ≤ (B.state on.new).pins_left + pins_for at }
     ensures room { (B.state on.old).room ≤ (B.state on.new).room + removals_for at }
     ensures cause { IfErr result (Caused ⊥ (λ b. (B.state on.old).is_block b ⊎ (b ≡ 1)) (Rose (B.state on.old).faults (B.state on.new).faults) (Rose (B.state on.old).arena_faults (B.state on.new).arena_faults)) }
+    ensures dirties { IfOk result (λ r. AddsDirty (2 * blocks_for at) (block_of at ∷ []) r.at (B.state on.old) (B.state on.new)) }
+    ensures dirties_refused { OnErr result (AddsDirty (2 * blocks_for at) (block_of at ∷ []) (block_of at) (B.state on.old) (B.state on.new)) }
     ensures keeps { B.keeps on.old on.new }
 {
     match at {

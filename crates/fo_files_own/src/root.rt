@@ -1,5 +1,5 @@
 //! The root directory's own record is made ready.
-ghost use Rattle.std.specs.Prelude.{◌≡◌, ◌⊎◌, ◌≤◌, ℕ, length, IfOk, IfErr, OnOk};
+ghost use Rattle.std.specs.Prelude.{◌≡◌, ◌⊎◌, ◌≤◌, ℕ, length, IfOk, IfErr, OnOk, ◌∷◌, []};
 ghost use Rattle.fo_base.specs.Cause.{Rose};
 ghost use Rattle.fo_image.specs.Record.{RootRecordHolds};
 ghost use Rattle.fo_ports.specs.declared.error.BlockError.TheVariants.{Damaged, Memory};
@@ -7,6 +7,7 @@ ghost use Rattle.fo_ports.specs.Causes.{Caused};
 ghost use Rattle.fo_ports.specs.State.{Looks};
 ghost use Rattle.fo_files_record.specs.Own.{HasOwn, IsRootAt};
 ghost use Rattle.fo_files_own.specs.Own.{HasOwnRoot, IsLive, IsOfRoot, MayPutOwn};
+ghost use Rattle.fo_ports.specs.Sources.{AddsDirty};
 
 use crate::at::ReadyOwn;
 use crate::rewritten::rewritten;
@@ -78,6 +79,7 @@ pub(crate) fn ready_root<B: Blocks>(
     ensures pins { (B.state on.new).pins_left ≡ (B.state on.old).pins_left }
     ensures spare { ((B.state on.new).spare ≡ (B.state on.old).spare) × ((B.state on.new).room ≡ (B.state on.old).room) }
     ensures cause { IfErr result (Caused ⊥ (λ b. (B.state on.old).is_block b ⊎ (b ≡ 1)) (Rose (B.state on.old).faults (B.state on.new).faults) (Rose (B.state on.old).arena_faults (B.state on.new).arena_faults)) }
+    ensures dirties { IfOk result (λ r. AddsDirty 0 (root ∷ []) r.at (B.state on.old) (B.state on.new)) }
     ensures keeps { B.keeps on.old on.new }
 {
     let mut block = [0; BLOCK];

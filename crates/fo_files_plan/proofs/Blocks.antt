@@ -1,7 +1,6 @@
 -- A leaf that is prepared is a data block.
 use Rattle.std.proofs.Common.{◌≡◌, ◌*◌, ◌/◌, ◌%◌, ◌<◌, ℕ, zero, suc, Bool, true, false, List, Some, None, Option, get_or, cond, sym, ap, subst, ⊎_elim, ◌∙◌}
-use Rattle.std.specs.Prelude.{◌==◌, take, drop}
-use Rattle.std.specs.List.{list_all}
+use Rattle.std.specs.Prelude.{take, drop}
 use Rattle.std.proofs.lemmas.Bool.{cases_eq}
 use Rattle.fo_image.specs.declared.types.Pointer.{Pointer}
 use Rattle.fo_image.specs.declared.types.Pointer.TheVariants.{Nil, Local, Score as Held}
@@ -11,7 +10,7 @@ use Rattle.fo_crash.specs.Images.{target}
 use Rattle.fo_ports.specs.State.{State, KeepsAll}
 use Rattle.fo_files_way.specs.of_tree.declared.source.Source.{Source}
 use Rattle.fo_tree_read.specs.declared.tree.Tree.{Tree}
-use Rattle.fo_tree_read.specs.Tree.{kind_down, below, score_in, block_at, address_of}
+use Rattle.fo_tree_read.specs.Tree.{kind_down, below, is_none, score_in, block_at, address_of}
 use Rattle.fo_tree_look.specs.declared.ways.Kept.{Kept}
 use Rattle.fo_tree_look.specs.Source.{Ready, WayReady, seen}
 use Rattle.fo_tree_look.proofs.Held.{seen_address}
@@ -27,7 +26,7 @@ cond_held false score b e = cc
 
 held_local : (o : Option (List ℕ)) (i b : ℕ) → score_in o i ≡ Local b → ⊥
 held_local None i b e = cc
-held_local (Some bytes) i b e = cond_held (list_all (λ x. x == 0) (take 16 (take 20 (drop (20 * i) bytes)))) (record { 0 = take 20 (drop (20 * i) bytes) }) b e
+held_local (Some bytes) i b e = cond_held (is_none (take 20 (drop (20 * i) bytes))) (record { 0 = take 20 (drop (20 * i) bytes) }) b e
 
 module _ (s : State) (t : Tree) (kept : List Kept) (within : (at i b : ℕ) → s.pinned at → target ((s.now at).slot i) ≡ Local b → s.is_block b) where
   block_below : (n i b : ℕ) (p : Pointer) → Ready s t kept n p → below (seen s kept) (kind_down t n) p i ≡ Local b → s.is_block b

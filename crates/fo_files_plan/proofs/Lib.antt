@@ -1,3 +1,4 @@
+pub mod Counting
 pub mod Trails
 pub mod Blocks
 pub mod Pairs

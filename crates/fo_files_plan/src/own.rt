@@ -1,6 +1,6 @@
 //! A way that was planned is owned.
-ghost use Rattle.std.specs.Prelude.{◌≡◌, ◌+◌, ◌<◌, ◌≤◌, ℕ, length, slice_index};
-ghost use Rattle.fo_ports.specs.Sources.{most_to_own};
+ghost use Rattle.std.specs.Prelude.{◌≡◌, ◌+◌, ◌<◌, ◌≤◌, ℕ, length, slice_index, ◌∷◌, [], ◌*◌};
+ghost use Rattle.fo_ports.specs.Sources.{most_to_own, AddsDirty, Dirties};
 ghost use Rattle.fo_files_way.specs.of_tree_shorten.Shorten.{EntryAt};
 ghost use Rattle.fo_files_way.specs.Plan.{IsLeafReady, IsPlanned, AreBlocks, most_for_levels};
 ghost use Rattle.fo_files_way.specs.Owns.{Owns, IsTag, IsIn, IsAboveLeaves, AreCarried, AreLinked, IsOwned};
@@ -19,6 +19,7 @@ pub fn own_way<B: Blocks>(plan: Plan, on: &mut B) -> Vec<u32>
     ensures linked { AreLinked (B.state on.new) result.items 0 plan.levels.items }
     ensures owned { AreOwned (B.state on.new) result.items }
     ensures spare { (B.state on.old).spare ≤ (B.state on.new).spare + most_for_levels plan.levels.items }
+    ensures dirties { Dirties (2 * most_for_levels plan.levels.items + 1) (IsIn result.items) (B.state on.old) (B.state on.new) }
     ensures keeps { B.keeps on.old on.new }
 {
     let Plan {
@@ -46,6 +47,7 @@ fn own_level<B: Blocks>(level: Level, on: &mut B, at: &mut Vec<u32>, k: usize)
     ensures owned { IsOwned (B.state on.old) (B.state on.new) level k at.old.items at.new.items }
     ensures blocks { AreBlocks (B.state on.new) at.new.items }
     ensures spare { (B.state on.old).spare ≤ (B.state on.new).spare + most_to_own level.source.ways.tree.size level.leaf }
+    ensures dirties { AddsDirty (2 * most_to_own level.source.ways.tree.size level.leaf) (slice_index at.old.items level.above ∷ []) (slice_index at.new.items (k + 1)) (B.state on.old) (B.state on.new) }
     ensures keeps { B.keeps on.old on.new }
 {
     let Level {

@@ -1,6 +1,8 @@
 -- A leaf of records in which a record may change.
-use Rattle.std.specs.Prelude.{◌≡◌, ◌⊎◌, ◌+◌, ◌*◌, ℕ, List, false}
+use Rattle.std.specs.Prelude.{◌≡◌, ◌⊎◌, ◌+◌, ◌*◌, ◌^◌, ℕ, List, false, cond, nat_le}
 use Rattle.fo_image.specs.declared.record.Record.{Record}
+use Rattle.fo_crash.specs.declared.slot.Slot.{Slot}
+use Rattle.fo_crash.specs.declared.slot.Slot.TheVariants.{Entry as Head, Pointer as Leads, Prev}
 use Rattle.fo_meta.specs.Leaf.{IsLeaf}
 use Rattle.fo_ports.specs.State.{State, Looks}
 use Rattle.fo_dir_change.specs.Changes.{Bears, BearsNot, IsTooLong}
@@ -25,6 +27,21 @@ pub record HasRoom (name : List ℕ) (named : Record) (bytes : List ℕ) : Type 
 -- a leaf of a directory's records that may be changed
 abbrev pub IsLeafOf : DirAt → State → ℕ → Type 0
 IsLeafOf d s leaf = IsOwnLeaf s (33 + 2 * d.number) false leaf
+
+-- how many bytes the source has whose entry a slot is
+abbrev pub size_in : Slot → ℕ
+size_in (Head e) = e.size
+size_in (Leads p) = 0
+size_in (Prev epoch at) = 0
+
+-- how many bytes of records a directory has, as its second entry says
+abbrev pub records_size : State → DirAt → ℕ
+records_size s d = size_in ((s.now d.at).slot (d.slot + 1))
+
+-- how many blocks it takes at most to make a leaf of so many bytes of records ready, or to add one of the first 409^2: where two levels of
+-- pointers lead to all, two to trim them and six to add one; else each of the first is there
+abbrev pub most_spare : ℕ → ℕ
+most_spare size = cond (nat_le size (8192 * 409 ^ 2)) 8 6
 
 -- Such a leaf has a record of this name, and room for another in its place.
 pub record IsReadyFor (s : State) (d : DirAt) (leaf : ℕ) (name : List ℕ) (named : Record) : Type 0 where

@@ -6,7 +6,7 @@
 //!
 //! Proved: the leaf that is answered may be changed, has a record of the name, and has room for the new one in its place. It is refused by
 //! faults, damage and want of memory alone, and then no leaf of records that was there has other bytes. What stays is said in two steps, up to
-//! the ready leaves (`Alters`) and over the move (`Rewrites`). At most 13 blocks are taken, 60 pins, and 1,637 removals and waits. Not said:
+//! the ready leaves (`Alters`) and over the move (`Rewrites`). At most 11 blocks are taken, 60 pins, and 1,637 removals and waits. Not said:
 //! what holds of images.
 #![tactic(auto)]
 

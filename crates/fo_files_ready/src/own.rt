@@ -1,11 +1,12 @@
 //! A leaf of a directory's records is owned, for few blocks.
-ghost use Rattle.std.specs.Prelude.{◌≡◌, ◌≢◌, ◌⊎◌, ◌+◌, ◌*◌, ◌≤◌, ℕ, true, false, IfOk, OnOk, OnErr, IfErr};
+ghost use Rattle.std.specs.Prelude.{◌≡◌, ◌≢◌, ◌⊎◌, ◌+◌, ◌*◌, ◌≤◌, ℕ, true, false, IfOk, OnOk, OnErr, IfErr, ◌∷◌, []};
 ghost use Rattle.fo_base.specs.Cause.{Rose};
 ghost use Rattle.fo_ports.specs.Causes.{Caused};
-ghost use Rattle.fo_ports.specs.Sources.{most_to_own};
+ghost use Rattle.fo_ports.specs.Sources.{most_to_own, way_for, AddsDirty};
 ghost use Rattle.fo_ports.specs.State.{Looks, none};
 ghost use Rattle.fo_files_change.specs.of_files_leaf.Alters.{Alters};
 ghost use Rattle.fo_files_change.specs.of_files_leaf.Leaf.{IsHolder, IsWanted, IsAbove, IsOwnLeaf, Readied};
+ghost use Rattle.fo_files_ready.specs.Ready.{size_in};
 
 use fo_base::BLOCK;
 use fo_files_change::files_leaf::{LeafOf, may_grow, own_grown, source_for};
@@ -19,7 +20,6 @@ pub(crate) const MOST_ADDED: u32 = 409 * 409;
 /// Whether a source of so many bytes has a leaf, or may get it and is small.
 fn is_few(size: u64, leaf: u32, may_add: bool) -> bool
     ensures few { result ≡ true → most_to_own size leaf ≤ 6 }
-    ensures fewer { result ≡ true → may_add ≡ false → most_to_own size leaf ≤ 5 }
     ensures has { result ≡ true → may_add ≡ false → 8192 * (leaf + 1) ≤ size }
 {
     if BLOCK as u64 * (leaf as u64 + 1) <= size {
@@ -47,10 +47,13 @@ pub(crate) fn own_few<B: Blocks>(
     ensures nothing { OnErr result (Looks (B.state on.old) (B.state on.new)) }
     ensures alters { Alters wanted.at (λ k. k ≡ wanted.slot) (λ t. t ≡ wanted.tag) (IsAbove wanted.tag wanted.is_dir) none (B.state on.old) (B.state on.new) }
     ensures spare { (B.state on.old).spare ≤ (B.state on.new).spare + 6 }
-    ensures fewer { may_add ≡ false → (B.state on.old).spare ≤ (B.state on.new).spare + 5 }
+    ensures fewer { may_add ≡ false → (B.state on.old).spare ≤ (B.state on.new).spare + way_for (size_in (((B.state on.old).now wanted.at).slot wanted.slot)) }
+    ensures same { OnOk result (may_add ≡ false → size_in (((B.state on.new).now wanted.at).slot wanted.slot) ≡ size_in (((B.state on.old).now wanted.at).slot wanted.slot)) }
     ensures pins { (B.state on.old).pins_left ≤ (B.state on.new).pins_left + 20 }
     ensures room { (B.state on.new).room ≡ (B.state on.old).room }
     ensures cause { IfErr result (Caused ⊥ (λ b. (B.state on.old).is_block b ⊎ (b ≡ 1)) (Rose (B.state on.old).faults (B.state on.new).faults) (Rose (B.state on.old).arena_faults (B.state on.new).arena_faults)) }
+    ensures dirties { IfOk result (λ leaf. AddsDirty 12 (wanted.at ∷ []) leaf (B.state on.old) (B.state on.new)) }
+    ensures dirties_fewer { IfOk result (λ leaf. may_add ≡ false → AddsDirty (2 * way_for (size_in (((B.state on.old).now wanted.at).slot wanted.slot))) (wanted.at ∷ []) leaf (B.state on.old) (B.state on.new)) }
     ensures keeps { B.keeps on.old on.new }
 {
     let mut source = match source_for(alloc, on, wanted) {

@@ -1,5 +1,5 @@
 //! The leaf that has a record is made ready for the record to change.
-ghost use Rattle.std.specs.Prelude.{◌≡◌, ◌⊎◌, ◌+◌, ◌%◌, ◌<◌, ◌≤◌, ℕ, IfOk, IfErr, OnOk, OnErr};
+ghost use Rattle.std.specs.Prelude.{◌≡◌, ◌⊎◌, ◌+◌, ◌*◌, ◌%◌, ◌<◌, ◌≤◌, ℕ, IfOk, IfErr, OnOk, OnErr, ◌∷◌, []};
 ghost use Rattle.fo_base.specs.Cause.{Rose};
 ghost use Rattle.fo_image.specs.Record.{RecordHolds};
 ghost use Rattle.fo_meta.specs.Leaf.{IsLeaf};
@@ -12,7 +12,8 @@ ghost use Rattle.fo_files_move.specs.Moves.{HasMoved};
 ghost use Rattle.fo_files_record.specs.Leaf.{IsRecordsAt, IsEntriesAt};
 ghost use Rattle.fo_files_record.specs.Stays.{Rewrites, no_slot};
 ghost use Rattle.fo_files_change.specs.Records.{AltersRecords, records_of};
-ghost use Rattle.fo_files_ready.specs.Ready.{IsLeafOf, IsReadyFor, Stands, Goes};
+ghost use Rattle.fo_files_ready.specs.Ready.{IsLeafOf, IsReadyFor, Stands, Goes, most_spare, records_size};
+ghost use Rattle.fo_ports.specs.Sources.{DirtiesIn, AddsDirty};
 
 use crate::leaf::{RECORDS_BELOW, leaf_at, spare_leaf};
 use crate::place::{has_place, with_room};
@@ -41,7 +42,7 @@ pub fn ready_record<B: Blocks>(
     requires entries { IsEntriesAt (B.state on.old) entries }
     requires spelled { RecordHolds named.now }
     requires pins { 60 ≤ (B.state on.old).pins_left }
-    requires spare { 13 ≤ (B.state on.old).spare }
+    requires spare { 11 ≤ (B.state on.old).spare }
     requires room { 1637 ≤ (B.state on.old).room }
     ensures ready { IfOk result (λ leaf. IsReadyFor (B.state on.new) dir leaf name.now named.now) }
     ensures steps { IfOk result (λ leaf. ((a m : B) × Stands (B.state on.old) (B.state a) (B.state m) (B.state on.new) dir i leaf) ⊎ ((a m n b c e : B) × (from : ℕ) × Goes (B.state on.old) (B.state a) (B.state m) (B.state n) (B.state b) (B.state c) (B.state e) (B.state on.new) dir i spare from leaf name.now)) }
@@ -49,10 +50,12 @@ pub fn ready_record<B: Blocks>(
     ensures nothing { OnErr result ((m : B) × AltersRecords dir (B.state on.old) (B.state m) × Rewrites (λ b. ⊥) no_slot (B.state m) (B.state on.new)) }
     ensures dir { IsDirAt (B.state on.new) dir }
     ensures entries { (e : ℕ) → IsEntriesAt (B.state on.old) e → IsEntriesAt (B.state on.new) e }
-    ensures spare { (B.state on.old).spare ≤ (B.state on.new).spare + 13 }
+    ensures spare { (B.state on.old).spare ≤ (B.state on.new).spare + 11 }
     ensures pins { (B.state on.old).pins_left ≤ (B.state on.new).pins_left + 60 }
     ensures room { (B.state on.old).room ≤ (B.state on.new).room + 1637 }
     ensures cause { IfErr result (Caused ⊥ (λ b. (B.state on.old).is_block b ⊎ (b ≡ 1)) (Rose (B.state on.old).faults (B.state on.new).faults) (Rose (B.state on.old).arena_faults (B.state on.new).arena_faults)) }
+    ensures dirties { IfOk result (λ leaf. AddsDirty 22 (dir.at ∷ []) leaf (B.state on.old) (B.state on.new)) }
+    ensures dirties_refused { OnErr result (AddsDirty 22 (dir.at ∷ []) dir.at (B.state on.old) (B.state on.new)) }
     ensures keeps { B.keeps on.old on.new }
 {
     let from = match leaf_at(alloc, on, dir, i, false) {
@@ -90,7 +93,7 @@ fn move_to<B: Blocks>(
     requires bytes { IsLeaf (((B.state on.old).now from).bytes) }
     requires spelled { RecordHolds named.now }
     requires pins { 40 ≤ (B.state on.old).pins_left }
-    requires spare { 8 ≤ (B.state on.old).spare }
+    requires spare { most_spare (records_size (B.state on.old) dir) ≤ (B.state on.old).spare }
     requires room { 1637 ≤ (B.state on.old).room }
     ensures ready { IfOk result (λ leaf. IsReadyFor (B.state on.new) dir leaf name.now named.now) }
     ensures steps { IfOk result (λ leaf. (n b c e : B) × AltersRecords dir (B.state on.old) (B.state n) × Readied (B.state n) (B.state b) (B.state c) (records_of dir spare) leaf × Looks (B.state c) (B.state e)
@@ -98,10 +101,12 @@ fn move_to<B: Blocks>(
         × Rewrites (λ x. (x ≡ from) ⊎ (x ≡ leaf)) no_slot (B.state e) (B.state on.new)) }
     ensures stays { (m : B) × AltersRecords dir (B.state on.old) (B.state m) × B.keeps on.old m × B.keeps m on.new × Rewrites (IsLeafOf dir (B.state m)) no_slot (B.state m) (B.state on.new) }
     ensures nothing { OnErr result ((m : B) × AltersRecords dir (B.state on.old) (B.state m) × Rewrites (λ b. ⊥) no_slot (B.state m) (B.state on.new)) }
-    ensures spare { (B.state on.old).spare ≤ (B.state on.new).spare + 8 }
+    ensures spare { (B.state on.old).spare ≤ (B.state on.new).spare + most_spare (records_size (B.state on.old) dir) }
     ensures pins { (B.state on.old).pins_left ≤ (B.state on.new).pins_left + 40 }
     ensures room { (B.state on.old).room ≤ (B.state on.new).room + 1637 }
     ensures cause { IfErr result (Caused ⊥ (λ b. (B.state on.old).is_block b ⊎ (b ≡ 1)) (Rose (B.state on.old).faults (B.state on.new).faults) (Rose (B.state on.old).arena_faults (B.state on.new).arena_faults)) }
+    ensures dirties { IfOk result (λ leaf. AddsDirty (2 * most_spare (records_size (B.state on.old) dir)) (dir.at ∷ from ∷ []) leaf (B.state on.old) (B.state on.new)) }
+    ensures dirties_refused { OnErr result (AddsDirty (2 * most_spare (records_size (B.state on.old) dir)) (dir.at ∷ from ∷ []) dir.at (B.state on.old) (B.state on.new)) }
     ensures keeps { B.keeps on.old on.new }
 {
     let to = match spare_leaf(alloc, on, dir, spare) {
@@ -140,6 +145,7 @@ fn move_here<B: Blocks>(
     ensures rewrites { Rewrites (λ b. (b ≡ from) ⊎ (b ≡ to)) no_slot (B.state on.old) (B.state on.new) }
     ensures room { (B.state on.old).room ≤ (B.state on.new).room + 1 }
     ensures cause { IfErr result (Caused ⊥ (B.state on.old).is_block (Rose (B.state on.old).faults (B.state on.new).faults) ⊥) }
+    ensures dirties { DirtiesIn (from ∷ to ∷ []) (B.state on.old) (B.state on.new) }
     ensures keeps { B.keeps on.old on.new }
 {
     match move_between(alloc, on, from, to, rank, entries, name) {

@@ -1,11 +1,12 @@
 //! The root directory's own record is put.
-ghost use Rattle.std.specs.Prelude.{◌≡◌, ◌⊎◌, ◌+◌, ◌≤◌, ℕ, length, IfErr, OnOk, OnErr};
+ghost use Rattle.std.specs.Prelude.{◌≡◌, ◌⊎◌, ◌+◌, ◌≤◌, ℕ, length, IfErr, OnOk, OnErr, ◌∷◌, []};
 ghost use Rattle.fo_base.specs.Cause.{Rose};
 ghost use Rattle.fo_image.specs.Record.{RootRecordHolds};
 ghost use Rattle.fo_ports.specs.declared.error.BlockError.TheVariants.{Damaged, Memory};
 ghost use Rattle.fo_ports.specs.Causes.{Caused};
 ghost use Rattle.fo_ports.specs.State.{Looks};
 ghost use Rattle.fo_files_record.specs.Own.{HasOwn, IsRootAt, PutsOwn};
+ghost use Rattle.fo_ports.specs.Sources.{DirtiesIn};
 
 use fo_base::BLOCK;
 use fo_image::{Kind, Record, RecordError, RootBlock, read_root, write_root};
@@ -82,6 +83,7 @@ pub fn put_own_record<B: Blocks>(
     ensures root { IsRootAt (B.state on.new) root }
     ensures left { ((B.state on.new).spare ≡ (B.state on.old).spare) × ((B.state on.new).pins_left ≡ (B.state on.old).pins_left) × ((B.state on.new).room ≡ (B.state on.old).room) × ((B.state on.new).usable ≡ (B.state on.old).usable) }
     ensures cause { IfErr result (Caused ⊥ (B.state on.old).is_block (Rose (B.state on.old).faults (B.state on.new).faults) ⊥) }
+    ensures dirties { DirtiesIn (root ∷ []) (B.state on.old) (B.state on.new) }
     ensures keeps { B.keeps on.old on.new }
 {
     let mut block = [0; BLOCK];

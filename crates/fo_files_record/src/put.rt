@@ -1,5 +1,5 @@
 //! A record changes in its leaf.
-ghost use Rattle.std.specs.Prelude.{◌≡◌, ◌⊎◌, ◌+◌, ◌%◌, ◌≤◌, ℕ, true, false, length, IfOk, IfErr, OnOk, OnErr};
+ghost use Rattle.std.specs.Prelude.{◌≡◌, ◌⊎◌, ◌+◌, ◌%◌, ◌≤◌, ℕ, true, false, length, IfOk, IfErr, OnOk, OnErr, ◌∷◌, []};
 ghost use Rattle.fo_base.specs.Cause.{Rose};
 ghost use Rattle.fo_image.specs.Record.{RecordHolds};
 ghost use Rattle.fo_meta.specs.Leaf.{IsLeaf};
@@ -8,6 +8,7 @@ ghost use Rattle.fo_ports.specs.State.{Looks};
 ghost use Rattle.fo_dir_change.specs.Changes.{Bears, HasChanged, IsTooLong};
 ghost use Rattle.fo_files_record.specs.Leaf.{IsRecordsAt};
 ghost use Rattle.fo_files_record.specs.Stays.{Rewrites, no_slot};
+ghost use Rattle.fo_ports.specs.Sources.{DirtiesIn};
 
 use crate::leaf::read_named;
 use fo_base::BLOCK;
@@ -36,6 +37,7 @@ pub fn change_in<B: Blocks>(
     ensures stays { Rewrites (λ b. b ≡ leaf) no_slot (B.state on.old) (B.state on.new) }
     ensures room { (B.state on.new).room ≡ (B.state on.old).room }
     ensures cause { IfErr result (Caused ⊥ (B.state on.old).is_block (Rose (B.state on.old).faults (B.state on.new).faults) ⊥) }
+    ensures dirties { DirtiesIn (leaf ∷ []) (B.state on.old) (B.state on.new) }
     ensures keeps { B.keeps on.old on.new }
 {
     let mut bytes = [0; BLOCK];

@@ -1,5 +1,5 @@
 //! A record goes with the entries of its pair.
-ghost use Rattle.std.specs.Prelude.{◌≡◌, ◌⊎◌, ◌↔◌, ◌+◌, ◌*◌, ◌%◌, ◌<◌, ◌≤◌, ℕ, true, false, length, IfOk, IfErr, OnOk, OnErr};
+ghost use Rattle.std.specs.Prelude.{◌≡◌, ◌⊎◌, ◌↔◌, ◌+◌, ◌*◌, ◌%◌, ◌<◌, ◌≤◌, ℕ, true, false, length, IfOk, IfErr, OnOk, OnErr, [], ◌∷◌};
 ghost use Rattle.fo_base.specs.Cause.{Rose};
 ghost use Rattle.fo_image.specs.declared.record.Record.{Record};
 ghost use Rattle.fo_image.specs.declared.types.Pointer.TheVariants.{Local};
@@ -15,6 +15,7 @@ ghost use Rattle.fo_dir_remove.specs.Removes.{IsGoing};
 ghost use Rattle.fo_files_record.specs.Leaf.{IsRecordsAt, IsEntriesAt};
 ghost use Rattle.fo_files_record.specs.Stays.{Rewrites, IsPairSlot, IsClean, no_slot};
 ghost use Rattle.fo_files_record.specs.Takes.{IsOfPair, TakesOut};
+ghost use Rattle.fo_ports.specs.Sources.{DirtiesIn};
 
 use crate::leaf::read;
 use fo_base::BLOCK;
@@ -106,6 +107,7 @@ fn settled_for<B: Blocks>(
     ensures stays { Rewrites (λ b. ⊥) no_slot (B.state on.old) (B.state on.new) }
     ensures room { (B.state on.new).room ≡ (B.state on.old).room }
     ensures cause { IfErr result (Caused ⊥ (B.state on.old).is_block (Rose (B.state on.old).faults (B.state on.new).faults) ⊥) }
+    ensures dirties { DirtiesIn [] (B.state on.old) (B.state on.new) }
     ensures keeps { B.keeps on.old on.new }
 {
     let _ = leaf;
@@ -145,6 +147,7 @@ fn record_taken<B: Blocks>(
     ensures entries { IsEntriesAt (B.state on.new) entries }
     ensures stays { Rewrites (λ b. b ≡ leaf) (IsPairSlot entries p is_dir) (B.state on.old) (B.state on.new) }
     ensures room { (B.state on.new).room + 1 ≡ (B.state on.old).room }
+    ensures dirties { DirtiesIn (leaf ∷ entries ∷ []) (B.state on.old) (B.state on.new) }
     ensures keeps { B.keeps on.old on.new }
 {
     let _ = is_dir;
@@ -168,6 +171,7 @@ fn second_cleared<B: Blocks>(on: &mut B, leaf: u32, entries: u32, p: u32)
     ensures entries { IsEntriesAt (B.state on.new) entries }
     ensures stays { Rewrites (λ b. b ≡ leaf) (IsPairSlot entries p true) (B.state on.old) (B.state on.new) }
     ensures room { (B.state on.new).room + 1 ≡ (B.state on.old).room }
+    ensures dirties { DirtiesIn (entries ∷ []) (B.state on.old) (B.state on.new) }
     ensures keeps { B.keeps on.old on.new }
 {
     clear_second(on, leaf, entries, p);
@@ -242,6 +246,7 @@ pub fn take_out<B: Blocks>(
     ensures stays { Rewrites (λ b. b ≡ leaf) (IsPairSlot entries (pair % 102) is_dir) (B.state on.old) (B.state on.new) }
     ensures room { (B.state on.old).room ≤ (B.state on.new).room + 2 }
     ensures cause { IfErr result (Caused ⊥ (B.state on.old).is_block (Rose (B.state on.old).faults (B.state on.new).faults) ⊥) }
+    ensures dirties { DirtiesIn (leaf ∷ entries ∷ []) (B.state on.old) (B.state on.new) }
     ensures keeps { B.keeps on.old on.new }
 {
     let mut bytes = [0; BLOCK];
@@ -287,6 +292,7 @@ fn both_taken<B: Blocks>(
     ensures entries { IsEntriesAt (B.state on.new) entries }
     ensures stays { Rewrites (λ b. b ≡ leaf) (IsPairSlot entries p is_dir) (B.state on.old) (B.state on.new) }
     ensures room { (B.state on.old).room ≤ (B.state on.new).room + 2 }
+    ensures dirties { DirtiesIn (leaf ∷ entries ∷ []) (B.state on.old) (B.state on.new) }
     ensures keeps { B.keeps on.old on.new }
 {
     record_taken(on, leaf, entries, p, name, is_dir, bytes);

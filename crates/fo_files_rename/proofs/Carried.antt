@@ -132,6 +132,6 @@ own_usable B state keeps old new (Below b) x = more_usable (state old).usable (s
 
 -- ---- what is taken at most
 
-pub few : (at : OwnAt) → blocks_for at ≤ 13
+pub few : (at : OwnAt) → blocks_for at ≤ 11
 few (Root root) = omega arith
 few (Below b) = omega arith

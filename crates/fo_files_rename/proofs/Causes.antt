@@ -1,5 +1,5 @@
 -- Why a change is refused.
-use Rattle.std.proofs.Common.{◌≡◌, ◌⊎◌, ◌+◌, ◌-◌, ◌*◌, ◌/◌, ◌^◌, ◌<◌, ◌≤◌, ℕ, inl, inr, ⊎_elim, arith}
+use Rattle.std.proofs.Common.{◌≡◌, ◌⊎◌, ◌+◌, ◌-◌, ◌*◌, ◌/◌, ◌^◌, ◌<◌, ◌≤◌, ℕ, inl, inr, ⊎_elim, subst, arith}
 use Rattle.fo_base.specs.Cause.{Rose}
 use Rattle.fo_ports.specs.declared.error.BlockError.{BlockError}
 use Rattle.fo_ports.specs.declared.error.BlockError.TheVariants.{Full, Damaged, Fault, Arena, Memory}
@@ -7,7 +7,7 @@ use Rattle.fo_ports.specs.Causes.{Caused}
 use Rattle.fo_ports.specs.State.{State, KeepsAll}
 use Rattle.fo_world.specs.declared.error.FileError.{FileError}
 use Rattle.fo_world.specs.declared.error.FileError.TheVariants as error
-use Rattle.fo_world.specs.Answers.{HasCause}
+use Rattle.fo_world.specs.Answers.{HasCause, IsBelow}
 use Rattle.fo_files_edit.specs.of_files_look.Told.{faults_of}
 
 below_more : (n need most : ℕ) → need ≤ most → n < need → n < most
@@ -37,8 +37,15 @@ cause_more a c full need most less error.Halted cause = tt
 cause_more a c full need most less error.Gone cause = tt
 cause_more a c full need most less error.DirFull cause = tt
 
--- what a new name and a length take is no more than any change may
-pub most_taken : (long : ℕ) → 5 * long + 35 ≤ 6 * (long - 1) + 40 + 0 / 8192 + 0 / 2 ^ 21
+-- so it has for what a change gives
+pub full_below : (a c : State) (full : ℕ → Type 0) (need most : ℕ) → need ≤ most → (e : FileError) → HasCause (faults_of a) (faults_of c) ⊥ full need e → e ≡ error.Full → IsBelow full most
+full_below a c full need most less e cause is = let h = subst (λ x. HasCause (faults_of a) (faults_of c) ⊥ full need x) is cause in (h.0, h.1, below_more h.0 need most less h.2)
+
+-- what a new name and a length take is no more than a change gives, or than any may take
+pub most_given : (long : ℕ) → 5 * long + 31 ≤ 5 * (long - 1) + 36
+most_given long = omega arith
+
+pub most_taken : (long : ℕ) → 5 * long + 31 ≤ 6 * (long - 1) + 40 + 0 / 8192 + 0 / 2 ^ 21
 most_taken long = omega arith
 
 -- damage that was found where nothing had failed since

@@ -2,9 +2,9 @@
 use Rattle.std.proofs.Common.{◌≡◌, ◌+◌, ◌*◌, ◌≤◌, ℕ, Bool, true, false, List, [], ◌∷◌, length, Option, refl, sym, ap, subst, ◌∙◌, arith}
 use Rattle.std.specs.Prelude.{IfSome, is_some, Result, Ok, Err, IfErr, OnOk, OnErr}
 use Rattle.fo_world.specs.declared.place.Place.{Place}
-use Rattle.fo_world.specs.Step.{most_need, new_name}
+use Rattle.fo_world.specs.Step.{depth_of, give, most_need, new_name}
 use Rattle.fo_files_rename.specs.Change.{given_of}
-use Rattle.fo_files_rename.proofs.Causes.{most_taken}
+use Rattle.fo_files_rename.proofs.Causes.{most_given, most_taken}
 
 given_within : (P : ℕ → Type 0) (dir : Bool) (given : Option ℕ) → IfSome given P → IfSome (given_of dir given) P
 given_within P true given is = tt
@@ -25,8 +25,14 @@ empty (x ∷ xs) n count none = absurd (omega (arith, count, none))
 pub no_trail : (xs ys : List ℕ) (n : ℕ) → xs ≡ ys → n ≡ length xs → n ≡ 0 → ys ≡ []
 no_trail xs ys n same count none = sym same ∙ empty xs n count none
 
-pub most_of : (xs : List ℕ) (at : Place) → xs ≡ at.trail → 5 * length xs + 35 ≤ most_need at
-most_of xs at same = subst (λ t. 5 * length t + 35 ≤ most_need at) (sym same) (most_taken (length at.trail))
+pub give_of : (xs : List ℕ) (at : Place) → xs ≡ at.trail → 5 * length xs + 31 ≤ give (depth_of at)
+give_of xs at same = subst (λ t. 5 * length t + 31 ≤ give (depth_of at)) (sym same) (most_given (length at.trail))
+
+pub most_of : (xs : List ℕ) (at : Place) → xs ≡ at.trail → 5 * length xs + 31 ≤ most_need at
+most_of xs at same = subst (λ t. 5 * length t + 31 ≤ most_need at) (sym same) (most_taken (length at.trail))
+
+pub some_give : (at : Place) → 0 ≤ give (depth_of at)
+some_give at = omega arith
 
 pub some_need : (at : Place) → 0 ≤ most_need at
 some_need at = omega arith

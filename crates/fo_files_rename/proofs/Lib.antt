@@ -1,3 +1,4 @@
+pub mod Counting
 pub mod Owning
 pub mod Carried
 pub mod Causes

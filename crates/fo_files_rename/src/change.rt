@@ -1,15 +1,17 @@
 //! A file is changed.
-ghost use Rattle.std.specs.Prelude.{◌≡◌, ◌⊎◌, ◌+◌, ◌*◌, ◌^◌, ◌<◌, ◌≤◌, ℕ, false, length, None, IfSome, IfErr, OnOk, OnErr};
-ghost use Rattle.fo_ports.specs.State.{Looks};
-ghost use Rattle.fo_world.specs.Answers.{Refuses};
+ghost use Rattle.std.specs.Prelude.{◌≡◌, ◌⊎◌, ◌+◌, ◌*◌, ◌^◌, ◌<◌, ◌≤◌, ℕ, false, length, None, IfSome, IfErr, OnOk, OnErr, ◌-◌};
+ghost use Rattle.fo_ports.specs.State.{Looks, none};
+ghost use Rattle.fo_world.specs.declared.error.FileError.TheVariants.{Full};
+ghost use Rattle.fo_world.specs.Answers.{IsBelow, Refuses};
 ghost use Rattle.fo_world.specs.Limits.{IsName, IsUser};
-ghost use Rattle.fo_world.specs.Step.{most_need};
+ghost use Rattle.fo_world.specs.Step.{depth_of, give, most_need, need};
 ghost use Rattle.fo_files_edit.specs.of_files_at.Way.{IsWay};
 ghost use Rattle.fo_files_edit.specs.of_files_look.Told.{faults_of, MayLook};
 ghost use Rattle.fo_files_edit.specs.of_files_along.Along.{HasRoom, IsBlocks};
 ghost use Rattle.fo_files_edit.specs.Asks.{FoundSame, WhyRefused};
 ghost use Rattle.fo_files_rename.specs.Change as of;
 ghost use Rattle.fo_files_rename.specs.Change.{ChangesFile, ChangesFound, KeepsFile, LeavesFile, LeavesFound, LeavesName, OwnsName};
+ghost use Rattle.fo_ports.specs.Sources.{Dirties};
 
 use crate::own::own_for;
 use crate::rename::rename_below;
@@ -45,8 +47,9 @@ fn rename_found<B: Blocks>(
     ensures renames { OnOk result (OwnsName B B.state on.old on.new root trail.now found.now.way found.now.name given who.now now) }
     ensures left { OnErr result (Looks (B.state on.old) (B.state on.new) ⊎ LeavesName B B.state on.old on.new root trail.now found.now.way found.now.name given) }
     ensures blocks { IfErr result IsBlocks }
-    ensures taken { (B.state on.old).usable ≤ (B.state on.new).usable + (5 * length trail.now + 35) }
-    ensures cause { Refuses (faults_of (B.state on.old)) (faults_of (B.state on.new)) ⊥ (HasRoom (B.state on.new)) (5 * length trail.now + 35) result }
+    ensures taken { (B.state on.old).usable ≤ (B.state on.new).usable + (5 * length trail.now + 31) }
+    ensures cause { Refuses (faults_of (B.state on.old)) (faults_of (B.state on.new)) ⊥ (HasRoom (B.state on.new)) (5 * length trail.now + 31) result }
+    ensures dirties { Dirties (2 * need (length trail.now - 1) 0) none (B.state on.old) (B.state on.new) }
     ensures keeps { B.keeps on.old on.new }
 {
     let own = match own_for(alloc, on, root, trail, &found.way, who, now) {
@@ -75,8 +78,9 @@ fn change_file_below<B: Blocks>(
     ensures changes { OnOk result (ChangesFound B B.state on.old on.new root trail.now found.now.way found.now.name what.now who.now now) }
     ensures left { OnErr result (LeavesFound B B.state on.old on.new root trail.now found.now.way found.now.name what.now) }
     ensures blocks { IfErr result IsBlocks }
-    ensures taken { (B.state on.old).usable ≤ (B.state on.new).usable + (5 * length trail.now + 35) }
-    ensures cause { Refuses (faults_of (B.state on.old)) (faults_of (B.state on.new)) ⊥ (HasRoom (B.state on.new)) (5 * length trail.now + 35) result }
+    ensures taken { (B.state on.old).usable ≤ (B.state on.new).usable + (5 * length trail.now + 31) }
+    ensures cause { Refuses (faults_of (B.state on.old)) (faults_of (B.state on.new)) ⊥ (HasRoom (B.state on.new)) (5 * length trail.now + 31) result }
+    ensures dirties { Dirties (2 * need (length trail.now - 1) 0) none (B.state on.old) (B.state on.new) }
     ensures keeps { B.keeps on.old on.new }
 {
     let given = given_of(found.way.file.dir, what.length);
@@ -113,6 +117,9 @@ fn change_here<B: Blocks>(
     ensures blocks { IfErr result IsBlocks }
     ensures taken { (B.state on.old).usable ≤ (B.state on.new).usable + most_need at.now }
     ensures cause { Refuses (faults_of (B.state on.old)) (faults_of (B.state on.new)) ⊥ (HasRoom (B.state on.new)) (most_need at.now) result }
+    ensures fewer { (B.state on.old).usable ≤ (B.state on.new).usable + give (depth_of at.now) }
+    ensures full { IfErr result (λ e. e ≡ Full → IsBelow (HasRoom (B.state on.new)) (give (depth_of at.now))) }
+    ensures dirties { Dirties (2 * most_need at.now) none (B.state on.old) (B.state on.new) }
     ensures keeps { B.keeps on.old on.new }
 {
     let trail = at.trail.as_slice();
@@ -150,6 +157,9 @@ fn change_found<B: Blocks>(
     ensures blocks { IfErr result IsBlocks }
     ensures taken { (B.state on.old).usable ≤ (B.state on.new).usable + most_need at.now }
     ensures cause { Refuses (faults_of (B.state on.old)) (faults_of (B.state on.new)) ⊥ (HasRoom (B.state on.new)) (most_need at.now) result }
+    ensures fewer { (B.state on.old).usable ≤ (B.state on.new).usable + give (depth_of at.now) }
+    ensures full { IfErr result (λ e. e ≡ Full → IsBelow (HasRoom (B.state on.new)) (give (depth_of at.now))) }
+    ensures dirties { Dirties (2 * most_need at.now) none (B.state on.old) (B.state on.new) }
     ensures keeps { B.keeps on.old on.new }
 {
     change_here(alloc, on, root, at, &found, what, who, now)
@@ -180,6 +190,9 @@ pub fn change_file<B: Blocks>(
     ensures refused { IfErr result (WhyRefused B B.state root at.now what.now halted) }
     ensures taken { (B.state on.old).usable ≤ (B.state on.new).usable + most_need at.now }
     ensures cause { Refuses (faults_of (B.state on.old)) (faults_of (B.state on.new)) ⊥ (HasRoom (B.state on.new)) (most_need at.now) result }
+    ensures fewer { (B.state on.old).usable ≤ (B.state on.new).usable + give (depth_of at.now) }
+    ensures full { IfErr result (λ e. e ≡ Full → IsBelow (HasRoom (B.state on.new)) (give (depth_of at.now))) }
+    ensures dirties { Dirties (2 * most_need at.now) none (B.state on.old) (B.state on.new) }
     ensures keeps { B.keeps on.old on.new }
 {
     match found_at(alloc, on, root, at, what, who, now, halted) {

@@ -1,12 +1,13 @@
 //! A file gets its new record, and its directory's own record changes, where the way was owned.
-ghost use Rattle.std.specs.Prelude.{◌≡◌, ◌⊎◌, ◌+◌, ◌^◌, ◌<◌, ◌≤◌, ℕ, IfSome, IfErr, OnOk, OnErr};
+ghost use Rattle.std.specs.Prelude.{◌≡◌, ◌⊎◌, ◌+◌, ◌^◌, ◌<◌, ◌≤◌, ℕ, IfSome, IfErr, OnOk, OnErr, ◌∷◌, [], ◌*◌};
 ghost use Rattle.fo_base.specs.Cause.{Rose};
 ghost use Rattle.fo_image.specs.Record.{RecordHolds};
 ghost use Rattle.fo_ports.specs.Causes.{Caused};
 ghost use Rattle.fo_files_dir.specs.Dir.{IsDirAt, IsFileAt};
 ghost use Rattle.fo_files_record.specs.Leaf.{IsEntriesAt};
-ghost use Rattle.fo_files_own.specs.Own.{IsOwnAt, MayOwn};
+ghost use Rattle.fo_files_own.specs.Own.{IsOwnAt, MayOwn, block_of, blocks_for};
 ghost use Rattle.fo_files_rename.specs.Rename.{IsApartFrom, IsBeside, LeavesFile, RenamesFile};
+ghost use Rattle.fo_ports.specs.Sources.{AddsDirty};
 
 use fo_files_dir::FileAt;
 use fo_files_edit::files_along::Stand;
@@ -58,13 +59,14 @@ pub(crate) fn rename_file<B: Blocks>(
     requires spelled { RecordHolds named.now }
     requires within { IfSome given (λ n. n ≤ 2 ^ 40) }
     requires pins { 135 ≤ (B.state on.old).pins_left }
-    requires spare { 35 ≤ (B.state on.old).spare }
+    requires spare { 31 ≤ (B.state on.old).spare }
     requires room { 6547 ≤ (B.state on.old).room }
     ensures renames { OnOk result (RenamesFile B B.state on.old on.new at.dir at.file own touched.now i spare name.now named.now given) }
     ensures left { OnErr result (LeavesFile B B.state on.old on.new at.dir at.file own touched.now.name i spare name.now given) }
-    ensures spare { (B.state on.old).spare ≤ (B.state on.new).spare + 35 }
+    ensures spare { (B.state on.old).spare ≤ (B.state on.new).spare + 31 }
     ensures usable { (B.state on.old).usable + (B.state on.new).spare ≤ (B.state on.new).usable + (B.state on.old).spare }
     ensures cause { IfErr result (Caused ⊥ (λ b. (B.state on.old).is_block b ⊎ (b ≡ 1)) (Rose (B.state on.old).faults (B.state on.new).faults) (Rose (B.state on.old).arena_faults (B.state on.new).arena_faults)) }
+    ensures dirties { AddsDirty (2 * (20 + blocks_for own)) (at.dir.at ∷ at.file.at ∷ block_of own ∷ []) at.dir.at (B.state on.old) (B.state on.new) }
     ensures keeps { B.keeps on.old on.new }
 {
     let ready = match ready_own(alloc, on, own, touched) {

@@ -8,9 +8,10 @@
 //!
 //! Proved: each refusal has its cause, and those of the look come in the order of the file step. Where it is granted, all that is given was done, step by
 //! step, and the directory's own record is the one that was found, at the time and with the user given, and the next version. Where it is refused, each
-//! record is as it was, in its bytes, though one may have moved to another leaf, and the file has its length. At most `most_need` of `fo_world` is
-//! taken, and full comes only where, with all settled, fewer blocks are usable. Not said: that it is granted only where so many are; that a name that is
-//! told to be taken is, or that the new one was free; what bytes the file has; what holds of images.
+//! record is as it was, in its bytes, though one may have moved to another leaf, and the file has its length. At most `give` of `fo_world` is
+//! taken, what a change may that makes no file longer, and full comes only where, with all settled, fewer blocks than that are usable. Not said: that
+//! it is granted only where so many are; that a name that is told to be taken is, or that the new one was free; what bytes the file has; what holds
+//! of images.
 #![tactic(auto)]
 
 mod change;

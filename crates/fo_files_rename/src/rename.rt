@@ -1,13 +1,15 @@
 //! A file that was found below the root directory gets a new name.
-ghost use Rattle.std.specs.Prelude.{◌≡◌, ◌⊎◌, ◌+◌, ◌*◌, ◌^◌, ◌<◌, ◌≤◌, ℕ, length, IfSome, IfErr, OnOk, OnErr};
+ghost use Rattle.std.specs.Prelude.{◌≡◌, ◌⊎◌, ◌+◌, ◌*◌, ◌^◌, ◌<◌, ◌≤◌, ℕ, length, IfSome, IfErr, OnOk, OnErr, ◌-◌};
 ghost use Rattle.fo_base.specs.Cause.{Rose};
 ghost use Rattle.fo_ports.specs.Causes.{Caused};
-ghost use Rattle.fo_ports.specs.State.{Rests};
+ghost use Rattle.fo_ports.specs.State.{Rests, none};
 ghost use Rattle.fo_world.specs.Answers.{HadRoom, Refuses};
 ghost use Rattle.fo_files_edit.specs.of_files_at.Way.{IsWay};
 ghost use Rattle.fo_files_edit.specs.of_files_look.Told.{faults_of};
 ghost use Rattle.fo_files_edit.specs.of_files_along.Along.{HasRoom, IsBlocks};
 ghost use Rattle.fo_files_rename.specs.Rename.{IsLeafOver, LeavesAlong, MayStand, RenamesAlong, own_of};
+ghost use Rattle.fo_ports.specs.Sources.{Dirties};
+ghost use Rattle.fo_world.specs.Step.{need};
 
 use crate::file::{beside_data, rename_file};
 use crate::own::Own;
@@ -67,14 +69,15 @@ pub(crate) fn rename_along<B: Blocks>(
     requires some { 0 < length trail.now }
     requires own { MayStand (length trail.now) own.now.named }
     requires within { IfSome given (λ n. n ≤ 2 ^ 40) }
-    requires blocks { 5 * length trail.now + 35 ≤ (B.state on.old).spare }
+    requires blocks { 5 * length trail.now + 31 ≤ (B.state on.old).spare }
     requires pins { 20 * length trail.now + 136 ≤ (B.state on.old).pins_left }
     requires room { 6547 ≤ (B.state on.old).room }
     ensures renames { OnOk result (RenamesAlong B B.state on.old on.new root trail.now found.now.way found.now.name own.now.named given) }
     ensures left { OnErr result (LeavesAlong B B.state on.old on.new root trail.now found.now.way found.now.name own.now.named.name given) }
     ensures taken { (B.state on.old).usable + (B.state on.new).spare ≤ (B.state on.new).usable + (B.state on.old).spare }
-    ensures spare { (B.state on.old).spare ≤ (B.state on.new).spare + (5 * length trail.now + 35) }
+    ensures spare { (B.state on.old).spare ≤ (B.state on.new).spare + (5 * length trail.now + 31) }
     ensures cause { IfErr result (Caused ⊥ (λ b. (B.state on.old).is_block b ⊎ (b ≡ 1)) (Rose (B.state on.old).faults (B.state on.new).faults) (Rose (B.state on.old).arena_faults (B.state on.new).arena_faults)) }
+    ensures dirties { Dirties (2 * need (length trail.now - 1) 0) none (B.state on.old) (B.state on.new) }
     ensures keeps { B.keeps on.old on.new }
 {
     let _ = root;
@@ -109,7 +112,7 @@ pub(crate) fn rename_along<B: Blocks>(
     }
 }
 
-/// Reserves what a change of a file below the root directory needs that gives a new name, five blocks a directory and 35, and changes the file and its
+/// Reserves what a change of a file below the root directory needs that gives a new name, five blocks a directory and 31, and changes the file and its
 /// directory's own record.
 pub(crate) fn rename_below<B: Blocks>(
     alloc: Global,
@@ -128,13 +131,14 @@ pub(crate) fn rename_below<B: Blocks>(
     ensures renames { OnOk result ((b : B) × Rests (B.state on.old) (B.state b) × RenamesAlong B B.state b on.new root trail.now found.now.way found.now.name own.now.named given) }
     ensures left { OnErr result ((b : B) × Rests (B.state on.old) (B.state b) × LeavesAlong B B.state b on.new root trail.now found.now.way found.now.name own.now.named.name given) }
     ensures blocks { IfErr result IsBlocks }
-    ensures had { HadRoom (HasRoom (B.state on.old)) (5 * length trail.now + 35) result }
-    ensures taken { (B.state on.old).usable ≤ (B.state on.new).usable + (5 * length trail.now + 35) }
-    ensures cause { Refuses (faults_of (B.state on.old)) (faults_of (B.state on.new)) ⊥ (HasRoom (B.state on.new)) (5 * length trail.now + 35) result }
+    ensures had { HadRoom (HasRoom (B.state on.old)) (5 * length trail.now + 31) result }
+    ensures taken { (B.state on.old).usable ≤ (B.state on.new).usable + (5 * length trail.now + 31) }
+    ensures cause { Refuses (faults_of (B.state on.old)) (faults_of (B.state on.new)) ⊥ (HasRoom (B.state on.new)) (5 * length trail.now + 31) result }
+    ensures dirties { Dirties (2 * need (length trail.now - 1) 0) none (B.state on.old) (B.state on.new) }
     ensures keeps { B.keeps on.old on.new }
 {
     let steps = trail.len() as u32;
-    match reserve_room(on, 5 * steps + 35, 20 * steps + 136, REMOVALS) {
+    match reserve_room(on, 5 * steps + 31, 20 * steps + 136, REMOVALS) {
         Ok(()) => {}
         Err(why) => return Err(why),
     }

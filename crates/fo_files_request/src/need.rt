@@ -1,10 +1,11 @@
 //! What a write needs is reserved.
-ghost use Rattle.std.specs.Prelude.{◌≡◌, ◌⊎◌, ◌+◌, ◌-◌, ◌*◌, ◌/◌, ◌^◌, ◌<◌, ◌≤◌, ℕ, IfSome, IfErr, OnOk};
+ghost use Rattle.std.specs.Prelude.{◌≡◌, ◌⊎◌, ◌+◌, ◌-◌, ◌*◌, ◌/◌, ◌^◌, ◌<◌, ◌≤◌, ℕ, IfSome, IfErr, OnOk, []};
 ghost use Rattle.fo_ports.specs.State.{Looks, Rests};
 ghost use Rattle.fo_world.specs.Answers.{Refuses};
 ghost use Rattle.fo_world.specs.Step.{need};
 ghost use Rattle.fo_files_into.specs.of_files_look.Told.{faults_of};
 ghost use Rattle.fo_files_into.specs.of_files_along.Along.{HasRoom, IsBlocks};
+ghost use Rattle.fo_ports.specs.Sources.{DirtiesIn};
 
 use fo_files_into::files_along::reserve_room;
 use fo_ports::Blocks;
@@ -28,7 +29,7 @@ fn sizes_for(steps: usize, n: u64) -> Option<Sizes>
     ensures pins { IfSome result (λ s. s.pins ≡ 20 * steps + n / 8192 + n / 2 ^ 21 + 91) }
 {
     let leaves = n / 8192 + n / (1 << 21);
-    // the way 5 blocks a directory, the record's leaf 13, the data the leaves and 19: 5 * steps + 32, at most the need
+    // the way 5 blocks a directory, the record's leaf 11, the data the leaves and 19: 5 * steps + 30, at most the need
     let blocks = 6 * (steps as u64 - 1) + 40 + leaves;
     // the plan 20 pins a directory and 1, the record's leaf 60, the data the leaves and 30
     let pins = 20 * steps as u64 + leaves + 91;
@@ -55,6 +56,7 @@ pub(crate) fn reserve_for<B: Blocks>(on: &mut B, steps: usize, n: u64) -> Result
     ensures refused { IfErr result IsBlocks }
     ensures usable { (B.state on.old).usable ≤ (B.state on.new).usable }
     ensures cause { Refuses (faults_of (B.state on.old)) (faults_of (B.state on.new)) ⊥ (HasRoom (B.state on.new)) (need (steps - 1) n) result }
+    ensures dirties { DirtiesIn [] (B.state on.old) (B.state on.new) }
     ensures keeps { B.keeps on.old on.new }
 {
     let Some(sizes) = sizes_for(steps, n) else {

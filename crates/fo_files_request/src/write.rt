@@ -2,7 +2,7 @@
 ghost use Rattle.std.specs.Prelude.{◌≡◌, ◌⊎◌, ◌+◌, ◌-◌, ◌*◌, ◌/◌, ◌^◌, ◌<◌, ◌≤◌, ℕ, Bool, length, true, false, IfErr, OnOk, OnErr};
 ghost use Rattle.fo_base.specs.Cause.{Rose};
 ghost use Rattle.fo_ports.specs.Causes.{Caused};
-ghost use Rattle.fo_ports.specs.State.{Looks, Rests};
+ghost use Rattle.fo_ports.specs.State.{Looks, Rests, none};
 ghost use Rattle.fo_world.specs.declared.place.View.{View};
 ghost use Rattle.fo_world.specs.Answers.{Refuses, HadRoom};
 ghost use Rattle.fo_world.specs.Limits.{IsUser};
@@ -12,6 +12,7 @@ ghost use Rattle.fo_files_into.specs.of_files_at.Way.{IsWay};
 ghost use Rattle.fo_files_into.specs.of_files_look.Told.{faults_of, MayLook};
 ghost use Rattle.fo_files_into.specs.of_files_along.Along.{HasRoom, IsBlocks};
 ghost use Rattle.fo_files_request.specs.Write.{WhyRefused, PutsFile, IsLeft, Writes, Refused};
+ghost use Rattle.fo_ports.specs.Sources.{Dirties};
 
 use crate::found::{Found, Limit, file_found, limit_of, unwritten};
 use crate::need::reserve_for;
@@ -45,6 +46,7 @@ fn write_along<B: Blocks>(
     ensures left { OnErr result (IsLeft B B.state on.old on.new root trail.now) }
     ensures taken { (B.state on.old).usable ≤ (B.state on.new).usable + need (length trail.now - 1) (length piece.now) }
     ensures cause { IfErr result (Caused ⊥ (λ b. (B.state on.old).is_block b ⊎ (b ≡ 1)) (Rose (B.state on.old).faults (B.state on.new).faults) (Rose (B.state on.old).arena_faults (B.state on.new).arena_faults)) }
+    ensures dirties { Dirties (2 * need (length trail.now - 1) (length piece.now)) none (B.state on.old) (B.state on.new) }
     ensures keeps { B.keeps on.old on.new }
 {
     let _ = root;
@@ -83,6 +85,7 @@ fn write_found<B: Blocks>(
     ensures room { HadRoom (HasRoom (B.state on.old)) (need (length trail.now - 1) (length piece.now)) result }
     ensures taken { (B.state on.old).usable ≤ (B.state on.new).usable + need (length trail.now - 1) (length piece.now) }
     ensures cause { Refuses (faults_of (B.state on.old)) (faults_of (B.state on.new)) ⊥ (HasRoom (B.state on.new)) (need (length trail.now - 1) (length piece.now)) result }
+    ensures dirties { Dirties (2 * need (length trail.now - 1) (length piece.now)) none (B.state on.old) (B.state on.new) }
     ensures keeps { B.keeps on.old on.new }
 {
     match reserve_for(on, trail.len(), piece.len() as u64) {
@@ -116,6 +119,7 @@ fn write_at<B: Blocks>(
     ensures room { HadRoom (HasRoom (B.state on.old)) (need (length trail.now - 1) (length piece.now)) result }
     ensures taken { (B.state on.old).usable ≤ (B.state on.new).usable + need (length trail.now - 1) (length piece.now) }
     ensures cause { Refuses (faults_of (B.state on.old)) (faults_of (B.state on.new)) ⊥ (HasRoom (B.state on.new)) (need (length trail.now - 1) (length piece.now)) result }
+    ensures dirties { Dirties (2 * need (length trail.now - 1) (length piece.now)) none (B.state on.old) (B.state on.new) }
     ensures keeps { B.keeps on.old on.new }
 {
     match file_found(alloc, on, root, trail, who, now) {
@@ -148,6 +152,7 @@ pub fn write_file<B: Blocks>(
     ensures room { HadRoom (HasRoom (B.state on.old)) (write_need at.now piece.now) result }
     ensures taken { (B.state on.old).usable ≤ (B.state on.new).usable + write_need at.now piece.now }
     ensures cause { Refuses (faults_of (B.state on.old)) (faults_of (B.state on.new)) ⊥ (HasRoom (B.state on.new)) (write_need at.now piece.now) result }
+    ensures dirties { Dirties (2 * write_need at.now piece.now) none (B.state on.old) (B.state on.new) }
     ensures keeps { B.keeps on.old on.new }
 {
     let n = piece.len() as u64;

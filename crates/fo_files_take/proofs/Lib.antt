@@ -1,3 +1,4 @@
+pub mod Counting
 pub mod Refusing
 pub mod Taking
 pub mod Whole

@@ -105,7 +105,7 @@ took s m u d k x more same spare = let usable = x.usable in omega (arith, usable
 
 pub took_own : (B : Type 0) (state : B → State) (keeps : B → B → Type 0) (old new : B) (at : OwnAt) → AltersOwn B state keeps old new at → (state old).spare ≤ (state new).spare + blocks_for at → (state old).usable ≤ (state new).usable + 16
 took_own B state keeps old new (place.Root root) looks spare = let same = looks.usable.0 in omega (arith, same)
-took_own B state keeps old new (place.Below b) x spare = let few : (state old).usable ≤ (state new).usable + 13 = took (state old) (state x.0) (state new) b.dir 13 x.1 x.4.left.2 x.4.left.0 spare in omega (arith, few)
+took_own B state keeps old new (place.Below b) x spare = let few : (state old).usable ≤ (state new).usable + 11 = took (state old) (state x.0) (state new) b.dir 11 x.1 x.4.left.2 x.4.left.0 spare in omega (arith, few)
 
 -- ---- where the own record stands
 

@@ -2,7 +2,7 @@
 ghost use Rattle.std.specs.Prelude.{◌≡◌, ◌⊎◌, ◌+◌, ◌-◌, ◌*◌, ◌<◌, ◌≤◌, ℕ, true, false, length, get_or, IfErr, OnOk, OnErr};
 ghost use Rattle.fo_base.specs.Cause.{Rose};
 ghost use Rattle.fo_ports.specs.Causes.{Caused};
-ghost use Rattle.fo_ports.specs.State.{Looks, Rests};
+ghost use Rattle.fo_ports.specs.State.{Looks, Rests, none};
 ghost use Rattle.fo_world.specs.Answers.{Refuses, HadRoom};
 ghost use Rattle.fo_world.specs.Limits.{IsBelowRoot, IsUser};
 ghost use Rattle.fo_world.specs.Step.{depth_of, give, is_active};
@@ -11,6 +11,7 @@ ghost use Rattle.fo_files_along.specs.of_files_at.Way.{IsWay};
 ghost use Rattle.fo_files_along.specs.of_files_look.Told.{faults_of, MayLook};
 ghost use Rattle.fo_files_along.specs.Along.{HasRoom, IsBlocks};
 ghost use Rattle.fo_files_take.specs.Take.{IsFound, IsLeft, IsRefused, Refused, Removes, TakesFile};
+ghost use Rattle.fo_ports.specs.Sources.{Dirties};
 
 use crate::look::{Found, look_for_removal};
 use crate::take::{Going, own_at, take_from};
@@ -22,7 +23,7 @@ use fo_ports::{BlockError, Blocks};
 use fo_world::{FileError, Place};
 use std::alloc::Global;
 
-/// How many blocks a removal takes at most, of a file with so many directories above: the way 5 a directory, the own record 13, and the leaf of the
+/// How many blocks a removal takes at most, of a file with so many directories above: the way 5 a directory, the own record 11, and the leaf of the
 /// record that goes 10, at most what is allowed to give.
 fn blocks_for(steps: usize) -> u32
     requires { (0 < steps) × (steps ≤ 65) }
@@ -77,6 +78,7 @@ fn take_along<B: Blocks>(
     ensures left { OnErr result (IsLeft B B.state on.old on.new root trail.now) }
     ensures taken { (B.state on.old).usable ≤ (B.state on.new).usable + give (length trail.now - 1) }
     ensures cause { IfErr result (Caused ⊥ (λ b. (B.state on.old).is_block b ⊎ (b ≡ 1)) (Rose (B.state on.old).faults (B.state on.new).faults) (Rose (B.state on.old).arena_faults (B.state on.new).arena_faults)) }
+    ensures dirties { Dirties (2 * give (length trail.now - 1)) none (B.state on.old) (B.state on.new) }
     ensures keeps { B.keeps on.old on.new }
 {
     let _ = root;
@@ -120,6 +122,7 @@ fn take_found<B: Blocks>(
     ensures room { HadRoom (HasRoom (B.state on.old)) (give (length trail.now - 1)) result }
     ensures taken { (B.state on.old).usable ≤ (B.state on.new).usable + give (length trail.now - 1) }
     ensures cause { Refuses (faults_of (B.state on.old)) (faults_of (B.state on.new)) ⊥ (HasRoom (B.state on.new)) (give (length trail.now - 1)) result }
+    ensures dirties { Dirties (2 * give (length trail.now - 1)) none (B.state on.old) (B.state on.new) }
     ensures keeps { B.keeps on.old on.new }
 {
     let steps = trail.len();
@@ -155,6 +158,7 @@ pub fn remove_file<B: Blocks>(
     ensures room { HadRoom (HasRoom (B.state on.old)) (give (depth_of at.now)) result }
     ensures taken { (B.state on.old).usable ≤ (B.state on.new).usable + give (depth_of at.now) }
     ensures cause { Refuses (faults_of (B.state on.old)) (faults_of (B.state on.new)) ⊥ (HasRoom (B.state on.new)) (give (depth_of at.now)) result }
+    ensures dirties { Dirties (2 * give (depth_of at.now)) none (B.state on.old) (B.state on.new) }
     ensures keeps { B.keeps on.old on.new }
 {
     match look_for_removal(alloc, on, root, at, who, now, halted) {

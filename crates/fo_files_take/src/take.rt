@@ -1,11 +1,12 @@
 //! A file's record goes, and its directory's own record changes.
-ghost use Rattle.std.specs.Prelude.{◌≡◌, ◌⊎◌, ◌+◌, ◌≤◌, ℕ, IfErr, OnOk, OnErr};
+ghost use Rattle.std.specs.Prelude.{◌≡◌, ◌⊎◌, ◌+◌, ◌≤◌, ℕ, IfErr, OnOk, OnErr, ◌∷◌, [], ◌*◌};
 ghost use Rattle.fo_base.specs.Cause.{Rose};
 ghost use Rattle.fo_ports.specs.Causes.{Caused};
 ghost use Rattle.fo_files_dir.specs.Dir.{IsDirAt};
 ghost use Rattle.fo_files_record.specs.Leaf.{IsEntriesAt};
-ghost use Rattle.fo_files_own.specs.Own.{IsOwnAt, MayOwn};
+ghost use Rattle.fo_files_own.specs.Own.{IsOwnAt, MayOwn, block_of, blocks_for};
 ghost use Rattle.fo_files_take.specs.Take.{IsApartFrom, LeavesFrom, TakesFrom, own_of};
+ghost use Rattle.fo_ports.specs.Sources.{AddsDirty};
 
 use fo_files_along::Stand;
 use fo_files_dir::DirAt;
@@ -64,6 +65,7 @@ pub(crate) fn take_from<B: Blocks>(
     ensures left { OnErr result (LeavesFrom B B.state on.old on.new dir own changed.now.name) }
     ensures taken { (B.state on.old).usable ≤ (B.state on.new).usable + 26 }
     ensures cause { IfErr result (Caused ⊥ (λ b. (B.state on.old).is_block b ⊎ (b ≡ 1)) (Rose (B.state on.old).faults (B.state on.new).faults) (Rose (B.state on.old).arena_faults (B.state on.new).arena_faults)) }
+    ensures dirties { AddsDirty (2 * (blocks_for own + 10)) (dir.at ∷ file.entries ∷ block_of own ∷ []) dir.at (B.state on.old) (B.state on.new) }
     ensures keeps { B.keeps on.old on.new }
 {
     let ready = match ready_own(alloc, on, own, changed) {

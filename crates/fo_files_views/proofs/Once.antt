@@ -25,5 +25,6 @@ looks_at_once s = record {
   dirty = λ b d. d;
   room = (refl, refl);
   usable = (refl, refl);
+  no_removal = record { each = λ x e w h. h };
   numbers = record { next = refl; grants = λ h. h };
 }

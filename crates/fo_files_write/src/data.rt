@@ -1,5 +1,5 @@
 //! The data of a file is written.
-ghost use Rattle.std.specs.Prelude.{◌≡◌, ◌⊎◌, ◌+◌, ◌*◌, ◌/◌, ◌%◌, ◌^◌, ◌<◌, ◌≤◌, ℕ, false, length, max, IfOk, IfErr};
+ghost use Rattle.std.specs.Prelude.{◌≡◌, ◌⊎◌, ◌+◌, ◌*◌, ◌/◌, ◌%◌, ◌^◌, ◌<◌, ◌≤◌, ℕ, false, length, max, IfOk, IfErr, ◌∷◌, []};
 ghost use Rattle.fo_base.specs.Cause.{Rose};
 ghost use Rattle.fo_ports.specs.Causes.{Caused};
 ghost use Rattle.fo_tree_look.specs.Source.{Over};
@@ -7,6 +7,7 @@ ghost use Rattle.fo_tree_shorten.specs.Shorten.{EntryAt};
 ghost use Rattle.fo_files_dir.specs.Dir.{IsFileAt};
 ghost use Rattle.fo_files_write.specs.Alters.{Alters, is_above, any_kind};
 ghost use Rattle.fo_files_write.specs.Data.{HasData, PutsPiece, most_of};
+ghost use Rattle.fo_ports.specs.Sources.{AddsDirty};
 
 use crate::open::opened;
 use crate::put::{put, ready_for};
@@ -39,6 +40,7 @@ pub fn write_data<B: Blocks>(
     ensures spare { (B.state on.old).spare ≤ (B.state on.new).spare + (most_of (length piece.now) + 4) }
     ensures room { (B.state on.old).room ≤ (B.state on.new).room + 1637 }
     ensures pins { (B.state on.old).pins_left ≤ (B.state on.new).pins_left + (most_of (length piece.now) + 15) }
+    ensures dirties { AddsDirty (2 * (most_of (length piece.now) + 4)) (file.at ∷ []) file.at (B.state on.old) (B.state on.new) }
     ensures keeps { B.keeps on.old on.new }
     ensures cause { IfErr result (Caused ⊥ (λ b. (B.state on.old).is_block b ⊎ (b ≡ 1)) (Rose (B.state on.old).faults (B.state on.new).faults) (Rose (B.state on.old).arena_faults (B.state on.new).arena_faults)) }
 {
@@ -79,6 +81,7 @@ fn write_source<B: Blocks>(
     ensures spare { (B.state on.old).spare ≤ (B.state on.new).spare + (most_of (length piece.now) + 4) }
     ensures room { (B.state on.old).room ≤ (B.state on.new).room + 1637 }
     ensures pins { (B.state on.old).pins_left ≤ (B.state on.new).pins_left + (most_of (length piece.now) + 15) }
+    ensures dirties { AddsDirty (2 * (most_of (length piece.now) + 4)) (file.at ∷ []) file.at (B.state on.old) (B.state on.new) }
     ensures keeps { B.keeps on.old on.new }
     ensures cause { IfErr result (Caused ⊥ (λ b. (B.state on.old).is_block b ⊎ (b ≡ 1)) (Rose (B.state on.old).faults (B.state on.new).faults) (Rose (B.state on.old).arena_faults (B.state on.new).arena_faults)) }
 {

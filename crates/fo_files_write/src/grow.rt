@@ -1,5 +1,5 @@
 //! A source of data is made ready to grow.
-ghost use Rattle.std.specs.Prelude.{◌≡◌, ◌⊎◌, ◌+◌, ◌*◌, ◌<◌, ◌≤◌, ℕ, true, false, IfOk, IfErr};
+ghost use Rattle.std.specs.Prelude.{◌≡◌, ◌⊎◌, ◌+◌, ◌*◌, ◌<◌, ◌≤◌, ℕ, true, false, IfOk, IfErr, ◌∷◌, []};
 ghost use Rattle.fo_base.specs.Cause.{Rose};
 ghost use Rattle.fo_ports.specs.Causes.{Caused};
 ghost use Rattle.fo_ports.specs.State.{Looks};
@@ -8,6 +8,7 @@ ghost use Rattle.fo_tree_down.specs.Clear.{EndsClear, last_leaf};
 ghost use Rattle.fo_tree_shorten.specs.Shorten.{EntryAt};
 ghost use Rattle.fo_files_write.specs.Alters.{Alters, is_above};
 ghost use Rattle.fo_files_write.specs.Data.{SameData};
+ghost use Rattle.fo_ports.specs.Sources.{AddsDirty};
 
 use fo_ports::{BlockError, Blocks, Bytes};
 use fo_tree::Source;
@@ -60,6 +61,7 @@ fn cut_end<B: Blocks>(on: &mut B, ways: &mut Ways, at: u32, slot: u32) -> Result
     ensures spare { (B.state on.old).spare ≤ (B.state on.new).spare + 4 }
     ensures room { (B.state on.old).room ≤ (B.state on.new).room + 1636 }
     ensures pins { (B.state on.new).pins_left ≡ (B.state on.old).pins_left }
+    ensures dirties { AddsDirty 8 (at ∷ []) at (B.state on.old) (B.state on.new) }
     ensures keeps { B.keeps on.old on.new }
     ensures cause { IfErr result (Caused ⊥ (λ b. ⊥) (Rose (B.state on.old).faults (B.state on.new).faults) ⊥) }
 {
@@ -96,6 +98,7 @@ pub(crate) fn trim_for<B: Blocks>(
     ensures spare { (B.state on.old).spare ≤ (B.state on.new).spare + 4 }
     ensures room { (B.state on.old).room ≤ (B.state on.new).room + 1636 }
     ensures pins { (B.state on.old).pins_left ≤ (B.state on.new).pins_left + 15 }
+    ensures dirties { AddsDirty 8 (at ∷ []) at (B.state on.old) (B.state on.new) }
     ensures keeps { B.keeps on.old on.new }
     ensures cause { IfErr result (Caused ⊥ (λ b. (B.state on.old).is_block b ⊎ (b ≡ 1)) (Rose (B.state on.old).faults (B.state on.new).faults) (Rose (B.state on.old).arena_faults (B.state on.new).arena_faults)) }
 {

@@ -1,5 +1,5 @@
 //! A piece is put into the data of a file.
-ghost use Rattle.std.specs.Prelude.{◌≡◌, ◌⊎◌, ◌+◌, ◌*◌, ◌%◌, ◌/◌, ◌^◌, ◌<◌, ◌≤◌, ℕ, false, length, max, IfOk, IfErr};
+ghost use Rattle.std.specs.Prelude.{◌≡◌, ◌⊎◌, ◌+◌, ◌*◌, ◌%◌, ◌/◌, ◌^◌, ◌<◌, ◌≤◌, ℕ, false, length, max, IfOk, IfErr, ◌∷◌, []};
 ghost use Rattle.fo_base.specs.Cause.{Rose};
 ghost use Rattle.fo_ports.specs.Causes.{Caused};
 ghost use Rattle.fo_ports.specs.State.{Looks};
@@ -8,6 +8,7 @@ ghost use Rattle.fo_tree_down.specs.Clear.{EndsClear};
 ghost use Rattle.fo_tree_shorten.specs.Shorten.{EntryAt};
 ghost use Rattle.fo_files_write.specs.Alters.{Alters, is_above, any_kind};
 ghost use Rattle.fo_files_write.specs.Data.{SameData, most_of};
+ghost use Rattle.fo_ports.specs.Sources.{AddsDirty};
 
 use crate::grow::trim_for;
 use fo_ports::{BlockError, Blocks, Bytes};
@@ -39,6 +40,7 @@ pub(crate) fn ready_for<B: Blocks>(
     ensures spare { (B.state on.old).spare ≤ (B.state on.new).spare + 4 }
     ensures room { (B.state on.old).room ≤ (B.state on.new).room + 1636 }
     ensures pins { (B.state on.old).pins_left ≤ (B.state on.new).pins_left + (most_of len + 15) }
+    ensures dirties { AddsDirty 8 (at ∷ []) at (B.state on.old) (B.state on.new) }
     ensures keeps { B.keeps on.old on.new }
     ensures cause { IfErr result (Caused ⊥ (λ b. (B.state on.old).is_block b ⊎ (b ≡ 1)) (Rose (B.state on.old).faults (B.state on.new).faults) (Rose (B.state on.old).arena_faults (B.state on.new).arena_faults)) }
 {
@@ -99,6 +101,7 @@ pub(crate) fn put<B: Blocks>(
     ensures spare { (B.state on.old).spare ≤ (B.state on.new).spare + most_of (length piece.now) }
     ensures room { (B.state on.old).room ≤ (B.state on.new).room + 1 }
     ensures pins { (B.state on.new).pins_left ≡ (B.state on.old).pins_left }
+    ensures dirties { AddsDirty (2 * most_of (length piece.now)) (at ∷ []) at (B.state on.old) (B.state on.new) }
     ensures keeps { B.keeps on.old on.new }
 {
     source.write(on, offset, piece);

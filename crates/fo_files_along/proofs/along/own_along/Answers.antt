@@ -1,10 +1,13 @@
-use Rattle.std.proofs.Common.{◌≡◌, ◌+◌, ◌-◌, length, subst, arith}
+use Rattle.std.proofs.Common.{◌≡◌, ◌+◌, ◌-◌, length, subst, arith, ⊎_elim, sym, ◌∙◌}
 use Rattle.fo_files_plan.proofs.of_files_at.Ways.{file_stays, way_stays}
 use Rattle.fo_files_plan.proofs.Trails.{steps_count}
 use Rattle.fo_files_along.specs.Along.{IsStepOf, IsFileOf, IsAboveOf}
 use Rattle.fo_files_along.proofs.Pairs.{entries_at, above_stands, numbers_differ}
 use Rattle.fo_files_along.proofs.Ways.{file_holds}
 use Rattle.fo_files_along.proofs.along.own_along.Goals as goal
+use Rattle.fo_dirties.proofs.Adding.{dirties_fewer}
+use Rattle.fo_files_along.proofs.Standing.{step_in, above_in}
+use Rattle.fo_files_plan.specs.of_files_way.Owns.{IsIn}
 
 pub step_at-dir-requires-clause-way : goal.step_at-dir-requires-clause-way
 step_at-dir-requires-clause-way g c =
@@ -64,3 +67,18 @@ returns-clause-owned g c =
             },
           ),
     )
+
+pub returns-clause-dirties : goal.returns-clause-dirties
+returns-clause-dirties g c =
+    let at = c.in-Ok.blocks.items in
+    let steps = c.args.way.now.steps.items in
+    let count = c.in-Ok.ensures.blocks.1 in
+    let some = c.requires.some in
+    let end = c.len-last.ensures in
+    dirties_fewer (omega arith) (λ b h. ⊎_elim
+    (λ file. (c.len-last.result - 1 + 1, omega (arith, count, some, end), sym (file ∙ c.file_at-file.ensures.is.0)))
+    (λ pair. ⊎_elim
+    (λ own. subst (λ x. IsIn at x) (sym own) (step_in at steps (c.len-last.result - 1) c.step_at-dir.result count c.step_at-dir.ensures.is))
+    (λ up. above_in at steps (c.len-last.result - 1) c.above_at-above.result b count c.above_at-above.ensures.is up)
+    pair)
+    h) c.in-Ok.ensures.dirties

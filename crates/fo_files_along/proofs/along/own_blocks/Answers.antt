@@ -2,6 +2,8 @@ use Rattle.std.proofs.Common.{◌∙◌, arith}
 use Rattle.fo_files_plan.proofs.of_files_at.Ways.{way_stays}
 use Rattle.fo_files_along.proofs.Apart.{apart}
 use Rattle.fo_files_along.proofs.along.own_blocks.Goals as goal
+use Rattle.fo_dirties.proofs.Adding.{dirties_first, dirties_fewer}
+use Rattle.fo_dirties.proofs.Putting.{dirties_looks}
 
 pub own_way-requires-clause-silent : goal.own_way-requires-clause-silent
 own_way-requires-clause-silent g c = λ h. c.requires.silent ((g.met.B.Blocks.keeps_all c.args.on.now c.plan_along.new.on c.plan_along.ensures.looks.1).still_tells.0 h)
@@ -35,3 +37,8 @@ returns-clause-owned g c = (
 
 pub returns-clause-keeps : goal.returns-clause-keeps
 returns-clause-keeps g c = g.met.B.Blocks.keeps_joins c.args.on.now c.plan_along.new.on c.own_way.new.on c.plan_along.ensures.looks.1 c.own_way.ensures.keeps
+
+pub returns-clause-dirties : goal.returns-clause-dirties
+returns-clause-dirties g c =
+    let most = c.in-Ok.ensures.along.most in
+    dirties_first (dirties_looks (g.met.B.Blocks.keeps_all c.args.on.now c.plan_along.new.on c.plan_along.ensures.looks.1) c.plan_along.ensures.looks.0) (dirties_fewer (omega (arith, most)) (λ b h. h) c.own_way.ensures.dirties)

@@ -1,10 +1,12 @@
-use Rattle.std.proofs.Common.{◌≡◌, length, inl, subst, arith}
+use Rattle.std.proofs.Common.{◌≡◌, length, inl, subst, arith, ⊎_elim, sym, ◌∙◌}
 use Rattle.fo_files_plan.proofs.of_files_at.Ways.{file_stays, way_stays, end_rank}
 use Rattle.fo_files_plan.proofs.Trails.{steps_count}
 use Rattle.fo_files_along.specs.Along.{IsDirOf, IsAboveOf}
 use Rattle.fo_files_along.proofs.Pairs.{above_stands, end_differs}
 use Rattle.fo_files_along.proofs.Ways.{file_holds}
 use Rattle.fo_files_along.proofs.along.own_dir_along.Goals as goal
+use Rattle.fo_dirties.proofs.Adding.{dirties_fewer}
+use Rattle.fo_files_along.proofs.Standing.{above_in}
 
 pub above_at-above-requires-clause-way : goal.above_at-above-requires-clause-way
 above_at-above-requires-clause-way g c =
@@ -58,3 +60,14 @@ pub returns-then-is_looped-clause-cause : goal.returns-then-is_looped-clause-cau
 returns-then-is_looped-clause-cause g c =
     let w = c.requires.way in
     inl (file_holds (g.B.Blocks.state c.args.on.now) w.0 w.1.0 c.args.way.now w.1.1).stands
+
+pub returns-clause-dirties : goal.returns-clause-dirties
+returns-clause-dirties g c =
+    let at = c.in-Ok.blocks.items in
+    let steps = c.args.way.now.steps.items in
+    let count = c.in-Ok.ensures.blocks.1 in
+    let end = c.len-depth.ensures in
+    dirties_fewer (omega arith) (λ b h. ⊎_elim
+    (λ own. (c.len-depth.result, omega (arith, count, end), sym (own ∙ c.dir_at-dir.ensures.is.0)))
+    (λ up. above_in at steps c.len-depth.result c.above_at-above.result b count c.above_at-above.ensures.is up)
+    h) c.in-Ok.ensures.dirties

@@ -34,3 +34,6 @@ returns-in-Ok-clause-entries g c = λ e. entries_readied c.args.dir e (g.met.B.B
 
 pub returns-in-Err-clause-entries : goal.returns-in-Err-clause-entries
 returns-in-Err-clause-entries g c = λ e. entries_readied c.args.dir e (g.met.B.Blocks.keeps_all c.args.on.now c.ready_leaf.new.on c.ready_leaf.ensures.keeps) (altered c.args.dir.number c.args.dir.at (c.args.dir.slot + 1) c.in-Some.tag (g.B.Blocks.state c.args.on.now) (g.B.Blocks.state c.ready_leaf.new.on) c.in-Some.ensures.tag c.ready_leaf.ensures.alters)
+
+pub returns-in-Ok-clause-dirties : goal.returns-in-Ok-clause-dirties
+returns-in-Ok-clause-dirties g c = c.in-Ok.ensures.dirties

@@ -6,6 +6,8 @@ use Rattle.fo_files_leaf.proofs.Altering.{alters_same}
 use Rattle.fo_files_record.proofs.Owned.{entries_stay}
 use Rattle.fo_files_change.proofs.Records.{dir_rewritten, records_rank, later_failed}
 use Rattle.fo_files_change.proofs.put.change_at.Goals as goal
+use Rattle.fo_dirties.proofs.Adding.{adds_idle, first_of, adds_given, adds_then, cons_of, none_of}
+use Rattle.fo_dirties.proofs.Putting.{dirties_looks}
 
 pub change_in-requires-clause-silent : goal.change_in-requires-clause-silent
 change_in-requires-clause-silent g c = Î» h. c.requires.silent ((g.met.B.Blocks.keeps_all c.args.on.now c.records_leaf.new.on c.records_leaf.ensures.keeps).still_tells.0 h)
@@ -54,3 +56,12 @@ returns-in-Err-clause-nothing g c = (c.args.on.now, alters_same c.args.dir.at (Î
 
 pub returns-in-Err-change_in-clause-nothing : goal.returns-in-Err-change_in-clause-nothing
 returns-in-Err-change_in-clause-nothing g c = (c.records_leaf.new.on, c.records_leaf.ensures.alters, c.in-Err-change_in.ensures.nothing)
+
+pub returns-in-Err-clause-dirties : goal.returns-in-Err-clause-dirties
+returns-in-Err-clause-dirties g c = adds_idle 20 first_of (dirties_looks (g.met.B.Blocks.keeps_all c.args.on.now c.records_leaf.new.on c.records_leaf.ensures.keeps) c.in-Err.ensures.nothing)
+
+pub returns-in-Err-change_in-clause-dirties : goal.returns-in-Err-change_in-clause-dirties
+returns-in-Err-change_in-clause-dirties g c = adds_given first_of (adds_then c.in-Ok.ensures.dirties c.change_in.ensures.dirties (cons_of first_of none_of))
+
+pub returns-in-Ok-change_in-clause-dirties : goal.returns-in-Ok-change_in-clause-dirties
+returns-in-Ok-change_in-clause-dirties g c = adds_given first_of (adds_then c.in-Ok.ensures.dirties c.change_in.ensures.dirties (cons_of first_of none_of))

@@ -4,6 +4,8 @@ use Rattle.fo_files_record.proofs.Owned.{entries_stay}
 use Rattle.fo_files_record.proofs.Rewriting.{rewrites_same}
 use Rattle.fo_files_change.proofs.Records.{dir_rewritten, records_rank, later_failed}
 use Rattle.fo_files_change.proofs.take.take_file.Goals as goal
+use Rattle.fo_dirties.proofs.Adding.{adds_idle, first_of, next_of, adds_given, adds_then, adds_wider, cons_of, none_of}
+use Rattle.fo_dirties.proofs.Putting.{dirties_looks}
 
 pub take_out-requires-clause-silent : goal.take_out-requires-clause-silent
 take_out-requires-clause-silent g c = λ h. c.requires.silent ((g.met.B.Blocks.keeps_all c.args.on.now c.records_leaf.new.on c.records_leaf.ensures.keeps).still_tells.0 h)
@@ -58,3 +60,12 @@ returns-in-Err-clause-nothing g c = (c.records_leaf.new.on, c.records_leaf.ensur
 
 pub returns-in-Err-take_out-clause-nothing : goal.returns-in-Err-take_out-clause-nothing
 returns-in-Err-take_out-clause-nothing g c = (c.records_leaf.new.on, c.records_leaf.ensures.alters, c.in-Err-take_out.ensures.nothing)
+
+pub returns-in-Err-clause-dirties : goal.returns-in-Err-clause-dirties
+returns-in-Err-clause-dirties g c = adds_idle 20 first_of (dirties_looks (g.met.B.Blocks.keeps_all c.args.on.now c.records_leaf.new.on c.records_leaf.ensures.keeps) c.in-Err.ensures.nothing)
+
+pub returns-in-Err-take_out-clause-dirties : goal.returns-in-Err-take_out-clause-dirties
+returns-in-Err-take_out-clause-dirties g c = adds_given first_of (adds_then (adds_wider (cons_of first_of none_of) c.in-Ok.ensures.dirties) c.take_out.ensures.dirties (cons_of first_of (cons_of (next_of (next_of first_of)) none_of)))
+
+pub returns-in-Ok-take_out-clause-dirties : goal.returns-in-Ok-take_out-clause-dirties
+returns-in-Ok-take_out-clause-dirties g c = adds_given first_of (adds_then (adds_wider (cons_of first_of none_of) c.in-Ok.ensures.dirties) c.take_out.ensures.dirties (cons_of first_of (cons_of (next_of (next_of first_of)) none_of)))

@@ -1,10 +1,15 @@
-use Rattle.std.proofs.Common.{◌+◌, length, inl, inr, sym, ap, subst, ◌∙◌, arith}
+use Rattle.std.proofs.Common.{◌+◌, length, inl, inr, sym, ap, subst, ◌∙◌, arith, refl}
 use Rattle.fo_files_own.proofs.of_files_ready.Steps.{failed_since}
 use Rattle.fo_files_create_look.proofs.of_files_along.Ways.{file_holds, steps_long}
-use Rattle.fo_files_own.specs.Own.{IsOwnAt, MayOwn}
+use Rattle.fo_files_own.specs.Own.{IsOwnAt, MayOwn, block_of}
 use Rattle.fo_files_create.specs.Create.{IsApartFrom, LeavesNew, MakesNew, last_leaf}
 use Rattle.fo_files_create.proofs.Steps.{above_of_root, own_may, own_stands, own_with}
 use Rattle.fo_files_create.proofs.along.make_along.Goals as goal
+use Rattle.fo_dirties.proofs.Adding.{dirties_none, dirties_fewer, dirties_adds, cons_counted, none_counted}
+use Rattle.fo_dirties.proofs.Putting.{dirties_looks}
+use Rattle.fo_files_create.proofs.Counting.{few_own, own_in}
+use Rattle.fo_files_own.specs.declared.at.OwnAt.{OwnAt}
+use Rattle.fo_files_create_look.specs.of_files_along.Along.{HasPairIn}
 
 pub own_dir_along-requires-clause-way : goal.own_dir_along-requires-clause-way
 own_dir_along-requires-clause-way g c = (c.args.root, (c.args.trail.now, c.requires.way))
@@ -134,3 +139,22 @@ returns-in-Ok-put_new-clause-keeps g c = g.met.B.Blocks.keeps_joins c.args.on.no
 
 pub returns-in-Err-put_new-clause-keeps : goal.returns-in-Err-put_new-clause-keeps
 returns-in-Err-put_new-clause-keeps g c = g.met.B.Blocks.keeps_joins c.args.on.now c.own_dir_along.new.on c.put_new.new.on c.own_dir_along.ensures.keeps c.put_new.ensures.keeps
+
+pub returns-in-Err-clause-dirties : goal.returns-in-Err-clause-dirties
+returns-in-Err-clause-dirties g c = dirties_none _ (dirties_looks (g.met.B.Blocks.keeps_all c.args.on.now c.own_dir_along.new.on c.own_dir_along.ensures.keeps) c.in-Err.ensures.nothing)
+
+pub returns-in-Ok-put_new-clause-dirties : goal.returns-in-Ok-put_new-clause-dirties
+returns-in-Ok-put_new-clause-dirties g c =
+    let long = steps_long (g.B.Blocks.state c.args.on.now) c.args.root c.args.trail.now c.args.way.now c.requires.way in
+    let stand = c.in-Ok.stand in
+    let few = few_own c.own_at-own.result in
+    let own = subst (λ (o : OwnAt). HasPairIn stand.dir stand.above (block_of o)) (sym c.own_at-own.ensures) (own_in stand.dir stand.above c.own_leaf.result c.args.spare) in
+    dirties_fewer (omega (arith, long, few)) (λ b h. absurd h) (dirties_adds c.in-Ok.ensures.dirties c.put_new.ensures.dirties (cons_counted (inl refl) (cons_counted own none_counted)))
+
+pub returns-in-Err-put_new-clause-dirties : goal.returns-in-Err-put_new-clause-dirties
+returns-in-Err-put_new-clause-dirties g c =
+    let long = steps_long (g.B.Blocks.state c.args.on.now) c.args.root c.args.trail.now c.args.way.now c.requires.way in
+    let stand = c.in-Ok.stand in
+    let few = few_own c.own_at-own.result in
+    let own = subst (λ (o : OwnAt). HasPairIn stand.dir stand.above (block_of o)) (sym c.own_at-own.ensures) (own_in stand.dir stand.above c.own_leaf.result c.args.spare) in
+    dirties_fewer (omega (arith, long, few)) (λ b h. absurd h) (dirties_adds c.in-Ok.ensures.dirties c.put_new.ensures.dirties (cons_counted (inl refl) (cons_counted own none_counted)))

@@ -8,6 +8,8 @@ use Rattle.fo_files_create.specs.Create.{IsLate, numbered, told_of}
 use Rattle.fo_files_create.proofs.Late.{late_refused, look_refused}
 use Rattle.fo_files_create.proofs.Telling.{told_is}
 use Rattle.fo_files_create.proofs.create.create_file.Goals as goal
+use Rattle.fo_dirties.proofs.Adding.{dirties_none, dirties_first}
+use Rattle.fo_dirties.proofs.Putting.{dirties_looks}
 
 pub make_found-requires-clause-silent : goal.make_found-requires-clause-silent
 make_found-requires-clause-silent g c = λ h. c.requires.may.silent ((g.met.B.Blocks.keeps_all c.args.on.now c.look_for_new.new.on c.look_for_new.ensures.looks.1).still_tells.0 h)
@@ -91,3 +93,12 @@ returns-in-Ok-make_found-clause-keeps g c = g.met.B.Blocks.keeps_joins c.args.on
 
 pub returns-in-Err-make_found-clause-keeps : goal.returns-in-Err-make_found-clause-keeps
 returns-in-Err-make_found-clause-keeps g c = g.met.B.Blocks.keeps_joins c.args.on.now c.look_for_new.new.on c.make_found.new.on c.look_for_new.ensures.looks.1 c.make_found.ensures.keeps
+
+pub returns-in-Err-clause-dirties : goal.returns-in-Err-clause-dirties
+returns-in-Err-clause-dirties g c = dirties_none _ (dirties_looks (g.met.B.Blocks.keeps_all c.args.on.now c.look_for_new.new.on c.look_for_new.ensures.looks.1) c.look_for_new.ensures.looks.0)
+
+pub returns-in-Ok-make_found-clause-dirties : goal.returns-in-Ok-make_found-clause-dirties
+returns-in-Ok-make_found-clause-dirties g c = dirties_first (dirties_looks (g.met.B.Blocks.keeps_all c.args.on.now c.look_for_new.new.on c.look_for_new.ensures.looks.1) c.look_for_new.ensures.looks.0) c.make_found.ensures.dirties
+
+pub returns-in-Err-make_found-clause-dirties : goal.returns-in-Err-make_found-clause-dirties
+returns-in-Err-make_found-clause-dirties g c = dirties_first (dirties_looks (g.met.B.Blocks.keeps_all c.args.on.now c.look_for_new.new.on c.look_for_new.ensures.looks.1) c.look_for_new.ensures.looks.0) c.make_found.ensures.dirties

@@ -13,6 +13,8 @@ use Rattle.fo_files_create_look.specs.of_files_at.declared.file.File.{File}
 use Rattle.fo_files_create.specs.Create.{MakesAlong, numbered}
 use Rattle.fo_files_create.proofs.Telling.{number_holds, told_same}
 use Rattle.fo_files_create.proofs.create.make_at.Goals as goal
+use Rattle.fo_dirties.proofs.Adding.{dirties_none, dirties_first}
+use Rattle.fo_dirties.proofs.Dirtied.{dirties_rests}
 
 pub make_along-requires-clause-silent : goal.make_along-requires-clause-silent
 make_along-requires-clause-silent g c = λ h. c.requires.silent ((g.met.B.Blocks.keeps_all c.args.on.now c.reserve_room.new.on c.reserve_room.ensures.keeps).still_tells.0 h)
@@ -107,3 +109,12 @@ returns-in-Err-make_along-clause-cause g c =
 
 pub returns-in-Err-make_along-clause-keeps : goal.returns-in-Err-make_along-clause-keeps
 returns-in-Err-make_along-clause-keeps g c = g.met.B.Blocks.keeps_joins c.args.on.now c.reserve_room.new.on c.make_along.new.on c.reserve_room.ensures.keeps c.make_along.ensures.keeps
+
+pub returns-in-Err-clause-dirties : goal.returns-in-Err-clause-dirties
+returns-in-Err-clause-dirties g c = dirties_none _ (dirties_rests (g.B.Blocks.state c.args.on.now) (g.B.Blocks.state c.reserve_room.new.on) (g.met.B.Blocks.keeps_all c.args.on.now c.reserve_room.new.on c.reserve_room.ensures.keeps) c.reserve_room.ensures.rests)
+
+pub returns-in-Ok-make_along-clause-dirties : goal.returns-in-Ok-make_along-clause-dirties
+returns-in-Ok-make_along-clause-dirties g c = dirties_first (dirties_rests (g.B.Blocks.state c.args.on.now) (g.B.Blocks.state c.reserve_room.new.on) (g.met.B.Blocks.keeps_all c.args.on.now c.reserve_room.new.on c.reserve_room.ensures.keeps) c.reserve_room.ensures.rests) c.make_along.ensures.dirties
+
+pub returns-in-Err-make_along-clause-dirties : goal.returns-in-Err-make_along-clause-dirties
+returns-in-Err-make_along-clause-dirties g c = dirties_first (dirties_rests (g.B.Blocks.state c.args.on.now) (g.B.Blocks.state c.reserve_room.new.on) (g.met.B.Blocks.keeps_all c.args.on.now c.reserve_room.new.on c.reserve_room.ensures.keeps) c.reserve_room.ensures.rests) c.make_along.ensures.dirties

@@ -7,6 +7,8 @@ use Rattle.fo_files_create.specs.Create.{MakesAlong, numbered, told_of}
 use Rattle.fo_files_create.proofs.Late.{blocks_late, settled_numbers}
 use Rattle.fo_files_create.proofs.Steps.{found_on}
 use Rattle.fo_files_create.proofs.create.make_found.Goals as goal
+use Rattle.fo_dirties.proofs.Adding.{dirties_none, dirties_first}
+use Rattle.fo_dirties.proofs.Putting.{dirties_numbers}
 
 pub make_numbered-requires-clause-silent : goal.make_numbered-requires-clause-silent
 make_numbered-requires-clause-silent g c = λ h. c.requires.silent ((g.met.B.Blocks.keeps_all c.args.on.now c.granted.new.on c.granted.ensures.keeps).still_tells.0 h)
@@ -88,3 +90,12 @@ returns-in-Ok-make_numbered-clause-keeps g c = g.met.B.Blocks.keeps_joins c.args
 
 pub returns-in-Err-make_numbered-clause-keeps : goal.returns-in-Err-make_numbered-clause-keeps
 returns-in-Err-make_numbered-clause-keeps g c = g.met.B.Blocks.keeps_joins c.args.on.now c.granted.new.on c.make_numbered.new.on c.granted.ensures.keeps c.make_numbered.ensures.keeps
+
+pub returns-in-Err-clause-dirties : goal.returns-in-Err-clause-dirties
+returns-in-Err-clause-dirties g c = dirties_none _ (dirties_numbers (g.met.B.Blocks.keeps_all c.args.on.now c.granted.new.on c.granted.ensures.keeps) c.granted.ensures.stays)
+
+pub returns-in-Ok-make_numbered-clause-dirties : goal.returns-in-Ok-make_numbered-clause-dirties
+returns-in-Ok-make_numbered-clause-dirties g c = dirties_first (dirties_numbers (g.met.B.Blocks.keeps_all c.args.on.now c.granted.new.on c.granted.ensures.keeps) c.granted.ensures.stays) c.make_numbered.ensures.dirties
+
+pub returns-in-Err-make_numbered-clause-dirties : goal.returns-in-Err-make_numbered-clause-dirties
+returns-in-Err-make_numbered-clause-dirties g c = dirties_first (dirties_numbers (g.met.B.Blocks.keeps_all c.args.on.now c.granted.new.on c.granted.ensures.keeps) c.granted.ensures.stays) c.make_numbered.ensures.dirties

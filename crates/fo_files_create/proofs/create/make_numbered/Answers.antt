@@ -1,4 +1,4 @@
-use Rattle.std.proofs.Common.{◌+◌, ◌≤◌, length, inl, inr, sym, ap, subst, ◌∙◌}
+use Rattle.std.proofs.Common.{◌+◌, ◌≤◌, length, inl, inr, sym, ap, subst, ◌∙◌, [], ◌*◌}
 use Rattle.fo_tree_read.proofs.Exits.{looks_none}
 use Rattle.fo_world.specs.Answers.{HasCause}
 use Rattle.fo_world.specs.Step.{need}
@@ -7,6 +7,10 @@ use Rattle.fo_files_create_look.specs.of_files_along.Along.{HasRoom}
 use Rattle.fo_files_create_look.specs.Found.{IsFound}
 use Rattle.fo_files_create.specs.Create.{LeavesAlong, MakesAlong, numbered, told_of}
 use Rattle.fo_files_create.proofs.create.make_numbered.Goals as goal
+use Rattle.fo_dirties.proofs.Adding.{dirties_none}
+use Rattle.fo_dirties.proofs.Putting.{dirties_at_once}
+use Rattle.fo_ports.specs.State.{none}
+use Rattle.fo_ports.specs.Sources.{Dirties}
 
 pub make_at-requires-clause-found : goal.make_at-requires-clause-found
 make_at-requires-clause-found g c = (c.requires.found.0, subst (λ t. IsFound (g.B.Blocks.state c.args.on.now) c.args.root t c.requires.found.0 c.args.found) (sym c.as_slice.ensures) c.requires.found.1)
@@ -46,3 +50,12 @@ returns-in-Err-clause-left g c =
 
 pub returns-in-Err-clause-keeps : goal.returns-in-Err-clause-keeps
 returns-in-Err-clause-keeps g c = g.met.B.Blocks.keeps_at_once c.args.on.now
+
+pub returns-in-Err-clause-dirties : goal.returns-in-Err-clause-dirties
+returns-in-Err-clause-dirties g c = dirties_none _ (dirties_at_once (g.B.Blocks.state c.args.on.now) [])
+
+pub returns-in-Ok-make_at-clause-dirties : goal.returns-in-Ok-make_at-clause-dirties
+returns-in-Ok-make_at-clause-dirties g c = subst (λ t. Dirties (2 * need (length t) 0) none (g.B.Blocks.state c.args.on.now) (g.B.Blocks.state c.make_at.new.on)) c.as_slice.ensures c.make_at.ensures.dirties
+
+pub returns-in-Err-make_at-clause-dirties : goal.returns-in-Err-make_at-clause-dirties
+returns-in-Err-make_at-clause-dirties g c = subst (λ t. Dirties (2 * need (length t) 0) none (g.B.Blocks.state c.args.on.now) (g.B.Blocks.state c.make_at.new.on)) c.as_slice.ensures c.make_at.ensures.dirties

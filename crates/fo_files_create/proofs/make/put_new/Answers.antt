@@ -3,6 +3,8 @@ use Rattle.fo_files_own.proofs.of_files_ready.Steps.{failed_since}
 use Rattle.fo_files_own.proofs.Carry.{few_blocks, few_pins, few_removals, has_ready_on, may_put_on}
 use Rattle.fo_files_create.proofs.Steps.{block_on, label_comes, of_root, own_numbers, own_usable, ready_comes}
 use Rattle.fo_files_create.proofs.make.put_new.Goals as goal
+use Rattle.fo_dirties.proofs.Adding.{first_of, next_of, cons_of, none_of, adds_more, adds_given, adds_wider, adds_joins, adds_first, adds_then, adds_still}
+use Rattle.fo_dirties.proofs.Putting.{dirties_calm, dirties_stays}
 
 pub ready_own-requires-clause-pins : goal.ready_own-requires-clause-pins
 ready_own-requires-clause-pins g c = let few = few_pins c.args.own in let enough = c.requires.pins in omega (arith, few, enough)
@@ -155,3 +157,16 @@ returns-clause-keeps g c =
     let on = g.met.B.Blocks.keeps_joins c.args.on.now c.ready_own.new.on c.new_file.new.on c.ready_own.ensures.keeps c.new_file.ensures.keeps in
     let more = g.met.B.Blocks.keeps_joins c.args.on.now c.new_file.new.on c.number_taken.new.self on c.number_taken.ensures.keeps in
     g.met.B.Blocks.keeps_joins c.args.on.now c.number_taken.new.self c.put_own.new.on more c.put_own.ensures.keeps
+
+pub returns-in-Err-clause-dirties : goal.returns-in-Err-clause-dirties
+returns-in-Err-clause-dirties g c = adds_more (omega arith) (adds_given first_of (adds_wider (cons_of (next_of first_of) none_of) c.in-Err.ensures.dirties_refused))
+
+pub returns-in-Err-new_file-clause-dirties : goal.returns-in-Err-new_file-clause-dirties
+returns-in-Err-new_file-clause-dirties g c = adds_more (omega arith) (adds_joins (adds_wider (cons_of (next_of first_of) none_of) c.in-Ok.ensures.dirties) c.new_file.ensures.dirties (cons_of (next_of first_of) none_of))
+
+pub returns-clause-dirties : goal.returns-clause-dirties
+returns-clause-dirties g c =
+    let t = c.number_taken.ensures in
+    let number = dirties_stays (g.met.B.Blocks.keeps_all c.new_file.new.on c.number_taken.new.self t.keeps) t.stays.0 t.order.0 t.dirty in
+    let put = dirties_calm c.in-Ok.ready.at (g.met.B.Blocks.keeps_all c.number_taken.new.self c.put_own.new.on c.put_own.ensures.keeps) c.put_own.ensures.calm in
+    adds_more (omega arith) (adds_given first_of (adds_then (adds_still (adds_first (adds_wider (cons_of (next_of first_of) none_of) c.in-Ok.ensures.dirties) c.new_file.ensures.dirties (cons_of (next_of first_of) none_of)) number) put (cons_of first_of none_of)))

@@ -6,6 +6,8 @@ use Rattle.fo_files_into.specs.of_files_look.Told.{faults_of}
 use Rattle.fo_files_into.specs.of_files_along.Along.{HasRoom, IsBlocks}
 use Rattle.fo_files_into.proofs.of_files_along.Refusing.{blocks_are, blocks_cause}
 use Rattle.fo_files_edit.proofs.change.change_below.Goals as goal
+use Rattle.fo_dirties.proofs.Adding.{dirties_none, dirties_first}
+use Rattle.fo_dirties.proofs.Dirtied.{dirties_rests}
 
 pub edit_along-requires-clause-silent : goal.edit_along-requires-clause-silent
 edit_along-requires-clause-silent g c =
@@ -50,3 +52,12 @@ returns-in-Ok-edit_along-clause-taken g c =
 pub returns-in-Err-edit_along-clause-taken : goal.returns-in-Err-edit_along-clause-taken
 returns-in-Err-edit_along-clause-taken g c =
     let a = c.reserve_room.ensures.usable in let b = c.edit_along.ensures.taken in let d = c.edit_along.ensures.spare in omega (arith, a, b, d)
+
+pub returns-in-Err-clause-dirties : goal.returns-in-Err-clause-dirties
+returns-in-Err-clause-dirties g c = dirties_none _ (dirties_rests (g.B.Blocks.state c.args.on.now) (g.B.Blocks.state c.reserve_room.new.on) (g.met.B.Blocks.keeps_all c.args.on.now c.reserve_room.new.on c.reserve_room.ensures.keeps) c.reserve_room.ensures.rests)
+
+pub returns-in-Ok-edit_along-clause-dirties : goal.returns-in-Ok-edit_along-clause-dirties
+returns-in-Ok-edit_along-clause-dirties g c = dirties_first (dirties_rests (g.B.Blocks.state c.args.on.now) (g.B.Blocks.state c.reserve_room.new.on) (g.met.B.Blocks.keeps_all c.args.on.now c.reserve_room.new.on c.reserve_room.ensures.keeps) c.reserve_room.ensures.rests) c.edit_along.ensures.dirties
+
+pub returns-in-Err-edit_along-clause-dirties : goal.returns-in-Err-edit_along-clause-dirties
+returns-in-Err-edit_along-clause-dirties g c = dirties_first (dirties_rests (g.B.Blocks.state c.args.on.now) (g.B.Blocks.state c.reserve_room.new.on) (g.met.B.Blocks.keeps_all c.args.on.now c.reserve_room.new.on c.reserve_room.ensures.keeps) c.reserve_room.ensures.rests) c.edit_along.ensures.dirties

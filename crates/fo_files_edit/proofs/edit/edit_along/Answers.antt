@@ -1,9 +1,11 @@
-use Rattle.std.proofs.Common.{length, inl, inr, subst, arith}
+use Rattle.std.proofs.Common.{length, inl, inr, subst, arith, refl}
 use Rattle.fo_files_into.specs.Into.{Edits, UnchangedBy}
 use Rattle.fo_files_into.proofs.of_files_ready.Steps.{failed_since}
 use Rattle.fo_files_into.proofs.of_files_along.Ways.{steps_long, file_holds}
 use Rattle.fo_files_into.proofs.Steps.{last_step}
 use Rattle.fo_files_edit.proofs.edit.edit_along.Goals as goal
+use Rattle.fo_dirties.proofs.Adding.{dirties_none, dirties_fewer, dirties_adds, cons_counted, none_counted}
+use Rattle.fo_dirties.proofs.Putting.{dirties_looks}
 
 pub own_along-requires-clause-way : goal.own_along-requires-clause-way
 own_along-requires-clause-way g c =
@@ -116,3 +118,16 @@ returns-in-Ok-change_into-clause-keeps g c =
 pub returns-in-Err-change_into-clause-keeps : goal.returns-in-Err-change_into-clause-keeps
 returns-in-Err-change_into-clause-keeps g c =
     g.met.B.Blocks.keeps_joins c.args.on.now c.own_along.new.on c.change_into.new.on c.own_along.ensures.keeps c.change_into.ensures.keeps
+
+pub returns-in-Err-clause-dirties : goal.returns-in-Err-clause-dirties
+returns-in-Err-clause-dirties g c = dirties_none _ (dirties_looks (g.met.B.Blocks.keeps_all c.args.on.now c.own_along.new.on c.own_along.ensures.keeps) c.in-Err.ensures.nothing)
+
+pub returns-in-Ok-change_into-clause-dirties : goal.returns-in-Ok-change_into-clause-dirties
+returns-in-Ok-change_into-clause-dirties g c =
+    let long = steps_long (g.B.Blocks.state c.args.on.now) c.args.root c.args.trail.now c.args.found.now.way c.requires.way in
+    dirties_fewer (omega (arith, long)) (λ b h. absurd h) (dirties_adds c.in-Ok.ensures.dirties c.change_into.ensures.dirties (cons_counted (inr (inl refl)) (cons_counted (inl refl) none_counted)))
+
+pub returns-in-Err-change_into-clause-dirties : goal.returns-in-Err-change_into-clause-dirties
+returns-in-Err-change_into-clause-dirties g c =
+    let long = steps_long (g.B.Blocks.state c.args.on.now) c.args.root c.args.trail.now c.args.found.now.way c.requires.way in
+    dirties_fewer (omega (arith, long)) (λ b h. absurd h) (dirties_adds c.in-Ok.ensures.dirties c.change_into.ensures.dirties (cons_counted (inr (inl refl)) (cons_counted (inl refl) none_counted)))

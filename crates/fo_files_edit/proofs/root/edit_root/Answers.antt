@@ -1,4 +1,4 @@
-use Rattle.std.proofs.Common.{[], inl, inr, sym, subst, ◌∙◌, arith}
+use Rattle.std.proofs.Common.{[], inl, inr, sym, subst, ◌∙◌, arith, refl}
 use Rattle.fo_image.specs.declared.record.Record.{Record}
 use Rattle.fo_image.specs.Record.{RootRecordHolds}
 use Rattle.fo_tree_read.proofs.Exits.{looks_none}
@@ -7,6 +7,8 @@ use Rattle.fo_files_into.proofs.of_files_along.Ways.{file_holds, steps_long}
 use Rattle.fo_files_edit.specs.Edit.{as_root}
 use Rattle.fo_files_edit.proofs.Roots.{root_stands, root_holds}
 use Rattle.fo_files_edit.proofs.root.edit_root.Goals as goal
+use Rattle.fo_dirties.proofs.Adding.{dirties_none, dirties_fewer, dirties_puts, cons_counted, none_counted}
+use Rattle.fo_dirties.proofs.Putting.{dirties_looks, dirties_at_once}
 
 pub own_dir_along-requires-clause-way : goal.own_dir_along-requires-clause-way
 own_dir_along-requires-clause-way g c = (c.args.root, ([], c.requires.way))
@@ -77,3 +79,24 @@ returns-in-Err-put_own_record-clause-keeps g c = g.met.B.Blocks.keeps_joins c.ar
 
 pub returns-in-Ok-put_own_record-clause-keeps : goal.returns-in-Ok-put_own_record-clause-keeps
 returns-in-Ok-put_own_record-clause-keeps g c = g.met.B.Blocks.keeps_joins c.args.on.now c.own_dir_along.new.on c.put_own_record.new.on c.own_dir_along.ensures.keeps c.put_own_record.ensures.keeps
+
+pub returns-then-not-found-clause-dirties : goal.returns-then-not-found-clause-dirties
+returns-then-not-found-clause-dirties g c = dirties_none 1 (dirties_at_once (g.B.Blocks.state c.args.on.now) [])
+
+pub returns-in-Err-clause-dirties : goal.returns-in-Err-clause-dirties
+returns-in-Err-clause-dirties g c = dirties_none 1 (dirties_looks (g.met.B.Blocks.keeps_all c.args.on.now c.own_dir_along.new.on c.own_dir_along.ensures.keeps) c.in-Err.ensures.nothing)
+
+pub returns-in_default-clause-dirties : goal.returns-in_default-clause-dirties
+returns-in_default-clause-dirties g c =
+    let long = steps_long (g.B.Blocks.state c.args.on.now) c.args.root [] c.args.found.now.way c.requires.way in
+    dirties_fewer (omega (arith, long)) (λ b h. absurd h) c.in-Ok.ensures.dirties
+
+pub returns-in-Ok-put_own_record-clause-dirties : goal.returns-in-Ok-put_own_record-clause-dirties
+returns-in-Ok-put_own_record-clause-dirties g c =
+    let long = steps_long (g.B.Blocks.state c.args.on.now) c.args.root [] c.args.found.now.way c.requires.way in
+    dirties_fewer (omega (arith, long)) (λ b h. absurd h) (dirties_puts c.in-Ok.ensures.dirties c.put_own_record.ensures.dirties (cons_counted (inl refl) none_counted))
+
+pub returns-in-Err-put_own_record-clause-dirties : goal.returns-in-Err-put_own_record-clause-dirties
+returns-in-Err-put_own_record-clause-dirties g c =
+    let long = steps_long (g.B.Blocks.state c.args.on.now) c.args.root [] c.args.found.now.way c.requires.way in
+    dirties_fewer (omega (arith, long)) (λ b h. absurd h) (dirties_puts c.in-Ok.ensures.dirties c.put_own_record.ensures.dirties (cons_counted (inl refl) none_counted))

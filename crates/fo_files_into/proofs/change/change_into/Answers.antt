@@ -11,6 +11,8 @@ use Rattle.fo_files_ready.proofs.Steps.{leaf_looks, failed_since}
 use Rattle.fo_files_along.proofs.Pairs.{entries_looks}
 use Rattle.fo_files_into.proofs.Steps.{file_over, file_looks, leaf_bytes, leaf_written, must_fit, changed_as, uncut, use_kept, sized_kept}
 use Rattle.fo_files_into.proofs.change.change_into.Goals as goal
+use Rattle.fo_dirties.proofs.Adding.{first_of, next_of, cons_of, none_of, adds_more, adds_wider, adds_given, adds_still, adds_first, adds_then}
+use Rattle.fo_dirties.proofs.Putting.{dirties_looks}
 
 pub read-requires-clause-silent : goal.read-requires-clause-silent
 read-requires-clause-silent g c =
@@ -282,3 +284,15 @@ returns-in-Err-cut_given-clause-keeps g c =
 pub returns-clause-keeps : goal.returns-clause-keeps
 returns-clause-keeps g c =
     g.met.B.Blocks.keeps_joins c.args.on.now c.cut_given.new.on c.change_record.new.on (g.met.B.Blocks.keeps_joins c.args.on.now c.read.new.on c.cut_given.new.on (g.met.B.Blocks.keeps_joins c.args.on.now c.ready_record.new.on c.read.new.on c.ready_record.ensures.keeps c.read.ensures.keeps) c.cut_given.ensures.keeps) c.change_record.ensures.keeps
+
+pub returns-in-Err-clause-dirties : goal.returns-in-Err-clause-dirties
+returns-in-Err-clause-dirties g c = adds_more (omega arith) (adds_wider (cons_of first_of none_of) c.in-Err.ensures.dirties_refused)
+
+pub returns-in-Err-read-clause-dirties : goal.returns-in-Err-read-clause-dirties
+returns-in-Err-read-clause-dirties g c = adds_more (omega arith) (adds_given first_of (adds_still (adds_wider (cons_of first_of none_of) c.in-Ok.ensures.dirties) (dirties_looks (g.met.B.Blocks.keeps_all c.ready_record.new.on c.read.new.on c.read.ensures.keeps) c.read.ensures.looks)))
+
+pub returns-in-Err-cut_given-clause-dirties : goal.returns-in-Err-cut_given-clause-dirties
+returns-in-Err-cut_given-clause-dirties g c = adds_given first_of (adds_first (adds_still (adds_wider (cons_of first_of none_of) c.in-Ok.ensures.dirties) (dirties_looks (g.met.B.Blocks.keeps_all c.ready_record.new.on c.read.new.on c.read.ensures.keeps) c.read.ensures.looks)) c.cut_given.ensures.dirties (cons_of (next_of (next_of first_of)) none_of))
+
+pub returns-clause-dirties : goal.returns-clause-dirties
+returns-clause-dirties g c = adds_given first_of (adds_then (adds_first (adds_still (adds_wider (cons_of first_of none_of) c.in-Ok.ensures.dirties) (dirties_looks (g.met.B.Blocks.keeps_all c.ready_record.new.on c.read.new.on c.read.ensures.keeps) c.read.ensures.looks)) c.cut_given.ensures.dirties (cons_of (next_of (next_of first_of)) none_of)) c.change_record.ensures.dirties (cons_of first_of none_of))

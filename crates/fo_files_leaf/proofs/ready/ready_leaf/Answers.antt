@@ -1,9 +1,11 @@
-use Rattle.std.proofs.Common.{◌≡◌}
+use Rattle.std.proofs.Common.{◌≡◌, arith}
 use Rattle.fo_ports.specs.State.{none}
 use Rattle.fo_files_leaf.specs.Leaf.{IsAbove}
 use Rattle.fo_files_leaf.proofs.Altering.{alters_looks}
-use Rattle.fo_files_leaf.proofs.Readying.{entry_at, enough_ten, readied_alters}
+use Rattle.fo_files_leaf.proofs.Readying.{entry_at, enough_ten, readied_alters, most_ten}
 use Rattle.fo_files_leaf.proofs.ready.ready_leaf.Goals as goal
+use Rattle.fo_dirties.proofs.Adding.{adds_after, adds_more}
+use Rattle.fo_dirties.proofs.Putting.{dirties_looks}
 
 pub own_grown-requires-clause-entry : goal.own_grown-requires-clause-entry
 own_grown-requires-clause-entry g c =
@@ -49,3 +51,9 @@ pub returns-then-not-may_grow-clause-alters : goal.returns-then-not-may_grow-cla
 returns-then-not-may_grow-clause-alters g c =
     let w = c.args.wanted in
     alters_looks w.at (λ k. k ≡ w.slot) (λ t. t ≡ w.tag) (IsAbove w.tag w.is_dir) none (g.B.Blocks.state c.args.on.now) (g.B.Blocks.state c.source_for.new.on) c.requires.holder.is_pinned c.in-Ok.ensures.looks.0
+
+pub returns-clause-dirties : goal.returns-clause-dirties
+returns-clause-dirties g c =
+    let e = c.in-Ok.ensures in
+    let most = most_ten c.in-Ok.source.ways.tree.size c.args.wanted.leaf in
+    adds_after (dirties_looks (g.met.B.Blocks.keeps_all c.args.on.now c.source_for.new.on e.looks.1) e.looks.0) (adds_more (omega (arith, most)) c.own_grown.ensures.dirties)

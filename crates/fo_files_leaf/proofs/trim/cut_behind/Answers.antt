@@ -1,4 +1,4 @@
-use Rattle.std.proofs.Common.{◌≡◌, ◌<◌, ℕ, false, List, inr, refl, sym, ◌∙◌, ap, subst, arith}
+use Rattle.std.proofs.Common.{◌≡◌, ◌<◌, ℕ, false, List, inr, refl, sym, ◌∙◌, ap, subst, arith, [], ◌∷◌, ◌++◌}
 use Rattle.fo_ports.specs.State.{KeepsAll, Rests, StaysKnown, none}
 use Rattle.fo_tree_read.specs.declared.tree.Tree.{Tree}
 use Rattle.fo_tree_look.specs.declared.ways.Kept.{Kept}
@@ -12,6 +12,10 @@ use Rattle.fo_files_leaf.proofs.Altering.{alters_settled, alters_joins}
 use Rattle.fo_files_leaf.proofs.Trimming.{readies_alters, cuts_alters, above_same, end_settled}
 use Rattle.fo_files_leaf.proofs.trim.cut_behind.Given as given
 use Rattle.fo_files_leaf.proofs.trim.cut_behind.Goals as goal
+use Rattle.fo_dirties.proofs.Adding.{dirties_quiet}
+use Rattle.fo_dirties.proofs.Putting.{dirties_at_once, first_among}
+use Rattle.fo_dirties.proofs.Dirtied.{dirties_rests}
+use Rattle.fo_tree_trim.proofs.Knowing.{end_known}
 
 laws_of : (g : given.Over) (b : g.row.B.Denot) → Laws (g.B.Blocks.state b)
 laws_of g b =
@@ -116,3 +120,17 @@ returns-in-Ok-clause-alters g c =
     alters_joins all (above_same t t refl c.requires.data (readies_alters m.steps.2.1 c.requires.entry))
     (alters_joins more (alters_settled c.args.at (λ k. k ≡ c.args.slot) (λ z. z ≡ t.tag) (IsAbove t.tag false) none a b m.entry.is_pinned e.rests e.known e.blocks e.room.0)
     (above_same t w.tree (ap (λ (y : Tree). y.tag) m.steps.1) dir (cuts_alters w.kept.items c.cut.ensures.cuts last deep ready (end_settled settles m.ready m.current) (entry_settled settles))))
+
+pub returns-in-Err-clause-dirties : goal.returns-in-Err-clause-dirties
+returns-in-Err-clause-dirties g c =
+    let m = c.make_ready.ensures.dirties c.args.on.now (c.args.at ∷ []) (dirties_at_once (g.B.Blocks.state c.args.on.now) (c.args.at ∷ [])) (first_among c.args.at []) in
+    let settled = dirties_rests (g.B.Blocks.state c.make_ready.new.on) (g.B.Blocks.state c.settle.new.self) (g.met.B.Blocks.keeps_all c.make_ready.new.on c.settle.new.self c.settle.ensures.keeps) c.settle.ensures.rests in
+    record { more = m.more; few = m.few; within = dirties_quiet m.within settled; here = m.here }
+
+pub returns-in-Ok-clause-dirties : goal.returns-in-Ok-clause-dirties
+returns-in-Ok-clause-dirties g c =
+    let m = c.make_ready.ensures.dirties c.args.on.now (c.args.at ∷ []) (dirties_at_once (g.B.Blocks.state c.args.on.now) (c.args.at ∷ [])) (first_among c.args.at []) in
+    let settled = dirties_rests (g.B.Blocks.state c.make_ready.new.on) (g.B.Blocks.state c.settle.new.self) (g.met.B.Blocks.keeps_all c.make_ready.new.on c.settle.new.self c.settle.ensures.keeps) c.settle.ensures.rests in
+    let known = end_known (g.B.Blocks.state c.make_ready.new.on) (g.B.Blocks.state c.settle.new.self) c.make_ready.new.ways.tree c.make_ready.new.ways.kept.items c.make_ready.ensures.ready c.settle.ensures.known in
+    let cut = c.cut.ensures.dirties c.args.on.now (m.more ++ c.args.at ∷ []) (dirties_quiet m.within settled) (λ b h. m.end b (known b h)) in
+    record { more = m.more; few = m.few; within = cut; here = m.here }

@@ -2,6 +2,7 @@ use Rattle.fo_files_record.proofs.Rewriting.{rewrites_joins, rewrites_wider}
 use Rattle.fo_files_record.proofs.Owned.{entries_stay}
 use Rattle.fo_files_move.proofs.Moving.{named_failed, moved_failed}
 use Rattle.fo_files_move.proofs.between.move_between.Goals as goal
+use Rattle.fo_dirties.proofs.Adding.{dirties_idle, dirties_after}
 
 pub returns-in-Err-clause-entries : goal.returns-in-Err-clause-entries
 returns-in-Err-clause-entries g c = entries_stay c.args.entries (g.met.B.Blocks.keeps_all c.args.on.now c.both_read.new.on c.both_read.ensures.keeps) c.both_read.ensures.stays c.requires.entries
@@ -33,3 +34,12 @@ returns-in-Ok-first_named-clause-cause g c = moved_failed (g.B.Blocks.state c.ar
 
 pub returns-in-Ok-first_named-clause-keeps : goal.returns-in-Ok-first_named-clause-keeps
 returns-in-Ok-first_named-clause-keeps g c = g.met.B.Blocks.keeps_joins c.args.on.now c.both_read.new.on c.fitted.new.on c.both_read.ensures.keeps c.fitted.ensures.keeps
+
+pub returns-in-Err-clause-dirties : goal.returns-in-Err-clause-dirties
+returns-in-Err-clause-dirties g c = dirties_idle c.both_read.ensures.dirties
+
+pub returns-in-Err-first_named-clause-dirties : goal.returns-in-Err-first_named-clause-dirties
+returns-in-Err-first_named-clause-dirties g c = dirties_idle c.both_read.ensures.dirties
+
+pub returns-in-Ok-first_named-clause-dirties : goal.returns-in-Ok-first_named-clause-dirties
+returns-in-Ok-first_named-clause-dirties g c = dirties_after c.both_read.ensures.dirties c.fitted.ensures.dirties

@@ -3,6 +3,8 @@ use Rattle.fo_files_leaf.proofs.Altering.{alters_joins}
 use Rattle.fo_files_new.proofs.Dirs.{dir_on, alters_leaves}
 use Rattle.fo_files_new.proofs.Putting.{look_alters, caused_after, caused_wider}
 use Rattle.fo_files_new.proofs.new.new_file.Goals as goal
+use Rattle.fo_dirties.proofs.Adding.{dirties_after, dirties_idle}
+use Rattle.fo_files_new.proofs.Dirtying.{leaves_then}
 
 pub settle_for-requires-clause-dir : goal.settle_for-requires-clause-dir
 settle_for-requires-clause-dir g c = (dir_on (g.B.Blocks.state c.args.on.now) (g.B.Blocks.state c.ready_both.new.on) c.args.dir _ (g.met.B.Blocks.keeps_all c.args.on.now c.ready_both.new.on c.ready_both.ensures.keeps) c.ready_both.ensures.alters c.requires.dir)
@@ -59,3 +61,20 @@ returns-in-Ok-put_new-clause-keeps g c = g.met.B.Blocks.keeps_joins c.args.on.no
 
 pub returns-in-Err-put_new-clause-keeps : goal.returns-in-Err-put_new-clause-keeps
 returns-in-Err-put_new-clause-keeps g c = g.met.B.Blocks.keeps_joins c.args.on.now c.settle_for.new.on c.put_new.new.on (g.met.B.Blocks.keeps_joins c.args.on.now c.ready_both.new.on c.settle_for.new.on c.ready_both.ensures.keeps c.settle_for.ensures.keeps) c.put_new.ensures.keeps
+
+pub returns-in-Err-clause-dirties : goal.returns-in-Err-clause-dirties
+returns-in-Err-clause-dirties g c = c.in-Err.ensures.dirties_refused
+
+pub returns-in-Err-settle_for-clause-dirties : goal.returns-in-Err-settle_for-clause-dirties
+returns-in-Err-settle_for-clause-dirties g c = leaves_then c.in-Ok.ensures.dirties (dirties_idle c.settle_for.ensures.dirties)
+
+pub returns-in-Ok-put_new-clause-dirties : goal.returns-in-Ok-put_new-clause-dirties
+returns-in-Ok-put_new-clause-dirties g c = leaves_then c.in-Ok.ensures.dirties (dirties_after c.settle_for.ensures.dirties c.put_new.ensures.dirties)
+
+pub returns-in-Err-put_new-clause-dirties : goal.returns-in-Err-put_new-clause-dirties
+returns-in-Err-put_new-clause-dirties g c = leaves_then c.in-Ok.ensures.dirties (dirties_after c.settle_for.ensures.dirties c.put_new.ensures.dirties)
+
+pub put_new-requires-clause-silent : goal.put_new-requires-clause-silent
+put_new-requires-clause-silent g c = λ h.
+    c.requires.silent ((g.met.B.Blocks.keeps_all c.args.on.now c.ready_both.new.on c.ready_both.ensures.keeps).still_tells.0
+    ((g.met.B.Blocks.keeps_all c.ready_both.new.on c.settle_for.new.on c.settle_for.ensures.keeps).still_tells.0 h))

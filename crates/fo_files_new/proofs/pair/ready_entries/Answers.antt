@@ -1,5 +1,9 @@
 use Rattle.fo_files_new.proofs.Dirs.{entries_holder, entries_wanted, alters_entries, own_as, leaf_apart, same_alters}
 use Rattle.fo_files_new.proofs.pair.ready_entries.Goals as goal
+use Rattle.fo_dirties.proofs.Adding.{adds_idle, first_of}
+use Rattle.fo_dirties.proofs.Putting.{dirties_looks, dirties_at_once}
+use Rattle.std.proofs.Common.{subst, [], ◌∷◌}
+use Rattle.fo_ports.specs.Sources.{AddsDirty}
 
 pub ready_leaf-requires-clause-holder : goal.ready_leaf-requires-clause-holder
 ready_leaf-requires-clause-holder g c = entries_holder (g.B.Blocks.state c.args.on.now) c.args.dir c.args.pair c.in-Some.wanted c.requires.dir c.in-Some.ensures.is.0
@@ -32,3 +36,12 @@ returns-in-Err-clause-alters g c = alters_entries (g.B.Blocks.state c.args.on.no
 
 pub returns-in_default-clause-alters : goal.returns-in_default-clause-alters
 returns-in_default-clause-alters g c = same_alters (g.B.Blocks.state c.args.on.now) c.args.dir
+
+pub returns-in-Ok-clause-dirties : goal.returns-in-Ok-clause-dirties
+returns-in-Ok-clause-dirties g c = subst (λ a. AddsDirty 20 (a ∷ []) c.in-Ok.leaf (g.B.Blocks.state c.args.on.now) (g.B.Blocks.state c.ready_leaf.new.on)) c.in-Some.ensures.is.0.at_is c.in-Ok.ensures.dirties
+
+pub returns-in-Err-clause-dirties_refused : goal.returns-in-Err-clause-dirties_refused
+returns-in-Err-clause-dirties_refused g c = adds_idle 20 first_of (dirties_looks (g.met.B.Blocks.keeps_all c.args.on.now c.ready_leaf.new.on c.ready_leaf.ensures.keeps) c.in-Err.ensures.nothing)
+
+pub returns-in_default-clause-dirties_refused : goal.returns-in_default-clause-dirties_refused
+returns-in_default-clause-dirties_refused g c = adds_idle 20 first_of (dirties_at_once (g.B.Blocks.state c.args.on.now) [])

@@ -2,6 +2,10 @@ use Rattle.fo_files_leaf.proofs.Altering.{alters_joins}
 use Rattle.fo_files_new.proofs.Dirs.{records_holder, records_wanted, alters_records, own_as, leaf_apart, same_alters, dir_on}
 use Rattle.fo_files_new.proofs.Putting.{caused_after}
 use Rattle.fo_files_new.proofs.pair.ready_records.Goals as goal
+use Rattle.fo_dirties.proofs.Adding.{adds_idle, first_of, adds_joins, adds_more, adds_still, cons_of, none_of}
+use Rattle.fo_dirties.proofs.Putting.{dirties_looks, dirties_at_once}
+use Rattle.std.proofs.Common.{subst, [], ◌∷◌, arith}
+use Rattle.fo_ports.specs.Sources.{AddsDirty}
 
 pub trim_records-requires-clause-holder : goal.trim_records-requires-clause-holder
 trim_records-requires-clause-holder g c = records_holder (g.B.Blocks.state c.args.on.now) c.args.dir c.args.leaf c.in-Some.wanted c.requires.dir c.in-Some.ensures.is.0
@@ -79,3 +83,17 @@ returns-in_default-clause-alters g c = same_alters (g.B.Blocks.state c.args.on.n
 
 pub returns-in-Err-ready_leaf-clause-cause : goal.returns-in-Err-ready_leaf-clause-cause
 returns-in-Err-ready_leaf-clause-cause g c = caused_after (g.B.Blocks.state c.args.on.now) (g.B.Blocks.state c.trim_records.new.on) (g.B.Blocks.state c.ready_leaf.new.on) (g.met.B.Blocks.keeps_all c.args.on.now c.trim_records.new.on c.trim_records.ensures.keeps) (g.met.B.Blocks.keeps_all c.trim_records.new.on c.ready_leaf.new.on c.ready_leaf.ensures.keeps) c.in-Err-ready_leaf.why c.in-Err-ready_leaf.ensures.cause
+
+pub returns-in-Ok-ready_leaf-clause-dirties : goal.returns-in-Ok-ready_leaf-clause-dirties
+returns-in-Ok-ready_leaf-clause-dirties g c =
+    let leaf = subst (λ a. AddsDirty 20 (a ∷ []) c.in-Ok-ready_leaf.at (g.B.Blocks.state c.trim_records.new.on) (g.B.Blocks.state c.ready_leaf.new.on)) c.in-Some.ensures.is.0.at_is c.in-Ok-ready_leaf.ensures.dirties in
+    adds_joins (subst (λ a. AddsDirty 8 (a ∷ []) a (g.B.Blocks.state c.args.on.now) (g.B.Blocks.state c.trim_records.new.on)) c.in-Some.ensures.is.0.at_is c.trim_records.ensures.dirties) leaf (cons_of first_of none_of)
+
+pub returns-in-Err-ready_leaf-clause-dirties_refused : goal.returns-in-Err-ready_leaf-clause-dirties_refused
+returns-in-Err-ready_leaf-clause-dirties_refused g c = adds_more (omega arith) (adds_still (subst (λ a. AddsDirty 8 (a ∷ []) a (g.B.Blocks.state c.args.on.now) (g.B.Blocks.state c.trim_records.new.on)) c.in-Some.ensures.is.0.at_is c.trim_records.ensures.dirties) (dirties_looks (g.met.B.Blocks.keeps_all c.trim_records.new.on c.ready_leaf.new.on c.ready_leaf.ensures.keeps) c.in-Err-ready_leaf.ensures.nothing))
+
+pub returns-in-Err-clause-dirties_refused : goal.returns-in-Err-clause-dirties_refused
+returns-in-Err-clause-dirties_refused g c = adds_more (omega arith) (subst (λ a. AddsDirty 8 (a ∷ []) a (g.B.Blocks.state c.args.on.now) (g.B.Blocks.state c.trim_records.new.on)) c.in-Some.ensures.is.0.at_is c.trim_records.ensures.dirties)
+
+pub returns-in_default-clause-dirties_refused : goal.returns-in_default-clause-dirties_refused
+returns-in_default-clause-dirties_refused g c = adds_idle 28 first_of (dirties_at_once (g.B.Blocks.state c.args.on.now) [])

@@ -1,4 +1,4 @@
-use Rattle.std.proofs.Common.{ℕ, List, inl, inr, sym, subst, ◌∙◌, arith}
+use Rattle.std.proofs.Common.{ℕ, List, inl, inr, sym, subst, ◌∙◌, arith, [], ◌∷◌}
 use Rattle.fo_dir_put.proofs.Leaves.{leaf_long}
 use Rattle.fo_files_record.specs.Stays.{no_slot}
 use Rattle.fo_files_record.proofs.Rewriting.{rewrites_looks, rewrites_joins}
@@ -8,6 +8,9 @@ use Rattle.fo_files_ready.proofs.Steps.{leaf_looks}
 use Rattle.fo_files_own.specs.Own.{WasReadied}
 use Rattle.fo_files_own.proofs.Placed.{leaf_ready}
 use Rattle.fo_files_own.proofs.leaf.ready_below.Goals as goal
+use Rattle.fo_dirties.proofs.Adding.{adds_given, first_of, adds_still}
+use Rattle.fo_dirties.proofs.Putting.{dirties_looks}
+use Rattle.fo_ports.specs.Sources.{AddsDirty}
 
 pub ready_record-ready-requires-clause-spare : goal.ready_record-ready-requires-clause-spare
 ready_record-ready-requires-clause-spare g c = let enough = c.requires.spare in omega (arith, enough)
@@ -90,3 +93,12 @@ returns-in-Err-read-clause-room g c = let took = c.ready_record-ready.ensures.ro
 
 pub returns-in-Err-read-clause-cause : goal.returns-in-Err-read-clause-cause
 returns-in-Err-read-clause-cause g c = later_failed (g.B.Blocks.state c.args.on.now) (g.B.Blocks.state c.ready_record-ready.new.on) (g.B.Blocks.state c.read.new.on) (g.met.B.Blocks.keeps_all c.args.on.now c.ready_record-ready.new.on c.ready_record-ready.ensures.keeps) c.in-Err-read.why c.in-Err-read.ensures.cause
+
+pub returns-in-Err-clause-dirties_refused : goal.returns-in-Err-clause-dirties_refused
+returns-in-Err-clause-dirties_refused g c = c.in-Err.ensures.dirties_refused
+
+pub returns-in-Err-read-clause-dirties_refused : goal.returns-in-Err-read-clause-dirties_refused
+returns-in-Err-read-clause-dirties_refused g c = adds_given first_of (adds_still c.in-Ok.ensures.dirties (dirties_looks (g.met.B.Blocks.keeps_all c.ready_record-ready.new.on c.read.new.on c.read.ensures.keeps) c.read.ensures.looks))
+
+pub returns-in-Ok-read-clause-dirties : goal.returns-in-Ok-read-clause-dirties
+returns-in-Ok-read-clause-dirties g c = subst (λ b. AddsDirty 22 (c.args.at.dir.at ∷ []) b (g.B.Blocks.state c.args.on.now) (g.B.Blocks.state c.read.new.on)) (sym c.with_record.ensures.of.0) (adds_still c.in-Ok.ensures.dirties (dirties_looks (g.met.B.Blocks.keeps_all c.ready_record-ready.new.on c.read.new.on c.read.ensures.keeps) c.read.ensures.looks))

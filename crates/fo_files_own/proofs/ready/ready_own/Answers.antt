@@ -1,9 +1,12 @@
-use Rattle.std.proofs.Common.{◌+◌, ◌≤◌, sym, subst}
+use Rattle.std.proofs.Common.{◌+◌, ◌≤◌, sym, subst, ◌*◌, [], ◌∷◌}
 use Rattle.std.specs.Prelude.{IfOk, OnErr}
 use Rattle.fo_files_own.specs.declared.at.OwnAt.{OwnAt}
-use Rattle.fo_files_own.specs.Own.{AltersOwn, HasReady, IsBlockOf, IsOwnAt, LeavesOwn, MayOwn, MayPutOwn, StepsTo, blocks_for, pins_for, removals_for}
+use Rattle.fo_files_own.specs.Own.{AltersOwn, HasReady, IsBlockOf, IsOwnAt, LeavesOwn, MayOwn, MayPutOwn, StepsTo, blocks_for, pins_for, removals_for, block_of}
 use Rattle.fo_files_own.proofs.Stays.{dir_own, entries_own, file_own, for_err, for_ok, no_more, own_at}
 use Rattle.fo_files_own.proofs.ready.ready_own.Goals as goal
+use Rattle.fo_dirties.proofs.Adding.{adds_idle, first_of}
+use Rattle.fo_dirties.proofs.Putting.{dirties_looks}
+use Rattle.fo_ports.specs.Sources.{AddsDirty}
 
 pub ready_root-requires-clause-root : goal.ready_root-requires-clause-root
 ready_root-requires-clause-root g c = subst (λ (x : OwnAt). IsOwnAt (g.B.Blocks.state c.args.on.now) x) c.in-Root.is c.requires.at
@@ -118,3 +121,15 @@ returns-in-Below-clause-pins g c =
 pub returns-in-Below-clause-room : goal.returns-in-Below-clause-room
 returns-in-Below-clause-room g c =
     subst (λ (x : OwnAt). (g.B.Blocks.state c.args.on.now).room ≤ (g.B.Blocks.state c.ready_below.new.on).room + removals_for x) (sym c.in-Below.is) c.ready_below.ensures.room
+
+pub returns-in-Root-clause-dirties : goal.returns-in-Root-clause-dirties
+returns-in-Root-clause-dirties g c = subst (λ (x : OwnAt). IfOk c.ready_root.result (λ r. AddsDirty (2 * blocks_for x) (block_of x ∷ []) r.at (g.B.Blocks.state c.args.on.now) (g.B.Blocks.state c.ready_root.new.on))) (sym c.in-Root.is) c.ready_root.ensures.dirties
+
+pub returns-in-Root-clause-dirties_refused : goal.returns-in-Root-clause-dirties_refused
+returns-in-Root-clause-dirties_refused g c = subst (λ (x : OwnAt). OnErr c.ready_root.result (AddsDirty (2 * blocks_for x) (block_of x ∷ []) (block_of x) (g.B.Blocks.state c.args.on.now) (g.B.Blocks.state c.ready_root.new.on))) (sym c.in-Root.is) (for_err c.ready_root.result _ (adds_idle 0 first_of (dirties_looks (g.met.B.Blocks.keeps_all c.args.on.now c.ready_root.new.on c.ready_root.ensures.keeps) c.ready_root.ensures.looks)))
+
+pub returns-in-Below-clause-dirties : goal.returns-in-Below-clause-dirties
+returns-in-Below-clause-dirties g c = subst (λ (x : OwnAt). IfOk c.ready_below.result (λ r. AddsDirty (2 * blocks_for x) (block_of x ∷ []) r.at (g.B.Blocks.state c.args.on.now) (g.B.Blocks.state c.ready_below.new.on))) (sym c.in-Below.is) c.ready_below.ensures.dirties
+
+pub returns-in-Below-clause-dirties_refused : goal.returns-in-Below-clause-dirties_refused
+returns-in-Below-clause-dirties_refused g c = subst (λ (x : OwnAt). OnErr c.ready_below.result (AddsDirty (2 * blocks_for x) (block_of x ∷ []) (block_of x) (g.B.Blocks.state c.args.on.now) (g.B.Blocks.state c.ready_below.new.on))) (sym c.in-Below.is) c.ready_below.ensures.dirties_refused

@@ -1,8 +1,11 @@
-use Rattle.std.proofs.Common.{inl, sym, subst}
+use Rattle.std.proofs.Common.{inl, sym, subst, [], ◌∷◌}
 use Rattle.fo_files_record.proofs.Rooted.{root_looks, whole_root}
 use Rattle.fo_files_own.proofs.Placed.{may_put_root}
 use Rattle.fo_files_own.proofs.Stays.{live_looks, of_record, wider}
 use Rattle.fo_files_own.proofs.root.ready_root.Goals as goal
+use Rattle.fo_dirties.proofs.Adding.{adds_idle, first_of}
+use Rattle.fo_dirties.proofs.Putting.{dirties_looks}
+use Rattle.fo_ports.specs.Sources.{AddsDirty}
 
 pub returns-in-Err-clause-root : goal.returns-in-Err-clause-root
 returns-in-Err-clause-root g c = (root_looks c.args.root (g.met.B.Blocks.keeps_all c.args.on.now c.get.new.self c.get.ensures.keeps) c.get.ensures.looks c.requires.root.0, live_looks c.args.root c.get.ensures.looks c.requires.root.1)
@@ -31,3 +34,6 @@ returns-in-Ok-with_record-clause-ready g c =
       of,
       record { old = c.get.new.into; had = record { head = reads.before; own = reads.behind }; own = c.in-Ok-with_record.ensures.own },
     )
+
+pub returns-in-Ok-with_record-clause-dirties : goal.returns-in-Ok-with_record-clause-dirties
+returns-in-Ok-with_record-clause-dirties g c = subst (λ b. AddsDirty 0 (c.args.root ∷ []) b (g.B.Blocks.state c.args.on.now) (g.B.Blocks.state c.get.new.self)) (sym c.in-Ok-with_record.ensures.of.0) (adds_idle 0 first_of (dirties_looks (g.met.B.Blocks.keeps_all c.args.on.now c.get.new.self c.get.ensures.keeps) c.get.ensures.looks))

@@ -2,6 +2,9 @@ use Rattle.fo_files_change.proofs.of_files_leaf.Altering.{alters_joins}
 use Rattle.fo_files_change.proofs.Records.{dir_readied}
 use Rattle.fo_files_ready.proofs.Steps.{failed_since}
 use Rattle.fo_files_ready.proofs.leaf.added_leaf.Goals as goal
+use Rattle.fo_dirties.proofs.Adding.{adds_more, adds_still, adds_joins, cons_of, first_of, none_of}
+use Rattle.fo_dirties.proofs.Putting.{dirties_looks}
+use Rattle.std.proofs.Common.{arith}
 
 pub leaf_at-requires-clause-silent : goal.leaf_at-requires-clause-silent
 leaf_at-requires-clause-silent g c = λ h. c.requires.silent ((g.met.B.Blocks.keeps_all c.args.on.now c.trim_for.new.on c.trim_for.ensures.keeps).still_tells.0 h)
@@ -26,3 +29,12 @@ returns-in-Ok-leaf_at-clause-keeps g c = g.met.B.Blocks.keeps_joins c.args.on.no
 
 pub returns-in-Err-leaf_at-clause-keeps : goal.returns-in-Err-leaf_at-clause-keeps
 returns-in-Err-leaf_at-clause-keeps g c = g.met.B.Blocks.keeps_joins c.args.on.now c.trim_for.new.on c.leaf_at.new.on c.trim_for.ensures.keeps c.leaf_at.ensures.keeps
+
+pub returns-in-Err-clause-dirties_refused : goal.returns-in-Err-clause-dirties_refused
+returns-in-Err-clause-dirties_refused g c = adds_more (omega arith) (c.trim_for.ensures.dirties_few c.requires.few)
+
+pub returns-in-Err-leaf_at-clause-dirties_refused : goal.returns-in-Err-leaf_at-clause-dirties_refused
+returns-in-Err-leaf_at-clause-dirties_refused g c = adds_more (omega arith) (adds_still (c.trim_for.ensures.dirties_few c.requires.few) (dirties_looks (g.met.B.Blocks.keeps_all c.trim_for.new.on c.leaf_at.new.on c.leaf_at.ensures.keeps) c.in-Err-leaf_at.ensures.nothing))
+
+pub returns-in-Ok-leaf_at-clause-dirties : goal.returns-in-Ok-leaf_at-clause-dirties
+returns-in-Ok-leaf_at-clause-dirties g c = adds_joins (c.trim_for.ensures.dirties_few c.requires.few) c.in-Ok-leaf_at.ensures.dirties (cons_of first_of none_of)

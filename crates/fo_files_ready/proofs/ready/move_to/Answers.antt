@@ -7,6 +7,8 @@ use Rattle.fo_files_ready.specs.Ready.{IsLeafOf}
 use Rattle.fo_files_ready.proofs.Places.{came}
 use Rattle.fo_files_ready.proofs.Steps.{Before, both_alter, from_at, to_at, from_same, to_same, entries_before, leaf_rewritten, rewrites_none, rewrites_leaves, moved_as}
 use Rattle.fo_files_ready.proofs.ready.move_to.Goals as goal
+use Rattle.fo_dirties.proofs.Adding.{first_of, next_of, cons_of, none_of, adds_wider, adds_given, adds_still, adds_then}
+use Rattle.fo_dirties.proofs.Putting.{dirties_looks}
 
 pub with_room-requires-clause-silent : goal.with_room-requires-clause-silent
 with_room-requires-clause-silent g c =
@@ -243,3 +245,15 @@ returns-in-Err-move_here-clause-cause g c =
     let m = g.B.Blocks.state c.spare_leaf.new.on in
     let e = g.B.Blocks.state c.with_room.new.on in
     later_failed s e (g.B.Blocks.state c.move_here.new.on) (g.met.B.Blocks.keeps_all c.args.on.now c.with_room.new.on (g.met.B.Blocks.keeps_joins c.args.on.now c.spare_leaf.new.on c.with_room.new.on c.spare_leaf.ensures.keeps c.with_room.ensures.keeps)) c.in-Err-move_here.why c.in-Err-move_here.ensures.cause
+
+pub returns-in-Err-clause-dirties_refused : goal.returns-in-Err-clause-dirties_refused
+returns-in-Err-clause-dirties_refused g c = adds_wider (cons_of first_of none_of) c.in-Err.ensures.dirties_refused
+
+pub returns-in-Err-with_room-clause-dirties_refused : goal.returns-in-Err-with_room-clause-dirties_refused
+returns-in-Err-with_room-clause-dirties_refused g c = adds_given first_of (adds_still (adds_wider (cons_of first_of none_of) c.in-Ok.ensures.dirties) (dirties_looks (g.met.B.Blocks.keeps_all c.spare_leaf.new.on c.with_room.new.on c.with_room.ensures.keeps) c.with_room.ensures.looks))
+
+pub returns-in-Err-move_here-clause-dirties_refused : goal.returns-in-Err-move_here-clause-dirties_refused
+returns-in-Err-move_here-clause-dirties_refused g c = adds_given first_of (adds_then (adds_still (adds_wider (cons_of first_of none_of) c.in-Ok.ensures.dirties) (dirties_looks (g.met.B.Blocks.keeps_all c.spare_leaf.new.on c.with_room.new.on c.with_room.ensures.keeps) c.with_room.ensures.looks)) c.move_here.ensures.dirties (cons_of (next_of (next_of first_of)) (cons_of first_of none_of)))
+
+pub returns-in-Ok-move_here-clause-dirties : goal.returns-in-Ok-move_here-clause-dirties
+returns-in-Ok-move_here-clause-dirties g c = adds_then (adds_still (adds_wider (cons_of first_of none_of) c.in-Ok.ensures.dirties) (dirties_looks (g.met.B.Blocks.keeps_all c.spare_leaf.new.on c.with_room.new.on c.with_room.ensures.keeps) c.with_room.ensures.looks)) c.move_here.ensures.dirties (cons_of (next_of (next_of first_of)) (cons_of first_of none_of))

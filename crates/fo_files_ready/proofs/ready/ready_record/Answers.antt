@@ -1,11 +1,14 @@
-use Rattle.std.proofs.Common.{inl, inr, refl, arith}
+use Rattle.std.proofs.Common.{inl, inr, refl, ◌∙◌, arith}
 use Rattle.fo_files_change.proofs.of_files_leaf.Altering.{alters_joins}
 use Rattle.fo_files_record.specs.Stays.{no_slot}
 use Rattle.fo_files_record.proofs.Rewriting.{rewrites_same}
 use Rattle.fo_files_change.proofs.Records.{dir_readied, entries_readied, later_failed}
-use Rattle.fo_files_ready.specs.Ready.{IsLeafOf}
+use Rattle.fo_files_ready.specs.Ready.{IsLeafOf, records_size}
+use Rattle.fo_files_ready.proofs.Sizes.{few_both, left_spare, size_kept, took_both, way_few}
 use Rattle.fo_files_ready.proofs.Steps.{looked, dir_over, entries_over, moved_as, failed_since}
 use Rattle.fo_files_ready.proofs.ready.ready_record.Goals as goal
+use Rattle.fo_dirties.proofs.Adding.{first_of, next_of, cons_of, none_of, adds_idle, adds_more, adds_given, adds_still, adds_joins}
+use Rattle.fo_dirties.proofs.Putting.{dirties_looks}
 
 pub has_place-requires-clause-silent : goal.has_place-requires-clause-silent
 has_place-requires-clause-silent g c =
@@ -43,6 +46,16 @@ move_to-requires-clause-entries g c =
     let both = alters_joins first c.leaf_at.ensures.alters look in
     let whole = g.met.B.Blocks.keeps_all c.args.on.now c.has_place.new.on (g.met.B.Blocks.keeps_joins c.args.on.now c.leaf_at.new.on c.has_place.new.on c.leaf_at.ensures.keeps c.has_place.ensures.keeps) in
     entries_readied c.args.dir c.args.entries whole both c.requires.entries
+
+pub move_to-requires-clause-spare : goal.move_to-requires-clause-spare
+move_to-requires-clause-spare g c =
+    let s = g.B.Blocks.state c.args.on.now in
+    let m = g.B.Blocks.state c.leaf_at.new.on in
+    let n = g.B.Blocks.state c.has_place.new.on in
+    let first = g.met.B.Blocks.keeps_all c.args.on.now c.leaf_at.new.on c.leaf_at.ensures.keeps in
+    let dir = dir_readied c.args.dir first c.leaf_at.ensures.alters c.requires.dir in
+    let told = size_kept m n c.args.dir dir c.has_place.ensures.looks ∙ c.in-Ok.ensures.same refl in
+    left_spare (records_size s c.args.dir) (records_size n c.args.dir) s.spare m.spare n.spare told c.requires.spare (c.leaf_at.ensures.fewer refl) c.has_place.ensures.looks.room.0
 
 pub returns-in-Err-clause-stays : goal.returns-in-Err-clause-stays
 returns-in-Err-clause-stays g c =
@@ -253,7 +266,13 @@ returns-in-Ok-move_to-clause-keeps g c =
 
 pub returns-in-Ok-move_to-clause-spare : goal.returns-in-Ok-move_to-clause-spare
 returns-in-Ok-move_to-clause-spare g c =
-    let took = c.leaf_at.ensures.fewer refl in let same = c.has_place.ensures.looks.room.0 in let last = c.move_to.ensures.spare in omega (arith, took, same, last)
+    let s = g.B.Blocks.state c.args.on.now in
+    let m = g.B.Blocks.state c.leaf_at.new.on in
+    let n = g.B.Blocks.state c.has_place.new.on in
+    let first = g.met.B.Blocks.keeps_all c.args.on.now c.leaf_at.new.on c.leaf_at.ensures.keeps in
+    let dir = dir_readied c.args.dir first c.leaf_at.ensures.alters c.requires.dir in
+    let told = size_kept m n c.args.dir dir c.has_place.ensures.looks ∙ c.in-Ok.ensures.same refl in
+    took_both (records_size s c.args.dir) (records_size n c.args.dir) s.spare m.spare n.spare (g.B.Blocks.state c.move_to.new.on).spare told (c.leaf_at.ensures.fewer refl) c.has_place.ensures.looks.room.0 c.move_to.ensures.spare
 
 pub returns-in-Ok-move_to-clause-pins : goal.returns-in-Ok-move_to-clause-pins
 returns-in-Ok-move_to-clause-pins g c =
@@ -319,7 +338,13 @@ returns-in-Err-move_to-clause-keeps g c =
 
 pub returns-in-Err-move_to-clause-spare : goal.returns-in-Err-move_to-clause-spare
 returns-in-Err-move_to-clause-spare g c =
-    let took = c.leaf_at.ensures.fewer refl in let same = c.has_place.ensures.looks.room.0 in let last = c.move_to.ensures.spare in omega (arith, took, same, last)
+    let s = g.B.Blocks.state c.args.on.now in
+    let m = g.B.Blocks.state c.leaf_at.new.on in
+    let n = g.B.Blocks.state c.has_place.new.on in
+    let first = g.met.B.Blocks.keeps_all c.args.on.now c.leaf_at.new.on c.leaf_at.ensures.keeps in
+    let dir = dir_readied c.args.dir first c.leaf_at.ensures.alters c.requires.dir in
+    let told = size_kept m n c.args.dir dir c.has_place.ensures.looks ∙ c.in-Ok.ensures.same refl in
+    took_both (records_size s c.args.dir) (records_size n c.args.dir) s.spare m.spare n.spare (g.B.Blocks.state c.move_to.new.on).spare told (c.leaf_at.ensures.fewer refl) c.has_place.ensures.looks.room.0 c.move_to.ensures.spare
 
 pub returns-in-Err-move_to-clause-pins : goal.returns-in-Err-move_to-clause-pins
 returns-in-Err-move_to-clause-pins g c =
@@ -371,3 +396,32 @@ returns-in-Err-move_to-clause-cause g c =
     let both = alters_joins first c.leaf_at.ensures.alters look in
     let whole = g.met.B.Blocks.keeps_all c.args.on.now c.has_place.new.on (g.met.B.Blocks.keeps_joins c.args.on.now c.leaf_at.new.on c.has_place.new.on c.leaf_at.ensures.keeps c.has_place.ensures.keeps) in
     failed_since s n (g.B.Blocks.state c.move_to.new.on) whole (g.met.B.Blocks.keeps_all c.has_place.new.on c.move_to.new.on c.move_to.ensures.keeps) c.in-Err-move_to.why c.in-Err-move_to.ensures.cause
+
+pub returns-in-Err-clause-dirties_refused : goal.returns-in-Err-clause-dirties_refused
+returns-in-Err-clause-dirties_refused g c = adds_idle 22 first_of (dirties_looks (g.met.B.Blocks.keeps_all c.args.on.now c.leaf_at.new.on c.leaf_at.ensures.keeps) c.in-Err.ensures.nothing)
+
+pub returns-in-Err-has_place-clause-dirties_refused : goal.returns-in-Err-has_place-clause-dirties_refused
+returns-in-Err-has_place-clause-dirties_refused g c = adds_more (way_few (records_size (g.B.Blocks.state c.args.on.now) c.args.dir)) (adds_given first_of (adds_still (c.in-Ok.ensures.dirties_fewer refl) (dirties_looks (g.met.B.Blocks.keeps_all c.leaf_at.new.on c.has_place.new.on c.has_place.ensures.keeps) c.has_place.ensures.looks)))
+
+pub returns-then-fits-clause-dirties : goal.returns-then-fits-clause-dirties
+returns-then-fits-clause-dirties g c = adds_more (way_few (records_size (g.B.Blocks.state c.args.on.now) c.args.dir)) (adds_still (c.in-Ok.ensures.dirties_fewer refl) (dirties_looks (g.met.B.Blocks.keeps_all c.leaf_at.new.on c.has_place.new.on c.has_place.ensures.keeps) c.has_place.ensures.looks))
+
+pub returns-in-Ok-move_to-clause-dirties : goal.returns-in-Ok-move_to-clause-dirties
+returns-in-Ok-move_to-clause-dirties g c =
+    let s = g.B.Blocks.state c.args.on.now in
+    let m = g.B.Blocks.state c.leaf_at.new.on in
+    let n = g.B.Blocks.state c.has_place.new.on in
+    let first = g.met.B.Blocks.keeps_all c.args.on.now c.leaf_at.new.on c.leaf_at.ensures.keeps in
+    let dir = dir_readied c.args.dir first c.leaf_at.ensures.alters c.requires.dir in
+    let told = size_kept m n c.args.dir dir c.has_place.ensures.looks ∙ c.in-Ok.ensures.same refl in
+    adds_more (few_both (records_size s c.args.dir) (records_size n c.args.dir) told) (adds_joins (adds_still (c.in-Ok.ensures.dirties_fewer refl) (dirties_looks (g.met.B.Blocks.keeps_all c.leaf_at.new.on c.has_place.new.on c.has_place.ensures.keeps) c.has_place.ensures.looks)) c.in-Ok-move_to.ensures.dirties (cons_of (next_of first_of) (cons_of first_of none_of)))
+
+pub returns-in-Err-move_to-clause-dirties_refused : goal.returns-in-Err-move_to-clause-dirties_refused
+returns-in-Err-move_to-clause-dirties_refused g c =
+    let s = g.B.Blocks.state c.args.on.now in
+    let m = g.B.Blocks.state c.leaf_at.new.on in
+    let n = g.B.Blocks.state c.has_place.new.on in
+    let first = g.met.B.Blocks.keeps_all c.args.on.now c.leaf_at.new.on c.leaf_at.ensures.keeps in
+    let dir = dir_readied c.args.dir first c.leaf_at.ensures.alters c.requires.dir in
+    let told = size_kept m n c.args.dir dir c.has_place.ensures.looks ∙ c.in-Ok.ensures.same refl in
+    adds_more (few_both (records_size s c.args.dir) (records_size n c.args.dir) told) (adds_joins (adds_still (c.in-Ok.ensures.dirties_fewer refl) (dirties_looks (g.met.B.Blocks.keeps_all c.leaf_at.new.on c.has_place.new.on c.has_place.ensures.keeps) c.has_place.ensures.looks)) c.in-Err-move_to.ensures.dirties_refused (cons_of (next_of first_of) (cons_of first_of none_of)))

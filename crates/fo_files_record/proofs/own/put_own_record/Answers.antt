@@ -1,5 +1,7 @@
 use Rattle.fo_files_record.proofs.Rooted.{root_looks, root_calm, whole_root, piece_within, piece_is, puts_own}
 use Rattle.fo_files_record.proofs.own.put_own_record.Goals as goal
+use Rattle.fo_dirties.proofs.Adding.{dirties_idle, dirties_after}
+use Rattle.fo_dirties.proofs.Putting.{dirties_looks, dirties_calm}
 
 pub returns-in-Err-clause-root : goal.returns-in-Err-clause-root
 returns-in-Err-clause-root g c = root_looks c.args.root (g.met.B.Blocks.keeps_all c.args.on.now c.get.new.self c.get.ensures.keeps) c.get.ensures.looks c.requires.root
@@ -25,3 +27,14 @@ returns-in-Ok-rewritten-clause-root g c =
 
 pub returns-in-Ok-rewritten-clause-keeps : goal.returns-in-Ok-rewritten-clause-keeps
 returns-in-Ok-rewritten-clause-keeps g c = g.met.B.Blocks.keeps_joins c.args.on.now c.get.new.self c.put_bytes.new.self c.get.ensures.keeps c.put_bytes.ensures.keeps
+
+pub returns-in-Err-clause-dirties : goal.returns-in-Err-clause-dirties
+returns-in-Err-clause-dirties g c = dirties_idle (dirties_looks (g.met.B.Blocks.keeps_all c.args.on.now c.get.new.self c.get.ensures.keeps) c.get.ensures.looks)
+
+pub returns-in-Err-rewritten-clause-dirties : goal.returns-in-Err-rewritten-clause-dirties
+returns-in-Err-rewritten-clause-dirties g c = dirties_idle (dirties_looks (g.met.B.Blocks.keeps_all c.args.on.now c.get.new.self c.get.ensures.keeps) c.get.ensures.looks)
+
+pub returns-in-Ok-rewritten-clause-dirties : goal.returns-in-Ok-rewritten-clause-dirties
+returns-in-Ok-rewritten-clause-dirties g c =
+    dirties_after (dirties_looks (g.met.B.Blocks.keeps_all c.args.on.now c.get.new.self c.get.ensures.keeps) c.get.ensures.looks)
+    (dirties_calm c.args.root (g.met.B.Blocks.keeps_all c.get.new.self c.put_bytes.new.self c.put_bytes.ensures.keeps) c.put_bytes.ensures.calm)

@@ -5,6 +5,8 @@ use Rattle.fo_files_record.specs.Stays.{Rewrites, no_slot}
 use Rattle.fo_files_record.proofs.Rewriting.{rewrites_looks, rewrites_calm, rewrites_same, rewrites_joins, by_cases}
 use Rattle.fo_files_record.proofs.Owned.{records_stay}
 use Rattle.fo_files_record.proofs.put.change_in.Goals as goal
+use Rattle.fo_dirties.proofs.Adding.{dirties_idle, dirties_after}
+use Rattle.fo_dirties.proofs.Putting.{dirties_looks}
 
 pub returns-in-Ok-clause-leaf : goal.returns-in-Ok-clause-leaf
 returns-in-Ok-clause-leaf g c =
@@ -27,3 +29,9 @@ returns-in-Ok-clause-stays g c =
     (by_cases c.change_record.result (Rewrites (λ b. b ≡ leaf) no_slot (g.B.Blocks.state m) (g.B.Blocks.state u))
     (λ fits. rewrites_calm leaf no_slot (e.calm fits) e.bytes e.slots)
     (λ full. subst (λ b. Rewrites (λ b. b ≡ leaf) no_slot (g.B.Blocks.state m) (g.B.Blocks.state b)) (sym (e.full full).1) (rewrites_same (g.B.Blocks.state m) (λ b. b ≡ leaf) no_slot)))
+
+pub returns-in-Ok-clause-dirties : goal.returns-in-Ok-clause-dirties
+returns-in-Ok-clause-dirties g c = dirties_after (dirties_looks (g.met.B.Blocks.keeps_all c.args.on.now c.read_named.new.on c.read_named.ensures.keeps) c.read_named.ensures.looks) c.change_record.ensures.dirties
+
+pub returns-in-Err-clause-dirties : goal.returns-in-Err-clause-dirties
+returns-in-Err-clause-dirties g c = dirties_idle (dirties_looks (g.met.B.Blocks.keeps_all c.args.on.now c.read_named.new.on c.read_named.ensures.keeps) c.read_named.ensures.looks)

@@ -4,6 +4,7 @@ use Rattle.fo_files_record.specs.Stays.{Rewrites, IsPairSlot}
 use Rattle.fo_files_record.proofs.Going.{going_later, going_before, still_queues}
 use Rattle.fo_files_record.proofs.Rewriting.{rewrites_joins}
 use Rattle.fo_files_record.proofs.take.both_taken.Goals as goal
+use Rattle.fo_dirties.proofs.Adding.{dirties_then, cons_of, none_of, first_of, next_of}
 
 pub second_cleared-requires-clause-silent : goal.second_cleared-requires-clause-silent
 second_cleared-requires-clause-silent g c = λ h. c.requires.silent ((g.met.B.Blocks.keeps_all c.args.on.now c.record_taken.new.on c.record_taken.ensures.keeps).still_tells.0 h)
@@ -41,3 +42,6 @@ returns-then-is_dir-clause-queues g c = λ x leads. ⊎_elim
     (λ waits. inl (c.second_cleared.ensures.first.1.1 waits))
     (λ one. inr (still_queues (g.B.Blocks.state c.args.on.now) (g.B.Blocks.state c.record_taken.new.on) (g.B.Blocks.state c.second_cleared.new.on) one c.second_cleared.ensures.queued))
     (c.record_taken.ensures.queues x leads)
+
+pub returns-then-is_dir-clause-dirties : goal.returns-then-is_dir-clause-dirties
+returns-then-is_dir-clause-dirties g c = dirties_then c.record_taken.ensures.dirties c.second_cleared.ensures.dirties (cons_of (next_of first_of) none_of)

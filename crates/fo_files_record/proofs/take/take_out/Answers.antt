@@ -6,6 +6,8 @@ use Rattle.fo_files_record.proofs.Rewriting.{rewrites_looks, rewrites_joins, rew
 use Rattle.fo_files_record.proofs.Going.{bears_first}
 use Rattle.fo_files_record.proofs.Owned.{entries_stay, later_failed}
 use Rattle.fo_files_record.proofs.take.take_out.Goals as goal
+use Rattle.fo_dirties.proofs.Adding.{dirties_idle, dirties_after, dirties_quiet}
+use Rattle.fo_dirties.proofs.Putting.{dirties_looks}
 
 pub returns-in-Err-clause-nothing : goal.returns-in-Err-clause-nothing
 returns-in-Err-clause-nothing g c = rewrites_looks (λ b. ⊥) no_slot c.looked.ensures.looks c.looked.ensures.pins
@@ -90,3 +92,12 @@ returns-in-Ok-settled_for-clause-takes g c =
         stays = c.both_taken.ensures.stays;
       },
     )
+
+pub returns-in-Err-clause-dirties : goal.returns-in-Err-clause-dirties
+returns-in-Err-clause-dirties g c = dirties_idle (dirties_looks (g.met.B.Blocks.keeps_all c.args.on.now c.looked.new.on c.looked.ensures.keeps) c.looked.ensures.looks)
+
+pub returns-in-Err-settled_for-clause-dirties : goal.returns-in-Err-settled_for-clause-dirties
+returns-in-Err-settled_for-clause-dirties g c = dirties_idle (dirties_quiet (dirties_looks (g.met.B.Blocks.keeps_all c.args.on.now c.looked.new.on c.looked.ensures.keeps) c.looked.ensures.looks) c.settled_for.ensures.dirties)
+
+pub returns-in-Ok-settled_for-clause-dirties : goal.returns-in-Ok-settled_for-clause-dirties
+returns-in-Ok-settled_for-clause-dirties g c = dirties_after (dirties_quiet (dirties_looks (g.met.B.Blocks.keeps_all c.args.on.now c.looked.new.on c.looked.ensures.keeps) c.looked.ensures.looks) c.settled_for.ensures.dirties) c.both_taken.ensures.dirties

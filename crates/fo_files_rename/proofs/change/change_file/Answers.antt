@@ -1,13 +1,16 @@
 use Rattle.std.proofs.Common.{inl, inr, subst, arith}
 use Rattle.std.specs.Prelude.{Option, IfSome}
-use Rattle.fo_world.specs.Step.{most_need}
+use Rattle.fo_world.specs.Step.{depth_of, give, most_need}
 use Rattle.fo_files_edit.specs.of_files_along.Along.{HasRoom}
 use Rattle.fo_files_edit.proofs.of_files_along.Refusing.{cause_later, look_cause}
 use Rattle.fo_files_edit.specs.declared.found.Found.{Found}
 use Rattle.fo_files_edit.specs.Asks.{FoundOther}
 use Rattle.fo_files_edit.proofs.Refusing.{unfound}
+use Rattle.fo_files_rename.proofs.Causes.{full_below}
 use Rattle.fo_files_rename.proofs.Finding.{always_ok, map_ok, map_err, map_why}
 use Rattle.fo_files_rename.proofs.change.change_file.Goals as goal
+use Rattle.fo_dirties.proofs.Adding.{dirties_none, dirties_first}
+use Rattle.fo_dirties.proofs.Putting.{dirties_looks}
 
 pub found_at-requires-clause-asks : goal.found_at-requires-clause-asks
 found_at-requires-clause-asks g c = record { name = c.requires.name; gid = c.requires.gid; root = c.requires.root }
@@ -80,3 +83,28 @@ returns-in-Ok-Some-clause-awake g c = always_ok c.change_found.result _ (inl (su
 
 pub returns-in-Ok-None-clause-awake : goal.returns-in-Ok-None-clause-awake
 returns-in-Ok-None-clause-awake g c = inr (c.in-Ok-None.ensures.same c.in-Ok-None.field-0-is)
+
+pub returns-in-Err-clause-dirties : goal.returns-in-Err-clause-dirties
+returns-in-Err-clause-dirties g c = dirties_none _ (dirties_looks (g.met.B.Blocks.keeps_all c.args.on.now c.found_at.new.on c.found_at.ensures.looks.1) c.found_at.ensures.looks.0)
+
+pub returns-in-Ok-None-clause-dirties : goal.returns-in-Ok-None-clause-dirties
+returns-in-Ok-None-clause-dirties g c = dirties_none _ (dirties_looks (g.met.B.Blocks.keeps_all c.args.on.now c.found_at.new.on c.found_at.ensures.looks.1) c.found_at.ensures.looks.0)
+
+pub returns-in-Ok-Some-clause-dirties : goal.returns-in-Ok-Some-clause-dirties
+returns-in-Ok-Some-clause-dirties g c = dirties_first (dirties_looks (g.met.B.Blocks.keeps_all c.args.on.now c.found_at.new.on c.found_at.ensures.looks.1) c.found_at.ensures.looks.0) c.change_found.ensures.dirties
+
+pub returns-in-Err-clause-fewer : goal.returns-in-Err-clause-fewer
+returns-in-Err-clause-fewer g c = let same = c.found_at.ensures.looks.0.usable.0 in omega (arith, same)
+
+pub returns-in-Ok-None-clause-fewer : goal.returns-in-Ok-None-clause-fewer
+returns-in-Ok-None-clause-fewer g c = let same = c.found_at.ensures.looks.0.usable.0 in omega (arith, same)
+
+pub returns-in-Ok-Some-clause-fewer : goal.returns-in-Ok-Some-clause-fewer
+returns-in-Ok-Some-clause-fewer g c = let same = c.found_at.ensures.looks.0.usable.0 in let took = c.change_found.ensures.fewer in omega (arith, same, took)
+
+pub returns-in-Err-clause-full : goal.returns-in-Err-clause-full
+returns-in-Err-clause-full g c =
+    let s = g.B.Blocks.state c.args.on.now in
+    let m = g.B.Blocks.state c.found_at.new.on in
+    let most = give (depth_of c.args.at.now) in
+    full_below s m (HasRoom m) most most (omega arith) c.in-Err.why (look_cause s m most c.in-Err.why c.in-Err.ensures.cause)

@@ -4,6 +4,8 @@ use Rattle.fo_files_rename.specs.Change.{LeavesName, OwnsName}
 use Rattle.fo_files_rename.proofs.Causes.{cause_more}
 use Rattle.fo_files_rename.proofs.Finding.{length_within, renamed}
 use Rattle.fo_files_rename.proofs.change.change_file_below.Goals as goal
+use Rattle.fo_dirties.proofs.Adding.{dirties_fewer}
+use Rattle.fo_files_rename.proofs.Counting.{change_few}
 
 pub rename_found-requires-clause-within : goal.rename_found-requires-clause-within
 rename_found-requires-clause-within g c = length_within (λ n. n ≤ 2 ^ 40) c.args.found.now.way.file.dir c.args.what.now.length c.given_of-given.result c.given_of-given.ensures c.requires.within
@@ -51,4 +53,16 @@ returns-in-Err-change_below-clause-taken g c = let took = c.change_below.ensures
 
 pub returns-in-Err-change_below-clause-cause : goal.returns-in-Err-change_below-clause-cause
 returns-in-Err-change_below-clause-cause g c =
-    cause_more (g.B.Blocks.state c.args.on.now) (g.B.Blocks.state c.change_below.new.on) _ (5 * length c.args.trail.now + 22) (5 * length c.args.trail.now + 35) (omega arith) c.in-Err-change_below.why c.in-Err-change_below.ensures.cause
+    cause_more (g.B.Blocks.state c.args.on.now) (g.B.Blocks.state c.change_below.new.on) _ (5 * length c.args.trail.now + 22) (5 * length c.args.trail.now + 31) (omega arith) c.in-Err-change_below.why c.in-Err-change_below.ensures.cause
+
+pub returns-in-Ok-clause-dirties : goal.returns-in-Ok-clause-dirties
+returns-in-Ok-clause-dirties g c = c.rename_found.ensures.dirties
+
+pub returns-in-Err-clause-dirties : goal.returns-in-Err-clause-dirties
+returns-in-Err-clause-dirties g c = c.rename_found.ensures.dirties
+
+pub returns-in-Ok-change_below-clause-dirties : goal.returns-in-Ok-change_below-clause-dirties
+returns-in-Ok-change_below-clause-dirties g c = dirties_fewer (change_few (length c.args.trail.now)) (λ b h. h) c.change_below.ensures.dirties
+
+pub returns-in-Err-change_below-clause-dirties : goal.returns-in-Err-change_below-clause-dirties
+returns-in-Err-change_below-clause-dirties g c = dirties_fewer (change_few (length c.args.trail.now)) (λ b h. h) c.change_below.ensures.dirties

@@ -1,10 +1,13 @@
 use Rattle.std.proofs.Common.{◌+◌, ◌*◌, ◌≤◌, length, inl, inr, refl, sym, subst, arith}
-use Rattle.fo_world.specs.Step.{most_need}
+use Rattle.fo_world.specs.Step.{depth_of, give, most_need}
 use Rattle.fo_files_edit.specs.of_files_at.Way.{IsWay}
+use Rattle.fo_files_edit.specs.of_files_along.Along.{HasRoom}
 use Rattle.fo_files_rename.specs.Change.{ChangesFound, LeavesFound}
-use Rattle.fo_files_rename.proofs.Causes.{cause_more}
-use Rattle.fo_files_rename.proofs.Finding.{most_of, no_trail, some_need}
+use Rattle.fo_files_rename.proofs.Causes.{cause_more, full_below}
+use Rattle.fo_files_rename.proofs.Finding.{give_of, most_of, no_trail, some_give, some_need}
 use Rattle.fo_files_rename.proofs.change.change_here.Goals as goal
+use Rattle.fo_dirties.proofs.Adding.{dirties_fewer}
+use Rattle.fo_files_rename.proofs.Counting.{root_few, below_few}
 
 pub change_root-requires-clause-way : goal.change_root-requires-clause-way
 change_root-requires-clause-way g c =
@@ -54,4 +57,38 @@ returns-in-Err-change_file_below-clause-taken g c =
 
 pub returns-in-Err-change_file_below-clause-cause : goal.returns-in-Err-change_file_below-clause-cause
 returns-in-Err-change_file_below-clause-cause g c =
-    cause_more (g.B.Blocks.state c.args.on.now) (g.B.Blocks.state c.change_file_below.new.on) _ (5 * length c.as_slice-trail.result.now + 35) (most_need c.args.at.now) (most_of c.as_slice-trail.result.now c.args.at.now c.as_slice-trail.ensures) c.in-Err-change_file_below.why c.in-Err-change_file_below.ensures.cause
+    cause_more (g.B.Blocks.state c.args.on.now) (g.B.Blocks.state c.change_file_below.new.on) _ (5 * length c.as_slice-trail.result.now + 31) (most_need c.args.at.now) (most_of c.as_slice-trail.result.now c.args.at.now c.as_slice-trail.ensures) c.in-Err-change_file_below.why c.in-Err-change_file_below.ensures.cause
+
+pub returns-in-Ok-clause-dirties : goal.returns-in-Ok-clause-dirties
+returns-in-Ok-clause-dirties g c = dirties_fewer (root_few c.args.at.now) (λ b h. h) c.change_root.ensures.dirties
+
+pub returns-in-Err-clause-dirties : goal.returns-in-Err-clause-dirties
+returns-in-Err-clause-dirties g c = dirties_fewer (root_few c.args.at.now) (λ b h. h) c.change_root.ensures.dirties
+
+pub returns-in-Ok-change_file_below-clause-dirties : goal.returns-in-Ok-change_file_below-clause-dirties
+returns-in-Ok-change_file_below-clause-dirties g c = dirties_fewer (below_few c.as_slice-trail.result.now c.args.at.now c.as_slice-trail.ensures) (λ b h. h) c.change_file_below.ensures.dirties
+
+pub returns-in-Err-change_file_below-clause-dirties : goal.returns-in-Err-change_file_below-clause-dirties
+returns-in-Err-change_file_below-clause-dirties g c = dirties_fewer (below_few c.as_slice-trail.result.now c.args.at.now c.as_slice-trail.ensures) (λ b h. h) c.change_file_below.ensures.dirties
+
+pub returns-in-Ok-clause-fewer : goal.returns-in-Ok-clause-fewer
+returns-in-Ok-clause-fewer g c = let took = c.change_root.ensures.taken in omega (arith, took)
+
+pub returns-in-Err-clause-fewer : goal.returns-in-Err-clause-fewer
+returns-in-Err-clause-fewer g c = let took = c.change_root.ensures.taken in omega (arith, took)
+
+pub returns-in-Err-clause-full : goal.returns-in-Err-clause-full
+returns-in-Err-clause-full g c =
+    full_below (g.B.Blocks.state c.args.on.now) (g.B.Blocks.state c.change_root.new.on) (HasRoom (g.B.Blocks.state c.change_root.new.on)) 0 (give (depth_of c.args.at.now)) (some_give c.args.at.now) c.in-Err.why c.in-Err.ensures.cause
+
+pub returns-in-Ok-change_file_below-clause-fewer : goal.returns-in-Ok-change_file_below-clause-fewer
+returns-in-Ok-change_file_below-clause-fewer g c =
+    let most = give_of c.as_slice-trail.result.now c.args.at.now c.as_slice-trail.ensures in let took = c.change_file_below.ensures.taken in omega (arith, most, took)
+
+pub returns-in-Err-change_file_below-clause-fewer : goal.returns-in-Err-change_file_below-clause-fewer
+returns-in-Err-change_file_below-clause-fewer g c =
+    let most = give_of c.as_slice-trail.result.now c.args.at.now c.as_slice-trail.ensures in let took = c.change_file_below.ensures.taken in omega (arith, most, took)
+
+pub returns-in-Err-change_file_below-clause-full : goal.returns-in-Err-change_file_below-clause-full
+returns-in-Err-change_file_below-clause-full g c =
+    full_below (g.B.Blocks.state c.args.on.now) (g.B.Blocks.state c.change_file_below.new.on) (HasRoom (g.B.Blocks.state c.change_file_below.new.on)) (5 * length c.as_slice-trail.result.now + 31) (give (depth_of c.args.at.now)) (give_of c.as_slice-trail.result.now c.args.at.now c.as_slice-trail.ensures) c.in-Err-change_file_below.why c.in-Err-change_file_below.ensures.cause

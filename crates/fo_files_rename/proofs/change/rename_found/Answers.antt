@@ -5,6 +5,8 @@ use Rattle.fo_files_edit.specs.of_files_along.Along.{HasRoom}
 use Rattle.fo_files_rename.proofs.Owning.{own_stands}
 use Rattle.fo_files_rename.proofs.Finding.{map_ok, map_err, map_why}
 use Rattle.fo_files_rename.proofs.change.rename_found.Goals as goal
+use Rattle.fo_dirties.proofs.Adding.{dirties_none, dirties_first}
+use Rattle.fo_dirties.proofs.Putting.{dirties_looks}
 
 pub rename_below-requires-clause-silent : goal.rename_below-requires-clause-silent
 rename_below-requires-clause-silent g c =
@@ -25,7 +27,7 @@ pub returns-in-Err-clause-taken : goal.returns-in-Err-clause-taken
 returns-in-Err-clause-taken g c = let same = c.own_for.ensures.looks.0.usable.0 in omega (arith, same)
 
 pub returns-in-Err-clause-cause : goal.returns-in-Err-clause-cause
-returns-in-Err-clause-cause g c = look_cause (g.B.Blocks.state c.args.on.now) (g.B.Blocks.state c.own_for.new.on) (5 * length c.args.trail.now + 35) c.in-Err.why c.in-Err.ensures.cause
+returns-in-Err-clause-cause g c = look_cause (g.B.Blocks.state c.args.on.now) (g.B.Blocks.state c.own_for.new.on) (5 * length c.args.trail.now + 31) c.in-Err.why c.in-Err.ensures.cause
 
 pub returns-clause-renames : goal.returns-clause-renames
 returns-clause-renames g c =
@@ -40,7 +42,13 @@ returns-clause-taken g c = let same = c.own_for.ensures.looks.0.usable.0 in let 
 
 pub returns-clause-cause : goal.returns-clause-cause
 returns-clause-cause g c =
-    map_why c.rename_below.result _ _ (λ e h. cause_later (g.B.Blocks.state c.args.on.now) (g.B.Blocks.state c.own_for.new.on) (g.B.Blocks.state c.rename_below.new.on) (HasRoom (g.B.Blocks.state c.rename_below.new.on)) (5 * length c.args.trail.now + 35) (g.met.B.Blocks.keeps_all c.args.on.now c.own_for.new.on c.own_for.ensures.looks.1) e h) c.rename_below.ensures.cause
+    map_why c.rename_below.result _ _ (λ e h. cause_later (g.B.Blocks.state c.args.on.now) (g.B.Blocks.state c.own_for.new.on) (g.B.Blocks.state c.rename_below.new.on) (HasRoom (g.B.Blocks.state c.rename_below.new.on)) (5 * length c.args.trail.now + 31) (g.met.B.Blocks.keeps_all c.args.on.now c.own_for.new.on c.own_for.ensures.looks.1) e h) c.rename_below.ensures.cause
 
 pub returns-clause-keeps : goal.returns-clause-keeps
 returns-clause-keeps g c = g.met.B.Blocks.keeps_joins c.args.on.now c.own_for.new.on c.rename_below.new.on c.own_for.ensures.looks.1 c.rename_below.ensures.keeps
+
+pub returns-in-Err-clause-dirties : goal.returns-in-Err-clause-dirties
+returns-in-Err-clause-dirties g c = dirties_none _ (dirties_looks (g.met.B.Blocks.keeps_all c.args.on.now c.own_for.new.on c.own_for.ensures.looks.1) c.own_for.ensures.looks.0)
+
+pub returns-clause-dirties : goal.returns-clause-dirties
+returns-clause-dirties g c = dirties_first (dirties_looks (g.met.B.Blocks.keeps_all c.args.on.now c.own_for.new.on c.own_for.ensures.looks.1) c.own_for.ensures.looks.0) c.rename_below.ensures.dirties

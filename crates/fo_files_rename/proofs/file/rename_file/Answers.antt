@@ -3,6 +3,8 @@ use Rattle.fo_files_own.proofs.of_files_ready.Steps.{failed_since}
 use Rattle.fo_files_own.proofs.Carry.{few_pins, few_removals}
 use Rattle.fo_files_rename.proofs.Carried.{beside_still, block_still, few, may_still, own_away, own_usable, ready_still, same_ready}
 use Rattle.fo_files_rename.proofs.file.rename_file.Goals as goal
+use Rattle.fo_dirties.proofs.Adding.{first_of, next_of, cons_of, none_of, adds_more, adds_given, adds_wider, adds_joins, adds_first, adds_then}
+use Rattle.fo_dirties.proofs.Putting.{dirties_calm}
 
 pub ready_own-requires-clause-pins : goal.ready_own-requires-clause-pins
 ready_own-requires-clause-pins g c = let most = few_pins c.args.own in let enough = c.requires.pins in omega (arith, most, enough)
@@ -113,3 +115,14 @@ returns-in-Err-change_into-clause-cause g c =
 
 pub returns-in-Err-change_into-clause-keeps : goal.returns-in-Err-change_into-clause-keeps
 returns-in-Err-change_into-clause-keeps g c = g.met.B.Blocks.keeps_joins c.args.on.now c.ready_own.new.on c.change_into.new.on c.ready_own.ensures.keeps c.change_into.ensures.keeps
+
+pub returns-in-Err-clause-dirties : goal.returns-in-Err-clause-dirties
+returns-in-Err-clause-dirties g c = adds_more (omega arith) (adds_given first_of (adds_wider (cons_of (next_of (next_of first_of)) none_of) c.in-Err.ensures.dirties_refused))
+
+pub returns-in-Err-change_into-clause-dirties : goal.returns-in-Err-change_into-clause-dirties
+returns-in-Err-change_into-clause-dirties g c = adds_more (omega arith) (adds_joins (adds_wider (cons_of (next_of (next_of first_of)) none_of) c.in-Ok.ensures.dirties) c.change_into.ensures.dirties (cons_of (next_of first_of) (cons_of (next_of (next_of first_of)) none_of)))
+
+pub returns-in-Ok-change_into-clause-dirties : goal.returns-in-Ok-change_into-clause-dirties
+returns-in-Ok-change_into-clause-dirties g c =
+    let put = dirties_calm c.in-Ok.ready.at (g.met.B.Blocks.keeps_all c.change_into.new.on c.put_own.new.on c.put_own.ensures.keeps) c.put_own.ensures.calm in
+    adds_more (omega arith) (adds_given first_of (adds_then (adds_first (adds_wider (cons_of (next_of (next_of first_of)) none_of) c.in-Ok.ensures.dirties) c.change_into.ensures.dirties (cons_of (next_of first_of) (cons_of (next_of (next_of first_of)) none_of))) put (cons_of first_of none_of)))

@@ -1,13 +1,19 @@
-use Rattle.std.proofs.Common.{length, inl, inr, sym, subst, arith}
+use Rattle.std.proofs.Common.{length, inl, inr, sym, subst, arith, refl, ◌≤◌, ◌*◌, ◌+◌, ◌-◌}
 use Rattle.fo_tree_read.proofs.Exits.{looks_none}
 use Rattle.fo_files_own.proofs.of_files_ready.Steps.{failed_since}
-use Rattle.fo_files_own.specs.Own.{IsOwnAt, MayOwn}
+use Rattle.fo_files_own.specs.Own.{IsOwnAt, MayOwn, block_of, blocks_for}
 use Rattle.fo_files_edit.proofs.of_files_along.Ways.{file_holds, steps_long}
 use Rattle.fo_files_edit.proofs.of_files_into.Steps.{last_step}
 use Rattle.fo_files_rename.specs.Rename.{IsApartFrom, LeavesFile, RenamesFile}
 use Rattle.fo_files_rename.proofs.Owning.{may_own, places_at}
 use Rattle.fo_files_rename.proofs.Causes.{failed_here}
 use Rattle.fo_files_rename.proofs.rename.rename_along.Goals as goal
+use Rattle.fo_dirties.proofs.Adding.{dirties_none, dirties_fewer, dirties_adds, cons_counted, none_counted}
+use Rattle.fo_dirties.proofs.Putting.{dirties_looks}
+use Rattle.fo_files_rename.proofs.Counting.{own_few, own_in}
+use Rattle.fo_files_own.specs.declared.at.OwnAt.{OwnAt}
+use Rattle.fo_files_edit.specs.of_files_along.Along.{HasPairIn}
+use Rattle.fo_world.specs.Step.{need}
 
 pub own_along-requires-clause-way : goal.own_along-requires-clause-way
 own_along-requires-clause-way g c = (c.args.root, (c.args.trail.now, c.requires.way))
@@ -172,3 +178,36 @@ returns-in-Ok-rename_file-clause-keeps g c =
 pub returns-in-Err-rename_file-clause-keeps : goal.returns-in-Err-rename_file-clause-keeps
 returns-in-Err-rename_file-clause-keeps g c =
     g.met.B.Blocks.keeps_joins c.args.on.now c.own_along.new.on c.rename_file.new.on c.own_along.ensures.keeps c.rename_file.ensures.keeps
+
+pub returns-in-Err-clause-dirties : goal.returns-in-Err-clause-dirties
+returns-in-Err-clause-dirties g c = dirties_none _ (dirties_looks (g.met.B.Blocks.keeps_all c.args.on.now c.own_along.new.on c.own_along.ensures.keeps) c.in-Err.ensures.nothing)
+
+pub returns-in-Err-beside_data-clause-dirties : goal.returns-in-Err-beside_data-clause-dirties
+returns-in-Err-beside_data-clause-dirties g c =
+    let long = steps_long (g.B.Blocks.state c.args.on.now) c.args.root c.args.trail.now c.args.found.now.way c.requires.way in
+    let some = c.requires.some in
+    dirties_fewer (omega (arith, long, some)) (λ b h. absurd h) c.in-Ok.ensures.dirties
+
+pub returns-in-Ok-rename_file-clause-dirties : goal.returns-in-Ok-rename_file-clause-dirties
+returns-in-Ok-rename_file-clause-dirties g c =
+    let long = steps_long (g.B.Blocks.state c.args.on.now) c.args.root c.args.trail.now c.args.found.now.way c.requires.way in
+    let stand = c.in-Ok.stand in
+    let steps = c.args.found.now.way.steps.items in
+    let n = length c.args.trail.now in
+    let goes = (c.in-Ok.ensures.owned.1 c.args.root c.args.trail.now c.requires.way).1 in
+    let few = own_few goes.at steps (length steps) n stand.dir stand.above c.own_leaf.result c.args.own.now.spare c.requires.some long goes.above_is in
+    let own = subst (λ (o : OwnAt). HasPairIn stand.dir stand.above (block_of o)) (sym c.own_at-place.ensures) (own_in stand.dir stand.above c.own_leaf.result c.args.own.now.spare) in
+    let most = subst (λ (o : OwnAt). 10 * length steps + 1 + 2 * (20 + blocks_for o) ≤ 2 * need (n - 1) 0) (sym c.own_at-place.ensures) few in
+    dirties_fewer most (λ b h. absurd h) (dirties_adds c.in-Ok.ensures.dirties c.rename_file.ensures.dirties (cons_counted (inr (inl refl)) (cons_counted (inl refl) (cons_counted (inr own) none_counted))))
+
+pub returns-in-Err-rename_file-clause-dirties : goal.returns-in-Err-rename_file-clause-dirties
+returns-in-Err-rename_file-clause-dirties g c =
+    let long = steps_long (g.B.Blocks.state c.args.on.now) c.args.root c.args.trail.now c.args.found.now.way c.requires.way in
+    let stand = c.in-Ok.stand in
+    let steps = c.args.found.now.way.steps.items in
+    let n = length c.args.trail.now in
+    let goes = (c.in-Ok.ensures.owned.1 c.args.root c.args.trail.now c.requires.way).1 in
+    let few = own_few goes.at steps (length steps) n stand.dir stand.above c.own_leaf.result c.args.own.now.spare c.requires.some long goes.above_is in
+    let own = subst (λ (o : OwnAt). HasPairIn stand.dir stand.above (block_of o)) (sym c.own_at-place.ensures) (own_in stand.dir stand.above c.own_leaf.result c.args.own.now.spare) in
+    let most = subst (λ (o : OwnAt). 10 * length steps + 1 + 2 * (20 + blocks_for o) ≤ 2 * need (n - 1) 0) (sym c.own_at-place.ensures) few in
+    dirties_fewer most (λ b h. absurd h) (dirties_adds c.in-Ok.ensures.dirties c.rename_file.ensures.dirties (cons_counted (inr (inl refl)) (cons_counted (inl refl) (cons_counted (inr own) none_counted))))

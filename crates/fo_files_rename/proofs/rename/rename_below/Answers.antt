@@ -6,6 +6,8 @@ use Rattle.fo_files_edit.specs.of_files_look.Told.{faults_of}
 use Rattle.fo_files_edit.specs.of_files_along.Along.{HasRoom, IsBlocks}
 use Rattle.fo_files_edit.proofs.of_files_along.Refusing.{blocks_are, blocks_cause}
 use Rattle.fo_files_rename.proofs.rename.rename_below.Goals as goal
+use Rattle.fo_dirties.proofs.Adding.{dirties_none, dirties_first}
+use Rattle.fo_dirties.proofs.Dirtied.{dirties_rests}
 
 pub rename_along-requires-clause-silent : goal.rename_along-requires-clause-silent
 rename_along-requires-clause-silent g c =
@@ -33,7 +35,7 @@ returns-in-Err-rename_along-clause-blocks g c =
 
 pub returns-in-Err-rename_along-clause-cause : goal.returns-in-Err-rename_along-clause-cause
 returns-in-Err-rename_along-clause-cause g c =
-    subst (λ e. HasCause (faults_of (g.B.Blocks.state c.args.on.now)) (faults_of (g.B.Blocks.state c.rename_along.new.on)) ⊥ (HasRoom (g.B.Blocks.state c.rename_along.new.on)) (5 * length c.args.trail.now + 35) e) (sym c.file_error.ensures) (blocks_cause (g.B.Blocks.state c.args.on.now) (g.B.Blocks.state c.reserve_room.new.on) (g.B.Blocks.state c.rename_along.new.on) (5 * length c.args.trail.now + 35) _ (g.met.B.Blocks.keeps_all c.args.on.now c.reserve_room.new.on c.reserve_room.ensures.keeps) c.in-Err-rename_along.why c.in-Err-rename_along.ensures.cause)
+    subst (λ e. HasCause (faults_of (g.B.Blocks.state c.args.on.now)) (faults_of (g.B.Blocks.state c.rename_along.new.on)) ⊥ (HasRoom (g.B.Blocks.state c.rename_along.new.on)) (5 * length c.args.trail.now + 31) e) (sym c.file_error.ensures) (blocks_cause (g.B.Blocks.state c.args.on.now) (g.B.Blocks.state c.reserve_room.new.on) (g.B.Blocks.state c.rename_along.new.on) (5 * length c.args.trail.now + 31) _ (g.met.B.Blocks.keeps_all c.args.on.now c.reserve_room.new.on c.reserve_room.ensures.keeps) c.in-Err-rename_along.why c.in-Err-rename_along.ensures.cause)
 
 pub returns-in-Ok-rename_along-clause-keeps : goal.returns-in-Ok-rename_along-clause-keeps
 returns-in-Ok-rename_along-clause-keeps g c =
@@ -50,3 +52,12 @@ returns-in-Ok-rename_along-clause-taken g c =
 pub returns-in-Err-rename_along-clause-taken : goal.returns-in-Err-rename_along-clause-taken
 returns-in-Err-rename_along-clause-taken g c =
     let a = c.reserve_room.ensures.usable in let b = c.rename_along.ensures.taken in let d = c.rename_along.ensures.spare in omega (arith, a, b, d)
+
+pub returns-in-Err-clause-dirties : goal.returns-in-Err-clause-dirties
+returns-in-Err-clause-dirties g c = dirties_none _ (dirties_rests (g.B.Blocks.state c.args.on.now) (g.B.Blocks.state c.reserve_room.new.on) (g.met.B.Blocks.keeps_all c.args.on.now c.reserve_room.new.on c.reserve_room.ensures.keeps) c.reserve_room.ensures.rests)
+
+pub returns-in-Ok-rename_along-clause-dirties : goal.returns-in-Ok-rename_along-clause-dirties
+returns-in-Ok-rename_along-clause-dirties g c = dirties_first (dirties_rests (g.B.Blocks.state c.args.on.now) (g.B.Blocks.state c.reserve_room.new.on) (g.met.B.Blocks.keeps_all c.args.on.now c.reserve_room.new.on c.reserve_room.ensures.keeps) c.reserve_room.ensures.rests) c.rename_along.ensures.dirties
+
+pub returns-in-Err-rename_along-clause-dirties : goal.returns-in-Err-rename_along-clause-dirties
+returns-in-Err-rename_along-clause-dirties g c = dirties_first (dirties_rests (g.B.Blocks.state c.args.on.now) (g.B.Blocks.state c.reserve_room.new.on) (g.met.B.Blocks.keeps_all c.args.on.now c.reserve_room.new.on c.reserve_room.ensures.keeps) c.reserve_room.ensures.rests) c.rename_along.ensures.dirties

@@ -7,6 +7,8 @@ use Rattle.fo_files_into.proofs.of_files_along.Refusing.{look_cause, cause_later
 use Rattle.fo_files_request.proofs.Refusing.{blocks_refused}
 use Rattle.fo_files_into.proofs.of_files_along.Whole.{settled_looks}
 use Rattle.fo_files_request.proofs.write.write_at.Goals as goal
+use Rattle.fo_dirties.proofs.Adding.{dirties_none, dirties_first}
+use Rattle.fo_dirties.proofs.Putting.{dirties_looks}
 
 pub write_found-requires-clause-silent : goal.write_found-requires-clause-silent
 write_found-requires-clause-silent g c =
@@ -74,3 +76,9 @@ returns-in-Ok-clause-cause g c =
 pub returns-in-Ok-clause-keeps : goal.returns-in-Ok-clause-keeps
 returns-in-Ok-clause-keeps g c =
     g.met.B.Blocks.keeps_joins c.args.on.now c.file_found.new.on c.write_found.new.on c.file_found.ensures.looks.1 c.write_found.ensures.keeps
+
+pub returns-in-Err-clause-dirties : goal.returns-in-Err-clause-dirties
+returns-in-Err-clause-dirties g c = dirties_none _ (dirties_looks (g.met.B.Blocks.keeps_all c.args.on.now c.file_found.new.on c.file_found.ensures.looks.1) c.file_found.ensures.looks.0)
+
+pub returns-in-Ok-clause-dirties : goal.returns-in-Ok-clause-dirties
+returns-in-Ok-clause-dirties g c = dirties_first (dirties_looks (g.met.B.Blocks.keeps_all c.args.on.now c.file_found.new.on c.file_found.ensures.looks.1) c.file_found.ensures.looks.0) c.write_found.ensures.dirties

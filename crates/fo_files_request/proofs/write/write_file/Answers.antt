@@ -1,4 +1,4 @@
-use Rattle.std.proofs.Common.{◌+◌, ◌-◌, ◌≤◌, length, inl, sym, ap, subst, ◌∙◌, arith}
+use Rattle.std.proofs.Common.{◌+◌, ◌-◌, ◌≤◌, length, inl, sym, ap, subst, ◌∙◌, arith, ◌*◌}
 use Rattle.fo_tree_read.proofs.Exits.{looks_none}
 use Rattle.fo_world.specs.Answers.{HasCause}
 use Rattle.fo_world.specs.Step.{need, write_need}
@@ -9,6 +9,10 @@ use Rattle.fo_files_into.specs.of_files_at.Way.{IsWay}
 use Rattle.fo_files_into.proofs.of_files_along.Refusing.{look_cause}
 use Rattle.fo_files_request.proofs.Whole.{need_is}
 use Rattle.fo_files_request.proofs.write.write_file.Goals as goal
+use Rattle.fo_dirties.proofs.Adding.{dirties_none}
+use Rattle.fo_dirties.proofs.Putting.{dirties_looks}
+use Rattle.fo_ports.specs.State.{none}
+use Rattle.fo_ports.specs.Sources.{Dirties}
 
 -- the piece is written: its trail is that of the place, and its need that of the whole
 pub returns-in-Ok-clause-writes : goal.returns-in-Ok-clause-writes
@@ -76,3 +80,21 @@ returns-in-Err-clause-refused g c =
 pub returns-in-Err-unwritten-clause-refused : goal.returns-in-Err-unwritten-clause-refused
 returns-in-Err-unwritten-clause-refused g c =
     subst (λ t. WhyRefused _ g.B.Blocks.state c.args.root t c.args.at.now.view c.args.offset (length c.args.piece.now) c.args.halted c.in-Err-unwritten.why) c.as_slice-trail.ensures (c.in-Err-unwritten.ensures.refused c.args.at.now.view c.args.offset (length c.args.piece.now) c.args.halted c.in-Bars.ensures)
+
+pub returns-in-Ok-clause-dirties : goal.returns-in-Ok-clause-dirties
+returns-in-Ok-clause-dirties g c =
+    let some = c.in-May.ensures.1 in
+    let is = ap (λ t. need (length t - 1) (length c.args.piece.now)) c.as_slice-trail.ensures ∙ sym (need_is c.args.at.now c.args.piece.now (omega (arith, some))) in
+    subst (λ m. Dirties (2 * m) none (g.B.Blocks.state c.args.on.now) (g.B.Blocks.state c.write_at.new.on)) is c.write_at.ensures.dirties
+
+pub returns-in-Err-clause-dirties : goal.returns-in-Err-clause-dirties
+returns-in-Err-clause-dirties g c =
+    let some = c.in-May.ensures.1 in
+    let is = ap (λ t. need (length t - 1) (length c.args.piece.now)) c.as_slice-trail.ensures ∙ sym (need_is c.args.at.now c.args.piece.now (omega (arith, some))) in
+    subst (λ m. Dirties (2 * m) none (g.B.Blocks.state c.args.on.now) (g.B.Blocks.state c.write_at.new.on)) is c.write_at.ensures.dirties
+
+pub returns-in-Ok-unwritten-clause-dirties : goal.returns-in-Ok-unwritten-clause-dirties
+returns-in-Ok-unwritten-clause-dirties g c = dirties_none _ (dirties_looks (g.met.B.Blocks.keeps_all c.args.on.now c.unwritten.new.on c.unwritten.ensures.looks.1) c.unwritten.ensures.looks.0)
+
+pub returns-in-Err-unwritten-clause-dirties : goal.returns-in-Err-unwritten-clause-dirties
+returns-in-Err-unwritten-clause-dirties g c = dirties_none _ (dirties_looks (g.met.B.Blocks.keeps_all c.args.on.now c.unwritten.new.on c.unwritten.ensures.looks.1) c.unwritten.ensures.looks.0)

@@ -7,6 +7,7 @@ use Rattle.fo_files_into.specs.of_files_look.Told.{faults_of}
 use Rattle.fo_files_into.specs.of_files_along.Along.{HasRoom, IsBlocks}
 use Rattle.fo_files_into.proofs.of_files_along.Refusing.{blocks_are, blocks_cause}
 use Rattle.fo_files_request.proofs.write.write_found.Goals as goal
+use Rattle.fo_dirties.proofs.Adding.{dirties_none, dirties_first}
 
 pub write_along-requires-clause-silent : goal.write_along-requires-clause-silent
 write_along-requires-clause-silent g c =
@@ -61,3 +62,12 @@ returns-in-Ok-write_along-clause-keeps g c =
 pub returns-in-Err-write_along-clause-keeps : goal.returns-in-Err-write_along-clause-keeps
 returns-in-Err-write_along-clause-keeps g c =
     g.met.B.Blocks.keeps_joins c.args.on.now c.reserve_for.new.on c.write_along.new.on c.reserve_for.ensures.keeps c.write_along.ensures.keeps
+
+pub returns-in-Err-clause-dirties : goal.returns-in-Err-clause-dirties
+returns-in-Err-clause-dirties g c = dirties_none _ c.reserve_for.ensures.dirties
+
+pub returns-in-Ok-write_along-clause-dirties : goal.returns-in-Ok-write_along-clause-dirties
+returns-in-Ok-write_along-clause-dirties g c = dirties_first c.reserve_for.ensures.dirties c.write_along.ensures.dirties
+
+pub returns-in-Err-write_along-clause-dirties : goal.returns-in-Err-write_along-clause-dirties
+returns-in-Err-write_along-clause-dirties g c = dirties_first c.reserve_for.ensures.dirties c.write_along.ensures.dirties

@@ -1,4 +1,4 @@
-use Rattle.std.proofs.Common.{◌+◌, ◌-◌, ◌<◌, ◌≤◌, length, inl, sym, subst, ◌∙◌, arith}
+use Rattle.std.proofs.Common.{◌+◌, ◌-◌, ◌<◌, ◌≤◌, length, inl, sym, subst, ◌∙◌, arith, ◌*◌}
 use Rattle.fo_tree_read.proofs.Exits.{looks_none}
 use Rattle.fo_world.specs.Answers.{HadRoom, Refuses}
 use Rattle.fo_world.specs.Step.{depth_of, give}
@@ -11,6 +11,10 @@ use Rattle.fo_files_take.specs.Take.{IsFound}
 use Rattle.fo_files_take.proofs.Refusing.{blocks_refused}
 use Rattle.fo_files_take.proofs.Whole.{on_ok_always, removes_as, refused_as}
 use Rattle.fo_files_take.proofs.remove.remove_file.Goals as goal
+use Rattle.fo_dirties.proofs.Adding.{dirties_none, dirties_first}
+use Rattle.fo_dirties.proofs.Putting.{dirties_looks}
+use Rattle.fo_ports.specs.State.{none}
+use Rattle.fo_ports.specs.Sources.{Dirties}
 
 pub take_found-requires-clause-silent : goal.take_found-requires-clause-silent
 take_found-requires-clause-silent g c = λ h. c.requires.may.silent ((g.met.B.Blocks.keeps_all c.args.on.now c.look_for_removal.new.on c.look_for_removal.ensures.looks.1).still_tells.0 h)
@@ -70,3 +74,11 @@ returns-in-Ok-clause-cause g c =
 
 pub returns-in-Ok-clause-keeps : goal.returns-in-Ok-clause-keeps
 returns-in-Ok-clause-keeps g c = g.met.B.Blocks.keeps_joins c.args.on.now c.look_for_removal.new.on c.take_found.new.on c.look_for_removal.ensures.looks.1 c.take_found.ensures.keeps
+
+pub returns-in-Err-clause-dirties : goal.returns-in-Err-clause-dirties
+returns-in-Err-clause-dirties g c = dirties_none _ (dirties_looks (g.met.B.Blocks.keeps_all c.args.on.now c.look_for_removal.new.on c.look_for_removal.ensures.looks.1) c.look_for_removal.ensures.looks.0)
+
+pub returns-in-Ok-clause-dirties : goal.returns-in-Ok-clause-dirties
+returns-in-Ok-clause-dirties g c =
+    let took = subst (λ t. Dirties (2 * give (length t - 1)) none (g.B.Blocks.state c.look_for_removal.new.on) (g.B.Blocks.state c.take_found.new.on)) c.as_slice.ensures c.take_found.ensures.dirties in
+    dirties_first (dirties_looks (g.met.B.Blocks.keeps_all c.args.on.now c.look_for_removal.new.on c.look_for_removal.ensures.looks.1) c.look_for_removal.ensures.looks.0) took

@@ -1,12 +1,16 @@
-use Rattle.std.proofs.Common.{◌≡◌, ◌-◌, ◌<◌, ℕ, length, inl, inr, sym, ap, subst, ◌∙◌, arith}
+use Rattle.std.proofs.Common.{◌≡◌, ◌-◌, ◌<◌, ℕ, length, inl, inr, sym, ap, subst, ◌∙◌, arith, refl}
+use Rattle.fo_files_own.proofs.Carry.{few_blocks}
 use Rattle.fo_files_own.proofs.of_files_ready.Steps.{failed_since}
-use Rattle.fo_files_along.specs.Along.{touched}
+use Rattle.fo_files_along.specs.Along.{touched, HasPairIn}
 use Rattle.fo_files_along.proofs.Ways.{steps_long}
 use Rattle.fo_files_own.specs.declared.at.OwnAt.{OwnAt}
-use Rattle.fo_files_own.specs.Own.{IsOwnAt, MayOwn}
+use Rattle.fo_files_own.specs.Own.{IsOwnAt, MayOwn, block_of}
 use Rattle.fo_files_take.specs.Take.{IsApartFrom, LeavesFrom, TakesFrom, own_of}
 use Rattle.fo_files_take.proofs.Taking.{own_may, own_place}
 use Rattle.fo_files_take.proofs.remove.take_along.Goals as goal
+use Rattle.fo_dirties.proofs.Adding.{dirties_none, dirties_fewer, dirties_adds, cons_counted, none_counted}
+use Rattle.fo_dirties.proofs.Putting.{dirties_looks}
+use Rattle.fo_files_take.proofs.Counting.{own_in}
 
 pub own_along-requires-clause-way : goal.own_along-requires-clause-way
 own_along-requires-clause-way g c = (c.args.root, (c.args.trail.now, c.requires.found.way))
@@ -128,3 +132,24 @@ returns-in-Ok-take_from-clause-keeps g c = g.met.B.Blocks.keeps_joins c.args.on.
 
 pub returns-in-Err-take_from-clause-keeps : goal.returns-in-Err-take_from-clause-keeps
 returns-in-Err-take_from-clause-keeps g c = g.met.B.Blocks.keeps_joins c.args.on.now c.own_along.new.on c.take_from.new.on c.own_along.ensures.keeps c.take_from.ensures.keeps
+
+pub returns-in-Err-clause-dirties : goal.returns-in-Err-clause-dirties
+returns-in-Err-clause-dirties g c = dirties_none _ (dirties_looks (g.met.B.Blocks.keeps_all c.args.on.now c.own_along.new.on c.own_along.ensures.keeps) c.in-Err.ensures.nothing)
+
+pub returns-in-Ok-take_from-clause-dirties : goal.returns-in-Ok-take_from-clause-dirties
+returns-in-Ok-take_from-clause-dirties g c =
+    let long = steps_long (g.B.Blocks.state c.args.on.now) c.args.root c.args.trail.now c.args.found.now.way c.requires.found.way in
+    let some = c.requires.short.0 in
+    let few = few_blocks c.own_at-own.result in
+    let stand = c.in-Ok.stand in
+    let own = subst (λ (o : OwnAt). HasPairIn stand.dir stand.above (block_of o)) (sym c.own_at-own.ensures) (own_in stand.dir stand.above c.leaf_above.result c.args.found.now.spare) in
+    dirties_fewer (omega (arith, long, some, few)) (λ b h. absurd h) (dirties_adds c.in-Ok.ensures.dirties c.take_from.ensures.dirties (cons_counted (inr (inl refl)) (cons_counted (inl refl) (cons_counted (inr own) none_counted))))
+
+pub returns-in-Err-take_from-clause-dirties : goal.returns-in-Err-take_from-clause-dirties
+returns-in-Err-take_from-clause-dirties g c =
+    let long = steps_long (g.B.Blocks.state c.args.on.now) c.args.root c.args.trail.now c.args.found.now.way c.requires.found.way in
+    let some = c.requires.short.0 in
+    let few = few_blocks c.own_at-own.result in
+    let stand = c.in-Ok.stand in
+    let own = subst (λ (o : OwnAt). HasPairIn stand.dir stand.above (block_of o)) (sym c.own_at-own.ensures) (own_in stand.dir stand.above c.leaf_above.result c.args.found.now.spare) in
+    dirties_fewer (omega (arith, long, some, few)) (λ b h. absurd h) (dirties_adds c.in-Ok.ensures.dirties c.take_from.ensures.dirties (cons_counted (inr (inl refl)) (cons_counted (inl refl) (cons_counted (inr own) none_counted))))

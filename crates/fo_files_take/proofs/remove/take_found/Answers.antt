@@ -7,6 +7,8 @@ use Rattle.fo_files_along.specs.of_files_look.Told.{faults_of}
 use Rattle.fo_files_along.specs.Along.{HasRoom, IsBlocks}
 use Rattle.fo_files_along.proofs.Refusing.{blocks_are, blocks_cause}
 use Rattle.fo_files_take.proofs.remove.take_found.Goals as goal
+use Rattle.fo_dirties.proofs.Adding.{dirties_none, dirties_first}
+use Rattle.fo_dirties.proofs.Dirtied.{dirties_rests}
 
 pub take_along-requires-clause-silent : goal.take_along-requires-clause-silent
 take_along-requires-clause-silent g c =
@@ -61,3 +63,12 @@ returns-in-Ok-take_along-clause-keeps g c = g.met.B.Blocks.keeps_joins c.args.on
 
 pub returns-in-Err-take_along-clause-keeps : goal.returns-in-Err-take_along-clause-keeps
 returns-in-Err-take_along-clause-keeps g c = g.met.B.Blocks.keeps_joins c.args.on.now c.reserve_room.new.on c.take_along.new.on c.reserve_room.ensures.keeps c.take_along.ensures.keeps
+
+pub returns-in-Err-clause-dirties : goal.returns-in-Err-clause-dirties
+returns-in-Err-clause-dirties g c = dirties_none _ (dirties_rests (g.B.Blocks.state c.args.on.now) (g.B.Blocks.state c.reserve_room.new.on) (g.met.B.Blocks.keeps_all c.args.on.now c.reserve_room.new.on c.reserve_room.ensures.keeps) c.reserve_room.ensures.rests)
+
+pub returns-in-Ok-take_along-clause-dirties : goal.returns-in-Ok-take_along-clause-dirties
+returns-in-Ok-take_along-clause-dirties g c = dirties_first (dirties_rests (g.B.Blocks.state c.args.on.now) (g.B.Blocks.state c.reserve_room.new.on) (g.met.B.Blocks.keeps_all c.args.on.now c.reserve_room.new.on c.reserve_room.ensures.keeps) c.reserve_room.ensures.rests) c.take_along.ensures.dirties
+
+pub returns-in-Err-take_along-clause-dirties : goal.returns-in-Err-take_along-clause-dirties
+returns-in-Err-take_along-clause-dirties g c = dirties_first (dirties_rests (g.B.Blocks.state c.args.on.now) (g.B.Blocks.state c.reserve_room.new.on) (g.met.B.Blocks.keeps_all c.args.on.now c.reserve_room.new.on c.reserve_room.ensures.keeps) c.reserve_room.ensures.rests) c.take_along.ensures.dirties

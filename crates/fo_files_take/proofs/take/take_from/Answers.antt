@@ -5,6 +5,8 @@ use Rattle.fo_files_own.proofs.of_files_ready.Steps.{failed_since}
 use Rattle.fo_files_own.proofs.Carry.{few_blocks, few_pins, few_removals, has_ready_on}
 use Rattle.fo_files_take.proofs.Taking.{bytes_over, label_over, may_over, of_over, pin_over, root_of, took, took_own}
 use Rattle.fo_files_take.proofs.take.take_from.Goals as goal
+use Rattle.fo_dirties.proofs.Adding.{first_of, next_of, cons_of, none_of, adds_more, adds_given, adds_wider, adds_joins, adds_first, adds_then}
+use Rattle.fo_dirties.proofs.Putting.{dirties_calm}
 
 pub ready_own-requires-clause-pins : goal.ready_own-requires-clause-pins
 ready_own-requires-clause-pins g c = let few = few_pins c.args.own in let enough = c.requires.pins in omega (arith, few, enough)
@@ -120,3 +122,14 @@ returns-in-Err-take_file-clause-keeps g c = g.met.B.Blocks.keeps_joins c.args.on
 
 pub returns-clause-keeps : goal.returns-clause-keeps
 returns-clause-keeps g c = g.met.B.Blocks.keeps_joins c.args.on.now c.take_file.new.on c.put_own.new.on (g.met.B.Blocks.keeps_joins c.args.on.now c.ready_own.new.on c.take_file.new.on c.ready_own.ensures.keeps c.take_file.ensures.keeps) c.put_own.ensures.keeps
+
+pub returns-in-Err-clause-dirties : goal.returns-in-Err-clause-dirties
+returns-in-Err-clause-dirties g c = adds_more (omega arith) (adds_given first_of (adds_wider (cons_of (next_of (next_of first_of)) none_of) c.in-Err.ensures.dirties_refused))
+
+pub returns-in-Err-take_file-clause-dirties : goal.returns-in-Err-take_file-clause-dirties
+returns-in-Err-take_file-clause-dirties g c = adds_more (omega arith) (adds_joins (adds_wider (cons_of (next_of (next_of first_of)) none_of) c.in-Ok.ensures.dirties) c.take_file.ensures.dirties (cons_of (next_of first_of) (cons_of (next_of (next_of first_of)) none_of)))
+
+pub returns-clause-dirties : goal.returns-clause-dirties
+returns-clause-dirties g c =
+    let put = dirties_calm c.in-Ok.ready.at (g.met.B.Blocks.keeps_all c.take_file.new.on c.put_own.new.on c.put_own.ensures.keeps) c.put_own.ensures.calm in
+    adds_more (omega arith) (adds_given first_of (adds_then (adds_first (adds_wider (cons_of (next_of (next_of first_of)) none_of) c.in-Ok.ensures.dirties) c.take_file.ensures.dirties (cons_of (next_of first_of) (cons_of (next_of (next_of first_of)) none_of))) put (cons_of first_of none_of)))

@@ -1,10 +1,12 @@
-use Rattle.std.proofs.Common.{◌≡◌, ◌+◌, ℕ, arith}
+use Rattle.std.proofs.Common.{◌≡◌, ◌+◌, ℕ, arith, refl}
 use Rattle.fo_crash.specs.declared.slot.Slot.TheVariants.{Entry as Head}
 use Rattle.fo_ports.specs.Blocks.{cost}
 use Rattle.fo_tree_link.specs.Link.{entry_of}
 use Rattle.fo_tree_shorten.specs.Shorten.{Links}
 use Rattle.fo_files_way.proofs.One.{Took, top_other, cost_none, one_owned}
 use Rattle.fo_files_way.proofs.own.own_linked.Goals as goal
+use Rattle.fo_dirties.proofs.Adding.{adds_own}
+use Rattle.fo_dirties.proofs.Putting.{dirties_frame}
 
 pub link-requires-clause-other : goal.link-requires-clause-other
 link-requires-clause-other g c =
@@ -58,3 +60,8 @@ returns-clause-one g c =
     } in
     let more = g.met.B.Blocks.keeps_all c.own_leaf-leaf.new.on c.link.new.on e.keeps in
     one_owned took c.requires.entry links more e.over (no_room s.room m.room u.room (cost ((m.now c.args.at).slot c.args.j) (Head (entry_of y.ways.tree y.ways.generation))) e.frame.uses.room (cost_none took c.requires.entry) c.own_leaf-leaf.ensures.room)
+
+pub returns-clause-dirties : goal.returns-clause-dirties
+returns-clause-dirties g c =
+    adds_own c.own_leaf-leaf.result c.own_leaf-leaf.ensures.dirties refl
+    (dirties_frame c.args.at (g.met.B.Blocks.keeps_all c.own_leaf-leaf.new.on c.link.new.on c.link.ensures.keeps) c.link.ensures.frame c.link.ensures.order)

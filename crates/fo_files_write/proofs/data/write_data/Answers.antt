@@ -1,4 +1,4 @@
-use Rattle.std.proofs.Common.{◌≡◌, ◌⊎◌, ◌+◌, ◌*◌, ◌%◌, ◌<◌, ◌≤◌, ◌∙◌, ℕ, length, inl, sym, subst, arith}
+use Rattle.std.proofs.Common.{◌≡◌, ◌⊎◌, ◌+◌, ◌*◌, ◌%◌, ◌<◌, ◌≤◌, ◌∙◌, ℕ, length, inl, sym, subst, arith, []}
 use Rattle.std.specs.Prelude.{◌==◌, true, false}
 use Rattle.std.proofs.lemmas.Bool.Decides.{nat_tests}
 use Rattle.fo_ports.specs.State.{State}
@@ -8,10 +8,12 @@ use Rattle.fo_ports.specs.Causes.{Caused}
 use Rattle.fo_base.specs.Cause.{Rose}
 use Rattle.fo_files_dir.proofs.Dirs.{pair_keeps}
 use Rattle.fo_files_write.specs.Alters.{Alters, is_above, any_kind}
-use Rattle.fo_files_write.specs.Data.{HasData}
+use Rattle.fo_files_write.specs.Data.{HasData, most_of}
 use Rattle.fo_files_write.proofs.Steps.{alters_none}
 use Rattle.fo_files_write.proofs.Ends.{data_at, long_with, stays_with, puts_since, err_since}
 use Rattle.fo_files_write.proofs.data.write_data.Goals as goal
+use Rattle.fo_dirties.proofs.Adding.{adds_idle, first_of}
+use Rattle.fo_dirties.proofs.Putting.{dirties_at_once}
 
 none_of : (n : ℕ) → (n == 0) ≡ true → 0 < n → ⊥
 none_of n = grind (arith, nat_tests)
@@ -164,3 +166,12 @@ returns-in-Err-clause-nothing g c = alters_none is_above (g.B.Blocks.state c.arg
 
 pub returns-clause-nothing : goal.returns-clause-nothing
 returns-clause-nothing g c = err_since (g.B.Blocks.state c.args.on.now) (g.B.Blocks.state c.write_source.new.on) c.args.file c.in-Ok.source.ways.tree.tag (32 + 2 * c.args.file.number) c.write_source.result c.in-Ok.ensures.is.0 c.write_source.ensures.nothing
+
+pub returns-in-Err-clause-dirties : goal.returns-in-Err-clause-dirties
+returns-in-Err-clause-dirties g c = adds_idle (2 * (most_of (length c.args.piece.now) + 4)) first_of (dirties_at_once (g.B.Blocks.state c.args.on.now) [])
+
+pub returns-then-is_empty-clause-dirties : goal.returns-then-is_empty-clause-dirties
+returns-then-is_empty-clause-dirties g c = adds_idle (2 * (most_of (length c.args.piece.now) + 4)) first_of (dirties_at_once (g.B.Blocks.state c.args.on.now) [])
+
+pub returns-clause-dirties : goal.returns-clause-dirties
+returns-clause-dirties g c = c.write_source.ensures.dirties

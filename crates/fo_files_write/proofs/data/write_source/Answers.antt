@@ -3,6 +3,7 @@ use Rattle.std.specs.Prelude.{max}
 use Rattle.fo_files_write.specs.Alters.{Alters, any_kind}
 use Rattle.fo_files_write.proofs.Steps.{alters_joins, alters_any}
 use Rattle.fo_files_write.proofs.data.write_source.Goals as goal
+use Rattle.fo_dirties.proofs.Adding.{adds_more, adds_joins, cons_of, first_of, none_of}
 
 pub returns-in-Err-clause-same : goal.returns-in-Err-clause-same
 returns-in-Err-clause-same g c =
@@ -215,3 +216,9 @@ returns-clause-puts g c =
 
 pub returns-in-Err-clause-alters : goal.returns-in-Err-clause-alters
 returns-in-Err-clause-alters g c = alters_any c.ready_for.ensures.alters
+
+pub returns-in-Err-clause-dirties : goal.returns-in-Err-clause-dirties
+returns-in-Err-clause-dirties g c = adds_more (omega arith) c.ready_for.ensures.dirties
+
+pub returns-clause-dirties : goal.returns-clause-dirties
+returns-clause-dirties g c = adds_more (omega arith) (adds_joins c.ready_for.ensures.dirties c.put.ensures.dirties (cons_of first_of none_of))

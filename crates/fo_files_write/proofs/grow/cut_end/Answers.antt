@@ -1,4 +1,4 @@
-use Rattle.std.proofs.Common.{◌≡◌, ◌-◌, ◌*◌, ◌/◌, ◌<◌, ℕ, suc, false, List, inr, sym, ap, subst, ◌∙◌, arith}
+use Rattle.std.proofs.Common.{◌≡◌, ◌-◌, ◌*◌, ◌/◌, ◌<◌, ℕ, suc, false, List, inr, sym, ap, subst, ◌∙◌, arith, [], ◌∷◌, ◌++◌}
 use Rattle.fo_ports.specs.State.{State, Rests, StaysKnown}
 use Rattle.fo_tree_read.specs.declared.tree.Tree.{Tree}
 use Rattle.fo_tree_look.specs.declared.ways.Kept.{Kept}
@@ -16,6 +16,10 @@ use Rattle.fo_files_write.specs.Data.{SameData}
 use Rattle.fo_files_write.proofs.Steps.{keeps_two, caused_rose, alters_joins, alters_readies, alters_rests, alters_cuts, pins_readies}
 use Rattle.fo_files_write.proofs.grow.cut_end.Given as given
 use Rattle.fo_files_write.proofs.grow.cut_end.Goals as goal
+use Rattle.fo_dirties.proofs.Adding.{dirties_quiet}
+use Rattle.fo_dirties.proofs.Putting.{dirties_at_once, first_among}
+use Rattle.fo_dirties.proofs.Dirtied.{dirties_rests}
+use Rattle.fo_tree_trim.proofs.Knowing.{end_known}
 
 laws_of : (g : given.Over) (b : g.row.B.Denot) → Laws (g.B.Blocks.state b)
 laws_of g b =
@@ -588,3 +592,19 @@ returns-in-Err-clause-cause g c =
     let same : SameData old.tree w.tree = same_top old.tree w.tree k.steps.0 k.steps.1 in
     let level : w.tree.depth ≡ old.tree.depth = ap (λ (t : Tree). t.depth) k.steps.1 in
     caused_rose s u (g.B.Blocks.state c.settle.new.self) all c.in-Err.why c.in-Err.ensures.cause
+
+pub returns-in-Err-clause-dirties : goal.returns-in-Err-clause-dirties
+returns-in-Err-clause-dirties g c =
+    let m = c.make_ready.ensures.dirties c.args.on.now (c.args.at ∷ []) (dirties_at_once (g.B.Blocks.state c.args.on.now) (c.args.at ∷ [])) (first_among c.args.at []) in
+    let settled = dirties_rests (g.B.Blocks.state c.make_ready.new.on) (g.B.Blocks.state c.settle.new.self) (g.met.B.Blocks.keeps_all c.make_ready.new.on c.settle.new.self c.settle.ensures.keeps) c.settle.ensures.rests in
+    let few = c.requires.over.hangs.few in let less = m.few in
+    record { more = m.more; few = omega (arith, few, less); within = dirties_quiet m.within settled; here = m.here }
+
+pub returns-in-Ok-clause-dirties : goal.returns-in-Ok-clause-dirties
+returns-in-Ok-clause-dirties g c =
+    let m = c.make_ready.ensures.dirties c.args.on.now (c.args.at ∷ []) (dirties_at_once (g.B.Blocks.state c.args.on.now) (c.args.at ∷ [])) (first_among c.args.at []) in
+    let settled = dirties_rests (g.B.Blocks.state c.make_ready.new.on) (g.B.Blocks.state c.settle.new.self) (g.met.B.Blocks.keeps_all c.make_ready.new.on c.settle.new.self c.settle.ensures.keeps) c.settle.ensures.rests in
+    let known = end_known (g.B.Blocks.state c.make_ready.new.on) (g.B.Blocks.state c.settle.new.self) c.make_ready.new.ways.tree c.make_ready.new.ways.kept.items c.make_ready.ensures.ready c.settle.ensures.known in
+    let cut = c.cut.ensures.dirties c.args.on.now (m.more ++ c.args.at ∷ []) (dirties_quiet m.within settled) (λ b h. m.end b (known b h)) in
+    let few = c.requires.over.hangs.few in let less = m.few in
+    record { more = m.more; few = omega (arith, few, less); within = cut; here = m.here }

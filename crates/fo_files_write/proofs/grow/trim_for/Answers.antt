@@ -1,4 +1,4 @@
-use Rattle.std.proofs.Common.{◌<◌, ◌∙◌, refl, ap, subst, arith}
+use Rattle.std.proofs.Common.{◌<◌, ◌∙◌, refl, ap, subst, arith, []}
 use Rattle.fo_tree_read.specs.declared.tree.Tree.{Tree}
 use Rattle.fo_tree_down.specs.Clear.{EndsClear}
 use Rattle.fo_tree_trim.proofs.Above.{deep_size}
@@ -6,6 +6,8 @@ use Rattle.fo_files_write.specs.Alters.{Alters, is_above}
 use Rattle.fo_files_write.proofs.Steps.{alters_none, alters_looks, alters_joins, refused_settling}
 use Rattle.fo_files_write.proofs.Ends.{entry_looks, entry_same, same_tree, same_joins, ok_under}
 use Rattle.fo_files_write.proofs.grow.trim_for.Goals as goal
+use Rattle.fo_dirties.proofs.Adding.{adds_idle, first_of, adds_after}
+use Rattle.fo_dirties.proofs.Putting.{dirties_looks, dirties_at_once}
 
 pub returns-then-end-len-clause-same : goal.returns-then-end-len-clause-same
 returns-then-end-len-clause-same g c =
@@ -420,3 +422,15 @@ returns-clause-cause g c =
     let k = c.cut_end.ensures in
     let t = c.cut_end.new.ways in
     refused_settling s u z all c.cut_end.result k.cause
+
+pub returns-then-end-len-clause-dirties : goal.returns-then-end-len-clause-dirties
+returns-then-end-len-clause-dirties g c = adds_idle 8 first_of (dirties_at_once (g.B.Blocks.state c.args.on.now) [])
+
+pub returns-in-Err-clause-dirties : goal.returns-in-Err-clause-dirties
+returns-in-Err-clause-dirties g c = adds_idle 8 first_of (dirties_looks (g.met.B.Blocks.keeps_all c.args.on.now c.prepare_end.new.on c.prepare_end.ensures.looks.1) c.prepare_end.ensures.looks.0)
+
+pub returns-then-is_clear-clause-dirties : goal.returns-then-is_clear-clause-dirties
+returns-then-is_clear-clause-dirties g c = adds_idle 8 first_of (dirties_looks (g.met.B.Blocks.keeps_all c.args.on.now c.prepare_end.new.on c.prepare_end.ensures.looks.1) c.prepare_end.ensures.looks.0)
+
+pub returns-clause-dirties : goal.returns-clause-dirties
+returns-clause-dirties g c = adds_after (dirties_looks (g.met.B.Blocks.keeps_all c.args.on.now c.prepare_end.new.on c.prepare_end.ensures.looks.1) c.prepare_end.ensures.looks.0) c.cut_end.ensures.dirties

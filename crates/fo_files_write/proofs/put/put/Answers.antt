@@ -9,6 +9,8 @@ use Rattle.fo_files_write.specs.Alters.{any_kind}
 use Rattle.fo_files_write.proofs.Steps.{alters_moves}
 use Rattle.fo_files_write.proofs.Ends.{most_few, wrote_of, use_same, top_other, cost_few, no_levels, tag_same, dir_same, generation_same, prepared_linked}
 use Rattle.fo_files_write.proofs.put.put.Goals as goal
+use Rattle.fo_dirties.proofs.Adding.{adds_more, adds_puts, first_of}
+use Rattle.fo_dirties.proofs.Putting.{dirties_frame}
 
 none_of : (rank : ℕ) → rank % 32 ≡ 0 → rank % 32 ≡ 16 → ⊥
 none_of rank none some = omega (arith, none, some)
@@ -270,3 +272,9 @@ returns-clause-prepared g c =
     let k = c.link.ensures in
     let more = g.met.B.Blocks.keeps_all c.write.new.on c.link.new.on k.keeps in
     prepared_linked m u y x.ways.tree.tag c.args.offset n c.args.at more w.entry.apart (tag_same w) k.ready w.prepared
+
+pub returns-clause-dirties : goal.returns-clause-dirties
+returns-clause-dirties g c =
+    let few = most_few (max c.args.source.now.ways.tree.size (c.args.offset + length c.args.piece.now)) (length c.args.piece.now) in
+    let k = c.link.ensures in
+    adds_more (omega (arith, few)) (adds_puts c.write.ensures.dirties first_of (dirties_frame c.args.at (g.met.B.Blocks.keeps_all c.write.new.on c.link.new.on k.keeps) k.frame k.order))

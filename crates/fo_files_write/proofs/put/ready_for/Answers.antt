@@ -5,6 +5,8 @@ use Rattle.fo_files_write.specs.Alters.{is_above}
 use Rattle.fo_files_write.proofs.Steps.{alters_looks, alters_joins, refused_since}
 use Rattle.fo_files_write.proofs.Ends.{entry_looks, entry_same, same_tree, same_joins, ok_of}
 use Rattle.fo_files_write.proofs.put.ready_for.Goals as goal
+use Rattle.fo_dirties.proofs.Adding.{adds_still}
+use Rattle.fo_dirties.proofs.Putting.{dirties_looks}
 
 pub overflow_add-offset : goal.overflow_add-offset
 overflow_add-offset g c =
@@ -179,3 +181,6 @@ returns-clause-cause g c =
     let k = c.prepare_piece.ensures in
     let more = g.met.B.Blocks.keeps_all c.trim_for.new.on c.prepare_piece.new.on k.looks.1 in
     refused_since s m u all c.prepare_piece.result k.cause
+
+pub returns-clause-dirties : goal.returns-clause-dirties
+returns-clause-dirties g c = adds_still c.trim_for.ensures.dirties (dirties_looks (g.met.B.Blocks.keeps_all c.trim_for.new.on c.prepare_piece.new.on c.prepare_piece.ensures.looks.1) c.prepare_piece.ensures.looks.0)
