@@ -1,5 +1,5 @@
 -- What becomes of an event, from what the calls below say.
-use Rattle.std.proofs.Common.{◌≡◌, ◌≢◌, ℕ, [], Bool, Option, Some, None, Result, Ok, Err, ap, arith}
+use Rattle.std.proofs.Common.{◌≡◌, ◌≢◌, ◌*◌, ℕ, [], Bool, Option, Some, None, Result, Ok, Err, ap, arith}
 use Rattle.std.specs.Prelude.{◌↔◌, IfOk, IfErr, OnErr, MatchResult}
 use Rattle.fo_base.specs.Cause.{Rose}
 use Rattle.fo_disk.specs.declared.disk.DiskFault.TheVariants.{Read, Write, Sync}
@@ -26,7 +26,7 @@ use Rattle.fo_files.specs.Kept.{untold}
 use Rattle.fo_files.specs.Laws.{faults_kept}
 use Rattle.fo_events.specs.Row.{IsTurnFault}
 use Rattle.fo_core.specs.Moment.{Moment, blocks, cache, counts, files, within}
-use Rattle.fo_core.specs.Goes.{Aside, FlushedBy, UnlinkedBy, told_of}
+use Rattle.fo_core.specs.Goes.{Aside, FlushedBy, LeavesDirty, UnlinkedBy, most_let_go, told_of}
 
 -- ---- no count falls
 
@@ -40,6 +40,15 @@ later_dropped old new k k' now (Some f) more r d = let t = d.1.taken in later ol
 -- the arena is as it was
 pub later_aside : (old new : Moment) → Aside old new → NotFewer (counts old) (counts new)
 later_aside old new a = record { main = a.later; arena = let e = a.arena_faults in omega (arith, e) }
+
+-- ---- what is left to be written
+
+pub leaves : (old new : Moment) (w : World) (most : ℕ) → within old new w most → LeavesDirty (2 * most) old new
+leaves old new w most t = record { more = t.dirties.blocks; few = t.dirties.few; each = t.dirties.within.dirty }
+
+pub leaves_dropped : (old new : Moment) (k k' : Kept) (now : ℕ) (best : Option Fid) (more : Bool) (r : Option Reply) → Drops (files old) (files new) (within old new) k now best more r k' → LeavesDirty (2 * most_let_go best) old new
+leaves_dropped old new k k' now None more r d = leaves old new untold 0 d.3
+leaves_dropped old new k k' now (Some f) more r d = let t = d.1.taken in leaves old new t.0 _ t.1
 
 -- ---- what is told of a turn
 

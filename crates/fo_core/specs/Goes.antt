@@ -1,6 +1,8 @@
 -- What may become of an event, and what it leaves.
-use Rattle.std.specs.Prelude.{◌≡◌, ◌≢◌, ◌↔◌, ◌≤◌, ℕ, [], Bool, Option, Result, Ok, Err, IfOk, IfErr, OnErr, MatchResult}
+use Rattle.std.specs.Prelude.{◌≡◌, ◌≢◌, ◌↔◌, ◌⊎◌, ◌*◌, ◌≤◌, ℕ, List, [], length, Bool, Option, Some, None, Result, Ok, Err, IfOk, IfErr, OnErr, MatchResult}
+use Rattle.std.specs.List.{Contains}
 use Rattle.fo_unlink.specs.Pending.{Pending}
+use Rattle.fo_ports.specs.Sources.{IsRested}
 use Rattle.fo_closing.specs.Rest.{AtRest}
 use Rattle.fo_turning.specs.declared.flush.Flushed.{Flushed}
 use Rattle.fo_turning.specs.declared.flush.Flushed.TheVariants.{Idle}
@@ -16,10 +18,12 @@ use Rattle.nine_wire.specs.Message.{ReplyFits}
 use Rattle.nine_wire.specs.declared.message.Request.{Request}
 use Rattle.nine_wire.specs.declared.message.Reply.{Reply}
 use Rattle.nine_wire.specs.declared.message.Reply.TheVariants as reply
+use Rattle.nine_fids.specs.declared.fid.Fid.{Fid}
 use Rattle.nine_fids.specs.Fids.{least}
-use Rattle.nine_session.specs.Session.{AgreesWithin, AsksSync, Drops, Serves}
+use Rattle.nine_files.specs.Removing.{most_close}
+use Rattle.nine_session.specs.Session.{AgreesWithin, AsksSync, Drops, Serves, in_files, most_of}
 use Rattle.fo_sessions.specs.Sessions.{OthersStay, kept_at, session_at}
-use Rattle.fo_files.specs.Kept.{AllSettled}
+use Rattle.fo_files.specs.Kept.{AllSettled, untold}
 use Rattle.fo_events.specs.declared.event.Event.{Event}
 use Rattle.fo_events.specs.declared.event.Event.TheVariants.{Asked, Drop, Flush, Unlink}
 use Rattle.fo_events.specs.declared.event.Outcome.{Outcome}
@@ -31,20 +35,35 @@ use Rattle.fo_core.specs.Moment.{Moment, blocks, cache, counts, files, within}
 
 -- ---- requests
 
+-- Beside blocks of which a slot that waited was cleared, and blocks with the label of one that was closed, at most so many are to be written now
+-- that weren't. Where nothing was settled or closed on the way these are all.
+pub record LeavesDirty (most : ℕ) (old new : Moment) : Type 0 where
+  pub more : List ℕ
+  pub few : length more ≤ most
+  pub each : (b : ℕ) → (blocks new).dirty b → (blocks old).dirty b ⊎ (Contains more b ⊎ IsRested (blocks old) (blocks new) b)
+
 -- What a session replies: over any devices an answer of the request's kind, or a refusal with its cause in this event; no other session
--- changes, at most the request's blocks are taken, and a settling that is asked for has settled all.
+-- changes, at most the request's blocks are taken, at most twice as many are left to be written beside what settling left, and a settling that is
+-- asked for has settled all.
 pub record Answered (old : Moment) (session now : ℕ) (q : Request) (r : Reply) (new : Moment) : Type 0 where
   pub serves : Serves (files old) (files new) (within old new) (kept_at session old.sessions) now q r (kept_at session new.sessions)
   pub others : OthersStay session old.sessions new.sessions
   pub fits : ReplyFits r
   pub small : AgreesWithin r
   pub settled : AsksSync q → r ≡ reply.Wstat → AllSettled (blocks new)
+  pub dirty : LeavesDirty (2 * most_of (in_files (kept_at session old.sessions) untold) q) old new
   pub later : NotFewer (counts old) (counts new)
+
+-- the most blocks that the end of a fid may need, where there is one
+abbrev pub most_let_go : Option Fid → ℕ
+most_let_go None = 0
+most_let_go (Some f) = most_close f
 
 -- what becomes of the least fid
 pub record Dropped (old : Moment) (session now : ℕ) (more : Bool) (r : Option Reply) (new : Moment) : Type 0 where
   pub drops : Drops (files old) (files new) (within old new) (kept_at session old.sessions) now (least (session_at session old.sessions).fids) more r (kept_at session new.sessions)
   pub others : OthersStay session old.sessions new.sessions
+  pub dirty : LeavesDirty (2 * most_let_go (least (session_at session old.sessions).fids)) old new
   pub later : NotFewer (counts old) (counts new)
 
 -- ---- turns

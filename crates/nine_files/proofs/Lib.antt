@@ -1,4 +1,5 @@
 pub mod Chains
+pub mod Free
 pub mod Links
 pub mod Listing
 pub mod Making

@@ -1,5 +1,5 @@
 -- What calls that look at files, and calls that change them, answer.
-use Rattle.std.specs.Prelude.{◌≡◌, ℕ, ◌≤◌, ⊤, Bool, false, Result, Ok, Err, IfErr, MatchResult, is_ok, if◌then◌else◌, true}
+use Rattle.std.specs.Prelude.{◌≡◌, ℕ, ◌≤◌, ⊤, Bool, false, Result, Ok, IfErr, MatchResult, is_ok}
 use Rattle.fo_world.specs.declared.error.FileError.{FileError}
 use Rattle.fo_world.specs.World.{World}
 use Rattle.fo_world.specs.Answers.{MayFail, granted_world, is_fault, tried, world_beside}

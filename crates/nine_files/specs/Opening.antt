@@ -43,6 +43,10 @@ unfoldable pub opening_rights_by : List User → Files → World → Fid → Inf
 opening_rights_by table e w f i m =
     refuse_if (not (may_open table f.user i m)) refusal.PermissionDenied (if m.remove then may_write_above_by table e w f else Ok tt)
 
+-- The rights are there whatever the table, and none to the directory is wanted.
+abbrev pub is_free : List ℕ → Info → Mode → Bool
+is_free user i m = not m.remove && may_open [] user i m
+
 -- by the table of the active tree
 abbrev pub opening_rights : Files → World → Fid → Info → Mode → Result (Unit {0}) Refusal
 opening_rights e w f i m = opening_rights_by (table_of e w) e w f i m

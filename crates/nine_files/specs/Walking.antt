@@ -1,5 +1,5 @@
 -- Where names lead (walk(5) of the Plan 9 manual).
-use Rattle.std.specs.Prelude.{ℕ, List, [], ◌∷◌, Bool, not, ◌||◌, Some, None, Result, Ok, Err, if◌then◌else◌, codes}
+use Rattle.std.specs.Prelude.{ℕ, List, [], ◌∷◌, length, Bool, not, ◌==◌, ◌&&◌, ◌||◌, Some, None, Result, Ok, Err, if◌then◌else◌, codes}
 use Rattle.std.specs.Str.{bytes_eq}
 use Rattle.nine_fields.specs.declared.qid.Qid.{Qid}
 use Rattle.fo_world.specs.declared.place.Info.{Info}
@@ -44,6 +44,10 @@ from_next go i (Err r) = record { qids = []; last = i.place; stopped = Some r }
 unfoldable pub walked_by : List User → Files → World → List ℕ → List (List ℕ) → Info → Walked
 walked_by table e w user [] i = record { qids = []; last = i.place; stopped = None }
 walked_by table e w user (name ∷ names) i = from_next (walked_by table e w user names) i (next_by table e w user i name)
+
+-- by one name, and whatever the table the user may go through the first directory
+abbrev pub is_free : List ℕ → List (List ℕ) → Info → Bool
+is_free user names i = length names == 1 && may [] user i Execute
 
 -- by the table of the active tree
 abbrev pub walked : Files → World → List ℕ → List (List ℕ) → Info → Walked

@@ -5,6 +5,7 @@
 mod opening;
 mod reading;
 mod removing;
+mod rights;
 mod stating;
 mod walking;
 

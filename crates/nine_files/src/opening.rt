@@ -8,6 +8,7 @@ ghost use Rattle.nine_files.specs.Answering.{Changes};
 ghost use Rattle.nine_files.specs.Granting as granting;
 ghost use Rattle.nine_files.specs.Opening as nine;
 
+use crate::rights::{may, no_users};
 use fo_users::{Right, Users};
 use fo_world::{Change, FileError, FileOps, Info, Name, Place, View};
 use nine_fids::{
@@ -83,6 +84,33 @@ fn check_rights<F: FileOps>(
     may_write_above(files, users, fid)
 }
 
+/// Whether the rights that a mode wants are there whatever the table of users is, and it wants none to the directory.
+fn is_free(alloc: Global, user: &Name, info: &Info, mode: Mode) -> bool
+    ensures { result ≡ nine.is_free user.now info.now mode }
+{
+    !mode.remove && may_open(&no_users(alloc), user, info, mode)
+}
+
+/// Refuses who may not open a file so. The table of users is read where the file's own bits don't tell.
+fn check_opening<F: FileOps>(
+    alloc: Global,
+    files: &mut F,
+    known_users: &mut KnownUsers,
+    fid: &Fid,
+    info: &Info,
+    mode: Mode,
+) -> Result<(), Refusal>
+    requires { IsTrue (F.whole files.old) }
+    ensures looks { Looks (⟦<F as Stated>⟧.state files.old) (⟦<F as Stated>⟧.state files.new) (λ e w. nine.opening_rights e w fid.now info.now mode) result }
+    ensures keeps { F.keeps files.old files.new }
+{
+    if is_free(alloc, &fid.user, info, mode) {
+        return Ok(());
+    }
+    let users = table_of(alloc, files, known_users)?;
+    check_rights(files, users, fid, info, mode)
+}
+
 /// The mode in which a file may be opened, where its kind and its view allow it.
 #[tactic(auto, unfolding(crate::specs::Opening::allowed_mode))]
 fn allowed_mode(fid: &Fid, info: &Info, mode: u8) -> Result<Mode, Refusal>
@@ -147,8 +175,7 @@ pub fn admit<F: FileOps>(
     }
     let info = info_at(files, &from.place)?;
     let mode = allowed_mode(from, &info, mode)?;
-    let users = table_of(alloc, files, known_users)?;
-    check_rights(files, users, from, &info, mode)?;
+    check_opening(alloc, files, known_users, from, &info, mode)?;
     if is_held(from, &info, exclusive) {
         return Err(Refusal::ExclusivelyOpen);
     }
@@ -177,8 +204,8 @@ pub fn admit_new<F: FileOps>(
     }
     let above = info_at(files, &from.place)?;
     let mode = allowed_new(from, &above, name, perm, mode)?;
-    let users = table_of(alloc, files, known_users)?;
-    if !users.may(&from.user, &above, Right::Write) {
+    let may_add = may(alloc, files, known_users, &from.user, &above, Right::Write)?;
+    if !may_add {
         return Err(Refusal::PermissionDenied);
     }
     Ok((above, mode))

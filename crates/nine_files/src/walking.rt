@@ -1,11 +1,12 @@
 //! Walking along names.
-ghost use Rattle.std.specs.Prelude.{◌≡◌, ◌==◌, IsTrue, IfOk, IfErr, MatchResult};
+ghost use Rattle.std.specs.Prelude.{◌≡◌, ◌==◌, [], IsTrue, IfOk, IfErr, MatchResult};
 ghost use Rattle.nine_fids.specs.Told.{served};
 ghost use Rattle.nine_fids.specs.Looking.{HasCause, Looks, MayMiss};
 ghost use Rattle.nine_files.specs.Walking as nine;
 ghost use Rattle.nine_files.specs.Parts.{arrived, IsPart};
 ghost use Rattle.nine_files.specs.Answering.{Misses};
 
+use crate::rights::{is_granted, no_users};
 use fo_users::{Right, Users};
 use fo_world::{FileError, FileOps, Info, Name, Place};
 use nine_fids::{
@@ -108,8 +109,36 @@ fn follow<F: FileOps>(
     })
 }
 
+/// The same by the table of no users.
+fn follow_freely<F: FileOps>(
+    alloc: Global,
+    files: &mut F,
+    user: &Name,
+    names: &[Name],
+    from: Info,
+) -> Result<Walked, Refusal>
+    requires { IsTrue (F.whole files.old) }
+    ensures comes { F.honest files.old → MatchResult result
+        (λ w. w ≡ nine.walked_by [] (served (F.whole files.old) (F.largest files.old)) (F.world files.old) user.now names.now from)
+        (Misses (MayMiss (F.faults files.old) (F.faults files.new) (F.honest files.old))) }
+    ensures part { IfOk result (IsPart names.now) }
+    ensures world { F.honest files.old → F.world files.new ≡ F.world files.old }
+    ensures cause { IfErr result (HasCause (⟦<F as Stated>⟧.state files.old) (⟦<F as Stated>⟧.state files.new) 0) }
+    ensures keeps { F.keeps files.old files.new }
+{
+    let users = no_users(alloc);
+    follow(alloc, files, &users, user, names, from)
+}
+
+/// Whether a walk is by one name, and its user may go through its first directory whatever the table of users is.
+fn is_free(alloc: Global, user: &Name, names: &[Name], start: &Info) -> bool
+    ensures { result ≡ nine.is_free user.now names.now start.now }
+{
+    names.len() == 1 && is_granted(alloc, user, start, Right::Execute)
+}
+
 /// Goes from a fid's file along the names: what it passes and comes to, or a failure of the files. With no name the fid's file is
-/// not looked at. Files that answer for all views are asked for.
+/// not looked at, and the table of users is read where it can tell something. Files that answer for all views are asked for.
 pub fn walk_from<F: FileOps>(
     alloc: Global,
     files: &mut F,
@@ -130,6 +159,9 @@ pub fn walk_from<F: FileOps>(
         });
     }
     let start = info_at(files, &fid.place)?;
+    if is_free(alloc, &fid.user, names, &start) {
+        return follow_freely(alloc, files, &fid.user, names, start);
+    }
     let users = table_of(alloc, files, known_users)?;
     follow(alloc, files, users, &fid.user, names, start)
 }

@@ -10,6 +10,7 @@ pub mod Records
 pub mod Restates
 pub mod Starts
 pub mod Staying
+pub mod Telling
 pub mod Transfers
 pub mod Trying
 pub mod Walks

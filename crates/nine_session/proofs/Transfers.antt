@@ -11,7 +11,8 @@ use Rattle.fo_world.specs.declared.tree.Node.{Node}
 use Rattle.fo_world.specs.declared.tree.Body.{Body}
 use Rattle.fo_world.specs.declared.tree.Body.TheVariants.{File, Dir}
 use Rattle.fo_world.specs.declared.error.FileError.{FileError}
-use Rattle.fo_world.specs.World.{World}
+use Rattle.fo_world.specs.declared.error.FileError.TheVariants as error
+use Rattle.fo_world.specs.World.{Faults, World}
 use Rattle.fo_world.specs.Step as step
 use Rattle.nine_fids.specs.declared.fid.Fid.{Fid}
 use Rattle.nine_fids.specs.declared.fid.Opened.{Opened}
@@ -20,14 +21,14 @@ use Rattle.nine_fids.specs.declared.refusal.Refusal.TheVariants as refusal
 use Rattle.fo_world.specs.Chain.{and_then, refuse_if}
 use Rattle.nine_fids.specs.Refusing.{looked, changed, is_failure}
 use Rattle.nine_fids.specs.Fids.{State, version_of, fid_at, opened_of, in_world}
-use Rattle.nine_fids.specs.Told.{Files, info_at, bytes_at, is_dir, iounit}
+use Rattle.nine_fids.specs.Told.{Files, info_at, bytes_at, iounit}
 use Rattle.nine_fids.specs.Modes.{reads, writes}
-use Rattle.nine_fids.specs.Looking.{IsRefused}
+use Rattle.nine_fids.specs.Looking.{IsRefused, MayMiss}
 use Rattle.nine_files.specs.Parts.{write_start}
-use Rattle.nine_files.proofs.Links.{plain_at, some_plain, then_ok}
-use Rattle.nine_session.specs.Reading.{read, read_directory, write}
+use Rattle.nine_files.proofs.Links.{plain_at, some_plain, then_ok, told_if_plain}
+use Rattle.nine_session.specs.Reading.{is_directory, read, read_directory, read_or_listed, write}
 use Rattle.nine_session.specs.Session.{Told}
-use Rattle.nine_session.proofs.Links.{link_refused, refuse_no, refuse_yes, same_refused, then_err}
+use Rattle.nine_session.proofs.Links.{refuse_no, refuse_yes, then_err}
 use Rattle.nine_session.proofs.Listing.{directory_from, directory_there}
 
 -- ---- an open fid, where a version is agreed to
@@ -62,64 +63,53 @@ opened_there z fid go m f o h k j = fid_found z fid go m f h k ∙ then_ok (open
 
 -- ---- Tread
 
--- of a file that is there
-abbrev pub reading : Files → State → ℕ → ℕ → ℕ → Fid → Opened → Info → Told
-reading e z offset count m f o i =
-    if is_dir i.mode then read_directory e z f o offset (min count (iounit m))
-    else and_then (bytes_at e z.world f.place offset (min count (iounit m))) (λ bytes. Ok (reply.Read bytes, z))
+-- of an open fid that may be read
+abbrev pub reading : Files → State → ℕ → ℕ → ℕ → Fid → Opened → Told
+reading e z offset count m f o = read_or_listed z (bytes_at e z.world f.place offset (min count (iounit m))) (read_directory e z f o offset (min count (iounit m)))
 
 -- of an open fid
 abbrev pub reads_from : Files → State → ℕ → ℕ → Going
-reads_from e z offset count m f o = refuse_if (not (reads o.access)) refusal.NotForReading (and_then (info_at e z.world f.place) (reading e z offset count m f o))
+reads_from e z offset count m f o = refuse_if (not (reads o.access)) refusal.NotForReading (reading e z offset count m f o)
 
 pub read_begins : (e : Files) (z : State) (fid offset count : ℕ) → read e z fid offset count ≡ with_opened z fid (reads_from e z offset count)
 unfolding read
 read_begins e z fid offset count = refl
 
 pub reads_not : (e : Files) (z : State) (offset count m : ℕ) (f : Fid) (o : Opened) → reads o.access ≡ false → reads_from e z offset count m f o ≡ Err refusal.NotForReading
-reads_not e z offset count m f o h = refuse_yes (not (reads o.access)) refusal.NotForReading (and_then (info_at e z.world f.place) (reading e z offset count m f o)) (ap not h)
+reads_not e z offset count m f o h = refuse_yes (not (reads o.access)) refusal.NotForReading (reading e z offset count m f o) (ap not h)
 
-pub reads_on : (e : Files) (z : State) (offset count m : ℕ) (f : Fid) (o : Opened) → reads o.access ≡ true → reads_from e z offset count m f o ≡ and_then (info_at e z.world f.place) (reading e z offset count m f o)
-reads_on e z offset count m f o h = refuse_no (not (reads o.access)) refusal.NotForReading (and_then (info_at e z.world f.place) (reading e z offset count m f o)) (ap not h)
+reads_on : (e : Files) (z : State) (offset count m : ℕ) (f : Fid) (o : Opened) → reads o.access ≡ true → reads_from e z offset count m f o ≡ reading e z offset count m f o
+reads_on e z offset count m f o h = refuse_no (not (reads o.access)) refusal.NotForReading (reading e z offset count m f o) (ap not h)
 
-pub reads_directory : (e : Files) (z : State) (offset count m : ℕ) (f : Fid) (o : Opened) (i : Info) → is_dir i.mode ≡ true → reading e z offset count m f o i ≡ read_directory e z f o offset (min count (iounit m))
-reads_directory e z offset count m f o i h = rw h refl
-
-pub reads_file : (e : Files) (z : State) (offset count m : ℕ) (f : Fid) (o : Opened) (i : Info) → is_dir i.mode ≡ false → reading e z offset count m f o i ≡ and_then (bytes_at e z.world f.place offset (min count (iounit m))) (λ bytes. Ok (reply.Read bytes, z))
-reads_file e z offset count m f o i h = rw h refl
-
-pub read_opened : (e : Files) (z : State) (fid offset count m : ℕ) (f : Fid) (o : Opened) → version_of z ≡ Ok m → fid_at z fid ≡ Ok f → opened_of f ≡ Ok o → reads o.access ≡ true → read e z fid offset count ≡ and_then (info_at e z.world f.place) (reading e z offset count m f o)
+read_opened : (e : Files) (z : State) (fid offset count m : ℕ) (f : Fid) (o : Opened) → version_of z ≡ Ok m → fid_at z fid ≡ Ok f → opened_of f ≡ Ok o → reads o.access ≡ true → read e z fid offset count ≡ reading e z offset count m f o
 read_opened e z fid offset count m f o v h k a =
     read_begins e z fid offset count ∙ opened_there z fid (reads_from e z offset count) m f o v h k ∙ reads_on e z offset count m f o a
 
-pub read_missed : (e : Files) (z : State) (fid offset count m : ℕ) (f : Fid) (o : Opened) (P : FileError → Type 0) (r : Refusal) → version_of z ≡ Ok m → fid_at z fid ≡ Ok f → opened_of f ≡ Ok o → reads o.access ≡ true → IsRefused (info_at e z.world f.place) P r → IsRefused (read e z fid offset count) P r
-read_missed e z fid offset count m f o P r v h k a refused =
-    same_refused (read e z fid offset count) (and_then (info_at e z.world f.place) (reading e z offset count m f o)) P r (read_opened e z fid offset count m f o v h k a)
-    (link_refused (info_at e z.world f.place) (reading e z offset count m f o) P r refused)
-
-pub read_there : (e : Files) (z : State) (fid offset count m : ℕ) (f : Fid) (o : Opened) (i : Info) → version_of z ≡ Ok m → fid_at z fid ≡ Ok f → opened_of f ≡ Ok o → reads o.access ≡ true → info_at e z.world f.place ≡ Ok i → read e z fid offset count ≡ reading e z offset count m f o i
-read_there e z fid offset count m f o i v h k a there = read_opened e z fid offset count m f o v h k a ∙ then_ok (info_at e z.world f.place) i (reading e z offset count m f o) there
+-- by what is read of the bytes
+read_by : (e : Files) (z : State) (fid offset count m : ℕ) (f : Fid) (o : Opened) (t : Result (List ℕ) Refusal) → version_of z ≡ Ok m → fid_at z fid ≡ Ok f → opened_of f ≡ Ok o → reads o.access ≡ true → bytes_at e z.world f.place offset (min count (iounit m)) ≡ t → read e z fid offset count ≡ read_or_listed z t (read_directory e z f o offset (min count (iounit m)))
+read_by e z fid offset count m f o t v h k a is =
+    read_opened e z fid offset count m f o v h k a ∙ ap (λ b. read_or_listed z b (read_directory e z f o offset (min count (iounit m)))) is
 
 -- of a directory
-pub read_lists : (e : Files) (z : State) (fid offset count m : ℕ) (f : Fid) (o : Opened) (i : Info) → version_of z ≡ Ok m → fid_at z fid ≡ Ok f → opened_of f ≡ Ok o → reads o.access ≡ true → info_at e z.world f.place ≡ Ok i → is_dir i.mode ≡ true → read e z fid offset count ≡ directory_from e z fid offset (min count (iounit m))
-read_lists e z fid offset count m f o i v h k a there d =
-    read_there e z fid offset count m f o i v h k a there ∙ reads_directory e z offset count m f o i d ∙ sym (directory_there e z fid offset (min count (iounit m)) f o h k)
+pub read_lists : (e : Files) (z : State) (fid offset count m : ℕ) (f : Fid) (o : Opened) (r : Refusal) → version_of z ≡ Ok m → fid_at z fid ≡ Ok f → opened_of f ≡ Ok o → reads o.access ≡ true → bytes_at e z.world f.place offset (min count (iounit m)) ≡ Err r → is_directory r ≡ true → read e z fid offset count ≡ directory_from e z fid offset (min count (iounit m))
+read_lists e z fid offset count m f o r v h k a is d =
+    read_by e z fid offset count m f o (Err r) v h k a is ∙ ap (λ b. if b then read_directory e z f o offset (min count (iounit m)) else Err r) d ∙ sym (directory_there e z fid offset (min count (iounit m)) f o h k)
 
--- of another file
-pub read_bytes : (e : Files) (z : State) (fid offset count m : ℕ) (f : Fid) (o : Opened) (i : Info) → version_of z ≡ Ok m → fid_at z fid ≡ Ok f → opened_of f ≡ Ok o → reads o.access ≡ true → info_at e z.world f.place ≡ Ok i → is_dir i.mode ≡ false → read e z fid offset count ≡ and_then (bytes_at e z.world f.place offset (min count (iounit m))) (λ bytes. Ok (reply.Read bytes, z))
-read_bytes e z fid offset count m f o i v h k a there d =
-    read_there e z fid offset count m f o i v h k a there ∙ reads_file e z offset count m f o i d
+-- of a file that isn't read
+pub read_unread : (e : Files) (z : State) (fid offset count m : ℕ) (f : Fid) (o : Opened) (r : Refusal) → version_of z ≡ Ok m → fid_at z fid ≡ Ok f → opened_of f ≡ Ok o → reads o.access ≡ true → is_directory r ≡ false → bytes_at e z.world f.place offset (min count (iounit m)) ≡ Err r → read e z fid offset count ≡ Err r
+read_unread e z fid offset count m f o r v h k a d is =
+    read_by e z fid offset count m f o (Err r) v h k a is ∙ ap (λ b. if b then read_directory e z f o offset (min count (iounit m)) else Err r) d
 
-pub read_unread : (e : Files) (z : State) (fid offset count m : ℕ) (f : Fid) (o : Opened) (i : Info) (P : FileError → Type 0) (r : Refusal) → version_of z ≡ Ok m → fid_at z fid ≡ Ok f → opened_of f ≡ Ok o → reads o.access ≡ true → info_at e z.world f.place ≡ Ok i → is_dir i.mode ≡ false → IsRefused (bytes_at e z.world f.place offset (min count (iounit m))) P r → IsRefused (read e z fid offset count) P r
-read_unread e z fid offset count m f o i P r v h k a there d refused =
-    let told : List ℕ → Told = λ bytes. Ok (reply.Read bytes, z) in
-    same_refused (read e z fid offset count) (and_then (bytes_at e z.world f.place offset (min count (iounit m))) told) P r (read_bytes e z fid offset count m f o i v h k a there d)
-    (link_refused (bytes_at e z.world f.place offset (min count (iounit m))) told P r refused)
+pub read_whole : (e : Files) (z : State) (fid offset count m : ℕ) (f : Fid) (o : Opened) (bytes : List ℕ) → version_of z ≡ Ok m → fid_at z fid ≡ Ok f → opened_of f ≡ Ok o → reads o.access ≡ true → bytes_at e z.world f.place offset (min count (iounit m)) ≡ Ok bytes → read e z fid offset count ≡ Ok (reply.Read bytes, z)
+read_whole e z fid offset count m f o bytes v h k a is = read_by e z fid offset count m f o (Ok bytes) v h k a is
 
-pub read_whole : (e : Files) (z : State) (fid offset count m : ℕ) (f : Fid) (o : Opened) (i : Info) (bytes : List ℕ) → version_of z ≡ Ok m → fid_at z fid ≡ Ok f → opened_of f ≡ Ok o → reads o.access ≡ true → info_at e z.world f.place ≡ Ok i → is_dir i.mode ≡ false → bytes_at e z.world f.place offset (min count (iounit m)) ≡ Ok bytes → read e z fid offset count ≡ Ok (reply.Read bytes, z)
-read_whole e z fid offset count m f o i bytes v h k a there d is =
-    let told : List ℕ → Told = λ bytes. Ok (reply.Read bytes, z) in
-    read_bytes e z fid offset count m f o i v h k a there d ∙ then_ok (bytes_at e z.world f.place offset (min count (iounit m))) bytes told is
+directory_plain : (r : Refusal) → is_directory r ≡ true → is_failure r ≡ false
+directory_plain (refusal.File error.IsDir) h = refl
+directory_plain r h = absurd cc
+
+-- what is a directory is told to be one
+pub directory_told : {A : Type 0} (told : Result A Refusal) (f0 f1 : Faults) (h : Type 0) (r : Refusal) → is_directory r ≡ true → IsRefused told (MayMiss f0 f1 h) r → told ≡ Err r
+directory_told told f0 f1 h r d k = told_if_plain told f0 f1 h r (directory_plain r d) k
 
 -- no more bytes than the count
 body_short : (w : World) (b : Body) (offset count : ℕ) → IfOk (looked (and_then (step.as_file b) (λ bytes. let out : Result (List ℕ × World) FileError = Ok (take count (drop offset bytes), w) in out))) (λ bytes. length bytes ≤ count)

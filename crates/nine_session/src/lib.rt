@@ -2,6 +2,7 @@
 #![tactic(auto)]
 
 mod attaching;
+mod laws;
 mod opening;
 mod reading;
 mod removing;
@@ -9,4 +10,5 @@ mod session;
 mod stating;
 mod walking;
 
+pub use laws::reads_go_by_the_mode;
 pub use session::Session;

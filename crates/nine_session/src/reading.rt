@@ -11,10 +11,20 @@ ghost use Rattle.nine_session.specs.Reading as nine;
 
 use crate::session::Session;
 use fo_base::Bytes;
-use fo_world::FileOps;
-use nine_fids::{Refusal, Stated, bytes_at, info_at, is_dir, put_fid};
+use fo_world::{FileError, FileOps};
+use nine_fids::{Refusal, Stated, bytes_at, info_at, put_fid};
 use nine_files::{is_bad_offset, list_records, opened_of, read_to, start_of, write_bytes};
 use nine_wire::Reply;
+
+/// Whether the files say that what was to be read is a directory.
+fn is_directory(refusal: &Refusal) -> bool
+    ensures { result ≡ nine.is_directory refusal.now }
+{
+    match refusal {
+        Refusal::File(FileError::IsDir) => true,
+        _ => false,
+    }
+}
 
 impl Session {
     ghost use Rattle.std.specs.Prelude.{◌≡◌, ◌<◌, ◌-◌, ◌^◌, ℕ, List, length, IsTrue, IfOk};
@@ -49,13 +59,16 @@ impl Session {
         if !opened.access.reads() {
             return Err(Refusal::NotForReading);
         }
-        let info = info_at(files, &from.place)?;
         let count = count.min(msize.saturating_sub(24));
-        if is_dir(info.mode) {
-            return self.read_directory(files, fid, offset, count);
+        match bytes_at(self.alloc, files, &from.place, offset, count as usize) {
+            Ok(bytes) => Ok(Reply::Read { bytes }),
+            Err(refusal) => {
+                if is_directory(&refusal) {
+                    return self.read_directory(files, fid, offset, count);
+                }
+                Err(refusal)
+            }
         }
-        let bytes = bytes_at(self.alloc, files, &from.place, offset, count as usize)?;
-        Ok(Reply::Read { bytes })
     }
 
     /// Tread of a directory: whole records.
