@@ -101,6 +101,7 @@ gives p x c l waiting begun few same is_label apart =
       dirty = λ b h. absurd h;
       uses = record { spare = omega (arith, long, few); usable = omega (arith, long, few); room = omega arith; pins = refl; moments = refl; left = λ k image h. h };
       queued = refl;
+      no_removal = record { each = λ x e w h. h };
       numbers = record { next = refl; grants = λ h. h };
     }
 

@@ -42,4 +42,4 @@ old_root p q r u fresh rests keeps room begins forgets long queue = record {
     other e = begins.unused.2 (e ∙ sym root)
 
     label : label_at u.blocks u.made 2 ≡ record { state = Live; kind = Root; tag = 1; epoch = 1; closing = 2 ^ 32 - 1 }
-    label = forgets.labels 2 ∙ begins.labels 2 (λ e. other (sym e)) ∙ ⊎_elim (λ e. e) (λ k. absurd (idle k.0)) (rests.labels 2) ∙ fresh.root_label
+    label = forgets.labels 2 ∙ begins.labels 2 (λ e. other (sym e)) ∙ ⊎_elim (λ e. e) (λ k. absurd (idle k.closing)) (rests.labels 2) ∙ fresh.root_label

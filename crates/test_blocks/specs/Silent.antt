@@ -200,6 +200,7 @@ state_of p = record {
   label_block = λ b. 0;
   dirty = λ b. ⊥;
   queued = p.queued;
+  removes = λ b e whole. ⊥;
   waits = Awaits p.waits;
   clearing = λ b j. ⊥;
   covered = λ b. ⊥;

@@ -93,3 +93,19 @@ fn epochs(rt: HostRuntime) -> Result<(), Fail> {
     assert_eq!(rt; on.slot(root, 2), Slot::Prev(1, 2));
     Ok(())
 }
+
+/// How many moments are kept where two are asked for and all is settled once, and whether that one tells what it had.
+fn watched(alloc: Global) -> Result<(usize, bool), BlockError> {
+    let mut on = PlainBlocks::new(alloc, 2)?;
+    on.watch(2);
+    on.settle()?;
+    let told = on.left(0, 2).is_some() && on.left(0, 9).is_none() && on.left(1, 2).is_none();
+    Ok((on.moments(), told))
+}
+
+/// A moment is kept where that was asked for.
+#[test]
+fn moments(rt: HostRuntime) -> Result<(), Fail> {
+    assert_eq!(rt; watched(rt.alloc())?, (1, true));
+    Ok(())
+}

@@ -1,5 +1,6 @@
 //! Rules 1 and 2: the header, the super block and the active root.
-use crate::made::{each, is_sound, names};
+use crate::made::{answer, each, is_sound, names};
+use fo_check::CheckError;
 use std::test::Fail;
 
 /// The image as it was made.
@@ -23,8 +24,8 @@ fn headers(rt: HostRuntime) -> Result<(), Fail> {
     Ok(())
 }
 
-/// The super block's name and version; epochs that are none; limits of numbers that are none; a mark that is neither 0 nor 1; a score
-/// without a mark; and bytes behind.
+/// The super block's name and version; epochs that are none; limits of numbers that are none; a pending epoch that is none; a mark that is
+/// neither 0 nor 1; a score without a mark; and bytes behind.
 #[test]
 fn super_blocks(rt: HostRuntime) -> Result<(), Fail> {
     let changes = [
@@ -36,6 +37,7 @@ fn super_blocks(rt: HostRuntime) -> Result<(), Fail> {
         (1, 14, 128, 1),
         (1, 25, 0, 1),
         (1, 22, 64, 1),
+        (1, 26, 128, 1),
         (1, 30, 2, 1),
         (1, 31, 1, 1),
         (1, 51, 1, 1),
@@ -114,5 +116,21 @@ fn roots(rt: HostRuntime) -> Result<(), Fail> {
 fn closed(rt: HostRuntime) -> Result<(), Fail> {
     let changes: [(u32, usize, &[u8]); 2] = [(2, 42, b"\x09"), (2, 48, b"\0\0\0\x01")];
     assert!(rt; names(rt.alloc(), &changes, 2, 3)?);
+    Ok(())
+}
+
+/// An active root whose root before is of an epoch that is none.
+#[test]
+fn before(rt: HostRuntime) -> Result<(), Fail> {
+    let changes: [(u32, usize, &[u8]); 2] = [(3, 16, b"\x80"), (3, 23, b"\x09")];
+    assert!(rt; names(rt.alloc(), &changes, 2, 3)?);
+    Ok(())
+}
+
+/// A mark with a score of zeros is that of an archive.
+#[test]
+fn marked(rt: HostRuntime) -> Result<(), Fail> {
+    let changes: [(u32, usize, &[u8]); 1] = [(1, 30, b"\x01")];
+    assert!(rt; answer(rt.alloc(), &changes)? == Err(CheckError::NotBuilt));
     Ok(())
 }

@@ -2,29 +2,43 @@
 use crate::made::{each, is_sound, names};
 use std::test::Fail;
 
-/// The root block's entry has five levels, and nothing below them.
+/// One of the root block's entries, the first or the second, has five levels, and nothing below them.
 #[test]
 fn deep_root(rt: HostRuntime) -> Result<(), Fail> {
-    let changes: [(u32, usize, &[u8]); 4] = [
+    let first: [(u32, usize, &[u8]); 4] = [
         (3, 29, b"\x05"),
         (3, 37, b"\x01"),
         (3, 42, b"\0"),
         (3, 63, b"\0"),
     ];
-    assert!(rt; names(rt.alloc(), &changes, 5, 3)?);
+    assert!(rt; names(rt.alloc(), &first, 5, 3)?);
+    let second: [(u32, usize, &[u8]); 4] = [
+        (3, 69, b"\x05"),
+        (3, 77, b"\x01"),
+        (3, 82, b"\0"),
+        (3, 103, b"\0"),
+    ];
+    assert!(rt; names(rt.alloc(), &second, 5, 3)?);
     Ok(())
 }
 
-/// So has the entry of `f`.
+/// So has the entry of `f`, and the second one of `d`.
 #[test]
 fn deep_entry(rt: HostRuntime) -> Result<(), Fail> {
-    let changes: [(u32, usize, &[u8]); 4] = [
+    let first: [(u32, usize, &[u8]); 4] = [
         (4, 5, b"\x05"),
         (4, 13, b"\x01"),
         (4, 18, b"\0"),
         (4, 39, b"\0"),
     ];
-    assert!(rt; names(rt.alloc(), &changes, 5, 4)?);
+    assert!(rt; names(rt.alloc(), &first, 5, 4)?);
+    let second: [(u32, usize, &[u8]); 4] = [
+        (4, 125, b"\x05"),
+        (4, 133, b"\x01"),
+        (4, 138, b"\0"),
+        (4, 159, b"\0"),
+    ];
+    assert!(rt; names(rt.alloc(), &second, 5, 4)?);
     Ok(())
 }
 

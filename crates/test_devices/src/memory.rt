@@ -22,6 +22,9 @@ fn put(cache: &mut Cache<Zeros>, at: u32) -> Result<(), BlockError>
     let mut block = [0; BLOCK];
     reserve(cache, 0, 1, 0)?;
     cache.get(at, Kind::Data(0), 0, &mut block)?;
+    if !cache.mind.is_block(at) || cache.mind.label(at).epoch != cache.mind.high() {
+        return Err(BlockError::Damaged(at));
+    }
     cache.put_bytes(at, 0, b"hello");
     Ok(())
 }

@@ -6,6 +6,8 @@
 #[cfg(test)]
 mod leaves;
 #[cfg(test)]
+mod moves;
+#[cfg(test)]
 mod names;
 #[cfg(test)]
 mod records;

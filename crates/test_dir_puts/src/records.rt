@@ -3,7 +3,7 @@ ghost use Rattle.std.specs.Prelude.{◌≡◌, ◌+◌, ◌-◌, ◌<◌, ◌≤
 ghost use Rattle.fo_image.specs.Record.{RecordHolds};
 ghost use Rattle.fo_meta.specs.Leaf.{IsLeaf};
 
-use crate::names::{added, changed, holds, moved, removed};
+use crate::names::{added, changed, holds, removed};
 use fo_base::BLOCK;
 use fo_crash::Slot;
 use fo_image::{Entry, Pointer, Record, RecordError, read_record};
@@ -32,7 +32,7 @@ const LONGER: [u8; 49] = [
 ];
 
 /// A leaf with the record.
-fn one() -> [u8; BLOCK] {
+pub fn one() -> [u8; BLOCK] {
     let mut leaf = [0; BLOCK];
     leaf[0..48].copy_from_slice(&ONE);
     leaf
@@ -72,7 +72,7 @@ fn unused() -> Entry {
 }
 
 /// The new record.
-fn record(alloc: Global) -> Result<Record, RecordError>
+pub fn record(alloc: Global) -> Result<Record, RecordError>
     ensures { IfOk result RecordHolds }
 {
     read_record(alloc, &NEW)
@@ -86,7 +86,7 @@ fn longer_record(alloc: Global) -> Result<Record, RecordError>
 }
 
 /// Blocks that tell nothing, with room for three blocks and three removals and waits.
-fn careless(alloc: Global) -> Result<CarelessBlocks, BlockError>
+pub fn careless(alloc: Global) -> Result<CarelessBlocks, BlockError>
     ensures { IfOk result (λ on. (3 ≤ on.count - length on.blocks.items) × (3 ≤ on.room)) }
 {
     let mut on = CarelessBlocks::new(alloc, 6)?;
@@ -152,19 +152,6 @@ fn is_changed<B: Blocks>(
     }
 }
 
-/// Whether a record that moves leaves its leaf empty, and stands in the other.
-fn is_moved<B: Blocks>(on: &mut B, named: &mut Record) -> Result<bool, BlockError>
-    requires spare { 3 ≤ (B.state on.old).spare }
-    requires room { 3 ≤ (B.state on.old).room }
-    requires untold { (b : B) → (B.state b).tells → ⊥ }
-    requires spelled { RecordHolds named.old }
-{
-    match moved(on, named)? {
-        None => Ok(false),
-        Some((from, to)) => Ok(holds(on, from, &empty_leaf())? && holds(on, to, &one())?),
-    }
-}
-
 /// A record is added at the end of its leaf, with its pair and the entries that it needs.
 #[test]
 fn ample(rt: HostRuntime) -> Result<(), Fail> {
@@ -203,14 +190,5 @@ fn renamed(rt: HostRuntime) -> Result<(), Fail> {
     let other = longer_record(rt.alloc())?;
     let mut leaf = empty_leaf();
     assert!(rt; is_changed(&mut on, &mut named, &other, &mut leaf)?);
-    Ok(())
-}
-
-/// One that moves stands in the other leaf alone.
-#[test]
-fn in_another(rt: HostRuntime) -> Result<(), Fail> {
-    let mut on = careless(rt.alloc())?;
-    let mut named = record(rt.alloc())?;
-    assert!(rt; is_moved(&mut on, &mut named)?);
     Ok(())
 }

@@ -94,7 +94,7 @@ fn reply_goes(
     Ok(())
 }
 
-fn requests(rt: &impl Abort, alloc: Global) -> Result<(), Fail> {
+fn requests_to_begin(rt: &impl Abort, alloc: Global) -> Result<(), Fail> {
     request_goes(
         rt,
         alloc,
@@ -128,6 +128,10 @@ fn requests(rt: &impl Abort, alloc: Global) -> Result<(), Fail> {
         },
         b"\x19\x00\x00\x00h\x01\x00\x00\x00\x00\x00\xff\xff\xff\xff\x06\x00glenda\x00\x00",
     )?;
+    Ok(())
+}
+
+fn requests_on_the_way(rt: &impl Abort, alloc: Global) -> Result<(), Fail> {
     request_goes(
         rt,
         alloc,
@@ -149,7 +153,7 @@ fn requests(rt: &impl Abort, alloc: Global) -> Result<(), Fail> {
     Ok(())
 }
 
-fn more_requests(rt: &impl Abort, alloc: Global) -> Result<(), Fail> {
+fn requests_to_open(rt: &impl Abort, alloc: Global) -> Result<(), Fail> {
     request_goes(
         rt,
         alloc,
@@ -169,6 +173,10 @@ fn more_requests(rt: &impl Abort, alloc: Global) -> Result<(), Fail> {
         },
         b"\x13\x00\x00\x00r\x02\x00\x00\x00\x00\x00\x01\x00f\xa4\x01\x00\x00\x02",
     )?;
+    Ok(())
+}
+
+fn requests_of_bytes(rt: &impl Abort, alloc: Global) -> Result<(), Fail> {
     request_goes(
         rt,
         alloc,
@@ -229,7 +237,7 @@ fn last_requests(rt: &impl Abort, alloc: Global) -> Result<(), Fail> {
     Ok(())
 }
 
-fn replies(rt: &impl Abort, alloc: Global) -> Result<(), Fail> {
+fn replies_to_begin(rt: &impl Abort, alloc: Global) -> Result<(), Fail> {
     reply_goes(
         rt,
         alloc,
@@ -266,6 +274,10 @@ fn replies(rt: &impl Abort, alloc: Global) -> Result<(), Fail> {
         },
         b"\x14\x00\x00\x00i\x01\x00\x80\x00\x00\x00\x00\x00\x00\x00\x00\x00\x00\x00\x00",
     )?;
+    Ok(())
+}
+
+fn replies_without_files(rt: &impl Abort, alloc: Global) -> Result<(), Fail> {
     reply_goes(
         rt,
         alloc,
@@ -279,7 +291,7 @@ fn replies(rt: &impl Abort, alloc: Global) -> Result<(), Fail> {
     Ok(())
 }
 
-fn more_replies(rt: &impl Abort, alloc: Global) -> Result<(), Fail> {
+fn replies_of_qids(rt: &impl Abort, alloc: Global) -> Result<(), Fail> {
     reply_goes(
         rt,
         alloc,
@@ -303,6 +315,10 @@ fn more_replies(rt: &impl Abort, alloc: Global) -> Result<(), Fail> {
         },
         b"\x18\x00\x00\x00q\x05\x00\x00\x01\x00\x00\x00\x02\x00\x00\x00\x00\x00\x00\x00\x00\x00\x01\x00",
     )?;
+    Ok(())
+}
+
+fn replies_with_files(rt: &impl Abort, alloc: Global) -> Result<(), Fail> {
     reply_goes(
         rt,
         alloc,
@@ -354,11 +370,15 @@ fn last_replies(rt: &impl Abort, alloc: Global) -> Result<(), Fail> {
 
 #[test]
 fn ample(rt: HostRuntime) -> Result<(), Fail> {
-    requests(&rt, rt.alloc())?;
-    more_requests(&rt, rt.alloc())?;
+    requests_to_begin(&rt, rt.alloc())?;
+    requests_on_the_way(&rt, rt.alloc())?;
+    requests_to_open(&rt, rt.alloc())?;
+    requests_of_bytes(&rt, rt.alloc())?;
     last_requests(&rt, rt.alloc())?;
-    replies(&rt, rt.alloc())?;
-    more_replies(&rt, rt.alloc())?;
+    replies_to_begin(&rt, rt.alloc())?;
+    replies_without_files(&rt, rt.alloc())?;
+    replies_of_qids(&rt, rt.alloc())?;
+    replies_with_files(&rt, rt.alloc())?;
     last_replies(&rt, rt.alloc())
 }
 

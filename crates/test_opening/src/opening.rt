@@ -31,7 +31,7 @@ fn opened(alloc: Global, main: MemDisk) -> Result<Cache<MemDisk>, Why>
 }
 
 /// A cache over a fresh disk, which fails at these calls. Formatting makes the first six, and opening the next four.
-fn fresh(alloc: Global, fails: Vec<u64>) -> Result<Cache<MemDisk>, Fail>
+pub fn fresh(alloc: Global, fails: Vec<u64>) -> Result<Cache<MemDisk>, Fail>
     ensures count { IfOk result (λ c. length c.main.cells.items ≡ 64) }
 {
     let main = formatted(alloc, fails)?;
@@ -53,7 +53,7 @@ fn end<D: Disk>(alloc: Global, cache: &mut Cache<D>) -> Option<BlockError>
 }
 
 /// Whether a cache has block 3 as its root, so many usable blocks, and this next file number, which block 1 says, too.
-fn has<D: Disk>(cache: &Cache<D>, usable: u32, next: u32) -> bool {
+pub fn has<D: Disk>(cache: &Cache<D>, usable: u32, next: u32) -> bool {
     cache.mind.root() == 3
         && cache.mind.labels.usable(1) == usable
         && cache.mind.next() == next
@@ -87,7 +87,10 @@ fn put<D: Disk>(cache: &mut Cache<D>, root: u32) -> bool
     requires count { D.size cache.old.main ≡ 64 }
     ensures count { D.size cache.new.main ≡ 64 }
 {
-    if !cache.mind.is_pinned(root) {
+    if !cache.mind.is_pinned(root) || !cache.mind.is_block(root) {
+        return false;
+    }
+    if cache.mind.label(root).epoch != cache.mind.high() {
         return false;
     }
     cache.put_bytes(root, 12, &[0, 0, 0, 9]);
@@ -149,6 +152,41 @@ fn again(rt: HostRuntime) -> Result<(), Fail> {
     let mut cache = opened(rt.alloc(), main)?;
     let same = has(&cache, 60, 2) && has_change(&mut cache);
     assert!(rt; same);
+    Ok(())
+}
+
+/// Gets the root.
+fn get_root<D: Disk>(cache: &mut Cache<D>) -> bool
+    requires count { D.size cache.old.main ≡ 64 }
+    ensures count { D.size cache.new.main ≡ 64 }
+{
+    let root = cache.mind.root();
+    let mut block = [0; BLOCK];
+    cache.mind.is_block(root) && get(cache, root, &mut block)
+}
+
+/// Whether its device was called so often, and all before went well.
+fn was_called(cache: Cache<MemDisk>, whole: bool, calls: u64) -> bool {
+    whole && cache.main.calls() == calls
+}
+
+/// Whether the root of a fresh disk, got so often, is read once: formatting makes six calls, and opening four.
+fn is_read_once(mut cache: Cache<MemDisk>, times: u32) -> bool
+    requires count { length cache.main.cells.items ≡ 64 }
+{
+    let first = get_root(&mut cache);
+    let again = times == 1 || get_root(&mut cache);
+    was_called(cache, first && again, 11)
+}
+
+/// A settled block that is got twice is read once.
+#[test]
+fn twice(rt: HostRuntime) -> Result<(), Fail> {
+    for times in 1..3_u32 {
+        let cache = fresh(rt.alloc(), Vec::new(rt.alloc()))?;
+        let once = is_read_once(cache, times);
+        assert!(rt; once);
+    }
     Ok(())
 }
 

@@ -1,7 +1,6 @@
 //! What the images of a crash show.
-ghost use Rattle.std.specs.Prelude.{◌≤◌};
-
 use crate::script::{FIRST, SECOND, STEPS};
+use fo_base::Memory;
 use fo_world::FileError;
 use std::alloc::Global;
 use test_requests::disks::{Disks, Left, On, checked, closed, opened};
@@ -52,14 +51,31 @@ pub fn are_sound(alloc: Global, disks: Disks, steps: u32) -> bool {
     }
 }
 
-/// Whether an image is right: that of the newest versions in this range.
-fn is_right(alloc: Global, left: &Left, from: u32, to: u32, steps: u32) -> bool
-    requires { to ≤ 64 }
-{
-    match left.image(from, to) {
+/// Whether the disks that were made of what a crash leaves are right.
+fn is_right(alloc: Global, disks: Result<Disks, Memory>, steps: u32) -> bool {
+    match disks {
         Ok(disks) => are_sound(alloc, disks, steps),
         Err(_) => false,
     }
+}
+
+/// How many choices of a version of each block there are.
+fn choices(left: &Left) -> u32 {
+    let mut choices: u32 = 1;
+    for at in 0..64 {
+        choices = choices.saturating_mul(left.versions(at));
+    }
+    choices
+}
+
+/// How many images there are, where all are right: so many, each choice of a version of each block once.
+fn of_all(alloc: Global, left: &Left, choices: u32, steps: u32) -> Option<u32> {
+    for number in 0..choices {
+        if !is_right(alloc, left.choice(number), steps) {
+            return None;
+        }
+    }
+    Some(choices)
 }
 
 /// How many images have the newest version of a block that has more than one, and the oldest of all others, where all are right.
@@ -67,7 +83,7 @@ fn of_each(alloc: Global, left: &Left, steps: u32) -> Option<u32> {
     let mut images: u32 = 0;
     for at in 0..64 {
         if 1 < left.versions(at) {
-            if !is_right(alloc, left, at, at + 1, steps) {
+            if !is_right(alloc, left.image(at, at + 1), steps) {
                 return None;
             }
             images = images.saturating_add(1);
@@ -76,14 +92,24 @@ fn of_each(alloc: Global, left: &Left, steps: u32) -> Option<u32> {
     Some(images)
 }
 
-/// How many images there are, where all are right: that of the oldest versions, that of the newest, and those that differ in a block.
+/// The same, with the image of the oldest versions and that of the newest.
+fn of_some(alloc: Global, left: &Left, steps: u32) -> Option<u32> {
+    if !is_right(alloc, left.image(0, 0), steps) || !is_right(alloc, left.image(0, 64), steps) {
+        return None;
+    }
+    match of_each(alloc, left, steps) {
+        Some(images) => Some(images.saturating_add(2)),
+        None => None,
+    }
+}
+
+/// How many images were made, where all are right: all that a crash may leave, where there are at most 256; else that of the oldest versions,
+/// that of the newest, and those with the newest version of one block.
 pub fn images(alloc: Global, left: &Left, steps: u32) -> Option<u32> {
-    if is_right(alloc, left, 0, 0, steps) && is_right(alloc, left, 0, 64, steps) {
-        match of_each(alloc, left, steps) {
-            Some(images) => Some(images.saturating_add(2)),
-            None => None,
-        }
+    let choices = choices(left);
+    if choices <= 256 {
+        of_all(alloc, left, choices, steps)
     } else {
-        None
+        of_some(alloc, left, steps)
     }
 }

@@ -2,8 +2,8 @@
 //!
 //! The run makes a file, writes "hello", settles, does the same with a second file, removes that, and settles again. A disk in memory keeps all
 //! versions that a crash may leave, and a call that is listed to fail lands all the same: so a run that ends there leaves what a crash at that moment
-//! may leave. Of each moment these images are opened and checked: that of all oldest versions, that of all newest ones, and for each block that of
-//! its newest among the oldest of all others. Until it is settled a file may be absent or empty; from then on it has its bytes; and the second file is
+//! may leave. Of each moment all images are opened and checked, where there are at most 256: each choice of a version of each block. Else these: that
+//! of all oldest versions, that of all newest ones, and for each block that of its newest among the oldest of all others. Until it is settled a file may be absent or empty; from then on it has its bytes; and the second file is
 //! absent once its removal is settled.
 #![tactic(auto)]
 

@@ -66,11 +66,11 @@ fn moments(alloc: Global) -> Option<(u64, u32)> {
     None
 }
 
-/// Whether there are at least 30 moments, with an image of the oldest and one of the newest versions each, and 10 images more.
+/// Whether there are at least 30 moments, and 20 images more than moments.
 fn all_are_right(alloc: Global) -> bool {
     match moments(alloc) {
         Some((moments, images)) => {
-            30 <= moments && moments.saturating_mul(2).saturating_add(10) <= u64::from(images)
+            30 <= moments && moments.saturating_add(20) <= u64::from(images)
         }
         None => false,
     }

@@ -119,6 +119,30 @@ fn picked(disk: &MemDisk, from: u32, to: u32) -> Result<MemDisk, Memory>
     disk.image(&picks)
 }
 
+/// Picks the version of a block that a number says, and gives what is left of the number for the other blocks.
+fn pick_by(disk: &MemDisk, picks: &mut [u32], at: u32, number: u32) -> u32
+    requires old { Picks picks.old (holds_of disk.now) }
+    requires at { at < length disk.now.cells.items }
+    ensures new { Picks picks.new (holds_of disk.now) }
+{
+    let versions = disk.versions(at);
+    picks[at as usize] = number % versions;
+    number / versions
+}
+
+/// The disk with the versions that a number says: the choices are counted, those of the first blocks fastest.
+fn picked_by(disk: &MemDisk, number: u32) -> Result<MemDisk, Memory>
+    requires count { length disk.now.cells.items ≡ 64 }
+    ensures quiet { IfOk result (λ m. IsQuiet (holds_of m)) }
+{
+    let mut picks = [0; 64];
+    let mut left = number;
+    for at in 0..64 {
+        left = pick_by(disk, &mut picks, at, left);
+    }
+    disk.image(&picks)
+}
+
 /// The arena's device as it is, with one version of each block.
 fn copied(arena: &MemDisk) -> Result<MemDisk, Memory>
     requires { length arena.now.cells.items ≡ 16 }
@@ -134,6 +158,13 @@ impl Left {
         requires { at < 64 }
     {
         self.main.versions(at)
+    }
+
+    /// The disks as a crash may leave them: of all choices of a version of each block the one with this number.
+    pub fn choice(&self, number: u32) -> Result<Disks, Memory> {
+        let main = picked_by(&self.main, number)?;
+        let arena = copied(&self.arena)?;
+        Ok(Disks { main, arena })
     }
 
     /// The disks as a crash may leave them, with the oldest version of each block, but of those in this range the newest.

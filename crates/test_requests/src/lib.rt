@@ -10,6 +10,8 @@
 
 #[cfg(test)]
 mod ample;
+#[cfg(test)]
+mod calls;
 pub mod disks;
 #[cfg(test)]
 mod refusals;

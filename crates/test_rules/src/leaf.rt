@@ -44,3 +44,32 @@ fn broken(rt: HostRuntime) -> Result<(), Fail> {
     assert!(rt; count(rt.alloc(), &more)? == None);
     Ok(())
 }
+
+/// The leaf with another length in its record.
+fn of_length(size: u16) -> [u8; 8192]
+    ensures { length result ≡ 8192 }
+{
+    let mut block = leaf();
+    block[4..6].copy_from_slice(&size.to_be_bytes());
+    block
+}
+
+/// The first of these lengths with which a record is read.
+fn first_read(alloc: Global, from: u16, to: u16) -> Result<Option<u16>, AllocError> {
+    for size in from..to {
+        if count(alloc, &of_length(size))?.is_some() {
+            return Ok(Some(size));
+        }
+    }
+    Ok(None)
+}
+
+/// Each length of a record but the right one, 44.
+#[test]
+fn lengths(rt: HostRuntime) -> Result<(), Fail> {
+    assert!(rt; first_read(rt.alloc(), 0, 44)? == None);
+    assert!(rt; first_read(rt.alloc(), 44, 45)? == Some(44));
+    assert!(rt; first_read(rt.alloc(), 45, u16::MAX)? == None);
+    assert!(rt; count(rt.alloc(), &of_length(u16::MAX))? == None);
+    Ok(())
+}

@@ -2,7 +2,7 @@
 
 use crate::disks::{Disks, formatted};
 use crate::kept::sound;
-use crate::stored::{Failure, Stored, Turns, held};
+use crate::stored::{Failure, Stored, Turns, held, where_said};
 use std::alloc::Global;
 use std::test::Fail;
 use test_conversations::left::{EMPTY, HELLO, SHORT};
@@ -25,18 +25,25 @@ const NEXT: &[Row] = &[
     ),
 ];
 
-/// The system on these disks, once each message was replied to, and left the files settled or not.
-fn marked(alloc: Global, disks: Disks, marks: &[Mark]) -> Result<Stored, Failure> {
+/// The disks without an end, once each message was replied to, and left the files settled or not.
+fn closed(alloc: Global, disks: Disks, marks: &[Mark]) -> Result<Disks, Failure> {
     let mut stored = Stored::open(alloc, disks, Turns::Never)?;
     let said = settles(alloc, &mut stored, marks);
-    stored.where_said(said)
+    where_said(said, stored.close())
+}
+
+/// The same with an end.
+fn finished(alloc: Global, disks: Disks, marks: &[Mark]) -> Result<Disks, Failure> {
+    let mut stored = Stored::open(alloc, disks, Turns::Never)?;
+    let said = settles(alloc, &mut stored, marks);
+    where_said(said, stored.finish())
 }
 
 /// What is found where the system has no end once so many messages were replied to, of which the last settled all: so many blocks are used.
 fn stays(alloc: Global, count: usize, used: u32, parts: &[Part]) -> Result<(), Failure> {
     let disks = formatted(alloc, 0)?;
-    let stored = marked(alloc, disks, MARKS.get(..count).unwrap_or(MARKS))?;
-    let disks = sound(alloc, stored.close()?, used)?;
+    let disks = closed(alloc, disks, MARKS.get(..count).unwrap_or(MARKS))?;
+    let disks = sound(alloc, disks, used)?;
     held(alloc, disks, Turns::Never, parts)?;
     Ok(())
 }
@@ -51,8 +58,8 @@ fn settled(rt: HostRuntime) -> Result<(), Fail> {
 
 /// All is settled by an end.
 fn ends(alloc: Global) -> Result<(), Failure> {
-    let stored = marked(alloc, formatted(alloc, 0)?, MARKS)?;
-    let disks = sound(alloc, stored.finish()?, 4)?;
+    let disks = finished(alloc, formatted(alloc, 0)?, MARKS)?;
+    let disks = sound(alloc, disks, 4)?;
     held(alloc, disks, Turns::Never, &[Part::Says(SHORT)])?;
     Ok(())
 }

@@ -158,14 +158,6 @@ impl Stored {
         let (main, arena) = state.close();
         quiet(main, arena)
     }
-
-    /// The system, where all was said as it stands.
-    pub fn where_said(self, said: Result<(), Wrong>) -> Result<Stored, Failure> {
-        match said {
-            Ok(()) => Ok(self),
-            Err(wrong) => Err(Failure::Talk(wrong)),
-        }
-    }
 }
 
 impl Server for Stored {
@@ -199,6 +191,17 @@ impl Settling for Stored {
     }
 }
 
+/// These disks, where all was said as it stands.
+pub fn where_said(
+    said: Result<(), Wrong>,
+    disks: Result<Disks, Failure>,
+) -> Result<Disks, Failure> {
+    match said {
+        Ok(()) => disks,
+        Err(wrong) => Err(Failure::Talk(wrong)),
+    }
+}
+
 /// The disks after a conversation with the system on these.
 pub fn held(alloc: Global, disks: Disks, turns: Turns, parts: &[Part]) -> Result<Disks, Failure> {
     let mut stored = Stored::open(alloc, disks, turns)?;
@@ -206,5 +209,5 @@ pub fn held(alloc: Global, disks: Disks, turns: Turns, parts: &[Part]) -> Result
     if turns == Turns::Between {
         stored.rest_wholly();
     }
-    stored.where_said(said)?.finish()
+    where_said(said, stored.finish())
 }

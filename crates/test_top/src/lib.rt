@@ -8,6 +8,8 @@
 #[cfg(test)]
 mod disks;
 #[cfg(test)]
+mod faults;
+#[cfg(test)]
 mod images;
 #[cfg(test)]
 mod kept;

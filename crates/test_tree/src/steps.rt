@@ -4,6 +4,7 @@ ghost use Rattle.fo_image.specs.declared.types.Pointer.{Pointer};
 ghost use Rattle.fo_tree_lift.specs.Owns.{with_leaf};
 ghost use Rattle.test_tree.specs.Rig.{Stands, Rig, IsNew, data_tree};
 
+use fo_base::BLOCK;
 use fo_image::{Pointer, least_depth};
 use fo_ports::{BlockError, Blocks};
 use fo_tree_grown::own_leaf;
@@ -136,6 +137,21 @@ pub fn has<B: Blocks>(ways: &Ways, on: &mut B, rows: &[(u64, u8)]) -> Result<boo
         }
     }
     Ok(true)
+}
+
+/// Whether leaf `i` of the source has these bytes; behind its end zeros are wanted.
+pub fn has_leaf<B: Blocks>(
+    ways: &Ways,
+    on: &mut B,
+    i: u32,
+    wanted: &[u8; BLOCK],
+) -> Result<bool, BlockError>
+    requires stands { Stands (B.state on.old) ways.now }
+    ensures { Stands (B.state on.new) ways.now }
+{
+    let mut into = [0; BLOCK];
+    ways.read(on, u64::from(i) * BLOCK as u64, &mut into)?;
+    Ok(into == *wanted)
 }
 
 /// A byte of the source is overwritten, of which the way is prepared first.

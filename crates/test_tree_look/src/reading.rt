@@ -8,7 +8,7 @@ use fo_tree_read::Tree;
 use std::test::Fail;
 
 /// A source of data under a score.
-fn held_tree(score: Score, depth: u8, size: u64) -> Tree
+pub fn held_tree(score: Score, depth: u8, size: u64) -> Tree
     ensures { result ≡ record { dir = false; tag = 40; rank = 2112; depth = depth; size = size; top = Held score } }
 {
     Tree {
@@ -48,7 +48,7 @@ fn pointers(rt: HostRuntime) -> Result<(), Fail> {
 }
 
 /// A block whose first pointer is a score.
-fn first_pointer() -> [u8; 8192]
+pub fn first_pointer() -> [u8; 8192]
     ensures { length result ≡ 8192 }
 {
     let mut block = [0; 8192];

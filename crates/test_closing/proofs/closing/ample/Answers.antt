@@ -9,6 +9,7 @@ invariant_of-mind g c =
       spelled = m.spelled;
       labelled = m.labelled;
       holding = m.holding;
+      changing = m.changing;
       waiting = m.waiting;
       clearable = m.clearable;
       standing = m.standing;

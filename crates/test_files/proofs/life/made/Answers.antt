@@ -1,5 +1,9 @@
+use Rattle.std.proofs.Common.{◌≡◌, Bool, true, false, sym, ◌∙◌, arith}
 use Rattle.fo_files_dir.proofs.Dirs.{pair_keeps}
 use Rattle.test_files.proofs.life.made.Goals as goal
+
+true_false : (b : Bool) → b ≡ true → b ≡ false → ⊥
+true_false b e f = let h : true ≡ false = sym e ∙ f in cc
 
 pub returns-in-Ok-ready_leaf-clause-dir : goal.returns-in-Ok-ready_leaf-clause-dir
 returns-in-Ok-ready_leaf-clause-dir g c =
@@ -28,3 +32,11 @@ returns-in-Err-ready_leaf-clause-dir g c =
       least = is.least;
       most = is.most;
     }
+
+pub ready_leaf-requires-clause-wanted : goal.ready_leaf-requires-clause-wanted
+ready_leaf-requires-clause-wanted g c =
+    let is = c.entries.ensures in
+    let rank = is.2 in
+    let limit = is.3 in
+    let dir = c.requires.dir.1 in
+    record { low = (omega (arith, rank, dir), omega (arith, limit)); records = λ no_dir. absurd (true_false c.entries.result.is_dir is.4 no_dir) }
