@@ -32,7 +32,6 @@ use Rattle.fo_good.specs.Sound.{Kept}
 use Rattle.fo_check_tree.specs.Slots.{HasSlot, HasSlots}
 use Rattle.fo_check_tree.specs.Slots.HasSlot.{entry, other}
 use Rattle.fo_check_tree.specs.Answer.{HoldsAny, IsShallow}
-use Rattle.fo_check_image.specs.Answer.{AreBytes}
 use Rattle.fo_check_image.proofs.Deciding.{Either, IsShort, short}
 
 -- ---- the kind that a label says
@@ -271,8 +270,12 @@ holds_by device s root active others = record {
         let is : label.kind ≡ Root = sym (label_says device at label has) ∙ ap (label_kind device) here ∙ label_says device s.active (root_label s) active.label in
         subst (λ (k : Kind). HasSlots k (reading device s root at) (block_of device at)) (sym is) tt
 
+-- The blocks of an image hold bytes: numbers below 256.
+pub record HoldsBytes (image : List Block) : Type 0 where
+  pub each : (at i : ℕ) → get_or (block_of image at) i 0 < 256
+
 -- It has where blocks have 8192 bytes.
-pub holds_any : (device : List Block) (s : Super) (root : RootBlock) → HasActiveRoot device s root → AreBytes device → ((at : ℕ) → at < length device → length (block_of device at) ≡ 8192)
+pub holds_any : (device : List Block) (s : Super) (root : RootBlock) → HasActiveRoot device s root → HoldsBytes device → ((at : ℕ) → at < length device → length (block_of device at) ≡ 8192)
     → HoldsAny empty device (reading device s root) s (kept device s root)
 unfolding image
 holds_any device s root active bytes whole = holds_by device s root active (λ path at label leads place has elsewhere.

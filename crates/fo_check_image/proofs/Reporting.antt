@@ -1,11 +1,11 @@
 -- What is answered of a tree that was checked.
-use Rattle.std.proofs.Common.{◌≡◌, ◌⊎◌, ⊎_elim, inl, inr, ℕ, ◌+◌, ◌<◌, ◌≤◌, true, List, [], ◌∷◌, length, Option, None, Some, MatchOption, MatchResult, refl, sym, ◌∙◌, ap, subst, arith}
+use Rattle.std.proofs.Common.{◌≡◌, ◌⊎◌, ⊎_elim, inl, inr, ℕ, ◌+◌, ◌<◌, ◌≤◌, true, List, [], ◌∷◌, length, get_or, Option, None, Some, MatchOption, MatchResult, refl, sym, ◌∙◌, ap, subst, arith}
 use Rattle.std.specs.Prelude.{IfErr, IfOk}
 use Rattle.std.specs.List.{Contains}
-use Rattle.std.proofs.lemmas.Bool.{cases_eq}
-use Rattle.std.proofs.lemmas.List.{length-map}
+use Rattle.std.proofs.lemmas.Bool.{cases_eq, cases_lt}
+use Rattle.std.proofs.lemmas.List.{length-map, get_or_past}
 use Rattle.fo_base.specs.Cause.{Rose}
-use Rattle.fo_disk.specs.Disk.{Block, Content, DiskState, IsContent, versions_of}
+use Rattle.fo_disk.specs.Disk.{Block, Content, DiskState, IsContent, versions_of, AreBytes}
 use Rattle.fo_disk.proofs.Quiet.{settled-is_image}
 use Rattle.fo_sound.specs.Device.{Shows}
 use Rattle.fo_sound.specs.Image.{block_of}
@@ -24,11 +24,11 @@ use Rattle.fo_check_tree.specs.declared.tree.Found.{Found}
 use Rattle.fo_check_tree.specs.Lower.{IsRule, level}
 use Rattle.fo_check_tree.specs.Answer.{HoldsAny, IsWalked, IsNamed, RefusesCheck}
 use Rattle.fo_check_image.specs.declared.report.Report.{Report}
-use Rattle.fo_check_image.specs.Answer.{AreBytes, Reports, BreaksRule, BreaksTree, Refuses}
+use Rattle.fo_check_image.specs.Answer.{Reports, BreaksRule, BreaksTree, Refuses}
 use Rattle.fo_check_image.specs.Answer.BreaksRule.{table, labels, formats, pairs, once, numbers, scores}
 use Rattle.fo_check_image.specs.Answer.IsUnsound.{before as by_opening, tree as by_tree}
 use Rattle.fo_check_image.specs.Stage.{refusal_of, report_of, IsOfTree, RefusesTree, HasSoundTree}
-use Rattle.fo_check_image.proofs.Reading.{reading, empty, holds_any, super_here}
+use Rattle.fo_check_image.proofs.Reading.{HoldsBytes, reading, empty, holds_any, super_here}
 
 -- a device that did not change shows what it did
 pub shown_on : {old new : DiskState} {image : List Block} → new ≡ old → Shows old.holds image → Shows new.holds image
@@ -44,6 +44,18 @@ whole size holds image (inr content) shows at lt =
     let told : length holds ≡ length image = ap length shows.quiet ∙ length-map image (λ (b : Block). b ∷ []) in
     let has = (settled-is_image image).each at (omega (arith, lt, length-map image (λ (b : Block). b ∷ []))) in
     content.whole at (block_of image at) (omega (arith, lt, told, content.count)) (subst (λ (c : Content). Contains (versions_of c at) (block_of image at)) (sym shows.quiet) has)
+
+-- Blocks of a device that tells hold bytes.
+pub hold_bytes : (holds : Content) (image : List Block) → AreBytes holds → Shows holds image → HoldsBytes image
+hold_bytes holds image small shows = record { each = each }
+  where
+    each : (at i : ℕ) → get_or (block_of image at) i 0 < 256
+    each at i = ⊎_elim
+        (λ lt.
+        let has = (settled-is_image image).each at (omega (arith, lt, length-map image (λ (b : Block). b ∷ []))) in
+        small.each at (block_of image at) i (subst (λ (c : Content). Contains (versions_of c at) (block_of image at)) (sym shows.quiet) has))
+        (λ le. rw (get_or_past image at [] le) (omega arith))
+        (cases_lt at (length image))
 
 -- ---- refusals
 
@@ -72,12 +84,12 @@ report_blames blocks used leaked before now (Some b) = tt
 
 -- ---- reports
 
-module _ (image vault : List Block) (o : Opening) (opens : Opens image vault o) (whole_blocks : (at : ℕ) → at < length image → length (block_of image at) ≡ 8192) where
+module _ (image vault : List Block) (o : Opening) (opens : Opens image vault o) (whole_blocks : (at : ℕ) → at < length image → length (block_of image at) ≡ 8192) (bytes : HoldsBytes image) where
   abbrev pub k : Kept
   k = record { at = o.s.active; root = o.root }
 
-  pub read_any : AreBytes image → HoldsAny empty image (reading image o.s o.root) o.s (record { at = o.s.active; root = o.root })
-  read_any bytes = holds_any image o.s o.root opens.active bytes whole_blocks
+  pub read_any : HoldsAny empty image (reading image o.s o.root) o.s (record { at = o.s.active; root = o.root })
+  read_any = holds_any image o.s o.root opens.active bytes whole_blocks
 
   module _ (holds : HoldsAny empty image (reading image o.s o.root) o.s (record { at = o.s.active; root = o.root })) where
     broken_at : (found : Found) (b : Broken) → found.broken ≡ Some b → HasTable image → IsWalked empty image (reading image o.s o.root) o.s (record { at = o.s.active; root = o.root }) found → BreaksTree image o.s o.root b.rule b.block
@@ -151,18 +163,18 @@ module _ (image vault : List Block) (o : Opening) (opens : Opens image vault o) 
 
   pub found_answers : (found : Found) (b : Option Broken) → found.broken ≡ b → HasTable image
       → (HoldsAny empty image (reading image o.s o.root) o.s (record { at = o.s.active; root = o.root }) → IsWalked empty image (reading image o.s o.root) o.s (record { at = o.s.active; root = o.root }) found)
-      → MatchResult (report_of o.blocks found.used found.leaked b) (λ r. AreBytes image → Reports image vault r) (RefusesTree image o)
-  found_answers found None is whole_table walked = λ bytes. reported (read_any bytes) found is whole_table (walked (read_any bytes))
-  found_answers found (Some b) is whole_table walked = λ bytes. broken_at (read_any bytes) found b is whole_table (walked (read_any bytes))
+      → MatchResult (report_of o.blocks found.used found.leaked b) (Reports image vault) (RefusesTree image o)
+  found_answers found None is whole_table walked = reported read_any found is whole_table (walked read_any)
+  found_answers found (Some b) is whole_table walked = broken_at read_any found b is whole_table (walked read_any)
 
   pub refusal_answers : (e : TreeError)
       → (HoldsAny empty image (reading image o.s o.root) o.s (record { at = o.s.active; root = o.root }) → RefusesCheck empty image (reading image o.s o.root) (record { at = o.s.active; root = o.root }) e)
       → RefusesTree image o (refusal_of e)
-  refusal_answers (tree.Label block) why = λ bytes. record {
+  refusal_answers (tree.Label block) why = record {
     arena = empty;
     reading = reading image o.s o.root;
-    holds = read_any bytes;
-    breaks = ⊎_elim (λ t. table refl t) (λ l. labels refl l) (why (read_any bytes));
+    holds = read_any;
+    breaks = ⊎_elim (λ t. table refl t) (λ l. labels refl l) (why read_any);
     below = record {
       table = λ lt. absurd (omega (arith, lt));
       labels = λ lt. absurd (omega (arith, lt));

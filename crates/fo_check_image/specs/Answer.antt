@@ -1,12 +1,11 @@
 -- What the check answers over the images of the two devices.
-use Rattle.std.specs.Prelude.{◌≡◌, ℕ, ◌/◌, ◌<◌, ◌≤◌, true, List, [], ◌∷◌, ◌++◌, slice_index_or}
+use Rattle.std.specs.Prelude.{◌≡◌, ℕ, ◌/◌, ◌<◌, ◌≤◌, true, List, [], ◌∷◌, ◌++◌}
 use Rattle.fo_disk.specs.Disk.{Block}
 use Rattle.fo_image.specs.declared.types.Super.{Super}
 use Rattle.fo_image.specs.declared.record.RootBlock.{RootBlock}
 use Rattle.fo_image.specs.declared.types.Kind.TheVariants.{Data}
 use Rattle.fo_image.specs.declared.record.Record.{Record}
 use Rattle.fo_crash.specs.Images.{Image, Arena, Link, from_block}
-use Rattle.fo_sound.specs.Image.{block_of}
 use Rattle.fo_sound.specs.Sizes.{HasSizes}
 use Rattle.fo_sound.specs.Sound.{HasTable, HasRootEntries}
 use Rattle.fo_good.specs.Means.{Means}
@@ -21,10 +20,6 @@ use Rattle.fo_check.specs.declared.opening.Opening.{Opening}
 use Rattle.fo_check_labels.specs.Table.{BreaksTable}
 use Rattle.fo_check_tree.specs.Answer.{HoldsAny, IsAlone, IsClear, IsOwnDir, StandsAlone, HasOwnNames, HasOwnSlots, AreRecordsOf, BreaksLabels, BreaksFormats, BreaksPairs, BreaksOnce, BreaksNumbers, BreaksScores}
 use Rattle.fo_check_image.specs.declared.report.Report.{Report}
-
--- Blocks hold bytes: numbers below 256.
-pub record AreBytes (image : List Block) : Type 0 where
-  pub each : (at i : ℕ) → slice_index_or (block_of image at) i 0 < 256
 
 -- ---- a report
 
@@ -82,7 +77,7 @@ pub record BreaksTree (device : List Block) (s : Super) (root : RootBlock) (rule
 -- The lowest rule that is broken, and a block at which it is broken.
 pub data IsUnsound (image vault : List Block) (rule block : ℕ) : Type 0 where
   before : IsUnsoundBefore image vault rule block → IsUnsound image vault rule block
-  tree : (o : Opening) → Opens image vault o → 4 ≤ rule → rule ≤ 9 → (AreBytes image → BreaksTree image o.s o.root rule block) → IsUnsound image vault rule block
+  tree : (o : Opening) → Opens image vault o → 4 ≤ rule → rule ≤ 9 → BreaksTree image o.s o.root rule block → IsUnsound image vault rule block
 
 -- Why there is no report. Of faults it is said elsewhere that they come only where that device's count rose.
 abbrev pub Refuses : List Block → List Block → CheckError → Type 0

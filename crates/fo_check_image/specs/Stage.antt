@@ -15,7 +15,7 @@ use Rattle.fo_check_tree.specs.declared.broken.Broken.{Broken}
 use Rattle.fo_check_labels.specs.declared.error.TreeError.{TreeError}
 use Rattle.fo_check_labels.specs.declared.error.TreeError.TheVariants as tree
 use Rattle.fo_check_image.specs.declared.report.Report.{Report}
-use Rattle.fo_check_image.specs.Answer.{AreBytes, BreaksTree}
+use Rattle.fo_check_image.specs.Answer.{BreaksTree}
 
 -- why there is no report, where a tree was not checked to its end
 abbrev pub refusal_of : TreeError → CheckError
@@ -40,7 +40,7 @@ IsOfTree error.Memory = Unit {0}
 
 -- The rule is broken in the tree.
 abbrev pub RefusesTree : List Block → Opening → CheckError → Type 0
-RefusesTree image o (error.Unsound rule block) = AreBytes image → BreaksTree image o.s o.root rule block
+RefusesTree image o (error.Unsound rule block) = BreaksTree image o.s o.root rule block
 RefusesTree image o _ = Unit {0}
 
 -- The table and the tree of the active root are sound, as the device is read somehow.

@@ -7,7 +7,7 @@ ghost use Rattle.fo_sound.specs.Device.{Shows};
 ghost use Rattle.fo_sound.specs.Fresh.{IsFresh};
 ghost use Rattle.fo_check.specs.Answer.{Opens, IsOutside, KnowsSizes, AsksSizes};
 ghost use Rattle.fo_check.specs.Device.{HasCauses};
-ghost use Rattle.fo_check_image.specs.Answer.{AreBytes, Reports, Refuses};
+ghost use Rattle.fo_check_image.specs.Answer.{Reports, Refuses};
 ghost use Rattle.fo_check_image.specs.declared.report.Report.{Report};
 ghost use Rattle.fo_check_image.specs.Stage.{refusal_of, report_of, IsOfTree, RefusesTree, HasSoundTree, IsBare};
 
@@ -55,7 +55,7 @@ fn check_opened<D: Disk>(
     requires size { D.size main.old ≡ opening.now.blocks }
     requires range { IsMainSize opening.now.blocks }
     ensures answer { (image vault : List Block) → Shows (D.state main.old).holds image → Opens image vault opening.now
-        → MatchResult result (λ r. AreBytes image → Reports image vault r) (RefusesTree image opening.now) }
+        → MatchResult result (Reports image vault) (RefusesTree image opening.now) }
     ensures only { (image vault : List Block) → Shows (D.state main.old).holds image → Opens image vault opening.now → HasSoundTree image opening.now → IfErr result IsOutside }
     ensures bare { (image vault : List Block) → Shows (D.state main.old).holds image → Opens image vault opening.now → IsBare image opening.now
         → IfOk result (λ r. r ≡ record { blocks = opening.now.blocks; used = 1; leaked = 0; snapshots = 0 }) }
@@ -90,7 +90,7 @@ pub fn check<D: Disk, A: Disk>(
 ) -> Result<Report, CheckError>
     // Over quiet devices that tell what they hold: a report says that the image is sound, with its numbers, and a refusal why it isn't.
     ensures answer { (image vault : List Block) → Shows (D.state main.old).holds image → Shows (A.state arena.old).holds vault
-        → MatchResult result (λ r. AreBytes image → Reports image vault r) (Refuses image vault) }
+        → MatchResult result (Reports image vault) (Refuses image vault) }
 
     // A sound image with no root before the active one and no archive is refused for a fault or want of memory alone.
     ensures only { (image vault : List Block) (report : Report) → Shows (D.state main.old).holds image → Shows (A.state arena.old).holds vault

@@ -10,8 +10,7 @@
 //! times and once for each of its blocks, for a report five times and once for each block of the label table and each used block**, and
 //! the arena twice.
 //!
-//! What is said of trees is said of blocks of bytes. Where a block is at two places, S5 and S6 are asked of records in blocks at one place,
-//! with names that lead there by such blocks. **Not proved**: anything of what a device holds that tells nothing, as a file.
+//! Where a block is at two places, S5 and S6 are asked of records in blocks at one place, with names that lead there by such blocks. **Not proved**: anything of what a device holds that tells nothing, as a file.
 #![tactic(auto)]
 
 mod checker;

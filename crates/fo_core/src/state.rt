@@ -69,7 +69,7 @@ impl<D: Disk, A: Disk> State<D, A> {
     ghost use Rattle.fo_ports.specs.State.{IsClosing};
     ghost use Rattle.fo_cache.specs.Work.{AtMost, calls_left};
     ghost use Rattle.fo_check.specs.Answer.{Blames, IsOutside};
-    ghost use Rattle.fo_check_image.specs.Answer.{AreBytes, Reports, Refuses};
+    ghost use Rattle.fo_check_image.specs.Answer.{Reports, Refuses};
     ghost use Rattle.fo_check_image.specs.declared.report.Report.{Report};
     ghost use Rattle.fo_events.specs.Row.{MayHappen};
     ghost use Rattle.fo_core.specs.Moment.{Moment, blocks, cache, counts};
@@ -84,8 +84,8 @@ impl<D: Disk, A: Disk> State<D, A> {
         requires quiet { (b : ℕ) → b < length (D.state main).holds → IsSettled (D.state main).holds b }
         ensures opened { IfOk result (λ s. IsOpened (D.state main) (A.state arena) (⟦<State<D, A> as Stands>⟧.moment s)) }
 
-        // Over quiet devices that tell bytes: what is opened is sound, and a refusal says why it isn't, or is a fault or want of memory.
-        ensures answer { (image vault : List Block) → Shows (D.state main).holds image → Shows (A.state arena).holds vault → AreBytes image
+        // Over quiet devices that tell: what is opened is sound, and a refusal says why it isn't, or is a fault or want of memory.
+        ensures answer { (image vault : List Block) → Shows (D.state main).holds image → Shows (A.state arena).holds vault
             → MatchResult result (λ _. (report : Report) × Reports image vault report) (λ r. Refuses image vault r.why) }
         ensures only { (image vault : List Block) (report : Report) → Shows (D.state main).holds image → Shows (A.state arena).holds vault
             → Reports image vault report → IfErr result (λ r. IsOutside r.why) }

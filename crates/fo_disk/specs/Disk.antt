@@ -54,6 +54,10 @@ pub record IsContent (blocks : ℕ) (content : Content) : Type 0 where
   pub some : (k : ℕ) → k < blocks → 0 < length (versions_of content k)
   pub whole : (k : ℕ) (b : Block) → k < blocks → Contains (versions_of content k) b → length b ≡ 8192
 
+-- All versions hold bytes: numbers below 256.
+pub record AreBytes (content : Content) : Type 0 where
+  pub each : (at : ℕ) (b : Block) (i : ℕ) → Contains (versions_of content at) b → slice_index_or b i 0 < 256
+
 -- The newest moment, where moments are told, is what the disk holds now.
 pub record IsNewest (blocks : ℕ) (now : Content) (moments : List Content) : Type 0 where
   pub newest : AtNewest (λ content. (content ≡ now) × IsContent blocks content) moments

@@ -1,9 +1,9 @@
 -- What a disk that settles at once holds.
 use Rattle.std.specs.Prelude.{Bool, false, ℕ, List, [], ◌∷◌, map, length, ◌≡◌, ◌<◌}
-use Rattle.std.proofs.Common.{zero, suc, ap, sym, ◌∙◌, arith}
+use Rattle.std.proofs.Common.{zero, suc, get_or, ap, sym, ◌∙◌, arith}
 use Rattle.std.proofs.lemmas.List.{length-map}
 use Rattle.std.specs.List.{Contains}
-use Rattle.fo_disk.specs.Disk.{Block, Versions, Content, DiskState, IsContent, versions_of}
+use Rattle.fo_disk.specs.Disk.{Block, Versions, Content, DiskState, AreBytes, IsContent, versions_of}
 use Rattle.fo_disk.specs.declared.memory.Version.{Version}
 use Rattle.fo_disk.specs.declared.sure.SureDisk.{SureDisk}
 
@@ -33,6 +33,15 @@ sure_content d = record {
   some = λ k lt. some d.blocks.items k lt;
   whole = λ k b lt has. whole d.blocks.items k b lt has;
 }
+
+small : (vs : List Version) (k : ℕ) (b : Block) (i : ℕ) → Contains (versions_of (map alone vs) k) b → get_or b i 0 < 256
+small [] k b i has = absurd (omega (arith, has.1))
+small (v ∷ vs) zero b i (zero, within, is) = let e = ap (λ (x : Block). get_or x i 0) is in let lt = v.small i in omega (arith, e, lt)
+small (v ∷ vs) zero b i (suc j, within, is) = absurd (omega arith)
+small (v ∷ vs) (suc k) b i has = small vs k b i has
+
+pub sure_bytes : (d : SureDisk) → AreBytes (sure_holds d)
+sure_bytes d = record { each = λ at b i has. small d.blocks.items at b i has }
 
 abbrev pub no_flag : Version → Bool
 no_flag v = false

@@ -2,7 +2,7 @@
 ghost use Rattle.std.specs.Prelude.{◌≡◌, ◌⊎◌, ◌<◌, ◌≤◌, [], ℕ, length, OnOk, OnErr, MatchResult};
 ghost use Rattle.std.specs.List.{Contains};
 ghost use Rattle.fo_base.specs.Cause.{HasCause, Counted, Rose};
-ghost use Rattle.fo_disk.specs.Disk.{DiskState, versions_of, IsContent, IsNewest, IsWrite, IsSync};
+ghost use Rattle.fo_disk.specs.Disk.{DiskState, versions_of, AreBytes, IsContent, IsNewest, IsWrite, IsSync};
 
 use thiserror::Error;
 
@@ -80,6 +80,9 @@ pub trait Disk {
 
     /// A disk that tells what it holds has a version of each block, and all versions are whole blocks.
     ghost is_content: { (disk : Self) → ((state disk).holds ≡ []) ⊎ IsContent (size disk) (state disk).holds };
+
+    /// All versions that it tells hold bytes.
+    ghost are_bytes: { (disk : Self) → AreBytes (state disk).holds };
 
     /// The newest moment is what it holds.
     ghost is_newest: { (disk : Self) → IsNewest (size disk) (state disk).holds (state disk).moments };

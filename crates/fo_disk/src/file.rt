@@ -1,7 +1,7 @@
 //! A disk in a file of the system, of which nothing is known.
 ghost use Rattle.std.specs.Prelude.{◌≡◌, ◌<◌, ◌≤◌, ◌-◌, length, OnErr, IfOk};
 ghost use Rattle.std.proofs.Common.{inl, refl};
-ghost use Rattle.fo_disk.specs.File.{found, silent};
+ghost use Rattle.fo_disk.specs.File.{found, silent, silent_bytes};
 
 use crate::disk::{count_call, count_fault};
 use crate::{BLOCK, Disk, Failed};
@@ -49,6 +49,8 @@ impl<R: Files> Disk for FileDisk<R> {
     ghost faults = { λ d. d.faults };
 
     ghost is_content = { λ d. inl refl };
+
+    ghost are_bytes = { λ d. silent_bytes };
 
     ghost is_newest = { λ d. record { newest = tt } };
 

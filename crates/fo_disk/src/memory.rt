@@ -1,5 +1,5 @@
 //! A disk in memory. It keeps every version, and from which one on a crash may leave them, and a record of its calls.
-ghost use Rattle.std.specs.Prelude.{◌≡◌, ◌<◌, ◌^◌, length};
+ghost use Rattle.std.specs.Prelude.{◌≡◌, ◌<◌, ◌^◌, ℕ, length, slice_index_or};
 
 use std::alloc::Global;
 
@@ -8,6 +8,7 @@ use std::alloc::Global;
 pub(crate) struct Version {
     pub(crate) bytes: Vec<u8>,
     ghost whole: { length bytes.items ≡ 8192 },
+    ghost small: { (i : ℕ) → slice_index_or bytes.items i 0 < 256 },
 }
 
 /// All versions that a block has had, of which a crash may leave those from this one on.

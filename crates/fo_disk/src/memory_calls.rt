@@ -6,7 +6,7 @@ ghost use Rattle.fo_base.specs.Cause.{HasCause, Counted, Rose};
 ghost use Rattle.fo_disk.specs.Disk.{versions_of, latest_of, settled, IsImage, IsWrite, IsSync};
 ghost use Rattle.fo_disk.specs.Memory.{bytes_of, cell_of, cells_of, content_of, holds_of, moments_of, unsure_of, state_of, is_listed, lists, with_version, settled_cell, Lands, picked, SettledFrom, versions_in};
 ghost use Rattle.fo_disk.specs.declared.memory.Change.TheVariants.{Wrote, Settled};
-ghost use Rattle.fo_disk.specs.MemoryLaws.{is_content, has_flags};
+ghost use Rattle.fo_disk.specs.MemoryLaws.{is_content, are_bytes, has_flags};
 
 use crate::disk::{count_call, count_fault};
 use crate::memory::{Cell, Change, MemDisk, Version};
@@ -107,6 +107,8 @@ impl Disk for MemDisk {
     ghost faults = { λ m. m.faults };
 
     ghost is_content = { λ m. inr (is_content m) };
+
+    ghost are_bytes = { are_bytes };
 
     ghost is_newest = { λ m. record { newest = (refl, is_content m) } };
 

@@ -3,7 +3,7 @@ ghost use Rattle.std.specs.Prelude.{◌≡◌, ◌<◌, ◌∷◌, List, length,
 ghost use Rattle.std.proofs.Common.{inr};
 ghost use Rattle.fo_disk.specs.Disk.{settled};
 ghost use Rattle.fo_disk.specs.Memory.{bytes_of};
-ghost use Rattle.fo_disk.specs.Sure.{sure_holds, sure_state, sure_content, has_flags};
+ghost use Rattle.fo_disk.specs.Sure.{sure_holds, sure_state, sure_content, sure_bytes, has_flags};
 
 use crate::disk::count_call;
 use crate::memory::Version;
@@ -41,6 +41,8 @@ impl Disk for SureDisk {
     ghost faults = { λ d. 0 };
 
     ghost is_content = { λ d. inr (sure_content d) };
+
+    ghost are_bytes = { sure_bytes };
 
     ghost is_newest = { λ d. record { newest = tt } };
 

@@ -7,7 +7,7 @@ ghost use Rattle.fo_sound.specs.Device.{Shows};
 ghost use Rattle.fo_sound.specs.Sizes.{IsMainSize};
 ghost use Rattle.fo_check.specs.Answer.{Blames, IsOutside};
 ghost use Rattle.fo_check.specs.declared.error.CheckError.TheVariants.{Size as BadSize, Memory as Wanting};
-ghost use Rattle.fo_check_image.specs.Answer.{AreBytes, Reports, Refuses};
+ghost use Rattle.fo_check_image.specs.Answer.{Reports, Refuses};
 ghost use Rattle.fo_check_image.specs.declared.report.Report.{Report};
 ghost use Rattle.fo_mind.specs.MindParts.{parts};
 ghost use Rattle.fo_devices.specs.Seen.{seen};
@@ -122,8 +122,8 @@ pub fn open_devices<D: Disk, A: Disk>(
     requires quiet { (b : ℕ) → b < length (D.state main).holds → IsSettled (D.state main).holds b }
     ensures opened { IfOk result (λ d. Begins (D.state main) (A.state arena) (D.state d.cache.main) (seen (parts d.cache.mind (D.state d.cache.main).holds (D.faults d.cache.main)) (D.size d.cache.main) d.arena.shelf (A.state d.arena.device) (A.faults d.arena.device))) }
 
-    // Over quiet devices that tell bytes: what is opened is sound, and a refusal says why it isn't, or is a fault or want of memory.
-    ensures answer { (image vault : List Block) → Shows (D.state main).holds image → Shows (A.state arena).holds vault → AreBytes image
+    // Over quiet devices that tell: what is opened is sound, and a refusal says why it isn't, or is a fault or want of memory.
+    ensures answer { (image vault : List Block) → Shows (D.state main).holds image → Shows (A.state arena).holds vault
         → MatchResult result (λ _. (report : Report) × Reports image vault report) (λ r. Refuses image vault r.why) }
     ensures only { (image vault : List Block) (report : Report) → Shows (D.state main).holds image → Shows (A.state arena).holds vault
         → Reports image vault report → IfErr result (λ r. IsOutside r.why) }

@@ -2,7 +2,7 @@
 ghost use Rattle.std.specs.Prelude.{◌≡◌, List};
 ghost use Rattle.fo_disk.specs.Disk.{Block};
 ghost use Rattle.fo_sound.specs.Device.{Shows};
-ghost use Rattle.fo_check_image.specs.Answer.{AreBytes, Reports};
+ghost use Rattle.fo_check_image.specs.Answer.{Reports};
 ghost use Rattle.fo_check_image.specs.declared.report.Report.{Report};
 ghost use Rattle.fo_tools.specs.Ending.{HasCauses, PrintsFormat, EndsFormat, WritesNothing, PrintsReport, EndsCheck, MayMiss, MayEndFormat, MayEndCheck, AsksSizes};
 
@@ -63,7 +63,7 @@ pub fn flchk<D: Disk, A: Disk, K: Sink>(
 ) -> ToolEnd
     // What is printed, over any devices, is the line of a report or nothing; over quiet devices that tell what they hold it is the
     // line of their report.
-    ensures prints { PrintsReport (λ r. (image vault : List Block) → Shows (D.state main.old).holds image → Shows (A.state arena.old).holds vault → AreBytes image → Reports image vault r)
+    ensures prints { PrintsReport (λ r. (image vault : List Block) → Shows (D.state main.old).holds image → Shows (A.state arena.old).holds vault → Reports image vault r)
         (K.held out.old) (K.held out.new) result }
 
     // Which ends there are, over any devices.

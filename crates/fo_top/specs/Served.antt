@@ -7,7 +7,7 @@ use Rattle.fo_world.specs.declared.error.FileError.{FileError}
 use Rattle.fo_sound.specs.Device.{Shows}
 use Rattle.fo_check.specs.declared.error.CheckError.{CheckError}
 use Rattle.fo_check.specs.Answer.{Blames, IsOutside}
-use Rattle.fo_check_image.specs.Answer.{AreBytes, Refuses, Reports}
+use Rattle.fo_check_image.specs.Answer.{Refuses, Reports}
 use Rattle.fo_check_image.specs.declared.report.Report.{Report}
 use Rattle.fo_links.specs.Clocks.{Readings}
 use Rattle.nine_wire.specs.Version.{largest_message}
@@ -37,7 +37,7 @@ pair size main arena main_faults arena_faults = record { size = size; main = mai
 
 -- ---- the opening
 
--- The devices were not opened, and nothing was written: the end says why the images of quiet devices that tell bytes are not sound, or is a
+-- The devices were not opened, and nothing was written: the end says why the images of quiet devices that tell are not sound, or is a
 -- fault of a read or want of memory.
 pub record IsRefused (before after : Pair) (end : Why) : Type 0 where
   pub why : CheckError
@@ -46,14 +46,14 @@ pub record IsRefused (before after : Pair) (end : Why) : Type 0 where
   pub arena : after.arena ≡ before.arena
   pub later : NotFewer before.faults after.faults
   pub cause : Blames before.faults.main after.faults.main before.faults.arena after.faults.arena why
-  pub answer : (image vault : List Block) → Shows before.main.holds image → Shows before.arena.holds vault → AreBytes image → Refuses image vault why
+  pub answer : (image vault : List Block) → Shows before.main.holds image → Shows before.arena.holds vault → Refuses image vault why
   pub only : (image vault : List Block) (report : Report) → Shows before.main.holds image → Shows before.arena.holds vault → Reports image vault report → IsOutside why
 
--- The devices were opened, and stand at this moment, before any message. The images of quiet devices that tell bytes are sound.
+-- The devices were opened, and stand at this moment, before any message. The images of quiet devices that tell are sound.
 pub record Begins (before : Pair) (first : Moment) : Type 0 where
   pub opened : IsOpened before.main before.arena first
   pub later : NotFewer before.faults (counts first)
-  pub sound : (image vault : List Block) → Shows before.main.holds image → Shows before.arena.holds vault → AreBytes image → (report : Report) × Reports image vault report
+  pub sound : (image vault : List Block) → Shows before.main.holds image → Shows before.arena.holds vault → (report : Report) × Reports image vault report
 
 -- ---- the end
 

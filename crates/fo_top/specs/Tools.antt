@@ -3,7 +3,7 @@ use Rattle.std.specs.Prelude.{◌≡◌, ℕ, ◌≤◌, List, Option}
 use Rattle.fo_base.specs.Cause.{Rose}
 use Rattle.fo_disk.specs.Disk.{Block, DiskState}
 use Rattle.fo_sound.specs.Device.{Shows}
-use Rattle.fo_check_image.specs.Answer.{AreBytes, Reports}
+use Rattle.fo_check_image.specs.Answer.{Reports}
 use Rattle.fo_check_image.specs.declared.report.Report.{Report}
 use Rattle.fo_links.specs.Clocks.{Readings, SaysNext}
 use Rattle.fo_tools.specs.Ending.{PrintsFormat, EndsFormat, WritesNothing, PrintsReport, EndsCheck, MayMiss, MayEndFormat, MayEndCheck, AsksSizes}
@@ -40,7 +40,7 @@ pub record CheckRun (main main' arena arena' : Device) (held held' : Option (Lis
   pub end_is : end ≡ tool_why how
   pub sized : MayEndCheck main'.size arena'.size how
   pub asked : AsksSizes main'.size main.calls main'.calls arena.calls arena'.calls how
-  pub prints : PrintsReport (λ r. (image vault : List Block) → Shows main.state.holds image → Shows arena.state.holds vault → AreBytes image → Reports image vault r) held held' how
+  pub prints : PrintsReport (λ r. (image vault : List Block) → Shows main.state.holds image → Shows arena.state.holds vault → Reports image vault r) held held' how
   pub ends : (image vault : List Block) → Shows main.state.holds image → Shows arena.state.holds vault → EndsCheck image vault how
   pub only : (image vault : List Block) (r : Report) → Shows main.state.holds image → Shows arena.state.holds vault → Reports image vault r → MayMiss how
   pub main_kept : main'.state ≡ main.state

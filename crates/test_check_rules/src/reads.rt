@@ -27,6 +27,8 @@ impl Disk for Counting {
 
     ghost is_content = { λ d. inr (law.is_content d.disk) };
 
+    ghost are_bytes = { λ d. law.are_bytes d.disk };
+
     ghost is_newest = { λ d. record { newest = (refl, law.is_content d.disk) } };
 
     ghost has_flags = { λ d. law.has_flags d.disk };

@@ -1,7 +1,7 @@
 //! A cache over a disk of which nothing is known.
 ghost use Rattle.std.specs.Prelude.{◌≡◌, ◌<◌, ◌≤◌, false, [], IfOk};
 ghost use Rattle.std.proofs.Common.{inl, refl};
-ghost use Rattle.fo_disk.specs.File.{silent};
+ghost use Rattle.fo_disk.specs.File.{silent, silent_bytes};
 ghost use Rattle.fo_image.specs.Format.{KindHolds, SpellsSuper, SuperHolds};
 ghost use Rattle.fo_image.specs.Usable.{is_usable};
 ghost use Rattle.fo_mind.specs.MindParts.{parts};
@@ -34,6 +34,8 @@ impl Disk for Zeros {
     ghost faults = { λ d. 0 };
 
     ghost is_content = { λ d. inl refl };
+
+    ghost are_bytes = { λ d. silent_bytes };
 
     ghost is_newest = { λ d. record { newest = tt } };
 

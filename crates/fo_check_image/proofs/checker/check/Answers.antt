@@ -19,9 +19,9 @@ returns-in_err-report-clause-answer g c image vault shows shows_vault =
     rw (p.1, p.2) (tree_refuses image vault c.in_ok-opening.opening opens _ c.in_err-report.ensures.of_tree (c.in_err-report.ensures.answer image vault (shown_on c.in_ok-opening.ensures.main shows) opens))
 
 pub returns-clause-answer : goal.returns-clause-answer
-returns-clause-answer g c image vault shows shows_vault bytes =
+returns-clause-answer g c image vault shows shows_vault =
     let opens = (c.in_ok-opening.ensures.answer image vault shows shows_vault).found in
-    c.in_ok-report.ensures.answer image vault (shown_on c.in_ok-opening.ensures.main shows) opens bytes
+    c.in_ok-report.ensures.answer image vault (shown_on c.in_ok-opening.ensures.main shows) opens
 
 pub returns-in_err-opening-clause-only : goal.returns-in_err-opening-clause-only
 returns-in_err-opening-clause-only g c image vault report shows shows_vault r =

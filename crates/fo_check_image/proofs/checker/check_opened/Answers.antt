@@ -4,14 +4,15 @@ use Rattle.fo_sound.specs.Sound.{HasActiveRoot}
 use Rattle.fo_check_image.proofs.Reading.{reading, empty}
 use Rattle.fo_check_image.proofs.Bare.{bare_holds, bare_report}
 use Rattle.fo_check_image.proofs.Normal.{as_read, same_tree, same_root}
-use Rattle.fo_check_image.proofs.Reporting.{whole, found_answers, refusal_answers, only_found, only_refusal, report_reads}
+use Rattle.fo_check_image.proofs.Reporting.{whole, hold_bytes, found_answers, refusal_answers, only_found, only_refusal, report_reads}
 use Rattle.fo_check_image.proofs.checker.check_opened.Goals as goal
 
 pub returns-in-Ok-clause-answer : goal.returns-in-Ok-clause-answer
 returns-in-Ok-clause-answer g c image vault shows opens =
     let o = c.args.opening.now in
     let all = whole _ _ image (g.met.D.Disk.is_content c.args.main.now) shows in
-    rw c.report_of.ensures (found_answers image vault o opens all c.in-Ok.found c.in-Ok.found.broken refl
+    let bytes = hold_bytes _ image (g.met.D.Disk.are_bytes c.args.main.now) shows in
+    rw c.report_of.ensures (found_answers image vault o opens all bytes c.in-Ok.found c.in-Ok.found.broken refl
     (c.in-Ok.ensures.table image (sym opens.blocks) shows)
     (λ holds. c.in-Ok.ensures.walked empty image (reading image o.s o.root) (record { at = o.s.active; root = o.root }) (sym opens.blocks) shows refl holds))
 
@@ -19,7 +20,8 @@ pub returns-in-Err-clause-answer : goal.returns-in-Err-clause-answer
 returns-in-Err-clause-answer g c image vault shows opens =
     let o = c.args.opening.now in
     let all = whole _ _ image (g.met.D.Disk.is_content c.args.main.now) shows in
-    rw c.refusal_of.ensures (refusal_answers image vault o opens all c.in-Err.e
+    let bytes = hold_bytes _ image (g.met.D.Disk.are_bytes c.args.main.now) shows in
+    rw c.refusal_of.ensures (refusal_answers image vault o opens all bytes c.in-Err.e
     (λ holds. c.in-Err.ensures.walked empty image (reading image o.s o.root) (record { at = o.s.active; root = o.root }) (sym opens.blocks) shows refl holds))
 
 pub returns-in-Ok-clause-only : goal.returns-in-Ok-clause-only
