@@ -3,7 +3,7 @@ ghost use Rattle.std.specs.Prelude.{◌≡◌, ◌↔◌, true, false, length, n
 ghost use Rattle.std.specs.Map.{lookup};
 ghost use Rattle.fo_buffers.specs.Held.{held_at};
 ghost use Rattle.fo_buffers.specs.declared.block.Buffer.{Buffer};
-ghost use Rattle.fo_ports.specs.Blocks.{IsRanked, ReadsSlots};
+ghost use Rattle.fo_ports.specs.Blocks.{IsFormed, IsRanked, ReadsSlots};
 ghost use Rattle.fo_slots.specs.Read.{read};
 ghost use Rattle.fo_bring.specs.Blocks.{HasZeros, Gets, Good};
 ghost use Rattle.fo_bring.specs.Holds.{GoodIn, GetsIn, GetsGood, GetsClean, RanksIn};
@@ -14,20 +14,17 @@ use fo_image::Kind;
 use fo_slots::{is_formed, read_is_read};
 
 // The bytes of a block of this kind and rank, where they are of the format.
-fn if_formed<'a>(bytes: &'a [u8], kind: Kind, rank: u32) -> Option<&'a [u8]>
+fn if_formed<'a>(bytes: &'a [u8], kind: Kind, rank: u32, formed: bool) -> Option<&'a [u8]>
     requires long { length bytes.now ≡ 8192 }
     requires slots { ReadsSlots kind (read kind bytes.now) bytes.now }
     requires zeros { HasZeros kind bytes.now }
+    requires formed { IsTrue formed ↔ IsFormed kind rank bytes.now }
     ensures long { IfSome result (λ b. length b.now ≡ 8192) }
     ensures lent { IfSome result (λ b. Gets kind rank bytes.now b.now) }
     ensures again { IsRanked kind rank (read kind bytes.now).bytes → IsSome result }
 {
     read_is_read();
-    if is_formed(kind, rank, bytes) {
-        Some(bytes)
-    } else {
-        None
-    }
+    if formed { Some(bytes) } else { None }
 }
 
 /// Lends the bytes of a held block of this kind and rank, where they are of the format.
@@ -44,8 +41,8 @@ pub fn lend_held<'a>(
     ensures lent { IfSome result (λ b. GetsIn kind rank (held_at buffers.now at) b.now) }
     ensures again { RanksIn kind rank (held_at buffers.now at) → IsSome result }
 {
-    match buffers.bytes(at) {
-        Some(bytes) => if_formed(bytes, kind, rank),
+    match buffers.block(at) {
+        Some(block) => if_formed(block.bytes(), kind, rank, block.is_formed(kind, rank)),
         None => None,
     }
 }
@@ -60,7 +57,7 @@ fn copy_formed(bytes: &[u8], kind: Kind, rank: u32, into: &mut [u8]) -> bool
     ensures again { IsRanked kind rank (read kind bytes.now).bytes → result ≡ true }
     ensures nothing { result ≡ false → into.new ≡ into.old }
 {
-    match if_formed(bytes, kind, rank) {
+    match if_formed(bytes, kind, rank, is_formed(kind, rank, bytes)) {
         Some(bytes) => {
             into.copy_from_slice(bytes);
             true

@@ -11,7 +11,7 @@ use Rattle.std.specs.Result.{OnErr}
 use Rattle.std.specs.FinMap.{FinMap, from_entries, insert, remove}
 use Rattle.std.specs.FinMap.{get as get_in}
 use Rattle.fo_buffers.specs.declared.block.Buffer.{Buffer}
-use Rattle.fo_buffers.specs.Held.{Held, held_at, put, unlisted, used, updated, is_pinned, pinned_as, IsPinned}
+use Rattle.fo_buffers.specs.Held.{Held, held_at, put, unlisted, used, updated, is_pinned, itself, pinned_as, IsPinned}
 use Rattle.fo_buffers.specs.Tables.{Changes, Listed}
 use Rattle.fo_buffers.proofs.Tables.{get_table, put_table, cut_table, same_table}
 
@@ -77,6 +77,18 @@ module _ {S : Type 0} where
           none_some : None ≡ Some x → ⊥
           none_some e = cc
       by q x p false same is = l.each q x is p
+
+  -- where what is held of a block is put back, the table stays
+  pub same_changed : (m n : HashMap ℕ Buffer S) (at : ℕ) → Changes m n at itself → (q : ℕ) → get nat_eq n q ≡ get nat_eq m q
+  same_changed m n at c q = c.each q ∙ by (nat_eq at q) refl
+    where
+      mapped : (o : Option Buffer) → option_map itself o ≡ o
+      mapped None = refl
+      mapped (Some b) = refl
+
+      by : (e : Bool) → nat_eq at q ≡ e → cond e (option_map itself (get nat_eq m at)) (get nat_eq m q) ≡ get nat_eq m q
+      by true same = mapped (get nat_eq m at) ∙ ap (get nat_eq m) (eqb-true at q same)
+      by false same = refl
 
   -- the same blocks
   pub listed_same : (m n : HashMap ℕ Buffer S) (pins : List ℕ) → ((q : ℕ) → get nat_eq n q ≡ get nat_eq m q) → Listed m pins → Listed n pins

@@ -1,3 +1,4 @@
 pub mod Keeping
 pub mod Tables
 pub mod Once
+pub mod Knowing

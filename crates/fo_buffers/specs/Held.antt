@@ -50,6 +50,9 @@ updated h at f = option_map_or (λ b. put h at (f b)) (held_at h at) h
 abbrev pub with_bytes : ℕ → List ℕ → Buffer → Buffer
 with_bytes from bytes b = record b { block = take from b.block ++ bytes ++ drop (from + length bytes) b.block; dirty = true }
 
+abbrev pub itself : Buffer → Buffer
+itself b = b
+
 abbrev pub settled : Buffer → Buffer
 settled b = record b { dirty = false }
 

@@ -9,13 +9,14 @@ ghost use Rattle.std.specs.FinMap as map;
 ghost use Rattle.lru.specs.LruCache.{lru_cache, put_entries};
 ghost use Rattle.fo_base.specs.Cause.{HasCause, Rose};
 ghost use Rattle.fo_disk.specs.Disk.{versions_of};
-ghost use Rattle.fo_buffers.specs.Held.{Held, held_at, put, unlisted, used, updated, cut, buffer_of, block_in, is_dirty, is_pinned, is_free, with_bytes, settled, pinned_as, IsPinned};
+ghost use Rattle.fo_buffers.specs.Held.{Held, held_at, put, unlisted, used, updated, cut, buffer_of, block_in, is_dirty, is_pinned, is_free, with_bytes, itself, settled, pinned_as, IsPinned};
 ghost use Rattle.fo_buffers.specs.Reading.{Looked, Unlooked};
 ghost use Rattle.fo_buffers.specs.Tables.{Changes, Listed};
 
 use crate::block::{Block, Buffer};
 use crate::buffers::Buffers;
 use fo_disk::{Disk, Failed};
+use fo_image::Kind;
 use lru::LruCache;
 use std::alloc::Global;
 use std::collections::HashMap;
@@ -30,6 +31,16 @@ pub enum Unread {
 }
 
 impl Buffers {
+    /// A held block.
+    pub fn block(&self, at: u32) -> Option<&Block>
+        ensures value { option_copied result ≡ option_map block_in (held_at self.now at) }
+    {
+        match self.held.get(&at) {
+            Some(buffer) => Some(&buffer.block),
+            None => None,
+        }
+    }
+
     /// The bytes of a held block.
     pub fn bytes(&self, at: u32) -> Option<&[u8]>
         ensures value { option_copied result ≡ option_map block_in (held_at self.now at) }
@@ -50,6 +61,14 @@ impl Buffers {
             Some(block) => Some(block.bytes()),
             None => None,
         }
+    }
+
+    /// Finds out whether the bytes of a held block are of the format of this kind and rank. While they stay, `Block::is_formed` need not
+    /// look again.
+    pub fn learn(&mut self, at: u32, kind: Kind, rank: u32)
+        ensures { self.new ≡ self.old }
+    {
+        learn_held(&mut self.held, at, kind, rank);
     }
 
     /// Whether the block is held.
@@ -271,6 +290,16 @@ fn is_pinned_in(held: &HashMap<u32, Buffer>, at: u32) -> bool
     match held.get(&at) {
         Some(buffer) => buffer.pinned,
         None => false,
+    }
+}
+
+// Finds out what is to be known of a held block.
+fn learn_held(held: &mut HashMap<u32, Buffer>, at: u32, kind: Kind, rank: u32)
+    ensures changes { Changes held.old held.new at itself }
+    ensures spare { spare held.new ≡ spare held.old }
+{
+    if let Some(buffer) = held.get_mut(&at) {
+        buffer.block.learn(kind, rank);
     }
 }
 

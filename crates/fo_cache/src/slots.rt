@@ -23,6 +23,7 @@ impl<D: Disk> Cache<D> {
         requires pinned { IsPinned (parts self.old.mind [] 0).held at }
         requires current { (label_at (parts self.old.mind [] 0).region at).epoch ≡ (parts self.old.mind [] 0).one.high }
         requires spelled { (i < slot_count (label_at (parts self.old.mind [] 0).region at).kind) × SlotFits (label_at (parts self.old.mind [] 0).region at).kind i slot }
+        requires settled { Clears (parts self.old.mind [] 0).clears at i → ⊥ }
         requires same_use { (a : ℕ) → Awaits (parts self.old.mind [] 0).waits a at i → SameUse slot ((memory (parts self.old.mind (D.state self.old.main).holds (D.faults self.old.main)) at).slot i) }
         requires leads { (b : ℕ) → target slot ≡ Local b → IsBlock (parts self.old.mind [] 0) b × (b ≢ at) }
         requires room { cost ((memory (parts self.old.mind (D.state self.old.main).holds (D.faults self.old.main)) at).slot i) slot ≤ (parts self.old.mind [] 0).room }

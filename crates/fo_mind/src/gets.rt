@@ -354,6 +354,15 @@ impl Mind {
         self.hold(main, at, kind, rank)
     }
 
+    // Finds out whether the bytes of a held block are of the format of this kind and rank, so that lending them tests no leaf again.
+    fn learn(&mut self, at: u32, kind: Kind, rank: u32)
+        ensures buffers { self.new.buffers ≡ self.old.buffers }
+        ensures pins { self.new.pins ≡ self.old.pins }
+        ensures parts { (disk : Holds) (faults : ℕ) → parts self.new disk faults ≡ parts self.old disk faults }
+    {
+        self.buffers.learn(at, kind, rank);
+    }
+
     /// Brings a block of this kind into memory and pins it while pins are left, as `get` does, and copies nothing. What is pinned
     /// stays so, and where no pin is left nothing is done.
     pub fn pin<D: Disk>(
@@ -378,6 +387,8 @@ impl Mind {
         ensures state { D.state main.new ≡ D.state main.old }
         ensures cause { IfErr result (Caused ⊥ (λ b. b ≡ at) (Rose (D.faults main.old) (D.faults main.new)) ⊥) }
     {
-        self.pin_while_left(main, at, kind, rank)
+        let pinned = self.pin_while_left(main, at, kind, rank);
+        self.learn(at, kind, rank);
+        pinned
     }
 }

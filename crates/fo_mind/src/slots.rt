@@ -8,7 +8,7 @@ ghost use Rattle.fo_ports.specs.Blocks.{SlotFits, ends, slot_count};
 ghost use Rattle.fo_facts.specs.Known.{fact_at};
 ghost use Rattle.fo_linking.specs.Joined.{AreGood, IsReady, Joins, JoinsBelow};
 ghost use Rattle.fo_bring.specs.Blocks.{IsData};
-ghost use Rattle.fo_waits.specs.Listed.{Listed, is_active};
+ghost use Rattle.fo_waits.specs.Listed.{Clears, Listed, is_active};
 ghost use Rattle.fo_mind.specs.MindParts.{parts};
 ghost use Rattle.fo_mind.specs.Changes.{takes_turn};
 ghost use Rattle.fo_mind.specs.Parts.{IsHeld, IsPinned, label_at, memory};
@@ -115,6 +115,7 @@ impl Mind {
         requires pinned { IsPinned self.old.buffers at }
         requires current { (label_at self.old.labels at).epoch ≡ self.old.one.high }
         requires spelled { (i < slot_count (label_at self.old.labels at).kind) × SlotFits (label_at self.old.labels at).kind i slot }
+        requires settled { Clears self.old.clears.items at i → ⊥ }
         requires used { (a k : ℕ) → Listed self.old.waits.items a at k → i ≡ 2 * k → is_active slot ≡ true }
         requires leads { (b : ℕ) → target slot ≡ Local b → IsData self.old.first self.old.count b × (b ≢ at) }
         requires ends { ends (target ((memory (parts self.old [] 0) at).slot i)) (target slot) ≤ price }

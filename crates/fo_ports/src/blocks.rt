@@ -36,8 +36,8 @@ pub trait Blocks {
     ghost keeps: { Self → Self → Type 0 };
 
     /// Copies a block of this kind and rank, as it was last put, and pins it while pins are left. A pinned block is had again without
-    /// fail, where what memory has of it is of the format that the rank asks for. A block that has a label of another kind, or whose bytes are not of the format, is damaged; over a device that tells
-    /// what it holds, no block that stands at a place is.
+    /// fail, where what memory has of it is of the format that the rank asks for. A block that has a label of another kind, or whose
+    /// bytes are not of the format, is damaged; over a device that tells what it holds, no block that stands at a place is.
     fn get(&mut self, at: u32, kind: Kind, rank: u32, into: &mut [u8]) -> Result<(), BlockError>
         requires block { (state self.old).is_block at }
         requires length { length into.old ≡ 8192 }
@@ -365,7 +365,8 @@ pub trait Blocks {
     /// Only slots of leaves of entries are waited for.
     ghost waits_within: { (b : Self) (a on j : ℕ) → (state b).waits a on j → ((state b).label on).kind ≡ Dir 0 };
 
-    /// Only slots of leaves of entries of the current epoch wait to be cleared, and where the device tells the first of their pair is in use.
+    /// Only slots of leaves of entries of the current epoch wait to be cleared, and where the device tells the first of their pair is in
+    /// use.
     ghost clears_entries: { (b : Self) (at j : ℕ) → (state b).clearing at j → (((state b).label at).kind ≡ Dir 0) × (((state b).label at).epoch ≡ (state b).high) };
 
     ghost clears_used: { (b : Self) → (state b).tells → WaitsInUse (state b) };

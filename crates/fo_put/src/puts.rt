@@ -7,7 +7,7 @@ ghost use Rattle.fo_crash.specs.Names.{SameUse};
 ghost use Rattle.fo_crash.specs.Steps.{PutsSlot, Through};
 ghost use Rattle.fo_ports.specs.Blocks.{SlotFits, cost, slot_count};
 ghost use Rattle.fo_ports.specs.State.{AddsNoWait, AddsRemovals, Frame, Hangs, KeepsOrder, none};
-ghost use Rattle.fo_waits.specs.Listed.{Awaits};
+ghost use Rattle.fo_waits.specs.Listed.{Awaits, Clears};
 ghost use Rattle.fo_mind.specs.MindParts.{parts};
 ghost use Rattle.fo_mind.specs.Parts.{CacheKeeps, IsBlock, IsPinned, label_at, memory, state_of};
 ghost use Rattle.fo_mind.specs.Slotted.{Slotted};
@@ -23,6 +23,7 @@ pub fn put_slot(mind: &mut Mind, at: u32, i: u32, slot: Slot)
     requires pinned { IsPinned (parts mind.old [] 0).held at }
     requires current { (label_at (parts mind.old [] 0).region at).epoch ≡ (parts mind.old [] 0).one.high }
     requires spelled { (i < slot_count (label_at (parts mind.old [] 0).region at).kind) × SlotFits (label_at (parts mind.old [] 0).region at).kind i slot }
+    requires settled { Clears (parts mind.old [] 0).clears at i → ⊥ }
     requires same_use { (a : ℕ) → Awaits (parts mind.old [] 0).waits a at i → SameUse slot ((memory (parts mind.old [] 0) at).slot i) }
     requires leads { (b : ℕ) → target slot ≡ Local b → IsBlock (parts mind.old [] 0) b × (b ≢ at) }
     requires room { cost ((memory (parts mind.old [] 0) at).slot i) slot ≤ (parts mind.old [] 0).room }

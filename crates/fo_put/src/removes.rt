@@ -21,6 +21,7 @@ fn clear_slot(mind: &mut Mind, at: u32, i: u32)
     requires current { (label_at (parts mind.old [] 0).region at).epoch ≡ (parts mind.old [] 0).one.high }
     requires slots { i < slot_count (label_at (parts mind.old [] 0).region at).kind }
     requires room { 0 < (parts mind.old [] 0).room }
+    requires settled { Clears (parts mind.old [] 0).clears at i → ⊥ }
     ensures { (disk : Holds) (faults : ℕ) → Removed at i (parts mind.old disk faults) (parts mind.new disk faults) }
 {
     let old = mind.slot(at, i);

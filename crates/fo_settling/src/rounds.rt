@@ -90,8 +90,9 @@ fn settle_rounds<D: Disk>(cache: &mut Cache<D>) -> Result<(), BlockError>
 }
 
 /// Settles all but what is newborn, and clears the slots that wait; then nobody waits for an entry any more, and what is pinned and in
-/// the tree is sealed. The device is called at most four times for each block that has a turn or of which a slot waits, and four times
-/// beside that; each such block is written at most twice, and no other but block 1, once, where it is in doubt (`Costs`).
+/// the tree is sealed. Where slots wait only for leaves of which no slot waits, the device is called at most four times for each block
+/// that has a turn or of which a slot waits, and four times beside that; each such block is written at most twice, and no other but
+/// block 1, once, where it is in doubt (`Costs`).
 pub fn settle<D: Disk>(cache: &mut Cache<D>) -> Result<(), BlockError>
     ensures all { OnOk result (AllAre (state_of (parts cache.new.mind (D.state cache.new.main).holds (D.faults cache.new.main))).now (state_of (parts cache.new.mind (D.state cache.new.main).holds (D.faults cache.new.main))).may_leave) }
     ensures none { OnOk result ((b j : ℕ) → (state_of (parts cache.new.mind (D.state cache.new.main).holds (D.faults cache.new.main))).clearing b j → ⊥) }

@@ -3,6 +3,7 @@ use Rattle.fo_crash.specs.declared.slot.Slot.{Slot}
 use Rattle.fo_crash.specs.Images.{target}
 use Rattle.fo_crash.specs.Steps.{cleared}
 use Rattle.fo_ports.specs.Blocks.{SlotFits, slot_count}
+use Rattle.fo_waits.specs.Listed.{Clears}
 use Rattle.fo_mind.specs.MindParts.{parts}
 use Rattle.fo_mind.specs.Parts.{Parts, IsPinned, label_at, memory}
 use Rattle.fo_mind.specs.Slotted.{Slotted}
@@ -46,3 +47,6 @@ returns c = λ disk faults.
       ended = c.end_waits.ensures disk faults;
       slotted = subst (λ (s : Slot). Slotted c.args.at c.args.i 1 s (parts c.end_waits.new.self disk faults) (parts c.change_slot.new.self disk faults)) (c.cleared-slot.ensures ∙ ap cleared (c.slot-old.ensures disk faults)) (c.change_slot.ensures disk faults);
     }
+
+pub change_slot-requires-clause-settled : goal.change_slot-requires-clause-settled
+change_slot-requires-clause-settled c = subst (λ (p : Parts). Clears p.clears c.args.at c.args.i → ⊥) (sym (c.end_waits.ensures [] 0).rest) c.requires.settled

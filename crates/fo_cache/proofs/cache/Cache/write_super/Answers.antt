@@ -1,4 +1,4 @@
-use Rattle.std.proofs.Common.{◌≡◌, List, ℕ, [], length, Ok, Some, sym, ap, ◌∙◌, subst, arith}
+use Rattle.std.proofs.Common.{◌≡◌, List, ℕ, [], length, Ok, Some, inl, sym, ap, ◌∙◌, subst, arith}
 use Rattle.fo_disk.specs.Disk.{DiskState, IsWrite, versions_of}
 use Rattle.fo_disk.specs.declared.disk.Failed.{Failed}
 use Rattle.fo_image.specs.Field.{Four, number_at}
@@ -8,6 +8,7 @@ use Rattle.fo_mind.specs.Turning.{Synced}
 use Rattle.fo_mind.proofs.Limits.{super_limit}
 use Rattle.fo_cache.specs.Settling.{Rested}
 use Rattle.fo_cache.specs.Supers.{Counts}
+use Rattle.fo_cache.proofs.Labelling.{versions_kept}
 use Rattle.fo_cache.proofs.Trials.{count_tried, counted, others_rested}
 use Rattle.fo_cache.proofs.Firsts.{tried_alone}
 use Rattle.fo_cache.proofs.cache.Cache.write_super.Goals as goal
@@ -90,3 +91,9 @@ returns-clause-calls g c =
     let first = ap g.D.Disk.calls c.try_one.ensures.device in
     let last = ap g.D.Disk.calls c.accept.ensures.device in
     omega (arith, e, f, first, last)
+
+pub returns-in_default-clause-others : goal.returns-in_default-clause-others
+returns-in_default-clause-others g c = λ k ne.
+    let m = g.D.Disk.state c.write_trial.new.self.main in
+    subst (λ (u : DiskState). Rested (versions_of u.holds k) (versions_of m.holds k)) (ap g.D.Disk.state c.try_one.ensures.device)
+    (inl (versions_kept c.write_trial.result c.write_trial.ensures.wrote k ne))
