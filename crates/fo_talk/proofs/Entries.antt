@@ -1,8 +1,7 @@
 -- The entries of a message.
-use Rattle.std.proofs.Common.{◌≡◌, ℕ, Bool, false, List, [], ◌∷◌, ◌++◌, Ok, Err, refl, sym, ap, subst, ◌∙◌}
+use Rattle.std.proofs.Common.{◌≡◌, ℕ, Bool, true, false, inl, inr, List, [], ◌∷◌, ◌++◌, Ok, Err, refl, sym, ap, subst, ◌∙◌}
 use Rattle.std.specs.declared.option.Option.{Option}
 use Rattle.std.proofs.lemmas.List.{append-nil, append_assoc}
-use Rattle.fo_links.specs.Links.{GainsEnd}
 use Rattle.nine_wire.specs.declared.message.Request.{Request}
 use Rattle.nine_wire.specs.declared.message.Request.TheVariants as request
 use Rattle.nine_wire.specs.declared.message.Reply.{Reply}
@@ -10,10 +9,10 @@ use Rattle.nine_wire.specs.Message.{request_message, reply_message, spelling}
 use Rattle.nine_wire.specs.Stands.{Stands}
 use Rattle.fo_world.specs.World.{Faults}
 use Rattle.fo_links.specs.Clocks.{Readings, IsRead}
-use Rattle.fo_talk.specs.Conversation.{Goes, Position, Standing, Entry, Asked, Rest, Replied, Rested, asked, rested, Drops, LetsGo, Makes, Chain, Answers, said, spelled, limit_with, limit_after}
+use Rattle.fo_talk.specs.Conversation.{Goes, Position, Standing, Entry, Asked, Rest, Replied, Rested, asked, rested, Drops, LetsGo, Makes, Chain, Answers, said, spelled, only_looks, limit_with, limit_after}
 use Rattle.fo_talk.specs.Conversation as talk
-use Rattle.fo_talk.specs.Answering.{Clears, Asks, Answered, Put, is_version, next_limit}
-use Rattle.fo_talk.specs.declared.service.Stop.{Stop}
+use Rattle.fo_talk.specs.Answering.{Clears, Asks, Answered, Adds, Stays, is_version, next_limit}
+use Rattle.fo_talk.specs.declared.outbox.Stop.{Stop}
 use Rattle.fo_talk.proofs.Letting.{chain_then, chain_one}
 
 -- ---- what is let go says nothing, and leaves the limit
@@ -68,16 +67,23 @@ rest_leaves : (limit : ℕ) (es : List Entry) (before after : Faults) → limit_
 rest_leaves limit [] before after = refl
 rest_leaves limit (e ∷ es) before after = rest_leaves (limit_with limit e.event e.outcome) es before after
 
--- the reply was not put out whole
-pub answered_early : {S : Type 0} (goes : Goes S) (limit tag : ℕ) (r : Request) (reply : Reply) (from to : Position S) (held held' : Option (List ℕ)) (why : Stop)
-    → Asks goes from tag r reply to → Put held held' (spelling tag (reply_message reply)) (Err why) → Answered goes (record { limit = limit; position = from }) tag r to held held' (Err why)
-answered_early goes limit tag r reply from to held held' why asks put = record { entries = asks.entries; makes = asks.makes; chain = asks.chain; put = subst (λ (bytes : List ℕ). Put held held' bytes (Err why)) (sym asks.says) put; limit = tt }
+-- the conversation stopped at it
+pub answered_early : {S : Type 0} (goes : Goes S) (limit tag : ℕ) (r : Request) (reply : Reply) (from to : Position S) (replies replies' : List ℕ) (held held' : Option (List ℕ)) (why : Stop)
+    → Asks goes from tag r reply to → Stays replies (spelling tag (reply_message reply)) held held' why → Answered goes (record { limit = limit; position = from }) tag r to replies replies' held held' (Err why)
+answered_early goes limit tag r reply from to replies replies' held held' why asks put =
+    record { entries = asks.entries; makes = asks.makes; chain = asks.chain; put = subst (λ (bytes : List ℕ). Stays replies bytes held held' why) (sym asks.says) put; limit = tt }
 
--- the reply was put out, and the machine rested
-pub answered_of : {S : Type 0} (goes : Goes S) (limit tag next : ℕ) (r : Request) (reply : Reply) (from : Position S) (clock : Readings) (s s' : S) (f f' : Faults) (held held' : Option (List ℕ))
-    → Asks goes from tag r reply (record { clock = clock; state = s; faults = f }) → GainsEnd (spelling tag (reply_message reply)) held held' → next ≡ next_limit limit (is_version r) reply → goes s Rest Rested f f' s'
-    → Answered goes (record { limit = limit; position = from }) tag r (record { clock = clock; state = s'; faults = f' }) held held' (Ok next)
-answered_of goes limit tag next r reply from clock s s' f f' held held' asks put is went =
+adds_may : (waits may : Bool) (replies said replies' : List ℕ) (held held' : Option (List ℕ)) → (waits ≡ true → may ≡ true) → Adds waits replies said replies' held held' → Adds may replies said replies' held held'
+adds_may waits may replies said replies' held held' then adds = elim adds [
+  | inl w ↦ inl (record { is = then w.is; more = w.more; held_stays = w.held_stays })
+  | inr p ↦ inr p
+]
+
+-- its reply waits or was put out, and the machine rested
+pub answered_of : {S : Type 0} (goes : Goes S) (limit tag next : ℕ) (r : Request) (reply : Reply) (from : Position S) (clock : Readings) (s s' : S) (f f' : Faults) (waits : Bool) (replies replies' : List ℕ) (held held' : Option (List ℕ))
+    → Asks goes from tag r reply (record { clock = clock; state = s; faults = f }) → (waits ≡ true → only_looks r ≡ true) → Adds waits replies (spelling tag (reply_message reply)) replies' held held' → next ≡ next_limit limit (is_version r) reply → goes s Rest Rested f f' s'
+    → Answered goes (record { limit = limit; position = from }) tag r (record { clock = clock; state = s'; faults = f' }) replies replies' held held' (Ok next)
+answered_of goes limit tag next r reply from clock s s' f f' waits replies replies' held held' asks may put is went =
     let last : Entry = rested f f' in
     let m = asks.makes in
     let own : Entry = asked m.now tag r m.reply m.before m.after in
@@ -96,12 +102,12 @@ answered_of goes limit tag next r reply from clock s s' f f' held held' asks put
         made_is = ap (λ (es : List Entry). es ++ last ∷ []) (sym none) ∙ append_assoc m.drops (own ∷ []) (last ∷ []);
       };
       chain = chain_then goes from _ _ asks.entries (last ∷ []) asks.chain (chain_one goes clock clock s s' f f' Rest Rested tt refl went);
-      put = rw (rest_says asks.entries f f' ∙ asks.says) put;
+      put = subst (λ (bytes : List ℕ). Adds (only_looks r) replies bytes replies' held held') (sym (rest_says asks.entries f f' ∙ asks.says)) (adds_may waits (only_looks r) replies (spelling tag (reply_message reply)) replies' held held' may put);
       limit = is ∙ sym (rest_leaves limit asks.entries f f' ∙ asks.limits limit);
     }
 
 -- the message stands there, and what was made of it
-pub answers_of : {S : Type 0} (goes : Goes S) (from : Standing S) (bytes : List ℕ) (tag : ℕ) (r : Request) (used next : ℕ) (is_put : Bool) (to : Position S) (entries : List Entry)
-    → Stands from.limit bytes tag (request_message r) used → Makes tag r is_put entries → Chain goes from.position entries to → next ≡ limit_after from.limit entries
-    → Answers goes from bytes (record { tag = tag; request = r; used = used; entries = entries }) is_put (record { limit = next; position = to })
-answers_of goes from bytes tag r used next is_put to entries stands makes chain limit = record { stands = stands; makes = makes; chain = chain; limit = limit }
+pub answers_of : {S : Type 0} (goes : Goes S) (from : Standing S) (bytes : List ℕ) (tag : ℕ) (r : Request) (used next : ℕ) (is_done : Bool) (to : Position S) (entries : List Entry)
+    → Stands from.limit bytes tag (request_message r) used → Makes tag r is_done entries → Chain goes from.position entries to → next ≡ limit_after from.limit entries
+    → Answers goes from bytes (record { tag = tag; request = r; used = used; entries = entries }) is_done (record { limit = next; position = to })
+answers_of goes from bytes tag r used next is_done to entries stands makes chain limit = record { stands = stands; makes = makes; chain = chain; limit = limit }

@@ -5,3 +5,4 @@ pub mod Front
 pub mod Letting
 pub mod Entries
 pub mod Going
+pub mod Putting

@@ -1,6 +1,6 @@
 -- A conversation over a stream: which entries the messages of the input make, and what is said. It
 -- speaks of lists alone, and not of buffers and pieces.
-use Rattle.std.specs.Prelude.{◌≡◌, ℕ, List, [], ◌∷◌, ◌++◌, drop, None, Bool, true, false, if◌then◌else◌}
+use Rattle.std.specs.Prelude.{◌≡◌, ⊤, ℕ, ◌+◌, nat_lt, List, [], ◌∷◌, ◌++◌, drop, None, Bool, true, false, if◌then◌else◌}
 use Rattle.std.specs.declared.option.Option.{Option}
 use Rattle.std.specs.List.{flat_map}
 use Rattle.std.specs.Str.{bytes_eq}
@@ -20,7 +20,7 @@ pub data Event : Type 0 where
   Asked : (now : ℕ) → (tag : ℕ) → (request : Request) → Event
   -- at this moment the least fid is let go, as by a Tclunk
   Drop : (now : ℕ) → Event
-  -- a reply was put out, and the next message isn't read yet
+  -- a message was answered, and the next one isn't read yet
   Rest : Event
 
 -- what becomes of an event
@@ -67,13 +67,13 @@ abbrev pub LetsGo : Request → List Entry → Type 0
 LetsGo (request.Version msize version) entries = Drops entries
 LetsGo _ entries = entries ≡ []
 
--- one rest where a reply was put out, and none where it was not
+-- one rest behind a message that was answered, and none where the conversation stopped at it
 abbrev pub RestsIf : Bool → List Entry → Type 0
 RestsIf true entries = (before : Faults) × (after : Faults) × (entries ≡ rested before after ∷ [])
 RestsIf false entries = entries ≡ []
 
--- Which entries a message makes, by whether its reply was put out: those before it, its own, and the rest behind it.
-pub record Makes (tag : ℕ) (r : Request) (is_put : Bool) (made : List Entry) : Type 0 where
+-- Which entries a message makes, by whether the machine rests behind it: those before it, its own, and the rest behind it.
+pub record Makes (tag : ℕ) (r : Request) (is_done : Bool) (made : List Entry) : Type 0 where
   pub drops : List Entry
   pub gone : LetsGo r drops
   pub now : ℕ
@@ -81,7 +81,7 @@ pub record Makes (tag : ℕ) (r : Request) (is_put : Bool) (made : List Entry) :
   pub before : Faults
   pub after : Faults
   pub rests : List Entry
-  pub rests_if : RestsIf is_put rests
+  pub rests_if : RestsIf is_done rests
   pub made_is : made ≡ drops ++ asked now tag r reply before after ∷ rests
 
 -- ---- what is said
@@ -99,6 +99,11 @@ said entries = flat_map (λ (e : Entry). spelled e.outcome) entries
 abbrev pub output : List Exchange → List ℕ
 output exchanges = flat_map (λ (x : Exchange). said x.entries) exchanges
 
+-- how many bytes these messages have
+abbrev pub taken_by : List Exchange → ℕ
+taken_by [] = 0
+taken_by (x ∷ xs) = x.used + taken_by xs
+
 -- what the reply to a Tversion leaves: the msize of a version that was agreed to
 abbrev pub agreed_size : Reply → ℕ
 agreed_size (reply.Version msize version) = if bytes_eq version version_text then msize else largest_message
@@ -112,6 +117,23 @@ limit_with limit _ _ = limit
 abbrev pub limit_after : ℕ → List Entry → ℕ
 limit_after limit [] = limit
 limit_after limit (e ∷ es) = limit_after (limit_with limit e.event e.outcome) es
+
+-- ---- which messages change no file
+
+-- an open changes none that neither cuts the file (OTRUNC) nor removes it later (ORCLOSE)
+abbrev pub only_looks : Request → Bool
+only_looks (request.Attach fid afid uname aname) = true
+only_looks (request.Flush oldtag) = true
+only_looks (request.Walk fid newfid names) = true
+only_looks (request.Open fid mode) = nat_lt mode 4
+only_looks (request.Read fid offset count) = true
+only_looks (request.Stat fid) = true
+only_looks _ = false
+
+-- none of these messages changes a file
+abbrev pub OnlyLook : List Exchange → Type 0
+OnlyLook [] = ⊤
+OnlyLook (x ∷ xs) = (only_looks x.request ≡ true) × OnlyLook xs
 
 -- ---- what a system does
 
@@ -157,15 +179,15 @@ pub record Standing (S : Type 0) : Type 0 where
   pub limit : ℕ
   pub position : Position S
 
--- A message stands at the front of the bytes, and its entries, by whether its reply was put out, lead from one standing to another.
-pub record Answers {S : Type 0} (goes : Goes S) (from : Standing S) (bytes : List ℕ) (x : Exchange) (is_put : Bool) (to : Standing S) : Type 0 where
+-- A message stands at the front of the bytes, and its entries, by whether the machine rests behind it, lead from one standing to another.
+pub record Answers {S : Type 0} (goes : Goes S) (from : Standing S) (bytes : List ℕ) (x : Exchange) (is_done : Bool) (to : Standing S) : Type 0 where
   pub stands : Stands from.limit bytes x.tag (request_message x.request) x.used
-  pub makes : Makes x.tag x.request is_put x.entries
+  pub makes : Makes x.tag x.request is_done x.entries
   pub chain : Chain goes from.position x.entries to.position
   pub limit : to.limit ≡ limit_after from.limit x.entries
 
--- The messages of the bytes are answered one after another and their replies put out, as far as these exchanges go, and `rest` are
--- the bytes behind them.
+-- The messages of the bytes are answered one after another, with a rest behind each, as far as these exchanges go, and `rest` are the
+-- bytes behind them.
 unfoldable pub Talks : {S : Type 0} → Goes S → Standing S → List ℕ → List Exchange → List ℕ → Standing S → Type 0
 Talks goes from bytes [] rest to = (rest ≡ bytes) × (to ≡ from)
 Talks {S} goes from bytes (x ∷ xs) rest to =

@@ -1,7 +1,7 @@
 -- How a conversation ends, what was said until then, and where the system stands.
-use Rattle.std.specs.Prelude.{◌≡◌, ◌⊎◌, ℕ, ◌+◌, List, [], ◌++◌, length, take, Some, Option, false}
+use Rattle.std.specs.Prelude.{◌≡◌, ◌⊎◌, ℕ, ◌+◌, ◌≤◌, List, [], ◌∷◌, ◌++◌, length, take, Some, Option, false}
 use Rattle.fo_links.specs.Links.{LosesFront, GainsEnd}
-use Rattle.fo_talk.specs.Conversation.{Goes, Position, Standing, Exchange, Answers, Talks, LetsAllGo, said, output, NoMessage, IsBad}
+use Rattle.fo_talk.specs.Conversation.{Goes, Position, Standing, Exchange, Answers, Talks, LetsAllGo, output, taken_by, OnlyLook, NoMessage, IsBad}
 use Rattle.fo_talk.specs.declared.end.LinkEnd.{LinkEnd}
 use Rattle.fo_talk.specs.declared.end.LinkEnd.TheVariants as end
 
@@ -36,14 +36,26 @@ pub record EndsUnread {S : Type 0} (goes : Goes S) (first : Standing S) (bytes :
   pub none : NoMessage last.limit talk.rest
   pub told : GainsEnd (output talk.exchanges) held held'
 
--- Messages were answered, and of the reply to the next one a front of it was put; no rest comes behind it.
+-- Behind answered messages there is at most one more, and no rest comes behind it.
+abbrev pub Unrested : {S : Type 0} → Goes S → Standing S → List ℕ → List Exchange → Standing S → Type 0
+Unrested goes before rest [] last = last ≡ before
+Unrested goes before rest (x ∷ []) last = Answers goes before rest x false last
+Unrested goes before rest (x ∷ y ∷ ys) last = ⊥
+
+-- Messages were answered, and at most one more. Of the replies that were put out together at last a front was put: those of `late`, which
+-- changed no file, and of the one more. Their messages had come together, so they are few. All replies before these were put.
 pub record EndsUnsaid {S : Type 0} (goes : Goes S) (first : Standing S) (bytes : List ℕ) (held held' : Option (List ℕ)) (last : Standing S) : Type 0 where
   pub before : Standing S
   pub talk : Conversation goes first bytes before
-  pub next : Exchange
-  pub answers : Answers goes before talk.rest next false last
+  pub done : List Exchange
+  pub late : List Exchange
+  pub parts : talk.exchanges ≡ done ++ late
+  pub looks : OnlyLook late
+  pub next : List Exchange
+  pub unrested : Unrested goes before talk.rest next last
   pub put : ℕ
-  pub told : GainsEnd (output talk.exchanges ++ take put (said next.entries)) held held'
+  pub told : GainsEnd (output done ++ take put (output (late ++ next))) held held'
+  pub close : taken_by (late ++ next) ≤ 131120
 
 -- Messages were answered, and it may be that the next one was too, and nothing of its reply was put.
 pub record EndsEarly {S : Type 0} (goes : Goes S) (first : Standing S) (bytes : List ℕ) (held held' : Option (List ℕ)) (last : Standing S) : Type 0 where

@@ -59,6 +59,7 @@ impl Inbox {
     pub fn fill<S: Source>(&mut self, input: &mut S) -> Result<usize, Failed>
         requires { length self.old < 65560 }
         ensures filled { Filled (S.left input.old) (S.left input.new) (S.room input.old) (S.room input.new) self.old self.new result }
+        ensures bound { length self.new ≤ 131120 }
         ensures cause { HasCause (S.faults input.old) (S.faults input.new) result }
     {
         let (start, end) = pack(&mut self.bytes, self.start, self.end);

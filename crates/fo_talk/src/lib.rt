@@ -7,6 +7,7 @@
 mod end;
 mod inbox;
 mod machine;
+mod outbox;
 mod service;
 mod turns;
 

@@ -3,7 +3,6 @@ ghost use Rattle.std.specs.Prelude.{◌≡◌, ℕ, ◌<◌, ◌≤◌, ◌^◌,
 ghost use Rattle.fo_base.specs.Cause.{Rose};
 ghost use Rattle.fo_world.specs.Answers.{NotFewer};
 ghost use Rattle.nine_wire.specs.Message.{RequestFits};
-ghost use Rattle.fo_talk.specs.declared.service.Stop.TheVariants as stops;
 ghost use Rattle.fo_talk.specs.declared.end.LinkEnd.TheVariants as ends;
 ghost use Rattle.nine_wire.specs.Version.{largest_message};
 ghost use Rattle.fo_talk.specs.Answering.{Answered, next_limit};
@@ -13,26 +12,11 @@ ghost use Rattle.fo_talk.specs.Stopping.{Stopped, end_at};
 use crate::end::LinkEnd;
 use crate::inbox::Inbox;
 use crate::machine::Machine;
+use crate::outbox::{Stop, add_reply, is_whole, may_wait, put_out};
 use crate::turns::{ask, is_version, let_all_go};
-use fo_base::Memory;
 use fo_links::{Clock, Sink, Source};
-use nine_wire::{LARGEST_MESSAGE, Reply, Request, Step, read_msg, write_msg};
+use nine_wire::{LARGEST_MESSAGE, Reply, Request, Step, read_msg};
 use std::alloc::Global;
-
-/// Why a message was not answered to the end.
-#[derive(Clone, Copy, Debug, PartialEq, Eq)]
-pub enum Stop {
-    Output,
-    Memory,
-}
-
-impl From<Memory> for Stop {
-    ghost from_gives = { λ _ e. e ≡ stops.Memory };
-
-    fn from(_: Memory) -> Stop {
-        Stop::Memory
-    }
-}
 
 /// The most bytes that a message may have after a reply.
 fn next_limit(limit: u32, asked: bool, reply: &Reply) -> u32
@@ -47,35 +31,36 @@ fn next_limit(limit: u32, asked: bool, reply: &Reply) -> u32
     }
 }
 
-/// Answers one message, and gives the limit after it. Once the reply was put out, the machine rests.
+/// Answers one message, and gives the limit after it. Once it was answered, the machine rests. Its reply waits only where more messages
+/// are at hand.
 fn answer_one<K: Sink, C: Clock, M: Machine>(
     tag: u16,
     request: Request,
     limit: u32,
+    more: bool,
     clock: &mut C,
     machine: &mut M,
-    bytes: &mut Vec<u8>,
+    replies: &mut Vec<u8>,
     out: &mut K,
 ) -> Result<u32, Stop>
     requires limit { limit ≤ largest_message }
     requires fits { RequestFits request }
     ensures answered { Answered M.goes (record { limit = limit; position = record { clock = C.coming clock.old; state = machine.old; faults = M.faults machine.old } })
-        tag request (record { clock = C.coming clock.new; state = machine.new; faults = M.faults machine.new }) (K.held out.old) (K.held out.new) result }
+        tag request (record { clock = C.coming clock.new; state = machine.new; faults = M.faults machine.new }) replies.old.items replies.new.items (K.held out.old) (K.held out.new) result }
     ensures small { IfOk result (λ limit. limit ≤ largest_message) }
     ensures later { NotFewer (M.faults machine.old) (M.faults machine.new) }
     ensures output_later { K.faults out.old ≤ K.faults out.new }
     ensures output { result ≡ Err Stop.Output → Rose (K.faults out.old) (K.faults out.new) }
 {
     let asked = is_version(&request);
+    let waits = may_wait(&request, more, replies.as_slice());
     let reply = ask(tag, request, clock, machine);
-    bytes.clear();
-    write_msg(tag, &reply, bytes)?;
-    match out.put(bytes.as_slice()) {
+    match add_reply(tag, &reply, waits, replies, out) {
         Ok(()) => {
             machine.rest();
             Ok(next_limit(limit, asked, &reply))
         }
-        Err(_) => Err(Stop::Output),
+        Err(why) => Err(why),
     }
 }
 
@@ -109,13 +94,14 @@ fn converse<S: Source, K: Sink, C: Clock, M: Machine>(
     let Ok(mut inbox) = Inbox::new(alloc) else {
         return LinkEnd::Memory;
     };
-    let mut bytes = Vec::new(alloc);
+    let mut replies = Vec::new(alloc);
     let mut limit = LARGEST_MESSAGE;
     let mut place = 0;
     'messages: loop {
         match read_msg(alloc, inbox.waiting(), limit) {
             Ok(Step::Msg(tag, request, used)) => {
-                match answer_one(tag, request, limit, clock, machine, &mut bytes, out) {
+                let more = is_whole(&inbox.waiting()[used..]);
+                match answer_one(tag, request, limit, more, clock, machine, &mut replies, out) {
                     Ok(next) => limit = next,
                     Err(Stop::Output) => return LinkEnd::WriteFault,
                     Err(Stop::Memory) => return LinkEnd::Memory,
@@ -123,13 +109,28 @@ fn converse<S: Source, K: Sink, C: Clock, M: Machine>(
                 inbox.consume(used);
                 place += used as u64;
             }
-            Ok(Step::More) => match inbox.fill(input) {
-                Ok(0) => return end_of_input(inbox.waiting(), place),
-                Ok(_) => {}
-                Err(_) => return LinkEnd::ReadFault,
-            },
-            Ok(Step::Bad(_)) => return LinkEnd::BadMessage(place),
-            Err(_) => return LinkEnd::Memory,
+            Ok(Step::More) => {
+                let Ok(()) = put_out(&mut replies, out) else {
+                    return LinkEnd::WriteFault;
+                };
+                match inbox.fill(input) {
+                    Ok(0) => return end_of_input(inbox.waiting(), place),
+                    Ok(_) => {}
+                    Err(_) => return LinkEnd::ReadFault,
+                }
+            }
+            Ok(Step::Bad(_)) => {
+                let Ok(()) = put_out(&mut replies, out) else {
+                    return LinkEnd::WriteFault;
+                };
+                return LinkEnd::BadMessage(place);
+            }
+            Err(_) => {
+                let Ok(()) = put_out(&mut replies, out) else {
+                    return LinkEnd::WriteFault;
+                };
+                return LinkEnd::Memory;
+            }
         }
     }
 }
@@ -144,7 +145,8 @@ pub fn serve<S: Source, K: Sink, C: Clock, M: Machine>(
     machine: &mut M,
 ) -> LinkEnd
     // What was said to a source that tells its bytes, by how it ended, and where the machine stands. Each request is asked, and each
-    // fid is let go, at a reading of the clock of its own; behind each reply that was put out whole the machine rests once.
+    // fid is let go, at a reading of the clock of its own; behind each message that was answered the machine rests once. Replies to messages
+    // that came together may be put out together.
     ensures talk { IfSome (S.left input.old) (λ bytes. Ends M.goes (record { limit = largest_message; position = record { clock = C.coming clock.old; state = machine.old; faults = M.faults machine.old } })
         bytes (S.left input.new) (K.held out.old) (K.held out.new) (record { clock = C.coming clock.new; state = machine.new; faults = M.faults machine.new }) result) }
 

@@ -10,6 +10,9 @@ use fo_base::Memory;
 use nine_fields::{put_both, put_qid, put_string, put_u16, put_u32, put_u64};
 use std::alloc::AllocError;
 
+/// So much room is taken at once for a record; most take less.
+const ROOM: usize = 128;
+
 /// Adds the fields that are numbers.
 fn put_numbers(out: &mut Vec<u8>, stat: &Stat) -> Result<(), AllocError>
     ensures written { OnOk result (out.new.items ≡ out.old.items ++ flat_map plain_bytes (number_fields stat.now)) }
@@ -56,7 +59,7 @@ pub fn write_stat(stat: &Stat, out: &mut Vec<u8>) -> Result<(), Memory>
     // What is added is a record that can be read again, and one that a message may hold.
     ensures fits { OnOk result (IsRecord (spelling stat.now) stat.now) }
 {
-    let mut inside = Vec::new(*out.allocator());
+    let mut inside = Vec::with_capacity(*out.allocator(), ROOM)?;
     put_numbers(&mut inside, stat)?;
     put_texts(&mut inside, stat)?;
     put_string(out, inside.as_slice())?;

@@ -9,6 +9,9 @@ use fo_base::Memory;
 use nine_fields::{put_both, put_names, put_qid, put_qids, put_string, put_u8, put_u16, put_u32};
 use std::alloc::AllocError;
 
+/// So much room is taken at once for what a message has before its data; most take less.
+const ROOM: usize = 128;
+
 /// Adds a size, a type and a tag.
 fn put_header(out: &mut Vec<u8>, size: u32, kind: u8, tag: u16) -> Result<(), AllocError>
     ensures ok { OnOk result (out.new.items ≡ out.old.items ++ (number Four size ++ (number One kind ++ number Two tag))) }
@@ -250,7 +253,7 @@ pub fn write_msg(tag: u16, reply: &Reply, out: &mut Vec<u8>) -> Result<(), Memor
     // What is spelled can be read again.
     ensures fits { OnOk result (HasSpelling tag (reply_message reply.now)) }
 {
-    let mut head = Vec::new(*out.allocator());
+    let mut head = Vec::with_capacity(*out.allocator(), ROOM)?;
     let tail = put_reply(&mut head, reply)?;
     put_message(out, reply_kind(reply), tag, head.as_slice(), tail)?;
     Ok(())

@@ -191,3 +191,45 @@ fn moments(rt: HostRuntime) -> Result<(), Fail> {
     assert_eq!(rt; diary.moments, [5, 6, 8, 8, 11, 20, 0, 0]);
     Ok(())
 }
+
+// Talks over these bytes, which come at most `step` at a time, to a sink whose second call fails: what it holds then, half of
+// what that call had at its end, and how the conversation ends.
+fn puts_once(
+    rt: &impl Abort,
+    alloc: Global,
+    input: &str,
+    step: usize,
+    output: &str,
+    end: LinkEnd,
+) -> Result<(), Fail>
+    requires { 0 < step }
+{
+    let mut input = MemSource::new(bytes(alloc, input)?, step, Vec::new(alloc));
+    let mut out = MemSink::new(vec![in alloc; 1]?);
+    let mut diary = Diary {
+        moments: [0; 8],
+        count: 0,
+    };
+    let mut clock = SetClock::new(7);
+    let ended = serve(alloc, &mut input, &mut out, &mut clock, &mut diary);
+    assert_eq!(rt; ended, end);
+    assert_eq!(rt; out.bytes(), bytes(alloc, output)?.as_slice());
+    Ok(())
+}
+
+#[test]
+fn together(rt: HostRuntime) -> Result<(), Fail> {
+    for (input, step, output, end) in [
+        // replies to messages that came together are put together, also before what is none
+        ("F F F", 99, "RF RF RF", LinkEnd::End),
+        ("F F 070000006a0100", 99, "RF RF", LinkEnd::BadMessage(18)),
+        // and those to messages that didn't aren't
+        ("F F F", 9, "RF 070000", LinkEnd::WriteFault),
+        ("F F F", 13, "RF 070000", LinkEnd::WriteFault),
+        // the reply to a Twrite is put at once
+        ("F D F", 99, "RF 070000006d0400 070000", LinkEnd::WriteFault),
+    ] {
+        puts_once(&rt, rt.alloc(), input, step, output, end)?;
+    }
+    Ok(())
+}
