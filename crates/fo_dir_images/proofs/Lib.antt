@@ -1,0 +1,7 @@
+pub mod Trailing
+pub mod Placing
+pub mod Siding
+pub mod Same
+pub mod Listing
+pub mod Hanging
+pub mod Sourcing
