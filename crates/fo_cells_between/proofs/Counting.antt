@@ -1,5 +1,5 @@
 -- The super block that names the new root counts: the whole holds again.
-use Rattle.std.proofs.Common.{◌≡◌, ◌≢◌, ⊎_elim, ℕ, ◌≤◌, Bool, List, [], ◌∷◌, map, refl, sym, ◌∙◌, ap, subst}
+use Rattle.std.proofs.Common.{◌≡◌, ◌≢◌, ⊎_elim, ℕ, ◌≤◌, ◌*◌, Bool, List, [], ◌∷◌, map, refl, sym, ◌∙◌, ap, subst}
 use Rattle.std.proofs.lemmas.Bool.{cases_eq}
 use Rattle.std.specs.List.{Contains}
 use Rattle.fo_disk.specs.Disk.{Content as Holds}
@@ -26,6 +26,8 @@ use Rattle.fo_cells_supers.proofs.Counting.{counted_beside}
 use Rattle.fo_cells_turns.specs.Opening.{none_made, no_origins}
 use Rattle.fo_cells_snapshot.specs.Snapshot.{Snapshots}
 use Rattle.fo_cells_whole.specs.Whole.{HoldsWhole}
+use Rattle.fo_cells_whole.specs.Awaited.{WaitsUsed}
+use Rattle.fo_cells_whole.proofs.Certain.{awaited_still}
 use Rattle.fo_cells_whole.proofs.Supers.{snapshot_whole}
 use Rattle.fo_cells_between.specs.Between.{HoldsBetween, next_top}
 use Rattle.fo_cells_between.specs.Steps.{CountsRoot}
@@ -197,6 +199,10 @@ module _ {s : Content} {root next : ℕ} {first c d : Kept} {f : Format} {unsure
     queue_now = x.queue;
   }
 
+  -- block 1 alone changed, which is waited for by nobody
+  used : WaitsUsed d.mind.waits d.mind.memory
+  used = awaited_still c d (ap (λ (m : Mind). m.waits) x.mind) (λ leaf on k is. ap (λ (y : Content). y.slot (2 * k)) (x.others on (h.epochs.safe.waits leaf on (2 * k) is).2)) h.awaited
+
   adds : AddsNothing (images c holds) (images d holds)
   adds = record {
     each = λ image r.
@@ -205,4 +211,4 @@ module _ {s : Content} {root next : ℕ} {first c d : Kept} {f : Format} {unsure
   }
 
   pub counted_between : AddsNothing (images c holds) (images d holds) × HoldsWhole d f none_made no_origins unsure holds
-  counted_between = (adds, snapshot_whole snapshot h.begins.nowhere (ap (λ (m : Mind). m.low) x.mind ∙ h.low) h.begins.whole)
+  counted_between = (adds, snapshot_whole snapshot h.begins.nowhere (ap (λ (m : Mind). m.low) x.mind ∙ h.low) used h.begins.whole)

@@ -1,5 +1,5 @@
 -- The snapshot is given up: the whole holds again.
-use Rattle.std.proofs.Common.{◌≡◌, ◌≢◌, inl, inr, ◌⊎◌, ⊎_elim, ℕ, ◌≤◌, Bool, false, List, [], ◌∷◌, map, refl, sym, ◌∙◌, ap, subst, arith}
+use Rattle.std.proofs.Common.{◌≡◌, ◌≢◌, inl, inr, ◌⊎◌, ⊎_elim, ℕ, ◌≤◌, ◌*◌, Bool, false, List, [], ◌∷◌, map, refl, sym, ◌∙◌, ap, subst, arith}
 use Rattle.std.proofs.lemmas.Bool.{cases_eq}
 use Rattle.std.specs.List.{Contains}
 use Rattle.fo_disk.specs.Disk.{Content as Holds}
@@ -33,6 +33,8 @@ use Rattle.fo_cells_held.specs.Held.{OnlyLiveDirty}
 use Rattle.fo_cells_turns.specs.Opening.{none_made, no_origins}
 use Rattle.fo_cells_snapshot.specs.Abandon.{AbandonsQueue, Abandons}
 use Rattle.fo_cells_whole.specs.Whole.{HoldsWhole}
+use Rattle.fo_cells_whole.specs.Awaited.{WaitsUsed}
+use Rattle.fo_cells_whole.proofs.Certain.{awaited_still}
 use Rattle.fo_cells_whole.proofs.Supers.{abandon_whole}
 use Rattle.fo_cells_between.specs.Between.{HoldsBetween}
 use Rattle.fo_cells_between.specs.Steps.{DropsRoot}
@@ -132,6 +134,9 @@ module _ {root next : ℕ} {first c d : Kept} {f : Format} {unsure : List Bool} 
     queue_now = x.queue;
   }
 
+  used : WaitsUsed d.mind.waits d.mind.memory
+  used = awaited_still c d (ap (λ (m : Mind). m.waits) x.mind) (λ leaf on k is. ap (λ (m : Mind). (m.memory on).slot (2 * k)) x.mind) h.awaited
+
   adds : AddsNothing (images c holds) (images d holds)
   adds = record {
     each = λ image r.
@@ -146,7 +151,7 @@ module _ {root next : ℕ} {first c d : Kept} {f : Format} {unsure : List Bool} 
       omega (arith, same, epoch)
 
   pub dropped_between : AddsNothing (images c holds) (images d holds) × HoldsWhole d f none_made no_origins unsure holds
-  dropped_between = (adds, abandon_whole abandons h.begins.nowhere (ap (λ (m : Mind). m.low) x.mind ∙ h.low) young h.begins.whole)
+  dropped_between = (adds, abandon_whole abandons h.begins.nowhere (ap (λ (m : Mind). m.low) x.mind ∙ h.low) young used x.doubts h.begins.whole)
 
   -- NO BLOCK IS LOST: the new root waits, and all else hangs where it hung
   epoch_same : SameEpoch first (record d { doubts = first.doubts })

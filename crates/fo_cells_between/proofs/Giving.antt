@@ -27,6 +27,7 @@ use Rattle.fo_cells_steps.proofs.Still.{epochs_rest}
 use Rattle.fo_cells_blocks.specs.Giving.{AddsThis}
 use Rattle.fo_cells_turns.specs.Opening.{none_made, no_origins}
 use Rattle.fo_cells_whole.specs.Whole.{HoldsWhole}
+use Rattle.fo_cells_whole.proofs.Certain.{given_awaited}
 use Rattle.fo_cells_between.specs.Between.{HoldsBetween, next_top}
 use Rattle.fo_cells_between.specs.Steps.{GivesRoot}
 
@@ -103,6 +104,7 @@ module _ {root next : ℕ} {content : Content} {first c : Kept} {f : Format} {x 
     may = λ a i s one ne m. may_there o.gives.gives a i s ne m;
     may_next = λ i s m. may_here o.gives.gives i s m ∙ sym (o.gives.gives.memory.here.slots i);
     stands = λ z q st. ⊎_elim (λ was. inl was) (λ n. inr n.0) (stands_new o.gives.gives z q st);
+    awaited = given_awaited o.gives.gives o.gives.waits all.awaited;
   }
 
   pub given_between : AddsThis next content first c before × HoldsBetween root next first before c f unsure before

@@ -1,5 +1,5 @@
 -- What a step has to keep in between; and a super block that is tried keeps it.
-use Rattle.std.proofs.Common.{◌≡◌, ◌≢◌, ℕ, suc, Bool, List, [], ◌∷◌, sym, ◌∙◌, ap, subst}
+use Rattle.std.proofs.Common.{◌≡◌, ◌≢◌, ℕ, suc, ◌*◌, Bool, List, [], ◌∷◌, sym, ◌∙◌, ap, subst}
 use Rattle.std.specs.List.{Contains}
 use Rattle.fo_disk.specs.Disk.{Content as Holds}
 use Rattle.fo_image.specs.declared.types.Label.{Label}
@@ -20,10 +20,11 @@ use Rattle.fo_cells_epochs.proofs.Epochs.{tries_epochs}
 use Rattle.fo_cells_all.specs.All.{Kept, Format, HoldsBeside}
 use Rattle.fo_cells_steps.specs.Calls.{images}
 use Rattle.fo_cells_supers.proofs.Supers.{one_slots}
+use Rattle.fo_cells_whole.proofs.Certain.{awaited_still}
 use Rattle.fo_cells_between.specs.Between.{HoldsBetween, next_top}
 use Rattle.fo_cells_between.specs.Steps.{TriesRoot}
 
--- Memory's slots and labels stay, no slot of a block but block 1 may be there anew, and nothing stands anew.
+-- Memory's slots, labels and waits stay, no slot of a block but block 1 may be there anew, and nothing stands anew.
 pub record StaysBetween (c d : Kept) (holds after : Holds) : Type 0 where
   pub high : d.high ≡ c.high
   pub roots : d.roots ≡ c.roots
@@ -33,6 +34,7 @@ pub record StaysBetween (c d : Kept) (holds after : Holds) : Type 0 where
   pub low : d.mind.low ≡ c.mind.low
   pub label : (b : ℕ) → d.mind.label b ≡ c.mind.label b
   pub memory : (a i : ℕ) → (d.mind.memory a).slot i ≡ (c.mind.memory a).slot i
+  pub waits : d.mind.waits ≡ c.mind.waits
   pub may : (a i : ℕ) (s : Slot) → a ≢ 1 → MaySlot (known d.mind after) a i s → MaySlot (known c.mind holds) a i s
   pub stands : (b : ℕ) (q : Place) → Stands (known d.mind after) b q → Stands (known c.mind holds) b q
 
@@ -58,6 +60,7 @@ between_by {root} {next} {first} {c} {d} x epochs beside h = record {
   may = λ a i s one ne m. h.may a i s one ne (x.may a i s one m);
   may_next = λ i s m. h.may_next i s (x.may next i s h.begins.other m) ∙ sym (x.memory next i);
   stands = λ b q st. h.stands b q (x.stands b q st);
+  awaited = awaited_still c d x.waits (λ leaf on k is. x.memory on (2 * k)) h.awaited;
 }
 
 -- A SUPER BLOCK THAT NAMES THE NEW ROOT IS TRIED
@@ -94,6 +97,7 @@ module _ {s : Content} {root next : ℕ} {first c d : Kept} {f : Format} {unsure
     low = t.tries.same.low;
     label = λ b. at_b b t.tries.same.label;
     memory = one_slots c.mind.memory d.mind.memory s t.tries.same.memory (λ i. ap (λ (x : Content). x.slot i) t.tries.here);
+    waits = t.tries.same.waits;
     may = λ a i v one m. may_other t.tries.same a i v one m;
     stands = super_stands t.tries;
   }

@@ -36,6 +36,7 @@ write_turn result root next first c f unsure at bytes is_complete before old new
       low = refl;
       label = λ b. refl;
       memory = λ a i. refl;
+      waits = refl;
       may = λ a i s one m. Rattle.fo_cells.proofs.Writing.may_old k a i s m;
       stands = safe.stands;
     } in (
@@ -59,6 +60,7 @@ labels_turn result root next first c f unsure at bytes before old new w within m
       low = refl;
       label = λ b. refl;
       memory = λ a i. refl;
+      waits = refl;
       may = λ a i s one m. may_fewer (labels_fewer k) a i s m;
       stands = safe.stands;
     } in (
@@ -82,6 +84,7 @@ sync_turn {E} (Ok x) root next first c f unsure before old new y h =
       low = refl;
       label = λ b. refl;
       memory = λ a i. refl;
+      waits = refl;
       may = λ a i s one m. may_fewer (sync_fewer k) a i s m;
       stands = safe.stands;
     } in (

@@ -15,6 +15,7 @@ use Rattle.fo_cells_epochs.specs.Epochs.{HasEpochs, IsRead}
 use Rattle.fo_cells_all.specs.All.{Kept, Format, HoldsBeside}
 use Rattle.fo_cells_steps.specs.Division.{division}
 use Rattle.fo_cells_turns.specs.Opening.{none_made, no_origins}
+use Rattle.fo_cells_whole.specs.Awaited.{WaitsUsed}
 use Rattle.fo_cells_whole.specs.Whole.{HoldsWhole}
 
 -- The content leads where another leads, by the same slots. (The slot with the root before leads nowhere, and may differ.)
@@ -43,7 +44,8 @@ next_top next = record { at = next; place = root_place }
 
 -- IN BETWEEN: trees, super blocks, and what is beside hold as ever, with the new root as a top, which is live, of the next epoch, and leads
 -- where the old one leads. All else in memory is as it was, and so are removals. On the device no other block may lead where it could not
--- before, but block 1, by the super block in doubt; the new root has the slots of memory alone; and what stands did, but for the new root.
+-- before, but block 1, by the super block in doubt; the new root has the slots of memory alone; what stands did, but for the new root; and
+-- what leaves wait for is in use, as before.
 pub record HoldsBetween (root next : ℕ) (first : Kept) (before : Holds) (c : Kept) (f : Format) (unsure : List Bool) (holds : Holds) : Type 0 where
   pub begins : BeginsAt root next first f before
   pub epochs : HasEpochs (known c.mind holds) c.high f.high_of c.doubts c.active c.roots
@@ -62,3 +64,4 @@ pub record HoldsBetween (root next : ℕ) (first : Kept) (before : Holds) (c : K
   pub may : (a i : ℕ) (s : Slot) → a ≢ 1 → a ≢ next → MaySlot (known c.mind holds) a i s → MaySlot (known first.mind before) a i s
   pub may_next : (i : ℕ) (s : Slot) → MaySlot (known c.mind holds) next i s → s ≡ (c.mind.memory next).slot i
   pub stands : (b : ℕ) (q : Place) → Stands (known c.mind holds) b q → Stands (known first.mind before) b q ⊎ (b ≡ next)
+  pub awaited : WaitsUsed c.mind.waits c.mind.memory

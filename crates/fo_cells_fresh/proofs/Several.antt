@@ -35,8 +35,9 @@ use Rattle.fo_cells_blocks.specs.Giving.{GivesOne, made_with}
 use Rattle.fo_cells_blocks.proofs.Giving.{empty_made}
 use Rattle.fo_cells_whole.specs.Whole.{HoldsWhole}
 use Rattle.fo_cells_whole.specs.Tops.{IsRooted}
+use Rattle.fo_cells_whole.proofs.Certain.{none_awaited}
 use Rattle.fo_cells_whole.proofs.Rest.{whole_by}
-use Rattle.fo_cells_whole.proofs.Blocks.{given_rest}
+use Rattle.fo_cells_whole.proofs.Blocks.{given_rest, given_more}
 use Rattle.fo_cells_fresh.specs.Fresh.{label_at, format_of}
 use Rattle.fo_cells_fresh.specs.Several.{KeepsOne, KeptIsWhole, HasThree, MadeIsWhole, SomeIsRooted}
 use Rattle.fo_cells_fresh.proofs.Six.{H, K, M, six, six_blocks, six_kept, six_labels, was_root, before_root, may, led, reached, stood, epochs}
@@ -124,6 +125,8 @@ opened_whole = record {
   made = open_made opens;
   closed = hang_closed opens closed_hang;
   shared = hang_shared opens older_hang;
+  certain = λ now. refl;
+  awaited = none_awaited six_kept refl;
 }
 
 keeps_one : KeepsOne six_kept
@@ -285,7 +288,7 @@ gives_beside = record {
 }
 
 made_whole_here : HoldsWhole later F (made_with none_made 5) (given no_origins 5 (λ z. ⊥)) [] H
-made_whole_here = whole_by (given_rest opened_whole.made gives_one) (empty_made opened_whole.made gives_beside gives_one (λ i t e. let none : Nil ≡ Local t = e in absurd (cc))).1 opened_whole
+made_whole_here = whole_by (given_rest opened_whole.made gives_one) (given_more gives_beside gives_one) (empty_made opened_whole.made gives_beside gives_one (λ i t e. let none : Nil ≡ Local t = e in absurd (cc))).1 opened_whole
 
 three : HasThree later 5
 unfolding keeps_one

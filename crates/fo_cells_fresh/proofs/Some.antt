@@ -15,6 +15,7 @@ use Rattle.fo_cells_shown.proofs.Opening.{hang_closed, hang_shared, fresh_closed
 use Rattle.fo_cells_turns.specs.Opening.{none_made, no_origins}
 use Rattle.fo_cells_turns.proofs.Opening.{open_made}
 use Rattle.fo_cells_whole.specs.Whole.{HoldsWhole}
+use Rattle.fo_cells_whole.proofs.Certain.{none_awaited}
 use Rattle.fo_cells_fresh.specs.Fresh.{Reading, HasRootAlone, SomeIsWhole, label_at, format_of, opened}
 use Rattle.fo_cells_fresh.proofs.Opened.{alone_opens}
 
@@ -24,6 +25,8 @@ alone_whole {r} {image} {labels} {root} {epoch} unsure h =
       made = open_made o;
       closed = hang_closed o (fresh_closed (opened r image labels epoch) (λ b ne is. h.usable b is));
       shared = hang_shared o (fresh_older (opened r image labels epoch) (omega arith));
+      certain = λ now. refl;
+      awaited = none_awaited (opened r image labels epoch) refl;
     }
 
 -- FOUR BLOCKS: of a header, a super block that leads to block 3, labels, and a root. Whatever their bytes are, this reading has it so.

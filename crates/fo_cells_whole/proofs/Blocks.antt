@@ -1,5 +1,5 @@
 -- Blocks that are given out, get their index, are queued alone, and are closed.
-use Rattle.std.proofs.Common.{◌≡◌, ◌≢◌, ◌⊎◌, inl, inr, ⊎_elim, ℕ, ◌≤◌, Bool, true, false, ◌||◌, eqb, leb, List, [], ◌∷◌, ◌++◌, refl, sym, ◌∙◌, ap, subst}
+use Rattle.std.proofs.Common.{◌≡◌, ◌≢◌, ◌⊎◌, inl, inr, ⊎_elim, ℕ, ◌≤◌, ◌*◌, Bool, true, false, ◌||◌, eqb, leb, List, [], ◌∷◌, ◌++◌, refl, sym, ◌∙◌, ap, subst}
 use Rattle.std.proofs.lemmas.Bool.{cases_eq, cases_lt}
 use Rattle.std.specs.List.{Contains}
 use Rattle.fo_disk.specs.Disk.{Content as Holds}
@@ -18,6 +18,7 @@ use Rattle.fo_cells_out.specs.Parents.{Tree, blocks_of}
 use Rattle.fo_cells_out.specs.Origins.{Origins}
 use Rattle.fo_cells_out.proofs.Dividing.{listed_one, covered_one, covered_either}
 use Rattle.fo_cells_out.proofs.Queue.{nothing_among, among_left, among_right, among_either}
+use Rattle.fo_cells_held.specs.Room.{Used}
 use Rattle.fo_cells_epochs.specs.Epochs.{Root}
 use Rattle.fo_cells_queue.specs.Queue.{Queued, IsQueue, closed_at, first_past, past_blocks}
 use Rattle.fo_cells_queue.proofs.Queue.{given_outside}
@@ -26,12 +27,14 @@ use Rattle.fo_cells_lost.specs.Lost.{HangsIn, ClosesOne}
 use Rattle.fo_cells_lost.proofs.Lost.{given_kept, label_kept, tree_stays}
 use Rattle.fo_cells_all.specs.All.{Kept, Format}
 use Rattle.fo_cells_steps.specs.Division.{HoldsMade, division}
+use Rattle.fo_cells_steps.specs.Calls.{Beside}
 use Rattle.fo_cells_blocks.specs.Giving.{GivesOne, made_with}
 use Rattle.fo_cells_blocks.specs.Indexing.{IndexesOne, SetsAside}
-use Rattle.fo_cells_blocks.specs.Closing.{ClosesNext}
+use Rattle.fo_cells_blocks.specs.Closing.{ClosesBeside, ClosesNext}
 use Rattle.fo_cells_shown.specs.Closed.{ClosedAreKept}
 use Rattle.fo_cells_shown.proofs.Closed.{close_closed}
 use Rattle.fo_cells_whole.specs.Whole.{HoldsWhole}
+use Rattle.fo_cells_whole.proofs.Certain.{KeepsMore, more_by, awaited_still, given_awaited}
 use Rattle.fo_cells_whole.proofs.Rest.{KeepsHung, KeepsRest, SameSlots, shared_by}
 
 live_closed : (l : Label) → l.state ≡ Live → l.state ≡ Closed → ⊥
@@ -69,7 +72,16 @@ module _ {at : ℕ} {content : Content} {p : Place} {c d : Kept} {f : Format} {M
       each b epoch (HangsIn.earlier r in_past own is) = let in_c = subst (λ (xs : List Queued). Contains xs r) o.epoch.past in_past in inl (HangsIn.earlier r in_c own is, o.gives.label b (apart b (inl (block_among c.past r b in_c own))))
       each b epoch (HangsIn.active cov is) = let in_c = subst (λ (qs : List Pending). IsCovered qs b) o.queue cov in inl (HangsIn.active in_c (is ∙ o.epoch.high), o.gives.label b (apart b (inr in_c)))
 
+pub given_more : {at : ℕ} {content : Content} {p : Place} {c d : Kept} {f : Format} {x : Used} {holds : Holds} → Beside c d f x holds → GivesOne at content p c d holds → KeepsMore c d
+given_more b o = more_by o.epoch b (given_awaited o.gives o.waits)
+
 -- ---- a made block gets its index, or is queued alone
+
+pub index_more : {at : ℕ} {q : Place} {c d : Kept} {Apart : ℕ → Type 0} {f : Format} {x : Used} {holds : Holds} → Beside c d f x holds → IndexesOne at q c d Apart holds → KeepsMore c d
+index_more {c = c} {d = d} b o = more_by o.epoch b (awaited_still c d o.indexes.waits (λ leaf on k is. ap (λ (m : Image). (m on).slot (2 * k)) o.indexes.memory))
+
+pub aside_more : {z after : ℕ} {c d : Kept} {Made Apart : ℕ → Type 0} {f : Format} {x : Used} {holds : Holds} → Beside c d f x holds → SetsAside z after c d Made Apart → KeepsMore c d
+aside_more {c = c} {d = d} b o = more_by o.epoch b (awaited_still c d (ap (λ (m : Mind). m.waits) o.mind) (λ leaf on k is. ap (λ (m : Mind). (m.memory on).slot (2 * k)) o.mind))
 
 pub index_slots : {at : ℕ} {q : Place} {c d : Kept} {Apart : ℕ → Type 0} (holds : Holds) → IndexesOne at q c d Apart holds → SameSlots c d
 index_slots holds o = record {
@@ -118,6 +130,16 @@ own_usable low epoch l same taken =
     let x : true ≡ false = sym (nat_eq_here epoch l.epoch same) ∙ off.0 in
     absurd (cc)
 
+pub closed_more : {b epoch after : ℕ} {c d : Kept} {f : Format} {x : Used} {holds : Holds} → ClosesNext b epoch after c d holds → ClosesBeside b epoch c d f x → KeepsMore c d
+closed_more {c = c} {d = d} s y = record {
+  certain = λ before now. s.doubts ∙ before (record {
+    clean = y.still 1 now.clean;
+    unwritten = sym (y.wrote 1) ∙ now.unwritten;
+    sound = sym (y.failed 1) ∙ now.sound;
+  });
+  awaited = awaited_still c d y.waits (λ leaf on k is. ap (λ (m : Image). (m on).slot (2 * k)) y.memory);
+}
+
 -- what is left waited, and is other than what is closed
 pub record Left (c d : Kept) (Made : ℕ → Type 0) (b : ℕ) : Type 0 where
   pub earlier : (r : Queued) (a : ℕ) → Contains d.past r → Contains r.pending.blocks a → (a ≢ b) × ((q : Queued) × Contains c.past q × Contains q.pending.blocks a × (q.epoch ≡ r.epoch))
@@ -160,11 +182,13 @@ module _ {b epoch after : ℕ} {c d : Kept} {f : Format} {Made : ℕ → Type 0}
         each a when (HangsIn.earlier r in_past own is) = let y = left.earlier r a in_past own in inl (HangsIn.earlier (y.1).0 (y.1).1 (y.1).2 (is ∙ sym (y.1).3), s.label.others a y.0)
         each a when (HangsIn.active cov is) = let y = left.active a cov in inl (HangsIn.active y.1 (is ∙ s.high), s.label.others a y.0)
 
-    pub closing_whole : HangsIn T c.high c.past c.queue b epoch ⊎ (epoch ≡ (c.mind.label b).epoch) → HoldsMade d f Made h unsure holds → HoldsWhole d f Made h unsure holds
-    closing_whole how now = record {
+    pub closing_whole : HangsIn T c.high c.past c.queue b epoch ⊎ (epoch ≡ (c.mind.label b).epoch) → KeepsMore c d → HoldsMade d f Made h unsure holds → HoldsWhole d f Made h unsure holds
+    closing_whole how more now = record {
       made = now;
       closed = subst (λ (xs : List Root). ClosedAreKept New xs) (sym s.roots) (⊎_elim (λ hangs. close_closed all.made.all.epochs.safe all.made.all.epochs.trees (closes hangs) all.shared all.closed) (λ own. by_own own) how);
       shared = shared_by all.made hung all.shared;
+      certain = more.certain all.certain;
+      awaited = more.awaited all.awaited;
     }
       where
         closes : HangsIn T c.high c.past c.queue b epoch → ClosesOne b epoch Old New T U c.high c.past c.queue

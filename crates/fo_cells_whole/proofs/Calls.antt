@@ -1,5 +1,5 @@
 -- Calls in memory after which each slot is as it was, and slots that are cleared.
-use Rattle.std.proofs.Common.{◌≡◌, ◌≢◌, ◌⊎◌, inl, inr, ⊎_elim, ℕ, ◌≤◌, Bool, List, sym, ◌∙◌, ap, subst}
+use Rattle.std.proofs.Common.{◌≡◌, ◌≢◌, ◌⊎◌, inl, inr, ⊎_elim, ℕ, ◌≤◌, ◌*◌, Bool, List, sym, ◌∙◌, ap, subst}
 use Rattle.std.proofs.lemmas.Bool.{cases_eq}
 use Rattle.std.specs.List.{Contains}
 use Rattle.fo_disk.specs.Disk.{Content as Holds}
@@ -10,20 +10,24 @@ use Rattle.fo_cells.specs.Known.{Stands}
 use Rattle.fo_cells.specs.Device.{known}
 use Rattle.fo_cells.specs.Writes.{Puts, Fires, Ends}
 use Rattle.fo_cells.specs.Calls.{PutsInto, Awaits, WaitsMore}
+use Rattle.fo_cells.specs.Laws.{NoWait}
 use Rattle.fo_cells.proofs.Standing.{at_b}
 use Rattle.fo_cells.proofs.Waiting.{cleared_leads}
 use Rattle.fo_cells_out.specs.Removals.{Pending, IsCovered}
 use Rattle.fo_cells_out.specs.Origins.{Origins}
 use Rattle.fo_cells_out.proofs.Dividing.{covered_either}
+use Rattle.fo_cells_held.specs.Room.{Used}
 use Rattle.fo_cells_epochs.specs.Epochs.{Root, tree_of}
 use Rattle.fo_cells_epochs.proofs.TreeSteps.{outside_trees}
 use Rattle.fo_cells_queue.specs.Queue.{Queued}
 use Rattle.fo_cells_lost.specs.Lost.{KeepsKept, HangsIn}
 use Rattle.fo_cells_all.specs.All.{Kept, Format}
 use Rattle.fo_cells_steps.specs.Division.{HoldsMade, division}
-use Rattle.fo_cells_steps.specs.Calls.{SameRest}
+use Rattle.fo_cells_steps.specs.Calls.{SameRest, Beside}
 use Rattle.fo_cells_steps.specs.Taking.{LeavesWith, InTree}
 use Rattle.fo_cells_steps.proofs.Paths.{last_use}
+use Rattle.fo_cells_whole.specs.Awaited.{InPairs, WaitsUsed, AwaitsPairs, NoneAwaits}
+use Rattle.fo_cells_whole.proofs.Certain.{KeepsMore, more_by, awaited_still, awaited_more, put_awaited, fired_awaited}
 use Rattle.fo_cells_whole.proofs.Rest.{KeepsRest, SameSlots}
 
 -- memory's slots, labels and the low epoch stay
@@ -49,6 +53,29 @@ await_slots holds r w = quiet_slots r (λ a i. ap (λ (m : Image). (m a).slot i)
 
 pub end_slots : {c d : Kept} (holds : Holds) → SameRest c d → Ends (known c.mind holds) (known d.mind holds) → SameSlots c d
 end_slots holds r w = quiet_slots r (λ a i. ap (λ (m : Image). (m a).slot i) w.same.memory) w.same.label w.same.low
+
+-- who waits
+module _ {c d : Kept} {f : Format} {x : Used} {holds : Holds} (b : Beside c d f x holds) where
+  pub bytes_more : {at : ℕ} {bytes : List ℕ} → SameRest c d → PutsInto at bytes (known c.mind holds) (known d.mind holds) → KeepsMore c d
+  bytes_more r u = more_by r.epoch b (awaited_still c d u.waits (λ leaf on k is. u.memory.slots on (2 * k)))
+
+  pub more_more : SameRest c d → WaitsMore (known c.mind holds) (known d.mind holds) → AwaitsPairs c.mind.waits d.mind.waits c.mind.memory → KeepsMore c d
+  more_more r w pairs = more_by r.epoch b (λ was. subst (λ (m : Image). WaitsUsed d.mind.waits m) (sym w.same.memory) (awaited_more pairs w.waits was))
+
+  pub await_more : {at i leaf : ℕ} → SameRest c d → Awaits at i leaf (known c.mind holds) (known d.mind holds) → KeepsMore c d
+  await_more r w = more_by r.epoch b (awaited_still c d w.waits (λ leaf on k is. ap (λ (m : Image). (m on).slot (2 * k)) w.same.memory))
+
+  pub end_more : SameRest c d → Ends (known c.mind holds) (known d.mind holds) → NoWait (known c.mind holds) (known d.mind holds) → InPairs d.mind.waits → KeepsMore c d
+  end_more r w fewer pairs = more_by r.epoch b (λ was. subst (λ (m : Image). WaitsUsed d.mind.waits m) (sym w.same.memory) (record {
+    pairs = pairs;
+    used = λ leaf on k is. was.used leaf on k (fewer leaf on (2 * k) is);
+  }))
+
+  pub removed_more : {at i : ℕ} {rs : List Pending} → InTree at c d rs → Puts at i (cleared ((c.mind.memory at).slot i)) (known c.mind holds) (known d.mind holds) → KeepsMore c d
+  removed_more step p = more_by step.epoch b (put_awaited p)
+
+  pub fired_more : {at i leaf : ℕ} {rs : List Pending} → InTree at c d rs → Fires at i leaf (known c.mind holds) (known d.mind holds) → NoWait (known c.mind holds) (known d.mind holds) → NoneAwaits d.mind.waits at i → KeepsMore c d
+  fired_more step r fewer none = more_by step.epoch b (fired_awaited r fewer none)
 
 -- ---- one slot of a current block changes
 

@@ -1,3 +1,4 @@
+pub mod Certain
 pub mod Rest
 pub mod Calls
 pub mod Puts

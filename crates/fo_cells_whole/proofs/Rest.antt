@@ -20,6 +20,7 @@ use Rattle.fo_cells_all.specs.All.{Kept, Format}
 use Rattle.fo_cells_steps.specs.Division.{HoldsMade, division}
 use Rattle.fo_cells_shown.specs.Closed.{ClosedAreKept}
 use Rattle.fo_cells_whole.specs.Whole.{HoldsWhole}
+use Rattle.fo_cells_whole.proofs.Certain.{KeepsMore}
 
 -- Kept trees and their roots stay, and what hangs or waits did, with its label; or is young.
 pub record KeepsHung (c d : Kept) (Made After : ℕ → Type 0) (before holds : Holds) : Type 0 where
@@ -56,11 +57,13 @@ module _ {c : Kept} {f : Format} {Made : ℕ → Type 0} {h : Origins} {unsure :
   }
 
 -- the whole after a step that keeps the rest
-pub whole_by : {c d : Kept} {f : Format} {Made After : ℕ → Type 0} {h after : Origins} {unsure later : List Bool} {before holds : Holds} → KeepsRest c d Made After before holds → HoldsMade d f After after later holds → HoldsWhole c f Made h unsure before → HoldsWhole d f After after later holds
-whole_by {c} {d} {holds = holds} k now all = record {
+pub whole_by : {c d : Kept} {f : Format} {Made After : ℕ → Type 0} {h after : Origins} {unsure later : List Bool} {before holds : Holds} → KeepsRest c d Made After before holds → KeepsMore c d → HoldsMade d f After after later holds → HoldsWhole c f Made h unsure before → HoldsWhole d f After after later holds
+whole_by {c} {d} {holds = holds} k more now all = record {
   made = now;
   closed = closed_by all.made d holds k.hung.kept k.hung.roots k.hung.low k.closed all.closed;
   shared = shared_by all.made k.hung all.shared;
+  certain = more.certain all.certain;
+  awaited = more.awaited all.awaited;
 }
 
 -- ---- slots of memory stay

@@ -1,5 +1,5 @@
 -- Super blocks of one epoch, a low epoch that rises, and snapshots.
-use Rattle.std.proofs.Common.{◌≡◌, ◌≢◌, ◌⊎◌, inl, inr, ⊎_elim, ℕ, ◌≤◌, Bool, List, [], ◌∷◌, refl, sym, ◌∙◌, ap, subst, arith}
+use Rattle.std.proofs.Common.{◌≡◌, ◌≢◌, ◌⊎◌, inl, inr, ⊎_elim, ℕ, ◌≤◌, ◌*◌, Bool, List, [], ◌∷◌, refl, sym, ◌∙◌, ap, subst, arith}
 use Rattle.std.proofs.lemmas.Bool.{cases_eq}
 use Rattle.std.specs.List.{Contains}
 use Rattle.fo_disk.specs.Disk.{Content as Holds}
@@ -11,6 +11,7 @@ use Rattle.fo_crash.specs.Images.{Content, Reaches, target, to_block}
 use Rattle.fo_crash.proofs.Reach.{reaches_on}
 use Rattle.fo_cells.specs.Known.{Known, Stands}
 use Rattle.fo_cells.specs.Device.{known}
+use Rattle.fo_cells.specs.Flags.{IsUnmarked}
 use Rattle.fo_cells.proofs.Standing.{stands_by, stands_top, stands_below, among_cases, next_among}
 use Rattle.fo_cells_out.specs.Removals.{Pending, IsCovered}
 use Rattle.fo_cells_out.specs.Origins.{Origins}
@@ -34,7 +35,9 @@ use Rattle.fo_cells_snapshot.proofs.Abandon.{abandon_made}
 use Rattle.fo_cells_gaps.proofs.Snapshot.{snapshot_shares}
 use Rattle.fo_cells_shown.specs.Closed.{KeepsFrom}
 use Rattle.fo_cells_shown.proofs.Closed.{raise_closed}
+use Rattle.fo_cells_whole.specs.Awaited.{WaitsUsed}
 use Rattle.fo_cells_whole.specs.Whole.{HoldsWhole}
+use Rattle.fo_cells_whole.proofs.Certain.{KeepsMore, awaited_still}
 use Rattle.fo_cells_whole.proofs.Rest.{SameSlots, ClosedBefore, closed_by, whole_by}
 
 -- ---- one epoch
@@ -67,6 +70,18 @@ counts_slots {c = c} {d = d} holds t = record {
   queue = λ b ne is. inl (subst (λ (qs : List Pending). IsCovered qs b) t.same.queue is);
 }
 
+pub tries_more : {s : Content} {c d : Kept} {f : Format} {later : List Bool} {holds after : Holds} → TriesOne s c d f later holds after → (IsUnmarked d.flags 1 → ⊥) → KeepsMore c d
+tries_more {c = c} {d = d} t flagged = record {
+  certain = λ before now. absurd (flagged now);
+  awaited = awaited_still c d t.tries.same.waits (λ leaf on k is. ap (λ (x : Content). x.slot (2 * k)) (t.tries.same.memory on (t.tries.same.wait leaf on (2 * k) is).1));
+}
+
+pub counts_more : {s : Content} {c d : Kept} {f : Format} {holds : Holds} → CountsOne s c d f holds → KeepsMore c d
+counts_more {c = c} {d = d} t = record {
+  certain = λ before now. t.doubts;
+  awaited = awaited_still c d t.counts.same.waits (λ leaf on k is. ap (λ (x : Content). x.slot (2 * k)) (t.counts.same.memory on (t.counts.same.wait leaf on (2 * k) is).1));
+}
+
 -- ---- the low epoch rises
 
 pub raised_whole : {low : ℕ} {kept : List Root} {c : Kept} {f : Format} {Made : ℕ → Type 0} {h : Origins} {unsure : List Bool} {holds : Holds} → c.mind.low ≤ low → KeepsFrom low c.roots kept → HoldsWhole c f Made h unsure holds → HoldsWhole (raised c low kept) f Made h unsure holds
@@ -79,6 +94,8 @@ raised_whole {low} {kept} {c} {f} {Made} {h} {unsure} {holds} up keep all = reco
         let le : low ≤ (x.0).epoch = let e = x.2 in let over = above in omega (arith, e, over) in
         (x.0, keep.all x.0 x.1 le, x.2, ((x.3).0, there x.0 b (x.3).0 (x.3).1));
   };
+  certain = all.certain;
+  awaited = all.awaited;
 }
   where
     New : Known
@@ -109,11 +126,13 @@ kept_beside {first} {before = before} all d holds next nowhere memory = record {
       (cases_eq a 1);
 }
 
-pub snapshot_whole : {s : Content} {root next : ℕ} {first c d : Kept} {f : Format} {unsure later : List Bool} {before holds : Holds} → Snapshots s root next first c d f later before holds → ((q : Place) → Stands (known first.mind before) next q → ⊥) → d.mind.low ≡ first.mind.low → HoldsWhole first f none_made no_origins unsure before → HoldsWhole d f none_made no_origins later holds
-snapshot_whole {root = root} {next = next} {first = first} {d = d} {f = f} {later = later} {before = before} {holds = holds} x nowhere low all = record {
+pub snapshot_whole : {s : Content} {root next : ℕ} {first c d : Kept} {f : Format} {unsure later : List Bool} {before holds : Holds} → Snapshots s root next first c d f later before holds → ((q : Place) → Stands (known first.mind before) next q → ⊥) → d.mind.low ≡ first.mind.low → WaitsUsed d.mind.waits d.mind.memory → HoldsWhole first f none_made no_origins unsure before → HoldsWhole d f none_made no_origins later holds
+snapshot_whole {root = root} {next = next} {first = first} {d = d} {f = f} {later = later} {before = before} {holds = holds} x nowhere low used all = record {
   made = now;
   closed = closed_by all.made d holds (kept_beside all.made d holds next nowhere x.queue.memory) (λ r among. subst (λ (rs : List Root). Contains rs r) (sym x.roots_now) (next_among (kept_root root first.high) r first.roots among)) low closed all.closed;
   shared = snapshot_shares x nowhere low all.made all.shared;
+  certain = λ now. x.doubts_now;
+  awaited = used;
 }
   where
     now : HoldsMade d f none_made no_origins later holds
@@ -127,8 +146,8 @@ snapshot_whole {root = root} {next = next} {first = first} {d = d} {f = f} {late
         (λ far. x.queue.label b far)
         (cases_eq b next)
 
-pub abandon_whole : {next : ℕ} {first c d : Kept} {f : Format} {unsure later : List Bool} {before holds : Holds} → Abandons next first c d f later before holds → ((q : Place) → Stands (known first.mind before) next q → ⊥) → d.mind.low ≡ first.mind.low → first.high ≤ (d.mind.label next).epoch → HoldsWhole first f none_made no_origins unsure before → HoldsWhole d f none_made no_origins later holds
-abandon_whole {next} {first} {c} {d} {f} {unsure} {later} {before} {holds} o nowhere low young all = whole_by (record {
+pub abandon_whole : {next : ℕ} {first c d : Kept} {f : Format} {unsure later : List Bool} {before holds : Holds} → Abandons next first c d f later before holds → ((q : Place) → Stands (known first.mind before) next q → ⊥) → d.mind.low ≡ first.mind.low → first.high ≤ (d.mind.label next).epoch → WaitsUsed d.mind.waits d.mind.memory → d.doubts ≡ [] → HoldsWhole first f none_made no_origins unsure before → HoldsWhole d f none_made no_origins later holds
+abandon_whole {next} {first} {c} {d} {f} {unsure} {later} {before} {holds} o nowhere low young used certain all = whole_by (record {
   hung = record {
     kept = kept_beside all.made d holds next nowhere (λ a i ne far. o.queue.memory a i far);
     roots = λ r among. subst (λ (rs : List Root). Contains rs r) (sym o.roots_now) among;
@@ -139,7 +158,7 @@ abandon_whole {next} {first} {c} {d} {f} {unsure} {later} {before} {holds} o now
       (λ e. absurd (live_closed (d.mind.label b) (subst (λ v. (d.mind.label v).state ≡ Live) (sym e) o.queue.live) is))
       (λ far. o.queue.label b far)
       (cases_eq b next);
-}) (abandon_made o all.made) all
+}) (record { certain = λ before now. certain; awaited = λ before. used }) (abandon_made o all.made) all
   where
     -- what hangs in memory hung there
     was : (b : ℕ) → Reaches d.mind.memory (to_block 1) b → Reaches first.mind.memory (to_block 1) b

@@ -8,9 +8,9 @@ ghost use Rattle.fo_crash.specs.Steps.{AddsNothing};
 ghost use Rattle.fo_cells.specs.Device.{MayWrite, MayWriteLabels, known, wrote};
 ghost use Rattle.fo_cells.specs.Safe.{IsCurrent};
 ghost use Rattle.fo_cells_epochs.specs.Epochs.{IsRead, NamesSet};
-ghost use Rattle.fo_cells_all.specs.All.{Kept, Format, kept_write, kept_sync};
+ghost use Rattle.fo_cells_all.specs.All.{Kept, Format, kept_write};
 ghost use Rattle.fo_cells_steps.specs.Calls.{images};
-ghost use Rattle.fo_cells_whole.specs.Whole.{HoldsWhole};
+ghost use Rattle.fo_cells_whole.specs.Whole.{HoldsWhole, whole_sync};
 
 use fo_cells_steps::Makes;
 use fo_disk::{Disk, Failed};
@@ -34,9 +34,10 @@ pub fn write_whole<D: Disk, M: Makes>(
     disk.write(at, bytes)
 }
 
-/// Settles what was written. It fails only where the device fails, and then nothing counts as settled.
+/// Settles what was written, and what is in doubt where block 1 was written with what memory has. It fails only where the device fails, and
+/// then nothing counts as settled.
 pub fn settle_whole<D: Disk, M: Makes>(disk: &mut D, _made: &M) -> Result<(), Failed>
-    ensures kept { (c : Kept) (f : Format) → ((b : ℕ) → M.made _made.now b → b < length (D.state disk.old).holds) → IsRead f.high_of → HoldsWhole c f (M.made _made.now) (M.origins _made.now) (D.state disk.old).unsure (D.state disk.old).holds → AddsNothing (images c (D.state disk.old).holds) (images (kept_sync result c) (D.state disk.new).holds) × HoldsWhole (kept_sync result c) f (M.made _made.now) (M.origins _made.now) (D.state disk.new).unsure (D.state disk.new).holds }
+    ensures kept { (c : Kept) (f : Format) → ((b : ℕ) → M.made _made.now b → b < length (D.state disk.old).holds) → IsRead f.high_of → HoldsWhole c f (M.made _made.now) (M.origins _made.now) (D.state disk.old).unsure (D.state disk.old).holds → AddsNothing (images c (D.state disk.old).holds) (images (whole_sync result c) (D.state disk.new).holds) × HoldsWhole (whole_sync result c) f (M.made _made.now) (M.origins _made.now) (D.state disk.new).unsure (D.state disk.new).holds }
     ensures state { IsSync result (D.state disk.old) (D.state disk.new) }
     ensures size { D.size disk.new ≡ D.size disk.old }
     ensures cause { HasCause (D.faults disk.old) (D.faults disk.new) result }

@@ -1,6 +1,6 @@
 //! The laws. Each function does nothing: its contract is the law, so that the law is proved with the crate.
 ghost use Rattle.fo_cells_whole.specs.Tops.{NoneIsRefused};
-ghost use Rattle.fo_cells_whole.specs.Whole.{OpeningWhole, WholeIsWithin, BytesWhole, WaitWhole, LaterWhole, EndWhole, RemoveWhole, ClearingWhole, SameWhole, FillWhole, LinkWhole, ComesWhole, LevelsWhole, NewBlockWhole, CopyWhole, IndexWhole, AsideWhole, CloseEarlierWhole, CloseNowWhole, PastDoneWhole, DoneWhole, TryWhole, CountWhole, OverruleWhole, RaiseWhole, SnapshotWhole, AbandonWhole};
+ghost use Rattle.fo_cells_whole.specs.Whole.{OpeningWhole, WholeIsWithin, WaitsAreUsed, BytesWhole, WaitWhole, LaterWhole, EndWhole, RemoveWhole, ClearingWhole, SameWhole, FillWhole, LinkWhole, ComesWhole, LevelsWhole, NewBlockWhole, CopyWhole, IndexWhole, AsideWhole, CloseEarlierWhole, CloseNowWhole, PastDoneWhole, DoneWhole, TryWhole, CountWhole, OverruleWhole, RaiseWhole, SnapshotWhole, AbandonWhole};
 
 use fo_cells_puts::Among;
 use fo_cells_steps::Makes;
@@ -13,6 +13,11 @@ pub fn opening_is_whole()
 /// All that stands somewhere is of the device, and so is its block of labels, and each leaf that waits.
 pub fn whole_is_within<M: Makes>(_made: &M)
     ensures { WholeIsWithin (M.made _made.now) (M.origins _made.now) }
+{}
+
+/// Whatever a leaf waits for is in use in memory, or is the second of a pair whose first is.
+pub fn waits_are_used<M: Makes>(_made: &M)
+    ensures { WaitsAreUsed (M.made _made.now) (M.origins _made.now) }
 {}
 
 /// Bytes are put, a leaf waits for more, a slot begins to wait, a wait ends; a slot is cleared, at once or after it waited.

@@ -2,7 +2,8 @@
 //!
 //! `HoldsWhole` is what holds of all that a cache keeps (`HoldsAll` of `fo_cells_all`, with what was made), and what closed labels say: what was
 //! closed and may not be given out yet is in the kept tree of the epoch before that at which it was closed, and that tree has each older block
-//! that hangs or waits. That all which stands is of the device is a part of it.
+//! that hangs or waits; that no super block is in doubt where block 1 is settled with memory's; and that what leaves wait for is in use in
+//! memory. That all which stands is of the device is a part of it.
 //!
 //! Proved: it holds where a cache opens over a settled device, exactly if memory has closed and older blocks in kept trees; it is kept by each
 //! call in memory, by each block that is given out, indexed, queued alone or closed, by super blocks of one epoch, by a low epoch that rises
@@ -17,6 +18,7 @@ mod rooted;
 pub use device::{settle_whole, write_whole};
 pub use laws::{
     blocks_keep_whole, calls_keep_whole, closings_keep_whole, no_tops_are_refused,
-    opening_is_whole, puts_keep_whole, snapshots_keep_whole, supers_keep_whole, whole_is_within,
+    opening_is_whole, puts_keep_whole, snapshots_keep_whole, supers_keep_whole, waits_are_used,
+    whole_is_within,
 };
 pub use rooted::{Knows, Rooted};
