@@ -10,6 +10,7 @@ use Rattle.fo_ports.specs.State.{Looks}
 
 pub looks : {k : Known} {high : ℕ} {doubt : Content → Type 0} (x y : Rest) → IsSafe k high doubt → Looked k x y → Looks (state_of k x) (state_of k y)
 looks {k} x y safe l = record {
+  holds = refl;
   memory = λ told. record { each = λ b. same_content (k.memory b) };
   known = λ b pinned. same_content (k.memory b);
   images = record { each = λ image h. (l.tells h.0, h.1) };

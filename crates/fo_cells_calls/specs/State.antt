@@ -1,6 +1,6 @@
 -- The state of `Blocks`, read off what a cache knows.
 use Rattle.std.specs.List.{Contains}
-use Rattle.std.specs.Prelude.{◌≡◌, ◌↔◌, ◌<◌, ◌≤◌, ℕ, Bool, List, Option, false, ◌≢◌, true}
+use Rattle.std.specs.Prelude.{◌≡◌, ◌↔◌, ◌<◌, ◌≤◌, ℕ, Bool, List, [], Option, false, ◌≢◌, true}
 use Rattle.fo_image.specs.declared.types.Label.{Label}
 use Rattle.fo_image.specs.declared.types.Score.{Score}
 use Rattle.fo_crash.specs.declared.place.Place.{Place}
@@ -82,6 +82,7 @@ state_of k x = record {
   waits = λ a on j. IsWait k.waits a on j × IsPairUsed k.memory on j;
   clearing = λ b j. (leaf : ℕ) × IsClear k.clears b j leaf;
   covered = x.covered;
+  holds = [];
   faults = x.faults;
   arena_faults = x.arena_faults;
 }

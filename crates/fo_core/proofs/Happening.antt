@@ -1,10 +1,12 @@
 -- What becomes of an event, from what the calls below say.
-use Rattle.std.proofs.Common.{◌≡◌, ◌≢◌, ◌*◌, ℕ, [], Bool, Option, Some, None, Result, Ok, Err, ap, arith}
+use Rattle.std.proofs.Common.{◌≡◌, ◌≢◌, ◌⊎◌, ◌*◌, ℕ, [], Bool, Option, Some, None, Result, Ok, Err, inl, inr, ap, arith}
 use Rattle.std.specs.Prelude.{◌↔◌, IfOk, IfErr, OnErr, MatchResult}
 use Rattle.fo_base.specs.Cause.{Rose}
 use Rattle.fo_disk.specs.declared.disk.DiskFault.TheVariants.{Read, Write, Sync}
 use Rattle.fo_unlink.specs.Pending.{Pending}
 use Rattle.fo_ports.specs.Causes.{Caused}
+use Rattle.fo_ports.specs.State.{Looks}
+use Rattle.fo_starting.specs.of_settling.Costs.{Costs}
 use Rattle.fo_ports.specs.declared.error.BlockError.{BlockError}
 use Rattle.fo_ports.specs.declared.error.BlockError.TheVariants.{Full, Damaged, Fault, Arena, Memory}
 use Rattle.fo_closing.specs.Rest.{AtRest}
@@ -26,7 +28,7 @@ use Rattle.fo_files.specs.Kept.{untold}
 use Rattle.fo_files.specs.Laws.{faults_kept}
 use Rattle.fo_events.specs.Row.{IsTurnFault}
 use Rattle.fo_core.specs.Moment.{Moment, blocks, cache, counts, files, within}
-use Rattle.fo_core.specs.Goes.{Aside, FlushedBy, LeavesDirty, UnlinkedBy, most_let_go, told_of}
+use Rattle.fo_core.specs.Goes.{Aside, FlushedBy, LeavesDirty, SettledFrom, UnlinkedBy, most_let_go, told_of}
 
 -- ---- no count falls
 
@@ -49,6 +51,15 @@ leaves old new w most t = record { more = t.dirties.blocks; few = t.dirties.few;
 pub leaves_dropped : (old new : Moment) (k k' : Kept) (now : ℕ) (best : Option Fid) (more : Bool) (r : Option Reply) → Drops (files old) (files new) (within old new) k now best more r k' → LeavesDirty (2 * most_let_go best) old new
 leaves_dropped old new k k' now None more r d = leaves old new untold 0 d.3
 leaves_dropped old new k k' now (Some f) more r d = let t = d.1.taken in leaves old new t.0 _ t.1
+
+-- ---- a settling that is asked for
+
+-- what a session says of the files, of their moments
+pub settled_once : {F : Type 0} (was : F) (moment : F → Moment) (new : Moment)
+    → Looks (blocks (moment was)) (blocks new) ⊎ ((mid : F) × Looks (blocks (moment was)) (blocks (moment mid)) × Costs (moment mid).main new.main (moment mid).calls new.calls (cache (moment mid)))
+    → Looks (blocks (moment was)) (blocks new) ⊎ SettledFrom (moment was) new
+settled_once was moment new (inl looks) = inl looks
+settled_once was moment new (inr way) = inr (record { mid = moment way.0; looks = way.1; costs = way.2 })
 
 -- ---- what is told of a turn
 

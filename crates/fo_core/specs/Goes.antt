@@ -3,6 +3,8 @@ use Rattle.std.specs.Prelude.{◌≡◌, ◌≢◌, ◌↔◌, ◌⊎◌, ◌*�
 use Rattle.std.specs.List.{Contains}
 use Rattle.fo_unlink.specs.Pending.{Pending}
 use Rattle.fo_ports.specs.Sources.{IsRested}
+use Rattle.fo_ports.specs.State.{Looks}
+use Rattle.fo_starting.specs.of_settling.Costs.{Costs}
 use Rattle.fo_closing.specs.Rest.{AtRest}
 use Rattle.fo_turning.specs.declared.flush.Flushed.{Flushed}
 use Rattle.fo_turning.specs.declared.flush.Flushed.TheVariants.{Idle}
@@ -42,15 +44,23 @@ pub record LeavesDirty (most : ℕ) (old new : Moment) : Type 0 where
   pub few : length more ≤ most
   pub each : (b : ℕ) → (blocks new).dirty b → (blocks old).dirty b ⊎ (Contains more b ⊎ IsRested (blocks old) (blocks new) b)
 
+-- At a moment in between the device had only been looked at, and from there on it was called as one settling calls it: for writes and
+-- syncs alone, at most four for each block that had to be written or of which a slot waited, and four more (`Costs`).
+pub record SettledFrom (old new : Moment) : Type 0 where
+  pub mid : Moment
+  pub looks : Looks (blocks old) (blocks mid)
+  pub costs : Costs mid.main new.main mid.calls new.calls (cache mid)
+
 -- What a session replies: over any devices an answer of the request's kind, or a refusal with its cause in this event; no other session
 -- changes, at most the request's blocks are taken, at most twice as many are left to be written beside what settling left, and a settling that is
--- asked for has settled all.
+-- asked for has settled all, by looking and one settling.
 pub record Answered (old : Moment) (session now : ℕ) (q : Request) (r : Reply) (new : Moment) : Type 0 where
   pub serves : Serves (files old) (files new) (within old new) (kept_at session old.sessions) now q r (kept_at session new.sessions)
   pub others : OthersStay session old.sessions new.sessions
   pub fits : ReplyFits r
   pub small : AgreesWithin r
   pub settled : AsksSync q → r ≡ reply.Wstat → AllSettled (blocks new)
+  pub settles : AsksSync q → Looks (blocks old) (blocks new) ⊎ SettledFrom old new
   pub dirty : LeavesDirty (2 * most_of (in_files (kept_at session old.sessions) untold) q) old new
   pub later : NotFewer (counts old) (counts new)
 

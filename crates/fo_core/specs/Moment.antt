@@ -1,5 +1,5 @@
 -- What is said of the system at a moment.
-use Rattle.std.specs.Prelude.{◌^◌, Bool, [], true}
+use Rattle.std.specs.Prelude.{◌^◌, ℕ, Bool, [], true}
 use Rattle.fo_disk.specs.Disk.{DiskState}
 use Rattle.fo_mind.specs.Parts.{Parts}
 use Rattle.fo_ports.specs.State.{State}
@@ -13,11 +13,13 @@ use Rattle.fo_files.specs.of_files_along.Along.{HasRoom}
 use Rattle.fo_files.specs.of_files_look.Told.{faults_of}
 use Rattle.fo_files.specs.Kept.{Takes, untold}
 
--- The sessions; the cache over its device, with the arena beside it; what the main device tells; and whether the system is halted.
+-- The sessions; the cache over its device, with the arena beside it; what the main device tells, and how often it was called; and whether
+-- the system is halted.
 pub record Moment : Type 0 where
   pub sessions : All
   pub seen : Seen
   pub main : DiskState
+  pub calls : ℕ
   pub halted : Bool
 
 -- what calls on blocks see

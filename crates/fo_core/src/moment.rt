@@ -17,6 +17,7 @@ impl<D: Disk, A: Disk> Stands for State<D, A> {
       sessions = s.sessions;
       seen = seen (parts s.files.on.cache.mind (D.state s.files.on.cache.main).holds (D.faults s.files.on.cache.main)) (D.size s.files.on.cache.main) s.files.on.arena.shelf (A.state s.files.on.arena.device) (A.faults s.files.on.arena.device);
       main = D.state s.files.on.cache.main;
+      calls = D.calls s.files.on.cache.main;
       halted = s.files.halted;
     } };
 }

@@ -79,6 +79,7 @@ module _ (s t : State) (a b : ℕ) where
 
   pub looks : Looks s t → Looks (beside s a) (beside t b)
   looks h = record {
+    holds = h.holds;
     memory = h.memory;
     known = h.known;
     images = h.images;

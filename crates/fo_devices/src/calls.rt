@@ -19,6 +19,7 @@ impl<D: Disk, A: Disk> Blocks for Devices<D, A> {
     ghost use Rattle.fo_ports.specs.State.{AddsNoWait, Calm, Rests, none};
     ghost use Rattle.fo_ports.specs.declared.error.BlockError.TheVariants.{Full, Memory};
     ghost use Rattle.fo_closing.specs.Rest.{AtRest};
+    ghost use Rattle.fo_settling.specs.Costs.{Costs};
     ghost use Rattle.fo_reserving.specs.Steps.{AreFew, ClosesAtRest, GivesAll};
     ghost use Rattle.venti_store.specs.Arena.{Keeps, lines_of};
     ghost use Rattle.fo_devices.specs.Fetched.{FetchLacks, FetchRefuses, Fetched, FetchedHeld};
@@ -30,6 +31,8 @@ impl<D: Disk, A: Disk> Blocks for Devices<D, A> {
     ghost keeps = { λ s t. DevicesKeep
         (seen (parts s.cache.mind (D.state s.cache.main).holds (D.faults s.cache.main)) (D.size s.cache.main) s.arena.shelf (A.state s.arena.device) (A.faults s.arena.device))
         (seen (parts t.cache.mind (D.state t.cache.main).holds (D.faults t.cache.main)) (D.size t.cache.main) t.arena.shelf (A.state t.arena.device) (A.faults t.arena.device)) };
+
+    ghost settles = { λ s t. Costs (D.state s.cache.main) (D.state t.cache.main) (D.calls s.cache.main) (D.calls t.cache.main) (parts s.cache.mind [] 0) };
 
     fn get(&mut self, at: u32, kind: Kind, rank: u32, into: &mut [u8]) -> Result<(), BlockError> {
         self.cache.get(at, kind, rank, into)
@@ -137,6 +140,7 @@ impl<D: Disk, A: Disk> Blocks for Devices<D, A> {
         ensures nothing { OnErr result (into.new ≡ into.old) }
         ensures now { SameImage (state_of_devices (seen (parts self.new.cache.mind (D.state self.new.cache.main).holds (D.faults self.new.cache.main)) (D.size self.new.cache.main) self.new.arena.shelf (A.state self.new.arena.device) (A.faults self.new.arena.device))).now (state_of_devices (seen (parts self.old.cache.mind (D.state self.old.cache.main).holds (D.faults self.old.cache.main)) (D.size self.old.cache.main) self.old.arena.shelf (A.state self.old.arena.device) (A.faults self.old.arena.device))).now }
         ensures images { AddsNothing (state_of_devices (seen (parts self.old.cache.mind (D.state self.old.cache.main).holds (D.faults self.old.cache.main)) (D.size self.old.cache.main) self.old.arena.shelf (A.state self.old.arena.device) (A.faults self.old.arena.device))).may_leave (state_of_devices (seen (parts self.new.cache.mind (D.state self.new.cache.main).holds (D.faults self.new.cache.main)) (D.size self.new.cache.main) self.new.arena.shelf (A.state self.new.arena.device) (A.faults self.new.arena.device))).may_leave }
+        ensures holds { (state_of_devices (seen (parts self.new.cache.mind (D.state self.new.cache.main).holds (D.faults self.new.cache.main)) (D.size self.new.cache.main) self.new.arena.shelf (A.state self.new.arena.device) (A.faults self.new.arena.device))).holds ≡ (state_of_devices (seen (parts self.old.cache.mind (D.state self.old.cache.main).holds (D.faults self.old.cache.main)) (D.size self.old.cache.main) self.old.arena.shelf (A.state self.old.arena.device) (A.faults self.old.arena.device))).holds }
         ensures calm { Calm none 0 (state_of_devices (seen (parts self.old.cache.mind (D.state self.old.cache.main).holds (D.faults self.old.cache.main)) (D.size self.old.cache.main) self.old.arena.shelf (A.state self.old.arena.device) (A.faults self.old.arena.device))) (state_of_devices (seen (parts self.new.cache.mind (D.state self.new.cache.main).holds (D.faults self.new.cache.main)) (D.size self.new.cache.main) self.new.arena.shelf (A.state self.new.arena.device) (A.faults self.new.arena.device))) }
         ensures no_wait { AddsNoWait none (state_of_devices (seen (parts self.old.cache.mind (D.state self.old.cache.main).holds (D.faults self.old.cache.main)) (D.size self.old.cache.main) self.old.arena.shelf (A.state self.old.arena.device) (A.faults self.old.arena.device))) (state_of_devices (seen (parts self.new.cache.mind (D.state self.new.cache.main).holds (D.faults self.new.cache.main)) (D.size self.new.cache.main) self.new.arena.shelf (A.state self.new.arena.device) (A.faults self.new.arena.device))) }
         ensures cause { IfErr result (Caused ⊥ (λ b. (b ≡ 1) × ((state_of_devices (seen (parts self.old.cache.mind (D.state self.old.cache.main).holds (D.faults self.old.cache.main)) (D.size self.old.cache.main) self.old.arena.shelf (A.state self.old.arena.device) (A.faults self.old.arena.device))).tells → (state_of_devices (seen (parts self.old.cache.mind (D.state self.old.cache.main).holds (D.faults self.old.cache.main)) (D.size self.old.cache.main) self.old.arena.shelf (A.state self.old.arena.device) (A.faults self.old.arena.device))).held score.now kind ≡ None)) ⊥ (Rose (A.faults self.old.arena.device) (A.faults self.new.arena.device))) }

@@ -1,13 +1,17 @@
 -- Why files keep the laws of their calls.
 use Rattle.std.specs.Prelude.{refl, ◌+◌, ◌≤◌, ℕ, Bool}
 use Rattle.std.proofs.Common.{◌∙◌, arith, []}
-use Rattle.fo_ports.specs.State.{State, KeepsAll}
+use Rattle.fo_ports.specs.State.{State, KeepsAll, Looks}
 use Rattle.fo_world.specs.Answers.{NotFewer}
 use Rattle.fo_files_take.specs.of_files_along.Along.{HasRoom}
 use Rattle.fo_files_take.specs.of_files_look.Told.{faults_of}
 use Rattle.fo_files.specs.Kept.{AllSettled, Keeps, Takes}
 use Rattle.fo_dirties.proofs.Adding.{dirties_both, dirties_fewer, dirties_none}
 use Rattle.fo_dirties.proofs.Putting.{dirties_at_once}
+use Rattle.fo_files_views.proofs.Once as once
+
+pub looks_at_once : (s : State) → Looks s s
+looks_at_once s = once.looks_at_once s
 
 pub keeps_at_once : (s : State) (halted : Bool) {blocks : Type 0} → blocks → Keeps blocks s s halted halted
 keeps_at_once s halted keeps = record { keeps = keeps; usable = omega arith; settled = λ h. (h, refl); dirties = dirties_none 0 (dirties_at_once s []); same_halted = refl }

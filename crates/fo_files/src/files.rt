@@ -55,6 +55,7 @@ impl<B: Blocks> FileOps for Files<B> {
     ghost use Rattle.fo_files_views.specs.Aside.{Says, SaysOrWants};
     ghost use Rattle.fo_files.specs.Kept.{untold, AllSettled, Keeps, RefusesAs, Takes};
     ghost use Rattle.fo_files.specs.Laws as law;
+    ghost use Rattle.fo_ports.specs.State.{Looks};
 
     ghost world = { λ _. untold };
 
@@ -71,6 +72,12 @@ impl<B: Blocks> FileOps for Files<B> {
     ghost serves = { λ _ _. Unit {0} };
 
     ghost settled = { λ f. AllSettled (B.state f.on) };
+
+    ghost looks = { λ a b. Looks (B.state a.on) (B.state b.on) };
+
+    ghost settles = { λ a b. B.settles a.on b.on };
+
+    ghost looks_at_once = { λ a. law.looks_at_once (B.state a.on) };
 
     ghost keeps = { λ a b. Keeps (B.keeps a.on b.on) (B.state a.on) (B.state b.on) a.halted b.halted };
 
@@ -124,6 +131,7 @@ impl<B: Blocks> FileOps for Files<B> {
         ensures active { is_active at.now.view ≡ true → IfOk result (λ i. IsTold (B.state self.new.on) at.now i × (i.place ≡ at.now) × (0 < length at.now.trail → i.path ≡ last at.now.trail)) }
         ensures aside { is_active at.now.view ≡ false → SaysOrWants (λ w. step.info true w at.now) result }
         ensures cause { Refuses (faults_of (B.state self.old.on)) (faults_of (B.state self.new.on)) (B.state self.old.on).tells (HasRoom (B.state self.new.on)) 0 result }
+        ensures looks { Looks (B.state self.old.on) (B.state self.new.on) }
         ensures keeps { Keeps (B.keeps self.old.on self.new.on) (B.state self.old.on) (B.state self.new.on) self.old.halted self.new.halted }
     {
         views::info(self.alloc, &mut self.on, at)
@@ -135,6 +143,7 @@ impl<B: Blocks> FileOps for Files<B> {
         ensures active { is_active at.now.view ≡ true → IfOk result (λ i. IsTold (B.state self.new.on) (below at.now i.path) i × (i.name ≡ name.now)) }
         ensures aside { is_active at.now.view ≡ false → Says (λ w. step.find true w at.now name.now) result }
         ensures cause { Refuses (faults_of (B.state self.old.on)) (faults_of (B.state self.new.on)) (B.state self.old.on).tells (HasRoom (B.state self.new.on)) 0 result }
+        ensures looks { Looks (B.state self.old.on) (B.state self.new.on) }
         ensures keeps { Keeps (B.keeps self.old.on self.new.on) (B.state self.old.on) (B.state self.new.on) self.old.halted self.new.halted }
     {
         views::find(self.alloc, &mut self.on, at, name)
@@ -146,6 +155,7 @@ impl<B: Blocks> FileOps for Files<B> {
         ensures active { is_active at.now.view ≡ true → IfOk result (λ i. IsTold (B.state self.new.on) (above at.now) i × (i.place ≡ above at.now) × (0 < length (above at.now).trail → i.path ≡ last (above at.now).trail)) }
         ensures aside { is_active at.now.view ≡ false → SaysOrWants (λ w. step.parent true w at.now) result }
         ensures cause { Refuses (faults_of (B.state self.old.on)) (faults_of (B.state self.new.on)) (B.state self.old.on).tells (HasRoom (B.state self.new.on)) 0 result }
+        ensures looks { Looks (B.state self.old.on) (B.state self.new.on) }
         ensures keeps { Keeps (B.keeps self.old.on self.new.on) (B.state self.old.on) (B.state self.new.on) self.old.halted self.new.halted }
     {
         views::parent(self.alloc, &mut self.on, at)
@@ -157,6 +167,7 @@ impl<B: Blocks> FileOps for Files<B> {
         ensures active { is_active at.now.view ≡ true → IfOk result (λ told. IfSome told (λ i. IsTold (B.state self.new.on) (below at.now i.path) i × (comes_before (name_given (option_copied after.entry)) i.name ≡ true))) }
         ensures aside { is_active at.now.view ≡ false → Says (λ w. step.next_name true w at.now (option_copied after.entry)) result }
         ensures cause { Refuses (faults_of (B.state self.old.on)) (faults_of (B.state self.new.on)) (B.state self.old.on).tells (HasRoom (B.state self.new.on)) 0 result }
+        ensures looks { Looks (B.state self.old.on) (B.state self.new.on) }
         ensures keeps { Keeps (B.keeps self.old.on self.new.on) (B.state self.old.on) (B.state self.new.on) self.old.halted self.new.halted }
     {
         views::next_name(self.alloc, &mut self.on, at, after)
@@ -168,6 +179,7 @@ impl<B: Blocks> FileOps for Files<B> {
         ensures active { is_active at.now.view ≡ true → IfOk result (IsRead (B.state self.new.on) at.now.trail offset (length into.old)) }
         ensures aside { is_active at.now.view ≡ false → RefusesAs (λ w. step.read true w at.now offset (length into.old)) result }
         ensures cause { Refuses (faults_of (B.state self.old.on)) (faults_of (B.state self.new.on)) (B.state self.old.on).tells (HasRoom (B.state self.new.on)) 0 result }
+        ensures looks { Looks (B.state self.old.on) (B.state self.new.on) }
         ensures keeps { Keeps (B.keeps self.old.on self.new.on) (B.state self.old.on) (B.state self.new.on) self.old.halted self.new.halted }
     {
         views::read(self.alloc, &mut self.on, at, offset, into)
@@ -306,6 +318,7 @@ impl<B: Blocks> FileOps for Files<B> {
         ensures silent { (B.state self.old.on).tells → ⊥ }
         ensures settled { IfOk result (λ _. AllSettled (B.state self.new.on)) }
         ensures cause { Refuses (faults_of (B.state self.old.on)) (faults_of (B.state self.new.on)) (B.state self.old.on).tells (HasRoom (B.state self.new.on)) 0 result }
+        ensures settles { B.settles self.old.on self.new.on }
         ensures keeps { Keeps (B.keeps self.old.on self.new.on) (B.state self.old.on) (B.state self.new.on) self.old.halted self.new.halted }
     {
         match self.on.settle() {

@@ -4,6 +4,7 @@ use Rattle.fo_ports.specs.State.{State, Looks}
 
 pub looks_at_once : (s : State) → Looks s s
 looks_at_once s = record {
+  holds = refl;
   memory = λ told. record { each = λ b. record { bytes = refl; slots = λ i. refl } };
   known = λ b h. record { bytes = refl; slots = λ i. refl };
   images = record { each = λ image h. h };

@@ -38,6 +38,7 @@ rooted_of_hung s active hung = ⊎_elim (λ r. (1, inl active, r)) (λ h. (h.top
 -- a look after a look is a look
 pub looks_joins : {a b c : State} → KeepsAll a b → Looks a b → Looks b c → Looks a c
 looks_joins {a = a} {b = b} all first second = record {
+  holds = second.holds ∙ first.holds;
   memory = λ is. record { each = λ x. content_joins ((second.memory (all.still_tells.1 is)).each x) ((first.memory is).each x) };
   known = λ x h. content_joins (second.known x ((first.stays.marks x (λ n. n)).0 h)) (first.known x h);
   images = record { each = λ image is. first.images.each image (second.images.each image is) };

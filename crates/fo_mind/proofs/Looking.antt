@@ -60,6 +60,7 @@ module _ (p q : Parts) (at : ℕ) (b : Brings at p q) where
   at_rest =
       let m = b.marks in
       record {
+        holds = refl;
         memory = λ t. absurd t;
         known = λ k pinned. same_content (memory_like p q.held k (same_bytes k pinned));
         images = record { each = λ image h. absurd h };

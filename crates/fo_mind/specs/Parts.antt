@@ -171,6 +171,7 @@ state_of p = record {
   waits = Awaits p.waits;
   clearing = Clears p.clears;
   covered = λ b. ⊥;
+  holds = p.disk;
   faults = p.faults;
   arena_faults = 0;
 }

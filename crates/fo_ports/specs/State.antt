@@ -74,6 +74,8 @@ pub record State : Type 1 where
   pub clearing : ℕ → ℕ → Type 0
   -- a removal is to close this block
   pub covered : ℕ → Type 0
+  -- the versions of each block that the main device tells it holds, oldest first; none where it tells nothing
+  pub holds : List (List (List ℕ))
   -- how many faults the main device and the arena's had, up to 2^64 - 1
   pub faults : ℕ
   pub arena_faults : ℕ
@@ -186,6 +188,7 @@ pub record Gives (at : ℕ) (c : Content) (l : Label) (old new : State) : Type 0
 -- A call only looks: what memory is known to have stays, no image is added, and marks stay.
 pub record Looks (old new : State) : Type 0 where
   pub memory : old.tells → SameImage new.now old.now
+  pub holds : new.holds ≡ old.holds
   pub known : (b : ℕ) → old.pinned b → SameContent (new.now b) (old.now b)
   pub images : AddsNothing old.may_leave new.may_leave
   pub passes : Passes old.tops old.may_leave old.moments new.moments old.left new.left

@@ -35,6 +35,9 @@ pub trait Blocks {
     /// What every call keeps, also of what the implementer borrows.
     ghost keeps: { Self → Self → Type 0 };
 
+    /// How a settling calls the device: the implementer's own.
+    ghost settles: { Self → Self → Type 0 };
+
     /// Copies a block of this kind and rank, as it was last put, and pins it while pins are left. A pinned block is had again without
     /// fail, where what memory has of it is of the format that the rank asks for. A block that has a label of another kind, or whose
     /// bytes are not of the format, is damaged; over a device that tells what it holds, no block that stands at a place is.
@@ -267,6 +270,7 @@ pub trait Blocks {
         ensures blocks { (b : ℕ) → ((state self.new).label b ≡ (state self.old).label b) × ((state self.old).pinned b → (state self.new).pinned b) × ((state self.old).sealed b → (state self.new).sealed b) }
         ensures room { ((state self.new).spare ≡ (state self.old).spare) × ((state self.new).pins_left ≡ (state self.old).pins_left) × ((state self.new).room ≡ (state self.old).room) }
         ensures cause { IfErr result (Caused ⊥ (λ b. ⊥) (Rose (state self.old).faults (state self.new).faults) ⊥) }
+        ensures settles { settles self.old self.new }
         ensures keeps { keeps self.old self.new };
 
     /// A block that is held under a score, grown to its full length. Damaged(1) where none is held; over a device that tells nothing
@@ -277,6 +281,7 @@ pub trait Blocks {
         ensures nothing { OnErr result (into.new ≡ into.old) }
         ensures now { SameImage (state self.new).now (state self.old).now }
         ensures images { AddsNothing (state self.old).may_leave (state self.new).may_leave }
+        ensures holds { (state self.new).holds ≡ (state self.old).holds }
         ensures calm { Calm none 0 (state self.old) (state self.new) }
         ensures no_wait { AddsNoWait none (state self.old) (state self.new) }
         ensures cause { IfErr result (Caused ⊥ (λ b. (b ≡ 1) × ((state self.old).tells → (state self.old).held score.now kind ≡ None)) ⊥ (Rose (state self.old).arena_faults (state self.new).arena_faults)) }

@@ -66,6 +66,7 @@ state_of p = record {
   waits = Awaits p.waits;
   clearing = λ b j. ⊥;
   covered = Covered p.blocks;
+  holds = [];
   faults = 0;
   arena_faults = 0;
 }

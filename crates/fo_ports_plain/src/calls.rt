@@ -15,6 +15,8 @@ impl Blocks for PlainBlocks {
 
     ghost keeps = { λ s t. PlainKeeps (parts s) (parts t) };
 
+    ghost settles = { λ s t. Unit {0} };
+
     fn get(&mut self, at: u32, kind: Kind, rank: u32, into: &mut [u8]) -> Result<(), BlockError> {
         let _ = rank;
         if self.made <= at {

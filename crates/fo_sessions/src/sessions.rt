@@ -31,7 +31,7 @@ impl Sessions {
     ghost use Rattle.nine_wire.specs.Message.{RequestFits, ReplyFits};
     ghost use Rattle.nine_wire.specs.declared.message.Reply.TheVariants as reply;
     ghost use Rattle.nine_fids.specs.Fids as nine;
-    ghost use Rattle.nine_session.specs.Session.{AsksSync, Serves, Drops, AgreesWithin};
+    ghost use Rattle.nine_session.specs.Session.{AsksSync, Serves, SettlesOnce, Drops, AgreesWithin};
     ghost use Rattle.fo_sessions.specs.Sessions.{no_sessions, session_at, kept_at, OthersStay};
 
     /// Sessions before any message.
@@ -65,8 +65,9 @@ impl Sessions {
         ensures fits { ReplyFits result }
         ensures size { AgreesWithin result }
 
-        // Once a Twstat that touches nothing is answered Rwstat, all that was changed is settled.
+        // Once a Twstat that touches nothing is answered Rwstat, all that was changed is settled. It looks, and settles once.
         ensures settled { AsksSync request → result ≡ reply.Wstat → F.settled files.new }
+        ensures settles { AsksSync request → SettlesOnce F.looks F.settles files.old files.new }
     {
         self.sessions[usize::from(number)].answer(files, &mut self.exclusive, now, request)
     }

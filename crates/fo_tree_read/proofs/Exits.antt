@@ -16,6 +16,7 @@ use Rattle.fo_looks.proofs.Looks.{rose_later}
 
 pub looks_none : (a : State) → Looks a a
 looks_none a = record {
+  holds = refl;
   memory = λ told. record { each = λ x. record { bytes = refl; slots = λ i. refl } };
   known = λ x h. record { bytes = refl; slots = λ i. refl };
   images = record { each = λ image h. h };

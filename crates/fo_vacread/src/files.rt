@@ -56,6 +56,12 @@ impl<A: Disk> FileOps for VacFiles<'_, A> {
 
     ghost settled = { λ _. Unit {0} };
 
+    ghost looks = { λ a b. Stays (known a.arena.now.shelf (A.state a.arena.now.device) (A.faults a.arena.now.device) a.opened) (known b.arena.now.shelf (A.state b.arena.now.device) (A.faults b.arena.now.device) b.opened) };
+
+    ghost settles = { λ _ _. Unit {0} };
+
+    ghost looks_at_once = { λ a. stays_at_once (known a.arena.now.shelf (A.state a.arena.now.device) (A.faults a.arena.now.device) a.opened) };
+
     ghost keeps = { λ a b. Stays (known a.arena.now.shelf (A.state a.arena.now.device) (A.faults a.arena.now.device) a.opened) (known b.arena.now.shelf (A.state b.arena.now.device) (A.faults b.arena.now.device) b.opened) };
 
     ghost touches = { λ a w n b. Stays (known a.arena.now.shelf (A.state a.arena.now.device) (A.faults a.arena.now.device) a.opened) (known b.arena.now.shelf (A.state b.arena.now.device) (A.faults b.arena.now.device) b.opened) };

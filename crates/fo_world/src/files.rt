@@ -38,6 +38,12 @@ pub trait FileOps {
     /// All that was changed is settled: a crash now would leave every file as the world has it.
     ghost settled: { Self → Type 0 };
 
+    /// What a call leaves as it was that only looks: it writes nothing.
+    ghost looks: { Self → Self → Type 0 };
+
+    /// How a settling calls the devices: the implementer's own.
+    ghost settles: { Self → Self → Type 0 };
+
     /// What a call keeps that touches nothing: what the implementer stands on, and what a crash on the way would leave. Neither count of faults falls.
     ghost keeps: { Self → Self → Type 0 };
 
@@ -53,6 +59,7 @@ pub trait FileOps {
             (world self.old) (world self.new) result }
         ensures fits { IfOk result InfoFits }
         ensures cause { Refuses (faults self.old) (faults self.new) (honest self.old) (has_room self.new) 0 result }
+        ensures looks { looks self.old self.new }
         ensures keeps { keeps self.old self.new };
 
     /// What is told of the file with this name in a directory.
@@ -63,6 +70,7 @@ pub trait FileOps {
             (world self.old) (world self.new) result }
         ensures fits { IfOk result InfoFits }
         ensures cause { Refuses (faults self.old) (faults self.new) (honest self.old) (has_room self.new) 0 result }
+        ensures looks { looks self.old self.new }
         ensures keeps { keeps self.old self.new };
 
     /// What is told of the directory above a place: of the place itself for the roots that can be attached to.
@@ -73,6 +81,7 @@ pub trait FileOps {
             (world self.old) (world self.new) result }
         ensures fits { IfOk result InfoFits }
         ensures cause { Refuses (faults self.old) (faults self.new) (honest self.old) (has_room self.new) 0 result }
+        ensures looks { looks self.old self.new }
         ensures keeps { keeps self.old self.new };
 
     /// What is told of the file with the least name in a directory, above the one given; None where there is none.
@@ -83,6 +92,7 @@ pub trait FileOps {
             (world self.old) (world self.new) result }
         ensures fits { IfOk result (λ told. IfSome told InfoFits) }
         ensures cause { Refuses (faults self.old) (faults self.new) (honest self.old) (has_room self.new) 0 result }
+        ensures looks { looks self.old self.new }
         ensures keeps { keeps self.old self.new };
 
     /// Puts the bytes of a file from an offset on into the front of `into`, as many as exist and fit, and says how many. The rest of `into` stays; where it
@@ -96,6 +106,7 @@ pub trait FileOps {
             × (world self.new ≡ world self.old)) }
         ensures front { IfOk result (λ n. (n ≤ length into.old) × (drop n into.new ≡ drop n into.old)) }
         ensures cause { Refuses (faults self.old) (faults self.new) (honest self.old) (has_room self.new) 0 result }
+        ensures looks { looks self.old self.new }
         ensures keeps { keeps self.old self.new };
 
     /// Writes the bytes at an offset of a file, by a user at a moment (seconds since 1970-01-01 UTC).
@@ -172,7 +183,10 @@ pub trait FileOps {
             (world self.old) (world self.new) result }
         ensures settled { IfOk result (λ _. settled self.new) }
         ensures cause { Refuses (faults self.old) (faults self.new) (honest self.old) (has_room self.new) 0 result }
+        ensures settles { settles self.old self.new }
         ensures keeps { keeps self.old self.new };
+
+    ghost looks_at_once: { (a : Self) → looks a a };
 
     ghost keeps_at_once: { (a : Self) → keeps a a };
 

@@ -15,6 +15,7 @@ use std::alloc::Global;
 pub fn info_at<F: FileOps>(files: &mut F, at: &Place) -> Result<Info, Refusal>
     requires { IsTrue (F.whole files.old) }
     ensures looks { Looks (⟦<F as Stated>⟧.state files.old) (⟦<F as Stated>⟧.state files.new) (λ e w. nine.info_at e w at.now) result }
+    ensures only { F.looks files.old files.new }
     ensures fits { IfOk result InfoFits }
     ensures keeps { F.keeps files.old files.new }
 {

@@ -257,6 +257,7 @@ pub fn restate<F: FileOps>(
 pub fn settle<F: FileOps>(files: &mut F) -> Result<(), Refusal>
     ensures looks { Looks (⟦<F as Stated>⟧.state files.old) (⟦<F as Stated>⟧.state files.new) (λ e w. Ok tt) result }
     ensures settled { IfOk result (λ _. F.settled files.new) }
+    ensures settles { F.settles files.old files.new }
     ensures keeps { F.keeps files.old files.new }
 {
     files.sync()?;

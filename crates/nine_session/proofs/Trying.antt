@@ -23,7 +23,7 @@ use Rattle.nine_files.specs.Answering.{FailsBy, HadRoom, is_file_fault}
 use Rattle.nine_session.specs.Attaching.{version, auth, flush, is_known}
 use Rattle.nine_session.specs.Attempting.{Attempted, Attempts, Looked, Replies, Tried, TriedOver}
 use Rattle.nine_session.specs.Session as session
-use Rattle.nine_session.specs.Session.{Grants, Kept, Needs, Serves, Tells, Told, Touches, IsServed, in_files, kept_of, left_by, most_of, world_after}
+use Rattle.nine_session.specs.Session.{Grants, Kept, Needs, Serves, Tells, Told, Touches, IsServed, in_files, kept_of, left_by, most_of, sure_need, world_after}
 
 -- ---- how a request comes out
 
@@ -49,6 +49,27 @@ attempts_replying told fails z (Err r) h = (inl h, refl)
 had_none : (has_room : ℕ → Type 0) (r : Result Reply Refusal) → HadRoom has_room 0 r
 had_none has_room (Ok x) = λ n has. omega arith
 had_none has_room (Err r) = tt
+
+-- what needs no block on any files
+pub had_any : (has_room : ℕ → Type 0) (need : ℕ) (r : Result Reply Refusal) → need ≡ 0 → IfOk r (λ _. (n : ℕ) → has_room n → need ≤ n)
+had_any has_room need (Ok x) none = λ n has. omega (arith, none)
+had_any has_room need (Err r) none = tt
+
+-- A Rerror grants a Tversion alone, which needs no block.
+no_grant : (k : Kept) (q : Request) (text : List ℕ) → Grants q (reply.Error text) → sure_need k q ≡ 0
+no_grant k (request.Version msize version) text g = refl
+no_grant k (request.Auth afid uname aname) text g = absurd g
+no_grant k (request.Attach fid afid uname aname) text g = absurd g
+no_grant k (request.Flush oldtag) text g = absurd g
+no_grant k (request.Walk fid newfid names) text g = absurd g
+no_grant k (request.Open fid mode) text g = absurd g
+no_grant k (request.Create fid name perm mode) text g = absurd g
+no_grant k (request.Read fid offset count) text g = absurd g
+no_grant k (request.Write fid offset bytes) text g = absurd g
+no_grant k (request.Clunk fid) text g = absurd g
+no_grant k (request.Remove fid) text g = absurd g
+no_grant k (request.Stat fid) text g = absurd g
+no_grant k (request.Wstat fid bytes) text g = absurd g
 
 -- what may want memory alone
 memory_fails : (a : FilesState) (need : ℕ) (granted : Bool) (x : FileError) → x ≡ error.Memory → FailsBy a a need granted x
@@ -92,9 +113,10 @@ module _ (old new : FilesState) (within : Touches) (k k' : Kept) (now : ℕ) (q 
       → Tells old.how (in_files k old.world) now q (told old.how (in_files k old.world))
       → Needs old.how (in_files k old.world) q (need old.how (in_files k old.world))
       → IfOk result (Grants q)
+      → HadRoom old.has_room (sure_need k q) result
       → Attempted old new within k k' told need (most_of (in_files k old.world) q) (λ z. left_by z q) result
       → TriedOver old new within k k' now q result
-  changes_over told need result tells needs grants a = record {
+  changes_over told need result tells needs grants had a = record {
     answer = λ h. record {
       told = told old.how (in_files k old.world);
       need = need old.how (in_files k old.world);
@@ -105,6 +127,7 @@ module _ (old new : FilesState) (within : Touches) (k k' : Kept) (now : ℕ) (q 
       touched = a.touched h;
     };
     grants = grants;
+    had = had;
     cause = a.cause;
     left_is = a.left_is;
     taken = a.taken;
@@ -116,11 +139,12 @@ module _ (old new : FilesState) (within : Touches) (k k' : Kept) (now : ℕ) (q 
       → Needs old.how (in_files k old.world) q 0
       → left_by (in_files k old.world) q ≡ in_files k old.world
       → most_of (in_files k old.world) q ≡ 0
+      → sure_need k q ≡ 0
       → ((w : World) → within w 0)
       → IfOk result (Grants q)
       → Looked old new k k' told result
       → TriedOver old new within k k' now q result
-  looks_over told result tells needs left none any grants l = record {
+  looks_over told result tells needs left none sure any grants l = record {
     answer = λ h. record {
       told = told old.how (in_files k old.world);
       need = 0;
@@ -133,6 +157,7 @@ module _ (old new : FilesState) (within : Touches) (k k' : Kept) (now : ℕ) (q 
       touched = any _;
     };
     grants = grants;
+    had = had_any old.has_room (sure_need k q) result sure;
     cause = subst (λ n. IfErr result (HasCause old new n)) (sym none) l.cause;
     left_is = err_more result (λ _. k' ≡ k) (λ _. k' ≡ kept_of (left_by (in_files k old.world) q)) (λ x e. e ∙ sym (ap kept_of left)) l.left_is;
     taken = (old.world, subst (λ n. within old.world n) (sym none) (any old.world));
@@ -143,7 +168,7 @@ module _ (old new : FilesState) (within : Touches) (k k' : Kept) (now : ℕ) (q 
   served_reply r t = session.as_told t.told t.need t.tells t.needs (rw t.attempts refl) (had_told old.has_room t.need t.told t.room) t.touched
 
   pub serves_reply : (r : Reply) → TriedOver old new within k k' now q (Ok r) → Serves old new within k now q r k'
-  serves_reply r t = record { answer = λ h. served_reply r (t.answer h); answers = inl t.grants; taken = t.taken }
+  serves_reply r t = record { answer = λ h. served_reply r (t.answer h); answers = inl t.grants; had = λ g. t.had; taken = t.taken }
 
   -- a request that is refused
   served_refusal : (why : Refusal) → (t : Tried old.how (FailsBy old new) old.has_room within (in_files k old.world) now q (in_files k' new.world) (Err why)) → IsServed old.how (FailsBy old new) old.has_room within (in_files k old.world) now q (reply.Error (refusal_text why)) (in_files k' new.world)
@@ -154,7 +179,7 @@ module _ (old new : FilesState) (within : Touches) (k k' : Kept) (now : ℕ) (q 
       t.attempts.0
 
   refused_so : (why : Refusal) → TriedOver old new within k k' now q (Err why) → Serves old new within k now q (reply.Error (refusal_text why)) k'
-  refused_so why t = record { answer = λ h. served_refusal why (t.answer h); answers = inr (why, refl, t.cause, t.left_is); taken = t.taken }
+  refused_so why t = record { answer = λ h. served_refusal why (t.answer h); answers = inr (why, refl, t.cause, t.left_is); had = λ g n has. (let none : sure_need k q ≡ 0 = no_grant k q (refusal_text why) g in omega (arith, none)); taken = t.taken }
 
   pub serves_refusal : (why : Refusal) (r : Reply) → r ≡ reply.Error (refusal_text why) → TriedOver old new within k k' now q (Err why) → Serves old new within k now q r k'
   serves_refusal why r is t = let P : Reply → Type 0 = λ x. Serves old new within k now q x k' in subst P (sym is) (refused_so why t)
@@ -221,12 +246,13 @@ module _ (a : FilesState) (within : Touches) (k : Kept) (now : ℕ) where
       → Needs a.how (in_files k a.world) q 0
       → left_by (in_files k a.world) q ≡ in_files k a.world
       → most_of (in_files k a.world) q ≡ 0
+      → sure_need k q ≡ 0
       → ((w : World) → within w 0)
       → ((r : Reply) → told ≡ Ok (r, in_files k a.world) → Grants q r)
       → ((why : Refusal) → told ≡ Err why → is_failure why ≡ false)
       → Replies told (in_files k a.world) result
       → TriedOver a a within k k now q result
-  replies_over q told result tells needs left none any grants plain h = record {
+  replies_over q told result tells needs left none sure any grants plain h = record {
     answer = λ honest. record {
       told = told;
       need = 0;
@@ -239,6 +265,7 @@ module _ (a : FilesState) (within : Touches) (k : Kept) (now : ℕ) where
       touched = any _;
     };
     grants = replies_grants q told result grants h;
+    had = had_any a.has_room (sure_need k q) result sure;
     cause = subst (λ n. IfErr result (HasCause a a n)) (sym none) (replies_cause q told result plain h);
     left_is = err_always result (k ≡ kept_of (left_by (in_files k a.world) q)) (sym (ap kept_of left));
     taken = (a.world, subst (λ n. within a.world n) (sym none) (any a.world));
@@ -248,14 +275,14 @@ module _ (a : FilesState) (within : Touches) (k : Kept) (now : ℕ) where
       → Replies (auth (in_files k a.world)) (in_files k a.world) result → TriedOver a a within k k now (request.Auth afid uname aname) result
   unfolding auth
   auth_over afid uname aname result any h =
-      replies_over (request.Auth afid uname aname) (denied k.session.msize) result refl refl refl refl any
+      replies_over (request.Auth afid uname aname) (denied k.session.msize) result refl refl refl refl refl any
       (λ r is. absurd (denied_ever k.session.msize (r, in_files k a.world) is)) (denied_plain k.session.msize) h
 
   pub flush_over : (oldtag : ℕ) (result : Result Reply Refusal) → ((w : World) → within w 0)
       → Replies (flush (in_files k a.world)) (in_files k a.world) result → TriedOver a a within k k now (request.Flush oldtag) result
   unfolding flush
   flush_over oldtag result any h =
-      replies_over (request.Flush oldtag) (idle k.session.msize (in_files k a.world)) result refl refl refl refl any
+      replies_over (request.Flush oldtag) (idle k.session.msize (in_files k a.world)) result refl refl refl refl refl any
       (idle_reply k.session.msize (in_files k a.world) oldtag) (idle_plain k.session.msize (in_files k a.world)) h
 
   module _ (k' : Kept) (msize : ℕ) (text : List ℕ) where
@@ -286,6 +313,7 @@ module _ (a : FilesState) (within : Touches) (k : Kept) (now : ℕ) where
         touched = any _;
       };
       grants = version_replies result h;
+      had = had_any a.has_room 0 result refl;
       cause = version_cause result h;
       left_is = version_leaves result h;
       taken = (a.world, any a.world);

@@ -1,5 +1,5 @@
 -- What the private calls of a session answer.
-use Rattle.std.specs.Prelude.{◌≡◌, ℕ, List, Bool, true, false, Option, Some, None, Result, Ok, Err, MatchResult, IfOk, IfErr, is_ok, not, ◌&&◌, length, ◌==◌, nat_lt, nat_le}
+use Rattle.std.specs.Prelude.{◌≡◌, ◌≤◌, ℕ, List, Bool, true, false, Option, Some, None, Result, Ok, Err, MatchResult, IfOk, IfErr, is_ok, not, ◌&&◌, length, ◌==◌, nat_lt, nat_le}
 use Rattle.nine_wire.specs.declared.message.Request.{Request}
 use Rattle.nine_wire.specs.Message.{ReplyFits}
 use Rattle.nine_wire.specs.declared.message.Reply.{Reply}
@@ -18,7 +18,7 @@ use Rattle.nine_fids.specs.Told.{Files}
 use Rattle.nine_session.specs.Opening.{listed}
 use Rattle.nine_fids.specs.Looking.{FilesState, HasCause, MayMiss}
 use Rattle.nine_files.specs.Answering.{FailsBy, HadRoom, is_file_fault}
-use Rattle.nine_session.specs.Session.{AgreesWithin, Fails, Grants, Kept, Needs, Tells, Told, Touches, in_files, kept_of, left_by, most_of, world_after}
+use Rattle.nine_session.specs.Session.{AgreesWithin, Fails, Grants, Kept, Needs, Tells, Told, Touches, in_files, kept_of, left_by, most_of, sure_need, world_after}
 
 -- a session with the list of exclusive opens
 abbrev pub kept : Fids → List ℕ → Kept
@@ -79,6 +79,7 @@ pub record Tried (e : Files) (fails : Fails) (has_room : ℕ → Type 0) (within
 pub record TriedOver (old new : FilesState) (within : Touches) (k k' : Kept) (now : ℕ) (q : Request) (result : Result Reply Refusal) : Type 0 where
   pub answer : old.honest → Tried old.how (FailsBy old new) old.has_room within (in_files k old.world) now q (in_files k' new.world) result
   pub grants : IfOk result (Grants q)
+  pub had : IfOk result (λ _. (n : ℕ) → old.has_room n → sure_need k q ≤ n)
   pub cause : IfErr result (HasCause old new (most_of (in_files k old.world) q))
   pub left_is : IfErr result (λ _. k' ≡ kept_of (left_by (in_files k old.world) q))
   pub taken : (w : World) × within w (most_of (in_files k old.world) q)

@@ -171,11 +171,19 @@ Grants _ _ = ⊥
 abbrev pub IsAnswered : FilesState → FilesState → Kept → Request → ℕ → Reply → Kept → Type 0
 IsAnswered old new k q most r k' = Grants q r ⊎ ((why : Refusal) × (r ≡ reply.Error (refusal_text why)) × HasCause old new most why × (k' ≡ kept_of (left_by (in_files k old.world) q)))
 
+-- what a request needs on whatever files, where it is granted: a Tcreate, a Twrite and a Tremove
+abbrev pub sure_need : Kept → Request → ℕ
+sure_need k (request.Create fid name perm mode) = need_at (known fid k.session.fids) (λ f. step.create_need f.place)
+sure_need k (request.Write fid offset bytes) = need_at (known fid k.session.fids) (λ f. step.write_need f.place bytes)
+sure_need k (request.Remove fid) = need_at (known fid k.session.fids) remove_need
+sure_need k _ = 0
+
 -- What a session answers over files: where they are honest what the definition says; over any files an answer of its request's kind,
--- with its cause, and no more blocks taken than the request may need.
+-- with its cause, granted only with room for its need, and no more blocks taken than the request may need.
 pub record Serves (old new : FilesState) (within : Touches) (k : Kept) (now : ℕ) (q : Request) (r : Reply) (k' : Kept) : Type 0 where
   pub answer : old.honest → IsServed old.how (FailsBy old new) old.has_room within (in_files k old.world) now q r (in_files k' new.world)
   pub answers : IsAnswered old new k q (most_of (in_files k old.world) q) r k'
+  pub had : Grants q r → (n : ℕ) → old.has_room n → sure_need k q ≤ n
   pub taken : (w : World) × within w (most_of (in_files k old.world) q)
 
 -- ---- the sync that a client asks for
@@ -188,6 +196,10 @@ touches_nothing s = not (changing.touches_fixed s || changing.touches (change_of
 abbrev pub AsksSync : Request → Type 0
 AsksSync (request.Wstat fid stat) = (s : Stat) × IsRecord stat s × IsTrue (touches_nothing s)
 AsksSync _ = ⊥
+
+-- The files were only looked at, and then settled at most once.
+abbrev pub SettlesOnce : {F : Type 0} → (looks settles : F → F → Type 0) → F → F → Type 0
+SettlesOnce {F = F} looks settles old new = looks old new ⊎ ((mid : F) × looks old mid × settles mid new)
 
 -- ---- the end of a session
 

@@ -24,6 +24,7 @@ impl Session {
     ghost use Rattle.nine_fids.specs.Fids.{known};
     ghost use Rattle.nine_fids.specs.Told.{served};
     ghost use Rattle.nine_wire.specs.declared.message.Request.TheVariants as request;
+    ghost use Rattle.nine_files.specs.Answering.{HadRoom};
     ghost use Rattle.nine_files.specs.Granting.{admitted};
     ghost use Rattle.nine_session.specs.Session.{Grants, in_files, most_of, need_at, opening_need};
     ghost use Rattle.nine_session.specs.Attempting.{state, kept, Attempted, IsSent, with_put};
@@ -100,6 +101,7 @@ impl Session {
             (kept self.old exclusive.old.items) (kept self.new exclusive.new.items)
             (λ e z. nine.create_file e z now fid name.now perm mode)
             (λ e z. need_at (known fid z.session.fids) (λ f. step.create_need f.place)) (need_at (known fid self.old.fids) (λ f. step.create_need f.place)) (λ z. z) result }
+        ensures room { HadRoom (F.has_room files.old) (need_at (known fid self.old.fids) (λ f. step.create_need f.place)) result }
         ensures part { IfOk result (λ r. Grants (request.Create fid name.now perm mode) r) }
         ensures sends { IsSent result }
     {

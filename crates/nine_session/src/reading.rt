@@ -34,6 +34,7 @@ impl Session {
     ghost use Rattle.nine_fids.specs.Told.{served};
     ghost use Rattle.nine_wire.specs.declared.message.Request.TheVariants as request;
     ghost use Rattle.nine_wire.specs.declared.message.Reply.TheVariants as reply;
+    ghost use Rattle.nine_files.specs.Answering.{HadRoom};
     ghost use Rattle.nine_session.specs.Session.{Grants, need_at};
     ghost use Rattle.nine_session.specs.Reading as nine;
     ghost use Rattle.nine_session.specs.Attempting.{state, kept, Attempted, Looked, IsSent};
@@ -117,6 +118,7 @@ impl Session {
             (kept self.now x) (kept self.now x)
             (λ e z. nine.write e z now fid offset bytes.now)
             (λ e z. need_at (fids.known fid z.session.fids) (λ f. step.write_need f.place bytes.now)) (need_at (fids.known fid self.now.fids) (λ f. step.write_need f.place bytes.now)) (λ z. z) result }
+        ensures room { HadRoom (F.has_room files.old) (need_at (fids.known fid self.now.fids) (λ f. step.write_need f.place bytes.now)) result }
         ensures part { IfOk result (λ r. r ≡ reply.Write (length bytes.now)) }
         ensures sends { IsSent result }
     {

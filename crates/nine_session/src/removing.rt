@@ -20,6 +20,7 @@ impl Session {
     ghost use Rattle.nine_wire.specs.declared.message.Request.TheVariants as request;
     ghost use Rattle.nine_fids.specs.declared.fid.Fid.{Fid};
     ghost use Rattle.nine_fids.specs.Fids.{fid_of, known, clunked};
+    ghost use Rattle.nine_files.specs.Answering.{HadRoom};
     ghost use Rattle.nine_files.specs.Removing.{close_need, most_close, remove_need};
     ghost use Rattle.nine_session.specs.Session.{Grants, need_at, without_fid};
     ghost use Rattle.nine_session.specs.Attempting.{state, kept, let_go, Attempted, IsSent};
@@ -87,6 +88,7 @@ impl Session {
             (kept self.old exclusive.old.items) (kept self.new exclusive.new.items)
             (λ e z. nine.remove e z now fid)
             (λ e z. need_at (known fid z.session.fids) remove_need) (need_at (known fid self.old.fids) remove_need) (λ z. without_fid z z.session.msize (known fid z.session.fids)) result }
+        ensures room { HadRoom (F.has_room files.old) (need_at (known fid self.old.fids) remove_need) result }
         ensures part { IfOk result (λ r. Grants (request.Remove fid) r) }
         ensures sends { IsSent result }
     {

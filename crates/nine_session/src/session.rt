@@ -49,7 +49,7 @@ impl Session {
     ghost use Rattle.nine_fids.specs.Fids as nine;
     ghost use Rattle.nine_fids.specs.Fids.{no_fids};
     ghost use Rattle.nine_fids.specs.Told.{served};
-    ghost use Rattle.nine_session.specs.Session.{AsksSync, Serves, Drops, AgreesWithin};
+    ghost use Rattle.nine_session.specs.Session.{AsksSync, Serves, SettlesOnce, Drops, AgreesWithin};
     ghost use Rattle.nine_session.specs.Attempting.{state, kept, let_go, TriedOver, IsSent};
     ghost use Rattle.nine_fids.specs.declared.refusal.Refusal.TheVariants as refusal;
 
@@ -117,6 +117,7 @@ impl Session {
             (kept self.old exclusive.old.items) (kept self.new exclusive.new.items) now request result }
         ensures sends { IsSent result }
         ensures settled { AsksSync request → IfOk result (λ _. F.settled files.new) }
+        ensures settles { AsksSync request → SettlesOnce F.looks F.settles files.old files.new }
     {
         match request {
             Request::Version { msize, version } => self.agree(exclusive, msize, &version),
@@ -172,8 +173,9 @@ impl Session {
         ensures fits { ReplyFits result }
         ensures size { AgreesWithin result }
 
-        // Once a Twstat that touches nothing is answered Rwstat, all that was changed is settled.
+        // Once a Twstat that touches nothing is answered Rwstat, all that was changed is settled. It looks, and settles once.
         ensures settled { AsksSync request → result ≡ reply.Wstat → F.settled files.new }
+        ensures settles { AsksSync request → SettlesOnce F.looks F.settles files.old files.new }
     {
         let mut known_users = self.take_users();
         let attempted = self.attempt(files, &mut known_users, exclusive, now, request);

@@ -27,7 +27,7 @@ impl Session {
     ghost use Rattle.fo_world.specs.Step as step;
     ghost use Rattle.nine_fids.specs.Fids.{known};
     ghost use Rattle.nine_files.specs.Stating.{change_of};
-    ghost use Rattle.nine_session.specs.Session.{Grants, need_at, touches_nothing};
+    ghost use Rattle.nine_session.specs.Session.{Grants, SettlesOnce, need_at, touches_nothing};
     ghost use Rattle.nine_session.specs.Attempting.{state, kept, Attempted, Looked, IsSent};
     ghost use Rattle.nine_session.specs.Stating as nine;
 
@@ -70,6 +70,7 @@ impl Session {
         ensures part { IfOk result (λ r. Grants (request.Wstat fid stat.now) r) }
         ensures sends { IsSent result }
         ensures settled { (s : Stat) → IsRecord stat.now s → IsTrue (touches_nothing s) → IfOk result (λ _. F.settled files.new) }
+        ensures settles { (s : Stat) → IsRecord stat.now s → IsTrue (touches_nothing s) → SettlesOnce F.looks F.settles files.old files.new }
     {
         self.version()?;
         let from = self.fid(fid)?;

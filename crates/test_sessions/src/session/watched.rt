@@ -43,6 +43,12 @@ impl FileOps for Watched {
 
     ghost settled = { λ s. s.unsettled ≡ false };
 
+    ghost looks = { λ a b. kept b.files ≡ kept a.files };
+
+    ghost settles = { λ a b. kept b.files ≡ kept a.files };
+
+    ghost looks_at_once = { λ a. refl };
+
     // The world stays.
     ghost keeps = { λ a b. kept b.files ≡ kept a.files };
 

@@ -15,12 +15,14 @@ returns-clause-fewer g c =
       sessions = c.args.self.now.sessions;
       seen = seen (parts was.on.cache.mind (g.D.Disk.state was.on.cache.main).holds (g.D.Disk.faults was.on.cache.main)) (g.D.Disk.size was.on.cache.main) was.on.arena.shelf (g.A.Disk.state was.on.arena.device) (g.A.Disk.faults was.on.arena.device);
       main = g.D.Disk.state was.on.cache.main;
+      calls = g.D.Disk.calls was.on.cache.main;
       halted = was.halted;
     } in
     let new : Moment = record {
       sessions = c.drop_one.new.self;
       seen = seen (parts is.on.cache.mind (g.D.Disk.state is.on.cache.main).holds (g.D.Disk.faults is.on.cache.main)) (g.D.Disk.size is.on.cache.main) is.on.arena.shelf (g.A.Disk.state is.on.arena.device) (g.A.Disk.faults is.on.arena.device);
       main = g.D.Disk.state is.on.cache.main;
+      calls = g.D.Disk.calls is.on.cache.main;
       halted = is.halted;
     } in
     drops.fewer (files old) (files new) (within old new) (kept_at c.args.session c.args.self.now.sessions) (kept_at c.args.session c.drop_one.new.self) c.args.now c.drop_one.result.0 c.drop_one.result.1 c.drop_one.ensures.drops
@@ -33,12 +35,14 @@ returns-clause-goes g c =
       sessions = c.args.self.now.sessions;
       seen = seen (parts was.on.cache.mind (g.D.Disk.state was.on.cache.main).holds (g.D.Disk.faults was.on.cache.main)) (g.D.Disk.size was.on.cache.main) was.on.arena.shelf (g.A.Disk.state was.on.arena.device) (g.A.Disk.faults was.on.arena.device);
       main = g.D.Disk.state was.on.cache.main;
+      calls = g.D.Disk.calls was.on.cache.main;
       halted = was.halted;
     } in
     let new : Moment = record {
       sessions = c.drop_one.new.self;
       seen = seen (parts is.on.cache.mind (g.D.Disk.state is.on.cache.main).holds (g.D.Disk.faults is.on.cache.main)) (g.D.Disk.size is.on.cache.main) is.on.arena.shelf (g.A.Disk.state is.on.arena.device) (g.A.Disk.faults is.on.arena.device);
       main = g.D.Disk.state is.on.cache.main;
+      calls = g.D.Disk.calls is.on.cache.main;
       halted = is.halted;
     } in
     let d = c.drop_one.ensures.drops in

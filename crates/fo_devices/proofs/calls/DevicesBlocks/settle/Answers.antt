@@ -34,3 +34,6 @@ returns-clause-known g c =
 
 pub returns-clause-keeps : goal.returns-clause-keeps
 returns-clause-keeps g c = record { parts = c.settle.ensures.keeps; same_size = c.settle.ensures.size; same_shelf = refl; same_stored = refl; more_faults = omega arith }
+
+pub returns-clause-settles : goal.returns-clause-settles
+returns-clause-settles g c = c.settle.ensures.costs

@@ -14,3 +14,6 @@ returns-clause-keeps g c =
       dirties = looks_quiet all l.0;
       same_halted = refl;
     }
+
+pub returns-clause-looks : goal.returns-clause-looks
+returns-clause-looks g c = c.parent.ensures.looks.0

@@ -12,7 +12,7 @@ use Rattle.nine_session.specs.Walking as walking
 use Rattle.nine_session.specs.Attempting.{kept}
 use Rattle.nine_session.specs.Session.{need_at}
 use Rattle.nine_session.proofs.Records.{record_there}
-use Rattle.nine_session.proofs.Trying.{auth_over, changes_over, flush_over, looks_over, version_over, wrote}
+use Rattle.nine_session.proofs.Trying.{auth_over, changes_over, flush_over, had_any, looks_over, version_over, wrote}
 use Rattle.nine_session.proofs.session.Session.attempt.Goals as goal
 
 pub returns-in-Version-clause-tried : goal.returns-in-Version-clause-tried
@@ -42,7 +42,7 @@ returns-in-Attach-clause-tried g c =
     let f' = c.attach.new.files in
     let x = c.args.exclusive.now.items in
     rw c.in-Attach.is (looks_over _ _ (λ w n. g.F.FileOps.touches f w n f') (kept c.args.self.now x) (kept c.attach.new.self x) c.args.now (request.Attach c.in-Attach.fid c.in-Attach.afid c.in-Attach.uname c.in-Attach.aname)
-    (λ e z. attaching.attach e z c.in-Attach.fid c.in-Attach.afid c.in-Attach.uname c.in-Attach.aname) c.attach.result refl refl refl refl
+    (λ e z. attaching.attach e z c.in-Attach.fid c.in-Attach.afid c.in-Attach.uname c.in-Attach.aname) c.attach.result refl refl refl refl refl
     (λ w. g.met.F.FileOps.keeps_touches f f' w c.attach.ensures.keeps) c.attach.ensures.part (c.attach.ensures.looked x))
 
 pub returns-in-Walk-clause-tried : goal.returns-in-Walk-clause-tried
@@ -51,7 +51,7 @@ returns-in-Walk-clause-tried g c =
     let f' = c.walk.new.files in
     let x = c.args.exclusive.now.items in
     rw c.in-Walk.is (looks_over _ _ (λ w n. g.F.FileOps.touches f w n f') (kept c.args.self.now x) (kept c.walk.new.self x) c.args.now (request.Walk c.in-Walk.fid c.in-Walk.newfid c.in-Walk.names)
-    (λ e z. walking.walk e z c.in-Walk.fid c.in-Walk.newfid c.in-Walk.names) c.walk.result refl refl refl refl
+    (λ e z. walking.walk e z c.in-Walk.fid c.in-Walk.newfid c.in-Walk.names) c.walk.result refl refl refl refl refl
     (λ w. g.met.F.FileOps.keeps_touches f f' w c.walk.ensures.keeps) c.walk.ensures.part (c.walk.ensures.looked x))
 
 pub returns-in-Read-clause-tried : goal.returns-in-Read-clause-tried
@@ -60,7 +60,7 @@ returns-in-Read-clause-tried g c =
     let f' = c.read.new.files in
     let x = c.args.exclusive.now.items in
     rw c.in-Read.is (looks_over _ _ (λ w n. g.F.FileOps.touches f w n f') (kept c.args.self.now x) (kept c.read.new.self x) c.args.now (request.Read c.in-Read.fid c.in-Read.offset c.in-Read.count)
-    (λ e z. reading.read e z c.in-Read.fid c.in-Read.offset c.in-Read.count) c.read.result refl refl refl refl
+    (λ e z. reading.read e z c.in-Read.fid c.in-Read.offset c.in-Read.count) c.read.result refl refl refl refl refl
     (λ w. g.met.F.FileOps.keeps_touches f f' w c.read.ensures.keeps) c.read.ensures.part (c.read.ensures.looked x))
 
 pub returns-in-Stat-clause-tried : goal.returns-in-Stat-clause-tried
@@ -69,7 +69,7 @@ returns-in-Stat-clause-tried g c =
     let f' = c.stat.new.files in
     let x = c.args.exclusive.now.items in
     rw c.in-Stat.is (looks_over _ _ (λ w n. g.F.FileOps.touches f w n f') (kept c.args.self.now x) (kept c.args.self.now x) c.args.now (request.Stat c.in-Stat.fid)
-    (λ e z. stating.stat e z c.in-Stat.fid) c.stat.result refl refl refl refl
+    (λ e z. stating.stat e z c.in-Stat.fid) c.stat.result refl refl refl refl refl
     (λ w. g.met.F.FileOps.keeps_touches f f' w c.stat.ensures.keeps) c.stat.ensures.part (c.stat.ensures.looked x))
 
 pub returns-in-Write-clause-tried : goal.returns-in-Write-clause-tried
@@ -80,7 +80,7 @@ returns-in-Write-clause-tried g c =
     rw c.in-Write.is (changes_over _ _ (λ w n. g.F.FileOps.touches f w n f') (kept c.args.self.now x) (kept c.args.self.now x) c.args.now (request.Write c.in-Write.fid c.in-Write.offset c.in-Write.bytes)
     (λ e z. reading.write e z c.args.now c.in-Write.fid c.in-Write.offset c.in-Write.bytes)
     (λ e z. need_at (known c.in-Write.fid z.session.fids) (λ at. step.write_need at.place c.in-Write.bytes)) c.write.result refl refl
-    (wrote c.in-Write.fid c.in-Write.offset c.in-Write.bytes c.write.result c.write.ensures.part) (c.write.ensures.attempted x))
+    (wrote c.in-Write.fid c.in-Write.offset c.in-Write.bytes c.write.result c.write.ensures.part) c.write.ensures.room (c.write.ensures.attempted x))
 
 pub returns-clause-tried : goal.returns-clause-tried
 returns-clause-tried g c =
@@ -92,4 +92,4 @@ returns-clause-tried g c =
     rw c.in-Wstat.is (changes_over _ _ (λ w n. g.F.FileOps.touches f w n f') (kept c.args.self.now x) (kept c.args.self.now x) c.args.now (request.Wstat c.in-Wstat.fid c.in-Wstat.stat)
     (λ e z. stating.wstat e z c.args.now c.in-Wstat.fid s.0)
     (λ e z. need_at (known c.in-Wstat.fid z.session.fids) (λ at. step.change_need e.whole z.world at.place (change_of s.0))) c.wstat.result (s.0, s.1, refl) (s.0, s.1, refl)
-    c.wstat.ensures.part (c.wstat.ensures.attempted x s.0 s.1))
+    c.wstat.ensures.part (had_any (g.F.FileOps.has_room f) 0 c.wstat.result refl) (c.wstat.ensures.attempted x s.0 s.1))

@@ -161,3 +161,10 @@ returns-clause-attempted g c =
     (changes_after _ b _ _ (λ w n. g.F.FileOps.touches mid w n c.create.new.self) (λ e w. changed (makes e w)) need _ _ (follows _ _ (met.keeps_whole _ _ k) (met.keeps_largest _ _ k) (met.keeps_faults _ _ k) (met.keeps_honest _ _ k)) looks.world (λ n. met.keeps_room _ _ n k) (λ w n. met.keeps_then _ _ _ w n k)
     (makes_ok b _ _ makes need _ info answer (λ h. c.in_ok-info.ensures.room) (λ h. touched) (_, touched)))
     (λ h. create_replies (qid_of info) c.qid_of-qid.result (iounit c.in_ok-msize.msize) c.saturating_sub.result _ _ c.qid_of-qid.ensures c.saturating_sub.ensures put))
+
+pub returns-clause-room : goal.returns-clause-room
+returns-clause-room g c =
+    let x = c.args.exclusive.now.items in
+    let there = c.in_ok-from.ensures x (g.F.FileOps.world c.args.files.now) in
+    let enough = need_there (known c.args.fid c.args.self.now.fids) c.in_ok-from.from.now (λ f. step.create_need f.place) there in
+    λ n has. rw enough (c.in_ok-info.ensures.room n (g.met.F.FileOps.keeps_room _ _ n c.admit_new.ensures.keeps has))

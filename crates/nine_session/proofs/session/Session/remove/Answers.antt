@@ -82,3 +82,9 @@ returns-clause-attempted g c =
     (led_granted _ _ _ _ _ _ _ _ _ (λ e v. removed_there e v f c.args.now) (λ e v. remove_need f) (λ v. (reply.Remove, clunked (in_world z v) f))
     (λ h. remove_known _ z c.args.now c.args.fid _ f v k) (λ v. refl) (λ h. refl) reply.Remove c.in_ok-removed.ensures.changes
     (λ h. ap (λ (s : State). (reply.Remove, s)) (sym (c.let_go.ensures then ∙ gone_is (state c.args.self.now c.args.exclusive.now.items then) c.args.fid f found))))
+
+pub returns-clause-room : goal.returns-clause-room
+returns-clause-room g c =
+    let z : State = state c.args.self.now c.args.exclusive.now.items (g.F.FileOps.world c.args.files.now) in
+    let enough = need_there (known c.args.fid z.session.fids) c.in_ok-from.from.now remove_need (c.in_ok-from.ensures z.exclusive z.world) in
+    λ n has. rw enough (c.in_ok-removed.ensures.room n has)

@@ -180,3 +180,19 @@ pub returns-then-is_empty-clause-part : goal.returns-then-is_empty-clause-part
 returns-then-is_empty-clause-part g c =
     let none : (length c.args.bytes.now == 0) ≡ true = ap (λ (bs : List ℕ). length bs == 0) (sym c.as_slice-bytes.ensures) ∙ sym c.is_empty.ensures ∙ c.if-is_empty.true in
     ap reply.Write (no_bytes c.args.bytes.now none)
+
+pub returns-then-is_empty-clause-room : goal.returns-then-is_empty-clause-room
+returns-then-is_empty-clause-room g c =
+    let bytes = c.args.bytes.now in
+    let f = c.in_ok-from.from.now in
+    let none : (length bytes == 0) ≡ true = ap (λ (bs : List ℕ). length bs == 0) (sym c.as_slice-bytes.ensures) ∙ sym c.is_empty.ensures ∙ c.if-is_empty.true in
+    let enough = need_there (known c.args.fid c.args.self.now.fids) f (λ f. step.write_need f.place bytes) (c.in_ok-from.ensures [] (g.F.FileOps.world c.args.files.now)) ∙ none_needed f.place bytes none in
+    λ n has. rw enough (omega arith)
+
+pub returns-clause-room : goal.returns-clause-room
+returns-clause-room g c =
+    let bytes = c.args.bytes.now in
+    let f = c.in_ok-from.from.now in
+    let enough = need_there (known c.args.fid c.args.self.now.fids) f (λ f. step.write_need f.place bytes) (c.in_ok-from.ensures [] (g.F.FileOps.world c.args.files.now)) in
+    let room = rw c.as_slice-bytes.ensures at c.in_ok-write_bytes.ensures.room in
+    λ n has. rw enough (room n (g.met.F.FileOps.keeps_room _ _ n c.info_at.ensures.keeps has))

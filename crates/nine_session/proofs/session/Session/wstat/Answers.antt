@@ -1,4 +1,4 @@
-use Rattle.std.proofs.Common.{◌≡◌, true, false, not, [], Ok, sym, ap, ◌∙◌, subst, refl, arith}
+use Rattle.std.proofs.Common.{◌≡◌, true, false, not, [], Ok, sym, ap, ◌∙◌, subst, refl, inl, inr, arith}
 use Rattle.std.specs.Prelude.{◌||◌}
 use Rattle.std.proofs.lemmas.Bool.{true≢false}
 use Rattle.std.proofs.lemmas.Result.{err_from_is_err_and}
@@ -161,6 +161,40 @@ returns-clause-attempted g c = λ x s rec.
 
 pub returns-clause-settled : goal.returns-clause-settled
 returns-clause-settled g c = λ s rec idle.
+    let same : c.in_ok-stat.stat ≡ s = c.in_ok-stat.ensures.only s rec in
+    let fixed : c.touches_fixed-fixed.result ≡ touches_fixed s = c.touches_fixed-fixed.ensures ∙ ap touches_fixed same in
+    let what : c.change_of-what.result ≡ change_of s = c.change_of-what.ensures ∙ ap change_of same in
+    let busy : (touches_fixed s || touches (change_of s)) ≡ true = asks_same c.touches_fixed-fixed.result (touches_fixed s) c.change_of-what.result (change_of s) true fixed what (c.is_idle.ensures ∙ ap not c.if-is_idle.false) in
+    absurd (true≢false (sym (rw busy at idle)))
+
+pub returns-in_err-version-clause-settles : goal.returns-in_err-version-clause-settles
+returns-in_err-version-clause-settles g c = λ s rec idle. inl (g.met.F.FileOps.looks_at_once c.args.files.now)
+
+pub returns-in_err-from-clause-settles : goal.returns-in_err-from-clause-settles
+returns-in_err-from-clause-settles g c = λ s rec idle. inl (g.met.F.FileOps.looks_at_once c.args.files.now)
+
+pub returns-in_err-info-clause-settles : goal.returns-in_err-info-clause-settles
+returns-in_err-info-clause-settles g c = λ s rec idle. inl c.info_at.ensures.only
+
+pub returns-in_err-stat-clause-settles : goal.returns-in_err-stat-clause-settles
+returns-in_err-stat-clause-settles g c = λ s rec idle. inl c.info_at.ensures.only
+
+pub returns-in_err-settle-clause-settles : goal.returns-in_err-settle-clause-settles
+returns-in_err-settle-clause-settles g c = λ s rec idle. inr (c.info_at.new.files, c.info_at.ensures.only, c.settle.ensures.settles)
+
+pub returns-then-is_idle-clause-settles : goal.returns-then-is_idle-clause-settles
+returns-then-is_idle-clause-settles g c = λ s rec idle. inr (c.info_at.new.files, c.info_at.ensures.only, c.settle.ensures.settles)
+
+pub returns-in_err-restate-clause-settles : goal.returns-in_err-restate-clause-settles
+returns-in_err-restate-clause-settles g c = λ s rec idle.
+    let same : c.in_ok-stat.stat ≡ s = c.in_ok-stat.ensures.only s rec in
+    let fixed : c.touches_fixed-fixed.result ≡ touches_fixed s = c.touches_fixed-fixed.ensures ∙ ap touches_fixed same in
+    let what : c.change_of-what.result ≡ change_of s = c.change_of-what.ensures ∙ ap change_of same in
+    let busy : (touches_fixed s || touches (change_of s)) ≡ true = asks_same c.touches_fixed-fixed.result (touches_fixed s) c.change_of-what.result (change_of s) true fixed what (c.is_idle.ensures ∙ ap not c.if-is_idle.false) in
+    absurd (true≢false (sym (rw busy at idle)))
+
+pub returns-clause-settles : goal.returns-clause-settles
+returns-clause-settles g c = λ s rec idle.
     let same : c.in_ok-stat.stat ≡ s = c.in_ok-stat.ensures.only s rec in
     let fixed : c.touches_fixed-fixed.result ≡ touches_fixed s = c.touches_fixed-fixed.ensures ∙ ap touches_fixed same in
     let what : c.change_of-what.result ≡ change_of s = c.change_of-what.ensures ∙ ap change_of same in
