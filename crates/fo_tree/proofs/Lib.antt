@@ -1,3 +1,4 @@
 pub mod Looking
 pub mod Hanging
 pub mod Relinking
+pub mod Beside

@@ -7,9 +7,15 @@ use fo_tree_grown::own_leaf;
 use fo_tree_trim::is_clear_behind;
 
 impl<B: Blocks> Bytes<B> for Source {
-    ghost use Rattle.std.specs.Prelude.{refl};
+    ghost use Rattle.std.specs.Prelude.{◌≡◌, ◌≢◌, ◌⊎◌, ◌+◌, ◌*◌, ◌/◌, ◌<◌, ◌≤◌, ℕ, refl, length, max};
+    ghost use Rattle.fo_image.specs.declared.types.Pointer.{Pointer};
+    ghost use Rattle.fo_image.specs.declared.types.Pointer.TheVariants.{Nil, Local};
+    ghost use Rattle.fo_sparse.specs.Written.{written};
+    ghost use Rattle.fo_ports.specs.State.{none};
+    ghost use Rattle.fo_ports.specs.Sources.{IsPlain, Changes, Grows, ComesFor, Dirties, most_for};
     ghost use Rattle.fo_tree_look.specs.Source.{form_of, leaves_of, Over};
     ghost use Rattle.fo_tree_down.specs.Clear.{EndsClear};
+    ghost use Rattle.fo_tree.specs.Writes.{LeavesBeside};
     ghost use Rattle.fo_tree.specs.Laws.{none_held_at, none_from, two_apart, leaf_has, top_has, stands_at, place_at, tag_at, live_at, says_of, keeps_over, keeps_leaves, keeps_current, keeps_clear, keeps_prepared, part_of};
 
     ghost form = { λ s. form_of s.ways.tree s.ways.generation s.ways.limit };
@@ -51,7 +57,26 @@ impl<B: Blocks> Bytes<B> for Source {
         Ok(())
     }
 
-    fn write(&mut self, on: &mut B, offset: u64, piece: &[u8]) {
+    /// As the trait says, and all leaves beside the piece stay, also in each image.
+    fn write(&mut self, on: &mut B, offset: u64, piece: &[u8])
+        requires over { Over (B.state on.old) self.old.ways.tree self.old.ways.kept.items self.old.ways.limit }
+        requires kind { IsPlain (form_of self.old.ways.tree self.old.ways.generation self.old.ways.limit) }
+        requires prepared { (leaves_of (B.state on.old) self.old.ways.tree self.old.ways.kept.items self.old.ways.limit).prepared offset (length piece.now) }
+        requires spare { most_for (max self.old.ways.tree.size (offset + length piece.now)) (length piece.now) ≤ (B.state on.old).spare }
+        requires trimmed { self.old.ways.tree.size < offset + length piece.now → EndsClear (B.state on.old) self.old.ways.tree self.old.ways.kept.items }
+        ensures size { (length piece.now ≡ 0 → self.new.ways.tree.size ≡ self.old.ways.tree.size) × (0 < length piece.now → self.new.ways.tree.size ≡ max self.old.ways.tree.size (offset + length piece.now)) }
+        ensures bytes { (B.state on.old).tells → (leaves_of (B.state on.new) self.new.ways.tree self.new.ways.kept.items self.new.ways.limit).bytes ≡ written (leaves_of (B.state on.old) self.old.ways.tree self.old.ways.kept.items self.old.ways.limit).bytes offset piece.now }
+        ensures over { Over (B.state on.new) self.new.ways.tree self.new.ways.kept.items self.new.ways.limit × (form_of self.new.ways.tree self.new.ways.generation self.new.ways.limit ≡ form_of self.old.ways.tree self.old.ways.generation self.old.ways.limit) }
+        ensures grows { Grows (B.state on.old) (B.state on.new) (leaves_of (B.state on.old) self.old.ways.tree self.old.ways.kept.items self.old.ways.limit) (leaves_of (B.state on.new) self.new.ways.tree self.new.ways.kept.items self.new.ways.limit) }
+        ensures spare { (B.state on.old).spare ≤ (B.state on.new).spare + most_for (max self.old.ways.tree.size (offset + length piece.now)) (length piece.now) }
+        ensures dirties { Dirties (2 * most_for (max self.old.ways.tree.size (offset + length piece.now)) (length piece.now)) none (B.state on.old) (B.state on.new) }
+        ensures room { (B.state on.new).room ≡ (B.state on.old).room }
+        ensures trimmed { (B.state on.old).tells ⊎ ((self.old.ways.tree.size ≤ 8192 * (offset / 8192 + 1)) × (offset + length piece.now ≤ 8192 * (offset / 8192 + 1))) → EndsClear (B.state on.old) self.old.ways.tree self.old.ways.kept.items → EndsClear (B.state on.new) self.new.ways.tree self.new.ways.kept.items }
+        ensures comes { (B.state on.old).tells → (from : Pointer) → ComesFor (B.state on.old) self.old.ways.tree.top from → ComesFor (B.state on.new) self.new.ways.tree.top from }
+        ensures only { (B.state on.old).tells → self.new.ways.tree.top ≢ Nil → (y x : ℕ) → (B.state on.new).instead y x → (self.new.ways.tree.top ≡ Local y) ⊎ ((B.state on.old).instead y x × (self.old.ways.tree.top ≡ Local y → ⊥)) }
+        ensures changes { Changes (form_of self.old.ways.tree self.old.ways.generation self.old.ways.limit).tag (leaves_of (B.state on.old) self.old.ways.tree self.old.ways.kept.items self.old.ways.limit).owns (leaves_of (B.state on.old) self.old.ways.tree self.old.ways.kept.items self.old.ways.limit).owns (B.state on.old) (B.state on.new) × B.keeps on.old on.new }
+        ensures shows { LeavesBeside (B.state on.old) (B.state on.new) self.old.ways.tree offset (length piece.now) }
+    {
         if piece.is_empty() {
             return;
         }

@@ -21,9 +21,11 @@ use Rattle.fo_tree_down.proofs.Sparing.{but_whole, but_more}
 use Rattle.fo_tree_clear.specs.Put.{byte_here, Puts}
 use Rattle.fo_tree_clear.specs.Steps.{Steps}
 use Rattle.fo_tree_write.specs.Write.{Wrote}
-use Rattle.fo_tree_append.specs.Append.{ended, OnLeaves, SpendsBut}
+use Rattle.fo_tree_write.proofs.Wider.{changes_wider, ways_own}
+use Rattle.fo_tree_append.specs.Append.{ended, OnLeaves, OnEnd, OnPiece, SpendsBut}
 use Rattle.fo_tree_append.specs.Grown.{GrownTo}
-use Rattle.fo_tree_append.proofs.Joining.{ThenSteps, rises_changes, rises_join, made_first, made_second, made_either}
+use Rattle.fo_tree_append.specs.Rises.{Rises}
+use Rattle.fo_tree_append.proofs.Joining.{ThenSteps, rises_changes, rises_join, rises_wider, made_first, made_second, made_either}
 use Rattle.fo_tree_append.proofs.Leaves.{leaves_cases, way_before}
 use Rattle.fo_tree_append.proofs.Spending.{most_passed, last_of, spends_end}
 use Rattle.fo_tree_append.proofs.Values.{values_past_end}
@@ -69,8 +71,13 @@ spent_past s m u new last offset len same few some spent spends =
 
 -- ---- what both leave
 
+-- what may change is the source's
+pub piece_own : (s : State) (t : Tree) (offset n b : ℕ) → OnPiece s t offset n b → HasBlock s t b
+piece_own s t offset n b = ⊎_elim (λ is. ways_own s t offset n b is) (λ h. on_way_block s t t.depth (t.size / 8192) b (omega arith) h.1.on)
+
 pub record Both (s m u : State) (t : Tree) (kept : List Kept) (z : ℕ) (mid top : Pointer) (limit offset : ℕ) (piece : List ℕ) : Type 0 where
   pub grown : GrownTo s m t (ended t z mid) kept
+  pub by_end : Rises t.tag (HasBlock s t) (OnEnd s t) s m
   pub wrote : Wrote m u (ended t z mid) top kept offset (length piece) piece
   pub steps : Steps t.tag (λ b. OnLeaves m (ended t z mid) (offset / 8192) ((offset + length piece - 1) / 8192) b) (λ b. OnLeaves m (ended t z mid) (offset / 8192) ((offset + length piece - 1) / 8192) b) m u
   pub stays : m.tells → (b : ℕ) → HasBlock m (ended t z mid) b → (m.label b).epoch ≡ m.high → HasBlock u (ended t z top) b
@@ -108,16 +115,27 @@ module _ {s m u : State} {t : Tree} {kept : List Kept} {z : ℕ} {mid top : Poin
       (λ made. inr made)
       (x.grown.sees.ways is.leaf b (omega (arith, to, ends, some, room)) (λ few. way_before s t kept limit offset (length piece) x.some x.prepared x.clear is.leaf is.from is.to few) is.on)
 
+  piece_of : (b : ℕ) → OnLeaves m (ended t z mid) (offset / 8192) ((offset + length piece - 1) / 8192) b → OnPiece s t offset (length piece) b ⊎ Made s m b
+  piece_of b is =
+      let to = is.to in
+      let ends = x.ends in
+      let some = x.some in
+      let room = over_mid.hangs.room in
+      ⊎_elim
+      (λ old. inl (inl (record { leaf = is.leaf; from = is.from; to = omega (arith, to, some); few = old.0; on = old.1 })))
+      (λ made. inr made)
+      (x.grown.sees.ways is.leaf b (omega (arith, to, ends, some, room)) (λ few. way_before s t kept limit offset (length piece) x.some x.prepared x.clear is.leaf is.from is.to few) is.on)
+
   has_mid : (b : ℕ) → OnLeaves m (ended t z mid) (offset / 8192) ((offset + length piece - 1) / 8192) b → HasBlock m (ended t z mid) b
   has_mid b is = on_way_block m (ended t z mid) (depth_for z) is.leaf b (omega arith) is.on
 
-  follows : ThenSteps t.tag (HasBlock s t) (HasBlock s t) (λ b. OnLeaves m (ended t z mid) (offset / 8192) ((offset + length piece - 1) / 8192) b) (λ b. OnLeaves m (ended t z mid) (offset / 8192) ((offset + length piece - 1) / 8192) b) s m u
+  follows : ThenSteps t.tag (HasBlock s t) (λ b. OnPiece s t offset (length piece) b) (λ b. OnLeaves m (ended t z mid) (offset / 8192) ((offset + length piece - 1) / 8192) b) (λ b. OnLeaves m (ended t z mid) (offset / 8192) ((offset + length piece - 1) / 8192) b) s m u
   follows = record {
-    first = x.grown.rises;
+    first = let past = x.past in let ends = x.ends in rises_wider (λ b on. inr (omega (arith, past, ends), on)) x.by_end;
     second = x.steps;
     all = x.all;
     of = mine_of;
-    within = mine_of;
+    within = piece_of;
     cases = λ b. leaves_cases m (ended t z mid) (offset / 8192) ((offset + length piece - 1) / 8192) b;
     rooted = λ told b is older. (over_mid.told told b (has_mid b is)).in_tree older;
     up_to = λ told b is. (over_mid.told told b (has_mid b is)).up_to;
@@ -128,8 +146,11 @@ module _ {s m u : State} {t : Tree} {kept : List Kept} {z : ℕ} {mid top : Poin
     standing = x.standing;
   }
 
+  pub only_ways_past : Changes t.tag (HasBlock s t) (λ b. OnPiece s t offset (length piece) b) s u
+  only_ways_past = rises_changes (rises_join follows)
+
   pub changes_past : Changes t.tag (HasBlock s t) (HasBlock s t) s u
-  changes_past = rises_changes (rises_join follows)
+  changes_past = changes_wider (λ b is. piece_own s t offset (length piece) b is) only_ways_past
 
   pub over_past : (limit : ℕ) → z ≤ limit → Over s t kept limit → Over u (ended t z top) kept limit
   over_past limit within was = x.wrote.over limit (x.grown.sees.over limit within was)

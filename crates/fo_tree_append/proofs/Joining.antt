@@ -58,6 +58,45 @@ rises_changes x = record {
   numbers = x.numbers;
 }
 
+-- more blocks may be those that change
+pub rises_wider : {tag : ℕ} {mine inner outer : ℕ → Type 0} {old new : State} → ((b : ℕ) → inner b → outer b) → Rises tag mine inner old new → Rises tag mine outer old new
+rises_wider n x = record {
+  memory = λ b not. x.memory b (λ t. not (⊎_elim (λ made. inl made) (λ own. inr (n b own.0, own.1, own.2)) t));
+  slots = x.slots;
+  images = λ image is. let e = x.images image is in record {
+    other = e.other;
+    was = e.was;
+    same = λ b not. e.same b (λ t. not (⊎_elim (λ made. inl made) (λ own. inr (n b own.0, own.1, own.2)) t));
+    slots = e.slots;
+    apart = e.apart;
+  };
+  made = x.made;
+  free = x.free;
+  others = x.others;
+  apart = x.apart;
+  places = x.places;
+  rooted = x.rooted;
+  instead = x.instead;
+  still = x.still;
+  only = x.only;
+  aged = x.aged;
+  leaves = x.leaves;
+  in_tree = x.in_tree;
+  current = x.current;
+  waits = x.waits;
+  no_wait = x.no_wait;
+  clearing = x.clearing;
+  goes_on = x.goes_on;
+  dirty = x.dirty;
+  moments = x.moments;
+  left = x.left;
+  pins = x.pins;
+  usable = x.usable;
+  room = x.room;
+  numbers = x.numbers;
+  all = x.all;
+}
+
 -- What is known of levels that were put, and of a call that followed: of the blocks that it looks at, which are so few that a block is
 -- one or isn't.
 pub record ThenSteps (tag : ℕ) (mine inner more outer : ℕ → Type 0) (a b c : State) : Type 0 where

@@ -9,7 +9,7 @@ use Rattle.fo_tree_look.specs.Source.{HasBlock}
 use Rattle.fo_tree_down.proofs.Join.{local_cases}
 use Rattle.fo_tree_clear.proofs.Stepping.{steps_none, steps_changes}
 use Rattle.fo_tree_write.specs.Write.{at_top}
-use Rattle.fo_tree_append.specs.Append.{ended, piece_end, with_piece, PutsPiece}
+use Rattle.fo_tree_append.specs.Append.{ended, piece_end, with_piece, OnPiece, PutsPiece}
 
 end_within : (size offset n : ℕ) → (n ≡ 0) ⊎ (offset + n ≤ size) → piece_end size offset n ≡ size
 end_within size offset zero which = refl
@@ -38,6 +38,7 @@ puts_none s t kept offset [] all none = record {
   only = λ told y z h. ⊎_elim (λ e. inl e) (λ ne. inr (h, ne)) (local_cases t.top y);
   clear = λ which was. was;
   changes = steps_changes (steps_none t.tag (HasBlock s t) (HasBlock s t) s all);
+  only_ways = steps_changes (steps_none t.tag (HasBlock s t) (λ b. OnPiece s t offset 0 b) s all);
   spent = omega arith;
   room = refl;
 }

@@ -75,9 +75,9 @@ top_since {s = s} {m = m} {t = t} is stead c e =
     subst (λ (y : ℕ). IsTopSince s m t y) (local_eq e)
     (⊎_elim (λ made. inl (made, is.apart made, λ y h. stead y made h)) (λ was. inr was) is.from)
 
--- What is known of both.
-pub record ThenAdds (s m u : State) (t mid : Tree) : Type 0 where
-  pub first : Steps t.tag (HasBlock s t) (HasBlock s t) s m
+-- What is known of both, where the first call changed these blocks alone.
+pub record OfThenAdds (s m u : State) (t mid : Tree) (inner : ℕ → Type 0) : Type 0 where
+  pub first : Steps t.tag (HasBlock s t) inner s m
   pub second : Adds t.tag (λ b. mid.top ≡ Local b) m u
   pub stead : (b y : ℕ) → Made m u b → u.instead b y → InSteadOf m mid y
   pub from : (c : ℕ) → mid.top ≡ Local c → IsTopSince s m t c
@@ -89,7 +89,11 @@ pub record ThenAdds (s m u : State) (t mid : Tree) : Type 0 where
   pub told : (image : Image) → s.may_leave image → s.tells
   pub standing : Standing s
 
-module _ {s m u : State} {t mid : Tree} (x : ThenAdds s m u t mid) where
+-- it may have changed all of the source's
+abbrev pub ThenAdds : State → State → State → Tree → Tree → Type 0
+ThenAdds s m u t mid = OfThenAdds s m u t mid (HasBlock s t)
+
+module _ {s m u : State} {t mid : Tree} {inner : ℕ → Type 0} (x : OfThenAdds s m u t mid inner) where
   made_first : (b : ℕ) → Made s m b → Made s u b
   made_first b made = (made.0, ap (λ (l : Label). l.state) (x.second.labels b (λ n. n.0 made.1)) ∙ made.1)
 
@@ -118,8 +122,8 @@ module _ {s m u : State} {t mid : Tree} (x : ThenAdds s m u t mid) where
   has_top : (b : ℕ) → mid.top ≡ Local b → (Made s m b → ⊥) → HasBlock s t b
   has_top b e not = ⊎_elim (λ made. absurd (not made.0)) (λ was. own b was) (x.from b e)
 
-  touched_first : (b : ℕ) → Touched s m t.tag (HasBlock s t) b → Touched s u t.tag (HasBlock s t) b
-  touched_first b = ⊎_elim (λ made. inl (made_first b made)) (λ h. inr h)
+  touched_first : (which : ℕ → Type 0) (b : ℕ) → Touched s m t.tag which b → Touched s u t.tag which b
+  touched_first which b = ⊎_elim (λ made. inl (made_first b made)) (λ h. inr h)
 
   -- what was given out second was usable before the first
   free_first : (b : ℕ) → Made m u b → is_usable s.low (s.label b) ≡ true
@@ -131,14 +135,14 @@ module _ {s m u : State} {t mid : Tree} (x : ThenAdds s m u t mid) where
   led_on : (b j : ℕ) → (u.now b).slot j ≡ (m.now b).slot j → IsLed s m b j → IsLed s u b j
   led_on b j same led = record { to = led.to; leads = ap (λ (q : Slot). target q) same ∙ led.leads; made = made_first led.to led.made; older = led.older }
 
-  image_end : (image : Image) → u.may_leave image → Behind (Touched s u t.tag (HasBlock s t)) s u image
+  image_end : (image : Image) → u.may_leave image → Behind (Touched s u t.tag inner) s u image
   image_end image is =
       let last = x.second.images image is in
       let before = x.first.images last.other last.was in
       record {
         other = before.other;
         was = before.was;
-        same = λ b h. content_joins (last.same b (λ n. h (inl (made_second b n)))) (before.same b (λ t'. h (touched_first b t')));
+        same = λ b h. content_joins (last.same b (λ n. h (inl (made_second b n)))) (before.same b (λ t'. h (touched_first inner b t')));
         slots = λ b j not.
             let same = (last.same b (not_second b not)).slots j in
             let now = (x.second.same b (not_second b not)).slots j in
@@ -217,7 +221,7 @@ module _ {s m u : State} {t mid : Tree} (x : ThenAdds s m u t mid) where
       (λ old. ⊎_elim
       (λ was. inl was)
       (λ h. inr (⊎_elim
-      (λ t'. inl (touched_first b t'))
+      (λ t'. inl (touched_first (HasBlock s t) b t'))
       (λ label. inr (label.0, made_first label.0 label.1, label.2 ∙ sym (x.more.same_label_blocks label.0)))
       h))
       (x.first.dirty b old))
@@ -233,9 +237,9 @@ module _ {s m u : State} {t mid : Tree} (x : ThenAdds s m u t mid) where
       (λ ge. absurd (x.second.only b (λ k. let lt = x.first.aged b free k in omega (arith, lt, ge)) h))
       (cases_lt ((s.label b).epoch) s.high)
 
-  pub rises : Rises t.tag (HasBlock s t) (HasBlock s t) s u
+  pub rises : Rises t.tag (HasBlock s t) inner s u
   rises = record {
-    memory = λ b h. content_joins (x.second.same b (λ n. h (inl (made_second b n)))) (x.first.memory b (λ t'. h (touched_first b t')));
+    memory = λ b h. content_joins (x.second.same b (λ n. h (inl (made_second b n)))) (x.first.memory b (λ t'. h (touched_first inner b t')));
     slots = λ b j not.
         let same = (x.second.same b (not_second b not)).slots j in
         ⊎_elim (λ e. inl (same ∙ e)) (λ led. inr (led_on b j same led)) (x.first.slots b j (not_first b not));

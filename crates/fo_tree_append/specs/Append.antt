@@ -1,5 +1,5 @@
 -- A piece is put past the end of a source.
-use Rattle.std.specs.Prelude.{◌≡◌, ◌⊎◌, ◌+◌, ◌-◌, ◌*◌, ◌/◌, ◌<◌, ◌≤◌, ℕ, zero, suc, List, length, max}
+use Rattle.std.specs.Prelude.{◌≡◌, ◌⊎◌, ◌+◌, ◌-◌, ◌*◌, ◌/◌, ◌%◌, ◌<◌, ◌≤◌, ℕ, zero, suc, List, length, max}
 use Rattle.fo_image.specs.declared.types.Pointer.{Pointer}
 use Rattle.fo_image.specs.declared.types.Pointer.TheVariants.{Local}
 use Rattle.fo_ports.specs.State.{State}
@@ -11,6 +11,7 @@ use Rattle.fo_tree_look.specs.declared.ways.Kept.{Kept}
 use Rattle.fo_tree_look.specs.Source.{HasBlock, Over, leaves_of}
 use Rattle.fo_tree_down.specs.Way.{OnWay, WayCurrent, CurrentBut}
 use Rattle.fo_tree_down.specs.Clear.{EndsClear}
+use Rattle.fo_tree_write.specs.Write.{OnWays}
 
 -- the tree of a source of this size, with the least levels, below this top
 abbrev pub ended : Tree → ℕ → Pointer → Tree
@@ -22,6 +23,16 @@ pub record OnLeaves (s : State) (t : Tree) (first last b : ℕ) : Type 0 where
   pub from : first ≤ leaf
   pub to : leaf ≤ last
   pub on : OnWay s t t.depth leaf b
+
+-- A block of the way to the leaf within which the source ends.
+pub record OnEnd (s : State) (t : Tree) (b : ℕ) : Type 0 where
+  pub within : 0 < t.size % 8192
+  pub on : OnWay s t t.depth (t.size / 8192) b
+
+-- A block that may change where so many bytes are put from an offset on: one of the way to a leaf of the piece, or where the source ends
+-- with the piece then, to the leaf within which it ended before.
+abbrev pub OnPiece : State → Tree → ℕ → ℕ → ℕ → Type 0
+OnPiece s t offset n b = OnWays s t offset n b ⊎ ((t.size < offset + n) × OnEnd s t b)
 
 -- So many blocks were spent where all but so many of the way to the first leaf are current: none yet; or the way to the leaf that was
 -- written last is current, and each block of the ways to it and those before took one at most.
@@ -46,5 +57,6 @@ pub record PutsPiece (s u : State) (t new : Tree) (kept : List Kept) (offset : �
   pub only : s.tells → (y x : ℕ) → u.instead y x → (new.top ≡ Local y) ⊎ (s.instead y x × (t.top ≡ Local y → ⊥))
   pub clear : s.tells ⊎ ((t.size ≤ 8192 * (offset / 8192 + 1)) × (offset + length piece ≤ 8192 * (offset / 8192 + 1))) → EndsClear s t kept → EndsClear u new kept
   pub changes : Changes t.tag (HasBlock s t) (HasBlock s t) s u
+  pub only_ways : Changes t.tag (HasBlock s t) (λ b. OnPiece s t offset (length piece) b) s u
   pub spent : s.spare ≤ u.spare + most_for (max t.size (offset + length piece)) (length piece)
   pub room : u.room ≡ s.room

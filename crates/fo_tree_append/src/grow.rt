@@ -2,11 +2,12 @@
 ghost use Rattle.std.specs.Prelude.{◌≡◌, ◌⊎◌, ◌+◌, ◌*◌, ◌<◌, ◌≤◌, ℕ};
 ghost use Rattle.fo_ports.specs.State.{none};
 ghost use Rattle.fo_ports.specs.Sources.{Dirties, depth_for};
-ghost use Rattle.fo_tree_look.specs.Source.{Over, IsPlainTree};
+ghost use Rattle.fo_tree_look.specs.Source.{Over, HasBlock, IsPlainTree};
 ghost use Rattle.fo_tree_down.specs.Way.{with_top};
 ghost use Rattle.fo_tree_down.specs.Clear.{EndsClear};
-ghost use Rattle.fo_tree_append.specs.Append.{ended};
+ghost use Rattle.fo_tree_append.specs.Append.{ended, OnEnd};
 ghost use Rattle.fo_tree_append.specs.Grown.{GrownTo};
+ghost use Rattle.fo_tree_append.specs.Rises.{Rises};
 
 use crate::raise::raise_to;
 use fo_image::Pointer;
@@ -25,6 +26,7 @@ pub(crate) fn grow_to<B: Blocks>(tree: &Tree, kept: &[Kept], on: &mut B, size: u
     requires spare { depth_for size < (B.state on.old).spare }
     ensures is { result ≡ ended tree.now size result.top }
     ensures grown { GrownTo (B.state on.old) (B.state on.new) tree.now result kept.now }
+    ensures by_end { Rises tree.now.tag (HasBlock (B.state on.old) tree.now) (OnEnd (B.state on.old) tree.now) (B.state on.old) (B.state on.new) }
     ensures dirties { Dirties (2 * (depth_for size + 1)) none (B.state on.old) (B.state on.new) }
     ensures keeps { B.keeps on.old on.new }
 {

@@ -7,7 +7,7 @@ ghost use Rattle.fo_ports.specs.State.{none};
 ghost use Rattle.fo_ports.specs.Sources.{Changes, Dirties, Grows, ComesFor, most_for};
 ghost use Rattle.fo_tree_look.specs.Source.{Over, HasBlock, IsPlainTree, Prepared, leaves_of};
 ghost use Rattle.fo_tree_down.specs.Clear.{EndsClear};
-ghost use Rattle.fo_tree_append.specs.Append.{ended};
+ghost use Rattle.fo_tree_append.specs.Append.{ended, OnPiece};
 
 use crate::all::put_all;
 use crate::grow::grow_to;
@@ -18,7 +18,8 @@ use fo_tree_read::Tree;
 
 /// Puts a piece in the place of the bytes from the offset on, past the end of the source, which ends with it then, and gives the pointer to
 /// its top; a new top is put nowhere yet. Zeros stand between the end that there was and the piece, and the source has the levels for it.
-/// Nothing stands behind its end; where the device tells, or the piece stays within a leaf, nothing does then.
+/// Nothing stands behind its end; where the device tells, or the piece stays within a leaf, nothing does then. Only blocks on the ways to the
+/// leaves of the piece and to the leaf within which the source ended are changed.
 pub fn put_past<B: Blocks>(
     tree: &Tree,
     kept: &[Kept],
@@ -39,6 +40,7 @@ pub fn put_past<B: Blocks>(
     ensures only { (B.state on.old).tells → (y x : ℕ) → (B.state on.new).instead y x → (result ≡ Local y) ⊎ ((B.state on.old).instead y x × (tree.now.top ≡ Local y → ⊥)) }
     ensures clear { (B.state on.old).tells ⊎ (offset + length piece.now ≤ 8192 * (offset / 8192 + 1)) → EndsClear (B.state on.new) (ended tree.now (offset + length piece.now) result) kept.now }
     ensures changes { Changes tree.now.tag (HasBlock (B.state on.old) tree.now) (HasBlock (B.state on.old) tree.now) (B.state on.old) (B.state on.new) }
+    ensures only_ways { Changes tree.now.tag (HasBlock (B.state on.old) tree.now) (λ b. OnPiece (B.state on.old) tree.now offset (length piece.now) b) (B.state on.old) (B.state on.new) }
     ensures spare { (B.state on.old).spare ≤ (B.state on.new).spare + most_for (offset + length piece.now) (length piece.now) }
     ensures dirties { Dirties (2 * most_for (offset + length piece.now) (length piece.now)) none (B.state on.old) (B.state on.new) }
     ensures room { (B.state on.new).room ≡ (B.state on.old).room }

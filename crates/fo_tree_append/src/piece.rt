@@ -7,7 +7,7 @@ ghost use Rattle.fo_ports.specs.State.{none};
 ghost use Rattle.fo_ports.specs.Sources.{Changes, Dirties, Grows, ComesFor, most_for};
 ghost use Rattle.fo_tree_look.specs.Source.{Over, HasBlock, IsPlainTree, Prepared, leaves_of};
 ghost use Rattle.fo_tree_down.specs.Clear.{EndsClear};
-ghost use Rattle.fo_tree_append.specs.Append.{with_piece, PutsPiece};
+ghost use Rattle.fo_tree_append.specs.Append.{with_piece, OnPiece, PutsPiece};
 
 use crate::past::put_past;
 use fo_image::Pointer;
@@ -18,7 +18,8 @@ use fo_tree_write::put_within;
 
 /// Puts a piece in the place of the bytes from the offset on, and gives the pointer to the source's top; a new top is put nowhere yet. Where
 /// the piece ends past the source's end the source ends with it then, with zeros between the end that there was and it, and has the levels
-/// for it; nothing stands behind its end. An empty piece changes nothing.
+/// for it; nothing stands behind its end. An empty piece changes nothing; else only blocks on the ways to the leaves of the piece and, where
+/// it ends past the source's end, to the leaf within which that was are changed.
 pub fn put_piece<B: Blocks>(
     tree: &Tree,
     kept: &[Kept],
@@ -37,6 +38,7 @@ pub fn put_piece<B: Blocks>(
     ensures only { (B.state on.old).tells → (y x : ℕ) → (B.state on.new).instead y x → (result ≡ Local y) ⊎ ((B.state on.old).instead y x × (tree.now.top ≡ Local y → ⊥)) }
     ensures clear { (B.state on.old).tells ⊎ ((tree.now.size ≤ 8192 * (offset / 8192 + 1)) × (offset + length piece.now ≤ 8192 * (offset / 8192 + 1))) → EndsClear (B.state on.old) tree.now kept.now → EndsClear (B.state on.new) (with_piece tree.now offset (length piece.now) result) kept.now }
     ensures changes { Changes tree.now.tag (HasBlock (B.state on.old) tree.now) (HasBlock (B.state on.old) tree.now) (B.state on.old) (B.state on.new) }
+    ensures only_ways { Changes tree.now.tag (HasBlock (B.state on.old) tree.now) (λ b. OnPiece (B.state on.old) tree.now offset (length piece.now) b) (B.state on.old) (B.state on.new) }
     ensures spare { (B.state on.old).spare ≤ (B.state on.new).spare + most_for (max tree.now.size (offset + length piece.now)) (length piece.now) }
     ensures dirties { Dirties (2 * most_for (max tree.now.size (offset + length piece.now)) (length piece.now)) none (B.state on.old) (B.state on.new) }
     ensures room { (B.state on.new).room ≡ (B.state on.old).room }

@@ -28,7 +28,7 @@ use Rattle.fo_tree_down.proofs.Sparing.{but_whole, but_more}
 use Rattle.fo_tree_clear.specs.Put.{byte_here, Puts}
 use Rattle.fo_tree_clear.specs.Steps.{Steps}
 use Rattle.fo_tree_clear.proofs.Stepping.{Follows, steps_join, steps_none, made_first, made_second, made_either}
-use Rattle.fo_tree_write.specs.Write.{at_top, Spent, Wrote}
+use Rattle.fo_tree_write.specs.Write.{at_top, OnWays, Spent, Wrote}
 
 -- ---- how many blocks stand above leaves
 
@@ -229,6 +229,7 @@ pub record OneMore (s u v : State) (t : Tree) (top : Pointer) (next : ℕ) (kept
   pub ready : WayReady s t kept t.depth ((offset + done) / 8192)
   pub all : KeepsAll s v
   pub few : t.depth ≤ 4
+  pub room : t.size ≤ 8192 * 409 ^ t.depth
   pub told_old : s.tells → (b : ℕ) → HasBlock s t b → IsTold s t.top b
   pub told_mid : u.tells → (b : ℕ) → HasBlock u (at_top t top) b → IsTold u (at_top t top).top b
   pub placed : (image : Image) → s.may_leave image → IsPlaced s.stands image
@@ -264,13 +265,24 @@ module _ {s u v : State} {t : Tree} {top : Pointer} {next : ℕ} {kept : List Ke
       (λ made. inr made)
       (x.wrote.ways ((offset + done) / 8192) b x.inside x.ready on)
 
-  follows : Follows t.tag (HasBlock s t) (HasBlock s t) (OnWay u (at_top t top) t.depth ((offset + done) / 8192)) (OnWay u (at_top t top) t.depth ((offset + done) / 8192)) s u v
+  way_of : (b : ℕ) → OnWay u (at_top t top) t.depth ((offset + done) / 8192) b → OnWays s t offset (length piece) b ⊎ Made s u b
+  way_of b on =
+      let some = x.some in
+      let within = x.within in
+      let inside = x.inside in
+      let room = x.room in
+      ⊎_elim
+      (λ old. inl (record { leaf = (offset + done) / 8192; from = omega arith; to = omega (arith, some, within); few = omega (arith, inside, room); on = old }))
+      (λ made. inr made)
+      (x.wrote.ways ((offset + done) / 8192) b x.inside x.ready on)
+
+  follows : Follows t.tag (HasBlock s t) (OnWays s t offset (length piece)) (OnWay u (at_top t top) t.depth ((offset + done) / 8192)) (OnWay u (at_top t top) t.depth ((offset + done) / 8192)) s u v
   follows = record {
     first = x.wrote.steps;
     second = x.steps;
     all = x.all;
     of = mine_of;
-    within = mine_of;
+    within = way_of;
     cases = λ b. way_cases u (at_top t top) t.depth ((offset + done) / 8192) b;
     rooted = λ told b on older. (x.told_mid told b (on_way_block u (at_top t top) t.depth ((offset + done) / 8192) b (omega arith) on)).in_tree older;
     up_to = λ told b on. (x.told_mid told b (on_way_block u (at_top t top) t.depth ((offset + done) / 8192) b (omega arith) on)).up_to;
@@ -336,6 +348,6 @@ wrote_none s t kept offset piece all = record {
   comes = λ told from h. h;
   only = λ told y z h. ⊎_elim (λ e. inl e) (λ ne. inr (h, ne)) (local_cases t.top y);
   clear = λ which was. was;
-  steps = steps_none t.tag (HasBlock s t) (HasBlock s t) s all;
+  steps = steps_none t.tag (HasBlock s t) (OnWays s t offset (length piece)) s all;
   spent = spent_none s t offset;
 }

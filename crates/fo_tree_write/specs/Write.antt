@@ -1,5 +1,5 @@
 -- A piece is put into a source, leaf by leaf.
-use Rattle.std.specs.Prelude.{◌≡◌, ◌⊎◌, ◌+◌, ◌-◌, ◌*◌, ◌/◌, ◌<◌, ◌≤◌, ℕ, List, length, take}
+use Rattle.std.specs.Prelude.{◌≡◌, ◌⊎◌, ◌+◌, ◌-◌, ◌*◌, ◌/◌, ◌^◌, ◌<◌, ◌≤◌, ℕ, List, length, take}
 use Rattle.fo_image.specs.declared.types.Pointer.{Pointer}
 use Rattle.fo_image.specs.declared.types.Pointer.TheVariants.{Local}
 use Rattle.fo_ports.specs.State.{State}
@@ -16,6 +16,14 @@ use Rattle.fo_tree_clear.specs.Steps.{Steps}
 -- the tree with this top
 abbrev pub at_top : Tree → Pointer → Tree
 at_top t top = record t { top = top }
+
+-- A block of the way to a leaf that has some of so many bytes from an offset on.
+pub record OnWays (s : State) (t : Tree) (offset n b : ℕ) : Type 0 where
+  pub leaf : ℕ
+  pub from : offset / 8192 ≤ leaf
+  pub to : 8192 * leaf < offset + n
+  pub few : leaf < 409 ^ t.depth
+  pub on : OnWay s t t.depth leaf b
 
 -- So many blocks were spent: none yet; or the way to the leaf that was written last is current, and each block of the ways to it and those
 -- before took one at most.
@@ -39,5 +47,5 @@ pub record Wrote (s u : State) (t : Tree) (top : Pointer) (kept : List Kept) (of
   pub comes : s.tells → (from : Pointer) → ComesFor s t.top from → ComesFor u top from
   pub only : s.tells → (y x : ℕ) → u.instead y x → (top ≡ Local y) ⊎ (s.instead y x × (t.top ≡ Local y → ⊥))
   pub clear : s.tells ⊎ (t.size ≤ 8192 * (offset / 8192 + 1)) → EndsClear s t kept → EndsClear u (at_top t top) kept
-  pub steps : Steps t.tag (HasBlock s t) (HasBlock s t) s u
+  pub steps : Steps t.tag (HasBlock s t) (OnWays s t offset (length piece)) s u
   pub spent : Spent u (at_top t top) s.spare offset done

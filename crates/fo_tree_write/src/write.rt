@@ -7,7 +7,7 @@ ghost use Rattle.fo_image.specs.declared.types.Pointer.{Pointer};
 ghost use Rattle.fo_image.specs.declared.types.Pointer.TheVariants.{Local};
 ghost use Rattle.fo_tree_down.specs.Clear.{EndsClear};
 ghost use Rattle.fo_tree_look.specs.Source.{Over, HasBlock, IsPlainTree, Prepared, leaves_of};
-ghost use Rattle.fo_tree_write.specs.Write.{at_top};
+ghost use Rattle.fo_tree_write.specs.Write.{at_top, OnWays};
 
 use fo_base::BLOCK;
 use fo_image::Pointer;
@@ -21,7 +21,7 @@ const LEAF: u64 = BLOCK as u64;
 
 /// Puts a piece in the place of the bytes from the offset on, all of which the source has, and gives the pointer to its top. Leaf by leaf,
 /// each is made current first; a new top is put nowhere yet. What is clear behind the end stays so where the device tells, or the piece
-/// begins in the last leaf.
+/// begins in the last leaf. Only blocks on the ways to the leaves of the piece are changed.
 pub fn put_within<B: Blocks>(
     tree: &Tree,
     kept: &[Kept],
@@ -40,6 +40,7 @@ pub fn put_within<B: Blocks>(
     ensures only { (B.state on.old).tells → (y x : ℕ) → (B.state on.new).instead y x → (result ≡ Local y) ⊎ ((B.state on.old).instead y x × (tree.now.top ≡ Local y → ⊥)) }
     ensures clear { (B.state on.old).tells ⊎ (tree.now.size ≤ 8192 * (offset / 8192 + 1)) → EndsClear (B.state on.old) tree.now kept.now → EndsClear (B.state on.new) (at_top tree.now result) kept.now }
     ensures changes { Changes tree.now.tag (HasBlock (B.state on.old) tree.now) (HasBlock (B.state on.old) tree.now) (B.state on.old) (B.state on.new) }
+    ensures only_ways { Changes tree.now.tag (HasBlock (B.state on.old) tree.now) (OnWays (B.state on.old) tree.now offset (length piece.now)) (B.state on.old) (B.state on.new) }
     ensures spare { (B.state on.old).spare ≤ (B.state on.new).spare + most_for tree.now.size (length piece.now) }
     ensures dirties { Dirties (2 * most_for tree.now.size (length piece.now)) none (B.state on.old) (B.state on.new) }
     ensures room { (B.state on.new).room ≡ (B.state on.old).room }

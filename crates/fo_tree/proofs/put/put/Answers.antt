@@ -6,7 +6,9 @@ use Rattle.fo_tree_look.specs.declared.ways.Kept.{Kept}
 use Rattle.fo_tree_look.specs.Source.{Over}
 use Rattle.fo_tree_append.specs.of_tree_write.Write.{at_top}
 use Rattle.fo_tree_append.specs.Append.{ended}
+use Rattle.fo_tree_append.proofs.of_tree_write.Wider.{changes_wider}
 use Rattle.fo_tree.specs.Writes.{Writes}
+use Rattle.fo_tree.proofs.Beside.{leaves_beside}
 use Rattle.fo_tree.proofs.put.put.Goals as goal
 
 pub returns-then-end-ways-clause-writes : goal.returns-then-end-ways-clause-writes
@@ -31,6 +33,8 @@ returns-then-end-ways-clause-writes g c =
       comes = λ told from h. e.comes told from h;
       only = λ told y x h. e.only told y x h;
       changes = e.changes;
+      only_ways = changes_wider (λ b is. inl is) e.only_ways;
+      shows = leaves_beside s u w.tree w.kept.items w.limit c.args.offset n (λ told. g.met.B.Blocks.placed c.args.on.now s.now (g.met.B.Blocks.present c.args.on.now told)) (g.met.B.Blocks.one_place c.args.on.now) c.requires.over (changes_wider (λ b is. inl is) e.only_ways);
     }))
 
 pub returns-else-end-ways-clause-writes : goal.returns-else-end-ways-clause-writes
@@ -55,6 +59,8 @@ returns-else-end-ways-clause-writes g c =
       comes = λ told from h. e.comes told from h;
       only = λ told y x h. e.only told y x h;
       changes = e.changes;
+      only_ways = e.only_ways;
+      shows = leaves_beside s u w.tree w.kept.items w.limit c.args.offset n (λ told. g.met.B.Blocks.placed c.args.on.now s.now (g.met.B.Blocks.present c.args.on.now told)) (g.met.B.Blocks.one_place c.args.on.now) c.requires.over e.only_ways;
     }))
 
 pub returns-then-end-ways-clause-dirties : goal.returns-then-end-ways-clause-dirties

@@ -91,6 +91,7 @@ loop-done-preserved g c =
         ready = c.requires.over.2.each place (omega arith) (omega (arith, lt)) (omega (arith, within, lt));
         all = g.met.B.Blocks.keeps_all on new keeps;
         few = over.hangs.few;
+        room = over.hangs.room;
         told_old = over.told;
         told_mid = (i.wrote.over c.requires.over.0 over).told;
         placed = λ image is. g.met.B.Blocks.placed on image is;

@@ -11,9 +11,9 @@ use Rattle.fo_tree_down.proofs.Dirtying.{dirties_both, dirties_most}
 use Rattle.fo_tree_down.proofs.Beside.{on_way_block}
 use Rattle.fo_tree_clear.specs.Put.{byte_here}
 use Rattle.fo_tree_clear.proofs.Stepping.{steps_none}
-use Rattle.fo_tree_append.specs.Append.{ended}
+use Rattle.fo_tree_append.specs.Append.{ended, OnEnd}
 use Rattle.fo_tree_append.specs.Grown.{RaisedTo}
-use Rattle.fo_tree_append.proofs.Rising.{ThenAdds, rises, steps_wider, top_since}
+use Rattle.fo_tree_append.proofs.Rising.{OfThenAdds, ThenAdds, rises, steps_wider, top_since}
 use Rattle.fo_tree_append.proofs.Seeing.{Zeroed, depth_more, grown_none, grown_more}
 use Rattle.fo_tree_append.proofs.grow.grow_to.Goals as goal
 
@@ -77,6 +77,35 @@ returns-in-None-clause-grown g c =
     grown_none raised
     (λ told k past. (subst (λ b. (k : ℕ) → t.size ≤ k → byte_here (g.B.Blocks.state b) t kept k ≡ 0) same (c.in-None.ensures.zeros c.requires.plain)) k past)
     (rises then)
+
+pub returns-in-None-clause-by_end : goal.returns-in-None-clause-by_end
+returns-in-None-clause-by_end g c =
+    let on = c.args.on.now in
+    let end = c.raise_to.new.on in
+    let s = g.B.Blocks.state on in
+    let u = g.B.Blocks.state end in
+    let t = c.args.tree.now in
+    let kept = c.args.kept.now in
+    let same = c.in-None.ensures.cleared in
+    let raised : RaisedTo s u t c.raise_to.result kept = subst (λ b. RaisedTo (g.B.Blocks.state b) u t c.raise_to.result kept) same c.raise_to.ensures.raised in
+    let all = g.met.B.Blocks.keeps_all on end (subst (λ b. g.B.Blocks.keeps b end) same c.raise_to.ensures.keeps) in
+    let then : OfThenAdds s s u t t (OnEnd s t) = record {
+      first = steps_none t.tag (HasBlock s t) (OnEnd s t) s (g.met.B.Blocks.keeps_all on on (g.met.B.Blocks.keeps_at_once on));
+      second = raised.adds;
+      stead = raised.stead;
+      from = λ b e. inr e;
+      more = all;
+      all = all;
+      placed = λ image is. g.met.B.Blocks.placed on image is;
+      ranked = λ image is. g.met.B.Blocks.ranked on image is;
+      top_stands = λ image is up is_top. ⊎_elim
+          (λ first. (super_place, subst (λ y. s.stands y super_place) (sym first) (g.met.B.Blocks.super_stands on (g.met.B.Blocks.told on image is))))
+          (λ ne. (root_place, g.met.B.Blocks.top_stands on up (g.met.B.Blocks.told on image is) is_top ne))
+          (cases_eq up 1);
+      told = λ image is. g.met.B.Blocks.told on image is;
+      standing = g.met.B.Blocks.standing on;
+    } in
+    rises then
 
 -- ---- it was zeroed
 
@@ -154,6 +183,38 @@ returns-in-Some-clause-grown g c =
       told = c.requires.over.1.told;
     } in
     grown_more zeroed raised (rises then)
+
+pub returns-in-Some-clause-by_end : goal.returns-in-Some-clause-by_end
+returns-in-Some-clause-by_end g c =
+    let on = c.args.on.now in
+    let mid = c.clear_tail-cleared.new.on in
+    let end = c.raise_to-in-Some.new.on in
+    let s = g.B.Blocks.state on in
+    let m = g.B.Blocks.state mid in
+    let u = g.B.Blocks.state end in
+    let t = c.args.tree.now in
+    let kept = c.args.kept.now in
+    let f = c.in-Some.ensures in
+    let top = c.in-Some.end.top in
+    let raised : RaisedTo m u (with_top t top) c.raise_to-in-Some.result kept = subst (λ (x : Tree). RaisedTo m u x c.raise_to-in-Some.result kept) c.below_top-here.ensures c.raise_to-in-Some.ensures.raised in
+    let step = f.step.1 in
+    let then : OfThenAdds s m u t (with_top t top) (OnEnd s t) = record {
+      first = steps_wider (λ b way. on_way_block s t t.depth (t.size / 8192) b (omega arith) way) (λ b way. record { within = f.step.0.within; on = way }) step.steps;
+      second = raised.adds;
+      stead = raised.stead;
+      from = top_since f.top.0 (λ y made h. step.stead y made h);
+      more = g.met.B.Blocks.keeps_all mid end c.raise_to-in-Some.ensures.keeps;
+      all = g.met.B.Blocks.keeps_all on end (g.met.B.Blocks.keeps_joins on mid end f.keeps c.raise_to-in-Some.ensures.keeps);
+      placed = λ image is. g.met.B.Blocks.placed on image is;
+      ranked = λ image is. g.met.B.Blocks.ranked on image is;
+      top_stands = λ image is up is_top. ⊎_elim
+          (λ first. (super_place, subst (λ y. s.stands y super_place) (sym first) (g.met.B.Blocks.super_stands on (g.met.B.Blocks.told on image is))))
+          (λ ne. (root_place, g.met.B.Blocks.top_stands on up (g.met.B.Blocks.told on image is) is_top ne))
+          (cases_eq up 1);
+      told = λ image is. g.met.B.Blocks.told on image is;
+      standing = g.met.B.Blocks.standing on;
+    } in
+    rises then
 
 pub returns-in-None-clause-dirties : goal.returns-in-None-clause-dirties
 returns-in-None-clause-dirties g c =

@@ -12,7 +12,7 @@ use Rattle.fo_tree_write.specs.Write.{at_top, Wrote}
 use Rattle.fo_tree_write.proofs.Writing.{most_is}
 use Rattle.fo_tree_append.specs.Append.{OnLeaves}
 use Rattle.fo_tree_append.specs.Grown.{GrownTo}
-use Rattle.fo_tree_append.proofs.Behind.{Both, need_past, spent_past, changes_past, over_past, bytes_past, grows_past, comes_past, only_past, clear_past, room_past}
+use Rattle.fo_tree_append.proofs.Behind.{Both, need_past, spent_past, changes_past, only_ways_past, over_past, bytes_past, grows_past, comes_past, only_past, clear_past, room_past}
 use Rattle.fo_tree_append.proofs.Spending.{last_of, most_passed, passed_least}
 use Rattle.fo_tree_append.proofs.past.put_past.Given as given
 use Rattle.fo_tree_append.proofs.past.put_past.Goals as goal
@@ -66,6 +66,7 @@ both g c =
     let keeps = g.met.B.Blocks.keeps_joins on c.grow_to-grown.new.on c.put_all.new.on c.grow_to-grown.ensures.keeps e.keeps in
     record {
       grown = subst (λ (x : Tree). GrownTo s m t x kept) is c.grow_to-grown.ensures.grown;
+      by_end = c.grow_to-grown.ensures.by_end;
       wrote = subst (λ (x : Tree). Wrote m u x top kept offset (length piece) piece) is e.wrote;
       steps = subst (λ (x : Tree). Steps x.tag (λ b. OnLeaves m x (offset / 8192) ((offset + length piece - 1) / 8192) b) (λ b. OnLeaves m x (offset / 8192) ((offset + length piece - 1) / 8192) b) m u) is e.steps;
       stays = subst (λ (x : Tree). m.tells → (b : ℕ) → HasBlock m x b → (m.label b).epoch ≡ m.high → HasBlock u (at_top x top) b) is e.stays;
@@ -106,6 +107,9 @@ returns-clause-clear g c = clear_past (both g c)
 
 pub returns-clause-changes : goal.returns-clause-changes
 returns-clause-changes g c = changes_past (both g c)
+
+pub returns-clause-only_ways : goal.returns-clause-only_ways
+returns-clause-only_ways g c = only_ways_past (both g c)
 
 pub returns-clause-room : goal.returns-clause-room
 returns-clause-room g c = room_past (both g c)

@@ -4,6 +4,7 @@ use Rattle.fo_ports.specs.State.{none}
 use Rattle.fo_ports.specs.Sources.{Dirties, most_for}
 use Rattle.fo_tree_read.specs.declared.tree.Tree.{Tree}
 use Rattle.fo_tree_down.proofs.Dirtying.{dirties_same}
+use Rattle.fo_tree_write.proofs.Wider.{changes_wider}
 use Rattle.fo_tree_append.specs.Append.{PutsPiece}
 use Rattle.fo_tree_append.proofs.Pieces.{tree_within, tree_past, puts_none}
 use Rattle.fo_tree_append.proofs.piece.put_any.Goals as goal
@@ -35,6 +36,7 @@ returns-then-end-tree-clause-puts g c =
       only = e.only;
       clear = λ which was. e.clear (⊎_elim (λ told. inl told) (λ near. inr near.0) which) was;
       changes = e.changes;
+      only_ways = changes_wider (λ b is. inl is) e.only_ways;
       spent = subst (λ z. s.spare ≤ u.spare + most_for z n) (sym same) e.spare;
       room = e.room;
     })
@@ -58,6 +60,7 @@ returns-else-end-tree-clause-puts g c =
       only = e.only;
       clear = λ which was. e.clear (⊎_elim (λ told. inl told) (λ near. inr near.1) which);
       changes = e.changes;
+      only_ways = e.only_ways;
       spent = subst (λ z. s.spare ≤ u.spare + most_for z n) (sym same) e.spare;
       room = e.room;
     })

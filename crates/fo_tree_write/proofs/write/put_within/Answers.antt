@@ -9,6 +9,7 @@ use Rattle.fo_tree_down.specs.Way.{with_top}
 use Rattle.fo_tree_clear.specs.Put.{byte_here, Puts}
 use Rattle.fo_tree_clear.proofs.Stepping.{steps_changes}
 use Rattle.fo_tree_write.specs.Write.{at_top, Counted, Spent}
+use Rattle.fo_tree_write.proofs.Wider.{changes_wider, ways_own}
 use Rattle.fo_tree_write.proofs.Counting.{counted_none, counted_more, counted_most}
 use Rattle.fo_tree_write.proofs.Writing.{most_is, enough_left, spent_end, way_still, bytes_written, wrote_more, wrote_none}
 use Rattle.fo_tree_write.proofs.write.put_within.Goals as goal
@@ -72,6 +73,7 @@ loop-done-preserved g c =
         ready = c.requires.over.2.each place (omega arith) (omega (arith, lt)) (omega (arith, within, lt));
         all = g.met.B.Blocks.keeps_all on new keeps;
         few = over.hangs.few;
+        room = over.hangs.room;
         told_old = over.told;
         told_mid = (i.wrote.over c.requires.over.0 over).told;
         placed = λ image is. g.met.B.Blocks.placed on image is;
@@ -126,7 +128,12 @@ pub returns-clause-grows : goal.returns-clause-grows
 returns-clause-grows g c = λ limit. record { owns = c.loop-done.invariant.wrote.owns; still = λ o n was. c.loop-done.invariant.wrote.still limit o n was }
 
 pub returns-clause-changes : goal.returns-clause-changes
-returns-clause-changes g c = steps_changes c.loop-done.invariant.wrote.steps
+returns-clause-changes g c =
+    let s = g.B.Blocks.state c.args.on.now in
+    changes_wider (λ b is. ways_own s c.args.tree.now c.args.offset (length c.args.piece.now) b is) (steps_changes c.loop-done.invariant.wrote.steps)
+
+pub returns-clause-only_ways : goal.returns-clause-only_ways
+returns-clause-only_ways g c = steps_changes c.loop-done.invariant.wrote.steps
 
 pub returns-clause-spare : goal.returns-clause-spare
 returns-clause-spare g c =
