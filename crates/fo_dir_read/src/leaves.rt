@@ -14,38 +14,6 @@ use fo_base::BLOCK;
 use fo_image::Kind;
 use fo_ports::{BlockError, Blocks, Bytes};
 
-/// Copies leaf `i` of a source of leaves of this kind and rank, and gives the block in which it stands; None where there is none.
-pub fn get_leaf<B: Blocks, S: Bytes<B>>(
-    source: &mut S,
-    on: &mut B,
-    kind: Kind,
-    rank: u32,
-    i: u32,
-    into: &mut [u8],
-) -> Result<Option<u32>, BlockError>
-    requires over { S.is_over source.old on.old }
-    requires form { ((S.form source.old).kind ≡ kind) × ((S.form source.old).rank ≡ rank) }
-    requires length { length into.old ≡ 8192 }
-    ensures shows { IfOk result (λ at. (B.state on.old).tells → (S.leaves source.new on.new).at i ≡ at) }
-    ensures reads { IfOk result (λ at. IfSome at (λ b. Reads kind ((B.state on.new).now b) into.new × ReadsSlots kind ((B.state on.new).now b) into.new)) }
-    ensures formed { IfOk result (λ at. IfSome at (λ b. IsFormed kind rank into.new)) }
-    ensures names { IfOk result (λ at. IfSome at (λ b. (i below : ℕ) → i < slot_count kind → target (((B.state on.new).now b).slot i) ≡ Local below → (B.state on.new).is_block below)) }
-    ensures over { S.is_over source.new on.new }
-    ensures same { (S.form source.new ≡ S.form source.old) × (S.size source.new ≡ S.size source.old) × SameLeaves (B.state on.old).tells (S.leaves source.old on.old) (S.leaves source.new on.new) }
-    ensures pins { (B.state on.old).pins_left ≤ (B.state on.new).pins_left + (depth_for (S.size source.old) + 1) }
-    ensures looks { Looks (B.state on.old) (B.state on.new) }
-    ensures keeps { B.keeps on.old on.new }
-    ensures cause { IfErr result (Caused ⊥ (λ b. ((B.state on.old).tells → ⊥) × (B.state on.old).is_block b) (Rose (B.state on.old).faults (B.state on.new).faults) ⊥) }
-{
-    let Some(at) = source.leaf(on, i)? else {
-        return Ok(None);
-    };
-    match on.get(at, kind, rank, into) {
-        Ok(()) => Ok(Some(at)),
-        Err(why) => Err(why),
-    }
-}
-
 /// Pins leaf `i` of a source of leaves of this kind and rank, and gives the block in which it stands; None where there is none.
 pub fn pin_leaf<B: Blocks, S: Bytes<B>>(
     source: &mut S,

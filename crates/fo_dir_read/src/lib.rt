@@ -17,5 +17,5 @@ mod leaves;
 mod records;
 
 pub use entries::{entry_from, free_pair, pair};
-pub use leaves::{copy_leaf, count_of, get_leaf, pin_leaf};
+pub use leaves::{copy_leaf, count_of, pin_leaf};
 pub use records::{Found, lookup};

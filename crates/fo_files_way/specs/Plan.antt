@@ -107,18 +107,6 @@ pub record IsEntries (above : ℕ) (dir : File) (pair : ℕ) (w : Wanted) : Type
   pub limit : w.limit ≡ 2 ^ 38
   pub leaf : w.leaf ≡ pair / 102
 
--- Wanted is this leaf of a directory's records.
-pub record IsRecords (above : ℕ) (dir : File) (leaf : ℕ) (w : Wanted) : Type 0 where
-  pub above_is : w.above ≡ above
-  pub first : ℕ
-  pub slot : IsFirstSlot above dir.named.slot first
-  pub second : w.slot ≡ first + 1
-  pub kind : w.is_dir ≡ false
-  pub tag : w.tag ≡ 33 + 2 * dir.named.number
-  pub rank : w.rank + 24 ≡ dir.rank
-  pub limit : w.limit ≡ 2 ^ 40
-  pub leaf_is : w.leaf ≡ leaf
-
 -- a level was put behind the others for one that was wanted so
 abbrev pub AddsWanted : (Wanted → Type 0) → List Level → List Level → Type 0
 AddsWanted is old new = (w : Wanted) × is w × IsAdded w old new

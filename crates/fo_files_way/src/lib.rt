@@ -2,8 +2,7 @@
 //!
 //! A *plan* is a list of leaves that are to be owned: of each its source, and in which slot of the root block, or of a leaf before it, the
 //! source's entry stands. It is made by looks alone: it begins with the root block (`at_root`), and each leaf is put behind the others
-//! once its source was opened from the entry that memory has, and prepared (`add`; `add_entries` and `add_records` of a directory on a
-//! way). Want of memory, faults and damage come there. Then `own` owns each leaf and links its source, from the root down, and refuses
+//! once its source was opened from the entry that memory has, and prepared (`add`; `add_entries` of a directory on a way). Want of memory, faults and damage come there. Then `own` owns each leaf and links its source, from the root down, and refuses
 //! nothing.
 //!
 //! Proved: where it is owned, each leaf is pinned, of the current epoch, and has what it had, but for the entries that were linked; it hangs from
@@ -23,7 +22,7 @@ pub use add::Wanted;
 pub use laws::{opened_entry, prepared_blocks};
 pub use own::own_linked;
 pub use plan::{Level, Plan};
-pub use way::{add_entries, add_records};
+pub use way::add_entries;
 
 // Passed on, so that a crate above names this one alone.
 pub use fo_files_at as files_at;

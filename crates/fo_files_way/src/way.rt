@@ -4,13 +4,11 @@ ghost use Rattle.fo_base.specs.Cause.{Rose};
 ghost use Rattle.fo_ports.specs.Causes.{Caused};
 ghost use Rattle.fo_ports.specs.State.{Looks};
 ghost use Rattle.fo_files_at.specs.Held.{FileHolds};
-ghost use Rattle.fo_files_way.specs.Plan.{MayOwnAll, IsPlanned, IsFirstSlot, IsEntries, IsRecords, AddsWanted, most_for_levels};
+ghost use Rattle.fo_files_way.specs.Plan.{MayOwnAll, IsPlanned, IsFirstSlot, IsEntries, AddsWanted, most_for_levels};
 
 use crate::add::Wanted;
 use crate::plan::Plan;
-use fo_files_at::{
-    ENTRIES_BELOW, ENTRIES_LIMIT, File, PAIRS, RECORDS_BELOW, RECORDS_LIMIT, tag_of,
-};
+use fo_files_at::{ENTRIES_BELOW, ENTRIES_LIMIT, File, PAIRS, tag_of};
 use fo_ports::{BlockError, Blocks};
 use std::alloc::Global;
 
@@ -45,25 +43,6 @@ fn entries_wanted(above: usize, dir: &File, pair: u32) -> Option<Wanted>
     }
 }
 
-/// A leaf of a directory's records; None where the directory's number is none.
-fn records_wanted(above: usize, dir: &File, leaf: u32) -> Option<Wanted>
-    requires high { 40 ≤ dir.now.rank }
-    ensures is { MatchOption result (2 ^ 30 ≤ dir.now.named.number) (IsRecords above dir.now leaf) }
-{
-    match tag_of(dir.named.number, true) {
-        None => None,
-        Some(tag) => Some(Wanted {
-            above,
-            slot: first_slot(above, dir) + 1,
-            is_dir: false,
-            tag,
-            rank: dir.rank - RECORDS_BELOW,
-            limit: RECORDS_LIMIT,
-            leaf,
-        }),
-    }
-}
-
 /// Puts the leaf of a directory's entries that has a pair into a plan, whose last block has the directory's own entries.
 pub fn add_entries<B: Blocks>(
     alloc: Global,
@@ -87,34 +66,6 @@ pub fn add_entries<B: Blocks>(
 {
     let above = plan.at.len() - 1;
     match entries_wanted(above, dir, pair) {
-        Some(wanted) => plan.add(alloc, on, wanted),
-        None => Err(BlockError::Damaged(dir.leaf)),
-    }
-}
-
-/// Puts a leaf of a directory's records into a plan, of which block `above` has the directory's own entries.
-pub fn add_records<B: Blocks>(
-    alloc: Global,
-    on: &mut B,
-    plan: Plan,
-    above: usize,
-    dir: &File,
-    leaf: u32,
-) -> Result<Plan, BlockError>
-    requires silent { (B.state on.old).tells → ⊥ }
-    requires plan { IsPlanned (B.state on.old) plan }
-    requires above { above < length plan.at.items }
-    requires dir { FileHolds (B.state on.old) dir.now }
-    requires high { 40 ≤ dir.now.rank }
-    requires pins { 20 ≤ (B.state on.old).pins_left }
-    ensures may { IfOk result (λ p. MayOwnAll (B.state on.new) 0 p.at.items p.tags.items p.levels.items) }
-    ensures level { IfOk result (λ p. AddsWanted (IsRecords above dir.now leaf) plan.levels.items p.levels.items) }
-    ensures most { IfOk result (λ p. most_for_levels p.levels.items ≤ most_for_levels plan.levels.items + 5) }
-    ensures pins { (B.state on.old).pins_left ≤ (B.state on.new).pins_left + 20 }
-    ensures looks { Looks (B.state on.old) (B.state on.new) × B.keeps on.old on.new }
-    ensures cause { IfErr result (Caused ⊥ (λ b. (B.state on.old).is_block b ⊎ (b ≡ 1)) (Rose (B.state on.old).faults (B.state on.new).faults) (Rose (B.state on.old).arena_faults (B.state on.new).arena_faults)) }
-{
-    match records_wanted(above, dir, leaf) {
         Some(wanted) => plan.add(alloc, on, wanted),
         None => Err(BlockError::Damaged(dir.leaf)),
     }

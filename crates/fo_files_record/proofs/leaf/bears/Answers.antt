@@ -1,6 +1,0 @@
-use Rattle.std.proofs.Common.{sym}
-use Rattle.fo_dir_put.proofs.Leaves.{leaf_long}
-use Rattle.fo_files_record.proofs.leaf.bears.Goals as goal
-
-pub copy_from_slice-requires : goal.copy_from_slice-requires
-copy_from_slice-requires c = sym (leaf_long c.requires)
