@@ -24,7 +24,7 @@ const FIRST: [Phase; 3] = [Phase::Make(0), Phase::Remove(0), Phase::Rename(40)];
 const SECOND: [Phase; 3] = [Phase::Make(20), Phase::Remove(1), Phase::Rename(80)];
 
 /// A new device.
-fn device(alloc: Global) -> Result<PlainBlocks, Memory>
+pub(crate) fn device(alloc: Global) -> Result<PlainBlocks, Memory>
     ensures blocks { IfOk result (λ on. HasBlocks 1003 (state_of (parts on))) }
     ensures none { IfOk result (λ on. NoneComes (state_of (parts on))) }
 {
@@ -32,7 +32,7 @@ fn device(alloc: Global) -> Result<PlainBlocks, Memory>
 }
 
 /// Puts the entries of the sources of an empty root directory. Whether there was none.
-fn begin_root<B: Blocks>(on: &mut B) -> Result<bool, BlockError>
+pub(crate) fn begin_root<B: Blocks>(on: &mut B) -> Result<bool, BlockError>
     requires memory { (b : B) → IsInMemory (B.state b) }
     requires none { NoneComes (B.state on.old) }
     ensures none { NoneComes (B.state on.new) }
@@ -145,6 +145,21 @@ fn change_first<B: Blocks>(alloc: Global, on: &mut B, model: &mut Model, counts:
     round(alloc, on, model, FIRST, counts);
 }
 
+/// Notes what the leaves hold, once more where that wants memory. Whether there are leaves of both sources.
+fn noted(alloc: Global, on: &mut PlainBlocks, sums: &mut Vec<Sum>) -> bool
+    requires blocks { HasBlocks 1003 (state_of (parts on.old)) }
+    requires none { NoneComes (state_of (parts on.old)) }
+    ensures blocks { HasBlocks 1003 (state_of (parts on.new)) }
+    ensures none { NoneComes (state_of (parts on.new)) }
+{
+    match note_leaves(alloc, on, sums) {
+        Ok(all) => return all,
+        Err(BlockError::Memory) => {}
+        Err(_) => return false,
+    }
+    matches!(note_leaves(alloc, on, sums), Ok(true))
+}
+
 /// A first epoch; then what its leaves hold is noted.
 fn first(
     alloc: Global,
@@ -159,9 +174,8 @@ fn first(
     ensures none { NoneComes (state_of (parts on.new)) }
 {
     change_first(alloc, on, model, counts);
-    match note_leaves(alloc, on, sums) {
-        Ok(true) => {}
-        _ => counts.is_wrong(),
+    if !noted(alloc, on, sums) {
+        counts.is_wrong();
     }
 }
 

@@ -3,7 +3,7 @@ ghost use Rattle.std.specs.Prelude.{◌≡◌, ◌≤◌, ℕ};
 ghost use Rattle.fo_dir_read.specs.Names.{OfRecords};
 ghost use Rattle.epoch_names.specs.Root.{IsInMemory, NoneComes};
 
-use crate::names::{Model, Standing, name};
+use crate::names::{Model, Numbers, Standing, name};
 use crate::parts::Part;
 use crate::root::opened;
 use fo_base::{Bytes as Text, Memory};
@@ -82,12 +82,14 @@ fn ends<B: Blocks, S: Bytes<B>>(
     }
 }
 
-/// How many names are listed from the first on, where they are just those that should be there, in ascending order. None where they are not.
+/// How many names are listed of these numbers, where they are just those that should be there, in ascending order, behind the last one of a
+/// lower number and before the first one of a higher. None where they are not.
 fn listed<B: Blocks, S: Bytes<B>>(
     alloc: Global,
     records: &mut S,
     on: &mut B,
     model: &Model,
+    numbers: Numbers,
 ) -> Result<Option<u32>, BlockError>
     requires over { S.is_over records.old on.old }
     requires form { OfRecords (S.form records.old) 2096 }
@@ -96,12 +98,15 @@ fn listed<B: Blocks, S: Bytes<B>>(
     ensures none { NoneComes (B.state on.old) → NoneComes (B.state on.new) }
     ensures keeps { B.keeps on.old on.new }
 {
-    let mut last = None;
+    let mut last = model.last_below(numbers.from);
     let mut names: u32 = 0;
-    for number in 0..model.many() {
+    for number in numbers.from..model.many() {
         if let Standing::Present(letters) = model.of(number) {
             if !comes(alloc, records, on, last, number, letters)? {
                 return Ok(None);
+            }
+            if numbers.to <= number {
+                return Ok(Some(names));
             }
             last = Some((number, letters));
             names = names.saturating_add(1);
@@ -138,12 +143,13 @@ fn is_found<B: Blocks, S: Bytes<B>>(
     }
 }
 
-/// Whether the name of each number is found just where it should be there.
+/// Whether the name of each of these numbers is found just where it should be there.
 fn are_found<B: Blocks, S: Bytes<B>>(
     alloc: Global,
     records: &mut S,
     on: &mut B,
     model: &Model,
+    numbers: Numbers,
 ) -> Result<bool, BlockError>
     requires over { S.is_over records.old on.old }
     requires form { OfRecords (S.form records.old) 2096 }
@@ -152,7 +158,7 @@ fn are_found<B: Blocks, S: Bytes<B>>(
     ensures none { NoneComes (B.state on.old) → NoneComes (B.state on.new) }
     ensures keeps { B.keeps on.old on.new }
 {
-    for number in 0..model.many() {
+    for number in numbers.from..numbers.to {
         let (letters, present) = model.of(number).parts();
         if !is_found(alloc, records, on, number, letters, present)? {
             return Ok(false);
@@ -161,9 +167,14 @@ fn are_found<B: Blocks, S: Bytes<B>>(
     Ok(true)
 }
 
-/// How many names the directory has, where these are just those that it should have, listed from the first on and looked up one by one. None
-/// where they are not.
-pub fn look<B: Blocks>(alloc: Global, on: &mut B, model: &Model) -> Result<Option<u32>, BlockError>
+/// How many names the directory has of these numbers, where these are just those that it should have, listed one after the other and looked up
+/// one by one. None where they are not.
+pub fn look<B: Blocks>(
+    alloc: Global,
+    on: &mut B,
+    model: &Model,
+    numbers: Numbers,
+) -> Result<Option<u32>, BlockError>
     requires memory { (b : B) → IsInMemory (B.state b) }
     requires none { NoneComes (B.state on.old) }
     ensures none { NoneComes (B.state on.new) }
@@ -172,8 +183,8 @@ pub fn look<B: Blocks>(alloc: Global, on: &mut B, model: &Model) -> Result<Optio
     let Some(mut records) = opened(alloc, on, Part::Records)? else {
         return Ok(None);
     };
-    if !are_found(alloc, &mut records, on, model)? {
+    if !are_found(alloc, &mut records, on, model, numbers)? {
         return Ok(None);
     }
-    listed(alloc, &mut records, on, model)
+    listed(alloc, &mut records, on, model, numbers)
 }

@@ -61,6 +61,13 @@ impl Order {
     }
 }
 
+/// The numbers from one up to another, without that.
+#[derive(Clone, Copy, Debug)]
+pub struct Numbers {
+    pub from: u32,
+    pub to: u32,
+}
+
 /// What the directory should be: how many letters the name of each number has behind its digits, and for a name that is not there how many
 /// it had last.
 #[derive(Drop)]
@@ -106,6 +113,34 @@ impl Model {
             Some(standing) => *standing,
             None => Standing::Absent(0),
         }
+    }
+
+    /// All numbers.
+    pub fn all(&self) -> Numbers {
+        Numbers {
+            from: 0,
+            to: self.many(),
+        }
+    }
+
+    /// A tenth of the numbers: those with this part, of ten.
+    pub fn tenth(&self, part: u32) -> Numbers {
+        let part = part % 10;
+        Numbers {
+            from: self.many().saturating_mul(part) / 10,
+            to: self.many().saturating_mul(part + 1) / 10,
+        }
+    }
+
+    /// The last number below another of which a name is there, and how many letters that has.
+    pub fn last_below(&self, number: u32) -> Option<(u32, u16)> {
+        let mut last = None;
+        for lower in 0..number {
+            if let Standing::Present(letters) = self.of(lower) {
+                last = Some((lower, letters));
+            }
+        }
+        last
     }
 
     /// From now on the name of a number stands so.

@@ -24,7 +24,7 @@ use fo_ports::{BlockError, Blocks};
 use std::alloc::Global;
 
 /// The rank of the records.
-const RECORDS: u32 = 2096;
+pub(crate) const RECORDS: u32 = 2096;
 
 /// The rank of the entries.
 const ENTRIES: u32 = 2088;
@@ -47,7 +47,7 @@ pub(crate) fn reserve<B: Blocks>(on: &mut B) -> Result<(), BlockError>
 }
 
 /// The least free pair.
-fn free<B: Blocks>(alloc: Global, on: &mut B) -> Result<Option<u32>, BlockError>
+pub(crate) fn free<B: Blocks>(alloc: Global, on: &mut B) -> Result<Option<u32>, BlockError>
     requires memory { (b : B) → IsInMemory (B.state b) }
     requires none { NoneComes (B.state on.old) }
     ensures none { NoneComes (B.state on.new) }
@@ -110,7 +110,7 @@ pub(crate) fn found<B: Blocks>(
 }
 
 /// The record of a file of this name and number that has no pair yet.
-fn record(alloc: Global, name: Text, number: u32) -> Result<Record, Memory>
+pub(crate) fn record(alloc: Global, name: Text, number: u32) -> Result<Record, Memory>
     requires { IsTextWithin 255 name }
     ensures { IfOk result RecordHolds }
 {

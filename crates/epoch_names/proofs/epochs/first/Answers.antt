@@ -5,5 +5,5 @@ use Rattle.epoch_names.proofs.epochs.first.Goals as goal
 pub change_first-requires-clause-memory : goal.change_first-requires-clause-memory
 change_first-requires-clause-memory c = λ b. in_memory (parts b)
 
-pub note_leaves-requires-clause-blocks : goal.note_leaves-requires-clause-blocks
-note_leaves-requires-clause-blocks c = blocks_stay (parts c.args.on.now) (parts c.change_first.new.on) c.change_first.ensures.keeps c.requires.blocks
+pub noted-requires-clause-blocks : goal.noted-requires-clause-blocks
+noted-requires-clause-blocks c = blocks_stay (parts c.args.on.now) (parts c.change_first.new.on) c.change_first.ensures.keeps c.requires.blocks
