@@ -1,6 +1,5 @@
 pub mod Asked
 pub mod Change
-pub mod Queues
 pub mod Room
 pub mod Silent
 pub mod SilentLaws

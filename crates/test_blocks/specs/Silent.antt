@@ -204,6 +204,7 @@ state_of p = record {
   waits = Awaits p.waits;
   clearing = λ b j. ⊥;
   covered = λ b. ⊥;
+  holds = [];
   faults = 0;
   arena_faults = 0;
 }

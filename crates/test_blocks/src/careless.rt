@@ -127,6 +127,12 @@ impl FileOps for CarelessFiles {
 
     ghost settled = { λ f. f.clean ≡ true };
 
+    ghost looks = { Keeps };
+
+    ghost settles = { Keeps };
+
+    ghost looks_at_once = { keeps_at_once };
+
     ghost keeps = { Keeps };
 
     ghost touches = { λ a w n b. Takes n a b };

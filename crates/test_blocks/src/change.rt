@@ -11,10 +11,10 @@ use fo_ports::{BlockError, Blocks};
 /// Pins a block of data that holds no records.
 fn pin<B: Blocks>(blocks: &mut B, at: u32, rank: u32) -> Result<(), BlockError>
     requires block { (B.state blocks.old).is_block at }
-    requires none { IsApartFromAll (B.state blocks.old) }
+    requires none { (B.state blocks.old).tells → IsApartFromAll (B.state blocks.old) }
     requires stands { StandsOnce (B.state blocks.old) at rank }
     ensures had { OnOk result (IsHad (B.state blocks.new) at) }
-    ensures none { IsApartFromAll (B.state blocks.new) }
+    ensures none { (B.state blocks.new).tells → IsApartFromAll (B.state blocks.new) }
     ensures stands { OnOk result (StandsSo (B.state blocks.new) at rank) }
     ensures cause { IfErr result (Caused ⊥ (λ b. (B.state blocks.old).tells → ⊥) (Rose (B.state blocks.old).faults (B.state blocks.new).faults) ⊥) }
     ensures keeps { B.keeps blocks.old blocks.new }
@@ -33,7 +33,7 @@ fn pin<B: Blocks>(blocks: &mut B, at: u32, rank: u32) -> Result<(), BlockError>
 fn put<B: Blocks>(blocks: &mut B, at: u32, rank: u32, from: u32, byte: u8) -> Result<(), BlockError>
     requires had { IsHad (B.state blocks.old) at }
     requires current { ((B.state blocks.old).label at).epoch ≡ (B.state blocks.old).high }
-    requires none { IsApartFromAll (B.state blocks.old) }
+    requires none { (B.state blocks.old).tells → IsApartFromAll (B.state blocks.old) }
     requires stands { StandsSo (B.state blocks.old) at rank }
     requires plain { rank % 32 ≢ 16 }
     requires within { from < 8192 }
@@ -56,7 +56,7 @@ pub fn put_byte<B: Blocks>(
     byte: u8,
 ) -> Result<bool, BlockError>
     requires block { (B.state blocks.old).is_block at }
-    requires none { IsApartFromAll (B.state blocks.old) }
+    requires none { (B.state blocks.old).tells → IsApartFromAll (B.state blocks.old) }
     requires stands { StandsOnce (B.state blocks.old) at rank }
     requires plain { rank % 32 ≢ 16 }
     requires within { from < 8192 }

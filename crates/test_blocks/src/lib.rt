@@ -1,17 +1,13 @@
-//! Tests of what stands over blocks, by public names: slots and places (`fo_crash`), the leaves of a directory's records (`fo_meta`),
-//! the removals that wait (`fo_unlink`), slots in bytes (`fo_slots`), blocks in memory (`fo_ports_plain`), and
-//! sources of bytes over them (`fo_ports_source`).
+//! Files and blocks that tell nothing of what they hold, for tests.
 //!
-//! Beside them stand files that tell nothing of what they hold and answer whatever fits (`CarelessFiles`): so the contract of files can be
+//! Files that tell nothing answer whatever fits (`CarelessFiles`): so the contract of files can be
 //! kept by a silent disk, and promises no more there; `agreed_length` asks any files twice how long a file is, which honest ones answer
 //! alike. Blocks that tell nothing (`CarelessBlocks`) keep each clause and law of the contract of blocks: what was given out is in memory
 //! for good, nothing is ever closed, so what is queued stays so, no slot waits to be cleared, and every other fetch finds nothing, as an
 //! arena in a file may read differently each time. So they show nothing of blocks that are read from a device, of buffers that run out, or
 //! of slots that wait. `put_byte` changes a byte of a block over any blocks, also those of a device that tells nothing, and each of its
 //! refusals has its cause. `fetch_twice` says that what was fetched is fetched again, the same, where the device tells; over
-//! `CarelessBlocks` it isn't.
-//!
-//! Bytes that are wanted were worked out by hand from docs/FORMATS.md. Nothing here is said of any caller.
+//! `CarelessBlocks` it isn't. Their tests stand in `test_over_blocks`.
 #![tactic(auto)]
 
 mod asked;
@@ -26,22 +22,3 @@ pub use careless::CarelessFiles;
 pub use change::put_byte;
 pub use fetched::fetch_twice;
 pub use silent::CarelessBlocks;
-
-#[cfg(test)]
-mod blocks;
-#[cfg(test)]
-mod crash;
-#[cfg(test)]
-mod files;
-#[cfg(test)]
-mod meta;
-#[cfg(test)]
-mod queues;
-#[cfg(test)]
-mod silence;
-#[cfg(test)]
-mod slots;
-#[cfg(test)]
-mod sources;
-#[cfg(test)]
-mod unlink;

@@ -12,6 +12,8 @@ impl Blocks for CarelessBlocks {
 
     ghost keeps = { λ s t. SilentKeeps (parts s) (parts t) };
 
+    ghost settles = { λ s t. Unit {0} };
+
     fn get(&mut self, at: u32, kind: Kind, rank: u32, into: &mut [u8]) -> Result<(), BlockError> {
         if self.copy_into(at, kind, rank, into) {
             return Ok(());

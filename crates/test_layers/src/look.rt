@@ -1,23 +1,17 @@
 //! `fo_files_look`: `info`, `parent`, `find`, `next_name` and `read`.
-use crate::asks::{nest, works};
-use std::alloc::Global;
-use std::test::Fail;
-use test_requests::disks::On;
-use test_requests::requests::{begins_with, found, has_bytes, info, is, parent};
+use crate::asks::{Ask, Row, Wanted, works_below};
 
 /// Each look answers.
-fn goes(alloc: Global, files: &mut On) -> bool {
-    nest(alloc, files)
-        && is(info(alloc, files, &[1, 2, 3]), 3, 5)
-        && is(parent(alloc, files, &[1, 2, 3]), 2, 0)
-        && is(found(alloc, files, &[1, 2], b"f"), 3, 5)
-        && begins_with(alloc, files, &[1], b"e")
-        && has_bytes(alloc, files, &[1, 2, 3], b"hello")
-}
+const ROWS: &[Row] = &[
+    (&[1, 2, 3], Ask::Info, Wanted::Is(3, 5)),
+    (&[1, 2, 3], Ask::Parent, Wanted::Is(2, 0)),
+    (&[1, 2], Ask::Find(b"f"), Wanted::Is(3, 5)),
+    (&[1], Ask::First(b"e"), Wanted::Done),
+    (&[1, 2, 3], Ask::Holds(b"hello"), Wanted::Done),
+];
 
 /// With ample memory each look answers.
 #[test]
-fn ample(rt: HostRuntime) -> Result<(), Fail> {
-    assert!(rt; works(rt.alloc(), goes)?);
-    Ok(())
+fn ample(rt: HostRuntime) {
+    works_below(&rt, rt.alloc(), ROWS);
 }

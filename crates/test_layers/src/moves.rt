@@ -1,23 +1,23 @@
 //! `fo_files_move`: `move_between`, in which `move_record` of `fo_dir_move` moves a record.
-use crate::asks::{crowd, long_name, works};
-use std::alloc::Global;
-use std::test::Fail;
-use test_requests::disks::On;
-use test_requests::requests::{FILE, found, is, is_refused, make, rename};
+use crate::asks::{Ask, Row, Wanted, works};
+use test_requests::requests::FILE;
 
 /// A leaf has a record of 44 bytes and 76 of 107, and 12 bytes are left: so the first moves to a second leaf where its name gets longer.
-fn goes(alloc: Global, files: &mut On) -> bool {
-    is(make(alloc, files, &[], b"f", FILE), 1, 0)
-        && crowd(alloc, files, 2, 76)
-        && rename(alloc, files, &[1], &long_name(1)).is_ok()
-        && is(found(alloc, files, &[], &long_name(1)), 1, 0)
-        && is_refused(found(alloc, files, &[], b"f"), b"file does not exist")
-        && is(found(alloc, files, &[], &long_name(77)), 77, 0)
-}
+const ROWS: &[Row] = &[
+    (&[], Ask::Make(b"f", FILE), Wanted::Is(1, 0)),
+    (&[], Ask::Crowd(2, 76), Wanted::Done),
+    (&[1], Ask::RenameLong(1), Wanted::Done),
+    (&[], Ask::FindLong(1), Wanted::Is(1, 0)),
+    (
+        &[],
+        Ask::Find(b"f"),
+        Wanted::Refused(b"file does not exist"),
+    ),
+    (&[], Ask::FindLong(77), Wanted::Is(77, 0)),
+];
 
 /// With ample memory a record moves to another leaf.
 #[test]
-fn ample(rt: HostRuntime) -> Result<(), Fail> {
-    assert!(rt; works(rt.alloc(), goes)?);
-    Ok(())
+fn ample(rt: HostRuntime) {
+    works(&rt, rt.alloc(), ROWS);
 }

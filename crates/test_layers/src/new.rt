@@ -1,23 +1,19 @@
 //! `fo_files_new`: `ready_both` and `new_file`.
-use crate::asks::works;
-use std::alloc::Global;
-use std::test::Fail;
-use test_requests::disks::On;
-use test_requests::requests::{FILE, found, has_bytes, info, is, make, write};
+use crate::asks::{Ask, Row, Wanted, works};
+use test_requests::requests::FILE;
 
 /// The first file of a directory is put into new leaves, and the second beside it.
-fn goes(alloc: Global, files: &mut On) -> bool {
-    is(make(alloc, files, &[], b"f", FILE), 1, 0)
-        && is(make(alloc, files, &[], b"g", FILE), 2, 0)
-        && write(alloc, files, &[2], 0, b"hello").is_ok()
-        && is(found(alloc, files, &[], b"f"), 1, 0)
-        && is(info(alloc, files, &[2]), 2, 5)
-        && has_bytes(alloc, files, &[2], b"hello")
-}
+const ROWS: &[Row] = &[
+    (&[], Ask::Make(b"f", FILE), Wanted::Is(1, 0)),
+    (&[], Ask::Make(b"g", FILE), Wanted::Is(2, 0)),
+    (&[2], Ask::Write(0, b"hello"), Wanted::Done),
+    (&[], Ask::Find(b"f"), Wanted::Is(1, 0)),
+    (&[2], Ask::Info, Wanted::Is(2, 5)),
+    (&[2], Ask::Holds(b"hello"), Wanted::Done),
+];
 
 /// With ample memory new files are put into their directory.
 #[test]
-fn ample(rt: HostRuntime) -> Result<(), Fail> {
-    assert!(rt; works(rt.alloc(), goes)?);
-    Ok(())
+fn ample(rt: HostRuntime) {
+    works(&rt, rt.alloc(), ROWS);
 }

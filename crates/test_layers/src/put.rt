@@ -1,32 +1,45 @@
 //! `fo_put` and `fo_taking`: slots are put and cleared, and what leaves is queued. Neither wants memory.
-use crate::asks::{cut, works};
-use fo_world::FileOps;
-use std::alloc::Global;
-use std::test::Fail;
+use crate::asks::{Ask, Row, Wanted, closes, fresh, goes};
+use std::process::Abort;
 use test_requests::disks::On;
-use test_requests::requests::{FILE, is, make, remove, write};
+use test_requests::requests::FILE;
 
-/// Whether so many removals are queued once all is settled.
-fn queues(files: &mut On, removals: u64) -> bool {
-    files.sync().is_ok() && files.on.cache.mind.queued() as u64 == removals
+/// A file of two leaves is made.
+const MADE: &[Row] = &[
+    (&[], Ask::Make(b"f", FILE), Wanted::Is(1, 0)),
+    (&[1], Ask::Write(8190, b"hello"), Wanted::Done),
+    (&[], Ask::Sync, Wanted::Done),
+];
+
+/// It loses both leaves with their block of pointers.
+const CUT: &[Row] = &[
+    (&[1], Ask::Cut(0), Wanted::Done),
+    (&[], Ask::Sync, Wanted::Done),
+];
+
+/// A file of one leaf is made, and goes.
+const GONE: &[Row] = &[
+    (&[], Ask::Make(b"g", FILE), Wanted::Is(2, 0)),
+    (&[2], Ask::Write(0, b"hello"), Wanted::Done),
+    (&[2], Ask::Remove, Wanted::Done),
+    (&[], Ask::Sync, Wanted::Done),
+];
+
+/// So many removals are queued.
+fn has_queued(rt: &impl Abort, files: &On, removals: u32) {
+    assert_eq!(rt; files.on.cache.mind.queued(), removals);
 }
 
-/// A file of two leaves loses all of them with their block of pointers, of which one removal is queued; and one of one leaf goes.
-fn goes(alloc: Global, files: &mut On) -> bool {
-    is(make(alloc, files, &[], b"f", FILE), 1, 0)
-        && write(alloc, files, &[1], 8190, b"hello").is_ok()
-        && queues(files, 0)
-        && cut(alloc, files, &[1], 0)
-        && queues(files, 1)
-        && is(make(alloc, files, &[], b"g", FILE), 2, 0)
-        && write(alloc, files, &[2], 0, b"hello").is_ok()
-        && remove(alloc, files, &[2]).is_ok()
-        && queues(files, 2)
-}
-
-/// What a slot no longer leads to is queued.
+/// What a slot no longer leads to is queued, one removal for each slot.
 #[test]
-fn ample(rt: HostRuntime) -> Result<(), Fail> {
-    assert!(rt; works(rt.alloc(), goes)?);
-    Ok(())
+fn ample(rt: HostRuntime) {
+    let alloc = rt.alloc();
+    let mut files = fresh(&rt, alloc);
+    goes(&rt, alloc, &mut files, MADE);
+    has_queued(&rt, &files, 0);
+    goes(&rt, alloc, &mut files, CUT);
+    has_queued(&rt, &files, 1);
+    goes(&rt, alloc, &mut files, GONE);
+    has_queued(&rt, &files, 2);
+    closes(&rt, files);
 }

@@ -1,25 +1,23 @@
 //! `fo_files_rename`: `change_file`.
-use crate::asks::{cut, nest, works};
-use std::alloc::Global;
-use std::test::Fail;
-use test_requests::disks::On;
-use test_requests::requests::{found, has_bytes, is, is_refused, rename};
+use crate::asks::{Ask, Row, Wanted, works_below};
 
 /// Files in the root and below it have the names that they are given, and a length.
-fn goes(alloc: Global, files: &mut On) -> bool {
-    nest(alloc, files)
-        && rename(alloc, files, &[1], b"c").is_ok()
-        && rename(alloc, files, &[1, 2, 3], b"g").is_ok()
-        && cut(alloc, files, &[1, 2, 3], 7)
-        && is(found(alloc, files, &[], b"c"), 1, 0)
-        && is_refused(found(alloc, files, &[], b"d"), b"file does not exist")
-        && is(found(alloc, files, &[1, 2], b"g"), 3, 7)
-        && has_bytes(alloc, files, &[1, 2, 3], b"hello\0\0")
-}
+const ROWS: &[Row] = &[
+    (&[1], Ask::Rename(b"c"), Wanted::Done),
+    (&[1, 2, 3], Ask::Rename(b"g"), Wanted::Done),
+    (&[1, 2, 3], Ask::Cut(7), Wanted::Done),
+    (&[], Ask::Find(b"c"), Wanted::Is(1, 0)),
+    (
+        &[],
+        Ask::Find(b"d"),
+        Wanted::Refused(b"file does not exist"),
+    ),
+    (&[1, 2], Ask::Find(b"g"), Wanted::Is(3, 7)),
+    (&[1, 2, 3], Ask::Holds(b"hello\0\0"), Wanted::Done),
+];
 
 /// With ample memory files have the names that they are given.
 #[test]
-fn ample(rt: HostRuntime) -> Result<(), Fail> {
-    assert!(rt; works(rt.alloc(), goes)?);
-    Ok(())
+fn ample(rt: HostRuntime) {
+    works_below(&rt, rt.alloc(), ROWS);
 }

@@ -1,23 +1,17 @@
 //! `fo_files_request`: `write_file`.
-use crate::asks::{nest, stands, works};
-use std::alloc::Global;
-use std::test::Fail;
-use test_requests::disks::On;
-use test_requests::requests::{info, is, write};
+use crate::asks::{Ask, Row, Wanted, works_below};
 
 /// A piece is written at the beginning, and one over the border of two leaves.
-fn goes(alloc: Global, files: &mut On) -> bool {
-    nest(alloc, files)
-        && write(alloc, files, &[1, 2, 3], 0, b"J").is_ok()
-        && write(alloc, files, &[1, 2, 3], 8190, b"hello").is_ok()
-        && is(info(alloc, files, &[1, 2, 3]), 3, 8195)
-        && stands(alloc, files, &[1, 2, 3], 0, b"Jello\0\0\0")
-        && stands(alloc, files, &[1, 2, 3], 8189, b"\0hello")
-}
+const ROWS: &[Row] = &[
+    (&[1, 2, 3], Ask::Write(0, b"J"), Wanted::Done),
+    (&[1, 2, 3], Ask::Write(8190, b"hello"), Wanted::Done),
+    (&[1, 2, 3], Ask::Info, Wanted::Is(3, 8195)),
+    (&[1, 2, 3], Ask::Stands(0, b"Jello\0\0\0"), Wanted::Done),
+    (&[1, 2, 3], Ask::Stands(8189, b"\0hello"), Wanted::Done),
+];
 
 /// With ample memory a write is granted.
 #[test]
-fn ample(rt: HostRuntime) -> Result<(), Fail> {
-    assert!(rt; works(rt.alloc(), goes)?);
-    Ok(())
+fn ample(rt: HostRuntime) {
+    works_below(&rt, rt.alloc(), ROWS);
 }

@@ -1,21 +1,16 @@
 //! `fo_files_spot`: `spot_for` and `is_full`.
-use crate::asks::{crowd, long_name, works};
-use std::alloc::Global;
-use std::test::Fail;
-use test_requests::disks::On;
-use test_requests::requests::{found, is};
+use crate::asks::{Ask, Row, Wanted, works};
 
 /// A leaf of entries has 102 pairs; the file after so many goes into a second leaf.
-fn goes(alloc: Global, files: &mut On) -> bool {
-    crowd(alloc, files, 1, 103)
-        && is(found(alloc, files, &[], &long_name(1)), 1, 0)
-        && is(found(alloc, files, &[], &long_name(102)), 102, 0)
-        && is(found(alloc, files, &[], &long_name(103)), 103, 0)
-}
+const ROWS: &[Row] = &[
+    (&[], Ask::Crowd(1, 103), Wanted::Done),
+    (&[], Ask::FindLong(1), Wanted::Is(1, 0)),
+    (&[], Ask::FindLong(102), Wanted::Is(102, 0)),
+    (&[], Ask::FindLong(103), Wanted::Is(103, 0)),
+];
 
 /// With ample memory there is a place for each of 103 files.
 #[test]
-fn ample(rt: HostRuntime) -> Result<(), Fail> {
-    assert!(rt; works(rt.alloc(), goes)?);
-    Ok(())
+fn ample(rt: HostRuntime) {
+    works(&rt, rt.alloc(), ROWS);
 }

@@ -1,1 +1,2 @@
 pub mod Rig
+pub mod Linked

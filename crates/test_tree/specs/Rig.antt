@@ -1,5 +1,5 @@
 -- What a test has made of a source.
-use Rattle.std.specs.Prelude.{◌≡◌, ◌^◌, ◌≤◌, ℕ, [], false}
+use Rattle.std.specs.Prelude.{◌≡◌, ◌^◌, ℕ, [], false}
 use Rattle.fo_image.specs.declared.types.Pointer.{Pointer}
 use Rattle.fo_ports.specs.State.{State}
 use Rattle.fo_tree_read.specs.declared.tree.Tree.{Tree}
@@ -28,3 +28,4 @@ pub record IsNew (t : Tree) (w : Ways) : Type 0 where
   pub is : w.tree ≡ t
   pub none : w.kept.items ≡ []
   pub wide : w.limit ≡ 2 ^ 40
+  pub generation : w.generation ≡ 1

@@ -3,7 +3,9 @@ ghost use Rattle.std.specs.Prelude.{◌≡◌, ◌+◌, ◌-◌, ◌*◌, ◌^�
 ghost use Rattle.fo_image.specs.declared.types.Pointer.{Pointer};
 ghost use Rattle.fo_tree_lift.specs.Owns.{with_leaf};
 ghost use Rattle.test_tree.specs.Rig.{Stands, Rig, IsNew, data_tree};
+ghost use Rattle.test_tree.specs.Linked.{Apart};
 
+use crate::linked::ground;
 use fo_base::BLOCK;
 use fo_image::{Pointer, least_depth};
 use fo_ports::{BlockError, Blocks};
@@ -63,9 +65,11 @@ fn grow<B: Blocks>(ways: &mut Ways, on: &mut B, i: u32)
     requires few { i < 2 ^ 27 - 1 }
     requires spare { 15 ≤ (B.state on.old).spare }
     ensures rig { Rig (B.state on.new) ways.new }
+    ensures apart { (B.state on.old).tells → Apart (B.state on.old) ways.old → Apart (B.state on.new) ways.new }
     ensures spare { (B.state on.old).spare ≤ (B.state on.new).spare + 15 }
     ensures keeps { B.keeps on.old on.new }
 {
+    ground(on);
     let current = own_leaf(&ways.tree, &ways.kept, on, i);
     ways.tree = grown_tree(&ways.tree, i, current.top);
 }
@@ -76,9 +80,11 @@ fn put_last<B: Blocks>(ways: &mut Ways, on: &mut B, value: u8)
     requires some { 0 < ways.old.tree.size }
     requires spare { 15 ≤ (B.state on.old).spare }
     ensures rig { Rig (B.state on.new) ways.new }
+    ensures apart { (B.state on.old).tells → Apart (B.state on.old) ways.old → Apart (B.state on.new) ways.new }
     ensures spare { (B.state on.old).spare ≤ (B.state on.new).spare + 15 }
     ensures keeps { B.keeps on.old on.new }
 {
+    ground(on);
     let place = ways.tree.size - 1;
     ways.tree.top = put_within(&ways.tree, &ways.kept, on, place, &[value]);
 }
@@ -88,6 +94,7 @@ fn apply<B: Blocks>(ways: &mut Ways, on: &mut B, step: Step)
     requires rig { Rig (B.state on.old) ways.old }
     requires spare { 15 ≤ (B.state on.old).spare }
     ensures rig { Rig (B.state on.new) ways.new }
+    ensures apart { (B.state on.old).tells → Apart (B.state on.old) ways.old → Apart (B.state on.new) ways.new }
     ensures spare { (B.state on.old).spare ≤ (B.state on.new).spare + 15 }
     ensures keeps { B.keeps on.old on.new }
 {
@@ -110,6 +117,20 @@ pub fn run<B: Blocks>(ways: &mut Ways, on: &mut B, steps: &[Step])
     requires rig { Rig (B.state on.old) ways.old }
     requires spare { 15 * length steps.now ≤ (B.state on.old).spare }
     ensures { Rig (B.state on.new) ways.new }
+{
+    for step in steps {
+        apply(ways, on, *step);
+    }
+}
+
+/// All steps are done, on a source that is linked nowhere yet.
+pub fn build<B: Blocks>(ways: &mut Ways, on: &mut B, steps: &[Step])
+    requires told { (b : B) → (B.state b).tells }
+    requires rig { Rig (B.state on.old) ways.old }
+    requires apart { Apart (B.state on.old) ways.old }
+    requires spare { 15 * length steps.now ≤ (B.state on.old).spare }
+    ensures rig { Rig (B.state on.new) ways.new }
+    ensures apart { Apart (B.state on.new) ways.new }
 {
     for step in steps {
         apply(ways, on, *step);

@@ -1,9 +1,12 @@
-use Rattle.std.proofs.Common.{◌≡◌, ◌+◌, ◌*◌, ◌^◌, ◌<◌, ◌≤◌, ℕ, List, inr, sym, ◌∙◌, ap, subst, arith}
+use Rattle.std.proofs.Common.{◌≡◌, ◌+◌, ◌*◌, ◌≤◌, List, inr, ⊎_elim, sym, ◌∙◌, ap, subst, arith}
+use Rattle.fo_image.specs.declared.types.Pointer.TheVariants.{Nil, Local}
+use Rattle.fo_ports.specs.Sources.{ComesFor}
 use Rattle.fo_tree_read.specs.declared.tree.Tree.{Tree}
 use Rattle.fo_tree_look.specs.declared.ways.Kept.{Kept}
 use Rattle.fo_tree_look.specs.Source.{Over}
 use Rattle.fo_tree_down.specs.Clear.{EndsClear}
 use Rattle.fo_tree_lift.specs.Owns.{with_leaf}
+use Rattle.test_tree.proofs.Grounds.{root_kept}
 use Rattle.test_tree.proofs.steps.grow.Goals as goal
 
 pub returns-clause-rig : goal.returns-clause-rig
@@ -31,4 +34,18 @@ returns-clause-rig g c =
         wide = stands.wide;
       };
       clear = subst (λ (y : Tree). EndsClear m y ways.kept.items) (sym is) clear;
+    }
+
+pub returns-clause-apart : goal.returns-clause-apart
+returns-clause-apart g c = λ told a.
+    let m = g.B.Blocks.state c.own_leaf-current.new.on in
+    let ways = c.args.ways.now in
+    let own = c.own_leaf-current.ensures in
+    let is = c.grown_tree-ways.ensures in
+    record {
+      generation = a.generation;
+      tag = ap (λ (y : Tree). y.tag) is ∙ a.tag;
+      comes = subst (λ (y : Tree). ComesFor m y.top Nil) (sym is) (own.top.comes told Nil a.comes);
+      only = λ y x h. subst (λ (z : Tree). z.top ≡ Local y) (sym is) (⊎_elim (λ e. ap Local (sym e)) (λ old. absurd (old.1 (a.only y x old.0))) (own.top.only told y x h));
+      begun = root_kept (c.ground.ensures told) (own.changes ways.generation ways.limit) a.tag (g.met.B.Blocks.keeps_all c.args.on.now c.own_leaf-current.new.on own.keeps) a.begun;
     }

@@ -1,0 +1,3 @@
+mod Empty
+mod Retiring
+mod Untold
