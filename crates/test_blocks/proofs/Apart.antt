@@ -1,6 +1,6 @@
 -- Where the device tells, no block was made to come in the place of another.
 use Rattle.std.proofs.Common.{ℕ}
-use Rattle.fo_ports.specs.State.{State, Rests, Looks, Calm, IsDoomed, KeepsAll, none}
+use Rattle.fo_ports.specs.State.{State, Rests, Looks, Calm, IsDoomed, KeepsAll}
 use Rattle.test_blocks.specs.Change.{IsApartFromAll}
 
 pub apart_doomed : {s : State} → (s.tells → IsApartFromAll s) → s.tells → (y x : ℕ) → s.instead y x → IsDoomed s x → ⊥

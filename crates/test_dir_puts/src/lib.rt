@@ -1,4 +1,5 @@
-//! Tests of names that are added, changed, moved and removed, over blocks that tell nothing (`CarelessBlocks`).
+//! Tests of names that are added, changed, moved and removed, over blocks that tell nothing (`CarelessBlocks`),
+//! and in a plain directory.
 //!
 //! The bytes of leaves were worked out by hand by docs/FORMATS.md. Not tested here: what a crash leaves, and waits.
 #![tactic(auto)]
@@ -9,5 +10,7 @@ mod leaves;
 mod moves;
 #[cfg(test)]
 mod names;
+#[cfg(test)]
+mod plain;
 #[cfg(test)]
 mod records;
