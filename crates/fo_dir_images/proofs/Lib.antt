@@ -5,3 +5,4 @@ pub mod Same
 pub mod Listing
 pub mod Hanging
 pub mod Sourcing
+pub mod Naming

@@ -2,3 +2,4 @@ pub mod Leaves
 pub mod Whole
 pub mod Sources
 pub mod Example
+pub mod Alone

@@ -1,6 +1,7 @@
 //! The laws. Each function does nothing: its contract is the law, so that the law is proved with the crate.
 ghost use Rattle.std.specs.Prelude.{ℕ, []};
 ghost use Rattle.fo_crash.specs.Images.{Arena, Image};
+ghost use Rattle.fo_dir_images.specs.Alone.{KeepsNamesAlone};
 ghost use Rattle.fo_dir_images.specs.Leaves.{Entries, Records, IsLeafOf, ReadsDirs, ShowsLeaves};
 ghost use Rattle.fo_dir_images.specs.Example.{example};
 ghost use Rattle.fo_dir_images.specs.Sources.{ReadsSources};
@@ -39,6 +40,14 @@ pub fn leaves_in_place_are_there<B: Blocks>(on: &B)
     ensures { (B.state on.now).tells → PlacesLeaves (B.state on.now) }
 {
     let _ = on;
+}
+
+/// A name that memory has in no other leaf of a directory's records, where these are in place and sure, no image has in them either.
+pub fn names_stand_alone<B: Blocks>(on: &B)
+    ensures { (B.state on.now).tells → KeepsNamesAlone (B.state on.now) }
+{
+    leaves_are_shown(on);
+    leaves_in_place_are_there(on);
 }
 
 /// Such leaves there are: block 4 is the one leaf of records of the root directory, in an image where it is the top of its source, and in

@@ -11,8 +11,10 @@
 //! keep it (`IsWholeDir`), no two records that an image lists in these leaves have one name, number or pair, and each has both entries of
 //! its pair in the image's own entries; and where all directories of the image are so, it keeps the rule of pairs of sound images
 //! (`directories_are_shown`). A leaf that hung from block 1 when all was last settled, and that no settling is to take out, is such a block
-//! (`leaves_in_place_are_there`); `is_shown` tests the first of it for all leaves of a directory. What names lead to is what is read along
-//! the trail (`names_lead_along_trails`), and where the entry there is a source's, its leaves are those of the source (`sources_are_read`).
+//! (`leaves_in_place_are_there`); `is_shown` tests the first of it for all leaves of a directory. Where memory has no record of a name in the
+//! first leaves of a directory's records but one, which are so in place, and which every image has as memory has them, no image has one in the
+//! blocks that it reads as these leaves (`names_stand_alone`). What names lead to is what is read along the trail (`names_lead_along_trails`),
+//! and where the entry there is a source's, its leaves are those of the source (`sources_are_read`).
 //!
 //! Not said: that all leaves are in place at each moment, which is for whoever calls; that the length of an image's entries reaches a pair,
 //! which the rule of pairs asks and the law takes as a condition; file numbers over the whole tree; directories that an image has still and
@@ -24,6 +26,6 @@ mod placed;
 
 pub use laws::{
     directories_are_shown, leaves_are_shown, leaves_exist, leaves_in_place_are_there,
-    names_lead_along_trails, sources_are_read,
+    names_lead_along_trails, names_stand_alone, sources_are_read,
 };
 pub use placed::is_shown;

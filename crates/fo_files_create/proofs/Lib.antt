@@ -2,3 +2,4 @@ pub mod Counting
 pub mod Steps
 pub mod Telling
 pub mod Late
+pub mod Settling

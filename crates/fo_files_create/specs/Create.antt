@@ -16,6 +16,7 @@ use Rattle.fo_files_own.specs.declared.at.OwnAt.{OwnAt}
 use Rattle.fo_files_own.specs.declared.at.OwnAt.TheVariants as place
 use Rattle.fo_files_own.specs.Own.{ChangesOwn, LeavesOwn, StepsTo}
 use Rattle.fo_files_create_look.specs.of_files_spot.declared.spot.Spot.{Spot}
+use Rattle.fo_files_create_look.specs.of_files_spot.Settles.{SettlesUnless}
 use Rattle.fo_files_create_look.specs.of_files_along.Along.{GoesToDir}
 use Rattle.fo_files_create_look.specs.declared.found.Found.{Found}
 use Rattle.fo_files_create_look.specs.Found.{IsFound}
@@ -69,6 +70,7 @@ pub record MakesNew (B : Type 0) (state : B → State) (old new : B) (dir : DirA
   pub block : ℕ
   pub readied : StepsTo B state old e own touched.name block
   pub leaves : Leaves
+  pub z : B
   pub a : B
   pub b : B
   pub t : B
@@ -77,7 +79,7 @@ pub record MakesNew (B : Type 0) (state : B → State) (old new : B) (dir : DirA
   pub m : B
   pub n : B
   pub f : B
-  pub comes : IsNew (state e) (state a) (state b) (state t) (state c) (state p) (state m) (state n) (state f) dir spot.pair spot.leaf leaves named r
+  pub comes : IsNew (state e) (state z) (state a) (state b) (state t) (state c) (state p) (state m) (state n) (state f) dir spot.pair spot.leaf leaves named r
   pub stays : (x : Leaves) × AltersDir dir (IsLeafOf x) (state e) (state f)
   pub g : B
   pub taken : TakesNumber (state f) (state g)
@@ -114,26 +116,31 @@ pub record LeavesWay (B : Type 0) (state : B → State) (old new : B) (root : �
 abbrev pub LeavesAlong : (B : Type 0) (state : B → State) (old new : B) (root : ℕ) (trail : List ℕ) → Type 0
 LeavesAlong B state old new root trail = Looks (state old) (state new) ⊎ LeavesWay B state old new root trail
 
--- A number was granted, and room reserved, or that was tried; then the rest was refused, or never begun.
+-- A number was granted, room reserved, or that was tried, and all settled, or that was tried; then the rest was refused, or never begun.
 pub record LeavesAfter (B : Type 0) (state : B → State) (old new : B) (root : ℕ) (trail : List ℕ) : Type 0 where
   pub n : B
   pub b : B
+  pub c : B
   pub numbers : Numbers (state old) (state n)
   pub rests : Looks (state n) (state b) ⊎ Rests (state n) (state b)
-  pub left : LeavesAlong B state b new root trail
+  pub settles : (c ≡ b) ⊎ Rests (state b) (state c)
+  pub left : LeavesAlong B state c new root trail
 
 -- What a refusal leaves: all was only looked at, or it came later.
 abbrev pub IsLeft : (B : Type 0) (state : B → State) (old new : B) (root : ℕ) (trail : List ℕ) → Type 0
 IsLeft B state old new root trail = Looks (state old) (state new) ⊎ ((a : B) × Looks (state old) (state a) × LeavesAfter B state a new root trail)
 
--- A number was granted, room reserved, and a file with this record and the number made in the directory that was found.
+-- A number was granted, room reserved, all settled where the name doesn't stand alone, and a file with this record and the number made in the
+-- directory that was found.
 pub record MakesFound (B : Type 0) (state : B → State) (old new : B) (root : ℕ) (trail : List ℕ) (found : Found) : Type 0 where
   pub n : B
   pub b : B
+  pub c : B
   pub numbers : Numbers (state old) (state n)
   pub rests : Rests (state n) (state b)
+  pub settles : SettlesUnless B state found.spot.alone b c
   pub r : Record
-  pub makes : MakesAlong B state b new root trail found.way found.spot (numbered (state old).next found.named) r
+  pub makes : MakesAlong B state c new root trail found.way found.spot (numbered (state old).next found.named) r
 
 -- A file was made in the directory at the end of a trail: what it needs was found, and then it was.
 pub record Creates (B : Type 0) (state : B → State) (old new : B) (root : ℕ) (trail : List ℕ) (named : Record) : Type 0 where

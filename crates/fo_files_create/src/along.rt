@@ -48,7 +48,7 @@ pub(crate) fn make_along<B: Blocks>(
     requires named { RecordHolds named × (named.number < 2 ^ 30) }
     requires granted { (B.state on.old).grants }
     requires spare { need (length trail.now) 0 ≤ (B.state on.old).spare }
-    requires pins { 20 * length trail.now + 122 ≤ (B.state on.old).pins_left }
+    requires pins { 20 * length trail.now + 142 ≤ (B.state on.old).pins_left }
     requires room { 3274 ≤ (B.state on.old).room }
     ensures makes { IfOk result (λ r. MakesAlong B B.state on.old on.new root trail.now way.now spot named r) }
     ensures record { IfOk result (λ r. RecordHolds r × IsNumbered named spot.pair r.generation r) }

@@ -1,18 +1,19 @@
 //! A file is made.
-ghost use Rattle.std.specs.Prelude.{◌≡◌, ◌⊎◌, ◌+◌, ◌*◌, ◌^◌, ◌<◌, ◌≤◌, length, IfOk, IfErr, OnOk, OnErr};
+ghost use Rattle.std.specs.Prelude.{◌≡◌, ◌⊎◌, ◌+◌, ◌*◌, ◌^◌, ◌<◌, ◌≤◌, length, [], IfOk, IfErr, OnOk, OnErr};
 ghost use Rattle.fo_image.specs.declared.record.Record.{Record};
 ghost use Rattle.fo_world.specs.Answers.{HadRoom, Refuses};
 ghost use Rattle.fo_world.specs.Fits.{InfoFits};
 ghost use Rattle.fo_world.specs.Limits.{IsName, IsUser};
 ghost use Rattle.fo_world.specs.Step.{below, create_need, info_of, need, new_node};
-ghost use Rattle.fo_ports.specs.State.{Looks, Rests, none};
+ghost use Rattle.fo_ports.specs.State.{KeepsNumbers, Looks, Rests, none};
 ghost use Rattle.fo_files_create_look.specs.of_files_look.Told.{faults_of, MayLook};
 ghost use Rattle.fo_files_create_look.specs.of_files_along.Along.{HasRoom, IsBlocks};
 ghost use Rattle.fo_files_create_look.specs.Found.{IsFound};
 ghost use Rattle.fo_files_create_look.specs.Named.{new_record};
 ghost use Rattle.fo_files_create_look.specs.Refused.{IsRefused, MayMake};
+ghost use Rattle.fo_files_create_look.specs.of_files_spot.Settles.{SettlesUnless};
 ghost use Rattle.fo_files_create.specs.Create.{Creates, IsLate, IsLeft, LeavesAfter, LeavesAlong, MakesAlong, MakesFound, numbered, told_of};
-ghost use Rattle.fo_ports.specs.Sources.{Dirties};
+ghost use Rattle.fo_ports.specs.Sources.{Dirties, DirtiesIn};
 
 use crate::along::make_along;
 use crate::number::{granted, with_number};
@@ -20,6 +21,7 @@ use crate::told::{place_below, told};
 use fo_base::Bytes;
 use fo_files_create_look::files_along::reserve_room;
 use fo_files_create_look::files_look::file_error;
+use fo_files_create_look::files_spot::settle_unless;
 use fo_files_create_look::{Found, look_for_new};
 use fo_ports::Blocks;
 use fo_world::{FileError, Info, Place};
@@ -34,18 +36,44 @@ fn blocks_for(depth: usize) -> u32
     6 * depth as u32 + 40
 }
 
-/// How many pins: the plan 20 a directory and 1, the own record 60, the new file 61.
+/// How many pins: the plan 20 a directory and 1, the own record 60, the new file 81.
 fn pins_for(depth: usize) -> u32
     requires { depth ≤ 65 }
-    ensures { result ≡ 20 * depth + 122 }
+    ensures { result ≡ 20 * depth + 142 }
 {
-    20 * depth as u32 + 122
+    20 * depth as u32 + 142
 }
 
 /// How many removals and waits: 1,636 to trim the records above and one to move one, and 1,637 for the new file.
 const REMOVALS: u32 = 1637 + 1637;
 
-/// Reserves room, and makes a file in the directory that was found, with this number, which was granted, at this place.
+/// Reserves room for a file in a directory of this depth, and then settles, unless the file's name stands alone there in every image.
+fn reserve_and_settle<B: Blocks>(on: &mut B, depth: usize, alone: bool) -> Result<(), FileError>
+    requires silent { (B.state on.old).tells → ⊥ }
+    requires short { depth ≤ 65 }
+    ensures settles { OnOk result ((b : B) × Rests (B.state on.old) (B.state b) × SettlesUnless B B.state alone b on.new) }
+    ensures left { OnErr result ((b : B) × Rests (B.state on.old) (B.state b) × ((on.new ≡ b) ⊎ Rests (B.state b) (B.state on.new))) }
+    ensures numbers { KeepsNumbers (B.state on.old) (B.state on.new) }
+    ensures room { OnOk result ((need depth 0 ≤ (B.state on.new).spare) × (20 * depth + 142 ≤ (B.state on.new).pins_left) × (3274 ≤ (B.state on.new).room)) }
+    ensures refused { IfErr result IsBlocks }
+    ensures had { HadRoom (HasRoom (B.state on.old)) (need depth 0) result }
+    ensures usable { (B.state on.old).usable ≤ (B.state on.new).usable }
+    ensures cause { Refuses (faults_of (B.state on.old)) (faults_of (B.state on.new)) ⊥ (HasRoom (B.state on.new)) (need depth 0) result }
+    ensures dirties { DirtiesIn [] (B.state on.old) (B.state on.new) }
+    ensures keeps { B.keeps on.old on.new }
+{
+    match reserve_room(on, blocks_for(depth), pins_for(depth), REMOVALS) {
+        Ok(()) => {}
+        Err(why) => return Err(why),
+    }
+    match settle_unless(on, alone) {
+        Ok(()) => Ok(()),
+        Err(why) => Err(file_error(why)),
+    }
+}
+
+/// Reserves room, settles unless the name stands alone, and makes a file in the directory that was found, with this number, which was granted, at
+/// this place.
 fn make_at<B: Blocks>(
     alloc: Global,
     on: &mut B,
@@ -60,11 +88,11 @@ fn make_at<B: Blocks>(
     requires short { length trail.now ≤ 65 }
     requires number { number < 2 ^ 30 }
     requires granted { (B.state on.old).grants }
-    ensures makes { IfOk result (λ i. (b : B) × (r : Record) × Rests (B.state on.old) (B.state b) × MakesAlong B B.state b on.new root trail.now found.way found.spot (numbered number found.named) r) }
+    ensures makes { IfOk result (λ i. (b c : B) × (r : Record) × Rests (B.state on.old) (B.state b) × SettlesUnless B B.state found.spot.alone b c × MakesAlong B B.state c on.new root trail.now found.way found.spot (numbered number found.named) r) }
     ensures told { IfOk result (λ i. i ≡ told_of place (numbered number found.named)) }
     ensures fits { IfOk result InfoFits }
     ensures next { OnOk result ((B.state on.new).next ≡ (B.state on.old).next + 1) }
-    ensures left { OnErr result ((b : B) × Rests (B.state on.old) (B.state b) × LeavesAlong B B.state b on.new root trail.now) }
+    ensures left { OnErr result ((b c : B) × Rests (B.state on.old) (B.state b) × ((c ≡ b) ⊎ Rests (B.state b) (B.state c)) × LeavesAlong B B.state c on.new root trail.now) }
     ensures numbers { OnErr result ((B.state on.new).next ≡ (B.state on.old).next) }
     ensures refused { IfErr result IsBlocks }
     ensures room { HadRoom (HasRoom (B.state on.old)) (need (length trail.now) 0) result }
@@ -73,8 +101,7 @@ fn make_at<B: Blocks>(
     ensures dirties { Dirties (2 * need (length trail.now) 0) none (B.state on.old) (B.state on.new) }
     ensures keeps { B.keeps on.old on.new }
 {
-    let depth = trail.len();
-    match reserve_room(on, blocks_for(depth), pins_for(depth), REMOVALS) {
+    match reserve_and_settle(on, trail.len(), found.spot.alone) {
         Ok(()) => {}
         Err(why) => return Err(why),
     }
@@ -105,11 +132,11 @@ fn make_numbered<B: Blocks>(
     requires short { length at.now.trail ≤ 65 }
     requires number { number < 2 ^ 30 }
     requires granted { (B.state on.old).grants }
-    ensures makes { IfOk result (λ i. (b : B) × (r : Record) × Rests (B.state on.old) (B.state b) × MakesAlong B B.state b on.new root at.now.trail found.way found.spot (numbered number found.named) r) }
+    ensures makes { IfOk result (λ i. (b c : B) × (r : Record) × Rests (B.state on.old) (B.state b) × SettlesUnless B B.state found.spot.alone b c × MakesAlong B B.state c on.new root at.now.trail found.way found.spot (numbered number found.named) r) }
     ensures told { IfOk result (λ i. i ≡ told_of (below at.now number) (numbered number found.named)) }
     ensures fits { IfOk result InfoFits }
     ensures next { OnOk result ((B.state on.new).next ≡ (B.state on.old).next + 1) }
-    ensures left { OnErr result ((b : B) × (Looks (B.state on.old) (B.state b) ⊎ Rests (B.state on.old) (B.state b)) × LeavesAlong B B.state b on.new root at.now.trail) }
+    ensures left { OnErr result ((b c : B) × (Looks (B.state on.old) (B.state b) ⊎ Rests (B.state on.old) (B.state b)) × ((c ≡ b) ⊎ Rests (B.state b) (B.state c)) × LeavesAlong B B.state c on.new root at.now.trail) }
     ensures numbers { OnErr result ((B.state on.new).next ≡ (B.state on.old).next) }
     ensures refused { IfErr result IsBlocks }
     ensures room { HadRoom (HasRoom (B.state on.old)) (create_need at.now) result }

@@ -50,7 +50,7 @@ pub(crate) fn put_new<B: Blocks>(
     requires touched { MayOwn own touched.now }
     requires named { RecordHolds named × (named.number < 2 ^ 30) }
     requires granted { (B.state on.old).grants }
-    requires pins { 121 ≤ (B.state on.old).pins_left }
+    requires pins { 141 ≤ (B.state on.old).pins_left }
     requires spare { 40 ≤ (B.state on.old).spare }
     requires room { 3274 ≤ (B.state on.old).room }
     ensures makes { IfOk result (λ r. MakesNew B B.state on.old on.new dir own touched.now spot named r) }

@@ -25,7 +25,8 @@ use fo_world::{FileError, Place};
 use std::alloc::Global;
 
 /// What was found for a new file: the way to the directory that gets it, whose record is the one that it has then, and the leaf to which that goes
-/// where it outgrows its own; the new file's record, but for its number and its pair; and the pair and the leaf of records that it gets.
+/// where it outgrows its own; the new file's record, but for its number and its pair; and the pair and the leaf of records that it gets, with
+/// whether its name stands alone there.
 #[derive(Debug, Drop)]
 pub struct Found {
     pub way: Way,

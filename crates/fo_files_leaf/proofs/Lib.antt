@@ -6,3 +6,4 @@ pub mod Ways
 pub mod Owning
 pub mod Readying
 pub mod Trimming
+pub mod Taking

@@ -41,12 +41,17 @@ entry_at s u w x all looks holder entry tag apart =
       settled = λ h. entry.settled (looks.order.clearing w.at w.slot h).1;
     }
 
+-- what a change leaves before which the source was looked at
+pub looked_alters : (s m u : State) (w : LeafOf) (x : Source) → KeepsAll s m → s.pinned w.at → Looks s m → x.ways.tree.tag ≡ w.tag → x.ways.tree.dir ≡ w.is_dir
+    → Alters w.at (λ k. k ≡ w.slot) (λ t. t ≡ x.ways.tree.tag) (IsAbove x.ways.tree.tag x.ways.tree.dir) none m u → Alters w.at (λ k. k ≡ w.slot) (λ t. t ≡ w.tag) (IsAbove w.tag w.is_dir) none s u
+looked_alters s m u w x all pinned looks tag dir change = alters_joins all
+    (alters_looks w.at (λ k. k ≡ w.slot) (λ t. t ≡ w.tag) (IsAbove w.tag w.is_dir) none s m pinned looks)
+    (alters_wider (λ k h. h) (λ t h. h ∙ tag) (λ l h. (h.0 ∙ tag, λ e. h.1 (e ∙ sym (ap (λ d. kind_at d 0) dir)))) (λ b h. h) change)
+
 -- what a leaf that was prepared and owned leaves
 pub readied_alters : (s m u : State) (w : LeafOf) (x y : Source) (leaf : ℕ) → KeepsAll s m → s.pinned w.at → Looks s m → x.ways.tree.tag ≡ w.tag → x.ways.tree.dir ≡ w.is_dir
     → OwnsLeaf m u x y w.leaf w.at w.slot leaf → Alters w.at (λ k. k ≡ w.slot) (λ t. t ≡ w.tag) (IsAbove w.tag w.is_dir) none s u
-readied_alters s m u w x y leaf all pinned looks tag dir owned = alters_joins all
-    (alters_looks w.at (λ k. k ≡ w.slot) (λ t. t ≡ w.tag) (IsAbove w.tag w.is_dir) none s m pinned looks)
-    (alters_wider (λ k h. h) (λ t h. h ∙ tag) (λ l h. (h.0 ∙ tag, λ e. h.1 (e ∙ sym (ap (λ d. kind_at d 0) dir)))) (λ b h. h) owned.alters)
+readied_alters s m u w x y leaf all pinned looks tag dir owned = looked_alters s m u w x all pinned looks tag dir owned.alters
 
 pub own_leaf_of : (u : State) (w : LeafOf) (x : Source) (leaf : ℕ) → x.ways.tree.tag ≡ w.tag → x.ways.tree.dir ≡ w.is_dir → IsOwnLeaf u x.ways.tree.tag x.ways.tree.dir leaf → IsOwnLeaf u w.tag w.is_dir leaf
 own_leaf_of u w x leaf tag dir own = subst (λ t. IsOwnLeaf u t w.is_dir leaf) tag (subst (λ d. IsOwnLeaf u x.ways.tree.tag d leaf) dir own)

@@ -99,3 +99,14 @@ pub record IsTrimmedFor (s : State) (w : LeafOf) : Type 0 where
   pub source : Source
   pub entry : EntryAt s source.ways.tree source.ways.generation w.at w.slot
   pub may : MayGrow s source w.leaf
+
+-- The entry of a source that ends before a leaf was put with the length that the source has with that leaf, and with all else that it had.
+pub record TakesIn (s u : State) (w : LeafOf) : Type 0 where
+  pub source : Source
+  pub entry : IsEntryIn s source w.at w.slot
+  pub short : source.ways.tree.size < 8192 * (w.leaf + 1)
+  pub longer : EntryAt u (record source.ways.tree { size = 8192 * (w.leaf + 1) }) source.ways.generation w.at w.slot
+
+-- All that is left to be written need not be yet.
+abbrev pub IsClean : State → Type 0
+IsClean s = (b : ℕ) → s.dirty b → s.newborn b

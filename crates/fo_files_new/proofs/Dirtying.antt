@@ -1,5 +1,5 @@
 -- What a new file leaves to be written.
-use Rattle.std.proofs.Common.{◌++◌, ℕ, List, [], ◌∷◌}
+use Rattle.std.proofs.Common.{ℕ, [], ◌∷◌}
 use Rattle.std.proofs.lemmas.List.Elements.{Contains-append_right}
 use Rattle.fo_ports.specs.State.{State}
 use Rattle.fo_ports.specs.Sources.{AddsDirty, DirtiesIn}

@@ -11,7 +11,7 @@ use Rattle.fo_dir_add.specs.Adds.{HasAdded, IsNumbered, IsRaised}
 use Rattle.fo_files_dir.specs.declared.dir.DirAt.{DirAt}
 use Rattle.fo_files_leaf.specs.declared.open.LeafOf.{LeafOf}
 use Rattle.fo_files_leaf.specs.Alters.{Alters}
-use Rattle.fo_files_leaf.specs.Leaf.{IsAbove, IsOwnLeaf, Readied}
+use Rattle.fo_files_leaf.specs.Leaf.{IsAbove, IsOwnLeaf, Readied, TakesIn, IsClean}
 use Rattle.fo_files_new.specs.declared.pair.Leaves.{Leaves}
 use Rattle.std.specs.List.{Contains}
 use Rattle.fo_ports.specs.Sources.{DirtiesIn}
@@ -61,12 +61,19 @@ pub record AreOwn (s : State) (d : DirAt) (leaves : Leaves) : Type 0 where
   pub entries_own : IsOwnLeaf s (32 + 2 * d.number) true leaves.entries
   pub records_own : IsOwnLeaf s (33 + 2 * d.number) false leaves.records
 
--- The leaf of entries with a pair was made ready, and then a leaf of records, which were trimmed first where they had to be; each source was
--- linked at once.
-pub record ReadiesBoth (s a b t c u : State) (d : DirAt) (pair leaf : ℕ) (leaves : Leaves) : Type 0 where
+-- Where a directory's entries have to grow to have the leaf with a pair, and one stands behind their end, it was taken in, and all settled; else
+-- all was only looked at.
+pub record TakesBehind (s z : State) (d : DirAt) (pair : ℕ) : Type 0 where
+  pub alters : AltersDir d none s z
+  pub taken : Looks s z ⊎ ((w : LeafOf) × IsEntriesLeaf d pair w × TakesIn s z w × IsClean z)
+
+-- The leaf of entries with a pair was made ready, after one behind their end was taken in; and then a leaf of records, which were trimmed first
+-- where they had to be; each source was linked at once.
+pub record ReadiesBoth (s z a b t c u : State) (d : DirAt) (pair leaf : ℕ) (leaves : Leaves) : Type 0 where
   pub of_entries : LeafOf
   pub is_entries : IsEntriesLeaf d pair of_entries
-  pub entries_ready : Readied s a b of_entries leaves.entries
+  pub taken : TakesBehind s z d pair
+  pub entries_ready : Readied z a b of_entries leaves.entries
   pub of_records : LeafOf
   pub is_records : IsRecordsLeaf d leaf of_records
   pub trimmed : AltersDir d none b t
@@ -95,8 +102,8 @@ pub record IsPut (s n u : State) (d : DirAt) (pair : ℕ) (leaves : Leaves) (nam
   pub own : AreOwn u d leaves
 
 -- A new file came into a directory: its leaves were made ready, then settled where they had to be, and then the pair and the record put.
-pub record IsNew (s a b t c p m n u : State) (d : DirAt) (pair leaf : ℕ) (leaves : Leaves) (named r : Record) : Type 0 where
-  pub ready : ReadiesBoth s a b t c p d pair leaf leaves
+pub record IsNew (s z a b t c p m n u : State) (d : DirAt) (pair leaf : ℕ) (leaves : Leaves) (named r : Record) : Type 0 where
+  pub ready : ReadiesBoth s z a b t c p d pair leaf leaves
   pub settled : AltersDir d none p m
   pub in_place : AreInPlace m leaves
   pub put : IsPut m n u d pair leaves named r

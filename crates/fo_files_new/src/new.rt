@@ -100,16 +100,16 @@ pub fn new_file<B: Blocks>(
 ) -> Result<Record, BlockError>
     requires dir { IsDirAt (B.state on.old) dir }
     requires named { RecordHolds named × (named.number < 2 ^ 30) }
-    requires pins { 61 ≤ (B.state on.old).pins_left }
+    requires pins { 81 ≤ (B.state on.old).pins_left }
     requires spare { 24 ≤ (B.state on.old).spare }
     requires room { 1637 ≤ (B.state on.old).room }
     requires silent { (B.state on.old).tells → ⊥ }
-    ensures new { IfOk result (λ r. (leaves : Leaves) × (a b t c p m n : B) × IsNew (B.state on.old) (B.state a) (B.state b) (B.state t) (B.state c) (B.state p) (B.state m) (B.state n) (B.state on.new) dir pair leaf leaves named r) }
+    ensures new { IfOk result (λ r. (leaves : Leaves) × (z a b t c p m n : B) × IsNew (B.state on.old) (B.state z) (B.state a) (B.state b) (B.state t) (B.state c) (B.state p) (B.state m) (B.state n) (B.state on.new) dir pair leaf leaves named r) }
     ensures alters { IfOk result (λ r. (leaves : Leaves) × AltersDir dir (IsLeafOf leaves) (B.state on.old) (B.state on.new) × AreOwn (B.state on.new) dir leaves) }
     ensures nothing { OnErr result (AltersDir dir none (B.state on.old) (B.state on.new)) }
     ensures dir { IsDirAt (B.state on.new) dir }
     ensures spare { (B.state on.old).spare ≤ (B.state on.new).spare + 24 }
-    ensures pins { (B.state on.old).pins_left ≤ (B.state on.new).pins_left + 61 }
+    ensures pins { (B.state on.old).pins_left ≤ (B.state on.new).pins_left + 81 }
     ensures room { (B.state on.old).room ≤ (B.state on.new).room + 1637 }
     ensures cause { IfErr result (Caused ⊥ (λ b. (B.state on.old).is_block b ⊎ (b ≡ 1)) (Rose (B.state on.old).faults (B.state on.new).faults) (Rose (B.state on.old).arena_faults (B.state on.new).arena_faults)) }
     ensures dirties { AddsDirty 48 (dir.at ∷ []) dir.at (B.state on.old) (B.state on.new) }

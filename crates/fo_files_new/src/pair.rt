@@ -5,11 +5,11 @@ ghost use Rattle.fo_ports.specs.Causes.{Caused};
 ghost use Rattle.fo_ports.specs.State.{none};
 ghost use Rattle.fo_files_dir.specs.Dir.{IsDirAt};
 ghost use Rattle.fo_files_leaf.specs.Leaf.{IsOwnLeaf, Readied};
-ghost use Rattle.fo_files_new.specs.New.{AltersDir, IsEntriesLeaf, IsRecordsLeaf, AreOwn, ReadiesBoth, AddsLeaves};
+ghost use Rattle.fo_files_new.specs.New.{AltersDir, IsEntriesLeaf, IsRecordsLeaf, AreOwn, TakesBehind, ReadiesBoth, AddsLeaves};
 ghost use Rattle.fo_ports.specs.Sources.{AddsDirty};
 
 use fo_files_dir::DirAt;
-use fo_files_leaf::{LeafOf, ready_leaf, trim_records};
+use fo_files_leaf::{LeafOf, ready_leaf, take_behind, trim_records};
 use fo_ports::{BlockError, Blocks};
 use std::alloc::Global;
 
@@ -75,7 +75,8 @@ fn records_leaf(dir: DirAt, leaf: u32) -> Option<LeafOf>
     })
 }
 
-/// Makes the leaf of a directory's entries with a pair ready to be changed.
+/// Makes the leaf of a directory's entries with a pair ready to be changed. Where the entries have to grow and a leaf stands behind their end, it
+/// is taken in first.
 fn ready_entries<B: Blocks>(
     alloc: Global,
     on: &mut B,
@@ -83,15 +84,15 @@ fn ready_entries<B: Blocks>(
     pair: u32,
 ) -> Result<u32, BlockError>
     requires dir { IsDirAt (B.state on.old) dir }
-    requires pins { 20 ≤ (B.state on.old).pins_left }
+    requires pins { 40 ≤ (B.state on.old).pins_left }
     requires spare { 10 ≤ (B.state on.old).spare }
     requires silent { (B.state on.old).tells → ⊥ }
     ensures own { IfOk result (λ leaf. IsOwnLeaf (B.state on.new) (32 + 2 * dir.number) true leaf) }
     ensures apart { IfOk result (λ leaf. leaf ≢ dir.at) }
-    ensures readied { IfOk result (λ leaf. (w : LeafOf) × IsEntriesLeaf dir pair w × ((a : B) × Readied (B.state on.old) (B.state a) (B.state on.new) w leaf)) }
+    ensures readied { IfOk result (λ leaf. (w : LeafOf) × IsEntriesLeaf dir pair w × ((t : B) × (a : B) × TakesBehind (B.state on.old) (B.state t) dir pair × Readied (B.state t) (B.state a) (B.state on.new) w leaf)) }
     ensures alters { AltersDir dir none (B.state on.old) (B.state on.new) }
     ensures spare { (B.state on.old).spare ≤ (B.state on.new).spare + 10 }
-    ensures pins { (B.state on.old).pins_left ≤ (B.state on.new).pins_left + 20 }
+    ensures pins { (B.state on.old).pins_left ≤ (B.state on.new).pins_left + 40 }
     ensures room { (B.state on.new).room ≡ (B.state on.old).room }
     ensures cause { IfErr result (Caused ⊥ (λ b. (B.state on.old).is_block b ⊎ (b ≡ 1)) (Rose (B.state on.old).faults (B.state on.new).faults) (Rose (B.state on.old).arena_faults (B.state on.new).arena_faults)) }
     ensures dirties { IfOk result (λ leaf. AddsDirty 20 (dir.at ∷ []) leaf (B.state on.old) (B.state on.new)) }
@@ -101,6 +102,10 @@ fn ready_entries<B: Blocks>(
     let Some(wanted) = entries_leaf(dir, pair) else {
         return Err(BlockError::Damaged(dir.at));
     };
+    match take_behind(alloc, on, wanted) {
+        Ok(()) => {}
+        Err(why) => return Err(why),
+    }
     match ready_leaf(alloc, on, wanted) {
         Ok(leaf) => Ok(leaf),
         Err(why) => Err(why),
@@ -153,16 +158,16 @@ pub fn ready_both<B: Blocks>(
     leaf: u32,
 ) -> Result<Leaves, BlockError>
     requires dir { IsDirAt (B.state on.old) dir }
-    requires pins { 60 ≤ (B.state on.old).pins_left }
+    requires pins { 80 ≤ (B.state on.old).pins_left }
     requires spare { 24 ≤ (B.state on.old).spare }
     requires room { 1636 ≤ (B.state on.old).room }
     requires silent { (B.state on.old).tells → ⊥ }
     ensures own { IfOk result (AreOwn (B.state on.new) dir) }
     ensures apart { IfOk result (λ leaves. (leaves.entries ≢ dir.at) × (leaves.records ≢ dir.at)) }
-    ensures readied { IfOk result (λ leaves. (a : B) × (b : B) × (t : B) × (c : B) × ReadiesBoth (B.state on.old) (B.state a) (B.state b) (B.state t) (B.state c) (B.state on.new) dir pair leaf leaves) }
+    ensures readied { IfOk result (λ leaves. (z : B) × (a : B) × (b : B) × (t : B) × (c : B) × ReadiesBoth (B.state on.old) (B.state z) (B.state a) (B.state b) (B.state t) (B.state c) (B.state on.new) dir pair leaf leaves) }
     ensures alters { AltersDir dir none (B.state on.old) (B.state on.new) }
     ensures spare { (B.state on.old).spare ≤ (B.state on.new).spare + 24 }
-    ensures pins { (B.state on.old).pins_left ≤ (B.state on.new).pins_left + 60 }
+    ensures pins { (B.state on.old).pins_left ≤ (B.state on.new).pins_left + 80 }
     ensures room { (B.state on.old).room ≤ (B.state on.new).room + 1636 }
     ensures cause { IfErr result (Caused ⊥ (λ b. (B.state on.old).is_block b ⊎ (b ≡ 1)) (Rose (B.state on.old).faults (B.state on.new).faults) (Rose (B.state on.old).arena_faults (B.state on.new).arena_faults)) }
     ensures dirties { IfOk result (λ leaves. AddsLeaves 48 dir.at leaves (B.state on.old) (B.state on.new)) }

@@ -18,7 +18,7 @@ pub record IsOfPair (name leaf : List ℕ) (pair : ℕ) (is_dir : Bool) (r : Rec
   pub dir_is : is_dir_mode r.mode ≡ is_dir
 
 -- The first record of a name went out of its leaf, and the entries of its own pair go. In between, in the second state, all was only looked at,
--- and settled where the leaf of entries wasn't in place, or the record is a directory's. The first entry waits while the leaf is to be written, if it
+-- and settled where one of the leaves wasn't in place, or the record is a directory's. The first entry waits while the leaf is to be written, if it
 -- wasn't newborn; where it leads on and went at once, a removal is queued.
 pub record TakesOut (s m u : State) (leaf entries pair : ℕ) (name : List ℕ) (is_dir : Bool) : Type 0 where
   pub was_leaf : IsLeaf ((s.now leaf).bytes)
@@ -26,7 +26,7 @@ pub record TakesOut (s m u : State) (leaf entries pair : ℕ) (name : List ℕ) 
   pub of_pair : IsOfPair name ((s.now leaf).bytes) pair is_dir gone
   pub used : IsInUse ((s.now entries).slot (2 * (pair % 102))) gone.generation
   pub rests : Rewrites (λ b. ⊥) no_slot s m
-  pub in_place : m.newborn entries ⊎ m.sealed entries
+  pub in_place : (m.newborn entries ⊎ m.sealed entries) × (m.newborn leaf ⊎ m.sealed leaf)
   pub clean : is_dir ≡ true → IsClean m
   pub taken : HasTaken name ((s.now leaf).bytes) ((u.now leaf).bytes)
   pub first : IsGoing m u entries (2 * (pair % 102))

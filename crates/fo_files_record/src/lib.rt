@@ -1,7 +1,7 @@
 //! Records of a directory change in leaves that are owned, over any blocks of a device that tells nothing.
 //!
 //! A leaf of records is read first: it is damaged where it is none. Then the first record of the name goes with the entries of its own pair
-//! (`take_out`), which the caller names too, where all is settled first if the leaf of entries isn't in place, or a directory goes: what hangs
+//! (`take_out`), which the caller names too, where all is settled first if one of the leaves isn't in place, or a directory goes: what hangs
 //! below its entries may wait. The root directory's own record is put into its root block, which is read, and written anew (`put_own_record`).
 //!
 //! Proved: each is refused by faults, damage and want of memory alone, and then all was only looked at, but for a settling that fails. Where it

@@ -89,7 +89,7 @@ fn goes_already<B: Blocks>(on: &B, entries: u32, p: u32, is_dir: bool) -> bool
     is_dir && on.is_clearing(entries, 2 * p + 1)
 }
 
-/// Settles, where the leaf of entries isn't in place, or what hangs below an entry may wait.
+/// Settles, where one of the leaves isn't in place, or what hangs below an entry may wait.
 fn settled_for<B: Blocks>(
     on: &mut B,
     leaf: u32,
@@ -102,7 +102,7 @@ fn settled_for<B: Blocks>(
     ensures leaf { IsRecordsAt (B.state on.new) leaf }
     ensures entries { IsEntriesAt (B.state on.new) entries }
     ensures bytes { ((B.state on.new).now leaf).bytes ≡ ((B.state on.old).now leaf).bytes }
-    ensures in_place { OnOk result ((B.state on.new).newborn entries ⊎ (B.state on.new).sealed entries) }
+    ensures in_place { OnOk result (((B.state on.new).newborn entries ⊎ (B.state on.new).sealed entries) × ((B.state on.new).newborn leaf ⊎ (B.state on.new).sealed leaf)) }
     ensures clean { OnOk result (is_dir ≡ true → IsClean (B.state on.new)) }
     ensures stays { Rewrites (λ b. ⊥) no_slot (B.state on.old) (B.state on.new) }
     ensures room { (B.state on.new).room ≡ (B.state on.old).room }
@@ -110,8 +110,7 @@ fn settled_for<B: Blocks>(
     ensures dirties { DirtiesIn [] (B.state on.old) (B.state on.new) }
     ensures keeps { B.keeps on.old on.new }
 {
-    let _ = leaf;
-    if !is_dir && on.sealed(entries) {
+    if !is_dir && on.sealed(entries) && on.sealed(leaf) {
         return Ok(());
     }
     match on.settle() {

@@ -3,3 +3,4 @@ pub mod Owning
 pub mod Carried
 pub mod Causes
 pub mod Finding
+pub mod Settling

@@ -8,6 +8,7 @@ use Rattle.fo_world.specs.Step.{new_name}
 use Rattle.fo_files_edit.specs.of_files_at.declared.at.Way.{Way}
 use Rattle.fo_files_edit.specs.Asks.{FoundSame, FoundOther}
 use Rattle.fo_files_edit.specs.Edit.{EditsFile, IsLeft, EditsRoot, RootLeft}
+use Rattle.fo_files_spot.specs.Settles.{SettlesUnless}
 use Rattle.fo_files_rename.specs.Rename.{IsOwnOf, LeavesAlong, RenamesAlong}
 
 -- the length that a file is given; a directory has none
@@ -30,7 +31,8 @@ pub record ChangesBelow (B : Type 0) (state : B → State) (old new : B) (root :
   pub rests : Rests (state old) (state rested)
   pub edits : EditsFile B state rested new root trail way name (given_of way.file.dir what.length)
 
--- The directory's own record was looked at, room was reserved, and a file changed that gets a new name; its directory has this record of its own then.
+-- The directory's own record was looked at, and whether the new name stands alone in the leaf that has the record; room was reserved, all settled where
+-- it doesn't, and a file changed that gets a new name; its directory has this record of its own then.
 pub record OwnsName (B : Type 0) (state : B → State) (old new : B) (root : ℕ) (trail : List ℕ) (way : Way) (name : List ℕ) (given : Option ℕ) (who : List ℕ) (now : ℕ) : Type 0 where
   pub looked : B
   pub looks : Looks (state old) (state looked)
@@ -38,7 +40,10 @@ pub record OwnsName (B : Type 0) (state : B → State) (old new : B) (root : ℕ
   pub own_is : IsOwnOf way.steps.items who now own
   pub rested : B
   pub rests : Rests (state looked) (state rested)
-  pub renames : RenamesAlong B state rested new root trail way name own given
+  pub alone : Bool
+  pub settled : B
+  pub settles : SettlesUnless B state alone rested settled
+  pub renames : RenamesAlong B state settled new root trail way name own given
 
 pub record ChangesName (B : Type 0) (state : B → State) (old new : B) (root : ℕ) (trail : List ℕ) (way : Way) (name : List ℕ) (what : Change) (who : List ℕ) (now : ℕ) : Type 0 where
   pub some : 0 < length trail
@@ -68,7 +73,9 @@ pub record LeavesName (B : Type 0) (state : B → State) (old new : B) (root : �
   pub own_name : List ℕ
   pub rested : B
   pub rests : Rests (state looked) (state rested)
-  pub left : LeavesAlong B state rested new root trail way name own_name given
+  pub settled : B
+  pub settles : (settled ≡ rested) ⊎ Rests (state rested) (state settled)
+  pub left : LeavesAlong B state settled new root trail way name own_name given
 
 -- so it is where all was only looked at, too
 abbrev pub LeavesFound : (B : Type 0) (state : B → State) (old new : B) (root : ℕ) (trail : List ℕ) → Way → List ℕ → Change → Type 0

@@ -28,7 +28,8 @@ fn given_of(dir: bool, given: Option<u64>) -> Option<u64>
     if dir { None } else { given }
 }
 
-/// Gives a file below the root directory that was found its new record and the length that is given, where one is; its name is another.
+/// Gives a file below the root directory that was found its new record, with another name, and the length that is given, where one is. First its
+/// directory's own record is looked at, and whether the new name stands alone; then room is reserved, and all settled where it doesn't.
 fn rename_found<B: Blocks>(
     alloc: Global,
     on: &mut B,
@@ -168,7 +169,9 @@ fn change_found<B: Blocks>(
 /// Changes all that is given of the file at a place of the tree with this root block, or nothing, by a user at a moment (seconds since 1970-01-01 UTC):
 /// mode, mtime, group, length, which is a write, and name, which changes its directory, too. A file stays one, and a directory. Refused in this order:
 /// the place is gone, a length is given for a directory, the view isn't the active tree, another file has the name, the length is above 2^40, the
-/// system is halted, and what blocks refuse. A refused call leaves each record, and the file's length. Where nothing changes it is granted, halted or not.
+/// system is halted, and what blocks refuse: of the looks at the directory, of the room, of the settling that comes before another name where a crash
+/// could leave that name twice, and of the change. A refused call leaves each record, and the file's length. Where nothing changes it is granted,
+/// halted or not.
 pub fn change_file<B: Blocks>(
     alloc: Global,
     on: &mut B,

@@ -2,9 +2,10 @@
 //! nothing.
 //!
 //! `change_file` looks first (`found_at` of `fo_files_edit`): refusals by what the tree has, and by limits, come there. Where the file keeps its name,
-//! the change is that of `fo_files_edit`. Where it gets a new one, the own record of its directory changes, too: that is looked at, and room reserved;
-//! then the way is owned, the directory's record made ready, and the file gets its length, where one is given, and its record; last of all comes the
-//! directory's, which refuses nothing.
+//! the change is that of `fo_files_edit`. Where it gets a new one, the own record of its directory changes, too: that is looked at, and whether the new
+//! name stands alone in the leaf that has the file's record. Room is reserved, and where another leaf may still have that name in an image, as memory
+//! had it before, all is settled. Then the way is owned, the directory's record made ready, and the file gets its length, where one is given, and its
+//! record; last of all comes the directory's, which refuses nothing.
 //!
 //! Proved: each refusal has its cause, and those of the look come in the order of the file step. Where it is granted, all that is given was done, step by
 //! step, and the directory's own record is the one that was found, at the time and with the user given, and the next version. Where it is refused, each

@@ -19,16 +19,19 @@ use fo_files_edit::files_at::Way;
 use fo_files_edit::files_look::file_error;
 use fo_files_edit::root_record;
 use fo_files_own::copied;
+use fo_files_spot::stands_alone;
 use fo_image::{Record, record_len};
 use fo_ports::{BlockError, Blocks};
 use fo_world::FileError;
 use std::alloc::Global;
 
-/// The own record of a directory that changes, and the leaf to which it goes where it outgrows its own; of the root directory no leaf is asked.
+/// The own record of a directory that changes, the leaf to which it goes where it outgrows its own (of the root directory no leaf is asked), and whether
+/// a new name stands alone in the leaf that has the file's record.
 #[derive(Debug, Drop)]
 pub(crate) struct Own {
     pub(crate) named: Record,
     pub(crate) spare: u32,
+    pub(crate) alone: bool,
 }
 
 /// A record after somebody changed a name in its directory at a moment. Refused: want of memory.
@@ -115,7 +118,58 @@ fn own_spare<B: Blocks>(
     }
 }
 
-/// Looks at what changes of the directory of the file at the end of a way, below the root directory, where somebody gives the file another name.
+/// Whether a new name of the file at the end of a way stands alone in the leaf that has the file's record.
+fn is_alone<B: Blocks>(
+    alloc: Global,
+    on: &mut B,
+    root: u32,
+    trail: &[u32],
+    way: &Way,
+) -> Result<bool, BlockError>
+    requires silent { (B.state on.old).tells → ⊥ }
+    requires way { IsWay (B.state on.old) root trail.now way.now }
+    requires some { 0 < length way.now.steps.items }
+    ensures looks { Looks (B.state on.old) (B.state on.new) × B.keeps on.old on.new }
+    ensures cause { IfErr result (Caused ⊥ (λ b. (B.state on.old).is_block b) (Rose (B.state on.old).faults (B.state on.new).faults) ⊥) }
+{
+    let _ = root;
+    let _ = trail;
+    let depth = way.steps.len();
+    let step = &way.steps[depth - 1];
+    match stands_alone(alloc, on, &step.dir, step.leaf) {
+        Ok(alone) => Ok(alone),
+        Err(why) => Err(why),
+    }
+}
+
+/// The leaf to which the directory's own record goes, and whether a new name of the file stands alone.
+fn places_for<B: Blocks>(
+    alloc: Global,
+    on: &mut B,
+    root: u32,
+    trail: &[u32],
+    way: &Way,
+    named: &Record,
+) -> Result<(u32, bool), BlockError>
+    requires silent { (B.state on.old).tells → ⊥ }
+    requires way { IsWay (B.state on.old) root trail.now way.now }
+    requires some { 0 < length way.now.steps.items }
+    requires holds { 1 < length way.now.steps.items → RecordHolds named.now }
+    ensures looks { Looks (B.state on.old) (B.state on.new) × B.keeps on.old on.new }
+    ensures cause { IfErr result (Caused ⊥ (λ b. (B.state on.old).is_block b) (Rose (B.state on.old).faults (B.state on.new).faults) ⊥) }
+{
+    let spare = match own_spare(alloc, on, root, trail, way, named) {
+        Ok(spare) => spare,
+        Err(why) => return Err(why),
+    };
+    match is_alone(alloc, on, root, trail, way) {
+        Ok(alone) => Ok((spare, alone)),
+        Err(why) => Err(why),
+    }
+}
+
+/// Looks at what changes of the directory of the file at the end of a way, below the root directory, where somebody gives the file another name, and
+/// whether that name stands alone.
 pub(crate) fn own_for<B: Blocks>(
     alloc: Global,
     on: &mut B,
@@ -135,8 +189,12 @@ pub(crate) fn own_for<B: Blocks>(
     ensures cause { Refuses (faults_of (B.state on.old)) (faults_of (B.state on.new)) ⊥ (λ n. ⊥) 0 result }
 {
     match own_record(alloc, way, who, now) {
-        Ok(named) => match own_spare(alloc, on, root, trail, way, &named) {
-            Ok(spare) => Ok(Own { named, spare }),
+        Ok(named) => match places_for(alloc, on, root, trail, way, &named) {
+            Ok((spare, alone)) => Ok(Own {
+                named,
+                spare,
+                alone,
+            }),
             Err(why) => Err(file_error(why)),
         },
         Err(_) => Err(FileError::Memory),

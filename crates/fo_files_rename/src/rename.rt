@@ -1,5 +1,5 @@
 //! A file that was found below the root directory gets a new name.
-ghost use Rattle.std.specs.Prelude.{◌≡◌, ◌⊎◌, ◌+◌, ◌*◌, ◌^◌, ◌<◌, ◌≤◌, ℕ, length, IfSome, IfErr, OnOk, OnErr, ◌-◌};
+ghost use Rattle.std.specs.Prelude.{◌≡◌, ◌⊎◌, ◌+◌, ◌*◌, ◌^◌, ◌<◌, ◌≤◌, ℕ, [], length, IfSome, IfErr, OnOk, OnErr, ◌-◌};
 ghost use Rattle.fo_base.specs.Cause.{Rose};
 ghost use Rattle.fo_ports.specs.Causes.{Caused};
 ghost use Rattle.fo_ports.specs.State.{Rests, none};
@@ -7,8 +7,9 @@ ghost use Rattle.fo_world.specs.Answers.{HadRoom, Refuses};
 ghost use Rattle.fo_files_edit.specs.of_files_at.Way.{IsWay};
 ghost use Rattle.fo_files_edit.specs.of_files_look.Told.{faults_of};
 ghost use Rattle.fo_files_edit.specs.of_files_along.Along.{HasRoom, IsBlocks};
+ghost use Rattle.fo_files_spot.specs.Settles.{SettlesUnless};
 ghost use Rattle.fo_files_rename.specs.Rename.{IsLeafOver, LeavesAlong, MayStand, RenamesAlong, own_of};
-ghost use Rattle.fo_ports.specs.Sources.{Dirties};
+ghost use Rattle.fo_ports.specs.Sources.{Dirties, DirtiesIn};
 ghost use Rattle.fo_world.specs.Step.{need};
 
 use crate::file::{beside_data, rename_file};
@@ -18,6 +19,7 @@ use fo_files_edit::files_along::{Stand, own_along, reserve_room};
 use fo_files_edit::files_at::Way;
 use fo_files_edit::files_look::file_error;
 use fo_files_own::{Below, OwnAt};
+use fo_files_spot::settle_unless;
 use fo_ports::{BlockError, Blocks};
 use fo_world::FileError;
 use std::alloc::Global;
@@ -112,8 +114,33 @@ pub(crate) fn rename_along<B: Blocks>(
     }
 }
 
-/// Reserves what a change of a file below the root directory needs that gives a new name, five blocks a directory and 31, and changes the file and its
-/// directory's own record.
+/// Reserves what a change of a file needs that gives it a new name, on a way of so many directories: five blocks each and 31. Then it settles, unless
+/// the name stands alone in the leaf that has the file's record.
+fn room_for_name<B: Blocks>(on: &mut B, steps: u32, alone: bool) -> Result<(), FileError>
+    requires silent { (B.state on.old).tells → ⊥ }
+    requires short { steps ≤ 65 }
+    ensures settles { OnOk result ((b : B) × Rests (B.state on.old) (B.state b) × SettlesUnless B B.state alone b on.new) }
+    ensures left { OnErr result ((b : B) × Rests (B.state on.old) (B.state b) × ((on.new ≡ b) ⊎ Rests (B.state b) (B.state on.new))) }
+    ensures room { OnOk result ((5 * steps + 31 ≤ (B.state on.new).spare) × (20 * steps + 136 ≤ (B.state on.new).pins_left) × (6547 ≤ (B.state on.new).room)) }
+    ensures refused { IfErr result IsBlocks }
+    ensures had { HadRoom (HasRoom (B.state on.old)) (5 * steps + 31) result }
+    ensures usable { (B.state on.old).usable ≤ (B.state on.new).usable }
+    ensures cause { Refuses (faults_of (B.state on.old)) (faults_of (B.state on.new)) ⊥ (HasRoom (B.state on.new)) (5 * steps + 31) result }
+    ensures dirties { DirtiesIn [] (B.state on.old) (B.state on.new) }
+    ensures keeps { B.keeps on.old on.new }
+{
+    match reserve_room(on, 5 * steps + 31, 20 * steps + 136, REMOVALS) {
+        Ok(()) => {}
+        Err(why) => return Err(why),
+    }
+    match settle_unless(on, alone) {
+        Ok(()) => Ok(()),
+        Err(why) => Err(file_error(why)),
+    }
+}
+
+/// Reserves what a change of a file below the root directory needs that gives a new name, five blocks a directory and 31, settles where the new name
+/// doesn't stand alone, and changes the file and its directory's own record.
 pub(crate) fn rename_below<B: Blocks>(
     alloc: Global,
     on: &mut B,
@@ -128,8 +155,8 @@ pub(crate) fn rename_below<B: Blocks>(
     requires short { (0 < length trail.now) × (length trail.now ≤ 65) }
     requires own { MayStand (length trail.now) own.now.named }
     requires within { IfSome given (λ n. n ≤ 2 ^ 40) }
-    ensures renames { OnOk result ((b : B) × Rests (B.state on.old) (B.state b) × RenamesAlong B B.state b on.new root trail.now found.now.way found.now.name own.now.named given) }
-    ensures left { OnErr result ((b : B) × Rests (B.state on.old) (B.state b) × LeavesAlong B B.state b on.new root trail.now found.now.way found.now.name own.now.named.name given) }
+    ensures renames { OnOk result ((b c : B) × Rests (B.state on.old) (B.state b) × SettlesUnless B B.state own.now.alone b c × RenamesAlong B B.state c on.new root trail.now found.now.way found.now.name own.now.named given) }
+    ensures left { OnErr result ((b c : B) × Rests (B.state on.old) (B.state b) × ((c ≡ b) ⊎ Rests (B.state b) (B.state c)) × LeavesAlong B B.state c on.new root trail.now found.now.way found.now.name own.now.named.name given) }
     ensures blocks { IfErr result IsBlocks }
     ensures had { HadRoom (HasRoom (B.state on.old)) (5 * length trail.now + 31) result }
     ensures taken { (B.state on.old).usable ≤ (B.state on.new).usable + (5 * length trail.now + 31) }
@@ -138,7 +165,7 @@ pub(crate) fn rename_below<B: Blocks>(
     ensures keeps { B.keeps on.old on.new }
 {
     let steps = trail.len() as u32;
-    match reserve_room(on, 5 * steps + 31, 20 * steps + 136, REMOVALS) {
+    match room_for_name(on, steps, own.alone) {
         Ok(()) => {}
         Err(why) => return Err(why),
     }

@@ -10,6 +10,7 @@ ghost use Rattle.fo_files_at.specs.Held.{FileHolds};
 use fo_base::BLOCK;
 use fo_dir_list::{count, leaf_for};
 use fo_dir_read::free_pair;
+use fo_dir_sure::others_are_sure;
 use fo_files_at::{ENTRIES_BELOW, File, RECORDS_BELOW, entries_of, records_of};
 use fo_ports::{BlockError, Blocks};
 use std::alloc::Global;
@@ -20,11 +21,13 @@ pub const MOST_NAMES: u64 = 1 << 20;
 /// How many records a leaf may have.
 const MOST_IN_LEAF: u64 = 240;
 
-/// Where a new file goes: the pair of entries that it gets, and the leaf that gets its record.
+/// Where a new file goes: the pair of entries that it gets, the leaf that gets its record, and whether the name stands alone there in every image
+/// (`stands_alone`).
 #[derive(Clone, Copy, Debug, PartialEq, Eq)]
 pub struct Spot {
     pub pair: u32,
     pub leaf: u32,
+    pub alone: bool,
 }
 
 /// The least free pair of a directory.
@@ -68,6 +71,31 @@ fn room_for<B: Blocks>(alloc: Global, on: &mut B, dir: &File, len: usize) -> Res
     }
 }
 
+/// Whether a name that memory has in no other leaf of a directory's records may come to this one now: no image has it in another, since each is
+/// known to be in every image what memory has, where memory has it. Else all is to be settled before.
+pub fn stands_alone<B: Blocks>(
+    alloc: Global,
+    on: &mut B,
+    dir: &File,
+    leaf: u32,
+) -> Result<bool, BlockError>
+    requires holds { FileHolds (B.state on.old) dir.now }
+    requires high { 40 ≤ dir.now.rank }
+    requires silent { (B.state on.old).tells → ⊥ }
+    ensures pins { (B.state on.old).pins_left ≤ (B.state on.new).pins_left + leaf_count dir.now.second.size * depth_for dir.now.second.size }
+    ensures looks { Looks (B.state on.old) (B.state on.new) × B.keeps on.old on.new }
+    ensures cause { IfErr result (Caused ⊥ (λ b. (B.state on.old).is_block b) (Rose (B.state on.old).faults (B.state on.new).faults) ⊥) }
+{
+    let mut records = match records_of(alloc, on, dir) {
+        Ok(records) => records,
+        Err(why) => return Err(why),
+    };
+    match others_are_sure(&mut records, on, leaf) {
+        Ok(alone) => Ok(alone),
+        Err(why) => Err(why),
+    }
+}
+
 /// Where a new file with a record of this length goes in a directory. The leaf that has the directory's own entries is damaged where these
 /// are others.
 pub fn spot_for<B: Blocks>(
@@ -82,7 +110,7 @@ pub fn spot_for<B: Blocks>(
     requires silent { (B.state on.old).tells → ⊥ }
     ensures pair { IfOk result (λ s. s.pair ≤ 102 * leaf_count dir.now.first.size) }
     ensures leaf { IfOk result (λ s. s.leaf ≤ leaf_count dir.now.second.size) }
-    ensures pins { (B.state on.old).pins_left ≤ (B.state on.new).pins_left + (leaf_count dir.now.first.size * (depth_for dir.now.first.size + 1) + leaf_count dir.now.second.size * (depth_for dir.now.second.size + 1)) }
+    ensures pins { (B.state on.old).pins_left ≤ (B.state on.new).pins_left + (leaf_count dir.now.first.size * (depth_for dir.now.first.size + 1) + leaf_count dir.now.second.size * (2 * depth_for dir.now.second.size + 1)) }
     ensures looks { Looks (B.state on.old) (B.state on.new) × B.keeps on.old on.new }
     ensures cause { IfErr result (Caused ⊥ (λ b. (B.state on.old).is_block b) (Rose (B.state on.old).faults (B.state on.new).faults) ⊥) }
 {
@@ -90,8 +118,12 @@ pub fn spot_for<B: Blocks>(
         Ok(pair) => pair,
         Err(why) => return Err(why),
     };
-    match room_for(alloc, on, dir, len) {
-        Ok(leaf) => Ok(Spot { pair, leaf }),
+    let leaf = match room_for(alloc, on, dir, len) {
+        Ok(leaf) => leaf,
+        Err(why) => return Err(why),
+    };
+    match stands_alone(alloc, on, dir, leaf) {
+        Ok(alone) => Ok(Spot { pair, leaf, alone }),
         Err(why) => Err(why),
     }
 }

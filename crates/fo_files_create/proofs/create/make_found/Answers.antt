@@ -1,4 +1,4 @@
-use Rattle.std.proofs.Common.{◌+◌, ◌^◌, ◌<◌, inl, ap, subst, ◌∙◌, arith}
+use Rattle.std.proofs.Common.{◌+◌, ◌^◌, ◌<◌, inl, refl, ap, subst, ◌∙◌, arith}
 use Rattle.fo_tree_read.proofs.Exits.{looks_none}
 use Rattle.fo_world.specs.Step.{below, create_need}
 use Rattle.fo_files_create_look.specs.of_files_along.Along.{HasRoom}
@@ -23,10 +23,12 @@ returns-in-Ok-make_numbered-clause-makes g c =
     record {
       n = c.granted.new.on;
       b = p.0;
+      c = p.1;
       numbers = c.granted.ensures.stays;
-      rests = p.2;
-      r = p.1;
-      makes = subst (λ q. MakesAlong _ g.B.Blocks.state p.0 c.make_numbered.new.on c.args.root c.args.at.now.trail c.args.found.way c.args.found.spot (numbered q c.args.found.named) p.1) c.in-Ok.ensures.number.0 p.3;
+      rests = p.3;
+      settles = p.4;
+      r = p.2;
+      makes = subst (λ q. MakesAlong _ g.B.Blocks.state p.1 c.make_numbered.new.on c.args.root c.args.at.now.trail c.args.found.way c.args.found.spot (numbered q c.args.found.named) p.2) c.in-Ok.ensures.number.0 p.5;
     }
 
 pub returns-in-Ok-make_numbered-clause-told : goal.returns-in-Ok-make_numbered-clause-told
@@ -40,12 +42,13 @@ returns-in-Ok-make_numbered-clause-next g c =
 pub returns-in-Err-make_numbered-clause-left : goal.returns-in-Err-make_numbered-clause-left
 returns-in-Err-make_numbered-clause-left g c =
     let p = c.in-Err-make_numbered.ensures.left in
-    record { n = c.granted.new.on; b = p.0; numbers = c.granted.ensures.stays; rests = p.1; left = p.2 }
+    record { n = c.granted.new.on; b = p.0; c = p.1; numbers = c.granted.ensures.stays; rests = p.2; settles = p.3; left = p.4 }
 
 pub returns-in-Err-clause-left : goal.returns-in-Err-clause-left
 returns-in-Err-clause-left g c =
-    let n = g.B.Blocks.state c.granted.new.on in
-    record { n = c.granted.new.on; b = c.granted.new.on; numbers = c.granted.ensures.stays; rests = inl (looks_none n); left = inl (looks_none n) }
+    let n = c.granted.new.on in
+    let same = looks_none (g.B.Blocks.state n) in
+    record { n = n; b = n; c = n; numbers = c.granted.ensures.stays; rests = inl same; settles = inl refl; left = inl same }
 
 pub returns-in-Err-clause-numbers : goal.returns-in-Err-clause-numbers
 returns-in-Err-clause-numbers g c = c.granted.ensures.stays.room.3

@@ -1,4 +1,4 @@
-use Rattle.std.proofs.Common.{◌+◌, ◌≤◌, length, inl, inr, sym, ap, subst, ◌∙◌, [], ◌*◌}
+use Rattle.std.proofs.Common.{◌+◌, ◌≤◌, length, inl, inr, refl, sym, ap, subst, ◌∙◌, [], ◌*◌}
 use Rattle.fo_tree_read.proofs.Exits.{looks_none}
 use Rattle.fo_world.specs.Answers.{HasCause}
 use Rattle.fo_world.specs.Step.{need}
@@ -21,7 +21,7 @@ make_at-requires-clause-short g c = subst (λ t. length t ≤ 65) (sym c.as_slic
 pub returns-in-Ok-make_at-clause-makes : goal.returns-in-Ok-make_at-clause-makes
 returns-in-Ok-make_at-clause-makes g c =
     let p = c.in-Ok-make_at.ensures.makes in
-    (p.0, p.1, p.2, subst (λ t. MakesAlong _ g.B.Blocks.state p.0 c.make_at.new.on c.args.root t c.args.found.way c.args.found.spot (numbered c.args.number c.args.found.named) p.1) c.as_slice.ensures p.3)
+    (p.0, p.1, p.2, p.3, p.4, subst (λ t. MakesAlong _ g.B.Blocks.state p.1 c.make_at.new.on c.args.root t c.args.found.way c.args.found.spot (numbered c.args.number c.args.found.named) p.2) c.as_slice.ensures p.5)
 
 pub returns-in-Ok-make_at-clause-told : goal.returns-in-Ok-make_at-clause-told
 returns-in-Ok-make_at-clause-told g c = c.in-Ok-make_at.ensures.told ∙ ap (λ p. told_of p (numbered c.args.number c.args.found.named)) c.in-Ok.ensures.is
@@ -29,7 +29,7 @@ returns-in-Ok-make_at-clause-told g c = c.in-Ok-make_at.ensures.told ∙ ap (λ 
 pub returns-in-Err-make_at-clause-left : goal.returns-in-Err-make_at-clause-left
 returns-in-Err-make_at-clause-left g c =
     let p = c.in-Err-make_at.ensures.left in
-    (p.0, inr p.1, subst (λ t. LeavesAlong _ g.B.Blocks.state p.0 c.make_at.new.on c.args.root t) c.as_slice.ensures p.2)
+    (p.0, p.1, inr p.2, p.3, subst (λ t. LeavesAlong _ g.B.Blocks.state p.1 c.make_at.new.on c.args.root t) c.as_slice.ensures p.4)
 
 pub returns-in-Ok-make_at-clause-room : goal.returns-in-Ok-make_at-clause-room
 returns-in-Ok-make_at-clause-room g c = λ n has. subst (λ t. need (length t) 0 ≤ n) c.as_slice.ensures (c.in-Ok-make_at.ensures.room n has)
@@ -46,7 +46,7 @@ returns-in-Err-make_at-clause-cause g c = subst (λ t. HasCause (faults_of (g.B.
 pub returns-in-Err-clause-left : goal.returns-in-Err-clause-left
 returns-in-Err-clause-left g c =
     let s = g.B.Blocks.state c.args.on.now in
-    (c.args.on.now, inl (looks_none s), inl (looks_none s))
+    (c.args.on.now, c.args.on.now, inl (looks_none s), inl refl, inl (looks_none s))
 
 pub returns-in-Err-clause-keeps : goal.returns-in-Err-clause-keeps
 returns-in-Err-clause-keeps g c = g.met.B.Blocks.keeps_at_once c.args.on.now

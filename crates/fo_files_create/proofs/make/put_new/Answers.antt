@@ -115,15 +115,16 @@ returns-clause-makes g c =
       block = r.at;
       readied = c.in-Ok.ensures.steps;
       leaves = new.0;
-      a = new.1;
-      b = new.2;
-      t = new.3;
-      c = new.4;
-      p = new.5;
-      m = new.6;
-      n = new.7;
+      z = new.1;
+      a = new.2;
+      b = new.3;
+      t = new.4;
+      c = new.5;
+      p = new.6;
+      m = new.7;
+      n = new.8;
       f = c.new_file.new.on;
-      comes = new.8;
+      comes = new.9;
       stays = (made.0, made.1);
       g = c.number_taken.new.self;
       taken = record { next = taken.next; same = taken.now; stays = taken.stays.0; uses = taken.stays.1 };
@@ -134,7 +135,7 @@ returns-clause-makes g c =
 pub returns-clause-record : goal.returns-clause-record
 returns-clause-record g c =
     let new = c.in-Ok-new_file.ensures.new in
-    (new.8.put.holds, new.8.put.numbered)
+    (new.9.put.holds, new.9.put.numbered)
 
 pub returns-clause-next : goal.returns-clause-next
 returns-clause-next g c =

@@ -31,11 +31,11 @@ returns-in-Err-clause-cause g c = look_cause (g.B.Blocks.state c.args.on.now) (g
 
 pub returns-clause-renames : goal.returns-clause-renames
 returns-clause-renames g c =
-    map_ok c.rename_below.result _ _ (λ p. record { looked = c.own_for.new.on; looks = c.own_for.ensures.looks.0; own = c.in-Ok.own.named; own_is = c.in-Ok.ensures.is; rested = p.0; rests = p.1; renames = p.2 }) c.rename_below.ensures.renames
+    map_ok c.rename_below.result _ _ (λ p. record { looked = c.own_for.new.on; looks = c.own_for.ensures.looks.0; own = c.in-Ok.own.named; own_is = c.in-Ok.ensures.is; rested = p.0; rests = p.2; alone = c.in-Ok.own.alone; settled = p.1; settles = p.3; renames = p.4 }) c.rename_below.ensures.renames
 
 pub returns-clause-left : goal.returns-clause-left
 returns-clause-left g c =
-    map_err c.rename_below.result _ _ (λ p. inr (record { looked = c.own_for.new.on; looks = c.own_for.ensures.looks.0; own_name = c.in-Ok.own.named.name; rested = p.0; rests = p.1; left = p.2 })) c.rename_below.ensures.left
+    map_err c.rename_below.result _ _ (λ p. inr (record { looked = c.own_for.new.on; looks = c.own_for.ensures.looks.0; own_name = c.in-Ok.own.named.name; rested = p.0; rests = p.2; settled = p.1; settles = p.3; left = p.4 })) c.rename_below.ensures.left
 
 pub returns-clause-taken : goal.returns-clause-taken
 returns-clause-taken g c = let same = c.own_for.ensures.looks.0.usable.0 in let took = c.rename_below.ensures.taken in omega (arith, same, took)

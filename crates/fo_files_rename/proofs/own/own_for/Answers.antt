@@ -8,6 +8,11 @@ own_record-requires g c =
     let long = steps_long (g.B.Blocks.state c.args.on.now) c.args.root c.args.trail.now c.args.way.now c.requires.way in
     record { some = let some = c.requires.some in omega (arith, long, some) }
 
-pub own_spare-requires-clause-holds : goal.own_spare-requires-clause-holds
-own_spare-requires-clause-holds g c =
+pub places_for-requires-clause-some : goal.places_for-requires-clause-some
+places_for-requires-clause-some g c =
+    let long = steps_long (g.B.Blocks.state c.args.on.now) c.args.root c.args.trail.now c.args.way.now c.requires.way in
+    let some = c.requires.some in omega (arith, long, some)
+
+pub places_for-requires-clause-holds : goal.places_for-requires-clause-holds
+places_for-requires-clause-holds g c =
     own_holds (g.B.Blocks.state c.args.on.now) c.args.root c.args.trail.now c.args.way.now c.args.who.now c.args.now c.in-Ok.named c.requires.way c.requires.who c.requires.some c.in-Ok.ensures.is
