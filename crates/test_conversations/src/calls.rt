@@ -1,5 +1,5 @@
 //! Conversations that ask of files what the calls below sessions are asked (`nine_fids`, `nine_files`).
-use crate::messages::Row;
+use test_replies::Row;
 
 /// A table of users that has `ken`, and `glenda` no more: what was hers is hers, and who is not in it is `none`.
 pub const KNOWN: &[Row] = &[

@@ -1,7 +1,7 @@
 //! Conversations of several parts, and what they leave.
-use crate::messages::{Row, Server, Wrong, exchange};
-use crate::{calls, left, rows, shared};
+use crate::{calls, rows, shared};
 use std::alloc::Global;
+use test_replies::{Row, Server, Wrong, exchange, left};
 
 /// What happens in a conversation.
 #[derive(Clone, Copy)]

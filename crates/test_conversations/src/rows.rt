@@ -1,5 +1,5 @@
 //! What is asked of sessions, and the bytes of each reply.
-use crate::messages::Row;
+use test_replies::Row;
 
 /// A version and a tree.
 pub const BEGIN: &[Row] = &[

@@ -1,6 +1,6 @@
 //! What is settled, and when.
-use crate::messages::{Server, Wrong, hold};
 use std::alloc::Global;
+use test_replies::{Server, Wrong, hold};
 
 /// A server that says whether all that was changed is settled. To ask may settle a part of it, and no more.
 pub trait Settling: Server {

@@ -1,5 +1,5 @@
 //! What two sessions ask of one tree.
-use crate::messages::Row;
+use test_replies::Row;
 
 /// Session 0 makes `g`, open for writing, to be removed when it is clunked.
 pub const MADE: &[Row] = &[

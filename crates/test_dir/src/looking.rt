@@ -7,6 +7,7 @@ use crate::leaves::is_ready;
 use fo_base::Memory;
 use fo_dir_list::{count, leaf_for, next};
 use fo_dir_read::{free_pair, lookup, pair};
+use fo_dir_sure::others_are_sure;
 use fo_image::Kind;
 use fo_ports::{Blocks, Bytes};
 use fo_ports_plain::PlainBlocks;
@@ -63,6 +64,28 @@ fn empty(rt: HostRuntime) -> Result<(), Fail> {
     records.own_leaf(&mut on, 1);
     let found = lookup(rt.alloc(), &mut records, &mut on, RANK, b"f")?;
     assert!(rt; found.is_none());
+    Ok(())
+}
+
+/// A directory without a leaf has none that isn't sure.
+#[test]
+fn ample_sure(rt: HostRuntime) -> Result<(), Fail> {
+    let mut records = source(rt.alloc())?;
+    let mut on = PlainBlocks::new(rt.alloc(), 20)?;
+    assert!(rt; others_are_sure(&mut records, &mut on, 0)?);
+    Ok(())
+}
+
+/// Where the second leaf alone was made, it is sure, as every block in memory is, and the first, which stands in no block, isn't.
+#[test]
+fn sure(rt: HostRuntime) -> Result<(), Fail> {
+    let mut records = source(rt.alloc())?;
+    let mut on = PlainBlocks::new(rt.alloc(), 40)?;
+    on.reserve(40, 40, 0)?;
+    records.prepare(&mut on, 8192, 8192)?;
+    records.own_leaf(&mut on, 1);
+    assert!(rt; others_are_sure(&mut records, &mut on, 0)?);
+    assert!(rt; !others_are_sure(&mut records, &mut on, 1)?);
     Ok(())
 }
 

@@ -38,13 +38,13 @@ pub fn made<B: Blocks>(
 ) -> Result<FileAt, BlockError>
     requires dir { IsDirAt (B.state on.old) dir × (dir.rank ≡ 2088) }
     requires named { RecordHolds named × (named.number < 2 ^ 30) }
-    requires pins { 81 ≤ (B.state on.old).pins_left }
+    requires pins { 101 ≤ (B.state on.old).pins_left }
     requires spare { 34 ≤ (B.state on.old).spare }
     requires room { 1637 ≤ (B.state on.old).room }
     requires untold { (b : B) → (B.state b).tells → ⊥ }
     ensures dir { IsDirAt (B.state on.new) dir }
     ensures file { IfOk result (λ f. IsFileAt (B.state on.new) f × IsEntriesAt (B.state on.new) f.at) }
-    ensures pins { (B.state on.old).pins_left ≤ (B.state on.new).pins_left + 81 }
+    ensures pins { (B.state on.old).pins_left ≤ (B.state on.new).pins_left + 101 }
     ensures spare { (B.state on.old).spare ≤ (B.state on.new).spare + 34 }
     ensures room { (B.state on.old).room ≤ (B.state on.new).room + 1637 }
 {
@@ -100,7 +100,7 @@ pub fn life<B: Blocks>(
     requires dir { IsDirAt (B.state on.old) dir × (dir.rank ≡ 2088) }
     requires named { RecordHolds named × (named.number < 2 ^ 30) }
     requires short { length piece.now ≤ 8192 }
-    requires pins { 132 ≤ (B.state on.old).pins_left }
+    requires pins { 152 ≤ (B.state on.old).pins_left }
     requires spare { 64 ≤ (B.state on.old).spare }
     requires room { 3276 ≤ (B.state on.old).room }
     requires untold { (b : B) → (B.state b).tells → ⊥ }

@@ -40,7 +40,7 @@ fn lived<B: Blocks>(
     name: &[u8],
 ) -> Result<u64, BlockError>
     requires named { RecordHolds named }
-    requires pins { 132 ≤ (B.state on.old).pins_left }
+    requires pins { 152 ≤ (B.state on.old).pins_left }
     requires spare { 65 ≤ (B.state on.old).spare }
     requires room { 3276 ≤ (B.state on.old).room }
     requires untold { (b : B) → (B.state b).tells → ⊥ }

@@ -52,9 +52,11 @@ pub fn are_sound(alloc: Global, disks: Disks, steps: u32) -> bool {
 }
 
 /// Whether the disks that were made of what a crash leaves are right.
-fn is_right(alloc: Global, disks: Result<Disks, Memory>, steps: u32) -> bool {
+fn is_right<F: Fn(Disks) -> bool>(disks: Result<Disks, Memory>, are_right: &F) -> bool
+    requires { F.IsAlwaysCallable are_right.now }
+{
     match disks {
-        Ok(disks) => are_sound(alloc, disks, steps),
+        Ok(disks) => are_right(disks),
         Err(_) => false,
     }
 }
@@ -68,10 +70,16 @@ fn choices(left: &Left) -> u32 {
     choices
 }
 
-/// How many images there are, where all are right: so many, each choice of a version of each block once.
-fn of_all(alloc: Global, left: &Left, choices: u32, steps: u32) -> Option<u32> {
+/// How many images a crash may leave, where all are right, and there are at most 256: each choice of a version of each block once.
+pub fn of_all<F: Fn(Disks) -> bool>(left: &Left, are_right: F) -> Option<u32>
+    requires { F.IsAlwaysCallable are_right }
+{
+    let choices = choices(left);
+    if 256 < choices {
+        return None;
+    }
     for number in 0..choices {
-        if !is_right(alloc, left.choice(number), steps) {
+        if !is_right(left.choice(number), &are_right) {
             return None;
         }
     }
@@ -79,11 +87,13 @@ fn of_all(alloc: Global, left: &Left, choices: u32, steps: u32) -> Option<u32> {
 }
 
 /// How many images have the newest version of a block that has more than one, and the oldest of all others, where all are right.
-fn of_each(alloc: Global, left: &Left, steps: u32) -> Option<u32> {
+fn of_each<F: Fn(Disks) -> bool>(left: &Left, are_right: &F) -> Option<u32>
+    requires { F.IsAlwaysCallable are_right.now }
+{
     let mut images: u32 = 0;
     for at in 0..64 {
         if 1 < left.versions(at) {
-            if !is_right(alloc, left.image(at, at + 1), steps) {
+            if !is_right(left.image(at, at + 1), are_right) {
                 return None;
             }
             images = images.saturating_add(1);
@@ -93,23 +103,23 @@ fn of_each(alloc: Global, left: &Left, steps: u32) -> Option<u32> {
 }
 
 /// The same, with the image of the oldest versions and that of the newest.
-fn of_some(alloc: Global, left: &Left, steps: u32) -> Option<u32> {
-    if !is_right(alloc, left.image(0, 0), steps) || !is_right(alloc, left.image(0, 64), steps) {
+fn of_some<F: Fn(Disks) -> bool>(left: &Left, are_right: F) -> Option<u32>
+    requires { F.IsAlwaysCallable are_right }
+{
+    if !is_right(left.image(0, 0), &are_right) || !is_right(left.image(0, 64), &are_right) {
         return None;
     }
-    match of_each(alloc, left, steps) {
-        Some(images) => Some(images.saturating_add(2)),
-        None => None,
-    }
+    let images = of_each(left, &are_right)?;
+    Some(images.saturating_add(2))
 }
 
 /// How many images were made, where all are right: all that a crash may leave, where there are at most 256; else that of the oldest versions,
 /// that of the newest, and those with the newest version of one block.
 pub fn images(alloc: Global, left: &Left, steps: u32) -> Option<u32> {
-    let choices = choices(left);
-    if choices <= 256 {
-        of_all(alloc, left, choices, steps)
+    let are_right = |disks| are_sound(alloc, disks, steps);
+    if choices(left) <= 256 {
+        of_all(left, are_right)
     } else {
-        of_some(alloc, left, steps)
+        of_some(left, are_right)
     }
 }

@@ -15,7 +15,7 @@ pub const FIRST: u32 = 3;
 pub const SECOND: u32 = 6;
 
 /// What is left of an answer whose value doesn't matter.
-fn done(answer: Result<(u64, u64), FileError>) -> Result<(), FileError> {
+pub fn done(answer: Result<(u64, u64), FileError>) -> Result<(), FileError> {
     match answer {
         Ok(_) => Ok(()),
         Err(why) => Err(why),
@@ -23,7 +23,7 @@ fn done(answer: Result<(u64, u64), FileError>) -> Result<(), FileError> {
 }
 
 /// The number of the file of a name in the root.
-fn number_of(alloc: Global, files: &mut On, name: &[u8]) -> Result<u32, FileError> {
+pub fn number_of(alloc: Global, files: &mut On, name: &[u8]) -> Result<u32, FileError> {
     match found(alloc, files, &[], name) {
         Ok((path, _)) => match u32::try_from(path) {
             Ok(number) => Ok(number),
@@ -42,7 +42,7 @@ fn write_to(alloc: Global, files: &mut On, name: &[u8]) -> Result<(), FileError>
 }
 
 /// Removes the file of a name in the root.
-fn remove_from(alloc: Global, files: &mut On, name: &[u8]) -> Result<(), FileError> {
+pub fn remove_from(alloc: Global, files: &mut On, name: &[u8]) -> Result<(), FileError> {
     match number_of(alloc, files, name) {
         Ok(number) => remove(alloc, files, &[number]),
         Err(why) => Err(why),

@@ -1,12 +1,12 @@
 -- Disks in memory of which each block has one version.
 use Rattle.std.proofs.Common.{◌≡◌, ℕ, ◌<◌, true, false, List, length, Result, Ok, Err, sym, ◌∙◌, subst, arith}
-use Rattle.std.specs.Result.{IfOk, MatchResult, is_ok}
+use Rattle.std.specs.Result.{IfOk, OnOk, MatchResult, is_ok}
 use Rattle.std.proofs.lemmas.List.{length-map}
-use Rattle.fo_disk.specs.Disk.{Block, Content, IsQuiet, latest, latest_of, settled, versions_of}
-use Rattle.fo_disk.specs.Memory.{holds_of}
+use Rattle.fo_disk.specs.Disk.{Block, Content, IsQuiet, IsSure, IsSync, latest, latest_of, settled, versions_of}
+use Rattle.fo_disk.specs.Memory.{holds_of, state_of}
 use Rattle.fo_disk.specs.MemoryLaws.{is_content}
 use Rattle.fo_disk.specs.declared.memory.MemDisk.{MemDisk}
-use Rattle.fo_disk.proofs.Quiet.{quiet-latest, settled-quiet}
+use Rattle.fo_disk.proofs.Quiet.{quiet-latest, settled-quiet, sure-settles}
 use Rattle.fo_sound.specs.Device.{Shows}
 use Rattle.fo_format.specs.declared.error.FormatError.{FormatError}
 use Rattle.fo_format.specs.Formatted.{Formats, Refuses}
@@ -27,6 +27,11 @@ formatted_quiet time main arena new other (Err e) q n r m f is = absurd (clash i
   where
     clash : false ≡ true → ⊥
     clash h = cc
+
+-- what a sync leaves where the last write of each block that isn't settled answered Ok
+pub synced_quiet : {E : Type 0} (old new : MemDisk) (r : Result Unit E) → IsSure (state_of old) → IsSync r (state_of old) (state_of new) → OnOk r (IsQuiet (holds_of new))
+synced_quiet old new (Ok u) sure s = sure-settles (is_content old) sure s.holds
+synced_quiet old new (Err e) sure s = tt
 
 -- each block of a disk of so many has a version
 pub some_version : (m : MemDisk) (n k : ℕ) → length m.cells.items ≡ n → k < n → 0 < length (versions_of (holds_of m) k)

@@ -1,13 +1,13 @@
 //! Files over formatted disks in memory.
-ghost use Rattle.std.specs.Prelude.{◌≡◌, ◌<◌, ◌≤◌, true, length, IfOk};
-ghost use Rattle.fo_disk.specs.Disk.{IsQuiet};
-ghost use Rattle.fo_disk.specs.Memory.{holds_of};
+ghost use Rattle.std.specs.Prelude.{◌≡◌, ◌<◌, ◌≤◌, true, length, IfOk, IfSome, OnOk};
+ghost use Rattle.fo_disk.specs.Disk.{IsQuiet, IsSure};
+ghost use Rattle.fo_disk.specs.Memory.{holds_of, state_of};
 ghost use Rattle.test_requests.specs.Picks.{Picks};
 
 use fo_base::Memory;
 use fo_check_image::check;
 use fo_devices::Devices;
-use fo_disk::{Disk, MemDisk};
+use fo_disk::{Disk, Failed, MemDisk};
 use fo_files::Files;
 use fo_format::format;
 use fo_opening::open;
@@ -85,6 +85,52 @@ fn has_blocks(disk: &mut MemDisk, blocks: u64) -> bool
     ensures { result ≡ true → length disk.new.cells.items ≡ blocks }
 {
     says(disk, blocks) || says(disk, blocks)
+}
+
+/// Copies a block of a disk to another.
+fn copy_block(from: &mut MemDisk, to: &mut MemDisk, at: u32) -> Result<(), Failed>
+    requires at { at < 64 }
+    requires count { (length from.old.cells.items ≡ 64) × (length to.old.cells.items ≡ 64) }
+    requires sure { IsSure (state_of to.old) }
+    ensures count { (length from.new.cells.items ≡ 64) × (length to.new.cells.items ≡ 64) }
+    ensures sure { OnOk result (IsSure (state_of to.new)) }
+{
+    let mut block = [0; 8192];
+    from.read(at, &mut block)?;
+    to.write(at, &block)
+}
+
+/// Copies all blocks of a disk to another, and settles them.
+fn copy_all(from: &mut MemDisk, to: &mut MemDisk) -> Result<(), Failed>
+    requires count { (length from.old.cells.items ≡ 64) × (length to.old.cells.items ≡ 64) }
+    requires sure { IsSure (state_of to.old) }
+    ensures quiet { OnOk result (IsQuiet (holds_of to.new)) }
+{
+    for at in 0..64 {
+        copy_block(from, to, at)?;
+    }
+    to.sync()
+}
+
+/// A copy of a disk of 64 blocks that fails at this call, counted from 0 once it is made: that takes 65 calls of it.
+fn copy_that_fails(alloc: Global, disk: &mut MemDisk, call: u64) -> Option<MemDisk>
+    requires { length disk.old.cells.items ≡ 64 }
+    ensures { IfSome result (λ m. IsQuiet (holds_of m)) }
+{
+    let fails = vec![in alloc; call.saturating_add(65)].ok()?;
+    let mut copy = zeros(alloc, 64, fails).ok()?;
+    copy_all(disk, &mut copy).ok()?;
+    Some(copy)
+}
+
+/// The same disks, of which the main one fails at this call, counted from 0. None where it hasn't 64 blocks.
+pub fn that_fail(alloc: Global, disks: Disks, call: u64) -> Option<Disks> {
+    let Disks { mut main, arena } = disks;
+    if !has_blocks(&mut main, 64) {
+        return None;
+    }
+    let main = copy_that_fails(alloc, &mut main, call)?;
+    Some(Disks { main, arena })
 }
 
 /// What these files leave where they end now.

@@ -2,7 +2,7 @@
 //! beside it.
 //!
 //! `Disks` are such devices with one version of each block, `opened` are the files on them, and `closed` what a run leaves of both, of which `image`
-//! makes disks as a crash may leave them. `requests` asks files by trails and names, over any blocks.
+//! makes disks as a crash may leave them. `that_fail` copies disks to such as fail at a call. `requests` asks files by trails and names, over any blocks.
 #![tactic(auto)]
 
 pub mod disks;

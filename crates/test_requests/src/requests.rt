@@ -24,15 +24,25 @@ fn place(alloc: Global, trail: &[u32]) -> Result<Place, FileError>
     })
 }
 
-/// A name of a file or a user. Another text is refused.
+/// A name of a file. Another text is refused.
 fn name(alloc: Global, bytes: &[u8]) -> Result<Bytes, FileError>
-    ensures name { IfOk result IsName }
-    ensures user { IfOk result IsUser }
+    ensures { IfOk result IsName }
 {
-    if bytes.is_empty() || 64 < bytes.len() || !is_text(bytes) {
+    if bytes.is_empty() || 255 < bytes.len() || !is_text(bytes) {
         return Err(FileError::Memory);
     }
     Ok(Bytes::copy_of(alloc, bytes)?)
+}
+
+/// The user who asks.
+fn user(alloc: Global) -> Result<Bytes, FileError>
+    ensures { IfOk result IsUser }
+{
+    let user = Bytes::copy_of(alloc, b"adm")?;
+    if user.as_slice().is_empty() || 64 < user.as_slice().len() || !is_text(user.as_slice()) {
+        return Err(FileError::Memory);
+    }
+    Ok(user)
 }
 
 /// The number and the length of what was told.
@@ -65,7 +75,7 @@ pub fn make<B: Blocks>(
     bytes: &[u8],
     mode: u32,
 ) -> Result<(u64, u64), FileError> {
-    match (place(alloc, trail), name(alloc, bytes), name(alloc, b"adm")) {
+    match (place(alloc, trail), name(alloc, bytes), user(alloc)) {
         (Ok(at), Ok(name), Ok(user)) => create(files, &at, &name, &user, mode),
         _ => Err(FileError::Memory),
     }
@@ -79,7 +89,7 @@ pub fn write<B: Blocks>(
     offset: u64,
     piece: &[u8],
 ) -> Result<(), FileError> {
-    match (place(alloc, trail), name(alloc, b"adm")) {
+    match (place(alloc, trail), user(alloc)) {
         (Ok(at), Ok(user)) => files.write(&at, offset, piece, &user, 101),
         _ => Err(FileError::Memory),
     }
@@ -94,7 +104,7 @@ pub fn remove<B: Blocks>(
     if trail.is_empty() {
         return Err(FileError::Memory);
     }
-    match (place(alloc, trail), name(alloc, b"adm")) {
+    match (place(alloc, trail), user(alloc)) {
         (Ok(at), Ok(user)) => files.remove(&at, &user, 102),
         _ => Err(FileError::Memory),
     }
@@ -125,7 +135,7 @@ pub fn rename<B: Blocks>(
     if trail.is_empty() {
         return Err(FileError::Memory);
     }
-    match (place(alloc, trail), name(alloc, bytes), name(alloc, b"adm")) {
+    match (place(alloc, trail), name(alloc, bytes), user(alloc)) {
         (Ok(at), Ok(name), Ok(user)) => files.change(&at, &to_name(name), &user, 103),
         _ => Err(FileError::Memory),
     }

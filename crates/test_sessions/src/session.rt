@@ -10,9 +10,8 @@ use test_conversations::conversations::{
     AMPLE, CHANGES, DIRECTORIES, DROPPED, KNOWN, MODES, RIGHTS, ROOT, TWO_FILES, UNKNOWN, USERS,
     VERSIONS, WALKS, WRITES,
 };
-use test_conversations::{
-    Conversation, MARKS, Server, Settling, Wrong, converse, exchange, settles,
-};
+use test_conversations::{Conversation, MARKS, Settling, converse, settles};
+use test_replies::{Server, Wrong, exchange};
 use watched::Watched;
 
 /// Two sessions over the same plain files.

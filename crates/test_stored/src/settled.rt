@@ -5,8 +5,9 @@ use crate::kept::sound;
 use crate::stored::{Failure, Stored, Turns, held, where_said};
 use std::alloc::Global;
 use std::test::Fail;
-use test_conversations::left::{EMPTY, HELLO, SHORT};
-use test_conversations::{MARKS, Mark, Part, Row, settles};
+use test_conversations::{MARKS, Mark, Part, settles};
+use test_replies::Row;
+use test_replies::left::{EMPTY, HELLO, SHORT};
 
 /// The file after `f` has the number 2 over files in memory, and where the system had an end. With none, all of the 1,024 numbers that the
 /// super block was settled for may have been given.

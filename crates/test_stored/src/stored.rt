@@ -9,7 +9,8 @@ use fo_events::{Event, Outcome};
 use fo_turning::{Flushed, Unlinked};
 use nine_wire::{Reply, Request};
 use std::alloc::Global;
-use test_conversations::{Part, Server, Settling, Wrong, converse};
+use test_conversations::{Part, Settling, converse};
+use test_replies::{Server, Wrong};
 
 /// Why something went otherwise over disks.
 #[derive(Debug, Drop, PartialEq, Eq)]

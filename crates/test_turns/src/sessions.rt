@@ -5,7 +5,8 @@ use nine_wire::{Reply, Request};
 use std::alloc::{AllocError, Global};
 use std::test::Fail;
 use test_conversations::conversations::{FOUND_UNTIL, TWO_SESSIONS};
-use test_conversations::{Conversation, Server, Wrong, converse, exchange};
+use test_conversations::{Conversation, converse};
+use test_replies::{Server, Wrong, exchange};
 
 /// Sessions over the same plain files.
 #[derive(Drop)]

@@ -1,5 +1,0 @@
-use Rattle.epoch_names.specs.Root.{NoneComes}
-use Rattle.epoch_names.proofs.compare.calls.Given as goal
-
-abbrev pub invariant-calls : goal.invariant-calls
-invariant-calls g l = NoneComes (g.B.Blocks.state l.on) × g.B.Blocks.keeps l.initial.on l.on

@@ -1,5 +1,0 @@
-use Rattle.epoch_names.specs.Root.{NoneComes}
-use Rattle.epoch_names.proofs.older.is_part_current.Given as goal
-
-abbrev pub invariant-loop-i : goal.invariant-loop-i
-invariant-loop-i g l = NoneComes (g.B.Blocks.state l.on)

@@ -1,6 +1,0 @@
-use Rattle.fo_ports_plain.specs.Parts.{parts}
-use Rattle.epoch_names.proofs.Staying.{blocks_stay}
-use Rattle.epoch_names.proofs.older.sum_at.Goals as goal
-
-pub returns-clause-blocks : goal.returns-clause-blocks
-returns-clause-blocks c = blocks_stay (parts c.args.on.now) (parts c.sum_there.new.on) c.sum_there.ensures.keeps c.requires.blocks
