@@ -3,12 +3,12 @@ use Rattle.std.proofs.Common.{◌≡◌, ◌↔◌, ◌≤◌, ℕ, zero, suc, f
 use Rattle.fo_image.specs.declared.types.Kind.{Kind}
 use Rattle.fo_image.specs.declared.types.Kind.TheVariants.{Data, Dir, Root}
 use Rattle.fo_image.specs.declared.types.Pointer.TheVariants.{Nil, Local}
-use Rattle.fo_crash.specs.declared.slot.Slot.TheVariants.{Pointer as To}
+use Rattle.fo_buffers.specs.of_crash.declared.slot.Slot.TheVariants.{Pointer as To}
 use Rattle.std.proofs.lemmas.Bool.{le-ltb}
 use Rattle.fo_image.specs.Field.{zeros}
-use Rattle.fo_meta.specs.Leaf.{IsLeaf}
-use Rattle.fo_ports.specs.Blocks.{AreZeros, IsFormed, IsRanked, Reads, ReadsSlots, slot_count}
-use Rattle.fo_slots.specs.Read.{blanked, read}
+use Rattle.fo_buffers.specs.of_meta.Leaf.{IsLeaf}
+use Rattle.fo_buffers.specs.of_ports.Blocks.{AreZeros, IsFormed, IsRanked, Reads, ReadsSlots, slot_count}
+use Rattle.fo_buffers.specs.of_slots.Read.{blanked, read}
 use Rattle.std.specs.Prelude.{IfSome}
 use Rattle.std.specs.Option.{option_map}
 use Rattle.fo_buffers.specs.declared.block.Buffer.{Buffer}

@@ -3,9 +3,9 @@ use Rattle.std.specs.Prelude.{◌≡◌, ◌<◌, ◌≤◌, ℕ, zero, suc, Lis
 use Rattle.fo_image.specs.declared.types.Kind.{Kind}
 use Rattle.fo_image.specs.declared.types.Kind.TheVariants.{Data, Dir, Root}
 use Rattle.fo_image.specs.declared.types.Pointer.TheVariants.{Local}
-use Rattle.fo_crash.specs.Images.{target}
-use Rattle.fo_ports.specs.Blocks.{AreZeros, IsFormed, Reads, ReadsSlots, slots_to}
-use Rattle.fo_slots.specs.Read.{read}
+use Rattle.fo_buffers.specs.of_crash.Images.{target}
+use Rattle.fo_buffers.specs.of_ports.Blocks.{AreZeros, IsFormed, Reads, ReadsSlots, slots_to}
+use Rattle.fo_buffers.specs.of_slots.Read.{read}
 
 -- the addresses of data blocks
 abbrev pub IsData : ℕ → ℕ → ℕ → Type 0

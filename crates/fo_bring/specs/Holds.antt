@@ -7,8 +7,8 @@ use Rattle.fo_disk.specs.Disk.{Content as Holds}
 use Rattle.fo_image.specs.declared.types.Kind.{Kind}
 use Rattle.fo_buffers.specs.declared.block.Buffer.{Buffer}
 use Rattle.fo_buffers.specs.Held.{Held, held_at, buffer_of, put, unlisted, used}
-use Rattle.fo_ports.specs.Blocks.{IsRanked}
-use Rattle.fo_slots.specs.Read.{read}
+use Rattle.fo_buffers.specs.of_ports.Blocks.{IsRanked}
+use Rattle.fo_buffers.specs.of_slots.Read.{read}
 use Rattle.fo_bring.specs.Blocks.{Good, Gets}
 
 -- Of other blocks everything stays, and at most one unit of room is used.

@@ -3,15 +3,14 @@ ghost use Rattle.std.specs.Prelude.{◌≡◌, ◌↔◌, true, false, length, n
 ghost use Rattle.std.specs.Map.{lookup};
 ghost use Rattle.fo_buffers.specs.Held.{held_at};
 ghost use Rattle.fo_buffers.specs.declared.block.Buffer.{Buffer};
-ghost use Rattle.fo_ports.specs.Blocks.{IsFormed, IsRanked, ReadsSlots};
-ghost use Rattle.fo_slots.specs.Read.{read};
+ghost use Rattle.fo_buffers.specs.of_ports.Blocks.{IsFormed, IsRanked, ReadsSlots};
+ghost use Rattle.fo_buffers.specs.of_slots.Read.{read};
 ghost use Rattle.fo_bring.specs.Blocks.{HasZeros, Gets, Good};
 ghost use Rattle.fo_bring.specs.Holds.{GoodIn, GetsIn, GetsGood, GetsClean, RanksIn};
 
 use crate::good::is_good;
-use fo_buffers::Buffers;
+use fo_buffers::{Buffers, is_formed, read_is_read};
 use fo_image::Kind;
-use fo_slots::{is_formed, read_is_read};
 
 // The bytes of a block of this kind and rank, where they are of the format.
 fn if_formed<'a>(bytes: &'a [u8], kind: Kind, rank: u32, formed: bool) -> Option<&'a [u8]>

@@ -1,14 +1,14 @@
 //! Whether the bytes of a block may be held.
 ghost use Rattle.std.specs.Prelude.{◌≡◌, ◌<◌, ◌≤◌, ◌↔◌, ℕ, length, drop, IsTrue};
 ghost use Rattle.fo_image.specs.declared.types.Pointer.TheVariants.{Local};
-ghost use Rattle.fo_crash.specs.Images.{target};
-ghost use Rattle.fo_ports.specs.Blocks.{AreZeros, ReadsSlots, slots_to};
+ghost use Rattle.fo_buffers.specs.of_crash.Images.{target};
+ghost use Rattle.fo_buffers.specs.of_ports.Blocks.{AreZeros, ReadsSlots, slots_to};
 ghost use Rattle.fo_image.specs.declared.types.Kind.TheVariants.{Data, Dir};
-ghost use Rattle.fo_slots.specs.Read.{read};
+ghost use Rattle.fo_buffers.specs.of_slots.Read.{read};
 ghost use Rattle.fo_bring.specs.Blocks.{IsData, LeadsWithin, HasZeros, Good};
 
+use fo_buffers::{has_slots, slot_count, slot_of};
 use fo_image::{Kind, Pointer, is_zero};
-use fo_slots::{has_slots, slot_count, slot_of};
 
 /// Whether this is the address of a data block.
 pub fn is_data(first: u32, count: u32, at: u32) -> bool

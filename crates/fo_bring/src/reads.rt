@@ -4,15 +4,14 @@ ghost use Rattle.std.specs.Bool.{OnTrue, OnFalse};
 ghost use Rattle.std.specs.Map.{lookup};
 ghost use Rattle.fo_base.specs.Cause.{Rose};
 ghost use Rattle.fo_buffers.specs.Held.{held_at, cut, unlisted};
-ghost use Rattle.fo_ports.specs.Causes.{Caused};
+ghost use Rattle.fo_buffers.specs.of_ports.Causes.{Caused};
 ghost use Rattle.fo_bring.specs.Holds.{Others, GoodIn, Loaded, Brought, Seen, Glanced, StaysClean};
 
 use crate::copies::copy_clean;
 use crate::good::is_good;
-use fo_buffers::{Buffers, Unread};
+use fo_buffers::{BlockError, Buffers, Unread};
 use fo_disk::{Disk, DiskFault};
 use fo_image::Kind;
-use fo_ports::BlockError;
 use std::alloc::Global;
 
 // Whether a block is held with good bytes.

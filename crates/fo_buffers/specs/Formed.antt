@@ -1,8 +1,8 @@
 -- What is known of the bytes of a block besides.
 use Rattle.std.specs.Prelude.{◌≡◌, ℕ, Bool, true, List}
-use Rattle.fo_image.specs.declared.types.Kind.TheVariants.{Root}
-use Rattle.fo_meta.specs.Leaf.{IsLeaf}
-use Rattle.fo_ports.specs.Blocks.{IsFormed}
+use Rattle.fo_slots.specs.of_image.declared.types.Kind.TheVariants.{Root}
+use Rattle.fo_slots.specs.of_meta.Leaf.{IsLeaf}
+use Rattle.fo_slots.specs.of_ports.Blocks.{IsFormed}
 
 -- What was found out is so: they are a leaf of records, or those of a root block.
 pub record IsKnown (leaf root : Bool) (bytes : List ℕ) : Type 0 where

@@ -3,3 +3,7 @@ pub mod Inside
 pub mod Tables
 pub mod Reading
 pub mod Formed
+pub mod of_crash
+pub mod of_meta
+pub mod of_ports
+pub mod of_slots

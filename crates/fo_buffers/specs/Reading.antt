@@ -2,7 +2,7 @@
 use Rattle.std.specs.Prelude.{◌≡◌, ◌<◌, ℕ, List, length, nat_eq}
 use Rattle.std.specs.List.{Contains}
 use Rattle.lru.specs.LruCache.{lru_cache, put_entries}
-use Rattle.fo_disk.specs.Disk.{Content, versions_of}
+use Rattle.fo_slots.specs.of_disk.Disk.{Content, versions_of}
 use Rattle.fo_buffers.specs.Held.{Held}
 use Rattle.fo_buffers.specs.declared.held.Unread.{Unread}
 use Rattle.fo_buffers.specs.declared.held.Unread.TheVariants.{Failed, Memory}

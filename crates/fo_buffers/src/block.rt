@@ -2,16 +2,14 @@
 ghost use Rattle.std.specs.Prelude.{◌≡◌, ◌+◌, ◌<◌, ◌≤◌, ◌++◌, ◌↔◌, true, length, take, drop, replicate, vec_len, IfOk, OnOk, OnErr, IsTrue};
 ghost use Rattle.std.specs.List.{Contains};
 ghost use Rattle.fo_base.specs.Cause.{HasCause};
-ghost use Rattle.fo_disk.specs.Disk.{versions_of};
-ghost use Rattle.fo_image.specs.declared.types.Kind.TheVariants.{Root};
-ghost use Rattle.fo_meta.specs.Leaf.{IsLeaf};
-ghost use Rattle.fo_ports.specs.Blocks.{IsFormed};
+ghost use Rattle.fo_slots.specs.of_disk.Disk.{versions_of};
+ghost use Rattle.fo_slots.specs.of_image.declared.types.Kind.TheVariants.{Root};
+ghost use Rattle.fo_slots.specs.of_meta.Leaf.{IsLeaf};
+ghost use Rattle.fo_slots.specs.of_ports.Blocks.{IsFormed};
 ghost use Rattle.fo_buffers.specs.Formed.{IsKnown};
 
 use fo_base::{BLOCK, Memory};
-use fo_disk::{Disk, Failed};
-use fo_image::Kind;
-use fo_slots::is_formed;
+use fo_slots::{Disk, Failed, Kind, is_formed};
 use std::alloc::Global;
 use std::marker::Model;
 

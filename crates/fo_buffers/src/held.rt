@@ -8,15 +8,14 @@ ghost use Rattle.std.specs.HashMap.{get, spare, Updates, IsUnchanged};
 ghost use Rattle.std.specs.FinMap as map;
 ghost use Rattle.lru.specs.LruCache.{lru_cache, put_entries};
 ghost use Rattle.fo_base.specs.Cause.{HasCause, Rose};
-ghost use Rattle.fo_disk.specs.Disk.{versions_of};
+ghost use Rattle.fo_slots.specs.of_disk.Disk.{versions_of};
 ghost use Rattle.fo_buffers.specs.Held.{Held, held_at, put, unlisted, used, updated, cut, buffer_of, block_in, is_dirty, is_pinned, is_free, with_bytes, itself, settled, pinned_as, IsPinned};
 ghost use Rattle.fo_buffers.specs.Reading.{Looked, Unlooked};
 ghost use Rattle.fo_buffers.specs.Tables.{Changes, Listed};
 
 use crate::block::{Block, Buffer};
 use crate::buffers::Buffers;
-use fo_disk::{Disk, Failed};
-use fo_image::Kind;
+use fo_slots::{Disk, Failed, Kind};
 use lru::LruCache;
 use std::alloc::Global;
 use std::collections::HashMap;

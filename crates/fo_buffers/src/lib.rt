@@ -15,3 +15,6 @@ mod held;
 pub use block::{Block, Buffer};
 pub use buffers::Buffers;
 pub use held::Unread;
+
+// Passed on, so that a crate above names this one alone.
+pub use fo_slots::{BlockError, has_slots, is_formed, read_is_read, slot_count, slot_of};

@@ -19,8 +19,8 @@ use Rattle.fo_order.specs.Keeps.{Turns}
 use Rattle.fo_order.specs.Turns.{changed, flag_at}
 use Rattle.fo_labels.specs.Region.{IsDataBlock, Region, relabeled}
 use Rattle.fo_facts.specs.Known.{fact_at}
-use Rattle.fo_bring.specs.Holds.{IsFound, IsFromIn}
-use Rattle.fo_bring.proofs.Buffering.{put_other, put_same}
+use Rattle.fo_mind.specs.of_bring.Holds.{IsFound, IsFromIn}
+use Rattle.fo_mind.proofs.of_bring.Buffering.{put_other, put_same}
 use Rattle.fo_facts.specs.declared.fact.Fact.{Fact}
 use Rattle.fo_mind.specs.Changes.{Given, Refilled, takes_turn, turned}
 use Rattle.fo_mind.specs.Got.{ComesFrom}

@@ -8,10 +8,10 @@ use Rattle.fo_crash.specs.Steps.{cleared}
 use Rattle.fo_buffers.specs.Held.{held_at}
 use Rattle.fo_ports.specs.State.{KeepsSlot, MayRemove, Rests, StaysKnown, WasCleared}
 use Rattle.fo_facts.specs.declared.fact.Fact.{Fact}
-use Rattle.fo_waits.specs.declared.listed.Clearing.{Clearing}
-use Rattle.fo_waits.specs.declared.listed.Wait.{Wait}
-use Rattle.fo_waits.specs.Ended.{TakesOut}
-use Rattle.fo_waits.specs.Listed.{Awaits, Clears}
+use Rattle.fo_mind.specs.of_waits.declared.listed.Clearing.{Clearing}
+use Rattle.fo_mind.specs.of_waits.declared.listed.Wait.{Wait}
+use Rattle.fo_mind.specs.of_waits.Ended.{TakesOut}
+use Rattle.fo_mind.specs.of_waits.Listed.{Awaits, Clears}
 use Rattle.fo_mind.specs.Due.{ClearedDue}
 use Rattle.fo_mind.specs.Frames.{SameMarks}
 use Rattle.fo_mind.specs.Laws.{some_held}

@@ -3,7 +3,7 @@ use Rattle.std.proofs.Common.{◌≡◌, inl, inr, ⊎_elim, ℕ, ◌&&◌, Bool
 use Rattle.std.specs.Option.{IfSome}
 use Rattle.fo_order.specs.Turns.{flag_at}
 use Rattle.fo_facts.specs.Known.{fact_at}
-use Rattle.fo_waits.specs.Listed.{Clears}
+use Rattle.fo_mind.specs.of_waits.Listed.{Clears}
 use Rattle.fo_mind.specs.Due.{is_over}
 use Rattle.fo_mind.specs.Parts.{IsDirty, IsNewborn, Parts}
 use Rattle.fo_mind.specs.Turning.{Turning, is_settled}

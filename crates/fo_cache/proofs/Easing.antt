@@ -14,7 +14,7 @@ use Rattle.fo_crash.specs.Images.{Content, target}
 use Rattle.fo_crash.specs.Steps.{cleared}
 use Rattle.fo_ports.specs.declared.error.BlockError.{BlockError}
 use Rattle.fo_ports.specs.State.{IsChanging, IsClosing, IsShut, KeepsSlot, MayRemove, Rests, State, StaysKnown}
-use Rattle.fo_slots.specs.Read.{read}
+use Rattle.fo_buffers.specs.of_slots.Read.{read}
 use Rattle.fo_mind.specs.Laws.{keeps_joins}
 use Rattle.fo_mind.specs.Parts.{CacheKeeps, IsBlock, Parts, bytes_of, label_at, memory, one_content, content_at, state_of}
 use Rattle.fo_mind.specs.Sealed.{SealsPinned}

@@ -16,8 +16,8 @@ use Rattle.fo_crash.specs.Images.{target}
 use Rattle.fo_crash.specs.Steps.{cleared}
 use Rattle.fo_facts.specs.declared.fact.Fact.{Fact}
 use Rattle.fo_facts.specs.Known.{fact_at}
-use Rattle.fo_linking.specs.Joined.{IsReached, JoinsBelow}
-use Rattle.fo_linking.specs.Joined.IsReached.{top, below}
+use Rattle.fo_mind.specs.of_linking.Joined.{IsReached, JoinsBelow}
+use Rattle.fo_mind.specs.of_linking.Joined.IsReached.{top, below}
 use Rattle.fo_mind.specs.Changes.{takes_turn, turned}
 use Rattle.fo_mind.specs.Due.{ClearedDue}
 use Rattle.fo_mind.specs.Parts.{Parts, memory}

@@ -16,3 +16,4 @@ pub mod Releasing
 pub mod Resting
 pub mod Settling
 pub mod Trials
+pub mod of_mind

@@ -16,8 +16,8 @@ use Rattle.fo_ports.specs.declared.error.BlockError.{BlockError}
 use Rattle.fo_mind.specs.Parts.{CacheKeeps, IsBlock, Parts, bytes_of, content_at, count_of, label_at, least_limit, memory, one_content, one_slot, state_of}
 use Rattle.fo_mind.specs.Sound.{Placed, Rooted}
 use Rattle.fo_mind.proofs.Looking.{same_content}
-use Rattle.fo_bring.specs.Blocks.{IsData}
-use Rattle.fo_slots.specs.Read.{read}
+use Rattle.fo_mind.specs.of_bring.Blocks.{IsData}
+use Rattle.fo_buffers.specs.of_slots.Read.{read}
 use Rattle.fo_disk.specs.Disk.{Content as Holds}
 use Rattle.fo_cache.specs.Fits.{Fits, FitsLabels}
 use Rattle.fo_cache.specs.Numbering.{Renumbers}

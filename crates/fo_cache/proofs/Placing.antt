@@ -2,7 +2,7 @@
 use Rattle.std.proofs.Common.{◌≡◌, ◌≢◌, ⊎_elim, ℕ, ◌<◌, ◌≤◌, Bool, true, false, List, Option, Some, None, refl, sym, ap, ◌∙◌, subst, arith, [], Result, Ok, Err}
 use Rattle.std.specs.List.{Contains}
 use Rattle.std.specs.Result.{OnOk, OnErr}
-use Rattle.fo_rooms.specs.Grown.{GrownHeld, GrownTurns}
+use Rattle.fo_mind.specs.of_rooms.Grown.{GrownHeld, GrownTurns}
 use Rattle.fo_mind.specs.Roomed.{Grown, Roomed}
 use Rattle.std.specs.Option.{option_map_or}
 use Rattle.std.proofs.lemmas.Bool.{cases_eq, cases_lt}
@@ -13,7 +13,7 @@ use Rattle.fo_order.specs.Keeps.{Turns}
 use Rattle.fo_order.specs.Turns.{flag_at}
 use Rattle.fo_labels.specs.Region.{Region}
 use Rattle.fo_crash.specs.declared.slot.Slot.{Slot}
-use Rattle.fo_linking.specs.Joined.{is_changed}
+use Rattle.fo_mind.specs.of_linking.Joined.{is_changed}
 use Rattle.fo_mind.specs.Due.{ClearedDue}
 use Rattle.fo_mind.specs.Laws.{held_content, held_pinned, pinned_held}
 use Rattle.fo_mind.specs.Parts.{Parts, IsHeld, IsPinned, memory}

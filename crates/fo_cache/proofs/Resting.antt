@@ -14,7 +14,7 @@ use Rattle.fo_buffers.specs.declared.block.Buffer.{Buffer}
 use Rattle.fo_buffers.specs.Held.{held_at, is_pinned, settled}
 use Rattle.fo_labels.specs.Region.{label_of}
 use Rattle.fo_ports.specs.State.{Rests, StaysKnown}
-use Rattle.fo_slots.specs.Read.{read, slot_at, slot_bytes, slot_from}
+use Rattle.fo_buffers.specs.of_slots.Read.{read, slot_at, slot_bytes, slot_from}
 use Rattle.fo_facts.specs.declared.fact.Fact.{Fact}
 use Rattle.fo_facts.specs.Known.{fact_at}
 use Rattle.fo_mind.specs.Parts.{CacheKeeps, IsBlock, IsDirty, IsPinned, Parts, bytes_at, bytes_of, label_at, memory, one_content, state_of}

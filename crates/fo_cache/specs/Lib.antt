@@ -6,3 +6,7 @@ pub mod Settling
 pub mod Supers
 pub mod Work
 pub mod Written
+pub mod of_buffers
+pub mod of_labels
+pub mod of_mind
+pub mod of_waits

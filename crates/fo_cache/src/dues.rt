@@ -5,7 +5,7 @@ use fo_disk::Disk;
 impl<D: Disk> Cache<D> {
     ghost use Rattle.std.specs.Prelude.{◌≡◌, ◌<◌, ◌≤◌, ℕ, [], true, false, length, MatchOption};
     ghost use Rattle.fo_disk.specs.Disk.{Content as Holds};
-    ghost use Rattle.fo_waits.specs.Listed.{Clears, ClearsAfter};
+    ghost use Rattle.fo_mind.specs.of_waits.Listed.{Clears, ClearsAfter};
     ghost use Rattle.fo_mind.specs.Due.{ClearedDue, IsDueSlot, is_over};
     ghost use Rattle.fo_mind.specs.MindParts.{parts};
     ghost use Rattle.fo_mind.specs.Sealed.{SealsPinned};

@@ -12,7 +12,7 @@ impl<D: Disk> Cache<D> {
     ghost use Rattle.fo_crash.specs.Steps.{PutsSlot, Through, cleared};
     ghost use Rattle.fo_ports.specs.Blocks.{SlotFits, cost, slot_count};
     ghost use Rattle.fo_ports.specs.State.{AddsNoWait, AddsRemovals, Frame, Hangs, KeepsOrder, QueuesOne, none};
-    ghost use Rattle.fo_waits.specs.Listed.{Awaits, Clears};
+    ghost use Rattle.fo_mind.specs.of_waits.Listed.{Awaits, Clears};
     ghost use Rattle.fo_mind.specs.MindParts.{parts};
     ghost use Rattle.fo_mind.specs.Parts.{CacheKeeps, IsBlock, IsDirty, IsNewborn, IsPinned, label_at, memory, state_of};
     ghost use Rattle.fo_put.specs.Queued.{Queues};

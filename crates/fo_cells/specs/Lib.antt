@@ -7,3 +7,4 @@ pub mod Laws
 pub mod Device
 pub mod Buffers
 pub mod Kept
+pub mod of_crash

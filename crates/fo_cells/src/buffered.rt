@@ -14,7 +14,7 @@ pub struct Buffered<D: Disk> {
 
 impl<D: Disk> Buffered<D> {
     ghost use Rattle.std.specs.Prelude.{◌≡◌, ◌<◌, true, length, map, slice_index_or, []};
-    ghost use Rattle.fo_base.specs.Cause.{HasCause};
+    ghost use Rattle.fo_disk.specs.of_base.Cause.{HasCause};
     ghost use Rattle.fo_crash.specs.Steps.{AddsNothing};
     ghost use Rattle.fo_cells.specs.Known.{Images};
     ghost use Rattle.fo_cells.specs.Device.{MayWrite, known};

@@ -1,6 +1,6 @@
 //! The calls of a device, as steps of what a cache knows.
 ghost use Rattle.std.specs.Prelude.{◌≡◌, ◌<◌, ℕ, Bool, true, false, length, is_err, not, slice_set};
-ghost use Rattle.fo_base.specs.Cause.{HasCause};
+ghost use Rattle.fo_disk.specs.of_base.Cause.{HasCause};
 ghost use Rattle.fo_disk.specs.Disk.{IsWrite, IsSync, versions_of};
 ghost use Rattle.fo_cells.specs.Writes.{WritesLabels};
 ghost use Rattle.fo_cells.specs.Writes.{Writes as CacheWrites, Syncs as CacheSyncs};

@@ -1,7 +1,7 @@
 //! Writing buffers.
 ghost use Rattle.std.specs.Prelude.{◌≡◌, ◌<◌, Bool, true, false, length, is_err, not, slice_index_or, map, [], Ok, IfOk};
 ghost use Rattle.std.specs.List.{list_all};
-ghost use Rattle.fo_base.specs.Cause.{HasCause};
+ghost use Rattle.fo_disk.specs.of_base.Cause.{HasCause};
 ghost use Rattle.fo_cells.specs.Device.{Mind, MayWrite, MayWriteOver, Stepped};
 ghost use Rattle.fo_cells.specs.Buffers.{mind_of, note, bytes_in, is_newborn};
 

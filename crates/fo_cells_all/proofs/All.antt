@@ -15,17 +15,17 @@ use Rattle.fo_cells.proofs.Flags.{flags_write, flags_sync}
 use Rattle.fo_cells.proofs.Labels.{labels_write, labels_sync}
 use Rattle.fo_cells.proofs.LabelCalls.{labels_known}
 use Rattle.fo_cells.proofs.SafeSteps.{write_safe, label_safe, sync_safe}
-use Rattle.fo_cells_out.specs.Parents.{Tree}
-use Rattle.fo_cells_out.proofs.Steps.{write_stays, label_stays, sync_stays}
+use Rattle.fo_cells_queue.specs.of_cells_out.Parents.{Tree}
+use Rattle.fo_cells_queue.proofs.of_cells_out.Steps.{write_stays, label_stays, sync_stays}
 use Rattle.fo_cells_held.proofs.Held.{buffers_change, flags_change, buffers_write, buffers_sync}
 use Rattle.fo_cells_held.proofs.Timed.{timed_change, timed_write, timed_sync, dirty_change, dirty_write, dirty_sync}
 use Rattle.fo_cells_held.proofs.Room.{room_stays}
 use Rattle.fo_cells_held.specs.Held.{OnlyLiveDirty}
 use Rattle.fo_cells_held.specs.Room.{Used}
 use Rattle.fo_cells_queue.specs.Queue.{IsQueue}
-use Rattle.fo_cells_epochs.specs.Epochs.{IsRead, NamesSet, HasEpochs}
-use Rattle.fo_cells_epochs.proofs.TreeSteps.{write_trees, label_trees, sync_trees}
-use Rattle.fo_cells_epochs.proofs.Epochs.{by_trees}
+use Rattle.fo_cells_queue.specs.of_cells_epochs.Epochs.{IsRead, NamesSet, HasEpochs}
+use Rattle.fo_cells_queue.proofs.of_cells_epochs.TreeSteps.{write_trees, label_trees, sync_trees}
+use Rattle.fo_cells_queue.proofs.of_cells_epochs.Epochs.{by_trees}
 use Rattle.fo_cells_queue.proofs.Queue.{queue_still}
 use Rattle.fo_cells_all.specs.All.{Kept, Format, HoldsAll, HoldsBeside, StepsBeside, kept_write, kept_sync}
 

@@ -3,7 +3,7 @@ use Rattle.std.specs.Prelude.{◌≡◌, ◌≢◌, ◌⊎◌, ◌<◌, ℕ, Boo
 use Rattle.std.specs.List.{Contains}
 use Rattle.fo_disk.specs.Disk.{Block}
 use Rattle.fo_disk.specs.Disk.{Content as Holds}
-use Rattle.fo_labels.specs.Region.{Region, IsDataBlock, label_of}
+use Rattle.fo_cells_held.specs.of_labels.Region.{Region, IsDataBlock, label_of}
 use Rattle.fo_image.specs.declared.types.Pointer.TheVariants.{Local}
 use Rattle.fo_crash.specs.declared.place.Place.{Place}
 use Rattle.fo_crash.specs.Places.{place_below}
@@ -11,11 +11,11 @@ use Rattle.fo_crash.specs.Images.{Content, target}
 use Rattle.fo_cells.specs.Known.{Top, IsWait, MayName, Stands}
 use Rattle.fo_cells.specs.Device.{Clearing, Mind, Fits, known, wrote, after_sync}
 use Rattle.fo_cells.specs.Flags.{Flags, FlagsFit, LabelsFit, marked, after_sync_flags}
-use Rattle.fo_cells_out.specs.Removals.{Pending}
-use Rattle.fo_cells_out.specs.Parents.{Tree}
+use Rattle.fo_cells_queue.specs.of_cells_out.Removals.{Pending}
+use Rattle.fo_cells_queue.specs.of_cells_out.Parents.{Tree}
 use Rattle.fo_cells_held.specs.Held.{Buffering, HasBuffers, ChangesMemory, Times, LabelsAreTimed, ChangesLabels, OnlyLiveDirty, Dirties, timed, after_sync_times}
 use Rattle.fo_cells_held.specs.Room.{Promises, Space, HasRoom, Used, Spends, UsesLabels}
-use Rattle.fo_cells_epochs.specs.Epochs.{Root, HasEpochs}
+use Rattle.fo_cells_queue.specs.of_cells_epochs.Epochs.{Root, HasEpochs}
 use Rattle.fo_cells_queue.specs.Queue.{Queued, IsQueue}
 
 -- All that a cache keeps beside its device; with the format of its blocks (`mind`) it says what is known.

@@ -7,8 +7,8 @@ ghost use Rattle.fo_crash.specs.Images.{Content, SameContent};
 ghost use Rattle.fo_cells.specs.Calls.{TriesSuper};
 ghost use Rattle.fo_cells.specs.Device.{Mind, MayWrite, MayWriteLabels, known, wrote};
 ghost use Rattle.fo_cells.specs.Safe.{IsCurrent};
-ghost use Rattle.fo_cells_out.specs.Parents.{Tree};
-ghost use Rattle.fo_cells_epochs.specs.Epochs.{IsRead, NamesSet};
+ghost use Rattle.fo_cells_queue.specs.of_cells_out.Parents.{Tree};
+ghost use Rattle.fo_cells_queue.specs.of_cells_epochs.Epochs.{IsRead, NamesSet};
 ghost use Rattle.fo_cells_all.specs.All.{Kept, Format, HoldsAll, HoldsBeside, MayTry, kept_write, kept_sync};
 
 use fo_disk::{Disk, Failed};

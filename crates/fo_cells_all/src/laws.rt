@@ -3,7 +3,7 @@ ghost use Rattle.std.specs.Prelude.{Bool, List};
 ghost use Rattle.fo_disk.specs.Disk.{Content as Holds};
 ghost use Rattle.fo_cells.specs.Device.{known};
 ghost use Rattle.fo_cells_held.specs.Room.{Used};
-ghost use Rattle.fo_cells_epochs.specs.Epochs.{HasEpochs};
+ghost use Rattle.fo_cells_queue.specs.of_cells_epochs.Epochs.{HasEpochs};
 ghost use Rattle.fo_cells_queue.specs.Queue.{IsQueue};
 ghost use Rattle.fo_cells_all.specs.All.{Kept, Format, HoldsAll, HoldsBeside, StepsBeside};
 

@@ -24,7 +24,7 @@ use Rattle.fo_cells_steps.specs.Calls.{images}
 use Rattle.fo_cells_steps.proofs.Facts.{unled}
 use Rattle.fo_cells_supers.proofs.Counting.{counted_beside}
 use Rattle.fo_cells_turns.specs.Opening.{none_made, no_origins}
-use Rattle.fo_cells_snapshot.specs.Snapshot.{Snapshots}
+use Rattle.fo_cells_whole.specs.of_cells_snapshot.Snapshot.{Snapshots}
 use Rattle.fo_cells_whole.specs.Whole.{HoldsWhole}
 use Rattle.fo_cells_whole.specs.Awaited.{WaitsUsed}
 use Rattle.fo_cells_whole.proofs.Certain.{awaited_still}

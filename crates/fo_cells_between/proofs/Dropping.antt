@@ -31,7 +31,7 @@ use Rattle.fo_cells_steps.specs.Calls.{SameEpoch, images}
 use Rattle.fo_cells_steps.proofs.Moving.{listed_from}
 use Rattle.fo_cells_held.specs.Held.{OnlyLiveDirty}
 use Rattle.fo_cells_turns.specs.Opening.{none_made, no_origins}
-use Rattle.fo_cells_snapshot.specs.Abandon.{AbandonsQueue, Abandons}
+use Rattle.fo_cells_whole.specs.of_cells_snapshot.Abandon.{AbandonsQueue, Abandons}
 use Rattle.fo_cells_whole.specs.Whole.{HoldsWhole}
 use Rattle.fo_cells_whole.specs.Awaited.{WaitsUsed}
 use Rattle.fo_cells_whole.proofs.Certain.{awaited_still}

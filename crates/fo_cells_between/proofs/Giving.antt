@@ -24,7 +24,7 @@ use Rattle.fo_cells_all.proofs.All.{beside, beside_step}
 use Rattle.fo_cells_steps.specs.Calls.{Beside}
 use Rattle.fo_cells_steps.proofs.Facts.{unled}
 use Rattle.fo_cells_steps.proofs.Still.{epochs_rest}
-use Rattle.fo_cells_blocks.specs.Giving.{AddsThis}
+use Rattle.fo_cells_whole.specs.of_cells_blocks.Giving.{AddsThis}
 use Rattle.fo_cells_turns.specs.Opening.{none_made, no_origins}
 use Rattle.fo_cells_whole.specs.Whole.{HoldsWhole}
 use Rattle.fo_cells_whole.proofs.Certain.{given_awaited}

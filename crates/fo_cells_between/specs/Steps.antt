@@ -18,7 +18,7 @@ use Rattle.fo_cells_lost.specs.Lost.{IsLost}
 use Rattle.fo_cells_all.specs.All.{Kept, Format, HoldsBeside}
 use Rattle.fo_cells_steps.specs.Division.{division}
 use Rattle.fo_cells_steps.specs.Calls.{Beside, images}
-use Rattle.fo_cells_blocks.specs.Giving.{GivesOne, AddsThis}
+use Rattle.fo_cells_whole.specs.of_cells_blocks.Giving.{GivesOne, AddsThis}
 use Rattle.fo_cells_supers.specs.Supers.{SameTrees}
 use Rattle.fo_cells_turns.specs.Opening.{none_made, no_origins}
 use Rattle.fo_cells_whole.specs.Whole.{HoldsWhole}

@@ -29,10 +29,10 @@ use Rattle.fo_cells_all.specs.All.{Kept, Format, HoldsBeside}
 use Rattle.fo_cells_steps.specs.Calls.{Beside}
 use Rattle.fo_cells_turns.specs.Opening.{Opens, none_made, no_origins}
 use Rattle.fo_cells_turns.proofs.Opening.{open_made}
-use Rattle.fo_cells_shown.specs.Opening.{ClosedHang, OlderHang}
-use Rattle.fo_cells_shown.proofs.Opening.{hang_closed, hang_shared}
-use Rattle.fo_cells_blocks.specs.Giving.{GivesOne, made_with}
-use Rattle.fo_cells_blocks.proofs.Giving.{empty_made}
+use Rattle.fo_cells_whole.specs.of_cells_shown.Opening.{ClosedHang, OlderHang}
+use Rattle.fo_cells_whole.proofs.of_cells_shown.Opening.{hang_closed, hang_shared}
+use Rattle.fo_cells_whole.specs.of_cells_blocks.Giving.{GivesOne, made_with}
+use Rattle.fo_cells_whole.proofs.of_cells_blocks.Giving.{empty_made}
 use Rattle.fo_cells_whole.specs.Whole.{HoldsWhole}
 use Rattle.fo_cells_whole.specs.Tops.{IsRooted}
 use Rattle.fo_cells_whole.proofs.Certain.{none_awaited}

@@ -11,7 +11,7 @@ use Rattle.fo_labels.specs.Region.{Region}
 use Rattle.fo_crash.specs.declared.slot.Slot.TheVariants.{Pointer as To}
 use Rattle.fo_crash.specs.Images.{Content, nothing, target, to_block}
 use Rattle.fo_cells.proofs.Calls.{nat_eq_other}
-use Rattle.fo_cells_shown.proofs.Opening.{hang_closed, hang_shared, fresh_closed, fresh_older}
+use Rattle.fo_cells_whole.proofs.of_cells_shown.Opening.{hang_closed, hang_shared, fresh_closed, fresh_older}
 use Rattle.fo_cells_turns.specs.Opening.{none_made, no_origins}
 use Rattle.fo_cells_turns.proofs.Opening.{open_made}
 use Rattle.fo_cells_whole.specs.Whole.{HoldsWhole}

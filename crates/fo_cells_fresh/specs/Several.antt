@@ -10,7 +10,7 @@ use Rattle.fo_cells_out.specs.Origins.{given}
 use Rattle.fo_cells_epochs.specs.Epochs.{Root, root_top}
 use Rattle.fo_cells_all.specs.All.{Kept, Format}
 use Rattle.fo_cells_turns.specs.Opening.{Opens, none_made, no_origins}
-use Rattle.fo_cells_blocks.specs.Giving.{made_with}
+use Rattle.fo_cells_whole.specs.of_cells_blocks.Giving.{made_with}
 use Rattle.fo_cells_whole.specs.Whole.{HoldsWhole}
 use Rattle.fo_cells_whole.specs.Tops.{IsRooted}
 

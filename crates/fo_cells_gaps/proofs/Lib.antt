@@ -2,3 +2,5 @@ pub mod Gaps
 pub mod Each
 pub mod Snapshot
 pub mod Covered
+pub mod of_cells_blocks
+pub mod of_cells_snapshot

@@ -21,12 +21,12 @@ use Rattle.fo_cells_out.proofs.Asked.{walk_keeps}
 use Rattle.fo_cells_epochs.specs.Epochs.{Root, root_top, tree_of, kept_root}
 use Rattle.fo_cells_epochs.proofs.Trees.{tree_stands}
 use Rattle.fo_cells_queue.specs.Queue.{Queued, past_blocks}
-use Rattle.fo_cells_begin.specs.Begin.{ended}
+use Rattle.fo_cells_snapshot.specs.of_cells_begin.Begin.{ended}
 use Rattle.fo_cells_lost.specs.Lost.{IsLost, KeepsKept, AreShared, HangsIn}
 use Rattle.fo_cells_lost.proofs.Lost.{tree_stays}
 use Rattle.fo_cells_all.specs.All.{Kept, Format}
 use Rattle.fo_cells_steps.specs.Division.{HoldsMade, division}
-use Rattle.fo_cells_turns.specs.Opening.{none_made, no_origins}
+use Rattle.fo_cells_snapshot.specs.of_cells_turns.Opening.{none_made, no_origins}
 use Rattle.fo_cells_snapshot.specs.Snapshot.{Snapshots}
 use Rattle.fo_cells_snapshot.proofs.Snapshot.{begun_same}
 

@@ -8,7 +8,7 @@ use Rattle.fo_cells.specs.Device.{known}
 use Rattle.fo_cells_lost.specs.Lost.{IsLost, AreShared}
 use Rattle.fo_cells_all.specs.All.{Kept, Format}
 use Rattle.fo_cells_steps.specs.Division.{HoldsMade, division}
-use Rattle.fo_cells_turns.specs.Opening.{none_made, no_origins}
+use Rattle.fo_cells_snapshot.specs.of_cells_turns.Opening.{none_made, no_origins}
 use Rattle.fo_cells_snapshot.specs.Snapshot.{Snapshots}
 
 abbrev pub SnapshotLoses : Type 0

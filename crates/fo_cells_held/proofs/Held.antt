@@ -4,7 +4,7 @@ use Rattle.std.proofs.lemmas.Bool.{cases_eq}
 use Rattle.std.specs.Prelude.{Result, Ok, Err}
 use Rattle.fo_disk.specs.Disk.{Block, versions_of, latest_of, IsSettled}
 use Rattle.fo_disk.specs.Disk.{Content as Holds}
-use Rattle.fo_crash.specs.Images.{Content}
+use Rattle.fo_cells.specs.of_crash.Images.{Content}
 use Rattle.fo_cells.specs.Known.{IsWait, IsClear}
 use Rattle.fo_cells.specs.Device.{Clearing, Mind, known, since_of, noted, wrote, after_sync}
 use Rattle.fo_cells.specs.Flags.{Flags, FlagsFit, IsUnmarked, marked, after_sync_flags}

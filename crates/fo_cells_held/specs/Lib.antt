@@ -1,3 +1,4 @@
 pub mod Held
 pub mod Laws
 pub mod Room
+pub mod of_labels

@@ -16,8 +16,8 @@ use Rattle.fo_cells.proofs.Standing.{seen_is, stands_top, stands_below}
 use Rattle.fo_cells.proofs.Calls.{nat_eq_here}
 use Rattle.fo_cells_out.specs.Removals.{Pending}
 use Rattle.fo_cells_out.specs.Parents.{Tree, copied_once, gained_once, lost_once, making}
-use Rattle.fo_cells_epochs.specs.Epochs.{Root, tree_of, HasTrees}
-use Rattle.fo_cells_epochs.proofs.Trees.{tree_stands}
+use Rattle.fo_cells_queue.specs.of_cells_epochs.Epochs.{Root, tree_of, HasTrees}
+use Rattle.fo_cells_queue.proofs.of_cells_epochs.Trees.{tree_stands}
 use Rattle.fo_cells_queue.specs.Queue.{Queued, NewLabel, closed_at}
 use Rattle.fo_cells_lost.specs.Lost.{IsLost, LosesOnly, KeepsKept, MovesOnly, AreShared, ClosesOne, SharesStill}
 

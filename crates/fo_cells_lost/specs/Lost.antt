@@ -6,7 +6,7 @@ use Rattle.fo_crash.specs.declared.place.Place.{Place}
 use Rattle.fo_cells.specs.Known.{Known, Stands}
 use Rattle.fo_cells_out.specs.Removals.{Pending, IsCovered}
 use Rattle.fo_cells_out.specs.Parents.{Tree}
-use Rattle.fo_cells_epochs.specs.Epochs.{Root, tree_of}
+use Rattle.fo_cells_queue.specs.of_cells_epochs.Epochs.{Root, tree_of}
 use Rattle.fo_cells_queue.specs.Queue.{Queued, NewLabel, closed_at}
 
 -- LOST: it may not be given out, is in no tree, was not made just now, waits in no removal, and no kept tree has it.

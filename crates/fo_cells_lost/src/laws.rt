@@ -6,7 +6,7 @@ ghost use Rattle.fo_cells.specs.Known.{Known, Top};
 ghost use Rattle.fo_cells.specs.Writes.{Gives};
 ghost use Rattle.fo_cells_out.specs.Removals.{Pending};
 ghost use Rattle.fo_cells_out.specs.Parents.{Tree, making, copied_once, gained_once, lost_once};
-ghost use Rattle.fo_cells_epochs.specs.Epochs.{Root, HasEpochs};
+ghost use Rattle.fo_cells_queue.specs.of_cells_epochs.Epochs.{Root, HasEpochs};
 ghost use Rattle.fo_cells_queue.specs.Queue.{Queued};
 ghost use Rattle.fo_cells_lost.specs.Lost.{LosesOnly, KeepsKept, MovesOnly, AreShared, ClosesOne, SharesStill};
 

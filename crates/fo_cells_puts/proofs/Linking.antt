@@ -17,9 +17,9 @@ use Rattle.fo_cells_out.proofs.Origins.{filled_origins}
 use Rattle.fo_cells_out.proofs.Asked.{walk_keeps}
 use Rattle.fo_cells_held.specs.Room.{Used}
 use Rattle.fo_cells_epochs.specs.Epochs.{KeepsTrees}
-use Rattle.fo_cells_queue.specs.Queue.{past_blocks}
-use Rattle.fo_cells_queue.proofs.Queue.{moves_view}
-use Rattle.fo_cells_all.specs.All.{Kept, Format}
+use Rattle.fo_cells_steps.specs.of_cells_queue.Queue.{past_blocks}
+use Rattle.fo_cells_steps.proofs.of_cells_queue.Queue.{moves_view}
+use Rattle.fo_cells_steps.specs.of_cells_all.All.{Kept, Format}
 use Rattle.fo_cells_steps.specs.Division.{SameTree, HoldsMade, division}
 use Rattle.fo_cells_steps.specs.Calls.{Beside}
 use Rattle.fo_cells_puts.specs.Putting.{PutsOne, AddsThat, seen_from}

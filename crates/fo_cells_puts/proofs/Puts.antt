@@ -19,7 +19,7 @@ use Rattle.fo_cells_out.proofs.Steps.{puts_moves}
 use Rattle.fo_cells_held.specs.Room.{Used}
 use Rattle.fo_cells_epochs.specs.Epochs.{KeepsTrees, root_top}
 use Rattle.fo_cells_epochs.proofs.TreeSteps.{put_trees}
-use Rattle.fo_cells_all.specs.All.{Kept, Format}
+use Rattle.fo_cells_steps.specs.of_cells_all.All.{Kept, Format}
 use Rattle.fo_cells_steps.specs.Division.{HoldsMade, division}
 use Rattle.fo_cells_steps.specs.Calls.{Beside}
 use Rattle.fo_cells_puts.specs.Putting.{PutsOne, AddsThat}

@@ -14,8 +14,8 @@ use Rattle.fo_cells_out.specs.Parents.{Tree, AllLeaving, Moves, blocks_of, view}
 use Rattle.fo_cells_out.specs.Origins.{Origins, LinkedBy, Decided, PutsMade, LosesMany, Fills, filled, copied_tree, lost_tree}
 use Rattle.fo_cells_held.specs.Room.{Used}
 use Rattle.fo_cells_epochs.specs.Epochs.{FewerTops, root_top}
-use Rattle.fo_cells_queue.specs.Queue.{IsOnce, past_blocks}
-use Rattle.fo_cells_all.specs.All.{Kept, Format}
+use Rattle.fo_cells_steps.specs.of_cells_queue.Queue.{IsOnce, past_blocks}
+use Rattle.fo_cells_steps.specs.of_cells_all.All.{Kept, Format}
 use Rattle.fo_cells_steps.specs.Division.{HoldsMade, division}
 use Rattle.fo_cells_steps.specs.Calls.{SameEpoch, KeepsTops, Beside, images}
 

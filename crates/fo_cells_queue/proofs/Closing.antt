@@ -6,16 +6,16 @@ use Rattle.std.proofs.lemmas.List.Elements.{Contains-append_cases}
 use Rattle.std.specs.List.{Contains}
 use Rattle.fo_image.specs.declared.types.State.TheVariants.{Free, Closed}
 use Rattle.fo_crash.specs.declared.place.Place.{Place}
-use Rattle.fo_cells.specs.Known.{Known, Top, LabelFits, Stands}
-use Rattle.fo_cells.specs.Writes.{Relabels}
-use Rattle.fo_cells.proofs.Standing.{stands_by, stands_top, stands_below, among_cases, first_among, next_among}
-use Rattle.fo_cells.proofs.Calls.{among_map}
-use Rattle.fo_cells_out.specs.Removals.{Pending, AreBehind, IsCovered}
-use Rattle.fo_cells_out.specs.Parents.{Tree, Stays, IsDivided, blocks_of, view}
-use Rattle.fo_cells_out.proofs.Queue.{Passes, among_left, among_right, among_either, nothing_among, first_nowhere, without_block, close_next}
-use Rattle.fo_cells_out.proofs.Parents.{parents_still}
-use Rattle.fo_cells_out.proofs.Steps.{tree_still, forest_still, relabel_stays}
-use Rattle.fo_cells_out.proofs.Dividing.{listed_one, covered_one, still_divided, done_divided}
+use Rattle.fo_cells_epochs.specs.of_cells.Known.{Known, Top, LabelFits, Stands}
+use Rattle.fo_cells_epochs.specs.of_cells.Writes.{Relabels}
+use Rattle.fo_cells_epochs.proofs.of_cells.Standing.{stands_by, stands_top, stands_below, among_cases, first_among, next_among}
+use Rattle.fo_cells_epochs.proofs.of_cells.Calls.{among_map}
+use Rattle.fo_cells_epochs.specs.of_cells_out.Removals.{Pending, AreBehind, IsCovered}
+use Rattle.fo_cells_epochs.specs.of_cells_out.Parents.{Tree, Stays, IsDivided, blocks_of, view}
+use Rattle.fo_cells_epochs.proofs.of_cells_out.Queue.{Passes, among_left, among_right, among_either, nothing_among, first_nowhere, without_block, close_next}
+use Rattle.fo_cells_epochs.proofs.of_cells_out.Parents.{parents_still}
+use Rattle.fo_cells_epochs.proofs.of_cells_out.Steps.{tree_still, forest_still, relabel_stays}
+use Rattle.fo_cells_epochs.proofs.of_cells_out.Dividing.{listed_one, covered_one, still_divided, done_divided}
 use Rattle.fo_cells_epochs.specs.Epochs.{Root, root_top, tree_of, IsHeldAt, HasTrees, RaisesLow, from_tops}
 use Rattle.fo_cells_epochs.proofs.TreeSteps.{close_trees}
 use Rattle.fo_cells_queue.specs.Queue.{Queued, tops_from, past_blocks, ArePast, InOrder, IsQueue, NewLabel, IsSetAfter, closed_at, first_past, uncovering}

@@ -12,17 +12,17 @@ use Rattle.fo_crash.specs.Images.{Content, Image, Reaches, target, to_block}
 use Rattle.fo_crash.specs.Places.{place_below}
 use Rattle.fo_crash.proofs.Reach.{same_walk}
 use Rattle.fo_crash.proofs.Sure.{same_back}
-use Rattle.fo_cells.specs.Known.{Known, Top, MaySlot, Stands}
-use Rattle.fo_cells.specs.Writes.{Gives}
-use Rattle.fo_cells.specs.Safe.{super_top, IsSafe}
-use Rattle.fo_cells.proofs.Standing.{among_cases, first_among, next_among}
-use Rattle.fo_cells.proofs.SafeCalls.{walk_beside}
-use Rattle.fo_cells.proofs.Giving.{may_there, may_here, stands_new}
-use Rattle.fo_cells_out.specs.Removals.{Pending, AreBehind}
-use Rattle.fo_cells_out.specs.Parents.{Tree, IsUnwritten, Moves, Stays, IsDivided, blocks_of, making, view}
-use Rattle.fo_cells_out.proofs.Queue.{among_right, among_either, nothing_among}
-use Rattle.fo_cells_out.proofs.Takeout.{cell}
-use Rattle.fo_cells_out.proofs.Dividing.{still_divided, given_divided, covered_one}
+use Rattle.fo_cells_epochs.specs.of_cells.Known.{Known, Top, MaySlot, Stands}
+use Rattle.fo_cells_epochs.specs.of_cells.Writes.{Gives}
+use Rattle.fo_cells_epochs.specs.of_cells.Safe.{super_top, IsSafe}
+use Rattle.fo_cells_epochs.proofs.of_cells.Standing.{among_cases, first_among, next_among}
+use Rattle.fo_cells_epochs.proofs.of_cells.SafeCalls.{walk_beside}
+use Rattle.fo_cells_epochs.proofs.of_cells.Giving.{may_there, may_here, stands_new}
+use Rattle.fo_cells_epochs.specs.of_cells_out.Removals.{Pending, AreBehind}
+use Rattle.fo_cells_epochs.specs.of_cells_out.Parents.{Tree, IsUnwritten, Moves, Stays, IsDivided, blocks_of, making, view}
+use Rattle.fo_cells_epochs.proofs.of_cells_out.Queue.{among_right, among_either, nothing_among}
+use Rattle.fo_cells_epochs.proofs.of_cells_out.Takeout.{cell}
+use Rattle.fo_cells_epochs.proofs.of_cells_out.Dividing.{still_divided, given_divided, covered_one}
 use Rattle.fo_cells_epochs.specs.Epochs.{Root, HasTrees, FewerTops, KeepsTrees}
 use Rattle.fo_cells_epochs.proofs.Trees.{active_stands, active_still}
 use Rattle.fo_cells_epochs.proofs.Made.{made_top, given_view, given_tree}

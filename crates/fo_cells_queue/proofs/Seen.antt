@@ -6,11 +6,11 @@ use Rattle.fo_image.specs.declared.types.Pointer.TheVariants.{Local}
 use Rattle.fo_crash.specs.declared.slot.Slot.{Slot}
 use Rattle.fo_crash.specs.declared.place.Place.{Place}
 use Rattle.fo_crash.specs.Images.{target}
-use Rattle.fo_cells.specs.Known.{Known, Top, MaySlot, Stands}
-use Rattle.fo_cells.proofs.Standing.{among_cases, first_among, next_among}
-use Rattle.fo_cells_out.specs.Removals.{Pending, IsBehind}
-use Rattle.fo_cells_out.specs.Parents.{view}
-use Rattle.fo_cells_out.proofs.Queue.{among_left, among_right}
+use Rattle.fo_cells_epochs.specs.of_cells.Known.{Known, Top, MaySlot, Stands}
+use Rattle.fo_cells_epochs.proofs.of_cells.Standing.{among_cases, first_among, next_among}
+use Rattle.fo_cells_epochs.specs.of_cells_out.Removals.{Pending, IsBehind}
+use Rattle.fo_cells_epochs.specs.of_cells_out.Parents.{view}
+use Rattle.fo_cells_epochs.proofs.of_cells_out.Queue.{among_left, among_right}
 use Rattle.fo_cells_epochs.specs.Epochs.{Root, root_top, tree_of, KeepsTrees}
 use Rattle.fo_cells_epochs.proofs.Trees.{tree_still, active_still}
 use Rattle.fo_cells_queue.specs.Queue.{Queued, tops_from, past_blocks, ArePast}

@@ -6,10 +6,10 @@ use Rattle.fo_image.specs.declared.types.State.TheVariants.{Live, Closed}
 use Rattle.fo_image.specs.declared.types.Pointer.TheVariants.{Local}
 use Rattle.fo_crash.specs.declared.slot.Slot.{Slot}
 use Rattle.fo_crash.specs.Images.{Reaches, target, to_block}
-use Rattle.fo_cells.specs.Known.{Known, Top, MaySlot}
-use Rattle.fo_cells.specs.Writes.{SameDevice}
-use Rattle.fo_cells_out.specs.Removals.{Pending, IsBehind, IsCovered}
-use Rattle.fo_cells_out.specs.Parents.{Tree, Moves, IsDivided, blocks_of, view}
+use Rattle.fo_cells_epochs.specs.of_cells.Known.{Known, Top, MaySlot}
+use Rattle.fo_cells_epochs.specs.of_cells.Writes.{SameDevice}
+use Rattle.fo_cells_epochs.specs.of_cells_out.Removals.{Pending, IsBehind, IsCovered}
+use Rattle.fo_cells_epochs.specs.of_cells_out.Parents.{Tree, Moves, IsDivided, blocks_of, view}
 use Rattle.fo_cells_epochs.specs.Epochs.{Root, root_top}
 
 -- a removal, with the epoch in which its blocks left the tree

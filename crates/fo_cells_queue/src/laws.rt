@@ -7,10 +7,10 @@ ghost use Rattle.fo_crash.specs.declared.slot.Slot.{Slot};
 ghost use Rattle.fo_crash.specs.declared.place.Place.{Place};
 ghost use Rattle.fo_crash.specs.Images.{Content, target};
 ghost use Rattle.fo_crash.specs.Places.{place_below};
-ghost use Rattle.fo_cells.specs.Known.{Known, Top, IsClear, Stands};
-ghost use Rattle.fo_cells.specs.Writes.{Gives};
-ghost use Rattle.fo_cells_out.specs.Parents.{Tree, Stays, view, making};
-ghost use Rattle.fo_cells_out.specs.Removals.{Pending};
+ghost use Rattle.fo_cells_epochs.specs.of_cells.Known.{Known, Top, IsClear, Stands};
+ghost use Rattle.fo_cells_epochs.specs.of_cells.Writes.{Gives};
+ghost use Rattle.fo_cells_epochs.specs.of_cells_out.Parents.{Tree, Stays, view, making};
+ghost use Rattle.fo_cells_epochs.specs.of_cells_out.Removals.{Pending};
 ghost use Rattle.fo_cells_epochs.specs.Epochs.{Root, IsRead, HasEpochs, KeepsTrees, RaisesLow, from_tops, root_top};
 ghost use Rattle.fo_cells_queue.specs.Queue.{Queued, IsQueue, MovesQueue, NewLabel, IsSetAfter, past_blocks, closed_at, first_past, uncovering};
 

@@ -4,3 +4,4 @@ pub mod Closed
 pub mod Opening
 pub mod Shown
 pub mod Passing
+pub mod of_cells_turns

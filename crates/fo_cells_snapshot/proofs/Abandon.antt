@@ -33,7 +33,7 @@ use Rattle.fo_cells_steps.specs.Division.{SameTree, HoldsMade, division}
 use Rattle.fo_cells_steps.specs.Calls.{SameEpoch}
 use Rattle.fo_cells_steps.proofs.Same.{queue_same}
 use Rattle.fo_cells_steps.proofs.Still.{older_on, older_off, pointers_on, pointers_off}
-use Rattle.fo_cells_puts.proofs.Linking.{reached_within}
+use Rattle.fo_cells_blocks.proofs.of_cells_puts.Linking.{reached_within}
 use Rattle.fo_cells_steps.proofs.Moving.{listed_in, listed_from}
 use Rattle.fo_cells_blocks.proofs.Aside.{view_safe}
 use Rattle.fo_cells_blocks.proofs.Indexing.{behind_each, one_covered}

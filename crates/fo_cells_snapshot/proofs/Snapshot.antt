@@ -27,7 +27,7 @@ use Rattle.fo_cells_all.specs.All.{Kept, Format}
 use Rattle.fo_cells_all.proofs.All.{together}
 use Rattle.fo_cells_steps.specs.Division.{SameTree, HoldsMade, IsOfPointers, division}
 use Rattle.fo_cells_steps.proofs.Same.{queue_same}
-use Rattle.fo_cells_puts.proofs.Linking.{reached_within}
+use Rattle.fo_cells_blocks.proofs.of_cells_puts.Linking.{reached_within}
 use Rattle.fo_cells_turns.specs.Opening.{none_made, no_origins}
 use Rattle.fo_cells_snapshot.specs.Snapshot.{Snapshots}
 

@@ -15,10 +15,10 @@ use Rattle.fo_cells_out.specs.Origins.{Origins}
 use Rattle.fo_cells_out.proofs.Takeout.{cell}
 use Rattle.fo_cells_out.proofs.Shapes.{same_divided}
 use Rattle.fo_cells_out.proofs.Asked.{walk_keeps}
-use Rattle.fo_cells_held.specs.Room.{Used}
-use Rattle.fo_cells_epochs.specs.Epochs.{KeepsTrees}
-use Rattle.fo_cells_queue.specs.Queue.{past_blocks}
-use Rattle.fo_cells_queue.proofs.Queue.{moves_view}
+use Rattle.fo_cells_all.specs.of_cells_held.Room.{Used}
+use Rattle.fo_cells_all.specs.of_cells_epochs.Epochs.{KeepsTrees}
+use Rattle.fo_cells_all.specs.of_cells_queue.Queue.{past_blocks}
+use Rattle.fo_cells_all.proofs.of_cells_queue.Queue.{moves_view}
 use Rattle.fo_cells_all.specs.All.{Kept, Format}
 use Rattle.fo_cells_steps.specs.Division.{SameTree, HoldsMade, division}
 use Rattle.fo_cells_steps.specs.Calls.{SameEpoch, KeepsTops, Beside}

@@ -22,9 +22,9 @@ use Rattle.fo_cells_out.specs.Removals.{Pending}
 use Rattle.fo_cells_out.specs.Parents.{Moves}
 use Rattle.fo_cells_out.specs.Origins.{Origins}
 use Rattle.fo_cells_out.proofs.Steps.{puts_moves, fires_moves}
-use Rattle.fo_cells_held.specs.Room.{Used}
-use Rattle.fo_cells_epochs.specs.Epochs.{KeepsTrees, root_top}
-use Rattle.fo_cells_epochs.proofs.TreeSteps.{put_trees, fire_trees}
+use Rattle.fo_cells_all.specs.of_cells_held.Room.{Used}
+use Rattle.fo_cells_all.specs.of_cells_epochs.Epochs.{KeepsTrees, root_top}
+use Rattle.fo_cells_all.proofs.of_cells_epochs.TreeSteps.{put_trees, fire_trees}
 use Rattle.fo_cells_all.specs.All.{Kept, Format}
 use Rattle.fo_cells_steps.specs.Division.{HoldsMade}
 use Rattle.fo_cells_steps.specs.Calls.{Beside, images}

@@ -17,7 +17,7 @@ use Rattle.fo_cells.proofs.Standing.{stands_top}
 use Rattle.fo_cells_out.specs.Parents.{view}
 use Rattle.fo_cells_out.specs.Origins.{Origins, Under}
 use Rattle.fo_cells_out.proofs.Steps.{view_kept}
-use Rattle.fo_cells_epochs.proofs.Trees.{active_among}
+use Rattle.fo_cells_all.proofs.of_cells_epochs.Trees.{active_among}
 use Rattle.fo_cells_all.specs.All.{Kept, Format}
 use Rattle.fo_cells_steps.specs.Division.{HoldsMade, division}
 

@@ -6,3 +6,5 @@ pub mod Moving
 pub mod Taking
 pub mod Alike
 pub mod Clearings
+pub mod of_cells_all
+pub mod of_cells_queue

@@ -10,11 +10,11 @@ use Rattle.fo_cells_out.specs.Parents.{Tree, blocks_of, view}
 use Rattle.fo_cells_out.specs.Origins.{Origins, HasOrigins}
 use Rattle.fo_cells_out.proofs.Queue.{among_left, among_right, among_either}
 use Rattle.fo_cells_out.proofs.Dividing.{listed_one, covered_one, covered_either, more_listed}
-use Rattle.fo_cells_held.specs.Room.{Used}
-use Rattle.fo_cells_epochs.specs.Epochs.{KeepsTrees}
-use Rattle.fo_cells_epochs.proofs.Epochs.{by_trees}
-use Rattle.fo_cells_queue.specs.Queue.{Queued, IsQueue, MovesQueue, past_blocks}
-use Rattle.fo_cells_queue.proofs.Queue.{queue_moves}
+use Rattle.fo_cells_all.specs.of_cells_held.Room.{Used}
+use Rattle.fo_cells_all.specs.of_cells_epochs.Epochs.{KeepsTrees}
+use Rattle.fo_cells_all.proofs.of_cells_epochs.Epochs.{by_trees}
+use Rattle.fo_cells_all.specs.of_cells_queue.Queue.{Queued, IsQueue, MovesQueue, past_blocks}
+use Rattle.fo_cells_all.proofs.of_cells_queue.Queue.{queue_moves}
 use Rattle.fo_cells_all.specs.All.{Kept, Format}
 use Rattle.fo_cells_all.proofs.All.{beside, beside_step, together}
 use Rattle.fo_cells_steps.specs.Division.{SameTree, HoldsMade, division}

@@ -4,8 +4,8 @@ use Rattle.fo_cells.specs.Known.{Known, Top}
 use Rattle.fo_cells_out.specs.Removals.{Pending}
 use Rattle.fo_cells_out.specs.Parents.{Tree, Points, Over, Holds, Parents, IsTree, IsForest, IsDivided, view}
 use Rattle.fo_cells_out.specs.Origins.{Origins, Under, ByCopy, ByTop, HasOrigins}
-use Rattle.fo_cells_epochs.specs.Epochs.{Root}
-use Rattle.fo_cells_queue.specs.Queue.{Queued, IsQueue}
+use Rattle.fo_cells_all.specs.of_cells_epochs.Epochs.{Root}
+use Rattle.fo_cells_all.specs.of_cells_queue.Queue.{Queued, IsQueue}
 use Rattle.fo_cells_steps.specs.Division.{SameTree}
 
 pub same_back : {t u : Tree} → SameTree t u → SameTree u t

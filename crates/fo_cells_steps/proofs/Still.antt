@@ -24,12 +24,12 @@ use Rattle.fo_cells_out.specs.Parents.{Tree, Stays, blocks_of, view}
 use Rattle.fo_cells_out.specs.Origins.{Origins}
 use Rattle.fo_cells_out.proofs.Steps.{bytes_stays, more_stays, await_stays, end_stays}
 use Rattle.fo_cells_out.proofs.Origins.{still_origins}
-use Rattle.fo_cells_held.specs.Room.{Used}
-use Rattle.fo_cells_epochs.specs.Epochs.{Root, HasEpochs, KeepsTrees}
-use Rattle.fo_cells_epochs.proofs.Epochs.{by_trees}
-use Rattle.fo_cells_epochs.proofs.TreeSteps.{bytes_trees, more_trees, await_trees, end_trees}
-use Rattle.fo_cells_queue.specs.Queue.{Queued, IsQueue, past_blocks}
-use Rattle.fo_cells_queue.proofs.Queue.{queue_still, stays_view}
+use Rattle.fo_cells_all.specs.of_cells_held.Room.{Used}
+use Rattle.fo_cells_all.specs.of_cells_epochs.Epochs.{Root, HasEpochs, KeepsTrees}
+use Rattle.fo_cells_all.proofs.of_cells_epochs.Epochs.{by_trees}
+use Rattle.fo_cells_all.proofs.of_cells_epochs.TreeSteps.{bytes_trees, more_trees, await_trees, end_trees}
+use Rattle.fo_cells_all.specs.of_cells_queue.Queue.{Queued, IsQueue, past_blocks}
+use Rattle.fo_cells_all.proofs.of_cells_queue.Queue.{queue_still, stays_view}
 use Rattle.fo_cells_all.specs.All.{Kept, Format}
 use Rattle.fo_cells_all.proofs.All.{beside, beside_step, together}
 use Rattle.fo_cells_steps.specs.Division.{SameTree, HoldsMade, division}

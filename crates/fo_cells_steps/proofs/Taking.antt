@@ -16,10 +16,10 @@ use Rattle.fo_cells_out.proofs.Takeout.{same_block, cell}
 use Rattle.fo_cells_out.proofs.Queue.{nothing_among}
 use Rattle.fo_cells_out.proofs.Dividing.{removed_divided}
 use Rattle.fo_cells_out.proofs.Asked.{walk_keeps, cleared_free, removed_origins}
-use Rattle.fo_cells_held.specs.Room.{Used}
-use Rattle.fo_cells_epochs.specs.Epochs.{KeepsTrees}
-use Rattle.fo_cells_queue.specs.Queue.{past_blocks}
-use Rattle.fo_cells_queue.proofs.Queue.{moves_view, once_both}
+use Rattle.fo_cells_all.specs.of_cells_held.Room.{Used}
+use Rattle.fo_cells_all.specs.of_cells_epochs.Epochs.{KeepsTrees}
+use Rattle.fo_cells_all.specs.of_cells_queue.Queue.{past_blocks}
+use Rattle.fo_cells_all.proofs.of_cells_queue.Queue.{moves_view, once_both}
 use Rattle.fo_cells_all.specs.All.{Kept, Format}
 use Rattle.fo_cells_steps.specs.Division.{SameTree, HoldsMade, division}
 use Rattle.fo_cells_steps.specs.Calls.{KeepsTops, Beside}

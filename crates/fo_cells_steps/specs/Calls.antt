@@ -12,8 +12,8 @@ use Rattle.fo_cells.specs.Safe.{MayWait, MayClear}
 use Rattle.fo_cells.specs.Laws.{NoWait}
 use Rattle.fo_cells.specs.Device.{known}
 use Rattle.fo_cells_out.specs.Origins.{Origins}
-use Rattle.fo_cells_held.specs.Room.{Used}
-use Rattle.fo_cells_epochs.specs.Epochs.{IsRead, FewerTops}
+use Rattle.fo_cells_all.specs.of_cells_held.Room.{Used}
+use Rattle.fo_cells_all.specs.of_cells_epochs.Epochs.{IsRead, FewerTops}
 use Rattle.fo_cells_all.specs.All.{Kept, Format, StepsBeside}
 use Rattle.fo_cells_steps.specs.Division.{HoldsMade}
 

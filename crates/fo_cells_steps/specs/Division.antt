@@ -10,7 +10,7 @@ use Rattle.fo_cells.specs.Known.{Top}
 use Rattle.fo_cells.specs.Device.{known}
 use Rattle.fo_cells_out.specs.Parents.{Tree, blocks_of, view}
 use Rattle.fo_cells_out.specs.Origins.{Origins, HasOrigins}
-use Rattle.fo_cells_queue.specs.Queue.{past_blocks}
+use Rattle.fo_cells_all.specs.of_cells_queue.Queue.{past_blocks}
 use Rattle.fo_cells_all.specs.All.{Kept, Format, HoldsAll}
 
 -- a kind of blocks of a level above the leaves of their source

@@ -1,3 +1,5 @@
 pub mod Division
 pub mod Calls
 pub mod Taking
+pub mod of_cells_all
+pub mod of_cells_queue

@@ -11,8 +11,8 @@ use Rattle.fo_cells.specs.Laws.{NoWait}
 use Rattle.fo_cells.specs.Device.{known}
 use Rattle.fo_cells_out.specs.Removals.{Pending}
 use Rattle.fo_cells_out.specs.Origins.{Origins}
-use Rattle.fo_cells_held.specs.Room.{Used}
-use Rattle.fo_cells_queue.specs.Queue.{IsOnce}
+use Rattle.fo_cells_all.specs.of_cells_held.Room.{Used}
+use Rattle.fo_cells_all.specs.of_cells_queue.Queue.{IsOnce}
 use Rattle.fo_cells_all.specs.All.{Kept, Format}
 use Rattle.fo_cells_steps.specs.Division.{HoldsMade, IsOfPointers}
 use Rattle.fo_cells_steps.specs.Calls.{SameEpoch, Beside, images}

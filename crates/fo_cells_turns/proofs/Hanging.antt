@@ -15,7 +15,7 @@ use Rattle.fo_cells_out.specs.Origins.{Origins}
 use Rattle.fo_cells_out.proofs.Asked.{walk_keeps}
 use Rattle.fo_cells_epochs.specs.Epochs.{Root, root_top, tree_of}
 use Rattle.fo_cells_epochs.proofs.Trees.{tree_stands}
-use Rattle.fo_cells_all.specs.All.{Kept, Format}
+use Rattle.fo_cells_steps.specs.of_cells_all.All.{Kept, Format}
 use Rattle.fo_cells_steps.specs.Division.{HoldsMade}
 
 -- an image's slot is one that may be there

@@ -16,9 +16,9 @@ use Rattle.fo_cells_out.specs.Parents.{Tree, IsTree, IsDivided, blocks_of, view}
 use Rattle.fo_cells_out.proofs.Queue.{nothing_among}
 use Rattle.fo_cells_out.proofs.Asked.{nothing_made}
 use Rattle.fo_cells_epochs.proofs.Trees.{only_one}
-use Rattle.fo_cells_queue.specs.Queue.{Queued, IsQueue, past_blocks}
-use Rattle.fo_cells_all.specs.All.{Kept, Format}
-use Rattle.fo_cells_all.proofs.All.{together}
+use Rattle.fo_cells_steps.specs.of_cells_queue.Queue.{Queued, IsQueue, past_blocks}
+use Rattle.fo_cells_steps.specs.of_cells_all.All.{Kept, Format}
+use Rattle.fo_cells_steps.proofs.of_cells_all.All.{together}
 use Rattle.fo_cells_steps.specs.Division.{HoldsMade, division}
 use Rattle.fo_cells_steps.proofs.Facts.{tree_stands, never_led}
 use Rattle.fo_cells_turns.specs.Opening.{Opens, none_made, no_origins}

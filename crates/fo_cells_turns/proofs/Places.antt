@@ -15,7 +15,7 @@ use Rattle.fo_cells.proofs.Waiting.{may_await, more_fewer}
 use Rattle.fo_cells.proofs.Super.{super_stands, counts_stands}
 use Rattle.fo_cells_out.specs.Origins.{Origins}
 use Rattle.fo_cells_epochs.proofs.Trees.{active_stands}
-use Rattle.fo_cells_all.specs.All.{Kept, Format}
+use Rattle.fo_cells_steps.specs.of_cells_all.All.{Kept, Format}
 use Rattle.fo_cells_steps.specs.Division.{HoldsMade}
 use Rattle.fo_cells_steps.proofs.Facts.{held_stands}
 use Rattle.fo_cells_turns.specs.Places.{OneStep, FewerStand}

@@ -17,8 +17,8 @@ use Rattle.fo_cells.proofs.SafeSteps.{write_safe, label_safe, sync_safe}
 use Rattle.fo_cells_out.specs.Parents.{view}
 use Rattle.fo_cells_out.specs.Origins.{Origins}
 use Rattle.fo_cells_epochs.specs.Epochs.{IsRead, NamesSet}
-use Rattle.fo_cells_all.specs.All.{Kept, Format, HoldsAll, kept_write, kept_sync}
-use Rattle.fo_cells_all.proofs.All.{write_all, labels_all, sync_all}
+use Rattle.fo_cells_steps.specs.of_cells_all.All.{Kept, Format, HoldsAll, kept_write, kept_sync}
+use Rattle.fo_cells_steps.proofs.of_cells_all.All.{write_all, labels_all, sync_all}
 use Rattle.fo_cells_steps.specs.Division.{HoldsMade, division}
 use Rattle.fo_cells_steps.specs.Calls.{images}
 use Rattle.fo_cells_steps.proofs.Same.{origins_alike}

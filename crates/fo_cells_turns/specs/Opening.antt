@@ -9,7 +9,7 @@ use Rattle.fo_cells.specs.Safe.{super_top}
 use Rattle.fo_cells.specs.Device.{known}
 use Rattle.fo_cells_out.specs.Origins.{Origins}
 use Rattle.fo_cells_epochs.specs.Epochs.{HasEpochs}
-use Rattle.fo_cells_all.specs.All.{Kept, Format, HoldsBeside}
+use Rattle.fo_cells_steps.specs.of_cells_all.All.{Kept, Format, HoldsBeside}
 use Rattle.fo_cells_steps.specs.Division.{HoldsMade}
 
 -- Each slot that may be there is memory's; nothing is made, and nothing waits to be closed; each block of the tree has one parent there.

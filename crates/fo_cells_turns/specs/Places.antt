@@ -13,7 +13,7 @@ use Rattle.fo_cells.specs.Calls.{PutsInto, Awaits, WaitsMore, TriesSuper, Counts
 use Rattle.fo_cells.specs.Device.{known}
 use Rattle.fo_cells_out.specs.Origins.{Origins}
 use Rattle.fo_cells_epochs.specs.Epochs.{Root}
-use Rattle.fo_cells_all.specs.All.{Kept, Format}
+use Rattle.fo_cells_steps.specs.of_cells_all.All.{Kept, Format}
 use Rattle.fo_cells_steps.specs.Division.{HoldsMade}
 
 -- a step of the device or in memory, after which nothing stands anew

@@ -8,7 +8,7 @@ ghost use Rattle.fo_crash.specs.Steps.{AddsNothing};
 ghost use Rattle.fo_cells.specs.Device.{MayWrite, MayWriteLabels, known, wrote};
 ghost use Rattle.fo_cells.specs.Safe.{IsCurrent};
 ghost use Rattle.fo_cells_epochs.specs.Epochs.{IsRead, NamesSet};
-ghost use Rattle.fo_cells_all.specs.All.{Kept, Format, kept_write, kept_sync};
+ghost use Rattle.fo_cells_steps.specs.of_cells_all.All.{Kept, Format, kept_write, kept_sync};
 ghost use Rattle.fo_cells_steps.specs.Calls.{images};
 ghost use Rattle.fo_cells_steps.specs.Division.{HoldsMade};
 

@@ -28,9 +28,9 @@ use Rattle.fo_cells_lost.proofs.Lost.{given_kept, label_kept, tree_stays}
 use Rattle.fo_cells_all.specs.All.{Kept, Format}
 use Rattle.fo_cells_steps.specs.Division.{HoldsMade, division}
 use Rattle.fo_cells_steps.specs.Calls.{Beside}
-use Rattle.fo_cells_blocks.specs.Giving.{GivesOne, made_with}
-use Rattle.fo_cells_blocks.specs.Indexing.{IndexesOne, SetsAside}
-use Rattle.fo_cells_blocks.specs.Closing.{ClosesBeside, ClosesNext}
+use Rattle.fo_cells_gaps.specs.of_cells_blocks.Giving.{GivesOne, made_with}
+use Rattle.fo_cells_gaps.specs.of_cells_blocks.Indexing.{IndexesOne, SetsAside}
+use Rattle.fo_cells_gaps.specs.of_cells_blocks.Closing.{ClosesBeside, ClosesNext}
 use Rattle.fo_cells_shown.specs.Closed.{ClosedAreKept}
 use Rattle.fo_cells_shown.proofs.Closed.{close_closed}
 use Rattle.fo_cells_whole.specs.Whole.{HoldsWhole}

@@ -6,3 +6,5 @@ pub mod Blocks
 pub mod Supers
 pub mod Turns
 pub mod Tops
+pub mod of_cells_blocks
+pub mod of_cells_shown

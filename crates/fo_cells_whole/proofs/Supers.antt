@@ -27,11 +27,11 @@ use Rattle.fo_cells_all.specs.All.{Kept, Format}
 use Rattle.fo_cells_steps.specs.Division.{HoldsMade, division}
 use Rattle.fo_cells_supers.specs.Supers.{TriesOne, CountsOne, raised}
 use Rattle.fo_cells_supers.proofs.Counting.{raised_made}
-use Rattle.fo_cells_turns.specs.Opening.{none_made, no_origins}
-use Rattle.fo_cells_snapshot.specs.Abandon.{Abandons}
-use Rattle.fo_cells_snapshot.specs.Snapshot.{Snapshots}
-use Rattle.fo_cells_snapshot.proofs.Snapshot.{snapshot_made}
-use Rattle.fo_cells_snapshot.proofs.Abandon.{abandon_made}
+use Rattle.fo_cells_shown.specs.of_cells_turns.Opening.{none_made, no_origins}
+use Rattle.fo_cells_gaps.specs.of_cells_snapshot.Abandon.{Abandons}
+use Rattle.fo_cells_gaps.specs.of_cells_snapshot.Snapshot.{Snapshots}
+use Rattle.fo_cells_gaps.proofs.of_cells_snapshot.Snapshot.{snapshot_made}
+use Rattle.fo_cells_gaps.proofs.of_cells_snapshot.Abandon.{abandon_made}
 use Rattle.fo_cells_gaps.proofs.Snapshot.{snapshot_shares}
 use Rattle.fo_cells_shown.specs.Closed.{KeepsFrom}
 use Rattle.fo_cells_shown.proofs.Closed.{raise_closed}

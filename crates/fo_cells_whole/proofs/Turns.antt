@@ -12,7 +12,7 @@ use Rattle.fo_cells_out.specs.Origins.{Origins}
 use Rattle.fo_cells_epochs.specs.Epochs.{IsRead, NamesSet}
 use Rattle.fo_cells_all.specs.All.{Kept, Format, kept_write, kept_sync}
 use Rattle.fo_cells_steps.specs.Calls.{images}
-use Rattle.fo_cells_turns.proofs.Turns.{write_turn, labels_turn, sync_turn}
+use Rattle.fo_cells_shown.proofs.of_cells_turns.Turns.{write_turn, labels_turn, sync_turn}
 use Rattle.fo_cells_whole.specs.Whole.{HoldsWhole, whole_sync}
 use Rattle.fo_cells_whole.proofs.Certain.{KeepsMore, marked_was, none_left, left_made}
 use Rattle.fo_cells_whole.proofs.Rest.{SameSlots, slots_rest, whole_by}

@@ -15,21 +15,21 @@ use Rattle.fo_cells_queue.specs.Queue.{Queued, first_past}
 use Rattle.fo_cells_all.specs.All.{Kept, Format, kept_sync}
 use Rattle.fo_cells_steps.specs.Division.{HoldsMade, division}
 use Rattle.fo_cells_steps.specs.Calls.{Beside, SameRest}
-use Rattle.fo_cells_blocks.specs.Closing.{ClosesBeside, ClosesNext}
+use Rattle.fo_cells_gaps.specs.of_cells_blocks.Closing.{ClosesBeside, ClosesNext}
 use Rattle.fo_image.specs.declared.types.Pointer.TheVariants.{Local}
 use Rattle.fo_crash.specs.declared.place.Place.{Place}
 use Rattle.fo_crash.specs.Images.{Content, Reaches, target, to_block, SameContent}
 use Rattle.fo_cells.specs.Writes.{Puts, Ends, Fires}
 use Rattle.fo_cells.specs.Laws.{NoWait}
-use Rattle.fo_cells_blocks.specs.Giving.{GivesOne, made_with, CopiesThis}
+use Rattle.fo_cells_gaps.specs.of_cells_blocks.Giving.{GivesOne, made_with, CopiesThis}
 use Rattle.fo_cells.specs.Calls.{PutsInto, Awaits, WaitsMore}
 use Rattle.fo_cells_puts.specs.Putting.{put_after, PutsOne, seen_from, made_after, ComesNew, QueuesAll}
-use Rattle.fo_cells_blocks.specs.Indexing.{IndexesOne, SetsAside}
+use Rattle.fo_cells_gaps.specs.of_cells_blocks.Indexing.{IndexesOne, SetsAside}
 use Rattle.fo_crash.specs.declared.slot.Slot.{Slot}
 use Rattle.fo_cells.specs.Safe.{MayWait, MayClear}
-use Rattle.fo_cells_turns.specs.Opening.{none_made, no_origins, Opens}
-use Rattle.fo_cells_snapshot.specs.Abandon.{Abandons}
-use Rattle.fo_cells_snapshot.specs.Snapshot.{Snapshots}
+use Rattle.fo_cells_shown.specs.of_cells_turns.Opening.{none_made, no_origins, Opens}
+use Rattle.fo_cells_gaps.specs.of_cells_snapshot.Abandon.{Abandons}
+use Rattle.fo_cells_gaps.specs.of_cells_snapshot.Snapshot.{Snapshots}
 use Rattle.fo_cells_steps.specs.Taking.{LeavesWith, InTree}
 use Rattle.fo_cells_supers.specs.Supers.{TriesOne, CountsOne, raised}
 use Rattle.fo_cells_shown.specs.Closed.{ClosedAreKept, KeepsFrom}

@@ -4,7 +4,7 @@ use Rattle.std.specs.List.{All}
 use Rattle.std.specs.List.Sorted.{IsNonDecreasingBy}
 use Rattle.fo_image.specs.declared.types.Entry.{Entry}
 use Rattle.fo_crash.specs.declared.slot.Slot.TheVariants.{Entry as Head}
-use Rattle.fo_good.specs.Trees.{IsFirst, IsSecond}
+use Rattle.fo_rules.specs.of_good.Trees.{IsFirst, IsSecond}
 use Rattle.fo_check_names.specs.declared.names.Named.{Named}
 use Rattle.fo_check_names.specs.Names.{slot_of}
 

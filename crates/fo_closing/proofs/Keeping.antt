@@ -16,7 +16,7 @@ use Rattle.fo_buffers.specs.Held.{Held, cut, held_at, unlisted}
 use Rattle.fo_order.specs.Keeps.{Turns}
 use Rattle.fo_order.specs.Turns.{changed, flag_at}
 use Rattle.fo_labels.specs.Region.{IsDataBlock, Region, closed_label, label_of, relabeled, usable_count}
-use Rattle.fo_slots.specs.Read.{read}
+use Rattle.fo_buffers.specs.of_slots.Read.{read}
 use Rattle.fo_facts.specs.declared.fact.Fact.{Fact}
 use Rattle.fo_facts.specs.Counts.{owes}
 use Rattle.fo_facts.specs.Known.{fact_at}

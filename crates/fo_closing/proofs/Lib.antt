@@ -5,3 +5,5 @@ pub mod Looking
 pub mod Resting
 pub mod Taking
 pub mod Turning
+pub mod of_bring
+pub mod of_mind

@@ -4,3 +4,6 @@ pub mod Known
 pub mod Leaves
 pub mod Rest
 pub mod Turned
+pub mod of_bring
+pub mod of_mind
+pub mod of_takeout

@@ -5,14 +5,14 @@ use Rattle.fo_base.specs.Cause.{Rose}
 use Rattle.fo_disk.specs.Disk.{DiskState, IsQuiet, versions_of}
 use Rattle.fo_disk.specs.Disk.{Content as Holds}
 use Rattle.fo_disk.specs.declared.disk.DiskFault.TheVariants.{Read, Write, Sync}
-use Rattle.fo_mind.specs.declared.mind.Mind.{Mind}
-use Rattle.fo_mind.specs.MindParts.{parts}
-use Rattle.fo_mind.specs.Parts.{Parts, bytes_at}
+use Rattle.fo_ending.specs.of_mind.declared.mind.Mind.{Mind}
+use Rattle.fo_ending.specs.of_mind.MindParts.{parts}
+use Rattle.fo_ending.specs.of_mind.Parts.{Parts, bytes_at}
 use Rattle.fo_ports.specs.Causes.{Caused}
 use Rattle.fo_ports.specs.declared.error.BlockError.{BlockError}
 use Rattle.fo_ports.specs.declared.error.BlockError.TheVariants.{Full, Damaged, Fault, Arena, Memory}
 use Rattle.fo_starting.specs.of_opening.Finished.{Finished}
-use Rattle.fo_cache.specs.Supers.{IsFault}
+use Rattle.fo_ending.specs.of_cache.Supers.{IsFault}
 use Rattle.fo_ending.specs.Ended.{Ended}
 use Rattle.fo_ending.specs.of_reserving.Steps.{ClosesAtRest}
 use Rattle.fo_world.specs.World.{Faults}

@@ -1,7 +1,7 @@
 -- How a system ends.
 use Rattle.std.specs.Prelude.{◌≡◌, ◌≢◌, ◌<◌, ◌≤◌, ℕ, [], length, Option, Some, None, MatchOption, Result, Ok, Err}
 use Rattle.fo_disk.specs.Disk.{DiskState, IsQuiet, versions_of}
-use Rattle.fo_mind.specs.Parts.{Parts, bytes_at}
+use Rattle.fo_ending.specs.of_mind.Parts.{Parts, bytes_at}
 use Rattle.fo_ports.specs.declared.error.BlockError.{BlockError}
 use Rattle.fo_starting.specs.of_opening.Finished.{Finished}
 use Rattle.fo_ending.specs.Ended.{Ended}

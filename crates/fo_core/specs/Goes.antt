@@ -5,15 +5,15 @@ use Rattle.fo_unlink.specs.Pending.{Pending}
 use Rattle.fo_ports.specs.Sources.{IsRested}
 use Rattle.fo_ports.specs.State.{Looks}
 use Rattle.fo_starting.specs.of_settling.Costs.{Costs}
-use Rattle.fo_closing.specs.Rest.{AtRest}
-use Rattle.fo_turning.specs.declared.flush.Flushed.{Flushed}
-use Rattle.fo_turning.specs.declared.flush.Flushed.TheVariants.{Idle}
-use Rattle.fo_turning.specs.declared.unlink.Unlinked.{Unlinked}
-use Rattle.fo_turning.specs.declared.unlink.Unlinked.TheVariants.{Empty, Waits}
-use Rattle.fo_turning.specs.Flushes.{AtIdle, Does, Misses}
-use Rattle.fo_turning.specs.Freed.{Yields}
-use Rattle.fo_turning.specs.Unlinks.{Unlinks}
-use Rattle.fo_cache.specs.Easing.{Eases}
+use Rattle.fo_ending.specs.of_closing.Rest.{AtRest}
+use Rattle.fo_events.specs.of_turning.declared.flush.Flushed.{Flushed}
+use Rattle.fo_events.specs.of_turning.declared.flush.Flushed.TheVariants.{Idle}
+use Rattle.fo_events.specs.of_turning.declared.unlink.Unlinked.{Unlinked}
+use Rattle.fo_events.specs.of_turning.declared.unlink.Unlinked.TheVariants.{Empty, Waits}
+use Rattle.fo_events.specs.of_turning.Flushes.{AtIdle, Does, Misses}
+use Rattle.fo_events.specs.of_turning.Freed.{Yields}
+use Rattle.fo_events.specs.of_turning.Unlinks.{Unlinks}
+use Rattle.fo_ending.specs.of_cache.Easing.{Eases}
 use Rattle.fo_world.specs.Answers.{NotFewer}
 use Rattle.fo_world.specs.declared.error.FileError.{FileError}
 use Rattle.nine_wire.specs.Message.{ReplyFits}

@@ -1,7 +1,7 @@
 -- What is said of the system at a moment.
 use Rattle.std.specs.Prelude.{◌^◌, ℕ, Bool, [], true}
 use Rattle.fo_disk.specs.Disk.{DiskState}
-use Rattle.fo_mind.specs.Parts.{Parts}
+use Rattle.fo_ending.specs.of_mind.Parts.{Parts}
 use Rattle.fo_ports.specs.State.{State}
 use Rattle.fo_starting.specs.of_devices.Seen.{Seen, DevicesKeep, state_of_devices}
 use Rattle.fo_world.specs.World.{Faults}

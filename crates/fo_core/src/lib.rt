@@ -18,3 +18,6 @@ mod turns;
 pub use fo_starting::Unopened;
 pub use moment::Stands;
 pub use state::{Finished, State, System};
+
+// Passed on, so that a crate above names this one alone.
+pub use fo_events::{Event, Flushed, Outcome, Unlinked};

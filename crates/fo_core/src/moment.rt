@@ -10,7 +10,7 @@ pub trait Stands {
 }
 
 impl<D: Disk, A: Disk> Stands for State<D, A> {
-    ghost use Rattle.fo_mind.specs.MindParts.{parts};
+    ghost use Rattle.fo_ending.specs.of_mind.MindParts.{parts};
     ghost use Rattle.fo_starting.specs.of_devices.Seen.{seen};
 
     ghost moment = { λ s. record {

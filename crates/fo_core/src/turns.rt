@@ -5,10 +5,9 @@ ghost use Rattle.fo_core.specs.Goes.{told_of};
 use crate::moment::Stands;
 use crate::state::State;
 use fo_disk::Disk;
-use fo_events::Turner;
+use fo_events::{Flushed, Turner, Unlinked, flush_turn, unlink_turn};
 use fo_files::files_look::file_error;
 use fo_ports::BlockError;
-use fo_turning::{Flushed, Unlinked, flush_turn, unlink_turn};
 use fo_world::FileError;
 use nine_wire::{Reply, Request};
 

@@ -9,10 +9,10 @@ use Rattle.fo_crash.specs.Images.{Content}
 use Rattle.fo_ports.specs.Blocks.{slots_from, slots_to}
 use Rattle.fo_slots.specs.Read.{blanked}
 use Rattle.fo_buffers.specs.Held.{held_at}
-use Rattle.fo_mind.specs.declared.mind.Mind.{Mind}
-use Rattle.fo_mind.specs.Laws.{held_content, pinned_held}
-use Rattle.fo_mind.specs.MindParts.{parts}
-use Rattle.fo_mind.specs.Parts.{IsPinned, label_at, memory}
+use Rattle.fo_settling.specs.of_mind.declared.mind.Mind.{Mind}
+use Rattle.fo_settling.specs.of_mind.Laws.{held_content, pinned_held}
+use Rattle.fo_settling.specs.of_mind.MindParts.{parts}
+use Rattle.fo_settling.specs.of_mind.Parts.{IsPinned, label_at, memory}
 
 record Bounds (kind : Kind) : Type 0 where
   in_order : slots_from kind ≤ slots_to kind

@@ -3,11 +3,11 @@ use Rattle.std.specs.Prelude.{◌≡◌, ℕ, true, false, refl}
 use Rattle.std.proofs.Common.{sym, ◌∙◌, arith}
 use Rattle.fo_disk.specs.Disk.{Content as Holds}
 use Rattle.fo_ports.specs.State.{KeepsAll}
-use Rattle.fo_mind.specs.declared.mind.Mind.{Mind}
-use Rattle.fo_mind.specs.Lawful.{IsLawful}
-use Rattle.fo_mind.specs.Laws as mind
-use Rattle.fo_mind.specs.MindParts.{parts}
-use Rattle.fo_mind.specs.Parts.{state_of}
+use Rattle.fo_settling.specs.of_mind.declared.mind.Mind.{Mind}
+use Rattle.fo_settling.specs.of_mind.Lawful.{IsLawful}
+use Rattle.fo_settling.specs.of_mind.Laws as mind
+use Rattle.fo_settling.specs.of_mind.MindParts.{parts}
+use Rattle.fo_settling.specs.of_mind.Parts.{state_of}
 use Rattle.fo_devices.specs.Seen.{DevicesKeep, Seen, state_of_devices}
 
 apart : true ≡ false → ⊥

@@ -2,7 +2,7 @@
 use Rattle.std.specs.Prelude.{◌≡◌, ◌≤◌, ℕ}
 use Rattle.fo_disk.specs.Disk.{DiskState}
 use Rattle.fo_ports.specs.State.{State}
-use Rattle.fo_mind.specs.Parts.{CacheKeeps, Parts, state_of}
+use Rattle.fo_settling.specs.of_mind.Parts.{CacheKeeps, Parts, state_of}
 use Rattle.venti_store.specs.declared.shelf.Shelf.{Shelf}
 
 -- A cache's parts over its device, and the size of that; an arena's index, what its device is, and how many faults that had.

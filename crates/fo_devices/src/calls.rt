@@ -1,12 +1,11 @@
 //! The calls on blocks over devices.
 use crate::devices::Devices;
 use crate::fetch::fetch_block;
-use fo_closing::is_sure;
 use fo_crash::Slot;
 use fo_disk::Disk;
 use fo_image::{Kind, Label, Score};
 use fo_ports::{BlockError, Blocks};
-use fo_reserving::reserve;
+use fo_reserving::{is_sure, reserve};
 use fo_settling::settle;
 
 impl<D: Disk, A: Disk> Blocks for Devices<D, A> {
@@ -18,12 +17,12 @@ impl<D: Disk, A: Disk> Blocks for Devices<D, A> {
     ghost use Rattle.fo_ports.specs.Causes.{Caused, IsFull};
     ghost use Rattle.fo_ports.specs.State.{AddsNoWait, Calm, Rests, none};
     ghost use Rattle.fo_ports.specs.declared.error.BlockError.TheVariants.{Full, Memory};
-    ghost use Rattle.fo_closing.specs.Rest.{AtRest};
+    ghost use Rattle.fo_reserving.specs.of_closing.Rest.{AtRest};
     ghost use Rattle.fo_settling.specs.Costs.{Costs};
     ghost use Rattle.fo_reserving.specs.Steps.{AreFew, ClosesAtRest, GivesAll};
     ghost use Rattle.venti_store.specs.Arena.{Keeps, lines_of};
     ghost use Rattle.fo_devices.specs.Fetched.{FetchLacks, FetchRefuses, Fetched, FetchedHeld};
-    ghost use Rattle.fo_mind.specs.MindParts.{parts};
+    ghost use Rattle.fo_settling.specs.of_mind.MindParts.{parts};
     ghost use Rattle.fo_devices.specs.Seen.{DevicesKeep, seen, state_of_devices};
 
     ghost state = { λ s. state_of_devices (seen (parts s.cache.mind (D.state s.cache.main).holds (D.faults s.cache.main)) (D.size s.cache.main) s.arena.shelf (A.state s.arena.device) (A.faults s.arena.device)) };
@@ -149,7 +148,7 @@ impl<D: Disk, A: Disk> Blocks for Devices<D, A> {
         fetch_block(self.cache.mind.alloc, &mut self.arena, score, kind, into)
     }
 
-    ghost use Rattle.fo_mind.specs.Laws as mind;
+    ghost use Rattle.fo_settling.specs.of_mind.Laws as mind;
     ghost use Rattle.fo_devices.specs.Laws as law;
 
     ghost present = { λ b t. absurd t };

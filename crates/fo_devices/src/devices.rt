@@ -1,6 +1,6 @@
 //! A cache over its device, with an arena beside it.
-use fo_cache::Cache;
 use fo_disk::Disk;
+use fo_settling::Cache;
 use venti_store::Arena;
 
 /// A cache over its device, and an arena on another one.

@@ -3,11 +3,11 @@ use Rattle.std.proofs.Common.{◌≡◌, ◌⊎◌, inl, inr, ⊎_elim, ◌+◌,
 use Rattle.std.proofs.lemmas.List.Elements.{Contains-append_cases}
 use Rattle.fo_image.specs.declared.record.Record.{Record}
 use Rattle.fo_meta.specs.Leaf.{SpellsLeaf}
-use Rattle.fo_good.specs.Reading.{leaf_records}
-use Rattle.fo_good.proofs.Leaf.{leaf_is_read}
+use Rattle.fo_dir_put.specs.of_good.Reading.{leaf_records}
+use Rattle.fo_dir_put.proofs.of_good.Leaf.{leaf_is_read}
 use Rattle.fo_crash.specs.Images.{Image}
 use Rattle.fo_crash.specs.declared.slot.Slot.TheVariants.{Entry as Head}
-use Rattle.fo_good.specs.Trees.{IsFirst, IsSecond}
+use Rattle.fo_dir_put.specs.of_good.Trees.{IsFirst, IsSecond}
 use Rattle.fo_image.specs.declared.types.Entry.{Entry}
 use Rattle.fo_dir_put.specs.Names.{ListsIn, AddsOne, MayStand, Clash}
 use Rattle.fo_dir_put.specs.Differ.{Distinct, AreDistinct, MayName}

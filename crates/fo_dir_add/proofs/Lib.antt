@@ -1,1 +1,2 @@
 pub mod Added
+pub mod of_dir_put

@@ -7,7 +7,7 @@ use Rattle.fo_image.specs.Record.{record_len}
 use Rattle.fo_crash.specs.declared.slot.Slot.{Slot}
 use Rattle.fo_crash.specs.declared.slot.Slot.TheVariants.{Entry as Head}
 use Rattle.fo_meta.specs.Leaf.{SpellsLeaf, records_bytes}
-use Rattle.fo_good.specs.Reading.{leaf_records}
+use Rattle.fo_dir_put.specs.of_good.Reading.{leaf_records}
 use Rattle.fo_crash.specs.Images.{Image}
 use Rattle.fo_dir_put.specs.Names.{Clash}
 

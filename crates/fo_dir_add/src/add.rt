@@ -4,7 +4,7 @@ ghost use Rattle.fo_image.specs.Record.{RecordHolds};
 ghost use Rattle.fo_crash.specs.declared.slot.Slot.TheVariants.{Entry as Head};
 ghost use Rattle.fo_meta.specs.Leaf.{IsLeaf};
 ghost use Rattle.fo_dir_put.specs.Names.{AllFit, AllApart};
-ghost use Rattle.fo_good.specs.Trees.{IsFirst, IsSecond};
+ghost use Rattle.fo_dir_put.specs.of_good.Trees.{IsFirst, IsSecond};
 ghost use Rattle.fo_dir_put.specs.Differ.{AllDiffer};
 ghost use Rattle.fo_dir_put.specs.Paired.{AllPaired};
 ghost use Rattle.fo_dir_put.specs.Puts.{IsOwnedEntries, IsOwnedRecords, IsInPlace, IsUnused, IsNewEntry, StaysCalm};

@@ -4,10 +4,10 @@ use Rattle.std.proofs.lemmas.List.Elements.{Contains-append_cases}
 use Rattle.std.proofs.lemmas.Slice.Eq.{bytes_eq-Decides}
 use Rattle.fo_image.specs.declared.record.Record.{Record}
 use Rattle.fo_meta.specs.Leaf.{SpellsLeaf, without}
-use Rattle.fo_good.specs.Reading.{leaf_records}
-use Rattle.fo_good.proofs.Leaf.{leaf_is_read}
-use Rattle.fo_world.specs.Step.{is_dir_mode}
-use Rattle.fo_crash.specs.Images.{Image}
+use Rattle.fo_dir_put.specs.of_good.Reading.{leaf_records}
+use Rattle.fo_dir_put.proofs.of_good.Leaf.{leaf_is_read}
+use Rattle.fo_dir_put.specs.of_world.Step.{is_dir_mode}
+use Rattle.fo_dir_put.specs.of_crash.Images.{Image}
 use Rattle.fo_dir_put.specs.Names.{ListsIn, AreKept, MayStand, AllApart, Clash}
 use Rattle.fo_dir_put.specs.Differ.{Distinct, AreDistinct, AllDiffer, MayName}
 use Rattle.fo_dir_put.specs.Paired.{StoodAs, AllStood}

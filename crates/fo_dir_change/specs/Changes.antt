@@ -4,9 +4,9 @@ use Rattle.std.specs.List.{Contains, list_any}
 use Rattle.fo_image.specs.declared.record.Record.{Record}
 use Rattle.fo_image.specs.Record.{record_len}
 use Rattle.fo_meta.specs.Leaf.{SpellsLeaf, is_named, records_bytes, without}
-use Rattle.fo_good.specs.Reading.{leaf_records}
-use Rattle.fo_world.specs.Step.{is_dir_mode}
-use Rattle.fo_crash.specs.Images.{Image}
+use Rattle.fo_dir_put.specs.of_good.Reading.{leaf_records}
+use Rattle.fo_dir_put.specs.of_world.Step.{is_dir_mode}
+use Rattle.fo_dir_put.specs.of_crash.Images.{Image}
 
 -- A record of the leaf has this name.
 pub record Bears (name leaf : List ℕ) : Type 0 where

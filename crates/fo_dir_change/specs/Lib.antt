@@ -1,1 +1,4 @@
 pub mod Changes
+pub mod of_dir_put
+pub mod of_good
+pub mod of_world

@@ -8,12 +8,11 @@ ghost use Rattle.fo_dir_put.specs.Differ.{AllDiffer};
 ghost use Rattle.fo_dir_put.specs.Paired.{AllPaired};
 ghost use Rattle.fo_dir_put.specs.Puts.{IsOwnedRecords, StaysCalm};
 ghost use Rattle.fo_dir_change.specs.Changes.{Bears, HasChanged, IsTooLong, IsSameFile, MayBear, BearsAlone};
-ghost use Rattle.fo_ports.specs.Sources.{DirtiesIn};
+ghost use Rattle.fo_dir_put.specs.of_ports.Sources.{DirtiesIn};
 
-use fo_dir_put::change_leaf;
+use fo_dir_put::{Blocks, change_leaf};
 use fo_image::Record;
 use fo_meta::replace;
-use fo_ports::Blocks;
 
 /// Puts a record in the place of the first of this name, at the end of the leaf, whose bytes are at hand; or answers that it has no room.
 pub fn change_record<B: Blocks>(

@@ -12,3 +12,6 @@ mod take;
 
 pub use change::change_record;
 pub use take::take_record;
+
+// Passed on, so that a crate above names this one alone.
+pub use fo_dir_put::clear_entry;

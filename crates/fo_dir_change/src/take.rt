@@ -6,11 +6,10 @@ ghost use Rattle.fo_dir_put.specs.Differ.{AllDiffer};
 ghost use Rattle.fo_dir_put.specs.Paired.{AllPaired};
 ghost use Rattle.fo_dir_put.specs.Puts.{IsOwnedRecords, QueuesNone, StaysCalm};
 ghost use Rattle.fo_dir_change.specs.Changes.{Bears, BearsNot, HasTaken};
-ghost use Rattle.fo_ports.specs.Sources.{DirtiesIn};
+ghost use Rattle.fo_dir_put.specs.of_ports.Sources.{DirtiesIn};
 
-use fo_dir_put::change_leaf;
+use fo_dir_put::{Blocks, change_leaf};
 use fo_meta::remove;
-use fo_ports::Blocks;
 
 /// Takes the first record of this name out of a leaf, whose bytes are at hand; or answers that it has none.
 pub fn take_record<B: Blocks>(on: &mut B, leaf: u32, name: &[u8], bytes: &mut [u8]) -> bool

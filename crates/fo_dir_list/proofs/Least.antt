@@ -7,7 +7,7 @@ use Rattle.std.specs.Cmp.Lexicographic.{slice_cmp}
 use Rattle.std.proofs.lemmas.Cmp.{nat_list_cmp_total, tied_itself}
 use Rattle.std.proofs.lemmas.List.Elements.{Contains-append_left, Contains-append_right, Contains-append_cases}
 use Rattle.fo_image.specs.declared.record.Record.{Record}
-use Rattle.fo_crash.specs.Images.{Image, SameImage}
+use Rattle.fo_ports.specs.of_crash.Images.{Image, SameImage}
 use Rattle.fo_ports.specs.Sources.{Leaves}
 use Rattle.fo_dir_read.proofs.Rows.{rows_none, none_rows, rows_split, rows_more, rows_back, rows_on}
 use Rattle.fo_world.specs.Tree.{comes_before}

@@ -10,7 +10,7 @@ use Rattle.fo_image.specs.Record.{record_len}
 use Rattle.fo_meta.specs.Leaf.{HasSpelling, SpellsLeaf, record_bytes}
 use Rattle.fo_meta.proofs.Leaves.{Walks, Here, walk_none, walk_more}
 use Rattle.fo_meta.proofs.Lists.{any-more, find-none, find-first}
-use Rattle.fo_crash.specs.Images.{Image, SameImage}
+use Rattle.fo_ports.specs.of_crash.Images.{Image, SameImage}
 use Rattle.fo_ports.specs.Sources.{Leaves}
 use Rattle.fo_dir_read.specs.Names.{HasRecords}
 use Rattle.fo_dir_read.proofs.Looking.{records_back, none_any}

@@ -2,7 +2,7 @@
 use Rattle.std.proofs.Common.{◌≡◌, ◌⊎◌, ◌+◌, ◌<◌, ◌≤◌, ℕ, List, [], ◌++◌, length, refl, inl, inr, ⊎_elim, sym, ap, ◌∙◌, subst, arith}
 use Rattle.std.proofs.lemmas.List.{length-append}
 use Rattle.fo_image.specs.declared.record.Record.{Record}
-use Rattle.fo_crash.specs.Images.{Image, SameImage}
+use Rattle.fo_ports.specs.of_crash.Images.{Image, SameImage}
 use Rattle.fo_ports.specs.Sources.{Leaves}
 use Rattle.fo_dir_read.proofs.Looking.{records_back}
 use Rattle.fo_dir_read.proofs.Rows.{rows_none, none_rows, rows_split, rows_more, rows_back, rows_on}

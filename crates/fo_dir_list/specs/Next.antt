@@ -5,7 +5,7 @@ use Rattle.fo_world.specs.Tree.{comes_before}
 use Rattle.fo_image.specs.declared.record.Record.{Record}
 use Rattle.fo_image.specs.Record.{record_len}
 use Rattle.fo_meta.specs.Leaf.{HasSpelling, record_bytes}
-use Rattle.fo_crash.specs.Images.{Image}
+use Rattle.fo_ports.specs.of_crash.Images.{Image}
 use Rattle.fo_ports.specs.Sources.{Leaves}
 use Rattle.fo_dir_read.specs.Names.{HasRecords, AreRecords}
 

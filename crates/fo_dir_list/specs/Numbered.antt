@@ -2,7 +2,7 @@
 use Rattle.std.specs.Prelude.{◌≡◌, ◌<◌, ℕ, Bool, false, nat_eq, List, find, Option, Some, None, MatchOption}
 use Rattle.std.specs.List.{list_any}
 use Rattle.fo_image.specs.declared.record.Record.{Record}
-use Rattle.fo_crash.specs.Images.{Image}
+use Rattle.fo_ports.specs.of_crash.Images.{Image}
 use Rattle.fo_ports.specs.Sources.{Leaves}
 use Rattle.fo_dir_read.specs.Names.{HasRecords, leaf_count}
 use Rattle.fo_dir_list.specs.Next.{StandsAt}

@@ -2,7 +2,7 @@
 use Rattle.std.specs.Prelude.{◌≡◌, ◌⊎◌, ◌+◌, ◌<◌, ◌≤◌, ℕ, List, length}
 use Rattle.fo_image.specs.declared.record.Record.{Record}
 use Rattle.fo_meta.specs.Leaf.{records_bytes}
-use Rattle.fo_crash.specs.Images.{Image}
+use Rattle.fo_ports.specs.of_crash.Images.{Image}
 use Rattle.fo_ports.specs.Sources.{Leaves}
 use Rattle.fo_dir_read.specs.Names.{HasRecords, AreRecords}
 

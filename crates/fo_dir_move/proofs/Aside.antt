@@ -1,7 +1,7 @@
 -- A record that moves is never in two leaves.
 use Rattle.std.proofs.Common.{◌≡◌, ◌≢◌, inl, inr, ⊎_elim, ℕ, List, Contains, ◌∙◌, subst}
 use Rattle.fo_image.specs.declared.record.Record.{Record}
-use Rattle.fo_good.specs.Reading.{leaf_records}
+use Rattle.fo_dir_put.specs.of_good.Reading.{leaf_records}
 use Rattle.fo_crash.specs.Images.{Image}
 use Rattle.fo_crash.specs.Steps.{AddsNothing, AllAre}
 use Rattle.fo_dir_put.specs.Names.{Clash, AllApart, MayStand, LeavesRest}

@@ -4,3 +4,6 @@ pub mod Aside
 pub mod Pairing
 pub mod Settled
 pub mod Whole
+pub mod of_dir_put
+pub mod of_dirties
+pub mod of_good

@@ -2,8 +2,8 @@
 use Rattle.std.proofs.Common.{◌≡◌, ◌≢◌, ◌⊎◌, inl, inr, ⊎_elim, ℕ, ◌+◌, ◌*◌, ◌/◌, ◌%◌, List, Contains, true, false, sym, ◌∙◌, ap, subst}
 use Rattle.std.proofs.lemmas.Bool.{cases_eq}
 use Rattle.fo_image.specs.declared.record.Record.{Record}
-use Rattle.fo_good.specs.Reading.{leaf_records}
-use Rattle.fo_good.specs.Trees.{IsFirst, IsSecond}
+use Rattle.fo_dir_put.specs.of_good.Reading.{leaf_records}
+use Rattle.fo_dir_put.specs.of_good.Trees.{IsFirst, IsSecond}
 use Rattle.fo_crash.specs.Images.{Image, with_slot}
 use Rattle.fo_crash.specs.Steps.{AddsNothing, PutsBytes, Fills, cleared}
 use Rattle.fo_crash.specs.declared.slot.Slot.{Slot}

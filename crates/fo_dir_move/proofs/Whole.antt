@@ -5,8 +5,8 @@ use Rattle.fo_image.specs.declared.record.Record.{Record}
 use Rattle.std.specs.List.{list_any}
 use Rattle.fo_meta.specs.Leaf.{SpellsLeaf, is_named, without}
 use Rattle.fo_meta.proofs.Lists.{find-none}
-use Rattle.fo_good.specs.Reading.{leaf_records}
-use Rattle.fo_good.proofs.Leaf.{leaf_is_read}
+use Rattle.fo_dir_put.specs.of_good.Reading.{leaf_records}
+use Rattle.fo_dir_put.proofs.of_good.Leaf.{leaf_is_read}
 use Rattle.fo_crash.specs.Images.{Image}
 use Rattle.fo_ports.specs.State.{State, IsDoomed}
 use Rattle.fo_dir_put.specs.Names.{AllApart, Clash}

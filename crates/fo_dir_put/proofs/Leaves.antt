@@ -4,7 +4,7 @@ use Rattle.std.proofs.lemmas.List.{append-nil, length-append, length-replicate, 
 use Rattle.fo_image.specs.declared.types.Kind.{Kind}
 use Rattle.fo_image.specs.declared.types.Kind.TheVariants.{Data}
 use Rattle.fo_image.specs.Field.{zeros}
-use Rattle.fo_meta.specs.Leaf.{IsLeaf, records_bytes}
+use Rattle.fo_ports.specs.of_meta.Leaf.{IsLeaf, records_bytes}
 use Rattle.fo_crash.specs.Images.{Image, SameImage, Reaches, target}
 use Rattle.fo_crash.specs.Steps.{AddsBytes, AddsNothing, PutsBytes}
 use Rattle.fo_crash.specs.declared.slot.Slot.{Slot}

@@ -6,3 +6,6 @@ pub mod Nothing
 pub mod Named
 pub mod Paired
 pub mod Spared
+pub mod of_dirties
+pub mod of_good
+pub mod of_looks

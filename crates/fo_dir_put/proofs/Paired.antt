@@ -3,7 +3,7 @@ use Rattle.std.proofs.Common.{◌≡◌, ◌≢◌, ◌⊎◌, inl, inr, ⊎_eli
 use Rattle.std.proofs.lemmas.Bool.{cases_eq}
 use Rattle.fo_image.specs.declared.record.Record.{Record}
 use Rattle.fo_image.specs.declared.types.Entry.{Entry}
-use Rattle.fo_world.specs.Step.{is_dir_mode}
+use Rattle.fo_good.specs.of_world.Step.{is_dir_mode}
 use Rattle.fo_good.specs.Reading.{leaf_records}
 use Rattle.fo_good.specs.Trees.{IsFirst, IsSecond}
 use Rattle.fo_crash.specs.Images.{Content, Image, SameImage, with_bytes, with_slot}

@@ -3,3 +3,7 @@ pub mod Names
 pub mod Paired
 pub mod Puts
 pub mod There
+pub mod of_crash
+pub mod of_good
+pub mod of_ports
+pub mod of_world

@@ -3,7 +3,7 @@ use Rattle.std.specs.Prelude.{◌≡◌, ◌⊎◌, ◌+◌, ◌*◌, ◌/◌, �
 use Rattle.std.specs.List.{Contains}
 use Rattle.fo_image.specs.declared.record.Record.{Record}
 use Rattle.fo_image.specs.declared.types.Entry.{Entry}
-use Rattle.fo_world.specs.Step.{is_dir_mode}
+use Rattle.fo_good.specs.of_world.Step.{is_dir_mode}
 use Rattle.fo_crash.specs.Images.{Image}
 use Rattle.fo_crash.specs.declared.slot.Slot.TheVariants.{Entry as Head}
 use Rattle.fo_good.specs.Reading.{leaf_records}

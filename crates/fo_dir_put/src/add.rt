@@ -3,7 +3,7 @@ ghost use Rattle.std.specs.Prelude.{◌≡◌, ◌≢◌, ◌⊎◌, ◌+◌, �
 ghost use Rattle.fo_image.specs.declared.types.Pointer.TheVariants.{Local};
 ghost use Rattle.fo_crash.specs.Images.{Reaches, target, to_block};
 ghost use Rattle.fo_crash.specs.Steps.{Covers, HasBytes, cleared};
-ghost use Rattle.fo_meta.specs.Leaf.{IsLeaf};
+ghost use Rattle.fo_ports.specs.of_meta.Leaf.{IsLeaf};
 ghost use Rattle.fo_ports.specs.State.{AddsNoWait, IsDoomed, IsPointers, QueuesOne};
 ghost use Rattle.fo_dir_put.specs.Names.{ListsIn, AllFit, AddsOne, Lacks, AllApart, MayStand, ShowsBut, ShowsBytes};
 ghost use Rattle.fo_dir_put.specs.Differ.{AllDiffer, MayName};

@@ -19,3 +19,6 @@ pub use add::{add_name, clear_entry};
 pub use free::{is_free, next_generation};
 pub use pair::put_pair;
 pub use record::{change_leaf, put_record};
+
+// Passed on, so that a crate above names this one alone.
+pub use fo_ports::Blocks;

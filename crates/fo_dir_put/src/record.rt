@@ -5,7 +5,7 @@ ghost use Rattle.fo_crash.specs.declared.place.Place.{Place};
 ghost use Rattle.fo_crash.specs.Images.{Reaches, to_block};
 ghost use Rattle.fo_crash.specs.Steps.{PutsBytes};
 ghost use Rattle.fo_ports.specs.State.{IsDoomed, AddsNoWait, WaitsForPairs};
-ghost use Rattle.fo_meta.specs.Leaf.{IsLeaf};
+ghost use Rattle.fo_ports.specs.of_meta.Leaf.{IsLeaf};
 ghost use Rattle.fo_dir_put.specs.Names.{AllFit, AreBacked, AreKept, AllApart, MayStand, LeavesRest};
 ghost use Rattle.fo_dir_put.specs.Differ.{AllDiffer, MayName};
 ghost use Rattle.fo_dir_put.specs.Paired.{AllPaired, AllStood, ArePaired};

@@ -1,3 +1,4 @@
 pub mod Looking
 pub mod Pairs
 pub mod Rows
+pub mod of_looks

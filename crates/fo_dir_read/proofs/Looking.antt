@@ -5,11 +5,11 @@ use Rattle.std.proofs.lemmas.Slice.Eq.{bytes_eq-Decides}
 use Rattle.fo_image.specs.declared.record.Record.{Record}
 use Rattle.fo_image.specs.Record.{RecordHolds}
 use Rattle.fo_meta.specs.Leaf.{HasSpelling, SpellsLeaf, is_named}
-use Rattle.fo_crash.specs.Images.{Image, SameImage}
+use Rattle.fo_ports.specs.of_crash.Images.{Image, SameImage}
 use Rattle.fo_ports.specs.Sources.{Leaves}
 use Rattle.fo_dir_read.specs.Names.{HasRecords, LacksBelow, Finds}
 use Rattle.fo_base.specs.Cause.{Rose}
-use Rattle.fo_crash.specs.declared.place.Place.{Place}
+use Rattle.fo_ports.specs.of_crash.declared.place.Place.{Place}
 use Rattle.fo_ports.specs.declared.error.BlockError.{BlockError}
 use Rattle.fo_ports.specs.declared.error.BlockError.TheVariants.{Full, Damaged, Fault, Arena, Memory}
 use Rattle.fo_ports.specs.State.{State, KeepsAll}

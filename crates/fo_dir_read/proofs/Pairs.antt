@@ -3,13 +3,13 @@ use Rattle.std.proofs.Common.{◌≡◌, ◌+◌, ◌*◌, ◌/◌, ◌%◌, ◌
 use Rattle.fo_image.specs.declared.types.Entry.{Entry}
 use Rattle.fo_image.specs.declared.types.Kind.TheVariants.{Dir}
 use Rattle.fo_image.specs.Format.{SpellsEntry}
-use Rattle.fo_crash.specs.declared.slot.Slot.{Slot}
-use Rattle.fo_crash.specs.declared.slot.Slot.TheVariants.{Pointer as To, Entry as Head, Prev}
-use Rattle.fo_crash.specs.Names.{IsInUse}
-use Rattle.fo_crash.specs.Images.{Image, target}
+use Rattle.fo_ports.specs.of_crash.declared.slot.Slot.{Slot}
+use Rattle.fo_ports.specs.of_crash.declared.slot.Slot.TheVariants.{Pointer as To, Entry as Head, Prev}
+use Rattle.fo_ports.specs.of_crash.Names.{IsInUse}
+use Rattle.fo_ports.specs.of_crash.Images.{Image, target}
 use Rattle.fo_image.specs.declared.types.Pointer.TheVariants.{Local}
 use Rattle.fo_ports.specs.Blocks.{no_entry, ReadsSlots, SlotFits, SpellsSlot, slot_size, slot_start}
-use Rattle.fo_crash.specs.Images.{SameImage}
+use Rattle.fo_ports.specs.of_crash.Images.{SameImage}
 use Rattle.fo_ports.specs.State.{State, WaitsInUse}
 use Rattle.fo_ports.specs.Sources.{Leaves}
 use Rattle.fo_dir_read.specs.Pairs.{PairTaken, TakenBelow, FreeIn, FreeAt, IsFree, AreTaken, IsPair, LeadsWithin}

@@ -4,7 +4,7 @@ use Rattle.std.proofs.Math.Bool.{cond}
 use Rattle.std.proofs.Math.Dec.{eqb}
 use Rattle.std.proofs.lemmas.Bool.Decides.{eqb_tells}
 use Rattle.fo_image.specs.declared.record.Record.{Record}
-use Rattle.fo_crash.specs.Images.{Image, SameImage}
+use Rattle.fo_ports.specs.of_crash.Images.{Image, SameImage}
 use Rattle.fo_ports.specs.Sources.{Leaves}
 use Rattle.fo_dir_read.specs.Names.{HasRecords, AreRecords, joined}
 use Rattle.fo_dir_read.proofs.Looking.{records_back}

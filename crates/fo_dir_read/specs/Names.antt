@@ -4,7 +4,7 @@ use Rattle.std.specs.List.{list_any}
 use Rattle.fo_image.specs.declared.record.Record.{Record}
 use Rattle.fo_image.specs.declared.types.Kind.TheVariants.{Data}
 use Rattle.fo_meta.specs.Leaf.{SpellsLeaf, is_named}
-use Rattle.fo_crash.specs.Images.{Image}
+use Rattle.fo_ports.specs.of_crash.Images.{Image}
 use Rattle.fo_ports.specs.Sources.{Form, Leaves}
 
 -- A source of records, of this rank, that a directory may have: short enough for its leaves to be counted in 32 bits.

@@ -3,9 +3,9 @@ use Rattle.std.specs.Prelude.{◌≡◌, ◌⊎◌, ◌+◌, ◌*◌, ◌/◌, �
 use Rattle.fo_image.specs.declared.types.Kind.TheVariants.{Dir}
 use Rattle.fo_image.specs.declared.types.Entry.{Entry}
 use Rattle.fo_image.specs.declared.types.Pointer.TheVariants.{Local}
-use Rattle.fo_crash.specs.declared.slot.Slot.TheVariants.{Entry as Head}
-use Rattle.fo_crash.specs.Images.{Image}
-use Rattle.fo_crash.specs.Names.{IsInUse}
+use Rattle.fo_ports.specs.of_crash.declared.slot.Slot.TheVariants.{Entry as Head}
+use Rattle.fo_ports.specs.of_crash.Images.{Image}
+use Rattle.fo_ports.specs.of_crash.Names.{IsInUse}
 use Rattle.fo_ports.specs.Blocks.{no_entry}
 use Rattle.fo_ports.specs.State.{State}
 use Rattle.fo_ports.specs.Sources.{Form, Leaves}

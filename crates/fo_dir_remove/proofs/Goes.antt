@@ -12,9 +12,9 @@ use Rattle.fo_crash.specs.Names.{IsInUse}
 use Rattle.fo_crash.proofs.Reach.{walk_joins}
 use Rattle.fo_crash.proofs.Covers.{slot_reaches}
 use Rattle.fo_ports.specs.State.{State, KeepsAll, IsPointers}
-use Rattle.fo_dir_put.specs.Puts.{StaysCalm, ClearsAlone, IsOwnedEntries, IsOwnedRecords, MayClear}
-use Rattle.fo_dir_put.proofs.Nothing.{nil_reaches}
-use Rattle.fo_dir_put.proofs.Spared.{slots_reached}
+use Rattle.fo_dir_change.specs.of_dir_put.Puts.{StaysCalm, ClearsAlone, IsOwnedEntries, IsOwnedRecords, MayClear}
+use Rattle.fo_dir_change.proofs.of_dir_put.Nothing.{nil_reaches}
+use Rattle.fo_dir_change.proofs.of_dir_put.Spared.{slots_reached}
 use Rattle.fo_dir_remove.specs.Removes.{IsQuiet, IsGoing}
 
 -- ---- after bytes were put

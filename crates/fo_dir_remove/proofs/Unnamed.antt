@@ -2,18 +2,18 @@
 use Rattle.std.proofs.Common.{◌≡◌, ◌≢◌, ◌⊎◌, inl, inr, ⊎_elim, ℕ, ◌+◌, ◌*◌, ◌/◌, ◌%◌, ◌<◌, List, Contains, sym, ◌∙◌, ap, subst, arith}
 use Rattle.std.proofs.lemmas.Bool.{cases_eq}
 use Rattle.fo_image.specs.declared.record.Record.{Record}
-use Rattle.fo_meta.specs.Leaf.{SpellsLeaf, without}
-use Rattle.fo_good.specs.Reading.{leaf_records}
-use Rattle.fo_good.proofs.Leaf.{leaf_is_read}
+use Rattle.fo_ports.specs.of_meta.Leaf.{SpellsLeaf, without}
+use Rattle.fo_dir_change.specs.of_good.Reading.{leaf_records}
+use Rattle.fo_dir_change.proofs.of_good.Leaf.{leaf_is_read}
 use Rattle.fo_crash.specs.declared.slot.Slot.{Slot}
 use Rattle.fo_crash.specs.Images.{Image}
 use Rattle.fo_crash.specs.Steps.{AddsSlot, PutsSlot}
 use Rattle.fo_ports.specs.State.{State}
-use Rattle.fo_dir_put.specs.Names.{AllApart, ShowsBytes}
-use Rattle.fo_dir_put.specs.Differ.{Distinct, AreDistinct, AllDiffer}
-use Rattle.fo_dir_put.specs.Paired.{AllPaired, LacksPair, IsUnnamed}
-use Rattle.fo_dir_put.proofs.Aparts.{slot_shows}
-use Rattle.fo_dir_put.proofs.Paired.{entry_paired, memory_aside}
+use Rattle.fo_dir_change.specs.of_dir_put.Names.{AllApart, ShowsBytes}
+use Rattle.fo_dir_change.specs.of_dir_put.Differ.{Distinct, AreDistinct, AllDiffer}
+use Rattle.fo_dir_change.specs.of_dir_put.Paired.{AllPaired, LacksPair, IsUnnamed}
+use Rattle.fo_dir_change.proofs.of_dir_put.Aparts.{slot_shows}
+use Rattle.fo_dir_change.proofs.of_dir_put.Paired.{entry_paired, memory_aside}
 use Rattle.fo_dir_change.proofs.Without.{Split, first, first_there, left_apart}
 use Rattle.fo_dir_remove.specs.Removes.{NoneHas, HasPairOf, IsGone}
 

@@ -1,11 +1,11 @@
 -- What is asked of a pair that is cleared, and what its entries are then.
 use Rattle.std.specs.Prelude.{◌≡◌, ◌⊎◌, ◌+◌, ◌*◌, ℕ, List, find, Some}
 use Rattle.fo_image.specs.declared.record.Record.{Record}
-use Rattle.fo_meta.specs.Leaf.{SpellsLeaf, is_named}
+use Rattle.fo_ports.specs.of_meta.Leaf.{SpellsLeaf, is_named}
 use Rattle.fo_crash.specs.Images.{Image, Reaches}
 use Rattle.fo_crash.specs.Steps.{cleared}
 use Rattle.fo_ports.specs.State.{State}
-use Rattle.fo_dir_put.specs.Paired.{LacksPair, IsUnnamed}
+use Rattle.fo_dir_change.specs.of_dir_put.Paired.{LacksPair, IsUnnamed}
 
 -- Nothing is still to come in the place of another block, and no slot below entry j waits to be cleared.
 pub record IsQuiet (s : State) (at j : ℕ) : Type 0 where

@@ -4,13 +4,13 @@ ghost use Rattle.fo_image.specs.declared.types.Pointer.TheVariants.{Local};
 ghost use Rattle.fo_crash.specs.Images.{target};
 ghost use Rattle.fo_crash.specs.Steps.{Covers, cleared};
 ghost use Rattle.fo_ports.specs.State.{IsPointers, QueuesOne};
-ghost use Rattle.fo_dir_put.specs.Names.{ShowsBytes};
-ghost use Rattle.fo_dir_put.specs.Paired.{AllPaired};
-ghost use Rattle.fo_dir_put.specs.Puts.{IsOwnedEntries, IsOwnedRecords, ClearsAlone};
+ghost use Rattle.fo_dir_change.specs.of_dir_put.Names.{ShowsBytes};
+ghost use Rattle.fo_dir_change.specs.of_dir_put.Paired.{AllPaired};
+ghost use Rattle.fo_dir_change.specs.of_dir_put.Puts.{IsOwnedEntries, IsOwnedRecords, ClearsAlone};
 ghost use Rattle.fo_dir_remove.specs.Removes.{IsQuiet, IsGoing, NoneHas, IsGone};
 ghost use Rattle.fo_ports.specs.Sources.{DirtiesIn};
 
-use fo_dir_put::clear_entry;
+use fo_dir_change::clear_entry;
 use fo_ports::Blocks;
 
 /// Clears an entry at once, whose pair no record of any image has.

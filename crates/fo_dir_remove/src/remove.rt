@@ -1,21 +1,20 @@
 //! A record goes, and then the first entry of its pair.
 ghost use Rattle.std.specs.Prelude.{◌≡◌, ◌≢◌, ◌⊎◌, ◌+◌, ◌*◌, ◌<◌, ◌≤◌, ℕ, List, true, false, ◌∷◌, []};
 ghost use Rattle.std.specs.List.{Contains};
-ghost use Rattle.fo_meta.specs.Leaf.{IsLeaf};
+ghost use Rattle.fo_ports.specs.of_meta.Leaf.{IsLeaf};
 ghost use Rattle.fo_image.specs.declared.types.Pointer.TheVariants.{Local};
 ghost use Rattle.fo_crash.specs.Images.{Reaches, target};
 ghost use Rattle.fo_crash.specs.Steps.{Covers, PutsBytes};
 ghost use Rattle.fo_ports.specs.State.{IsPointers, QueuesOne};
-ghost use Rattle.fo_dir_put.specs.Names.{ShowsBut};
-ghost use Rattle.fo_dir_put.specs.Differ.{AllDiffer};
-ghost use Rattle.fo_dir_put.specs.Paired.{AllPaired};
-ghost use Rattle.fo_dir_put.specs.Puts.{IsOwnedEntries, IsOwnedRecords, MayClear, StaysCalm, ClearsAlone};
+ghost use Rattle.fo_dir_change.specs.of_dir_put.Names.{ShowsBut};
+ghost use Rattle.fo_dir_change.specs.of_dir_put.Differ.{AllDiffer};
+ghost use Rattle.fo_dir_change.specs.of_dir_put.Paired.{AllPaired};
+ghost use Rattle.fo_dir_change.specs.of_dir_put.Puts.{IsOwnedEntries, IsOwnedRecords, MayClear, StaysCalm, ClearsAlone};
 ghost use Rattle.fo_dir_change.specs.Changes.{Bears, BearsNot, HasTaken};
 ghost use Rattle.fo_dir_remove.specs.Removes.{IsQuiet, IsGoing, IsGone, HasPairOf};
 ghost use Rattle.fo_ports.specs.Sources.{DirtiesIn};
 
-use fo_dir_change::take_record;
-use fo_dir_put::clear_entry;
+use fo_dir_change::{clear_entry, take_record};
 use fo_ports::Blocks;
 
 /// Takes the first record of this name out of a leaf, whose bytes are at hand, and clears the first entry of its pair once the leaf is

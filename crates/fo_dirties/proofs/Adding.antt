@@ -3,8 +3,8 @@ use Rattle.std.specs.List.{Contains}
 use Rattle.std.proofs.Common.{◌≡◌, ◌⊎◌, ◌++◌, ◌+◌, ◌≤◌, ℕ, List, [], ◌∷◌, length, inl, inr, ⊎_elim, sym, subst, arith}
 use Rattle.std.proofs.lemmas.List.{length-append}
 use Rattle.std.proofs.lemmas.List.Elements.{Contains-append_left, Contains-append_right, Contains-append_cases}
-use Rattle.fo_ports.specs.State.{State, none}
-use Rattle.fo_ports.specs.Sources.{AddsDirty, Dirties, DirtiesIn}
+use Rattle.fo_looks.specs.of_ports.State.{State, none}
+use Rattle.fo_looks.specs.of_ports.Sources.{AddsDirty, Dirties, DirtiesIn}
 use Rattle.fo_looks.proofs.Dirtied.{dirties_joins}
 use Rattle.fo_dirties.proofs.Putting.{first_among, later_among, none_among, one_among}
 

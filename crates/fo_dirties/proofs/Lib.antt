@@ -1,3 +1,4 @@
 pub mod Adding
 pub mod Putting
 pub use Rattle.fo_looks.proofs.Dirtied
+pub mod of_looks

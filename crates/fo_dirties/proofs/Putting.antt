@@ -1,9 +1,9 @@
 -- What one call leaves to be written.
 use Rattle.std.specs.List.{Contains}
 use Rattle.std.proofs.Common.{◌≡◌, ◌⊎◌, ◌<◌, ℕ, zero, suc, List, [], ◌∷◌, inl, ⊎_elim, refl, sym, ap, ◌∙◌, subst, arith}
-use Rattle.fo_image.specs.declared.types.Label.{Label}
-use Rattle.fo_ports.specs.State.{State, KeepsAll, KeepsOrder, Frame, Calm, Looks, Numbers, Stays, none}
-use Rattle.fo_ports.specs.Sources.{DirtiesIn}
+use Rattle.fo_looks.specs.of_image.declared.types.Label.{Label}
+use Rattle.fo_looks.specs.of_ports.State.{State, KeepsAll, KeepsOrder, Frame, Calm, Looks, Numbers, Stays, none}
+use Rattle.fo_looks.specs.of_ports.Sources.{DirtiesIn}
 use Rattle.fo_looks.proofs.Dirtied.{dirties_put}
 
 pub first_among : (x : ℕ) (xs : List ℕ) → Contains (x ∷ xs) x

@@ -15,8 +15,8 @@ use Rattle.fo_waits.specs.Listed.{Clears}
 use Rattle.fo_mind.specs.Laws.{keeps_joins}
 use Rattle.fo_mind.specs.Parts.{CacheKeeps, IsBlock, Parts, state_of}
 use Rattle.fo_cache.proofs.Easing.{eases_none, rests_joins}
-use Rattle.fo_settling.specs.Clearings.{Clearings, ClearsBy, Due}
-use Rattle.fo_settling.proofs.Clearing.{waits_of}
+use Rattle.fo_reserving.specs.of_settling.Clearings.{Clearings, ClearsBy, Due}
+use Rattle.fo_reserving.proofs.of_settling.Clearing.{waits_of}
 use Rattle.fo_reserving.specs.Steps.{ClosesAtRest, Reserves}
 use Rattle.fo_reserving.proofs.Following.{closes_by}
 use Rattle.fo_reserving.proofs.Joining.{reserves_none}

@@ -34,8 +34,8 @@ use Rattle.fo_closing.specs.Turned.{Goes, Turned}
 use Rattle.fo_closing.proofs.Resting.{quiet_looked}
 use Rattle.fo_closing.proofs.Taking.{less_turned}
 use Rattle.fo_unlink.specs.Work.{work}
-use Rattle.fo_settling.proofs.Clearing.{lasts_turned}
-use Rattle.fo_settling.proofs.Waiting.{eases_turns}
+use Rattle.fo_reserving.proofs.of_settling.Clearing.{lasts_turned}
+use Rattle.fo_reserving.proofs.of_settling.Waiting.{eases_turns}
 use Rattle.fo_reserving.specs.Steps.{Reserves}
 use Rattle.fo_reserving.proofs.Joining.{reserves_eased, reserves_none, reserves_on}
 use Rattle.fo_opening.proofs.Stepping.{ending_turned, header_kept, pinned_turned}

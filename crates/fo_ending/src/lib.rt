@@ -18,3 +18,6 @@ mod drain;
 mod ending;
 
 pub use ending::end;
+
+// Passed on, so that a crate above names this one alone.
+pub use fo_opening::{Why, finish, open};

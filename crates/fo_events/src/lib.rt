@@ -9,3 +9,6 @@ mod turner;
 
 pub use event::{Event, Outcome};
 pub use turner::Turner;
+
+// Passed on, so that a crate above names this one alone.
+pub use fo_turning::{Flushed, Unlinked, flush_turn, unlink_turn, usable};

@@ -6,7 +6,7 @@ use Rattle.fo_ports.specs.declared.error.BlockError.{BlockError}
 use Rattle.fo_ports.specs.declared.error.BlockError.TheVariants.{Full, Damaged, Fault, Arena, Memory}
 use Rattle.fo_ports.specs.Causes.{Caused, IsFull}
 use Rattle.fo_ports.specs.State.{State, KeepsAll}
-use Rattle.fo_looks.proofs.Looks.{rose_later}
+use Rattle.fo_files_plan.proofs.of_looks.Looks.{rose_later}
 use Rattle.fo_world.specs.declared.error.FileError.{FileError}
 use Rattle.fo_world.specs.declared.error.FileError.TheVariants as error
 use Rattle.fo_world.specs.Answers.{HasCause}

@@ -7,7 +7,7 @@ ghost use Rattle.fo_files_plan.specs.of_files_at.Held.{FileHolds};
 ghost use Rattle.fo_files_along.specs.Along.{touched};
 
 use fo_base::Bytes;
-use fo_dir_list::leaf_for;
+use fo_files_look::leaf_for;
 use fo_files_plan::files_at::{RECORDS_BELOW, Step, records_of};
 use fo_image::Record;
 use fo_ports::{BlockError, Blocks};

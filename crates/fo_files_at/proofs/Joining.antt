@@ -5,7 +5,7 @@ use Rattle.fo_ports.specs.declared.error.BlockError.{BlockError}
 use Rattle.fo_ports.specs.declared.error.BlockError.TheVariants.{Full, Damaged, Fault, Arena, Memory}
 use Rattle.fo_ports.specs.Causes.{Caused}
 use Rattle.fo_ports.specs.State.{State, KeepsAll}
-use Rattle.fo_looks.proofs.Looks.{rose_later}
+use Rattle.fo_dir_read.proofs.of_looks.Looks.{rose_later}
 
 -- the cause of a refusal, said of where a call before it began
 pub caused_since : (a b c : State) → KeepsAll a b → (why : BlockError) → Caused ⊥ (λ x. b.is_block x) (Rose b.faults c.faults) ⊥ why → Caused ⊥ (λ x. a.is_block x) (Rose a.faults c.faults) ⊥ why

@@ -4,9 +4,9 @@ use Rattle.fo_image.specs.declared.types.Entry.{Entry}
 use Rattle.fo_image.specs.declared.types.Kind.TheVariants.{Root}
 use Rattle.fo_image.specs.declared.types.Pointer.TheVariants.{Local}
 use Rattle.fo_image.specs.Format.{SpellsEntry}
-use Rattle.fo_crash.specs.declared.slot.Slot.{Slot}
-use Rattle.fo_crash.specs.declared.slot.Slot.TheVariants.{Pointer as To, Entry as Head, Prev}
-use Rattle.fo_crash.specs.Images.{target}
+use Rattle.fo_ports.specs.of_crash.declared.slot.Slot.{Slot}
+use Rattle.fo_ports.specs.of_crash.declared.slot.Slot.TheVariants.{Pointer as To, Entry as Head, Prev}
+use Rattle.fo_ports.specs.of_crash.Images.{target}
 use Rattle.fo_ports.specs.Blocks.{IsEntry, ReadsSlots, SpellsSlot, slot_count, slot_size}
 use Rattle.fo_ports.specs.State.{State}
 use Rattle.fo_dir_read.specs.Pairs.{LeadsWithin}

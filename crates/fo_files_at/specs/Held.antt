@@ -6,7 +6,7 @@ use Rattle.fo_image.specs.Record.{RecordHolds}
 use Rattle.fo_ports.specs.State.{State}
 use Rattle.fo_dir_read.specs.Pairs.{LeadsWithin}
 use Rattle.fo_tree.specs.declared.source.Source.{Source}
-use Rattle.fo_tree_open.specs.Open.{IsFit, tree_of}
+use Rattle.fo_tree.specs.of_tree_open.Open.{IsFit, tree_of}
 use Rattle.fo_files_at.specs.declared.file.File.{File}
 
 -- The record is within its limits, and the two entries can be spelled and lead to data blocks; they stand in a data block. A source of

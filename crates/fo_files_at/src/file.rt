@@ -5,12 +5,12 @@ ghost use Rattle.fo_image.specs.declared.types.Kind.TheVariants.{Dir};
 ghost use Rattle.fo_image.specs.declared.types.Pointer.TheVariants.{Local};
 ghost use Rattle.fo_image.specs.Format.{EntryHolds};
 ghost use Rattle.fo_image.specs.Record.{RecordHolds};
-ghost use Rattle.fo_crash.specs.Images.{target};
+ghost use Rattle.fo_ports.specs.of_crash.Images.{target};
 ghost use Rattle.fo_ports.specs.Blocks.{ReadsSlots};
 ghost use Rattle.fo_ports.specs.declared.error.BlockError.TheVariants.{Damaged};
 ghost use Rattle.fo_ports.specs.Causes.{Caused};
 ghost use Rattle.fo_ports.specs.State.{Looks};
-ghost use Rattle.fo_tree_look.specs.Source.{Over};
+ghost use Rattle.fo_tree.specs.of_tree_look.Source.{Over};
 ghost use Rattle.fo_dir_read.specs.Pairs.{LeadsWithin};
 ghost use Rattle.fo_files_at.specs.Held.{FileHolds, IsSource, tag_for};
 
@@ -18,8 +18,7 @@ use fo_base::BLOCK;
 use fo_dir_read::entry_from;
 use fo_image::{Entry, Kind, Record};
 use fo_ports::{BlockError, Blocks, Bytes};
-use fo_tree::Source;
-use fo_tree_open::open_read;
+use fo_tree::{Source, open_read};
 use std::alloc::Global;
 
 /// The rank of the place of a root block, and that of the leaf of entries for which it stands.

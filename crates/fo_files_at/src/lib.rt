@@ -23,4 +23,6 @@ pub use laws::way_ends;
 pub use root::root_file;
 
 // Passed on, so that a crate above names this one alone.
+pub use fo_dir_list::{leaf_for, next};
+pub use fo_dir_read::lookup;
 pub use fo_tree as tree;

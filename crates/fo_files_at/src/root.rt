@@ -4,7 +4,7 @@ ghost use Rattle.fo_base.specs.Cause.{Rose};
 ghost use Rattle.fo_image.specs.declared.types.Kind.TheVariants.{Root};
 ghost use Rattle.fo_image.specs.declared.types.Pointer.TheVariants.{Local};
 ghost use Rattle.fo_image.specs.Record.{RecordHolds};
-ghost use Rattle.fo_crash.specs.Images.{target};
+ghost use Rattle.fo_ports.specs.of_crash.Images.{target};
 ghost use Rattle.fo_ports.specs.Blocks.{ReadsSlots, slot_count};
 ghost use Rattle.fo_ports.specs.declared.error.BlockError.TheVariants.{Damaged, Memory};
 ghost use Rattle.fo_ports.specs.Causes.{Caused};

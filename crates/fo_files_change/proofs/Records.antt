@@ -7,8 +7,8 @@ use Rattle.fo_ports.specs.declared.error.BlockError.TheVariants.{Full, Damaged, 
 use Rattle.fo_ports.specs.Causes.{Caused}
 use Rattle.fo_ports.specs.State.{State, KeepsAll}
 use Rattle.fo_ports.specs.Sources.{Made}
-use Rattle.fo_looks.proofs.Looks.{rose_later}
-use Rattle.fo_tree_open.specs.Open.{HasEntry}
+use Rattle.fo_files_leaf.proofs.of_looks.Looks.{rose_later}
+use Rattle.fo_files_dir.specs.of_tree_open.Open.{HasEntry}
 use Rattle.fo_files_dir.specs.declared.dir.DirAt.{DirAt}
 use Rattle.fo_files_dir.specs.Dir.{IsDirAt}
 use Rattle.fo_files_leaf.specs.Leaf.{IsOwnLeaf}

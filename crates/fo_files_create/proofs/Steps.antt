@@ -10,8 +10,8 @@ use Rattle.fo_ports.specs.State.{State, KeepsAll, KeepsNumbers, none}
 use Rattle.fo_files_dir.specs.declared.dir.DirAt.{DirAt}
 use Rattle.fo_files_dir.specs.Dir.{IsDirAt}
 use Rattle.fo_files_new.specs.of_files_leaf.Alters.{MayPut}
-use Rattle.fo_files_record.specs.Leaf.{IsEntriesAt}
-use Rattle.fo_files_record.specs.Own.{IsRootAt}
+use Rattle.fo_files_own.specs.of_files_record.Leaf.{IsEntriesAt}
+use Rattle.fo_files_own.specs.of_files_record.Own.{IsRootAt}
 use Rattle.fo_files_own.specs.of_files_ready.Ready.{IsLeafOf as IsRecordsOf}
 use Rattle.fo_files_own.proofs.of_files_ready.Steps.{leaf_kept}
 use Rattle.fo_files_new.specs.declared.pair.Leaves.{Leaves}

@@ -9,7 +9,7 @@ use Rattle.fo_world.specs.Step.{below, info_of, is_active, is_dir_mode, new_body
 use Rattle.fo_world.specs.declared.tree.Body.TheVariants.{File, Dir}
 use Rattle.fo_world.specs.Names.{no_names}
 use Rattle.fo_world.specs.Tree.{length_of}
-use Rattle.fo_dir_add.specs.Adds.{IsNumbered}
+use Rattle.fo_files_new.specs.of_dir_add.Adds.{IsNumbered}
 use Rattle.fo_files_create_look.specs.Named.{new_record}
 use Rattle.fo_files_create.specs.Create.{numbered, told_of}
 

@@ -4,7 +4,7 @@ ghost use Rattle.fo_base.specs.Cause.{Rose};
 ghost use Rattle.fo_image.specs.Record.{RecordHolds, RootRecordHolds};
 ghost use Rattle.fo_ports.specs.Causes.{Caused};
 ghost use Rattle.fo_world.specs.Step.{need};
-ghost use Rattle.fo_dir_add.specs.Adds.{IsNumbered};
+ghost use Rattle.fo_files_new.specs.of_dir_add.Adds.{IsNumbered};
 ghost use Rattle.fo_files_create_look.specs.of_files_at.Way.{IsWay};
 ghost use Rattle.fo_files_create.specs.Create.{LeavesAlong, MakesAlong, last_leaf};
 ghost use Rattle.fo_ports.specs.Sources.{Dirties};

@@ -3,7 +3,7 @@ ghost use Rattle.std.specs.Prelude.{◌≡◌, ◌⊎◌, ◌+◌, ◌^◌, ◌<
 ghost use Rattle.fo_base.specs.Cause.{Rose};
 ghost use Rattle.fo_image.specs.Record.{RecordHolds};
 ghost use Rattle.fo_ports.specs.Causes.{Caused};
-ghost use Rattle.fo_dir_add.specs.Adds.{IsNumbered};
+ghost use Rattle.fo_files_new.specs.of_dir_add.Adds.{IsNumbered};
 ghost use Rattle.fo_files_dir.specs.Dir.{IsDirAt};
 ghost use Rattle.fo_files_own.specs.Own.{IsOwnAt, MayOwn, block_of, blocks_for};
 ghost use Rattle.fo_files_create.specs.Create.{IsApartFrom, LeavesNew, MakesNew, own_of};

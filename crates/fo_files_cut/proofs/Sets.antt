@@ -7,10 +7,10 @@ use Rattle.fo_ports.specs.Sources.{Made}
 use Rattle.fo_tree_read.specs.declared.tree.Tree.{Tree}
 use Rattle.fo_tree_look.specs.declared.ways.Kept.{Kept}
 use Rattle.fo_tree_look.specs.Source.{HasBlock}
-use Rattle.fo_tree_down.specs.Clear.{last_leaf}
-use Rattle.fo_tree_link.specs.Link.{entry_of}
-use Rattle.fo_tree_trim.proofs.Along.{Aside}
-use Rattle.fo_tree_append.proofs.Joining.{rises_changes}
+use Rattle.fo_tree_set.specs.of_tree_down.Clear.{last_leaf}
+use Rattle.fo_tree_set.specs.of_tree_link.Link.{entry_of}
+use Rattle.fo_tree_set.proofs.of_tree_trim.Along.{Aside}
+use Rattle.fo_tree_set.proofs.of_tree_append.Joining.{rises_changes}
 use Rattle.fo_files_write.specs.of_tree_shorten.Shorten.{EntryAt, Links}
 use Rattle.fo_tree_set.specs.Set.{CutsSettled, MayTrim, ShortensBy, LengthensBy, SetsBy}
 use Rattle.fo_tree_set.proofs.Lengths.{shape_trims}

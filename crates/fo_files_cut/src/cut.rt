@@ -4,7 +4,7 @@ ghost use Rattle.fo_base.specs.Cause.{Rose};
 ghost use Rattle.fo_ports.specs.Causes.{Caused};
 ghost use Rattle.fo_ports.specs.State.{Looks};
 ghost use Rattle.fo_tree_look.specs.Source.{Over, WayReady};
-ghost use Rattle.fo_tree_down.specs.Clear.{last_leaf};
+ghost use Rattle.fo_tree_set.specs.of_tree_down.Clear.{last_leaf};
 ghost use Rattle.fo_files_write.specs.of_tree_shorten.Shorten.{EntryAt};
 ghost use Rattle.fo_tree_set.specs.Set.{SameForm, SetsBy};
 ghost use Rattle.fo_files_dir.specs.Dir.{IsFileAt};

@@ -1,8 +1,8 @@
 -- A pair of entries stays where it stands.
 use Rattle.std.proofs.Common.{◌≡◌, ◌+◌, ℕ, sym, ap, subst, ◌∙◌}
-use Rattle.fo_image.specs.declared.types.Label.{Label}
-use Rattle.fo_ports.specs.State.{State, KeepsAll}
-use Rattle.fo_ports.specs.Sources.{Made, StaysMarked}
+use Rattle.fo_tree_open.specs.of_image.declared.types.Label.{Label}
+use Rattle.fo_tree_open.specs.of_ports.State.{State, KeepsAll}
+use Rattle.fo_tree_open.specs.of_ports.Sources.{Made, StaysMarked}
 use Rattle.fo_tree_open.specs.Open.{HasEntry}
 use Rattle.fo_files_dir.specs.declared.dir.DirAt.{DirAt}
 use Rattle.fo_files_dir.specs.declared.dir.FileAt.{FileAt}

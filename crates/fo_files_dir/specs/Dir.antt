@@ -1,7 +1,7 @@
 -- A file whose entries stand in a block that was owned.
 use Rattle.std.specs.Prelude.{◌≡◌, ◌+◌, ◌%◌, ◌≤◌, ℕ}
-use Rattle.fo_image.specs.declared.types.State.TheVariants.{Live}
-use Rattle.fo_ports.specs.State.{State}
+use Rattle.fo_tree_open.specs.of_image.declared.types.State.TheVariants.{Live}
+use Rattle.fo_tree_open.specs.of_ports.State.{State}
 use Rattle.fo_tree_open.specs.Open.{HasEntry}
 use Rattle.fo_files_dir.specs.declared.dir.DirAt.{DirAt}
 use Rattle.fo_files_dir.specs.declared.dir.FileAt.{FileAt}

@@ -7,3 +7,5 @@ pub mod Owning
 pub mod Readying
 pub mod Trimming
 pub mod Taking
+pub mod of_dirties
+pub mod of_looks

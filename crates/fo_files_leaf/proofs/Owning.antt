@@ -15,8 +15,8 @@ use Rattle.fo_ports.specs.Sources.{Form, Made, Touched, Changes, Owned, Grows, M
 use Rattle.fo_tree.specs.declared.source.Source.{Source}
 use Rattle.fo_tree_read.specs.Tree.{kind_at}
 use Rattle.fo_tree_look.specs.Source.{HasBlock, Over, Prepared, address_here, held_here, form_of, leaves_of}
-use Rattle.fo_tree_link.specs.Link.{entry_of}
-use Rattle.fo_tree_link.specs.Change.{SameSource}
+use Rattle.fo_tree_shorten.specs.of_tree_link.Link.{entry_of}
+use Rattle.fo_tree_shorten.specs.of_tree_link.Change.{SameSource}
 use Rattle.fo_tree.proofs.Relinking.{same_source}
 use Rattle.fo_tree_shorten.specs.Shorten.{EntryAt, Links}
 use Rattle.fo_tree_shorten.proofs.Entries.{entry_owned, entry_put}

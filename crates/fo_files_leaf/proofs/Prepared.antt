@@ -11,7 +11,7 @@ use Rattle.fo_tree_look.specs.Source.{Over, Prepared, IsPrepared, Ready, WayRead
 use Rattle.fo_tree_look.proofs.Held.{seen_address}
 use Rattle.fo_tree_look.proofs.Places.{is_here}
 use Rattle.fo_tree_look.proofs.Shown.{top_ready}
-use Rattle.fo_tree_down.proofs.Topping.{ready_local}
+use Rattle.fo_tree_shorten.proofs.of_tree_down.Topping.{ready_local}
 
 pub local_of : (p : Pointer) (at : ℕ) → address_of p ≡ Some at → p ≡ Local at
 local_of Nil at e = absurd (let h = e in cc)

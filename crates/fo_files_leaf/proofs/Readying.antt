@@ -5,9 +5,9 @@ use Rattle.fo_ports.specs.State.{State, KeepsAll, Looks, none}
 use Rattle.fo_ports.specs.Sources.{most_to_own, way_for}
 use Rattle.fo_tree.specs.declared.source.Source.{Source}
 use Rattle.fo_tree_read.specs.Tree.{kind_at}
-use Rattle.fo_tree_open.specs.Open.{HasEntry}
+use Rattle.fo_tree_shorten.specs.of_tree_open.Open.{HasEntry}
 use Rattle.fo_tree_shorten.specs.Shorten.{EntryAt}
-use Rattle.fo_tree_trim.proofs.Least.{few_for}
+use Rattle.fo_tree_shorten.proofs.of_tree_trim.Least.{few_for}
 use Rattle.fo_files_leaf.specs.declared.open.LeafOf.{LeafOf}
 use Rattle.fo_files_leaf.specs.Alters.{Alters}
 use Rattle.fo_files_leaf.specs.Leaf.{IsHolder, IsEntryIn, IsAbove, IsOwnLeaf, OwnsLeaf}

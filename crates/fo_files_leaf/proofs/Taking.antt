@@ -11,10 +11,10 @@ use Rattle.fo_tree.specs.declared.source.Source.{Source}
 use Rattle.fo_tree_read.specs.declared.tree.Tree.{Tree}
 use Rattle.fo_tree_look.specs.declared.ways.Kept.{Kept}
 use Rattle.fo_tree_look.specs.Source.{Over}
-use Rattle.fo_tree_link.specs.Link.{entry_of}
+use Rattle.fo_tree_shorten.specs.of_tree_link.Link.{entry_of}
 use Rattle.fo_tree_shorten.specs.Shorten.{EntryAt}
 use Rattle.fo_tree_shorten.proofs.Entries.{entry_cut}
-use Rattle.fo_tree_trim.proofs.Least.{room_for}
+use Rattle.fo_tree_shorten.proofs.of_tree_trim.Least.{room_for}
 use Rattle.fo_files_leaf.specs.Alters.{Alters}
 use Rattle.fo_files_leaf.specs.declared.open.LeafOf.{LeafOf}
 use Rattle.fo_files_leaf.specs.Leaf.{IsAbove, IsEntryIn, IsFor, TakesIn}

@@ -12,20 +12,20 @@ use Rattle.fo_ports.specs.declared.error.BlockError.TheVariants.{Full, Damaged, 
 use Rattle.fo_ports.specs.Causes.{Caused}
 use Rattle.fo_ports.specs.State.{State, KeepsAll, Looks, none}
 use Rattle.fo_ports.specs.Sources.{Made, Touched, StaysMarked}
-use Rattle.fo_looks.proofs.Looks.{rose_later}
+use Rattle.fo_dirties.proofs.of_looks.Looks.{rose_later}
 use Rattle.fo_tree.specs.declared.source.Source.{Source}
 use Rattle.fo_tree_read.specs.declared.tree.Tree.{Tree}
 use Rattle.fo_tree_read.specs.Tree.{kind_at}
 use Rattle.fo_tree_look.specs.declared.ways.Kept.{Kept}
 use Rattle.fo_tree_look.specs.Source.{HasBlock, Over, WayReady}
-use Rattle.fo_tree_down.specs.Clear.{EndsClear, last_leaf}
-use Rattle.fo_tree_down.specs.Way.{IsWayIndex, with_top}
-use Rattle.fo_tree_link.specs.Link.{entry_of}
-use Rattle.fo_tree_trim.specs.Cut.{CutSlot, Cuts}
-use Rattle.fo_tree_trim.specs.Trim.{IsEndCurrent}
-use Rattle.fo_tree_trim.proofs.Above.{deep_size}
-use Rattle.fo_tree_trim.proofs.Along.{Aside, on_device}
-use Rattle.fo_tree_trim.proofs.Past.{index_above}
+use Rattle.fo_tree_shorten.specs.of_tree_down.Clear.{EndsClear, last_leaf}
+use Rattle.fo_tree_shorten.specs.of_tree_down.Way.{IsWayIndex, with_top}
+use Rattle.fo_tree_shorten.specs.of_tree_link.Link.{entry_of}
+use Rattle.fo_tree_shorten.specs.of_tree_trim.Cut.{CutSlot, Cuts}
+use Rattle.fo_tree_shorten.specs.of_tree_trim.Trim.{IsEndCurrent}
+use Rattle.fo_tree_shorten.proofs.of_tree_trim.Above.{deep_size}
+use Rattle.fo_tree_shorten.proofs.of_tree_trim.Along.{Aside, on_device}
+use Rattle.fo_tree_shorten.proofs.of_tree_trim.Past.{index_above}
 use Rattle.fo_tree_shorten.specs.Shorten.{EntryAt, Readies}
 use Rattle.fo_tree_shorten.proofs.Settling.{Settles, current_settled}
 use Rattle.fo_files_leaf.specs.declared.open.LeafOf.{LeafOf}

@@ -10,10 +10,10 @@ use Rattle.fo_ports.specs.Sources.{IsPlain}
 use Rattle.fo_tree.specs.declared.source.Source.{Source}
 use Rattle.fo_tree_read.specs.Tree.{kind_at}
 use Rattle.fo_tree_look.specs.Source.{Over, Prepared, address_here, held_here, form_of}
-use Rattle.fo_tree_down.specs.Clear.{EndsClear}
-use Rattle.fo_tree_open.specs.Open.{HasEntry}
+use Rattle.fo_tree_shorten.specs.of_tree_down.Clear.{EndsClear}
+use Rattle.fo_tree_shorten.specs.of_tree_open.Open.{HasEntry}
 use Rattle.fo_tree_shorten.specs.Shorten.{EntryAt}
-use Rattle.fo_tree_link.specs.Link.{entry_of}
+use Rattle.fo_tree_shorten.specs.of_tree_link.Link.{entry_of}
 use Rattle.fo_files_leaf.specs.declared.open.LeafOf.{LeafOf}
 use Rattle.fo_files_leaf.specs.Alters.{Alters}
 

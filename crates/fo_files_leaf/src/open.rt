@@ -6,7 +6,7 @@ ghost use Rattle.fo_ports.specs.declared.error.BlockError.TheVariants.{Damaged};
 ghost use Rattle.fo_ports.specs.Causes.{Caused};
 ghost use Rattle.fo_ports.specs.State.{Looks};
 ghost use Rattle.fo_tree_look.specs.Source.{Over};
-ghost use Rattle.fo_tree_down.specs.Clear.{EndsClear};
+ghost use Rattle.fo_tree_shorten.specs.of_tree_down.Clear.{EndsClear};
 ghost use Rattle.fo_files_leaf.specs.Leaf.{IsHolder, IsWanted, IsEntryIn, IsFor, MayGrow};
 
 use fo_base::BLOCK;

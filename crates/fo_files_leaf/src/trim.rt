@@ -4,7 +4,7 @@ ghost use Rattle.fo_base.specs.Cause.{Rose};
 ghost use Rattle.fo_ports.specs.Causes.{Caused};
 ghost use Rattle.fo_ports.specs.State.{none};
 ghost use Rattle.fo_tree_look.specs.Source.{Over, WayReady};
-ghost use Rattle.fo_tree_down.specs.Clear.{EndsClear, last_leaf};
+ghost use Rattle.fo_tree_shorten.specs.of_tree_down.Clear.{EndsClear, last_leaf};
 ghost use Rattle.fo_tree_shorten.specs.Shorten.{EntryAt};
 ghost use Rattle.fo_files_leaf.specs.Alters.{Alters};
 ghost use Rattle.fo_files_leaf.specs.Leaf.{IsHolder, IsWanted, IsAbove, IsTrimmedFor};

@@ -4,7 +4,7 @@ use Rattle.fo_ports.specs.State.{State, KeepsAll}
 use Rattle.fo_world.specs.declared.error.FileError.{FileError}
 use Rattle.fo_world.specs.declared.error.FileError.TheVariants as error
 use Rattle.fo_world.specs.Answers.{HasCause, Refuses}
-use Rattle.fo_looks.proofs.Looks.{rose_later}
+use Rattle.fo_files_at.proofs.of_looks.Looks.{rose_later}
 use Rattle.fo_files_look.specs.Told.{faults_of}
 
 -- the cause, said of where a call before it began

@@ -15,3 +15,4 @@ pub use tells::{file_error, find, info, next_name, parent, read};
 
 // Passed on, so that a crate above names this one alone.
 pub use fo_files_at as files_at;
+pub use fo_files_at::leaf_for;

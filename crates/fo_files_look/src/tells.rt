@@ -5,7 +5,7 @@ ghost use Rattle.fo_base.specs.Cause.{Rose};
 ghost use Rattle.fo_image.specs.Record.{RecordHolds};
 ghost use Rattle.fo_ports.specs.Causes.{Caused};
 ghost use Rattle.fo_ports.specs.State.{Looks};
-ghost use Rattle.fo_tree_look.specs.Source.{Over};
+ghost use Rattle.fo_files_at.specs.of_tree_look.Source.{Over};
 ghost use Rattle.fo_world.specs.declared.error.FileError.TheVariants.{Memory, NotDir, IsDir};
 ghost use Rattle.fo_world.specs.Answers.{Refuses};
 ghost use Rattle.fo_world.specs.Fits.{InfoFits};
@@ -17,11 +17,11 @@ ghost use Rattle.fo_files_look.specs.Told as of;
 ghost use Rattle.fo_files_look.specs.Told.{faults_of, MayLook, IsTold, IsRead};
 
 use fo_base::Bytes;
-use fo_dir_list::next;
-use fo_dir_read::lookup;
 use fo_disk::DiskFault;
 use fo_files_at::tree::Source;
-use fo_files_at::{File, RECORDS_BELOW, Way, at_place, below, data_of, records_of, way_ends};
+use fo_files_at::{
+    File, RECORDS_BELOW, Way, at_place, below, data_of, lookup, next, records_of, way_ends,
+};
 use fo_image::Record;
 use fo_ports::{BlockError, Blocks, Bytes as _};
 use fo_world::{FileError, Info, Place};

@@ -2,8 +2,8 @@
 use Rattle.std.specs.Prelude.{ℕ, List}
 use Rattle.fo_image.specs.declared.record.Record.{Record}
 use Rattle.fo_meta.specs.Leaf.{IsLeaf}
-use Rattle.fo_dir_add.specs.Adds.{HasAdded, IsFullFor}
-use Rattle.fo_dir_change.specs.Changes.{HasTaken, IsFirstOf}
+use Rattle.fo_dir_move.specs.of_dir_add.Adds.{HasAdded, IsFullFor}
+use Rattle.fo_dir_move.specs.of_dir_change.Changes.{HasTaken, IsFirstOf}
 
 -- The first record of this name left the first leaf, and stands at the end of the other as it is; both were leaves of records.
 pub record HasMoved (name from_old to_old from_new to_new : List ℕ) : Type 0 where

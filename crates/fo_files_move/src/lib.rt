@@ -12,3 +12,6 @@
 mod between;
 
 pub use between::move_between;
+
+// Passed on, so that a crate above names this one alone.
+pub use fo_files_record::read;

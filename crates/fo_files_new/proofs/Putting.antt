@@ -10,8 +10,8 @@ use Rattle.fo_ports.specs.declared.error.BlockError.TheVariants.{Full, Damaged, 
 use Rattle.fo_ports.specs.Causes.{Caused}
 use Rattle.fo_ports.specs.State.{State, AddsNoWait, KeepsAll, Looks, none}
 use Rattle.fo_looks.proofs.Looks.{rose_later}
-use Rattle.fo_dir_put.specs.Paired.{HasBoth}
-use Rattle.fo_dir_put.specs.Puts.{IsOwnedEntries, IsOwnedRecords, StaysCalm}
+use Rattle.fo_dir_add.specs.of_dir_put.Paired.{HasBoth}
+use Rattle.fo_dir_add.specs.of_dir_put.Puts.{IsOwnedEntries, IsOwnedRecords, StaysCalm}
 use Rattle.fo_dir_add.specs.Adds.{HasAdded, IsNumbered, IsRaised}
 use Rattle.fo_files_dir.specs.declared.dir.DirAt.{DirAt}
 use Rattle.fo_files_leaf.specs.Leaf.{IsOwnLeaf}

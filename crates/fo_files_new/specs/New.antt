@@ -5,8 +5,8 @@ use Rattle.fo_image.specs.declared.record.Record.{Record}
 use Rattle.fo_image.specs.Record.{RecordHolds}
 use Rattle.fo_meta.specs.Leaf.{IsLeaf}
 use Rattle.fo_ports.specs.State.{State, AddsNoWait, Looks, none}
-use Rattle.fo_dir_put.specs.Paired.{HasBoth}
-use Rattle.fo_dir_put.specs.Puts.{StaysCalm}
+use Rattle.fo_dir_add.specs.of_dir_put.Paired.{HasBoth}
+use Rattle.fo_dir_add.specs.of_dir_put.Puts.{StaysCalm}
 use Rattle.fo_dir_add.specs.Adds.{HasAdded, IsNumbered, IsRaised}
 use Rattle.fo_files_dir.specs.declared.dir.DirAt.{DirAt}
 use Rattle.fo_files_leaf.specs.declared.open.LeafOf.{LeafOf}

@@ -12,8 +12,8 @@ use Rattle.fo_image.specs.declared.types.Kind.{Kind}
 use Rattle.fo_image.specs.declared.types.Kind.TheVariants.{Data, Root}
 use Rattle.fo_ports.specs.Blocks.{put_at, MayPut}
 use Rattle.fo_ports.specs.State.{State}
-use Rattle.fo_dir_change.specs.Changes.{HasChanged}
-use Rattle.fo_dir_put.proofs.Leaves.{leaf_long, whole_put}
+use Rattle.fo_files_record.specs.of_dir_change.Changes.{HasChanged}
+use Rattle.fo_files_record.proofs.of_dir_put.Leaves.{leaf_long, whole_put}
 use Rattle.fo_files_dir.specs.declared.dir.DirAt.{DirAt}
 use Rattle.fo_files_record.proofs.Rooted.{same_head, own_put, head_put}
 use Rattle.fo_files_record.specs.Own.{IsRootAt}

@@ -6,7 +6,7 @@ use Rattle.fo_image.specs.declared.types.State.TheVariants.{Live}
 use Rattle.fo_image.specs.Record.{RecordHolds, RootRecordHolds}
 use Rattle.fo_meta.specs.Leaf.{IsLeaf}
 use Rattle.fo_ports.specs.State.{State, Looks}
-use Rattle.fo_dir_change.specs.Changes.{HasChanged}
+use Rattle.fo_files_record.specs.of_dir_change.Changes.{HasChanged}
 use Rattle.fo_files_dir.specs.declared.dir.DirAt.{DirAt}
 use Rattle.fo_files_dir.specs.Dir.{IsDirAt}
 use Rattle.fo_files_record.specs.Leaf.{IsEntriesAt}

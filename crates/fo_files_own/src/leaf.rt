@@ -4,7 +4,7 @@ ghost use Rattle.fo_base.specs.Cause.{Rose};
 ghost use Rattle.fo_image.specs.Record.{RecordHolds};
 ghost use Rattle.fo_meta.specs.Leaf.{IsLeaf};
 ghost use Rattle.fo_ports.specs.Causes.{Caused};
-ghost use Rattle.fo_dir_change.specs.Changes.{HasChanged};
+ghost use Rattle.fo_files_record.specs.of_dir_change.Changes.{HasChanged};
 ghost use Rattle.fo_files_dir.specs.Dir.{IsDirAt};
 ghost use Rattle.fo_files_record.specs.Leaf.{IsEntriesAt};
 ghost use Rattle.fo_files_record.specs.Stays.{Rewrites, no_slot};

@@ -9,13 +9,13 @@ use Rattle.fo_image.specs.Format.{kind_code}
 use Rattle.fo_crash.specs.Images.{target}
 use Rattle.fo_ports.specs.State.{State, KeepsAll}
 use Rattle.fo_files_way.specs.of_tree.declared.source.Source.{Source}
-use Rattle.fo_tree_read.specs.declared.tree.Tree.{Tree}
-use Rattle.fo_tree_read.specs.Tree.{kind_down, below, is_none, score_in, block_at, address_of}
-use Rattle.fo_tree_look.specs.declared.ways.Kept.{Kept}
-use Rattle.fo_tree_look.specs.Source.{Ready, WayReady, seen}
-use Rattle.fo_tree_look.proofs.Held.{seen_address}
-use Rattle.fo_tree_look.proofs.Places.{is_here}
-use Rattle.fo_tree_look.proofs.Shown.{top_ready}
+use Rattle.fo_files_way.specs.of_tree_read.declared.tree.Tree.{Tree}
+use Rattle.fo_files_way.specs.of_tree_read.Tree.{kind_down, below, is_none, score_in, block_at, address_of}
+use Rattle.fo_files_way.specs.of_tree_look.declared.ways.Kept.{Kept}
+use Rattle.fo_files_way.specs.of_tree_look.Source.{Ready, WayReady, seen}
+use Rattle.fo_files_way.proofs.of_tree_look.Held.{seen_address}
+use Rattle.fo_files_way.proofs.of_tree_look.Places.{is_here}
+use Rattle.fo_files_way.proofs.of_tree_look.Shown.{top_ready}
 use Rattle.fo_files_way.specs.Plan.{IsLeafReady, AreBlocks}
 use Rattle.fo_files_way.specs.Owns.{SetsAt}
 use Rattle.fo_files_way.proofs.Prepared.{local_of, leaf_way}

@@ -5,8 +5,8 @@ use Rattle.std.proofs.Common.{◌≡◌, ◌⊎◌, ◌+◌, ◌*◌, ◌<◌, �
 use Rattle.std.proofs.lemmas.Bool.{cases_eq}
 use Rattle.fo_ports.specs.State.{State}
 use Rattle.fo_ports.specs.Sources.{AddsDirty, Dirties, most_to_own}
-use Rattle.fo_dirties.proofs.Putting.{dirties_at_once, first_among}
-use Rattle.fo_dirties.proofs.Adding.{cons_counted, dirties_gives, none_counted}
+use Rattle.fo_files_way.proofs.of_dirties.Putting.{dirties_at_once, first_among}
+use Rattle.fo_files_way.proofs.of_dirties.Adding.{cons_counted, dirties_gives, none_counted}
 use Rattle.fo_files_way.specs.declared.plan.Level.{Level}
 use Rattle.fo_files_way.specs.Plan.{most_for_levels}
 use Rattle.fo_files_way.specs.Owns.{IsIn, SetsAt}

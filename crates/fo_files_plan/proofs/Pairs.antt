@@ -4,7 +4,7 @@ use Rattle.std.proofs.lemmas.Bool.{cases_lt}
 use Rattle.fo_image.specs.declared.types.Kind.{Kind}
 use Rattle.fo_image.specs.declared.types.Kind.TheVariants.{Dir, Root}
 use Rattle.fo_ports.specs.State.{State}
-use Rattle.fo_tree_open.specs.Open.{HasEntry}
+use Rattle.fo_files_dir.specs.of_tree_open.Open.{HasEntry}
 use Rattle.fo_files_way.specs.declared.plan.Plan.{Plan}
 use Rattle.fo_files_way.specs.Plan.{IsPlanned, IsFirstSlot, AreBlocks}
 use Rattle.fo_files_way.proofs.Going.{Going, going_all}

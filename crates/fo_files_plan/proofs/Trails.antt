@@ -8,7 +8,7 @@ use Rattle.fo_ports.specs.State.{State, KeepsAll}
 use Rattle.fo_ports.specs.declared.error.BlockError.{BlockError}
 use Rattle.fo_ports.specs.declared.error.BlockError.TheVariants.{Full, Damaged, Fault, Arena, Memory}
 use Rattle.fo_ports.specs.Causes.{Caused}
-use Rattle.fo_looks.proofs.Looks.{rose_later}
+use Rattle.fo_files_way.proofs.of_looks.Looks.{rose_later}
 use Rattle.fo_files_way.specs.of_files_at.declared.at.Step.{Step}
 use Rattle.fo_files_way.specs.of_files_at.declared.at.Way.{Way}
 use Rattle.fo_files_way.specs.of_files_at.declared.file.File.{File}

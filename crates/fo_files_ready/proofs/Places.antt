@@ -7,10 +7,10 @@ use Rattle.fo_image.specs.Record.{record_len}
 use Rattle.fo_image.proofs.RecordLemmas.{length-record}
 use Rattle.fo_meta.specs.Leaf.{SpellsLeaf, IsLeaf, is_named, record_bytes, records_bytes, without}
 use Rattle.fo_meta.proofs.Lists.{any-first, without-none, without-first, records_bytes-append}
-use Rattle.fo_good.proofs.Leaf.{leaf_is_read}
-use Rattle.fo_dir_add.specs.Adds.{HasAdded}
-use Rattle.fo_dir_change.specs.Changes.{IsFirstOf, IsTooLong}
-use Rattle.fo_dir_read.proofs.Looking.{found_passes}
+use Rattle.fo_files_move.proofs.of_good.Leaf.{leaf_is_read}
+use Rattle.fo_files_move.specs.of_dir_add.Adds.{HasAdded}
+use Rattle.fo_files_move.specs.of_dir_change.Changes.{IsFirstOf, IsTooLong}
+use Rattle.fo_files_move.proofs.of_dir_read.Looking.{found_passes}
 use Rattle.fo_files_ready.specs.Ready.{HasPlace, HasRoom}
 
 one_more : (rs : List Record) (r : Record) → length (records_bytes (rs ++ r ∷ [])) ≡ length (records_bytes rs) + record_len r

@@ -9,8 +9,8 @@ use Rattle.fo_ports.specs.declared.error.BlockError.TheVariants.{Full, Damaged, 
 use Rattle.fo_ports.specs.Causes.{Caused}
 use Rattle.fo_ports.specs.State.{State, KeepsAll, Looks, none}
 use Rattle.fo_ports.specs.Sources.{Made}
-use Rattle.fo_looks.proofs.Looks.{rose_later}
-use Rattle.fo_tree_open.specs.Open.{HasEntry}
+use Rattle.fo_dirties.proofs.of_looks.Looks.{rose_later}
+use Rattle.fo_files_dir.specs.of_tree_open.Open.{HasEntry}
 use Rattle.fo_files_dir.specs.declared.dir.DirAt.{DirAt}
 use Rattle.fo_files_dir.specs.Dir.{IsDirAt, IsPairAt}
 use Rattle.fo_files_dir.proofs.Dirs.{pair_keeps}
@@ -18,10 +18,10 @@ use Rattle.fo_files_change.specs.of_files_leaf.declared.open.LeafOf.{LeafOf}
 use Rattle.fo_files_change.specs.of_files_leaf.Alters.{Alters, MayPut}
 use Rattle.fo_files_change.specs.of_files_leaf.Leaf.{IsHolder, IsWanted, IsAbove, IsOwnLeaf}
 use Rattle.fo_files_change.proofs.of_files_leaf.Altering.{alters_looks, alters_same, alters_joins}
-use Rattle.fo_files_record.specs.Leaf.{IsEntriesAt}
-use Rattle.fo_files_record.specs.Stays.{Rewrites, no_slot}
-use Rattle.fo_files_record.proofs.Owned.{entries_stay}
-use Rattle.fo_files_record.proofs.Rewriting.{rewrites_wider}
+use Rattle.fo_files_move.specs.of_files_record.Leaf.{IsEntriesAt}
+use Rattle.fo_files_move.specs.of_files_record.Stays.{Rewrites, no_slot}
+use Rattle.fo_files_move.proofs.of_files_record.Owned.{entries_stay}
+use Rattle.fo_files_move.proofs.of_files_record.Rewriting.{rewrites_wider}
 use Rattle.fo_files_move.specs.Moves.{HasMoved}
 use Rattle.fo_files_change.specs.Records.{AltersRecords, records_of}
 use Rattle.fo_files_change.proofs.Records.{dir_readied, dir_rewritten, entries_readied}

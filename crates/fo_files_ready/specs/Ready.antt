@@ -5,11 +5,11 @@ use Rattle.fo_crash.specs.declared.slot.Slot.{Slot}
 use Rattle.fo_crash.specs.declared.slot.Slot.TheVariants.{Entry as Head, Pointer as Leads, Prev}
 use Rattle.fo_meta.specs.Leaf.{IsLeaf}
 use Rattle.fo_ports.specs.State.{State, Looks}
-use Rattle.fo_dir_change.specs.Changes.{Bears, BearsNot, IsTooLong}
+use Rattle.fo_files_move.specs.of_dir_change.Changes.{Bears, BearsNot, IsTooLong}
 use Rattle.fo_files_dir.specs.declared.dir.DirAt.{DirAt}
 use Rattle.fo_files_change.specs.of_files_leaf.Leaf.{IsOwnLeaf, Readied}
-use Rattle.fo_files_record.specs.Leaf.{IsRecordsAt}
-use Rattle.fo_files_record.specs.Stays.{Rewrites, no_slot}
+use Rattle.fo_files_move.specs.of_files_record.Leaf.{IsRecordsAt}
+use Rattle.fo_files_move.specs.of_files_record.Stays.{Rewrites, no_slot}
 use Rattle.fo_files_move.specs.Moves.{HasMoved}
 use Rattle.fo_files_change.specs.Records.{AltersRecords, records_of}
 

@@ -5,7 +5,7 @@ ghost use Rattle.fo_ports.specs.Causes.{Caused};
 ghost use Rattle.fo_ports.specs.State.{Looks};
 ghost use Rattle.fo_files_dir.specs.Dir.{IsDirAt};
 ghost use Rattle.fo_files_change.specs.of_files_leaf.Leaf.{Readied};
-ghost use Rattle.fo_files_record.specs.Leaf.{IsRecordsAt, IsEntriesAt};
+ghost use Rattle.fo_files_move.specs.of_files_record.Leaf.{IsRecordsAt, IsEntriesAt};
 ghost use Rattle.fo_files_change.specs.Records.{AltersRecords, records_of};
 ghost use Rattle.fo_files_ready.specs.Ready.{IsLeafOf, most_spare, records_size};
 ghost use Rattle.fo_ports.specs.Sources.{AddsDirty, way_for};

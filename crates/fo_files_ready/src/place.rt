@@ -5,15 +5,15 @@ ghost use Rattle.fo_image.specs.Record.{RecordHolds};
 ghost use Rattle.fo_meta.specs.Leaf.{IsLeaf};
 ghost use Rattle.fo_ports.specs.Causes.{Caused};
 ghost use Rattle.fo_ports.specs.State.{Looks};
-ghost use Rattle.fo_dir_change.specs.Changes.{Bears, BearsNot, IsTooLong};
+ghost use Rattle.fo_files_move.specs.of_dir_change.Changes.{Bears, BearsNot, IsTooLong};
 ghost use Rattle.fo_files_dir.specs.Dir.{IsDirAt};
-ghost use Rattle.fo_files_record.specs.Leaf.{IsRecordsAt};
+ghost use Rattle.fo_files_move.specs.of_files_record.Leaf.{IsRecordsAt};
 ghost use Rattle.fo_files_ready.specs.Ready.{HasPlace, HasRoom, IsLeafOf, IsReadyFor};
 
 use crate::leaf::RECORDS_BELOW;
 use fo_base::BLOCK;
 use fo_files_dir::DirAt;
-use fo_files_record::read;
+use fo_files_move::read;
 use fo_image::Record;
 use fo_meta::{remove, replace};
 use fo_ports::{BlockError, Blocks};

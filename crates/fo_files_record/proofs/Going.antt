@@ -6,7 +6,7 @@ use Rattle.fo_meta.specs.Leaf.{is_named}
 use Rattle.fo_crash.specs.Steps.{cleared}
 use Rattle.fo_crash.specs.declared.slot.Slot.{Slot}
 use Rattle.fo_ports.specs.State.{State, QueuesOne}
-use Rattle.fo_dir_change.specs.Changes.{Bears, IsFirstOf}
+use Rattle.fo_dir_remove.specs.of_dir_change.Changes.{Bears, IsFirstOf}
 use Rattle.fo_dir_remove.specs.Removes.{IsGoing}
 
 -- an entry that goes, after a call that leaves it

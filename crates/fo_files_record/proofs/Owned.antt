@@ -6,7 +6,7 @@ use Rattle.fo_ports.specs.declared.error.BlockError.{BlockError}
 use Rattle.fo_ports.specs.declared.error.BlockError.TheVariants.{Full, Damaged, Fault, Arena, Memory}
 use Rattle.fo_ports.specs.Causes.{Caused}
 use Rattle.fo_ports.specs.State.{State, KeepsAll}
-use Rattle.fo_looks.proofs.Looks.{rose_later}
+use Rattle.fo_dir_remove.proofs.of_looks.Looks.{rose_later}
 use Rattle.fo_files_record.specs.Leaf.{IsRecordsAt, IsEntriesAt}
 use Rattle.fo_files_record.specs.Stays.{Rewrites}
 

@@ -3,7 +3,7 @@ use Rattle.std.proofs.Common.{◌≡◌, ◌≢◌, ℕ, Bool, true, false, inl,
 use Rattle.fo_crash.specs.Steps.{cleared}
 use Rattle.fo_crash.specs.declared.slot.Slot.{Slot}
 use Rattle.fo_ports.specs.State.{State, Looks, KeepsSlot}
-use Rattle.fo_dir_put.specs.Puts.{StaysCalm}
+use Rattle.fo_dir_remove.specs.of_dir_put.Puts.{StaysCalm}
 use Rattle.fo_files_record.specs.Stays.{Rewrites}
 
 -- a look

@@ -3,7 +3,7 @@ use Rattle.std.specs.Prelude.{◌≡◌, ℕ}
 use Rattle.fo_image.specs.declared.types.Kind.TheVariants.{Dir}
 use Rattle.fo_image.specs.declared.types.State.TheVariants.{Live}
 use Rattle.fo_ports.specs.State.{State}
-use Rattle.fo_dir_put.specs.Puts.{IsOwnedRecords}
+use Rattle.fo_dir_remove.specs.of_dir_put.Puts.{IsOwnedRecords}
 
 -- A leaf of records: a data block that is owned.
 pub record IsRecordsAt (s : State) (leaf : ℕ) : Type 0 where

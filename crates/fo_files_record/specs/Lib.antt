@@ -2,3 +2,4 @@ pub mod Leaf
 pub mod Stays
 pub mod Own
 pub mod Takes
+pub mod of_dir_change

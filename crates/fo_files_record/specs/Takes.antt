@@ -2,12 +2,12 @@
 use Rattle.std.specs.Prelude.{◌≡◌, ◌⊎◌, ◌+◌, ◌*◌, ◌%◌, ℕ, List, Bool, true}
 use Rattle.fo_image.specs.declared.record.Record.{Record}
 use Rattle.fo_meta.specs.Leaf.{IsLeaf}
-use Rattle.fo_world.specs.Step.{is_dir_mode}
+use Rattle.fo_dir_remove.specs.of_world.Step.{is_dir_mode}
 use Rattle.fo_image.specs.declared.types.Pointer.TheVariants.{Local}
 use Rattle.fo_crash.specs.Images.{target}
 use Rattle.fo_crash.specs.Names.{IsInUse}
 use Rattle.fo_ports.specs.State.{State, QueuesOne}
-use Rattle.fo_dir_change.specs.Changes.{HasTaken, IsFirstOf}
+use Rattle.fo_dir_remove.specs.of_dir_change.Changes.{HasTaken, IsFirstOf}
 use Rattle.fo_dir_remove.specs.Removes.{IsGoing}
 use Rattle.fo_files_record.specs.Stays.{Rewrites, IsPairSlot, IsClean, no_slot}
 

@@ -4,7 +4,7 @@ ghost use Rattle.fo_base.specs.Cause.{Rose};
 ghost use Rattle.fo_meta.specs.Leaf.{IsLeaf};
 ghost use Rattle.fo_ports.specs.Causes.{Caused};
 ghost use Rattle.fo_ports.specs.State.{Looks};
-ghost use Rattle.fo_dir_change.specs.Changes.{Bears};
+ghost use Rattle.fo_dir_remove.specs.of_dir_change.Changes.{Bears};
 ghost use Rattle.fo_files_record.specs.Leaf.{IsRecordsAt};
 
 use fo_base::BLOCK;

@@ -9,7 +9,7 @@ use Rattle.fo_files_dir.specs.declared.dir.DirAt.{DirAt}
 use Rattle.fo_files_dir.specs.declared.dir.FileAt.{FileAt}
 use Rattle.fo_files_own.specs.of_files_leaf.Alters.{MayPut}
 use Rattle.fo_files_own.specs.of_files_leaf.Leaf.{IsAbove}
-use Rattle.fo_files_record.specs.Leaf.{IsEntriesAt}
+use Rattle.fo_files_own.specs.of_files_record.Leaf.{IsEntriesAt}
 use Rattle.fo_files_edit.specs.of_files_write.Alters.{MayChange, any_kind}
 use Rattle.fo_files_own.specs.of_files_ready.Ready.{IsLeafOf}
 use Rattle.fo_files_own.proofs.of_files_ready.Steps.{leaf_kept}

@@ -10,8 +10,8 @@ use Rattle.fo_files_edit.specs.of_files_at.declared.at.Way.{Way}
 use Rattle.fo_files_edit.specs.of_files_at.Way.{IsWay}
 use Rattle.fo_files_dir.specs.declared.dir.DirAt.{DirAt}
 use Rattle.fo_files_dir.specs.Dir.{IsDirAt}
-use Rattle.fo_files_record.specs.Leaf.{IsEntriesAt}
-use Rattle.fo_files_record.specs.Own.{IsRootAt}
+use Rattle.fo_files_own.specs.of_files_record.Leaf.{IsEntriesAt}
+use Rattle.fo_files_own.specs.of_files_record.Own.{IsRootAt}
 use Rattle.fo_files_own.specs.Own.{IsOwnAt, MayOwn}
 use Rattle.fo_files_edit.specs.of_files_along.Along.{IsAboveOf, touched}
 use Rattle.fo_files_edit.proofs.of_files_along.Ways.{step_at, steps_long, touched_holds}

@@ -4,7 +4,7 @@ ghost use Rattle.fo_base.specs.Cause.{Rose};
 ghost use Rattle.fo_image.specs.Record.{RecordHolds};
 ghost use Rattle.fo_ports.specs.Causes.{Caused};
 ghost use Rattle.fo_files_dir.specs.Dir.{IsDirAt, IsFileAt};
-ghost use Rattle.fo_files_record.specs.Leaf.{IsEntriesAt};
+ghost use Rattle.fo_files_own.specs.of_files_record.Leaf.{IsEntriesAt};
 ghost use Rattle.fo_files_own.specs.Own.{IsOwnAt, MayOwn, block_of, blocks_for};
 ghost use Rattle.fo_files_rename.specs.Rename.{IsApartFrom, IsBeside, LeavesFile, RenamesFile};
 ghost use Rattle.fo_ports.specs.Sources.{AddsDirty};

@@ -14,7 +14,7 @@ use Rattle.fo_files_dir.specs.declared.dir.DirAt.{DirAt}
 use Rattle.fo_files_dir.specs.Dir.{IsDirAt}
 use Rattle.fo_files_own.specs.of_files_leaf.Alters.{MayPut}
 use Rattle.fo_files_own.specs.of_files_leaf.Leaf.{IsAbove}
-use Rattle.fo_files_record.specs.Stays.{Rewrites, no_slot}
+use Rattle.fo_files_own.specs.of_files_record.Stays.{Rewrites, no_slot}
 use Rattle.fo_files_own.specs.of_files_change.Records.{AltersRecords}
 use Rattle.fo_files_own.proofs.of_files_ready.Steps.{leaf_kept}
 use Rattle.fo_files_along.specs.Along.{touched}
@@ -24,8 +24,8 @@ use Rattle.fo_files_own.specs.declared.at.OwnAt.TheVariants as place
 use Rattle.fo_files_own.specs.declared.at.ReadyOwn.{ReadyOwn}
 use Rattle.fo_files_own.specs.Own.{AltersOwn, IsBlockOf, IsOwnAt, MayOwn, MayPutOwn, blocks_for}
 use Rattle.fo_files_own.proofs.Carry.{may_put_on}
-use Rattle.fo_files_record.specs.Leaf.{IsEntriesAt}
-use Rattle.fo_files_record.specs.Own.{IsRootAt}
+use Rattle.fo_files_own.specs.of_files_record.Leaf.{IsEntriesAt}
+use Rattle.fo_files_own.specs.of_files_record.Own.{IsRootAt}
 use Rattle.fo_files_take.specs.Take.{IsApartFrom, own_of}
 
 -- a root directory's record stays one

@@ -13,8 +13,8 @@ use Rattle.fo_files_along.specs.of_files_at.Way.{IsWay}
 use Rattle.fo_files_dir.specs.declared.dir.DirAt.{DirAt}
 use Rattle.fo_files_dir.specs.declared.dir.FileAt.{FileAt}
 use Rattle.fo_files_own.specs.of_files_leaf.Leaf.{Readied}
-use Rattle.fo_files_record.specs.Stays.{Rewrites, no_slot}
-use Rattle.fo_files_record.specs.Takes.{TakesOut}
+use Rattle.fo_files_own.specs.of_files_record.Stays.{Rewrites, no_slot}
+use Rattle.fo_files_own.specs.of_files_record.Takes.{TakesOut}
 use Rattle.fo_files_own.specs.of_files_change.Records.{AltersRecords, records_of}
 use Rattle.fo_files_along.specs.Along.{GoesAlong, touched}
 use Rattle.fo_files_own.specs.declared.at.OwnAt.{OwnAt}

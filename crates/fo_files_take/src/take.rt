@@ -3,7 +3,7 @@ ghost use Rattle.std.specs.Prelude.{◌≡◌, ◌⊎◌, ◌+◌, ◌≤◌, �
 ghost use Rattle.fo_base.specs.Cause.{Rose};
 ghost use Rattle.fo_ports.specs.Causes.{Caused};
 ghost use Rattle.fo_files_dir.specs.Dir.{IsDirAt};
-ghost use Rattle.fo_files_record.specs.Leaf.{IsEntriesAt};
+ghost use Rattle.fo_files_own.specs.of_files_record.Leaf.{IsEntriesAt};
 ghost use Rattle.fo_files_own.specs.Own.{IsOwnAt, MayOwn, block_of, blocks_for};
 ghost use Rattle.fo_files_take.specs.Take.{IsApartFrom, LeavesFrom, TakesFrom, own_of};
 ghost use Rattle.fo_ports.specs.Sources.{AddsDirty};

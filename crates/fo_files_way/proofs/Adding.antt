@@ -14,15 +14,15 @@ use Rattle.fo_ports.specs.Causes.{Caused}
 use Rattle.fo_ports.specs.Sources.{most_to_own, most_for, IsPlain}
 use Rattle.fo_tree_read.specs.Tree.{kind_at}
 use Rattle.fo_tree_look.specs.Source.{form_of}
-use Rattle.fo_tree_link.specs.Link.{entry_of}
-use Rattle.fo_tree_trim.proofs.Least.{few_for}
-use Rattle.fo_tree_leaf.proofs.Owning.{most_within}
+use Rattle.fo_tree_shorten.specs.of_tree_link.Link.{entry_of}
+use Rattle.fo_tree_shorten.proofs.of_tree_trim.Least.{few_for}
+use Rattle.fo_files_at.proofs.of_tree_leaf.Owning.{most_within}
 use Rattle.fo_files_way.specs.declared.add.Wanted.{Wanted}
-use Rattle.fo_looks.proofs.Looks.{ready_looks, rose_later}
+use Rattle.fo_dirties.proofs.of_looks.Looks.{ready_looks, rose_later}
 use Rattle.fo_files_at.specs.of_tree.declared.source.Source.{Source}
 use Rattle.fo_files_at.specs.of_tree.Laws.{keeps_prepared}
 use Rattle.fo_tree_look.proofs.Shown.{over_looks}
-use Rattle.fo_tree_open.specs.Open.{HasEntry}
+use Rattle.fo_tree_shorten.specs.of_tree_open.Open.{HasEntry}
 use Rattle.std.specs.Prelude.{Result, Ok, Err, IfOk}
 use Rattle.fo_files_way.specs.declared.plan.Level.{Level}
 use Rattle.fo_files_way.specs.declared.plan.Plan.{Plan}

@@ -14,8 +14,8 @@ use Rattle.fo_files_at.specs.of_tree.declared.source.Source.{Source}
 use Rattle.fo_files_at.specs.of_tree.Laws.{keeps_over, keeps_prepared}
 use Rattle.fo_tree_read.specs.Tree.{kind_at}
 use Rattle.fo_tree_look.specs.Source.{address_here}
-use Rattle.fo_tree_link.specs.Link.{entry_of}
-use Rattle.fo_tree_open.specs.Open.{HasEntry}
+use Rattle.fo_tree_shorten.specs.of_tree_link.Link.{entry_of}
+use Rattle.fo_tree_shorten.specs.of_tree_open.Open.{HasEntry}
 use Rattle.fo_tree_shorten.specs.Shorten.{EntryAt}
 use Rattle.fo_files_way.specs.declared.plan.Level.{Level}
 use Rattle.fo_files_way.specs.Plan.{IsHeld, IsLeafReady, IsEntryIn, IsLevel, AreLevels, MayOwnAll}

@@ -14,11 +14,11 @@ use Rattle.fo_ports.specs.Sources.{Form, Made, Touched, Changes, Owned, Grows, M
 use Rattle.fo_files_at.specs.of_tree.declared.source.Source.{Source}
 use Rattle.fo_tree_read.specs.Tree.{kind_at}
 use Rattle.fo_tree_look.specs.Source.{HasBlock, Over, Prepared, address_here, held_here, form_of, leaves_of}
-use Rattle.fo_tree_link.specs.Link.{entry_of}
-use Rattle.fo_tree_link.specs.Change.{SameSource}
+use Rattle.fo_tree_shorten.specs.of_tree_link.Link.{entry_of}
+use Rattle.fo_tree_shorten.specs.of_tree_link.Change.{SameSource}
 use Rattle.fo_files_at.proofs.of_tree.Relinking.{same_source}
 use Rattle.fo_files_at.specs.of_tree.Laws.{keeps_prepared}
-use Rattle.fo_tree_down.proofs.Join.{local_cases}
+use Rattle.fo_tree_shorten.proofs.of_tree_down.Join.{local_cases}
 use Rattle.fo_tree_shorten.specs.Shorten.{EntryAt, Links}
 use Rattle.fo_tree_shorten.proofs.Entries.{entry_owned, entry_put}
 use Rattle.fo_files_way.specs.Plan.{IsLeafReady}

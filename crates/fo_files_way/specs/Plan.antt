@@ -7,8 +7,8 @@ use Rattle.fo_ports.specs.State.{State}
 use Rattle.fo_ports.specs.Sources.{IsPlain, most_to_own}
 use Rattle.fo_files_at.specs.of_tree.declared.source.Source.{Source}
 use Rattle.fo_tree_look.specs.Source.{Over, Prepared, address_here, form_of}
-use Rattle.fo_tree_open.specs.Open.{HasEntry}
-use Rattle.fo_tree_link.specs.Link.{entry_of}
+use Rattle.fo_tree_shorten.specs.of_tree_open.Open.{HasEntry}
+use Rattle.fo_tree_shorten.specs.of_tree_link.Link.{entry_of}
 use Rattle.fo_image.specs.declared.types.Entry.{Entry}
 use Rattle.fo_files_way.specs.declared.add.Wanted.{Wanted}
 use Rattle.fo_files_at.specs.declared.file.File.{File}

@@ -7,7 +7,7 @@ ghost use Rattle.fo_ports.specs.Causes.{Caused};
 ghost use Rattle.fo_ports.specs.State.{Looks};
 ghost use Rattle.fo_tree_read.specs.Tree.{kind_at};
 ghost use Rattle.fo_tree_look.specs.Source.{Over, Prepared, address_here};
-ghost use Rattle.fo_tree_open.specs.Open.{HasEntry};
+ghost use Rattle.fo_tree_shorten.specs.of_tree_open.Open.{HasEntry};
 ghost use Rattle.fo_files_way.specs.Plan.{IsEntryIn, IsWanted, IsLeafReady, IsHeld, MayOwnAll, AreBlocks, Fulfils, IsAdded, most_for_levels};
 
 use crate::plan::{Level, Plan};

@@ -3,8 +3,8 @@ ghost use Rattle.std.specs.Prelude.{◌≡◌, ◌+◌, ◌*◌, ◌^◌, ◌≤
 ghost use Rattle.fo_image.specs.declared.types.Pointer.TheVariants.{Local};
 ghost use Rattle.fo_tree_read.specs.Tree.{kind_at};
 ghost use Rattle.fo_tree_look.specs.Source.{Over, Prepared, IsPrepared, address_here};
-ghost use Rattle.fo_tree_open.specs.Open.{IsFit, tree_of};
-ghost use Rattle.fo_tree_link.specs.Link.{entry_of};
+ghost use Rattle.fo_tree_shorten.specs.of_tree_open.Open.{IsFit, tree_of};
+ghost use Rattle.fo_tree_shorten.specs.of_tree_link.Link.{entry_of};
 
 use fo_files_at::tree::Source;
 use fo_image::Entry;

@@ -19,10 +19,10 @@ use Rattle.fo_tree_read.specs.declared.tree.Tree.{Tree}
 use Rattle.fo_tree_read.specs.Tree.{kind_at}
 use Rattle.fo_tree_look.specs.declared.ways.Kept.{Kept}
 use Rattle.fo_tree_look.specs.Source.{Over, HasBlock, Prepared, IsPrepared, Ready, WayReady, form_of, leaves_of}
-use Rattle.fo_tree_down.proofs.Topping.{ready_local}
-use Rattle.fo_tree_open.specs.Open.{HasEntry}
-use Rattle.fo_tree_link.specs.Link.{entry_of}
-use Rattle.fo_tree_link.specs.Change.{SameSource}
+use Rattle.fo_tree_trim.proofs.of_tree_down.Topping.{ready_local}
+use Rattle.fo_files_dir.specs.of_tree_open.Open.{HasEntry}
+use Rattle.fo_tree_shorten.specs.of_tree_link.Link.{entry_of}
+use Rattle.fo_tree_shorten.specs.of_tree_link.Change.{SameSource}
 use Rattle.fo_tree.specs.Laws.{keeps_prepared}
 use Rattle.fo_tree.proofs.Relinking.{same_source}
 use Rattle.fo_tree_shorten.specs.Shorten.{EntryAt}

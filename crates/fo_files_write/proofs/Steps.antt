@@ -5,7 +5,7 @@ use Rattle.fo_base.specs.Cause.{Rose}
 use Rattle.fo_ports.specs.declared.error.BlockError.{BlockError}
 use Rattle.fo_ports.specs.declared.error.BlockError.TheVariants.{Full, Damaged, Fault, Arena, Memory}
 use Rattle.fo_ports.specs.Causes.{Caused}
-use Rattle.fo_looks.proofs.Looks.{rose_later}
+use Rattle.fo_dirties.proofs.of_looks.Looks.{rose_later}
 use Rattle.fo_image.specs.declared.types.Label.{Label}
 use Rattle.fo_image.specs.declared.types.Kind.{Kind}
 use Rattle.fo_image.specs.declared.types.Kind.TheVariants.{Data}
@@ -23,8 +23,8 @@ use Rattle.fo_tree_read.specs.declared.tree.Tree.{Tree}
 use Rattle.fo_tree_read.specs.Tree.{kind_at}
 use Rattle.fo_tree_look.specs.declared.ways.Kept.{Kept}
 use Rattle.fo_tree_look.specs.Source.{HasBlock}
-use Rattle.fo_tree_down.specs.Way.{with_top}
-use Rattle.fo_tree_link.specs.Link.{entry_of}
+use Rattle.fo_tree_trim.specs.of_tree_down.Way.{with_top}
+use Rattle.fo_tree_shorten.specs.of_tree_link.Link.{entry_of}
 use Rattle.fo_tree_trim.specs.Cut.{CutSlot}
 use Rattle.fo_tree_trim.proofs.Along.{Aside, on_device}
 use Rattle.fo_tree_trim.proofs.Past.{index_above}

@@ -6,7 +6,7 @@ use Rattle.fo_ports.specs.State.{State}
 use Rattle.fo_tree_read.specs.declared.tree.Tree.{Tree}
 use Rattle.fo_tree.specs.declared.source.Source.{Source}
 use Rattle.fo_tree_look.specs.Source.{Over, Prepared, form_of}
-use Rattle.fo_tree_down.specs.Clear.{EndsClear}
+use Rattle.fo_tree_trim.specs.of_tree_down.Clear.{EndsClear}
 use Rattle.fo_tree_shorten.specs.Shorten.{EntryAt}
 use Rattle.fo_files_dir.specs.declared.dir.FileAt.{FileAt}
 

@@ -3,7 +3,7 @@ ghost use Rattle.std.specs.Prelude.{◌≡◌, ◌+◌, ◌*◌, ◌^◌, ◌<�
 ghost use Rattle.fo_crash.specs.declared.slot.Slot.TheVariants.{Entry as Head};
 ghost use Rattle.fo_ports.specs.declared.error.BlockError.TheVariants.{Damaged};
 ghost use Rattle.fo_tree_look.specs.Source.{Over};
-ghost use Rattle.fo_tree_open.specs.Open.{HasEntry};
+ghost use Rattle.fo_files_dir.specs.of_tree_open.Open.{HasEntry};
 ghost use Rattle.fo_tree_shorten.specs.Shorten.{EntryAt};
 ghost use Rattle.fo_files_dir.specs.Dir.{IsFileAt};
 

@@ -4,7 +4,7 @@ ghost use Rattle.fo_base.specs.Cause.{Rose};
 ghost use Rattle.fo_ports.specs.Causes.{Caused};
 ghost use Rattle.fo_ports.specs.State.{Looks};
 ghost use Rattle.fo_tree_look.specs.Source.{Over, Prepared, form_of};
-ghost use Rattle.fo_tree_down.specs.Clear.{EndsClear};
+ghost use Rattle.fo_tree_trim.specs.of_tree_down.Clear.{EndsClear};
 ghost use Rattle.fo_tree_shorten.specs.Shorten.{EntryAt};
 ghost use Rattle.fo_files_write.specs.Alters.{Alters, is_above, any_kind};
 ghost use Rattle.fo_files_write.specs.Data.{SameData, most_of};

@@ -4,8 +4,8 @@ use Rattle.std.specs.Prelude.{◌&&◌, nat_lt, nat_le}
 use Rattle.std.specs.List.{All, AllByRecursion, flat_map, filter, range_with_len}
 use Rattle.std.proofs.lemmas.Bool.{ltb-true, leb-true}
 use Rattle.std.proofs.lemmas.List.Elements.{All-nil, All-push}
-use Rattle.fo_base.specs.Text.{is_text, IsText}
-use Rattle.fo_disk.specs.Disk.{Block}
+use Rattle.fo_world.specs.of_base.Text.{is_text, IsText}
+use Rattle.fo_sound.specs.of_disk.Disk.{Block}
 use Rattle.fo_image.specs.declared.types.Super.{Super}
 use Rattle.fo_image.specs.declared.record.Record.{Record}
 use Rattle.fo_image.specs.Field.{Two, number_at}

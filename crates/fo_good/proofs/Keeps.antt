@@ -1,7 +1,7 @@
 -- How goodness lasts: with more stale files, with more in doubt, where nothing changes, and over steps one after another.
 use Rattle.std.proofs.Common.{◌≡◌, ◌⊎◌, ⊎_elim, ◌<◌, ◌≤◌, Bool, true, false, ◌||◌, List, length, refl, sym, ap, inl, inr, subst}
-use Rattle.fo_disk.specs.Disk.{Block, IsImage, EachImage}
-use Rattle.fo_disk.proofs.Moments.{started}
+use Rattle.fo_sound.specs.of_disk.Disk.{Block, IsImage, EachImage}
+use Rattle.fo_sound.proofs.of_disk.Moments.{started}
 use Rattle.fo_world.specs.declared.tree.Node.{Node}
 use Rattle.fo_world.specs.World.{World}
 use Rattle.fo_good.specs.Touched.{Files, either, no_file, AreAmong, KeepsFiles}

@@ -3,8 +3,8 @@ use Rattle.std.proofs.Common.{◌≡◌, ℕ, true, List, Option, Some, None, re
 use Rattle.std.specs.Prelude.{◌&&◌}
 use Rattle.std.specs.Str.{bytes_eq}
 use Rattle.std.proofs.lemmas.Cmp.{nat_eq_equiv, nat_list_eq_equiv}
-use Rattle.fo_disk.specs.Disk.{Block, Content, IsImage, settled}
-use Rattle.fo_disk.proofs.Quiet.{settled-image}
+use Rattle.fo_sound.specs.of_disk.Disk.{Block, Content, IsImage, settled}
+use Rattle.fo_sound.proofs.of_disk.Quiet.{settled-image}
 use Rattle.fo_image.specs.declared.types.Score.{Score}
 use Rattle.fo_world.specs.declared.tree.Node.{Node}
 use Rattle.fo_world.specs.declared.tree.Body.{Body}

@@ -1,7 +1,7 @@
 -- Good images of the two devices: what holds of whatever a crash leaves.
 use Rattle.std.specs.Prelude.{◌≡◌, ◌⊎◌, ℕ, ◌≤◌, true, List, [], Option, None}
 use Rattle.std.specs.List.{Contains}
-use Rattle.fo_disk.specs.Disk.{Block, Content, IsImage, IsNewest, SinceBoth}
+use Rattle.fo_sound.specs.of_disk.Disk.{Block, Content, IsImage, IsNewest, SinceBoth}
 use Rattle.fo_image.specs.declared.types.Super.{Super}
 use Rattle.fo_image.specs.declared.types.Score.{Score}
 use Rattle.fo_crash.specs.Images.{Image, Arena}

@@ -6,3 +6,4 @@ pub mod Opened
 pub mod Touched
 pub mod Good
 pub mod Lost
+pub mod of_world

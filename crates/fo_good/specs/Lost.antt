@@ -2,7 +2,7 @@
 -- Server").
 use Rattle.std.specs.Prelude.{◌≡◌, ◌≢◌, ◌⊎◌, ℕ, ◌+◌, ◌-◌, ◌*◌, ◌<◌, ◌≤◌, ◌↔◌, Bool, false, List, ◌∷◌, length, count_by, slice_index_or, IsTrue}
 use Rattle.std.specs.List.{Contains}
-use Rattle.fo_disk.specs.Disk.{Block}
+use Rattle.fo_sound.specs.of_disk.Disk.{Block}
 use Rattle.fo_image.specs.declared.types.Label.{Label}
 use Rattle.fo_image.specs.declared.types.State.TheVariants.{Live, Closed}
 use Rattle.fo_image.specs.declared.types.Super.{Super}

@@ -1,7 +1,7 @@
 -- A device's blocks as an image: what each block that is reached holds, read as the kind that leads to it. Blocks of pointers, entries
 -- and roots are those of the Fossil paper ("Fossil, an Archival File Server", the section on the file system's layout).
 use Rattle.std.specs.Prelude.{◌≡◌, ℕ, ◌*◌, ◌<◌, ◌≤◌, true, zero, suc, List, take, drop}
-use Rattle.fo_disk.specs.Disk.{Block}
+use Rattle.fo_sound.specs.of_disk.Disk.{Block}
 use Rattle.fo_image.specs.declared.types.Kind.{Kind}
 use Rattle.fo_image.specs.declared.types.Kind.TheVariants.{Data, Dir, Root}
 use Rattle.fo_image.specs.declared.types.Entry.{Entry}

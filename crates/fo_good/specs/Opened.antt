@@ -1,7 +1,7 @@
 -- The plain world that a device is opened as: the active tree, and along the chain of roots the snapshots (the Fossil paper, "Fossil,
 -- an Archival File Server"; fossil(4) of the Plan 9 manual).
 use Rattle.std.specs.Prelude.{◌≡◌, ℕ, List, [], ◌∷◌, ◌++◌, codes, false}
-use Rattle.fo_disk.specs.Disk.{Block}
+use Rattle.fo_sound.specs.of_disk.Disk.{Block}
 use Rattle.fo_image.specs.declared.types.Super.{Super}
 use Rattle.fo_crash.specs.Images.{Image, Arena}
 use Rattle.fo_world.specs.declared.tree.Tree.{Tree}

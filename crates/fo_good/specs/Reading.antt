@@ -3,7 +3,7 @@
 -- sound it gives some tree whose names and users are within the limits.
 use Rattle.std.specs.Prelude.{ℕ, ◌+◌, ◌*◌, ◌/◌, zero, suc, Bool, ◌&&◌, nat_le, nat_lt, List, [], ◌∷◌, length, map, take, drop, codes, ◌^◌, if◌then◌else◌}
 use Rattle.std.specs.List.{flat_map, filter, range_with_len}
-use Rattle.fo_base.specs.Text.{is_text}
+use Rattle.fo_world.specs.of_base.Text.{is_text}
 use Rattle.fo_image.specs.declared.record.Record.{Record}
 use Rattle.fo_image.specs.Field.{One, Two, Four, number_at}
 use Rattle.fo_crash.specs.Images.{Image, Arena, Link, step, bytes_at, leaf_path, entry_of, source_byte, from_block}

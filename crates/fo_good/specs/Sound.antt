@@ -2,7 +2,7 @@
 -- labels and the chain of roots are those of the Fossil paper ("Fossil, an Archival File Server").
 use Rattle.std.specs.Prelude.{◌≡◌, ℕ, ◌+◌, ◌<◌, ◌≤◌, Bool, true, false, List, [], ◌∷◌, length, None}
 use Rattle.std.specs.List.{AllByRecursion}
-use Rattle.fo_disk.specs.Disk.{Block}
+use Rattle.fo_sound.specs.of_disk.Disk.{Block}
 use Rattle.fo_image.specs.declared.types.Super.{Super}
 use Rattle.fo_image.specs.declared.types.Kind.TheVariants.{Root}
 use Rattle.fo_image.specs.declared.types.State.TheVariants.{Free, Closed}

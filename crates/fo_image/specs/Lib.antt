@@ -4,3 +4,4 @@ pub mod Part
 pub mod Place
 pub mod Record
 pub mod Usable
+pub mod of_base

@@ -35,3 +35,6 @@ pub use roots::{is_root, read_root, write_root};
 pub use types::{
     ArenaHead, ArenaLine, Bad, Entry, Header, Kind, Label, Pointer, Score, State, Super,
 };
+
+// Passed on, so that a crate above names this one alone.
+pub use fo_base::{Memory, is_text};

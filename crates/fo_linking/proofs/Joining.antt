@@ -15,11 +15,11 @@ use Rattle.fo_order.specs.Flags.{flags_of, quiet}
 use Rattle.fo_order.specs.Keeps.{Turns}
 use Rattle.fo_order.specs.Turns.{changed, flag_at, is_ranked, noted}
 use Rattle.fo_labels.specs.Region.{IsDataBlock, Region, label_of}
-use Rattle.fo_crash.specs.declared.slot.Slot.{Slot}
-use Rattle.fo_crash.specs.declared.slot.Slot.TheVariants.{Pointer as To}
-use Rattle.fo_crash.specs.Images.{target}
-use Rattle.fo_ports.specs.Blocks.{ReadsSlots, slot_count}
-use Rattle.fo_slots.specs.Read.{read}
+use Rattle.fo_buffers.specs.of_crash.declared.slot.Slot.{Slot}
+use Rattle.fo_buffers.specs.of_crash.declared.slot.Slot.TheVariants.{Pointer as To}
+use Rattle.fo_buffers.specs.of_crash.Images.{target}
+use Rattle.fo_buffers.specs.of_ports.Blocks.{ReadsSlots, slot_count}
+use Rattle.fo_buffers.specs.of_slots.Read.{read}
 use Rattle.fo_facts.specs.declared.fact.Fact.{Fact}
 use Rattle.fo_facts.specs.Counts.{owes, is_made}
 use Rattle.fo_facts.specs.Known.{fact_at, linked_as, no_fact}

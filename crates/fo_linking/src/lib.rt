@@ -14,3 +14,6 @@ mod linking;
 mod list;
 
 pub use list::Worklist;
+
+// Passed on, so that a crate above names this one alone.
+pub use fo_buffers::Buffers;

@@ -3,21 +3,20 @@ ghost use Rattle.std.specs.Prelude.{◌≡◌, ◌+◌, ◌<◌, ◌≤◌, ℕ,
 ghost use Rattle.std.specs.Vec.{vec_len, vec_capacity};
 ghost use Rattle.fo_image.specs.declared.types.Pointer.{Pointer as Where};
 ghost use Rattle.fo_image.specs.declared.types.Pointer.TheVariants.{Local};
-ghost use Rattle.fo_crash.specs.Images.{target};
-ghost use Rattle.fo_ports.specs.Blocks.{ReadsSlots, slot_count};
-ghost use Rattle.fo_slots.specs.Read.{read};
+ghost use Rattle.fo_buffers.specs.of_crash.Images.{target};
+ghost use Rattle.fo_buffers.specs.of_ports.Blocks.{ReadsSlots, slot_count};
+ghost use Rattle.fo_buffers.specs.of_slots.Read.{read};
 ghost use Rattle.fo_labels.specs.Region.{Region};
 ghost use Rattle.fo_facts.specs.declared.fact.Fact.{Fact as Known};
 ghost use Rattle.fo_facts.specs.Known.{fact_at, linked_as, noted};
 ghost use Rattle.fo_linking.specs.Joined.{AreGood, IsLinked, IsReached, IsReady, JoinsBelow, LeadsToLinked, is_changed};
 ghost use Rattle.fo_linking.specs.Steps.{Grows, IsAble, Looks, Reaches, taken_if};
 
-use fo_buffers::Buffers;
+use fo_buffers::{Buffers, slot_count, slot_of};
 use fo_facts::Facts;
 use fo_image::{Kind, Pointer};
 use fo_labels::Labels;
 use fo_order::Order;
-use fo_slots::{slot_count, slot_of};
 
 // A block takes a turn, where memory has it changed.
 fn take_if(order: &mut Order, dirty: bool, at: u32, rank: u32)

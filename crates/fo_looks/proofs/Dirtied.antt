@@ -3,9 +3,9 @@ use Rattle.std.specs.List.{Contains}
 use Rattle.std.proofs.Common.{◌≡◌, ◌⊎◌, ◌++◌, ℕ, zero, suc, List, [], ◌∷◌, inl, inr, ⊎_elim, refl, sym, ap, ◌∙◌, subst, arith}
 use Rattle.std.proofs.lemmas.Bool.{cases_eq}
 use Rattle.std.proofs.lemmas.List.Elements.{Contains-append_left, Contains-append_right}
-use Rattle.fo_image.specs.declared.types.Label.{Label}
-use Rattle.fo_image.specs.declared.types.State.{State as Mark}
-use Rattle.fo_image.specs.declared.types.State.TheVariants.{Closed, Free, Live}
+use Rattle.fo_ports.specs.of_image.declared.types.Label.{Label}
+use Rattle.fo_ports.specs.of_image.declared.types.State.{State as Mark}
+use Rattle.fo_ports.specs.of_image.declared.types.State.TheVariants.{Closed, Free, Live}
 use Rattle.fo_ports.specs.State.{State, KeepsAll, Rests}
 use Rattle.fo_ports.specs.Sources.{AddsDirty, Dirties, DirtiesIn, IsRested}
 

@@ -1,8 +1,8 @@
 -- What was given out stood nowhere before, however many calls came first: its label says so.
 use Rattle.std.proofs.Common.{◌≡◌, ◌≢◌, ℕ, true, false, sym, ◌∙◌, subst}
-use Rattle.fo_image.specs.declared.types.Label.{Label}
-use Rattle.fo_image.specs.Usable.{is_usable}
-use Rattle.fo_crash.specs.declared.place.Place.{Place}
+use Rattle.fo_ports.specs.of_image.declared.types.Label.{Label}
+use Rattle.fo_ports.specs.of_image.Usable.{is_usable}
+use Rattle.fo_ports.specs.of_crash.declared.place.Place.{Place}
 use Rattle.fo_ports.specs.State.{State, KeepsAll}
 
 -- what stands is not usable by its label

@@ -1,10 +1,10 @@
 -- Calls that only look, one after another.
 use Rattle.std.proofs.Common.{◌≡◌, ◌↔◌, Option, ◌+◌, ◌-◌, ◌^◌, ◌≤◌, ℕ, length, List, min, inl, inr, ⊎_elim, sym, ap, ◌∙◌, arith}
 use Rattle.std.proofs.lemmas.Bool.{cases_lt}
-use Rattle.fo_base.specs.Cause.{Rose}
-use Rattle.fo_crash.specs.Images.{Image, Content, SameContent, SameImage, Reaches, to_block, target}
-use Rattle.fo_crash.specs.Steps.{Passes, IsOneOf}
-use Rattle.fo_crash.proofs.Reach.{same_walk, reaches_itself, reaches_joins}
+use Rattle.fo_ports.specs.of_base.Cause.{Rose}
+use Rattle.fo_ports.specs.of_crash.Images.{Image, Content, SameContent, SameImage, Reaches, to_block, target}
+use Rattle.fo_ports.specs.of_crash.Steps.{Passes, IsOneOf}
+use Rattle.fo_ports.proofs.of_crash.Reach.{same_walk, reaches_itself, reaches_joins}
 use Rattle.fo_ports.specs.State.{State, KeepsAll, Looks, IsRooted}
 use Rattle.fo_ports.specs.Sources.{Leaves, SameLeaves, IsHung, StaysInPlace, Undisturbed, IsReady, StaysReady, source_bytes}
 

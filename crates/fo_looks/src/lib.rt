@@ -4,3 +4,8 @@
 //! only looks; a source whose blocks were only looked at is undisturbed, so it stays (the law `stays` of `Bytes`); and a fault
 //! that a later call had is one of the whole.
 #![tactic(auto)]
+
+// Passed on, so that a crate above names this one alone.
+pub use fo_ports::{
+    BLOCK, BlockError, Blocks, Kind, Pointer, Score, is_zero, read_pointer, score_at,
+};

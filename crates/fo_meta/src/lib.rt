@@ -14,3 +14,6 @@ mod leaf;
 
 pub use error::MetaError;
 pub use leaf::{empty_leaf, find, insert, remove, replace};
+
+// Passed on, so that a crate above names this one alone.
+pub use fo_image::{Entry, Kind, Label, Pointer, Score, is_zero, read_pointer, score_at};

@@ -4,7 +4,7 @@ use Rattle.fo_buffers.specs.Held.{Held, held_at}
 use Rattle.fo_order.specs.Keeps.{Turns}
 use Rattle.fo_labels.specs.Region.{Region, usable_count}
 use Rattle.fo_unlink.specs.Pending.{Pending}
-use Rattle.fo_takeout.specs.Walking.{Walking}
+use Rattle.fo_rooms.specs.of_takeout.Walking.{Walking}
 use Rattle.fo_facts.specs.declared.fact.Fact.{Fact}
 use Rattle.fo_rooms.specs.declared.rooms.Rooms.{Rooms}
 use Rattle.fo_rooms.specs.declared.rooms.Wants.{Wants}

@@ -14,9 +14,9 @@ use Rattle.fo_unlink.specs.Pending.{Pending}
 use Rattle.fo_facts.specs.declared.fact.Fact.{Fact}
 use Rattle.fo_facts.specs.Counts.{is_made}
 use Rattle.fo_facts.specs.Known.{fact_at, linked_as}
-use Rattle.fo_linking.specs.Joined.{AreGood, IsLinked, IsReady, Joins, is_changed}
+use Rattle.fo_rooms.specs.of_linking.Joined.{AreGood, IsLinked, IsReady, Joins, is_changed}
 use Rattle.fo_raising.specs.Raised.{KeepsCounts}
-use Rattle.fo_takeout.specs.declared.pair.Pair.{Pair}
+use Rattle.fo_rooms.specs.of_takeout.declared.pair.Pair.{Pair}
 use Rattle.fo_taking.specs.Shown as shown
 use Rattle.fo_taking.specs.Taken.{Pushed}
 use Rattle.fo_mind.specs.Laws.{held_content}

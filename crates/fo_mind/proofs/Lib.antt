@@ -26,3 +26,4 @@ pub mod Still
 pub mod Turning
 pub mod Unpinning
 pub mod Waits
+pub mod of_bring

@@ -13,7 +13,7 @@ use Rattle.fo_order.specs.Keeps.{Turns}
 use Rattle.fo_labels.specs.Region.{Region, IsDataBlock, label_of, relabeled}
 use Rattle.fo_facts.specs.declared.fact.Fact.{Fact}
 use Rattle.fo_facts.specs.Known.{fact_at, no_fact}
-use Rattle.fo_linking.specs.Joined.{Joins}
+use Rattle.fo_rooms.specs.of_linking.Joined.{Joins}
 use Rattle.fo_waits.specs.declared.listed.Clearing.{Clearing}
 use Rattle.fo_waits.specs.Listed.{Clears}
 use Rattle.fo_mind.specs.Frames.{SameMarks}

@@ -14,3 +14,15 @@ pub mod Sealed
 pub mod Slotted
 pub mod Sound
 pub mod Turning
+pub mod of_bring
+pub mod of_buffers
+pub mod of_labels
+pub mod of_linking
+pub mod of_ports
+pub mod of_raising
+pub mod of_rooms
+pub mod of_slots
+pub mod of_takeout
+pub mod of_taking
+pub mod of_unlink
+pub mod of_waits

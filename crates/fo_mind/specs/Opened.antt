@@ -6,7 +6,7 @@ use Rattle.fo_buffers.specs.Held.{Held}
 use Rattle.fo_order.specs.Flags.{quiet}
 use Rattle.fo_order.specs.Keeps.{Turns}
 use Rattle.fo_labels.specs.Region.{Region}
-use Rattle.fo_takeout.specs.Walking.{Walking}
+use Rattle.fo_rooms.specs.of_takeout.Walking.{Walking}
 use Rattle.fo_facts.specs.Known.{no_fact}
 use Rattle.fo_mind.specs.Parts.{Parts, count_of}
 

@@ -21,7 +21,7 @@ use Rattle.fo_order.specs.Keeps.{Turns}
 use Rattle.fo_order.specs.Turns.{flag_at}
 use Rattle.fo_labels.specs.Region.{Region, label_of, usable_count}
 use Rattle.fo_slots.specs.Read.{read}
-use Rattle.fo_takeout.specs.Walking.{Walking}
+use Rattle.fo_rooms.specs.of_takeout.Walking.{Walking}
 use Rattle.fo_unlink.specs.declared.removal.Removal.{Removal}
 use Rattle.fo_ports.specs.State.{State}
 use Rattle.fo_facts.specs.declared.fact.Fact.{Fact}

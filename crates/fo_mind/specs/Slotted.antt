@@ -11,9 +11,9 @@ use Rattle.fo_slots.specs.Read.{PutsInto}
 use Rattle.fo_facts.specs.declared.fact.Fact.{Fact}
 use Rattle.fo_facts.specs.Counts.{is_made}
 use Rattle.fo_facts.specs.Known.{fact_at}
-use Rattle.fo_linking.specs.Joined.{Joins, JoinsBelow}
+use Rattle.fo_rooms.specs.of_linking.Joined.{Joins, JoinsBelow}
 use Rattle.fo_raising.specs.Raised.{KeepsCounts, Marked, Raises}
-use Rattle.fo_takeout.specs.declared.walk.Put.{Put}
+use Rattle.fo_rooms.specs.of_takeout.declared.walk.Put.{Put}
 use Rattle.fo_taking.specs.Taken.{TakesOut}
 use Rattle.fo_mind.specs.Changes.{Refilled}
 use Rattle.fo_mind.specs.Parts.{Parts, label_at, memory}

@@ -41,3 +41,6 @@ mod views;
 mod waiting;
 
 pub use mind::Mind;
+
+// Passed on, so that a crate above names this one alone.
+pub use fo_raising::cost;

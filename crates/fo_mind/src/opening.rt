@@ -14,9 +14,8 @@ use fo_buffers::{Block, Buffers};
 use fo_facts::Facts;
 use fo_image::Super;
 use fo_labels::Labels;
-use fo_linking::Worklist;
 use fo_order::Order;
-use fo_takeout::Walk;
+use fo_rooms::{Walk, Worklist};
 use fo_unlink::Queue;
 use std::alloc::Global;
 

@@ -6,7 +6,7 @@ ghost use Rattle.fo_image.specs.Format.{KindHolds};
 ghost use Rattle.fo_crash.specs.Images.{target};
 ghost use Rattle.fo_ports.specs.Blocks.{SlotFits, ends, slot_count};
 ghost use Rattle.fo_facts.specs.Known.{fact_at};
-ghost use Rattle.fo_linking.specs.Joined.{AreGood, IsReady, Joins, JoinsBelow};
+ghost use Rattle.fo_rooms.specs.of_linking.Joined.{AreGood, IsReady, Joins, JoinsBelow};
 ghost use Rattle.fo_bring.specs.Blocks.{IsData};
 ghost use Rattle.fo_waits.specs.Listed.{Clears, Listed, is_active};
 ghost use Rattle.fo_mind.specs.MindParts.{parts};
@@ -22,11 +22,10 @@ use fo_crash::Slot;
 use fo_facts::Facts;
 use fo_image::Pointer;
 use fo_labels::Labels;
-use fo_linking::Worklist;
 use fo_order::Order;
 use fo_raising::{is_raised, note_put};
+use fo_rooms::{Put, Worklist};
 use fo_slots::put_slot_into;
-use fo_takeout::Put;
 use fo_taking::take_put;
 
 // Links what hangs from a slot of a block, where that is in the tree.

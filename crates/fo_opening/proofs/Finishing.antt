@@ -21,7 +21,7 @@ use Rattle.fo_ports.specs.Causes.{Caused}
 use Rattle.fo_ports.specs.State.{StaysKnown}
 use Rattle.fo_ports.specs.declared.error.BlockError.{BlockError}
 use Rattle.fo_ports.specs.declared.error.BlockError.TheVariants.{Full, Damaged, Fault, Arena, Memory}
-use Rattle.fo_slots.specs.Read.{read}
+use Rattle.fo_buffers.specs.of_slots.Read.{read}
 use Rattle.fo_waits.specs.Listed.{Clears}
 use Rattle.fo_mind.specs.Laws.{keeps_joins}
 use Rattle.fo_mind.specs.Parts.{IsBlock, Parts, bytes_at, bytes_of, content_at, label_at, least_limit, memory, one_content, state_of}

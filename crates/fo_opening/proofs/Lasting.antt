@@ -16,7 +16,7 @@ use Rattle.fo_cache.specs.Fits.{Fits}
 use Rattle.fo_cache.specs.Settling.{Rested}
 use Rattle.fo_cache.specs.Supers.{Counts, Doubted}
 use Rattle.fo_cache.proofs.Settling.{over_synced}
-use Rattle.fo_settling.specs.Clearings.{Lasts}
+use Rattle.fo_reserving.specs.of_settling.Clearings.{Lasts}
 use Rattle.fo_reserving.specs.Steps.{Lets}
 use Rattle.fo_opening.proofs.Finishing.{bytes_beside, bytes_let}
 

@@ -26,7 +26,7 @@ use Rattle.fo_cache.specs.Work.{calls_left}
 use Rattle.fo_cache.proofs.Clearing.{recalled_is}
 use Rattle.fo_cache.proofs.Easing.{eases_none}
 use Rattle.fo_cache.proofs.Settling.{join}
-use Rattle.fo_settling.proofs.Waiting.{eases_turns}
+use Rattle.fo_reserving.proofs.of_settling.Waiting.{eases_turns}
 use Rattle.fo_reserving.specs.Steps.{Lets}
 use Rattle.fo_opening.specs.Ending.{Ending}
 use Rattle.fo_opening.specs.Finished.{Finished, KeepsBytes}

@@ -3,3 +3,4 @@ pub mod Finished
 pub mod Loads
 pub mod Opens
 pub mod Refuses
+pub mod of_mind

@@ -9,7 +9,7 @@ ghost use Rattle.fo_mind.specs.MindParts.{parts};
 ghost use Rattle.fo_mind.specs.Parts.{IsPinned};
 ghost use Rattle.fo_cache.specs.Supers.{IsFault};
 ghost use Rattle.fo_cache.specs.Work.{AtMost, calls_left};
-ghost use Rattle.fo_settling.specs.Clearings.{Clearings, Lasts};
+ghost use Rattle.fo_reserving.specs.of_settling.Clearings.{Clearings, Lasts};
 ghost use Rattle.fo_opening.specs.Ending.{Ending};
 ghost use Rattle.fo_opening.specs.Finished.{Settled};
 

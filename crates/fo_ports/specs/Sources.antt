@@ -1,13 +1,13 @@
 -- Sources of bytes over blocks: what is read through leaves, and what the calls on a source do to the blocks.
 use Rattle.std.specs.Prelude.{◌≡◌, ◌≢◌, ◌⊎◌, ◌+◌, ◌-◌, ◌*◌, ◌/◌, ◌%◌, ◌^◌, ◌<◌, ◌≤◌, ◌↔◌, ℕ, Bool, true, false, cond, nat_le, List, ◌++◌, length, map, take, slice_index, Option, Some, None, MatchOption}
 use Rattle.std.specs.List.{Contains, range_with_len}
-use Rattle.fo_image.specs.declared.types.Kind.{Kind}
-use Rattle.fo_image.specs.declared.types.Score.{Score}
-use Rattle.fo_image.specs.declared.types.Kind.TheVariants.{Data, Dir, Root}
-use Rattle.fo_image.specs.declared.types.State.TheVariants.{Live}
-use Rattle.fo_image.specs.declared.types.Pointer.{Pointer}
-use Rattle.fo_image.specs.declared.types.Pointer.TheVariants.{Local}
-use Rattle.fo_image.specs.Usable.{is_usable}
+use Rattle.fo_meta.specs.of_image.declared.types.Kind.{Kind}
+use Rattle.fo_meta.specs.of_image.declared.types.Score.{Score}
+use Rattle.fo_meta.specs.of_image.declared.types.Kind.TheVariants.{Data, Dir, Root}
+use Rattle.fo_meta.specs.of_image.declared.types.State.TheVariants.{Live}
+use Rattle.fo_meta.specs.of_image.declared.types.Pointer.{Pointer}
+use Rattle.fo_meta.specs.of_image.declared.types.Pointer.TheVariants.{Local}
+use Rattle.fo_meta.specs.of_image.Usable.{is_usable}
 use Rattle.fo_crash.specs.declared.place.Place.{Place}
 use Rattle.fo_crash.specs.Images.{Image, SameContent, Reaches, to_block}
 use Rattle.fo_sparse.specs.Written.{resized}

@@ -1,11 +1,11 @@
 -- What blocks are at one moment, and what each kind of call leaves as it was.
 use Rattle.std.specs.Prelude.{◌≡◌, ◌≢◌, ◌⊎◌, ◌↔◌, ◌+◌, ◌-◌, ◌*◌, ◌^◌, ◌<◌, ◌≤◌, ℕ, Bool, false, List, Option, true}
-use Rattle.fo_image.specs.declared.types.Score.{Score}
-use Rattle.fo_image.specs.declared.types.Label.{Label}
-use Rattle.fo_image.specs.declared.types.State.TheVariants.{Closed, Live}
-use Rattle.fo_image.specs.declared.types.Pointer.{Pointer}
-use Rattle.fo_image.specs.declared.types.Pointer.TheVariants.{Local}
-use Rattle.fo_image.specs.Usable.{is_usable}
+use Rattle.fo_meta.specs.of_image.declared.types.Score.{Score}
+use Rattle.fo_meta.specs.of_image.declared.types.Label.{Label}
+use Rattle.fo_meta.specs.of_image.declared.types.State.TheVariants.{Closed, Live}
+use Rattle.fo_meta.specs.of_image.declared.types.Pointer.{Pointer}
+use Rattle.fo_meta.specs.of_image.declared.types.Pointer.TheVariants.{Local}
+use Rattle.fo_meta.specs.of_image.Usable.{is_usable}
 use Rattle.fo_crash.specs.declared.slot.Slot.{Slot}
 use Rattle.fo_crash.specs.declared.place.Place.{Place}
 use Rattle.fo_crash.specs.Images.{Content, Image, SameContent, SameImage, Reaches, target, walk, to_block}

@@ -1,10 +1,10 @@
 //! The calls on blocks.
 ghost use Rattle.std.specs.Prelude.{◌≡◌, ◌≢◌, ◌⊎◌, ◌↔◌, ◌+◌, ◌-◌, ◌*◌, ◌%◌, ◌^◌, ◌<◌, ◌≤◌, ℕ, Bool, List, length, IfOk, IfErr, OnOk, OnErr, IsOk, Option, Some, None, IfSome, MatchOption, IsTrue, false};
 ghost use Rattle.fo_base.specs.Cause.{Rose};
-ghost use Rattle.fo_image.specs.declared.types.State.TheVariants.{Live};
-ghost use Rattle.fo_image.specs.declared.types.Kind.TheVariants.{Dir, Root};
-ghost use Rattle.fo_image.specs.declared.types.Pointer.TheVariants.{Local};
-ghost use Rattle.fo_image.specs.Usable.{is_usable};
+ghost use Rattle.fo_meta.specs.of_image.declared.types.State.TheVariants.{Live};
+ghost use Rattle.fo_meta.specs.of_image.declared.types.Kind.TheVariants.{Dir, Root};
+ghost use Rattle.fo_meta.specs.of_image.declared.types.Pointer.TheVariants.{Local};
+ghost use Rattle.fo_meta.specs.of_image.Usable.{is_usable};
 ghost use Rattle.fo_crash.specs.declared.place.Place.{Place};
 ghost use Rattle.fo_crash.specs.Images.{Content, Image, to_block, target, walk, SameContent, SameImage, Reaches};
 ghost use Rattle.fo_crash.specs.Steps.{AddsSlot, AddsBytes, AddsNothing, AddsSuper, AllAre, IsSure, HasSuper, HasBytes, Covers, Passes, PutsSlot, PutsBytes, IsOneOf, Through, cleared};
@@ -17,7 +17,7 @@ ghost use Rattle.fo_ports.specs.Causes.{Caused, IsFull};
 
 use crate::error::BlockError;
 use fo_crash::Slot;
-use fo_image::{Kind, Label, Score};
+use fo_meta::{Kind, Label, Score};
 
 /// The blocks of a device below a cache that may write them in any order.
 ///

@@ -9,3 +9,8 @@ pub use blocks::Blocks;
 pub use error::BlockError;
 pub use fo_crash::{Place, Slot};
 pub use sources::Bytes;
+
+// Passed on, so that a crate above names this one alone.
+pub use fo_base::BLOCK;
+pub use fo_disk::{Disk, Failed};
+pub use fo_meta::{Kind, Pointer, Score, is_zero, read_pointer, score_at};

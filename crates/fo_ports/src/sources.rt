@@ -2,10 +2,10 @@
 ghost use Rattle.std.specs.Prelude.{◌≡◌, ◌≢◌, ◌⊎◌, ◌↔◌, ◌+◌, ◌-◌, ◌*◌, ◌%◌, ◌/◌, ◌<◌, ◌≤◌, ℕ, true, false, List, length, take, drop, min, max, IfOk, OnOk, IfErr, IfSome, Option, Some, None};
 ghost use Rattle.fo_base.specs.Cause.{Rose};
 ghost use Rattle.fo_sparse.specs.Written.{written, resized};
-ghost use Rattle.fo_image.specs.declared.types.State.TheVariants.{Live};
-ghost use Rattle.fo_image.specs.declared.types.Kind.TheVariants.{Data};
-ghost use Rattle.fo_image.specs.declared.types.Pointer.{Pointer};
-ghost use Rattle.fo_image.specs.declared.types.Pointer.TheVariants.{Nil, Local};
+ghost use Rattle.fo_meta.specs.of_image.declared.types.State.TheVariants.{Live};
+ghost use Rattle.fo_meta.specs.of_image.declared.types.Kind.TheVariants.{Data};
+ghost use Rattle.fo_meta.specs.of_image.declared.types.Pointer.{Pointer};
+ghost use Rattle.fo_meta.specs.of_image.declared.types.Pointer.TheVariants.{Nil, Local};
 ghost use Rattle.fo_crash.specs.declared.place.Place.{Place};
 ghost use Rattle.fo_crash.specs.Images.{Reaches, to_block};
 ghost use Rattle.fo_ports.specs.Causes.{Caused};
@@ -14,7 +14,7 @@ ghost use Rattle.fo_ports.specs.Sources.{Dirties, Form, Leaves, is_dir, source_b
 
 use crate::blocks::Blocks;
 use crate::error::BlockError;
-use fo_image::Entry;
+use fo_meta::Entry;
 
 /// A source of bytes: a list of bytes in leaves of 8192 bytes each, as a value that borrows nothing. The data of a file is a
 /// source, and so are the records and the entries of a directory.

@@ -3,14 +3,14 @@ use Rattle.std.proofs.Common.{◌≡◌, ◌≢◌, ℕ, ◌≤◌, ◌++◌, Bo
 use Rattle.fo_image.specs.declared.types.Label.{Label}
 use Rattle.fo_image.specs.declared.types.Pointer.{Pointer}
 use Rattle.fo_image.specs.declared.types.Pointer.TheVariants.{Nil, Local, Score as Stored}
-use Rattle.fo_buffers.specs.Held.{held_at}
+use Rattle.fo_mind.specs.of_buffers.Held.{held_at}
 use Rattle.fo_crash.specs.declared.slot.Slot.{Slot}
 use Rattle.fo_crash.specs.Images.{Content, local, target, walk}
 use Rattle.fo_crash.specs.Steps.{Through}
-use Rattle.fo_labels.specs.Region.{Region, label_of}
-use Rattle.fo_slots.specs.Read.{read}
+use Rattle.fo_mind.specs.of_labels.Region.{Region, label_of}
+use Rattle.fo_mind.specs.of_slots.Read.{read}
 use Rattle.fo_facts.specs.Known.{fact_at}
-use Rattle.fo_linking.specs.Joined.{JoinsBelow}
+use Rattle.fo_mind.specs.of_linking.Joined.{JoinsBelow}
 use Rattle.fo_mind.specs.Frames.{SameMarks}
 use Rattle.fo_mind.specs.Laws.{held_content, some_held}
 use Rattle.fo_mind.specs.Parts.{Parts, IsHeld, IsNewborn, memory}

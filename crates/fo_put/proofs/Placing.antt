@@ -10,24 +10,24 @@ use Rattle.fo_disk.specs.Disk.{versions_of, latest_of}
 use Rattle.fo_image.specs.declared.types.Kind.{Kind}
 use Rattle.fo_image.specs.declared.types.Pointer.{Pointer}
 use Rattle.fo_image.specs.declared.types.Pointer.TheVariants.{Nil, Local, Score as Stored}
-use Rattle.fo_buffers.specs.declared.block.Buffer.{Buffer}
-use Rattle.fo_buffers.specs.Held.{Held, block_in, held_at, is_pinned}
+use Rattle.fo_mind.specs.of_buffers.declared.block.Buffer.{Buffer}
+use Rattle.fo_mind.specs.of_buffers.Held.{Held, block_in, held_at, is_pinned}
 use Rattle.fo_order.specs.Keeps.{Turns}
 use Rattle.fo_order.specs.Turns.{flag_at}
 use Rattle.fo_crash.specs.declared.slot.Slot.{Slot}
 use Rattle.fo_crash.specs.Images.{Content, Image, Reaches, target, kind_below}
 use Rattle.fo_crash.specs.Steps.{PutsSlot}
-use Rattle.fo_ports.specs.Blocks.{cost, ends}
-use Rattle.fo_ports.specs.State.{AddsNoWait, AddsRemovals, Frame, Hangs, IsRaised, KeepsOrder, none}
-use Rattle.fo_slots.specs.Read.{PutsInto, read}
+use Rattle.fo_mind.specs.of_ports.Blocks.{cost, ends}
+use Rattle.fo_mind.specs.of_ports.State.{AddsNoWait, AddsRemovals, Frame, Hangs, IsRaised, KeepsOrder, none}
+use Rattle.fo_mind.specs.of_slots.Read.{PutsInto, read}
 use Rattle.fo_facts.specs.declared.fact.Fact.{Fact}
 use Rattle.fo_facts.specs.Known.{fact_at, origin_over}
-use Rattle.fo_linking.specs.Joined.{Joins}
-use Rattle.fo_raising.specs.Raised.{Marked, Raises}
-use Rattle.fo_takeout.specs.Meeting.{led_at, meeting}
-use Rattle.fo_takeout.specs.Walking.{Walking, added, answer, given, removals_of}
-use Rattle.fo_taking.specs.Taken.{begun, met}
-use Rattle.fo_unlink.specs.declared.removal.Removal.{Removal}
+use Rattle.fo_mind.specs.of_linking.Joined.{Joins}
+use Rattle.fo_mind.specs.of_raising.Raised.{Marked, Raises}
+use Rattle.fo_mind.specs.of_takeout.Meeting.{led_at, meeting}
+use Rattle.fo_mind.specs.of_takeout.Walking.{Walking, added, answer, given, removals_of}
+use Rattle.fo_mind.specs.of_taking.Taken.{begun, met}
+use Rattle.fo_mind.specs.of_unlink.declared.removal.Removal.{Removal}
 use Rattle.fo_mind.specs.Changes.{Refilled}
 use Rattle.fo_mind.specs.Frames.{SameMarks}
 use Rattle.fo_mind.specs.Laws.{beyond, held_content, held_pinned}

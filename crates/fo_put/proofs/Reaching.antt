@@ -5,24 +5,24 @@ use Rattle.std.proofs.lemmas.List.Elements.{All-nil, All-head, All-drop, All-pus
 use Rattle.fo_image.specs.declared.types.Kind.{Kind}
 use Rattle.fo_image.specs.declared.types.Pointer.{Pointer}
 use Rattle.fo_image.specs.declared.types.Pointer.TheVariants.{Nil, Local, Score as Stored}
-use Rattle.fo_buffers.specs.Held.{Held}
-use Rattle.fo_labels.specs.Region.{Region}
+use Rattle.fo_mind.specs.of_buffers.Held.{Held}
+use Rattle.fo_mind.specs.of_labels.Region.{Region}
 use Rattle.fo_crash.specs.declared.slot.Slot.{Slot}
 use Rattle.fo_crash.specs.Images.{Image, Reaches, kind_below, target}
 use Rattle.fo_crash.proofs.Reach.{reaches_on}
 use Rattle.fo_facts.specs.declared.fact.Fact.{Fact}
-use Rattle.fo_linking.specs.Joined.{IsReached}
-use Rattle.fo_linking.specs.Joined.IsReached.{top, below}
-use Rattle.fo_takeout.specs.declared.pair.Below.{Below}
-use Rattle.fo_takeout.specs.declared.pair.Pair.{Pair}
-use Rattle.fo_takeout.specs.declared.pair.Change.{Change}
-use Rattle.fo_takeout.specs.declared.pair.Change.TheVariants.{Copied, Gained, Lost, Apart}
-use Rattle.fo_takeout.specs.declared.pair.Met.{Met}
-use Rattle.fo_takeout.specs.declared.pair.Met.TheVariants.{Nothing, Alone, Whole, Follows}
-use Rattle.fo_takeout.specs.Meeting.{change, item, item_of, items, led_at, led_to, meeting}
-use Rattle.fo_takeout.specs.Walking.{Walking, added, answer, first_pair, given, item_in, next_in, passed, removals_of}
-use Rattle.fo_taking.specs.Taken.{TakesOut, begun, met}
-use Rattle.fo_unlink.specs.declared.removal.Removal.{Removal}
+use Rattle.fo_mind.specs.of_linking.Joined.{IsReached}
+use Rattle.fo_mind.specs.of_linking.Joined.IsReached.{top, below}
+use Rattle.fo_mind.specs.of_takeout.declared.pair.Below.{Below}
+use Rattle.fo_mind.specs.of_takeout.declared.pair.Pair.{Pair}
+use Rattle.fo_mind.specs.of_takeout.declared.pair.Change.{Change}
+use Rattle.fo_mind.specs.of_takeout.declared.pair.Change.TheVariants.{Copied, Gained, Lost, Apart}
+use Rattle.fo_mind.specs.of_takeout.declared.pair.Met.{Met}
+use Rattle.fo_mind.specs.of_takeout.declared.pair.Met.TheVariants.{Nothing, Alone, Whole, Follows}
+use Rattle.fo_mind.specs.of_takeout.Meeting.{change, item, item_of, items, led_at, led_to, meeting}
+use Rattle.fo_mind.specs.of_takeout.Walking.{Walking, added, answer, first_pair, given, item_in, next_in, passed, removals_of}
+use Rattle.fo_mind.specs.of_taking.Taken.{TakesOut, begun, met}
+use Rattle.fo_mind.specs.of_unlink.declared.removal.Removal.{Removal}
 
 none_among : {A : Type 0} (r : Removal) → Contains [] r → A
 none_among r (k, lt, is) = absurd (omega (arith, lt))

@@ -6,12 +6,12 @@ use Rattle.fo_crash.specs.declared.slot.Slot.{Slot}
 use Rattle.fo_crash.specs.Images.{SameImage, target}
 use Rattle.fo_crash.specs.Names.{SameUse}
 use Rattle.fo_crash.specs.Steps.{PutsSlot, cleared}
-use Rattle.fo_ports.specs.Blocks.{SlotFits, ends, slot_count}
-use Rattle.fo_ports.specs.State.{AddsNoWait, AddsRemovals, Frame, Hangs, IsSecondOf, none}
-use Rattle.fo_waits.specs.declared.listed.Clearing.{Clearing}
-use Rattle.fo_waits.specs.declared.listed.Wait.{Wait}
-use Rattle.fo_waits.specs.Ended.{EndsFirst}
-use Rattle.fo_waits.specs.Listed.{Awaits, Clears, Listed, is_active}
+use Rattle.fo_mind.specs.of_ports.Blocks.{SlotFits, ends, slot_count}
+use Rattle.fo_mind.specs.of_ports.State.{AddsNoWait, AddsRemovals, Frame, Hangs, IsSecondOf, none}
+use Rattle.fo_mind.specs.of_waits.declared.listed.Clearing.{Clearing}
+use Rattle.fo_mind.specs.of_waits.declared.listed.Wait.{Wait}
+use Rattle.fo_mind.specs.of_waits.Ended.{EndsFirst}
+use Rattle.fo_mind.specs.of_waits.Listed.{Awaits, Clears, Listed, is_active}
 use Rattle.fo_mind.specs.Parts.{Parts, CacheKeeps, IsHeld, IsPinned, label_at, memory, state_of}
 use Rattle.fo_mind.specs.Ended.{Delayed}
 use Rattle.fo_mind.specs.Laws.{held_pinned}

@@ -1,16 +1,16 @@
 -- Who waits for an entry, where its slot is put.
 use Rattle.std.proofs.Common.{◌≡◌, ℕ, ◌*◌, ◌/◌, ◌<◌, ◌≤◌, Bool, true, false, Option, Some, sym, ap, ◌∙◌, subst, arith}
 use Rattle.std.specs.Option.{option_map_or}
-use Rattle.fo_buffers.specs.declared.block.Buffer.{Buffer}
-use Rattle.fo_buffers.specs.Held.{held_at}
+use Rattle.fo_mind.specs.of_buffers.declared.block.Buffer.{Buffer}
+use Rattle.fo_mind.specs.of_buffers.Held.{held_at}
 use Rattle.fo_crash.specs.declared.slot.Slot.{Slot}
 use Rattle.fo_crash.specs.declared.slot.Slot.TheVariants.{Pointer as To, Entry as Head, Prev}
 use Rattle.fo_crash.specs.Images.{Content}
 use Rattle.fo_crash.specs.Names.{SameUse}
 use Rattle.fo_crash.specs.Steps.{cleared}
-use Rattle.fo_slots.specs.Read.{read}
-use Rattle.fo_bring.specs.Blocks.{IsData}
-use Rattle.fo_waits.specs.Listed.{Awaits, Listed, is_active}
+use Rattle.fo_mind.specs.of_slots.Read.{read}
+use Rattle.fo_mind.specs.of_bring.Blocks.{IsData}
+use Rattle.fo_mind.specs.of_waits.Listed.{Awaits, Listed, is_active}
 use Rattle.fo_mind.specs.Laws.{held_content, held_pinned, some_held}
 use Rattle.fo_mind.specs.Parts.{Parts, IsBlock, IsHeld, IsPinned, label_at, memory}
 use Rattle.fo_mind.specs.Sound.{Holding, Placed, Waiting}

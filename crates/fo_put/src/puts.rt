@@ -5,17 +5,16 @@ ghost use Rattle.fo_image.specs.declared.types.Pointer.TheVariants.{Local};
 ghost use Rattle.fo_crash.specs.Images.{target};
 ghost use Rattle.fo_crash.specs.Names.{SameUse};
 ghost use Rattle.fo_crash.specs.Steps.{PutsSlot, Through};
-ghost use Rattle.fo_ports.specs.Blocks.{SlotFits, cost, slot_count};
-ghost use Rattle.fo_ports.specs.State.{AddsNoWait, AddsRemovals, Frame, Hangs, KeepsOrder, none};
-ghost use Rattle.fo_waits.specs.Listed.{Awaits, Clears};
+ghost use Rattle.fo_mind.specs.of_ports.Blocks.{SlotFits, cost, slot_count};
+ghost use Rattle.fo_mind.specs.of_ports.State.{AddsNoWait, AddsRemovals, Frame, Hangs, KeepsOrder, none};
+ghost use Rattle.fo_mind.specs.of_waits.Listed.{Awaits, Clears};
 ghost use Rattle.fo_mind.specs.MindParts.{parts};
 ghost use Rattle.fo_mind.specs.Parts.{CacheKeeps, IsBlock, IsPinned, label_at, memory, state_of};
 ghost use Rattle.fo_mind.specs.Slotted.{Slotted};
 ghost use Rattle.fo_put.specs.Queued.{Queues};
 
 use fo_crash::Slot;
-use fo_mind::Mind;
-use fo_raising::cost;
+use fo_mind::{Mind, cost};
 
 /// Puts a slot of a pinned block. Where the block is in the tree of memory, all that hangs from the slot by blocks that were made comes into
 /// the tree, and is newborn no more. What leaves is queued to be closed, as far as the blocks are held that tell what leaves.

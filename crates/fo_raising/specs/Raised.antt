@@ -4,7 +4,7 @@ use Rattle.fo_image.specs.declared.types.Kind.{Kind}
 use Rattle.fo_image.specs.declared.types.Pointer.{Pointer}
 use Rattle.fo_image.specs.declared.types.Pointer.TheVariants.{Nil, Local, Score as Stored}
 use Rattle.fo_crash.specs.Images.{target}
-use Rattle.fo_ports.specs.Blocks.{IsInner}
+use Rattle.fo_slots.specs.of_ports.Blocks.{IsInner}
 use Rattle.fo_slots.specs.Read.{read}
 use Rattle.fo_facts.specs.declared.fact.Fact.{Fact}
 use Rattle.fo_facts.specs.Counts.{owes, is_made}

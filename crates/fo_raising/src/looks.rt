@@ -3,7 +3,7 @@ ghost use Rattle.std.specs.Bool.{OnTrue, OnFalse};
 ghost use Rattle.std.specs.Prelude.{◌≡◌, ◌≢◌, ℕ, length};
 ghost use Rattle.fo_image.specs.declared.types.Pointer.TheVariants.{Local};
 ghost use Rattle.fo_crash.specs.Images.{target};
-ghost use Rattle.fo_ports.specs.Blocks.{IsInner, ReadsSlots};
+ghost use Rattle.fo_slots.specs.of_ports.Blocks.{IsInner, ReadsSlots};
 ghost use Rattle.fo_slots.specs.Read.{read};
 ghost use Rattle.fo_raising.specs.Raised.{IsNewTop, Raises};
 

@@ -1,7 +1,7 @@
 //! How many removals a put takes.
 ghost use Rattle.std.specs.Prelude.{◌≡◌, ◌≤◌};
 ghost use Rattle.fo_crash.specs.Images.{depth_of, target};
-ghost use Rattle.fo_ports.specs.Blocks.{cost, ends};
+ghost use Rattle.fo_slots.specs.of_ports.Blocks.{cost, ends};
 
 use fo_crash::Slot;
 use fo_image::Pointer;

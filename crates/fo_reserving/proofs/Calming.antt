@@ -9,8 +9,8 @@ use Rattle.fo_order.specs.Turns.{IsQuiet}
 use Rattle.fo_ports.specs.State.{IsClosing, IsSettled}
 use Rattle.fo_waits.specs.declared.listed.Clearing.{Clearing}
 use Rattle.fo_waits.specs.Listed.{Clears}
-use Rattle.fo_mind.specs.Parts.{IsPinned, Parts, state_of}
-use Rattle.fo_mind.specs.Turning.{Turning}
+use Rattle.fo_closing.specs.of_mind.Parts.{IsPinned, Parts, state_of}
+use Rattle.fo_closing.specs.of_mind.Turning.{Turning}
 use Rattle.fo_closing.specs.Rest.{AtRest}
 use Rattle.fo_settling.proofs.Waiting.{clean_quiet}
 use Rattle.fo_reserving.specs.Steps.{AreFew, Lets, Reserves}

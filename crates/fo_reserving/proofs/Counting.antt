@@ -3,12 +3,12 @@ use Rattle.std.proofs.Common.{◌≡◌, ⊎_elim, ℕ, zero, suc, ◌≤◌, �
 use Rattle.std.proofs.lemmas.Bool.{cases_eq}
 use Rattle.fo_buffers.specs.Held.{Held}
 use Rattle.fo_labels.specs.Region.{Region}
-use Rattle.fo_bring.specs.Blocks.{IsData}
-use Rattle.fo_mind.specs.Laws.{pinned_held}
+use Rattle.fo_closing.specs.of_bring.Blocks.{IsData}
+use Rattle.fo_closing.specs.of_mind.Laws.{pinned_held}
 use Rattle.fo_buffers.specs.Held.{held_at}
-use Rattle.fo_mind.specs.Parts.{IsBlock, IsPinned, Parts, count_of}
-use Rattle.fo_mind.specs.Sound.{Holding, Placed}
-use Rattle.fo_mind.specs.Turning.{Unpinned, is_pinned_at}
+use Rattle.fo_closing.specs.of_mind.Parts.{IsBlock, IsPinned, Parts, count_of}
+use Rattle.fo_closing.specs.of_mind.Sound.{Holding, Placed}
+use Rattle.fo_closing.specs.of_mind.Turning.{Unpinned, is_pinned_at}
 use Rattle.fo_reserving.specs.Steps.{Lets, pins_below}
 
 never : {A : Type 0} → false ≡ true → A

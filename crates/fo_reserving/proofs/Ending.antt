@@ -11,11 +11,11 @@ use Rattle.fo_waits.specs.declared.listed.Clearing.{Clearing}
 use Rattle.fo_waits.specs.declared.listed.Wait.{Wait}
 use Rattle.fo_facts.specs.declared.fact.Fact.{Fact}
 use Rattle.fo_facts.specs.Known.{fact_at, no_fact}
-use Rattle.fo_mind.specs.Parts.{IsBlock, IsNewborn, IsPinned, Parts}
-use Rattle.fo_mind.specs.Sound.{Holding, Placed}
-use Rattle.fo_mind.specs.Turning.{Released, Turning, Unpinned, is_changed, is_settled, may_release, unpinned_fact}
-use Rattle.fo_mind.proofs.Releasing.{cuts_of}
-use Rattle.fo_mind.proofs.Unpinning.{Unpins, unpins_of}
+use Rattle.fo_closing.specs.of_mind.Parts.{IsBlock, IsNewborn, IsPinned, Parts}
+use Rattle.fo_closing.specs.of_mind.Sound.{Holding, Placed}
+use Rattle.fo_closing.specs.of_mind.Turning.{Released, Turning, Unpinned, is_changed, is_settled, may_release, unpinned_fact}
+use Rattle.fo_closing.proofs.of_mind.Releasing.{cuts_of}
+use Rattle.fo_closing.proofs.of_mind.Unpinning.{Unpins, unpins_of}
 use Rattle.fo_reserving.specs.Steps.{IsKept, Lets}
 
 never : {A : Type 0} → false ≡ true → A

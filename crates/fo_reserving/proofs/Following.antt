@@ -6,9 +6,9 @@ use Rattle.fo_labels.specs.Region.{Region}
 use Rattle.fo_unlink.specs.Pending.{Pending}
 use Rattle.fo_waits.specs.declared.listed.Clearing.{Clearing}
 use Rattle.fo_waits.specs.Listed.{Clears, ClearsAfter}
-use Rattle.fo_mind.specs.Due.{is_over}
-use Rattle.fo_mind.specs.Parts.{Parts}
-use Rattle.fo_mind.specs.Turning.{is_settled}
+use Rattle.fo_closing.specs.of_mind.Due.{is_over}
+use Rattle.fo_closing.specs.of_mind.Parts.{Parts}
+use Rattle.fo_closing.specs.of_mind.Turning.{is_settled}
 use Rattle.fo_settling.specs.Clearings.{IsCleared}
 use Rattle.fo_settling.proofs.Clearing.{over_kept}
 use Rattle.fo_settling.proofs.Waiting.{waits_after}

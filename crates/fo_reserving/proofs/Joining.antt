@@ -5,10 +5,10 @@ use Rattle.fo_image.specs.declared.types.Label.{Label}
 use Rattle.fo_image.specs.Place.{label_block}
 use Rattle.fo_ports.specs.State.{Rests}
 use Rattle.fo_waits.specs.Listed.{Clears}
-use Rattle.fo_mind.specs.Laws.{keeps_joins}
-use Rattle.fo_mind.specs.Parts.{CacheKeeps, IsBlock, Parts, label_at, state_of}
-use Rattle.fo_cache.specs.Easing.{Eases}
-use Rattle.fo_cache.proofs.Easing.{eases_none, rests_joins, shut_dead}
+use Rattle.fo_closing.specs.of_mind.Laws.{keeps_joins}
+use Rattle.fo_closing.specs.of_mind.Parts.{CacheKeeps, IsBlock, Parts, label_at, state_of}
+use Rattle.fo_settling.specs.of_cache.Easing.{Eases}
+use Rattle.fo_settling.proofs.of_cache.Easing.{eases_none, rests_joins, shut_dead}
 use Rattle.fo_labels.specs.Region.{Region}
 use Rattle.fo_settling.specs.Clearings.{Clearings, Lasts}
 use Rattle.fo_settling.proofs.Clearing.{clearings_none, clearings_of, clearings_on, lasts_none}

@@ -12,20 +12,20 @@ use Rattle.fo_buffers.specs.declared.block.Buffer.{Buffer}
 use Rattle.fo_buffers.specs.Held.{block_in, held_at, is_pinned, pinned_as}
 use Rattle.fo_crash.specs.Images.{Content}
 use Rattle.fo_ports.specs.State.{IsChanging, Rests, StaysKnown}
-use Rattle.fo_slots.specs.Read.{read}
+use Rattle.fo_buffers.specs.of_slots.Read.{read}
 use Rattle.fo_facts.specs.declared.fact.Fact.{Fact}
 use Rattle.fo_facts.specs.Known.{fact_at, no_fact, owing_no_more}
 use Rattle.fo_waits.specs.declared.listed.Clearing.{Clearing}
 use Rattle.fo_waits.specs.Listed.{Clears}
-use Rattle.fo_mind.specs.Laws.{held_pinned}
-use Rattle.fo_mind.specs.Parts.{IsBlock, IsDirty, IsPinned, Parts, bytes_at, bytes_of, label_at, memory, one_content, state_of}
-use Rattle.fo_mind.specs.Sound.{Holding, Placed, Standing}
-use Rattle.fo_mind.specs.Turning.{Released, Turning, Unpinned, is_changed, may_release, unpinned_fact}
-use Rattle.fo_mind.proofs.Refilling.{within_facts}
-use Rattle.fo_mind.proofs.Releasing.{Cuts, MayBe, cuts_of, may_be}
-use Rattle.fo_mind.proofs.Unpinning.{Unpins, unpins_of}
-use Rattle.fo_cache.specs.Fits.{Fits}
-use Rattle.fo_cache.proofs.Outcomes.{lookup_contains}
+use Rattle.fo_closing.specs.of_mind.Laws.{held_pinned}
+use Rattle.fo_closing.specs.of_mind.Parts.{IsBlock, IsDirty, IsPinned, Parts, bytes_at, bytes_of, label_at, memory, one_content, state_of}
+use Rattle.fo_closing.specs.of_mind.Sound.{Holding, Placed, Standing}
+use Rattle.fo_closing.specs.of_mind.Turning.{Released, Turning, Unpinned, is_changed, may_release, unpinned_fact}
+use Rattle.fo_closing.proofs.of_mind.Refilling.{within_facts}
+use Rattle.fo_closing.proofs.of_mind.Releasing.{Cuts, MayBe, cuts_of, may_be}
+use Rattle.fo_closing.proofs.of_mind.Unpinning.{Unpins, unpins_of}
+use Rattle.fo_settling.specs.of_cache.Fits.{Fits}
+use Rattle.fo_settling.proofs.of_cache.Outcomes.{lookup_contains}
 use Rattle.fo_settling.specs.Clearings.{Lasts}
 use Rattle.fo_reserving.specs.Steps.{Lets, Reserves, as_held}
 use Rattle.fo_reserving.proofs.Joining.{reserves_lasting}

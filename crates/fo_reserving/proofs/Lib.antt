@@ -6,3 +6,4 @@ pub mod Joining
 pub mod Letting
 pub mod Rooming
 pub mod Shutting
+pub mod of_settling

@@ -8,13 +8,13 @@ use Rattle.fo_base.specs.declared.memory.Memory.{Memory}
 use Rattle.fo_disk.specs.Disk.{Content as Holds}
 use Rattle.fo_buffers.specs.Held.{Held, held_at, is_pinned}
 use Rattle.fo_order.specs.Keeps.{Turns}
-use Rattle.fo_takeout.specs.Walking.{Walking}
+use Rattle.fo_closing.specs.of_takeout.Walking.{Walking}
 use Rattle.fo_ports.specs.Causes.{Caused}
 use Rattle.fo_ports.specs.State.{Rests, StaysKnown}
 use Rattle.fo_ports.specs.declared.error.BlockError.{BlockError}
 use Rattle.fo_ports.specs.declared.error.BlockError.TheVariants.{Arena, Damaged, Fault, Full, Memory as Wanting}
-use Rattle.fo_mind.specs.Parts.{IsPinned, Parts, state_of}
-use Rattle.fo_mind.specs.Roomed.{Grown, Roomed}
+use Rattle.fo_closing.specs.of_mind.Parts.{IsPinned, Parts, state_of}
+use Rattle.fo_closing.specs.of_mind.Roomed.{Grown, Roomed}
 use Rattle.fo_reserving.specs.Steps.{AreFew, Reserves}
 use Rattle.fo_reserving.proofs.Joining.{reserves_lasting, reserves_none}
 

@@ -13,7 +13,7 @@ use Rattle.fo_image.specs.Format.{SpellsLabel}
 use Rattle.fo_image.specs.Place.{label_block, label_byte}
 use Rattle.fo_buffers.specs.declared.block.Buffer.{Buffer}
 use Rattle.fo_buffers.specs.Held.{Held, cut, held_at, unlisted}
-use Rattle.fo_bring.proofs.Buffering.{cut_other, cut_same}
+use Rattle.fo_closing.proofs.of_bring.Buffering.{cut_other, cut_same}
 use Rattle.fo_crash.specs.Images.{Content}
 use Rattle.fo_labels.specs.Region.{IsDataBlock, Region, closed_label}
 use Rattle.fo_labels.specs.Spelled.{SpellsLabels, part_at}
@@ -22,20 +22,20 @@ use Rattle.fo_order.specs.declared.marks.Tried.TheVariants.{Settled, Written}
 use Rattle.fo_order.specs.Keeps.{Turns}
 use Rattle.fo_order.specs.Turns.{IsQuiet, changed, flag_at}
 use Rattle.fo_ports.specs.State.{IsChanging, IsShut, Rests, StaysKnown}
-use Rattle.fo_slots.specs.Read.{read}
+use Rattle.fo_buffers.specs.of_slots.Read.{read}
 use Rattle.fo_facts.specs.declared.fact.Fact.{Fact}
 use Rattle.fo_facts.specs.Known.{fact_at}
 use Rattle.fo_unlink.specs.declared.removal.Removal.{Removal}
 use Rattle.fo_unlink.specs.Pending.{Pending}
 use Rattle.fo_waits.specs.declared.listed.Clearing.{Clearing}
 use Rattle.fo_waits.specs.Listed.{Clears}
-use Rattle.fo_mind.specs.Parts.{IsBlock, IsDirty, IsNewborn, Parts, bytes_of, count_of, label_at, memory, one_content, state_of}
-use Rattle.fo_mind.specs.Sound.{Placed, Standing}
-use Rattle.fo_mind.specs.Turning.{is_changed}
-use Rattle.fo_mind.proofs.Giving.{change_other, label_other}
-use Rattle.fo_cache.specs.Fits.{Fits, FitsAt, FitsLabels, FitsOne}
-use Rattle.fo_cache.proofs.Calling.{tried_changed}
-use Rattle.fo_cache.proofs.Firsts.{one_like}
+use Rattle.fo_closing.specs.of_mind.Parts.{IsBlock, IsDirty, IsNewborn, Parts, bytes_of, count_of, label_at, memory, one_content, state_of}
+use Rattle.fo_closing.specs.of_mind.Sound.{Placed, Standing}
+use Rattle.fo_closing.specs.of_mind.Turning.{is_changed}
+use Rattle.fo_closing.proofs.of_mind.Giving.{change_other, label_other}
+use Rattle.fo_settling.specs.of_cache.Fits.{Fits, FitsAt, FitsLabels, FitsOne}
+use Rattle.fo_settling.proofs.of_cache.Calling.{tried_changed}
+use Rattle.fo_settling.proofs.of_cache.Firsts.{one_like}
 use Rattle.fo_closing.specs.declared.turn.Closing.{Closing}
 use Rattle.fo_closing.specs.declared.turn.Closing.TheVariants.{Closed as ClosedIs, Reads, Stays, GivenUp, Empty}
 use Rattle.fo_closing.specs.Closed.{Closed}

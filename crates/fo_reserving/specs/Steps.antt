@@ -14,9 +14,9 @@ use Rattle.fo_ports.specs.Causes.{IsFull}
 use Rattle.fo_ports.specs.State.{Rests}
 use Rattle.fo_unlink.specs.Pending.{Pending}
 use Rattle.fo_waits.specs.Listed.{Clears, ClearsAfter}
-use Rattle.fo_mind.specs.Due.{is_over}
-use Rattle.fo_mind.specs.Parts.{CacheKeeps, IsBlock, IsNewborn, IsPinned, Parts, bytes_at, label_at, state_of}
-use Rattle.fo_mind.specs.Turning.{is_changed, is_pinned_at, may_release}
+use Rattle.fo_closing.specs.of_mind.Due.{is_over}
+use Rattle.fo_closing.specs.of_mind.Parts.{CacheKeeps, IsBlock, IsNewborn, IsPinned, Parts, bytes_at, label_at, state_of}
+use Rattle.fo_closing.specs.of_mind.Turning.{is_changed, is_pinned_at, may_release}
 use Rattle.fo_settling.specs.Clearings.{Clearings, IsCleared}
 use Rattle.fo_closing.specs.Closings.{Closings}
 use Rattle.fo_closing.specs.Rest.{AtRest}

@@ -5,16 +5,16 @@ ghost use Rattle.fo_buffers.specs.Held.{held_at};
 ghost use Rattle.fo_labels.specs.Region.{usable_count};
 ghost use Rattle.fo_order.specs.Turns.{IsQuiet};
 ghost use Rattle.fo_ports.specs.Causes.{Caused};
-ghost use Rattle.fo_mind.specs.MindParts.{parts};
-ghost use Rattle.fo_mind.specs.Parts.{IsNewborn};
+ghost use Rattle.fo_closing.specs.of_mind.MindParts.{parts};
+ghost use Rattle.fo_closing.specs.of_mind.Parts.{IsNewborn};
 ghost use Rattle.fo_closing.specs.Leaves.{Leaves};
 ghost use Rattle.fo_closing.specs.Rest.{AtRest};
 ghost use Rattle.fo_reserving.specs.Steps.{Reserves};
 
-use fo_cache::Cache;
 use fo_closing::close_until;
 use fo_disk::Disk;
 use fo_ports::BlockError;
+use fo_settling::Cache;
 
 /// Closes blocks that left the tree, where a removal is queued, until so many are usable or none is left. Nothing is written.
 pub fn close_queued<D: Disk>(cache: &mut Cache<D>, blocks: u32) -> Result<(), BlockError>

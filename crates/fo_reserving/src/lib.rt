@@ -27,3 +27,6 @@ mod rest;
 pub use closing::close_queued;
 pub use needs::reserve;
 pub use pins::{give_up_all, unpin_all};
+
+// Passed on, so that a crate above names this one alone.
+pub use fo_closing::is_sure;

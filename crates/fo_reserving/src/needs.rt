@@ -6,8 +6,8 @@ ghost use Rattle.fo_labels.specs.Region.{usable_count};
 ghost use Rattle.fo_ports.specs.Causes.{Caused};
 ghost use Rattle.fo_ports.specs.declared.error.BlockError.TheVariants.{Memory as Wanting};
 ghost use Rattle.fo_ports.specs.State.{Rests};
-ghost use Rattle.fo_mind.specs.MindParts.{parts};
-ghost use Rattle.fo_mind.specs.Parts.{CacheKeeps, IsPinned, state_of};
+ghost use Rattle.fo_closing.specs.of_mind.MindParts.{parts};
+ghost use Rattle.fo_closing.specs.of_mind.Parts.{CacheKeeps, IsPinned, state_of};
 ghost use Rattle.fo_closing.specs.Rest.{AtRest};
 ghost use Rattle.fo_reserving.specs.Steps.{AreFew, ClosesAtRest, GivesAll, IsStuck, Reserves};
 
@@ -15,10 +15,10 @@ use crate::closing::close_until_usable;
 use crate::pins::{give_up_all, unpin_all};
 use crate::rest::{come_to_rest, settle_down};
 use fo_base::Memory;
-use fo_cache::Cache;
 use fo_disk::Disk;
 use fo_order::Order;
 use fo_ports::BlockError;
+use fo_settling::Cache;
 
 /// How many blocks may be to be written or settled before a request settles them first.
 const MOST: usize = 4096;

@@ -1,12 +1,12 @@
 //! Pins end, and blocks are given up.
 ghost use Rattle.std.specs.Prelude.{◌≡◌, ◌<◌, ℕ, [], true, false};
-ghost use Rattle.fo_mind.specs.MindParts.{parts};
-ghost use Rattle.fo_mind.specs.Parts.{IsBlock, IsPinned, count_of};
-ghost use Rattle.fo_mind.specs.Turning.{may_release};
+ghost use Rattle.fo_closing.specs.of_mind.MindParts.{parts};
+ghost use Rattle.fo_closing.specs.of_mind.Parts.{IsBlock, IsPinned, count_of};
+ghost use Rattle.fo_closing.specs.of_mind.Turning.{may_release};
 ghost use Rattle.fo_reserving.specs.Steps.{GivesAll, IsKept, Lets, Reserves, pins_below};
 
-use fo_cache::Cache;
 use fo_disk::Disk;
+use fo_settling::Cache;
 
 // Unpins a block, and gives it up where it may be; true where none was pinned.
 fn unpin_next<D: Disk>(cache: &mut Cache<D>) -> bool

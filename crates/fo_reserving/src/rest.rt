@@ -4,16 +4,15 @@ ghost use Rattle.fo_base.specs.Cause.{Rose};
 ghost use Rattle.fo_buffers.specs.Held.{held_at};
 ghost use Rattle.fo_order.specs.Turns.{IsQuiet};
 ghost use Rattle.fo_ports.specs.Causes.{Caused};
-ghost use Rattle.fo_mind.specs.MindParts.{parts};
-ghost use Rattle.fo_mind.specs.Parts.{IsNewborn};
+ghost use Rattle.fo_closing.specs.of_mind.MindParts.{parts};
+ghost use Rattle.fo_closing.specs.of_mind.Parts.{IsNewborn};
 ghost use Rattle.fo_closing.specs.Rest.{AtRest};
 ghost use Rattle.fo_reserving.specs.Steps.{Reserves};
 
 use crate::pins::{release_all, unpin_all};
-use fo_cache::Cache;
 use fo_disk::Disk;
 use fo_ports::BlockError;
-use fo_settling::settle;
+use fo_settling::{Cache, settle};
 use fo_waits::Clearing;
 
 // Whether no slot waits to be cleared.

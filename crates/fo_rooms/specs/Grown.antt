@@ -1,6 +1,6 @@
 -- More room, and nothing else.
 use Rattle.std.specs.Prelude.{◌≡◌, ◌≤◌, ℕ}
-use Rattle.fo_buffers.specs.Held.{Held}
+use Rattle.fo_linking.specs.of_buffers.Held.{Held}
 use Rattle.fo_order.specs.Keeps.{Turns}
 use Rattle.fo_unlink.specs.Pending.{Pending}
 use Rattle.fo_takeout.specs.Walking.{Walking}

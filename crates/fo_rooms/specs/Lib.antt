@@ -1,2 +1,4 @@
 pub mod Grown
 pub mod Needed
+pub mod of_linking
+pub mod of_takeout

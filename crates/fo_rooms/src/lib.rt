@@ -14,3 +14,7 @@ mod rooms;
 
 pub use parts::grow;
 pub use rooms::{Rooms, Wants, rooms_for};
+
+// Passed on, so that a crate above names this one alone.
+pub use fo_linking::Worklist;
+pub use fo_takeout::{Put, Walk};

@@ -4,8 +4,7 @@ ghost use Rattle.fo_rooms.specs.Grown.{GrownHeld, GrownTurns, GrownQueue, GrownW
 
 use crate::rooms::Rooms;
 use fo_base::Memory;
-use fo_buffers::Buffers;
-use fo_linking::Worklist;
+use fo_linking::{Buffers, Worklist};
 use fo_order::Order;
 use fo_takeout::Walk;
 use fo_unlink::Queue;

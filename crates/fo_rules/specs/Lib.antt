@@ -1,2 +1,3 @@
 pub mod Label
 pub mod Leaf
+pub mod of_good

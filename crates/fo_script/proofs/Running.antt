@@ -1,7 +1,7 @@
 -- How a script goes on.
 use Rattle.std.proofs.Common.{◌≡◌, ℕ, ◌≤◌, suc, List, [], ◌∷◌, ◌++◌, length, take, drop, Some, refl, sym, ap, ◌∙◌, append_assoc, arith}
 use Rattle.std.proofs.lemmas.List.{append-nil, drop-append-le}
-use Rattle.fo_events.specs.Row.{Goes}
+use Rattle.fo_script_line.specs.of_events.Row.{Goes}
 use Rattle.fo_script_line.specs.Says.{said}
 use Rattle.fo_script_line.specs.Line.{Standing}
 use Rattle.fo_script.specs.Script.{Step, Answers, Runs, output, line_end}

@@ -2,7 +2,7 @@
 use Rattle.std.specs.Prelude.{◌≡◌, ◌⊎◌, ◌≤◌, ℕ, ◌+◌, List, [], ◌++◌, length, take, None, Some, Option, ◌∷◌}
 use Rattle.fo_links.specs.Links.{LosesFront, GainsEnd}
 use Rattle.fo_lines.specs.declared.line.Line.{Line}
-use Rattle.fo_events.specs.Row.{Goes}
+use Rattle.fo_script_line.specs.of_events.Row.{Goes}
 use Rattle.fo_script.specs.declared.end.ScriptEnd.{ScriptEnd}
 use Rattle.fo_script_line.specs.Says.{said}
 use Rattle.fo_script_line.specs.Sessions.{AllLetGo}

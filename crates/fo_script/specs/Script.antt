@@ -4,7 +4,7 @@ use Rattle.std.specs.List.{flat_map}
 use Rattle.nine_wire.specs.Version.{largest_message}
 use Rattle.fo_lines.specs.declared.line.Line.{Line}
 use Rattle.fo_lines.specs.Line.{Spells}
-use Rattle.fo_events.specs.Row.{Goes, Entry}
+use Rattle.fo_script_line.specs.of_events.Row.{Goes, Entry}
 use Rattle.fo_script_line.specs.declared.answer.Answer.{Answer}
 use Rattle.fo_script_line.specs.Says.{said}
 use Rattle.fo_script_line.specs.Line.{Standing, Does, longest_line}

@@ -14,3 +14,6 @@ mod script;
 
 pub use end::ScriptEnd;
 pub use script::run_script;
+
+// Passed on, so that a crate above names this one alone.
+pub use fo_script_line::{Flushed, Turner, Unlinked};

@@ -10,9 +10,8 @@ ghost use Rattle.fo_script.specs.Ending.{Ends, Stops};
 
 use crate::end::ScriptEnd;
 use crate::inbox::Inbox;
-use fo_events::Turner;
 use fo_links::{Sink, Source};
-use fo_script_line::{Kept, LONGEST_LINE, Stop, answer_line, let_everyone_go};
+use fo_script_line::{Kept, LONGEST_LINE, Stop, Turner, answer_line, let_everyone_go};
 use nine_wire::LARGEST_MESSAGE;
 use std::alloc::Global;
 

@@ -4,3 +4,4 @@ pub mod Turns
 pub mod Sessions
 pub mod Line
 pub mod Answering
+pub mod of_events

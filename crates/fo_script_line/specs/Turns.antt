@@ -1,10 +1,10 @@
 -- The turns of the lines `f`, `u` and `F`: which one comes next, and which answer they come to.
 use Rattle.std.specs.Prelude.{◌≡◌, ℕ, ◌^◌, List, length, Result, Ok, Err, Option, Some, None, MatchOption}
 use Rattle.std.specs.List.{fold}
-use Rattle.fo_turning.specs.declared.flush.Flushed.{Flushed}
-use Rattle.fo_turning.specs.declared.flush.Flushed.TheVariants as flushed
-use Rattle.fo_turning.specs.declared.unlink.Unlinked.{Unlinked}
-use Rattle.fo_turning.specs.declared.unlink.Unlinked.TheVariants as unlinked
+use Rattle.fo_events.specs.of_turning.declared.flush.Flushed.{Flushed}
+use Rattle.fo_events.specs.of_turning.declared.flush.Flushed.TheVariants as flushed
+use Rattle.fo_events.specs.of_turning.declared.unlink.Unlinked.{Unlinked}
+use Rattle.fo_events.specs.of_turning.declared.unlink.Unlinked.TheVariants as unlinked
 use Rattle.fo_world.specs.declared.error.FileError.{FileError}
 use Rattle.fo_events.specs.Row.{Goes, Entry, Chain}
 use Rattle.fo_events.specs.declared.event.Event.{Event}

@@ -28,3 +28,6 @@ pub use answer::Answer;
 pub use line::{Kept, LONGEST_LINE, Stop, answer_line};
 pub use sessions::let_everyone_go;
 pub use turns::{Next, Stage};
+
+// Passed on, so that a crate above names this one alone.
+pub use fo_events::{Flushed, Turner, Unlinked};

@@ -6,9 +6,8 @@ ghost use Rattle.fo_script_line.specs.Turns.{after_flush, after_unlink, after_fl
 
 use crate::answer::Answer;
 use crate::number::fault_number;
-use fo_events::Turner;
+use fo_events::{Flushed, Turner, Unlinked};
 use fo_lines::{Flushed as FlushWord, Unlinked as UnlinkWord};
-use fo_turning::{Flushed, Unlinked};
 use fo_world::FileError;
 
 /// The most turns that a line takes.

@@ -3,7 +3,7 @@ use Rattle.std.proofs.Common.{◌≡◌, ℕ, zero, suc, ◌+◌, ◌<◌, Bool,
 use Rattle.std.proofs.lemmas.Bool.{false≢true}
 use Rattle.std.proofs.lemmas.List.{append-nil}
 use Rattle.fo_world.specs.declared.error.FileError.{FileError}
-use Rattle.fo_turning.specs.declared.unlink.Unlinked.{Unlinked}
+use Rattle.fo_events.specs.of_turning.declared.unlink.Unlinked.{Unlinked}
 use Rattle.fo_events.specs.declared.event.Event.{Event}
 use Rattle.fo_events.specs.declared.event.Event.TheVariants as event
 use Rattle.fo_events.specs.declared.event.Outcome.{Outcome}

@@ -2,7 +2,7 @@
 use Rattle.std.specs.Prelude.{◌≡◌, ◌↔◌, ℕ, Bool, true, List, Result}
 use Rattle.fo_world.specs.World.{Faults}
 use Rattle.fo_world.specs.declared.error.FileError.{FileError}
-use Rattle.fo_turning.specs.declared.flush.Flushed.{Flushed}
+use Rattle.fo_events.specs.of_turning.declared.flush.Flushed.{Flushed}
 use Rattle.fo_events.specs.declared.event.Event.TheVariants as event
 use Rattle.fo_events.specs.declared.event.Outcome.TheVariants as outcome
 use Rattle.fo_events.specs.Row.{Goes, Entry, Chain, DidFlush, Flushes, Rests}

@@ -9,3 +9,6 @@ mod session;
 mod turns;
 
 pub use session::OneSession;
+
+// Passed on, so that a crate above names this one alone.
+pub use fo_events::Turner;

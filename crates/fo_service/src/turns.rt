@@ -3,8 +3,7 @@ ghost use Rattle.std.specs.Prelude.{◌≡◌, true, false};
 ghost use Rattle.fo_world.specs.Answers.{NotFewer};
 ghost use Rattle.fo_service.specs.Service.{FlushesOnce, FlushesSome, RestsThrough};
 
-use fo_events::Turner;
-use fo_turning::Flushed;
+use fo_events::{Flushed, Turner};
 
 /// Takes one flushing turn, and says whether another may do more.
 fn flush_once<T: Turner>(turner: &mut T) -> bool

@@ -5,19 +5,19 @@ use Rattle.std.specs.Option.{option_map}
 use Rattle.std.proofs.lemmas.Bool.{cases_eq}
 use Rattle.fo_disk.specs.Disk.{DiskState, versions_of}
 use Rattle.fo_disk.specs.Disk.{Content as Holds}
-use Rattle.fo_buffers.specs.declared.block.Buffer.{Buffer}
-use Rattle.fo_buffers.specs.Held.{block_in, held_at, settled}
+use Rattle.fo_cache.specs.of_buffers.declared.block.Buffer.{Buffer}
+use Rattle.fo_cache.specs.of_buffers.Held.{block_in, held_at, settled}
 use Rattle.fo_image.specs.declared.types.Super.{Super}
-use Rattle.fo_labels.specs.Region.{Region}
+use Rattle.fo_cache.specs.of_labels.Region.{Region}
 use Rattle.fo_facts.specs.declared.fact.Fact.{Fact}
 use Rattle.fo_facts.specs.Known.{fact_at}
-use Rattle.fo_waits.specs.declared.listed.Clearing.{Clearing}
-use Rattle.fo_waits.specs.Ended.{TakesOut}
-use Rattle.fo_waits.specs.Listed.{Clears, ClearsAfter}
-use Rattle.fo_mind.specs.Due.{ClearedDue, IsDueSlot, is_over}
-use Rattle.fo_mind.specs.Parts.{Parts, bytes_at, bytes_of}
-use Rattle.fo_mind.specs.Sealed.{SealsPinned}
-use Rattle.fo_mind.specs.Sound.{Placed}
+use Rattle.fo_cache.specs.of_waits.declared.listed.Clearing.{Clearing}
+use Rattle.fo_cache.specs.of_waits.Ended.{TakesOut}
+use Rattle.fo_cache.specs.of_waits.Listed.{Clears, ClearsAfter}
+use Rattle.fo_cache.specs.of_mind.Due.{ClearedDue, IsDueSlot, is_over}
+use Rattle.fo_cache.specs.of_mind.Parts.{Parts, bytes_at, bytes_of}
+use Rattle.fo_cache.specs.of_mind.Sealed.{SealsPinned}
+use Rattle.fo_cache.specs.of_mind.Sound.{Placed}
 use Rattle.fo_cache.specs.Numbering.{Renumbers}
 use Rattle.fo_cache.specs.Settling.{Settles}
 use Rattle.fo_cache.proofs.Lessening.{due_others}

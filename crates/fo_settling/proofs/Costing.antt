@@ -9,11 +9,11 @@ use Rattle.fo_order.specs.Flags.{flag, flags_of, is_dirty, quiet}
 use Rattle.fo_order.specs.Keeps.{Turns}
 use Rattle.fo_order.specs.Turns.{IsQuiet, flag_at}
 use Rattle.fo_order.proofs.Keeping.{counted_down, count_none, in_range}
-use Rattle.fo_waits.specs.declared.listed.Clearing.{Clearing}
-use Rattle.fo_waits.specs.Listed.{Clears, ClearsAfter}
-use Rattle.fo_mind.specs.Due.{ClearedDue, is_over}
-use Rattle.fo_mind.specs.Parts.{Parts}
-use Rattle.fo_mind.specs.Turning.{is_settled}
+use Rattle.fo_cache.specs.of_waits.declared.listed.Clearing.{Clearing}
+use Rattle.fo_cache.specs.of_waits.Listed.{Clears, ClearsAfter}
+use Rattle.fo_cache.specs.of_mind.Due.{ClearedDue, is_over}
+use Rattle.fo_cache.specs.of_mind.Parts.{Parts}
+use Rattle.fo_cache.specs.of_mind.Turning.{is_settled}
 use Rattle.fo_cache.specs.Called.{Call, Makes, at_only, no_more, turns_of, writes_of}
 use Rattle.fo_cache.specs.Numbering.{Renumbers}
 use Rattle.fo_cache.specs.Settling.{Settles}

@@ -7,13 +7,13 @@ use Rattle.fo_ports.specs.Causes.{Caused}
 use Rattle.fo_ports.specs.declared.error.BlockError.{BlockError}
 use Rattle.fo_ports.specs.declared.error.BlockError.TheVariants.{Memory}
 use Rattle.fo_facts.specs.Known.{fact_at}
-use Rattle.fo_waits.specs.declared.listed.Clearing.{Clearing}
-use Rattle.fo_waits.specs.Listed.{Clears, ClearsAfter}
-use Rattle.fo_mind.specs.Due.{is_over}
-use Rattle.fo_mind.specs.Parts.{IsDirty, IsNewborn, Parts}
+use Rattle.fo_cache.specs.of_waits.declared.listed.Clearing.{Clearing}
+use Rattle.fo_cache.specs.of_waits.Listed.{Clears, ClearsAfter}
+use Rattle.fo_cache.specs.of_mind.Due.{is_over}
+use Rattle.fo_cache.specs.of_mind.Parts.{IsDirty, IsNewborn, Parts}
 use Rattle.fo_facts.specs.declared.fact.Fact.{Fact}
-use Rattle.fo_mind.specs.Sealed.{IsSealedIn}
-use Rattle.fo_mind.specs.Turning.{Turning, is_settled}
+use Rattle.fo_cache.specs.of_mind.Sealed.{IsSealedIn}
+use Rattle.fo_cache.specs.of_mind.Turning.{Turning, is_settled}
 use Rattle.fo_disk.specs.Disk.{DiskState}
 use Rattle.fo_cache.specs.Easing.{Eases}
 use Rattle.fo_cache.specs.Settling.{Settles}

@@ -1,11 +1,11 @@
 -- Which slots that waited a settling clears, what is queued with them, and what stays beside that.
 use Rattle.std.specs.Prelude.{◌≡◌, ◌⊎◌, ◌≤◌, ◌<◌, ℕ, true, List, [], ◌∷◌, length, None}
 use Rattle.std.specs.Option.{option_map}
-use Rattle.fo_buffers.specs.Held.{block_in, held_at}
+use Rattle.fo_cache.specs.of_buffers.Held.{block_in, held_at}
 use Rattle.fo_facts.specs.Known.{fact_at}
-use Rattle.fo_waits.specs.Listed.{Clears, ClearsAfter}
-use Rattle.fo_mind.specs.Due.{ClearedDue, IsDueSlot, is_over}
-use Rattle.fo_mind.specs.Parts.{Parts, bytes_at}
+use Rattle.fo_cache.specs.of_waits.Listed.{Clears, ClearsAfter}
+use Rattle.fo_cache.specs.of_mind.Due.{ClearedDue, IsDueSlot, is_over}
+use Rattle.fo_cache.specs.of_mind.Parts.{Parts, bytes_at}
 
 -- What stays while no slot is cleared and no block is closed: labels, the epoch, the queue, the slots that wait, and who is in the tree.
 -- What is held has its bytes, or is held no more; and what memory has of data blocks stays, as far as the device tells. What is settled, and

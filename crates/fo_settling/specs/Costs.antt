@@ -3,10 +3,10 @@ use Rattle.std.specs.Prelude.{◌≡◌, ◌⊎◌, ◌+◌, ◌*◌, ◌≤◌,
 use Rattle.std.specs.List.{Contains}
 use Rattle.fo_disk.specs.Disk.{DiskState}
 use Rattle.fo_order.specs.Turns.{flag_at}
-use Rattle.fo_waits.specs.declared.listed.Clearing.{Clearing}
-use Rattle.fo_waits.specs.Listed.{Clears, ClearsAfter}
-use Rattle.fo_mind.specs.Due.{is_over}
-use Rattle.fo_mind.specs.Parts.{Parts}
+use Rattle.fo_cache.specs.of_waits.declared.listed.Clearing.{Clearing}
+use Rattle.fo_cache.specs.of_waits.Listed.{Clears, ClearsAfter}
+use Rattle.fo_cache.specs.of_mind.Due.{is_over}
+use Rattle.fo_cache.specs.of_mind.Parts.{Parts}
 use Rattle.fo_cache.specs.Called.{Call, Called, at_only, turns_of, writes_of}
 use Rattle.fo_cache.specs.Work.{in_doubt, work}
 

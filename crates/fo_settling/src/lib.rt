@@ -18,3 +18,6 @@
 mod rounds;
 
 pub use rounds::settle;
+
+// Passed on, so that a crate above names this one alone.
+pub use fo_cache::Cache;

@@ -1,14 +1,14 @@
 //! Turns and clearings, until neither is left.
 ghost use Rattle.std.specs.Prelude.{◌≡◌, ◌⊎◌, ◌+◌, ◌<◌, ◌≤◌, ℕ, [], true, false, length, OnOk, IfOk, IfErr};
 ghost use Rattle.fo_base.specs.Cause.{Rose};
-ghost use Rattle.fo_crash.specs.Steps.{AllAre};
+ghost use Rattle.fo_ports.specs.of_crash.Steps.{AllAre};
 ghost use Rattle.fo_order.specs.Turns.{IsQuiet};
 ghost use Rattle.fo_ports.specs.Causes.{Caused};
 ghost use Rattle.fo_ports.specs.State.{IsUnlinked, Rests, StaysKnown};
 ghost use Rattle.fo_facts.specs.Known.{fact_at};
-ghost use Rattle.fo_waits.specs.Listed.{Clears};
-ghost use Rattle.fo_mind.specs.MindParts.{parts};
-ghost use Rattle.fo_mind.specs.Parts.{CacheKeeps, IsNewborn, IsPinned, state_of};
+ghost use Rattle.fo_cache.specs.of_waits.Listed.{Clears};
+ghost use Rattle.fo_cache.specs.of_mind.MindParts.{parts};
+ghost use Rattle.fo_cache.specs.of_mind.Parts.{CacheKeeps, IsNewborn, IsPinned, state_of};
 ghost use Rattle.fo_cache.specs.Called.{no_more};
 ghost use Rattle.fo_cache.specs.Easing.{Eases};
 ghost use Rattle.fo_cache.specs.Work.{AtMost, calls_left};

@@ -11,8 +11,8 @@ use Rattle.fo_image.specs.Record.{RecordHolds, SpellsRecord, record_len, record_
 use Rattle.fo_image.proofs.Padding.{zeros-from_all, all-zeros}
 use Rattle.fo_image.proofs.PointerLemmas.{padded_whole}
 use Rattle.fo_image.proofs.RecordLemmas.{length-record, record_whole, spells_itself}
-use Rattle.fo_meta.specs.Leaf.{HasSpelling, record_bytes, records_bytes, SpellsLeaf, IsLeaf, is_named}
-use Rattle.fo_meta.proofs.Leaves.{Walks, here_is, walk_more}
+use Rattle.fo_ports.specs.of_meta.Leaf.{HasSpelling, record_bytes, records_bytes, SpellsLeaf, IsLeaf, is_named}
+use Rattle.fo_ports.proofs.of_meta.Leaves.{Walks, here_is, walk_more}
 use Rattle.fo_slots.specs.Formed.{IsRecord, RecordTo, RunsTo, EndsAt}
 use Rattle.fo_slots.proofs.Meaning.{fits_take, fits_drop}
 

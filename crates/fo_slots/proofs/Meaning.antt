@@ -13,8 +13,8 @@ use Rattle.fo_image.specs.declared.types.Entry.{Entry}
 use Rattle.fo_image.specs.Field.{Four, Eight, number, number_at}
 use Rattle.fo_image.specs.Format.{SpellsPointer, SpellsEntry, PointerHolds, ActiveHolds, flag_bits, pointer_bytes}
 use Rattle.fo_image.proofs.PointerLemmas.{pointer_is, sixteen_zeros}
-use Rattle.fo_crash.specs.declared.slot.Slot.{Slot}
-use Rattle.fo_crash.specs.declared.slot.Slot.TheVariants.{Pointer as To, Entry as Head, Prev}
+use Rattle.fo_ports.specs.of_crash.declared.slot.Slot.{Slot}
+use Rattle.fo_ports.specs.of_crash.declared.slot.Slot.TheVariants.{Pointer as To, Entry as Head, Prev}
 use Rattle.fo_ports.specs.Blocks.{SlotFits, SpellsSlot, IsPointer, IsEntry, IsPrev, slot_size}
 use Rattle.fo_slots.specs.Read.{local_from, pointer_from, entry_from, prev_from, slot_from, width, IsInRange}
 

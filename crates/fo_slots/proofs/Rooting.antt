@@ -12,8 +12,8 @@ use Rattle.fo_image.specs.Record.{RecordHolds, SpellsRecord, record_len, record_
 use Rattle.fo_image.proofs.Padding.{zeros-from_all, all-zeros}
 use Rattle.fo_image.proofs.PointerLemmas.{padded_whole}
 use Rattle.fo_image.proofs.RecordLemmas.{length-record, length-entry, fit_both, root_parts, root_spelling, root_at, record_whole, spells_itself}
-use Rattle.fo_meta.specs.Leaf.{record_bytes}
-use Rattle.fo_meta.proofs.Leaves.{record_at_is}
+use Rattle.fo_ports.specs.of_meta.Leaf.{record_bytes}
+use Rattle.fo_ports.proofs.of_meta.Leaves.{record_at_is}
 use Rattle.fo_ports.specs.Blocks.{no_entry}
 use Rattle.fo_slots.specs.Formed.{IsRootRecord, IsRootHead, IsRootTail, IsRootBeside}
 

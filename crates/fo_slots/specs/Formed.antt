@@ -6,7 +6,7 @@ use Rattle.fo_image.specs.declared.record.RootBlock.{RootBlock}
 use Rattle.fo_image.specs.Record.{SpellsRecord, RootRecordHolds, SpellsRoot, record_len}
 use Rattle.fo_image.specs.Field.{Four, number, zeros}
 use Rattle.fo_image.specs.Format.{IsEpoch}
-use Rattle.fo_meta.specs.Leaf.{HasSpelling, record_bytes, records_bytes}
+use Rattle.fo_ports.specs.of_meta.Leaf.{HasSpelling, record_bytes, records_bytes}
 
 -- The bytes spell a record.
 pub record IsRecord (bytes : List ℕ) : Type 0 where

@@ -8,9 +8,9 @@ use Rattle.fo_image.specs.declared.types.Pointer.TheVariants.{Nil, Local, Score 
 use Rattle.fo_image.specs.declared.types.Entry.{Entry}
 use Rattle.fo_image.specs.Format.{PointerHolds, EntryHolds}
 use Rattle.fo_image.specs.Field.{Four, Eight, number_at, zeros}
-use Rattle.fo_crash.specs.declared.slot.Slot.{Slot}
-use Rattle.fo_crash.specs.declared.slot.Slot.TheVariants.{Pointer as To, Entry as Head, Prev}
-use Rattle.fo_crash.specs.Images.{Content}
+use Rattle.fo_ports.specs.of_crash.declared.slot.Slot.{Slot}
+use Rattle.fo_ports.specs.of_crash.declared.slot.Slot.TheVariants.{Pointer as To, Entry as Head, Prev}
+use Rattle.fo_ports.specs.of_crash.Images.{Content}
 use Rattle.fo_ports.specs.Blocks.{slot_count, slot_start, slots_from, slots_to, SlotFits, SpellsSlot, IsFormed, ReadsSlots}
 
 -- sixteen zeros and then 0 are nil, or 1 + an address; all else is a score

@@ -2,7 +2,7 @@
 ghost use Rattle.std.specs.Prelude.{◌≡◌, ℕ, ◌+◌, ◌≤◌, ◌++◌, ◌↔◌, List, [], length, drop, Some, IsTrue, IfSome, IsSomeAnd};
 ghost use Rattle.fo_image.specs.declared.record.Record.{Record};
 ghost use Rattle.fo_image.specs.Record.{record_len};
-ghost use Rattle.fo_meta.specs.Leaf.{HasSpelling, SpellsLeaf, IsLeaf, record_bytes};
+ghost use Rattle.fo_ports.specs.of_meta.Leaf.{HasSpelling, SpellsLeaf, IsLeaf, record_bytes};
 ghost use Rattle.fo_slots.specs.Formed.{RecordTo, RunsTo, EndsAt};
 
 use crate::bytes::part;

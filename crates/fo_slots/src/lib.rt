@@ -23,3 +23,7 @@ pub use formed::is_formed;
 pub use slots::{
     has_slots, put_slot_into, read_is_read, read_slot, slot_count, slot_of, spelled_is_meant,
 };
+
+// Passed on, so that a crate above names this one alone.
+pub use fo_image::Kind;
+pub use fo_ports::{BlockError, Disk, Failed, Slot};

@@ -9,8 +9,7 @@ ghost use Rattle.fo_image.specs.Record.{IsTextWithin, RecordHolds, RootRecordHol
 ghost use Rattle.fo_slots.specs.Seen.{as_record};
 ghost use Rattle.fo_slots.specs.Formed.{IsRecord, IsRootRecord};
 
-use fo_base::is_text;
-use fo_image::{Part, is_spelled, u32_at};
+use fo_image::{Part, is_spelled, is_text, u32_at};
 
 /// A record as it stands in bytes.
 #[derive(Clone, Copy)]

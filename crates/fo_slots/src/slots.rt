@@ -2,16 +2,16 @@
 ghost use Rattle.std.specs.Prelude.{◌≡◌, ◌+◌, ◌<◌, ◌≤◌, ◌↔◌, ◌++◌, ℕ, List, length, take, drop, IsTrue, MatchOption};
 ghost use Rattle.fo_image.specs.declared.types.Pointer.TheVariants.{Nil};
 ghost use Rattle.fo_image.specs.Field.{Four, number};
-ghost use Rattle.fo_crash.specs.declared.slot.Slot.{Slot};
-ghost use Rattle.fo_crash.specs.declared.slot.Slot.TheVariants.{Pointer as To, Entry as Head};
+ghost use Rattle.fo_ports.specs.of_crash.declared.slot.Slot.{Slot};
+ghost use Rattle.fo_ports.specs.of_crash.declared.slot.Slot.TheVariants.{Pointer as To, Entry as Head};
 ghost use Rattle.fo_ports.specs.Blocks.{slot_count, slot_start, slot_size, SlotFits, SpellsSlot, IsPointer, IsEntry, IsPrev, IsFormed, put_at, ReadsSlots, Reads};
 ghost use Rattle.fo_slots.specs.Read.{pointer_from, entry_from, prev_from, slot_from, slot_bytes, width, read, IsSlot, IsInRange, HasSpelling, HasNumbers, IsMeant, KeepsBeside, PutsInto};
 ghost use Rattle.fo_image.specs.declared.types.Kind.{Kind};
-ghost use Rattle.fo_crash.specs.Images.{Content};
+ghost use Rattle.fo_ports.specs.of_crash.Images.{Content};
 
 use crate::bytes::{part, put_part};
-use fo_crash::Slot;
 use fo_image::{Kind, Pointer, read_entry, read_pointer, u32_at, write_entry, write_pointer};
+use fo_ports::Slot;
 
 /// How many slots a block of this kind has.
 pub fn slot_count(kind: Kind) -> usize

@@ -1,2 +1,3 @@
 mod FreshRoot
 pub mod Labels
+pub mod of_disk

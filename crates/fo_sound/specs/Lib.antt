@@ -3,3 +3,4 @@ pub mod Fresh
 pub mod Image
 pub mod Sizes
 pub mod Sound
+pub mod of_disk

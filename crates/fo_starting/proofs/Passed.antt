@@ -26,7 +26,7 @@ use Rattle.fo_sound.specs.Image.{HasLabel, IsDataBlock, block_of, label_bytes}
 use Rattle.fo_sound.specs.Sound.{HasActiveRoot, IsFormatted, root_label}
 use Rattle.fo_sound.specs.Sound.{HasTable as HasLabels}
 use Rattle.fo_sound.proofs.Labels.{free_spelled}
-use Rattle.fo_mind.specs.Parts.{count_of}
+use Rattle.fo_opening.specs.of_mind.Parts.{count_of}
 use Rattle.fo_opening.specs.Opens.{IsRead}
 use Rattle.fo_opening.specs.Refuses.{IsNoHeader, IsNoRoot, IsNoSuper, IsNoTable}
 

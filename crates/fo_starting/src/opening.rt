@@ -9,7 +9,7 @@ ghost use Rattle.fo_check.specs.Answer.{Blames, IsOutside};
 ghost use Rattle.fo_check.specs.declared.error.CheckError.TheVariants.{Size as BadSize, Memory as Wanting};
 ghost use Rattle.fo_check_image.specs.Answer.{Reports, Refuses};
 ghost use Rattle.fo_check_image.specs.declared.report.Report.{Report};
-ghost use Rattle.fo_mind.specs.MindParts.{parts};
+ghost use Rattle.fo_opening.specs.of_mind.MindParts.{parts};
 ghost use Rattle.fo_devices.specs.Seen.{seen};
 ghost use Rattle.fo_starting.specs.Begins.{Begins, MayOpen};
 ghost use Rattle.fo_starting.specs.Whys.{arena_why, main_why};

@@ -3,7 +3,7 @@ use Rattle.std.proofs.Common.{◌≡◌, ◌≢◌, ℕ, zero, suc, ◌+◌, ◌
 use Rattle.std.proofs.lemmas.Bool.{ltb-true, ltb-false}
 use Rattle.fo_image.specs.declared.types.Kind.{Kind}
 use Rattle.fo_image.specs.declared.types.Kind.TheVariants.{Data, Dir, Root}
-use Rattle.fo_ports.specs.Blocks.{slot_count}
+use Rattle.fo_slots.specs.of_ports.Blocks.{slot_count}
 use Rattle.fo_takeout.specs.declared.pair.Pair.{Pair}
 use Rattle.fo_takeout.specs.declared.pair.Change.{Change}
 use Rattle.fo_takeout.specs.declared.pair.Change.TheVariants.{Copied, Gained, Lost, Apart}

@@ -4,9 +4,9 @@ use Rattle.fo_image.specs.declared.types.Kind.{Kind}
 use Rattle.fo_image.specs.declared.types.Kind.TheVariants.{Data, Dir, Root}
 use Rattle.fo_image.specs.declared.types.Pointer.{Pointer}
 use Rattle.fo_image.specs.declared.types.Pointer.TheVariants.{Nil, Local, Score as Held}
-use Rattle.fo_crash.specs.declared.slot.Slot.{Slot}
-use Rattle.fo_crash.specs.Images.{Content, kind_below, target}
-use Rattle.fo_ports.specs.Blocks.{slot_count, IsLevel, ReadsSlots}
+use Rattle.fo_slots.specs.of_crash.declared.slot.Slot.{Slot}
+use Rattle.fo_slots.specs.of_crash.Images.{Content, kind_below, target}
+use Rattle.fo_slots.specs.of_ports.Blocks.{slot_count, IsLevel, ReadsSlots}
 use Rattle.fo_unlink.specs.Closing.{level_of}
 use Rattle.fo_slots.specs.Read.{read}
 use Rattle.fo_takeout.specs.declared.pair.Below.{Below}

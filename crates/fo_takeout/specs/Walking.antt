@@ -1,6 +1,6 @@
 -- What a walk has still to look at, and what its steps give.
 use Rattle.std.specs.Prelude.{◌≡◌, ◌+◌, ◌-◌, ◌*◌, ◌<◌, ℕ, zero, suc, Bool, true, false, cond, nat_lt, List, [], ◌∷◌, ◌++◌, drop, length, Option, Some, None, slice_get}
-use Rattle.fo_crash.specs.Images.{Content, Image}
+use Rattle.fo_slots.specs.of_crash.Images.{Content, Image}
 use Rattle.fo_unlink.specs.declared.removal.Removal.{Removal}
 use Rattle.fo_unlink.specs.Pending.{IsRemoval}
 use Rattle.fo_slots.specs.Read.{read}

@@ -1,16 +1,15 @@
 //! Two blocks at one place, and what they say of what leaves.
 ghost use Rattle.std.specs.Prelude.{◌≡◌, ℕ, List, ◌<◌, ◌≤◌, IfSome, Some, None};
 ghost use Rattle.fo_image.specs.Format.{KindHolds};
-ghost use Rattle.fo_crash.specs.Images.{kind_below, kind_of_top};
-ghost use Rattle.fo_ports.specs.Blocks.{slot_count, SlotFits};
+ghost use Rattle.fo_slots.specs.of_crash.Images.{kind_below, kind_of_top};
+ghost use Rattle.fo_slots.specs.of_ports.Blocks.{slot_count, SlotFits};
 ghost use Rattle.fo_unlink.specs.Closing.{level_of};
 ghost use Rattle.fo_slots.specs.Read.{read};
 ghost use Rattle.fo_takeout.specs.Meeting.{led_to, meeting, same_sort, change, items, item_of, item, IsBelow, IsPair, IsMet, IsContent, AreGiven};
 ghost use Rattle.fo_takeout.specs.declared.pair.Change.TheVariants.{Copied, Gained, Lost};
 
-use fo_crash::Slot;
 use fo_image::{Kind, Pointer};
-use fo_slots::{slot_count, slot_of};
+use fo_slots::{Slot, slot_count, slot_of};
 
 /// A block that hangs from a slot, and what it holds there.
 #[derive(Clone, Copy, Debug, PartialEq, Eq)]

@@ -1,7 +1,7 @@
 //! The walk through what hung from a slot and what hangs there now.
 ghost use Rattle.std.specs.Prelude.{◌≡◌, ◌≢◌, ◌+◌, ◌<◌, ◌≤◌, ℕ, [], Some, max, IsOk, IfOk, MatchResult};
 ghost use Rattle.fo_image.specs.Format.{KindHolds};
-ghost use Rattle.fo_ports.specs.Blocks.{SlotFits};
+ghost use Rattle.fo_slots.specs.of_ports.Blocks.{SlotFits};
 ghost use Rattle.fo_takeout.specs.Meeting.{led_to, meeting, items, IsBelow, IsPair, IsMet};
 ghost use Rattle.fo_takeout.specs.Walking.{answer, removal, added, passed, first_pair, Steps, Asked, IsQueued, work};
 ghost use Rattle.fo_takeout.specs.declared.walk.Answer.TheVariants.{Over};
@@ -10,8 +10,8 @@ ghost use Rattle.fo_unlink.specs.Pending.{IsRemoval};
 
 use crate::pair::{Below, Met, Pair, led_to, meeting};
 use fo_base::Memory;
-use fo_crash::Slot;
 use fo_image::Kind;
+use fo_slots::Slot;
 use fo_unlink::Removal;
 use std::alloc::Global;
 use std::collections::VecDeque;

@@ -8,10 +8,10 @@ use Rattle.fo_buffers.specs.declared.block.Buffer.{Buffer}
 use Rattle.fo_buffers.specs.Held.{Held, block_in, held_at}
 use Rattle.std.specs.Option.{option_map}
 use Rattle.fo_labels.specs.Region.{IsDataBlock, Region, label_of}
-use Rattle.fo_crash.specs.declared.slot.Slot.{Slot}
-use Rattle.fo_crash.specs.Images.{Content, Image, target, kind_below}
-use Rattle.fo_ports.specs.Blocks.{ReadsSlots, ends}
-use Rattle.fo_slots.specs.Read.{read}
+use Rattle.fo_buffers.specs.of_crash.declared.slot.Slot.{Slot}
+use Rattle.fo_buffers.specs.of_crash.Images.{Content, Image, target, kind_below}
+use Rattle.fo_buffers.specs.of_ports.Blocks.{ReadsSlots, ends}
+use Rattle.fo_buffers.specs.of_slots.Read.{read}
 use Rattle.fo_takeout.specs.declared.pair.Below.{Below}
 use Rattle.fo_takeout.specs.declared.pair.Pair.{Pair}
 use Rattle.fo_takeout.specs.declared.pair.Met.{Met}

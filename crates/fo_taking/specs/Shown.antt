@@ -3,9 +3,9 @@ use Rattle.std.specs.Prelude.{◌≡◌, ℕ, List, length, Some}
 use Rattle.fo_buffers.specs.declared.block.Buffer.{Buffer}
 use Rattle.fo_buffers.specs.Held.{Held, held_at}
 use Rattle.fo_labels.specs.Region.{IsDataBlock, Region, label_of}
-use Rattle.fo_crash.specs.Images.{Image}
-use Rattle.fo_ports.specs.Blocks.{ReadsSlots}
-use Rattle.fo_slots.specs.Read.{read}
+use Rattle.fo_buffers.specs.of_crash.Images.{Image}
+use Rattle.fo_buffers.specs.of_ports.Blocks.{ReadsSlots}
+use Rattle.fo_buffers.specs.of_slots.Read.{read}
 use Rattle.fo_takeout.specs.declared.pair.Below.{Below}
 use Rattle.fo_takeout.specs.Meeting.{IsContent}
 

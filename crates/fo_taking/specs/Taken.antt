@@ -3,8 +3,8 @@ use Rattle.std.specs.Prelude.{◌≡◌, ◌⊎◌, ◌+◌, ℕ, List, [], ◌+
 use Rattle.fo_image.specs.declared.types.Kind.{Kind}
 use Rattle.fo_buffers.specs.Held.{Held}
 use Rattle.fo_labels.specs.Region.{Region}
-use Rattle.fo_crash.specs.declared.slot.Slot.{Slot}
-use Rattle.fo_crash.specs.Images.{Image}
+use Rattle.fo_buffers.specs.of_crash.declared.slot.Slot.{Slot}
+use Rattle.fo_buffers.specs.of_crash.Images.{Image}
 use Rattle.fo_takeout.specs.declared.pair.Pair.{Pair}
 use Rattle.fo_takeout.specs.declared.pair.Met.{Met}
 use Rattle.fo_takeout.specs.declared.pair.Change.{Change}

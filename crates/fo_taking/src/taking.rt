@@ -3,8 +3,8 @@ ghost use Rattle.std.specs.Prelude.{◌≡◌, ◌≢◌, ◌+◌, ◌<◌, ◌�
 ghost use Rattle.fo_image.specs.Format.{KindHolds};
 ghost use Rattle.fo_buffers.specs.Held.{Held as Holding};
 ghost use Rattle.fo_labels.specs.Region.{Region};
-ghost use Rattle.fo_crash.specs.Images.{Image, target};
-ghost use Rattle.fo_ports.specs.Blocks.{SlotFits, ends};
+ghost use Rattle.fo_buffers.specs.of_crash.Images.{Image, target};
+ghost use Rattle.fo_buffers.specs.of_ports.Blocks.{SlotFits, ends};
 ghost use Rattle.fo_takeout.specs.Meeting.{change};
 ghost use Rattle.fo_takeout.specs.declared.pair.Change.TheVariants.{Apart, Copied, Gained, Lost};
 ghost use Rattle.fo_takeout.specs.Walking.{IsQueued, first_pair, removals_of};

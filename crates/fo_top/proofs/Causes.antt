@@ -15,7 +15,7 @@ use Rattle.fo_talk.specs.declared.end.LinkEnd.{LinkEnd}
 use Rattle.fo_talk.specs.declared.end.LinkEnd.TheVariants as ends
 use Rattle.fo_script.specs.declared.end.ScriptEnd.{ScriptEnd}
 use Rattle.fo_script.specs.declared.end.ScriptEnd.TheVariants as script
-use Rattle.fo_events.specs.Row.{IsTurnFault}
+use Rattle.fo_service.specs.of_events.Row.{IsTurnFault}
 use Rattle.fo_tools.specs.Ends.{end_of_main, end_of_arena, end_of_check}
 use Rattle.fo_tools.specs.Ending as tools
 use Rattle.fo_tools.specs.declared.end.ToolEnd.{ToolEnd}

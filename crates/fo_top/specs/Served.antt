@@ -14,7 +14,7 @@ use Rattle.nine_wire.specs.Version.{largest_message}
 use Rattle.fo_talk.specs.Conversation.{Goes}
 use Rattle.fo_talk.specs.Ending.{Ends as LinkEnds}
 use Rattle.fo_talk.specs.declared.end.LinkEnd.{LinkEnd}
-use Rattle.fo_events.specs.Row.{Goes as EventGoes}
+use Rattle.fo_service.specs.of_events.Row.{Goes as EventGoes}
 use Rattle.fo_script.specs.Script.{starts}
 use Rattle.fo_script.specs.Ending.{Ends as ScriptEnds}
 use Rattle.fo_script.specs.declared.end.ScriptEnd.{ScriptEnd}

@@ -9,8 +9,8 @@ use Rattle.fo_tree_read.specs.Tree.{kind_down, Hangs}
 use Rattle.fo_tree_look.specs.declared.ways.Kept.{Kept}
 use Rattle.fo_tree_look.specs.Source.{HasBlock, Over, address_here}
 use Rattle.fo_tree_look.proofs.Places.{IsHere, is_here, here_owned, block_place}
-use Rattle.fo_tree_down.specs.Way.{OnWay, IsWayIndex}
-use Rattle.fo_tree_down.proofs.Beside.{index_within, way_block}
+use Rattle.fo_tree_link.specs.of_tree_down.Way.{OnWay, IsWayIndex}
+use Rattle.fo_tree_link.proofs.of_tree_down.Beside.{index_within, way_block}
 use Rattle.fo_tree_append.specs.Append.{OnPiece}
 use Rattle.fo_tree.specs.Writes.{IsBeside, LeavesBeside}
 

@@ -2,3 +2,4 @@ pub mod Looking
 pub mod Hanging
 pub mod Relinking
 pub mod Beside
+pub mod of_tree_leaf

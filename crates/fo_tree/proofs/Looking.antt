@@ -5,7 +5,7 @@ use Rattle.fo_tree_read.specs.declared.tree.Tree.{Tree}
 use Rattle.fo_tree_look.specs.declared.ways.Kept.{Kept}
 use Rattle.fo_tree_look.specs.Source.{Over}
 use Rattle.fo_tree_look.proofs.Shown.{extends_none}
-use Rattle.fo_tree_down.specs.Clear.{EndsClear}
+use Rattle.fo_tree_link.specs.of_tree_down.Clear.{EndsClear}
 use Rattle.fo_tree_trim.proofs.Holding.{clear_on, holds_looks}
 
 pub clear_looks : {a b : State} {t : Tree} {kept : List Kept} {limit : ℕ} → KeepsAll a b → Looks a b → Over a t kept limit → EndsClear a t kept → EndsClear b t kept

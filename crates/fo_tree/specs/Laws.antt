@@ -14,7 +14,7 @@ use Rattle.fo_tree_look.specs.Source.{Over, IsPlainTree, HasBlock, Prepared, IsT
 use Rattle.fo_tree_look.proofs.Places.{is_here, here_owned, none_here, leaf_there, leaves_apart, leaf_at_place, block_tag}
 use Rattle.fo_tree_look.proofs.Shown.{address_past, held_past}
 use Rattle.fo_tree_look.proofs.Still.{Says, part_prepared, source_prepared, top_stays, address_kept, held_kept, blocks_back, blocks_on, over_stays}
-use Rattle.fo_tree_down.specs.Clear.{EndsClear}
+use Rattle.fo_tree_link.specs.of_tree_down.Clear.{EndsClear}
 use Rattle.fo_tree_trim.proofs.Holding.{clear_on, holds_stays}
 
 pub none_held_at : (s : State) (t : Tree) (kept : List Kept) (limit : ℕ) → Over s t kept limit → s.tells → (IsPlainTree t → ⊥) → (i : ℕ) → held_here s t kept i ≡ None

@@ -9,7 +9,7 @@ use Rattle.fo_ports.specs.Sources.{Changes, Grows, ComesFor, most_for}
 use Rattle.fo_tree_read.specs.declared.tree.Tree.{Tree}
 use Rattle.fo_tree_look.specs.declared.ways.Kept.{Kept}
 use Rattle.fo_tree_look.specs.Source.{HasBlock, Over, address_here, leaves_of}
-use Rattle.fo_tree_down.specs.Clear.{EndsClear}
+use Rattle.fo_tree_link.specs.of_tree_down.Clear.{EndsClear}
 use Rattle.fo_tree_append.specs.Append.{OnPiece}
 
 -- The same source, below another top and of another size.

@@ -14,7 +14,7 @@ impl<B: Blocks> Bytes<B> for Source {
     ghost use Rattle.fo_ports.specs.State.{none};
     ghost use Rattle.fo_ports.specs.Sources.{IsPlain, Changes, Grows, ComesFor, Dirties, most_for};
     ghost use Rattle.fo_tree_look.specs.Source.{form_of, leaves_of, Over};
-    ghost use Rattle.fo_tree_down.specs.Clear.{EndsClear};
+    ghost use Rattle.fo_tree_link.specs.of_tree_down.Clear.{EndsClear};
     ghost use Rattle.fo_tree.specs.Writes.{LeavesBeside};
     ghost use Rattle.fo_tree.specs.Laws.{none_held_at, none_from, two_apart, leaf_has, top_has, stands_at, place_at, tag_at, live_at, says_of, keeps_over, keeps_leaves, keeps_current, keeps_clear, keeps_prepared, part_of};
 

@@ -11,8 +11,8 @@ ghost use Rattle.fo_ports.specs.Blocks.{cost, dropped, zeros};
 ghost use Rattle.fo_ports.specs.State.{Frame, Hangs, KeepsOrder, AddsNoWait, IsPointers, none};
 ghost use Rattle.fo_ports.specs.Sources.{StaysInPlace, StaysReady, ComesFor, DirtiesIn};
 ghost use Rattle.fo_tree_look.specs.Source.{Over, HasBlock};
-ghost use Rattle.fo_tree_down.specs.Clear.{EndsClear};
-ghost use Rattle.fo_tree_open.specs.Open.{HasEntry, IsFit, CanOpen, tree_of};
+ghost use Rattle.fo_tree_link.specs.of_tree_down.Clear.{EndsClear};
+ghost use Rattle.fo_tree_link.specs.of_tree_open.Open.{HasEntry, IsFit, CanOpen, tree_of};
 ghost use Rattle.fo_tree_link.specs.Link.{entry_of, CanLink};
 ghost use Rattle.fo_tree_link.specs.Change.{HangsInTree};
 ghost use Rattle.fo_tree.specs.Entry.{empty_tree};
@@ -77,7 +77,7 @@ impl Source {
         ensures comes { IfSome result (λ s. (B.state on.now).tells → ComesFor (B.state on.now) s.ways.tree.top entry.now.top) }
         ensures linked { IfSome result (λ s. (B.state on.now).tells → ((y x : ℕ) → (B.state on.now).instead y x → ⊥) → HangsInTree (B.state on.now) s.ways.tree at i) }
     {
-        let ways = fo_tree_open::open(alloc, on, at, i, entry, tag, rank, limit)?;
+        let ways = fo_tree_link::open(alloc, on, at, i, entry, tag, rank, limit)?;
         Some(Source { ways })
     }
 

@@ -8,7 +8,7 @@ ghost use Rattle.fo_crash.specs.Steps.{Through};
 ghost use Rattle.fo_ports.specs.State.{IsPointers};
 ghost use Rattle.fo_ports.specs.Sources.{Changes, ComesFor, Grows, Made, MayZero, Owned};
 ghost use Rattle.fo_tree_look.specs.Source.{Over, HasBlock, address_here, form_of, leaves_of};
-ghost use Rattle.fo_tree_down.specs.Clear.{EndsClear};
+ghost use Rattle.fo_tree_link.specs.of_tree_down.Clear.{EndsClear};
 ghost use Rattle.fo_tree_link.specs.Link.{entry_of, CanLink};
 ghost use Rattle.fo_tree_link.specs.Change.{HangsInTree, KeepsOthers};
 

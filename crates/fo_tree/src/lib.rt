@@ -18,3 +18,6 @@ mod source;
 
 pub use laws::{may_link_changed, may_link_owned, owned_blocks};
 pub use source::Source;
+
+// Passed on, so that a crate above names this one alone.
+pub use fo_tree_link::open_read;

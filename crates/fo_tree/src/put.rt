@@ -3,7 +3,7 @@ ghost use Rattle.std.specs.Prelude.{◌≡◌, ◌+◌, ◌*◌, ◌<◌, ◌≤
 ghost use Rattle.fo_ports.specs.State.{none};
 ghost use Rattle.fo_ports.specs.Sources.{Dirties, most_for};
 ghost use Rattle.fo_tree_look.specs.Source.{Over, IsPlainTree, Prepared};
-ghost use Rattle.fo_tree_down.specs.Clear.{EndsClear};
+ghost use Rattle.fo_tree_link.specs.of_tree_down.Clear.{EndsClear};
 ghost use Rattle.fo_tree.specs.Writes.{Writes};
 
 use crate::source::{at_top, ended};

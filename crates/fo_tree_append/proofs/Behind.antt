@@ -9,15 +9,15 @@ use Rattle.fo_crash.specs.Images.{Image}
 use Rattle.fo_crash.specs.Places.{IsPlaced, RanksFall}
 use Rattle.fo_ports.specs.State.{State, KeepsAll}
 use Rattle.fo_ports.specs.Sources.{Made, Changes, Grows, ComesFor, depth_for}
-use Rattle.fo_looks.proofs.Free.{Standing}
+use Rattle.fo_tree_read.proofs.of_looks.Free.{Standing}
 use Rattle.fo_tree_read.specs.declared.tree.Tree.{Tree}
 use Rattle.fo_tree_read.specs.Reading.{passed, most}
 use Rattle.fo_tree_look.specs.declared.ways.Kept.{Kept}
 use Rattle.fo_tree_look.specs.Source.{HasBlock, Over, Prepared, IsTopCurrent, leaves_of}
-use Rattle.fo_tree_down.specs.Way.{CurrentBut}
-use Rattle.fo_tree_down.specs.Clear.{EndsClear}
-use Rattle.fo_tree_down.proofs.Beside.{on_way_block}
-use Rattle.fo_tree_down.proofs.Sparing.{but_whole, but_more}
+use Rattle.fo_tree_clear.specs.of_tree_down.Way.{CurrentBut}
+use Rattle.fo_tree_clear.specs.of_tree_down.Clear.{EndsClear}
+use Rattle.fo_tree_clear.proofs.of_tree_down.Beside.{on_way_block}
+use Rattle.fo_tree_clear.proofs.of_tree_down.Sparing.{but_whole, but_more}
 use Rattle.fo_tree_clear.specs.Put.{byte_here, Puts}
 use Rattle.fo_tree_clear.specs.Steps.{Steps}
 use Rattle.fo_tree_write.specs.Write.{Wrote}

@@ -12,8 +12,8 @@ use Rattle.fo_crash.proofs.Places.{stands_below}
 use Rattle.fo_ports.specs.State.{State, IsRooted, KeepsAll}
 use Rattle.fo_ports.specs.Sources.{Made, Touched, IsMade, StaysMarked, Stead, Changes}
 use Rattle.fo_image.specs.Usable.{is_usable}
-use Rattle.fo_looks.proofs.Free.{Standing, free_before, free_stands}
-use Rattle.fo_tree_down.specs.Way.{IsLed}
+use Rattle.fo_tree_read.proofs.of_looks.Free.{Standing, free_before, free_stands}
+use Rattle.fo_tree_clear.specs.of_tree_down.Way.{IsLed}
 use Rattle.fo_tree_clear.specs.Steps.{Behind, Steps}
 use Rattle.fo_tree_clear.proofs.Stepping.{cases_made}
 use Rattle.fo_tree_append.specs.Rises.{Rises}

@@ -8,14 +8,14 @@ use Rattle.fo_crash.specs.Images.{Image}
 use Rattle.fo_crash.specs.Places.{IsPlaced, RanksFall}
 use Rattle.fo_ports.specs.State.{State, KeepsAll}
 use Rattle.fo_ports.specs.Sources.{Made}
-use Rattle.fo_looks.proofs.Free.{Standing}
+use Rattle.fo_tree_read.proofs.of_looks.Free.{Standing}
 use Rattle.fo_tree_read.specs.declared.tree.Tree.{Tree}
 use Rattle.fo_tree_look.specs.declared.ways.Kept.{Kept}
 use Rattle.fo_tree_look.specs.Source.{HasBlock, IsTold, Prepared, WayReady}
-use Rattle.fo_tree_down.specs.Way.{OnWay}
-use Rattle.fo_tree_down.specs.Clear.{EndsClear}
-use Rattle.fo_tree_down.proofs.Beside.{on_way_block}
-use Rattle.fo_tree_raise.proofs.Clear.{way_past}
+use Rattle.fo_tree_clear.specs.of_tree_down.Way.{OnWay}
+use Rattle.fo_tree_clear.specs.of_tree_down.Clear.{EndsClear}
+use Rattle.fo_tree_clear.proofs.of_tree_down.Beside.{on_way_block}
+use Rattle.fo_tree_lift.proofs.of_tree_raise.Clear.{way_past}
 use Rattle.fo_tree_clear.specs.Steps.{Steps}
 use Rattle.fo_tree_clear.proofs.Stepping.{Follows, steps_join}
 use Rattle.fo_tree_write.specs.Write.{at_top}

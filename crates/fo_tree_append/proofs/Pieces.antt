@@ -6,7 +6,7 @@ use Rattle.fo_ports.specs.Sources.{depth_for}
 use Rattle.fo_tree_read.specs.declared.tree.Tree.{Tree}
 use Rattle.fo_tree_look.specs.declared.ways.Kept.{Kept}
 use Rattle.fo_tree_look.specs.Source.{HasBlock}
-use Rattle.fo_tree_down.proofs.Join.{local_cases}
+use Rattle.fo_tree_clear.proofs.of_tree_down.Join.{local_cases}
 use Rattle.fo_tree_clear.proofs.Stepping.{steps_none, steps_changes}
 use Rattle.fo_tree_write.specs.Write.{at_top}
 use Rattle.fo_tree_append.specs.Append.{ended, piece_end, with_piece, OnPiece, PutsPiece}

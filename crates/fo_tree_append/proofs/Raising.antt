@@ -13,9 +13,9 @@ use Rattle.fo_tree_look.specs.Source.{Over, Prepared, WayReady, address_here, he
 use Rattle.fo_tree_look.proofs.Held.{seen_leaf}
 use Rattle.fo_tree_look.proofs.Places.{is_here, here_owned}
 use Rattle.fo_tree_look.proofs.Shown.{address_past, held_past}
-use Rattle.fo_tree_down.specs.Clear.{EndsClear, last_leaf}
-use Rattle.fo_tree_raise.specs.Levels.{grown}
-use Rattle.fo_tree_raise.proofs.Climbing.{room_more}
+use Rattle.fo_tree_clear.specs.of_tree_down.Clear.{EndsClear, last_leaf}
+use Rattle.fo_tree_lift.specs.of_tree_raise.Levels.{grown}
+use Rattle.fo_tree_lift.proofs.of_tree_raise.Climbing.{room_more}
 use Rattle.fo_tree_lift.specs.of_tree_grow.Grow.{sized}
 use Rattle.fo_tree_lift.proofs.of_tree_grow.Sizing.{room_for, way_sized, prepared_sized, clear_sized, address_sized, held_sized}
 use Rattle.fo_tree_lift.specs.Lift.{IsCopied, Lifts}

@@ -11,11 +11,11 @@ use Rattle.fo_crash.proofs.Places.{stands_below}
 use Rattle.fo_ports.specs.State.{State, KeepsAll}
 use Rattle.fo_ports.specs.Sources.{Made, Touched, IsMade, StaysMarked, Stead}
 use Rattle.fo_image.specs.Usable.{is_usable}
-use Rattle.fo_looks.proofs.Free.{Standing, free_before, free_stands}
+use Rattle.fo_tree_read.proofs.of_looks.Free.{Standing, free_before, free_stands}
 use Rattle.fo_tree_read.specs.declared.tree.Tree.{Tree}
 use Rattle.fo_tree_look.specs.Source.{HasBlock}
-use Rattle.fo_tree_down.specs.Way.{IsLed, IsTopOf}
-use Rattle.fo_tree_raise.specs.Levels.{Adds}
+use Rattle.fo_tree_clear.specs.of_tree_down.Way.{IsLed, IsTopOf}
+use Rattle.fo_tree_lift.specs.of_tree_raise.Levels.{Adds}
 use Rattle.fo_tree_lift.specs.Lift.{InSteadOf}
 use Rattle.fo_tree_clear.specs.Steps.{Behind, Steps}
 use Rattle.fo_tree_clear.proofs.Stepping.{cases_made}

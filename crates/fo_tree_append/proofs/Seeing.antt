@@ -9,11 +9,11 @@ use Rattle.fo_ports.specs.Sources.{Made, Grows, depth_for}
 use Rattle.fo_tree_read.specs.declared.tree.Tree.{Tree}
 use Rattle.fo_tree_look.specs.declared.ways.Kept.{Kept}
 use Rattle.fo_tree_look.specs.Source.{HasBlock, Over, IsTold, IsTopCurrent, leaves_of}
-use Rattle.fo_tree_down.specs.Way.{IsTopOf, with_top}
-use Rattle.fo_tree_down.specs.Clear.{EndsClear}
-use Rattle.fo_tree_down.proofs.Join.{local_cases}
-use Rattle.fo_tree_raise.specs.Levels.{grown}
-use Rattle.fo_tree_raise.proofs.Adding.{adds_nothing}
+use Rattle.fo_tree_clear.specs.of_tree_down.Way.{IsTopOf, with_top}
+use Rattle.fo_tree_clear.specs.of_tree_down.Clear.{EndsClear}
+use Rattle.fo_tree_clear.proofs.of_tree_down.Join.{local_cases}
+use Rattle.fo_tree_lift.specs.of_tree_raise.Levels.{grown}
+use Rattle.fo_tree_lift.proofs.of_tree_raise.Adding.{adds_nothing}
 use Rattle.fo_tree_lift.specs.of_tree_grow.Grow.{shaped}
 use Rattle.fo_tree_lift.proofs.of_tree_grow.Sizing.{room_for, has_sized, has_back}
 use Rattle.fo_tree_lift.proofs.of_tree_grow.Empty.{least_for}

@@ -6,9 +6,9 @@ use Rattle.fo_ports.specs.Sources.{depth_for, byte_at}
 use Rattle.fo_tree_read.specs.declared.tree.Tree.{Tree}
 use Rattle.fo_tree_look.specs.declared.ways.Kept.{Kept}
 use Rattle.fo_tree_look.specs.Source.{HasBlock, Over, Prepared, address_here, held_here}
-use Rattle.fo_tree_down.specs.Way.{OnWay}
-use Rattle.fo_tree_down.specs.Clear.{EndsClear}
-use Rattle.fo_tree_down.proofs.Beside.{on_way_block}
+use Rattle.fo_tree_clear.specs.of_tree_down.Way.{OnWay}
+use Rattle.fo_tree_clear.specs.of_tree_down.Clear.{EndsClear}
+use Rattle.fo_tree_clear.proofs.of_tree_down.Beside.{on_way_block}
 use Rattle.fo_tree_lift.specs.of_tree_grow.Grow.{shaped, sized}
 use Rattle.fo_tree_lift.proofs.of_tree_grow.Sizing.{room_for, sized_block, has_sized, has_back, over_sized, prepared_sized, clear_sized, address_sized, held_sized}
 use Rattle.fo_tree_lift.proofs.of_tree_grow.Empty.{few_for, has_none, over_shaped, prepared_any, clear_none, address_none, held_none}

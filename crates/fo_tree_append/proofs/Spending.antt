@@ -4,8 +4,8 @@ use Rattle.fo_ports.specs.State.{State}
 use Rattle.fo_tree_read.specs.declared.tree.Tree.{Tree}
 use Rattle.fo_tree_read.specs.Tree.{above}
 use Rattle.fo_tree_read.specs.Reading.{passed, most}
-use Rattle.fo_tree_down.specs.Way.{WayCurrent, CurrentBut}
-use Rattle.fo_tree_down.proofs.Sparing.{but_beside}
+use Rattle.fo_tree_clear.specs.of_tree_down.Way.{WayCurrent, CurrentBut}
+use Rattle.fo_tree_clear.proofs.of_tree_down.Sparing.{but_beside}
 use Rattle.fo_tree_append.specs.Append.{SpendsBut}
 
 slack : ℕ → ℕ → ℕ

@@ -9,8 +9,8 @@ use Rattle.fo_tree_read.specs.declared.tree.Tree.{Tree}
 use Rattle.fo_tree_read.specs.Reading.{passed}
 use Rattle.fo_tree_look.specs.declared.ways.Kept.{Kept}
 use Rattle.fo_tree_look.specs.Source.{HasBlock, Over, leaves_of}
-use Rattle.fo_tree_down.specs.Way.{OnWay, WayCurrent, CurrentBut}
-use Rattle.fo_tree_down.specs.Clear.{EndsClear}
+use Rattle.fo_tree_clear.specs.of_tree_down.Way.{OnWay, WayCurrent, CurrentBut}
+use Rattle.fo_tree_clear.specs.of_tree_down.Clear.{EndsClear}
 use Rattle.fo_tree_write.specs.Write.{OnWays}
 
 -- the tree of a source of this size, with the least levels, below this top

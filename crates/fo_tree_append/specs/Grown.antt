@@ -8,9 +8,9 @@ use Rattle.fo_ports.specs.Sources.{Made, ComesFor}
 use Rattle.fo_tree_read.specs.declared.tree.Tree.{Tree}
 use Rattle.fo_tree_look.specs.declared.ways.Kept.{Kept}
 use Rattle.fo_tree_look.specs.Source.{HasBlock, Over, Prepared, WayReady, IsTopCurrent, leaves_of}
-use Rattle.fo_tree_down.specs.Way.{OnWay}
-use Rattle.fo_tree_down.specs.Clear.{EndsClear}
-use Rattle.fo_tree_raise.specs.Levels.{Adds}
+use Rattle.fo_tree_clear.specs.of_tree_down.Way.{OnWay}
+use Rattle.fo_tree_clear.specs.of_tree_down.Clear.{EndsClear}
+use Rattle.fo_tree_lift.specs.of_tree_raise.Levels.{Adds}
 use Rattle.fo_tree_lift.specs.Lift.{InSteadOf}
 use Rattle.fo_tree_clear.specs.Put.{byte_here}
 use Rattle.fo_tree_append.specs.Rises.{Rises}

@@ -4,7 +4,7 @@ use Rattle.fo_crash.specs.declared.place.Place.{Place}
 use Rattle.fo_crash.specs.Images.{Image, SameContent, Reaches, to_block}
 use Rattle.fo_ports.specs.State.{State, IsRooted, KeepsAll, KeepsNumbers, AddsNoWait, none}
 use Rattle.fo_ports.specs.Sources.{Made, Touched, IsMade, StaysMarked, Stead}
-use Rattle.fo_tree_down.specs.Way.{IsLed}
+use Rattle.fo_tree_clear.specs.of_tree_down.Way.{IsLed}
 use Rattle.fo_tree_clear.specs.Steps.{Behind}
 
 -- As `Steps`, but one of these blocks may be put below what was given out, and that comes in the place of these, or of what they came in

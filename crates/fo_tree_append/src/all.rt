@@ -4,7 +4,7 @@ ghost use Rattle.fo_ports.specs.State.{none};
 ghost use Rattle.fo_ports.specs.Sources.{Dirties};
 ghost use Rattle.fo_tree_read.specs.Reading.{passed};
 ghost use Rattle.fo_tree_look.specs.Source.{Over, HasBlock, IsPlainTree, Prepared};
-ghost use Rattle.fo_tree_down.specs.Way.{CurrentBut};
+ghost use Rattle.fo_tree_clear.specs.of_tree_down.Way.{CurrentBut};
 ghost use Rattle.fo_tree_clear.specs.Steps.{Steps};
 ghost use Rattle.fo_tree_write.specs.Write.{at_top, Wrote};
 ghost use Rattle.fo_tree_append.specs.Append.{OnLeaves, SpendsBut};

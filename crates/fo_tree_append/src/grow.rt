@@ -3,8 +3,8 @@ ghost use Rattle.std.specs.Prelude.{◌≡◌, ◌⊎◌, ◌+◌, ◌*◌, ◌<
 ghost use Rattle.fo_ports.specs.State.{none};
 ghost use Rattle.fo_ports.specs.Sources.{Dirties, depth_for};
 ghost use Rattle.fo_tree_look.specs.Source.{Over, HasBlock, IsPlainTree};
-ghost use Rattle.fo_tree_down.specs.Way.{with_top};
-ghost use Rattle.fo_tree_down.specs.Clear.{EndsClear};
+ghost use Rattle.fo_tree_clear.specs.of_tree_down.Way.{with_top};
+ghost use Rattle.fo_tree_clear.specs.of_tree_down.Clear.{EndsClear};
 ghost use Rattle.fo_tree_append.specs.Append.{ended, OnEnd};
 ghost use Rattle.fo_tree_append.specs.Grown.{GrownTo};
 ghost use Rattle.fo_tree_append.specs.Rises.{Rises};

@@ -6,7 +6,7 @@ ghost use Rattle.fo_sparse.specs.Written.{written};
 ghost use Rattle.fo_ports.specs.State.{none};
 ghost use Rattle.fo_ports.specs.Sources.{Changes, Dirties, Grows, ComesFor, most_for};
 ghost use Rattle.fo_tree_look.specs.Source.{Over, HasBlock, IsPlainTree, Prepared, leaves_of};
-ghost use Rattle.fo_tree_down.specs.Clear.{EndsClear};
+ghost use Rattle.fo_tree_clear.specs.of_tree_down.Clear.{EndsClear};
 ghost use Rattle.fo_tree_append.specs.Append.{with_piece, OnPiece, PutsPiece};
 
 use crate::past::put_past;

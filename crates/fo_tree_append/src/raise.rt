@@ -4,7 +4,7 @@ ghost use Rattle.fo_image.specs.declared.types.Pointer.TheVariants.{Nil};
 ghost use Rattle.fo_ports.specs.State.{none};
 ghost use Rattle.fo_ports.specs.Sources.{Dirties, depth_for};
 ghost use Rattle.fo_tree_look.specs.Source.{Over, IsPlainTree, IsTopCurrent};
-ghost use Rattle.fo_tree_down.specs.Clear.{EndsClear};
+ghost use Rattle.fo_tree_clear.specs.of_tree_down.Clear.{EndsClear};
 ghost use Rattle.fo_tree_append.specs.Append.{ended};
 ghost use Rattle.fo_tree_append.specs.Grown.{RaisedTo};
 

@@ -1,15 +1,15 @@
 -- What is put into a leaf leaves its block to be written.
 use Rattle.std.specs.List.{Contains}
 use Rattle.std.proofs.Common.{◌≡◌, ℕ, List, inl}
-use Rattle.fo_crash.specs.Images.{Image}
+use Rattle.fo_ports.specs.of_crash.Images.{Image}
 use Rattle.fo_image.specs.declared.types.Pointer.TheVariants.{Local}
 use Rattle.fo_ports.specs.State.{State}
 use Rattle.fo_ports.specs.Sources.{Dirties, DirtiesIn}
-use Rattle.fo_looks.proofs.Dirtied.{dirties_put}
-use Rattle.fo_tree_read.specs.declared.tree.Tree.{Tree}
-use Rattle.fo_tree_read.specs.Tree.{block_at}
-use Rattle.fo_tree_down.specs.Way.{OnWay, AddsWay}
-use Rattle.fo_tree_down.proofs.Next.{on_way_last}
+use Rattle.fo_tree_leaf.proofs.of_looks.Dirtied.{dirties_put}
+use Rattle.fo_tree_leaf.specs.of_tree_read.declared.tree.Tree.{Tree}
+use Rattle.fo_tree_leaf.specs.of_tree_read.Tree.{block_at}
+use Rattle.fo_tree_leaf.specs.of_tree_down.Way.{OnWay, AddsWay}
+use Rattle.fo_tree_leaf.proofs.of_tree_down.Next.{on_way_last}
 use Rattle.fo_tree_clear.proofs.Putting.{BytesPut, label_same, same_slots}
 use Rattle.fo_tree_clear.proofs.Same.{way_back}
 

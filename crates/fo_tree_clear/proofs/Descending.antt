@@ -1,13 +1,13 @@
 -- A way was made current, and bytes were put into its last block, as a step.
 use Rattle.std.proofs.Common.{◌≡◌, ◌≢◌, ◌⊎◌, ◌↔◌, ℕ, List, inl, inr, ⊎_elim, refl, sym, ap, ◌∙◌, subst, arith}
 use Rattle.fo_image.specs.declared.types.Label.{Label}
-use Rattle.fo_crash.specs.declared.slot.Slot.{Slot}
-use Rattle.fo_crash.specs.Images.{Content, Image, SameContent, target, to_block, with_bytes}
-use Rattle.fo_crash.proofs.Updates.{bytes_other, bytes_slot}
+use Rattle.fo_ports.specs.of_crash.declared.slot.Slot.{Slot}
+use Rattle.fo_ports.specs.of_crash.Images.{Content, Image, SameContent, target, to_block, with_bytes}
+use Rattle.fo_ports.proofs.of_crash.Updates.{bytes_other, bytes_slot}
 use Rattle.fo_ports.specs.State.{State, KeepsAll}
 use Rattle.fo_ports.specs.Sources.{Made, Touched, IsMade, StaysMarked}
-use Rattle.fo_tree_read.specs.declared.tree.Tree.{Tree}
-use Rattle.fo_tree_down.specs.Way.{IsLed, IsPutInto, Descends}
+use Rattle.fo_tree_leaf.specs.of_tree_read.declared.tree.Tree.{Tree}
+use Rattle.fo_tree_leaf.specs.of_tree_down.Way.{IsLed, IsPutInto, Descends}
 use Rattle.fo_tree_clear.specs.Steps.{Behind, Steps}
 use Rattle.fo_tree_clear.proofs.Putting.{BytesPut, label_same, reaches_on}
 

@@ -7,23 +7,23 @@ use Rattle.fo_image.specs.declared.types.Score.{Score}
 use Rattle.fo_image.specs.declared.types.Pointer.{Pointer}
 use Rattle.fo_image.specs.declared.types.Pointer.TheVariants.{Nil, Local, Score as Held}
 use Rattle.fo_image.specs.Format.{kind_code}
-use Rattle.fo_crash.specs.Images.{Image}
-use Rattle.fo_crash.specs.Places.{IsPlaced, OnePlace}
+use Rattle.fo_ports.specs.of_crash.Images.{Image}
+use Rattle.fo_ports.specs.of_crash.Places.{IsPlaced, OnePlace}
 use Rattle.fo_ports.specs.Blocks.{zero_bytes, put_at}
 use Rattle.fo_ports.specs.State.{State, KeepsAll}
 use Rattle.fo_ports.specs.Sources.{Made, byte_at}
 use Rattle.fo_ports.proofs.Lengths.{length_put_at}
-use Rattle.fo_tree_read.specs.declared.tree.Tree.{Tree}
-use Rattle.fo_tree_read.specs.Tree.{kind_at, kind_down, block_at, leaf_at, address_of, held_of, address, held_leaf}
-use Rattle.fo_tree_look.specs.declared.ways.Kept.{Kept}
-use Rattle.fo_tree_look.specs.Source.{IsPrepared, IsKept, Over, find_kept, or_held, seen, Ready, form_of, leaves_of, address_here, held_here}
-use Rattle.fo_tree_look.proofs.Held.{seen_leaf, seen_address}
-use Rattle.fo_tree_look.proofs.Places.{is_here, here_owned, leaves_apart}
-use Rattle.fo_tree_own.specs.Step.{Becomes}
-use Rattle.fo_tree_down.specs.Way.{Comes, Replaces, StaysBeside, with_top}
-use Rattle.fo_tree_down.proofs.Next.{local_seen, local_eq}
-use Rattle.fo_tree_down.proofs.Beside.{index_last}
-use Rattle.fo_tree_down.proofs.Stilling.{index_one}
+use Rattle.fo_tree_leaf.specs.of_tree_read.declared.tree.Tree.{Tree}
+use Rattle.fo_tree_leaf.specs.of_tree_read.Tree.{kind_at, kind_down, block_at, leaf_at, address_of, held_of, address, held_leaf}
+use Rattle.fo_tree_leaf.specs.of_tree_look.declared.ways.Kept.{Kept}
+use Rattle.fo_tree_leaf.specs.of_tree_look.Source.{IsPrepared, IsKept, Over, find_kept, or_held, seen, Ready, form_of, leaves_of, address_here, held_here}
+use Rattle.fo_tree_leaf.proofs.of_tree_look.Held.{seen_leaf, seen_address}
+use Rattle.fo_tree_leaf.proofs.of_tree_look.Places.{is_here, here_owned, leaves_apart}
+use Rattle.fo_tree_leaf.specs.of_tree_own.Step.{Becomes}
+use Rattle.fo_tree_leaf.specs.of_tree_down.Way.{Comes, Replaces, StaysBeside, with_top}
+use Rattle.fo_tree_leaf.proofs.of_tree_down.Next.{local_seen, local_eq}
+use Rattle.fo_tree_leaf.proofs.of_tree_down.Beside.{index_last}
+use Rattle.fo_tree_leaf.proofs.of_tree_down.Stilling.{index_one}
 use Rattle.fo_tree_clear.specs.Put.{byte_here, Puts, LeafPut}
 use Rattle.fo_tree_clear.proofs.Same.{address_same, has_on, held_here_same}
 use Rattle.fo_tree_clear.proofs.Putting.{BytesPut, same_slots, label_same}

@@ -5,3 +5,5 @@ pub mod Zeros
 pub mod Stepping
 pub mod Descending
 pub mod Counting
+pub mod of_tree_down
+pub mod of_tree_leaf

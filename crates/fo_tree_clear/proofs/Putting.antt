@@ -3,23 +3,23 @@ use Rattle.std.proofs.Common.{◌≡◌, ◌≢◌, ◌⊎◌, ◌+◌, ◌-◌,
 use Rattle.std.proofs.lemmas.Bool.{cases_eq}
 use Rattle.fo_image.specs.declared.types.Label.{Label}
 use Rattle.fo_image.specs.declared.types.Pointer.{Pointer}
-use Rattle.fo_crash.specs.declared.slot.Slot.{Slot}
-use Rattle.fo_crash.specs.declared.place.Place.{Place}
-use Rattle.fo_crash.specs.Images.{Content, Image, SameContent, Reaches, target, to_block, with_bytes}
-use Rattle.fo_crash.specs.Steps.{PutsBytes, AddsBytes}
-use Rattle.fo_crash.specs.Places.{place}
-use Rattle.fo_crash.proofs.Reach.{same_walk}
-use Rattle.fo_crash.proofs.Updates.{bytes_other, bytes_slot}
+use Rattle.fo_ports.specs.of_crash.declared.slot.Slot.{Slot}
+use Rattle.fo_ports.specs.of_crash.declared.place.Place.{Place}
+use Rattle.fo_ports.specs.of_crash.Images.{Content, Image, SameContent, Reaches, target, to_block, with_bytes}
+use Rattle.fo_ports.specs.of_crash.Steps.{PutsBytes, AddsBytes}
+use Rattle.fo_ports.specs.of_crash.Places.{place}
+use Rattle.fo_ports.proofs.of_crash.Reach.{same_walk}
+use Rattle.fo_ports.proofs.of_crash.Updates.{bytes_other, bytes_slot}
 use Rattle.fo_ports.specs.State.{State, IsRooted, KeepsAll, Calm, AddsNoWait, none}
 use Rattle.fo_ports.specs.Sources.{IsHung, Made, Touched, IsMade, StaysMarked, Undone, Changes, IsInstead, ComesFor}
-use Rattle.fo_looks.proofs.Looks.{rooted_of_apart}
-use Rattle.fo_tree_read.specs.declared.tree.Tree.{Tree}
-use Rattle.fo_tree_read.specs.Tree.{kind_at}
-use Rattle.fo_tree_look.specs.declared.ways.Kept.{Kept}
-use Rattle.fo_tree_look.specs.Source.{IsTold, Over, Prepared, WayReady}
-use Rattle.fo_tree_look.proofs.Still.{source_prepared}
-use Rattle.fo_tree_look.proofs.Shown.{held_on}
-use Rattle.fo_tree_down.specs.Clear.{EndsClear}
+use Rattle.fo_tree_leaf.proofs.of_looks.Looks.{rooted_of_apart}
+use Rattle.fo_tree_leaf.specs.of_tree_read.declared.tree.Tree.{Tree}
+use Rattle.fo_tree_leaf.specs.of_tree_read.Tree.{kind_at}
+use Rattle.fo_tree_leaf.specs.of_tree_look.declared.ways.Kept.{Kept}
+use Rattle.fo_tree_leaf.specs.of_tree_look.Source.{IsTold, Over, Prepared, WayReady}
+use Rattle.fo_tree_leaf.proofs.of_tree_look.Still.{source_prepared}
+use Rattle.fo_tree_leaf.proofs.of_tree_look.Shown.{held_on}
+use Rattle.fo_tree_leaf.specs.of_tree_down.Clear.{EndsClear}
 use Rattle.fo_tree_clear.proofs.Same.{SameSlots, same_seen, block_same, has_back}
 
 -- Bytes were put into a block, as long as those that were there.

@@ -6,14 +6,14 @@ use Rattle.fo_image.specs.declared.types.Score.{Score}
 use Rattle.fo_image.specs.declared.types.Pointer.{Pointer}
 use Rattle.fo_image.specs.declared.types.Pointer.TheVariants.{Nil, Local, Score as Held}
 use Rattle.fo_image.specs.Format.{kind_code}
-use Rattle.fo_crash.specs.declared.slot.Slot.{Slot}
-use Rattle.fo_crash.specs.Images.{target}
+use Rattle.fo_ports.specs.of_crash.declared.slot.Slot.{Slot}
+use Rattle.fo_ports.specs.of_crash.Images.{target}
 use Rattle.fo_ports.specs.State.{State}
-use Rattle.fo_tree_read.specs.declared.tree.Tree.{Tree}
-use Rattle.fo_tree_read.specs.Tree.{kind_at, kind_down, score_in, below, block_at, leaf_at, address_of, held_of, held_leaf}
-use Rattle.fo_tree_look.specs.declared.ways.Kept.{Kept}
-use Rattle.fo_tree_down.specs.Way.{OnWay, WayCurrent}
-use Rattle.fo_tree_look.specs.Source.{HasBlock, address_here, held_here, find_kept, or_held, seen}
+use Rattle.fo_tree_leaf.specs.of_tree_read.declared.tree.Tree.{Tree}
+use Rattle.fo_tree_leaf.specs.of_tree_read.Tree.{kind_at, kind_down, score_in, below, block_at, leaf_at, address_of, held_of, held_leaf}
+use Rattle.fo_tree_leaf.specs.of_tree_look.declared.ways.Kept.{Kept}
+use Rattle.fo_tree_leaf.specs.of_tree_down.Way.{OnWay, WayCurrent}
+use Rattle.fo_tree_leaf.specs.of_tree_look.Source.{HasBlock, address_here, held_here, find_kept, or_held, seen}
 
 -- All slots are the same, and the same is held.
 pub record SameSlots (a b : State) : Type 0 where

@@ -4,16 +4,16 @@ use Rattle.std.proofs.lemmas.Bool.{cases_lt}
 use Rattle.fo_image.specs.declared.types.Label.{Label}
 use Rattle.fo_image.specs.declared.types.State.{State as BlockState}
 use Rattle.fo_image.specs.declared.types.State.TheVariants.{Free, Live, Closed}
-use Rattle.fo_crash.specs.declared.place.Place.{Place}
-use Rattle.fo_crash.specs.declared.slot.Slot.{Slot}
-use Rattle.fo_crash.specs.Images.{Content, Image, SameContent, Reaches, target, to_block}
-use Rattle.fo_crash.specs.Places.{IsPlaced, RanksFall}
-use Rattle.fo_crash.proofs.Places.{stands_below}
+use Rattle.fo_ports.specs.of_crash.declared.place.Place.{Place}
+use Rattle.fo_ports.specs.of_crash.declared.slot.Slot.{Slot}
+use Rattle.fo_ports.specs.of_crash.Images.{Content, Image, SameContent, Reaches, target, to_block}
+use Rattle.fo_ports.specs.of_crash.Places.{IsPlaced, RanksFall}
+use Rattle.fo_ports.proofs.of_crash.Places.{stands_below}
 use Rattle.fo_ports.specs.State.{State, IsRooted, KeepsAll}
 use Rattle.fo_ports.specs.Sources.{Made, Touched, IsMade, StaysMarked, Changes}
 use Rattle.fo_image.specs.Usable.{is_usable}
-use Rattle.fo_looks.proofs.Free.{Standing, free_before, free_stands}
-use Rattle.fo_tree_down.specs.Way.{IsLed}
+use Rattle.fo_tree_leaf.proofs.of_looks.Free.{Standing, free_before, free_stands}
+use Rattle.fo_tree_leaf.specs.of_tree_down.Way.{IsLed}
 use Rattle.fo_tree_clear.specs.Steps.{Behind, Steps}
 
 live_cases : (s : BlockState) → (s ≡ Live) ⊎ (s ≢ Live)

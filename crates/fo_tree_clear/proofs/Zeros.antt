@@ -7,19 +7,19 @@ use Rattle.std.proofs.lemmas.List.FromFn.{length-map-range_with_len, get_or-map-
 use Rattle.fo_image.specs.declared.types.Pointer.{Pointer}
 use Rattle.fo_image.specs.declared.types.Pointer.TheVariants.{Nil, Local, Score as Held}
 use Rattle.fo_image.specs.Format.{kind_code}
-use Rattle.fo_sparse.specs.Written.{resized}
-use Rattle.fo_sparse.proofs.Lists.{is_resized}
-use Rattle.fo_crash.specs.Images.{SameContent}
+use Rattle.fo_ports.specs.of_sparse.Written.{resized}
+use Rattle.fo_ports.proofs.of_sparse.Lists.{is_resized}
+use Rattle.fo_ports.specs.of_crash.Images.{SameContent}
 use Rattle.fo_ports.specs.Blocks.{blank, zero_bytes, put_at}
 use Rattle.fo_ports.specs.State.{State}
 use Rattle.fo_ports.specs.Sources.{EndsWithin, IsCut, Owned, byte_at, source_bytes}
-use Rattle.fo_tree_read.specs.declared.tree.Tree.{Tree}
-use Rattle.fo_tree_read.specs.Tree.{kind_at, block_at, address_of, held_of, address, held_leaf}
-use Rattle.fo_tree_look.specs.declared.ways.Kept.{Kept}
-use Rattle.fo_tree_look.specs.Source.{IsKept, Over, find_kept, or_held, seen, Ready, form_of, leaves_of, address_here, held_here}
-use Rattle.fo_tree_look.proofs.Held.{seen_address}
-use Rattle.fo_tree_look.proofs.Shown.{address_past, held_past}
-use Rattle.fo_tree_down.specs.Way.{with_top}
+use Rattle.fo_tree_leaf.specs.of_tree_read.declared.tree.Tree.{Tree}
+use Rattle.fo_tree_leaf.specs.of_tree_read.Tree.{kind_at, block_at, address_of, held_of, address, held_leaf}
+use Rattle.fo_tree_leaf.specs.of_tree_look.declared.ways.Kept.{Kept}
+use Rattle.fo_tree_leaf.specs.of_tree_look.Source.{IsKept, Over, find_kept, or_held, seen, Ready, form_of, leaves_of, address_here, held_here}
+use Rattle.fo_tree_leaf.proofs.of_tree_look.Held.{seen_address}
+use Rattle.fo_tree_leaf.proofs.of_tree_look.Shown.{address_past, held_past}
+use Rattle.fo_tree_leaf.specs.of_tree_down.Way.{with_top}
 use Rattle.fo_tree_clear.specs.Put.{byte_here, Puts, LeafPut, EndsHere}
 
 cond_true : {T : Type 0} (b : Bool) (x y : T) → b ≡ true → cond b x y ≡ x

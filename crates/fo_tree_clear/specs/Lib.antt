@@ -1,2 +1,4 @@
 pub mod Put
 pub mod Steps
+pub mod of_tree_down
+pub mod of_tree_look

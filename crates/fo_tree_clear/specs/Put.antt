@@ -5,12 +5,12 @@ use Rattle.fo_image.specs.declared.types.Pointer.TheVariants.{Nil, Local}
 use Rattle.fo_ports.specs.Blocks.{zero_bytes, put_at}
 use Rattle.fo_ports.specs.State.{State}
 use Rattle.fo_ports.specs.Sources.{Form, Leaves, Made, byte_at}
-use Rattle.fo_tree_read.specs.declared.tree.Tree.{Tree}
-use Rattle.fo_tree_read.specs.Tree.{kind_at, block_at}
-use Rattle.fo_tree_look.specs.declared.ways.Kept.{Kept}
-use Rattle.fo_tree_look.specs.Source.{HasBlock, IsPlainTree, seen, address_here, held_here}
-use Rattle.fo_tree_down.specs.declared.way.Current.{Current}
-use Rattle.fo_tree_down.specs.Way.{with_top}
+use Rattle.fo_tree_leaf.specs.of_tree_read.declared.tree.Tree.{Tree}
+use Rattle.fo_tree_leaf.specs.of_tree_read.Tree.{kind_at, block_at}
+use Rattle.fo_tree_leaf.specs.of_tree_look.declared.ways.Kept.{Kept}
+use Rattle.fo_tree_leaf.specs.of_tree_look.Source.{HasBlock, IsPlainTree, seen, address_here, held_here}
+use Rattle.fo_tree_leaf.specs.of_tree_down.declared.way.Current.{Current}
+use Rattle.fo_tree_leaf.specs.of_tree_down.Way.{with_top}
 
 -- byte k of a source; also of what stands behind its end in its last leaf
 abbrev pub byte_here : State → Tree → List Kept → ℕ → ℕ

@@ -1,14 +1,14 @@
 -- What calls on a source change, one after another.
 use Rattle.std.specs.Prelude.{◌≡◌, ◌⊎◌, ◌↔◌, ◌+◌, ◌<◌, ℕ, List}
 use Rattle.fo_image.specs.declared.types.Pointer.TheVariants.{Local}
-use Rattle.fo_crash.specs.declared.place.Place.{Place}
-use Rattle.fo_crash.specs.Images.{Image, SameContent, Reaches, to_block}
+use Rattle.fo_ports.specs.of_crash.declared.place.Place.{Place}
+use Rattle.fo_ports.specs.of_crash.Images.{Image, SameContent, Reaches, to_block}
 use Rattle.fo_ports.specs.State.{State, IsRooted, KeepsAll, KeepsNumbers, AddsNoWait, none}
 use Rattle.fo_ports.specs.Sources.{Made, Touched, IsMade, StaysMarked}
-use Rattle.fo_tree_read.specs.declared.tree.Tree.{Tree}
-use Rattle.fo_tree_look.specs.declared.ways.Kept.{Kept}
-use Rattle.fo_tree_look.specs.Source.{HasBlock, WayReady}
-use Rattle.fo_tree_down.specs.Way.{OnWay, IsLed, WayCurrent, with_top}
+use Rattle.fo_tree_leaf.specs.of_tree_read.declared.tree.Tree.{Tree}
+use Rattle.fo_tree_leaf.specs.of_tree_look.declared.ways.Kept.{Kept}
+use Rattle.fo_tree_leaf.specs.of_tree_look.Source.{HasBlock, WayReady}
+use Rattle.fo_tree_leaf.specs.of_tree_down.Way.{OnWay, IsLed, WayCurrent, with_top}
 
 -- As `Undone` of the trait of sources, and a slot that isn't the one of before was led to a block that was given out.
 pub record Behind (touched : ℕ → Type 0) (old new : State) (image : Image) : Type 0 where

@@ -1,13 +1,12 @@
 //! What memory has on the way to a leaf.
 ghost use Rattle.std.specs.Prelude.{◌≡◌, ◌+◌, ◌-◌, ◌/◌, ◌%◌, ◌<◌, ◌≤◌, ℕ, suc};
 ghost use Rattle.fo_image.specs.Format.{kind_code};
-ghost use Rattle.fo_tree_read.specs.Tree.{kind_at, kind_down, below, block_at};
-ghost use Rattle.fo_tree_look.specs.Source.{Ready, WayReady, seen};
+ghost use Rattle.fo_tree_leaf.specs.of_tree_read.Tree.{kind_at, kind_down, below, block_at};
+ghost use Rattle.fo_tree_leaf.specs.of_tree_look.Source.{Ready, WayReady, seen};
 
 use fo_image::Pointer;
 use fo_ports::Blocks;
-use fo_tree_look::{Kept, kept_bytes};
-use fo_tree_read::{Tree, score_in};
+use fo_tree_leaf::{Kept, Tree, kept_bytes, score_in};
 
 /// How many pointers a block has.
 const SLOTS: u64 = 409;

@@ -13,3 +13,6 @@ mod tail;
 
 pub use put::put_leaf;
 pub use tail::clear_tail;
+
+// Passed on, so that a crate above names this one alone.
+pub use fo_tree_leaf::{Current, Kept};

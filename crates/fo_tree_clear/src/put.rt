@@ -2,17 +2,15 @@
 ghost use Rattle.std.specs.Prelude.{◌≡◌, ◌≢◌, ◌⊎◌, ◌+◌, ◌-◌, ◌*◌, ◌<◌, ◌≤◌, ℕ, List, length};
 ghost use Rattle.fo_image.specs.declared.types.Pointer.TheVariants.{Local};
 ghost use Rattle.fo_ports.specs.Sources.{Made, Changes, Dirties, Grows};
-ghost use Rattle.fo_tree_read.specs.Tree.{above};
-ghost use Rattle.fo_tree_look.specs.Source.{Over, HasBlock, IsPlainTree, WayReady, IsTopCurrent, form_of, leaves_of};
-ghost use Rattle.fo_tree_down.specs.Way.{OnWay, HasWay, AddsWay, IsTopOf, WayCurrent, CurrentBut, with_top};
-ghost use Rattle.fo_tree_down.specs.Clear.{EndsClear, last_leaf};
+ghost use Rattle.fo_tree_leaf.specs.of_tree_read.Tree.{above};
+ghost use Rattle.fo_tree_leaf.specs.of_tree_look.Source.{Over, HasBlock, IsPlainTree, WayReady, IsTopCurrent, form_of, leaves_of};
+ghost use Rattle.fo_tree_leaf.specs.of_tree_down.Way.{OnWay, HasWay, AddsWay, IsTopOf, WayCurrent, CurrentBut, with_top};
+ghost use Rattle.fo_tree_leaf.specs.of_tree_down.Clear.{EndsClear, last_leaf};
 ghost use Rattle.fo_tree_clear.specs.Put.{byte_here, Puts, IsInnerOr, LeafPut};
 ghost use Rattle.fo_tree_clear.specs.Steps.{Steps};
 
 use fo_ports::Blocks;
-use fo_tree_down::{Current, own_near};
-use fo_tree_look::Kept;
-use fo_tree_read::Tree;
+use fo_tree_leaf::{Current, Kept, Tree, own_near};
 
 /// Puts bytes into leaf `i` from a place in it on, and gives its address and that of the top, which is put nowhere yet where it is new. The
 /// leaf is made current first, with all on the way to it: as many blocks are taken as aren't current there.

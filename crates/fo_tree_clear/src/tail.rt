@@ -3,10 +3,10 @@ ghost use Rattle.std.specs.Prelude.{◌≡◌, ◌≢◌, ◌⊎◌, ◌+◌, �
 ghost use Rattle.fo_image.specs.declared.types.Pointer.TheVariants.{Nil};
 ghost use Rattle.fo_ports.specs.State.{none};
 ghost use Rattle.fo_ports.specs.Sources.{Changes, Dirties, EndsWithin, Grows, Owned};
-ghost use Rattle.fo_tree_read.specs.Tree.{block_at};
-ghost use Rattle.fo_tree_look.specs.Source.{Over, HasBlock, IsPlainTree, WayReady, IsTopCurrent, seen, form_of, leaves_of, address_here, held_here};
-ghost use Rattle.fo_tree_down.specs.Way.{IsTopOf, with_top};
-ghost use Rattle.fo_tree_down.specs.Clear.{EndsClear};
+ghost use Rattle.fo_tree_leaf.specs.of_tree_read.Tree.{block_at};
+ghost use Rattle.fo_tree_leaf.specs.of_tree_look.Source.{Over, HasBlock, IsPlainTree, WayReady, IsTopCurrent, seen, form_of, leaves_of, address_here, held_here};
+ghost use Rattle.fo_tree_leaf.specs.of_tree_down.Way.{IsTopOf, with_top};
+ghost use Rattle.fo_tree_leaf.specs.of_tree_down.Clear.{EndsClear};
 ghost use Rattle.fo_tree_clear.specs.Put.{byte_here, EndsHere, top_after, IsInnerOrEnd};
 ghost use Rattle.fo_tree_clear.specs.Steps.{IsStep};
 
@@ -15,9 +15,7 @@ use crate::put::put_leaf;
 use fo_base::BLOCK;
 use fo_image::Pointer;
 use fo_ports::Blocks;
-use fo_tree_down::Current;
-use fo_tree_look::Kept;
-use fo_tree_read::Tree;
+use fo_tree_leaf::{Current, Kept, Tree};
 
 /// How many bytes a leaf has.
 const LEAF: u64 = BLOCK as u64;

@@ -6,12 +6,12 @@ use Rattle.std.proofs.lemmas.List.Elements.{Contains-append_left, Contains-appen
 use Rattle.fo_image.specs.declared.types.Label.{Label}
 use Rattle.fo_image.specs.declared.types.Pointer.{Pointer}
 use Rattle.fo_image.specs.declared.types.Pointer.TheVariants.{Local}
-use Rattle.fo_crash.specs.Images.{target}
-use Rattle.fo_ports.specs.State.{State, KeepsAll, none}
-use Rattle.fo_ports.specs.Sources.{Made, Dirties, DirtiesIn}
-use Rattle.fo_looks.proofs.Dirtied.{dirties_joins, dirties_put}
-use Rattle.fo_tree_read.specs.declared.tree.Tree.{Tree}
-use Rattle.fo_tree_read.specs.Tree.{kind_down, below, block_at, above as hold}
+use Rattle.fo_tree_own.specs.of_crash.Images.{target}
+use Rattle.fo_tree_look.specs.of_ports.State.{State, KeepsAll, none}
+use Rattle.fo_tree_look.specs.of_ports.Sources.{Made, Dirties, DirtiesIn}
+use Rattle.fo_tree_look.proofs.of_looks.Dirtied.{dirties_joins, dirties_put}
+use Rattle.fo_tree_look.specs.of_tree_read.declared.tree.Tree.{Tree}
+use Rattle.fo_tree_look.specs.of_tree_read.Tree.{kind_down, below, block_at, above as hold}
 use Rattle.fo_tree_own.specs.Step.{Filled, Links}
 use Rattle.fo_tree_own.proofs.Link.{local_eq}
 use Rattle.fo_tree_down.specs.Way.{OnWay, HasWay, AddsWay, with_top}

@@ -7,16 +7,16 @@ use Rattle.fo_image.specs.declared.types.State.TheVariants.{Free, Live, Closed}
 use Rattle.fo_image.specs.declared.types.Pointer.{Pointer}
 use Rattle.fo_image.specs.declared.types.Pointer.TheVariants.{Nil, Local, Score as Held}
 use Rattle.fo_image.specs.Usable.{is_usable}
-use Rattle.fo_crash.specs.declared.place.Place.{Place}
-use Rattle.fo_crash.specs.declared.slot.Slot.{Slot}
-use Rattle.fo_crash.specs.Images.{Image, Reaches, target, to_block}
-use Rattle.fo_crash.specs.Places.{IsPlaced, RanksFall}
-use Rattle.fo_crash.proofs.Places.{stands_below}
-use Rattle.fo_ports.specs.State.{State, KeepsAll}
-use Rattle.fo_ports.specs.Sources.{Made, Touched, IsMade, StaysMarked, Changes}
-use Rattle.fo_looks.proofs.Free.{Standing, free_before, free_stands}
-use Rattle.fo_tree_read.specs.declared.tree.Tree.{Tree}
-use Rattle.fo_tree_read.specs.Tree.{kind_at}
+use Rattle.fo_tree_own.specs.of_crash.declared.place.Place.{Place}
+use Rattle.fo_tree_own.specs.of_crash.declared.slot.Slot.{Slot}
+use Rattle.fo_tree_own.specs.of_crash.Images.{Image, Reaches, target, to_block}
+use Rattle.fo_tree_own.specs.of_crash.Places.{IsPlaced, RanksFall}
+use Rattle.fo_tree_own.proofs.of_crash.Places.{stands_below}
+use Rattle.fo_tree_look.specs.of_ports.State.{State, KeepsAll}
+use Rattle.fo_tree_look.specs.of_ports.Sources.{Made, Touched, IsMade, StaysMarked, Changes}
+use Rattle.fo_tree_look.proofs.of_looks.Free.{Standing, free_before, free_stands}
+use Rattle.fo_tree_look.specs.of_tree_read.declared.tree.Tree.{Tree}
+use Rattle.fo_tree_look.specs.of_tree_read.Tree.{kind_at}
 use Rattle.fo_tree_own.specs.Step.{IsOwn, IsBehind, Links}
 use Rattle.fo_tree_down.specs.Way.{IsLed, IsPutInto, IsBefore, Descends}
 

@@ -5,16 +5,16 @@ use Rattle.fo_image.specs.declared.types.Label.{Label}
 use Rattle.fo_image.specs.declared.types.State.TheVariants.{Live}
 use Rattle.fo_image.specs.declared.types.Pointer.{Pointer}
 use Rattle.fo_image.specs.declared.types.Pointer.TheVariants.{Local}
-use Rattle.fo_crash.specs.declared.slot.Slot.{Slot}
-use Rattle.fo_crash.specs.Images.{target}
-use Rattle.fo_crash.specs.Places.{place}
-use Rattle.fo_ports.specs.State.{State, KeepsAll}
-use Rattle.fo_ports.specs.Sources.{Made, IsInstead, ComesFor}
+use Rattle.fo_tree_own.specs.of_crash.declared.slot.Slot.{Slot}
+use Rattle.fo_tree_own.specs.of_crash.Images.{target}
+use Rattle.fo_tree_own.specs.of_crash.Places.{place}
+use Rattle.fo_tree_look.specs.of_ports.State.{State, KeepsAll}
+use Rattle.fo_tree_look.specs.of_ports.Sources.{Made, IsInstead, ComesFor}
 use Rattle.fo_tree_look.specs.declared.ways.Kept.{Kept}
 use Rattle.fo_tree_look.specs.Source.{IsPrepared, IsTopCurrent}
-use Rattle.fo_looks.proofs.Looks.{rooted_of_apart, rooted_of_hung}
-use Rattle.fo_tree_read.specs.declared.tree.Tree.{Tree}
-use Rattle.fo_tree_read.specs.Tree.{kind_at, kind_down, below, block_at}
+use Rattle.fo_tree_look.proofs.of_looks.Looks.{rooted_of_apart, rooted_of_hung}
+use Rattle.fo_tree_look.specs.of_tree_read.declared.tree.Tree.{Tree}
+use Rattle.fo_tree_look.specs.of_tree_read.Tree.{kind_at, kind_down, below, block_at}
 use Rattle.fo_tree_own.specs.Step.{IsOwn, OwnTold, Links}
 use Rattle.fo_tree_down.specs.Way.{OnWay, Replaces, LeadsBeside, Leads, with_top, IsTopOf, WayCurrent}
 use Rattle.fo_tree_own.proofs.Link.{local_eq}

@@ -8,3 +8,4 @@ pub mod Stilling
 pub mod Telling
 pub mod Ending
 pub mod Dirtying
+pub mod of_tree_own

@@ -5,16 +5,16 @@ use Rattle.fo_image.specs.declared.types.Score.{Score}
 use Rattle.fo_image.specs.declared.types.Pointer.{Pointer}
 use Rattle.fo_image.specs.declared.types.Pointer.TheVariants.{Nil, Local, Score as Held}
 use Rattle.fo_image.specs.Format.{kind_code}
-use Rattle.fo_crash.specs.declared.place.Place.{Place}
-use Rattle.fo_crash.specs.Images.{Image, target}
-use Rattle.fo_crash.specs.Places.{place, IsPlaced, OnePlace, RanksFall}
-use Rattle.fo_ports.specs.State.{State, KeepsAll}
-use Rattle.fo_ports.specs.Sources.{Made}
-use Rattle.fo_looks.proofs.Free.{Standing}
-use Rattle.fo_tree_read.specs.declared.tree.Tree.{Tree}
-use Rattle.fo_tree_read.specs.Tree.{kind_at, kind_down, score_in, below, block_at, address_of, Hangs}
-use Rattle.fo_tree_read.proofs.Exits.{address_local}
-use Rattle.fo_tree_read.proofs.Walk.{is_down}
+use Rattle.fo_tree_own.specs.of_crash.declared.place.Place.{Place}
+use Rattle.fo_tree_own.specs.of_crash.Images.{Image, target}
+use Rattle.fo_tree_own.specs.of_crash.Places.{place, IsPlaced, OnePlace, RanksFall}
+use Rattle.fo_tree_look.specs.of_ports.State.{State, KeepsAll}
+use Rattle.fo_tree_look.specs.of_ports.Sources.{Made}
+use Rattle.fo_tree_look.proofs.of_looks.Free.{Standing}
+use Rattle.fo_tree_look.specs.of_tree_read.declared.tree.Tree.{Tree}
+use Rattle.fo_tree_look.specs.of_tree_read.Tree.{kind_at, kind_down, score_in, below, block_at, address_of, Hangs}
+use Rattle.fo_tree_look.proofs.of_tree_read.Exits.{address_local}
+use Rattle.fo_tree_look.proofs.of_tree_read.Walk.{is_down}
 use Rattle.fo_tree_look.specs.declared.ways.Kept.{Kept}
 use Rattle.fo_tree_look.specs.Source.{IsTold, IsPrepared, IsKept, or_held, seen, Ready, WayReady}
 use Rattle.fo_tree_look.proofs.Held.{seen_address}

@@ -6,12 +6,12 @@ use Rattle.fo_image.specs.declared.types.Score.{Score}
 use Rattle.fo_image.specs.declared.types.Pointer.{Pointer}
 use Rattle.fo_image.specs.declared.types.Pointer.TheVariants.{Nil, Local, Score as Held}
 use Rattle.fo_image.specs.Format.{kind_code}
-use Rattle.fo_crash.specs.declared.slot.Slot.{Slot}
-use Rattle.fo_crash.specs.Images.{target}
-use Rattle.fo_ports.specs.State.{State, KeepsAll}
-use Rattle.fo_ports.specs.Sources.{Made}
-use Rattle.fo_tree_read.specs.declared.tree.Tree.{Tree}
-use Rattle.fo_tree_read.specs.Tree.{kind_down, score_in, below, block_at}
+use Rattle.fo_tree_own.specs.of_crash.declared.slot.Slot.{Slot}
+use Rattle.fo_tree_own.specs.of_crash.Images.{target}
+use Rattle.fo_tree_look.specs.of_ports.State.{State, KeepsAll}
+use Rattle.fo_tree_look.specs.of_ports.Sources.{Made}
+use Rattle.fo_tree_look.specs.of_tree_read.declared.tree.Tree.{Tree}
+use Rattle.fo_tree_look.specs.of_tree_read.Tree.{kind_down, score_in, below, block_at}
 use Rattle.fo_tree_look.specs.declared.ways.Kept.{Kept}
 use Rattle.fo_tree_look.specs.Source.{IsPrepared, find_kept, or_held, seen, Ready, WayReady, Prepared}
 use Rattle.fo_tree_look.proofs.Shown.{top_ready}

@@ -6,13 +6,13 @@ use Rattle.fo_image.specs.declared.types.Label.{Label}
 use Rattle.fo_image.specs.declared.types.Score.{Score}
 use Rattle.fo_image.specs.declared.types.Pointer.{Pointer}
 use Rattle.fo_image.specs.declared.types.Pointer.TheVariants.{Local, Score as Held}
-use Rattle.fo_crash.specs.Images.{Reaches, to_block}
-use Rattle.fo_crash.specs.Places.{place}
-use Rattle.fo_ports.specs.State.{State}
-use Rattle.fo_ports.specs.Sources.{Made}
-use Rattle.fo_looks.proofs.Looks.{rooted_of_apart}
-use Rattle.fo_tree_read.specs.declared.tree.Tree.{Tree}
-use Rattle.fo_tree_read.specs.Tree.{kind_at, kind_down, below, block_at, Hangs}
+use Rattle.fo_tree_own.specs.of_crash.Images.{Reaches, to_block}
+use Rattle.fo_tree_own.specs.of_crash.Places.{place}
+use Rattle.fo_tree_look.specs.of_ports.State.{State}
+use Rattle.fo_tree_look.specs.of_ports.Sources.{Made}
+use Rattle.fo_tree_look.proofs.of_looks.Looks.{rooted_of_apart}
+use Rattle.fo_tree_look.specs.of_tree_read.declared.tree.Tree.{Tree}
+use Rattle.fo_tree_look.specs.of_tree_read.Tree.{kind_at, kind_down, below, block_at, Hangs}
 use Rattle.fo_tree_look.specs.declared.ways.Kept.{Kept}
 use Rattle.fo_tree_look.specs.Source.{HasBlock, IsTold, NoneHeld, Over}
 use Rattle.fo_tree_look.proofs.Shown.{held_on}

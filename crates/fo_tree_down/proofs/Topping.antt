@@ -6,17 +6,17 @@ use Rattle.fo_image.specs.declared.types.State.TheVariants.{Live}
 use Rattle.fo_image.specs.declared.types.Score.{Score}
 use Rattle.fo_image.specs.declared.types.Pointer.{Pointer}
 use Rattle.fo_image.specs.declared.types.Pointer.TheVariants.{Nil, Local, Score as Held}
-use Rattle.fo_crash.specs.declared.place.Place.{Place}
-use Rattle.fo_crash.specs.Images.{Image, Reaches, to_block}
-use Rattle.fo_crash.specs.Places.{place, super_place}
-use Rattle.fo_crash.proofs.Places.{stands_below}
-use Rattle.fo_crash.proofs.Reach.{reach_aside, reach_into, reaches_itself}
-use Rattle.fo_ports.specs.Blocks.{IsLevel}
-use Rattle.fo_ports.specs.State.{State, KeepsAll}
-use Rattle.fo_ports.specs.Sources.{IsHung, Made, IsMade, StaysMarked, IsInstead, ComesFor}
-use Rattle.fo_looks.proofs.Looks.{rooted_of_apart}
-use Rattle.fo_tree_read.specs.declared.tree.Tree.{Tree}
-use Rattle.fo_tree_read.specs.Tree.{kind_at, Hangs}
+use Rattle.fo_tree_own.specs.of_crash.declared.place.Place.{Place}
+use Rattle.fo_tree_own.specs.of_crash.Images.{Image, Reaches, to_block}
+use Rattle.fo_tree_own.specs.of_crash.Places.{place, super_place}
+use Rattle.fo_tree_own.proofs.of_crash.Places.{stands_below}
+use Rattle.fo_tree_own.proofs.of_crash.Reach.{reach_aside, reach_into, reaches_itself}
+use Rattle.fo_tree_look.specs.of_ports.Blocks.{IsLevel}
+use Rattle.fo_tree_look.specs.of_ports.State.{State, KeepsAll}
+use Rattle.fo_tree_look.specs.of_ports.Sources.{IsHung, Made, IsMade, StaysMarked, IsInstead, ComesFor}
+use Rattle.fo_tree_look.proofs.of_looks.Looks.{rooted_of_apart}
+use Rattle.fo_tree_look.specs.of_tree_read.declared.tree.Tree.{Tree}
+use Rattle.fo_tree_look.specs.of_tree_read.Tree.{kind_at, Hangs}
 use Rattle.fo_tree_look.specs.declared.ways.Kept.{Kept}
 use Rattle.fo_tree_look.specs.Source.{IsTold, IsPrepared, IsKept, Ready, IsTopCurrent}
 use Rattle.fo_image.specs.Format.{kind_code}

@@ -1,9 +1,9 @@
 -- What stands behind the end of a source.
 use Rattle.std.specs.Prelude.{◌≡◌, ◌-◌, ◌/◌, ◌^◌, ◌<◌, ℕ, List}
 use Rattle.fo_image.specs.declared.types.Pointer.TheVariants.{Nil}
-use Rattle.fo_ports.specs.State.{State}
-use Rattle.fo_tree_read.specs.declared.tree.Tree.{Tree}
-use Rattle.fo_tree_read.specs.Tree.{block_at}
+use Rattle.fo_tree_look.specs.of_ports.State.{State}
+use Rattle.fo_tree_look.specs.of_tree_read.declared.tree.Tree.{Tree}
+use Rattle.fo_tree_look.specs.of_tree_read.Tree.{block_at}
 use Rattle.fo_tree_look.specs.declared.ways.Kept.{Kept}
 use Rattle.fo_tree_look.specs.Source.{WayReady, seen}
 use Rattle.fo_tree_down.specs.Way.{IsWayIndex}

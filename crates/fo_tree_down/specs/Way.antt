@@ -5,12 +5,12 @@ use Rattle.fo_image.specs.declared.types.Kind.{Kind}
 use Rattle.fo_image.specs.declared.types.Pointer.{Pointer}
 use Rattle.fo_image.specs.declared.types.Pointer.TheVariants.{Local}
 use Rattle.fo_image.specs.declared.types.State.TheVariants.{Live}
-use Rattle.fo_crash.specs.declared.place.Place.{Place}
-use Rattle.fo_crash.specs.Images.{Image, Reaches, target, to_block}
-use Rattle.fo_ports.specs.State.{State, IsRooted, none, AddsNoWait, KeepsNumbers}
-use Rattle.fo_ports.specs.Sources.{IsHung, ComesFor, Made, DirtiesIn, Touched, IsMade, StaysMarked}
-use Rattle.fo_tree_read.specs.declared.tree.Tree.{Tree}
-use Rattle.fo_tree_read.specs.Tree.{kind_at, kind_down, below, block_at}
+use Rattle.fo_tree_own.specs.of_crash.declared.place.Place.{Place}
+use Rattle.fo_tree_own.specs.of_crash.Images.{Image, Reaches, target, to_block}
+use Rattle.fo_tree_look.specs.of_ports.State.{State, IsRooted, none, AddsNoWait, KeepsNumbers}
+use Rattle.fo_tree_look.specs.of_ports.Sources.{IsHung, ComesFor, Made, DirtiesIn, Touched, IsMade, StaysMarked}
+use Rattle.fo_tree_look.specs.of_tree_read.declared.tree.Tree.{Tree}
+use Rattle.fo_tree_look.specs.of_tree_read.Tree.{kind_at, kind_down, below, block_at}
 use Rattle.fo_tree_look.specs.declared.ways.Kept.{Kept}
 use Rattle.fo_tree_look.specs.Source.{seen}
 use Rattle.fo_tree_own.specs.Step.{IsOwn, Becomes}

@@ -15,3 +15,6 @@ mod top;
 mod way;
 
 pub use way::{Current, own_near, own_way};
+
+// Passed on, so that a crate above names this one alone.
+pub use fo_tree_own::{is_current, kind_at};

@@ -2,17 +2,15 @@
 ghost use Rattle.std.specs.Prelude.{◌≡◌, ◌⊎◌, ◌+◌, ◌-◌, ◌^◌, ◌<◌, ◌≤◌, ℕ};
 ghost use Rattle.fo_image.specs.declared.types.Pointer.TheVariants.{Nil, Local, Score as Held};
 ghost use Rattle.fo_image.specs.Format.{kind_code};
-ghost use Rattle.fo_tree_read.specs.Tree.{Hangs, kind_at};
-ghost use Rattle.fo_ports.specs.State.{none};
-ghost use Rattle.fo_ports.specs.Sources.{Made, Dirties};
+ghost use Rattle.fo_tree_look.specs.of_tree_read.Tree.{Hangs, kind_at};
+ghost use Rattle.fo_tree_look.specs.of_ports.State.{none};
+ghost use Rattle.fo_tree_look.specs.of_ports.Sources.{Made, Dirties};
 ghost use Rattle.fo_tree_look.specs.Source.{IsTold, IsPlainTree, IsPrepared, IsKept, Ready, IsTopCurrent};
 ghost use Rattle.fo_tree_down.specs.Way.{Comes, IsTopOf};
 
 use fo_image::{Pointer, Score};
-use fo_ports::Blocks;
-use fo_tree_look::Kept;
+use fo_tree_look::{Blocks, Kept, Tree};
 use fo_tree_own::{fill_kept, is_current, kind_at};
-use fo_tree_read::Tree;
 
 /// Makes the top of a source current: it is the top itself where that is of the active epoch, a copy of an older one, one with what was
 /// kept under a score, or one of zeros.

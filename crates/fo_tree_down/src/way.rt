@@ -1,17 +1,15 @@
 //! The way to a block is made current.
 ghost use Rattle.std.specs.Prelude.{◌≡◌, ◌≢◌, ◌⊎◌, ◌+◌, ◌-◌, ◌*◌, ◌/◌, ◌%◌, ◌^◌, ◌<◌, ◌≤◌, ℕ, List};
 ghost use Rattle.fo_image.specs.declared.types.Pointer.TheVariants.{Local};
-ghost use Rattle.fo_ports.specs.Sources.{Made, Changes, Dirties};
-ghost use Rattle.fo_tree_read.specs.Tree.{Hangs, kind_at, block_at, above};
+ghost use Rattle.fo_tree_look.specs.of_ports.Sources.{Made, Changes, Dirties};
+ghost use Rattle.fo_tree_look.specs.of_tree_read.Tree.{Hangs, kind_at, block_at, above};
 ghost use Rattle.fo_tree_look.specs.Source.{IsTold, Over, HasBlock, Prepared, WayReady, IsTopCurrent};
 ghost use Rattle.fo_tree_down.specs.Clear.{EndsClear, last_leaf};
 ghost use Rattle.fo_tree_down.specs.Way.{OnWay, Comes, Leads, IsTopOf, Replaces, StaysBeside, WayCurrent, CurrentBut, with_top, HasWay, AddsWay};
 
 use crate::top::own_top;
-use fo_ports::Blocks;
-use fo_tree_look::Kept;
+use fo_tree_look::{Blocks, Kept, Tree};
 use fo_tree_own::own_block;
-use fo_tree_read::Tree;
 
 /// How many pointers a block has.
 const SLOTS: u64 = 409;

@@ -6,11 +6,11 @@ use Rattle.fo_image.specs.declared.types.Pointer.TheVariants.{Nil, Local, Score 
 use Rattle.fo_image.specs.Format.{IsDepth}
 use Rattle.fo_ports.specs.State.{State}
 use Rattle.fo_ports.specs.Sources.{depth_for, byte_at}
-use Rattle.fo_tree_read.specs.declared.tree.Tree.{Tree}
-use Rattle.fo_tree_read.specs.Tree.{kind_at, kind_down, below, block_at, leaf_at, address_of, held_of}
-use Rattle.fo_tree_look.specs.declared.ways.Kept.{Kept}
-use Rattle.fo_tree_look.specs.Source.{HasBlock, NoneHeld, Over, Prepared, address_here, held_here, seen}
-use Rattle.fo_tree_down.specs.Clear.{EndsClear, last_leaf}
+use Rattle.fo_tree_raise.specs.of_tree_read.declared.tree.Tree.{Tree}
+use Rattle.fo_tree_raise.specs.of_tree_read.Tree.{kind_at, kind_down, below, block_at, leaf_at, address_of, held_of}
+use Rattle.fo_tree_leaf.specs.of_tree_look.declared.ways.Kept.{Kept}
+use Rattle.fo_tree_leaf.specs.of_tree_look.Source.{HasBlock, NoneHeld, Over, Prepared, address_here, held_here, seen}
+use Rattle.fo_tree_leaf.specs.of_tree_down.Clear.{EndsClear, last_leaf}
 use Rattle.fo_tree_raise.proofs.Clear.{nothing_there, way_nothing}
 use Rattle.fo_tree_grow.specs.Grow.{shaped, TailClear}
 use Rattle.fo_tree_grow.proofs.Sizing.{room_for}

@@ -6,15 +6,15 @@ use Rattle.std.proofs.lemmas.List.{length-take, get_or-take, get_or_past}
 use Rattle.std.proofs.lemmas.List.FromFn.{length-map-range_with_len, get_or-map-range_with_len}
 use Rattle.fo_sparse.specs.Written.{resized}
 use Rattle.fo_sparse.proofs.Lists.{is_resized}
-use Rattle.fo_crash.specs.Images.{SameContent}
+use Rattle.fo_ports.specs.of_crash.Images.{SameContent}
 use Rattle.fo_ports.specs.Blocks.{blank}
 use Rattle.fo_ports.specs.State.{State}
 use Rattle.fo_ports.specs.Sources.{Form, Leaves, Made, Touched, Changes, IsCut, EndsWithin, StaysLeaf, Owned, byte_at, source_bytes}
-use Rattle.fo_tree_read.specs.declared.tree.Tree.{Tree}
-use Rattle.fo_tree_look.specs.declared.ways.Kept.{Kept}
-use Rattle.fo_tree_look.specs.Source.{IsPlainTree, form_of, leaves_of, address_here, held_here}
-use Rattle.fo_tree_look.proofs.Shown.{address_past, held_past}
-use Rattle.fo_tree_down.specs.Way.{IsTopOf}
+use Rattle.fo_tree_raise.specs.of_tree_read.declared.tree.Tree.{Tree}
+use Rattle.fo_tree_leaf.specs.of_tree_look.declared.ways.Kept.{Kept}
+use Rattle.fo_tree_leaf.specs.of_tree_look.Source.{IsPlainTree, form_of, leaves_of, address_here, held_here}
+use Rattle.fo_tree_leaf.proofs.of_tree_look.Shown.{address_past, held_past}
+use Rattle.fo_tree_leaf.specs.of_tree_down.Way.{IsTopOf}
 use Rattle.fo_tree_grow.specs.Grow.{shaped, TailClear}
 
 -- What changes of a source changes of one that has its blocks.

@@ -5,15 +5,15 @@ use Rattle.fo_image.specs.declared.types.Pointer.{Pointer}
 use Rattle.fo_image.specs.declared.types.Pointer.TheVariants.{Nil, Local, Score as Held}
 use Rattle.fo_ports.specs.State.{State}
 use Rattle.fo_ports.specs.Sources.{depth_for}
-use Rattle.fo_tree_read.specs.declared.tree.Tree.{Tree}
-use Rattle.fo_tree_read.specs.Tree.{kind_at, kind_down, below, block_at, leaf_at, address_of, held_of}
-use Rattle.fo_tree_look.specs.declared.ways.Kept.{Kept}
-use Rattle.fo_tree_look.specs.Source.{HasBlock, Over, Prepared, Ready, WayReady, IsTopCurrent, address_here, held_here, seen}
-use Rattle.fo_tree_look.proofs.Held.{seen_address}
-use Rattle.fo_tree_down.proofs.Beside.{index_last, index_within}
-use Rattle.fo_tree_down.proofs.Stilling.{index_at}
-use Rattle.fo_tree_down.proofs.Ending.{index_order}
-use Rattle.fo_tree_down.specs.Clear.{EndsClear, last_leaf}
+use Rattle.fo_tree_raise.specs.of_tree_read.declared.tree.Tree.{Tree}
+use Rattle.fo_tree_raise.specs.of_tree_read.Tree.{kind_at, kind_down, below, block_at, leaf_at, address_of, held_of}
+use Rattle.fo_tree_leaf.specs.of_tree_look.declared.ways.Kept.{Kept}
+use Rattle.fo_tree_leaf.specs.of_tree_look.Source.{HasBlock, Over, Prepared, Ready, WayReady, IsTopCurrent, address_here, held_here, seen}
+use Rattle.fo_tree_leaf.proofs.of_tree_look.Held.{seen_address}
+use Rattle.fo_tree_leaf.proofs.of_tree_down.Beside.{index_last, index_within}
+use Rattle.fo_tree_leaf.proofs.of_tree_down.Stilling.{index_at}
+use Rattle.fo_tree_leaf.proofs.of_tree_down.Ending.{index_order}
+use Rattle.fo_tree_leaf.specs.of_tree_down.Clear.{EndsClear, last_leaf}
 use Rattle.fo_tree_raise.proofs.Clear.{way_past, nothing_there}
 use Rattle.fo_tree_grow.specs.Grow.{sized}
 

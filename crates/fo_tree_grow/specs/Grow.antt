@@ -2,9 +2,9 @@
 use Rattle.std.specs.Prelude.{◌≡◌, ◌/◌, ◌%◌, ◌≤◌, ℕ, List}
 use Rattle.fo_ports.specs.State.{State}
 use Rattle.fo_ports.specs.Sources.{byte_at}
-use Rattle.fo_tree_read.specs.declared.tree.Tree.{Tree}
-use Rattle.fo_tree_look.specs.declared.ways.Kept.{Kept}
-use Rattle.fo_tree_look.specs.Source.{IsPlainTree, address_here, held_here}
+use Rattle.fo_tree_raise.specs.of_tree_read.declared.tree.Tree.{Tree}
+use Rattle.fo_tree_leaf.specs.of_tree_look.declared.ways.Kept.{Kept}
+use Rattle.fo_tree_leaf.specs.of_tree_look.Source.{IsPlainTree, address_here, held_here}
 
 -- the tree of a source of this depth and size, and of this size
 abbrev pub shaped : Tree → ℕ → ℕ → Tree

@@ -3,19 +3,17 @@ ghost use Rattle.std.specs.Prelude.{◌≡◌, ◌≢◌, ◌⊎◌, ◌+◌, �
 ghost use Rattle.fo_image.specs.declared.types.Pointer.TheVariants.{Nil};
 ghost use Rattle.fo_sparse.specs.Written.{resized};
 ghost use Rattle.fo_ports.specs.Sources.{Changes, Grows, Owned, Dirties, depth_for};
-ghost use Rattle.fo_tree_read.specs.Tree.{kind_at};
-ghost use Rattle.fo_tree_look.specs.Source.{Over, HasBlock, Prepared, IsTopCurrent, form_of, leaves_of};
-ghost use Rattle.fo_tree_down.specs.Clear.{EndsClear};
-ghost use Rattle.fo_tree_down.specs.Way.{IsTopOf, with_top};
+ghost use Rattle.fo_tree_raise.specs.of_tree_read.Tree.{kind_at};
+ghost use Rattle.fo_tree_leaf.specs.of_tree_look.Source.{Over, HasBlock, Prepared, IsTopCurrent, form_of, leaves_of};
+ghost use Rattle.fo_tree_leaf.specs.of_tree_down.Clear.{EndsClear};
+ghost use Rattle.fo_tree_leaf.specs.of_tree_down.Way.{IsTopOf, with_top};
 ghost use Rattle.fo_tree_grow.specs.Grow.{shaped};
 
 use fo_base::BLOCK;
 use fo_image::least_depth;
 use fo_ports::Blocks;
-use fo_tree_down::Current;
-use fo_tree_leaf::own_within;
-use fo_tree_look::Kept;
-use fo_tree_read::Tree;
+use fo_tree_leaf::{Current, Kept, own_within};
+use fo_tree_raise::Tree;
 
 /// Makes leaf `i` of a source without a block current, past its end, with which the source ends then and of which it has the least
 /// depth. It gives the leaf's address and that of the top, which is put nowhere yet.

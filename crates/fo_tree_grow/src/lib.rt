@@ -11,3 +11,7 @@ mod next;
 
 pub use first::own_first;
 pub use next::own_next;
+
+// Passed on, so that a crate above names this one alone.
+pub use fo_tree_leaf::{Current, is_current, own_way, own_within};
+pub use fo_tree_raise::{copy_top, raise_levels};

@@ -2,18 +2,16 @@
 ghost use Rattle.std.specs.Prelude.{◌≡◌, ◌≢◌, ◌⊎◌, ◌+◌, ◌-◌, ◌*◌, ◌%◌, ◌<◌, ◌≤◌, ℕ};
 ghost use Rattle.fo_sparse.specs.Written.{resized};
 ghost use Rattle.fo_ports.specs.Sources.{Made, Changes, Grows, Owned, Dirties, depth_for};
-ghost use Rattle.fo_tree_read.specs.Tree.{kind_at};
-ghost use Rattle.fo_tree_look.specs.Source.{Over, HasBlock, IsPlainTree, Prepared, WayReady, IsTopCurrent, form_of, leaves_of};
-ghost use Rattle.fo_tree_down.specs.Way.{OnWay, Descends, IsTopOf, with_top};
-ghost use Rattle.fo_tree_down.specs.Clear.{EndsClear};
+ghost use Rattle.fo_tree_raise.specs.of_tree_read.Tree.{kind_at};
+ghost use Rattle.fo_tree_leaf.specs.of_tree_look.Source.{Over, HasBlock, IsPlainTree, Prepared, WayReady, IsTopCurrent, form_of, leaves_of};
+ghost use Rattle.fo_tree_leaf.specs.of_tree_down.Way.{OnWay, Descends, IsTopOf, with_top};
+ghost use Rattle.fo_tree_leaf.specs.of_tree_down.Clear.{EndsClear};
 ghost use Rattle.fo_tree_grow.specs.Grow.{sized, TailClear};
 
 use fo_base::BLOCK;
 use fo_ports::Blocks;
-use fo_tree_down::Current;
-use fo_tree_leaf::own_within;
-use fo_tree_look::Kept;
-use fo_tree_read::Tree;
+use fo_tree_leaf::{Current, Kept, own_within};
+use fo_tree_raise::Tree;
 
 /// Makes leaf `i` current, with which the source ends then, and gives its address and that of the top, which is put nowhere yet where it
 /// is new. Nothing stands behind the end.

@@ -3,31 +3,31 @@ use Rattle.std.proofs.Common.{◌≡◌, ◌≢◌, ◌⊎◌, ◌+◌, ◌-◌,
 use Rattle.std.proofs.lemmas.Bool.{cases_eq}
 use Rattle.fo_image.specs.declared.types.Pointer.{Pointer}
 use Rattle.fo_image.specs.declared.types.Pointer.TheVariants.{Nil, Local}
-use Rattle.fo_crash.specs.declared.place.Place.{Place}
-use Rattle.fo_crash.specs.Images.{Image}
-use Rattle.fo_crash.specs.Places.{IsPlaced, RanksFall}
+use Rattle.fo_ports.specs.of_crash.declared.place.Place.{Place}
+use Rattle.fo_ports.specs.of_crash.Images.{Image}
+use Rattle.fo_ports.specs.of_crash.Places.{IsPlaced, RanksFall}
 use Rattle.fo_ports.specs.State.{State, KeepsAll}
 use Rattle.fo_ports.specs.Sources.{Made, Changes, MayZero}
-use Rattle.fo_looks.proofs.Free.{Standing}
+use Rattle.fo_tree_read.proofs.of_looks.Free.{Standing}
 use Rattle.fo_tree_read.specs.declared.tree.Tree.{Tree}
 use Rattle.fo_tree_read.specs.Tree.{kind_at, block_at}
 use Rattle.fo_tree_look.specs.declared.ways.Kept.{Kept}
 use Rattle.fo_tree_look.specs.Source.{HasBlock, Over, IsPlainTree, Ready, WayReady, form_of, leaves_of}
 use Rattle.fo_tree_look.proofs.Shown.{top_ready}
-use Rattle.fo_tree_down.specs.Way.{OnWay, Descends, IsWayIndex, with_top}
-use Rattle.fo_tree_down.specs.Clear.{EndsClear, last_leaf}
-use Rattle.fo_tree_down.proofs.Join.{level_same}
-use Rattle.fo_tree_down.proofs.Next.{local_seen}
-use Rattle.fo_tree_down.proofs.Beside.{index_last, index_within, way_block, on_way_block}
-use Rattle.fo_tree_down.proofs.Stilling.{index_one}
-use Rattle.fo_tree_raise.proofs.Clear.{way_part, way_past}
+use Rattle.fo_tree_clear.specs.of_tree_down.Way.{OnWay, Descends, IsWayIndex, with_top}
+use Rattle.fo_tree_clear.specs.of_tree_down.Clear.{EndsClear, last_leaf}
+use Rattle.fo_tree_clear.proofs.of_tree_down.Join.{level_same}
+use Rattle.fo_tree_clear.proofs.of_tree_down.Next.{local_seen}
+use Rattle.fo_tree_clear.proofs.of_tree_down.Beside.{index_last, index_within, way_block, on_way_block}
+use Rattle.fo_tree_clear.proofs.of_tree_down.Stilling.{index_one}
+use Rattle.fo_tree_lift.proofs.of_tree_raise.Clear.{way_part, way_past}
 use Rattle.fo_tree_lift.specs.of_tree_grow.Grow.{sized}
 use Rattle.fo_tree_lift.proofs.of_tree_grow.Sizing.{sized_block}
 use Rattle.fo_tree_clear.specs.Steps.{Steps, IsStep}
 use Rattle.fo_tree_clear.proofs.Stepping.{Follows, steps_join, steps_changes}
 use Rattle.fo_tree_clear.proofs.Descending.{steps_down}
 use Rattle.fo_tree_clear.proofs.Zeros.{end_block}
-use Rattle.fo_tree_down.proofs.Join.{local_cases}
+use Rattle.fo_tree_clear.proofs.of_tree_down.Join.{local_cases}
 
 nil_local : (b : ℕ) → Nil ≡ Local b → ⊥
 nil_local b e = cc

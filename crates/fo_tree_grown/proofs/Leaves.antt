@@ -4,7 +4,7 @@ use Rattle.std.proofs.lemmas.Bool.{cases_eq}
 use Rattle.fo_image.specs.declared.types.Label.{Label}
 use Rattle.fo_image.specs.declared.types.Pointer.{Pointer}
 use Rattle.fo_image.specs.declared.types.Pointer.TheVariants.{Nil, Local}
-use Rattle.fo_crash.specs.Images.{SameContent}
+use Rattle.fo_ports.specs.of_crash.Images.{SameContent}
 use Rattle.fo_ports.specs.Blocks.{blank, zero_bytes}
 use Rattle.fo_ports.specs.State.{State, KeepsAll}
 use Rattle.fo_ports.specs.Sources.{Made, Changes, IsCut, EndsWithin, StaysLeaf, Renewed, Owned}
@@ -14,8 +14,8 @@ use Rattle.fo_tree_look.specs.declared.ways.Kept.{Kept}
 use Rattle.fo_tree_look.specs.Source.{HasBlock, IsPlainTree, address_here, held_here, seen, form_of, leaves_of}
 use Rattle.fo_tree_look.proofs.Places.{is_here}
 use Rattle.fo_tree_look.proofs.Shown.{address_past, held_past}
-use Rattle.fo_tree_down.specs.Way.{with_top}
-use Rattle.fo_tree_down.proofs.Next.{local_seen}
+use Rattle.fo_tree_clear.specs.of_tree_down.Way.{with_top}
+use Rattle.fo_tree_clear.proofs.of_tree_down.Next.{local_seen}
 
 none_some : {T : Type 0} (x : T) → None ≡ Some x → ⊥
 none_some x e = cc

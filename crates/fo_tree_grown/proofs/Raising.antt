@@ -2,17 +2,17 @@
 use Rattle.std.proofs.Common.{◌≡◌, ◌⊎◌, ℕ, inl, inr, ⊎_elim, sym, ◌∙◌, ap, subst, arith, true}
 use Rattle.fo_image.specs.declared.types.Label.{Label}
 use Rattle.fo_image.specs.declared.types.Pointer.TheVariants.{Local}
-use Rattle.fo_crash.specs.declared.place.Place.{Place}
-use Rattle.fo_crash.specs.Images.{Content, Image, SameContent, Reaches, to_block}
-use Rattle.fo_crash.specs.Places.{IsPlaced, RanksFall}
-use Rattle.fo_crash.proofs.Places.{stands_below}
+use Rattle.fo_ports.specs.of_crash.declared.place.Place.{Place}
+use Rattle.fo_ports.specs.of_crash.Images.{Content, Image, SameContent, Reaches, to_block}
+use Rattle.fo_ports.specs.of_crash.Places.{IsPlaced, RanksFall}
+use Rattle.fo_ports.proofs.of_crash.Places.{stands_below}
 use Rattle.fo_ports.specs.State.{State, KeepsAll, none}
 use Rattle.fo_ports.specs.Sources.{Made, Touched, Undone, IsMade, StaysMarked, Stead, Changes}
 use Rattle.fo_image.specs.Usable.{is_usable}
-use Rattle.fo_looks.proofs.Free.{Standing, free_before, free_stands}
+use Rattle.fo_tree_read.proofs.of_looks.Free.{Standing, free_before, free_stands}
 use Rattle.fo_tree_read.specs.declared.tree.Tree.{Tree}
 use Rattle.fo_tree_look.specs.Source.{HasBlock}
-use Rattle.fo_tree_down.specs.Way.{with_top}
+use Rattle.fo_tree_clear.specs.of_tree_down.Way.{with_top}
 use Rattle.fo_tree_lift.specs.Lift.{InSteadOf}
 use Rattle.fo_tree_clear.specs.Steps.{Steps}
 use Rattle.fo_tree_clear.proofs.Stepping.{cases_made}

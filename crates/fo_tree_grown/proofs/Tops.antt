@@ -8,7 +8,7 @@ use Rattle.fo_ports.specs.Sources.{Made, Grows}
 use Rattle.fo_tree_read.specs.declared.tree.Tree.{Tree}
 use Rattle.fo_tree_look.specs.declared.ways.Kept.{Kept}
 use Rattle.fo_tree_look.specs.Source.{HasBlock, leaves_of}
-use Rattle.fo_tree_down.specs.Way.{IsTopOf, with_top}
+use Rattle.fo_tree_clear.specs.of_tree_down.Way.{IsTopOf, with_top}
 use Rattle.fo_tree_clear.proofs.Stepping.{cases_made}
 
 local_eq : {a b : ℕ} → Local a ≡ Local b → a ≡ b

@@ -6,8 +6,8 @@ use Rattle.fo_ports.specs.Sources.{Changes, Grows, Owned, Dirties, MayZero, most
 use Rattle.fo_tree_read.specs.declared.tree.Tree.{Tree}
 use Rattle.fo_tree_look.specs.declared.ways.Kept.{Kept}
 use Rattle.fo_tree_look.specs.Source.{Over, HasBlock, IsPlainTree, IsTopCurrent, form_of, leaves_of}
-use Rattle.fo_tree_down.specs.Way.{IsTopOf}
-use Rattle.fo_tree_down.specs.Clear.{EndsClear}
+use Rattle.fo_tree_clear.specs.of_tree_down.Way.{IsTopOf}
+use Rattle.fo_tree_clear.specs.of_tree_down.Clear.{EndsClear}
 
 -- A leaf of a source was owned, and this is its tree now. Where a plain source grew, zeros stand behind the end that it had.
 pub record OwnsZeroed (s u : State) (t new : Tree) (kept : List Kept) (i top at : ℕ) : Type 0 where

@@ -1,19 +1,18 @@
 //! A leaf is made current, within the end of a source or past it.
 ghost use Rattle.std.specs.Prelude.{◌≡◌, ◌≢◌, ◌⊎◌, ◌+◌, ◌*◌, ◌%◌, ◌^◌, ◌<◌, ◌≤◌, ℕ, true, false, max};
 ghost use Rattle.fo_sparse.specs.Written.{resized};
-ghost use Rattle.fo_crash.specs.Images.{Reaches, to_block};
+ghost use Rattle.fo_ports.specs.of_crash.Images.{Reaches, to_block};
 ghost use Rattle.fo_ports.specs.Sources.{Changes, Grows, Owned, Dirties, MayZero, IsEnough, depth_for, most_to_own};
 ghost use Rattle.fo_tree_look.specs.Source.{Over, HasBlock, IsPlainTree, Prepared, IsTopCurrent, form_of, leaves_of};
-ghost use Rattle.fo_tree_down.specs.Way.{IsTopOf, with_top};
-ghost use Rattle.fo_tree_down.specs.Clear.{EndsClear};
+ghost use Rattle.fo_tree_clear.specs.of_tree_down.Way.{IsTopOf, with_top};
+ghost use Rattle.fo_tree_clear.specs.of_tree_down.Clear.{EndsClear};
 ghost use Rattle.fo_tree_lift.specs.Owns.{with_leaf};
 ghost use Rattle.fo_tree_grown.specs.Zeroed.{OwnsZeroed};
 
 use fo_base::BLOCK;
 use fo_image::{Pointer, least_depth};
 use fo_ports::Blocks;
-use fo_tree_clear::clear_tail;
-use fo_tree_down::Current;
+use fo_tree_clear::{Current, clear_tail};
 use fo_tree_lift::own_raised;
 use fo_tree_lift::tree_grow::own_next;
 use fo_tree_look::Kept;

@@ -4,23 +4,23 @@ use Rattle.std.proofs.Common.{◌≡◌, ◌≢◌, ◌⊎◌, ◌+◌, ◌-◌,
 use Rattle.std.proofs.lemmas.List.{ext_get_or, get_or-replicate, get_or_past}
 use Rattle.std.proofs.lemmas.List.FromFn.{length-map-range_with_len, get_or-map-range_with_len}
 use Rattle.std.proofs.lemmas.Bool.{cases_eq, cases_lt, lt-ltb, le-ltb, le-leb}
-use Rattle.fo_image.specs.declared.types.Label.{Label}
-use Rattle.fo_image.specs.declared.types.Score.{Score}
-use Rattle.fo_image.specs.declared.types.Pointer.{Pointer}
-use Rattle.fo_image.specs.declared.types.Pointer.TheVariants.{Nil, Local, Score as Held}
-use Rattle.fo_image.specs.Format.{kind_code}
-use Rattle.fo_crash.specs.Images.{SameContent}
-use Rattle.fo_ports.specs.Blocks.{blank, zero_bytes}
-use Rattle.fo_ports.specs.State.{State, KeepsAll}
-use Rattle.fo_ports.specs.Sources.{depth_for, way_for, most_to_own, Form, Made, IsCut, Owned, byte_at, source_bytes, EndsWithin}
-use Rattle.fo_tree_read.specs.declared.tree.Tree.{Tree}
-use Rattle.fo_tree_read.specs.Tree.{kind_at, kind_down, block_at, leaf_at, address_of, held_of, address, held_leaf}
+use Rattle.fo_tree_look.specs.of_image.declared.types.Label.{Label}
+use Rattle.fo_tree_look.specs.of_image.declared.types.Score.{Score}
+use Rattle.fo_tree_look.specs.of_image.declared.types.Pointer.{Pointer}
+use Rattle.fo_tree_look.specs.of_image.declared.types.Pointer.TheVariants.{Nil, Local, Score as Held}
+use Rattle.fo_tree_look.specs.of_image.Format.{kind_code}
+use Rattle.fo_tree_down.specs.of_crash.Images.{SameContent}
+use Rattle.fo_tree_look.specs.of_ports.Blocks.{blank, zero_bytes}
+use Rattle.fo_tree_look.specs.of_ports.State.{State, KeepsAll}
+use Rattle.fo_tree_look.specs.of_ports.Sources.{depth_for, way_for, most_to_own, Form, Made, IsCut, Owned, byte_at, source_bytes, EndsWithin}
+use Rattle.fo_tree_look.specs.of_tree_read.declared.tree.Tree.{Tree}
+use Rattle.fo_tree_look.specs.of_tree_read.Tree.{kind_at, kind_down, block_at, leaf_at, address_of, held_of, address, held_leaf}
 use Rattle.fo_tree_look.specs.declared.ways.Kept.{Kept}
 use Rattle.fo_tree_look.specs.Source.{IsPrepared, IsKept, AllHeld, IsTopCurrent, find_kept, or_held, seen, Ready, form_of, leaves_of, address_here, held_here, HasBlock}
 use Rattle.fo_tree_look.proofs.Places.{is_here, here_owned}
-use Rattle.fo_image.specs.declared.types.State.TheVariants.{Live}
+use Rattle.fo_tree_look.specs.of_image.declared.types.State.TheVariants.{Live}
 use Rattle.fo_tree_look.proofs.Held.{seen_leaf, seen_address}
-use Rattle.fo_tree_own.specs.Step.{Becomes}
+use Rattle.fo_tree_down.specs.of_tree_own.Step.{Becomes}
 use Rattle.fo_tree_down.specs.Way.{Comes, Replaces, StaysBeside, IsTopOf, with_top}
 use Rattle.fo_tree_down.proofs.Next.{local_seen, local_eq}
 use Rattle.fo_tree_down.proofs.Beside.{index_last}

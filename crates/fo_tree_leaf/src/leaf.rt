@@ -1,15 +1,13 @@
 //! A leaf below the end of a source is made current.
 ghost use Rattle.std.specs.Prelude.{◌≡◌, ◌≢◌, ◌⊎◌, ◌+◌, ◌*◌, ◌≤◌, ℕ};
-ghost use Rattle.fo_ports.specs.Sources.{Made, Changes, Grows, Owned, Dirties, most_to_own, IsEnough};
-ghost use Rattle.fo_tree_read.specs.Tree.{kind_at};
+ghost use Rattle.fo_tree_look.specs.of_ports.Sources.{Made, Changes, Grows, Owned, Dirties, most_to_own, IsEnough};
+ghost use Rattle.fo_tree_look.specs.of_tree_read.Tree.{kind_at};
 ghost use Rattle.fo_tree_look.specs.Source.{Over, HasBlock, Prepared, WayReady, IsTopCurrent, form_of, leaves_of};
 ghost use Rattle.fo_tree_down.specs.Clear.{EndsClear, last_leaf};
 ghost use Rattle.fo_tree_down.specs.Way.{OnWay, Descends, IsTopOf, with_top};
 
-use fo_ports::Blocks;
 use fo_tree_down::{Current, own_way};
-use fo_tree_look::Kept;
-use fo_tree_read::Tree;
+use fo_tree_look::{Blocks, Kept, Tree};
 
 /// Makes leaf `i` current, which ends within the source, and gives its address and that of the top, which is put nowhere yet where it is
 /// new.

@@ -8,3 +8,7 @@
 mod leaf;
 
 pub use leaf::own_within;
+
+// Passed on, so that a crate above names this one alone.
+pub use fo_tree_down::{Current, is_current, own_near, own_way};
+pub use fo_tree_look::{Kept, Tree, kept_bytes, score_in};

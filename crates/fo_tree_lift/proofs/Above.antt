@@ -2,14 +2,14 @@
 use Rattle.std.proofs.Common.{◌≡◌, ◌≢◌, ◌⊎◌, ℕ, inl, inr, ⊎_elim, sym, ◌∙◌, ap, subst, arith}
 use Rattle.std.proofs.lemmas.Bool.{cases_eq}
 use Rattle.fo_image.specs.declared.types.Label.{Label}
-use Rattle.fo_crash.specs.Images.{Image, Reaches, to_block}
-use Rattle.fo_crash.proofs.Reach.{reach_aside}
+use Rattle.fo_ports.specs.of_crash.Images.{Image, Reaches, to_block}
+use Rattle.fo_ports.proofs.of_crash.Reach.{reach_aside}
 use Rattle.fo_ports.specs.State.{State, KeepsAll, none}
 use Rattle.fo_ports.specs.Sources.{Made, Touched, Undone, IsMade, StaysMarked, Changes}
-use Rattle.fo_looks.proofs.Free.{free_before}
+use Rattle.fo_tree_read.proofs.of_looks.Free.{free_before}
 use Rattle.fo_tree_read.specs.declared.tree.Tree.{Tree}
-use Rattle.fo_tree_down.specs.Way.{Descends}
-use Rattle.fo_tree_raise.specs.Levels.{Adds}
+use Rattle.fo_tree_grow.specs.of_tree_down.Way.{Descends}
+use Rattle.fo_tree_grow.specs.of_tree_raise.Levels.{Adds}
 use Rattle.fo_tree_lift.proofs.Join.{live_cases}
 
 -- Of the way there was one block alone, the new top.

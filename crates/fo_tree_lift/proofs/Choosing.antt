@@ -11,7 +11,7 @@ use Rattle.fo_ports.specs.Sources.{Changes, depth_for, way_for, most_to_own}
 use Rattle.fo_tree_read.specs.declared.tree.Tree.{Tree}
 use Rattle.fo_tree_read.specs.Tree.{kind_at}
 use Rattle.fo_tree_look.specs.Source.{HasBlock, IsTopCurrent}
-use Rattle.fo_tree_down.specs.Way.{with_top}
+use Rattle.fo_tree_grow.specs.of_tree_down.Way.{with_top}
 use Rattle.fo_tree_grow.specs.Grow.{shaped, sized}
 use Rattle.fo_tree_grow.proofs.Growing.{changes_of}
 use Rattle.fo_tree_lift.specs.Owns.{with_leaf}

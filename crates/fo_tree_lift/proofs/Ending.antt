@@ -4,7 +4,7 @@ use Rattle.fo_sparse.specs.Written.{resized}
 use Rattle.fo_image.specs.declared.types.Label.{Label}
 use Rattle.fo_image.specs.declared.types.Pointer.{Pointer}
 use Rattle.fo_image.specs.declared.types.Pointer.TheVariants.{Local}
-use Rattle.fo_crash.specs.Images.{Reaches, to_block}
+use Rattle.fo_ports.specs.of_crash.Images.{Reaches, to_block}
 use Rattle.fo_ports.specs.State.{State, KeepsAll, none}
 use Rattle.fo_ports.specs.Sources.{Made, Owned, Grows, Changes, depth_for}
 use Rattle.fo_tree_read.specs.declared.tree.Tree.{Tree}
@@ -12,12 +12,12 @@ use Rattle.fo_tree_read.specs.Tree.{block_at}
 use Rattle.fo_tree_look.specs.declared.ways.Kept.{Kept}
 use Rattle.fo_tree_look.specs.Source.{HasBlock, Over, IsPlainTree, Prepared, WayReady, IsTopCurrent, form_of, leaves_of}
 use Rattle.fo_tree_look.proofs.Shown.{held_on, top_ready}
-use Rattle.fo_tree_down.specs.Way.{OnWay, IsWayIndex, Comes, Replaces, StaysBeside, IsTopOf, with_top}
-use Rattle.fo_tree_down.proofs.Beside.{index_last}
-use Rattle.fo_tree_down.specs.Clear.{EndsClear, last_leaf}
-use Rattle.fo_tree_raise.specs.Levels.{grown}
-use Rattle.fo_tree_raise.proofs.Climbing.{room_more}
-use Rattle.fo_tree_leaf.proofs.Owning.{LeafCame}
+use Rattle.fo_tree_grow.specs.of_tree_down.Way.{OnWay, IsWayIndex, Comes, Replaces, StaysBeside, IsTopOf, with_top}
+use Rattle.fo_tree_grow.proofs.of_tree_down.Beside.{index_last}
+use Rattle.fo_tree_grow.specs.of_tree_down.Clear.{EndsClear, last_leaf}
+use Rattle.fo_tree_grow.specs.of_tree_raise.Levels.{grown}
+use Rattle.fo_tree_grow.proofs.of_tree_raise.Climbing.{room_more}
+use Rattle.fo_tree_grow.proofs.of_tree_leaf.Owning.{LeafCame}
 use Rattle.fo_tree_grow.specs.Grow.{sized, TailClear}
 use Rattle.fo_tree_grow.proofs.Sizing.{room_for, has_back, has_sized, way_to, prepared_sized, clear_sized}
 use Rattle.fo_tree_grow.proofs.Empty.{least_for}

@@ -9,7 +9,7 @@ use Rattle.fo_image.specs.declared.types.State.TheVariants.{Live}
 use Rattle.fo_image.specs.declared.types.Pointer.{Pointer}
 use Rattle.fo_image.specs.declared.types.Pointer.TheVariants.{Nil, Local, Score as Held}
 use Rattle.fo_image.specs.Format.{kind_code}
-use Rattle.fo_crash.specs.Images.{SameContent}
+use Rattle.fo_ports.specs.of_crash.Images.{SameContent}
 use Rattle.fo_ports.specs.Blocks.{blank}
 use Rattle.fo_ports.specs.State.{State, KeepsAll}
 use Rattle.fo_ports.specs.Sources.{Made, IsCut, EndsWithin, StaysLeaf, Renewed, Owned, byte_at, source_bytes}
@@ -20,10 +20,10 @@ use Rattle.fo_tree_look.specs.Source.{HasBlock, Over, IsPlainTree, form_of, leav
 use Rattle.fo_tree_look.proofs.Held.{seen_leaf}
 use Rattle.fo_tree_look.proofs.Places.{is_here, here_owned}
 use Rattle.fo_tree_look.proofs.Shown.{address_past, held_past}
-use Rattle.fo_tree_down.specs.Way.{OnWay, with_top}
-use Rattle.fo_tree_raise.specs.Levels.{grown}
-use Rattle.fo_tree_raise.proofs.Climbing.{room_more}
-use Rattle.fo_tree_leaf.proofs.Owning.{LeafCame, owned, bytes_end}
+use Rattle.fo_tree_grow.specs.of_tree_down.Way.{OnWay, with_top}
+use Rattle.fo_tree_grow.specs.of_tree_raise.Levels.{grown}
+use Rattle.fo_tree_grow.proofs.of_tree_raise.Climbing.{room_more}
+use Rattle.fo_tree_grow.proofs.of_tree_leaf.Owning.{LeafCame, owned, bytes_end}
 use Rattle.fo_tree_grow.specs.Grow.{sized, TailClear}
 use Rattle.fo_tree_grow.proofs.Sizing.{address_sized, held_sized}
 use Rattle.fo_tree_grow.proofs.Growing.{ends_in_zeros, bytes_sized}

@@ -4,14 +4,14 @@ use Rattle.fo_image.specs.declared.types.Label.{Label}
 use Rattle.fo_image.specs.declared.types.State.{State as BlockState}
 use Rattle.fo_image.specs.declared.types.State.TheVariants.{Free, Live, Closed}
 use Rattle.fo_image.specs.declared.types.Pointer.TheVariants.{Local}
-use Rattle.fo_crash.specs.Images.{Image, Content, SameContent}
-use Rattle.fo_crash.proofs.Reach.{reach_aside}
+use Rattle.fo_ports.specs.of_crash.Images.{Image, Content, SameContent}
+use Rattle.fo_ports.proofs.of_crash.Reach.{reach_aside}
 use Rattle.fo_ports.specs.State.{State, KeepsAll}
 use Rattle.fo_ports.specs.Sources.{Made, IsMade, Stead}
-use Rattle.fo_looks.proofs.Free.{free_before}
+use Rattle.fo_tree_read.proofs.of_looks.Free.{free_before}
 use Rattle.fo_tree_read.specs.declared.tree.Tree.{Tree}
-use Rattle.fo_tree_down.specs.Way.{with_top}
-use Rattle.fo_tree_raise.specs.Levels.{IsAmong, Adds, InStead}
+use Rattle.fo_tree_grow.specs.of_tree_down.Way.{with_top}
+use Rattle.fo_tree_grow.specs.of_tree_raise.Levels.{IsAmong, Adds, InStead}
 
 pub live_cases : (x : BlockState) → (x ≡ Live) ⊎ (x ≢ Live)
 live_cases Free = inr (λ e. cc)

@@ -5,3 +5,4 @@ pub mod Having
 pub mod Ending
 pub mod Choosing
 pub use Rattle.fo_tree_grow.proofs as of_tree_grow
+pub mod of_tree_raise

@@ -5,8 +5,8 @@ use Rattle.std.proofs.Math.Nat.{pow-succ'}
 use Rattle.fo_image.specs.declared.types.State.TheVariants.{Live}
 use Rattle.fo_image.specs.declared.types.Pointer.{Pointer}
 use Rattle.fo_image.specs.declared.types.Pointer.TheVariants.{Nil, Local}
-use Rattle.fo_crash.specs.declared.slot.Slot.{Slot}
-use Rattle.fo_crash.specs.Images.{SameContent, target}
+use Rattle.fo_ports.specs.of_crash.declared.slot.Slot.{Slot}
+use Rattle.fo_ports.specs.of_crash.Images.{SameContent, target}
 use Rattle.fo_ports.specs.State.{State, KeepsAll}
 use Rattle.fo_ports.specs.Sources.{Made, depth_for}
 use Rattle.fo_tree_read.specs.declared.tree.Tree.{Tree}
@@ -14,12 +14,12 @@ use Rattle.fo_tree_read.specs.Tree.{kind_down, below, block_at, address_of}
 use Rattle.fo_tree_look.specs.declared.ways.Kept.{Kept}
 use Rattle.fo_tree_look.specs.Source.{HasBlock, Over, Prepared, Ready, WayReady, seen}
 use Rattle.fo_tree_look.proofs.Held.{seen_address}
-use Rattle.fo_tree_down.specs.Way.{OnWay, IsWayIndex, with_top}
-use Rattle.fo_tree_down.specs.Clear.{EndsClear, last_leaf}
-use Rattle.fo_tree_raise.specs.Raise.{Bears}
-use Rattle.fo_tree_raise.specs.Levels.{IsTopAfter, InStead, Adds, KeepsWays, grown}
-use Rattle.fo_tree_raise.proofs.Levels.{below_same}
-use Rattle.fo_tree_raise.proofs.Clear.{index_above}
+use Rattle.fo_tree_grow.specs.of_tree_down.Way.{OnWay, IsWayIndex, with_top}
+use Rattle.fo_tree_grow.specs.of_tree_down.Clear.{EndsClear, last_leaf}
+use Rattle.fo_tree_grow.specs.of_tree_raise.Raise.{Bears}
+use Rattle.fo_tree_grow.specs.of_tree_raise.Levels.{IsTopAfter, InStead, Adds, KeepsWays, grown}
+use Rattle.fo_tree_grow.proofs.of_tree_raise.Levels.{below_same}
+use Rattle.fo_tree_grow.proofs.of_tree_raise.Clear.{index_above}
 use Rattle.fo_tree_grow.specs.Grow.{sized}
 use Rattle.fo_tree_grow.proofs.Sizing.{room_for, sized_block, has_back}
 use Rattle.fo_tree_lift.specs.Lift.{IsCopied, IsNewTop, InSteadOf}

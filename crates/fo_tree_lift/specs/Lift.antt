@@ -2,16 +2,16 @@
 use Rattle.std.specs.Prelude.{◌≡◌, ◌≢◌, ◌⊎◌, ◌+◌, ◌^◌, ◌<◌, ℕ, List, length}
 use Rattle.fo_image.specs.declared.types.Pointer.{Pointer}
 use Rattle.fo_image.specs.declared.types.Pointer.TheVariants.{Local}
-use Rattle.fo_crash.specs.Images.{SameContent}
+use Rattle.fo_ports.specs.of_crash.Images.{SameContent}
 use Rattle.fo_ports.specs.State.{State}
 use Rattle.fo_ports.specs.Sources.{Made, ComesFor}
 use Rattle.fo_tree_read.specs.declared.tree.Tree.{Tree}
 use Rattle.fo_tree_read.specs.Tree.{block_at}
 use Rattle.fo_tree_look.specs.declared.ways.Kept.{Kept}
 use Rattle.fo_tree_look.specs.Source.{HasBlock, Prepared}
-use Rattle.fo_tree_down.specs.Clear.{EndsClear}
-use Rattle.fo_tree_raise.specs.Raise.{Bears}
-use Rattle.fo_tree_raise.specs.Levels.{Adds, KeepsWays, grown}
+use Rattle.fo_tree_grow.specs.of_tree_down.Clear.{EndsClear}
+use Rattle.fo_tree_grow.specs.of_tree_raise.Raise.{Bears}
+use Rattle.fo_tree_grow.specs.of_tree_raise.Levels.{Adds, KeepsWays, grown}
 
 -- The only leaf of a source is its top, was an older one, and was copied.
 pub record IsCopied (s m : State) (t : Tree) (top old new : Pointer) : Type 0 where

@@ -7,8 +7,8 @@ use Rattle.fo_tree_read.specs.declared.tree.Tree.{Tree}
 use Rattle.fo_tree_read.specs.Tree.{kind_at}
 use Rattle.fo_tree_look.specs.declared.ways.Kept.{Kept}
 use Rattle.fo_tree_look.specs.Source.{Over, HasBlock, IsPlainTree, IsTopCurrent, form_of, leaves_of}
-use Rattle.fo_tree_down.specs.Way.{IsTopOf, with_top}
-use Rattle.fo_tree_down.specs.Clear.{EndsClear}
+use Rattle.fo_tree_grow.specs.of_tree_down.Way.{IsTopOf, with_top}
+use Rattle.fo_tree_grow.specs.of_tree_down.Clear.{EndsClear}
 use Rattle.fo_tree_grow.specs.Grow.{shaped}
 
 -- the tree of a source that ends with leaf i or behind it, below this top

@@ -2,12 +2,12 @@
 ghost use Rattle.std.specs.Prelude.{◌≡◌, ◌≢◌, ◌⊎◌, ◌+◌, ◌*◌, ◌%◌, ◌^◌, ◌<◌, ◌≤◌, ℕ, true, false, max};
 ghost use Rattle.fo_sparse.specs.Written.{resized};
 ghost use Rattle.fo_image.specs.declared.types.Pointer.TheVariants.{Nil};
-ghost use Rattle.fo_crash.specs.Images.{Reaches, to_block};
+ghost use Rattle.fo_ports.specs.of_crash.Images.{Reaches, to_block};
 ghost use Rattle.fo_ports.specs.Sources.{Changes, Grows, Owned, Dirties, IsEnough, depth_for, most_to_own};
 ghost use Rattle.fo_tree_read.specs.Tree.{kind_at};
 ghost use Rattle.fo_tree_look.specs.Source.{Over, HasBlock, IsPlainTree, Prepared, IsTopCurrent, form_of, leaves_of};
-ghost use Rattle.fo_tree_down.specs.Way.{IsTopOf};
-ghost use Rattle.fo_tree_down.specs.Clear.{EndsClear};
+ghost use Rattle.fo_tree_grow.specs.of_tree_down.Way.{IsTopOf};
+ghost use Rattle.fo_tree_grow.specs.of_tree_down.Clear.{EndsClear};
 ghost use Rattle.fo_tree_grow.specs.Grow.{TailClear};
 ghost use Rattle.fo_tree_lift.specs.Owns.{with_leaf, OwnsLeaf};
 
@@ -15,9 +15,7 @@ use crate::own::own_raised;
 use fo_base::BLOCK;
 use fo_image::{Pointer, least_depth};
 use fo_ports::Blocks;
-use fo_tree_down::Current;
-use fo_tree_grow::{own_first, own_next};
-use fo_tree_leaf::own_within;
+use fo_tree_grow::{Current, own_first, own_next, own_within};
 use fo_tree_look::Kept;
 use fo_tree_read::Tree;
 

@@ -2,20 +2,19 @@
 ghost use Rattle.std.specs.Prelude.{◌≡◌, ◌⊎◌, ◌+◌, ◌*◌, ◌<◌, ◌≤◌, ℕ, true};
 ghost use Rattle.fo_image.specs.declared.types.State.TheVariants.{Live};
 ghost use Rattle.fo_image.specs.declared.types.Pointer.TheVariants.{Local};
-ghost use Rattle.fo_crash.specs.Images.{Reaches, to_block};
+ghost use Rattle.fo_ports.specs.of_crash.Images.{Reaches, to_block};
 ghost use Rattle.fo_ports.specs.State.{none};
 ghost use Rattle.fo_ports.specs.Sources.{Dirties};
 ghost use Rattle.fo_tree_read.specs.Tree.{kind_at};
 ghost use Rattle.fo_tree_look.specs.Source.{Over, HasBlock, IsPrepared, Ready, IsTopCurrent};
-ghost use Rattle.fo_tree_down.specs.Way.{with_top};
-ghost use Rattle.fo_tree_down.specs.Clear.{EndsClear};
+ghost use Rattle.fo_tree_grow.specs.of_tree_down.Way.{with_top};
+ghost use Rattle.fo_tree_grow.specs.of_tree_down.Clear.{EndsClear};
 ghost use Rattle.fo_tree_lift.specs.Lift.{Lifts};
 
 use fo_image::Pointer;
 use fo_ports::Blocks;
+use fo_tree_grow::{copy_top, is_current, raise_levels};
 use fo_tree_look::Kept;
-use fo_tree_own::is_current;
-use fo_tree_raise::{copy_top, raise_levels};
 use fo_tree_read::Tree;
 
 /// Puts so many levels above the top of a source, an older one of which is copied first, and gives the new top. It is put nowhere yet.

@@ -1,13 +1,13 @@
 //! A leaf past the levels of a source is made current.
 ghost use Rattle.std.specs.Prelude.{◌≡◌, ◌≢◌, ◌⊎◌, ◌+◌, ◌-◌, ◌*◌, ◌%◌, ◌<◌, ◌≤◌, ℕ, true};
-ghost use Rattle.fo_crash.specs.Images.{Reaches, to_block};
+ghost use Rattle.fo_ports.specs.of_crash.Images.{Reaches, to_block};
 ghost use Rattle.fo_sparse.specs.Written.{resized};
 ghost use Rattle.fo_ports.specs.State.{none};
 ghost use Rattle.fo_image.specs.declared.types.Pointer.TheVariants.{Local};
 ghost use Rattle.fo_ports.specs.Sources.{Made, Changes, Grows, Owned, Dirties, depth_for};
 ghost use Rattle.fo_tree_look.specs.Source.{Over, HasBlock, IsPlainTree, Prepared, IsTopCurrent, form_of, leaves_of};
-ghost use Rattle.fo_tree_down.specs.Way.{IsTopOf, with_top};
-ghost use Rattle.fo_tree_down.specs.Clear.{EndsClear};
+ghost use Rattle.fo_tree_grow.specs.of_tree_down.Way.{IsTopOf, with_top};
+ghost use Rattle.fo_tree_grow.specs.of_tree_down.Clear.{EndsClear};
 ghost use Rattle.fo_tree_grow.specs.Grow.{shaped, TailClear};
 ghost use Rattle.fo_tree_lift.specs.Lift.{InSteadOf};
 
@@ -15,7 +15,7 @@ use crate::levels::lift;
 use fo_base::BLOCK;
 use fo_image::{Pointer, least_depth};
 use fo_ports::Blocks;
-use fo_tree_down::{Current, own_way};
+use fo_tree_grow::{Current, own_way};
 use fo_tree_look::Kept;
 use fo_tree_read::Tree;
 

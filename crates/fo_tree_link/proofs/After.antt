@@ -16,7 +16,7 @@ use Rattle.fo_tree_read.specs.Tree.{kind_at}
 use Rattle.fo_tree_look.specs.declared.ways.Kept.{Kept}
 use Rattle.fo_tree_look.specs.Source.{HasBlock, Over, leaves_of}
 use Rattle.fo_tree_look.proofs.Still.{Says, over_stays}
-use Rattle.fo_tree_own.proofs.Link.{Laws}
+use Rattle.fo_tree_down.proofs.of_tree_own.Link.{Laws}
 use Rattle.fo_tree_down.proofs.Join.{local_cases}
 use Rattle.fo_tree_open.proofs.Opened.{place_named, hangs_below}
 use Rattle.fo_tree_open.specs.Open.{NamesRank}

@@ -8,3 +8,6 @@ pub mod Linked
 pub mod Emptied
 pub mod Lowered
 pub mod Twice
+pub mod of_tree_down
+pub mod of_tree_open
+pub mod of_tree_own

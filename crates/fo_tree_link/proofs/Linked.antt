@@ -13,7 +13,7 @@ use Rattle.fo_tree_read.proofs.Walk.{is_down}
 use Rattle.fo_tree_look.specs.declared.ways.Kept.{Kept}
 use Rattle.fo_tree_look.specs.Source.{HasBlock, Over}
 use Rattle.fo_tree_look.proofs.Still.{Says}
-use Rattle.fo_tree_own.proofs.Link.{Laws}
+use Rattle.fo_tree_down.proofs.of_tree_own.Link.{Laws}
 use Rattle.fo_tree_link.specs.Link.{entry_of, CanLink}
 use Rattle.fo_tree_link.specs.Change.{HangsInTree}
 use Rattle.fo_tree_link.proofs.Named.{leaf_not_root}

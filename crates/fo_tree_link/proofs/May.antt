@@ -22,7 +22,7 @@ use Rattle.fo_tree_read.specs.Tree.{kind_at, kind_down, below, block_at}
 use Rattle.fo_tree_read.proofs.Walk.{is_down}
 use Rattle.fo_tree_look.specs.declared.ways.Kept.{Kept}
 use Rattle.fo_tree_look.specs.Source.{HasBlock, Over}
-use Rattle.fo_tree_own.proofs.Link.{Laws}
+use Rattle.fo_tree_down.proofs.of_tree_own.Link.{Laws}
 use Rattle.fo_tree_open.specs.Open.{HasEntry}
 use Rattle.fo_tree_open.proofs.Opened.{entry_within, place_named}
 use Rattle.fo_tree_link.specs.Link.{entry_of, led_from, CanLink}

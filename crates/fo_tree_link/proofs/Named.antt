@@ -14,8 +14,8 @@ use Rattle.fo_tree_read.specs.Tree.{kind_at, kind_down, below, block_at}
 use Rattle.fo_tree_look.specs.declared.ways.Kept.{Kept}
 use Rattle.fo_tree_look.specs.Source.{HasBlock, Over}
 use Rattle.fo_tree_look.proofs.Held.{seen_block}
-use Rattle.fo_tree_own.specs.Step.{Becomes}
-use Rattle.fo_tree_own.proofs.Link.{blank_leads}
+use Rattle.fo_tree_down.specs.of_tree_own.Step.{Becomes}
+use Rattle.fo_tree_down.proofs.of_tree_own.Link.{blank_leads}
 use Rattle.fo_tree_down.specs.Way.{IsWayIndex, Comes, StaysBeside, with_top}
 use Rattle.fo_tree_down.proofs.Beside.{index_within}
 use Rattle.fo_tree_link.specs.Change.{KeepsEntries}

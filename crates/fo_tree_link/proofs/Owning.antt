@@ -15,7 +15,7 @@ use Rattle.fo_tree_look.specs.Source.{HasBlock, Over, AllHeld, address_here, hel
 use Rattle.fo_tree_look.proofs.Held.{seen_block}
 use Rattle.fo_tree_look.proofs.Places.{is_here, none_here}
 use Rattle.fo_tree_look.proofs.Shown.{address_past}
-use Rattle.fo_tree_own.proofs.Link.{blank_leads}
+use Rattle.fo_tree_down.proofs.of_tree_own.Link.{blank_leads}
 use Rattle.fo_tree_down.specs.Way.{IsWayIndex}
 use Rattle.fo_tree_down.specs.Clear.{EndsClear, last_leaf}
 use Rattle.fo_tree_link.specs.Change.{KeepsEntries}

@@ -7,7 +7,7 @@ use Rattle.fo_ports.specs.State.{State, KeepsAll, IsRooted}
 use Rattle.fo_ports.specs.Sources.{Made}
 use Rattle.fo_tree_read.specs.declared.tree.Tree.{Tree}
 use Rattle.fo_tree_look.specs.Source.{HasBlock}
-use Rattle.fo_tree_own.proofs.Link.{Laws}
+use Rattle.fo_tree_down.proofs.of_tree_own.Link.{Laws}
 use Rattle.fo_tree_link.specs.Change.{KeepsOthers}
 
 live_cases : (s : BlockState) → (s ≡ Live) ⊎ (s ≢ Live)

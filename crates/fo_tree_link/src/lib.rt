@@ -16,3 +16,6 @@ mod put;
 
 pub use laws::{keeps_entries, keeps_others, may_empty, may_link, may_lower, owned_entries};
 pub use put::link;
+
+// Passed on, so that a crate above names this one alone.
+pub use fo_tree_open::{open, open_read};

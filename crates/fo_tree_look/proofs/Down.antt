@@ -3,9 +3,9 @@ use Rattle.std.proofs.Common.{◌≡◌, ◌⊎◌, ◌+◌, ◌-◌, ◌/◌, �
 use Rattle.std.proofs.lemmas.Bool.{cases_lt}
 use Rattle.fo_image.specs.declared.types.Pointer.{Pointer}
 use Rattle.fo_image.specs.declared.types.Pointer.TheVariants.{Local}
-use Rattle.fo_crash.specs.declared.place.Place.{Place}
-use Rattle.fo_crash.specs.Places.{place, IsPlaced}
-use Rattle.fo_ports.specs.State.{State, KeepsAll, Looks}
+use Rattle.fo_tree_read.specs.of_crash.declared.place.Place.{Place}
+use Rattle.fo_tree_read.specs.of_crash.Places.{place, IsPlaced}
+use Rattle.fo_tree_read.specs.of_ports.State.{State, KeepsAll, Looks}
 use Rattle.fo_tree_read.specs.declared.tree.Tree.{Tree}
 use Rattle.fo_tree_read.specs.Tree.{kind_at, kind_down, below, block_at, address_of, Got}
 use Rattle.fo_tree_read.specs.Reading.{LeafWay, passed, IsNext, HasLeafPins}

@@ -3,3 +3,7 @@ pub mod Shown
 pub mod Down
 pub mod Places
 pub mod Still
+pub mod of_crash
+pub mod of_looks
+pub mod of_ports
+pub mod of_tree_read

@@ -6,11 +6,11 @@ use Rattle.fo_image.specs.declared.types.Score.{Score}
 use Rattle.fo_image.specs.declared.types.Pointer.{Pointer}
 use Rattle.fo_image.specs.declared.types.Pointer.TheVariants.{Nil, Local, Score as Held}
 use Rattle.fo_image.specs.Format.{kind_code}
-use Rattle.fo_crash.specs.declared.slot.Slot.{Slot}
-use Rattle.fo_crash.specs.declared.place.Place.{Place}
-use Rattle.fo_crash.specs.Images.{target}
-use Rattle.fo_crash.specs.Places.{place, place_below, IsPlaced, OnePlace}
-use Rattle.fo_ports.specs.State.{State}
+use Rattle.fo_tree_read.specs.of_crash.declared.slot.Slot.{Slot}
+use Rattle.fo_tree_read.specs.of_crash.declared.place.Place.{Place}
+use Rattle.fo_tree_read.specs.of_crash.Images.{target}
+use Rattle.fo_tree_read.specs.of_crash.Places.{place, place_below, IsPlaced, OnePlace}
+use Rattle.fo_tree_read.specs.of_ports.State.{State}
 use Rattle.fo_tree_read.specs.declared.tree.Tree.{Tree}
 use Rattle.fo_tree_read.specs.Tree.{kind_at, kind_down, below, block_at, address_of, held_of, Hangs}
 use Rattle.fo_tree_read.proofs.Walk.{held_apart, is_down}

@@ -11,13 +11,13 @@ use Rattle.fo_image.specs.declared.types.Label.{Label}
 use Rattle.fo_image.specs.declared.types.Pointer.{Pointer}
 use Rattle.fo_image.specs.declared.types.Pointer.TheVariants.{Nil, Local, Score as Held}
 use Rattle.fo_image.specs.Format.{kind_code}
-use Rattle.fo_crash.specs.declared.slot.Slot.{Slot}
-use Rattle.fo_crash.specs.Images.{Content, Reaches, target, to_block}
-use Rattle.fo_crash.proofs.Reach.{same_walk}
-use Rattle.fo_ports.specs.Blocks.{Reads}
-use Rattle.fo_ports.specs.State.{State, KeepsAll, Looks}
-use Rattle.fo_ports.specs.Sources.{byte_at, source_bytes, depth_for, most_for, Finds, AreLocal, SameLeaves}
-use Rattle.fo_looks.proofs.Looks.{hung_looks}
+use Rattle.fo_tree_read.specs.of_crash.declared.slot.Slot.{Slot}
+use Rattle.fo_tree_read.specs.of_crash.Images.{Content, Reaches, target, to_block}
+use Rattle.fo_tree_read.proofs.of_crash.Reach.{same_walk}
+use Rattle.fo_tree_read.specs.of_ports.Blocks.{Reads}
+use Rattle.fo_tree_read.specs.of_ports.State.{State, KeepsAll, Looks}
+use Rattle.fo_tree_read.specs.of_ports.Sources.{byte_at, source_bytes, depth_for, most_for, Finds, AreLocal, SameLeaves}
+use Rattle.fo_tree_read.proofs.of_looks.Looks.{hung_looks}
 use Rattle.fo_tree_read.specs.declared.tree.Tree.{Tree}
 use Rattle.fo_tree_read.specs.Tree.{kind_at, kind_down, score_in, below, block_at, leaf_at, address_of, held_of, address, held_leaf, bytes, IsGot, Got, IsFound}
 use Rattle.fo_tree_read.specs.Reading.{LeafWay, most, Prepared as AllGot}

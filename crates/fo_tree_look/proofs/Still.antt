@@ -7,13 +7,13 @@ use Rattle.fo_image.specs.declared.types.Label.{Label}
 use Rattle.fo_image.specs.declared.types.Pointer.{Pointer}
 use Rattle.fo_image.specs.declared.types.Pointer.TheVariants.{Nil, Local, Score as Held}
 use Rattle.fo_image.specs.Format.{kind_code}
-use Rattle.fo_crash.specs.declared.slot.Slot.{Slot}
-use Rattle.fo_crash.specs.declared.place.Place.{Place}
-use Rattle.fo_crash.specs.Images.{target}
-use Rattle.fo_crash.specs.Places.{place, super_place, IsPlaced, OnePlace}
-use Rattle.fo_ports.specs.State.{State, KeepsAll}
-use Rattle.fo_ports.specs.Sources.{IsReady, StaysReady, StaysInPlace, Undisturbed}
-use Rattle.fo_looks.proofs.Looks.{rooted_of_hung}
+use Rattle.fo_tree_read.specs.of_crash.declared.slot.Slot.{Slot}
+use Rattle.fo_tree_read.specs.of_crash.declared.place.Place.{Place}
+use Rattle.fo_tree_read.specs.of_crash.Images.{target}
+use Rattle.fo_tree_read.specs.of_crash.Places.{place, super_place, IsPlaced, OnePlace}
+use Rattle.fo_tree_read.specs.of_ports.State.{State, KeepsAll}
+use Rattle.fo_tree_read.specs.of_ports.Sources.{IsReady, StaysReady, StaysInPlace, Undisturbed}
+use Rattle.fo_tree_read.proofs.of_looks.Looks.{rooted_of_hung}
 use Rattle.fo_tree_read.specs.declared.tree.Tree.{Tree}
 use Rattle.fo_tree_read.specs.Tree.{kind_at, kind_down, score_in, below, block_at, leaf_at, address_of, held_of}
 use Rattle.fo_tree_read.proofs.Walk.{is_down}

@@ -8,9 +8,9 @@ use Rattle.fo_image.specs.declared.types.State.TheVariants.{Live}
 use Rattle.fo_image.specs.declared.types.Pointer.{Pointer}
 use Rattle.fo_image.specs.declared.types.Pointer.TheVariants.{Nil, Local, Score as Held}
 use Rattle.fo_image.specs.Format.{kind_code, PointerHolds}
-use Rattle.fo_crash.specs.Images.{Reaches, to_block}
-use Rattle.fo_ports.specs.State.{State}
-use Rattle.fo_ports.specs.Sources.{Form, Leaves, IsHung, depth_for, source_bytes}
+use Rattle.fo_tree_read.specs.of_crash.Images.{Reaches, to_block}
+use Rattle.fo_tree_read.specs.of_ports.State.{State}
+use Rattle.fo_tree_read.specs.of_ports.Sources.{Form, Leaves, IsHung, depth_for, source_bytes}
 use Rattle.fo_tree_read.specs.declared.tree.Tree.{Tree}
 use Rattle.fo_tree_read.specs.Tree.{kind_at, kind_down, block_at, address, held_leaf, Hangs, Names, Got, Way}
 use Rattle.fo_tree_look.specs.declared.ways.Kept.{Kept}

@@ -1,16 +1,15 @@
 //! The calls that only look.
 ghost use Rattle.std.specs.Prelude.{◌≡◌, ◌⊎◌, ◌+◌, ◌-◌, ◌*◌, ◌≤◌, ◌<◌, ℕ, true, length, take, drop, min, max, IfOk, OnOk, IfErr, IfSome};
 ghost use Rattle.fo_image.specs.declared.types.Kind.TheVariants.{Data};
-ghost use Rattle.fo_ports.specs.State.{Looks};
-ghost use Rattle.fo_ports.specs.Sources.{is_dir, Finds, AreLocal, most_for, depth_for, SameLeaves};
+ghost use Rattle.fo_tree_read.specs.of_ports.State.{Looks};
+ghost use Rattle.fo_tree_read.specs.of_ports.Sources.{is_dir, Finds, AreLocal, most_for, depth_for, SameLeaves};
 ghost use Rattle.fo_tree_read.specs.Tree.{kind_at, Failed, Refused, Names};
 ghost use Rattle.fo_tree_look.specs.Source.{Over, Extends, form_of, leaves_of};
 
 use crate::pins::prepare_ways;
 use crate::ways::Ways;
-use fo_base::BLOCK;
-use fo_image::Entry;
-use fo_ports::{BlockError, Blocks};
+use fo_image::{BLOCK, Entry};
+use fo_tree_read::{BlockError, Blocks};
 
 impl Ways {
     /// How many bytes the source has.

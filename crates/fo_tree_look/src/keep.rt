@@ -1,17 +1,15 @@
 //! Blocks under scores are kept as they were fetched.
 ghost use Rattle.std.specs.Prelude.{◌≡◌, ◌<◌, ◌≤◌, ◌++◌, ◌∷◌, [], true, Some, None, OnOk, OnErr, IfErr};
 ghost use Rattle.std.specs.List.{list_any};
-ghost use Rattle.fo_base.specs.Cause.{Rose};
-ghost use Rattle.fo_ports.specs.Causes.{Caused};
-ghost use Rattle.fo_ports.specs.State.{Looks};
+ghost use Rattle.fo_image.specs.of_base.Cause.{Rose};
+ghost use Rattle.fo_tree_read.specs.of_ports.Causes.{Caused};
+ghost use Rattle.fo_tree_read.specs.of_ports.State.{Looks};
 ghost use Rattle.fo_tree_read.specs.Tree.{score_in};
 ghost use Rattle.fo_tree_look.specs.Source.{is_same, find_kept, IsKept, AllHeld, Extends};
 
 use crate::ways::Kept;
-use fo_base::{BLOCK, Memory};
-use fo_image::{Pointer, Score};
-use fo_ports::{BlockError, Blocks};
-use fo_tree_read::score_in;
+use fo_image::{BLOCK, Memory, Pointer, Score};
+use fo_tree_read::{BlockError, Blocks, score_in};
 
 /// Fetches a block under a score, and keeps it.
 pub(crate) fn keep<B: Blocks>(

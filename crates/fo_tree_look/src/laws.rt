@@ -2,12 +2,12 @@
 ghost use Rattle.std.specs.Prelude.{◌≡◌, ◌+◌, ◌*◌, ◌≤◌, ◌↔◌, ℕ, Some, None};
 ghost use Rattle.fo_image.specs.declared.types.Pointer.TheVariants.{Local};
 ghost use Rattle.fo_image.specs.declared.types.State.TheVariants.{Live};
-ghost use Rattle.fo_crash.specs.declared.place.Place.{Place};
-ghost use Rattle.fo_ports.specs.Sources.{source_bytes, IsReady, StaysReady, Undisturbed};
+ghost use Rattle.fo_tree_read.specs.of_crash.declared.place.Place.{Place};
+ghost use Rattle.fo_tree_read.specs.of_ports.Sources.{source_bytes, IsReady, StaysReady, Undisturbed};
 ghost use Rattle.fo_tree_look.specs.Source.{Over, IsPlainTree, HasBlock, Prepared, IsTopCurrent, form_of, address_here, held_here, leaves_of};
 
 use crate::ways::Ways;
-use fo_ports::Blocks;
+use fo_tree_read::Blocks;
 
 /// The bytes are those of the leaves in memory; two leaves are two blocks, which stand at places of the source's kind, tag and rank. The
 /// source's blocks have its tag, are live, of an epoch up to the high one, and not to be closed; its top is one of them. A source of

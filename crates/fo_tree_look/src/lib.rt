@@ -17,3 +17,6 @@ mod ways;
 pub use keep::kept_bytes;
 pub use laws::{holds, stays};
 pub use ways::{Kept, Ways};
+
+// Passed on, so that a crate above names this one alone.
+pub use fo_tree_read::{Blocks, Tree, score_in};

@@ -4,8 +4,8 @@ ghost use Rattle.fo_image.specs.declared.types.Score.{Score};
 ghost use Rattle.fo_image.specs.declared.types.State.TheVariants.{Live};
 ghost use Rattle.fo_image.specs.declared.types.Pointer.TheVariants.{Local, Score as Held};
 ghost use Rattle.fo_image.specs.Format.{kind_code};
-ghost use Rattle.fo_crash.specs.declared.place.Place.{Place};
-ghost use Rattle.fo_ports.specs.State.{Looks};
+ghost use Rattle.fo_tree_read.specs.of_crash.declared.place.Place.{Place};
+ghost use Rattle.fo_tree_read.specs.of_ports.State.{Looks};
 ghost use Rattle.fo_tree_read.specs.Tree.{Hangs, kind_at, kind_down, below, block_at, StandsAs, Got, Failed, Refused, Names};
 ghost use Rattle.fo_tree_read.specs.Reading.{passed, most, IsNext, HasLeafPins};
 ghost use Rattle.fo_tree_look.specs.Source.{IsPlainTree, HasLabel, IsPrepared, IsKept, Extends, Ready, WayReady, WayGot, Looked, WaysReady, Over, seen};
@@ -13,10 +13,8 @@ ghost use Rattle.fo_tree_look.specs.Source.{IsPlainTree, HasLabel, IsPrepared, I
 use crate::keep::{keep, kept_pointer};
 use crate::place::{LEAF, SLOTS, is_plain, kind_at, kind_number};
 use crate::ways::Kept;
-use fo_base::BLOCK;
-use fo_image::{Kind, Pointer, State};
-use fo_ports::{BlockError, Blocks};
-use fo_tree_read::Tree;
+use fo_image::{BLOCK, Kind, Pointer, State};
+use fo_tree_read::{BlockError, Blocks, Tree};
 
 /// Prepares the ways to bytes that the source has.
 pub(crate) fn prepare_ways<B: Blocks>(

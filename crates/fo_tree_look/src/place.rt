@@ -4,8 +4,7 @@ ghost use Rattle.fo_image.specs.Format.{kind_code};
 ghost use Rattle.fo_tree_read.specs.Tree.{kind_at};
 ghost use Rattle.fo_tree_look.specs.Source.{IsPlainTree};
 
-use fo_base::BLOCK;
-use fo_image::Kind;
+use fo_image::{BLOCK, Kind};
 use fo_tree_read::Tree;
 
 /// How many bytes a leaf has, and how many pointers a block.

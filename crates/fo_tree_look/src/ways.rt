@@ -1,6 +1,5 @@
 //! A source of bytes as a tree of blocks.
-use fo_base::BLOCK;
-use fo_image::Score;
+use fo_image::{BLOCK, Score};
 use fo_tree_read::Tree;
 
 /// A block that was fetched under this score and kind.

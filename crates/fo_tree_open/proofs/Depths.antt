@@ -3,7 +3,7 @@ use Rattle.std.proofs.Common.{◌≡◌, ◌*◌, ◌^◌, ◌<◌, ◌≤◌, �
 use Rattle.std.proofs.lemmas.Bool.{cases_lt, leb-true, leb-false}
 use Rattle.std.proofs.Math.Nat.{pow-le-pow_right}
 use Rattle.fo_image.specs.Format.{IsDepth}
-use Rattle.fo_ports.specs.Sources.{depth_for}
+use Rattle.fo_tree_look.specs.of_ports.Sources.{depth_for}
 
 -- the least depth is the one that has room and below which none has
 pub depth_is : (z d : ℕ) → IsDepth z d → d ≤ 4 → d ≡ depth_for z

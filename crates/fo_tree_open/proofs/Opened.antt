@@ -7,18 +7,18 @@ use Rattle.fo_image.specs.declared.types.State.TheVariants.{Live}
 use Rattle.fo_image.specs.declared.types.Pointer.{Pointer}
 use Rattle.fo_image.specs.declared.types.Pointer.TheVariants.{Nil, Local, Score as Held}
 use Rattle.fo_image.specs.Format.{IsDepth, PointerHolds, ActiveHolds, kind_code}
-use Rattle.fo_crash.specs.declared.slot.Slot.{Slot}
-use Rattle.fo_crash.specs.declared.slot.Slot.TheVariants.{Entry as Head}
-use Rattle.fo_crash.specs.declared.place.Place.{Place}
-use Rattle.fo_crash.specs.Images.{Reaches, target, to_block}
-use Rattle.fo_crash.specs.Places.{place, place_below, super_place, IsPlaced, OnePlace, RanksFall}
-use Rattle.fo_crash.proofs.Places.{stands_below, never_back}
-use Rattle.fo_crash.proofs.Reach.{reaches_on, reaches_from, reaches_joins}
-use Rattle.fo_ports.specs.Blocks.{IsEntry, SlotFits, slot_count}
-use Rattle.fo_ports.specs.State.{State}
-use Rattle.fo_tree_read.specs.declared.tree.Tree.{Tree}
-use Rattle.fo_tree_read.specs.Tree.{kind_at, kind_down, below, block_at}
-use Rattle.fo_tree_read.proofs.Walk.{held_apart}
+use Rattle.fo_tree_look.specs.of_crash.declared.slot.Slot.{Slot}
+use Rattle.fo_tree_look.specs.of_crash.declared.slot.Slot.TheVariants.{Entry as Head}
+use Rattle.fo_tree_look.specs.of_crash.declared.place.Place.{Place}
+use Rattle.fo_tree_look.specs.of_crash.Images.{Reaches, target, to_block}
+use Rattle.fo_tree_look.specs.of_crash.Places.{place, place_below, super_place, IsPlaced, OnePlace, RanksFall}
+use Rattle.fo_tree_look.proofs.of_crash.Places.{stands_below, never_back}
+use Rattle.fo_tree_look.proofs.of_crash.Reach.{reaches_on, reaches_from, reaches_joins}
+use Rattle.fo_tree_look.specs.of_ports.Blocks.{IsEntry, SlotFits, slot_count}
+use Rattle.fo_tree_look.specs.of_ports.State.{State}
+use Rattle.fo_tree_look.specs.of_tree_read.declared.tree.Tree.{Tree}
+use Rattle.fo_tree_look.specs.of_tree_read.Tree.{kind_at, kind_down, below, block_at}
+use Rattle.fo_tree_look.proofs.of_tree_read.Walk.{held_apart}
 use Rattle.fo_tree_look.specs.Source.{HasBlock, IsTold, Over}
 use Rattle.fo_tree_open.specs.Open.{HasEntry, NamesRank, IsFit, StandsIn, tree_of}
 use Rattle.fo_tree_open.proofs.Depths.{depth_is}

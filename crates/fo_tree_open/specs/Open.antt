@@ -4,11 +4,11 @@ use Rattle.fo_image.specs.declared.types.Kind.{Kind}
 use Rattle.fo_image.specs.declared.types.Kind.TheVariants.{Data, Dir, Root}
 use Rattle.fo_image.specs.declared.types.Entry.{Entry}
 use Rattle.fo_image.specs.declared.types.Pointer.TheVariants.{Nil}
-use Rattle.fo_crash.specs.declared.slot.Slot.TheVariants.{Entry as Head}
-use Rattle.fo_crash.specs.declared.place.Place.{Place}
-use Rattle.fo_crash.specs.Images.{Reaches, to_block}
-use Rattle.fo_ports.specs.State.{State}
-use Rattle.fo_tree_read.specs.declared.tree.Tree.{Tree}
+use Rattle.fo_tree_look.specs.of_crash.declared.slot.Slot.TheVariants.{Entry as Head}
+use Rattle.fo_tree_look.specs.of_crash.declared.place.Place.{Place}
+use Rattle.fo_tree_look.specs.of_crash.Images.{Reaches, to_block}
+use Rattle.fo_tree_look.specs.of_ports.State.{State}
+use Rattle.fo_tree_look.specs.of_tree_read.declared.tree.Tree.{Tree}
 use Rattle.fo_tree_look.specs.Source.{IsPlainTree, NoneHeld}
 
 -- Slot i of a block of this kind is an entry.

@@ -2,16 +2,14 @@
 ghost use Rattle.std.specs.Prelude.{◌≡◌, ◌^◌, ◌<◌, ◌≤◌, ℕ, true, List, [], MatchOption, IfSome};
 ghost use Rattle.fo_image.specs.declared.types.Pointer.TheVariants.{Nil, Local};
 ghost use Rattle.fo_image.specs.Format.{EntryHolds};
-ghost use Rattle.fo_crash.specs.declared.slot.Slot.TheVariants.{Entry as Head};
-ghost use Rattle.fo_crash.specs.Images.{Reaches, to_block};
+ghost use Rattle.fo_tree_look.specs.of_crash.declared.slot.Slot.TheVariants.{Entry as Head};
+ghost use Rattle.fo_tree_look.specs.of_crash.Images.{Reaches, to_block};
 ghost use Rattle.fo_tree_look.specs.declared.ways.Kept.{Kept};
 ghost use Rattle.fo_tree_look.specs.Source.{Over, HasBlock};
 ghost use Rattle.fo_tree_open.specs.Open.{HasEntry, IsFit, CanOpen, StandsIn, tree_of};
 
 use fo_image::{Entry, Pointer};
-use fo_ports::Blocks;
-use fo_tree_look::Ways;
-use fo_tree_read::Tree;
+use fo_tree_look::{Blocks, Tree, Ways};
 use std::alloc::Global;
 
 /// The source of the entry that memory has in slot `i` of block `at`, a pinned leaf of entries or root block: with this tag and rank of

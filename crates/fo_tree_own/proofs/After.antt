@@ -12,11 +12,11 @@ use Rattle.fo_crash.specs.Steps.{PutsSlot, AddsSlot, Covers}
 use Rattle.fo_crash.specs.Places.{place, super_place}
 use Rattle.fo_crash.proofs.Reach.{lost, reaches_on, reaches_joins, reaches_same, reach_into}
 use Rattle.fo_crash.proofs.Updates.{slot_bytes, slot_other}
-use Rattle.fo_ports.specs.State.{State, KeepsAll, IsRooted, Frame, Hangs, KeepsOrder, AddsNoWait, IsPointers, none}
-use Rattle.fo_ports.specs.Sources.{IsHung, Made, Touched, Undone, IsMade, StaysMarked, Changes}
-use Rattle.fo_looks.proofs.Looks.{rooted_of_apart}
-use Rattle.fo_tree_read.specs.declared.tree.Tree.{Tree}
-use Rattle.fo_tree_read.specs.Tree.{kind_at}
+use Rattle.fo_tree_look.specs.of_ports.State.{State, KeepsAll, IsRooted, Frame, Hangs, KeepsOrder, AddsNoWait, IsPointers, none}
+use Rattle.fo_tree_look.specs.of_ports.Sources.{IsHung, Made, Touched, Undone, IsMade, StaysMarked, Changes}
+use Rattle.fo_tree_look.proofs.of_looks.Looks.{rooted_of_apart}
+use Rattle.fo_tree_look.specs.of_tree_read.declared.tree.Tree.{Tree}
+use Rattle.fo_tree_look.specs.of_tree_read.Tree.{kind_at}
 use Rattle.fo_tree_own.specs.Step.{IsOwn, IsBeside, IsBehind, OnlyCovers, Links}
 use Rattle.fo_tree_own.proofs.Link.{Laws, Linking, local_eq, at_ne, at_pinned, at_place, top_ne, reaches_mid, back, unwaited}
 use Rattle.fo_tree_own.proofs.May.{there, place_is}

@@ -17,11 +17,11 @@ use Rattle.fo_crash.specs.Images.{Content, Image, SameContent, target, with_slot
 use Rattle.fo_crash.specs.Steps.{PutsSlot, PutsBytes, AddsSlot, AddsBytes, Covers}
 use Rattle.fo_crash.proofs.Reach.{lost}
 use Rattle.fo_crash.proofs.Updates.{slot_bytes, slot_other, bytes_other}
-use Rattle.fo_ports.specs.Blocks.{IsInner, SlotFits, slot_count, cost, dropped, blank, blank_slot, put_at}
-use Rattle.fo_ports.proofs.Lengths.{length_zero_bytes}
-use Rattle.fo_ports.specs.State.{State, KeepsAll, none, Gives, Frame, Calm, Hangs, KeepsOrder, AddsNoWait, IsPointers, MayPutSlot}
-use Rattle.fo_tree_read.specs.Tree.{is_none, score_of}
-use Rattle.fo_tree_read.specs.declared.empty.TheConstants.{EMPTY}
+use Rattle.fo_tree_look.specs.of_ports.Blocks.{IsInner, SlotFits, slot_count, cost, dropped, blank, blank_slot, put_at}
+use Rattle.fo_tree_look.proofs.of_ports.Lengths.{length_zero_bytes}
+use Rattle.fo_tree_look.specs.of_ports.State.{State, KeepsAll, none, Gives, Frame, Calm, Hangs, KeepsOrder, AddsNoWait, IsPointers, MayPutSlot}
+use Rattle.fo_tree_look.specs.of_tree_read.Tree.{is_none, score_of}
+use Rattle.fo_tree_look.specs.of_tree_read.declared.empty.TheConstants.{EMPTY}
 use Rattle.fo_tree_own.specs.Step.{IsBare, Filled}
 
 -- ---- pointers that lead to no block

@@ -4,10 +4,10 @@ use Rattle.fo_image.specs.declared.types.Pointer.TheVariants.{Local}
 use Rattle.fo_crash.specs.Images.{target}
 use Rattle.fo_crash.specs.Places.{place}
 use Rattle.fo_crash.proofs.Reach.{reaches_on}
-use Rattle.fo_ports.specs.State.{State}
-use Rattle.fo_ports.specs.Sources.{IsHung}
-use Rattle.fo_tree_read.specs.declared.tree.Tree.{Tree}
-use Rattle.fo_tree_read.specs.Tree.{kind_at}
+use Rattle.fo_tree_look.specs.of_ports.State.{State}
+use Rattle.fo_tree_look.specs.of_ports.Sources.{IsHung}
+use Rattle.fo_tree_look.specs.of_tree_read.declared.tree.Tree.{Tree}
+use Rattle.fo_tree_look.specs.of_tree_read.Tree.{kind_at}
 use Rattle.fo_tree_look.specs.Source.{IsPrepared, IsTold}
 use Rattle.fo_tree_own.specs.Step.{IsOwn}
 use Rattle.fo_tree_own.proofs.Link.{Laws, inner_below}

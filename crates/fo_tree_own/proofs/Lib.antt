@@ -3,3 +3,4 @@ pub mod May
 pub mod After
 pub mod Here
 pub mod Filling
+pub mod of_crash

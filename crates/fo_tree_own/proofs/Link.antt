@@ -15,12 +15,12 @@ use Rattle.fo_crash.specs.Places.{place, place_below, super_place, IsPlaced, One
 use Rattle.fo_crash.proofs.Places.{stands_below}
 use Rattle.fo_crash.proofs.Reach.{reach_aside, reach_into}
 use Rattle.fo_crash.proofs.Updates.{block_other}
-use Rattle.fo_ports.specs.Blocks.{slot_count, SlotFits, cost, dropped, blank_slot}
-use Rattle.fo_ports.specs.State.{State, KeepsAll, none, Stays, KeepsOrder, AddsNoWait, Uses, KeepsNumbers, Gives, IsHeld}
-use Rattle.fo_ports.specs.Sources.{HangsApart, IsHung}
-use Rattle.fo_looks.proofs.Looks.{rooted_of_apart, rooted_of_hung}
-use Rattle.fo_tree_read.specs.declared.tree.Tree.{Tree}
-use Rattle.fo_tree_read.specs.Tree.{kind_at}
+use Rattle.fo_tree_look.specs.of_ports.Blocks.{slot_count, SlotFits, cost, dropped, blank_slot}
+use Rattle.fo_tree_look.specs.of_ports.State.{State, KeepsAll, none, Stays, KeepsOrder, AddsNoWait, Uses, KeepsNumbers, Gives, IsHeld}
+use Rattle.fo_tree_look.specs.of_ports.Sources.{HangsApart, IsHung}
+use Rattle.fo_tree_look.proofs.of_looks.Looks.{rooted_of_apart, rooted_of_hung}
+use Rattle.fo_tree_look.specs.of_tree_read.declared.tree.Tree.{Tree}
+use Rattle.fo_tree_look.specs.of_tree_read.Tree.{kind_at}
 use Rattle.fo_tree_own.specs.Step.{IsOwn, IsBeside, Filled}
 
 -- ---- blocks of pointers

@@ -12,10 +12,10 @@ use Rattle.fo_crash.specs.Steps.{Brings}
 use Rattle.fo_crash.specs.Places.{place, place_below, super_place, FitsAt}
 use Rattle.fo_crash.proofs.Places.{stands_below, never_above}
 use Rattle.fo_crash.proofs.Reach.{lost, reaches_joins, reaches_itself}
-use Rattle.fo_ports.specs.Blocks.{IsInner, IsLevel, zeros}
-use Rattle.fo_ports.specs.State.{State, Comes, IsLoose, LeavesNone, MayPutSlot}
-use Rattle.fo_tree_read.specs.declared.tree.Tree.{Tree}
-use Rattle.fo_tree_read.specs.Tree.{kind_at}
+use Rattle.fo_tree_look.specs.of_ports.Blocks.{IsInner, IsLevel, zeros}
+use Rattle.fo_tree_look.specs.of_ports.State.{State, Comes, IsLoose, LeavesNone, MayPutSlot}
+use Rattle.fo_tree_look.specs.of_tree_read.declared.tree.Tree.{Tree}
+use Rattle.fo_tree_look.specs.of_tree_read.Tree.{kind_at}
 use Rattle.fo_tree_look.specs.Source.{IsTold}
 use Rattle.fo_tree_own.proofs.Link.{Linking, local_eq, inner_below, at_kind, at_ne, at_place, same, none_dropped, may_cost, result_label, reaches_mid, back, held}
 

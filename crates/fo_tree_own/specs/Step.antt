@@ -8,11 +8,11 @@ use Rattle.fo_image.specs.Format.{kind_code}
 use Rattle.fo_crash.specs.declared.place.Place.{Place}
 use Rattle.fo_crash.specs.Images.{Image, SameContent, Reaches, target, to_block}
 use Rattle.fo_crash.specs.Places.{place}
-use Rattle.fo_ports.specs.Blocks.{blank}
-use Rattle.fo_ports.specs.State.{State, IsRooted, none, KeepsOrder, AddsNoWait, Uses, KeepsNumbers}
-use Rattle.fo_ports.specs.Sources.{IsHung, Made, Changes}
-use Rattle.fo_tree_read.specs.declared.tree.Tree.{Tree}
-use Rattle.fo_tree_read.specs.Tree.{kind_at, score_of}
+use Rattle.fo_tree_look.specs.of_ports.Blocks.{blank}
+use Rattle.fo_tree_look.specs.of_ports.State.{State, IsRooted, none, KeepsOrder, AddsNoWait, Uses, KeepsNumbers}
+use Rattle.fo_tree_look.specs.of_ports.Sources.{IsHung, Made, Changes}
+use Rattle.fo_tree_look.specs.of_tree_read.declared.tree.Tree.{Tree}
+use Rattle.fo_tree_look.specs.of_tree_read.Tree.{kind_at, score_of}
 use Rattle.fo_tree_look.specs.declared.ways.Kept.{Kept}
 use Rattle.fo_tree_look.specs.Source.{IsTold, IsPlainTree, IsPrepared, IsKept, find_kept}
 

@@ -2,15 +2,14 @@
 ghost use Rattle.std.specs.Prelude.{◌≡◌, ◌≢◌, ◌⊎◌, ◌+◌, ◌*◌, ◌/◌, ◌%◌, ◌^◌, ◌<◌, ◌≤◌, ℕ, suc, true, false};
 ghost use Rattle.fo_image.specs.declared.types.Pointer.TheVariants.{Nil, Local};
 ghost use Rattle.fo_crash.specs.Images.{SameContent, target};
-ghost use Rattle.fo_ports.specs.Blocks.{blank};
-ghost use Rattle.fo_tree_read.specs.Tree.{kind_at};
+ghost use Rattle.fo_tree_look.specs.of_ports.Blocks.{blank};
+ghost use Rattle.fo_tree_look.specs.of_tree_read.Tree.{kind_at};
 ghost use Rattle.fo_tree_look.specs.Source.{IsPrepared, IsTold};
 ghost use Rattle.fo_tree_own.specs.Step.{IsOwn, Links};
 
 use fo_crash::Slot;
 use fo_image::{Kind, Pointer};
-use fo_ports::Blocks;
-use fo_tree_read::Tree;
+use fo_tree_look::{Blocks, Tree};
 
 /// How many pointers a block has.
 pub(crate) const SLOTS: u64 = 409;

@@ -7,9 +7,7 @@ ghost use Rattle.fo_tree_own.specs.Step.{IsOwn, CanOwn, Becomes, Links};
 use crate::below::{SLOTS, new_below, own_below};
 use crate::kept::kept_below;
 use fo_image::Pointer;
-use fo_ports::Blocks;
-use fo_tree_look::Kept;
-use fo_tree_read::Tree;
+use fo_tree_look::{Blocks, Kept, Tree};
 
 /// Makes block `k` of a level current, and leads the slot above to it: it is the block itself where that is of the active epoch, a copy of
 /// an older one, one with what was kept under a score, or one of zeros.

@@ -7,14 +7,13 @@ ghost use Rattle.fo_image.specs.Format.{PointerHolds};
 ghost use Rattle.fo_crash.specs.declared.place.Place.{Place};
 ghost use Rattle.fo_crash.specs.declared.slot.Slot.TheVariants.{Pointer as To};
 ghost use Rattle.fo_crash.specs.Steps.{PutsSlot};
-ghost use Rattle.fo_ports.specs.Blocks.{IsInner};
-ghost use Rattle.fo_tree_read.specs.Tree.{score_of};
+ghost use Rattle.fo_tree_look.specs.of_ports.Blocks.{IsInner};
+ghost use Rattle.fo_tree_look.specs.of_tree_read.Tree.{score_of};
 ghost use Rattle.fo_tree_own.specs.Step.{IsBare, Filled};
 
 use fo_crash::Slot;
 use fo_image::Pointer;
-use fo_ports::Blocks;
-use fo_tree_read::score_in;
+use fo_tree_look::{Blocks, score_in};
 
 /// Fills a leaf that was given out.
 pub(crate) fn fill_leaf<B: Blocks>(on: &mut B, at: u32, bytes: &[u8])

@@ -6,8 +6,8 @@ ghost use Rattle.fo_image.specs.declared.types.Pointer.TheVariants.{Score as Hel
 ghost use Rattle.fo_image.specs.Format.{kind_code};
 ghost use Rattle.fo_crash.specs.declared.place.Place.{Place};
 ghost use Rattle.fo_crash.specs.Images.{target};
-ghost use Rattle.fo_ports.specs.Blocks.{IsInner};
-ghost use Rattle.fo_tree_read.specs.Tree.{kind_at};
+ghost use Rattle.fo_tree_look.specs.of_ports.Blocks.{IsInner};
+ghost use Rattle.fo_tree_look.specs.of_tree_read.Tree.{kind_at};
 ghost use Rattle.fo_tree_look.specs.Source.{IsPlainTree, IsKept, find_kept};
 ghost use Rattle.fo_tree_own.specs.Step.{IsOwn, IsBare, Filled, HasKept, Links};
 
@@ -15,9 +15,7 @@ use crate::below::{SLOTS, kind_at};
 use crate::fill::{fill_leaf, fill_slots};
 use fo_crash::Slot;
 use fo_image::{Pointer, Score};
-use fo_ports::Blocks;
-use fo_tree_look::{Kept, kept_bytes};
-use fo_tree_read::Tree;
+use fo_tree_look::{Blocks, Kept, Tree, kept_bytes};
 
 /// Makes block `k` of a level current, which is under a score: it is one with what was kept of it, to which the slot above is led.
 pub fn kept_below<B: Blocks>(

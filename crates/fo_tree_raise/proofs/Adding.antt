@@ -7,7 +7,7 @@ use Rattle.fo_crash.specs.Images.{Image, Content, SameContent, Reaches, to_block
 use Rattle.fo_crash.proofs.Reach.{reach_aside}
 use Rattle.fo_ports.specs.State.{State, KeepsAll, none}
 use Rattle.fo_ports.specs.Sources.{Made, IsMade, Stead, Changes}
-use Rattle.fo_looks.proofs.Free.{free_before}
+use Rattle.fo_tree_read.proofs.of_looks.Free.{free_before}
 use Rattle.fo_tree_read.specs.declared.tree.Tree.{Tree}
 use Rattle.fo_tree_look.specs.Source.{HasBlock}
 use Rattle.fo_tree_down.proofs.Join.{local_cases}

@@ -9,7 +9,7 @@ use Rattle.fo_image.specs.Format.{PointerHolds}
 use Rattle.fo_crash.specs.Places.{place, IsPlaced}
 use Rattle.fo_ports.specs.State.{State, KeepsAll}
 use Rattle.fo_ports.specs.Sources.{depth_for}
-use Rattle.fo_looks.proofs.Looks.{rooted_of_apart}
+use Rattle.fo_tree_read.proofs.of_looks.Looks.{rooted_of_apart}
 use Rattle.fo_tree_read.specs.declared.tree.Tree.{Tree}
 use Rattle.fo_tree_read.specs.Tree.{kind_at, block_at}
 use Rattle.fo_tree_look.specs.declared.ways.Kept.{Kept}

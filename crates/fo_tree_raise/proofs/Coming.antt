@@ -13,7 +13,7 @@ use Rattle.fo_ports.specs.State.{State, KeepsAll}
 use Rattle.fo_ports.specs.Sources.{IsInstead, ComesFor}
 use Rattle.fo_tree_read.specs.declared.tree.Tree.{Tree}
 use Rattle.fo_tree_read.specs.Tree.{kind_at}
-use Rattle.fo_tree_own.proofs.Link.{local_eq}
+use Rattle.fo_tree_down.proofs.of_tree_own.Link.{local_eq}
 use Rattle.fo_tree_raise.specs.Raise.{CanRaise, Raises}
 
 -- A top was raised over another, over a device that tells.

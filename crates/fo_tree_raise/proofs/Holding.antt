@@ -17,12 +17,12 @@ use Rattle.fo_crash.proofs.Places.{stands_below, never_above}
 use Rattle.fo_crash.proofs.Reach.{reach_aside, reach_into, reaches_joins}
 use Rattle.fo_ports.specs.State.{State, KeepsAll}
 use Rattle.fo_ports.specs.Sources.{IsHung, Made, IsMade}
-use Rattle.fo_looks.proofs.Looks.{rooted_of_apart}
+use Rattle.fo_tree_read.proofs.of_looks.Looks.{rooted_of_apart}
 use Rattle.fo_tree_read.specs.declared.tree.Tree.{Tree}
 use Rattle.fo_tree_read.specs.Tree.{kind_at, kind_down, below, block_at}
 use Rattle.fo_tree_look.specs.declared.ways.Kept.{Kept}
 use Rattle.fo_tree_look.specs.Source.{Ready, WayReady, Prepared, or_held, find_kept, seen}
-use Rattle.fo_tree_own.proofs.Link.{Laws, Came, local_eq}
+use Rattle.fo_tree_down.proofs.of_tree_own.Link.{Laws, Came, local_eq}
 use Rattle.fo_tree_down.specs.Way.{IsWayIndex, with_top}
 use Rattle.fo_tree_down.specs.Clear.{EndsClear, last_leaf}
 use Rattle.fo_tree_raise.specs.Raise.{IsUnder, CanRaise}

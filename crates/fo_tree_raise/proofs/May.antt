@@ -13,11 +13,11 @@ use Rattle.fo_crash.proofs.Places.{stands_below}
 use Rattle.fo_crash.proofs.Reach.{lost, reach_aside, reach_into, reaches_itself}
 use Rattle.fo_ports.specs.Blocks.{IsInner, SlotFits, slot_count, cost, dropped, blank_slot, IsLevel}
 use Rattle.fo_ports.specs.State.{State, KeepsAll, IsRooted, Comes, IsLoose, IsRaised, MayPutSlot}
-use Rattle.fo_looks.proofs.Looks.{rooted_of_apart}
+use Rattle.fo_tree_read.proofs.of_looks.Looks.{rooted_of_apart}
 use Rattle.fo_tree_read.specs.declared.tree.Tree.{Tree}
 use Rattle.fo_tree_read.specs.Tree.{kind_at}
 use Rattle.fo_tree_read.proofs.Walk.{inner_kind}
-use Rattle.fo_tree_own.proofs.Link.{Laws, Came, inner_slots, inner_below, pointer_fits}
+use Rattle.fo_tree_down.proofs.of_tree_own.Link.{Laws, Came, inner_slots, inner_below, pointer_fits}
 use Rattle.fo_tree_raise.specs.Raise.{CanRaise}
 
 -- A block of zeros was given out for the place above the source's top.

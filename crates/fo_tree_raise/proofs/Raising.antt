@@ -14,11 +14,11 @@ use Rattle.fo_crash.proofs.Reach.{lost, reach_aside, reach_into, reaches_itself,
 use Rattle.fo_crash.proofs.Updates.{slot_bytes, slot_other}
 use Rattle.fo_ports.specs.State.{State, IsRooted, KeepsAll, none, Frame, Hangs, KeepsOrder, AddsNoWait, IsPointers}
 use Rattle.fo_ports.specs.Sources.{IsHung, HangsApart, Made}
-use Rattle.fo_looks.proofs.Looks.{rooted_of_apart}
+use Rattle.fo_tree_read.proofs.of_looks.Looks.{rooted_of_apart}
 use Rattle.fo_tree_read.specs.declared.tree.Tree.{Tree}
 use Rattle.fo_tree_read.specs.Tree.{kind_at}
-use Rattle.fo_tree_own.specs.Step.{IsOwn, IsBeside}
-use Rattle.fo_tree_own.proofs.Link.{Laws, Came, local_eq}
+use Rattle.fo_tree_down.specs.of_tree_own.Step.{IsOwn, IsBeside}
+use Rattle.fo_tree_down.proofs.of_tree_own.Link.{Laws, Came, local_eq}
 use Rattle.fo_tree_down.proofs.Join.{local_cases}
 use Rattle.fo_tree_raise.specs.Raise.{IsUnder, CanRaise, IsWithout, Raises, raised}
 use Rattle.fo_tree_raise.proofs.May.{Lifting, told_mid, under_ne, bare_none, away, reaches_mid, back, place_is, raised_over}

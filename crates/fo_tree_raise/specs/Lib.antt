@@ -1,2 +1,3 @@
 pub mod Raise
 pub mod Levels
+pub mod of_tree_read

@@ -14,7 +14,7 @@ use Rattle.fo_tree_read.specs.declared.tree.Tree.{Tree}
 use Rattle.fo_tree_read.specs.Tree.{kind_at, block_at, Hangs}
 use Rattle.fo_tree_look.specs.declared.ways.Kept.{Kept}
 use Rattle.fo_tree_look.specs.Source.{HasBlock, IsTold, IsPlainTree, NoneHeld, AllHeld}
-use Rattle.fo_tree_own.specs.Step.{IsOwn, IsBeside}
+use Rattle.fo_tree_down.specs.of_tree_own.Step.{IsOwn, IsBeside}
 
 -- the tree below this block, with one level more
 abbrev pub raised : Tree → ℕ → Tree

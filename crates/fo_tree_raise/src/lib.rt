@@ -17,3 +17,6 @@ pub use climb::raise_levels;
 pub use hold::copy_top;
 pub use laws::may_raise;
 pub use raise::raise_once;
+
+// Passed on, so that a crate above names this one alone.
+pub use fo_tree_read::Tree;

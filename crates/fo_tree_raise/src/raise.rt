@@ -11,7 +11,7 @@ ghost use Rattle.fo_tree_raise.specs.Raise.{CanRaise, Raises, raised, Bears, Sam
 
 use fo_crash::Slot;
 use fo_ports::Blocks;
-use fo_tree_own::kind_at;
+use fo_tree_down::kind_at;
 use fo_tree_read::Tree;
 
 /// Gives out a block one level above the source's top, leads its first slot there, and gives its address. It is put nowhere yet.

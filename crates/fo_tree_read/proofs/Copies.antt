@@ -1,11 +1,11 @@
 -- Leaves and their bytes, one after another.
 use Rattle.std.proofs.Common.{◌≡◌, ◌⊎◌, ◌+◌, ◌-◌, ◌*◌, ◌/◌, ◌%◌, ◌^◌, ◌<◌, ◌≤◌, ℕ, Bool, true, false, nat_lt, Some, None, cond, inl, inr, ⊎_elim, sym, ap, ◌∙◌, subst, arith}
 use Rattle.std.proofs.lemmas.Bool.{lt-ltb, cases_eq}
-use Rattle.fo_image.specs.declared.types.Pointer.{Pointer}
-use Rattle.fo_image.specs.declared.types.Pointer.TheVariants.{Nil, Local}
-use Rattle.fo_crash.specs.Places.{IsPlaced}
-use Rattle.fo_ports.specs.State.{State, KeepsAll, Looks}
-use Rattle.fo_ports.specs.Sources.{byte_at}
+use Rattle.fo_looks.specs.of_image.declared.types.Pointer.{Pointer}
+use Rattle.fo_looks.specs.of_image.declared.types.Pointer.TheVariants.{Nil, Local}
+use Rattle.fo_looks.specs.of_crash.Places.{IsPlaced}
+use Rattle.fo_looks.specs.of_ports.State.{State, KeepsAll, Looks}
+use Rattle.fo_looks.specs.of_ports.Sources.{byte_at}
 use Rattle.fo_tree_read.specs.declared.tree.Tree.{Tree}
 use Rattle.fo_tree_read.specs.Tree.{kind_at, block_at, leaf_at, address, address_of, Agrees, held_of, byte, Hangs, StandsAs, Got, Way, IsNear, above, HasPins, IsFound}
 use Rattle.fo_tree_read.specs.Reading.{LeafWay, passed, IsNext, HasLeafPins, IsLeafFound, IsLocal}

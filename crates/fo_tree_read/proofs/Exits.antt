@@ -1,15 +1,15 @@
 -- What a walk says at each of its exits.
 use Rattle.std.proofs.Common.{◌≡◌, ◌*◌, ℕ, take, drop, Bool, true, false, cond, List, Option, Some, None, IfSome, Result, Ok, Err, IfErr, inr, refl, sym, ap, ◌∙◌, arith}
-use Rattle.fo_base.specs.Cause.{Rose}
-use Rattle.fo_image.specs.declared.types.Kind.{Kind}
-use Rattle.fo_image.specs.declared.types.Score.{Score}
-use Rattle.fo_image.specs.declared.types.Pointer.{Pointer}
-use Rattle.fo_image.specs.declared.types.Pointer.TheVariants.{Nil, Local, Score as Held}
-use Rattle.fo_image.specs.Format.{kind_code}
-use Rattle.fo_ports.specs.declared.error.BlockError.{BlockError}
-use Rattle.fo_ports.specs.declared.error.BlockError.TheVariants.{Full, Damaged, Fault, Arena, Memory}
-use Rattle.fo_ports.specs.Causes.{Caused}
-use Rattle.fo_ports.specs.State.{State, KeepsAll, Looks}
+use Rattle.fo_looks.specs.of_base.Cause.{Rose}
+use Rattle.fo_looks.specs.of_image.declared.types.Kind.{Kind}
+use Rattle.fo_looks.specs.of_image.declared.types.Score.{Score}
+use Rattle.fo_looks.specs.of_image.declared.types.Pointer.{Pointer}
+use Rattle.fo_looks.specs.of_image.declared.types.Pointer.TheVariants.{Nil, Local, Score as Held}
+use Rattle.fo_looks.specs.of_image.Format.{kind_code}
+use Rattle.fo_looks.specs.of_ports.declared.error.BlockError.{BlockError}
+use Rattle.fo_looks.specs.of_ports.declared.error.BlockError.TheVariants.{Full, Damaged, Fault, Arena, Memory}
+use Rattle.fo_looks.specs.of_ports.Causes.{Caused}
+use Rattle.fo_looks.specs.of_ports.State.{State, KeepsAll, Looks}
 use Rattle.fo_tree_read.specs.declared.tree.Tree.{Tree}
 use Rattle.fo_tree_read.specs.Tree.{is_none, score_of, score_in, below, address_of, Agrees, Got, Names, Refused}
 use Rattle.fo_looks.proofs.Looks.{rose_later}

@@ -6,3 +6,6 @@ pub mod Pinned
 pub mod Copies
 pub mod Passed
 pub mod Parts
+pub mod of_crash
+pub mod of_looks
+pub mod of_ports

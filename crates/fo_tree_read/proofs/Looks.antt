@@ -1,10 +1,10 @@
 -- Calls that only look, one after another, and why they are refused.
 use Rattle.std.proofs.Common.{ℕ, Result, Ok, Err, IfErr, inl, inr, ⊎_elim, sym, ◌∙◌}
-use Rattle.fo_image.specs.declared.types.Score.{Score}
-use Rattle.fo_ports.specs.declared.error.BlockError.{BlockError}
-use Rattle.fo_ports.specs.declared.error.BlockError.TheVariants.{Full, Damaged, Fault, Arena, Memory}
-use Rattle.fo_ports.specs.State.{State, KeepsAll}
-use Rattle.fo_ports.specs.Sources.{Lacks}
+use Rattle.fo_looks.specs.of_image.declared.types.Score.{Score}
+use Rattle.fo_looks.specs.of_ports.declared.error.BlockError.{BlockError}
+use Rattle.fo_looks.specs.of_ports.declared.error.BlockError.TheVariants.{Full, Damaged, Fault, Arena, Memory}
+use Rattle.fo_looks.specs.of_ports.State.{State, KeepsAll}
+use Rattle.fo_looks.specs.of_ports.Sources.{Lacks}
 use Rattle.fo_looks.proofs.Looks.{rose_later}
 use Rattle.fo_tree_read.specs.Tree.{Failed, Refused}
 

@@ -1,13 +1,13 @@
 -- Bytes that are read leaf by leaf, and the pins that it takes.
 use Rattle.std.proofs.Common.{◌≡◌, ◌⊎◌, ◌+◌, ◌-◌, ◌*◌, ◌/◌, ◌%◌, ◌^◌, ◌<◌, ◌≤◌, ℕ, zero, suc, Bool, true, false, cond, nat_lt, List, Option, None, slice_index, inl, inr, ⊎_elim, refl, sym, ap, ◌∙◌, subst, arith}
 use Rattle.std.proofs.lemmas.Bool.{cases_lt}
-use Rattle.fo_image.specs.declared.types.Kind.{Kind}
-use Rattle.fo_image.specs.declared.types.Score.{Score}
-use Rattle.fo_image.specs.declared.types.Pointer.{Pointer}
-use Rattle.fo_image.specs.declared.types.Pointer.TheVariants.{Nil, Local, Score as Held}
-use Rattle.fo_image.specs.Format.{kind_code}
-use Rattle.fo_ports.specs.State.{State, KeepsAll, Looks}
-use Rattle.fo_ports.specs.Sources.{byte_at}
+use Rattle.fo_looks.specs.of_image.declared.types.Kind.{Kind}
+use Rattle.fo_looks.specs.of_image.declared.types.Score.{Score}
+use Rattle.fo_looks.specs.of_image.declared.types.Pointer.{Pointer}
+use Rattle.fo_looks.specs.of_image.declared.types.Pointer.TheVariants.{Nil, Local, Score as Held}
+use Rattle.fo_looks.specs.of_image.Format.{kind_code}
+use Rattle.fo_looks.specs.of_ports.State.{State, KeepsAll, Looks}
+use Rattle.fo_looks.specs.of_ports.Sources.{byte_at}
 use Rattle.fo_tree_read.specs.declared.tree.Tree.{Tree}
 use Rattle.fo_tree_read.specs.Tree.{kind_at, block_at, leaf_at, address, address_of, held_of, byte, Got, above}
 use Rattle.fo_tree_read.specs.Reading.{LeafWay, passed, IsNext, HasLeafPins, IsLeafFound, most, Prepared, HasPassed}

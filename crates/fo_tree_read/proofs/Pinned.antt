@@ -1,14 +1,14 @@
 -- A block that is pinned, and then lent or copied.
 use Rattle.std.proofs.Common.{◌≡◌, ◌⊎◌, ◌+◌, ◌<◌, ◌≤◌, ℕ, Result, Ok, Err, IfErr, inl, inr, ⊎_elim, sym, ap, ◌∙◌, subst, arith}
 use Rattle.std.proofs.lemmas.Bool.{cases_lt}
-use Rattle.fo_base.specs.Cause.{Rose}
-use Rattle.fo_image.specs.declared.types.Kind.{Kind}
-use Rattle.fo_image.specs.declared.types.Label.{Label}
-use Rattle.fo_crash.specs.declared.place.Place.{Place}
-use Rattle.fo_ports.specs.declared.error.BlockError.{BlockError}
-use Rattle.fo_ports.specs.declared.error.BlockError.TheVariants.{Full, Damaged, Fault, Arena, Memory}
-use Rattle.fo_ports.specs.Causes.{Caused}
-use Rattle.fo_ports.specs.State.{State, Looks}
+use Rattle.fo_looks.specs.of_base.Cause.{Rose}
+use Rattle.fo_looks.specs.of_image.declared.types.Kind.{Kind}
+use Rattle.fo_looks.specs.of_image.declared.types.Label.{Label}
+use Rattle.fo_looks.specs.of_crash.declared.place.Place.{Place}
+use Rattle.fo_looks.specs.of_ports.declared.error.BlockError.{BlockError}
+use Rattle.fo_looks.specs.of_ports.declared.error.BlockError.TheVariants.{Full, Damaged, Fault, Arena, Memory}
+use Rattle.fo_looks.specs.of_ports.Causes.{Caused}
+use Rattle.fo_looks.specs.of_ports.State.{State, Looks}
 use Rattle.fo_tree_read.specs.Tree.{StandsAs, IsGot, Failed}
 
 module _ (a b : State) (kind : Kind) (at : ℕ) (looks : Looks a b) (label : (a.label at).kind ≡ kind) (pinned : 0 < a.pins_left → b.pinned at) where

@@ -1,16 +1,16 @@
 -- Slots of blocks of pointers, as they are read.
 use Rattle.std.proofs.Common.{◌≡◌, ◌*◌, ◌<◌, ℕ, zero, suc, List, take, drop, refl, sym, ap, ◌∙◌, arith}
-use Rattle.fo_image.specs.declared.types.Kind.{Kind}
-use Rattle.fo_image.specs.declared.types.Kind.TheVariants.{Data, Dir, Root}
-use Rattle.fo_image.specs.declared.types.Pointer.{Pointer}
-use Rattle.fo_image.specs.Format.{SpellsPointer}
-use Rattle.fo_crash.specs.declared.slot.Slot.{Slot}
-use Rattle.fo_crash.specs.declared.slot.Slot.TheVariants.{Pointer as To, Entry as Head, Prev}
-use Rattle.fo_crash.specs.declared.place.Place.{Place}
-use Rattle.fo_crash.specs.Images.{Content, target}
-use Rattle.fo_crash.specs.Places.{OnePlace}
-use Rattle.fo_ports.specs.Blocks.{IsInner, IsPointer, SpellsSlot, ReadsSlots, slot_count, slot_size}
-use Rattle.fo_ports.specs.State.{State}
+use Rattle.fo_looks.specs.of_image.declared.types.Kind.{Kind}
+use Rattle.fo_looks.specs.of_image.declared.types.Kind.TheVariants.{Data, Dir, Root}
+use Rattle.fo_looks.specs.of_image.declared.types.Pointer.{Pointer}
+use Rattle.fo_looks.specs.of_image.Format.{SpellsPointer}
+use Rattle.fo_looks.specs.of_crash.declared.slot.Slot.{Slot}
+use Rattle.fo_looks.specs.of_crash.declared.slot.Slot.TheVariants.{Pointer as To, Entry as Head, Prev}
+use Rattle.fo_looks.specs.of_crash.declared.place.Place.{Place}
+use Rattle.fo_looks.specs.of_crash.Images.{Content, target}
+use Rattle.fo_looks.specs.of_crash.Places.{OnePlace}
+use Rattle.fo_looks.specs.of_ports.Blocks.{IsInner, IsPointer, SpellsSlot, ReadsSlots, slot_count, slot_size}
+use Rattle.fo_looks.specs.of_ports.State.{State}
 use Rattle.fo_tree_read.specs.Tree.{StandsAs}
 
 -- a block stands at one place

@@ -1,18 +1,18 @@
 -- The way from the top of a source down to one of its blocks.
 use Rattle.std.proofs.Common.{◌≡◌, ◌⊎◌, ◌+◌, ◌-◌, ◌*◌, ◌/◌, ◌%◌, ◌<◌, ◌≤◌, take, drop, ℕ, zero, suc, Bool, true, false, cond, List, Option, Some, None, inl, inr, ⊎_elim, refl, sym, ap, ◌∙◌, subst, arith}
 use Rattle.std.proofs.lemmas.Bool.{cases_eq}
-use Rattle.fo_image.specs.declared.types.Kind.{Kind}
-use Rattle.fo_image.specs.declared.types.Score.{Score}
-use Rattle.fo_image.specs.declared.types.Label.{Label}
-use Rattle.fo_image.specs.declared.types.Pointer.{Pointer}
-use Rattle.fo_image.specs.declared.types.Pointer.TheVariants.{Nil, Local, Score as Held}
-use Rattle.fo_image.specs.Format.{kind_code}
-use Rattle.fo_crash.specs.declared.slot.Slot.{Slot}
-use Rattle.fo_crash.specs.declared.place.Place.{Place}
-use Rattle.fo_crash.specs.Images.{target}
-use Rattle.fo_crash.specs.Places.{place, place_below, IsPlaced}
-use Rattle.fo_ports.specs.Blocks.{IsInner}
-use Rattle.fo_ports.specs.State.{State, KeepsAll, Looks}
+use Rattle.fo_looks.specs.of_image.declared.types.Kind.{Kind}
+use Rattle.fo_looks.specs.of_image.declared.types.Score.{Score}
+use Rattle.fo_looks.specs.of_image.declared.types.Label.{Label}
+use Rattle.fo_looks.specs.of_image.declared.types.Pointer.{Pointer}
+use Rattle.fo_looks.specs.of_image.declared.types.Pointer.TheVariants.{Nil, Local, Score as Held}
+use Rattle.fo_looks.specs.of_image.Format.{kind_code}
+use Rattle.fo_looks.specs.of_crash.declared.slot.Slot.{Slot}
+use Rattle.fo_looks.specs.of_crash.declared.place.Place.{Place}
+use Rattle.fo_looks.specs.of_crash.Images.{target}
+use Rattle.fo_looks.specs.of_crash.Places.{place, place_below, IsPlaced}
+use Rattle.fo_looks.specs.of_ports.Blocks.{IsInner}
+use Rattle.fo_looks.specs.of_ports.State.{State, KeepsAll, Looks}
 use Rattle.fo_looks.proofs.Looks.{rooted_looks}
 use Rattle.fo_tree_read.specs.declared.tree.Tree.{Tree}
 use Rattle.fo_tree_read.specs.Tree.{kind_at, kind_down, is_none, score_in, below, block_at, StandsAs, Hangs, Got, Way, above, IsNear, HasPins, IsFound, Names}

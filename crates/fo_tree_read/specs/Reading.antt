@@ -1,6 +1,6 @@
 -- Leaves that are read one after another.
 use Rattle.std.specs.Prelude.{◌≡◌, ◌⊎◌, ◌+◌, ◌-◌, ◌*◌, ◌/◌, ◌^◌, ◌<◌, ◌≤◌, ℕ, Some}
-use Rattle.fo_ports.specs.State.{State}
+use Rattle.fo_looks.specs.of_ports.State.{State}
 use Rattle.fo_tree_read.specs.declared.tree.Tree.{Tree}
 use Rattle.fo_tree_read.specs.Tree.{kind_at, block_at, address, Got, Way, above}
 

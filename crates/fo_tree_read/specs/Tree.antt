@@ -2,20 +2,20 @@
 use Rattle.std.specs.Prelude.{◌≡◌, ◌⊎◌, ◌+◌, ◌-◌, ◌*◌, ◌/◌, ◌%◌, ◌^◌, ◌<◌, ◌≤◌, ◌==◌, ◌||◌, ℕ, zero, suc, Bool, cond, nat_lt, List, take, drop, Option, Some, None}
 use Rattle.std.specs.List.{list_all}
 use Rattle.std.specs.Str.{bytes_eq}
-use Rattle.fo_base.specs.Cause.{Rose}
-use Rattle.fo_image.specs.declared.types.Kind.{Kind}
-use Rattle.fo_image.specs.declared.types.Kind.TheVariants.{Data, Dir}
-use Rattle.fo_image.specs.declared.types.Score.{Score}
-use Rattle.fo_image.specs.declared.types.Pointer.{Pointer}
-use Rattle.fo_image.specs.declared.types.Pointer.TheVariants.{Nil, Local, Score as Held}
-use Rattle.fo_image.specs.Format.{kind_code}
-use Rattle.fo_crash.specs.declared.place.Place.{Place}
-use Rattle.fo_crash.specs.Images.{target}
-use Rattle.fo_crash.specs.Places.{place}
-use Rattle.fo_ports.specs.declared.error.BlockError.{BlockError}
-use Rattle.fo_ports.specs.Causes.{Caused}
-use Rattle.fo_ports.specs.State.{State, IsRooted}
-use Rattle.fo_ports.specs.Sources.{Lacks, byte_at, source_bytes}
+use Rattle.fo_looks.specs.of_base.Cause.{Rose}
+use Rattle.fo_looks.specs.of_image.declared.types.Kind.{Kind}
+use Rattle.fo_looks.specs.of_image.declared.types.Kind.TheVariants.{Data, Dir}
+use Rattle.fo_looks.specs.of_image.declared.types.Score.{Score}
+use Rattle.fo_looks.specs.of_image.declared.types.Pointer.{Pointer}
+use Rattle.fo_looks.specs.of_image.declared.types.Pointer.TheVariants.{Nil, Local, Score as Held}
+use Rattle.fo_looks.specs.of_image.Format.{kind_code}
+use Rattle.fo_looks.specs.of_crash.declared.place.Place.{Place}
+use Rattle.fo_looks.specs.of_crash.Images.{target}
+use Rattle.fo_looks.specs.of_crash.Places.{place}
+use Rattle.fo_looks.specs.of_ports.declared.error.BlockError.{BlockError}
+use Rattle.fo_looks.specs.of_ports.Causes.{Caused}
+use Rattle.fo_looks.specs.of_ports.State.{State, IsRooted}
+use Rattle.fo_looks.specs.of_ports.Sources.{Lacks, byte_at, source_bytes}
 use Rattle.fo_tree_read.specs.declared.tree.Tree.{Tree}
 use Rattle.fo_tree_read.specs.declared.empty.TheConstants.{EMPTY}
 

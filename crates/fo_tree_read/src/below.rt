@@ -1,19 +1,17 @@
 //! One step down from a block of pointers.
 ghost use Rattle.std.specs.Prelude.{◌≡◌, ◌⊎◌, ◌+◌, ◌*◌, ◌<◌, ◌≤◌, ℕ, Bool, length, take, drop, Some, None, IfOk, IfSome, OnOk, IfErr};
-ghost use Rattle.fo_base.specs.Cause.{Rose};
-ghost use Rattle.fo_image.specs.declared.types.Pointer.{Pointer};
-ghost use Rattle.fo_image.specs.declared.types.Pointer.TheVariants.{Local};
-ghost use Rattle.fo_image.specs.Format.{SpellsPointer, kind_code};
-ghost use Rattle.fo_crash.specs.Images.{target};
-ghost use Rattle.fo_ports.specs.Blocks.{IsInner};
-ghost use Rattle.fo_ports.specs.Causes.{Caused};
-ghost use Rattle.fo_ports.specs.State.{Looks};
+ghost use Rattle.fo_looks.specs.of_base.Cause.{Rose};
+ghost use Rattle.fo_looks.specs.of_image.declared.types.Pointer.{Pointer};
+ghost use Rattle.fo_looks.specs.of_image.declared.types.Pointer.TheVariants.{Local};
+ghost use Rattle.fo_looks.specs.of_image.Format.{SpellsPointer, kind_code};
+ghost use Rattle.fo_looks.specs.of_crash.Images.{target};
+ghost use Rattle.fo_looks.specs.of_ports.Blocks.{IsInner};
+ghost use Rattle.fo_looks.specs.of_ports.Causes.{Caused};
+ghost use Rattle.fo_looks.specs.of_ports.State.{Looks};
 ghost use Rattle.fo_tree_read.specs.Tree.{kind_at, address_of, is_none, score_of, score_in, StandsAs, IsGot, Failed};
 
 use crate::empty::EMPTY;
-use fo_base::BLOCK;
-use fo_image::{Kind, Pointer, Score, is_zero, read_pointer, score_at};
-use fo_ports::{BlockError, Blocks};
+use fo_looks::{BLOCK, BlockError, Blocks, Kind, Pointer, Score, is_zero, read_pointer, score_at};
 
 /// The kind of a block of a source at this level.
 pub(crate) fn kind_at(dir: bool, level: u8) -> Kind

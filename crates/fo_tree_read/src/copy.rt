@@ -1,19 +1,17 @@
 //! Bytes of one leaf are copied.
 ghost use Rattle.std.specs.Prelude.{◌≡◌, ◌⊎◌, ◌+◌, ◌*◌, ◌/◌, ◌%◌, ◌^◌, ◌<◌, ◌≤◌, ℕ, List, Some, None, length, slice_index, OnOk, IfErr, true, false};
-ghost use Rattle.fo_base.specs.Cause.{Rose};
-ghost use Rattle.fo_image.specs.declared.types.Kind.TheVariants.{Data};
-ghost use Rattle.fo_image.specs.declared.types.Pointer.TheVariants.{Local};
-ghost use Rattle.fo_ports.specs.Causes.{Caused};
-ghost use Rattle.fo_ports.specs.State.{Looks};
-ghost use Rattle.fo_ports.specs.Sources.{byte_at};
+ghost use Rattle.fo_looks.specs.of_base.Cause.{Rose};
+ghost use Rattle.fo_looks.specs.of_image.declared.types.Kind.TheVariants.{Data};
+ghost use Rattle.fo_looks.specs.of_image.declared.types.Pointer.TheVariants.{Local};
+ghost use Rattle.fo_looks.specs.of_ports.Causes.{Caused};
+ghost use Rattle.fo_looks.specs.of_ports.State.{Looks};
+ghost use Rattle.fo_looks.specs.of_ports.Sources.{byte_at};
 ghost use Rattle.fo_tree_read.specs.Tree.{kind_at, address_of, held_of, block_at, byte, Hangs, StandsAs, IsGot, Got, Failed, Refused, Names};
 ghost use Rattle.fo_tree_read.specs.Reading.{LeafWay, passed, IsNext, HasLeafPins, IsLeafFound, IsLocal};
 
 use crate::below::{kind_at, kind_number};
 use crate::tree::Tree;
-use fo_base::BLOCK;
-use fo_image::{Kind, Pointer, Score};
-use fo_ports::{BlockError, Blocks};
+use fo_looks::{BLOCK, BlockError, Blocks, Kind, Pointer, Score};
 
 /// How many bytes a leaf has.
 pub(crate) const LEAF: u64 = BLOCK as u64;

@@ -1,6 +1,6 @@
 //! The score of no bytes.
 
-use fo_image::Score;
+use fo_looks::Score;
 
 /// The score of the empty block, the SHA-1 of no bytes (FIPS 180-4): in a block of pointers that is held it stands for none.
 pub const EMPTY: Score = Score([

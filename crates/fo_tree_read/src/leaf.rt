@@ -1,10 +1,10 @@
 //! Leaves by their numbers.
 ghost use Rattle.std.specs.Prelude.{◌≡◌, ◌+◌, ◌^◌, ◌≤◌, IfOk, OnOk, IfErr, IfSome};
-ghost use Rattle.fo_ports.specs.State.{Looks};
+ghost use Rattle.fo_looks.specs.of_ports.State.{Looks};
 ghost use Rattle.fo_tree_read.specs.Tree.{Hangs, address, IsFound, Failed};
 
 use crate::tree::Tree;
-use fo_ports::{BlockError, Blocks};
+use fo_looks::{BlockError, Blocks};
 
 impl Tree {
     /// The address of leaf `i`; None exactly where no leaf stands on the device.

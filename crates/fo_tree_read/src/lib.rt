@@ -19,3 +19,6 @@ mod tree;
 pub use below::score_in;
 pub use empty::EMPTY;
 pub use tree::Tree;
+
+// Passed on, so that a crate above names this one alone.
+pub use fo_looks::{BlockError, Blocks};

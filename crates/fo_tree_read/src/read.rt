@@ -1,13 +1,13 @@
 //! Bytes are read, leaf by leaf.
 ghost use Rattle.std.specs.Prelude.{◌≡◌, ◌⊎◌, ◌+◌, ◌-◌, ◌*◌, ◌/◌, ◌<◌, ◌≤◌, ℕ, length, min, take, drop, slice_index, IfOk, OnOk, IfErr, false};
-ghost use Rattle.fo_ports.specs.State.{Looks};
-ghost use Rattle.fo_ports.specs.Sources.{Finds, AreLocal};
+ghost use Rattle.fo_looks.specs.of_ports.State.{Looks};
+ghost use Rattle.fo_looks.specs.of_ports.Sources.{Finds, AreLocal};
 ghost use Rattle.fo_tree_read.specs.Tree.{Hangs, address, byte, bytes, Refused, Names};
 ghost use Rattle.fo_tree_read.specs.Reading.{most, Prepared, IsLocal};
 
 use crate::copy::LEAF;
 use crate::tree::Tree;
-use fo_ports::{BlockError, Blocks};
+use fo_looks::{BlockError, Blocks};
 
 impl Tree {
     /// Copies the bytes from the offset on to the front of the slice, as many as there are and fit, and says how many. Where it is

@@ -1,12 +1,11 @@
 //! The way to a leaf.
 ghost use Rattle.std.specs.Prelude.{◌≡◌, ◌⊎◌, ◌+◌, ◌-◌, ◌*◌, ◌<◌, ◌≤◌, ℕ, Some, IfOk, OnOk, IfErr, IfSome};
-ghost use Rattle.fo_image.specs.declared.types.Pointer.TheVariants.{Local};
-ghost use Rattle.fo_ports.specs.State.{Looks};
+ghost use Rattle.fo_looks.specs.of_image.declared.types.Pointer.TheVariants.{Local};
+ghost use Rattle.fo_looks.specs.of_ports.State.{Looks};
 ghost use Rattle.fo_tree_read.specs.Tree.{Hangs, block_at, address_of, Agrees, Way, HasPins, IsFound, IsNear, above, kind_down, below, Got, Names, Refused, Failed};
 
 use crate::below::{held_below, kind_at, kind_number, pointer_below};
-use fo_image::{Kind, Pointer};
-use fo_ports::{BlockError, Blocks};
+use fo_looks::{BlockError, Blocks, Kind, Pointer};
 
 /// How many pointers a block has.
 const SLOTS: u64 = 409;

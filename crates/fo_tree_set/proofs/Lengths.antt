@@ -13,7 +13,7 @@ use Rattle.fo_image.specs.declared.types.Pointer.TheVariants.{Nil, Local, Score 
 use Rattle.fo_crash.specs.declared.slot.Slot.{Slot}
 use Rattle.fo_crash.specs.declared.slot.Slot.TheVariants.{Entry as Head}
 use Rattle.fo_crash.specs.Images.{target}
-use Rattle.fo_looks.proofs.Looks.{rose_later}
+use Rattle.fo_tree_read.proofs.of_looks.Looks.{rose_later}
 use Rattle.fo_ports.specs.Blocks.{ends, dropped, cost}
 use Rattle.fo_ports.specs.Causes.{Caused}
 use Rattle.fo_ports.specs.State.{State, KeepsAll}

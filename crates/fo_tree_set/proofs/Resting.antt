@@ -13,7 +13,7 @@ use Rattle.fo_tree_read.specs.Tree.{kind_down, score_in, below, block_at}
 use Rattle.fo_tree_look.specs.declared.ways.Kept.{Kept}
 use Rattle.fo_tree_look.specs.Source.{HasBlock, Over, WayReady, address_here, held_here}
 use Rattle.fo_tree_look.proofs.Shown.{held_on}
-use Rattle.fo_tree_own.proofs.Link.{Laws}
+use Rattle.fo_tree_down.proofs.of_tree_own.Link.{Laws}
 use Rattle.fo_tree_down.specs.Clear.{last_leaf}
 use Rattle.fo_tree_down.specs.Way.{WayCurrent}
 use Rattle.fo_tree_link.specs.Change.{HangsInTree}

@@ -13,9 +13,9 @@ use Rattle.fo_tree_read.specs.Tree.{kind_down, below, score_in, block_at}
 use Rattle.fo_tree_look.specs.declared.ways.Kept.{Kept}
 use Rattle.fo_tree_look.specs.Source.{HasBlock, Over, WayReady, address_here, held_here}
 use Rattle.fo_tree_look.proofs.Shown.{held_on}
-use Rattle.fo_tree_down.specs.Clear.{last_leaf}
-use Rattle.fo_tree_down.specs.Way.{IsCurrentAt, WayCurrent}
-use Rattle.fo_tree_down.proofs.Next.{local_seen, seen_local}
+use Rattle.fo_tree_link.specs.of_tree_down.Clear.{last_leaf}
+use Rattle.fo_tree_link.specs.of_tree_down.Way.{IsCurrentAt, WayCurrent}
+use Rattle.fo_tree_link.proofs.of_tree_down.Next.{local_seen, seen_local}
 use Rattle.fo_tree_trim.specs.Trim.{OnEnd}
 use Rattle.fo_tree_trim.proofs.Fronts.{bytes_same}
 use Rattle.fo_tree_trim.proofs.Holding.{Holds, holds_stays}

@@ -6,7 +6,7 @@ use Rattle.fo_crash.specs.Steps.{PutsSlot}
 use Rattle.fo_ports.specs.State.{State, KeepsAll, KeepsOrder, Frame, none}
 use Rattle.fo_ports.specs.Sources.{Changes, Made, Touched}
 use Rattle.fo_tree_read.specs.declared.tree.Tree.{Tree}
-use Rattle.fo_tree_open.specs.Open.{HasEntry}
+use Rattle.fo_tree_link.specs.of_tree_open.Open.{HasEntry}
 use Rattle.fo_tree_link.specs.Link.{entry_of}
 use Rattle.fo_tree_shorten.specs.Shorten.{EntryAt}
 use Rattle.fo_tree_shorten.proofs.Beside.{Beside}

@@ -7,7 +7,7 @@ use Rattle.fo_ports.specs.State.{State}
 use Rattle.fo_tree_read.specs.declared.tree.Tree.{Tree}
 use Rattle.fo_tree_read.specs.Tree.{kind_down}
 use Rattle.fo_tree_look.specs.declared.ways.Kept.{Kept}
-use Rattle.fo_tree_open.specs.Open.{NamesRank}
+use Rattle.fo_tree_link.specs.of_tree_open.Open.{NamesRank}
 use Rattle.fo_tree_link.specs.Change.{HangsInTree}
 use Rattle.fo_tree_link.proofs.Walks.{rank_lower}
 use Rattle.fo_tree_trim.specs.Cut.{CutSlot, HangsFrom, Cuts}

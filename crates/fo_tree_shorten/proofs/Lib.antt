@@ -4,3 +4,6 @@ pub mod Hanging
 pub mod Through
 pub mod Standing
 pub mod Settling
+pub mod of_tree_down
+pub mod of_tree_own
+pub mod of_tree_trim

@@ -21,10 +21,10 @@ use Rattle.fo_tree_read.proofs.Walk.{is_down}
 use Rattle.fo_tree_look.specs.declared.ways.Kept.{Kept}
 use Rattle.fo_tree_look.specs.Source.{HasBlock, Over, WayReady, leaves_of}
 use Rattle.fo_tree_look.proofs.Still.{Says, over_stays}
-use Rattle.fo_tree_down.specs.Way.{WayCurrent}
-use Rattle.fo_tree_down.proofs.Next.{local_seen, seen_local}
-use Rattle.fo_tree_own.proofs.Link.{Laws}
-use Rattle.fo_tree_open.specs.Open.{HasEntry, NamesRank}
+use Rattle.fo_tree_link.specs.of_tree_down.Way.{WayCurrent}
+use Rattle.fo_tree_link.proofs.of_tree_down.Next.{local_seen, seen_local}
+use Rattle.fo_tree_link.proofs.of_tree_own.Link.{Laws}
+use Rattle.fo_tree_link.specs.of_tree_open.Open.{HasEntry, NamesRank}
 use Rattle.fo_tree_link.specs.Change.{HangsInTree}
 use Rattle.fo_tree_link.proofs.Named.{leaf_not_root}
 use Rattle.fo_tree_trim.proofs.Holding.{Holds, holds_stays}

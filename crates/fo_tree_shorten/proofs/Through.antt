@@ -17,7 +17,7 @@ use Rattle.fo_tree_read.specs.Tree.{kind_at, kind_down}
 use Rattle.fo_tree_read.proofs.Walk.{is_down}
 use Rattle.fo_tree_look.specs.declared.ways.Kept.{Kept}
 use Rattle.fo_tree_look.specs.Source.{HasBlock}
-use Rattle.fo_tree_open.proofs.Opened.{hangs_below}
+use Rattle.fo_tree_link.proofs.of_tree_open.Opened.{hangs_below}
 use Rattle.fo_tree_link.proofs.Linked.{Linked, from_entry}
 use Rattle.fo_tree_link.proofs.Named.{leaf_not_root}
 use Rattle.fo_tree_link.proofs.May.{all_own}

@@ -13,9 +13,9 @@ use Rattle.fo_tree_read.specs.declared.tree.Tree.{Tree}
 use Rattle.fo_tree_read.specs.Tree.{kind_at, block_at}
 use Rattle.fo_tree_look.specs.declared.ways.Kept.{Kept}
 use Rattle.fo_tree_look.specs.Source.{HasBlock, seen}
-use Rattle.fo_tree_down.specs.Clear.{last_leaf}
-use Rattle.fo_tree_down.specs.Way.{IsTopOf, with_top}
-use Rattle.fo_tree_open.specs.Open.{HasEntry}
+use Rattle.fo_tree_link.specs.of_tree_down.Clear.{last_leaf}
+use Rattle.fo_tree_link.specs.of_tree_down.Way.{IsTopOf, with_top}
+use Rattle.fo_tree_link.specs.of_tree_open.Open.{HasEntry}
 use Rattle.fo_tree_link.specs.Link.{entry_of}
 use Rattle.fo_tree_trim.specs.Cut.{CutSlot, Cuts}
 

@@ -2,7 +2,7 @@
 ghost use Rattle.std.specs.Prelude.{◌≡◌, ◌⊎◌, ◌<◌, ℕ, false};
 ghost use Rattle.fo_ports.specs.State.{Rests, StaysKnown, IsDoomed};
 ghost use Rattle.fo_tree_look.specs.Source.{Over, HasBlock, WayReady};
-ghost use Rattle.fo_tree_down.specs.Clear.{last_leaf};
+ghost use Rattle.fo_tree_link.specs.of_tree_down.Clear.{last_leaf};
 ghost use Rattle.fo_tree_link.specs.Change.{HangsInTree};
 ghost use Rattle.fo_tree_trim.specs.Trim.{IsEndCurrent, OnEnd};
 ghost use Rattle.fo_tree_shorten.specs.Shorten.{EntryAt};

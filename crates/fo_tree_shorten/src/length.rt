@@ -7,7 +7,7 @@ ghost use Rattle.fo_crash.specs.Images.{Reaches, to_block};
 ghost use Rattle.fo_ports.specs.Sources.{DirtiesIn, depth_for};
 ghost use Rattle.fo_tree_read.specs.Tree.{block_at};
 ghost use Rattle.fo_tree_look.specs.Source.{Over, HasBlock, WayReady, leaves_of};
-ghost use Rattle.fo_tree_down.specs.Clear.{last_leaf};
+ghost use Rattle.fo_tree_link.specs.of_tree_down.Clear.{last_leaf};
 ghost use Rattle.fo_tree_link.specs.Link.{CanLink};
 ghost use Rattle.fo_tree_link.specs.Change.{HangsInTree};
 ghost use Rattle.fo_tree_shorten.specs.Shorten.{EntryAt, Links, shorter};

@@ -7,7 +7,7 @@ use Rattle.fo_image.specs.declared.types.Label.{Label}
 use Rattle.fo_image.specs.declared.types.Pointer.TheVariants.{Local}
 use Rattle.fo_ports.specs.State.{State, KeepsAll}
 use Rattle.fo_ports.specs.Sources.{AddsDirty, Dirties, DirtiesIn, IsRested}
-use Rattle.fo_looks.proofs.Dirtied.{dirties_joins}
+use Rattle.fo_tree_read.proofs.of_looks.Dirtied.{dirties_joins}
 use Rattle.fo_tree_read.specs.declared.tree.Tree.{Tree}
 use Rattle.fo_tree_read.specs.Tree.{block_at}
 use Rattle.fo_tree_down.specs.Clear.{last_leaf}

@@ -14,7 +14,7 @@ use Rattle.fo_crash.specs.Places.{place}
 use Rattle.fo_crash.proofs.Reach.{reaches_joins}
 use Rattle.fo_ports.specs.State.{State, IsRooted}
 use Rattle.fo_ports.specs.Sources.{IsHung, ComesFor}
-use Rattle.fo_looks.proofs.Looks.{rooted_of_apart}
+use Rattle.fo_tree_read.proofs.of_looks.Looks.{rooted_of_apart}
 use Rattle.fo_tree_read.specs.declared.tree.Tree.{Tree}
 use Rattle.fo_tree_read.specs.Tree.{kind_at, kind_down, score_in, below, block_at}
 use Rattle.fo_tree_look.specs.declared.ways.Kept.{Kept}

@@ -18,3 +18,5 @@ pub mod Fronts
 pub mod Holding
 pub mod Counting
 pub mod Knowing
+pub mod of_tree_down
+pub mod of_tree_own

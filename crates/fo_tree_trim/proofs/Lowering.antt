@@ -21,8 +21,8 @@ use Rattle.fo_tree_look.specs.Source.{HasBlock, IsPrepared, IsKept, Over, Ready,
 use Rattle.fo_tree_look.proofs.Held.{seen_block}
 use Rattle.fo_tree_look.proofs.Places.{block_place}
 use Rattle.fo_tree_look.proofs.Shown.{top_ready}
-use Rattle.fo_tree_own.proofs.Filling.{score_holds}
-use Rattle.fo_tree_own.proofs.Link.{inner_slots, is_pointer}
+use Rattle.fo_tree_down.proofs.of_tree_own.Filling.{score_holds}
+use Rattle.fo_tree_down.proofs.of_tree_own.Link.{inner_slots, is_pointer}
 use Rattle.fo_tree_down.specs.Way.{IsWayIndex}
 use Rattle.fo_tree_down.specs.Clear.{last_leaf}
 use Rattle.fo_tree_down.proofs.Beside.{index_within}

@@ -1,3 +1,4 @@
 pub mod Behind
 pub mod Cut
 pub mod Trim
+pub mod of_tree_down

@@ -4,12 +4,12 @@ use Rattle.std.proofs.lemmas.List.Elements.{Contains-append_left}
 use Rattle.fo_image.specs.declared.types.Pointer.{Pointer}
 use Rattle.fo_ports.specs.State.{State, none}
 use Rattle.fo_ports.specs.Sources.{Dirties, DirtiesIn}
-use Rattle.fo_looks.proofs.Dirtied.{dirties_joins}
+use Rattle.fo_tree_read.proofs.of_looks.Dirtied.{dirties_joins}
 use Rattle.fo_tree_read.specs.declared.tree.Tree.{Tree}
 use Rattle.fo_tree_read.specs.Tree.{above}
 use Rattle.fo_tree_read.specs.Reading.{passed, most}
-use Rattle.fo_tree_down.specs.Way.{OnWay, HasWay, AddsWay, WayCurrent, with_top}
-use Rattle.fo_tree_down.proofs.Dirtying.{dirties_none, dirties_on}
+use Rattle.fo_tree_clear.specs.of_tree_down.Way.{OnWay, HasWay, AddsWay, WayCurrent, with_top}
+use Rattle.fo_tree_clear.proofs.of_tree_down.Dirtying.{dirties_none, dirties_on}
 use Rattle.fo_tree_write.specs.Write.{at_top, Counted}
 use Rattle.fo_tree_write.proofs.Writing.{last_of, most_passed}
 

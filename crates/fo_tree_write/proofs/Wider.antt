@@ -3,8 +3,8 @@ use Rattle.std.proofs.Common.{ℕ, inl, inr, ⊎_elim, arith}
 use Rattle.fo_ports.specs.State.{State}
 use Rattle.fo_ports.specs.Sources.{Touched, Changes}
 use Rattle.fo_tree_read.specs.declared.tree.Tree.{Tree}
-use Rattle.fo_tree_look.specs.Source.{HasBlock}
-use Rattle.fo_tree_down.proofs.Beside.{on_way_block}
+use Rattle.fo_tree_clear.specs.of_tree_look.Source.{HasBlock}
+use Rattle.fo_tree_clear.proofs.of_tree_down.Beside.{on_way_block}
 use Rattle.fo_tree_write.specs.Write.{OnWays}
 
 touched_wider : (tag : ℕ) (inner outer : ℕ → Type 0) (old new : State) → ((b : ℕ) → inner b → outer b) → (b : ℕ) → Touched old new tag inner b → Touched old new tag outer b

@@ -6,25 +6,25 @@ use Rattle.std.proofs.lemmas.List.{ext_get_or, length-take-le, length-drop, get_
 use Rattle.std.proofs.lemmas.List.FromFn.{length-map-range_with_len, get_or-map-range_with_len}
 use Rattle.fo_image.specs.declared.types.Pointer.{Pointer}
 use Rattle.fo_image.specs.declared.types.Pointer.TheVariants.{Local}
-use Rattle.fo_crash.specs.declared.place.Place.{Place}
-use Rattle.fo_crash.specs.Images.{Image}
-use Rattle.fo_crash.specs.Places.{IsPlaced, RanksFall}
+use Rattle.fo_ports.specs.of_crash.declared.place.Place.{Place}
+use Rattle.fo_ports.specs.of_crash.Images.{Image}
+use Rattle.fo_ports.specs.of_crash.Places.{IsPlaced, RanksFall}
 use Rattle.fo_sparse.specs.Written.{written}
 use Rattle.fo_sparse.proofs.Lists.{is_written}
 use Rattle.fo_ports.specs.State.{State, KeepsAll}
 use Rattle.fo_ports.specs.Sources.{Made, depth_for, most_for, source_bytes}
-use Rattle.fo_looks.proofs.Free.{Standing}
+use Rattle.fo_tree_read.proofs.of_looks.Free.{Standing}
 use Rattle.fo_tree_read.specs.declared.tree.Tree.{Tree}
 use Rattle.fo_tree_read.specs.Tree.{block_at, above}
 use Rattle.fo_tree_read.specs.Reading.{passed, most}
-use Rattle.fo_tree_look.specs.declared.ways.Kept.{Kept}
-use Rattle.fo_tree_look.specs.Source.{HasBlock, IsTold, Over, Prepared, WayReady, address_here, held_here}
-use Rattle.fo_tree_down.specs.Way.{OnWay, IsTopOf, WayCurrent, CurrentBut, with_top}
-use Rattle.fo_tree_down.specs.Clear.{EndsClear, last_leaf}
-use Rattle.fo_tree_down.proofs.Beside.{on_way_block}
-use Rattle.fo_tree_down.proofs.Join.{local_cases}
-use Rattle.fo_tree_down.proofs.Leading.{way_top}
-use Rattle.fo_tree_down.proofs.Sparing.{but_whole, but_more}
+use Rattle.fo_tree_clear.specs.of_tree_look.declared.ways.Kept.{Kept}
+use Rattle.fo_tree_clear.specs.of_tree_look.Source.{HasBlock, IsTold, Over, Prepared, WayReady, address_here, held_here}
+use Rattle.fo_tree_clear.specs.of_tree_down.Way.{OnWay, IsTopOf, WayCurrent, CurrentBut, with_top}
+use Rattle.fo_tree_clear.specs.of_tree_down.Clear.{EndsClear, last_leaf}
+use Rattle.fo_tree_clear.proofs.of_tree_down.Beside.{on_way_block}
+use Rattle.fo_tree_clear.proofs.of_tree_down.Join.{local_cases}
+use Rattle.fo_tree_clear.proofs.of_tree_down.Leading.{way_top}
+use Rattle.fo_tree_clear.proofs.of_tree_down.Sparing.{but_whole, but_more}
 use Rattle.fo_tree_clear.specs.Put.{byte_here, Puts}
 use Rattle.fo_tree_clear.specs.Steps.{Steps}
 use Rattle.fo_tree_clear.proofs.Stepping.{Follows, steps_join, steps_none, made_first, made_second, made_either}

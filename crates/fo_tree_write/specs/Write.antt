@@ -6,10 +6,10 @@ use Rattle.fo_ports.specs.State.{State}
 use Rattle.fo_ports.specs.Sources.{DirtiesIn, Made, ComesFor}
 use Rattle.fo_tree_read.specs.declared.tree.Tree.{Tree}
 use Rattle.fo_tree_read.specs.Reading.{passed}
-use Rattle.fo_tree_look.specs.declared.ways.Kept.{Kept}
-use Rattle.fo_tree_look.specs.Source.{HasBlock, Over, Prepared, WayReady}
-use Rattle.fo_tree_down.specs.Way.{OnWay, HasWay, WayCurrent}
-use Rattle.fo_tree_down.specs.Clear.{EndsClear}
+use Rattle.fo_tree_clear.specs.of_tree_look.declared.ways.Kept.{Kept}
+use Rattle.fo_tree_clear.specs.of_tree_look.Source.{HasBlock, Over, Prepared, WayReady}
+use Rattle.fo_tree_clear.specs.of_tree_down.Way.{OnWay, HasWay, WayCurrent}
+use Rattle.fo_tree_clear.specs.of_tree_down.Clear.{EndsClear}
 use Rattle.fo_tree_clear.specs.Put.{byte_here, Puts}
 use Rattle.fo_tree_clear.specs.Steps.{Steps}
 

@@ -5,15 +5,14 @@ ghost use Rattle.fo_ports.specs.State.{none};
 ghost use Rattle.fo_ports.specs.Sources.{Changes, Dirties, Grows, most_for, ComesFor};
 ghost use Rattle.fo_image.specs.declared.types.Pointer.{Pointer};
 ghost use Rattle.fo_image.specs.declared.types.Pointer.TheVariants.{Local};
-ghost use Rattle.fo_tree_down.specs.Clear.{EndsClear};
-ghost use Rattle.fo_tree_look.specs.Source.{Over, HasBlock, IsPlainTree, Prepared, leaves_of};
+ghost use Rattle.fo_tree_clear.specs.of_tree_down.Clear.{EndsClear};
+ghost use Rattle.fo_tree_clear.specs.of_tree_look.Source.{Over, HasBlock, IsPlainTree, Prepared, leaves_of};
 ghost use Rattle.fo_tree_write.specs.Write.{at_top, OnWays};
 
 use fo_base::BLOCK;
 use fo_image::Pointer;
 use fo_ports::Blocks;
-use fo_tree_clear::put_leaf;
-use fo_tree_look::Kept;
+use fo_tree_clear::{Kept, put_leaf};
 use fo_tree_read::Tree;
 
 /// How many bytes a leaf has.

@@ -11,7 +11,7 @@ use Rattle.fo_image.specs.declared.types.Kind.{Kind}
 use Rattle.fo_image.specs.declared.types.Label.{Label}
 use Rattle.fo_image.specs.declared.types.State.TheVariants.{Closed as Shut, Live}
 use Rattle.fo_image.specs.Place.{label_block}
-use Rattle.fo_bring.proofs.Buffering.{cut_other, cut_same}
+use Rattle.fo_mind.proofs.of_bring.Buffering.{cut_other, cut_same}
 use Rattle.fo_buffers.specs.declared.block.Buffer.{Buffer}
 use Rattle.fo_buffers.specs.Held.{Held, held_at, is_dirty, is_pinned, unlisted}
 use Rattle.fo_labels.specs.Region.{IsDataBlock, Region, closed_label, usable_count}

@@ -6,7 +6,7 @@ use Rattle.std.specs.Map.{lookup, remove_entry}
 use Rattle.std.proofs.lemmas.Bool.{cases_eq}
 use Rattle.lru.proofs.CallerLemmas.{Contains-remove_entry}
 use Rattle.lru.proofs.Splits.{Contains-cons, Contains-nil}
-use Rattle.fo_bring.proofs.Buffering.{cut_other, cut_same}
+use Rattle.fo_mind.proofs.of_bring.Buffering.{cut_other, cut_same}
 use Rattle.fo_buffers.specs.Held.{Held, cut, held_at, unlisted}
 
 never : {A : Type 0} → true ≡ false → A

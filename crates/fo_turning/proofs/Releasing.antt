@@ -18,7 +18,7 @@ use Rattle.fo_order.specs.Turns.{IsDue, flag_at}
 use Rattle.fo_facts.specs.Known.{fact_at}
 use Rattle.fo_waits.specs.declared.listed.Clearing.{Clearing}
 use Rattle.fo_waits.specs.declared.listed.Wait.{Wait}
-use Rattle.fo_bring.specs.Blocks.{IsData}
+use Rattle.fo_mind.specs.of_bring.Blocks.{IsData}
 use Rattle.fo_mind.specs.Laws.{pinned_held}
 use Rattle.fo_mind.specs.Parts.{IsBlock, IsPinned, Parts, bytes_at, label_at}
 use Rattle.fo_mind.specs.Sound.{Holding, Placed, Standing}

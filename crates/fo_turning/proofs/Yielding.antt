@@ -11,7 +11,7 @@ use Rattle.fo_buffers.specs.Held.{held_at, is_dirty}
 use Rattle.fo_crash.specs.Images.{Content}
 use Rattle.fo_labels.specs.Region.{Region}
 use Rattle.fo_ports.specs.State.{IsChanging, StaysKnown}
-use Rattle.fo_slots.specs.Read.{read}
+use Rattle.fo_buffers.specs.of_slots.Read.{read}
 use Rattle.fo_facts.specs.Known.{fact_at}
 use Rattle.fo_unlink.specs.declared.removal.Removal.{Removal}
 use Rattle.fo_waits.specs.declared.listed.Clearing.{Clearing}

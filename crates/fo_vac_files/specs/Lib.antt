@@ -3,3 +3,4 @@ pub mod Causes
 pub mod Vac
 pub mod Stands
 pub mod Told
+pub mod of_vac_dir

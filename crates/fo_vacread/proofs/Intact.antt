@@ -9,7 +9,7 @@ use Rattle.fo_meta.specs.Leaf.{IsLeaf}
 use Rattle.fo_vacput.specs.declared.types.VacTop.{VacTop}
 use Rattle.fo_vac_open.specs.Tree.{link_to}
 use Rattle.fo_vac_walk.specs.Walk.{Holding, next, leaf_of, Breaks, lost, bad, below, IsBad}
-use Rattle.fo_vac_dir.specs.Dir.{BadLeaf}
+use Rattle.fo_vac_files.specs.of_vac_dir.Dir.{BadLeaf}
 use Rattle.fo_vac_files.specs.declared.opened.Opened.{Opened}
 use Rattle.fo_vac_files.specs.Broken.{IsFolder, IsBroken, in_entries, in_meta, in_leaf}
 use Rattle.fo_vacread.specs.Honest.{IsBlock, IsIntact, IsSound}

@@ -3,7 +3,7 @@ ghost use Rattle.std.specs.Prelude.{◌≡◌, ◌↔◌, ◌+◌, ◌*◌, ◌<
 ghost use Rattle.std.specs.List.{filter};
 ghost use Rattle.std.specs.Vec.{vec_len, vec_capacity};
 ghost use Rattle.fo_image.specs.declared.types.Kind.TheVariants.{Dir};
-ghost use Rattle.fo_ports.specs.Blocks.{ReadsSlots};
+ghost use Rattle.fo_slots.specs.of_ports.Blocks.{ReadsSlots};
 ghost use Rattle.fo_slots.specs.Read.{read};
 ghost use Rattle.fo_waits.specs.declared.listed.Wait.{Wait as Awaited};
 ghost use Rattle.fo_waits.specs.Ended.{EndsFirst, is_other};

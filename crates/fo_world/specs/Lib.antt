@@ -14,3 +14,4 @@ pub mod Fits
 pub mod Answers
 pub mod Pairs
 pub mod Laws
+pub mod of_base

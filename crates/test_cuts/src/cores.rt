@@ -2,9 +2,8 @@
 ghost use Rattle.nine_wire.specs.Message.{RequestFits};
 
 use crate::table::{ATTACH, STEPS, VERSION};
-use fo_core::State;
+use fo_core::{Event, Outcome, State};
 use fo_disk::MemDisk;
-use fo_events::{Event, Outcome};
 use nine_wire::{Reply, Request, Step, read_msg};
 use std::alloc::Global;
 use test_requests::disks::Disks;

@@ -3,11 +3,11 @@ ghost use Rattle.std.specs.Prelude.{◌≡◌, None, IfOk};
 ghost use Rattle.fo_world.specs.Limits.{IsUser};
 
 use fo_base::{Bytes, is_text};
-use fo_files::Files;
 use fo_ports::Blocks;
 use fo_world::{Change, FileError, FileOps, Place, Trail, View};
 use std::alloc::Global;
 use std::process::Abort;
+use test_requests::Files;
 use test_requests::disks::{On, closed, formatted, opened};
 use test_requests::requests::{
     DIR, FILE, begins_with, found, has_bytes, info, is, is_refused, make, parent, remove, rename,

@@ -7,3 +7,6 @@
 
 pub mod disks;
 pub mod requests;
+
+// Passed on, so that a crate above names this one alone.
+pub use fo_files::Files;

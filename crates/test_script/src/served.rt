@@ -1,10 +1,8 @@
 //! What the scripts drive.
-use fo_events::Turner;
 use fo_links::{MemSink, MemSource};
 use fo_plain::PlainFiles;
-use fo_script::{ScriptEnd, run_script};
+use fo_script::{Flushed, ScriptEnd, Turner, Unlinked, run_script};
 use fo_sessions::Sessions;
-use fo_turning::{Flushed, Unlinked};
 use fo_world::FileError;
 use nine_wire::{Reply, Request};
 use std::alloc::Global;

@@ -3,10 +3,8 @@ ghost use Rattle.std.specs.Prelude.{◌<◌};
 
 use crate::disks::{Disks, quiet};
 use fo_base::Memory;
-use fo_core::{Finished, State};
+use fo_core::{Event, Finished, Flushed, Outcome, State, Unlinked};
 use fo_disk::MemDisk;
-use fo_events::{Event, Outcome};
-use fo_turning::{Flushed, Unlinked};
 use nine_wire::{Reply, Request};
 use std::alloc::Global;
 use test_conversations::{Part, Settling, converse};

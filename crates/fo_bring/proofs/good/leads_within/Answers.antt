@@ -1,7 +1,7 @@
 use Rattle.std.proofs.Common.{⊎_elim, refl, sym, ap, ◌∙◌, arith}
 use Rattle.std.proofs.lemmas.Bool.{cases_lt}
-use Rattle.fo_crash.specs.Images.{target}
-use Rattle.fo_ports.specs.Blocks.{slot_count}
+use Rattle.fo_buffers.specs.of_crash.Images.{target}
+use Rattle.fo_buffers.specs.of_ports.Blocks.{slot_count}
 use Rattle.fo_bring.proofs.Copying.{past_slots, never}
 use Rattle.fo_bring.proofs.good.leads_within.Goals as goal
 

@@ -1,7 +1,7 @@
 use Rattle.std.proofs.Common.{◌≡◌, ◌<◌, ℕ}
-use Rattle.fo_crash.specs.Images.{target}
+use Rattle.fo_buffers.specs.of_crash.Images.{target}
 use Rattle.fo_image.specs.declared.types.Pointer.TheVariants.{Local}
-use Rattle.fo_slots.specs.Read.{read}
+use Rattle.fo_buffers.specs.of_slots.Read.{read}
 use Rattle.fo_bring.specs.Blocks.{IsData}
 use Rattle.fo_bring.proofs.good.leads_within.Given as goal
 

@@ -1,6 +1,6 @@
 use Rattle.fo_cells_out.proofs.Steps.{puts_moves}
 use Rattle.fo_cells_epochs.proofs.TreeSteps.{put_trees}
-use Rattle.fo_cells_queue.proofs.Queue.{moves_view}
+use Rattle.fo_cells_steps.proofs.of_cells_queue.Queue.{moves_view}
 use Rattle.fo_cells_steps.proofs.Facts.{held_stands}
 use Rattle.fo_cells_puts.proofs.Puts.{same_made}
 use Rattle.fo_cells_puts.proofs.Linking.{filled_made}

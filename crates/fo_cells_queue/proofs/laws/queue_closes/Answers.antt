@@ -1,4 +1,4 @@
-use Rattle.fo_cells.proofs.SafeSteps.{close_safe}
+use Rattle.fo_cells_epochs.proofs.of_cells.SafeSteps.{close_safe}
 use Rattle.fo_cells_epochs.proofs.TreeSteps.{close_trees}
 use Rattle.fo_cells_epochs.proofs.Epochs.{by_trees, outside_memory}
 use Rattle.fo_cells_queue.proofs.Closing.{past_closed, now_closed, past_done, now_done, closed_relabels, closed_active, closed_held}

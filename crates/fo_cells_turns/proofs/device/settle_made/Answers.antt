@@ -1,6 +1,6 @@
 use Rattle.std.proofs.Common.{List, Bool, sym, subst}
 use Rattle.fo_crash.specs.Steps.{AddsNothing}
-use Rattle.fo_cells_all.specs.All.{kept_sync}
+use Rattle.fo_cells_steps.specs.of_cells_all.All.{kept_sync}
 use Rattle.fo_cells_steps.specs.Calls.{images}
 use Rattle.fo_cells_steps.specs.Division.{HoldsMade}
 use Rattle.fo_cells_turns.proofs.Turns.{sync_turn}

@@ -1,7 +1,7 @@
 use Rattle.std.proofs.Common.{List, Bool, true, sym, subst}
 use Rattle.std.specs.Prelude.{not, is_err}
 use Rattle.fo_crash.specs.Steps.{AddsNothing}
-use Rattle.fo_cells_all.specs.All.{kept_write}
+use Rattle.fo_cells_steps.specs.of_cells_all.All.{kept_write}
 use Rattle.fo_cells_steps.specs.Calls.{images}
 use Rattle.fo_cells_steps.specs.Division.{HoldsMade}
 use Rattle.fo_cells_turns.proofs.Turns.{write_turn, labels_turn}

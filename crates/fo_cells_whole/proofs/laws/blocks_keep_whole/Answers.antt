@@ -1,6 +1,6 @@
-use Rattle.fo_cells_blocks.proofs.Giving.{empty_made, copied_made}
-use Rattle.fo_cells_blocks.proofs.Indexing.{indexed_made}
-use Rattle.fo_cells_blocks.proofs.Aside.{aside_made}
+use Rattle.fo_cells_gaps.proofs.of_cells_blocks.Giving.{empty_made, copied_made}
+use Rattle.fo_cells_gaps.proofs.of_cells_blocks.Indexing.{indexed_made}
+use Rattle.fo_cells_gaps.proofs.of_cells_blocks.Aside.{aside_made}
 use Rattle.fo_cells_whole.proofs.Rest.{slots_rest, whole_by}
 use Rattle.fo_cells_whole.proofs.Blocks.{given_rest, given_more, index_slots, index_more, aside_slots, aside_more}
 use Rattle.fo_cells_whole.proofs.laws.blocks_keep_whole.Goals as goal

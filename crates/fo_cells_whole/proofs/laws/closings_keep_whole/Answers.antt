@@ -4,7 +4,7 @@ use Rattle.fo_cells.proofs.Standing.{first_among, next_among}
 use Rattle.fo_cells_out.specs.Removals.{Pending, IsCovered}
 use Rattle.fo_cells_queue.specs.Queue.{Queued, first_past}
 use Rattle.fo_cells_lost.specs.Lost.{HangsIn}
-use Rattle.fo_cells_blocks.proofs.Closing.{earlier_made, now_made, past_done_made, done_made}
+use Rattle.fo_cells_gaps.proofs.of_cells_blocks.Closing.{earlier_made, now_made, past_done_made, done_made}
 use Rattle.fo_cells_whole.proofs.Rest.{whole_by}
 use Rattle.fo_cells_whole.proofs.Blocks.{earlier_left, now_left, closing_whole, closed_more, done_hung}
 use Rattle.fo_cells_whole.proofs.laws.closings_keep_whole.Goals as goal

@@ -1,4 +1,4 @@
-use Rattle.fo_cells_turns.proofs.Opening.{open_made}
+use Rattle.fo_cells_shown.proofs.of_cells_turns.Opening.{open_made}
 use Rattle.fo_cells_shown.proofs.Opening.{hang_closed, hang_shared}
 use Rattle.fo_cells_whole.proofs.Certain.{none_awaited}
 use Rattle.fo_cells_whole.proofs.laws.opening_is_whole.Goals as goal

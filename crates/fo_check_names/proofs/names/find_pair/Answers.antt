@@ -3,7 +3,7 @@ use Rattle.std.specs.Prelude.{◌↔◌}
 use Rattle.std.proofs.lemmas.List.{get_or_default}
 use Rattle.std.proofs.lemmas.List.Sorted.{IsPartitionPoint-from_clause, IsPartitionedBy-ltb}
 use Rattle.fo_crash.specs.declared.slot.Slot.TheVariants.{Entry as Head}
-use Rattle.fo_good.specs.Trees.{IsFirst, IsSecond}
+use Rattle.fo_rules.specs.of_good.Trees.{IsFirst, IsSecond}
 use Rattle.fo_check_names.specs.declared.names.Named.{Named}
 use Rattle.fo_check_names.specs.Names.{slot_of}
 use Rattle.fo_check_names.specs.Finds.Finds.{none, some}

@@ -7,7 +7,7 @@ use Rattle.fo_dir_put.specs.Paired.{AddsPaired}
 use Rattle.fo_dir_add.specs.Adds.{AddsAlone}
 use Rattle.fo_dir_add.proofs.Added.{adds_one, may_stand, may_name, adds_paired}
 use Rattle.fo_dir_add.proofs.add.add_record.Goals as goal
-use Rattle.fo_dirties.proofs.Putting.{dirties_at_once}
+use Rattle.fo_dir_put.proofs.of_dirties.Putting.{dirties_at_once}
 
 pub returns-in-Ok-clause-added : goal.returns-in-Ok-clause-added
 returns-in-Ok-clause-added g c = λ yes'. record { each = λ rs s. subst (λ xs. SpellsLeaf (rs ++ c.args.named.now ∷ []) xs) (sym c.add_name.ensures.puts.here) (c.in-Ok.ensures.added rs (subst (λ xs. SpellsLeaf rs xs) (sym c.requires.bytes.1) s)) }

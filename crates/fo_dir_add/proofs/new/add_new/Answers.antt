@@ -1,7 +1,7 @@
 use Rattle.std.proofs.Common.{refl, [], ◌∷◌}
 use Rattle.fo_dir_add.proofs.Added.{full_before}
 use Rattle.fo_dir_add.proofs.new.add_new.Goals as goal
-use Rattle.fo_dirties.proofs.Putting.{dirties_at_once}
+use Rattle.fo_dir_put.proofs.of_dirties.Putting.{dirties_at_once}
 
 pub returns-then-add_record-clause-paired : goal.returns-then-add_record-clause-paired
 returns-then-add_record-clause-paired g c = λ m a e same all.

@@ -3,7 +3,7 @@ use Rattle.fo_meta.specs.Leaf.{SpellsLeaf}
 use Rattle.fo_dir_change.proofs.Without.{split_at}
 use Rattle.fo_dir_change.proofs.Changed.{changed_are, changed_stood, changed_stands, changed_name}
 use Rattle.fo_dir_change.proofs.change.change_record.Goals as goal
-use Rattle.fo_dirties.proofs.Putting.{dirties_at_once}
+use Rattle.fo_dir_put.proofs.of_dirties.Putting.{dirties_at_once}
 
 pub returns-in-Ok-clause-fit : goal.returns-in-Ok-clause-fit
 returns-in-Ok-clause-fit g c = λ n entries f all.

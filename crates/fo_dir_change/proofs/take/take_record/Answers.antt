@@ -1,12 +1,12 @@
 use Rattle.std.proofs.Common.{Contains, sym, ◌∙◌, subst, [], ◌∷◌}
 use Rattle.fo_meta.specs.Leaf.{SpellsLeaf}
 use Rattle.fo_meta.proofs.Lists.{without-none}
-use Rattle.fo_crash.specs.Images.{Image}
+use Rattle.fo_dir_put.specs.of_crash.Images.{Image}
 use Rattle.fo_dir_put.specs.Differ.{AreDistinct}
 use Rattle.fo_dir_change.proofs.Without.{split_at, one_leaf}
 use Rattle.fo_dir_change.proofs.Changed.{kept_are, kept_stand, kept_stood, left_was, left_name}
 use Rattle.fo_dir_change.proofs.take.take_record.Goals as goal
-use Rattle.fo_dirties.proofs.Putting.{dirties_at_once}
+use Rattle.fo_dir_put.proofs.of_dirties.Putting.{dirties_at_once}
 
 pub returns-then-not-remove-clause-hand : goal.returns-then-not-remove-clause-hand
 returns-then-not-remove-clause-hand g c =

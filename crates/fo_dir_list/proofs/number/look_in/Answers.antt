@@ -1,7 +1,7 @@
 use Rattle.std.proofs.Common.{◌⊎◌, ◌≤◌, IfSome, ◌∙◌, subst}
 use Rattle.fo_image.specs.declared.types.Kind.TheVariants.{Data}
 use Rattle.fo_ports.specs.Sources.{depth_for}
-use Rattle.fo_looks.proofs.Looks.{looks_joins, same_leaves_joins}
+use Rattle.fo_dir_read.proofs.of_looks.Looks.{looks_joins, same_leaves_joins}
 use Rattle.fo_dir_read.specs.Pinned.{IsPinned}
 use Rattle.fo_dir_read.proofs.Looking.{any_caused_later, pins_behind, each_ok}
 use Rattle.fo_dir_list.proofs.number.look_in.Goals as goal

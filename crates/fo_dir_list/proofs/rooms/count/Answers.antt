@@ -1,6 +1,6 @@
 use Rattle.std.proofs.Common.{◌+◌, ◌≤◌, ap, ◌∙◌, subst, arith}
 use Rattle.fo_ports.specs.Sources.{depth_for}
-use Rattle.fo_looks.proofs.Looks.{looks_joins, same_leaves_joins}
+use Rattle.fo_dir_read.proofs.of_looks.Looks.{looks_joins, same_leaves_joins}
 use Rattle.fo_dir_read.proofs.Looking.{caused_later, pins_more}
 use Rattle.fo_dir_list.proofs.Room.{more_counted}
 use Rattle.fo_dir_list.proofs.rooms.count.Goals as goal

@@ -12,8 +12,8 @@ use Rattle.fo_dir_move.proofs.Settled.{ready_taken, settle_taken, fit_later, bac
 use Rattle.fo_dir_move.proofs.Aside.{kept_stands, moved_stands, settled_stands, back_stands, apart_settled}
 use Rattle.fo_dir_move.proofs.Alone.{moves_alone, ready_after, settled_but}
 use Rattle.fo_dir_move.proofs.moves.move_name.Goals as goal
-use Rattle.fo_dirties.proofs.Adding.{dirties_quiet, dirties_more, dirties_then, cons_of, none_of, all_of, first_of, next_of}
-use Rattle.fo_dirties.proofs.Dirtied.{dirties_rests}
+use Rattle.fo_dir_put.proofs.of_dirties.Adding.{dirties_quiet, dirties_more, dirties_then, cons_of, none_of, all_of, first_of, next_of}
+use Rattle.fo_dir_put.proofs.of_dirties.Dirtied.{dirties_rests}
 
 pub settle_between-requires-clause-ready : goal.settle_between-requires-clause-ready
 settle_between-requires-clause-ready g c =

@@ -4,7 +4,7 @@ use Rattle.fo_dir_put.specs.Differ.{AllDiffer}
 use Rattle.fo_dir_change.proofs.Without.{named_is}
 use Rattle.fo_dir_move.proofs.Whole.{found_splits, moves_keys, left_differ, with_differ, none_there, moves_paired}
 use Rattle.fo_dir_move.proofs.record.move_record.Goals as goal
-use Rattle.fo_dirties.proofs.Putting.{dirties_at_once}
+use Rattle.fo_dir_put.proofs.of_dirties.Putting.{dirties_at_once}
 
 pub returns-in-Ok-move_name-clause-named : goal.returns-in-Ok-move_name-clause-named
 returns-in-Ok-move_name-clause-named g c = λ leaves in_from in_to differ.

@@ -1,5 +1,5 @@
 use Rattle.std.proofs.Common.{◌≡◌, ◌+◌, ◌*◌, ◌/◌, ℕ, true, false, sym, ◌∙◌, subst, arith}
-use Rattle.fo_dir_put.specs.Paired.{IsUnnamed}
+use Rattle.fo_dir_change.specs.of_dir_put.Paired.{IsUnnamed}
 use Rattle.fo_dir_remove.specs.Removes.{NoneHas}
 use Rattle.fo_dir_remove.proofs.entry.clear_second.Goals as goal
 

@@ -3,11 +3,11 @@ use Rattle.std.proofs.lemmas.Bool.{cases_lt}
 use Rattle.fo_image.specs.declared.types.Kind.{Kind}
 use Rattle.fo_crash.specs.Steps.{PutsSlot, cleared}
 use Rattle.fo_ports.specs.Blocks.{slot_count}
-use Rattle.fo_dir_put.proofs.Nothing.{may_remove}
-use Rattle.fo_dir_put.proofs.Clearing.{cleared_nil, clears_alone}
+use Rattle.fo_dir_change.proofs.of_dir_put.Nothing.{may_remove}
+use Rattle.fo_dir_change.proofs.of_dir_put.Clearing.{cleared_nil, clears_alone}
 use Rattle.fo_dir_remove.proofs.Unnamed.{none_paired}
 use Rattle.fo_dir_remove.proofs.entry.clear_unnamed.Goals as goal
-use Rattle.fo_dirties.proofs.Putting.{dirties_here}
+use Rattle.fo_dir_change.proofs.of_dirties.Putting.{dirties_here}
 
 pub remove_slot-requires-clause-may : goal.remove_slot-requires-clause-may
 remove_slot-requires-clause-may g c = λ told.

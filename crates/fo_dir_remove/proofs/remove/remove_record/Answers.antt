@@ -2,25 +2,25 @@ use Rattle.std.proofs.Common.{◌≡◌, ◌⊎◌, inl, inr, ⊎_elim, ℕ, ◌
 use Rattle.fo_image.specs.declared.types.Kind.{Kind}
 use Rattle.fo_image.specs.declared.types.Kind.TheVariants.{Data, Dir}
 use Rattle.fo_image.specs.declared.types.Pointer.TheVariants.{Nil, Local}
-use Rattle.fo_meta.specs.Leaf.{SpellsLeaf}
+use Rattle.fo_ports.specs.of_meta.Leaf.{SpellsLeaf}
 use Rattle.fo_crash.specs.declared.slot.Slot.{Slot}
 use Rattle.fo_crash.specs.Images.{Reaches, target}
 use Rattle.fo_crash.specs.Spots.{OnePath}
 use Rattle.fo_crash.specs.Steps.{cleared}
 use Rattle.fo_crash.proofs.Spots.{one_path}
 use Rattle.fo_ports.specs.Blocks.{slot_count}
-use Rattle.fo_dir_put.specs.Paired.{AllPaired, IsUnnamed}
-use Rattle.fo_dir_put.specs.Puts.{IsOwnedEntries}
-use Rattle.fo_dir_put.proofs.Calms.{records_put}
-use Rattle.fo_dir_put.proofs.Clearing.{cleared_nil}
-use Rattle.fo_dir_put.proofs.Leaves.{leaf_long}
-use Rattle.fo_dir_put.proofs.Named.{differ_shows}
+use Rattle.fo_dir_change.specs.of_dir_put.Paired.{AllPaired, IsUnnamed}
+use Rattle.fo_dir_change.specs.of_dir_put.Puts.{IsOwnedEntries}
+use Rattle.fo_dir_change.proofs.of_dir_put.Calms.{records_put}
+use Rattle.fo_dir_change.proofs.of_dir_put.Clearing.{cleared_nil}
+use Rattle.fo_dir_change.proofs.of_dir_put.Leaves.{leaf_long}
+use Rattle.fo_dir_change.proofs.of_dir_put.Named.{differ_shows}
 use Rattle.fo_dir_change.proofs.Without.{split_at}
 use Rattle.fo_dir_remove.proofs.Goes.{calm_aside, calm_quiet, calm_clear, calm_entries, no_way_back, quiet_then, entries_then, records_then}
 use Rattle.fo_dir_remove.proofs.Unnamed.{left_unnamed, is_gone}
 use Rattle.fo_dir_remove.proofs.remove.remove_record.Given as given
 use Rattle.fo_dir_remove.proofs.remove.remove_record.Goals as goal
-use Rattle.fo_dirties.proofs.Adding.{dirties_then, dirties_more, cons_of, none_of, first_of, next_of}
+use Rattle.fo_dir_change.proofs.of_dirties.Adding.{dirties_then, dirties_more, cons_of, none_of, first_of, next_of}
 
 -- where the device tells, one path leads to each block
 one_at : (g : given.Over) (b : _) → (g.B.Blocks.state b).tells → OnePath 1 (g.B.Blocks.state b).now

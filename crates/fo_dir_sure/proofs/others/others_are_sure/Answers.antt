@@ -1,7 +1,7 @@
 use Rattle.std.proofs.Common.{◌+◌, ◌<◌, ◌≤◌, sym, ap, ◌∙◌, subst}
 use Rattle.fo_dir_read.specs.Names.{leaf_count}
 use Rattle.fo_ports.specs.Sources.{depth_for}
-use Rattle.fo_looks.proofs.Looks.{looks_joins, same_leaves_joins}
+use Rattle.fo_dir_read.proofs.of_looks.Looks.{looks_joins, same_leaves_joins}
 use Rattle.fo_dir_read.proofs.Looking.{caused_later, pins_more}
 use Rattle.fo_dir_sure.proofs.Settled.{one_more, but_one, pins_idle}
 use Rattle.fo_dir_sure.proofs.others.others_are_sure.Goals as goal

@@ -2,7 +2,7 @@ use Rattle.std.proofs.Common.{[], length, ap, ◌∙◌}
 use Rattle.fo_disk.specs.Disk.{versions_of}
 use Rattle.fo_mind.specs.MindParts.{parts}
 use Rattle.fo_mind.specs.Parts.{Parts}
-use Rattle.fo_settling.proofs.Clearing.{lasts_waited}
+use Rattle.fo_reserving.proofs.of_settling.Clearing.{lasts_waited}
 use Rattle.fo_reserving.proofs.Ending.{held_newborn}
 use Rattle.fo_reserving.proofs.Joining.{reserves_eased, reserves_on}
 use Rattle.fo_ending.proofs.Draining.{at_rest, bytes_rested, quiet_rested, rest_is, waits_none}

@@ -5,7 +5,7 @@ use Rattle.fo_files_along.specs.Along.{IsStepOf, IsFileOf, IsAboveOf}
 use Rattle.fo_files_along.proofs.Pairs.{entries_at, above_stands, numbers_differ}
 use Rattle.fo_files_along.proofs.Ways.{file_holds}
 use Rattle.fo_files_along.proofs.along.own_along.Goals as goal
-use Rattle.fo_dirties.proofs.Adding.{dirties_fewer}
+use Rattle.fo_files_plan.proofs.of_dirties.Adding.{dirties_fewer}
 use Rattle.fo_files_along.proofs.Standing.{step_in, above_in}
 use Rattle.fo_files_plan.specs.of_files_way.Owns.{IsIn}
 

@@ -2,8 +2,8 @@ use Rattle.std.proofs.Common.{◌∙◌, arith}
 use Rattle.fo_files_plan.proofs.of_files_at.Ways.{way_stays}
 use Rattle.fo_files_along.proofs.Apart.{apart}
 use Rattle.fo_files_along.proofs.along.own_blocks.Goals as goal
-use Rattle.fo_dirties.proofs.Adding.{dirties_first, dirties_fewer}
-use Rattle.fo_dirties.proofs.Putting.{dirties_looks}
+use Rattle.fo_files_plan.proofs.of_dirties.Adding.{dirties_first, dirties_fewer}
+use Rattle.fo_files_plan.proofs.of_dirties.Putting.{dirties_looks}
 
 pub own_way-requires-clause-silent : goal.own_way-requires-clause-silent
 own_way-requires-clause-silent g c = λ h. c.requires.silent ((g.met.B.Blocks.keeps_all c.args.on.now c.plan_along.new.on c.plan_along.ensures.looks.1).still_tells.0 h)

@@ -5,7 +5,7 @@ use Rattle.fo_files_along.specs.Along.{IsDirOf, IsAboveOf}
 use Rattle.fo_files_along.proofs.Pairs.{above_stands, end_differs}
 use Rattle.fo_files_along.proofs.Ways.{file_holds}
 use Rattle.fo_files_along.proofs.along.own_dir_along.Goals as goal
-use Rattle.fo_dirties.proofs.Adding.{dirties_fewer}
+use Rattle.fo_files_plan.proofs.of_dirties.Adding.{dirties_fewer}
 use Rattle.fo_files_along.proofs.Standing.{above_in}
 
 pub above_at-above-requires-clause-way : goal.above_at-above-requires-clause-way

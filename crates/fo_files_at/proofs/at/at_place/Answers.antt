@@ -1,4 +1,4 @@
-use Rattle.fo_looks.proofs.Looks.{looks_joins}
+use Rattle.fo_dir_read.proofs.of_looks.Looks.{looks_joins}
 use Rattle.fo_files_at.proofs.Joining.{refused_since}
 use Rattle.fo_files_at.proofs.at.at_place.Goals as goal
 

@@ -1,7 +1,7 @@
 use Rattle.std.proofs.Common.{◌≡◌, ◌+◌, ◌*◌, ◌<◌, ◌≤◌, ◌++◌, ℕ, List, [], ◌∷◌, take, length, length-take, get_or, IfSome, sym, ap, subst, arith}
 use Rattle.std.proofs.lemmas.List.{take_more}
 use Rattle.fo_ports.specs.State.{State}
-use Rattle.fo_looks.proofs.Looks.{looks_joins}
+use Rattle.fo_dir_read.proofs.of_looks.Looks.{looks_joins}
 use Rattle.fo_files_at.specs.Way.{IsWay}
 use Rattle.fo_files_at.proofs.Joining.{caused_since}
 use Rattle.fo_files_at.proofs.Ways.{end_holds, end_rank}

@@ -4,8 +4,8 @@ use Rattle.fo_files_record.proofs.Owned.{entries_stay}
 use Rattle.fo_files_record.proofs.Rewriting.{rewrites_same}
 use Rattle.fo_files_change.proofs.Records.{dir_rewritten, records_rank, later_failed}
 use Rattle.fo_files_change.proofs.take.take_file.Goals as goal
-use Rattle.fo_dirties.proofs.Adding.{adds_idle, first_of, next_of, adds_given, adds_then, adds_wider, cons_of, none_of}
-use Rattle.fo_dirties.proofs.Putting.{dirties_looks}
+use Rattle.fo_files_leaf.proofs.of_dirties.Adding.{adds_idle, first_of, next_of, adds_given, adds_then, adds_wider, cons_of, none_of}
+use Rattle.fo_files_leaf.proofs.of_dirties.Putting.{dirties_looks}
 
 pub take_out-requires-clause-silent : goal.take_out-requires-clause-silent
 take_out-requires-clause-silent g c = λ h. c.requires.silent ((g.met.B.Blocks.keeps_all c.args.on.now c.records_leaf.new.on c.records_leaf.ensures.keeps).still_tells.0 h)

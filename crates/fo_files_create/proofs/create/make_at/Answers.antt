@@ -8,7 +8,7 @@ use Rattle.fo_files_create_look.proofs.of_files_at.Ways.{way_stays}
 use Rattle.fo_files_create_look.specs.of_files_look.Told.{faults_of}
 use Rattle.fo_files_create_look.specs.of_files_along.Along.{HasRoom, IsBlocks}
 use Rattle.fo_files_create_look.proofs.of_files_along.Refusing.{blocks_are, blocks_cause}
-use Rattle.fo_dir_add.specs.Adds.{IsNumbered}
+use Rattle.fo_files_new.specs.of_dir_add.Adds.{IsNumbered}
 use Rattle.fo_files_create_look.specs.of_files_at.declared.file.File.{File}
 use Rattle.fo_files_create.specs.Create.{MakesAlong, numbered}
 use Rattle.fo_files_create.proofs.Settling.{settles_or}

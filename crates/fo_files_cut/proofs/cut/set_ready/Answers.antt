@@ -2,7 +2,7 @@ use Rattle.fo_files_cut.proofs.cut.set_ready.Goals as goal
 use Rattle.fo_dirties.proofs.Adding.{adds_more}
 use Rattle.fo_dirties.proofs.Putting.{dirties_at_once, first_among}
 use Rattle.std.proofs.Common.{[], ◌∷◌, arith}
-use Rattle.fo_tree_trim.proofs.Least.{few_for}
+use Rattle.fo_tree_set.proofs.of_tree_trim.Least.{few_for}
 
 pub returns-in-Ok-clause-dirties : goal.returns-in-Ok-clause-dirties
 returns-in-Ok-clause-dirties g c =

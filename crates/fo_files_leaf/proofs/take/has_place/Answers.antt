@@ -1,6 +1,6 @@
 use Rattle.std.proofs.Common.{◌≤◌, ◌^◌, ℕ, sym, ◌∙◌, eqb-true, arith}
 use Rattle.fo_ports.specs.Sources.{depth_for}
-use Rattle.fo_tree_trim.proofs.Least.{least_for}
+use Rattle.fo_tree_shorten.proofs.of_tree_trim.Least.{least_for}
 use Rattle.fo_files_leaf.proofs.take.has_place.Goals as goal
 
 within : (z limit : ℕ) → z ≤ limit → limit ≤ 2 ^ 47 → z ≤ 2 ^ 47

@@ -3,8 +3,8 @@ use Rattle.fo_ports.specs.State.{KeepsAll, Rests, StaysKnown, none}
 use Rattle.fo_tree_read.specs.declared.tree.Tree.{Tree}
 use Rattle.fo_tree_look.specs.declared.ways.Kept.{Kept}
 use Rattle.fo_tree_look.specs.Source.{Over}
-use Rattle.fo_tree_down.specs.Clear.{last_leaf}
-use Rattle.fo_tree_own.proofs.Link.{Laws}
+use Rattle.fo_tree_shorten.specs.of_tree_down.Clear.{last_leaf}
+use Rattle.fo_tree_shorten.proofs.of_tree_own.Link.{Laws}
 use Rattle.fo_tree_shorten.specs.Shorten.{EntryAt}
 use Rattle.fo_tree_shorten.proofs.Settling.{Settles, entry_settled, ready_settled, over_settled}
 use Rattle.fo_files_leaf.specs.Leaf.{IsAbove}
@@ -15,7 +15,7 @@ use Rattle.fo_files_leaf.proofs.trim.cut_behind.Goals as goal
 use Rattle.fo_dirties.proofs.Adding.{dirties_quiet}
 use Rattle.fo_dirties.proofs.Putting.{dirties_at_once, first_among}
 use Rattle.fo_dirties.proofs.Dirtied.{dirties_rests}
-use Rattle.fo_tree_trim.proofs.Knowing.{end_known}
+use Rattle.fo_tree_shorten.proofs.of_tree_trim.Knowing.{end_known}
 
 laws_of : (g : given.Over) (b : g.row.B.Denot) → Laws (g.B.Blocks.state b)
 laws_of g b =

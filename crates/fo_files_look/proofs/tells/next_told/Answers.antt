@@ -1,4 +1,4 @@
-use Rattle.fo_looks.proofs.Looks.{looks_joins}
+use Rattle.fo_files_at.proofs.of_looks.Looks.{looks_joins}
 use Rattle.fo_files_look.proofs.Telling.{refuses_since}
 use Rattle.fo_files_look.proofs.tells.next_told.Goals as goal
 

@@ -1,6 +1,6 @@
 use Rattle.std.proofs.Common.{◌≡◌, ◌<◌, length, subst}
 use Rattle.fo_world.specs.Tree.{last}
-use Rattle.fo_looks.proofs.Looks.{looks_joins}
+use Rattle.fo_files_at.proofs.of_looks.Looks.{looks_joins}
 use Rattle.fo_files_look.proofs.Telling.{refuses_since}
 use Rattle.fo_files_look.proofs.Reading.{is_read}
 use Rattle.fo_files_look.proofs.tells.read.Goals as goal

@@ -1,8 +1,8 @@
 use Rattle.fo_files_record.proofs.Rewriting.{rewrites_joins, rewrites_wider}
 use Rattle.fo_files_move.proofs.Moving.{moved_failed}
 use Rattle.fo_files_move.proofs.between.fitted.Goals as goal
-use Rattle.fo_dirties.proofs.Adding.{dirties_idle, dirties_after}
-use Rattle.fo_dirties.proofs.Putting.{dirties_at_once}
+use Rattle.fo_dir_move.proofs.of_dirties.Adding.{dirties_idle, dirties_after}
+use Rattle.fo_dir_move.proofs.of_dirties.Putting.{dirties_at_once}
 use Rattle.std.proofs.Common.{[], ◌∷◌}
 
 pub moved-requires-clause-silent : goal.moved-requires-clause-silent

@@ -2,7 +2,7 @@ use Rattle.fo_files_record.proofs.Rewriting.{rewrites_joins, rewrites_wider}
 use Rattle.fo_files_record.proofs.Owned.{entries_stay}
 use Rattle.fo_files_move.proofs.Moving.{named_failed, moved_failed}
 use Rattle.fo_files_move.proofs.between.move_between.Goals as goal
-use Rattle.fo_dirties.proofs.Adding.{dirties_idle, dirties_after}
+use Rattle.fo_dir_move.proofs.of_dirties.Adding.{dirties_idle, dirties_after}
 
 pub returns-in-Err-clause-entries : goal.returns-in-Err-clause-entries
 returns-in-Err-clause-entries g c = entries_stay c.args.entries (g.met.B.Blocks.keeps_all c.args.on.now c.both_read.new.on c.both_read.ensures.keeps) c.both_read.ensures.stays c.requires.entries

@@ -1,6 +1,6 @@
 use Rattle.std.proofs.Common.{length, ap, sym, subst, ◌∙◌}
 use Rattle.fo_meta.specs.Leaf.{IsLeaf}
-use Rattle.fo_dir_put.proofs.Leaves.{leaf_long}
+use Rattle.fo_dir_add.proofs.of_dir_put.Leaves.{leaf_long}
 use Rattle.fo_files_new.proofs.Putting.{owned_records, owned_entries, leaf_rank, is_put}
 use Rattle.fo_files_new.proofs.new.put_new.Goals as goal
 use Rattle.fo_dirties.proofs.Adding.{dirties_idle, dirties_after}

@@ -1,5 +1,5 @@
 use Rattle.std.proofs.Common.{ℕ, List, inl, inr, sym, subst, ◌∙◌, arith, [], ◌∷◌}
-use Rattle.fo_dir_put.proofs.Leaves.{leaf_long}
+use Rattle.fo_files_record.proofs.of_dir_put.Leaves.{leaf_long}
 use Rattle.fo_files_record.specs.Stays.{no_slot}
 use Rattle.fo_files_record.proofs.Rewriting.{rewrites_looks, rewrites_joins}
 use Rattle.fo_files_ready.proofs.of_files_change.Records.{records_rank, later_failed}

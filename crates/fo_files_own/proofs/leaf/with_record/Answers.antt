@@ -1,5 +1,5 @@
 use Rattle.std.proofs.Common.{sym}
-use Rattle.fo_dir_put.proofs.Leaves.{leaf_long}
+use Rattle.fo_files_record.proofs.of_dir_put.Leaves.{leaf_long}
 use Rattle.fo_files_own.proofs.Placed.{copy_changed}
 use Rattle.fo_files_own.proofs.leaf.with_record.Goals as goal
 

@@ -1,6 +1,6 @@
 use Rattle.std.proofs.Common.{◌≡◌, ◌+◌, ◌<◌, ◌++◌, [], ◌∷◌, take, drop, length, get_or, sym, ap, subst, ◌∙◌, arith}
 use Rattle.std.proofs.lemmas.List.{take_more}
-use Rattle.fo_looks.proofs.Looks.{looks_joins}
+use Rattle.fo_files_way.proofs.of_looks.Looks.{looks_joins}
 use Rattle.fo_files_way.specs.of_files_at.declared.at.Step.{Step}
 use Rattle.fo_files_way.specs.of_files_at.declared.file.File.{File}
 use Rattle.fo_files_way.specs.of_files_at.Way.{IsStep, first_of}

@@ -1,4 +1,4 @@
-use Rattle.fo_looks.proofs.Looks.{looks_joins}
+use Rattle.fo_files_way.proofs.of_looks.Looks.{looks_joins}
 use Rattle.fo_files_way.proofs.of_files_at.Ways.{way_stays}
 use Rattle.fo_files_plan.proofs.Trails.{along_trail, refused_since}
 use Rattle.fo_files_plan.proofs.along.plan_along.Goals as goal

@@ -1,5 +1,5 @@
 use Rattle.std.proofs.Common.{sym}
-use Rattle.fo_dir_put.proofs.Leaves.{leaf_long}
+use Rattle.fo_files_move.proofs.of_dir_put.Leaves.{leaf_long}
 use Rattle.fo_files_ready.proofs.place.fits.Goals as goal
 
 pub copy_from_slice-requires : goal.copy_from_slice-requires

@@ -1,7 +1,7 @@
 use Rattle.std.proofs.Common.{◌+◌, ◌*◌, sym, subst, arith}
 use Rattle.fo_meta.specs.Leaf.{IsLeaf}
-use Rattle.fo_files_record.specs.Stays.{no_slot}
-use Rattle.fo_files_record.proofs.Rewriting.{rewrites_same}
+use Rattle.fo_files_move.specs.of_files_record.Stays.{no_slot}
+use Rattle.fo_files_move.proofs.of_files_record.Rewriting.{rewrites_same}
 use Rattle.fo_files_change.proofs.Records.{dir_readied, records_ready, records_rank, later_failed}
 use Rattle.fo_files_ready.specs.Ready.{IsLeafOf}
 use Rattle.fo_files_ready.proofs.Places.{came}

@@ -1,7 +1,7 @@
 use Rattle.std.proofs.Common.{inl, inr, refl, ◌∙◌, arith}
 use Rattle.fo_files_change.proofs.of_files_leaf.Altering.{alters_joins}
-use Rattle.fo_files_record.specs.Stays.{no_slot}
-use Rattle.fo_files_record.proofs.Rewriting.{rewrites_same}
+use Rattle.fo_files_move.specs.of_files_record.Stays.{no_slot}
+use Rattle.fo_files_move.proofs.of_files_record.Rewriting.{rewrites_same}
 use Rattle.fo_files_change.proofs.Records.{dir_readied, entries_readied, later_failed}
 use Rattle.fo_files_ready.specs.Ready.{IsLeafOf, records_size}
 use Rattle.fo_files_ready.proofs.Sizes.{few_both, left_spare, size_kept, took_both, way_few}

@@ -1,7 +1,7 @@
 use Rattle.fo_files_record.proofs.Rooted.{root_looks, root_calm, whole_root, piece_within, piece_is, puts_own}
 use Rattle.fo_files_record.proofs.own.put_own_record.Goals as goal
-use Rattle.fo_dirties.proofs.Adding.{dirties_idle, dirties_after}
-use Rattle.fo_dirties.proofs.Putting.{dirties_looks, dirties_calm}
+use Rattle.fo_dir_remove.proofs.of_dirties.Adding.{dirties_idle, dirties_after}
+use Rattle.fo_dir_remove.proofs.of_dirties.Putting.{dirties_looks, dirties_calm}
 
 pub returns-in-Err-clause-root : goal.returns-in-Err-clause-root
 returns-in-Err-clause-root g c = root_looks c.args.root (g.met.B.Blocks.keeps_all c.args.on.now c.get.new.self c.get.ensures.keeps) c.get.ensures.looks c.requires.root

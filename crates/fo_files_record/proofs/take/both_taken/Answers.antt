@@ -1,10 +1,10 @@
 use Rattle.std.proofs.Common.{◌≡◌, ◌+◌, ◌*◌, ℕ, Bool, true, false, List, inl, inr, ⊎_elim, sym, subst, ◌∙◌}
-use Rattle.fo_dir_change.specs.Changes.{HasTaken}
+use Rattle.fo_dir_remove.specs.of_dir_change.Changes.{HasTaken}
 use Rattle.fo_files_record.specs.Stays.{Rewrites, IsPairSlot}
 use Rattle.fo_files_record.proofs.Going.{going_later, going_before, still_queues}
 use Rattle.fo_files_record.proofs.Rewriting.{rewrites_joins}
 use Rattle.fo_files_record.proofs.take.both_taken.Goals as goal
-use Rattle.fo_dirties.proofs.Adding.{dirties_then, cons_of, none_of, first_of, next_of}
+use Rattle.fo_dir_remove.proofs.of_dirties.Adding.{dirties_then, cons_of, none_of, first_of, next_of}
 
 pub second_cleared-requires-clause-silent : goal.second_cleared-requires-clause-silent
 second_cleared-requires-clause-silent g c = λ h. c.requires.silent ((g.met.B.Blocks.keeps_all c.args.on.now c.record_taken.new.on c.record_taken.ensures.keeps).still_tells.0 h)

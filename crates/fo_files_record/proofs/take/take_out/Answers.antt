@@ -1,13 +1,13 @@
 use Rattle.std.proofs.Common.{◌≡◌, ◌+◌, ◌*◌, ◌%◌, ℕ, List, ⊎_elim, sym, subst, ◌∙◌, arith}
 use Rattle.fo_meta.specs.Leaf.{IsLeaf}
-use Rattle.fo_dir_change.specs.Changes.{Bears, HasTaken}
+use Rattle.fo_dir_remove.specs.of_dir_change.Changes.{Bears, HasTaken}
 use Rattle.fo_files_record.specs.Stays.{IsPairSlot, no_slot}
 use Rattle.fo_files_record.proofs.Rewriting.{rewrites_looks, rewrites_joins, rewrites_wider}
 use Rattle.fo_files_record.proofs.Going.{bears_first}
 use Rattle.fo_files_record.proofs.Owned.{entries_stay, later_failed}
 use Rattle.fo_files_record.proofs.take.take_out.Goals as goal
-use Rattle.fo_dirties.proofs.Adding.{dirties_idle, dirties_after, dirties_quiet}
-use Rattle.fo_dirties.proofs.Putting.{dirties_looks}
+use Rattle.fo_dir_remove.proofs.of_dirties.Adding.{dirties_idle, dirties_after, dirties_quiet}
+use Rattle.fo_dir_remove.proofs.of_dirties.Putting.{dirties_looks}
 
 pub returns-in-Err-clause-nothing : goal.returns-in-Err-clause-nothing
 returns-in-Err-clause-nothing g c = rewrites_looks (λ b. ⊥) no_slot c.looked.ensures.looks c.looked.ensures.pins

@@ -1,6 +1,6 @@
 use Rattle.std.proofs.Common.{◌+◌, ◌*◌}
 use Rattle.std.specs.Prelude.{max}
-use Rattle.fo_looks.proofs.Looks.{looks_joins}
+use Rattle.fo_dirties.proofs.of_looks.Looks.{looks_joins}
 use Rattle.fo_files_way.proofs.Adding.{failed_since, pins_for}
 use Rattle.fo_files_way.proofs.add.readied.Goals as goal
 

@@ -1,7 +1,7 @@
 use Rattle.std.proofs.Common.{◌≡◌, ◌+◌, ℕ, arith, refl}
 use Rattle.fo_crash.specs.declared.slot.Slot.TheVariants.{Entry as Head}
 use Rattle.fo_ports.specs.Blocks.{cost}
-use Rattle.fo_tree_link.specs.Link.{entry_of}
+use Rattle.fo_tree_shorten.specs.of_tree_link.Link.{entry_of}
 use Rattle.fo_tree_shorten.specs.Shorten.{Links}
 use Rattle.fo_files_way.proofs.One.{Took, top_other, cost_none, one_owned}
 use Rattle.fo_files_way.proofs.own.own_linked.Goals as goal

@@ -4,9 +4,9 @@ use Rattle.fo_tree_read.specs.declared.tree.Tree.{Tree}
 use Rattle.fo_tree_look.specs.declared.ways.Kept.{Kept}
 use Rattle.fo_tree_look.specs.declared.ways.Ways.{Ways}
 use Rattle.fo_tree_look.specs.Source.{Over, WayReady}
-use Rattle.fo_tree_down.specs.Clear.{last_leaf}
-use Rattle.fo_tree_down.specs.Way.{WayCurrent, with_top}
-use Rattle.fo_tree_own.proofs.Link.{Laws}
+use Rattle.fo_tree_trim.specs.of_tree_down.Clear.{last_leaf}
+use Rattle.fo_tree_trim.specs.of_tree_down.Way.{WayCurrent, with_top}
+use Rattle.fo_tree_trim.proofs.of_tree_own.Link.{Laws}
 use Rattle.fo_tree_trim.specs.Trim.{IsEndCurrent}
 use Rattle.fo_tree_trim.proofs.Along.{Aside}
 use Rattle.fo_tree_shorten.specs.Shorten.{EntryAt}

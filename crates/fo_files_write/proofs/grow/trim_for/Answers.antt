@@ -1,6 +1,6 @@
 use Rattle.std.proofs.Common.{◌<◌, ◌∙◌, refl, ap, subst, arith, []}
 use Rattle.fo_tree_read.specs.declared.tree.Tree.{Tree}
-use Rattle.fo_tree_down.specs.Clear.{EndsClear}
+use Rattle.fo_tree_trim.specs.of_tree_down.Clear.{EndsClear}
 use Rattle.fo_tree_trim.proofs.Above.{deep_size}
 use Rattle.fo_files_write.specs.Alters.{Alters, is_above}
 use Rattle.fo_files_write.proofs.Steps.{alters_none, alters_looks, alters_joins, refused_settling}

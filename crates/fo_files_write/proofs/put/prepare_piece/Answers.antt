@@ -1,6 +1,6 @@
 use Rattle.std.proofs.Common.{subst, sym}
 use Rattle.fo_tree_read.specs.declared.tree.Tree.{Tree}
-use Rattle.fo_tree_down.specs.Clear.{EndsClear}
+use Rattle.fo_tree_trim.specs.of_tree_down.Clear.{EndsClear}
 use Rattle.fo_tree_trim.proofs.Holding.{clear_on, holds_looks}
 use Rattle.fo_files_write.proofs.put.prepare_piece.Goals as goal
 

@@ -3,7 +3,7 @@ use Rattle.std.specs.Prelude.{max}
 use Rattle.fo_crash.specs.declared.slot.Slot.TheVariants.{Entry as Head}
 use Rattle.fo_tree_read.specs.Tree.{kind_at}
 use Rattle.fo_tree_look.specs.Source.{HasBlock}
-use Rattle.fo_tree_link.specs.Link.{entry_of}
+use Rattle.fo_tree_shorten.specs.of_tree_link.Link.{entry_of}
 use Rattle.fo_tree_shorten.proofs.Entries.{entry_put}
 use Rattle.fo_files_write.specs.Alters.{any_kind}
 use Rattle.fo_files_write.proofs.Steps.{alters_moves}

@@ -1,8 +1,8 @@
 use Rattle.std.proofs.Common.{⊎_elim, refl, sym, ap, ◌∙◌, arith}
 use Rattle.std.proofs.lemmas.Bool.{cases_lt}
-use Rattle.fo_crash.specs.Images.{target}
-use Rattle.fo_ports.specs.Blocks.{slot_count}
-use Rattle.fo_slots.specs.Read.{read}
+use Rattle.fo_buffers.specs.of_crash.Images.{target}
+use Rattle.fo_buffers.specs.of_ports.Blocks.{slot_count}
+use Rattle.fo_buffers.specs.of_slots.Read.{read}
 use Rattle.fo_linking.proofs.Joining.{grows_none, grows_on, never, past_slots, slots_on}
 use Rattle.fo_linking.proofs.linking.link_slots.Goals as goal
 

@@ -6,7 +6,7 @@ use Rattle.fo_image.specs.declared.types.Super.{Super}
 use Rattle.fo_mind.specs.MindParts.{parts}
 use Rattle.fo_cache.specs.Settling.{Rested}
 use Rattle.fo_opening.specs.Finished.{Finished}
-use Rattle.fo_settling.proofs.Clearing.{clearings_of, clearings_on}
+use Rattle.fo_reserving.proofs.of_settling.Clearing.{clearings_of, clearings_on}
 use Rattle.fo_opening.proofs.Finishing.{bytes_ended, caused_later, ends_let, ends_on}
 use Rattle.fo_opening.proofs.Lasting.{lasts_let}
 use Rattle.fo_opening.proofs.Stepping.{bytes_none, ending_on, header_kept, let_left}

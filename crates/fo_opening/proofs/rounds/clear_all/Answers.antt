@@ -1,6 +1,6 @@
 use Rattle.std.proofs.Common.{[], ◌∙◌, arith, refl, rules}
 use Rattle.fo_mind.specs.MindParts.{parts}
-use Rattle.fo_settling.proofs.Clearing.{clearings_none, clearings_on}
+use Rattle.fo_reserving.proofs.of_settling.Clearing.{clearings_none, clearings_on}
 use Rattle.fo_opening.proofs.Stepping.{ending_none, ending_on}
 use Rattle.fo_opening.proofs.rounds.clear_all.Goals as goal
 

@@ -1,6 +1,6 @@
 use Rattle.std.proofs.Common.{[]}
 use Rattle.fo_mind.specs.MindParts.{parts}
-use Rattle.fo_settling.proofs.Clearing.{clearings_none}
+use Rattle.fo_reserving.proofs.of_settling.Clearing.{clearings_none}
 use Rattle.fo_opening.proofs.Stepping.{ending_none}
 use Rattle.fo_opening.proofs.rounds.clear_next.Goals as goal
 

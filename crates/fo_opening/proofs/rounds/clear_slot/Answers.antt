@@ -1,6 +1,6 @@
 use Rattle.std.proofs.Common.{[], ap}
 use Rattle.fo_mind.specs.MindParts.{parts}
-use Rattle.fo_settling.proofs.Clearing.{clearings_one}
+use Rattle.fo_reserving.proofs.of_settling.Clearing.{clearings_one}
 use Rattle.fo_opening.proofs.Stepping.{ending_cleared}
 use Rattle.fo_opening.proofs.rounds.clear_slot.Goals as goal
 

@@ -1,7 +1,7 @@
 use Rattle.std.proofs.Common.{[], ◌∙◌, arith, refl}
 use Rattle.std.proofs.lemmas.Result.{err_from_is_err_and}
 use Rattle.fo_mind.specs.MindParts.{parts}
-use Rattle.fo_settling.proofs.Clearing.{clearings_none, clearings_on}
+use Rattle.fo_reserving.proofs.of_settling.Clearing.{clearings_none, clearings_on}
 use Rattle.fo_opening.proofs.Stepping.{ending_none, ending_on, free_after}
 use Rattle.fo_opening.proofs.rounds.settle_all.Goals as goal
 

@@ -1,7 +1,7 @@
 use Rattle.std.proofs.Common.{◌≡◌, ◌+◌, ◌≤◌, [], length}
 use Rattle.fo_mind.specs.MindParts.{parts}
 use Rattle.fo_cache.specs.Work.{calls_left}
-use Rattle.fo_settling.specs.Clearings.{Clearings}
+use Rattle.fo_reserving.specs.of_settling.Clearings.{Clearings}
 use Rattle.fo_opening.specs.Ending.{Ending}
 use Rattle.fo_opening.proofs.rounds.settle_all.Given as goal
 

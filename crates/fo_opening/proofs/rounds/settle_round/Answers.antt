@@ -1,7 +1,7 @@
 use Rattle.std.proofs.Common.{length, sym, ap, subst, arith}
 use Rattle.fo_mind.specs.Parts.{Parts}
-use Rattle.fo_settling.proofs.Clearing.{clearings_of, clearings_on}
-use Rattle.fo_settling.proofs.Waiting.{none_waits}
+use Rattle.fo_reserving.proofs.of_settling.Clearing.{clearings_of, clearings_on}
+use Rattle.fo_reserving.proofs.of_settling.Waiting.{none_waits}
 use Rattle.fo_opening.specs.Finished.{Settled}
 use Rattle.fo_opening.proofs.Stepping.{ending_on}
 use Rattle.fo_opening.proofs.rounds.settle_round.Goals as goal

@@ -3,7 +3,7 @@ use Rattle.fo_mind.specs.MindParts.{parts}
 use Rattle.fo_mind.specs.Parts.{IsPinned, Parts}
 use Rattle.fo_mind.proofs.Results.{any_ok, on_ok}
 use Rattle.fo_cache.proofs.Lessening.{certain_left, turned_left}
-use Rattle.fo_settling.proofs.Clearing.{lasts_on, lasts_renumbered, lasts_turned}
+use Rattle.fo_reserving.proofs.of_settling.Clearing.{lasts_on, lasts_renumbered, lasts_turned}
 use Rattle.fo_opening.proofs.Finishing.{caused_later}
 use Rattle.fo_opening.proofs.Stepping.{ending_on, ending_renumbered, ending_turned}
 use Rattle.fo_opening.proofs.rounds.settle_sure.Goals as goal

@@ -1,7 +1,7 @@
 use Rattle.std.proofs.Common.{◌≡◌, ◌≤◌, [], sym, ap, subst, ◌∙◌}
 use Rattle.fo_crash.specs.declared.slot.Slot.{Slot}
 use Rattle.fo_crash.specs.Images.{target}
-use Rattle.fo_ports.specs.Blocks.{cost, ends}
+use Rattle.fo_mind.specs.of_ports.Blocks.{cost, ends}
 use Rattle.fo_mind.specs.MindParts.{parts}
 use Rattle.fo_mind.specs.Laws.{held_pinned}
 use Rattle.fo_put.proofs.Linking.{links_below}

@@ -2,8 +2,8 @@ use Rattle.std.proofs.Common.{◌≡◌, ◌<◌, [], sym, ap, ◌∙◌, subst,
 use Rattle.fo_crash.specs.declared.slot.Slot.{Slot}
 use Rattle.fo_crash.specs.Images.{target}
 use Rattle.fo_crash.specs.Steps.{cleared}
-use Rattle.fo_ports.specs.Blocks.{SlotFits, slot_count}
-use Rattle.fo_waits.specs.Listed.{Clears}
+use Rattle.fo_mind.specs.of_ports.Blocks.{SlotFits, slot_count}
+use Rattle.fo_mind.specs.of_waits.Listed.{Clears}
 use Rattle.fo_mind.specs.MindParts.{parts}
 use Rattle.fo_mind.specs.Parts.{Parts, IsPinned, label_at, memory}
 use Rattle.fo_mind.specs.Slotted.{Slotted}

@@ -1,6 +1,6 @@
 use Rattle.std.proofs.Common.{◌≡◌, inl, inr, ℕ, [], List, Some, None, length, sym, ap, ◌∙◌, subst, arith}
-use Rattle.fo_waits.specs.declared.listed.Clearing.{Clearing}
-use Rattle.fo_waits.specs.Listed.{Clears}
+use Rattle.fo_mind.specs.of_waits.declared.listed.Clearing.{Clearing}
+use Rattle.fo_mind.specs.of_waits.Listed.{Clears}
 use Rattle.fo_mind.specs.Laws.{held_pinned}
 use Rattle.fo_mind.specs.MindParts.{parts}
 use Rattle.fo_mind.specs.Parts.{Parts, memory}

@@ -1,7 +1,7 @@
 use Rattle.std.proofs.Common.{◌<◌, [], length, refl, sym, subst}
 use Rattle.fo_disk.specs.Disk.{DiskState, IsSettled}
-use Rattle.fo_mind.specs.MindParts.{parts}
-use Rattle.fo_cache.proofs.Outcomes.{quiet_is_memory}
+use Rattle.fo_closing.specs.of_mind.MindParts.{parts}
+use Rattle.fo_settling.proofs.of_cache.Outcomes.{quiet_is_memory}
 use Rattle.fo_reserving.proofs.Joining.{closes_row}
 use Rattle.fo_reserving.proofs.Shutting.{first_same, fits_closed, labels_closed, one_closed, reserves_closed, shutting_closings}
 use Rattle.fo_reserving.proofs.closing.close_queued.Goals as goal

@@ -1,5 +1,5 @@
 use Rattle.std.proofs.Common.{inr, sym, ◌∙◌}
-use Rattle.fo_mind.specs.MindParts.{parts}
+use Rattle.fo_closing.specs.of_mind.MindParts.{parts}
 use Rattle.fo_reserving.proofs.Calming.{none_left}
 use Rattle.fo_reserving.proofs.Joining.{reserves_none}
 use Rattle.fo_reserving.proofs.closing.close_until_usable.Goals as goal

@@ -1,5 +1,5 @@
 use Rattle.std.proofs.Common.{inl, inr, ⊎_elim, arith}
-use Rattle.fo_mind.proofs.Results.{on_ok}
+use Rattle.fo_closing.proofs.of_mind.Results.{on_ok}
 use Rattle.fo_reserving.proofs.Joining.{reserves_on}
 use Rattle.fo_reserving.proofs.needs.close_more.Goals as goal
 

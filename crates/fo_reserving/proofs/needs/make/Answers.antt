@@ -1,6 +1,6 @@
 use Rattle.std.proofs.Common.{[], ap}
 use Rattle.fo_labels.specs.Region.{usable_count}
-use Rattle.fo_mind.specs.MindParts.{parts}
+use Rattle.fo_closing.specs.of_mind.MindParts.{parts}
 use Rattle.fo_reserving.proofs.Joining.{reserves_still}
 use Rattle.fo_reserving.proofs.Rooming.{few_of, few_stay, free_made, reserves_made, room_of}
 use Rattle.fo_reserving.proofs.needs.make.Goals as goal

@@ -1,7 +1,7 @@
 use Rattle.std.proofs.Common.{◌<◌, [], sym, ap, subst}
-use Rattle.fo_mind.specs.MindParts.{parts}
+use Rattle.fo_closing.specs.of_mind.MindParts.{parts}
 use Rattle.fo_labels.specs.Region.{usable_count}
-use Rattle.fo_mind.specs.Parts.{Parts}
+use Rattle.fo_closing.specs.of_mind.Parts.{Parts}
 use Rattle.fo_order.specs.Turns.{IsQuiet}
 use Rattle.fo_closing.specs.Rest.{AtRest}
 use Rattle.fo_reserving.proofs.Calming.{rest_few, settled_still, settled_whole}

@@ -1,6 +1,6 @@
 use Rattle.std.proofs.Common.{◌≡◌, [], ⊎_elim, ap, ◌∙◌, arith}
-use Rattle.fo_mind.specs.MindParts.{parts}
-use Rattle.fo_mind.specs.Parts.{Parts}
+use Rattle.fo_closing.specs.of_mind.MindParts.{parts}
+use Rattle.fo_closing.specs.of_mind.Parts.{Parts}
 use Rattle.fo_reserving.proofs.Calming.{rest_few}
 use Rattle.fo_reserving.proofs.Joining.{reserves_on}
 use Rattle.fo_reserving.proofs.Rooming.{caused_result}

@@ -1,6 +1,6 @@
 use Rattle.std.proofs.Common.{inl, []}
-use Rattle.fo_mind.specs.MindParts.{parts}
-use Rattle.fo_mind.proofs.Results.{on_ok}
+use Rattle.fo_closing.specs.of_mind.MindParts.{parts}
+use Rattle.fo_closing.proofs.of_mind.Results.{on_ok}
 use Rattle.fo_reserving.proofs.Calming.{few_order, rest_few}
 use Rattle.fo_reserving.proofs.Joining.{reserves_none}
 use Rattle.fo_reserving.proofs.needs.settle_many.Goals as goal

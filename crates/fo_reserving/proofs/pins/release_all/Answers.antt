@@ -1,7 +1,7 @@
 use Rattle.std.proofs.Common.{[], ap, subst}
 use Rattle.fo_disk.specs.Disk.{DiskState}
-use Rattle.fo_mind.specs.MindParts.{parts}
-use Rattle.fo_cache.specs.Fits.{Fits}
+use Rattle.fo_closing.specs.of_mind.MindParts.{parts}
+use Rattle.fo_settling.specs.of_cache.Fits.{Fits}
 use Rattle.fo_reserving.proofs.Joining.{reserves_still}
 use Rattle.fo_reserving.proofs.Letting.{reserves_let}
 use Rattle.fo_reserving.proofs.pins.release_all.Goals as goal

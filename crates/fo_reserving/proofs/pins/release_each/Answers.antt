@@ -1,7 +1,7 @@
 use Rattle.std.proofs.Common.{◌∙◌, [], ⊎_elim, ap, refl, arith}
 use Rattle.std.proofs.lemmas.Bool.{cases_eq}
-use Rattle.fo_mind.specs.MindParts.{parts}
-use Rattle.fo_mind.specs.Turning.{may_release}
+use Rattle.fo_closing.specs.of_mind.MindParts.{parts}
+use Rattle.fo_closing.specs.of_mind.Turning.{may_release}
 use Rattle.fo_reserving.proofs.Ending.{within, within_was}
 use Rattle.fo_reserving.proofs.Letting.{lets_none, lets_on}
 use Rattle.fo_reserving.proofs.pins.release_each.Goals as goal

@@ -1,6 +1,6 @@
 use Rattle.std.proofs.Common.{◌≡◌, ◌≤◌, ◌<◌, ℕ, [], false}
-use Rattle.fo_mind.specs.MindParts.{parts}
-use Rattle.fo_mind.specs.Turning.{may_release}
+use Rattle.fo_closing.specs.of_mind.MindParts.{parts}
+use Rattle.fo_closing.specs.of_mind.Turning.{may_release}
 use Rattle.fo_reserving.specs.Steps.{Lets}
 use Rattle.fo_reserving.proofs.pins.release_each.Given as goal
 

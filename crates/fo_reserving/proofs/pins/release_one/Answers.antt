@@ -1,5 +1,5 @@
 use Rattle.std.proofs.Common.{[], sym, ◌∙◌}
-use Rattle.fo_mind.specs.MindParts.{parts}
+use Rattle.fo_closing.specs.of_mind.MindParts.{parts}
 use Rattle.fo_reserving.proofs.Ending.{gone_may, none_may, others_may}
 use Rattle.fo_reserving.proofs.Letting.{lets_none, lets_released}
 use Rattle.fo_reserving.proofs.pins.release_one.Goals as goal

@@ -1,5 +1,5 @@
 use Rattle.std.proofs.Common.{◌∙◌, [], inl, refl, rules}
-use Rattle.fo_mind.specs.MindParts.{parts}
+use Rattle.fo_closing.specs.of_mind.MindParts.{parts}
 use Rattle.fo_reserving.proofs.Ending.{kept_gone}
 use Rattle.fo_reserving.proofs.Letting.{lets_none, lets_on}
 use Rattle.fo_reserving.proofs.pins.unpin_each.Goals as goal

@@ -1,6 +1,6 @@
 use Rattle.std.proofs.Common.{◌≡◌, ℕ, []}
-use Rattle.fo_mind.specs.MindParts.{parts}
-use Rattle.fo_mind.specs.Parts.{IsPinned, count_of}
+use Rattle.fo_closing.specs.of_mind.MindParts.{parts}
+use Rattle.fo_closing.specs.of_mind.Parts.{IsPinned, count_of}
 use Rattle.fo_reserving.specs.Steps.{IsKept, Lets, pins_below}
 use Rattle.fo_reserving.proofs.pins.unpin_each.Given as goal
 

@@ -1,6 +1,6 @@
 use Rattle.std.proofs.Common.{[], sym, subst}
-use Rattle.fo_mind.specs.MindParts.{parts}
-use Rattle.fo_mind.specs.Parts.{IsPinned, Parts}
+use Rattle.fo_closing.specs.of_mind.MindParts.{parts}
+use Rattle.fo_closing.specs.of_mind.Parts.{IsPinned, Parts}
 use Rattle.fo_reserving.specs.Steps.{IsKept, Lets}
 use Rattle.fo_reserving.proofs.Counting.{fewer_pins, unpinned_block}
 use Rattle.fo_reserving.proofs.Ending.{kept_next}

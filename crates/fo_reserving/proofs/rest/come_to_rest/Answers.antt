@@ -1,5 +1,5 @@
 use Rattle.std.proofs.Common.{[]}
-use Rattle.fo_mind.specs.MindParts.{parts}
+use Rattle.fo_closing.specs.of_mind.MindParts.{parts}
 use Rattle.fo_reserving.proofs.Calming.{quiet_let, rest_let, waits_let}
 use Rattle.fo_reserving.proofs.Ending.{held_newborn}
 use Rattle.fo_reserving.proofs.Joining.{reserves_on}

@@ -1,7 +1,7 @@
 use Rattle.std.proofs.Common.{inr, ◌<◌, List, length, sym, ◌∙◌, subst}
 use Rattle.fo_waits.specs.declared.listed.Clearing.{Clearing}
-use Rattle.fo_mind.specs.MindParts.{parts}
-use Rattle.fo_mind.proofs.Results.{on_ok}
+use Rattle.fo_closing.specs.of_mind.MindParts.{parts}
+use Rattle.fo_closing.proofs.of_mind.Results.{on_ok}
 use Rattle.fo_reserving.proofs.Calming.{none_clears, some_slot}
 use Rattle.fo_reserving.proofs.Joining.{reserves_none, reserves_of}
 use Rattle.fo_reserving.proofs.rest.settle_slots.Goals as goal

@@ -1,6 +1,6 @@
 use Rattle.std.proofs.Common.{[], ap, ◌∙◌, arith}
-use Rattle.fo_mind.specs.MindParts.{parts}
-use Rattle.fo_mind.specs.Parts.{Parts}
+use Rattle.fo_closing.specs.of_mind.MindParts.{parts}
+use Rattle.fo_closing.specs.of_mind.Parts.{Parts}
 use Rattle.fo_settling.proofs.Clearing.{lasts_renumbered, lasts_turned}
 use Rattle.fo_reserving.proofs.Calming.{always, calm_turned}
 use Rattle.fo_reserving.proofs.Joining.{reserves_eased, reserves_lasting, reserves_on}

@@ -1,7 +1,7 @@
 use Rattle.std.proofs.Common.{[], sym, ap, ◌∙◌, subst}
 use Rattle.fo_order.specs.Turns.{IsQuiet}
-use Rattle.fo_mind.specs.MindParts.{parts}
-use Rattle.fo_mind.specs.Parts.{Parts}
+use Rattle.fo_closing.specs.of_mind.MindParts.{parts}
+use Rattle.fo_closing.specs.of_mind.Parts.{Parts}
 use Rattle.fo_settling.proofs.Clearing.{lasts_waited}
 use Rattle.fo_reserving.proofs.Joining.{reserves_eased, reserves_on}
 use Rattle.fo_reserving.proofs.rest.settle_whole.Goals as goal

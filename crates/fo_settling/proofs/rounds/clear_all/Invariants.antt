@@ -1,5 +1,5 @@
 use Rattle.std.proofs.Common.{◌≡◌, ◌≤◌, [], length}
-use Rattle.fo_mind.specs.MindParts.{parts}
+use Rattle.fo_cache.specs.of_mind.MindParts.{parts}
 use Rattle.fo_cache.specs.Easing.{Eases}
 use Rattle.fo_cache.specs.Work.{calls_left}
 use Rattle.fo_settling.specs.Clearings.{Clearings}

@@ -1,5 +1,5 @@
 use Rattle.std.proofs.Common.{[], ap}
-use Rattle.fo_mind.specs.MindParts.{parts}
+use Rattle.fo_cache.specs.of_mind.MindParts.{parts}
 use Rattle.fo_settling.proofs.Clearing.{clearings_none, clearings_one}
 use Rattle.fo_settling.proofs.Costing.{touches_due, touches_none}
 use Rattle.fo_settling.proofs.rounds.clear_next.Goals as goal

@@ -1,8 +1,8 @@
 use Rattle.std.proofs.Common.{[], List, subst}
-use Rattle.fo_waits.specs.declared.listed.Wait.{Wait}
-use Rattle.fo_waits.specs.Listed.{Awaits}
-use Rattle.fo_mind.specs.MindParts.{parts}
-use Rattle.fo_mind.proofs.Results.{on_ok}
+use Rattle.fo_cache.specs.of_waits.declared.listed.Wait.{Wait}
+use Rattle.fo_cache.specs.of_waits.Listed.{Awaits}
+use Rattle.fo_cache.specs.of_mind.MindParts.{parts}
+use Rattle.fo_cache.proofs.of_mind.Results.{on_ok}
 use Rattle.fo_settling.proofs.Waiting.{clean_quiet}
 use Rattle.fo_settling.proofs.rounds.settle.Goals as goal
 

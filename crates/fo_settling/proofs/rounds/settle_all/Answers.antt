@@ -1,10 +1,10 @@
 use Rattle.std.proofs.Common.{[], sym, ap, ◌∙◌, subst, arith}
 use Rattle.fo_order.specs.Turns.{IsQuiet}
-use Rattle.fo_waits.specs.Listed.{Clears}
-use Rattle.fo_mind.specs.Parts.{IsPinned, Parts}
+use Rattle.fo_cache.specs.of_waits.Listed.{Clears}
+use Rattle.fo_cache.specs.of_mind.Parts.{IsPinned, Parts}
 use Rattle.fo_cache.proofs.Easing.{eases_on}
 use Rattle.fo_cache.proofs.Lessening.{certain_left}
-use Rattle.fo_mind.specs.MindParts.{parts}
+use Rattle.fo_cache.specs.of_mind.MindParts.{parts}
 use Rattle.fo_settling.proofs.Clearing.{clearings_of, clearings_on, lasts_on, lasts_renumbered, lasts_sealed, lasts_waited}
 use Rattle.fo_settling.specs.Costs.{Costs}
 use Rattle.fo_settling.proofs.Costing.{costs_doubted, costs_of}

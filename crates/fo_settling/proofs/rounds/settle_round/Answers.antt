@@ -1,6 +1,6 @@
 use Rattle.std.proofs.Common.{[], sym, ap, ◌∙◌, subst, arith}
-use Rattle.fo_mind.specs.MindParts.{parts}
-use Rattle.fo_mind.specs.Parts.{Parts}
+use Rattle.fo_cache.specs.of_mind.MindParts.{parts}
+use Rattle.fo_cache.specs.of_mind.Parts.{Parts}
 use Rattle.fo_cache.proofs.Easing.{eases_on}
 use Rattle.fo_cache.proofs.Lessening.{turned_left}
 use Rattle.fo_settling.specs.Costs.{Spends, most_calls, most_writes}

@@ -1,7 +1,7 @@
 use Rattle.std.proofs.Common.{◌+◌, ◌∙◌, eqb, sym, ap, subst, arith}
 use Rattle.std.specs.List.{list_all}
 use Rattle.std.proofs.lemmas.List.{take_rest}
-use Rattle.fo_meta.proofs.Leaves.{head_at}
+use Rattle.fo_ports.proofs.of_meta.Leaves.{head_at}
 use Rattle.fo_slots.specs.Formed.{RunsTo}
 use Rattle.fo_slots.proofs.Leaving.{leaf_made, leaf_zeros}
 use Rattle.fo_slots.proofs.leaf.is_leaf.Goals as goal

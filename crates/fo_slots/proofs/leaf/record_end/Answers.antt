@@ -1,5 +1,5 @@
 use Rattle.std.proofs.Common.{◌+◌, ◌≤◌, length, Some, sym, ap, subst, ◌∙◌, IsTrue, arith}
-use Rattle.fo_meta.proofs.Leaves.{record_at_is}
+use Rattle.fo_ports.proofs.of_meta.Leaves.{record_at_is}
 use Rattle.fo_slots.specs.Formed.{IsRecord}
 use Rattle.fo_slots.proofs.Leaving.{record_found, record_told}
 use Rattle.fo_slots.proofs.leaf.record_end.Goals as goal

@@ -1,5 +1,5 @@
 use Rattle.std.proofs.Common.{◌<◌, [], length, arith}
-use Rattle.fo_meta.proofs.Leaves.{here_is}
+use Rattle.fo_ports.proofs.of_meta.Leaves.{here_is}
 use Rattle.fo_slots.proofs.Leaving.{runs_more, walks_on}
 use Rattle.fo_slots.proofs.leaf.records_end.Goals as goal
 

@@ -1,7 +1,7 @@
 use Rattle.std.proofs.Common.{◌≡◌, [], List, length}
 use Rattle.fo_image.specs.declared.record.Record.{Record}
-use Rattle.fo_meta.specs.Leaf.{SpellsLeaf}
-use Rattle.fo_meta.proofs.Leaves.{Walks}
+use Rattle.fo_ports.specs.of_meta.Leaf.{SpellsLeaf}
+use Rattle.fo_ports.proofs.of_meta.Leaves.{Walks}
 use Rattle.fo_slots.specs.Formed.{RunsTo}
 use Rattle.fo_slots.proofs.leaf.records_end.Given as goal
 

@@ -1,5 +1,5 @@
 use Rattle.std.proofs.Common.{sym, ap, arith}
-use Rattle.fo_crash.specs.declared.slot.Slot.TheVariants.{Entry as Head}
+use Rattle.fo_ports.specs.of_crash.declared.slot.Slot.TheVariants.{Entry as Head}
 use Rattle.fo_slots.proofs.Meaning.{entry_meant}
 use Rattle.fo_slots.proofs.slots.entry_slot.Goals as goal
 

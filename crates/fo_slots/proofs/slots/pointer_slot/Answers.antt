@@ -1,5 +1,5 @@
 use Rattle.std.proofs.Common.{sym, ap}
-use Rattle.fo_crash.specs.declared.slot.Slot.TheVariants.{Pointer as To}
+use Rattle.fo_ports.specs.of_crash.declared.slot.Slot.TheVariants.{Pointer as To}
 use Rattle.fo_slots.proofs.Meaning.{pointer_meant}
 use Rattle.fo_slots.proofs.slots.pointer_slot.Goals as goal
 

@@ -1,5 +1,5 @@
 use Rattle.std.proofs.Common.{◌-◌, ◌≤◌}
-use Rattle.fo_crash.specs.Images.{Image}
+use Rattle.fo_buffers.specs.of_crash.Images.{Image}
 use Rattle.fo_takeout.specs.Walking.{work}
 use Rattle.fo_taking.specs.Shown.{Shows}
 use Rattle.fo_taking.specs.Taken.{Pushed, Taking}

@@ -1,6 +1,6 @@
 use Rattle.std.proofs.Common.{refl}
 use Rattle.fo_tree_look.proofs.Places.{is_here, here_owned}
-use Rattle.fo_tree_open.proofs.Opened.{hangs_below}
+use Rattle.fo_tree_link.proofs.of_tree_open.Opened.{hangs_below}
 use Rattle.fo_crash.specs.declared.slot.Slot.TheVariants.{Entry as Head}
 use Rattle.fo_tree_link.specs.Link.{entry_of}
 use Rattle.fo_tree.proofs.Hanging.{blocks_are}

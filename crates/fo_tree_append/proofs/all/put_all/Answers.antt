@@ -2,7 +2,7 @@ use Rattle.std.proofs.Common.{◌≡◌, ◌+◌, ◌-◌, ◌*◌, ◌/◌, ◌
 use Rattle.std.proofs.lemmas.Bool.{cases_eq}
 use Rattle.fo_crash.specs.Places.{super_place, root_place}
 use Rattle.fo_tree_look.specs.Source.{WayReady}
-use Rattle.fo_tree_down.specs.Way.{with_top}
+use Rattle.fo_tree_clear.specs.of_tree_down.Way.{with_top}
 use Rattle.fo_tree_clear.specs.Put.{byte_here, Puts}
 use Rattle.fo_tree_write.specs.Write.{at_top, Counted}
 use Rattle.fo_tree_write.proofs.Counting.{counted_none, counted_more, counted_end}

@@ -1,6 +1,6 @@
 use Rattle.std.proofs.Common.{◌≡◌, ◌+◌, ◌-◌, ◌/◌, ◌≤◌, ℕ, length}
 use Rattle.fo_tree_look.specs.Source.{HasBlock}
-use Rattle.fo_tree_down.specs.Way.{CurrentBut}
+use Rattle.fo_tree_clear.specs.of_tree_down.Way.{CurrentBut}
 use Rattle.fo_tree_clear.specs.Steps.{Steps}
 use Rattle.fo_tree_write.specs.Write.{at_top, Counted, Wrote}
 use Rattle.fo_tree_append.specs.Append.{OnLeaves, SpendsBut}

@@ -5,10 +5,10 @@ use Rattle.fo_ports.specs.State.{none}
 use Rattle.fo_ports.specs.Sources.{Dirties, depth_for}
 use Rattle.fo_tree_read.specs.declared.tree.Tree.{Tree}
 use Rattle.fo_tree_look.specs.Source.{HasBlock, Over, IsPlainTree, IsTopCurrent}
-use Rattle.fo_tree_down.specs.Way.{with_top}
-use Rattle.fo_tree_down.specs.Clear.{EndsClear}
-use Rattle.fo_tree_down.proofs.Dirtying.{dirties_both, dirties_most}
-use Rattle.fo_tree_down.proofs.Beside.{on_way_block}
+use Rattle.fo_tree_clear.specs.of_tree_down.Way.{with_top}
+use Rattle.fo_tree_clear.specs.of_tree_down.Clear.{EndsClear}
+use Rattle.fo_tree_clear.proofs.of_tree_down.Dirtying.{dirties_both, dirties_most}
+use Rattle.fo_tree_clear.proofs.of_tree_down.Beside.{on_way_block}
 use Rattle.fo_tree_clear.specs.Put.{byte_here}
 use Rattle.fo_tree_clear.proofs.Stepping.{steps_none}
 use Rattle.fo_tree_append.specs.Append.{ended, OnEnd}

@@ -5,7 +5,7 @@ use Rattle.fo_ports.specs.Sources.{depth_for, most_for}
 use Rattle.fo_tree_read.specs.declared.tree.Tree.{Tree}
 use Rattle.fo_tree_read.specs.Reading.{passed, most}
 use Rattle.fo_tree_look.specs.Source.{HasBlock, IsPlainTree}
-use Rattle.fo_tree_down.proofs.Dirtying.{dirties_both, dirties_most}
+use Rattle.fo_tree_clear.proofs.of_tree_down.Dirtying.{dirties_both, dirties_most}
 use Rattle.fo_tree_lift.proofs.of_tree_grow.Empty.{few_for}
 use Rattle.fo_tree_clear.specs.Steps.{Steps}
 use Rattle.fo_tree_write.specs.Write.{at_top, Wrote}

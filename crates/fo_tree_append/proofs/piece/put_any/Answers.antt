@@ -3,7 +3,7 @@ use Rattle.std.proofs.lemmas.Bool.{eqb-true, eqb-false}
 use Rattle.fo_ports.specs.State.{none}
 use Rattle.fo_ports.specs.Sources.{Dirties, most_for}
 use Rattle.fo_tree_read.specs.declared.tree.Tree.{Tree}
-use Rattle.fo_tree_down.proofs.Dirtying.{dirties_same}
+use Rattle.fo_tree_clear.proofs.of_tree_down.Dirtying.{dirties_same}
 use Rattle.fo_tree_write.proofs.Wider.{changes_wider}
 use Rattle.fo_tree_append.specs.Append.{PutsPiece}
 use Rattle.fo_tree_append.proofs.Pieces.{tree_within, tree_past, puts_none}

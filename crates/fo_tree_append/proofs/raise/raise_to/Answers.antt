@@ -7,7 +7,7 @@ use Rattle.fo_tree_read.specs.declared.tree.Tree.{Tree}
 use Rattle.fo_tree_read.specs.Tree.{kind_at}
 use Rattle.fo_tree_lift.proofs.of_tree_grow.Empty.{least_for, few_for}
 use Rattle.fo_tree_lift.proofs.Lifting.{top_ready}
-use Rattle.fo_tree_down.proofs.Dirtying.{dirties_same}
+use Rattle.fo_tree_clear.proofs.of_tree_down.Dirtying.{dirties_same}
 use Rattle.fo_tree_append.specs.Append.{ended}
 use Rattle.fo_tree_append.specs.Grown.{RaisedTo}
 use Rattle.fo_tree_append.proofs.Seeing.{depth_more, raised_none, raised_more}

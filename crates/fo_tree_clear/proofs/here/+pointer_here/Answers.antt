@@ -1,5 +1,5 @@
 use Rattle.std.proofs.Common.{◌≡◌, ◌-◌, suc, subst, arith}
-use Rattle.fo_tree_look.specs.Source.{WayReady}
+use Rattle.fo_tree_leaf.specs.of_tree_look.Source.{WayReady}
 use Rattle.fo_tree_clear.proofs.here.+pointer_here.Goals as goal
 
 pub pointer_here-above-requires : goal.pointer_here-above-requires

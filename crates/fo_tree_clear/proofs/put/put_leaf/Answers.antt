@@ -3,20 +3,20 @@ use Rattle.fo_image.specs.declared.types.Label.{Label}
 use Rattle.fo_image.specs.declared.types.Kind.{Kind}
 use Rattle.fo_image.specs.declared.types.Kind.TheVariants.{Data}
 use Rattle.fo_image.specs.declared.types.Pointer.TheVariants.{Local}
-use Rattle.fo_crash.specs.Images.{Image}
-use Rattle.fo_crash.specs.Names.{SameUse}
+use Rattle.fo_ports.specs.of_crash.Images.{Image}
+use Rattle.fo_ports.specs.of_crash.Names.{SameUse}
 use Rattle.fo_ports.specs.State.{State}
-use Rattle.fo_crash.specs.declared.place.Place.{Place}
-use Rattle.fo_crash.specs.Places.{place}
+use Rattle.fo_ports.specs.of_crash.declared.place.Place.{Place}
+use Rattle.fo_ports.specs.of_crash.Places.{place}
 use Rattle.fo_ports.specs.Blocks.{MayPut, IsFormed, put_at}
 use Rattle.fo_ports.proofs.Lengths.{length_put_at}
-use Rattle.fo_tree_read.specs.Tree.{kind_at}
-use Rattle.fo_tree_look.specs.Source.{Over}
-use Rattle.fo_tree_look.proofs.Shown.{top_ready}
-use Rattle.fo_tree_down.specs.Way.{with_top}
+use Rattle.fo_tree_leaf.specs.of_tree_read.Tree.{kind_at}
+use Rattle.fo_tree_leaf.specs.of_tree_look.Source.{Over}
+use Rattle.fo_tree_leaf.proofs.of_tree_look.Shown.{top_ready}
+use Rattle.fo_tree_leaf.specs.of_tree_down.Way.{with_top}
 use Rattle.fo_tree_leaf.proofs.Owning.{top_current}
 use Rattle.fo_tree_clear.specs.Put.{IsInnerOr}
-use Rattle.fo_tree_down.proofs.Next.{on_way_last}
+use Rattle.fo_tree_leaf.proofs.of_tree_down.Next.{on_way_last}
 use Rattle.fo_tree_clear.proofs.Same.{has_back, has_on, way_back, current_on}
 use Rattle.fo_tree_clear.proofs.Counting.{way_put, ways_put}
 use Rattle.fo_tree_clear.proofs.Descending.{steps_down, steps_put}

@@ -1,8 +1,8 @@
 use Rattle.std.proofs.Common.{◌≡◌, ◌+◌, ◌-◌, ◌*◌, ◌/◌, ◌%◌, inl, ⊎_elim, ◌∙◌, ap, subst, arith}
 use Rattle.std.proofs.lemmas.Bool.{cases_eq}
-use Rattle.fo_tree_read.specs.Tree.{block_at}
-use Rattle.fo_tree_look.specs.Source.{WayReady, HasBlock, seen}
-use Rattle.fo_tree_down.proofs.Dirtying.{dirties_same}
+use Rattle.fo_tree_leaf.specs.of_tree_read.Tree.{block_at}
+use Rattle.fo_tree_leaf.specs.of_tree_look.Source.{WayReady, HasBlock, seen}
+use Rattle.fo_tree_leaf.proofs.of_tree_down.Dirtying.{dirties_same}
 use Rattle.fo_tree_clear.specs.Put.{IsInnerOrEnd}
 use Rattle.fo_tree_clear.proofs.Putting.{changes_none}
 use Rattle.fo_tree_clear.proofs.Zeros.{byte_past, byte_nil}

@@ -1,5 +1,5 @@
 use Rattle.std.proofs.Common.{◌≡◌, ◌-◌, ◌/◌, subst, arith}
-use Rattle.fo_tree_look.specs.Source.{WayReady}
+use Rattle.fo_tree_leaf.specs.of_tree_look.Source.{WayReady}
 use Rattle.fo_tree_clear.proofs.tail.ends_here.Goals as goal
 
 pub pointer_here-last-requires-clause-down : goal.pointer_here-last-requires-clause-down

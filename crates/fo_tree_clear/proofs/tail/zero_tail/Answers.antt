@@ -1,10 +1,10 @@
 use Rattle.std.proofs.Common.{◌+◌, ◌-◌, ◌*◌, ◌/◌, ◌%◌, ℕ, take, drop, inl, inr, ⊎_elim, refl, arith}
 use Rattle.std.proofs.lemmas.List.{length-take, length-drop}
-use Rattle.fo_tree_look.specs.Source.{Over}
-use Rattle.fo_tree_look.proofs.Shown.{top_ready}
-use Rattle.fo_tree_down.specs.Way.{with_top}
-use Rattle.fo_tree_down.proofs.Dirtying.{dirties_counts}
-use Rattle.fo_tree_down.proofs.Sparing.{but_whole, but_more}
+use Rattle.fo_tree_leaf.specs.of_tree_look.Source.{Over}
+use Rattle.fo_tree_leaf.proofs.of_tree_look.Shown.{top_ready}
+use Rattle.fo_tree_leaf.specs.of_tree_down.Way.{with_top}
+use Rattle.fo_tree_leaf.proofs.of_tree_down.Dirtying.{dirties_counts}
+use Rattle.fo_tree_leaf.proofs.of_tree_down.Sparing.{but_whole, but_more}
 use Rattle.fo_tree_clear.specs.Put.{IsInnerOrEnd}
 use Rattle.fo_tree_clear.proofs.Putting.{changes_wider}
 use Rattle.fo_tree_clear.proofs.Zeros.{TailPut, part_zero, owned_tail, zeros_end, bytes_before, end_block, there}

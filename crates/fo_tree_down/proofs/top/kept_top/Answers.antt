@@ -1,12 +1,12 @@
 use Rattle.std.proofs.Common.{◌+◌, ◌-◌, ◌^◌, refl, sym, ap, ◌∙◌, subst, arith}
 use Rattle.fo_image.specs.declared.types.State.TheVariants.{Live}
 use Rattle.fo_image.specs.declared.types.Pointer.{Pointer}
-use Rattle.fo_crash.specs.declared.place.Place.{Place}
-use Rattle.fo_crash.specs.Places.{place}
-use Rattle.fo_ports.specs.Blocks.{blank, IsLevel}
-use Rattle.fo_ports.specs.State.{Gives}
-use Rattle.fo_looks.proofs.Looks.{rooted_of_apart}
-use Rattle.fo_tree_read.specs.Tree.{kind_at}
+use Rattle.fo_tree_own.specs.of_crash.declared.place.Place.{Place}
+use Rattle.fo_tree_own.specs.of_crash.Places.{place}
+use Rattle.fo_tree_look.specs.of_ports.Blocks.{blank, IsLevel}
+use Rattle.fo_tree_look.specs.of_ports.State.{Gives}
+use Rattle.fo_tree_look.proofs.of_looks.Looks.{rooted_of_apart}
+use Rattle.fo_tree_look.specs.of_tree_read.Tree.{kind_at}
 use Rattle.fo_tree_own.specs.Step.{Becomes}
 use Rattle.fo_tree_own.proofs.Link.{blank_leads, came, came_filled}
 use Rattle.fo_tree_own.proofs.Filling.{bare_gives}

@@ -1,11 +1,11 @@
 use Rattle.std.proofs.Common.{◌+◌, ◌-◌, ◌^◌, length, refl, sym, ap, ◌∙◌, subst, arith}
 use Rattle.fo_image.specs.declared.types.State.TheVariants.{Live}
 use Rattle.fo_image.specs.declared.types.Pointer.{Pointer}
-use Rattle.fo_crash.specs.Places.{place}
-use Rattle.fo_ports.specs.Blocks.{blank, IsLevel}
-use Rattle.fo_ports.specs.State.{Gives}
-use Rattle.fo_ports.proofs.Lengths.{length_zero_bytes}
-use Rattle.fo_tree_read.specs.Tree.{kind_at}
+use Rattle.fo_tree_own.specs.of_crash.Places.{place}
+use Rattle.fo_tree_look.specs.of_ports.Blocks.{blank, IsLevel}
+use Rattle.fo_tree_look.specs.of_ports.State.{Gives}
+use Rattle.fo_tree_look.proofs.of_ports.Lengths.{length_zero_bytes}
+use Rattle.fo_tree_look.specs.of_tree_read.Tree.{kind_at}
 use Rattle.fo_tree_own.specs.Step.{Becomes}
 use Rattle.fo_tree_own.proofs.Link.{came}
 use Rattle.fo_tree_down.proofs.Topping.{comes_topped, top_topped, came_made, level_at, nil_local}

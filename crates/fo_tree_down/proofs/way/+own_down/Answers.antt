@@ -4,10 +4,10 @@ use Rattle.std.proofs.lemmas.Bool.{cases_eq}
 use Rattle.std.proofs.lemmas.List.Elements.{Contains-append_left, Contains-append_right}
 use Rattle.std.proofs.Math.Nat.{pow-succ'}
 use Rattle.fo_image.specs.declared.types.Pointer.TheVariants.{Local}
-use Rattle.fo_crash.specs.Images.{target}
-use Rattle.fo_crash.specs.Places.{super_place, root_place}
-use Rattle.fo_ports.specs.Sources.{Made, Dirties}
-use Rattle.fo_tree_read.specs.Tree.{kind_down, below, block_at, above as hold}
+use Rattle.fo_tree_own.specs.of_crash.Images.{target}
+use Rattle.fo_tree_own.specs.of_crash.Places.{super_place, root_place}
+use Rattle.fo_tree_look.specs.of_ports.Sources.{Made, Dirties}
+use Rattle.fo_tree_look.specs.of_tree_read.Tree.{kind_down, below, block_at, above as hold}
 use Rattle.fo_tree_look.specs.Source.{seen, IsTold, WayReady}
 use Rattle.fo_tree_own.specs.Step.{IsOwn, CanOwn, Becomes, Links}
 use Rattle.fo_tree_down.specs.Way.{OnWay, Comes, Leads, IsTopOf, WayCurrent, CurrentBut, HasWay, AddsWay, with_top}

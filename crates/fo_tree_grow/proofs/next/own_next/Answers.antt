@@ -1,11 +1,11 @@
 use Rattle.std.proofs.Common.{◌≡◌, ◌≢◌, ◌⊎◌, ◌+◌, ◌*◌, ◌^◌, ◌≤◌, ℕ, inl, inr, ⊎_elim, refl, sym, ◌∙◌, subst, arith}
 use Rattle.fo_ports.specs.Sources.{Made, IsEnough, Owned, Changes, Dirties, Grows, most_to_own}
-use Rattle.fo_tree_read.specs.declared.tree.Tree.{Tree}
-use Rattle.fo_tree_read.specs.Tree.{kind_at}
-use Rattle.fo_tree_look.specs.Source.{Over, Prepared, WayReady, IsTopCurrent, HasBlock, form_of, leaves_of}
-use Rattle.fo_tree_down.specs.Way.{OnWay, Descends, IsTopOf, with_top}
-use Rattle.fo_tree_down.specs.Clear.{EndsClear, last_leaf}
-use Rattle.fo_tree_down.proofs.Dirtying.{dirties_most}
+use Rattle.fo_tree_raise.specs.of_tree_read.declared.tree.Tree.{Tree}
+use Rattle.fo_tree_raise.specs.of_tree_read.Tree.{kind_at}
+use Rattle.fo_tree_leaf.specs.of_tree_look.Source.{Over, Prepared, WayReady, IsTopCurrent, HasBlock, form_of, leaves_of}
+use Rattle.fo_tree_leaf.specs.of_tree_down.Way.{OnWay, Descends, IsTopOf, with_top}
+use Rattle.fo_tree_leaf.specs.of_tree_down.Clear.{EndsClear, last_leaf}
+use Rattle.fo_tree_leaf.proofs.of_tree_down.Dirtying.{dirties_most}
 use Rattle.fo_tree_leaf.proofs.Owning.{most_within}
 use Rattle.fo_tree_grow.specs.Grow.{sized}
 use Rattle.fo_tree_grow.proofs.Sizing.{room_for, has_back, has_sized, top_sized, over_sized, prepared_sized, address_sized, held_sized, clear_sized}

@@ -3,13 +3,13 @@ use Rattle.std.proofs.lemmas.Bool.{cases_eq, cases_lt}
 use Rattle.fo_sparse.specs.Written.{resized}
 use Rattle.fo_image.specs.declared.types.State.TheVariants.{Live}
 use Rattle.fo_image.specs.Format.{IsDepth}
-use Rattle.fo_crash.specs.Places.{super_place, root_place}
+use Rattle.fo_ports.specs.of_crash.Places.{super_place, root_place}
 use Rattle.fo_ports.specs.Sources.{Changes, Dirties, Grows, Owned, depth_for, most_to_own}
 use Rattle.fo_tree_read.specs.declared.tree.Tree.{Tree}
 use Rattle.fo_tree_read.specs.Tree.{kind_at}
 use Rattle.fo_tree_look.specs.Source.{Over, HasBlock, IsPlainTree, Prepared, IsTopCurrent, form_of, leaves_of}
-use Rattle.fo_tree_down.specs.Way.{OnWay, Descends, IsTopOf, with_top}
-use Rattle.fo_tree_down.specs.Clear.{EndsClear}
+use Rattle.fo_tree_clear.specs.of_tree_down.Way.{OnWay, Descends, IsTopOf, with_top}
+use Rattle.fo_tree_clear.specs.of_tree_down.Clear.{EndsClear}
 use Rattle.fo_image.specs.declared.types.Pointer.TheVariants.{Local}
 use Rattle.fo_ports.specs.State.{none}
 use Rattle.fo_ports.specs.Sources.{Made}
@@ -19,7 +19,7 @@ use Rattle.fo_tree_lift.proofs.of_tree_grow.Empty.{least_for}
 use Rattle.fo_tree_lift.proofs.of_tree_grow.Sizing.{room_for}
 use Rattle.fo_tree_lift.specs.Owns.{with_leaf}
 use Rattle.fo_tree_lift.proofs.Choosing.{max_right, leaf_next, leaf_past, most_past, ends_past, changes_wide}
-use Rattle.fo_tree_down.proofs.Dirtying.{dirties_both, dirties_most}
+use Rattle.fo_tree_clear.proofs.of_tree_down.Dirtying.{dirties_both, dirties_most}
 use Rattle.fo_tree_clear.proofs.Putting.{changes_wider}
 use Rattle.fo_tree_grown.specs.Zeroed.{OwnsZeroed}
 use Rattle.fo_tree_grown.proofs.Leaves.{owned_end}

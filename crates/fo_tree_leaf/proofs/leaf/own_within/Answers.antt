@@ -1,5 +1,5 @@
 use Rattle.std.proofs.Common.{◌≡◌, ◌+◌, ◌-◌, ◌*◌, ◌/◌, ◌≤◌, inl, inr, ⊎_elim, refl, subst, arith}
-use Rattle.fo_ports.specs.Sources.{most_to_own}
+use Rattle.fo_tree_look.specs.of_ports.Sources.{most_to_own}
 use Rattle.fo_tree_look.specs.Source.{WayReady}
 use Rattle.fo_tree_look.proofs.Shown.{top_ready, held_on}
 use Rattle.fo_tree_down.specs.Way.{OnWay, Descends, with_top}

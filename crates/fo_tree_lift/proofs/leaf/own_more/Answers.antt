@@ -3,7 +3,7 @@ use Rattle.fo_sparse.specs.Written.{resized}
 use Rattle.fo_ports.specs.Sources.{depth_for, most_to_own}
 use Rattle.fo_tree_read.specs.declared.tree.Tree.{Tree}
 use Rattle.fo_tree_look.specs.Source.{leaves_of}
-use Rattle.fo_tree_down.proofs.Dirtying.{dirties_most}
+use Rattle.fo_tree_grow.proofs.of_tree_down.Dirtying.{dirties_most}
 use Rattle.fo_tree_lift.specs.Owns.{OwnsLeaf}
 use Rattle.fo_tree_lift.proofs.Choosing.{max_right, leaf_past, leaf_next, most_past, ends_past, changes_wide}
 use Rattle.fo_tree_lift.proofs.leaf.own_more.Goals as goal

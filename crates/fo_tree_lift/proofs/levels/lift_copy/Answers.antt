@@ -4,11 +4,11 @@ use Rattle.fo_image.specs.declared.types.Pointer.TheVariants.{Local}
 use Rattle.fo_ports.specs.Sources.{Made, ComesFor}
 use Rattle.fo_tree_read.specs.declared.tree.Tree.{Tree}
 use Rattle.fo_tree_look.specs.Source.{HasBlock}
-use Rattle.fo_tree_own.specs.Step.{Becomes}
-use Rattle.fo_tree_down.specs.Way.{with_top}
-use Rattle.fo_tree_down.proofs.Dirtying.{dirties_both, dirties_most}
-use Rattle.fo_tree_raise.specs.Raise.{CanRaise}
-use Rattle.fo_tree_raise.proofs.Bearing.{bears}
+use Rattle.fo_tree_grow.specs.of_tree_own.Step.{Becomes}
+use Rattle.fo_tree_grow.specs.of_tree_down.Way.{with_top}
+use Rattle.fo_tree_grow.proofs.of_tree_down.Dirtying.{dirties_both, dirties_most}
+use Rattle.fo_tree_grow.specs.of_tree_raise.Raise.{CanRaise}
+use Rattle.fo_tree_grow.proofs.of_tree_raise.Bearing.{bears}
 use Rattle.fo_tree_lift.proofs.Join.{Follows, adds_join, made_first, made_second, made_either}
 use Rattle.fo_tree_lift.proofs.Lifting.{Copied, Raised, new_top, copied_back, copied_on, copied_top, leaf_copied, new_copied, ways_copied, instead_copied}
 use Rattle.fo_tree_lift.proofs.levels.lift_copy.Goals as goal

@@ -1,7 +1,7 @@
 use Rattle.std.proofs.Common.{inl, inr, ⊎_elim}
-use Rattle.fo_tree_own.proofs.Link.{Laws}
-use Rattle.fo_tree_raise.proofs.Standing.{can_raise}
-use Rattle.fo_tree_raise.proofs.Bearing.{bears}
+use Rattle.fo_tree_grow.proofs.of_tree_own.Link.{Laws}
+use Rattle.fo_tree_grow.proofs.of_tree_raise.Standing.{can_raise}
+use Rattle.fo_tree_grow.proofs.of_tree_raise.Bearing.{bears}
 use Rattle.fo_tree_lift.proofs.Lifting.{new_top}
 use Rattle.fo_tree_lift.proofs.levels.lift_top.Goals as goal
 

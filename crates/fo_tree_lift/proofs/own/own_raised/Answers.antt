@@ -3,9 +3,9 @@ use Rattle.fo_sparse.specs.Written.{resized}
 use Rattle.fo_ports.specs.Sources.{Dirties, Grows, Owned, depth_for}
 use Rattle.fo_tree_read.specs.declared.tree.Tree.{Tree}
 use Rattle.fo_tree_look.specs.Source.{Over, HasBlock, WayReady, IsTopCurrent, form_of, leaves_of}
-use Rattle.fo_tree_down.specs.Way.{with_top}
-use Rattle.fo_tree_down.proofs.Dirtying.{dirties_both, dirties_most, dirties_end}
-use Rattle.fo_tree_down.specs.Clear.{EndsClear, last_leaf}
+use Rattle.fo_tree_grow.specs.of_tree_down.Way.{with_top}
+use Rattle.fo_tree_grow.proofs.of_tree_down.Dirtying.{dirties_both, dirties_most, dirties_end}
+use Rattle.fo_tree_grow.specs.of_tree_down.Clear.{EndsClear, last_leaf}
 use Rattle.fo_tree_grow.specs.Grow.{shaped}
 use Rattle.fo_tree_grow.proofs.Empty.{least_for, few_for}
 use Rattle.fo_tree_lift.proofs.Lifting.{top_ready}

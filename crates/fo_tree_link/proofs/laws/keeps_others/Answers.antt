@@ -1,4 +1,4 @@
-use Rattle.fo_tree_own.proofs.Link.{Laws}
+use Rattle.fo_tree_down.proofs.of_tree_own.Link.{Laws}
 use Rattle.fo_tree_link.proofs.Twice.{others_twice}
 use Rattle.fo_tree_link.proofs.laws.keeps_others.Given as given
 use Rattle.fo_tree_link.proofs.laws.keeps_others.Goals as goal

@@ -1,4 +1,4 @@
-use Rattle.fo_tree_own.proofs.Link.{Laws}
+use Rattle.fo_tree_down.proofs.of_tree_own.Link.{Laws}
 use Rattle.fo_tree_link.proofs.Changed.{can_link}
 use Rattle.fo_tree_link.proofs.laws.may_link.Given as given
 use Rattle.fo_tree_link.proofs.laws.may_link.Goals as goal

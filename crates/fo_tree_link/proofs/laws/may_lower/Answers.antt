@@ -8,7 +8,7 @@ use Rattle.fo_tree_look.specs.declared.ways.Kept.{Kept}
 use Rattle.fo_tree_look.specs.Source.{Over}
 use Rattle.fo_tree_open.specs.Open.{HasEntry}
 use Rattle.fo_tree_link.specs.Change.{HangsInTree}
-use Rattle.fo_tree_own.proofs.Link.{Laws}
+use Rattle.fo_tree_down.proofs.of_tree_own.Link.{Laws}
 use Rattle.fo_tree_link.specs.Link.{entry_of}
 use Rattle.fo_tree_link.proofs.Lowered.{can_lower, first_of}
 use Rattle.fo_tree_link.proofs.Linked.{Linked, same_link}

@@ -6,11 +6,11 @@ use Rattle.fo_ports.specs.Blocks.{cost, slot_count, SlotFits}
 use Rattle.fo_ports.specs.State.{Frame, Hangs, MayPutSlot}
 use Rattle.fo_crash.specs.Images.{target}
 use Rattle.fo_image.specs.declared.types.Pointer.TheVariants.{Local}
-use Rattle.fo_looks.proofs.Dirtied.{dirties_put}
+use Rattle.fo_tree_read.proofs.of_looks.Dirtied.{dirties_put}
 use Rattle.fo_tree_read.specs.declared.tree.Tree.{Tree}
 use Rattle.fo_tree_look.specs.declared.ways.Kept.{Kept}
 use Rattle.fo_tree_look.specs.Source.{Over}
-use Rattle.fo_tree_own.proofs.Link.{Laws}
+use Rattle.fo_tree_down.proofs.of_tree_own.Link.{Laws}
 use Rattle.fo_tree_open.specs.Open.{HasEntry}
 use Rattle.fo_tree_link.specs.Link.{entry_of, CanLink}
 use Rattle.fo_tree_link.proofs.May.{Linking, may_spell, may_put}

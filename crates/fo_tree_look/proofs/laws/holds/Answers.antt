@@ -1,5 +1,5 @@
 use Rattle.std.proofs.Common.{arith}
-use Rattle.fo_crash.specs.Places.{place}
+use Rattle.fo_tree_read.specs.of_crash.Places.{place}
 use Rattle.fo_tree_read.specs.Tree.{kind_at}
 use Rattle.fo_tree_look.proofs.Places.{is_here, here_owned, none_here, leaf_there, leaves_apart, leaf_at_place, block_tag}
 use Rattle.fo_tree_look.proofs.Shown.{address_past, held_past}

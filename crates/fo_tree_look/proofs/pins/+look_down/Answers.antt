@@ -1,7 +1,7 @@
 use Rattle.std.proofs.Common.{rules, ◌≡◌, ◌-◌, ◌/◌, ◌%◌, ◌≤◌, ℕ, suc, List, IfErr, inl, refl, sym, ◌∙◌, subst, arith}
 use Rattle.fo_image.specs.Format.{kind_code}
 use Rattle.fo_tree_read.specs.Tree.{below, block_at, kind_down, Got, Failed, Refused, Names}
-use Rattle.fo_looks.proofs.Looks.{looks_joins}
+use Rattle.fo_tree_read.proofs.of_looks.Looks.{looks_joins}
 use Rattle.fo_tree_read.proofs.Looks.{any_refused_later, any_failed_later, any_failed_refused}
 use Rattle.fo_tree_read.proofs.Walk.{hangs_looks, names_looks}
 use Rattle.fo_tree_look.specs.declared.ways.Kept.{Kept}

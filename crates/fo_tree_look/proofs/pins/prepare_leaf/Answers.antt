@@ -1,6 +1,6 @@
 use Rattle.std.proofs.Common.{rules, ◌/◌, IfErr}
 use Rattle.fo_tree_read.specs.Tree.{Refused, Names}
-use Rattle.fo_looks.proofs.Looks.{looks_joins}
+use Rattle.fo_tree_read.proofs.of_looks.Looks.{looks_joins}
 use Rattle.fo_tree_read.proofs.Looks.{any_refused_later}
 use Rattle.fo_tree_read.proofs.Walk.{names_looks}
 use Rattle.fo_tree_look.proofs.Shown.{over_looks, extends_none}

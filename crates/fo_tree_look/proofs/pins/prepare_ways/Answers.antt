@@ -2,7 +2,7 @@ use Rattle.std.proofs.Common.{rules, ◌≡◌, ◌+◌, ◌-◌, ◌/◌, ◌%�
 use Rattle.std.proofs.lemmas.Bool.{cases_lt}
 use Rattle.fo_tree_read.specs.Tree.{Refused, Names}
 use Rattle.fo_tree_read.specs.Reading.{most, HasLeafPins, HasPassed}
-use Rattle.fo_looks.proofs.Looks.{looks_joins}
+use Rattle.fo_tree_read.proofs.of_looks.Looks.{looks_joins}
 use Rattle.fo_tree_read.proofs.Looks.{any_refused_later}
 use Rattle.fo_tree_read.proofs.Exits.{looks_none}
 use Rattle.fo_tree_read.proofs.Walk.{names_looks}

@@ -1,5 +1,5 @@
 use Rattle.std.proofs.Common.{◌-◌, ◌≤◌}
-use Rattle.fo_ports.specs.State.{Looks}
+use Rattle.fo_tree_read.specs.of_ports.State.{Looks}
 use Rattle.fo_tree_read.specs.Reading.{most, HasPassed}
 use Rattle.fo_tree_look.specs.Source.{Extends, WaysReady}
 use Rattle.fo_tree_look.proofs.pins.prepare_ways.Given as goal

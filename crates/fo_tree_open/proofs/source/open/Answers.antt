@@ -1,8 +1,8 @@
 use Rattle.std.proofs.Common.{◌≡◌, ◌^◌, ◌<◌, ◌≤◌, ℕ, [], ap, subst, sym, ◌∙◌}
 use Rattle.fo_image.specs.declared.types.Entry.{Entry}
-use Rattle.fo_crash.specs.declared.slot.Slot.TheVariants.{Entry as Head}
-use Rattle.fo_crash.specs.Images.{Reaches, target, to_block}
-use Rattle.fo_ports.specs.Blocks.{IsEntry}
+use Rattle.fo_tree_look.specs.of_crash.declared.slot.Slot.TheVariants.{Entry as Head}
+use Rattle.fo_tree_look.specs.of_crash.Images.{Reaches, target, to_block}
+use Rattle.fo_tree_look.specs.of_ports.Blocks.{IsEntry}
 use Rattle.fo_tree_look.specs.Source.{Over, HasBlock}
 use Rattle.fo_tree_open.specs.Open.{HasEntry, IsFit, CanOpen, tree_of}
 use Rattle.fo_tree_open.proofs.Opened.{Opens, entry_fits, entry_within, over_opened, linked_opened}

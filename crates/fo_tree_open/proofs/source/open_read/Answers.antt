@@ -2,7 +2,7 @@ use Rattle.std.proofs.Common.{◌≡◌, ◌^◌, ◌<◌, ◌≤◌, ℕ, [], s
 use Rattle.fo_image.specs.declared.types.Entry.{Entry}
 use Rattle.fo_image.specs.declared.types.Pointer.TheVariants.{Local}
 use Rattle.fo_image.specs.Format.{EntryHolds}
-use Rattle.fo_crash.specs.Images.{Reaches, to_block}
+use Rattle.fo_tree_look.specs.of_crash.Images.{Reaches, to_block}
 use Rattle.fo_tree_look.specs.Source.{Over, HasBlock}
 use Rattle.fo_tree_open.specs.Open.{IsFit, StandsIn, tree_of}
 use Rattle.fo_tree_open.proofs.Opened.{Opens, over_opened, linked_opened}

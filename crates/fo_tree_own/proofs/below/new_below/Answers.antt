@@ -3,11 +3,11 @@ use Rattle.fo_image.specs.declared.types.State.TheVariants.{Live}
 use Rattle.fo_image.specs.declared.types.Pointer.TheVariants.{Nil}
 use Rattle.fo_crash.specs.Images.{target}
 use Rattle.fo_crash.specs.Places.{place}
-use Rattle.fo_ports.specs.State.{Gives}
+use Rattle.fo_tree_look.specs.of_ports.State.{Gives}
 use Rattle.fo_crash.proofs.Reach.{lost}
-use Rattle.fo_ports.specs.Blocks.{blank, IsLevel}
-use Rattle.fo_ports.proofs.Lengths.{length_zero_bytes}
-use Rattle.fo_tree_read.specs.Tree.{kind_at}
+use Rattle.fo_tree_look.specs.of_ports.Blocks.{blank, IsLevel}
+use Rattle.fo_tree_look.proofs.of_ports.Lengths.{length_zero_bytes}
+use Rattle.fo_tree_look.specs.of_tree_read.Tree.{kind_at}
 use Rattle.fo_tree_own.proofs.Link.{came, blank_leads, same, at_current, unwaited, may_spell, may_settled, may_lead, may_cost, none_dropped}
 use Rattle.fo_tree_own.proofs.May.{Making, may_put, new_shown, slot_none, nil_leads, level_of}
 use Rattle.fo_tree_own.proofs.After.{links}

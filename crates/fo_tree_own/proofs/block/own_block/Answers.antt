@@ -1,5 +1,5 @@
 use Rattle.std.proofs.Common.{◌%◌, ◌<◌, sym, subst, arith}
-use Rattle.fo_ports.specs.Blocks.{slot_count}
+use Rattle.fo_tree_look.specs.of_ports.Blocks.{slot_count}
 use Rattle.fo_tree_own.proofs.Link.{inner_slots}
 use Rattle.fo_tree_own.proofs.block.own_block.Goals as goal
 

@@ -1,7 +1,7 @@
 use Rattle.std.proofs.Common.{◌+◌, List, ℕ, length, sym, ap, ◌∙◌, subst, arith}
 use Rattle.fo_image.specs.declared.types.Kind.{Kind}
 use Rattle.fo_image.specs.declared.types.Kind.TheVariants.{Data}
-use Rattle.fo_ports.specs.Blocks.{MayPut, IsFormed, put_at}
+use Rattle.fo_tree_look.specs.of_ports.Blocks.{MayPut, IsFormed, put_at}
 use Rattle.fo_tree_own.proofs.Filling.{whole_put, filled_bytes, bare_bytes}
 use Rattle.fo_tree_own.proofs.fill.fill_leaf.Goals as goal
 

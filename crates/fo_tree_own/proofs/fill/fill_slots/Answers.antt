@@ -3,7 +3,7 @@ use Rattle.std.proofs.lemmas.Bool.{cases_lt}
 use Rattle.fo_image.specs.declared.types.Pointer.{Pointer}
 use Rattle.fo_image.specs.Format.{PointerHolds}
 use Rattle.fo_crash.specs.declared.slot.Slot.TheVariants.{Pointer as To}
-use Rattle.fo_tree_read.specs.Tree.{score_of}
+use Rattle.fo_tree_look.specs.of_tree_read.Tree.{score_of}
 use Rattle.fo_tree_own.proofs.Filling.{score_holds, score_leads, filled_none, filled_joins}
 use Rattle.fo_tree_own.proofs.fill.fill_slots.Goals as goal
 

@@ -1,7 +1,7 @@
 use Rattle.std.proofs.Common.{◌≡◌, ◌*◌, ◌<◌, ℕ, take, drop}
 use Rattle.fo_image.specs.declared.types.Kind.{Kind}
 use Rattle.fo_crash.specs.declared.slot.Slot.TheVariants.{Pointer as To}
-use Rattle.fo_tree_read.specs.Tree.{score_of}
+use Rattle.fo_tree_look.specs.of_tree_read.Tree.{score_of}
 use Rattle.fo_tree_own.specs.Step.{IsBare, Filled}
 use Rattle.fo_tree_own.proofs.fill.fill_slots.Given as goal
 

@@ -1,6 +1,6 @@
 use Rattle.std.proofs.Common.{◌≡◌, ◌%◌, ⊎_elim, ap, ◌∙◌, arith}
-use Rattle.fo_tree_read.specs.Tree.{kind_at}
-use Rattle.fo_tree_read.proofs.Walk.{inner_kind}
+use Rattle.fo_tree_look.specs.of_tree_read.Tree.{kind_at}
+use Rattle.fo_tree_look.proofs.of_tree_read.Walk.{inner_kind}
 use Rattle.fo_tree_look.specs.Source.{IsPlainTree}
 use Rattle.fo_tree_own.proofs.kept.fill_kept.Goals as goal
 

@@ -7,8 +7,8 @@ use Rattle.fo_image.specs.declared.types.Pointer.TheVariants.{Nil, Local}
 use Rattle.fo_crash.specs.Places.{place}
 use Rattle.fo_tree_read.specs.Tree.{kind_at}
 use Rattle.fo_tree_look.specs.Source.{IsPrepared, WayReady, Ready}
-use Rattle.fo_tree_own.specs.Step.{Becomes}
-use Rattle.fo_tree_own.proofs.Link.{Laws, came, local_eq}
+use Rattle.fo_tree_down.specs.of_tree_own.Step.{Becomes}
+use Rattle.fo_tree_down.proofs.of_tree_own.Link.{Laws, came, local_eq}
 use Rattle.fo_tree_down.specs.Way.{Comes}
 use Rattle.fo_tree_down.proofs.Dirtying.{dirties_made}
 use Rattle.fo_tree_down.proofs.Topping.{Topped, comes_topped, top_topped, came_made}

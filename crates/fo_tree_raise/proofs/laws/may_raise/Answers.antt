@@ -1,4 +1,4 @@
-use Rattle.fo_tree_own.proofs.Link.{Laws}
+use Rattle.fo_tree_down.proofs.of_tree_own.Link.{Laws}
 use Rattle.fo_tree_raise.proofs.Standing.{can_raise}
 use Rattle.fo_tree_raise.proofs.laws.may_raise.Goals as goal
 

@@ -8,7 +8,7 @@ use Rattle.fo_ports.specs.Blocks.{blank, IsLevel, cost}
 use Rattle.fo_ports.specs.State.{Gives}
 use Rattle.fo_ports.proofs.Lengths.{length_zero_bytes}
 use Rattle.fo_tree_read.specs.Tree.{kind_at}
-use Rattle.fo_tree_own.proofs.Link.{Laws, came, blank_leads}
+use Rattle.fo_tree_down.proofs.of_tree_own.Link.{Laws, came, blank_leads}
 use Rattle.fo_tree_raise.proofs.May.{Lifting, level_of, blank_first, may_spell, may_lead, may_settled, may_cost, none_dropped, may_put}
 use Rattle.fo_tree_raise.proofs.Raising.{Lifted, raises, again}
 use Rattle.fo_tree_raise.proofs.Levels.{still_prepared, block_raised, block_none, owned_back, owned_on}

@@ -6,7 +6,7 @@ use Rattle.fo_ports.specs.Sources.{IsReady, StaysReady, depth_for}
 use Rattle.fo_tree_read.specs.declared.tree.Tree.{Tree}
 use Rattle.fo_tree_look.specs.Source.{Ready}
 use Rattle.fo_tree_down.specs.Clear.{last_leaf}
-use Rattle.fo_tree_own.proofs.Link.{Laws}
+use Rattle.fo_tree_down.proofs.of_tree_own.Link.{Laws}
 use Rattle.fo_tree_link.specs.Link.{CanLink, entry_of}
 use Rattle.fo_tree_link.proofs.Changed.{can_link}
 use Rattle.fo_tree_trim.proofs.Counting.{adds_beside}

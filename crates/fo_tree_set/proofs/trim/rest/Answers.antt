@@ -1,10 +1,10 @@
 use Rattle.std.proofs.Common.{◌≡◌, ◌⊎◌, ℕ, inr, ◌∙◌, ap, subst, arith}
 use Rattle.fo_ports.specs.State.{IsDoomed}
-use Rattle.fo_looks.proofs.Dirtied.{dirties_joins, dirties_rests}
+use Rattle.fo_tree_read.proofs.of_looks.Dirtied.{dirties_joins, dirties_rests}
 use Rattle.fo_tree_read.specs.declared.tree.Tree.{Tree}
 use Rattle.fo_tree_look.specs.Source.{HasBlock}
 use Rattle.fo_tree_down.specs.Clear.{last_leaf}
-use Rattle.fo_tree_own.proofs.Link.{Laws}
+use Rattle.fo_tree_down.proofs.of_tree_own.Link.{Laws}
 use Rattle.fo_tree_trim.proofs.Counting.{ends_settled}
 use Rattle.fo_tree_trim.proofs.Knowing.{end_known}
 use Rattle.fo_tree_shorten.specs.Shorten.{EntryAt}

@@ -4,7 +4,7 @@ use Rattle.fo_image.specs.declared.types.Pointer.TheVariants.{Local}
 use Rattle.fo_tree_read.specs.declared.tree.Tree.{Tree}
 use Rattle.fo_tree_look.specs.declared.ways.Kept.{Kept}
 use Rattle.fo_tree_look.specs.Source.{Over}
-use Rattle.fo_tree_down.specs.Clear.{last_leaf}
+use Rattle.fo_tree_link.specs.of_tree_down.Clear.{last_leaf}
 use Rattle.fo_tree_trim.proofs.Along.{Aside, on_device}
 use Rattle.fo_tree_trim.proofs.Ending.{end_few}
 use Rattle.fo_tree_trim.proofs.Linked.{may_cut_is}

@@ -2,9 +2,9 @@ use Rattle.std.proofs.Common.{◌≡◌, ◌-◌, ◌/◌, ℕ, suc, inl, inr, �
 use Rattle.fo_image.specs.declared.types.Pointer.TheVariants.{Local}
 use Rattle.fo_tree_read.specs.declared.tree.Tree.{Tree}
 use Rattle.fo_tree_look.specs.Source.{WayReady}
-use Rattle.fo_tree_down.specs.Clear.{last_leaf}
-use Rattle.fo_tree_down.specs.Way.{with_top}
-use Rattle.fo_tree_own.proofs.Link.{Laws}
+use Rattle.fo_tree_link.specs.of_tree_down.Clear.{last_leaf}
+use Rattle.fo_tree_link.specs.of_tree_down.Way.{with_top}
+use Rattle.fo_tree_link.proofs.of_tree_own.Link.{Laws}
 use Rattle.fo_tree_link.specs.Link.{CanLink}
 use Rattle.fo_tree_link.proofs.Changed.{can_link}
 use Rattle.fo_tree_trim.proofs.Counting.{ends_beside}

@@ -1,7 +1,7 @@
 use Rattle.std.proofs.Common.{◌≡◌, List, subst}
 use Rattle.fo_tree_look.specs.declared.ways.Kept.{Kept}
 use Rattle.fo_tree_look.specs.Source.{Over, leaves_of}
-use Rattle.fo_tree_down.specs.Way.{with_top}
+use Rattle.fo_tree_link.specs.of_tree_down.Way.{with_top}
 use Rattle.fo_tree_shorten.proofs.behind.own_ways.Goals as goal
 
 pub returns-clause-over : goal.returns-clause-over

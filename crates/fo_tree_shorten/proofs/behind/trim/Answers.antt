@@ -1,6 +1,6 @@
 use Rattle.std.proofs.Common.{◌*◌, inr, ◌∙◌, subst, arith}
 use Rattle.fo_tree_read.specs.declared.tree.Tree.{Tree}
-use Rattle.fo_tree_down.specs.Clear.{last_leaf}
+use Rattle.fo_tree_link.specs.of_tree_down.Clear.{last_leaf}
 use Rattle.fo_tree_trim.specs.Cut.{CutSlot, Cuts}
 use Rattle.fo_tree_trim.proofs.Above.{deep_size}
 use Rattle.fo_tree_trim.proofs.Counting.{adds_none, ends_cut}

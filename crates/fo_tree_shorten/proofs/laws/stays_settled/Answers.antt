@@ -1,7 +1,7 @@
 use Rattle.std.proofs.Common.{◌≡◌, ◌-◌, ◌/◌, suc, subst, arith}
 use Rattle.fo_tree_look.specs.Source.{WayReady}
-use Rattle.fo_tree_down.specs.Clear.{last_leaf}
-use Rattle.fo_tree_own.proofs.Link.{Laws}
+use Rattle.fo_tree_link.specs.of_tree_down.Clear.{last_leaf}
+use Rattle.fo_tree_link.proofs.of_tree_own.Link.{Laws}
 use Rattle.fo_tree_trim.proofs.Knowing.{end_known}
 use Rattle.fo_tree_shorten.proofs.Settling.{Settles, entry_settled, ready_settled, current_settled, hangs_settled, over_settled}
 use Rattle.fo_tree_shorten.proofs.laws.stays_settled.Given as given

@@ -7,8 +7,8 @@ use Rattle.fo_tree_read.specs.declared.tree.Tree.{Tree}
 use Rattle.fo_tree_read.specs.Tree.{block_at}
 use Rattle.fo_tree_look.specs.declared.ways.Kept.{Kept}
 use Rattle.fo_tree_look.specs.Source.{Over, WayReady, leaves_of}
-use Rattle.fo_tree_down.specs.Clear.{last_leaf}
-use Rattle.fo_tree_own.proofs.Link.{Laws}
+use Rattle.fo_tree_link.specs.of_tree_down.Clear.{last_leaf}
+use Rattle.fo_tree_link.proofs.of_tree_own.Link.{Laws}
 use Rattle.fo_tree_link.specs.Change.{HangsInTree}
 use Rattle.fo_tree_link.proofs.Linked.{Linked, same_link}
 use Rattle.fo_tree_link.proofs.Lowered.{first_of}

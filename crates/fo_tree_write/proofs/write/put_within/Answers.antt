@@ -1,11 +1,11 @@
 use Rattle.std.proofs.Common.{◌≡◌, ◌+◌, ◌-◌, ◌*◌, ◌/◌, ◌%◌, ◌<◌, length, take, drop, refl, sym, ap, ◌∙◌, subst, arith, ⊎_elim}
 use Rattle.std.proofs.lemmas.Bool.{cases_eq}
 use Rattle.std.proofs.lemmas.List.{take_all}
-use Rattle.fo_crash.specs.Places.{super_place, root_place}
+use Rattle.fo_ports.specs.of_crash.Places.{super_place, root_place}
 use Rattle.fo_ports.specs.Sources.{Dirties}
 use Rattle.fo_ports.specs.State.{none}
-use Rattle.fo_tree_look.specs.Source.{WayReady}
-use Rattle.fo_tree_down.specs.Way.{with_top}
+use Rattle.fo_tree_clear.specs.of_tree_look.Source.{WayReady}
+use Rattle.fo_tree_clear.specs.of_tree_down.Way.{with_top}
 use Rattle.fo_tree_clear.specs.Put.{byte_here, Puts}
 use Rattle.fo_tree_clear.proofs.Stepping.{steps_changes}
 use Rattle.fo_tree_write.specs.Write.{at_top, Counted, Spent}

@@ -1,4 +1,4 @@
-use Rattle.fo_mind.specs.MindParts.{parts}
+use Rattle.fo_ending.specs.of_mind.MindParts.{parts}
 use Rattle.fo_core.proofs.Ending.{gives, over}
 use Rattle.fo_core.proofs.state.State+D+A.finish.Goals as goal
 

@@ -1,4 +1,4 @@
-use Rattle.fo_mind.specs.MindParts.{parts}
+use Rattle.fo_ending.specs.of_mind.MindParts.{parts}
 use Rattle.fo_starting.specs.of_devices.Seen.{seen}
 use Rattle.fo_core.specs.Moment.{Moment}
 use Rattle.fo_core.proofs.Happening.{later, leaves, settled_once}

@@ -1,4 +1,4 @@
-use Rattle.fo_mind.specs.MindParts.{parts}
+use Rattle.fo_ending.specs.of_mind.MindParts.{parts}
 use Rattle.fo_starting.specs.of_devices.Seen.{seen}
 use Rattle.nine_fids.specs.Fids.{least}
 use Rattle.fo_sessions.specs.Sessions.{kept_at, session_at}

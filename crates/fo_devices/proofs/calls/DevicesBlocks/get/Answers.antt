@@ -1,9 +1,9 @@
-use Rattle.fo_mind.proofs.Results.{on_ok}
+use Rattle.fo_settling.proofs.of_mind.Results.{on_ok}
 use Rattle.std.proofs.Common.{refl, arith}
 use Rattle.fo_devices.proofs.Frames.{looks}
 use Rattle.fo_devices.proofs.Staying.{blamed}
-use Rattle.fo_mind.specs.MindParts.{parts}
-use Rattle.fo_mind.specs.Parts.{state_of}
+use Rattle.fo_settling.specs.of_mind.MindParts.{parts}
+use Rattle.fo_settling.specs.of_mind.Parts.{state_of}
 use Rattle.fo_devices.proofs.calls.DevicesBlocks.get.Goals as goal
 
 pub returns-clause-looks : goal.returns-clause-looks

@@ -1,5 +1,5 @@
 use Rattle.std.proofs.Common.{◌<◌, ◌≤◌, sym, subst}
-use Rattle.fo_mind.proofs.Results.{both_some}
+use Rattle.fo_settling.proofs.of_mind.Results.{both_some}
 use Rattle.fo_devices.proofs.calls.DevicesBlocks.lend.Goals as goal
 
 pub returns-clause-bytes : goal.returns-clause-bytes

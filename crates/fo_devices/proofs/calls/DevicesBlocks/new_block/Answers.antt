@@ -2,8 +2,8 @@ use Rattle.fo_image.specs.Usable.{live_label}
 use Rattle.fo_ports.specs.Blocks.{blank}
 use Rattle.std.proofs.Common.{refl, ap, arith}
 use Rattle.fo_devices.proofs.Frames.{gives}
-use Rattle.fo_mind.specs.MindParts.{parts}
-use Rattle.fo_mind.specs.Parts.{state_of}
+use Rattle.fo_settling.specs.of_mind.MindParts.{parts}
+use Rattle.fo_settling.specs.of_mind.Parts.{state_of}
 use Rattle.fo_devices.proofs.calls.DevicesBlocks.new_block.Goals as goal
 
 pub returns-clause-gives : goal.returns-clause-gives

@@ -1,8 +1,8 @@
 use Rattle.std.proofs.Common.{refl, ap, arith}
 use Rattle.fo_ports.specs.State.{none}
 use Rattle.fo_devices.proofs.Frames.{covered, no_removal, no_wait, order, stays, uses}
-use Rattle.fo_mind.specs.MindParts.{parts}
-use Rattle.fo_mind.specs.Parts.{state_of}
+use Rattle.fo_settling.specs.of_mind.MindParts.{parts}
+use Rattle.fo_settling.specs.of_mind.Parts.{state_of}
 use Rattle.fo_devices.proofs.calls.DevicesBlocks.number_taken.Goals as goal
 
 pub returns-clause-images : goal.returns-clause-images

@@ -1,8 +1,8 @@
 use Rattle.std.proofs.Common.{refl, arith}
 use Rattle.fo_devices.proofs.Frames.{looks}
 use Rattle.fo_devices.proofs.Staying.{blamed}
-use Rattle.fo_mind.specs.MindParts.{parts}
-use Rattle.fo_mind.specs.Parts.{state_of}
+use Rattle.fo_settling.specs.of_mind.MindParts.{parts}
+use Rattle.fo_settling.specs.of_mind.Parts.{state_of}
 use Rattle.fo_devices.proofs.calls.DevicesBlocks.pin.Goals as goal
 
 pub returns-clause-looks : goal.returns-clause-looks

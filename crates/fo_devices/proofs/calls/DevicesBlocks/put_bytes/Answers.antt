@@ -2,8 +2,8 @@ use Rattle.std.proofs.Common.{◌≡◌, ◌+◌, ◌≤◌, length, refl, ap, s
 use Rattle.fo_devices.proofs.Lengths.{long_pinned}
 use Rattle.fo_ports.specs.State.{none}
 use Rattle.fo_devices.proofs.Frames.{calm, no_wait}
-use Rattle.fo_mind.specs.MindParts.{parts}
-use Rattle.fo_mind.specs.Parts.{state_of}
+use Rattle.fo_settling.specs.of_mind.MindParts.{parts}
+use Rattle.fo_settling.specs.of_mind.Parts.{state_of}
 use Rattle.fo_devices.proofs.calls.DevicesBlocks.put_bytes.Goals as goal
 
 pub returns-clause-images : goal.returns-clause-images

@@ -5,8 +5,8 @@ use Rattle.fo_ports.specs.Blocks.{cost}
 use Rattle.std.proofs.Common.{◌≡◌, refl, ap, inl, arith}
 use Rattle.fo_ports.specs.State.{none}
 use Rattle.fo_devices.proofs.Frames.{frame, hangs, no_wait, order, removals}
-use Rattle.fo_mind.specs.MindParts.{parts}
-use Rattle.fo_mind.specs.Parts.{state_of}
+use Rattle.fo_settling.specs.of_mind.MindParts.{parts}
+use Rattle.fo_settling.specs.of_mind.Parts.{state_of}
 use Rattle.fo_devices.proofs.calls.DevicesBlocks.put_slot.Goals as goal
 
 pub returns-clause-images : goal.returns-clause-images

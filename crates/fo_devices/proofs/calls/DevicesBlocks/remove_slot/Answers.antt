@@ -3,8 +3,8 @@ use Rattle.std.proofs.Common.{◌≡◌, refl, ap, inl, inr, ⊎_elim, arith}
 use Rattle.fo_ports.specs.State.{none}
 use Rattle.fo_devices.proofs.Frames.{frame, hangs, no_wait, removals}
 use Rattle.fo_devices.proofs.Staying.{in_each}
-use Rattle.fo_mind.specs.MindParts.{parts}
-use Rattle.fo_mind.specs.Parts.{state_of}
+use Rattle.fo_settling.specs.of_mind.MindParts.{parts}
+use Rattle.fo_settling.specs.of_mind.Parts.{state_of}
 use Rattle.fo_devices.proofs.calls.DevicesBlocks.remove_slot.Goals as goal
 
 pub returns-clause-now : goal.returns-clause-now

@@ -3,9 +3,9 @@ use Rattle.fo_devices.proofs.Frames.{caused, full_more, rests}
 use Rattle.fo_base.specs.Cause.{Rose}
 use Rattle.fo_order.specs.Turns.{IsQuiet}
 use Rattle.fo_ports.specs.Causes.{IsFull}
-use Rattle.fo_closing.specs.Rest.{AtRest}
-use Rattle.fo_mind.specs.MindParts.{parts}
-use Rattle.fo_mind.specs.Parts.{state_of}
+use Rattle.fo_reserving.specs.of_closing.Rest.{AtRest}
+use Rattle.fo_settling.specs.of_mind.MindParts.{parts}
+use Rattle.fo_settling.specs.of_mind.Parts.{state_of}
 use Rattle.fo_devices.proofs.calls.DevicesBlocks.reserve.Goals as goal
 
 pub returns-clause-rests : goal.returns-clause-rests

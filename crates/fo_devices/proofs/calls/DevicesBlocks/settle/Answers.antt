@@ -1,8 +1,8 @@
 use Rattle.std.proofs.Common.{refl, arith}
 use Rattle.fo_devices.proofs.Frames.{known, rests}
-use Rattle.fo_mind.proofs.Results.{on_ok}
-use Rattle.fo_mind.specs.MindParts.{parts}
-use Rattle.fo_mind.specs.Parts.{state_of}
+use Rattle.fo_settling.proofs.of_mind.Results.{on_ok}
+use Rattle.fo_settling.specs.of_mind.MindParts.{parts}
+use Rattle.fo_settling.specs.of_mind.Parts.{state_of}
 use Rattle.fo_devices.proofs.calls.DevicesBlocks.settle.Goals as goal
 
 pub returns-clause-clean : goal.returns-clause-clean

@@ -2,8 +2,8 @@ use Rattle.std.proofs.Common.{◌≡◌, ◌+◌, ◌-◌, length, sym, ap, List
 use Rattle.fo_image.specs.declared.types.Pointer.{Pointer}
 use Rattle.fo_facts.specs.Counts.{is_made}
 use Rattle.fo_facts.specs.Known.{fact_at}
-use Rattle.fo_linking.specs.Joined.{JoinsBelow}
-use Rattle.fo_takeout.specs.declared.pair.Pair.{Pair}
+use Rattle.fo_rooms.specs.of_linking.Joined.{JoinsBelow}
+use Rattle.fo_rooms.specs.of_takeout.declared.pair.Pair.{Pair}
 use Rattle.fo_mind.specs.MindParts.{parts}
 use Rattle.fo_mind.specs.Parts.{memory}
 use Rattle.fo_mind.specs.Sound.{Making}

@@ -1,5 +1,5 @@
 use Rattle.std.proofs.Common.{length, ap, ◌∙◌}
-use Rattle.fo_takeout.specs.Walking.{Walking}
+use Rattle.fo_rooms.specs.of_takeout.Walking.{Walking}
 use Rattle.fo_unlink.specs.Pending.{Pending}
 use Rattle.fo_mind.specs.MindParts.{parts}
 use Rattle.fo_mind.proofs.Growing.{holding_grown, making_grown, owing_grown, placed_grown, roomy_grown, standing_grown, turning_grown, waiting_grown}

@@ -8,7 +8,7 @@ use Rattle.fo_waits.specs.declared.listed.Clearing.{Clearing}
 use Rattle.fo_waits.specs.declared.listed.Wait.{Wait}
 use Rattle.fo_mind.specs.Parts.{count_of}
 use Rattle.fo_mind.specs.Opened.{no_turns}
-use Rattle.fo_takeout.specs.Walking.{Walking}
+use Rattle.fo_rooms.specs.of_takeout.Walking.{Walking}
 use Rattle.fo_mind.specs.Sound.{Clearable, Holding, Making, Owing, Roomy, Rooted, Waiting}
 use Rattle.fo_mind.proofs.Making.{making_opened}
 use Rattle.fo_mind.proofs.Results.{both, three}

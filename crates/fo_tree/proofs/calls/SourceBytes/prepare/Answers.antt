@@ -1,6 +1,6 @@
 use Rattle.std.proofs.Common.{sym, subst}
 use Rattle.fo_tree_read.specs.declared.tree.Tree.{Tree}
-use Rattle.fo_tree_down.specs.Clear.{EndsClear}
+use Rattle.fo_tree_link.specs.of_tree_down.Clear.{EndsClear}
 use Rattle.fo_tree_trim.proofs.Holding.{clear_on, holds_looks}
 use Rattle.fo_tree.proofs.calls.SourceBytes.prepare.Goals as goal
 

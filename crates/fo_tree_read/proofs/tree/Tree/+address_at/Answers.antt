@@ -1,5 +1,5 @@
 use Rattle.std.proofs.Common.{rules, ◌≡◌, ◌⊎◌, ◌+◌, ◌-◌, ◌/◌, ◌%◌, ◌<◌, ◌≤◌, suc, None, IfErr, inl, sym, ap, ◌∙◌, subst, arith}
-use Rattle.fo_image.specs.declared.types.Pointer.{Pointer}
+use Rattle.fo_looks.specs.of_image.declared.types.Pointer.{Pointer}
 use Rattle.fo_tree_read.specs.Tree.{block_at, address_of, below, kind_down, Got, Way, above, Failed}
 use Rattle.fo_looks.proofs.Looks.{looks_joins}
 use Rattle.fo_tree_read.proofs.Looks.{any_failed_later}

@@ -1,6 +1,6 @@
 use Rattle.std.proofs.Common.{rules, ◌≡◌, ◌⊎◌, ◌+◌, ◌-◌, ◌/◌, ◌%◌, ◌<◌, ◌≤◌, suc, IfErr, inl, refl, sym, ap, ◌∙◌, subst, arith}
-use Rattle.fo_image.specs.declared.types.Pointer.{Pointer}
-use Rattle.fo_image.specs.declared.types.Pointer.TheVariants.{Nil}
+use Rattle.fo_looks.specs.of_image.declared.types.Pointer.{Pointer}
+use Rattle.fo_looks.specs.of_image.declared.types.Pointer.TheVariants.{Nil}
 use Rattle.fo_tree_read.specs.Tree.{block_at, Agrees, below, score_in, kind_down, Got, Way, above, Failed, Names}
 use Rattle.fo_looks.proofs.Looks.{looks_joins}
 use Rattle.fo_tree_read.proofs.Looks.{any_failed_later, any_failed_refused}

@@ -1,5 +1,5 @@
 use Rattle.std.proofs.Common.{sym, ◌∙◌, subst}
-use Rattle.fo_image.specs.declared.types.Kind.{Kind}
+use Rattle.fo_looks.specs.of_image.declared.types.Kind.{Kind}
 use Rattle.fo_tree_read.specs.Tree.{StandsAs}
 use Rattle.fo_tree_read.proofs.Exits.{looks_none}
 use Rattle.fo_tree_read.proofs.Copies.{leaf_stands}

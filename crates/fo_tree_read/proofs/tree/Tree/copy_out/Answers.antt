@@ -2,7 +2,7 @@ use Rattle.std.proofs.Common.{rules, take, drop, IfErr, ◌⊎◌, ◌≡◌, �
 use Rattle.std.proofs.lemmas.Bool.{cases_lt}
 use Rattle.std.proofs.lemmas.List.{length-take-le, length-drop}
 use borrow.Rule.Slice.PartMut.{put_mid}
-use Rattle.fo_ports.specs.Sources.{Finds}
+use Rattle.fo_looks.specs.of_ports.Sources.{Finds}
 use Rattle.fo_tree_read.specs.Tree.{byte, Refused, Names}
 use Rattle.fo_tree_read.specs.Reading.{LeafWay, IsLeafFound, HasPassed, IsLocal, most, Prepared}
 use Rattle.fo_looks.proofs.Looks.{looks_joins}

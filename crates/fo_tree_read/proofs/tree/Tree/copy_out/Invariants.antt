@@ -1,6 +1,6 @@
 use Rattle.std.proofs.Common.{◌≡◌, ◌⊎◌, ◌+◌, ◌-◌, ◌/◌, ◌≤◌, ◌<◌, ℕ, length, slice_index, false}
-use Rattle.fo_ports.specs.State.{Looks}
-use Rattle.fo_ports.specs.Sources.{Finds}
+use Rattle.fo_looks.specs.of_ports.State.{Looks}
+use Rattle.fo_looks.specs.of_ports.Sources.{Finds}
 use Rattle.fo_tree_read.specs.Tree.{byte}
 use Rattle.fo_tree_read.specs.Reading.{LeafWay, most, Prepared, HasPassed, IsLocal}
 use Rattle.fo_tree_read.proofs.tree.Tree.copy_out.Given as goal

@@ -1,6 +1,6 @@
 use Rattle.std.proofs.Common.{◌<◌, ◌-◌, ◌+◌, sym, ◌∙◌, subst, arith}
-use Rattle.fo_image.specs.declared.types.Kind.{Kind}
-use Rattle.fo_ports.specs.Blocks.{IsInner}
+use Rattle.fo_looks.specs.of_image.declared.types.Kind.{Kind}
+use Rattle.fo_looks.specs.of_ports.Blocks.{IsInner}
 use Rattle.fo_tree_read.specs.Tree.{StandsAs}
 use Rattle.fo_tree_read.proofs.Walk.{tree_stands, told_same, hangs_looks, inner_kind}
 use Rattle.fo_tree_read.proofs.tree.Tree.step.Goals as goal

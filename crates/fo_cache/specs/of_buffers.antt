@@ -1,0 +1,2 @@
+pub use Rattle.fo_buffers.specs.Held
+pub use Rattle.fo_buffers.specs.declared

@@ -1,0 +1,3 @@
+pub use Rattle.fo_mind.specs.of_waits.Ended
+pub use Rattle.fo_mind.specs.of_waits.Listed
+pub use Rattle.fo_mind.specs.of_waits.declared

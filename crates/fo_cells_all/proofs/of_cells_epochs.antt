@@ -1,0 +1,3 @@
+pub use Rattle.fo_cells_queue.proofs.of_cells_epochs.Epochs
+pub use Rattle.fo_cells_queue.proofs.of_cells_epochs.TreeSteps
+pub use Rattle.fo_cells_queue.proofs.of_cells_epochs.Trees

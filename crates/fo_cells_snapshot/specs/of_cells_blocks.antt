@@ -1,0 +1,3 @@
+pub use Rattle.fo_cells_blocks.specs.Closing
+pub use Rattle.fo_cells_blocks.specs.Giving
+pub use Rattle.fo_cells_blocks.specs.Indexing

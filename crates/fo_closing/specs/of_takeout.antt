@@ -1,0 +1,1 @@
+pub use Rattle.fo_mind.specs.of_takeout.Walking

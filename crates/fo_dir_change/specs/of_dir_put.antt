@@ -1,0 +1,4 @@
+pub use Rattle.fo_dir_put.specs.Differ
+pub use Rattle.fo_dir_put.specs.Names
+pub use Rattle.fo_dir_put.specs.Paired
+pub use Rattle.fo_dir_put.specs.Puts

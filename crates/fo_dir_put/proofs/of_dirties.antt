@@ -1,0 +1,3 @@
+pub use Rattle.fo_dirties.proofs.Adding
+pub use Rattle.fo_dirties.proofs.Dirtied
+pub use Rattle.fo_dirties.proofs.Putting

@@ -1,0 +1,1 @@
+pub use Rattle.fo_looks.proofs.Looks

@@ -1,0 +1,1 @@
+pub use Rattle.fo_dir_change.proofs.of_looks.Looks

@@ -1,0 +1,3 @@
+pub use Rattle.fo_cache.specs.Easing
+pub use Rattle.fo_cache.specs.Supers
+pub use Rattle.fo_cache.specs.Work

@@ -1,0 +1,3 @@
+pub use Rattle.fo_mind.specs.MindParts
+pub use Rattle.fo_mind.specs.Parts
+pub use Rattle.fo_mind.specs.declared

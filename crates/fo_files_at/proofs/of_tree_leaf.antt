@@ -1,0 +1,1 @@
+pub use Rattle.fo_tree.proofs.of_tree_leaf.Owning

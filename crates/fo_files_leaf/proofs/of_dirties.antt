@@ -1,0 +1,2 @@
+pub use Rattle.fo_dirties.proofs.Adding
+pub use Rattle.fo_dirties.proofs.Putting

@@ -1,0 +1,1 @@
+pub use Rattle.fo_dir_move.specs.of_dir_add.Adds

@@ -1,0 +1,2 @@
+pub use Rattle.fo_files_record.specs.Leaf
+pub use Rattle.fo_files_record.specs.Stays

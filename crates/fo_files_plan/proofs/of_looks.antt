@@ -1,0 +1,1 @@
+pub use Rattle.fo_files_way.proofs.of_looks.Looks

@@ -1,0 +1,1 @@
+pub use Rattle.fo_dirties.proofs.of_looks.Looks

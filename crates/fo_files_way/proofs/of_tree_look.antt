@@ -1,0 +1,3 @@
+pub use Rattle.fo_tree_look.proofs.Held
+pub use Rattle.fo_tree_look.proofs.Places
+pub use Rattle.fo_tree_look.proofs.Shown

@@ -1,0 +1,2 @@
+pub use Rattle.fo_tree_look.specs.Source
+pub use Rattle.fo_tree_look.specs.declared

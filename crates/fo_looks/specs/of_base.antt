@@ -1,0 +1,1 @@
+pub use Rattle.fo_ports.specs.of_base.Cause

@@ -1,0 +1,3 @@
+pub use Rattle.fo_ports.specs.of_crash.Images
+pub use Rattle.fo_ports.specs.of_crash.Places
+pub use Rattle.fo_ports.specs.of_crash.declared

@@ -1,0 +1,2 @@
+pub use Rattle.fo_bring.specs.Blocks
+pub use Rattle.fo_bring.specs.Holds

@@ -1,0 +1,3 @@
+pub use Rattle.fo_waits.specs.Ended
+pub use Rattle.fo_waits.specs.Listed
+pub use Rattle.fo_waits.specs.declared

@@ -1,0 +1,3 @@
+pub use Rattle.fo_crash.proofs.Places
+pub use Rattle.fo_crash.proofs.Reach
+pub use Rattle.fo_crash.proofs.Updates

@@ -1,0 +1,5 @@
+pub use Rattle.fo_crash.specs.Images
+pub use Rattle.fo_crash.specs.Names
+pub use Rattle.fo_crash.specs.Places
+pub use Rattle.fo_crash.specs.Steps
+pub use Rattle.fo_crash.specs.declared

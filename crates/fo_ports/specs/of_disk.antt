@@ -1,0 +1,1 @@
+pub use Rattle.fo_disk.specs.Disk

@@ -1,0 +1,3 @@
+pub use Rattle.fo_meta.specs.of_image.Format
+pub use Rattle.fo_meta.specs.of_image.Usable
+pub use Rattle.fo_meta.specs.of_image.declared

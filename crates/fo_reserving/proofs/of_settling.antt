@@ -1,0 +1,2 @@
+pub use Rattle.fo_settling.proofs.Clearing
+pub use Rattle.fo_settling.proofs.Waiting

@@ -1,0 +1,1 @@
+pub use Rattle.fo_linking.specs.Joined

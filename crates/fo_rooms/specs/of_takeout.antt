@@ -1,0 +1,3 @@
+pub use Rattle.fo_takeout.specs.Meeting
+pub use Rattle.fo_takeout.specs.Walking
+pub use Rattle.fo_takeout.specs.declared

@@ -1,0 +1,1 @@
+pub use Rattle.fo_events.specs.Row

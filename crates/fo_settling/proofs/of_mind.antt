@@ -1,0 +1,1 @@
+pub use Rattle.fo_cache.proofs.of_mind.Results

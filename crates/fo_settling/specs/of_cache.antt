@@ -1,0 +1,2 @@
+pub use Rattle.fo_cache.specs.Easing
+pub use Rattle.fo_cache.specs.Fits

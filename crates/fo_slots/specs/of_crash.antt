@@ -1,0 +1,2 @@
+pub use Rattle.fo_ports.specs.of_crash.Images
+pub use Rattle.fo_ports.specs.of_crash.declared

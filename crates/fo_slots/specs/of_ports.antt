@@ -1,0 +1,2 @@
+pub use Rattle.fo_ports.specs.Blocks
+pub use Rattle.fo_ports.specs.Causes

@@ -1,0 +1,1 @@
+pub use Rattle.fo_tree_grown.proofs.of_tree_leaf.Owning

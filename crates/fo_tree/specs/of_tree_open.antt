@@ -1,0 +1,1 @@
+pub use Rattle.fo_tree_link.specs.of_tree_open.Open

@@ -1,0 +1,2 @@
+pub use Rattle.fo_tree_leaf.proofs.of_tree_down.Beside
+pub use Rattle.fo_tree_leaf.proofs.of_tree_down.Dirtying

@@ -1,0 +1,3 @@
+pub use Rattle.fo_tree_down.specs.Clear
+pub use Rattle.fo_tree_down.specs.Way
+pub use Rattle.fo_tree_down.specs.declared

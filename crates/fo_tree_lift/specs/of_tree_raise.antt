@@ -1,0 +1,1 @@
+pub use Rattle.fo_tree_grow.specs.of_tree_raise.Levels

@@ -1,0 +1,2 @@
+pub use Rattle.fo_tree_down.specs.Clear
+pub use Rattle.fo_tree_down.specs.Way

@@ -1,0 +1,2 @@
+pub use Rattle.fo_image.specs.Format
+pub use Rattle.fo_image.specs.declared

@@ -1,0 +1,2 @@
+pub use Rattle.fo_crash.proofs.Places
+pub use Rattle.fo_crash.proofs.Reach

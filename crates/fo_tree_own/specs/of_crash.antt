@@ -1,0 +1,3 @@
+pub use Rattle.fo_crash.specs.Images
+pub use Rattle.fo_crash.specs.Places
+pub use Rattle.fo_crash.specs.declared

@@ -1,0 +1,3 @@
+pub use Rattle.fo_looks.proofs.Dirtied
+pub use Rattle.fo_looks.proofs.Free
+pub use Rattle.fo_looks.proofs.Looks

@@ -1,0 +1,3 @@
+pub use Rattle.fo_looks.specs.of_crash.Images
+pub use Rattle.fo_looks.specs.of_crash.Places
+pub use Rattle.fo_looks.specs.of_crash.declared

@@ -1,0 +1,1 @@
+pub use Rattle.fo_tree_down.proofs.of_tree_own.Link
