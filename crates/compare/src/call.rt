@@ -1,9 +1,9 @@
 //! Calls on files, drawn at random.
 ghost use Rattle.std.specs.Prelude.{◌≡◌, ◌<◌, ◌≤◌};
 
-use crate::random::Random;
 use crate::text::{NAMES, USERS};
 use fo_world::{DMDIR, View};
+use test_random::Random;
 
 /// What is to be changed of a file. Names and users are numbers here.
 #[derive(Clone, Copy, Debug)]

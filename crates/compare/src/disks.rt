@@ -4,7 +4,6 @@ ghost use Rattle.fo_disk.specs.Disk.{IsQuiet};
 ghost use Rattle.fo_disk.specs.Memory.{holds_of};
 ghost use Rattle.compare.specs.Picks.{Picks};
 
-use crate::random::Random;
 use fo_base::Memory;
 use fo_buffers::Block;
 use fo_devices::Devices;
@@ -14,6 +13,7 @@ use fo_format::format;
 use fo_opening::{finish, open};
 use fo_world::FileOps;
 use std::alloc::Global;
+use test_random::Random;
 use venti_store::Arena;
 
 /// A cache over a disk in memory, with an arena on another.

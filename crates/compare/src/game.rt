@@ -2,7 +2,6 @@
 use crate::ask::{Request, ask};
 use crate::call::{Call, after, draw, view, wants_directory};
 use crate::disks::{On, again, fresh, settle};
-use crate::random::Random;
 use crate::text::USERS;
 use crate::verdict::{Pairs, Spot, Stop, Verdict};
 use fo_base::Memory;
@@ -10,6 +9,7 @@ use fo_files::Files;
 use fo_plain::PlainFiles;
 use fo_world::View;
 use std::alloc::Global;
+use test_random::Random;
 
 /// How many calls were made, and what came of them.
 #[derive(Clone, Copy)]

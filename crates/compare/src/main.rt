@@ -13,32 +13,16 @@ mod disks;
 mod edits;
 mod game;
 mod looks;
-mod random;
 mod text;
 mod verdict;
 mod whole;
 
 use crate::game::{Counts, Game, begin};
-use crate::random::Random;
 use crate::verdict::Stop;
 use std::alloc::Global;
+use std::io;
 use std::process::ExitCode;
-use std::{env, io};
-
-/// The words behind the program's name.
-fn words(rt: &HostRuntime) -> io::Result<Vec<String>> {
-    let mut args = env::args(rt)?;
-    let _program = args.next();
-    Ok(args.collect(rt.alloc())?)
-}
-
-/// The number at a place.
-fn number(words: &[String], at: usize) -> u64 {
-    match words.get(at) {
-        Some(word) => word.parse::<u64>().unwrap_or(0),
-        None => 0,
-    }
-}
+use test_random::{Random, seed_and_count};
 
 /// So many calls.
 fn calls(
@@ -173,17 +157,16 @@ fn print(
 }
 
 fn main(rt: HostRuntime) -> ExitCode {
-    let Ok(words) = words(&rt) else {
+    let Ok((seed, many)) = seed_and_count(&rt) else {
         return ExitCode::from(2);
     };
-    let seed = number(&words, 0);
     let mut counts = Counts {
         calls: 0,
         failed: 0,
         full: 0,
         refused: 0,
     };
-    let end = rounds(rt.alloc(), seed, number(&words, 1), &mut counts);
+    let end = rounds(rt.alloc(), seed, many, &mut counts);
     match print(&rt, seed, &counts, &end) {
         Ok(code) => code,
         Err(_) => ExitCode::from(2),

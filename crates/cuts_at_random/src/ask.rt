@@ -1,5 +1,4 @@
 //! Steps are asked of files, and what they answer is compared with what they should.
-use crate::length::cut;
 use crate::model::{File, Model};
 use crate::names::{Spot, piece};
 use crate::steps::Step;
@@ -8,7 +7,7 @@ use fo_turning::{flush_turn, unlink_turn};
 use fo_world::{FileError, FileOps};
 use std::alloc::Global;
 use test_requests::disks::On;
-use test_requests::requests::{DIR, FILE, found, make, remove, rename, write};
+use test_requests::requests::{DIR, FILE, found, make, remove, rename, set_length, write};
 
 /// Whether a run goes on.
 #[derive(Clone, Copy, PartialEq, Eq)]
@@ -74,7 +73,7 @@ fn write_at(
 fn cut_at(alloc: Global, files: &mut On, at: Spot, long: u64) -> Result<(), FileError> {
     let file = number_of(alloc, files, at)?;
     let trail = at.trail(alloc, file)?;
-    cut(alloc, files, trail, long)
+    set_length(alloc, files, trail.as_slice(), long)
 }
 
 /// Takes so many flushing turns.

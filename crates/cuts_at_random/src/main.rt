@@ -11,37 +11,20 @@
 
 mod ask;
 mod image;
-mod length;
 mod model;
 mod names;
-mod random;
 mod round;
 mod start;
 mod steps;
 mod wrong;
 
 use crate::names::Spot;
-use crate::random::Random;
 use crate::round::{Round, play};
 use crate::start::{Starts, all_starts};
 use crate::wrong::Wrong;
+use std::io;
 use std::process::ExitCode;
-use std::{env, io};
-
-/// The words behind the program's name.
-fn words(rt: &HostRuntime) -> io::Result<Vec<String>> {
-    let mut args = env::args(rt)?;
-    let _program = args.next();
-    Ok(args.collect(rt.alloc())?)
-}
-
-/// The number at a place.
-fn number(words: &[String], at: usize) -> u64 {
-    match words.get(at) {
-        Some(word) => word.parse::<u64>().unwrap_or(0),
-        None => 0,
-    }
-}
+use test_random::{Random, seed_and_count};
 
 /// Prints what was wrong in a round.
 fn print_wrong(
@@ -94,8 +77,8 @@ fn run(rt: &HostRuntime, seed: u64, many: u64) -> io::Result<bool> {
 
 /// The run that the arguments mean.
 fn runs(rt: &HostRuntime) -> io::Result<bool> {
-    let words = words(rt)?;
-    run(rt, number(&words, 0), number(&words, 1))
+    let (seed, many) = seed_and_count(rt)?;
+    run(rt, seed, many)
 }
 
 fn main(rt: HostRuntime) -> ExitCode {

@@ -2,11 +2,11 @@
 use crate::ask::{After, take};
 use crate::image::look;
 use crate::model::Model;
-use crate::random::Random;
 use crate::start::{Start, Starts};
 use crate::steps::draw;
 use crate::wrong::Wrong;
 use std::alloc::Global;
+use test_random::Random;
 use test_requests::disks::{Disks, Left, On, closed, opened, that_fail};
 
 /// How many steps a round has at most.
@@ -64,15 +64,6 @@ fn failing(alloc: Global, start: &Start, call: u32) -> Option<Disks> {
     }
 }
 
-/// How many choices of a version of each block there are.
-fn choices(left: &Left) -> u32 {
-    let mut choices: u32 = 1;
-    for at in 0..64 {
-        choices = choices.saturating_mul(left.versions(at));
-    }
-    choices
-}
-
 /// A number of 32 bits at random.
 fn any(random: &mut Random) -> u32 {
     random.below(65_536) * 65_536 + random.below(65_536)
@@ -95,7 +86,7 @@ impl Round {
 
     /// Looks at all images where they are few, else at some at random.
     fn look_at_all(&mut self, alloc: Global, left: &Left, model: &Model, random: &mut Random) {
-        let choices = choices(left);
+        let choices = left.choices();
         for at in 0..IMAGES {
             if self.wrong.is_none() && at < choices {
                 let number = if choices <= IMAGES { at } else { any(random) };

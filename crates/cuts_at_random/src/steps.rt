@@ -1,7 +1,7 @@
 //! Steps at random.
 use crate::model::Model;
 use crate::names::{DIRS, FAR, LONG, NAMES, PIECE, Spot};
-use crate::random::Random;
+use test_random::Random;
 
 /// A change of files, or of what memory and the devices have.
 #[derive(Clone, Copy)]

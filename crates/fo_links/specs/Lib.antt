@@ -1,4 +1,5 @@
 pub mod Clocks
+pub mod Filling
 pub mod Links
 pub mod Memory
 pub mod MemClock

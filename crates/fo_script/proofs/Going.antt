@@ -5,7 +5,7 @@ use Rattle.std.proofs.lemmas.List.{append-nil, length-append, length-drop, take-
 use Rattle.std.proofs.lemmas.Option.{same_Some}
 use Rattle.fo_links.specs.Links.{LosesFront, GainsEnd, IsAtEnd}
 use Rattle.fo_script_line.specs.of_events.Row.{Goes}
-use Rattle.fo_script.specs.Filling.{FilledSome}
+use Rattle.fo_links.specs.Filling.{FilledSome}
 use Rattle.fo_script.specs.declared.end.ScriptEnd.TheVariants as end
 use Rattle.fo_script_line.specs.declared.line.Stop.{Stop}
 use Rattle.fo_script_line.specs.declared.line.Stop.TheVariants as stop

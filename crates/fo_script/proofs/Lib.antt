@@ -1,4 +1,3 @@
-pub mod Buffer
 pub mod Newlines
 pub mod Running
 pub mod Going

@@ -9,7 +9,6 @@
 #![tactic(auto)]
 
 mod end;
-mod inbox;
 mod script;
 
 pub use end::ScriptEnd;

@@ -9,11 +9,13 @@ ghost use Rattle.fo_script_line.specs.Answering.{standing};
 ghost use Rattle.fo_script.specs.Ending.{Ends, Stops};
 
 use crate::end::ScriptEnd;
-use crate::inbox::Inbox;
-use fo_links::{Sink, Source};
+use fo_links::{Inbox, Sink, Source};
 use fo_script_line::{Kept, LONGEST_LINE, Stop, Turner, answer_line, let_everyone_go};
 use nine_wire::LARGEST_MESSAGE;
 use std::alloc::Global;
+
+/// How many bytes the buffer has that input waits in.
+const ROOM: usize = 2 * (LONGEST_LINE + 1);
 
 /// Where the first newline is.
 fn newline(bytes: &[u8]) -> Option<usize>
@@ -75,7 +77,7 @@ fn answer_lines<S: Source, K: Sink, T: Turner>(
     ensures output_later { K.faults out.old ≤ K.faults out.new }
     ensures later { NotFewer (T.faults on.old) (T.faults on.new) }
 {
-    let Ok(mut inbox) = Inbox::new(alloc) else {
+    let Ok(mut inbox) = Inbox::<ROOM>::new(alloc) else {
         return ScriptEnd::Memory;
     };
     let mut bytes = Vec::new(alloc);

@@ -6,7 +6,7 @@ use Rattle.std.proofs.lemmas.List.{append-nil, length-append, length-drop}
 use Rattle.nine_wire.specs.Message.{request_message}
 use Rattle.nine_wire.proofs.Laws.{stands_more}
 use Rattle.fo_links.specs.Links.{LosesFront, GainsEnd, IsAtEnd}
-use Rattle.fo_talk.specs.Filling.{FilledSome}
+use Rattle.fo_links.specs.Filling.{FilledSome}
 use Rattle.fo_talk.specs.Conversation.{Goes, Position, Standing, Exchange, Answers, Talks, LetsAllGo, said, output, taken_by, only_looks, OnlyLook, NoMessage, IsBad}
 use Rattle.fo_talk.specs.Answering.{Adds, PutsFront}
 use Rattle.fo_talk.specs.Ending.{Ends, Unrested}

@@ -1,4 +1,3 @@
-pub mod Buffer
 pub mod Later
 pub mod Talking
 pub mod Front

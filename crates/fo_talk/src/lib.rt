@@ -5,7 +5,6 @@
 #![tactic(auto)]
 
 mod end;
-mod inbox;
 mod machine;
 mod outbox;
 mod service;

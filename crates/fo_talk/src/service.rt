@@ -10,13 +10,15 @@ ghost use Rattle.fo_talk.specs.Ending.{Ends};
 ghost use Rattle.fo_talk.specs.Stopping.{Stopped, end_at};
 
 use crate::end::LinkEnd;
-use crate::inbox::Inbox;
 use crate::machine::Machine;
 use crate::outbox::{Stop, add_reply, is_whole, may_wait, put_out};
 use crate::turns::{ask, is_version, let_all_go};
-use fo_links::{Clock, Sink, Source};
+use fo_links::{Clock, Inbox, Sink, Source};
 use nine_wire::{LARGEST_MESSAGE, Reply, Request, Step, read_msg};
 use std::alloc::Global;
+
+/// How many bytes the buffer has that input waits in.
+const ROOM: usize = 2 * LARGEST_MESSAGE as usize;
 
 /// The most bytes that a message may have after a reply.
 fn next_limit(limit: u32, asked: bool, reply: &Reply) -> u32
@@ -91,7 +93,7 @@ fn converse<S: Source, K: Sink, C: Clock, M: Machine>(
     ensures output_later { K.faults out.old ≤ K.faults out.new }
     ensures later { NotFewer (M.faults machine.old) (M.faults machine.new) }
 {
-    let Ok(mut inbox) = Inbox::new(alloc) else {
+    let Ok(mut inbox) = Inbox::<ROOM>::new(alloc) else {
         return LinkEnd::Memory;
     };
     let mut replies = Vec::new(alloc);

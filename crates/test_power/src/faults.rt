@@ -1,5 +1,5 @@
 //! Each call of a device fails once.
-use crate::images::are_sound;
+use crate::images::are_kept;
 use crate::script::{STEPS, failing, step};
 use fo_world::FileError;
 use std::alloc::Global;
@@ -43,7 +43,7 @@ fn refused(alloc: Global, files: &mut On) -> Option<u32> {
 /// Whether all is there once each step was granted.
 fn ends_well(alloc: Global, left: &Left) -> bool {
     match left.image(0, 0) {
-        Ok(disks) => are_sound(alloc, disks, STEPS),
+        Ok(disks) => are_kept(alloc, disks, STEPS),
         Err(_) => false,
     }
 }

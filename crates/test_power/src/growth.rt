@@ -1,12 +1,13 @@
 //! A directory gets one leaf of pairs more, and the power is cut at each moment until that is settled.
 //!
 //! The root has as many files as its leaves have pairs, all settled. Then one more is made. All images pass the check, and take a new file.
+use crate::images::are_sound;
 use crate::moments::{Moment, moments, seen};
 use crate::script::done;
 use fo_world::{FileError, FileOps};
 use std::alloc::Global;
 use std::test::Fail;
-use test_requests::disks::{Disks, Left, On, checked, closed, formatted, opened, that_fail};
+use test_requests::disks::{Disks, Left, On, closed, formatted, opened, that_fail};
 use test_requests::requests::{FILE, make};
 
 /// How many pairs a leaf has. Each file has one.
@@ -66,21 +67,13 @@ fn cut_at(alloc: Global, start: &Left, call: u64) -> Option<(Left, bool)> {
 }
 
 /// Whether the disks are sound, and take a new file.
-fn are_sound(alloc: Global, disks: Disks) -> bool {
-    let mut disks = disks;
-    let sound = checked(alloc, &mut disks).is_some();
-    match opened(alloc, disks) {
-        Some(mut files) => {
-            let taken = takes(alloc, &mut files, NEW);
-            closed(files).is_some() && sound && taken
-        }
-        None => false,
-    }
+fn are_right(alloc: Global, disks: Disks) -> bool {
+    are_sound(alloc, disks, |files| takes(alloc, files, NEW))
 }
 
 /// What is found at the moment of this call.
 fn seen_at(alloc: Global, start: &Left, call: u64) -> Moment {
-    seen(cut_at(alloc, start, call), |disks| are_sound(alloc, disks))
+    seen(cut_at(alloc, start, call), |disks| are_right(alloc, disks))
 }
 
 /// Whether there are at least twelve moments, and twelve images more than moments, where the root has so many files at first. Opening makes the

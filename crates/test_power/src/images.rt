@@ -38,17 +38,24 @@ fn fits(alloc: Global, files: &mut On, steps: u32) -> bool {
     first && second
 }
 
-/// Whether the disks are sound, and open to files as they may be once so many steps were granted.
-pub fn are_sound(alloc: Global, disks: Disks, steps: u32) -> bool {
+/// Whether the disks are sound, and open to files that fit.
+pub fn are_sound<F: Fn(&mut On) -> bool>(alloc: Global, disks: Disks, fits: F) -> bool
+    requires { F.IsAlwaysCallable fits }
+{
     let mut disks = disks;
     let sound = checked(alloc, &mut disks).is_some();
     match opened(alloc, disks) {
         Some(mut files) => {
-            let fit = fits(alloc, &mut files, steps);
+            let fit = fits(&mut files);
             closed(files).is_some() && sound && fit
         }
         None => false,
     }
+}
+
+/// Whether the disks are sound, and open to files as they may be once so many steps were granted.
+pub fn are_kept(alloc: Global, disks: Disks, steps: u32) -> bool {
+    are_sound(alloc, disks, |files| fits(alloc, files, steps))
 }
 
 /// Whether the disks that were made of what a crash leaves are right.
@@ -61,20 +68,11 @@ fn is_right<F: Fn(Disks) -> bool>(disks: Result<Disks, Memory>, are_right: &F) -
     }
 }
 
-/// How many choices of a version of each block there are.
-fn choices(left: &Left) -> u32 {
-    let mut choices: u32 = 1;
-    for at in 0..64 {
-        choices = choices.saturating_mul(left.versions(at));
-    }
-    choices
-}
-
 /// How many images a crash may leave, where all are right, and there are at most 256: each choice of a version of each block once.
 pub fn of_all<F: Fn(Disks) -> bool>(left: &Left, are_right: F) -> Option<u32>
     requires { F.IsAlwaysCallable are_right }
 {
-    let choices = choices(left);
+    let choices = left.choices();
     if 256 < choices {
         return None;
     }
@@ -116,8 +114,8 @@ fn of_some<F: Fn(Disks) -> bool>(left: &Left, are_right: F) -> Option<u32>
 /// How many images were made, where all are right: all that a crash may leave, where there are at most 256; else that of the oldest versions,
 /// that of the newest, and those with the newest version of one block.
 pub fn images(alloc: Global, left: &Left, steps: u32) -> Option<u32> {
-    let are_right = |disks| are_sound(alloc, disks, steps);
-    if choices(left) <= 256 {
+    let are_right = |disks| are_kept(alloc, disks, steps);
+    if left.choices() <= 256 {
         of_all(left, are_right)
     } else {
         of_some(left, are_right)

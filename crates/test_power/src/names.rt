@@ -1,12 +1,13 @@
 //! A name goes from one leaf of a directory's records to another, and the power is cut at each moment until that is settled.
 //!
 //! The root has a leaf of 27 files and one of three, all settled. Then its name is taken from a file in one leaf, and given to one in the other.
+use crate::images::are_sound;
 use crate::moments::{Moment, moments, seen};
 use crate::script::{done, failing, number_of, remove_from};
 use fo_world::{FileError, FileOps};
 use std::alloc::Global;
 use std::test::Fail;
-use test_requests::disks::{Disks, Left, On, checked, closed, opened};
+use test_requests::disks::{Disks, Left, On, closed, opened};
 use test_requests::requests::{FILE, found, is_refused, make, rename};
 
 /// How many files there are.
@@ -140,23 +141,15 @@ fn is_once(alloc: Global, files: &mut On, name: u8) -> bool {
 }
 
 /// Whether the disks are sound, and have a name at most once.
-fn are_sound(alloc: Global, disks: Disks, name: u8) -> bool {
-    let mut disks = disks;
-    let sound = checked(alloc, &mut disks).is_some();
-    match opened(alloc, disks) {
-        Some(mut files) => {
-            let once = is_once(alloc, &mut files, name);
-            closed(files).is_some() && sound && once
-        }
-        None => false,
-    }
+fn are_right(alloc: Global, disks: Disks, name: u8) -> bool {
+    are_sound(alloc, disks, |files| is_once(alloc, files, name))
 }
 
 /// What is found at the moment of this call.
 fn seen_at(alloc: Global, call: u64, row: Row) -> Moment {
     seen(
         cut_at(alloc, call, row),
-        |disks| are_sound(alloc, disks, row.name),
+        |disks| are_right(alloc, disks, row.name),
     )
 }
 

@@ -206,6 +206,15 @@ impl Left {
         self.main.versions(at)
     }
 
+    /// How many choices of a version of each block there are, of all blocks of main.
+    pub fn choices(&self) -> u32 {
+        let mut choices: u32 = 1;
+        for at in 0..64 {
+            choices = choices.saturating_mul(self.versions(at));
+        }
+        choices
+    }
+
     /// The disks as a crash may leave them: of all choices of a version of each block the one with this number.
     pub fn choice(&self, number: u32) -> Result<Disks, Memory> {
         let main = picked_by(&self.main, number)?;

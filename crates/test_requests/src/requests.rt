@@ -141,6 +141,36 @@ pub fn rename<B: Blocks>(
     }
 }
 
+/// A change of the length alone.
+fn to_length(long: u64) -> Change
+    ensures name { result.name ≡ None }
+    ensures gid { result.gid ≡ None }
+{
+    Change {
+        mode: None,
+        mtime: None,
+        length: Some(long),
+        name: None,
+        gid: None,
+    }
+}
+
+/// Gives the file of this trail another length.
+pub fn set_length<B: Blocks>(
+    alloc: Global,
+    files: &mut Files<B>,
+    trail: &[u32],
+    long: u64,
+) -> Result<(), FileError> {
+    if trail.is_empty() {
+        return Err(FileError::Memory);
+    }
+    match (place(alloc, trail), user(alloc)) {
+        (Ok(at), Ok(user)) => files.change(&at, &to_length(long), &user, 104),
+        _ => Err(FileError::Memory),
+    }
+}
+
 /// The number and the length of the file of this trail.
 pub fn info<B: Blocks>(
     alloc: Global,

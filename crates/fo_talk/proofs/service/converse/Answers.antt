@@ -106,7 +106,7 @@ returns-in-Err-clause-talk g c = ends_early _ _ _ _ _ _ _ _ _ (owing_put _ _ _ _
 pub fill-requires : goal.fill-requires
 fill-requires g c =
     let part : IsPart c.messages.limit c.messages.inbox = rw (← c.waiting.ensures) (rw c.in-Ok-More.field-0-is at c.in-Ok-More.ensures.found) in
-    part_room c.messages.limit c.messages.inbox part c.messages.invariant.small
+    (omega arith, omega (arith, part_room c.messages.limit c.messages.inbox part c.messages.invariant.small))
 
 pub messages-smaller-in-Ok-Msg : goal.messages-smaller-in-Ok-Msg
 messages-smaller-in-Ok-Msg g c =

@@ -1,9 +1,7 @@
-use Rattle.std.proofs.Common.{◌≡◌, Bool, true, false, sym, ◌∙◌, arith}
+use Rattle.std.proofs.Common.{sym, ◌∙◌, arith}
+use Rattle.std.proofs.lemmas.Bool.{true≢false}
 use Rattle.fo_files_dir.proofs.Dirs.{pair_keeps}
 use Rattle.test_files.proofs.life.made.Goals as goal
-
-true_false : (b : Bool) → b ≡ true → b ≡ false → ⊥
-true_false b e f = let h : true ≡ false = sym e ∙ f in cc
 
 pub returns-in-Ok-ready_leaf-clause-dir : goal.returns-in-Ok-ready_leaf-clause-dir
 returns-in-Ok-ready_leaf-clause-dir g c =
@@ -39,4 +37,4 @@ ready_leaf-requires-clause-wanted g c =
     let rank = is.2 in
     let limit = is.3 in
     let dir = c.requires.dir.1 in
-    record { low = (omega (arith, rank, dir), omega (arith, limit)); records = λ no_dir. absurd (true_false c.entries.result.is_dir is.4 no_dir) }
+    record { low = (omega (arith, rank, dir), omega (arith, limit)); records = λ no_dir. absurd (true≢false (sym is.4 ∙ no_dir)) }

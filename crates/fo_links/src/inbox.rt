@@ -1,40 +1,39 @@
-//! The bytes that came and are not used up.
-ghost use Rattle.std.specs.Prelude.{◌≡◌, ℕ, ◌+◌, ◌-◌, ◌<◌, ◌≤◌, ◌++◌, List, [], length, take, drop, vec_len, IfOk};
+//! A buffer behind a source.
+ghost use Rattle.std.specs.Prelude.{◌≡◌, ℕ, ◌+◌, ◌-◌, ◌*◌, ◌<◌, ◌≤◌, ◌++◌, List, [], length, take, drop, vec_len, IfOk};
 ghost use Rattle.fo_base.specs.Cause.{HasCause};
 ghost use Rattle.fo_links.specs.Links.{Taken};
-ghost use Rattle.fo_talk.specs.Filling.{Filled};
+ghost use Rattle.fo_links.specs.Filling.{Filled};
 
+use crate::traits::{Failed, Source};
 use fo_base::Memory;
-use fo_links::{Failed, Source};
-use nine_wire::LARGEST_MESSAGE;
 use std::alloc::Global;
 use std::marker::Model;
 
-/// The bytes that came and are not used up, at most as many as the largest message has. They lie
-/// in a buffer, and move to its front only where no room is left behind them: so each byte is moved
-/// a bounded number of times, in whatever pieces the input comes.
+/// The bytes that came from a source and are not used up. They lie in a buffer of `ROOM` bytes, and
+/// move to its front only where no room is left behind them. More are taken only while fewer wait
+/// than half of `ROOM`: so each byte is moved a bounded number of times, in whatever pieces they come.
 #[derive(Drop)]
-pub struct Inbox {
+pub struct Inbox<const ROOM: usize> {
     bytes: Vec<u8>,
     start: usize,
     end: usize,
 }
 
-impl Model for Inbox {
+impl<const ROOM: usize> Model for Inbox<ROOM> {
     ghost Value = { List ℕ };
 
     ghost view = { λ b. take (b.end - b.start) (drop b.start b.bytes.items) };
 
-    ghost invariant = { λ b. (b.start ≤ b.end) × (b.end ≤ 131120) × (vec_len b.bytes ≡ 131120) };
+    ghost invariant = { λ b. (b.start ≤ b.end) × (b.end ≤ ROOM) × (vec_len b.bytes ≡ ROOM) };
 }
 
-impl Inbox {
+impl<const ROOM: usize> Inbox<ROOM> {
     /// An empty one.
-    pub fn new(alloc: Global) -> Result<Inbox, Memory>
+    pub fn new(alloc: Global) -> Result<Inbox<ROOM>, Memory>
         ensures { IfOk result (λ inbox. inbox ≡ []) }
     {
         Ok(Inbox {
-            bytes: vec![in alloc; 0; 2 * LARGEST_MESSAGE as usize]?,
+            bytes: vec![in alloc; 0; ROOM]?,
             start: 0,
             end: 0,
         })
@@ -57,9 +56,9 @@ impl Inbox {
 
     /// Takes more bytes from the source, and says how many.
     pub fn fill<S: Source>(&mut self, input: &mut S) -> Result<usize, Failed>
-        requires { length self.old < 65560 }
+        requires { 2 * length self.old < ROOM }
         ensures filled { Filled (S.left input.old) (S.left input.new) (S.room input.old) (S.room input.new) self.old self.new result }
-        ensures bound { length self.new ≤ 131120 }
+        ensures bound { length self.new ≤ ROOM }
         ensures cause { HasCause (S.faults input.old) (S.faults input.new) result }
     {
         let (start, end) = pack(&mut self.bytes, self.start, self.end);

@@ -2,8 +2,8 @@ use Rattle.std.proofs.Common.{◌≡◌, ◌-◌, ◌∙◌, ap, take, drop, ari
 use Rattle.std.proofs.lemmas.List.{with_items_is}
 use Rattle.std.proofs.lemmas.Result.{err_from_is_err_and}
 use Rattle.std.specs.Vec.{with_items}
-use Rattle.fo_script.proofs.Buffer.{fills, part_stays}
-use Rattle.fo_script.proofs.inbox.Inbox.fill.Goals as goal
+use Rattle.fo_links.proofs.Buffer.{fills, part_stays}
+use Rattle.fo_links.proofs.inbox.Inbox.fill.Goals as goal
 
 pub returns-clause-filled : goal.returns-clause-filled
 returns-clause-filled g c =

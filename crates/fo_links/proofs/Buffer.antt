@@ -3,7 +3,7 @@ use Rattle.std.proofs.Common.{◌≡◌, ℕ, ◌+◌, ◌-◌, ◌<◌, ◌≤�
 use Rattle.std.specs.declared.option.Option.{Option}
 use Rattle.std.proofs.lemmas.List.{take_at, length-take, length-drop, length-append, take-append-drop, drop-drop, drop-take, append_assoc, append-nil, nil_from_length, drop-append-le}
 use Rattle.fo_links.specs.Links.{TakenSome, LosesFront, IsAtEnd}
-use Rattle.fo_talk.specs.Filling.{FilledSome}
+use Rattle.fo_links.specs.Filling.{FilledSome}
 
 -- the part without its first n bytes
 pub part_later : (bs : List ℕ) (start end n : ℕ) → n ≤ end - start → take (end - (start + n)) (drop (start + n) bs) ≡ drop n (take (end - start) (drop start bs))
