@@ -1,5 +1,5 @@
 -- Why a request is refused.
-use Rattle.std.proofs.Common.{◌≡◌, ◌<◌, ℕ, refl, subst}
+use Rattle.std.proofs.Common.{◌≡◌, ◌<◌, ◌≤◌, ℕ, refl, subst, arith}
 use Rattle.fo_base.specs.Cause.{Rose}
 use Rattle.fo_disk.specs.declared.disk.DiskFault.TheVariants.{Read, Write, Sync}
 use Rattle.fo_ports.specs.declared.error.BlockError.{BlockError}
@@ -9,7 +9,7 @@ use Rattle.fo_ports.specs.State.{State, KeepsAll}
 use Rattle.fo_files_plan.proofs.of_looks.Looks.{rose_later}
 use Rattle.fo_world.specs.declared.error.FileError.{FileError}
 use Rattle.fo_world.specs.declared.error.FileError.TheVariants as error
-use Rattle.fo_world.specs.Answers.{HasCause}
+use Rattle.fo_world.specs.Answers.{HasCause, IsBelow}
 use Rattle.fo_files_look.specs.Told.{faults_of, file_error}
 use Rattle.fo_files_along.specs.Along.{HasRoom, IsBlocks}
 
@@ -93,3 +93,15 @@ cause_later a b c full need all error.ReadOnly cause = cause
 cause_later a b c full need all error.Halted cause = cause
 cause_later a b c full need all error.Gone cause = cause
 cause_later a b c full need all error.DirFull cause = cause
+
+below_more : (n need most : ℕ) → need ≤ most → n < need → n < most
+below_more n need most less below = omega (arith, less, below)
+
+-- full has its cause for a larger need, too
+pub cause_more : (a c : State) (full : ℕ → Type 0) (need most : ℕ) → need ≤ most → (e : FileError) → HasCause (faults_of a) (faults_of c) ⊥ full need e → HasCause (faults_of a) (faults_of c) ⊥ full most e
+cause_more a c full need most less error.Full cause = (cause.0, cause.1, below_more cause.0 need most less cause.2)
+cause_more a c full need most less e cause = cause
+
+-- so it has for what a request gives
+pub full_below : (a c : State) (full : ℕ → Type 0) (need most : ℕ) → need ≤ most → (e : FileError) → HasCause (faults_of a) (faults_of c) ⊥ full need e → e ≡ error.Full → IsBelow full most
+full_below a c full need most less e cause is = let h = subst (λ x. HasCause (faults_of a) (faults_of c) ⊥ full need x) is cause in (h.0, h.1, below_more h.0 need most less h.2)

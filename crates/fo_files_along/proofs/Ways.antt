@@ -1,7 +1,7 @@
 -- The way to a file whose record is another.
 use Rattle.std.proofs.Common.{◌≡◌, ◌<◌, ℕ, List, [], ◌∷◌, length, get_or, refl, sym, subst, ◌∙◌}
 use Rattle.fo_image.specs.declared.record.Record.{Record}
-use Rattle.fo_image.specs.Record.{RecordHolds}
+use Rattle.fo_image.specs.Record.{RecordHolds, RootRecordHolds}
 use Rattle.fo_ports.specs.State.{State}
 use Rattle.fo_world.specs.Limits.{IsUser}
 use Rattle.fo_files_plan.specs.of_files_at.declared.at.Step.{Step}
@@ -21,6 +21,10 @@ touched_holds who now r user holds = record {
   gid_is = holds.gid_is;
   muid_is = record { some = user.some; within = user.short; is_text = user.text };
 }
+
+-- a root directory's record stays one
+pub touched_root : (who : List ℕ) (now : ℕ) (r : Record) → IsUser who → RootRecordHolds r → RootRecordHolds (touched who now r)
+touched_root who now r user is = record { holds = touched_holds who now r user is.holds; name_is = is.name_is; number_is = is.number_is; slot_is = is.slot_is; generation_is = is.generation_is }
 
 follows_named : (s : State) (rank : ℕ) (steps : List Step) (file : File) (r : Record) (trail : List ℕ) → RecordHolds r → r.number ≡ file.named.number → Follows s rank steps file trail → Follows s rank steps (record file { named = r }) trail
 follows_named s rank [] file r [] holds number h = (record { named = holds; first = h.0.first; second = h.0.second; stands = h.0.stands; ranked = h.0.ranked; high = h.0.high }, h.1)

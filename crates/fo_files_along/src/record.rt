@@ -1,6 +1,7 @@
 //! The record of a file that was changed, and the leaf to which it goes.
-ghost use Rattle.std.specs.Prelude.{◌≡◌, ◌≤◌, ℕ, IfErr};
+ghost use Rattle.std.specs.Prelude.{◌≡◌, ◌↔◌, ◌≤◌, ℕ, IsTrue, IfErr};
 ghost use Rattle.fo_base.specs.Cause.{Rose};
+ghost use Rattle.fo_image.specs.Record.{RootRecordHolds};
 ghost use Rattle.fo_ports.specs.Causes.{Caused};
 ghost use Rattle.fo_ports.specs.State.{Looks};
 ghost use Rattle.fo_files_plan.specs.of_files_at.Held.{FileHolds};
@@ -9,7 +10,7 @@ ghost use Rattle.fo_files_along.specs.Along.{touched};
 use fo_base::Bytes;
 use fo_files_look::leaf_for;
 use fo_files_plan::files_at::{RECORDS_BELOW, Step, records_of};
-use fo_image::Record;
+use fo_image::{Record, is_record};
 use fo_ports::{BlockError, Blocks};
 use std::alloc::Global;
 
@@ -23,6 +24,17 @@ pub fn touch(named: Record, who: Bytes, now: u32) -> Record
         muid: who,
         ..named
     }
+}
+
+/// Whether a record is one of a root directory: its name is `/`, and it has no number and no pair.
+pub fn is_of_root(named: &Record) -> bool
+    ensures { IsTrue result ↔ RootRecordHolds named.now }
+{
+    is_record(named)
+        && named.name.as_slice() == b"/".as_slice()
+        && named.number == 0
+        && named.slot == 0
+        && named.generation == 0
 }
 
 /// The leaf to which a record of this length goes that took as many bytes as this before: its own, where it doesn't get longer, else the first of its

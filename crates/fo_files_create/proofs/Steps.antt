@@ -1,6 +1,5 @@
 -- The steps of making a file.
-use Rattle.std.proofs.Common.{◌≡◌, ◌≢◌, ◌⊎◌, ◌+◌, ◌-◌, ◌*◌, ◌<◌, ◌≤◌, ℕ, suc, List, [], ◌∷◌, length, get_or, Option, Some, None, inl, inr, ⊎_elim, refl, sym, ap, subst, ◌∙◌, arith}
-use Rattle.std.specs.Prelude.{MatchOption}
+use Rattle.std.proofs.Common.{◌≡◌, ◌≢◌, ◌⊎◌, ◌+◌, ◌-◌, ◌*◌, ◌<◌, ℕ, suc, List, [], ◌∷◌, length, get_or, Option, Some, None, inl, inr, ⊎_elim, refl, sym, ap, subst, ◌∙◌, arith}
 use Rattle.fo_image.specs.declared.types.Kind.{Kind}
 use Rattle.fo_image.specs.declared.types.Kind.TheVariants.{Data, Dir}
 use Rattle.fo_image.specs.declared.types.Label.{Label}
@@ -8,25 +7,22 @@ use Rattle.fo_image.specs.declared.record.Record.{Record}
 use Rattle.fo_image.specs.Record.{RecordHolds, RootRecordHolds}
 use Rattle.fo_ports.specs.State.{State, KeepsAll, KeepsNumbers, none}
 use Rattle.fo_files_dir.specs.declared.dir.DirAt.{DirAt}
-use Rattle.fo_files_dir.specs.Dir.{IsDirAt}
 use Rattle.fo_files_new.specs.of_files_leaf.Alters.{MayPut}
 use Rattle.fo_files_own.specs.of_files_record.Leaf.{IsEntriesAt}
-use Rattle.fo_files_own.specs.of_files_record.Own.{IsRootAt}
 use Rattle.fo_files_own.specs.of_files_ready.Ready.{IsLeafOf as IsRecordsOf}
-use Rattle.fo_files_own.proofs.of_files_ready.Steps.{leaf_kept}
 use Rattle.fo_files_new.specs.declared.pair.Leaves.{Leaves}
 use Rattle.fo_files_new.specs.New.{AltersDir, AreOwn, IsAboveOf, IsLeafOf}
 use Rattle.fo_files_own.specs.declared.at.OwnAt.{OwnAt}
 use Rattle.fo_files_own.specs.declared.at.OwnAt.TheVariants.{Root, Below}
 use Rattle.fo_files_own.specs.declared.at.ReadyOwn.{ReadyOwn}
-use Rattle.fo_files_own.specs.Own.{AltersOwn, IsBlockOf, IsOwnAt, MayOwn, MayPutOwn}
+use Rattle.fo_files_own.specs.Own.{AltersOwn, IsApartFrom, IsBlockOf, IsOwnAt, MayOwn, MayPutOwn, own_of}
 use Rattle.fo_files_own.proofs.Carry.{ready_alters}
 use Rattle.fo_files_create_look.specs.of_files_at.declared.at.Step.{Step}
 use Rattle.fo_files_create_look.proofs.of_files_at.Ways.{way_stays}
 use Rattle.fo_files_create_look.specs.of_files_along.Along.{IsAboveOf as IsAboveStep}
 use Rattle.fo_files_create_look.specs.declared.found.Found.{Found}
 use Rattle.fo_files_create_look.specs.Found.{IsFound}
-use Rattle.fo_files_create.specs.Create.{IsApartFrom, last_leaf, own_of}
+use Rattle.fo_files_create.specs.Create.{last_leaf}
 
 -- ---- what making the own record ready keeps
 
@@ -36,16 +32,6 @@ own_numbers B state keeps old new (Below b) x = record {
   next = x.4.numbers.next ∙ x.1.numbers.next;
   grants = λ h. x.4.numbers.grants (x.1.numbers.grants h);
 }
-
-more_usable : (s_usable s_spare m_usable m_spare u_usable u_spare : ℕ) → s_usable + m_spare ≤ m_usable + s_spare → u_spare ≡ m_spare → m_usable ≤ u_usable → s_usable + u_spare ≤ u_usable + s_spare
-more_usable s_usable s_spare m_usable m_spare u_usable u_spare a b c = omega (arith, a, b, c)
-
-same_usable : (s_usable s_spare u_usable u_spare : ℕ) → u_usable ≡ s_usable → u_spare ≡ s_spare → s_usable + u_spare ≤ u_usable + s_spare
-same_usable s_usable s_spare u_usable u_spare a b = omega (arith, a, b)
-
-pub own_usable : (B : Type 0) (state : B → State) (keeps : B → B → Type 0) (old new : B) (own : OwnAt) → AltersOwn B state keeps old new own → (state old).usable + (state new).spare ≤ (state new).usable + (state old).spare
-own_usable B state keeps old new (Root root) x = same_usable (state old).usable (state old).spare (state new).usable (state new).spare x.usable.0 x.room.0
-own_usable B state keeps old new (Below b) x = more_usable (state old).usable (state old).spare (state x.0).usable (state x.0).spare (state new).usable (state new).spare x.1.usable x.4.left.0 x.4.left.2
 
 -- ---- what was made ready stays so while the file comes
 
@@ -86,23 +72,10 @@ ready_comes s u dir own leaves r all at apart block x are may =
 pub label_comes : (s u : State) (dir : DirAt) (leaves : Leaves) (r : ReadyOwn) → AltersDir dir (IsLeafOf leaves) s u → MayPutOwn s r → (u.label r.at ≡ s.label r.at) × (s.pinned r.at → u.pinned r.at)
 label_comes s u dir leaves r x may = (x.labels r.at (λ made. made.0 may.live), (x.marks r.at (λ made. made.0 may.live)).0)
 
--- what it is for stays, too
-pub block_on : (s u : State) (own : OwnAt) (r : ReadyOwn) → KeepsAll s u → u.label r.at ≡ s.label r.at → (s.pinned r.at → u.pinned r.at) → (u.now r.at).bytes ≡ (s.now r.at).bytes → IsBlockOf s own r → IsBlockOf u own r
-block_on s u (Root root) r all same pin bytes is = is
-block_on s u (Below b) r all same pin bytes is = (leaf_kept s u b.dir r.at all same pin (ap (λ (xs : List ℕ). length xs) bytes ∙ is.0.whole) is.0, is.1)
-
--- a block of a root is that root's
-pub of_root : (s : State) (own : OwnAt) (r : ReadyOwn) → IsBlockOf s own r → (root : ℕ) → own ≡ Root root → r.at ≡ root
-of_root s own r is root e = (subst (λ o. IsBlockOf s o r) e is).0
-
 -- ---- where the own record stands
 
 pub own_with : (own : OwnAt) (dir : DirAt) (above : Option DirAt) (n leaf spare : ℕ) → own ≡ own_of dir above n spare → n ≡ leaf → own ≡ own_of dir above leaf spare
 own_with own dir above n leaf spare is same = is ∙ ap (λ l. own_of dir above l spare) same
-
-pub own_stands : (s : State) (dir : DirAt) (above : Option DirAt) (leaf spare : ℕ) → IsDirAt s dir → MatchOption above (IsRootAt s dir.at) (λ a. IsDirAt s a × IsEntriesAt s dir.at × (a.number ≢ dir.number)) → IsOwnAt s (own_of dir above leaf spare) × IsApartFrom dir (own_of dir above leaf spare)
-own_stands s dir None leaf spare at h = ((h, at.pair.live), refl)
-own_stands s dir (Some a) leaf spare at h = ((h.0, h.1), (refl, h.2))
 
 pub own_may : (dir : DirAt) (above : Option DirAt) (leaf spare : ℕ) (named : Record) → (above ≡ None → RootRecordHolds named) → RecordHolds named → MayOwn (own_of dir above leaf spare) named
 own_may dir None leaf spare named of holds = of refl

@@ -1,5 +1,5 @@
 -- A file was made, step by step.
-use Rattle.std.specs.Prelude.{◌≡◌, ◌≢◌, ◌⊎◌, ◌+◌, ◌^◌, ◌<◌, ◌≤◌, ℕ, List, [], ◌∷◌, Option, Some, None}
+use Rattle.std.specs.Prelude.{◌≡◌, ◌⊎◌, ◌+◌, ◌^◌, ◌<◌, ◌≤◌, ℕ, List, [], ◌∷◌, Option}
 use Rattle.fo_image.specs.declared.record.Record.{Record}
 use Rattle.fo_crash.specs.Images.{SameImage}
 use Rattle.fo_ports.specs.State.{State, Looks, Numbers, Rests, Stays, Uses, Calm, none}
@@ -13,8 +13,7 @@ use Rattle.fo_files_dir.specs.declared.dir.DirAt.{DirAt}
 use Rattle.fo_files_new.specs.declared.pair.Leaves.{Leaves}
 use Rattle.fo_files_new.specs.New.{AltersDir, IsLeafOf, IsNew}
 use Rattle.fo_files_own.specs.declared.at.OwnAt.{OwnAt}
-use Rattle.fo_files_own.specs.declared.at.OwnAt.TheVariants as place
-use Rattle.fo_files_own.specs.Own.{ChangesOwn, LeavesOwn, StepsTo}
+use Rattle.fo_files_own.specs.Own.{ChangesOwn, LeavesOwn, StepsTo, own_of}
 use Rattle.fo_files_create_look.specs.of_files_spot.declared.spot.Spot.{Spot}
 use Rattle.fo_files_create_look.specs.of_files_spot.Settles.{SettlesUnless}
 use Rattle.fo_files_create_look.specs.of_files_along.Along.{GoesToDir}
@@ -47,16 +46,6 @@ last_leaf [] = 0
 last_leaf (step ∷ []) = step.leaf
 last_leaf (step ∷ other ∷ rest) = last_leaf (other ∷ rest)
 
--- Where a directory's own record stands: in leaf `leaf` of the directory above, or in its root block.
-abbrev pub own_of : DirAt → Option DirAt → (leaf spare : ℕ) → OwnAt
-own_of dir None leaf spare = place.Root dir.at
-own_of dir (Some above) leaf spare = place.Below (record { dir = above; entries = dir.at; leaf = leaf; spare = spare })
-
--- A root block has the pair of the directory; or that has another number than the directory above it.
-abbrev pub IsApartFrom : DirAt → OwnAt → Type 0
-IsApartFrom dir (place.Root root) = root ≡ dir.at
-IsApartFrom dir (place.Below b) = (b.entries ≡ dir.at) × (b.dir.number ≢ dir.number)
-
 -- A file number was taken; all else stays.
 pub record TakesNumber (s u : State) : Type 0 where
   pub next : u.next ≡ s.next + 1
@@ -66,89 +55,80 @@ pub record TakesNumber (s u : State) : Type 0 where
 
 -- A directory's own record was made ready, a new file put into the directory, its number taken, and last the own record put: this one.
 pub record MakesNew (B : Type 0) (state : B → State) (old new : B) (dir : DirAt) (own : OwnAt) (touched : Record) (spot : Spot) (named r : Record) : Type 0 where
-  pub e : B
+  pub ready : B
   pub block : ℕ
-  pub readied : StepsTo B state old e own touched.name block
-  pub leaves : Leaves
-  pub z : B
-  pub a : B
-  pub b : B
-  pub t : B
-  pub c : B
-  pub p : B
-  pub m : B
-  pub n : B
-  pub f : B
-  pub comes : IsNew (state e) (state z) (state a) (state b) (state t) (state c) (state p) (state m) (state n) (state f) dir spot.pair spot.leaf leaves named r
-  pub stays : (x : Leaves) × AltersDir dir (IsLeafOf x) (state e) (state f)
-  pub g : B
-  pub taken : TakesNumber (state f) (state g)
-  pub changed : ChangesOwn (state g) (state new) own touched block
-  pub calm : Calm (λ x. x ≡ block) 0 (state g) (state new)
+  pub readied : StepsTo B state old ready own touched.name block
+  pub made : B
+  pub comes : IsNew B state ready made dir spot.pair spot.leaf named r
+  pub stays : (x : Leaves) × AltersDir dir (IsLeafOf x) (state ready) (state made)
+  pub counted : B
+  pub taken : TakesNumber (state made) (state counted)
+  pub changed : ChangesOwn (state counted) (state new) own touched block
+  pub calm : Calm (λ x. x ≡ block) 0 (state counted) (state new)
 
 -- A refusal before that leaves this: the own record was not made ready; or it was, and leaves of the directory's sources were.
 abbrev pub LeavesNew : (B : Type 0) (state : B → State) (old new : B) (dir : DirAt) → OwnAt → (name : List ℕ) → Type 0
-LeavesNew B state old new dir own name = LeavesOwn B state old new own name ⊎ ((e : B) × (block : ℕ) × StepsTo B state old e own name block × AltersDir dir none (state e) (state new))
+LeavesNew B state old new dir own name = LeavesOwn B state old new own name ⊎ ((ready : B) × (block : ℕ) × StepsTo B state old ready own name block × AltersDir dir none (state ready) (state new))
 
 -- The way to a directory was planned and owned, and a file made in it, with this record.
 pub record MakesAlong (B : Type 0) (state : B → State) (old new : B) (root : ℕ) (trail : List ℕ) (way : Way) (spot : Spot) (named r : Record) : Type 0 where
-  pub c : B
-  pub d : B
-  pub looks : Looks (state old) (state c)
+  pub looked : B
+  pub looks : Looks (state old) (state looked)
+  pub owned : B
   pub dir : DirAt
   pub above : Option DirAt
-  pub along : GoesToDir (state c) (state d) root trail way dir above
+  pub along : GoesToDir (state looked) (state owned) root trail way dir above
   pub spare : ℕ
-  pub makes : MakesNew B state d new dir (own_of dir above (last_leaf way.steps.items) spare) way.file.named spot named r
+  pub makes : MakesNew B state owned new dir (own_of dir above (last_leaf way.steps.items) spare) way.file.named spot named r
 
 -- A refusal on the way, or after it, leaves this.
 pub record LeavesWay (B : Type 0) (state : B → State) (old new : B) (root : ℕ) (trail : List ℕ) : Type 0 where
-  pub c : B
-  pub d : B
-  pub looks : Looks (state old) (state c)
+  pub looked : B
+  pub looks : Looks (state old) (state looked)
+  pub owned : B
   pub way : Way
   pub dir : DirAt
   pub above : Option DirAt
-  pub along : GoesToDir (state c) (state d) root trail way dir above
+  pub along : GoesToDir (state looked) (state owned) root trail way dir above
   pub spare : ℕ
-  pub left : LeavesNew B state d new dir (own_of dir above (last_leaf way.steps.items) spare) way.file.named.name
+  pub left : LeavesNew B state owned new dir (own_of dir above (last_leaf way.steps.items) spare) way.file.named.name
 
 abbrev pub LeavesAlong : (B : Type 0) (state : B → State) (old new : B) (root : ℕ) (trail : List ℕ) → Type 0
 LeavesAlong B state old new root trail = Looks (state old) (state new) ⊎ LeavesWay B state old new root trail
 
 -- A number was granted, room reserved, or that was tried, and all settled, or that was tried; then the rest was refused, or never begun.
 pub record LeavesAfter (B : Type 0) (state : B → State) (old new : B) (root : ℕ) (trail : List ℕ) : Type 0 where
-  pub n : B
-  pub b : B
-  pub c : B
-  pub numbers : Numbers (state old) (state n)
-  pub rests : Looks (state n) (state b) ⊎ Rests (state n) (state b)
-  pub settles : (c ≡ b) ⊎ Rests (state b) (state c)
-  pub left : LeavesAlong B state c new root trail
+  pub granted : B
+  pub numbers : Numbers (state old) (state granted)
+  pub rested : B
+  pub rests : Looks (state granted) (state rested) ⊎ Rests (state granted) (state rested)
+  pub settled : B
+  pub settles : (settled ≡ rested) ⊎ Rests (state rested) (state settled)
+  pub left : LeavesAlong B state settled new root trail
 
 -- What a refusal leaves: all was only looked at, or it came later.
 abbrev pub IsLeft : (B : Type 0) (state : B → State) (old new : B) (root : ℕ) (trail : List ℕ) → Type 0
-IsLeft B state old new root trail = Looks (state old) (state new) ⊎ ((a : B) × Looks (state old) (state a) × LeavesAfter B state a new root trail)
+IsLeft B state old new root trail = Looks (state old) (state new) ⊎ ((looked : B) × Looks (state old) (state looked) × LeavesAfter B state looked new root trail)
 
 -- A number was granted, room reserved, all settled where the name doesn't stand alone, and a file with this record and the number made in the
 -- directory that was found.
 pub record MakesFound (B : Type 0) (state : B → State) (old new : B) (root : ℕ) (trail : List ℕ) (found : Found) : Type 0 where
-  pub n : B
-  pub b : B
-  pub c : B
-  pub numbers : Numbers (state old) (state n)
-  pub rests : Rests (state n) (state b)
-  pub settles : SettlesUnless B state found.spot.alone b c
+  pub granted : B
+  pub numbers : Numbers (state old) (state granted)
+  pub rested : B
+  pub rests : Rests (state granted) (state rested)
+  pub settled : B
+  pub settles : SettlesUnless B state found.spot.alone rested settled
   pub r : Record
-  pub makes : MakesAlong B state c new root trail found.way found.spot (numbered (state old).next found.named) r
+  pub makes : MakesAlong B state settled new root trail found.way found.spot (numbered (state old).next found.named) r
 
 -- A file was made in the directory at the end of a trail: what it needs was found, and then it was.
 pub record Creates (B : Type 0) (state : B → State) (old new : B) (root : ℕ) (trail : List ℕ) (named : Record) : Type 0 where
-  pub a : B
-  pub looks : Looks (state old) (state a)
+  pub looked : B
+  pub looks : Looks (state old) (state looked)
   pub found : Found
-  pub is_found : IsFound (state a) root trail named found
-  pub makes : MakesFound B state a new root trail found
+  pub is_found : IsFound (state looked) root trail named found
+  pub makes : MakesFound B state looked new root trail found
 
 -- A refusal once all was looked at: no number is left, or one is, and blocks refuse; all of them may, but for room.
 abbrev pub IsLate : (next : ℕ) → FileError → Type 0

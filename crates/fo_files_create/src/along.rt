@@ -10,10 +10,11 @@ ghost use Rattle.fo_files_create.specs.Create.{LeavesAlong, MakesAlong, last_lea
 ghost use Rattle.fo_ports.specs.Sources.{Dirties};
 ghost use Rattle.fo_ports.specs.State.{none};
 
-use crate::make::{own_at, put_new};
+use crate::make::put_new;
 use fo_files_create_look::files_along::own_dir_along;
 use fo_files_create_look::files_at::Way;
 use fo_files_create_look::files_spot::Spot;
+use fo_files_own::own_at;
 use fo_image::Record;
 use fo_ports::{BlockError, Blocks};
 use std::alloc::Global;
@@ -66,7 +67,7 @@ pub(crate) fn make_along<B: Blocks>(
         Ok(stand) => stand,
         Err(why) => return Err(why),
     };
-    let own = own_at(stand, own_leaf(way), spare);
+    let own = own_at(stand.dir, stand.above, own_leaf(way), spare);
     match put_new(alloc, on, stand.dir, own, &way.file.named, spot, named) {
         Ok(made) => Ok(made),
         Err(why) => Err(why),

@@ -5,33 +5,17 @@ ghost use Rattle.fo_image.specs.Record.{RecordHolds};
 ghost use Rattle.fo_ports.specs.Causes.{Caused};
 ghost use Rattle.fo_files_new.specs.of_dir_add.Adds.{IsNumbered};
 ghost use Rattle.fo_files_dir.specs.Dir.{IsDirAt};
-ghost use Rattle.fo_files_own.specs.Own.{IsOwnAt, MayOwn, block_of, blocks_for};
-ghost use Rattle.fo_files_create.specs.Create.{IsApartFrom, LeavesNew, MakesNew, own_of};
+ghost use Rattle.fo_files_own.specs.Own.{IsApartFrom, IsOwnAt, MayOwn, block_of, blocks_for};
+ghost use Rattle.fo_files_create.specs.Create.{LeavesNew, MakesNew};
 ghost use Rattle.fo_ports.specs.Sources.{AddsDirty};
 
-use fo_files_create_look::files_along::DirStand;
 use fo_files_create_look::files_spot::Spot;
 use fo_files_dir::DirAt;
 use fo_files_new::new_file;
-use fo_files_own::{Below, OwnAt, put_own, ready_own};
+use fo_files_own::{OwnAt, put_own, ready_own};
 use fo_image::Record;
 use fo_ports::{BlockError, Blocks};
 use std::alloc::Global;
-
-/// Where the own record of a directory stands: in leaf `leaf` of the records of the directory above, with leaf `spare` for it, or in its root block.
-pub(crate) fn own_at(at: DirStand, leaf: u32, spare: u32) -> OwnAt
-    ensures { result ≡ own_of at.dir at.above leaf spare }
-{
-    match at.above {
-        None => OwnAt::Root(at.dir.at),
-        Some(dir) => OwnAt::Below(Below {
-            dir,
-            entries: at.dir.at,
-            leaf,
-            spare,
-        }),
-    }
-}
 
 /// Puts a new file with this record, whose number was granted, into a directory, and then the directory's own record. Gives the file's record, with
 /// its pair. Refused before any record is other than it was.

@@ -1,6 +1,6 @@
 //! The records of a new file, and of the directory that gets it.
-ghost use Rattle.std.specs.Prelude.{◌≡◌, ◌↔◌, ◌≤◌, ℕ, IsTrue, IfOk, IfErr};
-ghost use Rattle.fo_image.specs.Record.{RecordHolds, RootRecordHolds, record_len};
+ghost use Rattle.std.specs.Prelude.{◌≡◌, ◌≤◌, ℕ, IfOk, IfErr};
+ghost use Rattle.fo_image.specs.Record.{RecordHolds, record_len};
 ghost use Rattle.fo_world.specs.declared.error.FileError.TheVariants.{Memory};
 ghost use Rattle.fo_world.specs.Limits.{IsName, IsUser};
 ghost use Rattle.fo_files_along.specs.Along.{touched, with_touched};
@@ -9,7 +9,7 @@ ghost use Rattle.fo_files_create_look.specs.Named as of;
 use fo_base::Bytes;
 use fo_files_along::files_at::{File, Way};
 use fo_files_along::touch;
-use fo_image::{Record, is_record, record_len};
+use fo_image::{Record, record_len};
 use fo_world::FileError;
 use std::alloc::Global;
 
@@ -58,17 +58,6 @@ pub(crate) fn new_record(
         gid.copy(alloc)?,
         now,
     ))
-}
-
-/// Whether a record is one of a root directory: its name is `/`, and it has no number and no pair.
-pub(crate) fn is_of_root(named: &Record) -> bool
-    ensures { IsTrue result ↔ RootRecordHolds named.now }
-{
-    is_record(named)
-        && named.name.as_slice() == b"/".as_slice()
-        && named.number == 0
-        && named.slot == 0
-        && named.generation == 0
 }
 
 /// How long the record of a directory is after a user changed it.

@@ -11,11 +11,11 @@ ghost use Rattle.fo_files_along.specs.of_files_at.Way.{IsWay};
 ghost use Rattle.fo_files_along.specs.of_files_look.Told.{faults_of, MayLook};
 ghost use Rattle.fo_files_create_look.specs.Refused.{IsRefused};
 
-use crate::names::{is_of_root, touched_len};
+use crate::names::touched_len;
 use fo_base::Bytes;
 use fo_files_along::files_at::{Way, at_place};
 use fo_files_along::files_look::file_error;
-use fo_files_along::spare_for;
+use fo_files_along::{is_of_root, spare_for};
 use fo_files_spot::{Spot, spot_for};
 use fo_image::{Record, record_len};
 use fo_ports::{BlockError, Blocks};

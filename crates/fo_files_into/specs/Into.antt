@@ -14,7 +14,7 @@ use Rattle.fo_files_cut.specs.of_files_write.Alters.{Alters, any_kind, is_above}
 use Rattle.fo_files_cut.specs.of_files_write.Data.{HasData, PutsPiece}
 use Rattle.fo_files_cut.specs.Cut.{KeepsUse, CutsBy}
 use Rattle.fo_files_along.specs.Along.{GoesAlong}
-use Rattle.fo_files_ready.specs.Ready.{IsLeafOf, IsReadyFor, Stands, Goes}
+use Rattle.fo_files_ready.specs.Ready.{IsLeafOf, IsReadyFor, MadeReady}
 
 -- A way was planned and owned, to a file whose record stands in the leaf that its last step names.
 pub record OwnsFile (s u : State) (root : ℕ) (trail : List ℕ) (way : Way) : Type 0 where
@@ -24,12 +24,6 @@ pub record OwnsFile (s u : State) (root : ℕ) (trail : List ℕ) (way : Way) : 
   pub along : GoesAlong s u root trail way dir file above
   pub last : Step
   pub last_is : last ≡ get_or way.steps.items (length trail - 1) last
-
--- Leaf i of a directory's records was made ready for the record of this name to change, or another leaf, to which that record moved as it is.
-abbrev pub WasReadied : (B : Type 0) (state : B → State) (old new : B) (dir : DirAt) (i spare leaf : ℕ) (name : List ℕ) → Type 0
-WasReadied B state old new dir i spare leaf name =
-    ((a m : B) × Stands (state old) (state a) (state m) (state new) dir i leaf)
-    ⊎ ((a m n b c e : B) × (from : ℕ) × Goes (state old) (state a) (state m) (state n) (state b) (state c) (state e) (state new) dir i spare from leaf name)
 
 -- A leaf was being made ready for a file's record, up to `ready`, and of the file's data blocks of these kinds were put into: the file has the length
 -- that it had. Of leaves of records these alone may have other bytes.
@@ -46,7 +40,7 @@ pub record Leaves (B : Type 0) (state : B → State) (old ready new : B) (dir : 
 abbrev pub LeftBy : (B : Type 0) (state : B → State) (old new : B) (dir : DirAt) (file : FileAt) (i spare : ℕ) (name : List ℕ) → Type 0
 LeftBy B state old new dir file i spare name =
     Leaves B state old new new dir file is_above (λ s b. ⊥)
-    ⊎ ((ready : B) × (leaf : ℕ) × WasReadied B state old ready dir i spare leaf name × Leaves B state old ready new dir file is_above (IsLeafOf dir))
+    ⊎ ((ready : B) × (leaf : ℕ) × MadeReady B state old ready dir i spare leaf name × Leaves B state old ready new dir file is_above (IsLeafOf dir))
 
 -- A leaf was made ready, then n bytes were put into the file's data at an offset, and last this record into the place of the one of its name.
 pub record Puts (B : Type 0) (state : B → State) (old new : B) (dir : DirAt) (file : FileAt) (i spare : ℕ) (named : Record) (offset n : ℕ) : Type 0 where
@@ -55,7 +49,7 @@ pub record Puts (B : Type 0) (state : B → State) (old new : B) (dir : DirAt) (
   pub readied : AltersRecords dir (state old) (state owned)
   pub ready : B
   pub moved : Rewrites (IsLeafOf dir (state owned)) no_slot (state owned) (state ready)
-  pub steps : WasReadied B state old ready dir i spare leaf named.name
+  pub steps : MadeReady B state old ready dir i spare leaf named.name
   pub fits : IsReadyFor (state ready) dir leaf named.name named
   pub looked : B
   pub looks : Looks (state ready) (state looked)
@@ -85,7 +79,7 @@ pub record Uncut (B : Type 0) (state : B → State) (old ready new : B) (dir : D
 abbrev pub UnchangedBy : (B : Type 0) (state : B → State) (old new : B) (dir : DirAt) (file : FileAt) (i spare : ℕ) (name : List ℕ) → Option ℕ → Type 0
 UnchangedBy B state old new dir file i spare name given =
     Leaves B state old new new dir file is_above (λ s b. ⊥)
-    ⊎ ((ready : B) × (leaf : ℕ) × WasReadied B state old ready dir i spare leaf name × Uncut B state old ready new dir file given)
+    ⊎ ((ready : B) × (leaf : ℕ) × MadeReady B state old ready dir i spare leaf name × Uncut B state old ready new dir file given)
 
 -- A leaf was made ready, then the file got the length that is given, and last this record came into the place of the first of the name.
 pub record Edits (B : Type 0) (state : B → State) (old new : B) (dir : DirAt) (file : FileAt) (i spare : ℕ) (name : List ℕ) (named : Record) (given : Option ℕ) : Type 0 where
@@ -94,7 +88,7 @@ pub record Edits (B : Type 0) (state : B → State) (old new : B) (dir : DirAt) 
   pub readied : AltersRecords dir (state old) (state owned)
   pub ready : B
   pub moved : Rewrites (IsLeafOf dir (state owned)) no_slot (state owned) (state ready)
-  pub steps : WasReadied B state old ready dir i spare leaf name
+  pub steps : MadeReady B state old ready dir i spare leaf name
   pub fits : IsReadyFor (state ready) dir leaf name named
   pub looked : B
   pub looks : Looks (state ready) (state looked)

@@ -67,17 +67,29 @@ pub record TakesBehind (s z : State) (d : DirAt) (pair : ℕ) : Type 0 where
   pub alters : AltersDir d none s z
   pub taken : Looks s z ⊎ ((w : LeafOf) × IsEntriesLeaf d pair w × TakesIn s z w × IsClean z)
 
--- The leaf of entries with a pair was made ready, after one behind their end was taken in; and then a leaf of records, which were trimmed first
--- where they had to be; each source was linked at once.
-pub record ReadiesBoth (s z a b t c u : State) (d : DirAt) (pair leaf : ℕ) (leaves : Leaves) : Type 0 where
-  pub of_entries : LeafOf
-  pub is_entries : IsEntriesLeaf d pair of_entries
-  pub taken : TakesBehind s z d pair
-  pub entries_ready : Readied z a b of_entries leaves.entries
-  pub of_records : LeafOf
-  pub is_records : IsRecordsLeaf d leaf of_records
-  pub trimmed : AltersDir d none b t
-  pub records_ready : Readied t c u of_records leaves.records
+-- The leaf of a directory's entries with a pair was made ready, after one behind their end was taken in; its source was linked at once.
+pub record ReadiesEntries (B : Type 0) (state : B → State) (old new : B) (d : DirAt) (pair leaf : ℕ) : Type 0 where
+  pub wanted : LeafOf
+  pub is_wanted : IsEntriesLeaf d pair wanted
+  pub behind : B
+  pub taken : TakesBehind (state old) (state behind) d pair
+  pub looked : B
+  pub ready : Readied (state behind) (state looked) (state new) wanted leaf
+
+-- Leaf i of a directory's records was made ready, after they were trimmed where they had to be; their source was linked at once.
+pub record ReadiesRecords (B : Type 0) (state : B → State) (old new : B) (d : DirAt) (i leaf : ℕ) : Type 0 where
+  pub wanted : LeafOf
+  pub is_wanted : IsRecordsLeaf d i wanted
+  pub trimmed : B
+  pub trims : AltersDir d none (state old) (state trimmed)
+  pub looked : B
+  pub ready : Readied (state trimmed) (state looked) (state new) wanted leaf
+
+-- First the one was made ready, and then the other.
+pub record ReadiesBoth (B : Type 0) (state : B → State) (old new : B) (d : DirAt) (pair i : ℕ) (leaves : Leaves) : Type 0 where
+  pub entries_owned : B
+  pub of_entries : ReadiesEntries B state old entries_owned d pair leaves.entries
+  pub of_records : ReadiesRecords B state entries_owned new d i leaves.records
 
 -- The leaves hung from block 1 when all was last settled, or need not be written yet.
 abbrev pub AreInPlace : State → Leaves → Type 0
@@ -102,11 +114,15 @@ pub record IsPut (s n u : State) (d : DirAt) (pair : ℕ) (leaves : Leaves) (nam
   pub own : AreOwn u d leaves
 
 -- A new file came into a directory: its leaves were made ready, then settled where they had to be, and then the pair and the record put.
-pub record IsNew (s z a b t c p m n u : State) (d : DirAt) (pair leaf : ℕ) (leaves : Leaves) (named r : Record) : Type 0 where
-  pub ready : ReadiesBoth s z a b t c p d pair leaf leaves
-  pub settled : AltersDir d none p m
-  pub in_place : AreInPlace m leaves
-  pub put : IsPut m n u d pair leaves named r
+pub record IsNew (B : Type 0) (state : B → State) (old new : B) (d : DirAt) (pair i : ℕ) (named r : Record) : Type 0 where
+  pub leaves : Leaves
+  pub readied : B
+  pub ready : ReadiesBoth B state old readied d pair i leaves
+  pub settled : B
+  pub settles : AltersDir d none (state readied) (state settled)
+  pub in_place : AreInPlace (state settled) leaves
+  pub looked : B
+  pub put : IsPut (state settled) (state looked) (state new) d pair leaves named r
 
 -- Beside the block with a directory's entries so many more at most are left to be written, with these two leaves.
 pub record AddsLeaves (most : ℕ) (at : ℕ) (leaves : Leaves) (old new : State) : Type 0 where

@@ -104,7 +104,7 @@ pub fn new_file<B: Blocks>(
     requires spare { 24 ≤ (B.state on.old).spare }
     requires room { 1637 ≤ (B.state on.old).room }
     requires silent { (B.state on.old).tells → ⊥ }
-    ensures new { IfOk result (λ r. (leaves : Leaves) × (z a b t c p m n : B) × IsNew (B.state on.old) (B.state z) (B.state a) (B.state b) (B.state t) (B.state c) (B.state p) (B.state m) (B.state n) (B.state on.new) dir pair leaf leaves named r) }
+    ensures new { IfOk result (IsNew B B.state on.old on.new dir pair leaf named) }
     ensures alters { IfOk result (λ r. (leaves : Leaves) × AltersDir dir (IsLeafOf leaves) (B.state on.old) (B.state on.new) × AreOwn (B.state on.new) dir leaves) }
     ensures nothing { OnErr result (AltersDir dir none (B.state on.old) (B.state on.new)) }
     ensures dir { IsDirAt (B.state on.new) dir }

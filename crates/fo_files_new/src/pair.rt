@@ -4,8 +4,8 @@ ghost use Rattle.fo_base.specs.Cause.{Rose};
 ghost use Rattle.fo_ports.specs.Causes.{Caused};
 ghost use Rattle.fo_ports.specs.State.{none};
 ghost use Rattle.fo_files_dir.specs.Dir.{IsDirAt};
-ghost use Rattle.fo_files_leaf.specs.Leaf.{IsOwnLeaf, Readied};
-ghost use Rattle.fo_files_new.specs.New.{AltersDir, IsEntriesLeaf, IsRecordsLeaf, AreOwn, TakesBehind, ReadiesBoth, AddsLeaves};
+ghost use Rattle.fo_files_leaf.specs.Leaf.{IsOwnLeaf};
+ghost use Rattle.fo_files_new.specs.New.{AltersDir, IsEntriesLeaf, IsRecordsLeaf, AreOwn, ReadiesBoth, ReadiesEntries, ReadiesRecords, AddsLeaves};
 ghost use Rattle.fo_ports.specs.Sources.{AddsDirty};
 
 use fo_files_dir::DirAt;
@@ -89,7 +89,7 @@ fn ready_entries<B: Blocks>(
     requires silent { (B.state on.old).tells → ⊥ }
     ensures own { IfOk result (λ leaf. IsOwnLeaf (B.state on.new) (32 + 2 * dir.number) true leaf) }
     ensures apart { IfOk result (λ leaf. leaf ≢ dir.at) }
-    ensures readied { IfOk result (λ leaf. (w : LeafOf) × IsEntriesLeaf dir pair w × ((t : B) × (a : B) × TakesBehind (B.state on.old) (B.state t) dir pair × Readied (B.state t) (B.state a) (B.state on.new) w leaf)) }
+    ensures readied { IfOk result (ReadiesEntries B B.state on.old on.new dir pair) }
     ensures alters { AltersDir dir none (B.state on.old) (B.state on.new) }
     ensures spare { (B.state on.old).spare ≤ (B.state on.new).spare + 10 }
     ensures pins { (B.state on.old).pins_left ≤ (B.state on.new).pins_left + 40 }
@@ -126,7 +126,7 @@ fn ready_records<B: Blocks>(
     requires silent { (B.state on.old).tells → ⊥ }
     ensures own { IfOk result (λ leaf. IsOwnLeaf (B.state on.new) (33 + 2 * dir.number) false leaf) }
     ensures apart { IfOk result (λ leaf. leaf ≢ dir.at) }
-    ensures readied { IfOk result (λ at. (w : LeafOf) × IsRecordsLeaf dir leaf w × ((t : B) × (a : B) × AltersDir dir none (B.state on.old) (B.state t) × Readied (B.state t) (B.state a) (B.state on.new) w at)) }
+    ensures readied { IfOk result (ReadiesRecords B B.state on.old on.new dir leaf) }
     ensures alters { AltersDir dir none (B.state on.old) (B.state on.new) }
     ensures spare { (B.state on.old).spare ≤ (B.state on.new).spare + 14 }
     ensures pins { (B.state on.old).pins_left ≤ (B.state on.new).pins_left + 40 }
@@ -164,7 +164,7 @@ pub fn ready_both<B: Blocks>(
     requires silent { (B.state on.old).tells → ⊥ }
     ensures own { IfOk result (AreOwn (B.state on.new) dir) }
     ensures apart { IfOk result (λ leaves. (leaves.entries ≢ dir.at) × (leaves.records ≢ dir.at)) }
-    ensures readied { IfOk result (λ leaves. (z : B) × (a : B) × (b : B) × (t : B) × (c : B) × ReadiesBoth (B.state on.old) (B.state z) (B.state a) (B.state b) (B.state t) (B.state c) (B.state on.new) dir pair leaf leaves) }
+    ensures readied { IfOk result (ReadiesBoth B B.state on.old on.new dir pair leaf) }
     ensures alters { AltersDir dir none (B.state on.old) (B.state on.new) }
     ensures spare { (B.state on.old).spare ≤ (B.state on.new).spare + 24 }
     ensures pins { (B.state on.old).pins_left ≤ (B.state on.new).pins_left + 80 }

@@ -1,5 +1,5 @@
 -- What was made ready stays so.
-use Rattle.std.proofs.Common.{◌≡◌, ◌⊎◌, ◌≤◌, ℕ, List, length, take, drop, inl, inr, ⊎_elim, refl, sym, ap, subst, ◌∙◌, arith}
+use Rattle.std.proofs.Common.{◌≡◌, ◌⊎◌, ◌+◌, ◌≤◌, ℕ, List, length, take, drop, inl, inr, ⊎_elim, refl, sym, ap, subst, ◌∙◌, arith}
 use Rattle.fo_image.specs.declared.types.Label.{Label}
 use Rattle.fo_image.specs.declared.record.Record.{Record}
 use Rattle.fo_ports.specs.State.{State, KeepsAll, Looks}
@@ -7,10 +7,11 @@ use Rattle.fo_ports.specs.Sources.{Made}
 use Rattle.fo_files_ready.specs.of_files_leaf.Alters.{Alters, MayPut}
 use Rattle.fo_files_record.specs.Own.{HasRoot}
 use Rattle.fo_files_record.specs.Stays.{Rewrites}
+use Rattle.fo_files_ready.proofs.Steps.{leaf_kept}
 use Rattle.fo_files_own.specs.declared.at.OwnAt.{OwnAt}
 use Rattle.fo_files_own.specs.declared.at.OwnAt.TheVariants as place
 use Rattle.fo_files_own.specs.declared.at.ReadyOwn.{ReadyOwn}
-use Rattle.fo_files_own.specs.Own.{HasOwnLeaf, HasReady, MayPutOwn, blocks_for, pins_for, removals_for}
+use Rattle.fo_files_own.specs.Own.{AltersOwn, HasOwnLeaf, HasReady, IsBlockOf, MayPutOwn, blocks_for, pins_for, removals_for}
 
 -- ---- over any call that leaves the block's label, pin and bytes
 
@@ -34,6 +35,15 @@ has_ready_on s u (place.Root root) named r is same has =
     let e = is root refl in
     record { old = has.old; had = root_bytes_on root has.old (subst (λ b. (u.now b).bytes ≡ (s.now b).bytes) e same) has.had; own = has.own }
 has_ready_on s u (place.Below b) named r is same has = subst (λ xs. HasOwnLeaf named xs r.bytes) (sym same) has
+
+-- what it is for stays, too
+pub block_on : (s u : State) (at : OwnAt) (r : ReadyOwn) → KeepsAll s u → u.label r.at ≡ s.label r.at → (s.pinned r.at → u.pinned r.at) → (u.now r.at).bytes ≡ (s.now r.at).bytes → IsBlockOf s at r → IsBlockOf u at r
+block_on s u (place.Root root) r all same pin bytes is = is
+block_on s u (place.Below b) r all same pin bytes is = (leaf_kept s u b.dir r.at all same pin (ap (λ (xs : List ℕ). length xs) bytes ∙ is.0.whole) is.0, is.1)
+
+-- a block of a root is that root's
+pub of_root : (s : State) (at : OwnAt) (r : ReadyOwn) → IsBlockOf s at r → (root : ℕ) → at ≡ place.Root root → r.at ≡ root
+of_root s at r is root e = (subst (λ o. IsBlockOf s o r) e is).0
 
 -- ---- over single steps
 
@@ -60,7 +70,18 @@ ready_alters {at = at} {s = s} {u = u} r all x other is =
 
 -- ---- what is taken at most
 
-pub few_blocks : (at : OwnAt) → blocks_for at ≤ 16
+more_usable : (s_usable s_spare m_usable m_spare u_usable u_spare : ℕ) → s_usable + m_spare ≤ m_usable + s_spare → u_spare ≡ m_spare → m_usable ≤ u_usable → s_usable + u_spare ≤ u_usable + s_spare
+more_usable s_usable s_spare m_usable m_spare u_usable u_spare a b c = omega (arith, a, b, c)
+
+same_usable : (s_usable s_spare u_usable u_spare : ℕ) → u_usable ≡ s_usable → u_spare ≡ s_spare → s_usable + u_spare ≤ u_usable + s_spare
+same_usable s_usable s_spare u_usable u_spare a b = omega (arith, a, b)
+
+-- no more blocks are used than were reserved
+pub own_usable : (B : Type 0) (state : B → State) (keeps : B → B → Type 0) (old new : B) (at : OwnAt) → AltersOwn B state keeps old new at → (state old).usable + (state new).spare ≤ (state new).usable + (state old).spare
+own_usable B state keeps old new (place.Root root) x = same_usable (state old).usable (state old).spare (state new).usable (state new).spare x.usable.0 x.room.0
+own_usable B state keeps old new (place.Below b) x = more_usable (state old).usable (state old).spare (state x.0).usable (state x.0).spare (state new).usable (state new).spare x.1.usable x.4.left.0 x.4.left.2
+
+pub few_blocks : (at : OwnAt) → blocks_for at ≤ 11
 few_blocks (place.Root root) = omega arith
 few_blocks (place.Below b) = omega arith
 

@@ -1,5 +1,6 @@
 pub mod Carry
 pub mod Placed
+pub mod Standing
 pub mod Stays
 pub use Rattle.fo_files_ready.proofs.of_files_change
 pub use Rattle.fo_files_ready.proofs.of_files_leaf

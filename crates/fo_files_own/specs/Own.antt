@@ -1,5 +1,5 @@
 -- A directory's own record, and the block that has it.
-use Rattle.std.specs.Prelude.{◌≡◌, ◌⊎◌, ℕ, List, length}
+use Rattle.std.specs.Prelude.{◌≡◌, ◌≢◌, ◌⊎◌, ℕ, List, length, Option, Some, None}
 use Rattle.fo_image.specs.declared.record.Record.{Record}
 use Rattle.fo_image.specs.declared.types.Kind.TheVariants.{Data, Root}
 use Rattle.fo_image.specs.declared.types.State.TheVariants.{Live}
@@ -13,7 +13,7 @@ use Rattle.fo_files_record.specs.Leaf.{IsEntriesAt}
 use Rattle.fo_files_record.specs.Own.{HasOwn, HasRoot, IsRootAt}
 use Rattle.fo_files_record.specs.Stays.{Rewrites, no_slot}
 use Rattle.fo_files_ready.specs.of_files_change.Records.{AltersRecords}
-use Rattle.fo_files_ready.specs.Ready.{IsLeafOf, Stands, Goes}
+use Rattle.fo_files_ready.specs.Ready.{IsLeafOf, MadeReady}
 use Rattle.fo_files_own.specs.declared.at.OwnAt.{OwnAt}
 use Rattle.fo_files_own.specs.declared.at.OwnAt.TheVariants as place
 use Rattle.fo_files_own.specs.declared.at.Below.{Below}
@@ -28,6 +28,16 @@ IsLive s b = (s.label b).state ≡ Live
 abbrev pub IsOwnAt : State → OwnAt → Type 0
 IsOwnAt s (place.Root root) = IsRootAt s root × IsLive s root
 IsOwnAt s (place.Below b) = IsDirAt s b.dir × IsEntriesAt s b.entries
+
+-- Where the own record of a directory stands: in leaf `leaf` of the records of the directory above it, or in its root block.
+abbrev pub own_of : DirAt → Option DirAt → (leaf spare : ℕ) → OwnAt
+own_of dir None leaf spare = place.Root dir.at
+own_of dir (Some above) leaf spare = place.Below (record { dir = above; entries = dir.at; leaf = leaf; spare = spare })
+
+-- A root block has the pair of the directory; or that has another number than the directory above it.
+abbrev pub IsApartFrom : DirAt → OwnAt → Type 0
+IsApartFrom dir (place.Root root) = root ≡ dir.at
+IsApartFrom dir (place.Below b) = (b.entries ≡ dir.at) × (b.dir.number ≢ dir.number)
 
 -- such a record may stand there
 abbrev pub MayOwn : OwnAt → Record → Type 0
@@ -92,9 +102,7 @@ HasReady s (place.Below b) named r = HasOwnLeaf named ((s.now r.at).bytes) r.byt
 
 -- Leaf `leaf` was made ready, to which the record of this name moved as it is where it had to, and then read.
 abbrev pub WasReadied : (B : Type 0) (state : B → State) (old new : B) → Below → (name : List ℕ) (leaf : ℕ) → Type 0
-WasReadied B state old new b name leaf = (u : B) × Looks (state u) (state new) ×
-    (((a m : B) × Stands (state old) (state a) (state m) (state u) b.dir b.leaf leaf)
-    ⊎ ((a m n p c e : B) × (from : ℕ) × Goes (state old) (state a) (state m) (state n) (state p) (state c) (state e) (state u) b.dir b.leaf b.spare from leaf name))
+WasReadied B state old new b name leaf = (u : B) × MadeReady B state old u b.dir b.leaf b.spare leaf name × Looks (state u) (state new)
 
 -- so it was; of a root block all was looked at
 abbrev pub StepsTo : (B : Type 0) (state : B → State) (old new : B) → OwnAt → (name : List ℕ) (leaf : ℕ) → Type 0

@@ -1,4 +1,6 @@
 //! Where a directory's own record stands.
+ghost use Rattle.std.specs.Prelude.{◌≡◌};
+ghost use Rattle.fo_files_own.specs.Own.{own_of};
 
 use fo_base::BLOCK;
 use fo_files_dir::DirAt;
@@ -20,6 +22,21 @@ pub struct Below {
     pub entries: u32,
     pub leaf: u32,
     pub spare: u32,
+}
+
+/// Where the own record of a directory stands: in leaf `leaf` of the records of the directory above it, with leaf `spare` for it, or in its root block.
+pub fn own_at(dir: DirAt, above: Option<DirAt>, leaf: u32, spare: u32) -> OwnAt
+    ensures { result ≡ own_of dir above leaf spare }
+{
+    match above {
+        None => OwnAt::Root(dir.at),
+        Some(above) => OwnAt::Below(Below {
+            dir: above,
+            entries: dir.at,
+            leaf,
+            spare,
+        }),
+    }
 }
 
 /// A block that is ready to get a changed record: its bytes from `from` on are to be those of `bytes`.

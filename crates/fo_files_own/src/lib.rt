@@ -2,7 +2,7 @@
 //!
 //! The record of the root directory stands in its root block, that of another directory in a leaf of records of the directory above it.
 //! `ready_own` does all that may be refused, and makes the bytes that the block will have; `put_own` puts them, and refuses nothing. In
-//! between a request does the rest of its work. `copied` copies a record.
+//! between a request does the rest of its work. `own_at` says where the record of a directory stands; `copied` copies a record.
 //!
 //! Proved: making ready is refused by faults, damage and want of memory alone, and leaves each record as it was, in its bytes, though one may have
 //! moved to another leaf. The bytes made ready are those that the block had with the new record in the place of the old one; a put changes that
@@ -14,10 +14,9 @@ mod at;
 mod leaf;
 mod put;
 mod ready;
-mod rewritten;
 mod root;
 
-pub use at::{Below, OwnAt, ReadyOwn};
+pub use at::{Below, OwnAt, ReadyOwn, own_at};
 pub use put::put_own;
 pub use ready::ready_own;
 pub use root::copied;

@@ -10,8 +10,8 @@ ghost use Rattle.fo_files_own.specs.Own.{HasOwnRoot, IsLive, IsOfRoot, MayPutOwn
 ghost use Rattle.fo_ports.specs.Sources.{AddsDirty};
 
 use crate::at::ReadyOwn;
-use crate::rewritten::rewritten;
 use fo_base::BLOCK;
+use fo_files_record::rewritten;
 use fo_image::{Kind, Record};
 use fo_ports::{BlockError, Blocks};
 use std::alloc::{AllocError, Global};

@@ -49,16 +49,33 @@ pub record IsReadyFor (s : State) (d : DirAt) (leaf : ℕ) (name : List ℕ) (na
   pub records : IsRecordsAt s leaf
   pub place : HasPlace name named ((s.now leaf).bytes)
 
--- Leaf i of a directory's records was made ready, up to the third of these states; from there on all was looked at.
-pub record Stands (s a m u : State) (d : DirAt) (i leaf : ℕ) : Type 0 where
-  pub ready : Readied s a m (records_of d i) leaf
-  pub looks : Looks m u
+-- Leaf i of a directory's records was made ready; from there on all was looked at.
+pub record Stands (B : Type 0) (state : B → State) (old new : B) (d : DirAt) (i leaf : ℕ) : Type 0 where
+  pub looked : B
+  pub readied : B
+  pub ready : Readied (state old) (state looked) (state readied) (records_of d i) leaf
+  pub looks : Looks (state readied) (state new)
 
--- Leaf i was made ready, and then another, after the records were trimmed; and then the record of this name moved from the one to the other.
-pub record Goes (s a m n b c e u : State) (d : DirAt) (i spare from leaf : ℕ) (name : List ℕ) : Type 0 where
-  pub ready : Readied s a m (records_of d i) from
-  pub trimmed : AltersRecords d m n
-  pub spare_ready : Readied n b c (records_of d spare) leaf
-  pub looks : Looks c e
-  pub moved : HasMoved name ((m.now from).bytes) ((c.now leaf).bytes) ((u.now from).bytes) ((u.now leaf).bytes)
-  pub stays : Rewrites (λ x. (x ≡ from) ⊎ (x ≡ leaf)) no_slot e u
+-- The records were trimmed, and leaf `spare` of them made ready; and then the record of this name moved to it, from another leaf.
+pub record MovesTo (B : Type 0) (state : B → State) (old new : B) (d : DirAt) (spare from leaf : ℕ) (name : List ℕ) : Type 0 where
+  pub trimmed : B
+  pub trims : AltersRecords d (state old) (state trimmed)
+  pub looked : B
+  pub readied : B
+  pub ready : Readied (state trimmed) (state looked) (state readied) (records_of d spare) leaf
+  pub read : B
+  pub looks : Looks (state readied) (state read)
+  pub moved : HasMoved name (((state old).now from).bytes) (((state readied).now leaf).bytes) (((state new).now from).bytes) (((state new).now leaf).bytes)
+  pub stays : Rewrites (λ x. (x ≡ from) ⊎ (x ≡ leaf)) no_slot (state read) (state new)
+
+-- Leaf i was made ready, and then another, to which the record of this name moved from the one.
+pub record Goes (B : Type 0) (state : B → State) (old new : B) (d : DirAt) (i spare leaf : ℕ) (name : List ℕ) : Type 0 where
+  pub from : ℕ
+  pub looked : B
+  pub readied : B
+  pub ready : Readied (state old) (state looked) (state readied) (records_of d i) from
+  pub moves : MovesTo B state readied new d spare from leaf name
+
+-- Leaf i was made ready for the record of this name to change, or another leaf, to which that record moved as it is.
+abbrev pub MadeReady : (B : Type 0) (state : B → State) (old new : B) → DirAt → (i spare leaf : ℕ) → (name : List ℕ) → Type 0
+MadeReady B state old new d i spare leaf name = Stands B state old new d i leaf ⊎ Goes B state old new d i spare leaf name

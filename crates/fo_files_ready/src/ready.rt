@@ -4,15 +4,13 @@ ghost use Rattle.fo_base.specs.Cause.{Rose};
 ghost use Rattle.fo_image.specs.Record.{RecordHolds};
 ghost use Rattle.fo_meta.specs.Leaf.{IsLeaf};
 ghost use Rattle.fo_ports.specs.Causes.{Caused};
-ghost use Rattle.fo_ports.specs.State.{Looks};
 ghost use Rattle.fo_files_move.specs.of_dir_move.Moves.{HasLeaves};
 ghost use Rattle.fo_files_dir.specs.Dir.{IsDirAt};
-ghost use Rattle.fo_files_change.specs.of_files_leaf.Leaf.{Readied};
 ghost use Rattle.fo_files_move.specs.Moves.{HasMoved};
 ghost use Rattle.fo_files_move.specs.of_files_record.Leaf.{IsRecordsAt, IsEntriesAt};
 ghost use Rattle.fo_files_move.specs.of_files_record.Stays.{Rewrites, no_slot};
-ghost use Rattle.fo_files_change.specs.Records.{AltersRecords, records_of};
-ghost use Rattle.fo_files_ready.specs.Ready.{IsLeafOf, IsReadyFor, Stands, Goes, most_spare, records_size};
+ghost use Rattle.fo_files_change.specs.Records.{AltersRecords};
+ghost use Rattle.fo_files_ready.specs.Ready.{IsLeafOf, IsReadyFor, MadeReady, MovesTo, most_spare, records_size};
 ghost use Rattle.fo_ports.specs.Sources.{DirtiesIn, AddsDirty};
 
 use crate::leaf::{RECORDS_BELOW, leaf_at, spare_leaf};
@@ -45,7 +43,7 @@ pub fn ready_record<B: Blocks>(
     requires spare { 11 ≤ (B.state on.old).spare }
     requires room { 1637 ≤ (B.state on.old).room }
     ensures ready { IfOk result (λ leaf. IsReadyFor (B.state on.new) dir leaf name.now named.now) }
-    ensures steps { IfOk result (λ leaf. ((a m : B) × Stands (B.state on.old) (B.state a) (B.state m) (B.state on.new) dir i leaf) ⊎ ((a m n b c e : B) × (from : ℕ) × Goes (B.state on.old) (B.state a) (B.state m) (B.state n) (B.state b) (B.state c) (B.state e) (B.state on.new) dir i spare from leaf name.now)) }
+    ensures steps { IfOk result (λ leaf. MadeReady B B.state on.old on.new dir i spare leaf name.now) }
     ensures stays { (m : B) × AltersRecords dir (B.state on.old) (B.state m) × B.keeps on.old m × B.keeps m on.new × Rewrites (IsLeafOf dir (B.state m)) no_slot (B.state m) (B.state on.new) }
     ensures nothing { OnErr result ((m : B) × AltersRecords dir (B.state on.old) (B.state m) × Rewrites (λ b. ⊥) no_slot (B.state m) (B.state on.new)) }
     ensures dir { IsDirAt (B.state on.new) dir }
@@ -96,9 +94,7 @@ fn move_to<B: Blocks>(
     requires spare { most_spare (records_size (B.state on.old) dir) ≤ (B.state on.old).spare }
     requires room { 1637 ≤ (B.state on.old).room }
     ensures ready { IfOk result (λ leaf. IsReadyFor (B.state on.new) dir leaf name.now named.now) }
-    ensures steps { IfOk result (λ leaf. (n b c e : B) × AltersRecords dir (B.state on.old) (B.state n) × Readied (B.state n) (B.state b) (B.state c) (records_of dir spare) leaf × Looks (B.state c) (B.state e)
-        × HasMoved name.now (((B.state on.old).now from).bytes) (((B.state c).now leaf).bytes) (((B.state on.new).now from).bytes) (((B.state on.new).now leaf).bytes)
-        × Rewrites (λ x. (x ≡ from) ⊎ (x ≡ leaf)) no_slot (B.state e) (B.state on.new)) }
+    ensures steps { IfOk result (λ leaf. MovesTo B B.state on.old on.new dir spare from leaf name.now) }
     ensures stays { (m : B) × AltersRecords dir (B.state on.old) (B.state m) × B.keeps on.old m × B.keeps m on.new × Rewrites (IsLeafOf dir (B.state m)) no_slot (B.state m) (B.state on.new) }
     ensures nothing { OnErr result ((m : B) × AltersRecords dir (B.state on.old) (B.state m) × Rewrites (λ b. ⊥) no_slot (B.state m) (B.state on.new)) }
     ensures spare { (B.state on.old).spare ≤ (B.state on.new).spare + most_spare (records_size (B.state on.old) dir) }

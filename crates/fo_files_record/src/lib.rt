@@ -2,7 +2,8 @@
 //!
 //! A leaf of records is read first: it is damaged where it is none. Then the first record of the name goes with the entries of its own pair
 //! (`take_out`), which the caller names too, where all is settled first if one of the leaves isn't in place, or a directory goes: what hangs
-//! below its entries may wait. The root directory's own record is put into its root block, which is read, and written anew (`put_own_record`).
+//! below its entries may wait. The root directory's own record is put into its root block, which is read, and written anew (`put_own_record`);
+//! `rewritten` makes the bytes alone.
 //!
 //! Proved: each is refused by faults, damage and want of memory alone, and then all was only looked at, but for a settling that fails. Where it
 //! is granted the leaf has its records without the first of the name; the entries of the pair of the one that went, of its generation, are cleared, or wait for it, a directory's from a moment on when all was settled; the root block is the same but for the
@@ -16,5 +17,5 @@ mod own;
 mod take;
 
 pub use leaf::read;
-pub use own::put_own_record;
+pub use own::{put_own_record, rewritten};
 pub use take::take_out;

@@ -45,7 +45,7 @@ fn with_own(root: RootBlock, named: Record) -> RootBlock
 }
 
 /// Fills a block with the root block that is read from another, with this record of its own. That one is damaged where it spells none.
-fn rewritten(
+pub fn rewritten(
     alloc: Global,
     block: &[u8],
     root: u32,

@@ -1,5 +1,5 @@
 -- What was made ready stays so while the file changes.
-use Rattle.std.proofs.Common.{◌≡◌, ◌≢◌, ◌⊎◌, ◌+◌, ◌*◌, ◌≤◌, ℕ, false, List, length, Option, inl, inr, ⊎_elim, sym, ap, subst, ◌∙◌, arith}
+use Rattle.std.proofs.Common.{◌≡◌, ◌≢◌, ◌⊎◌, ◌+◌, ◌*◌, ℕ, false, List, Option, inl, inr, ⊎_elim, sym, ap, subst, ◌∙◌, arith}
 use Rattle.fo_image.specs.declared.types.Kind.{Kind}
 use Rattle.fo_image.specs.declared.types.Kind.TheVariants.{Data, Dir, Root as RootKind}
 use Rattle.fo_image.specs.declared.types.Label.{Label}
@@ -12,15 +12,14 @@ use Rattle.fo_files_own.specs.of_files_leaf.Leaf.{IsAbove}
 use Rattle.fo_files_own.specs.of_files_record.Leaf.{IsEntriesAt}
 use Rattle.fo_files_edit.specs.of_files_write.Alters.{MayChange, any_kind}
 use Rattle.fo_files_own.specs.of_files_ready.Ready.{IsLeafOf}
-use Rattle.fo_files_own.proofs.of_files_ready.Steps.{leaf_kept}
 use Rattle.fo_files_own.specs.declared.at.OwnAt.{OwnAt}
 use Rattle.fo_files_own.specs.declared.at.OwnAt.TheVariants.{Root, Below}
 use Rattle.fo_files_own.specs.declared.at.ReadyOwn.{ReadyOwn}
-use Rattle.fo_files_own.specs.Own.{AltersOwn, HasReady, IsBlockOf, IsOwnAt, MayPutOwn, blocks_for}
-use Rattle.fo_files_own.proofs.Carry.{has_ready_on, may_put_on}
+use Rattle.fo_files_own.specs.Own.{AltersOwn, HasReady, IsApartFrom, IsBlockOf, IsOwnAt, MayPutOwn}
+use Rattle.fo_files_own.proofs.Carry.{block_on, has_ready_on, may_put_on, of_root}
 use Rattle.fo_files_edit.specs.of_files_into.Into.{Edits}
 use Rattle.fo_files_edit.proofs.Carry.{Same, same_joins, same_records, same_rewrites, same_edits}
-use Rattle.fo_files_rename.specs.Rename.{IsApartFrom, IsBeside}
+use Rattle.fo_files_rename.specs.Rename.{IsBeside}
 
 -- ---- kinds and tags that differ
 
@@ -104,11 +103,7 @@ pub may_still : (s u : State) (r : ReadyOwn) → KeepsAll s u → Same s u r.at 
 may_still s u r all same may = may_put_on r all same.label (λ pin. same.is_pinned) same.bytes may
 
 pub block_still : (s u : State) (own : OwnAt) (r : ReadyOwn) → KeepsAll s u → Same s u r.at → IsBlockOf s own r → IsBlockOf u own r
-block_still s u (Root root) r all same is = is
-block_still s u (Below b) r all same is = (leaf_kept s u b.dir r.at all same.label (λ pin. same.is_pinned) (ap (λ (xs : List ℕ). length xs) same.bytes ∙ is.0.whole) is.0, is.1)
-
-of_root : (s : State) (own : OwnAt) (r : ReadyOwn) → IsBlockOf s own r → (root : ℕ) → own ≡ Root root → r.at ≡ root
-of_root s own r is root e = (subst (λ o. IsBlockOf s o r) e is).0
+block_still s u own r all same is = block_on s u own r all same.label (λ pin. same.is_pinned) same.bytes is
 
 pub ready_still : (s u : State) (own : OwnAt) (named : Record) (r : ReadyOwn) → Same s u r.at → IsBlockOf s own r → HasReady s own named r → HasReady u own named r
 ready_still s u own named r same block ready = has_ready_on s u own named r (of_root s own r block) same.bytes ready
@@ -119,19 +114,3 @@ ready_still s u own named r same block ready = has_ready_on s u own named r (of_
 pub beside_still : (B : Type 0) (state : B → State) (keeps : B → B → Type 0) (old new : B) (own : OwnAt) (number : ℕ) → AltersOwn B state keeps old new own → IsBeside (state old) own number → IsBeside (state new) own number
 beside_still B state keeps old new (Root root) number x is = λ e. is (sym (ap (λ (l : Label). l.tag) (x.stays.labels root (λ n. n))) ∙ e)
 beside_still B state keeps old new (Below b) number x is = tt
-
-more_usable : (s_usable s_spare m_usable m_spare u_usable u_spare : ℕ) → s_usable + m_spare ≤ m_usable + s_spare → u_spare ≡ m_spare → m_usable ≤ u_usable → s_usable + u_spare ≤ u_usable + s_spare
-more_usable s_usable s_spare m_usable m_spare u_usable u_spare a b c = omega (arith, a, b, c)
-
-same_usable : (s_usable s_spare u_usable u_spare : ℕ) → u_usable ≡ s_usable → u_spare ≡ s_spare → s_usable + u_spare ≤ u_usable + s_spare
-same_usable s_usable s_spare u_usable u_spare a b = omega (arith, a, b)
-
-pub own_usable : (B : Type 0) (state : B → State) (keeps : B → B → Type 0) (old new : B) (own : OwnAt) → AltersOwn B state keeps old new own → (state old).usable + (state new).spare ≤ (state new).usable + (state old).spare
-own_usable B state keeps old new (Root root) x = same_usable (state old).usable (state old).spare (state new).usable (state new).spare x.usable.0 x.room.0
-own_usable B state keeps old new (Below b) x = more_usable (state old).usable (state old).spare (state x.0).usable (state x.0).spare (state new).usable (state new).spare x.1.usable x.4.left.0 x.4.left.2
-
--- ---- what is taken at most
-
-pub few : (at : OwnAt) → blocks_for at ≤ 11
-few (Root root) = omega arith
-few (Below b) = omega arith

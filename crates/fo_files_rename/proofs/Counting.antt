@@ -1,16 +1,11 @@
 -- How many blocks a new name leaves to be written: making the root directory's own record ready takes none.
-use Rattle.std.proofs.Common.{◌≡◌, ◌+◌, ◌-◌, ◌*◌, ◌<◌, ◌≤◌, ℕ, List, Option, Some, None, length, inl, inr, refl, sym, subst, arith}
+use Rattle.std.proofs.Common.{◌≡◌, ◌+◌, ◌-◌, ◌*◌, ◌<◌, ◌≤◌, ℕ, List, Option, Some, None, length, sym, subst, arith}
 use Rattle.fo_world.specs.declared.place.Place.{Place}
 use Rattle.fo_world.specs.Step.{most_need, need}
 use Rattle.fo_files_dir.specs.declared.dir.DirAt.{DirAt}
 use Rattle.fo_files_edit.specs.of_files_at.declared.at.Step.{Step}
-use Rattle.fo_files_edit.specs.of_files_along.Along.{HasPairIn, IsAboveOf}
-use Rattle.fo_files_own.specs.Own.{block_of, blocks_for}
-use Rattle.fo_files_rename.specs.Rename.{own_of}
-
-pub own_in : (dir : DirAt) (above : Option DirAt) (leaf spare : ℕ) → HasPairIn dir above (block_of (own_of dir above leaf spare))
-own_in dir None leaf spare = inl refl
-own_in dir (Some a) leaf spare = inr refl
+use Rattle.fo_files_edit.specs.of_files_along.Along.{IsAboveOf}
+use Rattle.fo_files_own.specs.Own.{blocks_for, own_of}
 
 pub own_few : (at : List ℕ) (steps : List Step) (long n : ℕ) (dir : DirAt) (above : Option DirAt) (leaf spare : ℕ) → 0 < n → long ≡ n → IsAboveOf at steps (n - 1) above
     → 10 * long + 1 + 2 * (20 + blocks_for (own_of dir above leaf spare)) ≤ 2 * need (n - 1) 0

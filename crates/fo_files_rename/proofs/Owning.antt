@@ -1,6 +1,5 @@
 -- The own record of the directory of a file.
-use Rattle.std.proofs.Common.{◌≡◌, ◌-◌, ◌<◌, ◌≢◌, ℕ, List, length, get_or, Option, Some, None, refl, sym, ap, subst, ◌∙◌, arith}
-use Rattle.std.specs.Prelude.{MatchOption}
+use Rattle.std.proofs.Common.{◌≡◌, ◌-◌, ◌<◌, ℕ, List, length, get_or, Option, Some, None, sym, ap, subst, ◌∙◌, arith}
 use Rattle.fo_image.specs.declared.record.Record.{Record}
 use Rattle.fo_image.specs.Record.{RecordHolds, RootRecordHolds}
 use Rattle.fo_ports.specs.State.{State}
@@ -9,24 +8,12 @@ use Rattle.fo_files_edit.specs.of_files_at.declared.at.Step.{Step}
 use Rattle.fo_files_edit.specs.of_files_at.declared.at.Way.{Way}
 use Rattle.fo_files_edit.specs.of_files_at.Way.{IsWay}
 use Rattle.fo_files_dir.specs.declared.dir.DirAt.{DirAt}
-use Rattle.fo_files_dir.specs.Dir.{IsDirAt}
-use Rattle.fo_files_own.specs.of_files_record.Leaf.{IsEntriesAt}
-use Rattle.fo_files_own.specs.of_files_record.Own.{IsRootAt}
-use Rattle.fo_files_own.specs.Own.{IsOwnAt, MayOwn}
+use Rattle.fo_files_own.specs.Own.{MayOwn, own_of}
 use Rattle.fo_files_edit.specs.of_files_along.Along.{IsAboveOf, touched}
-use Rattle.fo_files_edit.proofs.of_files_along.Ways.{step_at, steps_long, touched_holds}
+use Rattle.fo_files_edit.proofs.of_files_along.Ways.{step_at, steps_long, touched_holds, touched_root}
 use Rattle.fo_files_edit.specs.Edit.{as_root}
 use Rattle.fo_files_edit.proofs.Roots.{root_holds}
-use Rattle.fo_files_rename.specs.Rename.{IsApartFrom, IsOwnOf, MayStand, own_of}
-
-root_touched : (who : List ℕ) (now : ℕ) (r : Record) → IsUser who → RootRecordHolds r → RootRecordHolds (touched who now r)
-root_touched who now r user is = record {
-  holds = touched_holds who now r user is.holds;
-  name_is = is.name_is;
-  number_is = is.number_is;
-  slot_is = is.slot_is;
-  generation_is = is.generation_is;
-}
+use Rattle.fo_files_rename.specs.Rename.{IsOwnOf, MayStand}
 
 -- the record of a step's directory holds
 pub step_named : (s : State) (root : ℕ) (trail : List ℕ) (w : Way) (k : ℕ) (step : Step) → IsWay s root trail w → k < length w.steps.items → step ≡ get_or w.steps.items k step → RecordHolds step.dir.named
@@ -41,15 +28,11 @@ own_stands s root trail w who now named way user some own =
     let long = steps_long s root trail w way in
     let holds = step_named s root trail w (length w.steps.items - 1) own.step way (last_within (length w.steps.items) (subst (λ n. 0 < n) (sym long) some)) own.step_is in
     record {
-      at_root = λ one. subst (λ r. RootRecordHolds r) (sym (own.at_root (long ∙ one))) (root_touched who now (as_root own.step.dir.named) user (root_holds own.step.dir.named holds));
+      at_root = λ one. subst (λ r. RootRecordHolds r) (sym (own.at_root (long ∙ one))) (touched_root who now (as_root own.step.dir.named) user (root_holds own.step.dir.named holds));
       below = λ more. subst (λ r. RecordHolds r) (sym (own.below (subst (λ n. 1 < n) (sym long) more))) (touched_holds who now own.step.dir.named user holds);
     }
 
 -- ---- where it stands
-
-pub places_at : (s : State) (dir : DirAt) (above : Option DirAt) (leaf spare : ℕ) → IsDirAt s dir → MatchOption above (IsRootAt s dir.at) (λ a. IsDirAt s a × IsEntriesAt s dir.at × (a.number ≢ dir.number)) → IsOwnAt s (own_of dir above leaf spare) × IsApartFrom dir (own_of dir above leaf spare)
-places_at s dir None leaf spare at h = ((h, at.pair.live), refl)
-places_at s dir (Some a) leaf spare at h = ((h.0, h.1), (refl, h.2))
 
 count_one : (n : ℕ) → 0 < n → n - 1 ≡ 0 → n ≡ 1
 count_one n some is = omega (arith, some, is)

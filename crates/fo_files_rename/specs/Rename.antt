@@ -1,5 +1,5 @@
 -- A file got a new name, and its directory's own record changed.
-use Rattle.std.specs.Prelude.{◌≡◌, ◌≢◌, ◌⊎◌, ◌+◌, ◌-◌, ◌*◌, ◌<◌, ℕ, List, length, get_or, Option, Some, None}
+use Rattle.std.specs.Prelude.{◌≡◌, ◌≢◌, ◌⊎◌, ◌+◌, ◌-◌, ◌*◌, ◌<◌, ℕ, List, length, get_or, Option}
 use Rattle.fo_image.specs.declared.record.Record.{Record}
 use Rattle.fo_image.specs.Record.{RecordHolds, RootRecordHolds}
 use Rattle.fo_ports.specs.State.{State, Looks, Calm}
@@ -9,7 +9,7 @@ use Rattle.fo_files_dir.specs.declared.dir.DirAt.{DirAt}
 use Rattle.fo_files_dir.specs.declared.dir.FileAt.{FileAt}
 use Rattle.fo_files_own.specs.declared.at.OwnAt.{OwnAt}
 use Rattle.fo_files_own.specs.declared.at.OwnAt.TheVariants as place
-use Rattle.fo_files_own.specs.Own.{ChangesOwn, LeavesOwn, StepsTo}
+use Rattle.fo_files_own.specs.Own.{ChangesOwn, LeavesOwn, StepsTo, own_of}
 use Rattle.fo_files_edit.specs.of_files_along.Along.{touched}
 use Rattle.fo_files_edit.specs.of_files_into.Into.{OwnsFile, Edits, UnchangedBy}
 use Rattle.fo_files_edit.specs.Edit.{as_root}
@@ -26,16 +26,6 @@ pub record IsOwnOf (steps : List Step) (who : List ℕ) (now : ℕ) (named : Rec
 pub record MayStand (count : ℕ) (named : Record) : Type 0 where
   pub at_root : count ≡ 1 → RootRecordHolds named
   pub below : 1 < count → RecordHolds named
-
--- Where a directory's own record stands: in leaf `leaf` of the directory above, or in its root block.
-abbrev pub own_of : DirAt → Option DirAt → (leaf spare : ℕ) → OwnAt
-own_of dir None leaf spare = place.Root dir.at
-own_of dir (Some above) leaf spare = place.Below (record { dir = above; entries = dir.at; leaf = leaf; spare = spare })
-
--- A root block has the pair of the directory; or that has another number than the directory above it.
-abbrev pub IsApartFrom : DirAt → OwnAt → Type 0
-IsApartFrom dir (place.Root root) = root ≡ dir.at
-IsApartFrom dir (place.Below b) = (b.entries ≡ dir.at) × (b.dir.number ≢ dir.number)
 
 -- a root block with the record is none of the data of this file
 abbrev pub IsBeside : State → OwnAt → (number : ℕ) → Type 0

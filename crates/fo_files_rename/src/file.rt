@@ -5,8 +5,8 @@ ghost use Rattle.fo_image.specs.Record.{RecordHolds};
 ghost use Rattle.fo_ports.specs.Causes.{Caused};
 ghost use Rattle.fo_files_dir.specs.Dir.{IsDirAt, IsFileAt};
 ghost use Rattle.fo_files_own.specs.of_files_record.Leaf.{IsEntriesAt};
-ghost use Rattle.fo_files_own.specs.Own.{IsOwnAt, MayOwn, block_of, blocks_for};
-ghost use Rattle.fo_files_rename.specs.Rename.{IsApartFrom, IsBeside, LeavesFile, RenamesFile};
+ghost use Rattle.fo_files_own.specs.Own.{IsApartFrom, IsOwnAt, MayOwn, block_of, blocks_for};
+ghost use Rattle.fo_files_rename.specs.Rename.{IsBeside, LeavesFile, RenamesFile};
 ghost use Rattle.fo_ports.specs.Sources.{AddsDirty};
 
 use fo_files_dir::FileAt;

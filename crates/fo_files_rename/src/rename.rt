@@ -8,17 +8,17 @@ ghost use Rattle.fo_files_edit.specs.of_files_at.Way.{IsWay};
 ghost use Rattle.fo_files_edit.specs.of_files_look.Told.{faults_of};
 ghost use Rattle.fo_files_edit.specs.of_files_along.Along.{HasRoom, IsBlocks};
 ghost use Rattle.fo_files_spot.specs.Settles.{SettlesUnless};
-ghost use Rattle.fo_files_rename.specs.Rename.{IsLeafOver, LeavesAlong, MayStand, RenamesAlong, own_of};
+ghost use Rattle.fo_files_rename.specs.Rename.{IsLeafOver, LeavesAlong, MayStand, RenamesAlong};
 ghost use Rattle.fo_ports.specs.Sources.{Dirties, DirtiesIn};
 ghost use Rattle.fo_world.specs.Step.{need};
 
 use crate::file::{beside_data, rename_file};
 use crate::own::Own;
 use fo_files_edit::Found;
-use fo_files_edit::files_along::{Stand, own_along, reserve_room};
+use fo_files_edit::files_along::{own_along, reserve_room};
 use fo_files_edit::files_at::Way;
 use fo_files_edit::files_look::file_error;
-use fo_files_own::{Below, OwnAt};
+use fo_files_own::own_at;
 use fo_files_spot::settle_unless;
 use fo_ports::{BlockError, Blocks};
 use fo_world::FileError;
@@ -37,22 +37,6 @@ fn own_leaf(way: &Way) -> u32
         return 0;
     }
     way.steps[depth - 2].leaf
-}
-
-/// Where the own record of the directory of a file stands: in leaf `leaf` of the records of the directory above, with leaf `spare` for it, or in its
-/// root block.
-fn own_at(at: Stand, leaf: u32, spare: u32) -> OwnAt
-    ensures { result ≡ own_of at.dir at.above leaf spare }
-{
-    match at.above {
-        None => OwnAt::Root(at.dir.at),
-        Some(dir) => OwnAt::Below(Below {
-            dir,
-            entries: at.dir.at,
-            leaf,
-            spare,
-        }),
-    }
 }
 
 /// Owns the way to a file below the root directory that was found, and gives it the record that the way has, and the length that is given, where one is;
@@ -88,7 +72,7 @@ pub(crate) fn rename_along<B: Blocks>(
         Ok(stand) => stand,
         Err(why) => return Err(why),
     };
-    let place = own_at(stand, own_leaf(&found.way), own.spare);
+    let place = own_at(stand.dir, stand.above, own_leaf(&found.way), own.spare);
     match beside_data(on, place, stand.file) {
         Ok(()) => {}
         Err(why) => return Err(why),

@@ -1,4 +1,3 @@
-pub mod Counting
 pub mod Refusing
 pub mod Taking
 pub mod Whole

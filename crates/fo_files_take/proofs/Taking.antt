@@ -1,12 +1,11 @@
 -- A file goes, and its directory's own record changes.
-use Rattle.std.proofs.Common.{◌≡◌, ◌≢◌, ◌⊎◌, ◌+◌, ◌*◌, ◌≤◌, ℕ, List, length, false, inl, inr, ⊎_elim, refl, sym, ap, subst, ◌∙◌, arith}
+use Rattle.std.proofs.Common.{◌≡◌, ◌⊎◌, ◌+◌, ◌*◌, ◌≤◌, ℕ, false, inl, inr, ⊎_elim, sym, ap, subst, ◌∙◌, arith}
 use Rattle.fo_image.specs.declared.record.Record.{Record}
 use Rattle.std.specs.Prelude.{Option, Some, None, MatchOption}
 use Rattle.fo_image.specs.Record.{RecordHolds, RootRecordHolds}
 use Rattle.fo_image.specs.declared.types.Kind.{Kind}
 use Rattle.fo_image.specs.declared.types.Kind.TheVariants.{Data, Root}
 use Rattle.fo_image.specs.declared.types.Label.{Label}
-use Rattle.fo_world.specs.Limits.{IsUser}
 use Rattle.fo_ports.specs.State.{State, KeepsAll, none}
 use Rattle.fo_ports.specs.Sources.{Made}
 use Rattle.fo_tree_open.specs.Open.{HasEntry}
@@ -16,31 +15,21 @@ use Rattle.fo_files_own.specs.of_files_leaf.Alters.{MayPut}
 use Rattle.fo_files_own.specs.of_files_leaf.Leaf.{IsAbove}
 use Rattle.fo_files_own.specs.of_files_record.Stays.{Rewrites, no_slot}
 use Rattle.fo_files_own.specs.of_files_change.Records.{AltersRecords}
-use Rattle.fo_files_own.proofs.of_files_ready.Steps.{leaf_kept}
-use Rattle.fo_files_along.specs.Along.{touched}
-use Rattle.fo_files_along.proofs.Ways.{touched_holds}
 use Rattle.fo_files_own.specs.declared.at.OwnAt.{OwnAt}
 use Rattle.fo_files_own.specs.declared.at.OwnAt.TheVariants as place
 use Rattle.fo_files_own.specs.declared.at.ReadyOwn.{ReadyOwn}
-use Rattle.fo_files_own.specs.Own.{AltersOwn, IsBlockOf, IsOwnAt, MayOwn, MayPutOwn, blocks_for}
-use Rattle.fo_files_own.proofs.Carry.{may_put_on}
-use Rattle.fo_files_own.specs.of_files_record.Leaf.{IsEntriesAt}
-use Rattle.fo_files_own.specs.of_files_record.Own.{IsRootAt}
-use Rattle.fo_files_take.specs.Take.{IsApartFrom, own_of}
+use Rattle.fo_files_own.specs.Own.{AltersOwn, IsApartFrom, IsBlockOf, MayOwn, MayPutOwn, blocks_for, own_of}
+use Rattle.fo_files_own.proofs.Carry.{few_blocks, may_put_on, own_usable}
 
--- a root directory's record stays one
-pub touched_root : (who : List ℕ) (now : ℕ) (r : Record) → IsUser who → RootRecordHolds r → RootRecordHolds (touched who now r)
-touched_root who now r user is = record { holds = touched_holds who now r user is.holds; name_is = is.name_is; number_is = is.number_is; slot_is = is.slot_is; generation_is = is.generation_is }
-
-odd_apart : (n m : ℕ) → n ≢ m → 33 + 2 * m ≡ 33 + 2 * n → ⊥
-odd_apart n m differ e = differ (omega (arith, e))
+same_half : (n m : ℕ) → 33 + 2 * n ≡ 33 + 2 * m → n ≡ m
+same_half n m e = omega (arith, e)
 
 -- the block with the own record is none that is put into where a leaf of the directory's records is made ready, but that with its entries
 pub own_away : (s : State) (d : DirAt) (at : OwnAt) (r : ReadyOwn) → IsDirAt s d → IsApartFrom d at → IsBlockOf s at r → (r.at ≡ d.at) ⊎ (MayPut d.at (IsAbove (33 + 2 * d.number) false) none s r.at → ⊥)
-own_away s d (place.Root root) r is apart of = inl (of.0 ∙ sym apart)
+own_away s d (place.Root root) r is apart of = inl (of.0 ∙ apart)
 own_away s d (place.Below b) r is apart of = inr (λ put. ⊎_elim
     (λ here. subst (λ (k : Kind). HasEntry k d.slot) (ap (λ x. (s.label x).kind) (sym here) ∙ of.0.leaf_kind) is.pair.first)
-    (λ other. ⊎_elim (λ above. odd_apart d.number b.dir.number apart (sym of.0.tagged ∙ above.1.0)) (λ h. h) other)
+    (λ other. ⊎_elim (λ above. apart.1 (same_half b.dir.number d.number (sym of.0.tagged ∙ above.1.0))) (λ h. h) other)
     put)
 
 -- ---- over the removal of a record
@@ -57,7 +46,7 @@ not_leaf s m d (place.Root root) r leaf same apart of may kind tag e = ⊎_elim
     (λ h. not_both r.from h.0 of.1)
     (λ h. other_kinds (s.label r.at).kind (m.label leaf).kind h.1 kind (sym (ap (λ (l : Label). l.kind) same) ∙ ap (λ b. (m.label b).kind) e))
     may.kind_is
-not_leaf s m d (place.Below b) r leaf same apart of may kind tag e = odd_apart d.number b.dir.number apart (sym of.0.tagged ∙ sym (ap (λ (l : Label). l.tag) same) ∙ ap (λ x. (m.label x).tag) e ∙ tag)
+not_leaf s m d (place.Below b) r leaf same apart of may kind tag e = apart.1 (same_half b.dir.number d.number (sym of.0.tagged ∙ sym (ap (λ (l : Label). l.tag) same) ∙ ap (λ x. (m.label x).tag) e ∙ tag))
 
 module _ {slots : ℕ → ℕ → Type 0} (s m n u : State) (d : DirAt) (at : OwnAt) (r : ReadyOwn) (leaf : ℕ) (all : KeepsAll s u) (x : AltersRecords d s m) (y : Rewrites (λ b. ⊥) no_slot m n) (z : Rewrites (λ b. b ≡ leaf) slots n u)
     (is : IsDirAt s d) (apart : IsApartFrom d at) (of : IsBlockOf s at r) (may : MayPutOwn s r) (kind : (m.label leaf).kind ≡ Data 0) (tag : (m.label leaf).tag ≡ 33 + 2 * d.number) where
@@ -85,34 +74,16 @@ module _ {slots : ℕ → ℕ → Type 0} (s m n u : State) (d : DirAt) (at : Ow
   pub may_over : MayPutOwn u r
   may_over = may_put_on r all label_over (λ h. pin_over) bytes_over may
 
--- it is of that place still
-pub of_over : (s u : State) (at : OwnAt) (r : ReadyOwn) → KeepsAll s u → u.label r.at ≡ s.label r.at → (s.pinned r.at → u.pinned r.at) → length ((u.now r.at).bytes) ≡ 8192 → IsBlockOf s at r → IsBlockOf u at r
-of_over s u (place.Root root) r all same pin whole of = of
-of_over s u (place.Below b) r all same pin whole of = (leaf_kept s u b.dir r.at all same pin whole of.0, of.1)
-
-pub root_of : (s : State) (at : OwnAt) (r : ReadyOwn) → IsBlockOf s at r → (root : ℕ) → at ≡ place.Root root → r.at ≡ root
-root_of s (place.Root other) r of root e = of.0 ∙ ap own_root e
-  where
-    own_root : OwnAt → ℕ
-    own_root (place.Root x) = x
-    own_root (place.Below b) = 0
-root_of s (place.Below b) r of root e = let no : place.Below b ≡ place.Root root = e in cc
-
 -- ---- what is taken
 
 pub took : (s m u : State) (d : DirAt) (k : ℕ) → AltersRecords d s m → m.usable ≤ u.usable → u.spare ≡ m.spare → s.spare ≤ u.spare + k → s.usable ≤ u.usable + k
 took s m u d k x more same spare = let usable = x.usable in omega (arith, usable, more, same, spare)
 
-pub took_own : (B : Type 0) (state : B → State) (keeps : B → B → Type 0) (old new : B) (at : OwnAt) → AltersOwn B state keeps old new at → (state old).spare ≤ (state new).spare + blocks_for at → (state old).usable ≤ (state new).usable + 16
-took_own B state keeps old new (place.Root root) looks spare = let same = looks.usable.0 in omega (arith, same)
-took_own B state keeps old new (place.Below b) x spare = let few : (state old).usable ≤ (state new).usable + 11 = took (state old) (state x.0) (state new) b.dir 11 x.1 x.4.left.2 x.4.left.0 spare in omega (arith, few)
+pub took_own : (B : Type 0) (state : B → State) (keeps : B → B → Type 0) (old new : B) (at : OwnAt) → AltersOwn B state keeps old new at → (state old).spare ≤ (state new).spare + blocks_for at → (state old).usable ≤ (state new).usable + 11
+took_own B state keeps old new at x spare = let left = own_usable B state keeps old new at x in let few = few_blocks at in omega (arith, left, few, spare)
 
 -- ---- where the own record stands
 
-pub own_place : (s : State) (d : DirAt) (above : Option DirAt) (leaf spare : ℕ) → IsDirAt s d → MatchOption above (IsRootAt s d.at) (λ a. IsDirAt s a × IsEntriesAt s d.at × (a.number ≢ d.number)) → IsOwnAt s (own_of d.at above leaf spare) × IsApartFrom d (own_of d.at above leaf spare)
-own_place s d None leaf spare is root = ((root, is.pair.live), refl)
-own_place s d (Some a) leaf spare is h = ((h.0, h.1), λ e. h.2 (sym e))
-
-pub own_may : (at : ℕ) (above : Option DirAt) (k leaf spare : ℕ) (P : DirAt → Type 0) (named : Record) → RecordHolds named → (k ≡ 0 → RootRecordHolds named) → MatchOption above (k ≡ 0) P → MayOwn (own_of at above leaf spare) named
-own_may at None k leaf spare P named holds of_root is = of_root is
-own_may at (Some a) k leaf spare P named holds of_root is = holds
+pub own_may : (dir : DirAt) (above : Option DirAt) (k leaf spare : ℕ) (P : DirAt → Type 0) (named : Record) → RecordHolds named → (k ≡ 0 → RootRecordHolds named) → MatchOption above (k ≡ 0) P → MayOwn (own_of dir above leaf spare) named
+own_may dir None k leaf spare P named holds of_root is = of_root is
+own_may dir (Some a) k leaf spare P named holds of_root is = holds

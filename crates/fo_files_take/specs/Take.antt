@@ -1,5 +1,5 @@
 -- A file is taken out of its directory.
-use Rattle.std.specs.Prelude.{◌≡◌, ◌≢◌, ◌⊎◌, ◌-◌, ℕ, Bool, true, false, List, length, get_or, Option, Some, None}
+use Rattle.std.specs.Prelude.{◌≡◌, ◌⊎◌, ◌-◌, ℕ, Bool, true, false, List, length, get_or, Option}
 use Rattle.fo_image.specs.declared.record.Record.{Record}
 use Rattle.fo_image.specs.Record.{RecordHolds, RootRecordHolds}
 use Rattle.fo_ports.specs.State.{State, Calm, Looks, Rests}
@@ -18,9 +18,8 @@ use Rattle.fo_files_own.specs.of_files_record.Takes.{TakesOut}
 use Rattle.fo_files_own.specs.of_files_change.Records.{AltersRecords, records_of}
 use Rattle.fo_files_along.specs.Along.{GoesAlong, touched}
 use Rattle.fo_files_own.specs.declared.at.OwnAt.{OwnAt}
-use Rattle.fo_files_own.specs.declared.at.OwnAt.TheVariants as place
 use Rattle.fo_files_own.specs.declared.at.ReadyOwn.{ReadyOwn}
-use Rattle.fo_files_own.specs.Own.{ChangesOwn, HasReady, LeavesOwn, StepsTo}
+use Rattle.fo_files_own.specs.Own.{ChangesOwn, HasReady, LeavesOwn, StepsTo, own_of}
 use Rattle.fo_files_take.specs.declared.look.Found.{Found}
 
 -- Why a removal is refused where no device is to blame, in this order: by the view, of a directory, and where the system is halted. A file that is
@@ -48,16 +47,6 @@ pub record IsFound (s : State) (root : ℕ) (trail : List ℕ) (who : List ℕ) 
   pub own_is : f.own ≡ touched who now last.dir.named
   pub holds : RecordHolds f.own
   pub of_root : length trail ≡ 1 → RootRecordHolds f.own
-
--- Where the own record of a directory stands whose pair is in block `at`: in leaf `leaf` of the records of the directory above, or in its root block.
-abbrev pub own_of : (at : ℕ) → Option DirAt → (leaf spare : ℕ) → OwnAt
-own_of at None leaf spare = place.Root at
-own_of at (Some above) leaf spare = place.Below (record { dir = above; entries = at; leaf = leaf; spare = spare })
-
--- the records of the directory above are another source
-abbrev pub IsApartFrom : DirAt → OwnAt → Type 0
-IsApartFrom d (place.Root root) = d.at ≡ root
-IsApartFrom d (place.Below b) = d.number ≢ b.dir.number
 
 -- The directory's own record was made ready; then a file's record went out of leaf `i` of its records, with its pair; and then the own record was put.
 pub record TakesFrom (B : Type 0) (state : B → State) (old new : B) (dir : DirAt) (own : OwnAt) (changed : Record) (entries i pair : ℕ) (name : List ℕ) (is_dir : Bool) : Type 0 where
@@ -95,7 +84,7 @@ pub record OwnsBoth (s u : State) (root : ℕ) (trail : List ℕ) (way : Way) : 
 
 -- where the record of the directory stands then
 abbrev pub own_there : {s u : State} {root : ℕ} {trail : List ℕ} {way : Way} → OwnsBoth s u root trail way → OwnAt
-own_there x = own_of x.dir.at x.above x.leaf x.spare
+own_there x = own_of x.dir x.above x.leaf x.spare
 
 -- The way was owned, and then the file at its end taken out of its directory, which says that this user changed it at a moment.
 pub record TakesFile (B : Type 0) (state : B → State) (old new : B) (root : ℕ) (trail : List ℕ) (way : Way) (who : List ℕ) (now : ℕ) : Type 0 where

@@ -1,5 +1,5 @@
 //! What a removal looks at before it reserves.
-ghost use Rattle.std.specs.Prelude.{◌≡◌, ◌-◌, ◌<◌, ◌≤◌, ℕ, List, Bool, true, false, length, get_or, IfOk, IfErr, OnOk, IsTrue, ◌↔◌};
+ghost use Rattle.std.specs.Prelude.{◌≡◌, ◌-◌, ◌<◌, ◌≤◌, ℕ, List, Bool, true, false, length, get_or, IfOk, IfErr, OnOk};
 ghost use Rattle.fo_base.specs.Cause.{Rose};
 ghost use Rattle.fo_image.specs.Record.{RecordHolds, RootRecordHolds};
 ghost use Rattle.fo_ports.specs.Causes.{Caused};
@@ -21,9 +21,9 @@ use fo_base::Bytes;
 use fo_dir_list::count;
 use fo_files_along::files_at::{File, RECORDS_BELOW, Step, Way, at_place, records_of};
 use fo_files_along::files_look::file_error;
-use fo_files_along::{spare_for, touch};
+use fo_files_along::{is_of_root, spare_for, touch};
 use fo_files_own::copied;
-use fo_image::{Record, is_record, record_len};
+use fo_image::{Record, record_len};
 use fo_ports::{BlockError, Blocks};
 use fo_world::{FileError, Place, View};
 use std::alloc::Global;
@@ -34,17 +34,6 @@ pub(crate) struct Found {
     pub(crate) way: Way,
     pub(crate) own: Record,
     pub(crate) spare: u32,
-}
-
-/// Whether a record is one of a root directory: its name is `/`, and it has no number and no pair.
-fn is_of_root(named: &Record) -> bool
-    ensures { IsTrue result ↔ RootRecordHolds named.now }
-{
-    is_record(named)
-        && named.name.as_slice() == b"/".as_slice()
-        && named.number == 0
-        && named.slot == 0
-        && named.generation == 0
 }
 
 /// Whether a directory has names.

@@ -14,11 +14,12 @@ ghost use Rattle.fo_files_take.specs.Take.{IsFound, IsLeft, IsRefused, Refused, 
 ghost use Rattle.fo_ports.specs.Sources.{Dirties};
 
 use crate::look::{Found, look_for_removal};
-use crate::take::{Going, own_at, take_from};
+use crate::take::{Going, take_from};
 use fo_base::Bytes;
 use fo_files_along::files_at::Way;
 use fo_files_along::files_look::file_error;
 use fo_files_along::{own_along, reserve_room};
+use fo_files_own::own_at;
 use fo_ports::{BlockError, Blocks};
 use fo_world::{FileError, Place};
 use std::alloc::Global;
@@ -89,7 +90,12 @@ fn take_along<B: Blocks>(
         Err(why) => return Err(why),
     };
     let last = trail.len() - 1;
-    let own = own_at(stand, leaf_above(&found.way, last), found.spare);
+    let own = own_at(
+        stand.dir,
+        stand.above,
+        leaf_above(&found.way, last),
+        found.spare,
+    );
     let file = Going {
         entries: stand.file.at,
         leaf: leaf_at(&found.way, last),

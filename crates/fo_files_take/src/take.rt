@@ -4,14 +4,13 @@ ghost use Rattle.fo_base.specs.Cause.{Rose};
 ghost use Rattle.fo_ports.specs.Causes.{Caused};
 ghost use Rattle.fo_files_dir.specs.Dir.{IsDirAt};
 ghost use Rattle.fo_files_own.specs.of_files_record.Leaf.{IsEntriesAt};
-ghost use Rattle.fo_files_own.specs.Own.{IsOwnAt, MayOwn, block_of, blocks_for};
-ghost use Rattle.fo_files_take.specs.Take.{IsApartFrom, LeavesFrom, TakesFrom, own_of};
+ghost use Rattle.fo_files_own.specs.Own.{IsApartFrom, IsOwnAt, MayOwn, block_of, blocks_for};
+ghost use Rattle.fo_files_take.specs.Take.{LeavesFrom, TakesFrom};
 ghost use Rattle.fo_ports.specs.Sources.{AddsDirty};
 
-use fo_files_along::Stand;
 use fo_files_dir::DirAt;
 use fo_files_own::files_change::take_file;
-use fo_files_own::{Below, OwnAt, put_own, ready_own};
+use fo_files_own::{OwnAt, put_own, ready_own};
 use fo_image::Record;
 use fo_ports::{BlockError, Blocks};
 use std::alloc::Global;
@@ -24,22 +23,6 @@ pub(crate) struct Going {
     pub(crate) leaf: u32,
     pub(crate) pair: u32,
     pub(crate) dir: bool,
-}
-
-/// Where the own record of a file's directory stands: in leaf `leaf` of the records of the directory above, with leaf `spare` for it, or in its root
-/// block.
-pub(crate) fn own_at(at: Stand, leaf: u32, spare: u32) -> OwnAt
-    ensures { result ≡ own_of at.dir.at at.above leaf spare }
-{
-    match at.above {
-        None => OwnAt::Root(at.dir.at),
-        Some(dir) => OwnAt::Below(Below {
-            dir,
-            entries: at.dir.at,
-            leaf,
-            spare,
-        }),
-    }
 }
 
 /// Takes a file's record out of its directory, with the entries of its pair, and then puts the directory's own record. Refused before any record is

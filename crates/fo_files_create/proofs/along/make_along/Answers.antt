@@ -1,13 +1,14 @@
 use Rattle.std.proofs.Common.{◌+◌, length, inl, inr, sym, ap, subst, ◌∙◌, arith, refl}
 use Rattle.fo_files_own.proofs.of_files_ready.Steps.{failed_since}
 use Rattle.fo_files_create_look.proofs.of_files_along.Ways.{file_holds, steps_long}
-use Rattle.fo_files_own.specs.Own.{IsOwnAt, MayOwn, block_of}
-use Rattle.fo_files_create.specs.Create.{IsApartFrom, LeavesNew, MakesNew, last_leaf}
-use Rattle.fo_files_create.proofs.Steps.{above_of_root, own_may, own_stands, own_with}
+use Rattle.fo_files_own.specs.Own.{IsApartFrom, IsOwnAt, MayOwn, block_of}
+use Rattle.fo_files_create.specs.Create.{LeavesNew, MakesNew, last_leaf}
+use Rattle.fo_files_create.proofs.Steps.{above_of_root, own_may, own_with}
 use Rattle.fo_files_create.proofs.along.make_along.Goals as goal
 use Rattle.fo_dirties.proofs.Adding.{dirties_none, dirties_fewer, dirties_adds, cons_counted, none_counted}
 use Rattle.fo_dirties.proofs.Putting.{dirties_looks}
-use Rattle.fo_files_create.proofs.Counting.{few_own, own_in}
+use Rattle.fo_files_own.proofs.Carry.{few_blocks}
+use Rattle.fo_files_own.proofs.Standing.{own_in, own_stands}
 use Rattle.fo_files_own.specs.declared.at.OwnAt.{OwnAt}
 use Rattle.fo_files_create_look.specs.of_files_along.Along.{HasPairIn}
 
@@ -83,9 +84,9 @@ returns-in-Ok-put_new-clause-makes g c =
     let o = w.1 c.args.root c.args.trail.now c.requires.way in
     let at = c.in-Ok.stand in
     record {
-      c = w.0;
-      d = c.own_dir_along.new.on;
+      looked = w.0;
       looks = o.0;
+      owned = c.own_dir_along.new.on;
       dir = at.dir;
       above = at.above;
       along = o.1;
@@ -104,9 +105,9 @@ returns-in-Err-put_new-clause-left g c =
     let o = w.1 c.args.root c.args.trail.now c.requires.way in
     let at = c.in-Ok.stand in
     inr (record {
-      c = w.0;
-      d = c.own_dir_along.new.on;
+      looked = w.0;
       looks = o.0;
+      owned = c.own_dir_along.new.on;
       way = c.args.way.now;
       dir = at.dir;
       above = at.above;
@@ -147,7 +148,7 @@ pub returns-in-Ok-put_new-clause-dirties : goal.returns-in-Ok-put_new-clause-dir
 returns-in-Ok-put_new-clause-dirties g c =
     let long = steps_long (g.B.Blocks.state c.args.on.now) c.args.root c.args.trail.now c.args.way.now c.requires.way in
     let stand = c.in-Ok.stand in
-    let few = few_own c.own_at-own.result in
+    let few = few_blocks c.own_at-own.result in
     let own = subst (λ (o : OwnAt). HasPairIn stand.dir stand.above (block_of o)) (sym c.own_at-own.ensures) (own_in stand.dir stand.above c.own_leaf.result c.args.spare) in
     dirties_fewer (omega (arith, long, few)) (λ b h. absurd h) (dirties_adds c.in-Ok.ensures.dirties c.put_new.ensures.dirties (cons_counted (inl refl) (cons_counted own none_counted)))
 
@@ -155,6 +156,6 @@ pub returns-in-Err-put_new-clause-dirties : goal.returns-in-Err-put_new-clause-d
 returns-in-Err-put_new-clause-dirties g c =
     let long = steps_long (g.B.Blocks.state c.args.on.now) c.args.root c.args.trail.now c.args.way.now c.requires.way in
     let stand = c.in-Ok.stand in
-    let few = few_own c.own_at-own.result in
+    let few = few_blocks c.own_at-own.result in
     let own = subst (λ (o : OwnAt). HasPairIn stand.dir stand.above (block_of o)) (sym c.own_at-own.ensures) (own_in stand.dir stand.above c.own_leaf.result c.args.spare) in
     dirties_fewer (omega (arith, long, few)) (λ b h. absurd h) (dirties_adds c.in-Ok.ensures.dirties c.put_new.ensures.dirties (cons_counted (inl refl) (cons_counted own none_counted)))

@@ -19,7 +19,7 @@ make_found-requires-clause-found g c = (new_record c.args.name.now c.args.mode c
 
 pub returns-in-Ok-make_found-clause-creates : goal.returns-in-Ok-make_found-clause-creates
 returns-in-Ok-make_found-clause-creates g c = record {
-  a = c.look_for_new.new.on;
+  looked = c.look_for_new.new.on;
   looks = c.look_for_new.ensures.looks.0;
   found = c.in-Ok.found;
   is_found = c.in-Ok.ensures.found;

@@ -21,11 +21,11 @@ pub returns-in-Ok-make_numbered-clause-makes : goal.returns-in-Ok-make_numbered-
 returns-in-Ok-make_numbered-clause-makes g c =
     let p = c.in-Ok-make_numbered.ensures.makes in
     record {
-      n = c.granted.new.on;
-      b = p.0;
-      c = p.1;
+      granted = c.granted.new.on;
       numbers = c.granted.ensures.stays;
+      rested = p.0;
       rests = p.3;
+      settled = p.1;
       settles = p.4;
       r = p.2;
       makes = subst (λ q. MakesAlong _ g.B.Blocks.state p.1 c.make_numbered.new.on c.args.root c.args.at.now.trail c.args.found.way c.args.found.spot (numbered q c.args.found.named) p.2) c.in-Ok.ensures.number.0 p.5;
@@ -42,13 +42,13 @@ returns-in-Ok-make_numbered-clause-next g c =
 pub returns-in-Err-make_numbered-clause-left : goal.returns-in-Err-make_numbered-clause-left
 returns-in-Err-make_numbered-clause-left g c =
     let p = c.in-Err-make_numbered.ensures.left in
-    record { n = c.granted.new.on; b = p.0; c = p.1; numbers = c.granted.ensures.stays; rests = p.2; settles = p.3; left = p.4 }
+    record { granted = c.granted.new.on; numbers = c.granted.ensures.stays; rested = p.0; rests = p.2; settled = p.1; settles = p.3; left = p.4 }
 
 pub returns-in-Err-clause-left : goal.returns-in-Err-clause-left
 returns-in-Err-clause-left g c =
     let n = c.granted.new.on in
     let same = looks_none (g.B.Blocks.state n) in
-    record { n = n; b = n; c = n; numbers = c.granted.ensures.stays; rests = inl same; settles = inl refl; left = inl same }
+    record { granted = n; numbers = c.granted.ensures.stays; rested = n; rests = inl same; settled = n; settles = inl refl; left = inl same }
 
 pub returns-in-Err-clause-numbers : goal.returns-in-Err-clause-numbers
 returns-in-Err-clause-numbers g c = c.granted.ensures.stays.room.3

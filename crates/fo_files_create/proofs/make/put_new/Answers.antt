@@ -1,7 +1,7 @@
 use Rattle.std.proofs.Common.{◌+◌, inl, inr, ap, ◌∙◌, arith}
 use Rattle.fo_files_own.proofs.of_files_ready.Steps.{failed_since}
-use Rattle.fo_files_own.proofs.Carry.{few_blocks, few_pins, few_removals, has_ready_on, may_put_on}
-use Rattle.fo_files_create.proofs.Steps.{block_on, label_comes, of_root, own_numbers, own_usable, ready_comes}
+use Rattle.fo_files_own.proofs.Carry.{block_on, few_blocks, few_pins, few_removals, has_ready_on, may_put_on, of_root, own_usable}
+use Rattle.fo_files_create.proofs.Steps.{label_comes, own_numbers, ready_comes}
 use Rattle.fo_files_create.proofs.make.put_new.Goals as goal
 use Rattle.fo_dirties.proofs.Adding.{first_of, next_of, cons_of, none_of, adds_more, adds_given, adds_wider, adds_joins, adds_first, adds_then, adds_still}
 use Rattle.fo_dirties.proofs.Putting.{dirties_calm, dirties_stays}
@@ -99,7 +99,6 @@ returns-clause-makes g c =
     let own = c.args.own in
     let is = c.in-Ok.ensures.ready in
     let made = c.in-Ok-new_file.ensures.alters in
-    let new = c.in-Ok-new_file.ensures.new in
     let comes = ready_comes e f c.args.dir own made.0 r first c.ready_own.ensures.at c.requires.own.1 is.1 made.1 made.2 is.0 in
     let marks = label_comes e f c.args.dir made.0 r made.1 is.0 in
     let block_f = block_on e f own r first marks.0 marks.1 comes.1 is.1 in
@@ -111,22 +110,13 @@ returns-clause-makes g c =
     let block_g = block_on f u own r second label pin bytes block_f in
     let ready_g = has_ready_on f u own c.args.touched.now r (of_root f own r block_f) bytes ready_f in
     record {
-      e = c.ready_own.new.on;
+      ready = c.ready_own.new.on;
       block = r.at;
       readied = c.in-Ok.ensures.steps;
-      leaves = new.0;
-      z = new.1;
-      a = new.2;
-      b = new.3;
-      t = new.4;
-      c = new.5;
-      p = new.6;
-      m = new.7;
-      n = new.8;
-      f = c.new_file.new.on;
-      comes = new.9;
+      made = c.new_file.new.on;
+      comes = c.in-Ok-new_file.ensures.new;
       stays = (made.0, made.1);
-      g = c.number_taken.new.self;
+      counted = c.number_taken.new.self;
       taken = record { next = taken.next; same = taken.now; stays = taken.stays.0; uses = taken.stays.1 };
       changed = c.put_own.ensures.own own c.args.touched.now block_g ready_g;
       calm = c.put_own.ensures.calm;
@@ -134,8 +124,8 @@ returns-clause-makes g c =
 
 pub returns-clause-record : goal.returns-clause-record
 returns-clause-record g c =
-    let new = c.in-Ok-new_file.ensures.new in
-    (new.9.put.holds, new.9.put.numbered)
+    let put = c.in-Ok-new_file.ensures.new.put in
+    (put.holds, put.numbered)
 
 pub returns-clause-next : goal.returns-clause-next
 returns-clause-next g c =

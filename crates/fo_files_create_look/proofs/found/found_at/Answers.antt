@@ -2,8 +2,8 @@ use Rattle.std.proofs.Common.{refl, sym, ap, subst}
 use Rattle.fo_image.specs.Record.{RootRecordHolds}
 use Rattle.fo_files_along.specs.of_files_at.declared.file.File.{File}
 use Rattle.fo_files_along.specs.Along.{touched}
-use Rattle.fo_files_along.proofs.Ways.{file_holds, touched_holds, way_named}
-use Rattle.fo_files_create_look.proofs.Ways.{touched_root, user_of}
+use Rattle.fo_files_along.proofs.Ways.{file_holds, touched_holds, touched_root, way_named}
+use Rattle.fo_files_create_look.proofs.Ways.{user_of}
 use Rattle.fo_files_create_look.proofs.found.found_at.Goals as goal
 
 pub returns-in-Ok-clause-found : goal.returns-in-Ok-clause-found

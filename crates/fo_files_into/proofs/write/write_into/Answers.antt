@@ -6,10 +6,9 @@ use Rattle.fo_files_record.proofs.Rewriting.{rewrites_calm}
 use Rattle.fo_files_ready.proofs.of_files_change.Records.{records_ready, records_rank, later_failed}
 use Rattle.fo_files_cut.specs.of_files_write.Alters.{is_above}
 use Rattle.fo_files_cut.proofs.of_files_write.Steps.{alters_none}
-use Rattle.fo_files_ready.specs.Ready.{IsLeafOf, IsReadyFor}
+use Rattle.fo_files_ready.specs.Ready.{IsLeafOf, IsReadyFor, MadeReady}
 use Rattle.fo_files_ready.proofs.Steps.{leaf_looks, failed_since}
 use Rattle.fo_files_along.proofs.Pairs.{entries_looks}
-use Rattle.fo_files_into.specs.Into.{WasReadied}
 use Rattle.fo_files_into.proofs.Steps.{file_over, file_looks, leaf_bytes, leaf_written, data_kept, data_long, must_fit, changed_as}
 use Rattle.fo_files_into.proofs.write.write_into.Goals as goal
 use Rattle.fo_dirties.proofs.Adding.{first_of, next_of, cons_of, none_of, adds_more, adds_wider, adds_given, adds_still, adds_first, adds_then}
@@ -136,13 +135,13 @@ returns-in-Err-read-clause-left g c =
     let y = c.ready_record.ensures.stays in
     let u = g.B.Blocks.state c.read.new.on in
     let file = c.args.at.file in
-    let steps = subst (λ xs. WasReadied _ g.B.Blocks.state c.args.on.now c.ready_record.new.on c.args.at.dir c.args.i c.args.spare c.in-Ok.leaf xs) c.as_slice-name.ensures c.in-Ok.ensures.steps in
+    let steps = subst (λ xs. MadeReady _ g.B.Blocks.state c.args.on.now c.ready_record.new.on c.args.at.dir c.args.i c.args.spare c.in-Ok.leaf xs) c.as_slice-name.ensures c.in-Ok.ensures.steps in
     inr (c.ready_record.new.on, c.in-Ok.leaf, steps, record { owned = y.0; readied = y.1; moved = y.4; looked = c.read.new.on; looks = c.read.ensures.looks; alters = alters_none is_above u file.at file.slot (32 + 2 * file.number); stays = λ generation size has. has })
 
 pub returns-in-Err-write_data-clause-left : goal.returns-in-Err-write_data-clause-left
 returns-in-Err-write_data-clause-left g c =
     let y = c.ready_record.ensures.stays in
-    let steps = subst (λ xs. WasReadied _ g.B.Blocks.state c.args.on.now c.ready_record.new.on c.args.at.dir c.args.i c.args.spare c.in-Ok.leaf xs) c.as_slice-name.ensures c.in-Ok.ensures.steps in
+    let steps = subst (λ xs. MadeReady _ g.B.Blocks.state c.args.on.now c.ready_record.new.on c.args.at.dir c.args.i c.args.spare c.in-Ok.leaf xs) c.as_slice-name.ensures c.in-Ok.ensures.steps in
     inr (c.ready_record.new.on, c.in-Ok.leaf, steps, record { owned = y.0; readied = y.1; moved = y.4; looked = c.read.new.on; looks = c.read.ensures.looks; alters = c.in-Err-write_data.ensures.nothing; stays = c.in-Err-write_data.ensures.stays })
 
 pub returns-clause-puts : goal.returns-clause-puts
@@ -176,7 +175,7 @@ returns-clause-puts g c =
       readied = y.1;
       ready = c.ready_record.new.on;
       moved = y.4;
-      steps = subst (λ xs. WasReadied _ g.B.Blocks.state c.args.on.now c.ready_record.new.on dir c.args.i c.args.spare c.in-Ok.leaf xs) c.as_slice-name.ensures c.in-Ok.ensures.steps;
+      steps = subst (λ xs. MadeReady _ g.B.Blocks.state c.args.on.now c.ready_record.new.on dir c.args.i c.args.spare c.in-Ok.leaf xs) c.as_slice-name.ensures c.in-Ok.ensures.steps;
       fits = subst (λ xs. IsReadyFor f dir c.in-Ok.leaf xs c.args.named.now) c.as_slice-name.ensures c.in-Ok.ensures.ready;
       looked = c.read.new.on;
       looks = c.read.ensures.looks;

@@ -14,8 +14,16 @@ put_new-requires-clause-dir g c = (dir_on (g.B.Blocks.state c.ready_both.new.on)
 
 pub returns-in-Ok-put_new-clause-new : goal.returns-in-Ok-put_new-clause-new
 returns-in-Ok-put_new-clause-new g c =
-    let e = c.in-Ok.ensures.readied in
-    (c.in-Ok.leaves, e.0, e.1, e.2, e.3, e.4, c.ready_both.new.on, c.settle_for.new.on, c.in-Ok-put_new.ensures.put.0, record { ready = e.5; settled = c.settle_for.ensures.alters; in_place = c.in-Ok-settle_for.ensures.in_place; put = c.in-Ok-put_new.ensures.put.1 })
+    record {
+      leaves = c.in-Ok.leaves;
+      readied = c.ready_both.new.on;
+      ready = c.in-Ok.ensures.readied;
+      settled = c.settle_for.new.on;
+      settles = c.settle_for.ensures.alters;
+      in_place = c.in-Ok-settle_for.ensures.in_place;
+      looked = c.in-Ok-put_new.ensures.put.0;
+      put = c.in-Ok-put_new.ensures.put.1;
+    }
 
 pub returns-in-Ok-put_new-clause-alters : goal.returns-in-Ok-put_new-clause-alters
 returns-in-Ok-put_new-clause-alters g c =

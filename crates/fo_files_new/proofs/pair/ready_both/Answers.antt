@@ -17,9 +17,7 @@ returns-in-Ok-ready_records-clause-own g c = record {
 
 pub returns-in-Ok-ready_records-clause-readied : goal.returns-in-Ok-ready_records-clause-readied
 returns-in-Ok-ready_records-clause-readied g c =
-    let e = c.in-Ok.ensures.readied in
-    let r = c.in-Ok-ready_records.ensures.readied in
-    (e.2.0, e.2.1, c.ready_entries.new.on, r.2.0, r.2.1, record { of_entries = e.0; is_entries = e.1; taken = e.2.2; entries_ready = e.2.3; of_records = r.0; is_records = r.1; trimmed = r.2.2; records_ready = r.2.3 })
+    record { entries_owned = c.ready_entries.new.on; of_entries = c.in-Ok.ensures.readied; of_records = c.in-Ok-ready_records.ensures.readied }
 
 pub returns-in-Ok-ready_records-clause-alters : goal.returns-in-Ok-ready_records-clause-alters
 returns-in-Ok-ready_records-clause-alters g c = alters_joins (g.met.B.Blocks.keeps_all c.args.on.now c.ready_entries.new.on c.ready_entries.ensures.keeps) c.ready_entries.ensures.alters c.ready_records.ensures.alters

@@ -47,7 +47,14 @@ returns-in-Ok-ready_leaf-clause-readied g c =
     let m = g.B.Blocks.state c.take_behind.new.on in
     let w = c.in-Some.wanted in
     let is = c.in-Some.ensures.is.0 in
-    (w, is, (c.take_behind.new.on, c.in-Ok-ready_leaf.ensures.readied.0, record { alters = alters_entries s m c.args.dir c.args.pair w is c.take_behind.ensures.alters; taken = ⊎_elim inl (λ t. inr (w, is, t.0, t.1)) c.in-Ok.ensures.taken }, c.in-Ok-ready_leaf.ensures.readied.1))
+    record {
+      wanted = w;
+      is_wanted = is;
+      behind = c.take_behind.new.on;
+      taken = record { alters = alters_entries s m c.args.dir c.args.pair w is c.take_behind.ensures.alters; taken = ⊎_elim inl (λ t. inr (w, is, t.0, t.1)) c.in-Ok.ensures.taken };
+      looked = c.in-Ok-ready_leaf.ensures.readied.0;
+      ready = c.in-Ok-ready_leaf.ensures.readied.1;
+    }
 
 pub returns-in-Ok-ready_leaf-clause-alters : goal.returns-in-Ok-ready_leaf-clause-alters
 returns-in-Ok-ready_leaf-clause-alters g c =

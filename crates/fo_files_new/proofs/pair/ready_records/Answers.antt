@@ -47,7 +47,14 @@ returns-in-Ok-ready_leaf-clause-readied g c =
     let m = g.B.Blocks.state c.trim_records.new.on in
     let w = c.in-Some.wanted in
     let is = c.in-Some.ensures.is.0 in
-    (w, is, (c.trim_records.new.on, c.in-Ok-ready_leaf.ensures.readied.0, alters_records s m c.args.dir c.args.leaf w is c.trim_records.ensures.alters, c.in-Ok-ready_leaf.ensures.readied.1))
+    record {
+      wanted = w;
+      is_wanted = is;
+      trimmed = c.trim_records.new.on;
+      trims = alters_records s m c.args.dir c.args.leaf w is c.trim_records.ensures.alters;
+      looked = c.in-Ok-ready_leaf.ensures.readied.0;
+      ready = c.in-Ok-ready_leaf.ensures.readied.1;
+    }
 
 pub returns-in-Ok-ready_leaf-clause-alters : goal.returns-in-Ok-ready_leaf-clause-alters
 returns-in-Ok-ready_leaf-clause-alters g c =

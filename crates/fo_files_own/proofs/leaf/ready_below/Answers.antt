@@ -45,13 +45,13 @@ returns-in-Ok-read-clause-ready g c =
 
 pub returns-in-Ok-read-clause-steps : goal.returns-in-Ok-read-clause-steps
 returns-in-Ok-read-clause-steps g c =
-    let was : WasReadied _ g.B.Blocks.state c.args.on.now c.read.new.on c.args.at c.as_slice-name.result.now c.in-Ok.leaf = (c.ready_record-ready.new.on, c.read.ensures.looks, c.in-Ok.ensures.steps) in
+    let was : WasReadied _ g.B.Blocks.state c.args.on.now c.read.new.on c.args.at c.as_slice-name.result.now c.in-Ok.leaf = (c.ready_record-ready.new.on, c.in-Ok.ensures.steps, c.read.ensures.looks) in
     let named = subst (λ (n : List ℕ). WasReadied _ g.B.Blocks.state c.args.on.now c.read.new.on c.args.at n c.in-Ok.leaf) c.as_slice-name.ensures was in
     subst (λ b. WasReadied _ g.B.Blocks.state c.args.on.now c.read.new.on c.args.at c.args.named.now.name b) (sym c.with_record.ensures.of.0) named
 
 pub returns-in-Err-read-clause-left : goal.returns-in-Err-read-clause-left
 returns-in-Err-read-clause-left g c =
-    let was : WasReadied _ g.B.Blocks.state c.args.on.now c.read.new.on c.args.at c.as_slice-name.result.now c.in-Ok.leaf = (c.ready_record-ready.new.on, c.read.ensures.looks, c.in-Ok.ensures.steps) in
+    let was : WasReadied _ g.B.Blocks.state c.args.on.now c.read.new.on c.args.at c.as_slice-name.result.now c.in-Ok.leaf = (c.ready_record-ready.new.on, c.in-Ok.ensures.steps, c.read.ensures.looks) in
     inr (c.in-Ok.leaf, subst (λ (n : List ℕ). WasReadied _ g.B.Blocks.state c.args.on.now c.read.new.on c.args.at n c.in-Ok.leaf) c.as_slice-name.ensures was)
 
 pub returns-in-Err-clause-left : goal.returns-in-Err-clause-left

@@ -220,7 +220,17 @@ returns-in-Ok-move_here-clause-steps g c =
       to_own = c.in-Ok.ensures.own;
     } in
     let r = c.in-Ok.ensures.readied in
-    (r.0, r.1, c.spare_leaf.new.on, c.with_room.new.on, r.2, r.3, c.with_room.ensures.looks, moved_as (from_same b) (to_same b) c.in-Ok-move_here.ensures.moved, c.move_here.ensures.rewrites)
+    record {
+      trimmed = r.0;
+      trims = r.2;
+      looked = r.1;
+      readied = c.spare_leaf.new.on;
+      ready = r.3;
+      read = c.with_room.new.on;
+      looks = c.with_room.ensures.looks;
+      moved = moved_as (from_same b) (to_same b) c.in-Ok-move_here.ensures.moved;
+      stays = c.move_here.ensures.rewrites;
+    }
 
 pub returns-in-Err-move_here-clause-nothing : goal.returns-in-Err-move_here-clause-nothing
 returns-in-Err-move_here-clause-nothing g c =

@@ -184,7 +184,7 @@ returns-in-Err-has_place-clause-room g c =
 pub returns-then-fits-clause-steps : goal.returns-then-fits-clause-steps
 returns-then-fits-clause-steps g c =
     let r = c.in-Ok.ensures.readied in
-    inl (r.0, c.leaf_at.new.on, record { ready = r.1; looks = c.has_place.ensures.looks })
+    inl (record { looked = r.0; readied = c.leaf_at.new.on; ready = r.1; looks = c.has_place.ensures.looks })
 
 pub returns-in-Err-has_place-clause-nothing : goal.returns-in-Err-has_place-clause-nothing
 returns-in-Err-has_place-clause-nothing g c =
@@ -368,7 +368,23 @@ returns-in-Ok-move_to-clause-steps g c =
     let r = c.in-Ok.ensures.readied in
     let q = c.in-Ok-move_to.ensures.steps in
     let same = (c.has_place.ensures.looks.known c.in-Ok.from own.is_pinned).bytes in
-    inr (r.0, c.leaf_at.new.on, q.0, q.1, q.2, q.3, c.in-Ok.from, record { ready = r.1; trimmed = alters_joins second look q.4; spare_ready = q.5; looks = q.6; moved = moved_as same refl q.7; stays = q.8 })
+    inr (record {
+      from = c.in-Ok.from;
+      looked = r.0;
+      readied = c.leaf_at.new.on;
+      ready = r.1;
+      moves = record {
+        trimmed = q.trimmed;
+        trims = alters_joins second look q.trims;
+        looked = q.looked;
+        readied = q.readied;
+        ready = q.ready;
+        read = q.read;
+        looks = q.looks;
+        moved = moved_as same refl q.moved;
+        stays = q.stays;
+      };
+    })
 
 pub returns-in-Err-move_to-clause-nothing : goal.returns-in-Err-move_to-clause-nothing
 returns-in-Err-move_to-clause-nothing g c =

@@ -2,11 +2,10 @@ use Rattle.std.proofs.Common.{inl, inr, subst, arith}
 use Rattle.std.specs.Prelude.{Option, IfSome}
 use Rattle.fo_world.specs.Step.{depth_of, give, most_need}
 use Rattle.fo_files_edit.specs.of_files_along.Along.{HasRoom}
-use Rattle.fo_files_edit.proofs.of_files_along.Refusing.{cause_later, look_cause}
+use Rattle.fo_files_edit.proofs.of_files_along.Refusing.{cause_later, full_below, look_cause}
 use Rattle.fo_files_edit.specs.declared.found.Found.{Found}
 use Rattle.fo_files_edit.specs.Asks.{FoundOther}
 use Rattle.fo_files_edit.proofs.Refusing.{unfound}
-use Rattle.fo_files_rename.proofs.Causes.{full_below}
 use Rattle.fo_files_rename.proofs.Finding.{always_ok, map_ok, map_err, map_why}
 use Rattle.fo_files_rename.proofs.change.change_file.Goals as goal
 use Rattle.fo_dirties.proofs.Adding.{dirties_none, dirties_first}

@@ -1,7 +1,7 @@
 use Rattle.std.proofs.Common.{◌+◌, ◌*◌, ◌^◌, ◌≤◌, length, true, false, inl, inr, ⊎_elim, subst, arith}
 use Rattle.fo_files_edit.specs.Edit.{EditsFile, IsLeft}
 use Rattle.fo_files_rename.specs.Change.{LeavesName, OwnsName}
-use Rattle.fo_files_rename.proofs.Causes.{cause_more}
+use Rattle.fo_files_edit.proofs.of_files_along.Refusing.{cause_more}
 use Rattle.fo_files_rename.proofs.Finding.{length_within, renamed}
 use Rattle.fo_files_rename.proofs.change.change_file_below.Goals as goal
 use Rattle.fo_dirties.proofs.Adding.{dirties_fewer}

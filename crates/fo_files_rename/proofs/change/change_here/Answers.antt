@@ -3,7 +3,7 @@ use Rattle.fo_world.specs.Step.{depth_of, give, most_need}
 use Rattle.fo_files_edit.specs.of_files_at.Way.{IsWay}
 use Rattle.fo_files_edit.specs.of_files_along.Along.{HasRoom}
 use Rattle.fo_files_rename.specs.Change.{ChangesFound, LeavesFound}
-use Rattle.fo_files_rename.proofs.Causes.{cause_more, full_below}
+use Rattle.fo_files_edit.proofs.of_files_along.Refusing.{cause_more, full_below}
 use Rattle.fo_files_rename.proofs.Finding.{give_of, most_of, no_trail, some_give, some_need}
 use Rattle.fo_files_rename.proofs.change.change_here.Goals as goal
 use Rattle.fo_dirties.proofs.Adding.{dirties_fewer}

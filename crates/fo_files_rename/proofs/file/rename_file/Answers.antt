@@ -1,7 +1,7 @@
 use Rattle.std.proofs.Common.{inl, inr, arith}
 use Rattle.fo_files_own.proofs.of_files_ready.Steps.{failed_since}
-use Rattle.fo_files_own.proofs.Carry.{few_pins, few_removals}
-use Rattle.fo_files_rename.proofs.Carried.{beside_still, block_still, few, may_still, own_away, own_usable, ready_still, same_ready}
+use Rattle.fo_files_own.proofs.Carry.{few_blocks, few_pins, few_removals, own_usable}
+use Rattle.fo_files_rename.proofs.Carried.{beside_still, block_still, may_still, own_away, ready_still, same_ready}
 use Rattle.fo_files_rename.proofs.file.rename_file.Goals as goal
 use Rattle.fo_dirties.proofs.Adding.{first_of, next_of, cons_of, none_of, adds_more, adds_given, adds_wider, adds_joins, adds_first, adds_then}
 use Rattle.fo_dirties.proofs.Putting.{dirties_calm}
@@ -10,7 +10,7 @@ pub ready_own-requires-clause-pins : goal.ready_own-requires-clause-pins
 ready_own-requires-clause-pins g c = let most = few_pins c.args.own in let enough = c.requires.pins in omega (arith, most, enough)
 
 pub ready_own-requires-clause-spare : goal.ready_own-requires-clause-spare
-ready_own-requires-clause-spare g c = let most = few c.args.own in let enough = c.requires.spare in omega (arith, most, enough)
+ready_own-requires-clause-spare g c = let most = few_blocks c.args.own in let enough = c.requires.spare in omega (arith, most, enough)
 
 pub ready_own-requires-clause-room : goal.ready_own-requires-clause-room
 ready_own-requires-clause-room g c = let most = few_removals c.args.own in let enough = c.requires.room in omega (arith, most, enough)
@@ -31,7 +31,7 @@ pub change_into-requires-clause-pins : goal.change_into-requires-clause-pins
 change_into-requires-clause-pins g c = let most = few_pins c.args.own in let took = c.ready_own.ensures.pins in let enough = c.requires.pins in omega (arith, most, took, enough)
 
 pub change_into-requires-clause-spare : goal.change_into-requires-clause-spare
-change_into-requires-clause-spare g c = let most = few c.args.own in let took = c.ready_own.ensures.spare in let enough = c.requires.spare in omega (arith, most, took, enough)
+change_into-requires-clause-spare g c = let most = few_blocks c.args.own in let took = c.ready_own.ensures.spare in let enough = c.requires.spare in omega (arith, most, took, enough)
 
 pub change_into-requires-clause-room : goal.change_into-requires-clause-room
 change_into-requires-clause-room g c = let most = few_removals c.args.own in let took = c.ready_own.ensures.room in let enough = c.requires.room in omega (arith, most, took, enough)
@@ -56,7 +56,7 @@ pub returns-in-Err-clause-left : goal.returns-in-Err-clause-left
 returns-in-Err-clause-left g c = inr (inl c.in-Err.ensures.left)
 
 pub returns-in-Err-clause-spare : goal.returns-in-Err-clause-spare
-returns-in-Err-clause-spare g c = let most = few c.args.own in let took = c.ready_own.ensures.spare in omega (arith, most, took)
+returns-in-Err-clause-spare g c = let most = few_blocks c.args.own in let took = c.ready_own.ensures.spare in omega (arith, most, took)
 
 pub returns-in-Err-clause-usable : goal.returns-in-Err-clause-usable
 returns-in-Err-clause-usable g c = own_usable _ g.B.Blocks.state g.B.Blocks.keeps c.args.on.now c.ready_own.new.on c.args.own c.ready_own.ensures.stays
@@ -83,7 +83,7 @@ returns-in-Ok-change_into-clause-renames g c =
 
 pub returns-in-Ok-change_into-clause-spare : goal.returns-in-Ok-change_into-clause-spare
 returns-in-Ok-change_into-clause-spare g c =
-    let most = few c.args.own in let took = c.ready_own.ensures.spare in let more = c.change_into.ensures.spare in let same = c.put_own.ensures.calm.frame.uses.spare in
+    let most = few_blocks c.args.own in let took = c.ready_own.ensures.spare in let more = c.change_into.ensures.spare in let same = c.put_own.ensures.calm.frame.uses.spare in
     omega (arith, most, took, more, same)
 
 pub returns-in-Ok-change_into-clause-usable : goal.returns-in-Ok-change_into-clause-usable
@@ -102,7 +102,7 @@ returns-in-Err-change_into-clause-left g c = inr (inr (c.ready_own.new.on, c.in-
 
 pub returns-in-Err-change_into-clause-spare : goal.returns-in-Err-change_into-clause-spare
 returns-in-Err-change_into-clause-spare g c =
-    let most = few c.args.own in let took = c.ready_own.ensures.spare in let more = c.change_into.ensures.spare in omega (arith, most, took, more)
+    let most = few_blocks c.args.own in let took = c.ready_own.ensures.spare in let more = c.change_into.ensures.spare in omega (arith, most, took, more)
 
 pub returns-in-Err-change_into-clause-usable : goal.returns-in-Err-change_into-clause-usable
 returns-in-Err-change_into-clause-usable g c =

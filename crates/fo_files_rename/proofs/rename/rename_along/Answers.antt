@@ -1,16 +1,17 @@
 use Rattle.std.proofs.Common.{length, inl, inr, sym, subst, arith, refl, ◌≤◌, ◌*◌, ◌+◌, ◌-◌}
 use Rattle.fo_tree_read.proofs.Exits.{looks_none}
 use Rattle.fo_files_own.proofs.of_files_ready.Steps.{failed_since}
-use Rattle.fo_files_own.specs.Own.{IsOwnAt, MayOwn, block_of, blocks_for}
+use Rattle.fo_files_own.specs.Own.{IsApartFrom, IsOwnAt, MayOwn, block_of, blocks_for}
+use Rattle.fo_files_own.proofs.Standing.{own_in, own_stands}
 use Rattle.fo_files_edit.proofs.of_files_along.Ways.{file_holds, steps_long}
 use Rattle.fo_files_edit.proofs.of_files_into.Steps.{last_step}
-use Rattle.fo_files_rename.specs.Rename.{IsApartFrom, LeavesFile, RenamesFile}
-use Rattle.fo_files_rename.proofs.Owning.{may_own, places_at}
+use Rattle.fo_files_rename.specs.Rename.{LeavesFile, RenamesFile}
+use Rattle.fo_files_rename.proofs.Owning.{may_own}
 use Rattle.fo_files_rename.proofs.Causes.{failed_here}
 use Rattle.fo_files_rename.proofs.rename.rename_along.Goals as goal
 use Rattle.fo_dirties.proofs.Adding.{dirties_none, dirties_fewer, dirties_adds, cons_counted, none_counted}
 use Rattle.fo_dirties.proofs.Putting.{dirties_looks}
-use Rattle.fo_files_rename.proofs.Counting.{own_few, own_in}
+use Rattle.fo_files_rename.proofs.Counting.{own_few}
 use Rattle.fo_files_own.specs.declared.at.OwnAt.{OwnAt}
 use Rattle.fo_files_edit.specs.of_files_along.Along.{HasPairIn}
 use Rattle.fo_world.specs.Step.{need}
@@ -37,7 +38,7 @@ pub beside_data-requires : goal.beside_data-requires
 beside_data-requires g c =
     let u = g.B.Blocks.state c.own_along.new.on in
     let at = c.in-Ok.stand in
-    record { own = subst (λ o. IsOwnAt u o) (sym c.own_at-place.ensures) (places_at u at.dir at.above c.own_leaf.result c.args.own.now.spare c.in-Ok.ensures.dir c.in-Ok.ensures.above).0 }
+    record { own = subst (λ o. IsOwnAt u o) (sym c.own_at-place.ensures) (own_stands u at.dir at.above c.own_leaf.result c.args.own.now.spare c.in-Ok.ensures.dir c.in-Ok.ensures.above).0 }
 
 pub rename_file-requires-clause-silent : goal.rename_file-requires-clause-silent
 rename_file-requires-clause-silent g c = λ h. c.requires.silent ((g.met.B.Blocks.keeps_all c.args.on.now c.own_along.new.on c.own_along.ensures.keeps).still_tells.0 h)
@@ -46,7 +47,7 @@ pub rename_file-requires-clause-own : goal.rename_file-requires-clause-own
 rename_file-requires-clause-own g c =
     let u = g.B.Blocks.state c.own_along.new.on in
     let at = c.in-Ok.stand in
-    subst (λ o. IsOwnAt u o × IsApartFrom at.dir o) (sym c.own_at-place.ensures) (places_at u at.dir at.above c.own_leaf.result c.args.own.now.spare c.in-Ok.ensures.dir c.in-Ok.ensures.above)
+    subst (λ o. IsOwnAt u o × IsApartFrom at.dir o) (sym c.own_at-place.ensures) (own_stands u at.dir at.above c.own_leaf.result c.args.own.now.spare c.in-Ok.ensures.dir c.in-Ok.ensures.above)
 
 pub rename_file-requires-clause-touched : goal.rename_file-requires-clause-touched
 rename_file-requires-clause-touched g c =

@@ -4,7 +4,7 @@ use Rattle.fo_image.specs.Record.{RecordHolds, RootRecordHolds}
 use Rattle.fo_files_along.specs.of_files_at.declared.at.Step.{Step}
 use Rattle.fo_files_along.proofs.of_files_at.Ways.{way_stays}
 use Rattle.fo_files_along.proofs.Ways.{step_at, steps_long, touched_holds}
-use Rattle.fo_files_take.proofs.Taking.{touched_root}
+use Rattle.fo_files_along.proofs.Ways.{touched_root}
 use Rattle.fo_files_take.proofs.look.found_at.Goals as goal
 
 pub step_of-requires : goal.step_of-requires

@@ -4,13 +4,13 @@ use Rattle.fo_files_own.proofs.of_files_ready.Steps.{failed_since}
 use Rattle.fo_files_along.specs.Along.{touched, HasPairIn}
 use Rattle.fo_files_along.proofs.Ways.{steps_long}
 use Rattle.fo_files_own.specs.declared.at.OwnAt.{OwnAt}
-use Rattle.fo_files_own.specs.Own.{IsOwnAt, MayOwn, block_of}
-use Rattle.fo_files_take.specs.Take.{IsApartFrom, LeavesFrom, TakesFrom, own_of}
-use Rattle.fo_files_take.proofs.Taking.{own_may, own_place}
+use Rattle.fo_files_own.specs.Own.{IsApartFrom, IsOwnAt, MayOwn, block_of, own_of}
+use Rattle.fo_files_take.specs.Take.{LeavesFrom, TakesFrom}
+use Rattle.fo_files_take.proofs.Taking.{own_may}
 use Rattle.fo_files_take.proofs.remove.take_along.Goals as goal
 use Rattle.fo_dirties.proofs.Adding.{dirties_none, dirties_fewer, dirties_adds, cons_counted, none_counted}
 use Rattle.fo_dirties.proofs.Putting.{dirties_looks}
-use Rattle.fo_files_take.proofs.Counting.{own_in}
+use Rattle.fo_files_own.proofs.Standing.{own_in, own_stands}
 
 pub own_along-requires-clause-way : goal.own_along-requires-clause-way
 own_along-requires-clause-way g c = (c.args.root, (c.args.trail.now, c.requires.found.way))
@@ -47,14 +47,14 @@ pub take_from-requires-clause-own : goal.take_from-requires-clause-own
 take_from-requires-clause-own g c =
     let s = g.B.Blocks.state c.own_along.new.on in
     subst (λ (x : OwnAt). IsOwnAt s x × IsApartFrom c.in-Ok.stand.dir x) (sym c.own_at-own.ensures)
-    (own_place s c.in-Ok.stand.dir c.in-Ok.stand.above c.leaf_above.result c.args.found.now.spare c.in-Ok.ensures.dir c.in-Ok.ensures.above)
+    (own_stands s c.in-Ok.stand.dir c.in-Ok.stand.above c.leaf_above.result c.args.found.now.spare c.in-Ok.ensures.dir c.in-Ok.ensures.above)
 
 pub take_from-requires-clause-changed : goal.take_from-requires-clause-changed
 take_from-requires-clause-changed g c =
     let w = c.in-Ok.ensures.owned in
     let o = w.1 c.args.root c.args.trail.now c.requires.found.way in
     subst (λ (x : OwnAt). MayOwn x c.args.found.now.own) (sym c.own_at-own.ensures)
-    (own_may c.in-Ok.stand.dir.at c.in-Ok.stand.above (length c.args.trail.now - 1) c.leaf_above.result c.args.found.now.spare _ c.args.found.now.own c.requires.found.holds (λ none. c.requires.found.of_root (one (length c.args.trail.now) c.requires.short.0 none)) o.1.above_is)
+    (own_may c.in-Ok.stand.dir c.in-Ok.stand.above (length c.args.trail.now - 1) c.leaf_above.result c.args.found.now.spare _ c.args.found.now.own c.requires.found.holds (λ none. c.requires.found.of_root (one (length c.args.trail.now) c.requires.short.0 none)) o.1.above_is)
   where
     one : (n : ℕ) → 0 < n → n - 1 ≡ 0 → n ≡ 1
     one n some none = omega (arith, some, none)
@@ -104,7 +104,7 @@ returns-in-Err-take_from-clause-left g c =
       way = c.args.found.now.way;
       owned = c.own_along.new.on;
       owns = record { dir = dir; file = c.in-Ok.stand.file; above = c.in-Ok.stand.above; along = o.1; last = f.last; last_is = f.last_is; leaf = c.leaf_above.result; spare = c.args.found.now.spare };
-      left = subst (λ n. LeavesFrom _ g.B.Blocks.state c.own_along.new.on c.take_from.new.on dir (own_of dir.at c.in-Ok.stand.above c.leaf_above.result c.args.found.now.spare) n) (ap (λ r. r.name) f.own_is)
+      left = subst (λ n. LeavesFrom _ g.B.Blocks.state c.own_along.new.on c.take_from.new.on dir (own_of dir c.in-Ok.stand.above c.leaf_above.result c.args.found.now.spare) n) (ap (λ r. r.name) f.own_is)
           (subst (λ (x : OwnAt). LeavesFrom _ g.B.Blocks.state c.own_along.new.on c.take_from.new.on dir x c.args.found.now.own.name) c.own_at-own.ensures c.in-Err-take_from.ensures.left);
     })
 

@@ -2,8 +2,8 @@ use Rattle.std.proofs.Common.{◌≡◌, ◌+◌, ◌*◌, ◌≤◌, ℕ, inl, 
 use Rattle.fo_image.specs.declared.types.Kind.TheVariants.{Data}
 use Rattle.fo_tree_read.specs.Tree.{kind_at}
 use Rattle.fo_files_own.proofs.of_files_ready.Steps.{failed_since}
-use Rattle.fo_files_own.proofs.Carry.{few_blocks, few_pins, few_removals, has_ready_on}
-use Rattle.fo_files_take.proofs.Taking.{bytes_over, label_over, may_over, of_over, pin_over, root_of, took, took_own}
+use Rattle.fo_files_own.proofs.Carry.{block_on, few_blocks, few_pins, few_removals, has_ready_on, of_root}
+use Rattle.fo_files_take.proofs.Taking.{bytes_over, label_over, may_over, pin_over, took, took_own}
 use Rattle.fo_files_take.proofs.take.take_from.Goals as goal
 use Rattle.fo_dirties.proofs.Adding.{first_of, next_of, cons_of, none_of, adds_more, adds_given, adds_wider, adds_joins, adds_first, adds_then}
 use Rattle.fo_dirties.proofs.Putting.{dirties_calm}
@@ -61,10 +61,9 @@ returns-clause-takes g c =
     let kind : (m.label t.3).kind ≡ Data 0 = q.owned.own.leaf_kind ∙ ap (λ b. kind_at b 0) q.dir_is in
     let tag : (m.label t.3).tag ≡ 33 + 2 * c.args.dir.number = q.owned.own.tagged ∙ q.tag_is in
     let same = bytes_over s m n u c.args.dir c.args.own c.in-Ok.ready t.3 all t.5 t.6.rests t.6.stays is c.requires.own.1 r.1 r.0 kind tag in
-    let may = may_over s m n u c.args.dir c.args.own c.in-Ok.ready t.3 all t.5 t.6.rests t.6.stays is c.requires.own.1 r.1 r.0 kind tag in
     let label = label_over s m n u c.args.dir c.args.own c.in-Ok.ready t.3 all t.5 t.6.rests t.6.stays is c.requires.own.1 r.1 r.0 kind tag in
     let pin = pin_over s m n u c.args.dir c.args.own c.in-Ok.ready t.3 all t.5 t.6.rests t.6.stays is c.requires.own.1 r.1 r.0 kind tag in
-    let of = of_over s u c.args.own c.in-Ok.ready all label (λ h. pin) may.whole r.1 in
+    let of = block_on s u c.args.own c.in-Ok.ready all label (λ h. pin) same r.1 in
     record {
       made = c.in-Ok.ready;
       ready = c.ready_own.new.on;
@@ -78,7 +77,7 @@ returns-clause-takes g c =
       readied = q;
       alters = t.5;
       takes = t.6;
-      own_is = c.put_own.ensures.own c.args.own c.args.changed.now of (has_ready_on s u c.args.own c.args.changed.now c.in-Ok.ready (root_of s c.args.own c.in-Ok.ready r.1) same r.2);
+      own_is = c.put_own.ensures.own c.args.own c.args.changed.now of (has_ready_on s u c.args.own c.args.changed.now c.in-Ok.ready (of_root s c.args.own c.in-Ok.ready r.1) same r.2);
       calm = c.put_own.ensures.calm;
     }
 
