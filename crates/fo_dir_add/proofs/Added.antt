@@ -11,9 +11,10 @@ use Rattle.fo_dir_put.specs.of_good.Trees.{IsFirst, IsSecond}
 use Rattle.fo_image.specs.declared.types.Entry.{Entry}
 use Rattle.fo_dir_put.specs.Names.{ListsIn, AddsOne, MayStand, Clash}
 use Rattle.fo_dir_put.specs.Differ.{Distinct, AreDistinct, MayName}
+use Rattle.fo_dir_put.specs.Once.{StandOnce, IsLone, MayComeOnce}
 use Rattle.fo_dir_put.specs.Paired.{StoodAs, AddsPaired}
 use Rattle.fo_dir_put.proofs.Named.{distinct_more}
-use Rattle.fo_dir_add.specs.Adds.{IsAlone, AddsAlone, IsFullFor, IsNumbered}
+use Rattle.fo_dir_add.specs.Adds.{IsAlone, AddsAlone, AddsOnce, IsFullFor, IsNumbered}
 
 one_is : (x r : Record) → Contains (r ∷ []) x → x ≡ r
 one_is x r h = sym (subst (λ k. slice_index_or (r ∷ []) k x ≡ x) (zero_is h.1) h.2)
@@ -53,6 +54,17 @@ may_name leaves leaf rs r old new images was now alone distinct = record {
         (λ q has clash. alone.here q (subst (λ xs. Contains xs q) (sym (leaf_is_read rs old was)) has) clash));
   };
   beside = λ b in_b ne. may_stand b rs r old new images was now (alone.others b in_b ne);
+}
+
+pub may_come : (leaf : ℕ) (rs : List Record) (r : Record) (old new : List ℕ) (images : Image → Type 0) → SpellsLeaf rs old → SpellsLeaf (rs ++ r ∷ []) new → AddsOnce r leaf old images → StandOnce images → MayComeOnce leaf new old images
+may_come leaf rs r old new images was now adds once = record {
+  distinct = λ image p is found here of.
+      let d = (once.within p old of (record { image = image; is = is; block = leaf; found = found; same = here })).are in
+      record { are = subst Distinct (sym (leaf_is_read (rs ++ r ∷ []) new now)) (distinct_more rs r (subst Distinct (leaf_is_read rs old was) d) (λ q has clash. adds.here q (subst (λ xs. Contains xs q) (sym (leaf_is_read rs old was)) has) clash)) };
+  beside = λ image p x is found here of has. ⊎_elim
+      (λ there. inl (record { before = x; is_one = there; name = refl; number = refl; slot = refl }))
+      (λ e. inr (subst (λ (y : Record). IsLone images p y) (sym e) (adds.lone image p is found of)))
+      (was_or_new rs r old new was now x has);
 }
 
 pub adds_paired : (n p e entries m : ℕ) (first second : Entry) (rs : List Record) (r : Record) (old new : List ℕ) → SpellsLeaf rs old → SpellsLeaf (rs ++ r ∷ []) new → p < 102 → r.slot ≡ 102 * m + p → (n ≡ m → e ≡ entries) → IsFirst (Head first) r → IsSecond (Head second) r → AddsPaired n p e entries first second new old

@@ -9,7 +9,10 @@ use Rattle.fo_crash.specs.declared.slot.Slot.TheVariants.{Entry as Head}
 use Rattle.fo_meta.specs.Leaf.{SpellsLeaf, records_bytes}
 use Rattle.fo_dir_put.specs.of_good.Reading.{leaf_records}
 use Rattle.fo_crash.specs.Images.{Image}
+use Rattle.fo_crash.specs.Spots.{Spot, FoundAt}
+use Rattle.fo_dir_put.specs.of_shown.Shown.{active, IsOfRecords}
 use Rattle.fo_dir_put.specs.Names.{Clash}
+use Rattle.fo_dir_put.specs.Once.{IsLone}
 
 -- The record with this pair and generation.
 pub record IsNumbered (old : Record) (slot generation : ℕ) (new : Record) : Type 0 where
@@ -42,3 +45,9 @@ pub record IsAlone (r : Record) (other : ℕ) (images : Image → Type 0) : Type
 pub record AddsAlone (r : Record) (leaf : ℕ) (leaves : List ℕ) (old : List ℕ) (images : Image → Type 0) : Type 0 where
   pub here : (q : Record) → Contains (leaf_records old) q → Clash q r → ⊥
   pub others : (b : ℕ) → Contains leaves b → b ≢ leaf → IsAlone r b images
+
+-- The record clashes with none that stood in its leaf, nor, at each spot where an image shows the leaf, with any that some image shows of
+-- another leaf.
+pub record AddsOnce (r : Record) (leaf : ℕ) (old : List ℕ) (images : Image → Type 0) : Type 0 where
+  pub here : (q : Record) → Contains (leaf_records old) q → Clash q r → ⊥
+  pub lone : (image : Image) (p : Spot) → images image → FoundAt active image leaf p → IsOfRecords p → IsLone images p r

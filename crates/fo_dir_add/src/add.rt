@@ -6,12 +6,13 @@ ghost use Rattle.fo_meta.specs.Leaf.{IsLeaf};
 ghost use Rattle.fo_dir_put.specs.Names.{AllFit, AllApart};
 ghost use Rattle.fo_dir_put.specs.of_good.Trees.{IsFirst, IsSecond};
 ghost use Rattle.fo_dir_put.specs.Differ.{AllDiffer};
+ghost use Rattle.fo_dir_put.specs.Once.{StandOnce};
 ghost use Rattle.fo_dir_put.specs.Paired.{AllPaired};
 ghost use Rattle.fo_dir_put.specs.Puts.{IsOwnedEntries, IsOwnedRecords, IsInPlace, IsUnused, IsNewEntry, StaysCalm};
 ghost use Rattle.fo_dir_put.specs.There.{IsThere};
 ghost use Rattle.fo_crash.specs.Images.{Reaches, to_block};
 ghost use Rattle.fo_ports.specs.State.{AddsNoWait, IsDoomed};
-ghost use Rattle.fo_dir_add.specs.Adds.{HasAdded, IsFullFor, IsAlone, AddsAlone};
+ghost use Rattle.fo_dir_add.specs.Adds.{HasAdded, IsFullFor, IsAlone, AddsAlone, AddsOnce};
 ghost use Rattle.fo_ports.specs.Sources.{DirtiesIn};
 
 use fo_dir_put::add_name;
@@ -47,6 +48,7 @@ pub fn add_record<B: Blocks>(
     ensures fit { (n : ℕ) → named.now.slot ≡ 102 * n + p → named.now.generation ≡ first.generation → AllFit n leaf entries (B.state on.old).may_leave → AllFit n leaf entries (B.state on.new).may_leave }
     ensures apart { (b : ℕ) → b ≢ leaf → IsAlone named.now b (B.state on.old).may_leave → AllApart leaf b (B.state on.old).may_leave → AllApart leaf b (B.state on.new).may_leave }
     ensures named { (leaves : List ℕ) → AddsAlone named.now leaf leaves (((B.state on.old).now leaf).bytes) (B.state on.old).may_leave → AllDiffer leaves (B.state on.old).may_leave → AllDiffer leaves (B.state on.new).may_leave }
+    ensures once { AddsOnce named.now leaf (((B.state on.old).now leaf).bytes) (B.state on.old).may_leave → StandOnce (B.state on.old).may_leave → StandOnce (B.state on.new).may_leave }
     ensures paired { (n a e m : ℕ) → named.now.slot ≡ 102 * m + p → (n ≡ m → e ≡ entries) → IsFirst (Head first) named.now → IsSecond (Head second) named.now → AllPaired n a e (B.state on.old) → AllPaired n a e (B.state on.new) }
     ensures there { result ≡ true → (B.state on.old).tells → (b : ℕ) → (B.state on.old).sealed b → (IsDoomed (B.state on.old) b → ⊥) → Reaches (B.state on.old).now (to_block 1) b → IsThere (B.state on.new) b }
     ensures bytes { result ≡ true → (b : ℕ) → b ≢ leaf → ((B.state on.new).now b).bytes ≡ ((B.state on.old).now b).bytes }

@@ -10,9 +10,10 @@ ghost use Rattle.fo_dir_put.specs.of_world.Step.{is_dir_mode};
 ghost use Rattle.fo_dir_put.specs.of_good.Trees.{IsFirst, IsSecond};
 ghost use Rattle.fo_dir_put.specs.Names.{AllApart};
 ghost use Rattle.fo_dir_put.specs.Differ.{AllDiffer};
+ghost use Rattle.fo_dir_put.specs.Once.{StandOnce};
 ghost use Rattle.fo_dir_put.specs.Paired.{AllPaired, HasBoth};
 ghost use Rattle.fo_dir_put.specs.Puts.{IsOwnedEntries, IsOwnedRecords, IsInPlace, IsNewEntry, IsTakenEntry, StaysCalm};
-ghost use Rattle.fo_dir_add.specs.Adds.{HasAdded, IsFullFor, IsAlone, AddsAlone, IsNumbered, IsRaised};
+ghost use Rattle.fo_dir_add.specs.Adds.{HasAdded, IsFullFor, IsAlone, AddsAlone, AddsOnce, IsNumbered, IsRaised};
 ghost use Rattle.fo_ports.specs.Sources.{DirtiesIn};
 
 use crate::add::add_record;
@@ -102,6 +103,7 @@ pub fn add_new<B: Blocks>(
     ensures hand { IsLeaf bytes.new × (bytes.new ≡ ((B.state on.new).now leaf).bytes) }
     ensures apart { (b : ℕ) → b ≢ leaf → IsAlone named.new b (B.state on.old).may_leave → AllApart leaf b (B.state on.old).may_leave → AllApart leaf b (B.state on.new).may_leave }
     ensures named { (leaves : List ℕ) → AddsAlone named.new leaf leaves (((B.state on.old).now leaf).bytes) (B.state on.old).may_leave → AllDiffer leaves (B.state on.old).may_leave → AllDiffer leaves (B.state on.new).may_leave }
+    ensures once { AddsOnce named.new leaf (((B.state on.old).now leaf).bytes) (B.state on.old).may_leave → StandOnce (B.state on.old).may_leave → StandOnce (B.state on.new).may_leave }
     ensures paired { (m a e : ℕ) → (m ≡ n → e ≡ entries) → AllPaired m a e (B.state on.old) → AllPaired m a e (B.state on.new) }
     ensures bytes { result ≡ Outcome.Added → (b : ℕ) → b ≢ leaf → ((B.state on.new).now b).bytes ≡ ((B.state on.old).now b).bytes }
     ensures slots { result ≡ Outcome.Added → (b j : ℕ) → (b ≢ entries) ⊎ ((j ≢ 2 * p) × (j ≢ 2 * p + 1)) → ((B.state on.new).now b).slot j ≡ ((B.state on.old).now b).slot j }

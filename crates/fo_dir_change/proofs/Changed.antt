@@ -48,13 +48,13 @@ module _ {name : List ℕ} {rs : List Record} {old : List ℕ} (s : Split name r
     first_is : s.named ≡ f.before
     first_is = named_is s (f.first.each rs was)
 
-    before_there : Contains (leaf_records old) f.before
+    pub before_there : Contains (leaf_records old) f.before
     before_there = subst (λ y. Contains (leaf_records old) y) first_is (there s.named (first_there s))
 
-    before_name : f.before.name ≡ name
+    pub before_name : f.before.name ≡ name
     before_name = ap (λ (y : Record). y.name) (sym first_is) ∙ (bytes_eq-Decides s.named.name name).0 s.is
 
-    was_or_new : (x : Record) → Contains (leaf_records new) x → Contains (leaf_records old) x ⊎ (x ≡ r)
+    pub was_or_new : (x : Record) → Contains (leaf_records new) x → Contains (leaf_records old) x ⊎ (x ≡ r)
     was_or_new x has = ⊎_elim
         (λ h. inl (there x (was_there s x h)))
         (λ h. inr (one_is x r h))
@@ -105,7 +105,7 @@ module _ {name : List ℕ} {rs : List Record} {old : List ℕ} (s : Split name r
             clash)
 
     -- the new one clashes with none that is left
-    alone : Distinct rs → (r.name ≡ name) ⊎ ((q : Record) → Contains (leaf_records old) q → r.name ≡ q.name → ⊥) → (q : Record) → Contains (without name rs) q → Clash q r → ⊥
+    pub alone : Distinct rs → (r.name ≡ name) ⊎ ((q : Record) → Contains (leaf_records old) q → r.name ≡ q.name → ⊥) → (q : Record) → Contains (without name rs) q → Clash q r → ⊥
     alone d bears q has (inr (inl e)) = left_apart s d q has (inr (inl (e ∙ f.number ∙ ap (λ (y : Record). y.number) (sym first_is))))
     alone d bears q has (inr (inr e)) = left_apart s d q has (inr (inr (e ∙ f.slot ∙ ap (λ (y : Record). y.slot) (sym first_is))))
     alone d (inl keeps) q has (inl e) = left_apart s d q has (inl (e ∙ keeps ∙ sym ((bytes_eq-Decides s.named.name name).0 s.is)))

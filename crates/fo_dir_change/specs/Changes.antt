@@ -7,6 +7,9 @@ use Rattle.fo_meta.specs.Leaf.{SpellsLeaf, is_named, records_bytes, without}
 use Rattle.fo_dir_put.specs.of_good.Reading.{leaf_records}
 use Rattle.fo_dir_put.specs.of_world.Step.{is_dir_mode}
 use Rattle.fo_dir_put.specs.of_crash.Images.{Image}
+use Rattle.fo_dir_put.specs.of_crash.Spots.{Spot, FoundAt}
+use Rattle.fo_dir_put.specs.of_shown.Shown.{active, IsOfRecords, IsShownAt}
+use Rattle.fo_dir_put.specs.Once.{IsSameDir}
 
 -- A record of the leaf has this name.
 pub record Bears (name leaf : List ℕ) : Type 0 where
@@ -49,3 +52,12 @@ MayBear name r other images = (r.name ≡ name) ⊎ ((image : Image) → images 
 -- No other record of the leaf has the record's name, nor one of the other leaves in any image; or it keeps the name that it had.
 abbrev pub BearsAlone : (name : List ℕ) → Record → (leaf : ℕ) → (leaves : List ℕ) → (old : List ℕ) → (Image → Type 0) → Type 0
 BearsAlone name r leaf leaves old images = ((r.name ≡ name) ⊎ ((q : Record) → Contains (leaf_records old) q → r.name ≡ q.name → ⊥)) × ((b : ℕ) → Contains leaves b → b ≢ leaf → MayBear name r b images)
+
+-- No record that some image shows of another leaf of this spot's directory has this name.
+pub record NamesNone (name : List ℕ) (images : Image → Type 0) (p : Spot) : Type 0 where
+  pub each : (q : Spot) (ys : List ℕ) (t : Record) → IsOfRecords q → (p ≡ q → ⊥) → IsSameDir p q → IsShownAt images q ys → Contains (leaf_records ys) t → name ≡ t.name → ⊥
+
+-- The record keeps the name that it had; or no other record of the leaf has its name, nor one that some image shows of another leaf of the
+-- directory, wherever images show the leaf.
+abbrev pub BearsOnce : (name : List ℕ) → Record → (leaf : ℕ) → (old : List ℕ) → (Image → Type 0) → Type 0
+BearsOnce name r leaf old images = (r.name ≡ name) ⊎ (((q : Record) → Contains (leaf_records old) q → r.name ≡ q.name → ⊥) × ((image : Image) (p : Spot) → images image → FoundAt active image leaf p → IsOfRecords p → NamesNone r.name images p))

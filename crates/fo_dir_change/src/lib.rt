@@ -4,7 +4,7 @@
 //!
 //! Proved, over any blocks: nothing else is refused. Memory has the records of the leaf without the first of the name, and then the new
 //! one; all else stays. In every image each record of the directory has both entries of its pair, and no name, number or pair stands
-//! at two places, if it was so before, where a new name stands nowhere else.
+//! at two places, if it was so before, where a new name stands nowhere else: of a list of leaves, and of all that images show of records.
 #![tactic(auto)]
 
 mod change;

@@ -3,6 +3,7 @@ ghost use Rattle.std.specs.Prelude.{◌≡◌, ◌≢◌, ℕ, List, true, false
 ghost use Rattle.fo_meta.specs.Leaf.{IsLeaf};
 ghost use Rattle.fo_dir_put.specs.Names.{AllFit, AllApart, LeavesRest};
 ghost use Rattle.fo_dir_put.specs.Differ.{AllDiffer};
+ghost use Rattle.fo_dir_put.specs.Once.{StandOnce};
 ghost use Rattle.fo_dir_put.specs.Paired.{AllPaired};
 ghost use Rattle.fo_dir_put.specs.Puts.{IsOwnedRecords, QueuesNone, StaysCalm};
 ghost use Rattle.fo_dir_change.specs.Changes.{Bears, BearsNot, HasTaken};
@@ -21,6 +22,7 @@ pub fn take_record<B: Blocks>(on: &mut B, leaf: u32, name: &[u8], bytes: &mut [u
     ensures fit { (n entries : ℕ) → AllFit n leaf entries (B.state on.old).may_leave → AllFit n leaf entries (B.state on.new).may_leave }
     ensures apart { (b : ℕ) → b ≢ leaf → AllApart leaf b (B.state on.old).may_leave → AllApart leaf b (B.state on.new).may_leave }
     ensures named { (leaves : List ℕ) → AllDiffer leaves (B.state on.old).may_leave → AllDiffer leaves (B.state on.new).may_leave }
+    ensures once { StandOnce (B.state on.old).may_leave → StandOnce (B.state on.new).may_leave }
     ensures paired { (n a e : ℕ) → AllPaired n a e (B.state on.old) → AllPaired n a e (B.state on.new) }
     ensures bytes { (b : ℕ) → b ≢ leaf → ((B.state on.new).now b).bytes ≡ ((B.state on.old).now b).bytes }
     ensures slots { (b j : ℕ) → ((B.state on.new).now b).slot j ≡ ((B.state on.old).now b).slot j }

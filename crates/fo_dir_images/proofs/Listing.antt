@@ -36,7 +36,7 @@ contains_mid : (before after : List Record) (r : Record) → Contains (before ++
 contains_mid before after r = Contains-append_right before (r ∷ after) r (0, omega arith, refl)
 
 -- records that clash, of distinct ones, stand at one place
-same_place : (before other : List Record) (r q : Record) (after rest : List Record) → before ++ r ∷ after ≡ other ++ q ∷ rest → Distinct (before ++ r ∷ after) → Clash r q → length before ≡ length other
+pub same_place : (before other : List Record) (r q : Record) (after rest : List Record) → before ++ r ∷ after ≡ other ++ q ∷ rest → Distinct (before ++ r ∷ after) → Clash r q → length before ≡ length other
 same_place [] [] r q after rest e d clash = refl
 same_place [] (x ∷ other) r q after rest e d clash = absurd (d.0 q (subst (λ xs. Contains xs q) (sym (rest_is e)) (contains_mid other rest q)) clash)
 same_place (x ∷ before) [] r q after rest e d clash = absurd (d.0 r (contains_mid before after r) (subst (λ y. Clash y r) (sym (head_is e)) (clash_back r q clash)))
@@ -45,20 +45,20 @@ same_place (x ∷ before) (y ∷ other) r q after rest e d clash = ap suc (same_
 -- ---- a leaf of a link
 
 -- leaf n of the source of a link is this block
-record IsAt (arena : Arena) (image : Image) (w : Link) (n b : ℕ) : Type 0 where
-  room : n < 409 ^ depth_of w.slot
-  leads : target ((goes arena image w (leaf_path w.slot n)).slot) ≡ Local b
+pub record IsAt (arena : Arena) (image : Image) (w : Link) (n b : ℕ) : Type 0 where
+  pub room : n < 409 ^ depth_of w.slot
+  pub leads : target ((goes arena image w (leaf_path w.slot n)).slot) ≡ Local b
 
 moved : {arena : Arena} {image : Image} {v w : Link} {n b : ℕ} → v ≡ w → IsAt arena image v n b → IsAt arena image w n b
 moved {arena} {image} {v} {w} {n} {b} e h = subst (λ x. IsAt arena image x n b) e h
 
 -- the records that are listed in a leaf are those of its block
-listed : {arena : Arena} {image : Image} {meta : Link} {k j b : ℕ} {r : Record} → IsAt arena image meta k b → (l : Lists arena image meta k j r) → leaf_records ((image b).bytes) ≡ l.before ++ r ∷ l.after
+pub listed : {arena : Arena} {image : Image} {meta : Link} {k j b : ℕ} {r : Record} → IsAt arena image meta k b → (l : Lists arena image meta k j r) → leaf_records ((image b).bytes) ≡ l.before ++ r ∷ l.after
 listed {arena} {image} {meta} {k} {j} {b} {r} at l =
     let bytes : bytes_at arena image meta (leaf_path meta.slot k) ≡ (image b).bytes = ap (λ p. (meant arena image (goes arena image meta (leaf_path meta.slot k)).kind p).bytes) at.leads in
     leaf_is_read (l.before ++ r ∷ l.after) ((image b).bytes) (subst (λ x. SpellsLeaf (l.before ++ r ∷ l.after) x) bytes l.spelled)
 
-contained : {arena : Arena} {image : Image} {meta : Link} {k j b : ℕ} {r : Record} → IsAt arena image meta k b → Lists arena image meta k j r → Contains (leaf_records ((image b).bytes)) r
+pub contained : {arena : Arena} {image : Image} {meta : Link} {k j b : ℕ} {r : Record} → IsAt arena image meta k b → Lists arena image meta k j r → Contains (leaf_records ((image b).bytes)) r
 contained {r = r} at l = subst (λ xs. Contains xs r) (sym (listed at l)) (contains_mid l.before l.after r)
 
 -- an entry stands in its leaf

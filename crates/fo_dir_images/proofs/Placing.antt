@@ -15,7 +15,7 @@ use Rattle.fo_dir_images.proofs.Trailing.{level_of, spot, level_top, local_is, l
 
 -- ---- only blocks of the device lead to blocks of the device
 
-from_local : (arena : Arena) (image : Image) → IsArena arena → (w : Link) (i b : ℕ) → target ((step arena image w i).slot) ≡ Local b → (a : ℕ) × (target w.slot ≡ Local a)
+pub from_local : (arena : Arena) (image : Image) → IsArena arena → (w : Link) (i b : ℕ) → target ((step arena image w i).slot) ≡ Local b → (a : ℕ) × (target w.slot ≡ Local a)
 from_local arena image is w i b e = by (target w.slot) e
   where
     by : (p : Pointer) → target ((meant arena image w.kind p).slot i) ≡ Local b → (a : ℕ) × (p ≡ Local a)
@@ -23,7 +23,7 @@ from_local arena image is w i b e = by (target w.slot) e
     by (Local a) x = (a, refl)
     by (Held score) x = absurd (is.apart w.kind score i b x)
 
-front_local : (arena : Arena) (image : Image) → IsArena arena → (path : List ℕ) (w : Link) (b : ℕ) → target ((goes arena image w path).slot) ≡ Local b → (a : ℕ) × (target w.slot ≡ Local a)
+pub front_local : (arena : Arena) (image : Image) → IsArena arena → (path : List ℕ) (w : Link) (b : ℕ) → target ((goes arena image w path).slot) ≡ Local b → (a : ℕ) × (target w.slot ≡ Local a)
 front_local arena image is [] w b e = (b, e)
 front_local arena image is (i ∷ path) w b e = let below = front_local arena image is path (step arena image w i) b e in from_local arena image is w i below.0 below.1
 
@@ -76,7 +76,7 @@ pub record FoundLeaf (stands : ℕ → Place → Type 0) (image : Image) (trail 
   pub level_is : level_of at.place.kind ≡ 0
 
 module _ {stands : ℕ → Place → Type 0} {image : Image} (placed : IsPlaced stands image) (few : FewSlots stands image) (super_at : stands 1 super_place) where
-  on_down : (a i c : ℕ) (p : Spot) → On stands image a p → target ((image a).slot i) ≡ Local c → On stands image c (spot_below p i ((image a).slot i))
+  pub on_down : (a i c : ℕ) (p : Spot) → On stands image a p → target ((image a).slot i) ≡ Local c → On stands image c (spot_below p i ((image a).slot i))
   on_down a i c p on e =
       let slot : (local image (target (walk image (to_block 1) on.path))).slot i ≡ (image a).slot i = ap (λ x. (local image x).slot i) on.leads in
       record {

@@ -11,7 +11,7 @@ abbrev along_entries : List ℕ → List ℕ → List ℕ
 along_entries way [] = way
 along_entries way (pair ∷ trail) = along_entries (2 * pair ∷ way) trail
 
-abbrev along_records : List ℕ → List ℕ → List ℕ → List ℕ
+abbrev pub along_records : List ℕ → List ℕ → List ℕ → List ℕ
 along_records way meta [] = meta
 along_records way meta (pair ∷ trail) = along_records (2 * pair ∷ way) ((2 * pair + 1) ∷ way) trail
 
@@ -129,10 +129,10 @@ module _ (arena : Arena) (image : Image) where
     root_link : link_of arena image (0 ∷ []) ≡ from_block root
     root_link = ap (λ (s : Slot). record { kind = kind_of_top s; slot = s }) named
 
-    entries_top : link_of arena image (0 ∷ 0 ∷ []) ≡ step arena image (from_block root) 0
+    pub entries_top : link_of arena image (0 ∷ 0 ∷ []) ≡ step arena image (from_block root) 0
     entries_top = ap (λ w. entry_of arena image w 0) root_link
 
-    records_top : link_of arena image (1 ∷ 0 ∷ []) ≡ step arena image (from_block root) 1
+    pub records_top : link_of arena image (1 ∷ 0 ∷ []) ≡ step arena image (from_block root) 1
     records_top = ap (λ w. entry_of arena image w 1) root_link
 
     root_room : 0 < 409 ^ depth_of (link_of arena image (0 ∷ [])).slot
@@ -141,20 +141,20 @@ module _ (arena : Arena) (image : Image) where
     super_room : 0 < 409 ^ depth_of (link_of arena image []).slot
     super_room = omega arith
 
-    entries_begin : Rooms arena image (0 ∷ 0 ∷ [])
+    pub entries_begin : Rooms arena image (0 ∷ 0 ∷ [])
     entries_begin = (root_room, (super_room, tt))
 
-    records_begin : Rooms arena image (1 ∷ 0 ∷ [])
+    pub records_begin : Rooms arena image (1 ∷ 0 ∷ [])
     records_begin = (root_room, (super_room, tt))
 
-    source_is : (side : Side) (trail : List ℕ) → source_link side arena image root trail ≡ link_of arena image (numbers side trail)
+    pub source_is : (side : Side) (trail : List ℕ) → source_link side arena image root trail ≡ link_of arena image (numbers side trail)
     source_is Entries trail = ap (λ w. file_link arena image w trail) (sym entries_top) ∙ entries_are trail (0 ∷ 0 ∷ [])
     source_is Records trail =
         ap (λ w. records_link arena image w (step arena image (from_block root) 1) trail) (sym entries_top)
         ∙ ap (λ w. records_link arena image (link_of arena image (0 ∷ 0 ∷ [])) w trail) (sym records_top)
         ∙ records_are trail (0 ∷ 0 ∷ []) (1 ∷ 0 ∷ [])
 
-    rooms_of : (side : Side) (trail : List ℕ) → HasWay arena image (step arena image (from_block root) 0) trail → Rooms arena image (numbers side trail)
+    pub rooms_of : (side : Side) (trail : List ℕ) → HasWay arena image (step arena image (from_block root) 0) trail → Rooms arena image (numbers side trail)
     rooms_of Entries trail h = entries_rooms trail (0 ∷ 0 ∷ []) entries_begin (subst (λ w. HasWay arena image w trail) (sym entries_top) h)
     rooms_of Records trail h = records_rooms trail (0 ∷ 0 ∷ []) (1 ∷ 0 ∷ []) entries_begin records_begin (subst (λ w. HasWay arena image w trail) (sym entries_top) h)
 

@@ -35,7 +35,7 @@ local_is e = cc
 
 -- ---- paths
 
-goes_joins : (arena : Arena) (image : Image) (w : Link) (path rest : List ℕ) → goes arena image w (path ++ rest) ≡ goes arena image (goes arena image w path) rest
+pub goes_joins : (arena : Arena) (image : Image) (w : Link) (path rest : List ℕ) → goes arena image w (path ++ rest) ≡ goes arena image (goes arena image w path) rest
 goes_joins arena image w [] rest = refl
 goes_joins arena image w (i ∷ path) rest = goes_joins arena image (step arena image w i) path rest
 

@@ -1,6 +1,7 @@
 pub mod Hanging
 pub mod Alone
 pub mod Aside
+pub mod Once
 pub mod Pairing
 pub mod Settled
 pub mod Whole

@@ -39,7 +39,7 @@ module _ {r : Record} {rs ts : List Record} {from_bytes to_bytes left with : Lis
   in_from : (x : Record) → Contains rs x → Contains (leaf_records from_bytes) x
   in_from x h = subst (λ xs. Contains xs x) (sym (leaf_is_read rs from_bytes was)) h
 
-  r_there : Contains (leaf_records from_bytes) r
+  pub r_there : Contains (leaf_records from_bytes) r
   r_there = subst (λ y. Contains (leaf_records from_bytes) y) is (in_from s.named (first_there s))
 
   left_was : (x : Record) → Contains (leaf_records left) x → Contains (leaf_records from_bytes) x

@@ -7,10 +7,13 @@ use Rattle.fo_dir_put.specs.of_good.Reading.{leaf_records}
 use Rattle.fo_crash.specs.declared.place.Place.{Place}
 use Rattle.fo_crash.specs.Images.{Image, Reaches, to_block}
 use Rattle.fo_crash.specs.Steps.{Through}
+use Rattle.fo_crash.specs.Spots.{Spot, FoundAt}
 use Rattle.fo_crash.specs.Names.{IsInUse}
 use Rattle.fo_ports.specs.State.{State, IsDoomed, IsRooted, IsPointers, KeepsSlot, WasCleared, KeepsNumbers}
 use Rattle.fo_dir_put.specs.Names.{ListsIn, AreKept, Clash}
 use Rattle.fo_dir_put.specs.Paired.{HasBoth, StoodAs, AllStood}
+use Rattle.fo_dir_put.specs.of_shown.Shown.{active, IsOfRecords}
+use Rattle.fo_dir_put.specs.Once.{IsSameDir}
 use Rattle.fo_dir_put.specs.Puts.{IsHeldEntries, IsOwnedRecords, IsInPlace}
 
 -- Nothing comes in the place of what a settling takes out, and it takes out none of these three blocks, which hang in memory.
@@ -55,6 +58,15 @@ pub record HasKeys (bytes : List ℕ) (r : Record) : Type 0 where
 pub record MovesKeys (from_bytes to_bytes without with : List ℕ) : Type 0 where
   pub kept : (r : Record) → Contains (leaf_records without) r → HasKeys from_bytes r
   pub moved : (r : Record) → Contains (leaf_records with) r → HasKeys to_bytes r ⊎ (HasKeys from_bytes r × ((q : Record) → Contains (leaf_records without) q → Clash r q → ⊥))
+
+-- Memory finds both leaves from block 1, at spots of records of one directory.
+pub record AreOfOneDir (from to : ℕ) (s : State) : Type 0 where
+  pub from_spot : Spot
+  pub to_spot : Spot
+  pub from_found : FoundAt active s.now from from_spot
+  pub to_found : FoundAt active s.now to to_spot
+  pub of_records : IsOfRecords from_spot × IsOfRecords to_spot
+  pub same : IsSameDir from_spot to_spot
 
 -- Memory keeps a block, but for the bytes of the two leaves; each slot stays, and waits on where it waited, or it waited and was cleared.
 pub record StaysBut (from to b : ℕ) (old new : State) : Type 0 where

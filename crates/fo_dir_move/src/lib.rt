@@ -6,8 +6,9 @@
 //!
 //! Proved, over any blocks: the call is refused by a fault alone. Where it is granted memory has the two leaves as they were given,
 //! where it is refused as they were. In every image each record of the directory has both entries of its pair, if it was so before; and
-//! no name, number or pair stands at two places, over all images. All else stays, but for what was to be closed or waited to be
-//! cleared; once the move is granted all is settled but the bytes of the second leaf.
+//! no name, number or pair stands at two places, over all images: of a list of leaves with both among them, and of all that images
+//! themselves read along their own paths (`StandOnce`), where memory has both as leaves of records of one directory. All else stays, but
+//! for what was to be closed or waited to be cleared; once the move is granted all is settled but the bytes of the second leaf.
 #![tactic(auto)]
 
 mod moves;

@@ -9,8 +9,9 @@ ghost use Rattle.fo_ports.specs.State.{Rests, StaysKnown};
 ghost use Rattle.std.specs.List.{Contains};
 ghost use Rattle.fo_dir_put.specs.Names.{AllFit, AllApart};
 ghost use Rattle.fo_dir_put.specs.Differ.{AreDistinct, AllDiffer};
+ghost use Rattle.fo_dir_put.specs.Once.{StandOnce};
 ghost use Rattle.fo_dir_put.specs.Paired.{AllPaired};
-ghost use Rattle.fo_dir_move.specs.Moves.{MaySettle, AreReady, KeepsEntries, HasLeaves, MayMove, MovesKeys, MovesAlone, MovesPaired, IsSettledBut};
+ghost use Rattle.fo_dir_move.specs.Moves.{MaySettle, AreReady, KeepsEntries, HasLeaves, MayMove, MovesKeys, AreOfOneDir, MovesAlone, MovesPaired, IsSettledBut};
 ghost use Rattle.fo_ports.specs.Sources.{DirtiesIn};
 
 use fo_dir_put::{change_leaf, put_record};
@@ -63,6 +64,7 @@ pub fn move_name<B: Blocks>(
     ensures apart { (b : ℕ) → b ≢ from → b ≢ to → MovesKeys (((B.state on.old).now from).bytes) (((B.state on.old).now to).bytes) without.now with.now → AllApart from b (B.state on.old).may_leave → AllApart to b (B.state on.old).may_leave → AllApart from b (B.state on.new).may_leave × AllApart to b (B.state on.new).may_leave }
     ensures between { MovesKeys (((B.state on.old).now from).bytes) (((B.state on.old).now to).bytes) without.now with.now → AllApart from to (B.state on.old).may_leave → AllApart from to (B.state on.new).may_leave }
     ensures named { (leaves : List ℕ) → Contains leaves from → Contains leaves to → MovesKeys (((B.state on.old).now from).bytes) (((B.state on.old).now to).bytes) without.now with.now → AreDistinct without.now → AreDistinct with.now → AllDiffer leaves (B.state on.old).may_leave → AllDiffer leaves (B.state on.new).may_leave }
+    ensures once { ((B.state on.old).tells → AreOfOneDir from to (B.state on.old)) → MovesKeys (((B.state on.old).now from).bytes) (((B.state on.old).now to).bytes) without.now with.now → AreDistinct without.now → AreDistinct with.now → StandOnce (B.state on.old).may_leave → StandOnce (B.state on.new).may_leave }
     ensures paired { (n a e : ℕ) → MovesPaired n a from to e entries without.now with.now (B.state on.old) → AllPaired n a e (B.state on.old) → AllPaired n a e (B.state on.new) }
     ensures alone { MovesAlone from to (B.state on.old) (B.state on.new) }
     ensures ready { AreReady (B.state on.new) from to entries }

@@ -7,10 +7,11 @@ ghost use Rattle.fo_meta.specs.Leaf.{IsLeaf};
 ghost use Rattle.fo_ports.specs.Causes.{Caused};
 ghost use Rattle.fo_ports.specs.State.{IsDoomed};
 ghost use Rattle.fo_dir_put.specs.Differ.{AllDiffer};
+ghost use Rattle.fo_dir_put.specs.Once.{StandOnce};
 ghost use Rattle.fo_dir_put.specs.Paired.{AllPaired};
 ghost use Rattle.fo_dir_add.specs.Adds.{HasAdded, IsFullFor};
 ghost use Rattle.fo_dir_change.specs.Changes.{HasTaken, IsFirstOf};
-ghost use Rattle.fo_dir_move.specs.Moves.{MaySettle, AreReady, HasLeaves, MovesAlone, IsSettledBut};
+ghost use Rattle.fo_dir_move.specs.Moves.{MaySettle, AreReady, HasLeaves, AreOfOneDir, MovesAlone, IsSettledBut};
 ghost use Rattle.fo_dir_move.specs.Record.{IsBacked};
 ghost use Rattle.fo_ports.specs.Sources.{DirtiesIn};
 
@@ -55,6 +56,7 @@ pub fn move_record<B: Blocks>(
     ensures full { IfOk result (λ fits. fits ≡ false → IsFullFor named.now (((B.state on.old).now to).bytes) × (on.new ≡ on.old)) }
     ensures stays { OnErr result (HasLeaves from to (((B.state on.old).now from).bytes) (((B.state on.old).now to).bytes) (B.state on.new)) }
     ensures named { (leaves : List ℕ) → Contains leaves from → Contains leaves to → AllDiffer leaves (B.state on.old).may_leave → AllDiffer leaves (B.state on.new).may_leave }
+    ensures once { ((B.state on.old).tells → AreOfOneDir from to (B.state on.old)) → StandOnce (B.state on.old).may_leave → StandOnce (B.state on.new).may_leave }
     ensures paired { (n a e : ℕ) → (named.now.slot / 102 ≡ n → (e ≡ entries) × IsBacked entries named.now (B.state on.old)) → (B.state on.old).pinned e ⊎ (IsDoomed (B.state on.old) e → ⊥) → AllPaired n a e (B.state on.old) → AllPaired n a e (B.state on.new) }
     ensures alone { IfOk result (λ fits. fits ≡ true → MovesAlone from to (B.state on.old) (B.state on.new)) × OnErr result (MovesAlone from to (B.state on.old) (B.state on.new)) }
     ensures ready { AreReady (B.state on.new) from to entries }

@@ -1,9 +1,11 @@
 pub mod Aparts
 pub mod Calms
 pub mod Clearing
+pub mod Finds
 pub mod Leaves
 pub mod Nothing
 pub mod Named
+pub mod Once
 pub mod Paired
 pub mod Spared
 pub mod of_dirties

@@ -1,9 +1,11 @@
 pub mod Differ
 pub mod Names
+pub mod Once
 pub mod Paired
 pub mod Puts
 pub mod There
 pub mod of_crash
 pub mod of_good
 pub mod of_ports
+pub mod of_shown
 pub mod of_world

@@ -1,1 +1,2 @@
 pub use Rattle.fo_crash.specs.Images
+pub use Rattle.fo_crash.specs.Spots

@@ -5,8 +5,10 @@ ghost use Rattle.fo_crash.specs.Images.{Reaches, target, to_block};
 ghost use Rattle.fo_crash.specs.Steps.{Covers, HasBytes, cleared};
 ghost use Rattle.fo_ports.specs.of_meta.Leaf.{IsLeaf};
 ghost use Rattle.fo_ports.specs.State.{AddsNoWait, IsDoomed, IsPointers, QueuesOne};
+ghost use Rattle.fo_shown.specs.Shown.{ShowsNoMore};
 ghost use Rattle.fo_dir_put.specs.Names.{ListsIn, AllFit, AddsOne, Lacks, AllApart, MayStand, ShowsBut, ShowsBytes};
 ghost use Rattle.fo_dir_put.specs.Differ.{AllDiffer, MayName};
+ghost use Rattle.fo_dir_put.specs.Once.{StandOnce, MayComeOnce};
 ghost use Rattle.fo_dir_put.specs.Paired.{AllPaired, AddsPaired, IsUnnamed};
 ghost use Rattle.fo_dir_put.specs.Puts.{IsOwnedEntries, IsOwnedRecords, IsInPlace, IsUnused, IsNewEntry, MayClear, StaysCalm, PutsName, ClearsAlone};
 ghost use Rattle.fo_dir_put.specs.There.{IsThere};
@@ -41,6 +43,7 @@ pub fn add_name<B: Blocks>(
     ensures fit { (n : ℕ) → AddsOne n p first.generation bytes.now (((B.state on.old).now leaf).bytes) → AllFit n leaf entries (B.state on.old).may_leave → AllFit n leaf entries (B.state on.new).may_leave }
     ensures apart { (b : ℕ) → b ≢ leaf → MayStand b bytes.now (((B.state on.old).now leaf).bytes) (B.state on.old).may_leave → AllApart leaf b (B.state on.old).may_leave → AllApart leaf b (B.state on.new).may_leave }
     ensures named { (leaves : List ℕ) → MayName leaves leaf bytes.now (((B.state on.old).now leaf).bytes) (B.state on.old).may_leave → AllDiffer leaves (B.state on.old).may_leave → AllDiffer leaves (B.state on.new).may_leave }
+    ensures once { MayComeOnce leaf bytes.now (((B.state on.old).now leaf).bytes) (B.state on.old).may_leave → StandOnce (B.state on.old).may_leave → StandOnce (B.state on.new).may_leave }
     ensures paired { (n a e : ℕ) → (a ≡ leaf → AddsPaired n p e entries first second bytes.now (((B.state on.old).now leaf).bytes)) → AllPaired n a e (B.state on.old) → AllPaired n a e (B.state on.new) }
     ensures others { ShowsBut leaf (B.state on.old).may_leave (B.state on.new).may_leave }
     ensures there { (B.state on.old).tells → (b : ℕ) → (B.state on.old).sealed b → (IsDoomed (B.state on.old) b → ⊥) → Reaches (B.state on.old).now (to_block 1) b → IsThere (B.state on.new) b }
@@ -67,6 +70,7 @@ pub fn clear_entry<B: Blocks>(on: &mut B, leaf: u32, entries: u32, j: u32)
     ensures fit { (n : ℕ) → Lacks n j (((B.state on.old).now leaf).bytes) → AllFit n leaf entries (B.state on.old).may_leave → AllFit n leaf entries (B.state on.new).may_leave }
     ensures paired { (n a e : ℕ) → (e ≡ entries → IsUnnamed n (j / 2) a leaf (B.state on.old)) → AllPaired n a e (B.state on.old) → AllPaired n a e (B.state on.new) }
     ensures shows { ShowsBytes (B.state on.old).may_leave (B.state on.new).may_leave }
+    ensures shown { ShowsNoMore (B.state on.old).may_leave (B.state on.new).may_leave }
     ensures alone { ClearsAlone entries j (B.state on.old) (B.state on.new) }
     ensures covers { (B.state on.old).tells → Covers (IsPointers (B.state on.old)) (((B.state on.old).now entries).slot j) (B.state on.old).now (B.state on.new).now (B.state on.old).covered (B.state on.new).covered }
     ensures order { (b i : ℕ) → ((B.state on.new).clearing b i → (B.state on.old).clearing b i ⊎ ((b ≡ entries) × (i ≡ j))) × ((B.state on.old).clearing b i → (B.state on.new).clearing b i) }

@@ -7,16 +7,19 @@
 //! as it was; the same slots wait to be cleared and the same blocks are to be closed, blocks keep labels and pins, and what hangs in
 //! memory keeps its place. An entry that is cleared, or waits for it, leaves all but what hung below it. In every image each record of
 //! the leaf has its pair, if it was so before: the first entry in use with its generation, the second exactly where it is a directory's.
-//! And no name, number or pair stands at two places of a directory, over all images, where no image has the new one's in another leaf.
+//! And no name, number or pair stands at two places of a directory, over all images, where no image has the new one's in another leaf:
+//! of a list of leaves, and of all that images themselves read along their own paths (`StandOnce`), whatever is in place.
 #![tactic(auto)]
 
 mod add;
 mod free;
+mod laws;
 mod pair;
 mod record;
 
 pub use add::{add_name, clear_entry};
 pub use free::{is_free, next_generation};
+pub use laws::stands_once;
 pub use pair::put_pair;
 pub use record::{change_leaf, put_record};
 

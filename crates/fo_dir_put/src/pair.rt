@@ -1,9 +1,11 @@
 //! The entries of a pair.
-ghost use Rattle.std.specs.Prelude.{◌≡◌, ◌+◌, ◌*◌, ◌<◌, ◌≤◌, ℕ, ◌∷◌, []};
+ghost use Rattle.std.specs.Prelude.{◌≡◌, ◌+◌, ◌*◌, ◌<◌, ◌≤◌, ℕ, List, ◌∷◌, []};
 ghost use Rattle.fo_crash.specs.declared.slot.Slot.TheVariants.{Entry as Head};
 ghost use Rattle.fo_crash.specs.Steps.{AddsSlot, PutsSlot};
 ghost use Rattle.fo_ports.specs.State.{AddsNoWait, none};
+ghost use Rattle.fo_shown.specs.Shown.{ShowsNoMore};
 ghost use Rattle.fo_dir_put.specs.Names.{AllFit, ShowsBytes};
+ghost use Rattle.fo_dir_put.specs.Once.{MayComeOnce};
 ghost use Rattle.fo_dir_put.specs.Paired.{AllPaired};
 ghost use Rattle.fo_dir_put.specs.Puts.{IsOwnedEntries, IsUnused, IsNewEntry, StaysCalm, PutsPair};
 ghost use Rattle.fo_ports.specs.Sources.{DirtiesIn};
@@ -41,6 +43,8 @@ pub fn put_pair<B: Blocks>(on: &mut B, entries: u32, p: u32, first: Entry, secon
     ensures paired { (n a e : ℕ) → AllPaired n a e (B.state on.old) → AllPaired n a e (B.state on.new) }
     ensures fit { (n leaf : ℕ) → AllFit n leaf entries (B.state on.old).may_leave → AllFit n leaf entries (B.state on.new).may_leave }
     ensures shows { ShowsBytes (B.state on.old).may_leave (B.state on.new).may_leave }
+    ensures shown { ShowsNoMore (B.state on.old).may_leave (B.state on.new).may_leave }
+    ensures comes { (leaf : ℕ) (bytes was : List ℕ) → MayComeOnce leaf bytes was (B.state on.old).may_leave → MayComeOnce leaf bytes was (B.state on.new).may_leave }
     ensures calm { StaysCalm (B.state on.old) (B.state on.new) }
     ensures no_wait { AddsNoWait none (B.state on.old) (B.state on.new) }
     ensures room { (B.state on.new).room ≡ (B.state on.old).room }

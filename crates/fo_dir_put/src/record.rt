@@ -8,6 +8,7 @@ ghost use Rattle.fo_ports.specs.State.{IsDoomed, AddsNoWait, WaitsForPairs};
 ghost use Rattle.fo_ports.specs.of_meta.Leaf.{IsLeaf};
 ghost use Rattle.fo_dir_put.specs.Names.{AllFit, AreBacked, AreKept, AllApart, MayStand, LeavesRest};
 ghost use Rattle.fo_dir_put.specs.Differ.{AllDiffer, MayName};
+ghost use Rattle.fo_dir_put.specs.Once.{StandOnce, MayComeOnce};
 ghost use Rattle.fo_dir_put.specs.Paired.{AllPaired, AllStood, ArePaired};
 ghost use Rattle.fo_dir_put.specs.Puts.{IsHeldEntries, IsOwnedRecords, IsInPlace, StaysCalm, QueuesNone};
 ghost use Rattle.fo_dir_put.specs.There.{IsThere};
@@ -26,6 +27,7 @@ pub fn put_record<B: Blocks>(on: &mut B, leaf: u32, entries: u32, bytes: &[u8])
     ensures fit { (n : ℕ) → AreBacked n leaf entries bytes.now (B.state on.old) → AllFit n leaf entries (B.state on.old).may_leave → AllFit n leaf entries (B.state on.new).may_leave }
     ensures apart { (b : ℕ) → b ≢ leaf → MayStand b bytes.now (((B.state on.old).now leaf).bytes) (B.state on.old).may_leave → AllApart leaf b (B.state on.old).may_leave → AllApart leaf b (B.state on.new).may_leave }
     ensures named { (leaves : List ℕ) → MayName leaves leaf bytes.now (((B.state on.old).now leaf).bytes) (B.state on.old).may_leave → AllDiffer leaves (B.state on.old).may_leave → AllDiffer leaves (B.state on.new).may_leave }
+    ensures once { MayComeOnce leaf bytes.now (((B.state on.old).now leaf).bytes) (B.state on.old).may_leave → StandOnce (B.state on.old).may_leave → StandOnce (B.state on.new).may_leave }
     ensures paired { (n a e : ℕ) → (a ≡ leaf → ArePaired n leaf e entries bytes.now (B.state on.old)) → AllPaired n a e (B.state on.old) → AllPaired n a e (B.state on.new) }
     ensures others { LeavesRest leaf (B.state on.old).may_leave (B.state on.new).may_leave }
     ensures there { (B.state on.old).tells → (b : ℕ) → (B.state on.old).sealed b → (IsDoomed (B.state on.old) b → ⊥) → Reaches (B.state on.old).now (to_block 1) b → IsThere (B.state on.new) b }
@@ -47,6 +49,7 @@ pub fn change_leaf<B: Blocks>(on: &mut B, leaf: u32, bytes: &[u8])
     ensures fit { (n entries : ℕ) → AreKept n bytes.now (((B.state on.old).now leaf).bytes) → AllFit n leaf entries (B.state on.old).may_leave → AllFit n leaf entries (B.state on.new).may_leave }
     ensures apart { (b : ℕ) → b ≢ leaf → MayStand b bytes.now (((B.state on.old).now leaf).bytes) (B.state on.old).may_leave → AllApart leaf b (B.state on.old).may_leave → AllApart leaf b (B.state on.new).may_leave }
     ensures named { (leaves : List ℕ) → MayName leaves leaf bytes.now (((B.state on.old).now leaf).bytes) (B.state on.old).may_leave → AllDiffer leaves (B.state on.old).may_leave → AllDiffer leaves (B.state on.new).may_leave }
+    ensures once { MayComeOnce leaf bytes.now (((B.state on.old).now leaf).bytes) (B.state on.old).may_leave → StandOnce (B.state on.old).may_leave → StandOnce (B.state on.new).may_leave }
     ensures paired { (n a e : ℕ) → (a ≡ leaf → AllStood n bytes.now (((B.state on.old).now leaf).bytes)) → AllPaired n a e (B.state on.old) → AllPaired n a e (B.state on.new) }
     ensures others { LeavesRest leaf (B.state on.old).may_leave (B.state on.new).may_leave }
     ensures calm { StaysCalm (B.state on.old) (B.state on.new) }

@@ -4,6 +4,7 @@ ghost use Rattle.fo_image.specs.declared.types.Pointer.TheVariants.{Local};
 ghost use Rattle.fo_crash.specs.Images.{target};
 ghost use Rattle.fo_crash.specs.Steps.{Covers, cleared};
 ghost use Rattle.fo_ports.specs.State.{IsPointers, QueuesOne};
+ghost use Rattle.fo_dir_change.specs.of_shown.Shown.{ShowsNoMore};
 ghost use Rattle.fo_dir_change.specs.of_dir_put.Names.{ShowsBytes};
 ghost use Rattle.fo_dir_change.specs.of_dir_put.Paired.{AllPaired};
 ghost use Rattle.fo_dir_change.specs.of_dir_put.Puts.{IsOwnedEntries, IsOwnedRecords, ClearsAlone};
@@ -23,6 +24,7 @@ fn clear_unnamed<B: Blocks>(on: &mut B, entries: u32, j: u32)
     ensures entry { IsGoing (B.state on.old) (B.state on.new) entries j }
     ensures paired { (n a e : ℕ) → (e ≡ entries → NoneHas n (j / 2) a (B.state on.old).may_leave) → AllPaired n a e (B.state on.old) → AllPaired n a e (B.state on.new) }
     ensures shows { ShowsBytes (B.state on.old).may_leave (B.state on.new).may_leave }
+    ensures shown { ShowsNoMore (B.state on.old).may_leave (B.state on.new).may_leave }
     ensures alone { ClearsAlone entries j (B.state on.old) (B.state on.new) }
     ensures covers { (B.state on.old).tells → Covers (IsPointers (B.state on.old)) (((B.state on.old).now entries).slot j) (B.state on.old).now (B.state on.new).now (B.state on.old).covered (B.state on.new).covered }
     ensures order { (b i : ℕ) → ((B.state on.new).clearing b i → (B.state on.old).clearing b i ⊎ ((b ≡ entries) × (i ≡ j))) × ((B.state on.old).clearing b i → (B.state on.new).clearing b i) }
@@ -47,6 +49,7 @@ pub fn clear_second<B: Blocks>(on: &mut B, leaf: u32, entries: u32, p: u32)
     ensures entry { IsGoing (B.state on.old) (B.state on.new) entries (2 * p + 1) }
     ensures paired { (n a e : ℕ) → (e ≡ entries → IsGone n p a leaf entries (B.state on.old)) → AllPaired n a e (B.state on.old) → AllPaired n a e (B.state on.new) }
     ensures shows { ShowsBytes (B.state on.old).may_leave (B.state on.new).may_leave }
+    ensures shown { ShowsNoMore (B.state on.old).may_leave (B.state on.new).may_leave }
     ensures alone { ClearsAlone entries (2 * p + 1) (B.state on.old) (B.state on.new) }
     ensures covers { (B.state on.old).tells → Covers (IsPointers (B.state on.old)) (((B.state on.old).now entries).slot (2 * p + 1)) (B.state on.old).now (B.state on.new).now (B.state on.old).covered (B.state on.new).covered }
     ensures order { (b i : ℕ) → ((B.state on.new).clearing b i → (B.state on.old).clearing b i ⊎ ((b ≡ entries) × (i ≡ 2 * p + 1))) × ((B.state on.old).clearing b i → (B.state on.new).clearing b i) }

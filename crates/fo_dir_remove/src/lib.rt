@@ -5,7 +5,8 @@
 //!
 //! Proved, over any blocks: nothing is refused. Memory has the records of the leaf without the first of the name; each entry is cleared, or
 //! waits for it; all else stays. In every image each record has both entries of its pair, and no name, number or pair stands at two places,
-//! if it was so before. It is said what is to be closed, and that the leaves may be changed further.
+//! if it was so before: of a list of leaves, and of all that images show of records. It is said what is to be closed, and that the leaves
+//! may be changed further.
 #![tactic(auto)]
 
 mod entry;

@@ -8,6 +8,7 @@ ghost use Rattle.fo_crash.specs.Steps.{Covers, PutsBytes};
 ghost use Rattle.fo_ports.specs.State.{IsPointers, QueuesOne};
 ghost use Rattle.fo_dir_change.specs.of_dir_put.Names.{ShowsBut};
 ghost use Rattle.fo_dir_change.specs.of_dir_put.Differ.{AllDiffer};
+ghost use Rattle.fo_dir_change.specs.of_dir_put.Once.{StandOnce};
 ghost use Rattle.fo_dir_change.specs.of_dir_put.Paired.{AllPaired};
 ghost use Rattle.fo_dir_change.specs.of_dir_put.Puts.{IsOwnedEntries, IsOwnedRecords, MayClear, StaysCalm, ClearsAlone};
 ghost use Rattle.fo_dir_change.specs.Changes.{Bears, BearsNot, HasTaken};
@@ -39,6 +40,7 @@ pub fn remove_record<B: Blocks>(
     ensures hand { IsLeaf bytes.new × (bytes.new ≡ ((B.state on.new).now leaf).bytes) }
     ensures entry { result ≡ true → IsGoing (B.state on.old) (B.state on.new) entries (2 * p) }
     ensures named { (leaves : List ℕ) → AllDiffer leaves (B.state on.old).may_leave → AllDiffer leaves (B.state on.new).may_leave }
+    ensures once { StandOnce (B.state on.old).may_leave → StandOnce (B.state on.new).may_leave }
     ensures paired { (leaves : List ℕ) (m : ℕ) → Contains leaves leaf → HasPairOf name.now (((B.state on.old).now leaf).bytes) m p → AllDiffer leaves (B.state on.old).may_leave → (n a e : ℕ) → Contains leaves a → (e ≡ entries → n ≡ m) → AllPaired n a e (B.state on.old) → AllPaired n a e (B.state on.new) }
     ensures gone { result ≡ true → (B.state on.old).tells → (leaves : List ℕ) (m : ℕ) → Contains leaves leaf → HasPairOf name.now (((B.state on.old).now leaf).bytes) m p → AllDiffer leaves (B.state on.old).may_leave → (a : ℕ) → Contains leaves a → IsGone m p a leaf entries (B.state on.new) }
     ensures others { result ≡ true → ShowsBut leaf (B.state on.old).may_leave (B.state on.new).may_leave }

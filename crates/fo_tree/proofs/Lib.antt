@@ -2,4 +2,5 @@ pub mod Looking
 pub mod Hanging
 pub mod Relinking
 pub mod Beside
+pub mod Alikes
 pub mod of_tree_leaf

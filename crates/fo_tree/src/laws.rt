@@ -7,7 +7,9 @@ ghost use Rattle.fo_crash.specs.Images.{Reaches};
 ghost use Rattle.fo_crash.specs.Steps.{Through};
 ghost use Rattle.fo_ports.specs.State.{IsPointers};
 ghost use Rattle.fo_ports.specs.Sources.{Changes, ComesFor, Grows, Made, MayZero, Owned};
+ghost use Rattle.fo_shown.specs.Alike.{LeadsAlike};
 ghost use Rattle.fo_tree_look.specs.Source.{Over, HasBlock, address_here, form_of, leaves_of};
+ghost use Rattle.fo_tree_link.specs.of_tree_down.Alike.{KeepsAlike};
 ghost use Rattle.fo_tree_link.specs.of_tree_down.Clear.{EndsClear};
 ghost use Rattle.fo_tree_link.specs.Link.{entry_of, CanLink};
 ghost use Rattle.fo_tree_link.specs.Change.{HangsInTree, KeepsOthers};
@@ -99,3 +101,20 @@ pub fn may_link_owned<B: Blocks>(
         i,
     );
 }
+
+/// Where a leaf was owned of a source that hung from its entry in slot `i` of block `at`, the entry as it is then leads from there to no
+/// more of leaves of records than memory's does, so that `link` shows no more of them: what is asked here are clauses of `own_leaf`.
+pub fn may_show_linked<B: Blocks>(
+    source: &Source,
+    new: &Source,
+    before: &B,
+    after: &B,
+    at: u32,
+    i: u32,
+)
+    requires keeps { B.keeps before.now after.now }
+    requires entry { ((B.state before.now).now at).slot i ≡ Head (entry_of source.now.ways.tree source.now.ways.generation) }
+    requires alike { KeepsAlike (B.state before.now) (B.state after.now) source.now.ways.tree new.now.ways.tree }
+    requires linked { (B.state before.now).tells → HangsInTree (B.state before.now) source.now.ways.tree at i }
+    ensures { LeadsAlike (B.state after.now).may_leave (B.state after.now).now at i (Head (entry_of new.now.ways.tree new.now.ways.generation)) }
+{}

@@ -7,7 +7,8 @@
 //! Proved: `Source` keeps every clause and every law of `Bytes`, over any blocks and any device. It is begun without bytes, opened from its
 //! entry, and linked. Where the device tells, its blocks are those to which its entry leads through blocks of pointers (`owned_blocks`), and
 //! one of data that was changed by calls of the trait may be linked (`may_link_changed`), and so may any of which a leaf was owned
-//! (`may_link_owned`).
+//! (`may_link_owned`). No image shows more in a leaf of records once a piece was put or a leaf was owned, nor once a source that hung from
+//! its entry is linked again with a leaf owned (`may_show_linked`).
 #![tactic(auto)]
 
 mod calls;
@@ -16,7 +17,7 @@ mod laws;
 mod put;
 mod source;
 
-pub use laws::{may_link_changed, may_link_owned, owned_blocks};
+pub use laws::{may_link_changed, may_link_owned, may_show_linked, owned_blocks};
 pub use source::Source;
 
 // Passed on, so that a crate above names this one alone.

@@ -4,6 +4,7 @@ ghost use Rattle.fo_ports.specs.State.{none};
 ghost use Rattle.fo_ports.specs.Sources.{Dirties, most_for};
 ghost use Rattle.fo_tree_look.specs.Source.{Over, IsPlainTree, Prepared};
 ghost use Rattle.fo_tree_link.specs.of_tree_down.Clear.{EndsClear};
+ghost use Rattle.fo_tree_trim.specs.of_tree_own.Shown.{ShowsNoMore};
 ghost use Rattle.fo_tree.specs.Writes.{Writes};
 
 use crate::source::{at_top, ended};
@@ -23,6 +24,7 @@ pub(crate) fn put<B: Blocks>(ways: &Ways, on: &mut B, offset: u64, piece: &[u8])
     requires clear { ways.now.tree.size < offset + length piece.now → EndsClear (B.state on.old) ways.now.tree ways.now.kept.items }
     ensures writes { Writes (B.state on.old) (B.state on.new) ways.now.tree result ways.now.kept.items ways.now.limit offset piece.now }
     ensures dirties { Dirties (2 * most_for (max ways.now.tree.size (offset + length piece.now)) (length piece.now)) none (B.state on.old) (B.state on.new) }
+    ensures shown { ShowsNoMore (B.state on.old).may_leave (B.state on.new).may_leave }
     ensures keeps { B.keeps on.old on.new }
 {
     let end = offset + piece.len() as u64;

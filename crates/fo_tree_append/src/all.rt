@@ -5,6 +5,7 @@ ghost use Rattle.fo_ports.specs.Sources.{Dirties};
 ghost use Rattle.fo_tree_read.specs.Reading.{passed};
 ghost use Rattle.fo_tree_look.specs.Source.{Over, HasBlock, IsPlainTree, Prepared};
 ghost use Rattle.fo_tree_clear.specs.of_tree_down.Way.{CurrentBut};
+ghost use Rattle.fo_tree_clear.specs.of_tree_own.Shown.{ShowsNoMore};
 ghost use Rattle.fo_tree_clear.specs.Steps.{Steps};
 ghost use Rattle.fo_tree_write.specs.Write.{at_top, Wrote};
 ghost use Rattle.fo_tree_append.specs.Append.{OnLeaves, SpendsBut};
@@ -36,6 +37,7 @@ pub(crate) fn put_all<B: Blocks>(
     ensures stays { (B.state on.old).tells → (b : ℕ) → HasBlock (B.state on.old) tree.now b → ((B.state on.old).label b).epoch ≡ (B.state on.old).high → HasBlock (B.state on.new) (at_top tree.now result) b }
     ensures spends { (c : ℕ) → CurrentBut (B.state on.old) tree.now c tree.now.depth (offset / 8192) → SpendsBut c (B.state on.new) (at_top tree.now result) (B.state on.old).spare offset (length piece.now) }
     ensures dirties { Dirties (2 * (tree.now.depth + 1 + (passed tree.now.depth ((offset + length piece.now - 1) / 8192) - passed tree.now.depth (offset / 8192)))) none (B.state on.old) (B.state on.new) }
+    ensures shown { ShowsNoMore (B.state on.old).may_leave (B.state on.new).may_leave }
     ensures keeps { B.keeps on.old on.new }
 {
     let mut top = tree.top;

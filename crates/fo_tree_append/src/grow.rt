@@ -5,6 +5,7 @@ ghost use Rattle.fo_ports.specs.Sources.{Dirties, depth_for};
 ghost use Rattle.fo_tree_look.specs.Source.{Over, HasBlock, IsPlainTree};
 ghost use Rattle.fo_tree_clear.specs.of_tree_down.Way.{with_top};
 ghost use Rattle.fo_tree_clear.specs.of_tree_down.Clear.{EndsClear};
+ghost use Rattle.fo_tree_clear.specs.of_tree_own.Shown.{ShowsNoMore};
 ghost use Rattle.fo_tree_append.specs.Append.{ended, OnEnd};
 ghost use Rattle.fo_tree_append.specs.Grown.{GrownTo};
 ghost use Rattle.fo_tree_append.specs.Rises.{Rises};
@@ -28,6 +29,7 @@ pub(crate) fn grow_to<B: Blocks>(tree: &Tree, kept: &[Kept], on: &mut B, size: u
     ensures grown { GrownTo (B.state on.old) (B.state on.new) tree.now result kept.now }
     ensures by_end { Rises tree.now.tag (HasBlock (B.state on.old) tree.now) (OnEnd (B.state on.old) tree.now) (B.state on.old) (B.state on.new) }
     ensures dirties { Dirties (2 * (depth_for size + 1)) none (B.state on.old) (B.state on.new) }
+    ensures shown { ShowsNoMore (B.state on.old).may_leave (B.state on.new).may_leave }
     ensures keeps { B.keeps on.old on.new }
 {
     let cleared = clear_tail(tree, kept, on);

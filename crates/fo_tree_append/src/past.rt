@@ -7,6 +7,7 @@ ghost use Rattle.fo_ports.specs.State.{none};
 ghost use Rattle.fo_ports.specs.Sources.{Changes, Dirties, Grows, ComesFor, most_for};
 ghost use Rattle.fo_tree_look.specs.Source.{Over, HasBlock, IsPlainTree, Prepared, leaves_of};
 ghost use Rattle.fo_tree_clear.specs.of_tree_down.Clear.{EndsClear};
+ghost use Rattle.fo_tree_clear.specs.of_tree_own.Shown.{ShowsNoMore};
 ghost use Rattle.fo_tree_append.specs.Append.{ended, OnPiece};
 
 use crate::all::put_all;
@@ -44,6 +45,7 @@ pub fn put_past<B: Blocks>(
     ensures spare { (B.state on.old).spare ≤ (B.state on.new).spare + most_for (offset + length piece.now) (length piece.now) }
     ensures dirties { Dirties (2 * most_for (offset + length piece.now) (length piece.now)) none (B.state on.old) (B.state on.new) }
     ensures room { (B.state on.new).room ≡ (B.state on.old).room }
+    ensures shown { ShowsNoMore (B.state on.old).may_leave (B.state on.new).may_leave }
     ensures keeps { B.keeps on.old on.new }
 {
     let end = offset + piece.len() as u64;

@@ -7,6 +7,7 @@ ghost use Rattle.fo_ports.specs.State.{none};
 ghost use Rattle.fo_ports.specs.Sources.{Changes, Dirties, Grows, ComesFor, most_for};
 ghost use Rattle.fo_tree_look.specs.Source.{Over, HasBlock, IsPlainTree, Prepared, leaves_of};
 ghost use Rattle.fo_tree_clear.specs.of_tree_down.Clear.{EndsClear};
+ghost use Rattle.fo_tree_clear.specs.of_tree_own.Shown.{ShowsNoMore};
 ghost use Rattle.fo_tree_append.specs.Append.{with_piece, OnPiece, PutsPiece};
 
 use crate::past::put_past;
@@ -42,6 +43,7 @@ pub fn put_piece<B: Blocks>(
     ensures spare { (B.state on.old).spare ≤ (B.state on.new).spare + most_for (max tree.now.size (offset + length piece.now)) (length piece.now) }
     ensures dirties { Dirties (2 * most_for (max tree.now.size (offset + length piece.now)) (length piece.now)) none (B.state on.old) (B.state on.new) }
     ensures room { (B.state on.new).room ≡ (B.state on.old).room }
+    ensures shown { ShowsNoMore (B.state on.old).may_leave (B.state on.new).may_leave }
     ensures keeps { B.keeps on.old on.new }
 {
     put_any(tree, kept, on, offset, piece)
@@ -55,6 +57,7 @@ fn put_any<B: Blocks>(tree: &Tree, kept: &[Kept], on: &mut B, offset: u64, piece
     requires spare { most_for (max tree.now.size (offset + length piece.now)) (length piece.now) ≤ (B.state on.old).spare }
     ensures puts { PutsPiece (B.state on.old) (B.state on.new) tree.now (with_piece tree.now offset (length piece.now) result) kept.now offset piece.now }
     ensures dirties { Dirties (2 * most_for (max tree.now.size (offset + length piece.now)) (length piece.now)) none (B.state on.old) (B.state on.new) }
+    ensures shown { ShowsNoMore (B.state on.old).may_leave (B.state on.new).may_leave }
     ensures keeps { B.keeps on.old on.new }
 {
     if piece.is_empty() {

@@ -5,6 +5,7 @@ ghost use Rattle.fo_ports.specs.State.{none};
 ghost use Rattle.fo_ports.specs.Sources.{Dirties, depth_for};
 ghost use Rattle.fo_tree_look.specs.Source.{Over, IsPlainTree, IsTopCurrent};
 ghost use Rattle.fo_tree_clear.specs.of_tree_down.Clear.{EndsClear};
+ghost use Rattle.fo_tree_clear.specs.of_tree_own.Shown.{ShowsNoMore};
 ghost use Rattle.fo_tree_append.specs.Append.{ended};
 ghost use Rattle.fo_tree_append.specs.Grown.{RaisedTo};
 
@@ -25,6 +26,7 @@ pub(crate) fn raise_to<B: Blocks>(tree: &Tree, kept: &[Kept], on: &mut B, size: 
     ensures raised { RaisedTo (B.state on.old) (B.state on.new) tree.now result kept.now }
     ensures dirties { Dirties (2 * (depth_for size - tree.now.depth + 1)) none (B.state on.old) (B.state on.new) }
     ensures levels { IsTopCurrent (B.state on.old) tree.now → Dirties (2 * (depth_for size - tree.now.depth)) none (B.state on.old) (B.state on.new) }
+    ensures shown { ShowsNoMore (B.state on.old).may_leave (B.state on.new).may_leave }
     ensures keeps { B.keeps on.old on.new }
 {
     let depth = least_depth(size);

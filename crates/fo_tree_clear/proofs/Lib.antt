@@ -1,9 +1,11 @@
 pub mod Same
 pub mod Putting
 pub mod Leaf
+pub mod Alikes
 pub mod Zeros
 pub mod Stepping
 pub mod Descending
 pub mod Counting
 pub mod of_tree_down
 pub mod of_tree_leaf
+pub mod of_tree_own

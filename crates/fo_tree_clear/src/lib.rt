@@ -4,7 +4,8 @@
 //! in a leaf of the current epoch; the last leaf of a source of data that holds no records has zeros behind the end of data, where there
 //! is one; what changes is what `Changes` says, what was prepared stays so, and the source stands over the blocks. Where the device
 //! tells, all other bytes and leaves are those that were there. What is clear behind the end stays so, where the device tells or the leaf
-//! is the last one. Not here: a piece over several leaves, a source that grows or is shortened.
+//! is the last one. No image shows more in a leaf of records; an entry that led to no more of these than memory's does so with the new top.
+//! Not here: a piece over several leaves, a source that grows or is shortened.
 #![tactic(auto)]
 
 mod here;

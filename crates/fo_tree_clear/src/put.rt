@@ -5,7 +5,9 @@ ghost use Rattle.fo_ports.specs.Sources.{Made, Changes, Dirties, Grows};
 ghost use Rattle.fo_tree_leaf.specs.of_tree_read.Tree.{above};
 ghost use Rattle.fo_tree_leaf.specs.of_tree_look.Source.{Over, HasBlock, IsPlainTree, WayReady, IsTopCurrent, form_of, leaves_of};
 ghost use Rattle.fo_tree_leaf.specs.of_tree_down.Way.{OnWay, HasWay, AddsWay, IsTopOf, WayCurrent, CurrentBut, with_top};
+ghost use Rattle.fo_tree_leaf.specs.of_tree_down.Alike.{KeepsAlike};
 ghost use Rattle.fo_tree_leaf.specs.of_tree_down.Clear.{EndsClear, last_leaf};
+ghost use Rattle.fo_tree_leaf.specs.of_tree_own.Shown.{ShowsNoMore};
 ghost use Rattle.fo_tree_clear.specs.Put.{byte_here, Puts, IsInnerOr, LeafPut};
 ghost use Rattle.fo_tree_clear.specs.Steps.{Steps};
 
@@ -48,6 +50,8 @@ pub fn put_leaf<B: Blocks>(
     ensures current { IsTopCurrent (B.state on.new) (with_top tree.now result.top) }
     ensures clear { (B.state on.old).tells ⊎ (i ≡ last_leaf tree.now.size) → EndsClear (B.state on.old) tree.now kept.now → EndsClear (B.state on.new) (with_top tree.now result.top) kept.now }
     ensures few { (c : ℕ) → CurrentBut (B.state on.old) tree.now c tree.now.depth i → (B.state on.old).spare ≤ (B.state on.new).spare + c }
+    ensures shown { ShowsNoMore (B.state on.old).may_leave (B.state on.new).may_leave }
+    ensures alike { KeepsAlike (B.state on.old) (B.state on.new) tree.now (with_top tree.now result.top) }
     ensures keeps { B.keeps on.old on.new }
 {
     let current = own_near(tree, kept, on, tree.depth, i);

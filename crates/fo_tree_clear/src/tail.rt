@@ -6,7 +6,9 @@ ghost use Rattle.fo_ports.specs.Sources.{Changes, Dirties, EndsWithin, Grows, Ow
 ghost use Rattle.fo_tree_leaf.specs.of_tree_read.Tree.{block_at};
 ghost use Rattle.fo_tree_leaf.specs.of_tree_look.Source.{Over, HasBlock, IsPlainTree, WayReady, IsTopCurrent, seen, form_of, leaves_of, address_here, held_here};
 ghost use Rattle.fo_tree_leaf.specs.of_tree_down.Way.{IsTopOf, with_top};
+ghost use Rattle.fo_tree_leaf.specs.of_tree_down.Alike.{KeepsAlike};
 ghost use Rattle.fo_tree_leaf.specs.of_tree_down.Clear.{EndsClear};
+ghost use Rattle.fo_tree_leaf.specs.of_tree_own.Shown.{ShowsNoMore};
 ghost use Rattle.fo_tree_clear.specs.Put.{byte_here, EndsHere, top_after, IsInnerOrEnd};
 ghost use Rattle.fo_tree_clear.specs.Steps.{IsStep};
 
@@ -39,6 +41,8 @@ pub fn clear_tail<B: Blocks>(tree: &Tree, kept: &[Kept], on: &mut B) -> Option<C
     ensures clear { EndsClear (B.state on.old) tree.now kept.now → EndsClear (B.state on.new) (top_after tree.now result) kept.now }
     ensures step { MatchOption result (Unit {0}) (λ c. EndsHere (B.state on.old) tree.now kept.now × IsStep (B.state on.old) (B.state on.new) tree.now kept.now (tree.now.size / 8192) c.top × (address_here (B.state on.old) tree.now (tree.now.size / 8192) ≡ Nothing → held_here (B.state on.old) tree.now kept.now (tree.now.size / 8192) ≡ Nothing → ⊥)) }
     ensures room { (B.state on.new).room ≡ (B.state on.old).room }
+    ensures shown { ShowsNoMore (B.state on.old).may_leave (B.state on.new).may_leave }
+    ensures alike { KeepsAlike (B.state on.old) (B.state on.new) tree.now (top_after tree.now result) }
     ensures keeps { B.keeps on.old on.new }
 {
     if ends_here(tree, kept, on) {
@@ -91,6 +95,8 @@ fn zero_tail<B: Blocks>(tree: &Tree, kept: &[Kept], on: &mut B) -> Current
     ensures step { IsStep (B.state on.old) (B.state on.new) tree.now kept.now (tree.now.size / 8192) result.top }
     ensures there { address_here (B.state on.old) tree.now (tree.now.size / 8192) ≡ Nothing → held_here (B.state on.old) tree.now kept.now (tree.now.size / 8192) ≡ Nothing → ⊥ }
     ensures room { (B.state on.new).room ≡ (B.state on.old).room }
+    ensures shown { ShowsNoMore (B.state on.old).may_leave (B.state on.new).may_leave }
+    ensures alike { KeepsAlike (B.state on.old) (B.state on.new) tree.now (with_top tree.now result.top) }
     ensures keeps { B.keeps on.old on.new }
 {
     let last = tree.size / LEAF;

@@ -8,4 +8,5 @@ pub mod Stilling
 pub mod Telling
 pub mod Ending
 pub mod Dirtying
+pub mod Alikes
 pub mod of_tree_own

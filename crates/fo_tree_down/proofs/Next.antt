@@ -58,7 +58,7 @@ ranked_as s t says hangs told n k b within e =
     let is = is_down s t says.placed hangs told n k b within e in
     record { down = n; within = omega arith; there = place (kind_down t n) t.tag is.index (t.rank + (t.depth - n)); stands = is.stands; rank = refl }
 
-on_way_ranked : (s : State) (t : Tree) → Says s → Hangs s t → s.tells → (n k b : ℕ) → n ≤ t.depth → OnWay s t n k b → RankedAs s t n b
+pub on_way_ranked : (s : State) (t : Tree) → Says s → Hangs s t → s.tells → (n k b : ℕ) → n ≤ t.depth → OnWay s t n k b → RankedAs s t n b
 on_way_ranked s t says hangs told zero k b within on = ranked_as s t says hangs told zero k b within on
 on_way_ranked s t says hangs told (suc n) k b within on = ⊎_elim
     (λ above. let is = on_way_ranked s t says hangs told n (k / 409) b (omega (arith, within)) above in let le = is.within in record { down = is.down; within = omega (arith, le); there = is.there; stands = is.stands; rank = is.rank })

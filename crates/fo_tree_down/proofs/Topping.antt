@@ -57,7 +57,7 @@ module _ {t : Tree} {kept : List Kept} {l : Label} {result : ℕ} {s m : State} 
       let q = stands_below super_place (x.laws.placed told) (x.laws.ranked told) (x.laws.super_stands told) (subst (λ y. Reaches s.now (to_block 1) y) e r) in
       (x.came.was.3 told).1 q.0 q.1
 
-  in_tree : s.tells → (b : ℕ) → Reaches s.now (to_block 1) b → Reaches m.now (to_block 1) b
+  pub in_tree : s.tells → (b : ℕ) → Reaches s.now (to_block 1) b → Reaches m.now (to_block 1) b
   in_tree told b r = reach_aside s.now m.now (λ y. y ≡ result) 1 (λ y j ne. sym ((x.came.others y ne).slots j)) (away told) b r
 
   hung_end : s.tells → (b : ℕ) → IsHung s b → IsHung m b
@@ -113,7 +113,7 @@ module _ {t : Tree} {kept : List Kept} {l : Label} {result : ℕ} {s m : State} 
   only_end : (b : ℕ) → (s.covered b → ⊥) → m.covered b → ⊥
   only_end b free h = ⊎_elim (λ e. x.came.is.4 (subst (λ y. m.covered y) e h)) (λ ne. x.came.only b ne free h) (cases_eq b result)
 
-  descends : (k : ℕ) → Descends t (OnWay s t zero k) (t.depth - zero) s m
+  pub descends : (k : ℕ) → Descends t (OnWay s t zero k) (t.depth - zero) s m
   descends k = record {
     bytes = λ b not. (x.came.others b (ne_result b not)).bytes;
     slots = λ b j not. inl ((x.came.others b (ne_result b not)).slots j);

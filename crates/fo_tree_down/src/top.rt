@@ -6,7 +6,9 @@ ghost use Rattle.fo_tree_look.specs.of_tree_read.Tree.{Hangs, kind_at};
 ghost use Rattle.fo_tree_look.specs.of_ports.State.{none};
 ghost use Rattle.fo_tree_look.specs.of_ports.Sources.{Made, Dirties};
 ghost use Rattle.fo_tree_look.specs.Source.{IsTold, IsPlainTree, IsPrepared, IsKept, Ready, IsTopCurrent};
-ghost use Rattle.fo_tree_down.specs.Way.{Comes, IsTopOf};
+ghost use Rattle.fo_tree_own.specs.of_shown.Shown.{ShowsNoMore};
+ghost use Rattle.fo_tree_down.specs.Alike.{KeepsAlike};
+ghost use Rattle.fo_tree_down.specs.Way.{Comes, IsTopOf, with_top};
 
 use fo_image::{Pointer, Score};
 use fo_tree_look::{Blocks, Kept, Tree};
@@ -28,6 +30,8 @@ pub(crate) fn own_top<B: Blocks>(tree: &Tree, kept: &[Kept], on: &mut B) -> u32
     ensures less { IsTopCurrent (B.state on.old) tree.now → (B.state on.old).spare ≤ (B.state on.new).spare }
     ensures dirties_less { IsTopCurrent (B.state on.old) tree.now → Dirties 0 none (B.state on.old) (B.state on.new) }
     ensures same { (b : ℕ) → tree.now.top ≡ Local b → ((B.state on.old).label b).epoch ≡ (B.state on.old).high → result ≡ b }
+    ensures shown { ShowsNoMore (B.state on.old).may_leave (B.state on.new).may_leave }
+    ensures alike { KeepsAlike (B.state on.old) (B.state on.new) tree.now (with_top tree.now result) }
     ensures keeps { B.keeps on.old on.new }
 {
     match tree.top {
@@ -53,6 +57,8 @@ fn own_local<B: Blocks>(tree: &Tree, kept: &[Kept], on: &mut B, at: u32) -> u32
     ensures less { ((B.state on.old).label at).epoch ≡ (B.state on.old).high → (B.state on.old).spare ≤ (B.state on.new).spare }
     ensures dirties_less { ((B.state on.old).label at).epoch ≡ (B.state on.old).high → Dirties 0 none (B.state on.old) (B.state on.new) }
     ensures same { ((B.state on.old).label at).epoch ≡ (B.state on.old).high → result ≡ at }
+    ensures shown { ShowsNoMore (B.state on.old).may_leave (B.state on.new).may_leave }
+    ensures alike { KeepsAlike (B.state on.old) (B.state on.new) tree.now (with_top tree.now result) }
     ensures keeps { B.keeps on.old on.new }
 {
     let _ = tree;
@@ -71,6 +77,8 @@ fn new_top<B: Blocks>(tree: &Tree, kept: &[Kept], on: &mut B) -> u32
     ensures stead { (x : ℕ) → Made (B.state on.old) (B.state on.new) result → (B.state on.new).instead result x → tree.now.top ≡ Local x }
     ensures spare { (B.state on.old).spare ≤ (B.state on.new).spare + 1 }
     ensures dirties { Dirties 2 (λ b. b ≡ result) (B.state on.old) (B.state on.new) }
+    ensures shown { ShowsNoMore (B.state on.old).may_leave (B.state on.new).may_leave }
+    ensures alike { KeepsAlike (B.state on.old) (B.state on.new) tree.now (with_top tree.now result) }
     ensures keeps { B.keeps on.old on.new }
 {
     let _ = kept;
@@ -91,6 +99,8 @@ fn kept_top<B: Blocks>(tree: &Tree, kept: &[Kept], on: &mut B, score: &Score) ->
     ensures stead { (x : ℕ) → Made (B.state on.old) (B.state on.new) result → (B.state on.new).instead result x → tree.now.top ≡ Local x }
     ensures spare { (B.state on.old).spare ≤ (B.state on.new).spare + 1 }
     ensures dirties { Dirties 2 (λ b. b ≡ result) (B.state on.old) (B.state on.new) }
+    ensures shown { ShowsNoMore (B.state on.old).may_leave (B.state on.new).may_leave }
+    ensures alike { KeepsAlike (B.state on.old) (B.state on.new) tree.now (with_top tree.now result) }
     ensures keeps { B.keeps on.old on.new }
 {
     let kind = kind_at(tree.dir, tree.depth);

@@ -4,7 +4,9 @@ ghost use Rattle.fo_image.specs.declared.types.Pointer.TheVariants.{Local};
 ghost use Rattle.fo_tree_look.specs.of_ports.Sources.{Made, Changes, Dirties};
 ghost use Rattle.fo_tree_look.specs.of_tree_read.Tree.{Hangs, kind_at, block_at, above};
 ghost use Rattle.fo_tree_look.specs.Source.{IsTold, Over, HasBlock, Prepared, WayReady, IsTopCurrent};
+ghost use Rattle.fo_tree_own.specs.of_shown.Shown.{ShowsNoMore};
 ghost use Rattle.fo_tree_down.specs.Clear.{EndsClear, last_leaf};
+ghost use Rattle.fo_tree_down.specs.Alike.{KeepsAlike};
 ghost use Rattle.fo_tree_down.specs.Way.{OnWay, Comes, Leads, IsTopOf, Replaces, StaysBeside, WayCurrent, CurrentBut, with_top, HasWay, AddsWay};
 
 use crate::top::own_top;
@@ -46,6 +48,8 @@ pub fn own_way<B: Blocks>(tree: &Tree, kept: &[Kept], on: &mut B, down: u8, k: u
     ensures used { (j : ℕ) → WayCurrent (B.state on.old) tree.now down j → j ≤ k → k ≤ j + 1 → (B.state on.old).spare + (j + above down j) ≤ (B.state on.new).spare + (k + above down k) }
     ensures dirties { Dirties (2 * (down + 1)) (λ b. OnWay (B.state on.new) (with_top tree.now result.top) down k b) (B.state on.old) (B.state on.new) }
     ensures dirties_used { (blocks : List ℕ) (j : ℕ) → WayCurrent (B.state on.old) tree.now down j → HasWay blocks (B.state on.old) tree.now down j → j ≤ k → k ≤ j + 1 → AddsWay (2 * (k + above down k - (j + above down j))) blocks (B.state on.old) (B.state on.new) (with_top tree.now result.top) down k }
+    ensures shown { ShowsNoMore (B.state on.old).may_leave (B.state on.new).may_leave }
+    ensures alike { KeepsAlike (B.state on.old) (B.state on.new) tree.now (with_top tree.now result.top) }
     ensures keeps { B.keeps on.old on.new }
 {
     own_near(tree, kept, on, down, k)
@@ -78,6 +82,8 @@ pub fn own_near<B: Blocks>(tree: &Tree, kept: &[Kept], on: &mut B, down: u8, k: 
     ensures dirties { Dirties (2 * (down + 1)) (λ b. OnWay (B.state on.new) (with_top tree.now result.top) down k b) (B.state on.old) (B.state on.new) }
     ensures dirties_used { (blocks : List ℕ) (j : ℕ) → WayCurrent (B.state on.old) tree.now down j → HasWay blocks (B.state on.old) tree.now down j → j ≤ k → k ≤ j + 1 → AddsWay (2 * (k + above down k - (j + above down j))) blocks (B.state on.old) (B.state on.new) (with_top tree.now result.top) down k }
     ensures few { (c : ℕ) → CurrentBut (B.state on.old) tree.now c down k → (B.state on.old).spare ≤ (B.state on.new).spare + c }
+    ensures shown { ShowsNoMore (B.state on.old).may_leave (B.state on.new).may_leave }
+    ensures alike { KeepsAlike (B.state on.old) (B.state on.new) tree.now (with_top tree.now result.top) }
     ensures keeps { B.keeps on.old on.new }
 {
     own_down(tree, kept, on, down, k)
@@ -101,6 +107,8 @@ pub fn own_down<B: Blocks>(tree: &Tree, kept: &[Kept], on: &mut B, down: u8, k: 
     ensures dirties { Dirties (2 * (down + 1)) (λ b. OnWay (B.state on.new) (with_top tree.now result.top) down k b) (B.state on.old) (B.state on.new) }
     ensures dirties_used { (blocks : List ℕ) (j : ℕ) → WayCurrent (B.state on.old) tree.now down j → HasWay blocks (B.state on.old) tree.now down j → j ≤ k → k ≤ j + 1 → AddsWay (2 * (k + above down k - (j + above down j))) blocks (B.state on.old) (B.state on.new) (with_top tree.now result.top) down k }
     ensures few { (c : ℕ) → CurrentBut (B.state on.old) tree.now c down k → (B.state on.old).spare ≤ (B.state on.new).spare + c }
+    ensures shown { ShowsNoMore (B.state on.old).may_leave (B.state on.new).may_leave }
+    ensures alike { KeepsAlike (B.state on.old) (B.state on.new) tree.now (with_top tree.now result.top) }
     ensures keeps { B.keeps on.old on.new }
 {
     if down == 0 {

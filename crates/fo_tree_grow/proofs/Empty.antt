@@ -10,6 +10,8 @@ use Rattle.fo_tree_raise.specs.of_tree_read.declared.tree.Tree.{Tree}
 use Rattle.fo_tree_raise.specs.of_tree_read.Tree.{kind_at, kind_down, below, block_at, leaf_at, address_of, held_of}
 use Rattle.fo_tree_leaf.specs.of_tree_look.declared.ways.Kept.{Kept}
 use Rattle.fo_tree_leaf.specs.of_tree_look.Source.{HasBlock, NoneHeld, Over, Prepared, address_here, held_here, seen}
+use Rattle.fo_tree_leaf.specs.of_tree_down.Alike.{KeepsAlike}
+use Rattle.fo_tree_leaf.proofs.of_tree_down.Alikes.{alike_empty}
 use Rattle.fo_tree_leaf.specs.of_tree_down.Clear.{EndsClear, last_leaf}
 use Rattle.fo_tree_raise.proofs.Clear.{nothing_there, way_nothing}
 use Rattle.fo_tree_grow.specs.Grow.{shaped, TailClear}
@@ -144,3 +146,9 @@ few_for z = by (nat_le z 8192) (nat_le z (8192 * 409)) (nat_le z (8192 * 409 ^ 2
     by false false true d = omega arith
     by false false false true = omega arith
     by false false false false = omega arith
+
+-- A source without a block got other levels and another size, and then a way.
+pub alike_first : {s u : State} {t new : Tree} (depth size : ℕ) → t.top ≡ Nil → KeepsAlike s u (shaped t depth size) new → KeepsAlike s u t new
+alike_first depth size none keeps = record {
+  each = λ told at i holds alike. let on = (alike_empty depth size none).each told at i holds alike in keeps.each told at i on.0 on.1;
+}

@@ -1,1 +1,2 @@
 pub use Rattle.fo_tree_leaf.proofs.of_tree_own.Link
+pub use Rattle.fo_tree_leaf.proofs.of_tree_own.Showing

@@ -1,1 +1,2 @@
+pub use Rattle.fo_tree_leaf.specs.of_tree_own.Shown
 pub use Rattle.fo_tree_leaf.specs.of_tree_own.Step

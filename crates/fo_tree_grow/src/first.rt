@@ -7,6 +7,8 @@ ghost use Rattle.fo_tree_raise.specs.of_tree_read.Tree.{kind_at};
 ghost use Rattle.fo_tree_leaf.specs.of_tree_look.Source.{Over, HasBlock, Prepared, IsTopCurrent, form_of, leaves_of};
 ghost use Rattle.fo_tree_leaf.specs.of_tree_down.Clear.{EndsClear};
 ghost use Rattle.fo_tree_leaf.specs.of_tree_down.Way.{IsTopOf, with_top};
+ghost use Rattle.fo_tree_leaf.specs.of_tree_down.Alike.{KeepsAlike};
+ghost use Rattle.fo_tree_leaf.specs.of_tree_own.Shown.{ShowsNoMore};
 ghost use Rattle.fo_tree_grow.specs.Grow.{shaped};
 
 use fo_base::BLOCK;
@@ -33,6 +35,8 @@ pub fn own_first<B: Blocks>(tree: &Tree, kept: &[Kept], on: &mut B, i: u32) -> C
     ensures current { IsTopCurrent (B.state on.new) (with_top (shaped tree.now (depth_for (8192 * (i + 1))) (8192 * (i + 1))) result.top) }
     ensures clear { EndsClear (B.state on.new) (with_top (shaped tree.now (depth_for (8192 * (i + 1))) (8192 * (i + 1))) result.top) kept.now }
     ensures room { (B.state on.new).room ≡ (B.state on.old).room }
+    ensures shown { ShowsNoMore (B.state on.old).may_leave (B.state on.new).may_leave }
+    ensures alike { KeepsAlike (B.state on.old) (B.state on.new) tree.now (with_top (shaped tree.now (depth_for (8192 * (i + 1))) (8192 * (i + 1))) result.top) }
     ensures keeps { B.keeps on.old on.new }
 {
     let end = BLOCK as u64 * (i as u64 + 1);

@@ -6,6 +6,8 @@ ghost use Rattle.fo_tree_raise.specs.of_tree_read.Tree.{kind_at};
 ghost use Rattle.fo_tree_leaf.specs.of_tree_look.Source.{Over, HasBlock, IsPlainTree, Prepared, WayReady, IsTopCurrent, form_of, leaves_of};
 ghost use Rattle.fo_tree_leaf.specs.of_tree_down.Way.{OnWay, Descends, IsTopOf, with_top};
 ghost use Rattle.fo_tree_leaf.specs.of_tree_down.Clear.{EndsClear};
+ghost use Rattle.fo_tree_leaf.specs.of_tree_down.Alike.{KeepsAlike};
+ghost use Rattle.fo_tree_leaf.specs.of_tree_own.Shown.{ShowsNoMore};
 ghost use Rattle.fo_tree_grow.specs.Grow.{sized, TailClear};
 
 use fo_base::BLOCK;
@@ -37,6 +39,8 @@ pub fn own_next<B: Blocks>(tree: &Tree, kept: &[Kept], on: &mut B, i: u32) -> Cu
     ensures ways { (j b : ℕ) → WayReady (B.state on.old) (sized tree.now (8192 * (i + 1))) kept.now tree.now.depth j → OnWay (B.state on.new) (with_top (sized tree.now (8192 * (i + 1))) result.top) tree.now.depth j b → OnWay (B.state on.old) (sized tree.now (8192 * (i + 1))) tree.now.depth j b ⊎ Made (B.state on.old) (B.state on.new) b }
     ensures stays { (B.state on.old).tells → (b : ℕ) → HasBlock (B.state on.old) tree.now b → ((B.state on.old).label b).epoch ≡ (B.state on.old).high → HasBlock (B.state on.new) (with_top (sized tree.now (8192 * (i + 1))) result.top) b }
     ensures room { (B.state on.new).room ≡ (B.state on.old).room }
+    ensures shown { ShowsNoMore (B.state on.old).may_leave (B.state on.new).may_leave }
+    ensures alike { KeepsAlike (B.state on.old) (B.state on.new) tree.now (with_top (sized tree.now (8192 * (i + 1))) result.top) }
     ensures keeps { B.keeps on.old on.new }
 {
     let grown = with_size(tree, BLOCK as u64 * (i as u64 + 1));

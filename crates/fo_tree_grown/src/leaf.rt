@@ -5,7 +5,9 @@ ghost use Rattle.fo_ports.specs.of_crash.Images.{Reaches, to_block};
 ghost use Rattle.fo_ports.specs.Sources.{Changes, Grows, Owned, Dirties, MayZero, IsEnough, depth_for, most_to_own};
 ghost use Rattle.fo_tree_look.specs.Source.{Over, HasBlock, IsPlainTree, Prepared, IsTopCurrent, form_of, leaves_of};
 ghost use Rattle.fo_tree_clear.specs.of_tree_down.Way.{IsTopOf, with_top};
+ghost use Rattle.fo_tree_clear.specs.of_tree_down.Alike.{KeepsAlike};
 ghost use Rattle.fo_tree_clear.specs.of_tree_down.Clear.{EndsClear};
+ghost use Rattle.fo_tree_clear.specs.of_tree_own.Shown.{ShowsNoMore};
 ghost use Rattle.fo_tree_lift.specs.Owns.{with_leaf};
 ghost use Rattle.fo_tree_grown.specs.Zeroed.{OwnsZeroed};
 
@@ -37,6 +39,8 @@ pub fn own_leaf<B: Blocks>(tree: &Tree, kept: &[Kept], on: &mut B, i: u32) -> Cu
     ensures current { IsTopCurrent (B.state on.new) (with_leaf tree.now i result.top) }
     ensures clear { (B.state on.old).tells ⊎ (tree.now.size ≤ 8192 * (i + 1)) → EndsClear (B.state on.old) tree.now kept.now → EndsClear (B.state on.new) (with_leaf tree.now i result.top) kept.now }
     ensures room { (B.state on.new).room ≡ (B.state on.old).room }
+    ensures shown { ShowsNoMore (B.state on.old).may_leave (B.state on.new).may_leave }
+    ensures alike { KeepsAlike (B.state on.old) (B.state on.new) tree.now (with_leaf tree.now i result.top) }
     ensures keeps { B.keeps on.old on.new }
 {
     own_any(tree, kept, on, i)
@@ -49,6 +53,8 @@ fn own_any<B: Blocks>(tree: &Tree, kept: &[Kept], on: &mut B, i: u32) -> Current
     requires linked { (B.state on.old).tells → tree.now.dir ≡ true → depth_for tree.now.size < depth_for (8192 * (i + 1)) → (b : ℕ) → HasBlock (B.state on.old) tree.now b → Reaches (B.state on.old).now (to_block 1) b }
     requires spare { IsEnough (IsTopCurrent (B.state on.old) tree.now) tree.now.size i (B.state on.old).spare }
     ensures owns { OwnsZeroed (B.state on.old) (B.state on.new) tree.now (with_leaf tree.now i result.top) kept.now i result.top result.at }
+    ensures shown { ShowsNoMore (B.state on.old).may_leave (B.state on.new).may_leave }
+    ensures alike { KeepsAlike (B.state on.old) (B.state on.new) tree.now (with_leaf tree.now i result.top) }
     ensures keeps { B.keeps on.old on.new }
 {
     if end_of(i) <= tree.size {
@@ -73,6 +79,8 @@ fn own_past<B: Blocks>(tree: &Tree, kept: &[Kept], on: &mut B, i: u32) -> Curren
     requires linked { (B.state on.old).tells → tree.now.dir ≡ true → depth_for tree.now.size < depth_for (8192 * (i + 1)) → (b : ℕ) → HasBlock (B.state on.old) tree.now b → Reaches (B.state on.old).now (to_block 1) b }
     requires spare { IsEnough (IsTopCurrent (B.state on.old) tree.now) tree.now.size i (B.state on.old).spare }
     ensures owns { OwnsZeroed (B.state on.old) (B.state on.new) tree.now (with_leaf tree.now i result.top) kept.now i result.top result.at }
+    ensures shown { ShowsNoMore (B.state on.old).may_leave (B.state on.new).may_leave }
+    ensures alike { KeepsAlike (B.state on.old) (B.state on.new) tree.now (with_leaf tree.now i result.top) }
     ensures keeps { B.keeps on.old on.new }
 {
     let cleared = clear_tail(tree, kept, on);

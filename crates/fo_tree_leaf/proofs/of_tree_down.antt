@@ -1,3 +1,4 @@
+pub use Rattle.fo_tree_down.proofs.Alikes
 pub use Rattle.fo_tree_down.proofs.Beside
 pub use Rattle.fo_tree_down.proofs.Dirtying
 pub use Rattle.fo_tree_down.proofs.Ending

@@ -3,8 +3,10 @@ ghost use Rattle.std.specs.Prelude.{◌≡◌, ◌≢◌, ◌⊎◌, ◌+◌, �
 ghost use Rattle.fo_tree_look.specs.of_ports.Sources.{Made, Changes, Grows, Owned, Dirties, most_to_own, IsEnough};
 ghost use Rattle.fo_tree_look.specs.of_tree_read.Tree.{kind_at};
 ghost use Rattle.fo_tree_look.specs.Source.{Over, HasBlock, Prepared, WayReady, IsTopCurrent, form_of, leaves_of};
+ghost use Rattle.fo_tree_down.specs.Alike.{KeepsAlike};
 ghost use Rattle.fo_tree_down.specs.Clear.{EndsClear, last_leaf};
 ghost use Rattle.fo_tree_down.specs.Way.{OnWay, Descends, IsTopOf, with_top};
+ghost use Rattle.fo_tree_down.specs.of_tree_own.Shown.{ShowsNoMore};
 
 use fo_tree_down::{Current, own_way};
 use fo_tree_look::{Blocks, Kept, Tree};
@@ -31,6 +33,8 @@ pub fn own_within<B: Blocks>(tree: &Tree, kept: &[Kept], on: &mut B, i: u32) -> 
     ensures ways { (j b : ℕ) → WayReady (B.state on.old) tree.now kept.now tree.now.depth j → OnWay (B.state on.new) (with_top tree.now result.top) tree.now.depth j b → OnWay (B.state on.old) tree.now tree.now.depth j b ⊎ Made (B.state on.old) (B.state on.new) b }
     ensures stays { (B.state on.old).tells → (b : ℕ) → HasBlock (B.state on.old) tree.now b → ((B.state on.old).label b).epoch ≡ (B.state on.old).high → HasBlock (B.state on.new) (with_top tree.now result.top) b }
     ensures room { (B.state on.new).room ≡ (B.state on.old).room }
+    ensures shown { ShowsNoMore (B.state on.old).may_leave (B.state on.new).may_leave }
+    ensures alike { KeepsAlike (B.state on.old) (B.state on.new) tree.now (with_top tree.now result.top) }
     ensures keeps { B.keeps on.old on.new }
 {
     own_way(tree, kept, on, tree.depth, i as u64)

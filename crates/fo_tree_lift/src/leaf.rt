@@ -7,8 +7,10 @@ ghost use Rattle.fo_ports.specs.Sources.{Changes, Grows, Owned, Dirties, IsEnoug
 ghost use Rattle.fo_tree_read.specs.Tree.{kind_at};
 ghost use Rattle.fo_tree_look.specs.Source.{Over, HasBlock, IsPlainTree, Prepared, IsTopCurrent, form_of, leaves_of};
 ghost use Rattle.fo_tree_grow.specs.of_tree_down.Way.{IsTopOf};
+ghost use Rattle.fo_tree_grow.specs.of_tree_down.Alike.{KeepsAlike};
 ghost use Rattle.fo_tree_grow.specs.of_tree_down.Clear.{EndsClear};
 ghost use Rattle.fo_tree_grow.specs.Grow.{TailClear};
+ghost use Rattle.fo_tree_grow.specs.of_tree_own.Shown.{ShowsNoMore};
 ghost use Rattle.fo_tree_lift.specs.Owns.{with_leaf, OwnsLeaf};
 
 use crate::own::own_raised;
@@ -39,6 +41,8 @@ pub fn own_leaf<B: Blocks>(tree: &Tree, kept: &[Kept], on: &mut B, i: u32) -> Cu
     ensures current { IsTopCurrent (B.state on.new) (with_leaf tree.now i result.top) }
     ensures clear { (B.state on.old).tells ⊎ (tree.now.size ≤ 8192 * (i + 1)) → EndsClear (B.state on.old) tree.now kept.now → EndsClear (B.state on.new) (with_leaf tree.now i result.top) kept.now }
     ensures room { (B.state on.new).room ≡ (B.state on.old).room }
+    ensures shown { ShowsNoMore (B.state on.old).may_leave (B.state on.new).may_leave }
+    ensures alike { KeepsAlike (B.state on.old) (B.state on.new) tree.now (with_leaf tree.now i result.top) }
     ensures keeps { B.keeps on.old on.new }
 {
     own_any(tree, kept, on, i)
@@ -52,6 +56,8 @@ fn own_any<B: Blocks>(tree: &Tree, kept: &[Kept], on: &mut B, i: u32) -> Current
     requires linked { (B.state on.old).tells → tree.now.dir ≡ true → depth_for tree.now.size < depth_for (8192 * (i + 1)) → (b : ℕ) → HasBlock (B.state on.old) tree.now b → Reaches (B.state on.old).now (to_block 1) b }
     requires spare { IsEnough (IsTopCurrent (B.state on.old) tree.now) tree.now.size i (B.state on.old).spare }
     ensures owns { OwnsLeaf (B.state on.old) (B.state on.new) tree.now (with_leaf tree.now i result.top) kept.now i result.top result.at }
+    ensures shown { ShowsNoMore (B.state on.old).may_leave (B.state on.new).may_leave }
+    ensures alike { KeepsAlike (B.state on.old) (B.state on.new) tree.now (with_leaf tree.now i result.top) }
     ensures keeps { B.keeps on.old on.new }
 {
     if end_of(i) <= tree.size {
@@ -77,6 +83,8 @@ fn own_past<B: Blocks>(tree: &Tree, kept: &[Kept], on: &mut B, i: u32) -> Curren
     requires linked { (B.state on.old).tells → tree.now.dir ≡ true → depth_for tree.now.size < depth_for (8192 * (i + 1)) → (b : ℕ) → HasBlock (B.state on.old) tree.now b → Reaches (B.state on.old).now (to_block 1) b }
     requires spare { IsEnough (IsTopCurrent (B.state on.old) tree.now) tree.now.size i (B.state on.old).spare }
     ensures owns { OwnsLeaf (B.state on.old) (B.state on.new) tree.now (with_leaf tree.now i result.top) kept.now i result.top result.at }
+    ensures shown { ShowsNoMore (B.state on.old).may_leave (B.state on.new).may_leave }
+    ensures alike { KeepsAlike (B.state on.old) (B.state on.new) tree.now (with_leaf tree.now i result.top) }
     ensures keeps { B.keeps on.old on.new }
 {
     match tree.top {
@@ -95,6 +103,8 @@ fn own_more<B: Blocks>(tree: &Tree, kept: &[Kept], on: &mut B, i: u32) -> Curren
     requires linked { (B.state on.old).tells → tree.now.dir ≡ true → depth_for tree.now.size < depth_for (8192 * (i + 1)) → (b : ℕ) → HasBlock (B.state on.old) tree.now b → Reaches (B.state on.old).now (to_block 1) b }
     requires spare { IsEnough (IsTopCurrent (B.state on.old) tree.now) tree.now.size i (B.state on.old).spare }
     ensures owns { OwnsLeaf (B.state on.old) (B.state on.new) tree.now (with_leaf tree.now i result.top) kept.now i result.top result.at }
+    ensures shown { ShowsNoMore (B.state on.old).may_leave (B.state on.new).may_leave }
+    ensures alike { KeepsAlike (B.state on.old) (B.state on.new) tree.now (with_leaf tree.now i result.top) }
     ensures keeps { B.keeps on.old on.new }
 {
     if has_levels(tree, i) {

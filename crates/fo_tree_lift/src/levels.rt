@@ -8,7 +8,10 @@ ghost use Rattle.fo_ports.specs.Sources.{Dirties};
 ghost use Rattle.fo_tree_read.specs.Tree.{kind_at};
 ghost use Rattle.fo_tree_look.specs.Source.{Over, HasBlock, IsPrepared, Ready, IsTopCurrent};
 ghost use Rattle.fo_tree_grow.specs.of_tree_down.Way.{with_top};
+ghost use Rattle.fo_tree_grow.specs.of_tree_down.Alike.{KeepsAlike};
 ghost use Rattle.fo_tree_grow.specs.of_tree_down.Clear.{EndsClear};
+ghost use Rattle.fo_tree_grow.specs.of_tree_own.Shown.{ShowsNoMore};
+ghost use Rattle.fo_tree_grow.specs.of_tree_raise.Levels.{grown};
 ghost use Rattle.fo_tree_lift.specs.Lift.{Lifts};
 
 use fo_image::Pointer;
@@ -31,6 +34,8 @@ pub fn lift<B: Blocks>(tree: &Tree, kept: &[Kept], on: &mut B, levels: u8) -> Po
     ensures dirties { Dirties (2 * (levels + 1)) none (B.state on.old) (B.state on.new) }
     ensures less { IsTopCurrent (B.state on.old) tree.now → (B.state on.old).spare ≤ (B.state on.new).spare + levels }
     ensures dirties_less { IsTopCurrent (B.state on.old) tree.now → Dirties (2 * levels) none (B.state on.old) (B.state on.new) }
+    ensures shown { ShowsNoMore (B.state on.old).may_leave (B.state on.new).may_leave }
+    ensures alike { KeepsAlike (B.state on.old) (B.state on.new) tree.now (grown tree.now levels result) }
     ensures keeps { B.keeps on.old on.new }
 {
     match tree.top {
@@ -54,6 +59,8 @@ fn lift_local<B: Blocks>(tree: &Tree, kept: &[Kept], on: &mut B, levels: u8, at:
     ensures dirties { Dirties (2 * (levels + 1)) none (B.state on.old) (B.state on.new) }
     ensures less { ((B.state on.old).label at).epoch ≡ (B.state on.old).high → (B.state on.old).spare ≤ (B.state on.new).spare + levels }
     ensures dirties_less { ((B.state on.old).label at).epoch ≡ (B.state on.old).high → Dirties (2 * levels) none (B.state on.old) (B.state on.new) }
+    ensures shown { ShowsNoMore (B.state on.old).may_leave (B.state on.new).may_leave }
+    ensures alike { KeepsAlike (B.state on.old) (B.state on.new) tree.now (grown tree.now levels result) }
     ensures keeps { B.keeps on.old on.new }
 {
     if is_current(on, at) {
@@ -75,6 +82,8 @@ fn lift_top<B: Blocks>(tree: &Tree, kept: &[Kept], on: &mut B, levels: u8) -> Po
     ensures lifts { Lifts (B.state on.old) (B.state on.new) tree.now kept.now levels result }
     ensures spare { (B.state on.new).spare + levels ≡ (B.state on.old).spare }
     ensures dirties { Dirties (2 * levels) none (B.state on.old) (B.state on.new) }
+    ensures shown { ShowsNoMore (B.state on.old).may_leave (B.state on.new).may_leave }
+    ensures alike { KeepsAlike (B.state on.old) (B.state on.new) tree.now (grown tree.now levels result) }
     ensures keeps { B.keeps on.old on.new }
 {
     let _ = kept;
@@ -94,6 +103,8 @@ fn lift_copy<B: Blocks>(tree: &Tree, kept: &[Kept], on: &mut B, levels: u8, at: 
     ensures lifts { Lifts (B.state on.old) (B.state on.new) tree.now kept.now levels result }
     ensures spare { (B.state on.new).spare + (levels + 1) ≡ (B.state on.old).spare }
     ensures dirties { Dirties (2 * (levels + 1)) none (B.state on.old) (B.state on.new) }
+    ensures shown { ShowsNoMore (B.state on.old).may_leave (B.state on.new).may_leave }
+    ensures alike { KeepsAlike (B.state on.old) (B.state on.new) tree.now (grown tree.now levels result) }
     ensures keeps { B.keeps on.old on.new }
 {
     let copy = copy_top(tree, kept, on, at);

@@ -7,8 +7,10 @@ ghost use Rattle.fo_image.specs.declared.types.Pointer.TheVariants.{Local};
 ghost use Rattle.fo_ports.specs.Sources.{Made, Changes, Grows, Owned, Dirties, depth_for};
 ghost use Rattle.fo_tree_look.specs.Source.{Over, HasBlock, IsPlainTree, Prepared, IsTopCurrent, form_of, leaves_of};
 ghost use Rattle.fo_tree_grow.specs.of_tree_down.Way.{IsTopOf, with_top};
+ghost use Rattle.fo_tree_grow.specs.of_tree_down.Alike.{KeepsAlike};
 ghost use Rattle.fo_tree_grow.specs.of_tree_down.Clear.{EndsClear};
 ghost use Rattle.fo_tree_grow.specs.Grow.{shaped, TailClear};
+ghost use Rattle.fo_tree_grow.specs.of_tree_own.Shown.{ShowsNoMore};
 ghost use Rattle.fo_tree_lift.specs.Lift.{InSteadOf};
 
 use crate::levels::lift;
@@ -47,6 +49,8 @@ pub fn own_raised<B: Blocks>(tree: &Tree, kept: &[Kept], on: &mut B, i: u32) -> 
     ensures room { (B.state on.new).room ≡ (B.state on.old).room }
     ensures current { IsTopCurrent (B.state on.new) (with_top (shaped tree.now (depth_for (8192 * (i + 1))) (8192 * (i + 1))) result.top) }
     ensures clear { EndsClear (B.state on.new) (with_top (shaped tree.now (depth_for (8192 * (i + 1))) (8192 * (i + 1))) result.top) kept.now }
+    ensures shown { ShowsNoMore (B.state on.old).may_leave (B.state on.new).may_leave }
+    ensures alike { KeepsAlike (B.state on.old) (B.state on.new) tree.now (with_top (shaped tree.now (depth_for (8192 * (i + 1))) (8192 * (i + 1))) result.top) }
     ensures keeps { B.keeps on.old on.new }
 {
     let end = BLOCK as u64 * (i as u64 + 1);

@@ -9,6 +9,9 @@
 //! block 1 stays in place for other sources. Where the source comes in the place of what its entry had (`ComesFor`), or was emptied, the put
 //! is one that `Blocks` asks for; a source that was linked and then changed comes so (`may_link`), and is linked again (`HangsInTree`). So
 //! may one be that was linked and lost all its bytes (`may_empty`), or levels (`may_lower`).
+//!
+//! Where the entry leads, in each image, to no more of leaves of records than memory's old one does there (`LeadsAlike`), or to zeros, the
+//! put shows no more of them.
 #![tactic(auto)]
 
 mod laws;

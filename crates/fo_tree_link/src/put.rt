@@ -10,6 +10,8 @@ ghost use Rattle.fo_crash.specs.Steps.{PutsSlot, AddsSlot, Covers};
 ghost use Rattle.fo_ports.specs.Blocks.{cost, dropped, zeros};
 ghost use Rattle.fo_ports.specs.State.{Frame, Hangs, KeepsOrder, AddsNoWait, IsPointers, none};
 ghost use Rattle.fo_ports.specs.Sources.{StaysInPlace, StaysReady, ComesFor, DirtiesIn};
+ghost use Rattle.fo_shown.specs.Shown.{ShowsNoMore};
+ghost use Rattle.fo_shown.specs.Alike.{LeadsAlike};
 ghost use Rattle.fo_tree_look.specs.Source.{Over, HasBlock};
 ghost use Rattle.fo_tree_open.specs.Open.{HasEntry};
 ghost use Rattle.fo_tree_link.specs.Link.{entry_of, CanLink};
@@ -35,6 +37,7 @@ pub fn link<B: Blocks>(ways: &Ways, on: &mut B, at: u32, i: u32)
     requires told { (B.state on.old).tells → CanLink (B.state on.old) ways.now.tree ways.now.generation at i }
     ensures now { PutsSlot at i (Head (entry_of ways.now.tree ways.now.generation)) (B.state on.old).now (B.state on.new).now }
     ensures images { AddsSlot (B.state on.old).now at i (Head (entry_of ways.now.tree ways.now.generation)) (λ image. Unit {0}) (B.state on.old).may_leave (B.state on.new).may_leave }
+    ensures shown { LeadsAlike (B.state on.old).may_leave (B.state on.old).now at i (Head (entry_of ways.now.tree ways.now.generation)) → ShowsNoMore (B.state on.old).may_leave (B.state on.new).may_leave }
     ensures over { Over (B.state on.new) ways.now.tree ways.now.kept.items ways.now.limit }
     ensures put { (b : ℕ) → ways.now.tree.top ≡ Local b → (B.state on.new).apart b → ⊥ }
     ensures comes { ComesFor (B.state on.new) ways.now.tree.top ways.now.tree.top }

@@ -1,29 +1,49 @@
 -- What is there once a block was given out and put.
-use Rattle.std.proofs.Common.{◌≡◌, ◌≢◌, ◌⊎◌, ◌↔◌, ◌+◌, ◌*◌, ◌<◌, ℕ, suc, List, [], ◌∷◌, ◌++◌, length, inl, inr, ⊎_elim, refl, sym, ◌∙◌, ap, subst, arith}
+use Rattle.std.proofs.Common.{◌≡◌, ◌≢◌, ◌⊎◌, ◌↔◌, ◌+◌, ◌*◌, ◌%◌, ◌<◌, ℕ, suc, Bool, true, false, List, [], ◌∷◌, ◌++◌, length, inl, inr, ⊎_elim, refl, sym, ◌∙◌, ap, subst, arith}
 use Rattle.std.proofs.lemmas.Bool.{cases_eq}
+use Rattle.fo_image.specs.declared.types.Kind.TheVariants.{Data, Root}
 use Rattle.fo_image.specs.declared.types.Label.{Label}
 use Rattle.fo_image.specs.declared.types.Pointer.{Pointer}
 use Rattle.fo_image.specs.declared.types.Pointer.TheVariants.{Nil, Local, Score as Held}
 use Rattle.fo_crash.specs.declared.slot.Slot.{Slot}
 use Rattle.fo_crash.specs.declared.slot.Slot.TheVariants.{Pointer as To}
 use Rattle.fo_crash.specs.declared.place.Place.{Place}
-use Rattle.fo_crash.specs.Images.{Image, Reaches, target, local, walk, to_block, with_slot}
-use Rattle.fo_crash.specs.Steps.{PutsSlot, AddsSlot, Covers}
-use Rattle.fo_crash.specs.Places.{place, super_place}
+use Rattle.fo_crash.specs.Images.{Image, SameContent, Reaches, target, local, walk, to_block, with_slot}
+use Rattle.fo_crash.specs.Steps.{PutsSlot, AddsSlot, IsSure, Covers}
+use Rattle.fo_crash.specs.Places.{place, place_below, super_place, IsPlaced}
+use Rattle.fo_crash.specs.Spots.{Spot, spot_below}
 use Rattle.fo_crash.proofs.Reach.{lost, reaches_on, reaches_joins, reaches_same, reach_into}
-use Rattle.fo_crash.proofs.Updates.{slot_bytes, slot_other}
+use Rattle.fo_crash.proofs.Updates.{slot_bytes, slot_other, slot_here}
 use Rattle.fo_tree_look.specs.of_ports.State.{State, KeepsAll, IsRooted, Frame, Hangs, KeepsOrder, AddsNoWait, IsPointers, none}
 use Rattle.fo_tree_look.specs.of_ports.Sources.{IsHung, Made, Touched, Undone, IsMade, StaysMarked, Changes}
 use Rattle.fo_tree_look.proofs.of_looks.Looks.{rooted_of_apart}
 use Rattle.fo_tree_look.specs.of_tree_read.declared.tree.Tree.{Tree}
 use Rattle.fo_tree_look.specs.of_tree_read.Tree.{kind_at}
+use Rattle.fo_tree_look.specs.of_ports.Blocks.{IsInner, zero_bytes}
+use Rattle.fo_tree_look.specs.Source.{IsPlainTree}
 use Rattle.fo_tree_own.specs.Step.{IsOwn, IsBeside, IsBehind, OnlyCovers, Links}
-use Rattle.fo_tree_own.proofs.Link.{Laws, Linking, local_eq, at_ne, at_pinned, at_place, top_ne, reaches_mid, back, unwaited}
-use Rattle.fo_tree_own.proofs.May.{there, place_is}
+use Rattle.fo_shown.specs.Shown.{IsOfRecords, ShowsNoMore}
+use Rattle.fo_shown.proofs.Showing.{shows_joins}
+use Rattle.fo_shown.specs.Alike.{LeadsAlike, CanStand, StaysAlike}
+use Rattle.fo_shown.proofs.Ways.{AllPlaced}
+use Rattle.fo_shown.proofs.Copying.{Leading, copy_shows, new_shows}
+use Rattle.fo_shown.proofs.Alikes.{Aside, IsCopy, IsNew, LedAside, GoesBack, alike_nowhere, alike_led_in_tree, is_copy, is_new}
+use Rattle.fo_tree_own.proofs.Link.{Laws, Linking, came_shows, local_eq, at_ne, at_pinned, at_place, top_ne, reaches_mid, stands_mid, not_entries, back, unwaited}
+use Rattle.fo_tree_own.proofs.May.{there, place_is, inner_kind}
 
 -- A pointer that leads to no block.
 abbrev pub IsNone : Pointer → Type 0
 IsNone p = (b : ℕ) → p ≢ Local b
+
+-- What came has what the block has to which the slot led, and which every image has as memory has it. Or it leads to no block, it is one of
+-- zeros, one of pointers, or of a plain source, and the slot led to none.
+abbrev pub ShownAs : Tree → ℕ → Pointer → ℕ → State → Type 0
+ShownAs t level was result m = ((y : ℕ) × (was ≡ Local y) × SameContent (m.now result) (m.now y) × IsSure m.now y m.may_leave)
+    ⊎ (((j b : ℕ) → target ((m.now result).slot j) ≢ Local b) × (((m.now result).bytes ≡ zero_bytes) ⊎ (IsPlainTree t ⊎ (0 < level))) × IsNone was)
+
+data_level : (dir : Bool) (level : ℕ) → kind_at dir level ≡ Data 0 → level ≡ 0
+data_level true level e = cc
+data_level false level e = cc
 
 -- A block was given out and put, where the slot led there.
 pub record Linked (t : Tree) (level k at i n : ℕ) (was : Pointer) (l : Label) (result : ℕ) (beside : Image → Type 0) (s m u : State) : Type 0 where
@@ -41,6 +61,11 @@ pub record Linked (t : Tree) (level k at i n : ℕ) (was : Pointer) (l : Label) 
   pub fresh : was ≡ Local result → ⊥
   pub was_older : (y : ℕ) → was ≡ Local y → (s.label y).epoch < s.high
   pub no_cost : n ≡ 0
+  pub tells_of : (image : Image) → m.may_leave image → m.tells
+  pub placed : (image : Image) → m.may_leave image → IsPlaced m.stands image
+  pub placed_first : AllPlaced s.stands s.may_leave
+  pub placed_end : AllPlaced u.stands u.may_leave
+  pub content : ShownAs t level was result m
   -- what the put says
   pub puts : PutsSlot at i (To (Local result)) m.now u.now
   pub images : AddsSlot m.now at i (To (Local result)) beside m.may_leave u.may_leave
@@ -52,6 +77,7 @@ pub record Linked (t : Tree) (level k at i n : ℕ) (was : Pointer) (l : Label) 
   pub all : KeepsAll m u
   pub whole : KeepsAll s u
   pub laws : Laws u
+  pub sure : IsSure u.now result u.may_leave
 
 module _ {t : Tree} {level k at i n : ℕ} {was : Pointer} {l : Label} {result : ℕ} {beside : Image → Type 0} {s m u : State} (x : Linked t level k at i n was l result beside s m u) where
   ne : at ≢ result
@@ -426,6 +452,105 @@ module _ {t : Tree} {level k at i n : ℕ} {was : Pointer} {l : Label} {result :
     numbers = record { next = x.frame.numbers.next ∙ x.link.came.numbers.next; grants = λ h. x.frame.numbers.grants (x.link.came.numbers.grants h) };
   }
 
+  -- ---- no image shows more
+
+  told_of : (image : Image) → m.may_leave image → s.tells
+  told_of image is = x.link.all.still_tells.0 (x.tells_of image is)
+
+  leading : Leading m.stands m.now u.now at i result beside m.may_leave u.may_leave
+  leading = record {
+    images = x.images;
+    sure = x.sure;
+    inner = λ image is p stands. subst (λ (q : Place). IsInner q.kind) (sym (x.link.later.one.each at p (place (kind_at t.dir (suc level)) t.tag k (t.rank + suc level)) stands (at_place x.link (told_of image is)))) (inner_kind t.dir level);
+    placed = x.placed;
+    top = λ image is. x.link.later.super_stands (x.tells_of image is);
+  }
+
+  no_records : s.tells → IsPlainTree t ⊎ (0 < level) → (p : Spot) → m.stands at p.place → IsOfRecords (spot_below p i (To (Local result))) → ⊥
+  no_records told how p stands of =
+      let is = place_is x.link told p.place stands in
+      let low : level ≡ 0 = data_level t.dir level (sym (ap (λ (q : Place). q.kind) is) ∙ of.0) in
+      let rank : (t.rank + level) % 32 ≡ 16 = subst (λ (q : Place). q.rank % 32 ≡ 16) is of.1 in
+      ⊎_elim
+      (λ plain. plain.1 (omega (arith, low, rank)))
+      (λ high. omega (arith, low, high))
+      how
+
+  shown_end : ShowsNoMore s.may_leave u.may_leave
+  shown_end = shows_joins
+      (came_shows x.link.laws.active x.link.came)
+      (⊎_elim
+      (λ copied. copy_shows leading copied.0 (x.leads ∙ copied.1) (record { bytes = x.puts.bytes result ∙ copied.2.bytes; slots = λ j. same_end j ∙ copied.2.slots j }) copied.3)
+      (λ new. new_shows leading (λ j b e. new.0 j b (sym (ap target (same_end j)) ∙ e)) (λ image is p stands of. x.puts.bytes result ∙ ⊎_elim
+      (λ zeros. zeros)
+      (λ how. absurd (no_records (told_of image is) how p stands of))
+      new.1))
+      x.content)
+
+  -- ---- another slot leads to no more
+
+  aside : Aside result s.may_leave m.may_leave
+  aside = record {
+    before = λ image is. let d = x.link.came.before image is in (d.other, d.was, d.same);
+    apart = λ image is r. x.link.came.unreached image is 1 x.link.laws.active r;
+  }
+
+  abbrev before : Image → Image
+  before image = with_slot image at i ((m.now at).slot i)
+
+  copied_end : (y : ℕ) → was ≡ Local y → SameContent (m.now result) (m.now y) → IsSure m.now y m.may_leave → (image : Image) → u.may_leave image → m.may_leave (before image) → IsCopy at i result image (before image)
+  copied_end y leads same older = is_copy (x.leads ∙ leads) (record { bytes = x.puts.bytes result ∙ same.bytes; slots = λ j. same_end j ∙ same.slots j }) older x.sure
+
+  came_end : (image : Image) → u.may_leave image → (image at).slot i ≡ To (Local result) → m.may_leave (before image) → IsCopy at i result image (before image) ⊎ IsNew m.stands at i result image
+  came_end image is put old = ⊎_elim
+      (λ copied. inl (copied_end copied.0 copied.1 copied.2 copied.3 image is old))
+      (λ new. inr (is_new (λ j b e. new.0 j b (sym (ap target (same_end j)) ∙ e)) (λ p stands of. x.puts.bytes result ∙ ⊎_elim
+      (λ zeros. zeros)
+      (λ how. absurd (no_records (told_of (before image) old) how p stands of))
+      new.1) x.sure image is put))
+      x.content
+
+  led : LedAside m.stands m.now at i result beside m.may_leave u.may_leave
+  led = record { images = x.images; places = record { super_at = leading.top; each = x.placed }; inner = leading.inner; came = came_end }
+
+  goes_back : (image : Image) → u.may_leave image → (image at).slot i ≡ To (Local result) → m.may_leave (before image) → GoesBack at i result image (before image)
+  goes_back image is put old = ⊎_elim
+      (λ copied. inl (copied_end copied.0 copied.1 copied.2 copied.3 image is old))
+      (λ new. inr (λ c e. new.2 c (sym x.leads ∙ ap target (sym (slot_here image at i ((m.now at).slot i))) ∙ e)))
+      x.content
+
+  no_root : (dir : Bool) (level : ℕ) → kind_at dir level ≡ Root → ⊥
+  no_root true level e = cc
+  no_root false level e = cc
+
+  inner_end : s.tells → (p : Place) → u.stands at p → IsInner p.kind
+  inner_end told p stands = subst (λ (q : Place). IsInner q.kind) (sym (x.laws.one.each at p (place (kind_at t.dir (suc level)) t.tag k (t.rank + suc level)) stands (above_end.told (told_end told)).stands)) (inner_kind t.dir level)
+
+  module _ (told : s.tells) {w j : ℕ} {z : Slot} (can : CanStand s w j z) where
+    not_result : w ≢ result
+    not_result e = (x.link.came.was.3 told).1 can.place (subst (λ y. s.stands y can.place) e can.stands)
+
+    not_at : w ≢ at
+    not_at e =
+        let is = x.link.laws.one.each at can.place (place (kind_at t.dir (suc level)) t.tag k (t.rank + suc level)) (subst (λ y. s.stands y can.place) e can.stands) (x.link.above.told told).stands in
+        let kind : can.place.kind ≡ kind_at t.dir (suc level) = ap (λ (q : Place). q.kind) is in
+        ⊎_elim (λ h. not_entries t.dir level (sym kind ∙ h)) (λ h. no_root t.dir (suc level) (sym kind ∙ h)) can.names
+
+    tops_mid : (p : Place) (c : ℕ) → m.stands w p → target z ≡ Local c → m.stands c (place_below p j z)
+    tops_mid p c stands e =
+        let top = can.leads c e in
+        let is : p ≡ can.place = x.link.later.one.each w p can.place stands (stands_mid x.link told w can.place can.stands (inl can.in_tree) can.uncovered) in
+        subst (λ q. m.stands c (place_below q j z)) (sym is) (stands_mid x.link told c (place_below can.place j z) top.0 top.1 top.2)
+
+    alike_one : LeadsAlike s.may_leave s.now w j z → LeadsAlike u.may_leave u.now w j z
+    alike_one first = alike_led_in_tree led x.placed_end (λ image is p stands. inner_end told p stands) goes_back not_result (inl not_at)
+        (λ image is p c stands e. tops_mid p c stands e)
+        (x.puts.others w j (inl not_at))
+        (alike_nowhere x.placed_first (λ image is p stands. (x.link.came.was.3 told).1 p stands) (λ image is c e. (place_below can.place j z, (can.leads c e).0)) aside ((x.link.came.others w not_result).slots j) first)
+
+  stays_alike : StaysAlike s u
+  stays_alike = record { each = λ told w j z can first. alike_one told can first }
+
   pub links : Links t level k at i was result s u
   links = record {
     made = made_end;
@@ -436,6 +561,8 @@ module _ {t : Tree} {level k at i n : ℕ} {was : Pointer} {l : Label} {result :
     bytes = bytes_end;
     labels = label_end;
     images = behind;
+    shown = shown_end;
+    alike = stays_alike;
     apart = apart_same;
     instead = instead_end;
     still = still_end;

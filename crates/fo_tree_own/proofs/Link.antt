@@ -22,6 +22,8 @@ use Rattle.fo_tree_look.proofs.of_looks.Looks.{rooted_of_apart, rooted_of_hung}
 use Rattle.fo_tree_look.specs.of_tree_read.declared.tree.Tree.{Tree}
 use Rattle.fo_tree_look.specs.of_tree_read.Tree.{kind_at}
 use Rattle.fo_tree_own.specs.Step.{IsOwn, IsBeside, Filled}
+use Rattle.fo_shown.specs.Shown.{ShowsNoMore}
+use Rattle.fo_shown.proofs.Copying.{aside_shows}
 
 -- ---- blocks of pointers
 
@@ -128,6 +130,10 @@ came {result = result} {s = s} {m = m} gives = record {
     beside : (image : Image) (d : Content) (b : ℕ) → b ≢ result → SameContent (image b) (with_block image result d b)
     beside image d b ne = let e = block_other image result d b ne in record { bytes = ap (λ (y : Content). y.bytes) (sym e); slots = λ j. ap (λ (y : Content). y.slot j) (sym e) }
 
+-- A block that was given out, and may have been filled, shows no more.
+pub came_shows : {l : Label} {result : ℕ} {s m : State} → s.tops 1 → Came l result s m → ShowsNoMore s.may_leave m.may_leave
+came_shows top x = aside_shows (λ image is. let d = x.before image is in (d.other, d.was, d.same)) (λ image is r. x.unreached image is 1 top r)
+
 same_joins : {a b c : Content} → SameContent a b → SameContent b c → SameContent a c
 same_joins p q = record { bytes = p.bytes ∙ q.bytes; slots = λ i. p.slots i ∙ q.slots i }
 
@@ -224,19 +230,28 @@ module _ {t : Tree} {level k at i : ℕ} {l : Label} {result : ℕ} {s m : State
   pub top_ne : {b : ℕ} → s.tells → (h : HangsApart s b) → h.top ≢ result
   top_ne told h e = (x.came.was.3 told).1 h.place (subst (λ y. s.stands y h.place) e h.stands)
 
-  -- where the block above hangs from, once the other was given out
-  pub held_on : s.tells → IsHung m at
-  held_on told = ⊎_elim
-      (λ r. inl (reaches_mid told 1 at super_place (x.laws.super_stands told) r))
+  -- what hangs does so still, once the other was given out
+  pub hung_mid : s.tells → (b : ℕ) → IsHung s b → IsHung m b
+  hung_mid told b hung = ⊎_elim
+      (λ r. inl (reaches_mid told 1 b super_place (x.laws.super_stands told) r))
       (λ h. let apart : m.apart h.top = (x.came.stays.apart h.top (top_ne told h) (λ n. n)).1 h.is_apart in inr (record {
         top = h.top;
         is_apart = apart;
         place = h.place;
         stands = x.came.stays.places told h.top h.place (top_ne told h) (λ n. n) (x.came.only h.top (top_ne told h) h.uncovered) (rooted_of_apart m h.top apart) h.stands;
         uncovered = x.came.only h.top (top_ne told h) h.uncovered;
-        reaches = reaches_mid told h.top at h.place h.stands h.reaches;
+        reaches = reaches_mid told h.top b h.place h.stands h.reaches;
       }))
-      (x.above.told told).hung
+      hung
+
+  pub held_on : s.tells → IsHung m at
+  held_on told = hung_mid told at (x.above.told told).hung
+
+  -- what stands and hangs does so still, at its place
+  pub stands_mid : s.tells → (b : ℕ) (p : Place) → s.stands b p → IsHung s b → (s.covered b → ⊥) → m.stands b p
+  stands_mid told b p stands hung uncovered =
+      let ne : b ≢ result = λ e. (x.came.was.3 told).1 p (subst (λ y. s.stands y p) e stands) in
+      x.came.stays.places told b p ne (λ h. h) (x.came.only b ne uncovered) (rooted_of_hung m x.later.active (hung_mid told b hung)) stands
 
   pub at_place : s.tells → m.stands at (place (kind_at t.dir (suc level)) t.tag k (t.rank + suc level))
   at_place told = x.came.stays.places told at (place (kind_at t.dir (suc level)) t.tag k (t.rank + suc level)) at_ne (λ h. h) (x.came.only at at_ne (x.above.told told).uncovered) (rooted_of_hung m x.later.active (held_on told)) (x.above.told told).stands

@@ -31,7 +31,7 @@ pub record Shown (t : Tree) (level k at i result : ℕ) (m : State) : Type 0 whe
   pub leaves : LeavesNone m ((m.now at).slot i) (To (Local result))
   pub keeps : (c : ℕ) → target ((m.now at).slot i) ≡ Local c → (Local result ≡ Local c) ⊎ Reaches m.now (to_block 1) c
 
-inner_kind : (dir : Bool) (level : ℕ) → IsInner (kind_at dir (suc level))
+pub inner_kind : (dir : Bool) (level : ℕ) → IsInner (kind_at dir (suc level))
 inner_kind true level = omega arith
 inner_kind false level = omega arith
 
@@ -98,6 +98,15 @@ module _ {t : Tree} {level k at i below : ℕ} {l : Label} {result : ℕ} {s m :
 
   pub copied_in_tree : s.tells → Reaches s.now (to_block 1) below
   copied_in_tree told = (x.told told).in_tree x.older
+
+  pub still_older : (m.label below).epoch < m.high
+  still_older = subst (λ n. (m.label below).epoch < n) (sym x.link.all.same_high) (subst (λ (q : Label). q.epoch < s.high) (sym (x.link.came.stays.labels below below_ne)) x.older)
+
+  pub copied_same : SameContent (m.now result) (m.now below)
+  copied_same = let other = x.link.came.others below below_ne in record { bytes = x.here.bytes ∙ sym other.bytes; slots = λ j. x.here.slots j ∙ sym (other.slots j) }
+
+  pub copied_in_mid : s.tells → Reaches m.now (to_block 1) below
+  copied_in_mid told = reaches_mid x.link told 1 below super_place (x.link.laws.super_stands told) (copied_in_tree told)
 
   pub below_stands : s.tells → s.stands below (there t level k i)
   below_stands told = subst (λ q. s.stands below q) (inner_below t.dir level t.tag k t.rank i ((s.now at).slot i)) ((x.link.laws.placed told).each at i below (place (kind_at t.dir (suc level)) t.tag k (t.rank + suc level)) (x.link.above.told told).stands x.leads)

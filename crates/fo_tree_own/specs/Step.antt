@@ -15,6 +15,8 @@ use Rattle.fo_tree_look.specs.of_tree_read.declared.tree.Tree.{Tree}
 use Rattle.fo_tree_look.specs.of_tree_read.Tree.{kind_at, score_of}
 use Rattle.fo_tree_look.specs.declared.ways.Kept.{Kept}
 use Rattle.fo_tree_look.specs.Source.{IsTold, IsPlainTree, IsPrepared, IsKept, find_kept}
+use Rattle.fo_shown.specs.Shown.{ShowsNoMore}
+use Rattle.fo_shown.specs.Alike.{StaysAlike}
 
 -- What a device that tells has of a current block of a source, so many levels above its leaves. Only the source's top may come in its
 -- place.
@@ -92,7 +94,8 @@ pub record OnlyCovers (was : Pointer) (old new : State) : Type 0 where
   pub still : (b : ℕ) → old.covered b → new.covered b
   pub only : (b : ℕ) → (old.covered b → ⊥) → (was ≡ Local b → ⊥) → new.covered b → ⊥
 
--- The block below slot i of a current block, to which this pointer led, was given out anew, and the slot leads to it.
+-- The block below slot i of a current block, to which this pointer led, was given out anew, and the slot leads to it. No image shows more
+-- leaves of records, and what an entry would lead to from its slot shows no more than memory's entry, where it didn't before.
 pub record Links (t : Tree) (level k at i : ℕ) (was : Pointer) (result : ℕ) (old new : State) : Type 0 where
   pub made : Made old new result
   pub own : IsOwn new t level (409 * k + i) result
@@ -102,6 +105,8 @@ pub record Links (t : Tree) (level k at i : ℕ) (was : Pointer) (result : ℕ) 
   pub bytes : (b : ℕ) → b ≢ result → (new.now b).bytes ≡ (old.now b).bytes
   pub labels : (b : ℕ) → b ≢ result → new.label b ≡ old.label b
   pub images : (image : Image) → new.may_leave image → IsBehind at i result old new image
+  pub shown : ShowsNoMore old.may_leave new.may_leave
+  pub alike : StaysAlike old new
   pub apart : (b : ℕ) → b ≢ result → new.apart b ↔ old.apart b
   pub instead : (b x : ℕ) → new.instead b x → old.instead b x
   pub still : (b x : ℕ) → b ≢ result → old.instead b x → new.instead b x

@@ -5,7 +5,8 @@
 //!
 //! Proved, over any blocks and any device, for one step: the block that came is current, pinned, whole and at its place, and so is still
 //! the block above; it has what was there, what was kept under a score, or zeros. No other block changes, in memory and in every image;
-//! nothing is lost that hung from block 1, and what was copied is to be closed where it leaves. Not said: what a whole way changes.
+//! nothing is lost that hung from block 1, and what was copied is to be closed where it leaves. No image shows more in a leaf of records,
+//! nor would it with an entry that led to no more than memory's does. Not said: what a whole way changes.
 #![tactic(auto)]
 
 mod below;

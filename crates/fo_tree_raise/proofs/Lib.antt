@@ -9,3 +9,4 @@ pub mod Holding
 pub mod Standing
 pub mod Coming
 pub mod Keeping
+pub mod Alikes

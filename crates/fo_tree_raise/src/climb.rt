@@ -8,6 +8,8 @@ ghost use Rattle.fo_tree_read.specs.Tree.{block_at};
 ghost use Rattle.fo_tree_look.specs.declared.ways.Kept.{Kept};
 ghost use Rattle.fo_tree_look.specs.Source.{HasBlock, Prepared};
 ghost use Rattle.fo_tree_down.specs.Clear.{EndsClear};
+ghost use Rattle.fo_tree_down.specs.Alike.{KeepsAlike};
+ghost use Rattle.fo_tree_down.specs.of_tree_own.Shown.{ShowsNoMore};
 ghost use Rattle.fo_tree_raise.specs.Raise.{CanRaise, Bears};
 ghost use Rattle.fo_tree_raise.specs.Levels.{Adds, IsTopAfter, InStead, KeepsWays, grown};
 
@@ -37,6 +39,8 @@ pub fn raise_levels<B: Blocks>(tree: &Tree, on: &mut B, levels: u8) -> Pointer
     ensures ways { (kept : List Kept) → KeepsWays (B.state on.old) (B.state on.new) tree.now kept levels result }
     ensures spare { (B.state on.new).spare + levels ≡ (B.state on.old).spare }
     ensures dirties { Dirties (2 * levels) none (B.state on.old) (B.state on.new) }
+    ensures shown { ShowsNoMore (B.state on.old).may_leave (B.state on.new).may_leave }
+    ensures alike { KeepsAlike (B.state on.old) (B.state on.new) tree.now (grown tree.now levels result) }
     ensures keeps { B.keeps on.old on.new }
 {
     if levels == 0 {

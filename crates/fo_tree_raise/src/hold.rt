@@ -6,6 +6,8 @@ ghost use Rattle.fo_tree_read.specs.Tree.{kind_at};
 ghost use Rattle.fo_tree_look.specs.Source.{Over, HasBlock, IsPrepared, Prepared, WayReady};
 ghost use Rattle.fo_tree_down.specs.Way.{OnWay, Comes, IsTopOf, with_top};
 ghost use Rattle.fo_tree_down.specs.Clear.{EndsClear};
+ghost use Rattle.fo_tree_down.specs.Alike.{KeepsAlike};
+ghost use Rattle.fo_tree_down.specs.of_tree_own.Shown.{ShowsNoMore};
 ghost use Rattle.fo_tree_raise.specs.Raise.{CanRaise};
 ghost use Rattle.fo_tree_raise.specs.Levels.{Adds};
 
@@ -33,6 +35,8 @@ pub fn copy_top<B: Blocks>(tree: &Tree, kept: &[Kept], on: &mut B, at: u32) -> u
     ensures clear { EndsClear (B.state on.old) tree.now kept.now → EndsClear (B.state on.new) (with_top tree.now result) kept.now }
     ensures spare { (B.state on.new).spare + 1 ≡ (B.state on.old).spare }
     ensures dirties { Dirties 2 (λ b. b ≡ result) (B.state on.old) (B.state on.new) }
+    ensures shown { ShowsNoMore (B.state on.old).may_leave (B.state on.new).may_leave }
+    ensures alike { KeepsAlike (B.state on.old) (B.state on.new) tree.now (with_top tree.now result) }
     ensures keeps { B.keeps on.old on.new }
 {
     let _ = tree;

@@ -7,6 +7,8 @@ ghost use Rattle.fo_tree_read.specs.Tree.{Hangs};
 ghost use Rattle.fo_tree_look.specs.declared.ways.Kept.{Kept};
 ghost use Rattle.fo_tree_look.specs.Source.{Prepared};
 ghost use Rattle.fo_tree_down.specs.Clear.{EndsClear};
+ghost use Rattle.fo_tree_down.specs.Alike.{KeepsAlike};
+ghost use Rattle.fo_tree_down.specs.of_tree_own.Shown.{ShowsNoMore};
 ghost use Rattle.fo_tree_raise.specs.Raise.{CanRaise, Raises, raised, Bears, SameBelow};
 
 use fo_crash::Slot;
@@ -28,6 +30,8 @@ pub fn raise_once<B: Blocks>(tree: &Tree, on: &mut B) -> u32
     ensures bears { (kept : List Kept) → 0 < tree.now.size → Bears (B.state on.old) tree.now kept → Bears (B.state on.new) (raised tree.now result) kept }
     ensures still { (kept : List Kept) (limit o n : ℕ) → tree.now.size ≤ 8192 * 409 ^ tree.now.depth → Prepared (B.state on.old) tree.now kept limit o n → Prepared (B.state on.new) (raised tree.now result) kept limit o n }
     ensures clear { (kept : List Kept) → 0 < tree.now.size → tree.now.size ≤ 8192 * 409 ^ tree.now.depth → EndsClear (B.state on.old) tree.now kept → EndsClear (B.state on.new) (raised tree.now result) kept }
+    ensures shown { ShowsNoMore (B.state on.old).may_leave (B.state on.new).may_leave }
+    ensures alike { KeepsAlike (B.state on.old) (B.state on.new) tree.now (raised tree.now result) }
     ensures keeps { B.keeps on.old on.new }
 {
     let level = tree.depth + 1;

@@ -8,7 +8,8 @@
 //! faults alone refuse, and then the source has the length that it had, or is shorter and was not trimmed. The source stands over its
 //! blocks, its entry stands where it stood, and each step is the one that `Blocks` knows (`ShortensBy`, `LengthensBy`). Where the device
 //! tells, the source's bytes are those of the plain world's change of length, and an image of a source that was trimmed has the leaves
-//! that memory has. It asks, where the device tells, that no slot waits to be cleared, and that no level that goes is under a score.
+//! that memory has. No image shows more in a leaf of records. It asks, where the device tells, that no slot waits to be cleared, and that
+//! no level that goes is under a score.
 #![tactic(auto)]
 
 mod error;

@@ -9,6 +9,7 @@ ghost use Rattle.fo_ports.specs.Sources.{AddsDirty, Dirties, DirtiesIn, depth_fo
 ghost use Rattle.fo_tree_look.specs.Source.{Over, WayReady, leaves_of};
 ghost use Rattle.fo_tree_down.specs.Clear.{EndsClear, last_leaf};
 ghost use Rattle.fo_tree_link.specs.Change.{HangsInTree};
+ghost use Rattle.fo_tree_trim.specs.of_tree_own.Shown.{ShowsNoMore};
 ghost use Rattle.fo_tree_append.specs.Append.{ended};
 ghost use Rattle.fo_tree_append.specs.Grown.{GrownTo};
 ghost use Rattle.fo_tree_shorten.specs.Shorten.{EntryAt};
@@ -52,6 +53,7 @@ pub(crate) fn set_longer<B: Blocks>(
     ensures room { (B.state on.old).room ≤ (B.state on.new).room + (409 * ways.old.tree.depth + 1) }
     ensures pins { (B.state on.new).pins_left ≡ (B.state on.old).pins_left }
     ensures cause { IfErr result (Caused ⊥ (λ b. ⊥) (Rose (B.state on.old).faults (B.state on.new).faults) ⊥) }
+    ensures shown { ShowsNoMore (B.state on.old).may_leave (B.state on.new).may_leave }
     ensures keeps { B.keeps on.old on.new }
 {
     match trim_settled(ways, on, at, i) {
@@ -85,6 +87,7 @@ fn lengthen<B: Blocks>(ways: &mut Ways, on: &mut B, at: u32, i: u32, len: u64)
     ensures dirties { (first : B) (blocks : List ℕ) → DirtiesIn blocks (B.state first) (B.state on.old) → Contains blocks at → AddsDirty (2 * (depth_for len + 1)) blocks at (B.state first) (B.state on.new) }
     ensures room { (B.state on.old).room ≤ (B.state on.new).room + 1 }
     ensures pins { (B.state on.new).pins_left ≡ (B.state on.old).pins_left }
+    ensures shown { ShowsNoMore (B.state on.old).may_leave (B.state on.new).may_leave }
     ensures keeps { B.keeps on.old on.new }
 {
     grow_ways(ways, on, len);
@@ -105,6 +108,7 @@ fn grow_ways<B: Blocks>(ways: &mut Ways, on: &mut B, len: u64)
     ensures clear { EndsClear (B.state on.new) ways.new.tree ways.new.kept.items }
     ensures bytes { (B.state on.old).tells → (leaves_of (B.state on.new) ways.new.tree ways.new.kept.items ways.new.limit).bytes ≡ resized (leaves_of (B.state on.old) ways.old.tree ways.old.kept.items ways.old.limit).bytes len }
     ensures dirties { Dirties (2 * (depth_for len + 1)) none (B.state on.old) (B.state on.new) }
+    ensures shown { ShowsNoMore (B.state on.old).may_leave (B.state on.new).may_leave }
     ensures keeps { B.keeps on.old on.new }
 {
     let grown = grow_to(&ways.tree, &ways.kept, on, len);

@@ -1,5 +1,5 @@
 //! A source gets a shorter length.
-ghost use Rattle.std.specs.Prelude.{◌≡◌, ◌≢◌, ◌⊎◌, ◌+◌, ◌-◌, ◌*◌, ◌<◌, ◌≤◌, ℕ, List, take, false, IfOk, IfErr};
+ghost use Rattle.std.specs.Prelude.{◌≡◌, ◌≢◌, ◌⊎◌, ◌+◌, ◌-◌, ◌*◌, ◌%◌, ◌<◌, ◌≤◌, ℕ, List, take, false, IfOk, IfErr};
 ghost use Rattle.std.specs.List.{Contains};
 ghost use Rattle.fo_base.specs.Cause.{Rose};
 ghost use Rattle.fo_image.specs.declared.types.Score.{Score};
@@ -10,6 +10,7 @@ ghost use Rattle.fo_tree_read.specs.Tree.{block_at};
 ghost use Rattle.fo_tree_look.specs.Source.{Over, WayReady, leaves_of};
 ghost use Rattle.fo_tree_down.specs.Clear.{EndsClear, last_leaf};
 ghost use Rattle.fo_tree_link.specs.Change.{HangsInTree};
+ghost use Rattle.fo_tree_trim.specs.of_tree_own.Shown.{ShowsNoMore};
 ghost use Rattle.fo_tree_shorten.specs.Shorten.{EntryAt};
 ghost use Rattle.fo_tree_set.specs.Set.{ShortensBy, SameForm};
 
@@ -50,6 +51,7 @@ pub(crate) fn set_shorter<B: Blocks>(
     ensures room { (B.state on.old).room ≤ (B.state on.new).room + (409 * (ways.old.tree.depth + depth_for len) + 1) }
     ensures pins { (B.state on.new).pins_left ≡ (B.state on.old).pins_left }
     ensures cause { IfErr result (Caused ⊥ (λ b. ⊥) (Rose (B.state on.old).faults (B.state on.new).faults) ⊥) }
+    ensures shown { ways.old.tree.rank % 32 ≢ 16 → ShowsNoMore (B.state on.old).may_leave (B.state on.new).may_leave }
     ensures keeps { B.keeps on.old on.new }
 {
     shorten(ways, on, at, i, len);

@@ -10,6 +10,7 @@ ghost use Rattle.fo_tree_down.specs.Clear.{EndsClear, last_leaf};
 ghost use Rattle.fo_tree_down.specs.Way.{with_top};
 ghost use Rattle.fo_tree_link.specs.Change.{HangsInTree};
 ghost use Rattle.fo_tree_trim.specs.Trim.{AddsEnd, IsEndCurrent};
+ghost use Rattle.fo_tree_trim.specs.of_tree_own.Shown.{ShowsNoMore};
 ghost use Rattle.fo_tree_shorten.specs.Shorten.{EntryAt};
 ghost use Rattle.fo_tree_set.specs.Set.{Rested, TrimsBy, MayTrim};
 
@@ -46,6 +47,7 @@ pub(crate) fn trim_settled<B: Blocks>(
     ensures room { (B.state on.old).room ≤ (B.state on.new).room + 409 * ways.old.tree.depth }
     ensures pins { (B.state on.new).pins_left ≡ (B.state on.old).pins_left }
     ensures cause { IfErr result (Caused ⊥ (λ b. ⊥) (Rose (B.state on.old).faults (B.state on.new).faults) ⊥) }
+    ensures shown { ShowsNoMore (B.state on.old).may_leave (B.state on.new).may_leave }
     ensures keeps { B.keeps on.old on.new }
 {
     if is_clear(ways, on) {
@@ -87,6 +89,7 @@ fn cut_end<B: Blocks>(ways: &mut Ways, on: &mut B, at: u32, i: u32) -> Result<()
     ensures room { (B.state on.old).room ≤ (B.state on.new).room + 409 * ways.old.tree.depth }
     ensures pins { (B.state on.new).pins_left ≡ (B.state on.old).pins_left }
     ensures cause { IfErr result (Caused ⊥ (λ b. ⊥) (Rose (B.state on.old).faults (B.state on.new).faults) ⊥) }
+    ensures shown { ShowsNoMore (B.state on.old).may_leave (B.state on.new).may_leave }
     ensures keeps { B.keeps on.old on.new }
 {
     match rest(ways, on, at, i) {
@@ -122,6 +125,7 @@ fn rest<B: Blocks>(ways: &mut Ways, on: &mut B, at: u32, i: u32) -> Result<(), B
     ensures room { (B.state on.new).room ≡ (B.state on.old).room }
     ensures pins { (B.state on.new).pins_left ≡ (B.state on.old).pins_left }
     ensures cause { IfErr result (Caused ⊥ (λ b. ⊥) (Rose (B.state on.old).faults (B.state on.new).faults) ⊥) }
+    ensures shown { ShowsNoMore (B.state on.old).may_leave (B.state on.new).may_leave }
     ensures keeps { B.keeps on.old on.new }
 {
     make_ready(ways, on, at, i);

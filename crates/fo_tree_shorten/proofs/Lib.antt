@@ -3,7 +3,10 @@ pub mod Entries
 pub mod Hanging
 pub mod Through
 pub mod Standing
+pub mod Relinking
+pub mod Copied
 pub mod Settling
+pub mod Showing
 pub mod of_tree_down
 pub mod of_tree_own
 pub mod of_tree_trim

@@ -1,17 +1,18 @@
 //! A source is trimmed.
-ghost use Rattle.std.specs.Prelude.{◌≡◌, ◌≢◌, ◌⊎◌, ◌+◌, ◌-◌, ◌*◌, ◌<◌, ◌≤◌, ℕ, List, true, false};
+ghost use Rattle.std.specs.Prelude.{◌≡◌, ◌≢◌, ◌⊎◌, ◌+◌, ◌-◌, ◌*◌, ◌/◌, ◌<◌, ◌≤◌, ℕ, List, true, false};
 ghost use Rattle.std.specs.List.{Contains};
 ghost use Rattle.fo_crash.specs.Images.{Image, Reaches, to_block};
 ghost use Rattle.fo_crash.specs.Steps.{AllAre};
-ghost use Rattle.fo_ports.specs.Sources.{AddsDirty, Changes, Dirties, DirtiesIn};
+ghost use Rattle.fo_ports.specs.Sources.{AddsDirty, Changes, Dirties, DirtiesIn, Made};
 ghost use Rattle.fo_tree_read.specs.Tree.{kind_at};
 ghost use Rattle.fo_tree_look.specs.Source.{Over, HasBlock, WayReady, IsTopCurrent, leaves_of};
 ghost use Rattle.fo_tree_link.specs.of_tree_down.Clear.{EndsClear, last_leaf};
-ghost use Rattle.fo_tree_link.specs.of_tree_down.Way.{IsTopOf, with_top};
+ghost use Rattle.fo_tree_link.specs.of_tree_down.Way.{IsTopOf, StaysBeside, with_top};
 ghost use Rattle.fo_tree_link.specs.Change.{HangsInTree};
 ghost use Rattle.fo_tree_trim.specs.Behind.{IsPast};
 ghost use Rattle.fo_tree_trim.specs.Cut.{CutSlot, Cuts, MayCut};
 ghost use Rattle.fo_tree_trim.specs.Trim.{AddsEnd, IsEndCurrent, OnEnd, Shows};
+ghost use Rattle.fo_tree_trim.specs.of_tree_own.Shown.{ShowsNoMore};
 ghost use Rattle.fo_tree_shorten.specs.Shorten.{EntryAt, Readies, Trims};
 
 use fo_image::Pointer;
@@ -42,6 +43,7 @@ pub fn trim<B: Blocks>(ways: &mut Ways, on: &mut B, at: u32, i: u32)
     ensures less { IsTopCurrent (B.state on.old) ways.old.tree → (B.state on.old).spare ≤ (B.state on.new).spare + (ways.old.tree.depth - 1) }
     ensures dirties { (first : B) (blocks : List ℕ) → DirtiesIn blocks (B.state first) (B.state on.old) → Contains blocks at → AddsDirty (2 * ways.old.tree.depth) blocks at (B.state first) (B.state on.new) }
     ensures room { (B.state on.old).room ≤ (B.state on.new).room + 409 * ways.old.tree.depth }
+    ensures shown { ShowsNoMore (B.state on.old).may_leave (B.state on.new).may_leave }
     ensures keeps { B.keeps on.old on.new }
 {
     if is_clear(ways, on) {
@@ -73,6 +75,7 @@ pub fn make_ready<B: Blocks>(ways: &mut Ways, on: &mut B, at: u32, i: u32)
     ensures less { IsTopCurrent (B.state on.old) ways.old.tree → (B.state on.old).spare ≤ (B.state on.new).spare + (ways.old.tree.depth - 1) }
     ensures dirties { (first : B) (blocks : List ℕ) → DirtiesIn blocks (B.state first) (B.state on.old) → Contains blocks at → AddsEnd (2 * ways.old.tree.depth) blocks at ways.new.tree (B.state first) (B.state on.new) }
     ensures room { (B.state on.new).room ≡ (B.state on.old).room }
+    ensures shown { ShowsNoMore (B.state on.old).may_leave (B.state on.new).may_leave }
     ensures keeps { B.keeps on.old on.new }
 {
     own_ways(ways, on);
@@ -100,6 +103,7 @@ pub fn cut<B: Blocks>(ways: &Ways, on: &mut B, at: u32, i: u32)
     ensures cuts { Cuts (CutSlot (B.state on.old) ways.now.tree (last_leaf ways.now.tree.size) (409 * ways.now.tree.depth)) (B.state on.old) (B.state on.new) }
     ensures dirties { (first : B) (blocks : List ℕ) → DirtiesIn blocks (B.state first) (B.state on.old) → ((b : ℕ) → OnEnd (B.state on.old) ways.now.tree b → Contains blocks b) → DirtiesIn blocks (B.state first) (B.state on.new) }
     ensures room { (B.state on.old).room ≤ (B.state on.new).room + 409 * ways.now.tree.depth }
+    ensures shown { ShowsNoMore (B.state on.old).may_leave (B.state on.new).may_leave }
     ensures keeps { B.keeps on.old on.new }
 {
     let _ = (at, i);
@@ -128,11 +132,15 @@ fn own_ways<B: Blocks>(ways: &mut Ways, on: &mut B)
     ensures ready { WayReady (B.state on.new) ways.new.tree ways.new.kept.items ways.new.tree.depth (last_leaf ways.new.tree.size) }
     ensures over { Over (B.state on.new) ways.new.tree ways.new.kept.items ways.new.limit }
     ensures bytes { (B.state on.old).tells → (leaves_of (B.state on.new) ways.new.tree ways.new.kept.items ways.new.limit).bytes ≡ (leaves_of (B.state on.old) ways.old.tree ways.old.kept.items ways.old.limit).bytes }
+    ensures beside { (B.state on.old).tells → StaysBeside (B.state on.old) (B.state on.new) ways.old.tree ways.new.tree (ways.old.tree.depth - 1) (last_leaf ways.old.tree.size / 409) }
+    ensures owns { (B.state on.old).tells → (b : ℕ) → HasBlock (B.state on.new) ways.new.tree b → HasBlock (B.state on.old) ways.old.tree b ⊎ Made (B.state on.old) (B.state on.new) b }
+    ensures stays { (B.state on.old).tells → (b : ℕ) → HasBlock (B.state on.old) ways.old.tree b → ((B.state on.old).label b).epoch ≡ (B.state on.old).high → HasBlock (B.state on.new) ways.new.tree b }
     ensures changes { Changes ways.old.tree.tag (HasBlock (B.state on.old) ways.old.tree) (λ b. HasBlock (B.state on.old) ways.old.tree b × (((B.state on.old).label b).kind ≢ kind_at ways.old.tree.dir 0)) (B.state on.old) (B.state on.new) }
     ensures spare { (B.state on.old).spare ≤ (B.state on.new).spare + ways.old.tree.depth }
     ensures less { IsTopCurrent (B.state on.old) ways.old.tree → (B.state on.old).spare ≤ (B.state on.new).spare + (ways.old.tree.depth - 1) }
     ensures dirties { Dirties (2 * ways.old.tree.depth) (OnEnd (B.state on.new) ways.new.tree) (B.state on.old) (B.state on.new) }
     ensures room { (B.state on.new).room ≡ (B.state on.old).room }
+    ensures shown { ShowsNoMore (B.state on.old).may_leave (B.state on.new).may_leave }
     ensures keeps { B.keeps on.old on.new }
 {
     let top = own_end(&ways.tree, &ways.kept, on);
@@ -154,6 +162,7 @@ fn cut_ways<B: Blocks>(ways: &Ways, on: &mut B)
     ensures cuts { Cuts (CutSlot (B.state on.old) ways.now.tree (last_leaf ways.now.tree.size) (409 * ways.now.tree.depth)) (B.state on.old) (B.state on.new) }
     ensures dirties { (first : B) (blocks : List ℕ) → DirtiesIn blocks (B.state first) (B.state on.old) → ((b : ℕ) → OnEnd (B.state on.old) ways.now.tree b → Contains blocks b) → DirtiesIn blocks (B.state first) (B.state on.new) }
     ensures room { (B.state on.old).room ≤ (B.state on.new).room + 409 * ways.now.tree.depth }
+    ensures shown { ShowsNoMore (B.state on.old).may_leave (B.state on.new).may_leave }
     ensures keeps { B.keeps on.old on.new }
 {
     cut_behind(&ways.tree, &ways.kept, on);

@@ -1,5 +1,5 @@
 //! A source loses its last bytes.
-ghost use Rattle.std.specs.Prelude.{◌≡◌, ◌≢◌, ◌+◌, ◌-◌, ◌*◌, ◌<◌, ◌≤◌, ℕ, List, take, false};
+ghost use Rattle.std.specs.Prelude.{◌≡◌, ◌≢◌, ◌+◌, ◌-◌, ◌*◌, ◌%◌, ◌<◌, ◌≤◌, ℕ, List, take, false};
 ghost use Rattle.std.specs.List.{Contains};
 ghost use Rattle.fo_image.specs.declared.types.Score.{Score};
 ghost use Rattle.fo_image.specs.declared.types.Pointer.TheVariants.{Nil, Local, Score as Held};
@@ -10,6 +10,7 @@ ghost use Rattle.fo_tree_look.specs.Source.{Over, HasBlock, WayReady, leaves_of}
 ghost use Rattle.fo_tree_link.specs.of_tree_down.Clear.{last_leaf};
 ghost use Rattle.fo_tree_link.specs.Link.{CanLink};
 ghost use Rattle.fo_tree_link.specs.Change.{HangsInTree};
+ghost use Rattle.fo_tree_trim.specs.of_tree_own.Shown.{ShowsNoMore};
 ghost use Rattle.fo_tree_shorten.specs.Shorten.{EntryAt, Links, shorter};
 
 use fo_image::Pointer;
@@ -42,6 +43,7 @@ pub fn shorten<B: Blocks>(ways: &mut Ways, on: &mut B, at: u32, i: u32, end: u64
     ensures leaves { (B.state on.old).tells → (b : ℕ) → HasBlock (B.state on.old) ways.old.tree b → (Reaches (B.state on.new).now (to_block 1) b → ⊥) → (B.state on.new).covered b }
     ensures dirties { (first : B) (blocks : List ℕ) → DirtiesIn blocks (B.state first) (B.state on.old) → Contains blocks at → DirtiesIn blocks (B.state first) (B.state on.new) }
     ensures room { (B.state on.old).room ≤ (B.state on.new).room + (409 * ways.old.tree.depth + 1) }
+    ensures shown { ways.old.tree.rank % 32 ≢ 16 → ShowsNoMore (B.state on.old).may_leave (B.state on.new).may_leave }
     ensures keeps { B.keeps on.old on.new }
 {
     ways.tree = cut_off(&ways.tree, &ways.kept, on, ways.generation, at, i, end);

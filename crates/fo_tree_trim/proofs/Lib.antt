@@ -18,5 +18,6 @@ pub mod Fronts
 pub mod Holding
 pub mod Counting
 pub mod Knowing
+pub mod Showing
 pub mod of_tree_down
 pub mod of_tree_own

@@ -10,6 +10,7 @@ ghost use Rattle.fo_ports.specs.State.{MayRemoveSlot};
 ghost use Rattle.fo_tree_look.specs.Source.{Over, WayReady, leaves_of};
 ghost use Rattle.fo_tree_down.specs.Clear.{EndsClear, last_leaf};
 ghost use Rattle.fo_tree_down.specs.Way.{IsWayIndex, WayCurrent};
+ghost use Rattle.fo_tree_down.specs.of_tree_own.Shown.{ShowsNoMore};
 ghost use Rattle.fo_tree_trim.specs.Behind.{IsPast};
 ghost use Rattle.fo_tree_trim.specs.Cut.{CutsOne, CutSlot, Cuts, MayCut};
 ghost use Rattle.fo_tree_trim.specs.Trim.{LeavesStay, Shows, IsEndCurrent, OnEnd};
@@ -41,6 +42,7 @@ pub fn cut_behind<B: Blocks>(tree: &Tree, kept: &[Kept], on: &mut B)
     ensures shows { (B.state on.old).tells → AllAre (B.state on.old).now (B.state on.old).may_leave → (image : Image) → (B.state on.new).may_leave image → Shows (B.state on.old) image tree.now (last_leaf tree.now.size) }
     ensures dirties { (first : B) (blocks : List ℕ) → DirtiesIn blocks (B.state first) (B.state on.old) → ((b : ℕ) → OnEnd (B.state on.old) tree.now b → Contains blocks b) → DirtiesIn blocks (B.state first) (B.state on.new) }
     ensures room { (B.state on.old).room ≤ (B.state on.new).room + 409 * tree.now.depth }
+    ensures shown { ShowsNoMore (B.state on.old).may_leave (B.state on.new).may_leave }
     ensures keeps { B.keeps on.old on.new }
 {
     if tree.depth == 0 {

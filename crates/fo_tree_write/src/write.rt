@@ -7,6 +7,7 @@ ghost use Rattle.fo_image.specs.declared.types.Pointer.{Pointer};
 ghost use Rattle.fo_image.specs.declared.types.Pointer.TheVariants.{Local};
 ghost use Rattle.fo_tree_clear.specs.of_tree_down.Clear.{EndsClear};
 ghost use Rattle.fo_tree_clear.specs.of_tree_look.Source.{Over, HasBlock, IsPlainTree, Prepared, leaves_of};
+ghost use Rattle.fo_tree_clear.specs.of_tree_own.Shown.{ShowsNoMore};
 ghost use Rattle.fo_tree_write.specs.Write.{at_top, OnWays};
 
 use fo_base::BLOCK;
@@ -43,6 +44,7 @@ pub fn put_within<B: Blocks>(
     ensures spare { (B.state on.old).spare ≤ (B.state on.new).spare + most_for tree.now.size (length piece.now) }
     ensures dirties { Dirties (2 * most_for tree.now.size (length piece.now)) none (B.state on.old) (B.state on.new) }
     ensures room { (B.state on.new).room ≡ (B.state on.old).room }
+    ensures shown { ShowsNoMore (B.state on.old).may_leave (B.state on.new).may_leave }
     ensures keeps { B.keeps on.old on.new }
 {
     let mut top = tree.top;

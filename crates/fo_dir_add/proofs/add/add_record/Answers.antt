@@ -3,9 +3,10 @@ use Rattle.fo_crash.specs.Images.{Image}
 use Rattle.fo_meta.specs.Leaf.{SpellsLeaf}
 use Rattle.fo_dir_put.specs.Names.{AddsOne, MayStand}
 use Rattle.fo_dir_put.specs.Differ.{AreDistinct, MayName}
+use Rattle.fo_dir_put.specs.Once.{MayComeOnce}
 use Rattle.fo_dir_put.specs.Paired.{AddsPaired}
-use Rattle.fo_dir_add.specs.Adds.{AddsAlone}
-use Rattle.fo_dir_add.proofs.Added.{adds_one, may_stand, may_name, adds_paired}
+use Rattle.fo_dir_add.specs.Adds.{AddsAlone, AddsOnce}
+use Rattle.fo_dir_add.proofs.Added.{adds_one, may_stand, may_name, may_come, adds_paired}
 use Rattle.fo_dir_add.proofs.add.add_record.Goals as goal
 use Rattle.fo_dir_put.proofs.of_dirties.Putting.{dirties_at_once}
 
@@ -37,6 +38,14 @@ returns-in-Ok-clause-named g c = λ leaves alone all.
     subst AreDistinct back (all.within c.args.leaf in_leaf t.now (g.met.B.Blocks.present b (g.met.B.Blocks.told b image is))) in
     let may = may_name leaves c.args.leaf s.records c.args.named.now c.args.bytes.now c.insert.new.leaf t.may_leave s.spells now (subst (λ xs. AddsAlone c.args.named.now c.args.leaf leaves xs t.may_leave) back alone) distinct in
     c.add_name.ensures.named leaves (subst (λ xs. MayName leaves c.args.leaf c.insert.new.leaf xs t.may_leave) c.requires.bytes.1 may) all
+
+pub returns-in-Ok-clause-once : goal.returns-in-Ok-clause-once
+returns-in-Ok-clause-once g c = λ adds once.
+    let t = g.B.Blocks.state c.args.on.now in
+    let s = c.requires.bytes.0 in
+    let now = c.in-Ok.ensures.added s.records s.spells in
+    let may = may_come c.args.leaf s.records c.args.named.now c.args.bytes.now c.insert.new.leaf t.may_leave s.spells now (subst (λ xs. AddsOnce c.args.named.now c.args.leaf xs t.may_leave) (sym c.requires.bytes.1) adds) once in
+    c.add_name.ensures.once (subst (λ xs. MayComeOnce c.args.leaf c.insert.new.leaf xs t.may_leave) c.requires.bytes.1 may) once
 
 pub returns-in-Ok-clause-paired : goal.returns-in-Ok-clause-paired
 returns-in-Ok-clause-paired g c = λ n a e m slot same one two all.

@@ -2,6 +2,7 @@ use Rattle.std.proofs.Common.{refl, subst, [], ◌∷◌}
 use Rattle.fo_meta.specs.Leaf.{SpellsLeaf}
 use Rattle.fo_dir_change.proofs.Without.{split_at}
 use Rattle.fo_dir_change.proofs.Changed.{changed_are, changed_stood, changed_stands, changed_name}
+use Rattle.fo_dir_change.proofs.Onced.{changed_once}
 use Rattle.fo_dir_change.proofs.change.change_record.Goals as goal
 use Rattle.fo_dir_put.proofs.of_dirties.Putting.{dirties_at_once}
 
@@ -40,3 +41,10 @@ returns-in-Err-clause-keeps g c = g.met.B.Blocks.keeps_at_once c.args.on.now
 
 pub returns-in-Err-clause-dirties : goal.returns-in-Err-clause-dirties
 returns-in-Err-clause-dirties g c = dirties_at_once (g.B.Blocks.state c.args.on.now) (c.args.leaf ∷ [])
+
+pub returns-in-Ok-clause-once : goal.returns-in-Ok-clause-once
+returns-in-Ok-clause-once g c = λ f bears once.
+    let s = c.requires.bytes.0 in
+    let was = subst (λ xs. SpellsLeaf s.records xs) c.requires.bytes.1 s.spells in
+    let split = split_at c.args.name.now s.records (c.requires.there.each s.records was) in
+    c.change_leaf.ensures.once (changed_once split was c.args.leaf (g.B.Blocks.state c.args.on.now).may_leave once (c.in-Ok.ensures.replaced s.records s.spells) f bears) once

@@ -5,6 +5,7 @@ use Rattle.fo_dir_put.specs.of_crash.Images.{Image}
 use Rattle.fo_dir_put.specs.Differ.{AreDistinct}
 use Rattle.fo_dir_change.proofs.Without.{split_at, one_leaf}
 use Rattle.fo_dir_change.proofs.Changed.{kept_are, kept_stand, kept_stood, left_was, left_name}
+use Rattle.fo_dir_change.proofs.Onced.{left_once}
 use Rattle.fo_dir_change.proofs.take.take_record.Goals as goal
 use Rattle.fo_dir_put.proofs.of_dirties.Putting.{dirties_at_once}
 
@@ -51,3 +52,10 @@ returns-clause-paired g c = λ n a e all.
 
 pub returns-then-not-remove-clause-dirties : goal.returns-then-not-remove-clause-dirties
 returns-then-not-remove-clause-dirties g c = dirties_at_once (g.B.Blocks.state c.args.on.now) (c.args.leaf ∷ [])
+
+pub returns-clause-once : goal.returns-clause-once
+returns-clause-once g c = λ once.
+    let s = c.requires.bytes.0 in
+    let r = c.remove.ensures.removed s.records s.spells in
+    let was = subst (λ xs. SpellsLeaf s.records xs) c.requires.bytes.1 s.spells in
+    c.change_leaf.ensures.once (left_once (split_at c.args.name.now s.records (sym r.0 ∙ c.if-not-remove.false)) was c.args.leaf (g.B.Blocks.state c.args.on.now).may_leave once r.1) once

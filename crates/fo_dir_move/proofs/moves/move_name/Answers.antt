@@ -10,6 +10,10 @@ use Rattle.fo_dir_put.proofs.Leaves.{leaf_long}
 use Rattle.fo_dir_put.proofs.Aparts.{others_fit, others_apart, rest_but, nothing_shows, shows_apart, apart_back}
 use Rattle.fo_dir_move.proofs.Settled.{ready_taken, settle_taken, fit_later, backs_later}
 use Rattle.fo_dir_move.proofs.Aside.{kept_stands, moved_stands, settled_stands, back_stands, apart_settled}
+use Rattle.fo_dir_put.specs.Once.{StandOnce, MayComeOnce}
+use Rattle.fo_dir_put.proofs.Once.{shows_once}
+use Rattle.fo_dir_put.proofs.Finds.{nothing_finds, finds_shows}
+use Rattle.fo_dir_move.proofs.Once.{HasLaws, once_told, left_once, back_once, moved_once}
 use Rattle.fo_dir_move.proofs.Alone.{moves_alone, ready_after, settled_but}
 use Rattle.fo_dir_move.proofs.moves.move_name.Goals as goal
 use Rattle.fo_dir_put.proofs.of_dirties.Adding.{dirties_quiet, dirties_more, dirties_then, cons_of, none_of, all_of, first_of, next_of}
@@ -200,3 +204,50 @@ returns-in-Err-clause-dirties g c =
     let all = g.met.B.Blocks.keeps_all c.change_leaf.new.on c.settle_between.new.on c.settle_between.ensures.keeps in
     let settled = dirties_rests (g.B.Blocks.state c.change_leaf.new.on) (g.B.Blocks.state c.settle_between.new.on) all c.settle_between.ensures.rests in
     dirties_more (cons_of first_of none_of) (dirties_then (dirties_quiet c.change_leaf.ensures.dirties settled) c.put_record-in-Err.ensures.dirties all_of)
+
+pub returns-in-Ok-clause-once : goal.returns-in-Ok-clause-once
+returns-in-Ok-clause-once g c = λ beside keys first second once.
+    let b = c.args.on.now in let t = c.change_leaf.new.on in let m = c.settle_between.new.on in let n = c.put_record.new.on in
+    let o = g.B.Blocks.state b in
+    let u = g.B.Blocks.state m in
+    let s = c.settle_between.ensures in
+    let before = g.met.B.Blocks.keeps_all b t c.change_leaf.ensures.keeps in
+    let between = g.met.B.Blocks.keeps_all t m s.keeps in
+    let after = g.met.B.Blocks.keeps_all m n c.put_record.ensures.keeps in
+    let same = s.leaves.to_is ∙ c.change_leaf.ensures.puts.others c.args.to (λ e. c.requires.differ (sym e)) in
+    let left = s.leaves.from_is ∙ c.change_leaf.ensures.puts.here in
+    let mid : StandOnce u.may_leave = shows_once (finds_shows (nothing_finds s.images)) (c.change_leaf.ensures.once (left_once keys first) once) in
+    once_told {told = u.tells} (λ image is. after.still_tells.0 (g.met.B.Blocks.told n image is)) (λ told.
+    let was = before.still_tells.0 (between.still_tells.0 told) in
+    let laws : HasLaws o = record {
+      now = g.met.B.Blocks.present b was;
+      top = (g.met.B.Blocks.active b).0;
+      one_spot = g.met.B.Blocks.one_spot b;
+      super_at = g.met.B.Blocks.super_stands b was;
+      placed = λ image is. g.met.B.Blocks.placed b image is;
+      few = λ image is. g.met.B.Blocks.few b image is;
+    } in
+    let may = moved_once laws once (beside was) c.change_leaf.ensures.others s.images c.in-Ok.ensures.all ((s.ready.from_place told).leaf_linked) left keys second in
+    c.put_record.ensures.once (subst (λ xs. MayComeOnce c.args.to c.args.with.now xs u.may_leave) (sym same) may) mid)
+
+pub returns-in-Err-clause-once : goal.returns-in-Err-clause-once
+returns-in-Err-clause-once g c = λ beside keys first second once.
+    let b = c.args.on.now in let t = c.change_leaf.new.on in let m = c.settle_between.new.on in let n = c.put_record-in-Err.new.on in
+    let o = g.B.Blocks.state b in
+    let u = g.B.Blocks.state m in
+    let s = c.settle_between.ensures in
+    let before = g.met.B.Blocks.keeps_all b t c.change_leaf.ensures.keeps in
+    let between = g.met.B.Blocks.keeps_all t m s.keeps in
+    let after = g.met.B.Blocks.keeps_all m n c.put_record-in-Err.ensures.keeps in
+    let mid : StandOnce u.may_leave = shows_once (finds_shows (nothing_finds s.images)) (c.change_leaf.ensures.once (left_once keys first) once) in
+    once_told {told = u.tells} (λ image is. after.still_tells.0 (g.met.B.Blocks.told n image is)) (λ told.
+    let was = before.still_tells.0 (between.still_tells.0 told) in
+    let laws : HasLaws o = record {
+      now = g.met.B.Blocks.present b was;
+      top = (g.met.B.Blocks.active b).0;
+      one_spot = g.met.B.Blocks.one_spot b;
+      super_at = g.met.B.Blocks.super_stands b was;
+      placed = λ image is. g.met.B.Blocks.placed b image is;
+      few = λ image is. g.met.B.Blocks.few b image is;
+    } in
+    c.put_record-in-Err.ensures.once (back_once laws once (beside was) c.change_leaf.ensures.others s.images c.requires.back.1) mid)

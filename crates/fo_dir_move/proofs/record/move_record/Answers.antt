@@ -2,7 +2,8 @@ use Rattle.std.proofs.Common.{refl, sym, subst, [], ◌∷◌}
 use Rattle.fo_meta.specs.Leaf.{SpellsLeaf, without}
 use Rattle.fo_dir_put.specs.Differ.{AllDiffer}
 use Rattle.fo_dir_change.proofs.Without.{named_is}
-use Rattle.fo_dir_move.proofs.Whole.{found_splits, moves_keys, left_differ, with_differ, none_there, moves_paired}
+use Rattle.fo_dir_move.proofs.Whole.{found_splits, moves_keys, left_differ, with_differ, none_there, r_there, moves_paired}
+use Rattle.fo_dir_move.proofs.Once.{HasLaws, once_told, from_distinct, to_distinct, none_both}
 use Rattle.fo_dir_move.proofs.record.move_record.Goals as goal
 use Rattle.fo_dir_put.proofs.of_dirties.Putting.{dirties_at_once}
 
@@ -92,3 +93,61 @@ returns-in-Err-move_name-clause-paired g c = λ n a e backed stays all.
 
 pub returns-in-Err-clause-dirties : goal.returns-in-Err-clause-dirties
 returns-in-Err-clause-dirties g c = dirties_at_once (g.B.Blocks.state c.args.on.now) (c.args.from ∷ c.args.to ∷ [])
+
+pub returns-in-Ok-move_name-clause-once : goal.returns-in-Ok-move_name-clause-once
+returns-in-Ok-move_name-clause-once g c = λ beside once.
+    let b = c.args.on.now in
+    let t = g.B.Blocks.state b in
+    let r = c.args.named.now in
+    let s = c.requires.from_bytes.0 in
+    let ts = c.requires.to_bytes.0 in
+    let was = subst (λ xs. SpellsLeaf s.records xs) c.requires.from_bytes.1 s.spells in
+    let were = subst (λ xs. SpellsLeaf ts.records xs) c.requires.to_bytes.1 ts.spells in
+    let found = c.requires.first.each s.records was in
+    let split = found_splits r.name s.records r found in
+    let is = named_is split found in
+    let left = subst (λ xs. SpellsLeaf (without xs s.records) c.without_name-left.result) c.as_slice.ensures (c.without_name-left.ensures.taken.each s.records s.spells) in
+    let more = c.in-Ok.ensures.added ts.records ts.spells in
+    let n = c.move_name.new.on in
+    let all = g.met.B.Blocks.keeps_all b n c.move_name.ensures.keeps in
+    once_told {told = t.tells} (λ image h. all.still_tells.0 (g.met.B.Blocks.told n image h)) (λ told.
+    let laws : HasLaws t = record {
+      now = g.met.B.Blocks.present b told;
+      top = (g.met.B.Blocks.active b).0;
+      one_spot = g.met.B.Blocks.one_spot b;
+      super_at = g.met.B.Blocks.super_stands b told;
+      placed = λ image h. g.met.B.Blocks.placed b image h;
+      few = λ image h. g.met.B.Blocks.few b image h;
+    } in
+    let d = from_distinct laws once (beside told) in
+    c.move_name.ensures.once beside (moves_keys split is was were left more d) (left_differ split is was were left more d)
+    (with_differ split is was were left more (to_distinct laws once (beside told)) (λ q two clash. none_both laws once (beside told) c.requires.differ q r two (r_there split is was were left more) clash)) once)
+
+pub returns-in-Err-move_name-clause-once : goal.returns-in-Err-move_name-clause-once
+returns-in-Err-move_name-clause-once g c = λ beside once.
+    let b = c.args.on.now in
+    let t = g.B.Blocks.state b in
+    let r = c.args.named.now in
+    let s = c.requires.from_bytes.0 in
+    let ts = c.requires.to_bytes.0 in
+    let was = subst (λ xs. SpellsLeaf s.records xs) c.requires.from_bytes.1 s.spells in
+    let were = subst (λ xs. SpellsLeaf ts.records xs) c.requires.to_bytes.1 ts.spells in
+    let found = c.requires.first.each s.records was in
+    let split = found_splits r.name s.records r found in
+    let is = named_is split found in
+    let left = subst (λ xs. SpellsLeaf (without xs s.records) c.without_name-left.result) c.as_slice.ensures (c.without_name-left.ensures.taken.each s.records s.spells) in
+    let more = c.in-Ok.ensures.added ts.records ts.spells in
+    let n = c.move_name.new.on in
+    let all = g.met.B.Blocks.keeps_all b n c.move_name.ensures.keeps in
+    once_told {told = t.tells} (λ image h. all.still_tells.0 (g.met.B.Blocks.told n image h)) (λ told.
+    let laws : HasLaws t = record {
+      now = g.met.B.Blocks.present b told;
+      top = (g.met.B.Blocks.active b).0;
+      one_spot = g.met.B.Blocks.one_spot b;
+      super_at = g.met.B.Blocks.super_stands b told;
+      placed = λ image h. g.met.B.Blocks.placed b image h;
+      few = λ image h. g.met.B.Blocks.few b image h;
+    } in
+    let d = from_distinct laws once (beside told) in
+    c.move_name.ensures.once beside (moves_keys split is was were left more d) (left_differ split is was were left more d)
+    (with_differ split is was were left more (to_distinct laws once (beside told)) (λ q two clash. none_both laws once (beside told) c.requires.differ q r two (r_there split is was were left more) clash)) once)

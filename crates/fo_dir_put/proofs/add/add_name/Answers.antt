@@ -2,6 +2,8 @@ use Rattle.std.proofs.Common.{◌*◌, inl, inr, ⊎_elim, refl, sym, subst}
 use Rattle.fo_crash.specs.declared.slot.Slot.{Slot}
 use Rattle.fo_crash.specs.Names.{IsInUse}
 use Rattle.fo_dir_put.specs.Names.{ListsIn}
+use Rattle.fo_dir_put.specs.Once.{MayComeOnce}
+use Rattle.fo_dir_put.proofs.Once.{shows_once}
 use Rattle.fo_dir_put.proofs.Calms.{records_on, in_place_on, calm_joins}
 use Rattle.fo_dir_put.proofs.Aparts.{shows_apart, rest_shows, may_later}
 use Rattle.fo_dir_put.proofs.Named.{differ_shows, name_later}
@@ -65,3 +67,9 @@ returns-clause-waits g c =
 
 pub returns-clause-dirties : goal.returns-clause-dirties
 returns-clause-dirties g c = dirties_joins c.put_pair.ensures.dirties c.put_record.ensures.dirties
+
+pub returns-clause-once : goal.returns-clause-once
+returns-clause-once g c = λ may once.
+    let t = g.B.Blocks.state c.put_pair.new.on in
+    let later = c.put_pair.ensures.comes c.args.leaf c.args.bytes.now (((g.B.Blocks.state c.args.on.now).now c.args.leaf).bytes) may in
+    c.put_record.ensures.once (subst (λ xs. MayComeOnce c.args.leaf c.args.bytes.now xs t.may_leave) (sym (c.put_pair.ensures.puts.bytes c.args.leaf)) later) (shows_once c.put_pair.ensures.shown once)

@@ -4,6 +4,7 @@ use Rattle.fo_crash.specs.Names.{IsInUse}
 use Rattle.fo_crash.proofs.Names.{free_entry_put}
 use Rattle.fo_dir_put.specs.Names.{ListsIn}
 use Rattle.fo_dir_put.proofs.Aparts.{shows_joins}
+use Rattle.fo_dir_put.proofs.Finds.{slot_finds, finds_joins, finds_shows, finds_come}
 use Rattle.fo_dir_put.proofs.Calms.{calm_joins}
 use Rattle.fo_dir_put.specs.Paired.{AllPaired}
 use Rattle.fo_dir_put.proofs.Paired.{free_paired}
@@ -36,3 +37,9 @@ returns-clause-calm g c = calm_joins (g.met.B.Blocks.keeps_all c.args.on.now c.p
 
 pub returns-clause-dirties : goal.returns-clause-dirties
 returns-clause-dirties g c = dirties_then c.put_entry.ensures.dirties c.put_entry-2.ensures.dirties all_of
+
+pub returns-clause-shown : goal.returns-clause-shown
+returns-clause-shown g c = finds_shows (finds_joins (slot_finds c.requires.new.1.empty c.put_entry.ensures.images) (slot_finds c.requires.new.0.empty c.put_entry-2.ensures.images))
+
+pub returns-clause-comes : goal.returns-clause-comes
+returns-clause-comes g c = λ leaf bytes was may. finds_come refl (finds_joins (slot_finds c.requires.new.1.empty c.put_entry.ensures.images) (slot_finds c.requires.new.0.empty c.put_entry-2.ensures.images)) may

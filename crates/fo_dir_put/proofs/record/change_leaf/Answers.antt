@@ -11,6 +11,8 @@ use Rattle.fo_dir_put.proofs.Leaves.{leaf_long, whole_put, leaf_formed, bytes_be
 use Rattle.fo_dir_put.proofs.Aparts.{bytes_apart, bytes_rest}
 use Rattle.fo_dir_put.specs.Differ.{MayName}
 use Rattle.fo_dir_put.specs.Paired.{AllPaired}
+use Rattle.fo_dir_put.specs.Once.{MayComeOnce}
+use Rattle.fo_dir_put.proofs.Once.{bytes_once}
 use Rattle.fo_dir_put.proofs.Named.{differ_put}
 use Rattle.fo_dir_put.proofs.Paired.{bytes_paired, bytes_others}
 use Rattle.fo_dir_put.proofs.record.change_leaf.Goals as goal
@@ -77,3 +79,10 @@ returns-clause-queues g c = record { queued = c.put_bytes.ensures.calm.queued; n
 
 pub returns-clause-dirties : goal.returns-clause-dirties
 returns-clause-dirties g c = dirties_calm c.args.leaf (g.met.B.Blocks.keeps_all c.args.on.now c.put_bytes.new.self c.put_bytes.ensures.keeps) c.put_bytes.ensures.calm
+
+pub returns-clause-once : goal.returns-clause-once
+returns-clause-once g c = λ may once.
+    let on = c.args.on.now in
+    let s = g.B.Blocks.state on in
+    let whole = whole_put c.args.bytes.now ((s.now c.args.leaf).bytes) (leaf_long c.requires.bytes) c.requires.owned.whole in
+    bytes_once c.put_bytes.ensures.images (subst (λ xs. MayComeOnce c.args.leaf xs ((s.now c.args.leaf).bytes) s.may_leave) (sym whole) may) (g.met.B.Blocks.active on).0 (g.met.B.Blocks.one_spot on) once

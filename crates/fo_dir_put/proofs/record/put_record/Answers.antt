@@ -13,6 +13,9 @@ use Rattle.fo_dir_put.proofs.Aparts.{nothing_shows, shows_apart, bytes_apart, by
 use Rattle.fo_ports.specs.State.{WaitsInUse}
 use Rattle.fo_dir_put.specs.Differ.{MayName}
 use Rattle.fo_dir_put.specs.Paired.{AllPaired}
+use Rattle.fo_dir_put.specs.Once.{MayComeOnce}
+use Rattle.fo_dir_put.proofs.Once.{bytes_once, shows_once}
+use Rattle.fo_dir_put.proofs.Finds.{nothing_finds, finds_shows, finds_come}
 use Rattle.fo_dir_put.proofs.Named.{differ_put, differ_shows, name_later}
 use Rattle.fo_dir_put.proofs.Paired.{bytes_paired, bytes_others, still_paired, waits_back}
 use Rattle.fo_dir_put.proofs.Spared.{is_there}
@@ -130,3 +133,12 @@ pub returns-clause-dirties : goal.returns-clause-dirties
 returns-clause-dirties g c =
     dirties_after (dirties_wait (g.met.B.Blocks.keeps_all c.args.on.now c.wait_for.new.self c.wait_for.ensures.keeps) c.wait_for.ensures.calm)
     (dirties_calm c.args.leaf (g.met.B.Blocks.keeps_all c.wait_for.new.self c.put_bytes.new.self c.put_bytes.ensures.keeps) c.put_bytes.ensures.calm)
+
+pub returns-clause-once : goal.returns-clause-once
+returns-clause-once g c = λ may once.
+    let m = c.wait_for.new.self in
+    let u = g.B.Blocks.state m in
+    let same = (c.wait_for.ensures.now.each c.args.leaf).bytes in
+    let whole = whole_put c.args.bytes.now ((u.now c.args.leaf).bytes) (leaf_long c.requires.bytes) (ap (λ (xs : List ℕ). length xs) same ∙ c.requires.owned.whole) in
+    let later = finds_come same (nothing_finds c.wait_for.ensures.images) may in
+    bytes_once c.put_bytes.ensures.images (subst (λ xs. MayComeOnce c.args.leaf xs ((u.now c.args.leaf).bytes) u.may_leave) (sym whole) later) (g.met.B.Blocks.active m).0 (g.met.B.Blocks.one_spot m) (shows_once (finds_shows (nothing_finds c.wait_for.ensures.images)) once)

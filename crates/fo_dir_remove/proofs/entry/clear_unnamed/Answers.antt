@@ -5,6 +5,7 @@ use Rattle.fo_crash.specs.Steps.{PutsSlot, cleared}
 use Rattle.fo_ports.specs.Blocks.{slot_count}
 use Rattle.fo_dir_change.proofs.of_dir_put.Nothing.{may_remove}
 use Rattle.fo_dir_change.proofs.of_dir_put.Clearing.{cleared_nil, clears_alone}
+use Rattle.fo_dir_change.proofs.of_dir_put.Finds.{slot_finds, finds_shows}
 use Rattle.fo_dir_remove.proofs.Unnamed.{none_paired}
 use Rattle.fo_dir_remove.proofs.entry.clear_unnamed.Goals as goal
 use Rattle.fo_dir_change.proofs.of_dirties.Putting.{dirties_here}
@@ -35,3 +36,10 @@ pub returns-clause-dirties : goal.returns-clause-dirties
 returns-clause-dirties g c =
     let r = c.remove_slot.ensures in
     dirties_here c.args.entries (g.met.B.Blocks.keeps_all c.args.on.now c.remove_slot.new.self r.keeps) r.frame.dirty (λ x. r.frame.stays.labels x (λ n. n)) (λ x j h. ⊎_elim (λ old. inl old) (λ is. inr is.0) ((r.order x j).0 h))
+
+pub returns-clause-shown : goal.returns-clause-shown
+returns-clause-shown g c =
+    let s = g.B.Blocks.state c.args.on.now in
+    let within = subst (λ (k : Kind). c.args.j < slot_count k) (sym c.requires.entries.leaf_kind) c.requires.within in
+    let nil = cleared_nil (s.label c.args.entries).kind c.args.j ((s.now c.args.entries).slot c.args.j) c.requires.entries.leaf_kind (g.met.B.Blocks.spelled c.args.on.now c.args.entries c.args.j c.requires.entries.is_pinned within) in
+    finds_shows (slot_finds nil c.remove_slot.ensures.images)

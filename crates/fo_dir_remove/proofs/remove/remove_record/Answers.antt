@@ -15,6 +15,7 @@ use Rattle.fo_dir_change.proofs.of_dir_put.Calms.{records_put}
 use Rattle.fo_dir_change.proofs.of_dir_put.Clearing.{cleared_nil}
 use Rattle.fo_dir_change.proofs.of_dir_put.Leaves.{leaf_long}
 use Rattle.fo_dir_change.proofs.of_dir_put.Named.{differ_shows}
+use Rattle.fo_dir_change.proofs.of_dir_put.Once.{shows_once}
 use Rattle.fo_dir_change.proofs.Without.{split_at}
 use Rattle.fo_dir_remove.proofs.Goes.{calm_aside, calm_quiet, calm_clear, calm_entries, no_way_back, quiet_then, entries_then, records_then}
 use Rattle.fo_dir_remove.proofs.Unnamed.{left_unnamed, is_gone}
@@ -42,6 +43,9 @@ clear_entry-requires-clause-may g c = λ told.
 
 pub returns-clause-named : goal.returns-clause-named
 returns-clause-named g c = λ leaves all. differ_shows c.clear_entry.ensures.shows (c.take_record.ensures.named leaves all)
+
+pub returns-clause-once : goal.returns-clause-once
+returns-clause-once g c = λ once. shows_once c.clear_entry.ensures.shown (c.take_record.ensures.once once)
 
 pub returns-clause-paired : goal.returns-clause-paired
 returns-clause-paired g c = λ leaves m in_leaf pair differ n a e in_a same all.

@@ -8,6 +8,7 @@ use Rattle.fo_tree_write.specs.Write.{at_top, Counted}
 use Rattle.fo_tree_write.proofs.Counting.{counted_none, counted_more, counted_end}
 use Rattle.fo_tree_write.proofs.Writing.{way_still, wrote_more, wrote_none}
 use Rattle.fo_tree_clear.proofs.Stepping.{steps_none}
+use Rattle.fo_tree_clear.proofs.of_tree_own.Showing.{nothing_shows, shows_joins}
 use Rattle.fo_tree_append.specs.Append.{OnLeaves}
 use Rattle.fo_tree_append.proofs.Leaves.{LeafThen, leaf_steps, leaf_stays}
 use Rattle.fo_tree_append.proofs.Spending.{enough_but, spends_more, spends_none}
@@ -116,6 +117,7 @@ loop-done-preserved g c =
         way = e.way;
       });
       counted = counted_more {s = s} {u = u} {v = v} t {top = c.loop-done.top} {next = c.put_leaf-current.result.top} {offset = c.args.offset} {done = done} {n = n} (omega (arith, few, lt)) (omega (arith, few)) e.way e.dirties e.dirties_used i.counted;
+      shown = shows_joins i.shown e.shown;
       keeps = keeps;
     }
 
@@ -131,6 +133,7 @@ loop-done-init g c =
       within = omega arith;
       wrote = wrote_none (g.B.Blocks.state on) c.args.tree.now c.args.kept.now c.args.offset c.args.piece.now (g.met.B.Blocks.keeps_all on on (g.met.B.Blocks.keeps_at_once on));
       counted = counted_none s t c.args.offset;
+      shown = nothing_shows (record { each = λ image is. is });
       keeps = g.met.B.Blocks.keeps_at_once on;
     }
 
@@ -141,3 +144,6 @@ returns-clause-dirties g c =
     let within = c.loop-done.invariant.within in
     let whole : c.loop-done.done ≡ length c.args.piece.now = omega arith in
     counted_end (subst (λ n. Counted s u (at_top c.args.tree.now c.loop-done.top) c.args.offset n) whole c.loop-done.invariant.counted)
+
+pub returns-clause-shown : goal.returns-clause-shown
+returns-clause-shown g c = c.loop-done.invariant.shown

@@ -10,6 +10,7 @@ use Rattle.fo_tree_lift.proofs.of_tree_grow.Empty.{few_for}
 use Rattle.fo_tree_clear.specs.Steps.{Steps}
 use Rattle.fo_tree_write.specs.Write.{at_top, Wrote}
 use Rattle.fo_tree_write.proofs.Writing.{most_is}
+use Rattle.fo_tree_clear.proofs.of_tree_own.Showing.{shows_joins}
 use Rattle.fo_tree_append.specs.Append.{OnLeaves}
 use Rattle.fo_tree_append.specs.Grown.{GrownTo}
 use Rattle.fo_tree_append.proofs.Behind.{Both, need_past, spent_past, changes_past, only_ways_past, over_past, bytes_past, grows_past, comes_past, only_past, clear_past, room_past}
@@ -113,6 +114,9 @@ returns-clause-only_ways g c = only_ways_past (both g c)
 
 pub returns-clause-room : goal.returns-clause-room
 returns-clause-room g c = room_past (both g c)
+
+pub returns-clause-shown : goal.returns-clause-shown
+returns-clause-shown g c = shows_joins c.grow_to-grown.ensures.shown c.put_all.ensures.shown
 
 pub returns-clause-keeps : goal.returns-clause-keeps
 returns-clause-keeps g c = g.met.B.Blocks.keeps_joins c.args.on.now c.grow_to-grown.new.on c.put_all.new.on c.grow_to-grown.ensures.keeps c.put_all.ensures.keeps

@@ -4,6 +4,7 @@ use Rattle.fo_ports.specs.State.{none}
 use Rattle.fo_ports.specs.Sources.{Dirties, most_for}
 use Rattle.fo_tree_read.specs.declared.tree.Tree.{Tree}
 use Rattle.fo_tree_clear.proofs.of_tree_down.Dirtying.{dirties_same}
+use Rattle.fo_tree_clear.proofs.of_tree_own.Showing.{nothing_shows}
 use Rattle.fo_tree_write.proofs.Wider.{changes_wider}
 use Rattle.fo_tree_append.specs.Append.{PutsPiece}
 use Rattle.fo_tree_append.proofs.Pieces.{tree_within, tree_past, puts_none}
@@ -83,3 +84,6 @@ returns-else-end-tree-clause-dirties g c =
     let past : c.args.tree.now.size < c.args.offset + length c.args.piece.now = omega arith in
     let same : max c.args.tree.now.size (c.args.offset + length c.args.piece.now) ≡ c.args.offset + length c.args.piece.now = omega (arith, past) in
     subst (λ z. Dirties (2 * most_for z (length c.args.piece.now)) none s u) (sym same) c.put_past.ensures.dirties
+
+pub returns-then-is_empty-clause-shown : goal.returns-then-is_empty-clause-shown
+returns-then-is_empty-clause-shown g c = nothing_shows (record { each = λ image is. is })

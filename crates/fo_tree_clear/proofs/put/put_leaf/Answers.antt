@@ -3,11 +3,12 @@ use Rattle.fo_image.specs.declared.types.Label.{Label}
 use Rattle.fo_image.specs.declared.types.Kind.{Kind}
 use Rattle.fo_image.specs.declared.types.Kind.TheVariants.{Data}
 use Rattle.fo_image.specs.declared.types.Pointer.TheVariants.{Local}
-use Rattle.fo_ports.specs.of_crash.Images.{Image}
+use Rattle.fo_ports.specs.of_crash.Images.{Image, with_bytes}
+use Rattle.fo_ports.specs.of_crash.Steps.{AddsBytes}
 use Rattle.fo_ports.specs.of_crash.Names.{SameUse}
 use Rattle.fo_ports.specs.State.{State}
 use Rattle.fo_ports.specs.of_crash.declared.place.Place.{Place}
-use Rattle.fo_ports.specs.of_crash.Places.{place}
+use Rattle.fo_ports.specs.of_crash.Places.{place, super_place, IsPlaced}
 use Rattle.fo_ports.specs.Blocks.{MayPut, IsFormed, put_at}
 use Rattle.fo_ports.proofs.Lengths.{length_put_at}
 use Rattle.fo_tree_leaf.specs.of_tree_read.Tree.{kind_at}
@@ -15,6 +16,8 @@ use Rattle.fo_tree_leaf.specs.of_tree_look.Source.{Over}
 use Rattle.fo_tree_leaf.proofs.of_tree_look.Shown.{top_ready}
 use Rattle.fo_tree_leaf.specs.of_tree_down.Way.{with_top}
 use Rattle.fo_tree_leaf.proofs.Owning.{top_current}
+use Rattle.fo_tree_leaf.specs.of_tree_own.Shown.{ShowsNoMore}
+use Rattle.fo_tree_leaf.proofs.of_tree_own.Showing.{bytes_show, shows_joins}
 use Rattle.fo_tree_clear.specs.Put.{IsInnerOr}
 use Rattle.fo_tree_leaf.proofs.of_tree_down.Next.{on_way_last}
 use Rattle.fo_tree_clear.proofs.Same.{has_back, has_on, way_back, current_on}
@@ -22,6 +25,7 @@ use Rattle.fo_tree_clear.proofs.Counting.{way_put, ways_put}
 use Rattle.fo_tree_clear.proofs.Descending.{steps_down, steps_put}
 use Rattle.fo_tree_clear.proofs.Putting.{BytesPut, same_slots, label_same, comes_on, only_on, over_put, prepared_put, clear_put, changes_put}
 use Rattle.fo_tree_clear.proofs.Leaf.{PieceCame, puts_end, leaf_put}
+use Rattle.fo_tree_clear.proofs.Alikes.{alike_put}
 use Rattle.fo_tree_clear.proofs.put.put_leaf.Given as given
 use Rattle.fo_tree_clear.proofs.put.put_leaf.Goals as goal
 
@@ -244,3 +248,50 @@ returns-clause-dirties g c = way_put (bytes_put g c) (with_top c.args.tree.now c
 
 pub returns-clause-dirties_used : goal.returns-clause-dirties_used
 returns-clause-dirties_used g c = λ blocks j now has le next. ways_put (bytes_put g c) (with_top c.args.tree.now c.own_near-current.result.top) c.args.tree.now.depth c.args.i c.own_near-current.ensures.leads (c.own_near-current.ensures.dirties_used blocks j now has le next)
+
+-- Bytes were put into a block that is no leaf of records, as far as there are images.
+put_shows : {stands : ℕ → Place → Type 0} {now : Image} {at : ℕ} {bytes : List ℕ} {beside : Image → Type 0} {old new : Image → Type 0} → ((image : Image) → old image → stands 1 super_place) → ((image : Image) → old image → IsPlaced stands image) → ((image : Image) → old image → (p : Place) → stands at p → (p.kind ≡ Data 0) × (p.rank % 32 ≡ 16) → ⊥) → AddsBytes now at bytes beside old new → ShowsNoMore old new
+put_shows {now = now} {at = at} {old = old} super_at placed elsewhere adds = record {
+  each = λ p shown of is.
+      let other : (image : Image) × old image = ⊎_elim (λ was. (is.image, was)) (λ put. (with_bytes is.image at ((now at).bytes), put.1)) (adds.each is.image is.is) in
+      (bytes_show (record { super_at = super_at; each = placed }) (elsewhere other.0 other.1) adds).each p shown of is;
+}
+
+pub returns-clause-shown : goal.returns-clause-shown
+returns-clause-shown g c =
+    let t = c.args.tree.now in
+    let mid = c.own_near-current.new.on in
+    let at = c.own_near-current.result.at in
+    let here : Place = place (kind_at t.dir (t.depth - t.depth)) t.tag c.args.i (t.rank + (t.depth - t.depth)) in
+    shows_joins c.own_near-current.ensures.shown
+    (put_shows {stands = (g.B.Blocks.state mid).stands}
+    (λ image is. g.met.B.Blocks.super_stands mid (g.met.B.Blocks.told mid image is))
+    (λ image is. g.met.B.Blocks.placed mid image is)
+    (λ image is p stands of.
+    let same : p ≡ here = (g.met.B.Blocks.one_place mid).each at p here stands (c.own_near-current.ensures.replaces.own.told (g.met.B.Blocks.told mid image is)).stands in
+    let rank = ap (λ (q : Place). q.rank) same in
+    let of_records = of.1 in
+    c.requires.plain.1 (omega (arith, rank, of_records)))
+    c.put_bytes.ensures.images)
+
+pub returns-clause-alike : goal.returns-clause-alike
+returns-clause-alike g c =
+    let t = c.args.tree.now in
+    let mid = c.own_near-current.new.on in
+    let at = c.own_near-current.result.at in
+    let e = c.own_near-current.ensures in
+    let lt = c.requires.inside in
+    let here : Place = place (kind_at t.dir (t.depth - t.depth)) t.tag c.args.i (t.rank + (t.depth - t.depth)) in
+    alike_put (bytes_put g c) (g.met.B.Blocks.keeps_all c.args.on.now mid e.keeps)
+    (e.over (omega (arith, lt)) c.requires.over.0 c.requires.over.1).hangs (g.met.B.Blocks.active mid).0
+    (record {
+      super_at = λ image is. g.met.B.Blocks.super_stands mid (g.met.B.Blocks.told mid image is);
+      each = λ image is. g.met.B.Blocks.placed mid image is;
+    })
+    (g.met.B.Blocks.one_place mid)
+    (λ image is p stands of.
+    let same : p ≡ here = (g.met.B.Blocks.one_place mid).each at p here stands (e.replaces.own.told (g.met.B.Blocks.told mid image is)).stands in
+    let rank = ap (λ (q : Place). q.rank) same in
+    let of_records = of.1 in
+    c.requires.plain.1 (omega (arith, rank, of_records)))
+    e.alike

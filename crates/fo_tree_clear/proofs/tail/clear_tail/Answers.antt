@@ -3,6 +3,7 @@ use Rattle.std.proofs.lemmas.Bool.{cases_eq}
 use Rattle.fo_tree_leaf.specs.of_tree_read.Tree.{block_at}
 use Rattle.fo_tree_leaf.specs.of_tree_look.Source.{WayReady, HasBlock, seen}
 use Rattle.fo_tree_leaf.proofs.of_tree_down.Dirtying.{dirties_same}
+use Rattle.fo_tree_leaf.proofs.of_tree_own.Showing.{nothing_shows}
 use Rattle.fo_tree_clear.specs.Put.{IsInnerOrEnd}
 use Rattle.fo_tree_clear.proofs.Putting.{changes_none}
 use Rattle.fo_tree_clear.proofs.Zeros.{byte_past, byte_nil}
@@ -45,3 +46,9 @@ returns-else-ends_here-clause-changes g c =
 
 pub returns-else-ends_here-clause-dirties : goal.returns-else-ends_here-clause-dirties
 returns-else-ends_here-clause-dirties g c = dirties_same (g.B.Blocks.state c.args.on.now) (2 * (c.args.tree.now.depth + 1))
+
+pub returns-else-ends_here-clause-shown : goal.returns-else-ends_here-clause-shown
+returns-else-ends_here-clause-shown g c = nothing_shows (record { each = λ image is. is })
+
+pub returns-else-ends_here-clause-alike : goal.returns-else-ends_here-clause-alike
+returns-else-ends_here-clause-alike g c = record { each = λ told at i holds alike. (holds, alike) }

@@ -14,7 +14,11 @@ use Rattle.fo_tree_down.specs.Way.{OnWay, Comes, Leads, IsTopOf, WayCurrent, Cur
 use Rattle.fo_tree_down.proofs.Sparing.{but_top, but_down}
 use Rattle.fo_tree_down.proofs.Next.{Says, local_seen, leads_next, current_below, leads_beside, above_own, can_next, was_below, comes_same, comes_new, not_current, replaces_same, replaces_new}
 use Rattle.fo_tree_down.proofs.Leading.{block_of, leads_to, leads_on, way_was, beside_on, given_on, top_stays, way_top}
-use Rattle.fo_tree_own.proofs.Link.{local_eq}
+use Rattle.fo_tree_own.proofs.Link.{Laws, local_eq}
+use Rattle.fo_tree_down.specs.Alike.{KeepsAlike}
+use Rattle.fo_tree_down.proofs.Alikes.{top_own, alike_linked}
+use Rattle.fo_tree_own.specs.of_shown.Shown.{ShowsNoMore}
+use Rattle.fo_tree_own.proofs.of_shown.Showing.{shows_joins}
 use Rattle.fo_tree_down.proofs.Dirtying.{CameBelow, dirties_within, dirties_counts, ways_same, ways_came, adds_same, adds_came}
 use Rattle.fo_tree_down.proofs.way.+own_down.Goals as goal
 
@@ -655,3 +659,33 @@ returns-clause-dirties_used g t' c = λ blocks j way has le next.
     (λ ne. adds_came j blocks came le ne p)
     (cases_eq j k))
     step)
+
+pub returns-clause-shown : goal.returns-clause-shown
+returns-clause-shown g t' c =
+    let s = g.B.Blocks.state c.args.on.now in
+    ⊎_elim
+    (λ same. subst (λ x. ShowsNoMore s.may_leave (g.B.Blocks.state x).may_leave) (sym same.1) c.own_down-above.ensures.shown)
+    (λ links. shows_joins c.own_down-above.ensures.shown links.shown)
+    c.own_block-at.ensures.step
+
+pub returns-clause-alike : goal.returns-clause-alike
+returns-clause-alike g t' c =
+    let on = c.args.on.now in
+    let mid = c.own_down-above.new.on in
+    let end = c.own_block-at.new.on in
+    let s = g.B.Blocks.state on in
+    let m = g.B.Blocks.state mid in
+    let t = c.args.tree.now in
+    let n = c.args.down - 1 in
+    let k = c.args.k in
+    let top = c.own_down-above.result.top in
+    let is : c.args.down ≡ suc (c.args.down - 1) = omega arith in
+    let few : k < 409 ^ suc (c.args.down - 1) = subst (λ d. k < 409 ^ d) is c.requires.down.1 in
+    let more : 409 ^ suc (c.args.down - 1) ≡ 409 * 409 ^ (c.args.down - 1) = pow-succ' 409 (c.args.down - 1) in
+    let laws : Laws s = record { present = g.met.B.Blocks.present on; active = (g.met.B.Blocks.active on).0; not_one = (g.met.B.Blocks.active on).1; one = g.met.B.Blocks.one_place on; super_stands = g.met.B.Blocks.super_stands on; placed = λ told. g.met.B.Blocks.placed on s.now (g.met.B.Blocks.present on told); ranked = λ told. g.met.B.Blocks.ranked on s.now (g.met.B.Blocks.present on told); live = λ y told ne r. g.met.B.Blocks.live on y told ne r; clears = g.met.B.Blocks.clears_entries on; waits_within = g.met.B.Blocks.waits_within on; covers_told = g.met.B.Blocks.covers_told on; within = g.met.B.Blocks.within on; spelled = g.met.B.Blocks.spelled on; apart_hangs = λ told w is r. g.met.B.Blocks.apart_hangs on s.now 1 w is (g.met.B.Blocks.present on told) (g.met.B.Blocks.active on).0 r; small = g.met.B.Blocks.small on } in
+    ⊎_elim
+    (λ same. subst (λ x. KeepsAlike s (g.B.Blocks.state x) t (with_top t top)) (sym same.1) c.own_down-above.ensures.alike)
+    (λ links. alike_linked k laws c.requires.hangs (g.met.B.Blocks.active end).0 c.requires.down.0 (returns-clause-comes g t' c).descends
+    (g.met.B.Blocks.keeps_all on mid c.own_down-above.ensures.keeps) c.own_down-above.ensures.alike
+    (top_own s m t c.args.kept.now top n (k / 409) c.own_down-above.result.at (omega (arith, few, more)) c.own_down-above.ensures.leads) links)
+    c.own_block-at.ensures.step

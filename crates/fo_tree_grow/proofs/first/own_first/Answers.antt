@@ -11,6 +11,8 @@ use Rattle.fo_tree_grow.specs.Grow.{shaped}
 use Rattle.fo_tree_grow.proofs.Growing.{changes_of, top_of_sized, owned_sized, bytes_none}
 use Rattle.fo_tree_grow.proofs.Empty.{least_for, few_for, has_none, address_none, held_none, over_shaped, prepared_any, tail_none, byte_none, clear_none}
 use Rattle.fo_tree_grow.proofs.first.own_first.Given as given
+use Rattle.fo_tree_leaf.specs.of_tree_down.Alike.{KeepsAlike}
+use Rattle.fo_tree_grow.proofs.Empty.{alike_first}
 use Rattle.fo_tree_grow.proofs.first.own_first.Goals as goal
 
 -- the depth that is asked for
@@ -160,3 +162,10 @@ returns-clause-dirties g c =
     let most = most_within (8192 * (c.args.i + 1)) c.args.i (omega arith) in
     let enough : 2 * most_to_own (8192 * (c.args.i + 1)) c.args.i ≤ 2 * (depth_for (8192 * (c.args.i + 1)) + 1) = omega (arith, most) in
     dirties_most enough (subst (λ (x : Tree). Dirties (2 * most_to_own x.size c.args.i) (λ b. b ≡ at) s u) (grown_end g c) c.own_within.ensures.dirties)
+
+pub returns-clause-alike : goal.returns-clause-alike
+returns-clause-alike g c =
+    let s = g.B.Blocks.state c.args.on.now in
+    let u = g.B.Blocks.state c.own_within.new.on in
+    let z = 8192 * (c.args.i + 1) in
+    alike_first (depth_for z) z c.requires.empty (subst (λ (x : Tree). KeepsAlike s u x (with_top x c.own_within.result.top)) (grown_end g c) c.own_within.ensures.alike)

@@ -11,6 +11,8 @@ use Rattle.fo_tree_grow.specs.Grow.{sized}
 use Rattle.fo_tree_grow.proofs.Sizing.{room_for, has_back, has_sized, top_sized, over_sized, prepared_sized, address_sized, held_sized, clear_sized}
 use Rattle.fo_tree_grow.proofs.Growing.{changes_of, top_of_sized, owned_sized, bytes_sized}
 use Rattle.fo_tree_grow.proofs.next.own_next.Given as given
+use Rattle.fo_tree_leaf.specs.of_tree_down.Alike.{KeepsAlike}
+use Rattle.fo_tree_leaf.proofs.of_tree_down.Alikes.{alike_sized}
 use Rattle.fo_tree_grow.proofs.next.own_next.Goals as goal
 
 room_of : (g : given.Over) (c : goal.After-own_within-arg-1 g) → 8192 * (c.args.i + 1) ≤ 8192 * 409 ^ c.args.tree.now.depth
@@ -190,3 +192,9 @@ returns-clause-dirties g c =
     let least = c.requires.levels in
     let enough : 2 * most_to_own (8192 * (c.args.i + 1)) c.args.i ≤ 2 * (t.depth + 1) = omega (arith, most, least) in
     dirties_most enough (subst (λ (x : Tree). Dirties (2 * most_to_own x.size c.args.i) (λ b. b ≡ at) s u) c.with_size-grown.ensures c.own_within.ensures.dirties)
+
+pub returns-clause-alike : goal.returns-clause-alike
+returns-clause-alike g c =
+    let s = g.B.Blocks.state c.args.on.now in
+    let u = g.B.Blocks.state c.own_within.new.on in
+    alike_sized (8192 * (c.args.i + 1)) (subst (λ (x : Tree). KeepsAlike s u x (with_top x c.own_within.result.top)) c.with_size-grown.ensures c.own_within.ensures.alike)

@@ -21,6 +21,9 @@ use Rattle.fo_tree_lift.specs.Owns.{with_leaf}
 use Rattle.fo_tree_lift.proofs.Choosing.{max_right, leaf_next, leaf_past, most_past, ends_past, changes_wide}
 use Rattle.fo_tree_clear.proofs.of_tree_down.Dirtying.{dirties_both, dirties_most}
 use Rattle.fo_tree_clear.proofs.Putting.{changes_wider}
+use Rattle.fo_tree_clear.proofs.of_tree_own.Showing.{shows_joins}
+use Rattle.fo_tree_clear.specs.of_tree_down.Alike.{KeepsAlike}
+use Rattle.fo_tree_clear.proofs.of_tree_down.Alikes.{alike_joins}
 use Rattle.fo_tree_grown.specs.Zeroed.{OwnsZeroed}
 use Rattle.fo_tree_grown.proofs.Leaves.{owned_end}
 use Rattle.fo_tree_grown.proofs.Tops.{Twice, top_end, grows_end}
@@ -278,3 +281,55 @@ returns-else-least_depth-tree-clause-owns g c =
       clear = λ which was. subst (λ (x : Tree). EndsClear u (with_top (shaped x d z) r.top) kept) here e.clear;
       room = e.room ∙ f.room;
     })
+
+pub returns-in-None-clause-shown : goal.returns-in-None-clause-shown
+returns-in-None-clause-shown g c = shows_joins c.in-None.ensures.shown c.own_leaf.ensures.shown
+
+pub returns-then-least_depth-tree-clause-shown : goal.returns-then-least_depth-tree-clause-shown
+returns-then-least_depth-tree-clause-shown g c = shows_joins c.in-Some.ensures.shown c.own_next.ensures.shown
+
+pub returns-else-least_depth-tree-clause-shown : goal.returns-else-least_depth-tree-clause-shown
+returns-else-least_depth-tree-clause-shown g c = shows_joins c.in-Some.ensures.shown c.own_raised.ensures.shown
+
+pub returns-in-None-clause-alike : goal.returns-in-None-clause-alike
+returns-in-None-clause-alike g c =
+    let u = g.B.Blocks.state c.own_leaf.new.on in
+    let t = c.args.tree.now in
+    subst (λ b. KeepsAlike (g.B.Blocks.state b) u t (with_leaf t c.args.i c.own_leaf.result.top)) c.in-None.ensures.cleared c.own_leaf.ensures.alike
+
+pub returns-then-least_depth-tree-clause-alike : goal.returns-then-least_depth-tree-clause-alike
+returns-then-least_depth-tree-clause-alike g c =
+    let on = c.args.on.now in
+    let mid = c.clear_tail-cleared.new.on in
+    let s = g.B.Blocks.state on in
+    let m = g.B.Blocks.state mid in
+    let u = g.B.Blocks.state c.own_next.new.on in
+    let t = c.args.tree.now in
+    let i = c.args.i in
+    let z = 8192 * (c.args.i + 1) in
+    let f = c.in-Some.ensures in
+    let e = c.own_next.ensures in
+    let r = c.own_next.result in
+    let within = c.requires.over.2.end in
+    let low = c.requires.over.1.low in
+    let levels : t.depth ≡ depth_for z =
+    sym (c.least_depth.ensures.only (depth_for z) (subst (λ n. IsDepth n (depth_for z)) (sym c.end_of.ensures) (least_for z (omega (arith, within, low)))) ∙ c.if-least_depth-tree.true) in
+    let then = subst (λ (x : Tree). KeepsAlike m u x (with_top (sized x z) r.top)) c.below_top-here.ensures e.alike in
+    subst (λ (x : Tree). KeepsAlike s u t x) (leaf_next t i r.top c.requires.past levels) (alike_joins (g.met.B.Blocks.keeps_all on mid f.keeps) f.alike then)
+
+pub returns-else-least_depth-tree-clause-alike : goal.returns-else-least_depth-tree-clause-alike
+returns-else-least_depth-tree-clause-alike g c =
+    let on = c.args.on.now in
+    let mid = c.clear_tail-cleared.new.on in
+    let s = g.B.Blocks.state on in
+    let m = g.B.Blocks.state mid in
+    let u = g.B.Blocks.state c.own_raised.new.on in
+    let t = c.args.tree.now in
+    let i = c.args.i in
+    let z = 8192 * (c.args.i + 1) in
+    let d = depth_for (8192 * (c.args.i + 1)) in
+    let f = c.in-Some.ensures in
+    let e = c.own_raised.ensures in
+    let r = c.own_raised.result in
+    let then = subst (λ (x : Tree). KeepsAlike m u x (with_top (shaped x d z) r.top)) c.below_top-here.ensures e.alike in
+    subst (λ (x : Tree). KeepsAlike s u t x) (leaf_past t i r.top c.requires.past) (alike_joins (g.met.B.Blocks.keeps_all on mid f.keeps) f.alike then)

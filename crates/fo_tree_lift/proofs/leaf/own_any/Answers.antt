@@ -4,6 +4,7 @@ use Rattle.fo_tree_read.specs.declared.tree.Tree.{Tree}
 use Rattle.fo_tree_look.specs.Source.{address_here, held_here}
 use Rattle.fo_tree_lift.specs.Owns.{OwnsLeaf}
 use Rattle.fo_tree_lift.proofs.Choosing.{max_left, leaf_within, same_length}
+use Rattle.fo_tree_grow.specs.of_tree_down.Alike.{KeepsAlike}
 use Rattle.fo_tree_lift.proofs.leaf.own_any.Goals as goal
 
 pub returns-then-end_of-tree-clause-owns : goal.returns-then-end_of-tree-clause-owns
@@ -32,3 +33,14 @@ returns-then-end_of-tree-clause-owns g c =
       clear = λ which. e.clear (⊎_elim (λ told. inl told) (λ ends. inr (omega (arith, ends, le))) which);
       room = e.room;
     })
+
+pub returns-then-end_of-tree-clause-alike : goal.returns-then-end_of-tree-clause-alike
+returns-then-end_of-tree-clause-alike g c =
+    let s = g.B.Blocks.state c.args.on.now in
+    let u = g.B.Blocks.state c.own_within.new.on in
+    let t = c.args.tree.now in
+    let i = c.args.i in
+    let here = c.if-end_of-tree.true in
+    let end = c.end_of.ensures in
+    let le : 8192 * (c.args.i + 1) ≤ c.args.tree.now.size = omega (arith, here, end) in
+    subst (λ (x : Tree). KeepsAlike s u t x) (leaf_within t i c.own_within.result.top le c.requires.over.1.least) c.own_within.ensures.alike

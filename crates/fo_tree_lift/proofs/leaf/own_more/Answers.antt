@@ -6,6 +6,7 @@ use Rattle.fo_tree_look.specs.Source.{leaves_of}
 use Rattle.fo_tree_grow.proofs.of_tree_down.Dirtying.{dirties_most}
 use Rattle.fo_tree_lift.specs.Owns.{OwnsLeaf}
 use Rattle.fo_tree_lift.proofs.Choosing.{max_right, leaf_past, leaf_next, most_past, ends_past, changes_wide}
+use Rattle.fo_tree_grow.specs.of_tree_down.Alike.{KeepsAlike}
 use Rattle.fo_tree_lift.proofs.leaf.own_more.Goals as goal
 
 pub returns-then-has_levels-clause-owns : goal.returns-then-has_levels-clause-owns
@@ -62,3 +63,19 @@ returns-else-has_levels-clause-owns g c =
       clear = λ which was. e.clear;
       room = e.room;
     })
+
+pub returns-then-has_levels-clause-alike : goal.returns-then-has_levels-clause-alike
+returns-then-has_levels-clause-alike g c =
+    let s = g.B.Blocks.state c.args.on.now in
+    let u = g.B.Blocks.state c.own_next.new.on in
+    let t = c.args.tree.now in
+    let i = c.args.i in
+    subst (λ (x : Tree). KeepsAlike s u t x) (leaf_next t i c.own_next.result.top c.requires.past (c.has_levels.ensures.yes c.if-has_levels.true)) c.own_next.ensures.alike
+
+pub returns-else-has_levels-clause-alike : goal.returns-else-has_levels-clause-alike
+returns-else-has_levels-clause-alike g c =
+    let s = g.B.Blocks.state c.args.on.now in
+    let u = g.B.Blocks.state c.own_raised.new.on in
+    let t = c.args.tree.now in
+    let i = c.args.i in
+    subst (λ (x : Tree). KeepsAlike s u t x) (leaf_past t i c.own_raised.result.top c.requires.past) c.own_raised.ensures.alike

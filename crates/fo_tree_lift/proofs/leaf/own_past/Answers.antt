@@ -6,6 +6,7 @@ use Rattle.fo_tree_look.specs.Source.{leaves_of}
 use Rattle.fo_tree_grow.proofs.of_tree_down.Dirtying.{dirties_most}
 use Rattle.fo_tree_lift.specs.Owns.{OwnsLeaf}
 use Rattle.fo_tree_lift.proofs.Choosing.{max_right, leaf_past, most_past, none_current}
+use Rattle.fo_tree_grow.specs.of_tree_down.Alike.{KeepsAlike}
 use Rattle.fo_tree_lift.proofs.leaf.own_past.Goals as goal
 
 pub returns-in-Nil-clause-owns : goal.returns-in-Nil-clause-owns
@@ -34,3 +35,11 @@ returns-in-Nil-clause-owns g c =
       clear = λ which was. e.clear;
       room = e.room;
     })
+
+pub returns-in-Nil-clause-alike : goal.returns-in-Nil-clause-alike
+returns-in-Nil-clause-alike g c =
+    let s = g.B.Blocks.state c.args.on.now in
+    let u = g.B.Blocks.state c.own_first.new.on in
+    let t = c.args.tree.now in
+    let i = c.args.i in
+    subst (λ (x : Tree). KeepsAlike s u t x) (leaf_past t i c.own_first.result.top c.requires.past) c.own_first.ensures.alike

@@ -11,6 +11,10 @@ use Rattle.fo_tree_grow.specs.of_tree_raise.Raise.{CanRaise}
 use Rattle.fo_tree_grow.proofs.of_tree_raise.Bearing.{bears}
 use Rattle.fo_tree_lift.proofs.Join.{Follows, adds_join, made_first, made_second, made_either}
 use Rattle.fo_tree_lift.proofs.Lifting.{Copied, Raised, new_top, copied_back, copied_on, copied_top, leaf_copied, new_copied, ways_copied, instead_copied}
+use Rattle.fo_tree_grow.proofs.of_tree_own.Showing.{shows_joins}
+use Rattle.fo_tree_grow.specs.of_tree_raise.Levels.{grown}
+use Rattle.fo_tree_grow.specs.of_tree_down.Alike.{KeepsAlike}
+use Rattle.fo_tree_grow.proofs.of_tree_down.Alikes.{alike_joins}
 use Rattle.fo_tree_lift.proofs.levels.lift_copy.Goals as goal
 
 pub copy_top-copy-requires-clause-spare : goal.copy_top-copy-requires-clause-spare
@@ -113,3 +117,14 @@ pub returns-clause-dirties : goal.returns-clause-dirties
 returns-clause-dirties g c =
     let enough : 2 + 2 * c.args.levels ≤ 2 * (c.args.levels + 1) = omega arith in
     dirties_most enough (dirties_both c.copy_top-copy.ensures.dirties c.raise_levels.ensures.dirties)
+
+pub returns-clause-shown : goal.returns-clause-shown
+returns-clause-shown g c = shows_joins c.copy_top-copy.ensures.shown c.raise_levels.ensures.shown
+
+pub returns-clause-alike : goal.returns-clause-alike
+returns-clause-alike g c =
+    let mid = c.copy_top-copy.new.on in
+    let b = g.B.Blocks.state mid in
+    let m = g.B.Blocks.state c.raise_levels.new.on in
+    let then = subst (λ (x : Tree). KeepsAlike b m x (grown x c.args.levels c.raise_levels.result)) c.below_copy-below.ensures c.raise_levels.ensures.alike in
+    alike_joins (g.met.B.Blocks.keeps_all c.args.on.now mid c.copy_top-copy.ensures.keeps) c.copy_top-copy.ensures.alike then

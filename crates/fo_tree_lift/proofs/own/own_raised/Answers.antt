@@ -11,6 +11,10 @@ use Rattle.fo_tree_grow.proofs.Empty.{least_for, few_for}
 use Rattle.fo_tree_lift.proofs.Lifting.{top_ready}
 use Rattle.fo_tree_lift.proofs.Ending.{IsRaised, WayCame, taller, over_mid, way_mid, current_mid, clear_mid, over_end, changes_end, instead_end, owned_end, bytes_end, grows_end, top_end, stays_end, tree_end, covered_end, new_end, current_end, room_end}
 use Rattle.fo_tree_lift.proofs.own.own_raised.Given as given
+use Rattle.fo_tree_grow.proofs.of_tree_own.Showing.{shows_joins}
+use Rattle.fo_tree_grow.specs.of_tree_raise.Levels.{grown}
+use Rattle.fo_tree_grow.specs.of_tree_down.Alike.{KeepsAlike}
+use Rattle.fo_tree_grow.proofs.of_tree_down.Alikes.{alike_joins, alike_sized}
 use Rattle.fo_tree_lift.proofs.own.own_raised.Goals as goal
 
 pub overflow_sub-depth : goal.overflow_sub-depth
@@ -277,3 +281,24 @@ returns-clause-dirties_less g c = λ top.
     let lt = c.requires.levels in
     let enough : 2 * (c.least_depth-depth.result - c.args.tree.now.depth) + 2 * (c.least_depth-depth.result + 1) ≤ 2 * (2 * depth_for (8192 * (c.args.i + 1)) + 1 - c.args.tree.now.depth) = omega (arith, same, lt) in
     dirties_most enough (dirties_both (c.lift-top.ensures.dirties_less top) (way_dirties g c))
+
+pub returns-clause-shown : goal.returns-clause-shown
+returns-clause-shown g c = shows_joins c.lift-top.ensures.shown c.own_way.ensures.shown
+
+pub returns-clause-alike : goal.returns-clause-alike
+returns-clause-alike g c =
+    let mid = c.lift-top.new.on in
+    let m = g.B.Blocks.state mid in
+    let u = g.B.Blocks.state c.own_way.new.on in
+    let t = c.args.tree.now in
+    let top = c.lift-top.result in
+    let z = 8192 * (c.args.i + 1) in
+    let most = c.least_depth-depth.result in
+    let end = c.own_way.result.top in
+    let deep = levels_last g c in
+    let lt = c.requires.levels in
+    let same : c.least_depth-depth.result ≡ c.args.tree.now.depth + (c.least_depth-depth.result - c.args.tree.now.depth) = omega (arith, deep, lt) in
+    let way : KeepsAlike m u (record (shaped t most (8192 * (c.args.i + 1))) { top = top }) (with_top (shaped t most (8192 * (c.args.i + 1))) end) = subst (λ (x : Tree). KeepsAlike m u x (with_top x end)) c.with_levels-grown.ensures c.own_way.ensures.alike in
+    let last : KeepsAlike m u (record (shaped t most z) { top = top }) (with_top (shaped t (depth_for z) z) end) = subst (λ d. KeepsAlike m u (record (shaped t most z) { top = top }) (with_top (shaped t d z) end)) deep way in
+    let over : KeepsAlike m u (record (shaped t (t.depth + (most - t.depth)) z) { top = top }) (with_top (shaped t (depth_for z) z) end) = subst (λ d. KeepsAlike m u (record (shaped t d z) { top = top }) (with_top (shaped t (depth_for z) z) end)) same last in
+    alike_joins (g.met.B.Blocks.keeps_all c.args.on.now mid c.lift-top.ensures.keeps) c.lift-top.ensures.alike (alike_sized {t = grown t (most - t.depth) top} z over)

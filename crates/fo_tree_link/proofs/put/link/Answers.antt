@@ -1,11 +1,12 @@
 use Rattle.std.proofs.Common.{◌≡◌, ◌⊎◌, ◌<◌, ℕ, List, inl, sym, subst}
 use Rattle.fo_image.specs.declared.types.Entry.{Entry}
 use Rattle.fo_crash.specs.declared.slot.Slot.TheVariants.{Entry as Head}
-use Rattle.fo_crash.specs.Steps.{PutsSlot}
+use Rattle.fo_crash.specs.Steps.{AddsSlot, PutsSlot}
 use Rattle.fo_ports.specs.Blocks.{cost, slot_count, SlotFits}
 use Rattle.fo_ports.specs.State.{Frame, Hangs, MayPutSlot}
 use Rattle.fo_crash.specs.Images.{target}
 use Rattle.fo_image.specs.declared.types.Pointer.TheVariants.{Local}
+use Rattle.fo_shown.proofs.Linking.{linked_shows}
 use Rattle.fo_tree_read.proofs.of_looks.Dirtied.{dirties_put}
 use Rattle.fo_tree_read.specs.declared.tree.Tree.{Tree}
 use Rattle.fo_tree_look.specs.declared.ways.Kept.{Kept}
@@ -115,3 +116,15 @@ pub returns-clause-dirties : goal.returns-clause-dirties
 returns-clause-dirties g c = λ first blocks before here.
     let p = c.put_slot.ensures in
     dirties_put c.args.at (g.met.B.Blocks.keeps_all c.args.on.now c.put_slot.new.self p.keeps) before here (λ x d. p.frame.dirty x d) (λ x. p.frame.stays.labels x (λ h. h)) (λ x j h. inl (p.order.clearing x j h).1)
+
+pub returns-clause-shown : goal.returns-clause-shown
+returns-clause-shown g c = λ alike.
+    let end = c.put_slot.new.self in
+    linked_shows (g.met.B.Blocks.one_place end)
+    (record {
+      super_at = λ image is. g.met.B.Blocks.super_stands end (g.met.B.Blocks.told end image is);
+      placed = λ image is. g.met.B.Blocks.placed end image is;
+      falls = λ image is. g.met.B.Blocks.ranked end image is;
+    })
+    (subst (λ e. AddsSlot (g.B.Blocks.state c.args.on.now).now c.args.at c.args.i (Head e) (λ image. Unit {0}) (g.B.Blocks.state c.args.on.now).may_leave (g.B.Blocks.state end).may_leave) c.entry_of-entry.ensures c.put_slot.ensures.images)
+    alike

@@ -1,11 +1,11 @@
-use Rattle.std.proofs.Common.{length, inl, ◌-◌, ◌/◌, ◌%◌, ◌^◌, ◌<◌, refl, sym, ◌∙◌, ap, subst, arith}
+use Rattle.std.proofs.Common.{length, inl, inr, ◌-◌, ◌/◌, ◌%◌, ◌^◌, ◌<◌, refl, sym, ◌∙◌, ap, subst, arith}
 use Rattle.fo_image.specs.declared.types.State.TheVariants.{Live}
 use Rattle.fo_image.specs.declared.types.Pointer.TheVariants.{Local}
 use Rattle.fo_crash.specs.Images.{Reaches, target, to_block}
 use Rattle.fo_crash.specs.Places.{super_place}
 use Rattle.fo_crash.proofs.Reach.{reaches_same}
 use Rattle.fo_tree_own.proofs.Link.{came, at_current, local_eq, reaches_mid, back, unwaited, may_spell, may_settled, may_lead, may_cost, none_dropped}
-use Rattle.fo_tree_own.proofs.May.{Copying, there, may_put, copy_shown, below_ne, at_below, leads_on, copied_in_tree, below_stands, never_one, copy_alike}
+use Rattle.fo_tree_own.proofs.May.{Copying, there, may_put, copy_shown, below_ne, below_one, at_below, leads_on, copied_in_tree, copied_in_mid, copied_same, still_older, below_stands, never_one, copy_alike}
 use Rattle.fo_tree_own.proofs.After.{links}
 use Rattle.fo_tree_own.proofs.below.copy_below.Goals as goal
 
@@ -308,6 +308,11 @@ returns-clause-links g c =
       was_older = λ y e. subst (λ z. (s.label z).epoch < s.high) (local_eq e) c.requires.older;
       fresh = λ h. below_ne x (local_eq h);
       no_cost = may_cost x.link;
+      tells_of = λ image is. g.met.B.Blocks.told mid image is;
+      placed = λ image is. g.met.B.Blocks.placed mid image is;
+      placed_first = record { super_at = λ image is. g.met.B.Blocks.super_stands on (g.met.B.Blocks.told on image is); each = λ image is. g.met.B.Blocks.placed on image is };
+      placed_end = record { super_at = λ image is. g.met.B.Blocks.super_stands end (g.met.B.Blocks.told end image is); each = λ image is. g.met.B.Blocks.placed end image is };
+      content = inl (c.args.below, refl, copied_same x, record { each = λ image is. (g.met.B.Blocks.old_is_sure mid 1 c.args.below (g.met.B.Blocks.active mid).0 (below_one x) (copied_in_mid x (x.link.all.still_tells.0 (g.met.B.Blocks.told mid image is))) (still_older x)).each image is });
       puts = p.now;
       images = p.images;
       frame = p.frame;
@@ -318,4 +323,5 @@ returns-clause-links g c =
       all = all;
       whole = g.met.B.Blocks.keeps_all on end (g.met.B.Blocks.keeps_joins on mid end e.keeps p.keeps);
       laws = record { present = g.met.B.Blocks.present end; active = (g.met.B.Blocks.active end).0; not_one = (g.met.B.Blocks.active end).1; one = g.met.B.Blocks.one_place end; super_stands = g.met.B.Blocks.super_stands end; placed = λ told. g.met.B.Blocks.placed end u.now (g.met.B.Blocks.present end told); ranked = λ told. g.met.B.Blocks.ranked end u.now (g.met.B.Blocks.present end told); live = λ y told ne r. g.met.B.Blocks.live end y told ne r; clears = g.met.B.Blocks.clears_entries end; waits_within = g.met.B.Blocks.waits_within end; covers_told = g.met.B.Blocks.covers_told end; within = g.met.B.Blocks.within end; spelled = g.met.B.Blocks.spelled end; apart_hangs = λ told w is r. g.met.B.Blocks.apart_hangs end u.now 1 w is (g.met.B.Blocks.present end told) (g.met.B.Blocks.active end).0 r; small = g.met.B.Blocks.small end };
+      sure = g.met.B.Blocks.sure end c.copy-copy.result (inr ((p.frame.stays.marks c.copy-copy.result (λ h. h)).2 x.link.came.is.2));
     })

@@ -387,6 +387,11 @@ returns-clause-links g c =
       was_older = λ y h. absurd (held_leads c.args.score.now y h);
       fresh = λ h. held_leads c.args.score.now c.new_block-made.result h;
       no_cost = may_cost x.link;
+      tells_of = λ image is. g.met.B.Blocks.told mid image is;
+      placed = λ image is. g.met.B.Blocks.placed mid image is;
+      placed_first = record { super_at = λ image is. g.met.B.Blocks.super_stands on (g.met.B.Blocks.told on image is); each = λ image is. g.met.B.Blocks.placed on image is };
+      placed_end = record { super_at = λ image is. g.met.B.Blocks.super_stands end (g.met.B.Blocks.told end image is); each = λ image is. g.met.B.Blocks.placed end image is };
+      content = inr (c.fill_kept.ensures.bare.bare, inr c.requires.plain, held_leads c.args.score.now);
       puts = p.now;
       images = p.images;
       frame = p.frame;
@@ -397,6 +402,7 @@ returns-clause-links g c =
       all = all;
       whole = g.met.B.Blocks.keeps_all on end (g.met.B.Blocks.keeps_joins on mid end joined p.keeps);
       laws = record { present = g.met.B.Blocks.present end; active = (g.met.B.Blocks.active end).0; not_one = (g.met.B.Blocks.active end).1; one = g.met.B.Blocks.one_place end; super_stands = g.met.B.Blocks.super_stands end; placed = λ told. g.met.B.Blocks.placed end u.now (g.met.B.Blocks.present end told); ranked = λ told. g.met.B.Blocks.ranked end u.now (g.met.B.Blocks.present end told); live = λ y told ne r. g.met.B.Blocks.live end y told ne r; clears = g.met.B.Blocks.clears_entries end; waits_within = g.met.B.Blocks.waits_within end; covers_told = g.met.B.Blocks.covers_told end; within = g.met.B.Blocks.within end; spelled = g.met.B.Blocks.spelled end; apart_hangs = λ told w is r. g.met.B.Blocks.apart_hangs end u.now 1 w is (g.met.B.Blocks.present end told) (g.met.B.Blocks.active end).0 r; small = g.met.B.Blocks.small end };
+      sure = g.met.B.Blocks.sure end c.new_block-made.result (inr ((p.frame.stays.marks c.new_block-made.result (λ h. h)).2 x.link.came.is.2));
     })
 
 pub returns-clause-content : goal.returns-clause-content

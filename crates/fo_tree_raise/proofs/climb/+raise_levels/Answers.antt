@@ -13,6 +13,9 @@ use Rattle.fo_tree_raise.proofs.Levels.{owned_top}
 use Rattle.fo_tree_raise.proofs.Adding.{AddsMore, adds_nothing, adds_changes, added, made_top, made_back, made_on}
 use Rattle.fo_tree_raise.proofs.Climbing.{grown_none, grown_more, room_more, over_by, stead_by, leaves_none, leaves_more}
 use Rattle.fo_tree_raise.proofs.Keeping.{keeps_none, keeps_more}
+use Rattle.fo_tree_down.proofs.of_tree_own.Showing.{nothing_shows, shows_joins}
+use Rattle.fo_tree_down.specs.Alike.{KeepsAlike}
+use Rattle.fo_tree_down.proofs.Alikes.{alike_joins}
 use Rattle.fo_tree_raise.proofs.climb.+raise_levels.Goals as goal
 
 -- no level
@@ -384,3 +387,29 @@ returns-clause-dirties g t' c =
     let some = c.if-levels-eq0.false in
     let enough : 2 * (c.args.levels - 1) + 2 ≤ 2 * c.args.levels = omega (arith, some) in
     dirties_most enough (dirties_both c.raise_levels-below.ensures.dirties (dirties_counts (λ b h. absurd h) one))
+
+pub returns-then-levels-eq0-clause-shown : goal.returns-then-levels-eq0-clause-shown
+returns-then-levels-eq0-clause-shown g t' c = nothing_shows (record { each = λ image is. is })
+
+pub returns-clause-shown : goal.returns-clause-shown
+returns-clause-shown g t' c = shows_joins c.raise_levels-below.ensures.shown c.raise_once-top.ensures.shown
+
+pub returns-then-levels-eq0-clause-alike : goal.returns-then-levels-eq0-clause-alike
+returns-then-levels-eq0-clause-alike g t' c =
+    let s = g.B.Blocks.state c.args.on.now in
+    subst (λ (x : Tree). KeepsAlike s s c.args.tree.now x) (grown_none c.args.tree.now c.args.levels c.if-levels-eq0.true) (record { each = λ told at i holds alike. (holds, alike) })
+
+pub returns-clause-alike : goal.returns-clause-alike
+returns-clause-alike g t' c =
+    let on = c.args.on.now in
+    let mid = c.raise_levels-below.new.on in
+    let s = g.B.Blocks.state on in
+    let m = g.B.Blocks.state mid in
+    let u = g.B.Blocks.state c.raise_once-top.new.on in
+    let t = c.args.tree.now in
+    let some = c.if-levels-eq0.false in
+    let lower = c.with_levels-lower.ensures in
+    let then : KeepsAlike m u (grown t (c.args.levels - 1) c.raise_levels-below.result) (raised (grown t (c.args.levels - 1) c.raise_levels-below.result) c.raise_once-top.result) =
+    subst (λ (x : Tree). KeepsAlike m u x (raised x c.raise_once-top.result)) lower c.raise_once-top.ensures.alike in
+    subst (λ (x : Tree). KeepsAlike s u t x) (grown_more t c.args.levels c.raise_once-top.result c.raise_levels-below.result (omega (arith, some)))
+    (alike_joins (g.met.B.Blocks.keeps_all on mid c.raise_levels-below.ensures.keeps) c.raise_levels-below.ensures.alike then)

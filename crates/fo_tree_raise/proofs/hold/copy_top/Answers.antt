@@ -1,22 +1,24 @@
-use Rattle.std.proofs.Common.{◌≡◌, ◌+◌, ◌-◌, ◌^◌, ◌<◌, ℕ, length, inl, ⊎_elim, refl, sym, ◌∙◌, ap, subst, arith}
+use Rattle.std.proofs.Common.{◌≡◌, ◌≢◌, ◌+◌, ◌-◌, ◌^◌, ◌<◌, ℕ, length, inl, inr, ⊎_elim, refl, sym, ◌∙◌, ap, subst, arith}
 use Rattle.std.proofs.lemmas.Bool.{cases_eq}
 use Rattle.fo_image.specs.declared.types.State.TheVariants.{Live}
 use Rattle.fo_image.specs.declared.types.Label.{Label}
 use Rattle.fo_image.specs.declared.types.Pointer.{Pointer}
 use Rattle.fo_image.specs.declared.types.Pointer.TheVariants.{Nil, Local}
+use Rattle.fo_crash.specs.Images.{Image}
 use Rattle.fo_crash.specs.Places.{place}
 use Rattle.fo_tree_read.specs.Tree.{kind_at}
 use Rattle.fo_tree_look.specs.Source.{IsPrepared, WayReady, Ready}
 use Rattle.fo_tree_down.specs.of_tree_own.Step.{Becomes}
-use Rattle.fo_tree_down.proofs.of_tree_own.Link.{Laws, came, local_eq}
+use Rattle.fo_tree_down.proofs.of_tree_own.Link.{Laws, came, came_shows, local_eq}
 use Rattle.fo_tree_down.specs.Way.{Comes}
 use Rattle.fo_tree_down.proofs.Dirtying.{dirties_made}
-use Rattle.fo_tree_down.proofs.Topping.{Topped, comes_topped, top_topped, came_made}
+use Rattle.fo_tree_down.proofs.Topping.{Topped, in_tree as came_in_tree, comes_topped, top_topped, came_made}
 use Rattle.fo_tree_down.proofs.Join.{changes_of}
 use Rattle.fo_tree_down.proofs.Beside.{WentDown, last_leads, on_way_block}
 use Rattle.fo_tree_down.proofs.Stilling.{WasOwned, prepared_still, way_still, way_from}
 use Rattle.fo_tree_down.proofs.Telling.{over_end}
 use Rattle.fo_tree_raise.proofs.Holding.{Holding, made_result, made_is, adds_copy, can_copy, clear_copy}
+use Rattle.fo_tree_down.proofs.Alikes.{alike_top_copied}
 use Rattle.fo_tree_raise.proofs.hold.copy_top.Given as given
 use Rattle.fo_tree_raise.proofs.hold.copy_top.Goals as goal
 
@@ -192,3 +194,28 @@ pub returns-clause-dirties : goal.returns-clause-dirties
 returns-clause-dirties g c =
     let e = c.copy.ensures in
     dirties_made c.copy.result (g.met.B.Blocks.keeps_all c.args.on.now c.copy.new.self e.keeps) (came_made (came e.gives)) e.gives.dirty (λ b j h. (e.gives.order.clearing b j h).1)
+
+pub returns-clause-shown : goal.returns-clause-shown
+returns-clause-shown g c = came_shows (g.met.B.Blocks.active c.args.on.now).0 (came c.copy.ensures.gives)
+
+pub returns-clause-alike : goal.returns-clause-alike
+returns-clause-alike g c =
+    let on = c.args.on.now in
+    let end = c.copy.new.self in
+    let s = g.B.Blocks.state on in
+    let m = g.B.Blocks.state end in
+    let e = c.copy.ensures in
+    let x = topped g c in
+    let hangs = c.requires.over.1.hangs in
+    let ne : c.args.at ≢ c.copy.result = λ same. e.gives.was.0 (ap (λ b. (s.label b).state) (sym same) ∙ c.requires.ready.live) in
+    let other = e.gives.memory.others c.args.at ne in
+    let told_old : (image : Image) → m.may_leave image → s.tells = λ image is. x.all.still_tells.0 (g.met.B.Blocks.told end image is) in
+    let still : (m.label c.args.at).epoch < m.high = subst (λ n. (m.label c.args.at).epoch < n) (sym x.all.same_high) (subst (λ (q : Label). q.epoch < s.high) (sym (e.gives.stays.labels c.args.at ne)) c.requires.older) in
+    let not_one : c.args.at ≢ 1 = λ one. x.laws.not_one (subst (λ y. s.is_block y) one (hangs.is_one c.args.at c.requires.is)) in
+    alike_top_copied x hangs
+    (record { super_at = λ image is. g.met.B.Blocks.super_stands on (g.met.B.Blocks.told on image is); each = λ image is. g.met.B.Blocks.placed on image is })
+    (record { super_at = λ image is. g.met.B.Blocks.super_stands end (g.met.B.Blocks.told end image is); each = λ image is. g.met.B.Blocks.placed end image is })
+    (g.met.B.Blocks.active end).0 (g.met.B.Blocks.one_place end) c.args.at c.requires.is
+    (record { bytes = e.gives.memory.here.bytes ∙ sym other.bytes; slots = λ j. e.gives.memory.here.slots j ∙ sym (other.slots j) })
+    (λ image is. (g.met.B.Blocks.old_is_sure end 1 c.args.at (g.met.B.Blocks.active end).0 not_one (came_in_tree x (told_old image is) c.args.at ((holding g c).in_tree (told_old image is))) still).each image is)
+    (g.met.B.Blocks.sure end c.copy.result (inr e.gives.is.2)).each

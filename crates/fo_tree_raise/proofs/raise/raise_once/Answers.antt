@@ -15,6 +15,9 @@ use Rattle.fo_tree_raise.proofs.Levels.{still_prepared, block_raised, block_none
 use Rattle.fo_tree_raise.proofs.Clear.{clear_raised}
 use Rattle.fo_tree_raise.proofs.Bearing.{bears_raised}
 use Rattle.fo_tree_raise.proofs.Coming.{Coming, comes_raised, only_raised}
+use Rattle.fo_tree_down.proofs.of_tree_own.Copying.{aside_shows}
+use Rattle.fo_tree_raise.proofs.Alikes.{keeps_alike}
+use Rattle.fo_tree_down.proofs.Topping.{nil_local}
 use Rattle.fo_tree_raise.proofs.raise.raise_once.Given as given
 use Rattle.fo_tree_raise.proofs.raise.raise_once.Goals as goal
 
@@ -193,3 +196,34 @@ returns-clause-comes g c = λ told from h. comes_raised (coming g c told) from h
 
 pub returns-clause-only : goal.returns-clause-only
 returns-clause-only g c = λ told y z h. only_raised (coming g c told) y z h
+
+pub returns-clause-shown : goal.returns-clause-shown
+returns-clause-shown g c =
+    let end = c.put_slot.new.self in
+    let x = raises (lifted g c) in
+    aside_shows (λ image is. let w = x.images image is in (w.beside.other, w.beside.was, w.beside.same))
+    (λ image is r. g.met.B.Blocks.apart_hangs end image 1 c.new_block-made.result x.is.2 is (g.met.B.Blocks.active end).0 r)
+
+pub returns-clause-alike : goal.returns-clause-alike
+returns-clause-alike g c =
+    let on = c.args.on.now in
+    let mid = c.new_block-made.new.self in
+    let end = c.put_slot.new.self in
+    let s = g.B.Blocks.state on in
+    let m = g.B.Blocks.state mid in
+    let t = c.args.tree.now in
+    let d = t.depth in
+    let made = c.new_block-made.result in
+    let up : d + 1 ≡ suc d = omega arith in
+    let kind = c.kind_at-kind.ensures ∙ ap (λ k. kind_at t.dir k) up in
+    let gives = subst (λ q. Gives made (blank q) (record { state = Live; kind = q; tag = t.tag; epoch = s.high; closing = 2 ^ 32 - 1 }) s m) kind c.new_block-made.ensures.gives in
+    let x = lifted g c in
+    keeps_alike x (record {
+      first = record { super_at = λ image is. g.met.B.Blocks.super_stands on (g.met.B.Blocks.told on image is); each = λ image is. g.met.B.Blocks.placed on image is };
+      then = record { super_at = λ image is. g.met.B.Blocks.super_stands end (g.met.B.Blocks.told end image is); each = λ image is. g.met.B.Blocks.placed end image is };
+      falls = λ image is. g.met.B.Blocks.ranked end image is;
+      told = λ image is. g.met.B.Blocks.told end image is;
+      gives = gives.images;
+      none = λ j b h. nil_local b (sym (blank_leads t.dir (suc d) j) ∙ h);
+      apart = λ image is r. g.met.B.Blocks.apart_hangs end image 1 made (raises x).is.2 is (g.met.B.Blocks.active end).0 r;
+    })

@@ -11,6 +11,7 @@ use Rattle.fo_tree_down.proofs.Dirtying.{dirties_both, dirties_most}
 use Rattle.fo_tree_down.proofs.Beside.{on_way_block}
 use Rattle.fo_tree_append.specs.of_tree_clear.Put.{byte_here}
 use Rattle.fo_tree_append.proofs.of_tree_clear.Stepping.{steps_none}
+use Rattle.fo_tree_trim.proofs.of_tree_own.Showing.{shows_joins}
 use Rattle.fo_tree_append.specs.Append.{ended}
 use Rattle.fo_tree_append.specs.Grown.{RaisedTo}
 use Rattle.fo_tree_append.proofs.Rising.{ThenAdds, rises, steps_wider, top_since}
@@ -173,3 +174,9 @@ returns-in-Some-clause-dirties g c =
     let more = depth_more c.args.tree.now.size c.args.size (omega (arith, end, low)) c.requires.past in
     let levels = subst (λ (x : Tree). IsTopCurrent m x → Dirties (2 * (depth_for c.args.size - x.depth)) none m u) c.below_top-here.ensures c.raise_to-in-Some.ensures.levels in
     dirties_most (omega (arith, least, more)) (dirties_both f.dirties (levels f.top.1))
+
+pub returns-in-None-clause-shown : goal.returns-in-None-clause-shown
+returns-in-None-clause-shown g c = shows_joins c.in-None.ensures.shown c.raise_to.ensures.shown
+
+pub returns-in-Some-clause-shown : goal.returns-in-Some-clause-shown
+returns-in-Some-clause-shown g c = shows_joins c.in-Some.ensures.shown c.raise_to-in-Some.ensures.shown

@@ -1,4 +1,4 @@
-use Rattle.std.proofs.Common.{◌≡◌, ℕ, inl, ⊎_elim, refl, sym, ◌∙◌, ap, subst, arith}
+use Rattle.std.proofs.Common.{◌≡◌, ℕ, false, inl, ⊎_elim, refl, sym, ◌∙◌, ap, subst, arith}
 use Rattle.fo_image.specs.declared.types.Pointer.TheVariants.{Local}
 use Rattle.fo_crash.specs.declared.slot.Slot.TheVariants.{Entry as Head}
 use Rattle.fo_crash.specs.Names.{SameUse}
@@ -12,9 +12,11 @@ use Rattle.fo_tree_link.proofs.Changed.{can_link}
 use Rattle.fo_tree_trim.proofs.Counting.{adds_beside}
 use Rattle.fo_tree_trim.proofs.Holding.{clear_on, holds_stays}
 use Rattle.fo_tree_append.proofs.Joining.{rises_changes}
+use Rattle.fo_tree_trim.proofs.of_tree_own.Showing.{shows_joins}
 use Rattle.fo_tree_shorten.specs.Shorten.{Links}
 use Rattle.fo_tree_shorten.proofs.Beside.{Beside, bytes_on}
 use Rattle.fo_tree_shorten.proofs.Entries.{entry_owned, entry_put, beside_put}
+use Rattle.fo_tree_shorten.proofs.Showing.{data_shows, top_stands}
 use Rattle.fo_tree_shorten.proofs.Standing.{Labelled, not_both, tagged}
 use Rattle.fo_tree_set.proofs.Lengths.{way_top, none_dropped, cost_few}
 use Rattle.fo_tree_set.proofs.long.lengthen.Given as given
@@ -223,3 +225,21 @@ returns-clause-keeps g c = g.met.B.Blocks.keeps_joins c.args.on.now c.grow_ways.
 
 pub returns-clause-dirties : goal.returns-clause-dirties
 returns-clause-dirties g c = λ before blocks counted here. adds_beside c.grow_ways.ensures.dirties counted here (λ list within has. c.link.ensures.dirties before list within has)
+
+pub returns-clause-shown : goal.returns-clause-shown
+returns-clause-shown g c =
+    let put = c.link.new.on in
+    let t = c.args.ways.now.tree in
+    let new = c.grow_ways.new.ways.tree in
+    let own = c.grow_ways.ensures in
+    let rank : new.rank ≡ t.rank = ap (λ (y : Tree). y.rank) own.tree in
+    let dir : new.dir ≡ false = ap (λ (y : Tree). y.dir) own.tree ∙ c.requires.data.0 in
+    shows_joins own.shown (data_shows (record {
+      images = c.link.ensures.images;
+      top = λ image is b e. (new.tag, new.depth, 0, top_stands new dir rank c.link.ensures.over.hangs (g.met.B.Blocks.told put image is) b e);
+      plain = c.requires.data.1;
+      placed = λ image is. g.met.B.Blocks.placed put image is;
+      few = λ image is. g.met.B.Blocks.few put image is;
+      one = g.met.B.Blocks.one_place put;
+      super_at = λ image is. g.met.B.Blocks.super_stands put (g.met.B.Blocks.told put image is);
+    }))

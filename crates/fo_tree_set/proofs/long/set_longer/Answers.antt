@@ -3,6 +3,7 @@ use Rattle.fo_sparse.specs.Written.{resized}
 use Rattle.fo_tree_read.specs.declared.tree.Tree.{Tree}
 use Rattle.fo_tree_look.specs.Source.{leaves_of}
 use Rattle.fo_tree_trim.proofs.Counting.{adds_joins, adds_most}
+use Rattle.fo_tree_trim.proofs.of_tree_own.Showing.{shows_joins}
 use Rattle.fo_tree_shorten.specs.Shorten.{EntryAt}
 use Rattle.fo_tree_set.specs.Set.{GrowsBy}
 use Rattle.fo_tree_set.proofs.Lengths.{shape_trims, form_shape, form_joins, bytes_kept}
@@ -137,3 +138,6 @@ returns-in-Ok-clause-dirties g c = λ before blocks counted here.
 
 pub returns-in-Err-clause-dirties : goal.returns-in-Err-clause-dirties
 returns-in-Err-clause-dirties g c = λ before blocks counted here. adds_most (omega arith) (c.trim_settled.ensures.dirties before blocks counted here)
+
+pub returns-in-Ok-clause-shown : goal.returns-in-Ok-clause-shown
+returns-in-Ok-clause-shown g c = shows_joins c.trim_settled.ensures.shown c.lengthen.ensures.shown

@@ -8,6 +8,7 @@ use Rattle.fo_tree_read.specs.Tree.{kind_at}
 use Rattle.fo_tree_append.proofs.of_tree_grow.Empty.{least_for, few_for}
 use Rattle.fo_tree_append.proofs.of_tree_lift.Lifting.{top_ready}
 use Rattle.fo_tree_down.proofs.Dirtying.{dirties_same}
+use Rattle.fo_tree_trim.proofs.of_tree_own.Showing.{nothing_shows}
 use Rattle.fo_tree_append.specs.Append.{ended}
 use Rattle.fo_tree_append.specs.Grown.{RaisedTo}
 use Rattle.fo_tree_append.proofs.Seeing.{depth_more, raised_none, raised_more}
@@ -150,3 +151,9 @@ returns-clause-levels g c = λ top.
     let low = c.requires.over.1.low in
     let same = sym (c.least_depth-depth.ensures.only (depth_for c.args.size) (least_for c.args.size (omega (arith, end, low)))) in
     subst (λ d. Dirties (2 * (d - c.args.tree.now.depth)) none s m) same (c.lift-top.ensures.dirties_less top)
+
+pub returns-then-has_room-clause-shown : goal.returns-then-has_room-clause-shown
+returns-then-has_room-clause-shown g c = nothing_shows (record { each = λ image is. is })
+
+pub returns-clause-shown : goal.returns-clause-shown
+returns-clause-shown g c = c.lift-top.ensures.shown

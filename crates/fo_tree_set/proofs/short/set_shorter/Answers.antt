@@ -4,6 +4,7 @@ use Rattle.fo_ports.specs.Sources.{depth_for}
 use Rattle.fo_tree_look.specs.Source.{WayReady}
 use Rattle.fo_tree_down.specs.Clear.{last_leaf}
 use Rattle.fo_tree_trim.proofs.Counting.{adds_most}
+use Rattle.fo_tree_trim.proofs.of_tree_own.Showing.{shows_joins}
 use Rattle.fo_tree_shorten.specs.Shorten.{EntryAt, Links}
 use Rattle.fo_tree_set.specs.Set.{MayTrim}
 use Rattle.fo_tree_set.proofs.Lengths.{SameShape, shape_trims, form_shape, form_joins, rose_since}
@@ -136,3 +137,6 @@ pub returns-clause-dirties : goal.returns-clause-dirties
 returns-clause-dirties g c = λ before blocks counted here.
     let level : c.shorten.new.ways.tree.depth ≡ depth_for c.args.len = ap (λ (t : Tree). t.depth) c.shorten.ensures.is.0 in
     adds_most (omega (arith, level)) (c.trim_settled.ensures.dirties before blocks (c.shorten.ensures.dirties before blocks counted here) here)
+
+pub returns-clause-shown : goal.returns-clause-shown
+returns-clause-shown g c = λ plain. shows_joins (c.shorten.ensures.shown plain) c.trim_settled.ensures.shown

@@ -3,6 +3,7 @@ use Rattle.fo_tree_read.specs.declared.tree.Tree.{Tree}
 use Rattle.fo_tree_look.specs.Source.{WayReady}
 use Rattle.fo_tree_down.specs.Clear.{last_leaf}
 use Rattle.fo_tree_trim.proofs.Counting.{ends_alone, ends_cut}
+use Rattle.fo_tree_trim.proofs.of_tree_own.Showing.{shows_joins}
 use Rattle.fo_tree_shorten.specs.Shorten.{EntryAt}
 use Rattle.fo_tree_set.proofs.trim.cut_end.Goals as goal
 
@@ -77,3 +78,6 @@ returns-in-Ok-clause-dirties g c = λ before blocks counted here. ends_cut (c.re
 
 pub returns-in-Err-clause-dirties : goal.returns-in-Err-clause-dirties
 returns-in-Err-clause-dirties g c = λ before blocks counted here. ends_alone (c.rest.ensures.dirties before blocks counted here)
+
+pub returns-in-Ok-clause-shown : goal.returns-in-Ok-clause-shown
+returns-in-Ok-clause-shown g c = shows_joins c.rest.ensures.shown c.cut.ensures.shown

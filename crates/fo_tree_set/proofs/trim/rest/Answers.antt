@@ -7,6 +7,7 @@ use Rattle.fo_tree_down.specs.Clear.{last_leaf}
 use Rattle.fo_tree_down.proofs.of_tree_own.Link.{Laws}
 use Rattle.fo_tree_trim.proofs.Counting.{ends_settled}
 use Rattle.fo_tree_trim.proofs.Knowing.{end_known}
+use Rattle.fo_tree_trim.proofs.of_tree_own.Showing.{nothing_shows, shows_joins}
 use Rattle.fo_tree_shorten.specs.Shorten.{EntryAt}
 use Rattle.fo_tree_shorten.proofs.Settling.{Settles, entry_settled, ready_settled, hangs_settled, over_settled}
 use Rattle.fo_tree_set.proofs.Resting.{undoomed, bytes_settled, current_after}
@@ -139,3 +140,6 @@ returns-clause-dirties g c = λ before blocks counted here.
     ends_settled (c.make_ready.ensures.dirties before blocks counted here)
     (λ list within. dirties_joins within (dirties_rests u v (g.met.B.Blocks.keeps_all mid end q.keeps) q.rests))
     (end_known u v w.tree w.kept.items c.make_ready.ensures.ready q.known)
+
+pub returns-clause-shown : goal.returns-clause-shown
+returns-clause-shown g c = shows_joins c.make_ready.ensures.shown (nothing_shows c.settle.ensures.rests.images)

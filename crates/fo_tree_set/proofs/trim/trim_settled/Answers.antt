@@ -1,6 +1,7 @@
 use Rattle.std.proofs.Common.{inl, inr, refl, arith}
 use Rattle.fo_tree_trim.proofs.Above.{deep_size}
 use Rattle.fo_tree_trim.proofs.Counting.{adds_none}
+use Rattle.fo_tree_trim.proofs.of_tree_own.Showing.{nothing_shows}
 use Rattle.fo_tree_set.proofs.trim.trim_settled.Goals as goal
 
 pub cut_end-requires-clause-ready : goal.cut_end-requires-clause-ready
@@ -17,3 +18,6 @@ returns-then-is_clear-clause-trims g c = inl (refl, refl)
 
 pub returns-then-is_clear-clause-dirties : goal.returns-then-is_clear-clause-dirties
 returns-then-is_clear-clause-dirties g c = λ before blocks counted here. adds_none counted here
+
+pub returns-then-is_clear-clause-shown : goal.returns-then-is_clear-clause-shown
+returns-then-is_clear-clause-shown g c = nothing_shows (record { each = λ image is. is })

@@ -4,6 +4,7 @@ use Rattle.fo_tree_link.specs.of_tree_down.Clear.{last_leaf}
 use Rattle.fo_tree_trim.specs.Cut.{CutSlot, Cuts}
 use Rattle.fo_tree_trim.proofs.Above.{deep_size}
 use Rattle.fo_tree_trim.proofs.Counting.{adds_none, ends_cut}
+use Rattle.fo_tree_trim.proofs.of_tree_own.Showing.{nothing_shows, shows_joins}
 use Rattle.fo_tree_shorten.proofs.behind.trim.Goals as goal
 
 pub make_ready-requires-clause-ready : goal.make_ready-requires-clause-ready
@@ -34,3 +35,9 @@ returns-then-is_clear-clause-dirties g c = λ before blocks counted here. adds_n
 
 pub returns-clause-dirties : goal.returns-clause-dirties
 returns-clause-dirties g c = λ before blocks counted here. ends_cut (c.make_ready.ensures.dirties before blocks counted here) (λ list within has. c.cut.ensures.dirties before list within has)
+
+pub returns-then-is_clear-clause-shown : goal.returns-then-is_clear-clause-shown
+returns-then-is_clear-clause-shown g c = nothing_shows (record { each = λ image is. is })
+
+pub returns-clause-shown : goal.returns-clause-shown
+returns-clause-shown g c = shows_joins c.make_ready.ensures.shown c.cut.ensures.shown

@@ -1,4 +1,4 @@
-use Rattle.std.proofs.Common.{◌≡◌, ◌+◌, ℕ, List, take, sym, ◌∙◌, ap, subst, arith}
+use Rattle.std.proofs.Common.{◌≡◌, ◌+◌, ℕ, false, List, take, sym, ◌∙◌, ap, subst, arith}
 use Rattle.fo_image.specs.declared.types.Pointer.TheVariants.{Local}
 use Rattle.fo_crash.specs.declared.slot.Slot.{Slot}
 use Rattle.fo_crash.specs.Images.{target, depth_of}
@@ -15,6 +15,7 @@ use Rattle.fo_tree_link.proofs.Lowered.{first_of}
 use Rattle.fo_tree_shorten.specs.Shorten.{EntryAt}
 use Rattle.fo_tree_shorten.proofs.Beside.{Beside, ready_on, bytes_on}
 use Rattle.fo_tree_shorten.proofs.Entries.{beside_put}
+use Rattle.fo_tree_shorten.proofs.Showing.{data_shows, top_stands}
 use Rattle.fo_tree_shorten.proofs.Standing.{Labelled, tagged}
 use Rattle.fo_tree_shorten.proofs.Through.{through_own}
 use Rattle.fo_tree_shorten.proofs.length.shorten.Given as given
@@ -101,3 +102,20 @@ returns-clause-leaves g c = λ told b has away.
 
 pub returns-clause-dirties : goal.returns-clause-dirties
 returns-clause-dirties g c = c.link.ensures.dirties
+
+pub returns-clause-shown : goal.returns-clause-shown
+returns-clause-shown g c = λ plain.
+    let put = c.link.new.on in
+    let t = c.args.ways.now.tree in
+    let new = c.cut_off-ways.result in
+    let rank : new.rank ≡ t.rank = ap (λ (y : Tree). y.rank) c.cut_off-ways.ensures.is in
+    let dir : new.dir ≡ false = ap (λ (y : Tree). y.dir) c.cut_off-ways.ensures.is ∙ c.requires.data in
+    data_shows (record {
+      images = c.link.ensures.images;
+      top = λ image is b e. (new.tag, new.depth, 0, top_stands new dir rank c.link.ensures.over.hangs (g.met.B.Blocks.told put image is) b e);
+      plain = plain;
+      placed = λ image is. g.met.B.Blocks.placed put image is;
+      few = λ image is. g.met.B.Blocks.few put image is;
+      one = g.met.B.Blocks.one_place put;
+      super_at = λ image is. g.met.B.Blocks.super_stands put (g.met.B.Blocks.told put image is);
+    })

@@ -10,6 +10,8 @@ use Rattle.fo_tree_trim.proofs.Ending.{end_few, ends_clear}
 use Rattle.fo_tree_trim.proofs.Fronts.{bytes_same}
 use Rattle.fo_tree_trim.proofs.Gone.{past_gone}
 use Rattle.fo_tree_trim.proofs.Keeping.{Trims, trim_over, trim_comes, trim_back, trim_still, trim_leaves, trim_shows}
+use Rattle.fo_tree_down.proofs.of_tree_own.Showing.{nothing_shows}
+use Rattle.fo_tree_trim.proofs.Showing.{cut_shows}
 use Rattle.fo_tree_trim.proofs.cut.cut_behind.Goals as goal
 
 pub returns-clause-clear : goal.returns-clause-clear
@@ -346,3 +348,9 @@ returns-clause-dirties g c = λ first blocks before has.
 
 pub returns-then-tree-eq0-clause-dirties : goal.returns-then-tree-eq0-clause-dirties
 returns-then-tree-eq0-clause-dirties g c = λ first blocks before has. before
+
+pub returns-then-tree-eq0-clause-shown : goal.returns-then-tree-eq0-clause-shown
+returns-then-tree-eq0-clause-shown g c = nothing_shows (record { each = λ image is. is })
+
+pub returns-clause-shown : goal.returns-clause-shown
+returns-clause-shown g c = cut_shows c.cut_slots.ensures.cuts

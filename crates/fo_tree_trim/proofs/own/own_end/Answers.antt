@@ -117,3 +117,12 @@ returns-clause-dirties g c =
     let few = q.few in
     let deep = c.requires.deep in
     record { blocks = q.blocks; few = omega (arith, few, deep); within = q.within; each = λ b on. q.each b on.1 }
+
+pub returns-clause-beside : goal.returns-clause-beside
+returns-clause-beside g c = c.own_way.ensures.beside
+
+pub returns-clause-owns : goal.returns-clause-owns
+returns-clause-owns g c = λ told b. (c.own_way.ensures.owns told b).0
+
+pub returns-clause-stays : goal.returns-clause-stays
+returns-clause-stays g c = c.own_way.ensures.stays

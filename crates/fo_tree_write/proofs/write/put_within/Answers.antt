@@ -8,6 +8,7 @@ use Rattle.fo_tree_clear.specs.of_tree_look.Source.{WayReady}
 use Rattle.fo_tree_clear.specs.of_tree_down.Way.{with_top}
 use Rattle.fo_tree_clear.specs.Put.{byte_here, Puts}
 use Rattle.fo_tree_clear.proofs.Stepping.{steps_changes}
+use Rattle.fo_tree_clear.proofs.of_tree_own.Showing.{nothing_shows, shows_joins}
 use Rattle.fo_tree_write.specs.Write.{at_top, Counted, Spent}
 use Rattle.fo_tree_write.proofs.Wider.{changes_wider, ways_own}
 use Rattle.fo_tree_write.proofs.Counting.{counted_none, counted_more, counted_most}
@@ -98,6 +99,7 @@ loop-done-preserved g c =
         way = e.way;
       });
       counted = counted_more {s = s} {u = u} {v = v} t {top = c.loop-done.top} {next = c.put_leaf-current.result.top} {offset = c.args.offset} {done = done} {n = n} (omega (arith, few, lt)) (omega (arith, few)) e.way e.dirties e.dirties_used i.counted;
+      shown = shows_joins i.shown e.shown;
       keeps = keeps;
     }
 
@@ -108,6 +110,7 @@ loop-done-init g c =
       within = omega arith;
       wrote = wrote_none (g.B.Blocks.state on) c.args.tree.now c.args.kept.now c.args.offset c.args.piece.now (g.met.B.Blocks.keeps_all on on (g.met.B.Blocks.keeps_at_once on));
       counted = counted_none (g.B.Blocks.state on) c.args.tree.now c.args.offset;
+      shown = nothing_shows (record { each = λ image is. is });
       keeps = g.met.B.Blocks.keeps_at_once on;
     }
 
@@ -156,3 +159,6 @@ returns-clause-dirties g c =
     let whole : c.loop-done.done ≡ length c.args.piece.now = omega arith in
     let counted = subst (λ n. Counted s u (at_top t c.loop-done.top) c.args.offset n) whole c.loop-done.invariant.counted in
     subst (λ n. Dirties (2 * n) none s u) (most_is t.depth t.size len c.requires.over.1.least) (counted_most c.requires.over.1.hangs.few counted)
+
+pub returns-clause-shown : goal.returns-clause-shown
+returns-clause-shown g c = c.loop-done.invariant.shown

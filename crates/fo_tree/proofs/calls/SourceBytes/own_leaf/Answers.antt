@@ -4,6 +4,7 @@ use Rattle.fo_ports.specs.Sources.{ComesFor, Owned}
 use Rattle.fo_tree_read.specs.declared.tree.Tree.{Tree}
 use Rattle.fo_tree_look.specs.declared.ways.Kept.{Kept}
 use Rattle.fo_tree_look.specs.Source.{Over, form_of, leaves_of}
+use Rattle.fo_tree_link.specs.of_tree_down.Alike.{KeepsAlike}
 use Rattle.fo_tree_append.specs.of_tree_lift.Owns.{with_leaf}
 use Rattle.fo_tree.proofs.calls.SourceBytes.own_leaf.Goals as goal
 
@@ -49,3 +50,9 @@ pub returns-clause-changes : goal.returns-clause-changes
 returns-clause-changes g c =
     let w = c.args.self.now.ways in
     (c.own_leaf-current.ensures.changes w.generation w.limit, c.own_leaf-current.ensures.keeps)
+
+pub returns-clause-alike : goal.returns-clause-alike
+returns-clause-alike g c =
+    let s = g.B.Blocks.state c.args.on.now in
+    let u = g.B.Blocks.state c.own_leaf-current.new.on in
+    subst (λ (x : Tree). KeepsAlike s u c.args.self.now.ways.tree x) (sym c.with_leaf-self.ensures) c.own_leaf-current.ensures.alike

@@ -1,0 +1,1 @@
+pub use Rattle.fo_dir_put.specs.of_shown.Shown

@@ -1,0 +1,4 @@
+pub mod Names
+pub mod Rules
+pub mod Settled
+pub mod Example

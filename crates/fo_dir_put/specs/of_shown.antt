@@ -1,0 +1,1 @@
+pub use Rattle.fo_shown.specs.Shown

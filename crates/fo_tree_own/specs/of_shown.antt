@@ -1,0 +1,2 @@
+pub use Rattle.fo_shown.specs.Alike
+pub use Rattle.fo_shown.specs.Shown

@@ -1,0 +1,1 @@
+pub use Rattle.fo_tree_down.specs.of_tree_own.Shown
