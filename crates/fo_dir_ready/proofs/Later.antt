@@ -3,10 +3,12 @@ use Rattle.std.proofs.Common.{◌≡◌, ◌⊎◌, inl, inr, ⊎_elim, ◌+◌,
 use Rattle.fo_image.specs.declared.types.Label.{Label}
 use Rattle.fo_image.specs.declared.types.Pointer.{Pointer}
 use Rattle.fo_image.specs.declared.types.Pointer.TheVariants.{Local}
-use Rattle.fo_crash.specs.Images.{target, to_block}
+use Rattle.fo_crash.specs.Images.{Reaches, target, to_block}
 use Rattle.fo_crash.proofs.Reach.{same_walk, reaches_itself}
 use Rattle.fo_ports.specs.State.{State, KeepsAll, Looks}
+use Rattle.fo_ports.specs.Alike.{Stem, KeepsAlike, stem_of}
 use Rattle.fo_ports.specs.Sources.{Form, Leaves, ComesFor, IsInstead, most_to_own, Owned, Grows, Changes, MayZero, Made, IsEnough, most_for, SameLeaves}
+use Rattle.fo_shown.proofs.Alikes.{alike_later}
 use Rattle.fo_dir_read.specs.Names.{leaf_count}
 use Rattle.fo_dir_ready.specs.Owning.{MayOwn, MayReady, Readies}
 
@@ -79,3 +81,32 @@ module _ {a m : State} (all : KeepsAll a m) (looks : Looks a m) (told : a.tells)
   -- so does that nothing else comes so
   pub only_later : (b : State) {top mid new : Pointer} → mid ≡ top → ((y x : ℕ) → b.instead y x → (new ≡ Local y) ⊎ (m.instead y x × (mid ≡ Local y → ⊥))) → (y x : ℕ) → b.instead y x → (new ≡ Local y) ⊎ (a.instead y x × (top ≡ Local y → ⊥))
   only_later b same only y x i = ⊎_elim (λ h. inl h) (λ h. inr ((looks.stays.instead y x (λ n. n) (λ n. n)).0 h.0, λ e. h.1 (same ∙ e))) (only y x i)
+
+  -- what its entry would lead to stays alike
+  alike_looked : (stem : Stem) → m.tops 1 → KeepsAlike a m stem stem
+  alike_looked stem active = record {
+    each = λ still at i holds alike.
+        let reached : Reaches m.now (to_block 1) at = record { path = holds.in_tree.path; leads = ap target (same_walk m.now a.now (λ b j. ((looks.memory told).each b).slots j) holds.in_tree.path (to_block 1)) ∙ holds.in_tree.leads } in
+        let uncovered : m.covered at → ⊥ = λ h. holds.uncovered ((looks.covered.covered at).0 h) in (
+          record {
+            there = holds.there;
+            stands = looks.stays.places told at holds.there (λ n. n) (λ n. n) uncovered (1, inl active, reached) holds.stands;
+            names = holds.names;
+            below = holds.below;
+            above = holds.above;
+            in_tree = reached;
+            uncovered = uncovered;
+          },
+          λ e formed top. alike_later looks.images (((looks.memory told).each at).slots i) (alike e formed top),
+        );
+  }
+
+-- a source that was owned after a look
+pub alike_after : {a m b : State} {form form_then : Form} {size size_then : ℕ} {top top_then : Pointer} {new : Stem} → KeepsAll a m → Looks a m → m.tops 1 → form_then ≡ form → size_then ≡ size → top_then ≡ top → KeepsAlike m b (stem_of form_then size_then top_then) new → KeepsAlike a b (stem_of form size top) new
+alike_after {a} {m} {b} {form} {form_then} {size} {size_then} {top} {top_then} {new} all looks active form_is size_is top_is keeps =
+    let same : stem_of form_then size_then top_then ≡ stem_of form size top = ap (λ f. stem_of f size_then top_then) form_is ∙ ap (λ n. stem_of form n top_then) size_is ∙ ap (λ p. stem_of form size p) top_is in
+    record {
+      each = λ told at i holds alike.
+          let on = (alike_looked all looks told (stem_of form size top) active).each told at i holds alike in
+          (subst (λ x. KeepsAlike m b x new) same keeps).each (all.still_tells.1 told) at i on.0 on.1;
+    }

@@ -3,6 +3,8 @@ ghost use Rattle.std.specs.Prelude.{◌≡◌, ◌≢◌, ◌⊎◌, ◌+◌, �
 ghost use Rattle.fo_image.specs.declared.types.Entry.{Entry};
 ghost use Rattle.fo_image.specs.declared.types.Pointer.{Pointer};
 ghost use Rattle.fo_image.specs.declared.types.Pointer.TheVariants.{Nil, Local};
+ghost use Rattle.fo_ports.specs.Alike.{KeepsAlike, stem_of};
+ghost use Rattle.fo_ports.specs.Shown.{ShowsNoMore};
 ghost use Rattle.fo_ports.specs.Sources.{ComesFor, Owned, Grows, Changes, MayZero, most_to_own, Dirties};
 ghost use Rattle.fo_dir_read.specs.Pairs.{OfEntries, IsPair, IsFree, AreTaken};
 ghost use Rattle.fo_dir_put.specs.Puts.{IsHeldEntries};
@@ -34,6 +36,8 @@ fn own_kept<B: Blocks, S: Bytes<B>>(entries: &mut S, on: &mut B, rank: u32, i: u
     ensures only { (B.state on.old).tells → S.top entries.new ≢ Nil → (y x : ℕ) → (B.state on.new).instead y x → (S.top entries.new ≡ Local y) ⊎ ((B.state on.old).instead y x × (S.top entries.old ≡ Local y → ⊥)) }
     ensures changes { Changes (S.form entries.old).tag (S.leaves entries.old on.old).owns (MayZero (S.form entries.old) (S.size entries.old) i (B.state on.old) (S.leaves entries.old on.old)) (B.state on.old) (B.state on.new) }
     ensures dirties { Dirties (2 * most_to_own (S.size entries.old) i) (λ b. b ≡ result) (B.state on.old) (B.state on.new) }
+    ensures shown { ShowsNoMore (B.state on.old).may_leave (B.state on.new).may_leave }
+    ensures alike { KeepsAlike (B.state on.old) (B.state on.new) (stem_of (S.form entries.old) (S.size entries.old) (S.top entries.old)) (stem_of (S.form entries.new) (S.size entries.new) (S.top entries.new)) }
     ensures keeps { B.keeps on.old on.new }
 {
     let _ = rank;
@@ -65,6 +69,8 @@ pub fn own_entries<B: Blocks, S: Bytes<B>>(entries: &mut S, on: &mut B, rank: u3
     ensures only { (B.state on.old).tells → S.top entries.new ≢ Nil → (y x : ℕ) → (B.state on.new).instead y x → (S.top entries.new ≡ Local y) ⊎ ((B.state on.old).instead y x × (S.top entries.old ≡ Local y → ⊥)) }
     ensures changes { Changes (S.form entries.old).tag (S.leaves entries.old on.old).owns (MayZero (S.form entries.old) (S.size entries.old) i (B.state on.old) (S.leaves entries.old on.old)) (B.state on.old) (B.state on.new) }
     ensures dirties { Dirties (2 * most_to_own (S.size entries.old) i) (λ b. b ≡ result) (B.state on.old) (B.state on.new) }
+    ensures shown { ShowsNoMore (B.state on.old).may_leave (B.state on.new).may_leave }
+    ensures alike { KeepsAlike (B.state on.old) (B.state on.new) (stem_of (S.form entries.old) (S.size entries.old) (S.top entries.old)) (stem_of (S.form entries.new) (S.size entries.new) (S.top entries.new)) }
     ensures keeps { B.keeps on.old on.new }
 {
     own_kept(entries, on, rank, i)

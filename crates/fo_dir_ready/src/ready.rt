@@ -7,6 +7,8 @@ ghost use Rattle.fo_ports.specs.Causes.{Caused};
 ghost use Rattle.fo_ports.specs.State.{Looks};
 ghost use Rattle.fo_image.specs.declared.types.Pointer.{Pointer};
 ghost use Rattle.fo_image.specs.declared.types.Pointer.TheVariants.{Nil, Local};
+ghost use Rattle.fo_ports.specs.Alike.{KeepsAlike, stem_of};
+ghost use Rattle.fo_ports.specs.Shown.{ShowsNoMore};
 ghost use Rattle.fo_ports.specs.Sources.{ComesFor, Grows, SameLeaves, Lacks, most_to_own, Dirties};
 ghost use Rattle.fo_dir_read.specs.Names.{OfRecords, AreRecords, leaf_count};
 ghost use Rattle.fo_dir_read.specs.Pairs.{OfEntries, IsPair, IsFree, AreTaken};
@@ -56,6 +58,8 @@ pub fn ready_records<B: Blocks, S: Bytes<B>>(
     ensures over { S.is_over records.new on.new × (S.form records.new ≡ S.form records.old) }
     ensures cause { IfErr result (Caused ⊥ (λ b. (((B.state on.old).tells → ⊥) × (B.state on.old).is_block b) ⊎ ((b ≡ 1) × ((B.state on.old).tells → Lacks (S.leaves records.old on.old).named (B.state on.old).held))) (Rose (B.state on.old).faults (B.state on.new).faults) (Rose (B.state on.old).arena_faults (B.state on.new).arena_faults)) }
     ensures dirties { IfOk result (λ leaf. Dirties (2 * most_to_own (S.size records.old) i) (λ b. b ≡ leaf.at) (B.state on.old) (B.state on.new)) }
+    ensures shown { ShowsNoMore (B.state on.old).may_leave (B.state on.new).may_leave }
+    ensures alike { OnOk result (KeepsAlike (B.state on.old) (B.state on.new) (stem_of (S.form records.old) (S.size records.old) (S.top records.old)) (stem_of (S.form records.new) (S.size records.new) (S.top records.new))) }
     ensures keeps { B.keeps on.old on.new }
 {
     match records.prepare(on, 8192 * i as u64, 8192) {
@@ -101,6 +105,8 @@ pub fn ready_entries<B: Blocks, S: Bytes<B>>(
     ensures over { S.is_over entries.new on.new × (S.form entries.new ≡ S.form entries.old) }
     ensures cause { IfErr result (Caused ⊥ (λ b. (((B.state on.old).tells → ⊥) × (B.state on.old).is_block b) ⊎ ((b ≡ 1) × ((B.state on.old).tells → Lacks (S.leaves entries.old on.old).named (B.state on.old).held))) (Rose (B.state on.old).faults (B.state on.new).faults) (Rose (B.state on.old).arena_faults (B.state on.new).arena_faults)) }
     ensures dirties { IfOk result (λ leaf. Dirties (2 * most_to_own (S.size entries.old) i) (λ b. b ≡ leaf.at) (B.state on.old) (B.state on.new)) }
+    ensures shown { ShowsNoMore (B.state on.old).may_leave (B.state on.new).may_leave }
+    ensures alike { OnOk result (KeepsAlike (B.state on.old) (B.state on.new) (stem_of (S.form entries.old) (S.size entries.old) (S.top entries.old)) (stem_of (S.form entries.new) (S.size entries.new) (S.top entries.new))) }
     ensures keeps { B.keeps on.old on.new }
 {
     match entries.prepare(on, 8192 * i as u64, 8192) {

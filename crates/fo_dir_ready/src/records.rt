@@ -3,6 +3,8 @@ ghost use Rattle.std.specs.Prelude.{◌≡◌, ◌≢◌, ◌⊎◌, ◌+◌, �
 ghost use Rattle.fo_image.specs.declared.record.Record.{Record};
 ghost use Rattle.fo_image.specs.declared.types.Pointer.{Pointer};
 ghost use Rattle.fo_image.specs.declared.types.Pointer.TheVariants.{Nil, Local};
+ghost use Rattle.fo_ports.specs.Alike.{KeepsAlike, stem_of};
+ghost use Rattle.fo_ports.specs.Shown.{ShowsNoMore};
 ghost use Rattle.fo_ports.specs.Sources.{ComesFor, Owned, Grows, Changes, MayZero, most_to_own, Dirties};
 ghost use Rattle.fo_dir_read.specs.Names.{OfRecords, AreRecords, leaf_count};
 ghost use Rattle.fo_dir_put.specs.Puts.{IsOwnedRecords};
@@ -31,6 +33,8 @@ pub fn own_records<B: Blocks, S: Bytes<B>>(records: &mut S, on: &mut B, rank: u3
     ensures only { (B.state on.old).tells → S.top records.new ≢ Nil → (y x : ℕ) → (B.state on.new).instead y x → (S.top records.new ≡ Local y) ⊎ ((B.state on.old).instead y x × (S.top records.old ≡ Local y → ⊥)) }
     ensures changes { Changes (S.form records.old).tag (S.leaves records.old on.old).owns (MayZero (S.form records.old) (S.size records.old) i (B.state on.old) (S.leaves records.old on.old)) (B.state on.old) (B.state on.new) }
     ensures dirties { Dirties (2 * most_to_own (S.size records.old) i) (λ b. b ≡ result) (B.state on.old) (B.state on.new) }
+    ensures shown { ShowsNoMore (B.state on.old).may_leave (B.state on.new).may_leave }
+    ensures alike { KeepsAlike (B.state on.old) (B.state on.new) (stem_of (S.form records.old) (S.size records.old) (S.top records.old)) (stem_of (S.form records.new) (S.size records.new) (S.top records.new)) }
     ensures keeps { B.keeps on.old on.new }
 {
     let _ = rank;

@@ -10,6 +10,8 @@ ghost use Rattle.fo_crash.specs.declared.place.Place.{Place};
 ghost use Rattle.fo_crash.specs.Images.{Reaches, to_block};
 ghost use Rattle.fo_ports.specs.Causes.{Caused};
 ghost use Rattle.fo_ports.specs.State.{Looks, none};
+ghost use Rattle.fo_ports.specs.Alike.{KeepsAlike, stem_of};
+ghost use Rattle.fo_ports.specs.Shown.{ShowsNoMore};
 ghost use Rattle.fo_ports.specs.Sources.{Dirties, Form, Leaves, is_dir, source_bytes, Lacks, depth_for, most_for, most_to_own, IsEnough, Finds, AreLocal, ComesFor, IsReady, StaysReady, Changes, SameLeaves, Grows, IsPlain, Owned, MayZero, Undisturbed};
 
 use crate::blocks::Blocks;
@@ -126,7 +128,8 @@ pub trait Bytes<B: Blocks> {
         ensures trimmed { (B.state on.old).tells ⊎ ((size self.old ≤ 8192 * (offset / 8192 + 1)) × (offset + length piece.now ≤ 8192 * (offset / 8192 + 1))) → is_trimmed self.old on.old → is_trimmed self.new on.new }
         ensures comes { (B.state on.old).tells → (from : Pointer) → ComesFor (B.state on.old) (top self.old) from → ComesFor (B.state on.new) (top self.new) from }
         ensures only { (B.state on.old).tells → top self.new ≢ Nil → (y x : ℕ) → (B.state on.new).instead y x → (top self.new ≡ Local y) ⊎ ((B.state on.old).instead y x × (top self.old ≡ Local y → ⊥)) }
-        ensures changes { Changes (form self.old).tag (leaves self.old on.old).owns (leaves self.old on.old).owns (B.state on.old) (B.state on.new) × B.keeps on.old on.new };
+        ensures changes { Changes (form self.old).tag (leaves self.old on.old).owns (leaves self.old on.old).owns (B.state on.old) (B.state on.new) × B.keeps on.old on.new }
+        ensures shown { ShowsNoMore (B.state on.old).may_leave (B.state on.new).may_leave };
 
     /// Makes leaf `i` one of the current epoch, and gives its address: an older leaf is copied, so is one that is held under its
     /// score, and a missing one is added. Where the source ends before the leaf does, it now ends there. Then the leaf that was the last
@@ -150,7 +153,9 @@ pub trait Bytes<B: Blocks> {
         ensures trimmed { (B.state on.old).tells ⊎ (size self.old ≤ 8192 * (i + 1)) → is_trimmed self.old on.old → is_trimmed self.new on.new }
         ensures comes { (B.state on.old).tells → (from : Pointer) → ComesFor (B.state on.old) (top self.old) from → ComesFor (B.state on.new) (top self.new) from }
         ensures only { (B.state on.old).tells → top self.new ≢ Nil → (y x : ℕ) → (B.state on.new).instead y x → (top self.new ≡ Local y) ⊎ ((B.state on.old).instead y x × (top self.old ≡ Local y → ⊥)) }
-        ensures changes { Changes (form self.old).tag (leaves self.old on.old).owns (MayZero (form self.old) (size self.old) i (B.state on.old) (leaves self.old on.old)) (B.state on.old) (B.state on.new) × B.keeps on.old on.new };
+        ensures changes { Changes (form self.old).tag (leaves self.old on.old).owns (MayZero (form self.old) (size self.old) i (B.state on.old) (leaves self.old on.old)) (B.state on.old) (B.state on.new) × B.keeps on.old on.new }
+        ensures shown { ShowsNoMore (B.state on.old).may_leave (B.state on.new).may_leave }
+        ensures alike { KeepsAlike (B.state on.old) (B.state on.new) (stem_of (form self.old) (size self.old) (top self.old)) (stem_of (form self.new) (size self.new) (top self.new)) };
 
     // LAWS
     /// The bytes are those of the leaves in memory.

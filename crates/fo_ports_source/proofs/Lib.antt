@@ -5,3 +5,5 @@ pub mod Looks
 pub mod Values
 pub mod Grows
 pub mod Dirtied
+pub mod Shows
+pub mod Alikes

@@ -1,2 +1,2 @@
-pub mod Shown
-pub mod Alike
+pub use Rattle.fo_ports.specs.Alike
+pub use Rattle.fo_ports.specs.Shown

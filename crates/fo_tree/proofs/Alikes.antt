@@ -8,11 +8,13 @@ use Rattle.fo_crash.specs.Images.{Image, target}
 use Rattle.fo_crash.specs.Places.{place, place_below, super_place, IsPlaced, RanksFall}
 use Rattle.fo_crash.proofs.Places.{stands_below}
 use Rattle.fo_ports.specs.State.{State}
-use Rattle.fo_shown.specs.Alike.{LeadsAlike}
+use Rattle.fo_ports.specs.Alike.{Stem, LeadsAlike, stem_of, HoldsEntry as Holds, KeepsAlike as Keeps}
+use Rattle.fo_ports.specs.Sources.{depth_for, is_dir}
 use Rattle.fo_shown.proofs.Ways.{AllPlaced}
 use Rattle.fo_shown.proofs.Alikes.{alike_itself, entry_below}
 use Rattle.fo_tree_read.specs.declared.tree.Tree.{Tree}
 use Rattle.fo_tree_read.specs.Tree.{kind_at}
+use Rattle.fo_tree_look.specs.Source.{form_of}
 use Rattle.fo_tree_link.specs.of_tree_open.Open.{NamesRank, ranks_below}
 use Rattle.fo_tree_link.proofs.of_tree_open.Opened.{place_named}
 use Rattle.fo_tree_link.specs.of_tree_down.Alike.{HoldsEntry, EntryAlike, KeepsAlike}
@@ -70,3 +72,38 @@ pub alike_linked : {s u : State} {t new : Tree} {generation at i : ℕ} (later :
     → LeadsAlike u.may_leave u.now at i (Head (entry_of new later))
 alike_linked {s} {u} {t} {new} {generation} {at} {i} later told placed present ranked free is linked keeps =
     (keeps.each told at i (holds_linked (placed.each s.now present) ranked (placed.super_at s.now present) free linked) (entry_itself s t generation at i placed is)).1 (entry_of new later) (refl, refl, refl) refl
+
+-- ---- the stem of a source
+
+-- the stem of a source's tree
+abbrev stem_at : Tree → Stem
+stem_at t = record { dir = t.dir; depth = t.depth; tag = t.tag; rank = t.rank; top = t.top }
+
+dir_is : (dir : Bool) → is_dir (kind_at dir 0) ≡ dir
+dir_is true = refl
+dir_is false = refl
+
+-- A source with the least depth has its tree's stem.
+stem_is : (t : Tree) (generation limit : ℕ) → t.depth ≡ depth_for t.size → stem_of (form_of t generation limit) t.size t.top ≡ stem_at t
+stem_is t generation limit least =
+    ap (λ d. record { dir = d; depth = depth_for t.size; tag = t.tag; rank = t.rank; top = t.top }) (dir_is t.dir)
+    ∙ ap (λ n. record { dir = t.dir; depth = n; tag = t.tag; rank = t.rank; top = t.top }) (sym least)
+
+holds_tree : {s : State} {t : Tree} {at i : ℕ} → Holds s (stem_at t) at i → HoldsEntry s t at i
+holds_tree holds = record { there = holds.there; stands = holds.stands; names = holds.names; below = holds.below; above = holds.above; in_tree = holds.in_tree; uncovered = holds.uncovered }
+
+holds_stem : {s : State} {t : Tree} {at i : ℕ} → HoldsEntry s t at i → Holds s (stem_at t) at i
+holds_stem holds = record { there = holds.there; stands = holds.stands; names = holds.names; below = holds.below; above = holds.above; in_tree = holds.in_tree; uncovered = holds.uncovered }
+
+-- What is kept of trees is kept of stems, and the other way round.
+pub keeps_stems : {s u : State} {t new : Tree} (generation limit later more : ℕ) → t.depth ≡ depth_for t.size → new.depth ≡ depth_for new.size → KeepsAlike s u t new → Keeps s u (stem_of (form_of t generation limit) t.size t.top) (stem_of (form_of new later more) new.size new.top)
+keeps_stems {s} {u} {t} {new} generation limit later more least still keeps =
+    subst (λ a. Keeps s u a (stem_of (form_of new later more) new.size new.top)) (sym (stem_is t generation limit least))
+    (subst (λ a. Keeps s u (stem_at t) a) (sym (stem_is new later more still)) (record {
+      each = λ told at i holds alike. let on = keeps.each told at i (holds_tree holds) alike in (holds_stem on.0, on.1);
+    }))
+
+pub keeps_trees : {s u : State} {t new : Tree} (generation limit later more : ℕ) → t.depth ≡ depth_for t.size → new.depth ≡ depth_for new.size → Keeps s u (stem_of (form_of t generation limit) t.size t.top) (stem_of (form_of new later more) new.size new.top) → KeepsAlike s u t new
+keeps_trees {s} {u} {t} {new} generation limit later more least still keeps =
+    let on : Keeps s u (stem_at t) (stem_at new) = subst (λ a. Keeps s u (stem_at t) a) (stem_is new later more still) (subst (λ a. Keeps s u a (stem_of (form_of new later more) new.size new.top)) (stem_is t generation limit least) keeps) in
+    record { each = λ told at i holds alike. let there = on.each told at i (holds_stem holds) alike in (holds_tree there.0, there.1) }

@@ -1,4 +1,5 @@
 pub mod Looking
+pub mod Plain
 pub mod Hanging
 pub mod Relinking
 pub mod Beside

@@ -15,7 +15,6 @@ impl<B: Blocks> Bytes<B> for Source {
     ghost use Rattle.fo_ports.specs.State.{none};
     ghost use Rattle.fo_ports.specs.Sources.{IsPlain, IsEnough, Owned, MayZero, Changes, Grows, ComesFor, Dirties, depth_for, is_dir, most_for, most_to_own};
     ghost use Rattle.fo_tree_look.specs.Source.{form_of, leaves_of, Over};
-    ghost use Rattle.fo_tree_link.specs.of_tree_down.Alike.{KeepsAlike};
     ghost use Rattle.fo_tree_link.specs.of_tree_down.Clear.{EndsClear};
     ghost use Rattle.fo_tree_trim.specs.of_tree_own.Shown.{ShowsNoMore};
     ghost use Rattle.fo_tree.specs.Writes.{LeavesBeside};
@@ -87,30 +86,7 @@ impl<B: Blocks> Bytes<B> for Source {
         self.ways.tree = put(&self.ways, on, offset, piece);
     }
 
-    /// As the trait says, and no image shows more in a leaf of records. Where memory's slot has the source's entry, the entry leads from
-    /// there to no more of these with the new top than it did.
-    fn own_leaf(&mut self, on: &mut B, i: u32) -> u32
-        requires over { Over (B.state on.old) self.old.ways.tree self.old.ways.kept.items self.old.ways.limit }
-        requires prepared { (leaves_of (B.state on.old) self.old.ways.tree self.old.ways.kept.items self.old.ways.limit).prepared (8192 * i) 8192 }
-        requires spare { IsEnough (leaves_of (B.state on.old) self.old.ways.tree self.old.ways.kept.items self.old.ways.limit).current self.old.ways.tree.size i (B.state on.old).spare }
-        requires trimmed { self.old.ways.tree.size < 8192 * (i + 1) → EndsClear (B.state on.old) self.old.ways.tree self.old.ways.kept.items }
-        requires linked { (B.state on.old).tells → is_dir (form_of self.old.ways.tree self.old.ways.generation self.old.ways.limit).kind ≡ true → depth_for self.old.ways.tree.size < depth_for (8192 * (i + 1)) → (b : ℕ) → (leaves_of (B.state on.old) self.old.ways.tree self.old.ways.kept.items self.old.ways.limit).owns b → Reaches (B.state on.old).now (to_block 1) b }
-        ensures owned { Owned (form_of self.old.ways.tree self.old.ways.generation self.old.ways.limit) self.old.ways.tree.size i result (B.state on.old) (B.state on.new) (leaves_of (B.state on.old) self.old.ways.tree self.old.ways.kept.items self.old.ways.limit) (leaves_of (B.state on.new) self.new.ways.tree self.new.ways.kept.items self.new.ways.limit) }
-        ensures size { self.new.ways.tree.size ≡ max self.old.ways.tree.size (8192 * (i + 1)) }
-        ensures bytes { (B.state on.old).tells → IsPlain (form_of self.old.ways.tree self.old.ways.generation self.old.ways.limit) ⊎ ((self.old.ways.tree.size % 8192 ≡ 0) ⊎ (8192 * (i + 1) ≤ self.old.ways.tree.size)) → (leaves_of (B.state on.new) self.new.ways.tree self.new.ways.kept.items self.new.ways.limit).bytes ≡ resized (leaves_of (B.state on.old) self.old.ways.tree self.old.ways.kept.items self.old.ways.limit).bytes (max self.old.ways.tree.size (8192 * (i + 1))) }
-        ensures over { Over (B.state on.new) self.new.ways.tree self.new.ways.kept.items self.new.ways.limit × (form_of self.new.ways.tree self.new.ways.generation self.new.ways.limit ≡ form_of self.old.ways.tree self.old.ways.generation self.old.ways.limit) }
-        ensures grows { Grows (B.state on.old) (B.state on.new) (leaves_of (B.state on.old) self.old.ways.tree self.old.ways.kept.items self.old.ways.limit) (leaves_of (B.state on.new) self.new.ways.tree self.new.ways.kept.items self.new.ways.limit) }
-        ensures spare { ((B.state on.old).spare ≤ (B.state on.new).spare + most_to_own self.old.ways.tree.size i) × ((leaves_of (B.state on.old) self.old.ways.tree self.old.ways.kept.items self.old.ways.limit).current → (B.state on.old).spare + 1 ≤ (B.state on.new).spare + most_to_own self.old.ways.tree.size i) }
-        ensures dirties { Dirties (2 * most_to_own self.old.ways.tree.size i) (λ b. b ≡ result) (B.state on.old) (B.state on.new) }
-        ensures current { (leaves_of (B.state on.new) self.new.ways.tree self.new.ways.kept.items self.new.ways.limit).current }
-        ensures room { (B.state on.new).room ≡ (B.state on.old).room }
-        ensures trimmed { (B.state on.old).tells ⊎ (self.old.ways.tree.size ≤ 8192 * (i + 1)) → EndsClear (B.state on.old) self.old.ways.tree self.old.ways.kept.items → EndsClear (B.state on.new) self.new.ways.tree self.new.ways.kept.items }
-        ensures comes { (B.state on.old).tells → (from : Pointer) → ComesFor (B.state on.old) self.old.ways.tree.top from → ComesFor (B.state on.new) self.new.ways.tree.top from }
-        ensures only { (B.state on.old).tells → self.new.ways.tree.top ≢ Nil → (y x : ℕ) → (B.state on.new).instead y x → (self.new.ways.tree.top ≡ Local y) ⊎ ((B.state on.old).instead y x × (self.old.ways.tree.top ≡ Local y → ⊥)) }
-        ensures changes { Changes (form_of self.old.ways.tree self.old.ways.generation self.old.ways.limit).tag (leaves_of (B.state on.old) self.old.ways.tree self.old.ways.kept.items self.old.ways.limit).owns (MayZero (form_of self.old.ways.tree self.old.ways.generation self.old.ways.limit) self.old.ways.tree.size i (B.state on.old) (leaves_of (B.state on.old) self.old.ways.tree self.old.ways.kept.items self.old.ways.limit)) (B.state on.old) (B.state on.new) × B.keeps on.old on.new }
-        ensures shown { ShowsNoMore (B.state on.old).may_leave (B.state on.new).may_leave }
-        ensures alike { KeepsAlike (B.state on.old) (B.state on.new) self.old.ways.tree self.new.ways.tree }
-    {
+    fn own_leaf(&mut self, on: &mut B, i: u32) -> u32 {
         let current = own_leaf(&self.ways.tree, &self.ways.kept, on, i);
         self.ways.tree = with_leaf(&self.ways.tree, i, current.top);
         current.at

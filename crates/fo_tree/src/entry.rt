@@ -9,10 +9,10 @@ ghost use Rattle.fo_crash.specs.Names.{SameUse};
 ghost use Rattle.fo_crash.specs.Steps.{PutsSlot, AddsSlot, Covers};
 ghost use Rattle.fo_ports.specs.Blocks.{cost, dropped, zeros};
 ghost use Rattle.fo_ports.specs.State.{Frame, Hangs, KeepsOrder, AddsNoWait, IsPointers, none};
-ghost use Rattle.fo_ports.specs.Sources.{StaysInPlace, StaysReady, ComesFor, DirtiesIn};
+ghost use Rattle.fo_ports.specs.Sources.{IsPlain, StaysInPlace, StaysReady, ComesFor, DirtiesIn};
 ghost use Rattle.fo_shown.specs.Shown.{ShowsNoMore};
 ghost use Rattle.fo_shown.specs.Alike.{LeadsAlike};
-ghost use Rattle.fo_tree_look.specs.Source.{Over, HasBlock};
+ghost use Rattle.fo_tree_look.specs.Source.{Over, HasBlock, form_of};
 ghost use Rattle.fo_tree_link.specs.of_tree_down.Clear.{EndsClear};
 ghost use Rattle.fo_tree_link.specs.of_tree_open.Open.{HasEntry, IsFit, CanOpen, tree_of};
 ghost use Rattle.fo_tree_link.specs.Link.{entry_of, CanLink};
@@ -98,7 +98,7 @@ impl Source {
         requires told { (B.state on.old).tells → CanLink (B.state on.old) self.now.ways.tree self.now.ways.generation at i }
         ensures now { PutsSlot at i (Head (entry_of self.now.ways.tree self.now.ways.generation)) (B.state on.old).now (B.state on.new).now }
         ensures images { AddsSlot (B.state on.old).now at i (Head (entry_of self.now.ways.tree self.now.ways.generation)) (λ image. Unit {0}) (B.state on.old).may_leave (B.state on.new).may_leave }
-        ensures shown { LeadsAlike (B.state on.old).may_leave (B.state on.old).now at i (Head (entry_of self.now.ways.tree self.now.ways.generation)) → ShowsNoMore (B.state on.old).may_leave (B.state on.new).may_leave }
+        ensures shown { IsPlain (form_of self.now.ways.tree self.now.ways.generation self.now.ways.limit) ⊎ LeadsAlike (B.state on.old).may_leave (B.state on.old).now at i (Head (entry_of self.now.ways.tree self.now.ways.generation)) → ShowsNoMore (B.state on.old).may_leave (B.state on.new).may_leave }
         ensures over { Over (B.state on.new) self.now.ways.tree self.now.ways.kept.items self.now.ways.limit }
         ensures put { (b : ℕ) → self.now.ways.tree.top ≡ Local b → (B.state on.new).apart b → ⊥ }
         ensures comes { ComesFor (B.state on.new) self.now.ways.tree.top self.now.ways.tree.top }

@@ -7,9 +7,8 @@ ghost use Rattle.fo_crash.specs.Images.{Reaches};
 ghost use Rattle.fo_crash.specs.Steps.{Through};
 ghost use Rattle.fo_ports.specs.State.{IsPointers};
 ghost use Rattle.fo_ports.specs.Sources.{Changes, ComesFor, Grows, Made, MayZero, Owned};
-ghost use Rattle.fo_shown.specs.Alike.{LeadsAlike};
+ghost use Rattle.fo_ports.specs.Alike.{KeepsAlike, LeadsAlike, stem_of};
 ghost use Rattle.fo_tree_look.specs.Source.{Over, HasBlock, address_here, form_of, leaves_of};
-ghost use Rattle.fo_tree_link.specs.of_tree_down.Alike.{KeepsAlike};
 ghost use Rattle.fo_tree_link.specs.of_tree_down.Clear.{EndsClear};
 ghost use Rattle.fo_tree_link.specs.Link.{entry_of, CanLink};
 ghost use Rattle.fo_tree_link.specs.Change.{HangsInTree, KeepsOthers};
@@ -112,9 +111,11 @@ pub fn may_show_linked<B: Blocks>(
     at: u32,
     i: u32,
 )
+    requires over { Over (B.state before.now) source.now.ways.tree source.now.ways.kept.items source.now.ways.limit }
+    requires now { Over (B.state after.now) new.now.ways.tree new.now.ways.kept.items new.now.ways.limit }
     requires keeps { B.keeps before.now after.now }
     requires entry { ((B.state before.now).now at).slot i ≡ Head (entry_of source.now.ways.tree source.now.ways.generation) }
-    requires alike { KeepsAlike (B.state before.now) (B.state after.now) source.now.ways.tree new.now.ways.tree }
+    requires alike { KeepsAlike (B.state before.now) (B.state after.now) (stem_of (form_of source.now.ways.tree source.now.ways.generation source.now.ways.limit) source.now.ways.tree.size source.now.ways.tree.top) (stem_of (form_of new.now.ways.tree new.now.ways.generation new.now.ways.limit) new.now.ways.tree.size new.now.ways.tree.top) }
     requires linked { (B.state before.now).tells → HangsInTree (B.state before.now) source.now.ways.tree at i }
     ensures { LeadsAlike (B.state after.now).may_leave (B.state after.now).now at i (Head (entry_of new.now.ways.tree new.now.ways.generation)) }
 {}

@@ -5,7 +5,8 @@ use Rattle.fo_ports.specs.Sources.{Form, ComesFor, depth_for, Dirties, most_to_o
 use Rattle.fo_dir_read.specs.Pairs.{OfEntries}
 use Rattle.fo_dir_ready.proofs.Rowed.{ends_before}
 use Rattle.fo_dir_ready.proofs.Paired.{entries_looked, pair_on, free_on, taken_on}
-use Rattle.fo_dir_ready.proofs.Later.{own_later, grows_later, readied, spare_later, comes_looked, only_later}
+use Rattle.fo_shown.proofs.Showing.{nothing_shows, shows_joins}
+use Rattle.fo_dir_ready.proofs.Later.{own_later, grows_later, readied, spare_later, comes_looked, only_later, alike_after}
 use Rattle.fo_dir_ready.proofs.ready.ready_entries.Goals as goal
 use Rattle.fo_dirties.proofs.Putting.{dirties_looks}
 use Rattle.fo_dirties.proofs.Adding.{dirties_first}
@@ -85,3 +86,14 @@ returns-in-Ok-clause-dirties g c =
     let u = g.B.Blocks.state c.own_entries-at.new.on in
     let looked = dirties_looks (g.met.B.Blocks.keeps_all c.args.on.now c.prepare.new.on c.prepare.ensures.looks.1) c.prepare.ensures.looks.0 in
     subst (λ n. Dirties (2 * most_to_own n c.args.i) (λ b. b ≡ c.own_entries-at.result) s u) c.prepare.ensures.same.1 (dirties_first looked c.own_entries-at.ensures.dirties)
+
+pub returns-in-Ok-clause-shown : goal.returns-in-Ok-clause-shown
+returns-in-Ok-clause-shown g c = shows_joins (nothing_shows c.prepare.ensures.looks.0.images) c.own_entries-at.ensures.shown
+
+pub returns-in-Err-clause-shown : goal.returns-in-Err-clause-shown
+returns-in-Err-clause-shown g c = nothing_shows c.prepare.ensures.looks.0.images
+
+pub returns-in-Ok-clause-alike : goal.returns-in-Ok-clause-alike
+returns-in-Ok-clause-alike g c =
+    let k = c.prepare.ensures in
+    alike_after (g.met.B.Blocks.keeps_all c.args.on.now c.prepare.new.on k.looks.1) k.looks.0 (g.met.B.Blocks.active c.prepare.new.on).0 k.same.0 k.same.1 k.top c.own_entries-at.ensures.alike

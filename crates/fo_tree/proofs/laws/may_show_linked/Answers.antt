@@ -1,6 +1,6 @@
 use Rattle.std.proofs.Common.{⊎_elim, subst}
 use Rattle.std.proofs.lemmas.Bool.{cases_eq}
-use Rattle.fo_tree.proofs.Alikes.{alike_told, alike_linked}
+use Rattle.fo_tree.proofs.Alikes.{alike_told, alike_linked, keeps_trees}
 use Rattle.fo_tree.proofs.laws.may_show_linked.Goals as goal
 
 pub returns : goal.returns
@@ -22,4 +22,5 @@ returns g c = alike_told (λ image is.
     (λ one h. g.met.B.Blocks.one_stays on (subst (λ y. s.covered y) one h))
     (λ ne. (g.met.B.Blocks.live on at told ne linked.in_tree).2)
     (cases_eq at 1))
-    c.requires.entry linked c.requires.alike)
+    c.requires.entry linked
+    (keeps_trees c.args.source.now.ways.generation c.args.source.now.ways.limit c.args.new.now.ways.generation c.args.new.now.ways.limit c.requires.over.least c.requires.now.least c.requires.alike))

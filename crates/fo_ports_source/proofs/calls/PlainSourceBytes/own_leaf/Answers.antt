@@ -7,8 +7,13 @@ use Rattle.fo_ports_source.proofs.Grows.{OwnsLeaf, leaf_is, owned_here}
 use Rattle.fo_ports_source.proofs.Steps.{steps_changes, steps_wider}
 use Rattle.fo_ports_source.proofs.Values.{values_resized}
 use Rattle.fo_ports_source.proofs.Dirtied.{dirties_owned, dirties_grown}
+use Rattle.fo_ports_source.proofs.Shows.{Laws, steps_show, leaf_elsewhere}
+use Rattle.fo_ports_source.proofs.Alikes.{steps_alike}
 use Rattle.fo_ports_source.proofs.calls.PlainSourceBytes.own_leaf.Given as given
 use Rattle.fo_ports_source.proofs.calls.PlainSourceBytes.own_leaf.Goals as goal
+
+laws_of : (g : given.Over) (b : g.row.B.Denot) → Laws (g.B.Blocks.state b)
+laws_of g b = record { told = g.met.B.Blocks.told b; active = (g.met.B.Blocks.active b).0; one = g.met.B.Blocks.one_place b; super_stands = g.met.B.Blocks.super_stands b; placed = g.met.B.Blocks.placed b; live = g.met.B.Blocks.live b }
 
 pub own-requires-clause-held : goal.own-requires-clause-held
 own-requires-clause-held g c = λ at e.
@@ -46,6 +51,17 @@ returns-then-self-i-clause-changes g c =
     let grows : c.args.self.now.size < 8192 * (c.args.i + 1) = omega arith in
     (steps_changes (steps_wider (λ b h. h) (λ b h. inr (c.args.self.now.size / 8192, h.0, grows, h.1)) c.own_next.ensures.steps), c.own_next.ensures.keeps)
 
+-- the leaf of the end, in which zeros were put, is none of records
+pub returns-then-self-i-clause-shown : goal.returns-then-self-i-clause-shown
+returns-then-self-i-clause-shown g c =
+    let laws = laws_of g c.args.on.now in
+    steps_show laws (λ b p told end stands. leaf_elsewhere laws c.requires.over end.0.0.1 b p told (record { number = c.args.self.now.size / 8192; is = end.1 }) stands) c.own_next.ensures.steps
+
+pub returns-then-self-i-clause-alike : goal.returns-then-self-i-clause-alike
+returns-then-self-i-clause-alike g c =
+    let e = c.own_next.ensures in
+    steps_alike (laws_of g c.args.on.now) e.steps c.args.self.now.size c.own_next.new.self.size c.args.self.now.leaves.items c.own_next.new.self.leaves.items e.same.0 e.same.1 e.same.2
+
 -- it had the leaf's place already
 owns : (g : given.Over) (c : goal.After-own g) → OwnsLeaf c.args.self.now.kind c.args.self.now.tag c.args.self.now.rank c.args.self.now.leaves.items c.own.new.self.leaves.items c.args.i c.own.result (g.B.Blocks.state c.args.on.now) (g.B.Blocks.state c.own.new.on)
 owns g c =
@@ -79,6 +95,15 @@ returns-else-self-i-clause-grows g c =
 
 pub returns-else-self-i-clause-changes : goal.returns-else-self-i-clause-changes
 returns-else-self-i-clause-changes g c = (steps_changes (steps_wider (λ b h. h) (λ b h. absurd h) c.own.ensures.steps), c.own.ensures.keeps)
+
+-- no bytes were put
+pub returns-else-self-i-clause-shown : goal.returns-else-self-i-clause-shown
+returns-else-self-i-clause-shown g c = steps_show (laws_of g c.args.on.now) (λ b p told none stands. absurd none) c.own.ensures.steps
+
+pub returns-else-self-i-clause-alike : goal.returns-else-self-i-clause-alike
+returns-else-self-i-clause-alike g c =
+    let e = c.own.ensures in
+    steps_alike (laws_of g c.args.on.now) e.steps c.args.self.now.size c.own.new.self.size c.args.self.now.leaves.items c.own.new.self.leaves.items e.same.0 e.same.1 e.same.2
 
 pub returns-else-self-i-clause-current : goal.returns-else-self-i-clause-current
 returns-else-self-i-clause-current g c =

@@ -5,7 +5,12 @@ use Rattle.fo_ports_source.proofs.Leaves.{prepared_same, prepared_raised}
 use Rattle.fo_ports_source.proofs.Steps.{steps_changes}
 use Rattle.fo_ports_source.proofs.Values.{values_written}
 use Rattle.fo_ports_source.proofs.Dirtied.{dirties_written}
+use Rattle.fo_ports_source.proofs.Shows.{Laws, steps_show, leaf_elsewhere}
+use Rattle.fo_ports_source.proofs.calls.PlainSourceBytes.write.Given as given
 use Rattle.fo_ports_source.proofs.calls.PlainSourceBytes.write.Goals as goal
+
+laws_of : (g : given.Over) (b : g.row.B.Denot) → Laws (g.B.Blocks.state b)
+laws_of g b = record { told = g.met.B.Blocks.told b; active = (g.met.B.Blocks.active b).0; one = g.met.B.Blocks.one_place b; super_stands = g.met.B.Blocks.super_stands b; placed = g.met.B.Blocks.placed b; live = g.met.B.Blocks.live b }
 
 pub returns-clause-bytes : goal.returns-clause-bytes
 returns-clause-bytes g c = λ told.
@@ -26,3 +31,7 @@ returns-clause-changes g c = (steps_changes c.put.ensures.grew.steps, c.put.ensu
 
 pub returns-clause-dirties : goal.returns-clause-dirties
 returns-clause-dirties g c = dirties_written (max c.args.self.now.size (c.args.offset + length c.args.piece.now)) (length c.args.piece.now) c.put.ensures.dirties
+
+-- its leaves are no leaves of records
+pub returns-clause-shown : goal.returns-clause-shown
+returns-clause-shown g c = let laws = laws_of g c.args.on.now in steps_show laws (leaf_elsewhere laws c.requires.over c.requires.kind.1) c.put.ensures.grew.steps
