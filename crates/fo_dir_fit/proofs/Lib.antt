@@ -1,0 +1,5 @@
+pub mod Spots
+pub mod Holders
+pub mod Listed
+pub mod Rules
+pub mod Example

@@ -1,0 +1,15 @@
+pub mod Bytes
+pub mod Beside
+pub mod Clears
+pub mod Entries
+pub mod Example
+pub mod Finding
+pub mod Flushed
+pub mod Walks
+pub mod Like
+pub mod Puts
+pub mod Traces
+pub mod Settled
+pub mod Still
+pub mod Trails
+pub mod Waited
